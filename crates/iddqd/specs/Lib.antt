@@ -1,0 +1,5 @@
+pub mod Store
+pub mod ItemSet
+pub mod Lends
+pub mod GrowHandle
+pub mod Slots

@@ -1,0 +1,42 @@
+-- How an `ItemSet` lays out its slots: the chain of the vacant ones. No public clause cites this module.
+use Rattle.std.specs.Prelude.{◌≡◌, ℕ, zero, suc, ◌+◌, ◌≤◌, List, [], ◌∷◌, map, length, Option, Some, None, is_some, count_by, slice_get}
+use Rattle.std.specs.List.{Contains}
+use Rattle.iddqd.specs.declared.item_set.ItemSlot.{ItemSlot}
+use Rattle.iddqd.specs.declared.item_set.ItemSlot.TheVariants.{Occupied, Vacant}
+
+-- the head, where it has a link, and then what the link leads to
+abbrev pub linked : Option ℕ → ℕ → (ℕ → List ℕ) → List ℕ
+linked None head rest = []
+linked (Some next) head rest = head ∷ rest next
+
+module _ {T : Type 0} where
+  -- the item of a slot, if it has one
+  abbrev pub item_of : ItemSlot T → Option T
+  item_of (Occupied item) = Some item
+  item_of (Vacant next) = None
+
+  -- the link of a slot that is vacant
+  abbrev pub link_of : Option (ItemSlot T) → Option ℕ
+  link_of None = None
+  link_of (Some (Occupied item)) = None
+  link_of (Some (Vacant next)) = Some next
+
+  -- the vacant slots that are met from head on, at most so many
+  abbrev pub chain_of : ℕ → List (ItemSlot T) → ℕ → List ℕ
+  chain_of zero slots head = []
+  chain_of (suc n) slots head = linked (link_of (slice_get slots head)) head (λ next. chain_of n slots next)
+
+  -- the list is the chain from head, to its end
+  abbrev pub IsChain : List (ItemSlot T) → ℕ → List ℕ → Type 0
+  IsChain slots head [] = head ≡ 4294967295
+  IsChain slots head (ix ∷ rest) =
+      (next : ℕ) × (ix ≡ head) × (slice_get slots head ≡ Some (Vacant next)) × IsChain slots next rest
+
+  -- `len` counts the items, and the chain from `head` has each vacant slot once
+  pub record IsSound (slots : List (ItemSlot T)) (head len : ℕ) : Type 0 where
+    pub counted : len ≡ count_by is_some (map item_of slots)
+    pub chain : List ℕ
+    pub chained : IsChain slots head chain
+    pub complete : (ix next : ℕ) → slice_get slots ix ≡ Some (Vacant next) → Contains chain ix
+    pub total : len + length chain ≡ length slots
+    pub small : length slots ≤ 4294967295

@@ -1,0 +1,72 @@
+-- The store: items under indexes, and the indexes that are free.
+use Rattle.std.specs.Prelude.{◌≡◌, ◌≤◌, ◌<◌, ◌+◌, ◌↔◌, ℕ, List, length, [], ◌∷◌, ◌++◌, drop, Option, Some, None, is_some, count_by, slice_index_or, slice_set, nat_eq, refl}
+use Rattle.std.specs.List.{Contains, IsDistinct}
+use Rattle.std.specs.Coded.{Coded, code_by, coded×, coded_ℕ, coded_list, coded_option}
+
+-- A finite map from indexes to items, with the number of slots: the list has the item or nothing of
+-- each index below that number. And the free indexes, that freed last first.
+pub record Store (T : Type 0) : Type 0 where
+  pub items : List (Option T)
+  pub free : List ℕ
+
+-- a store is coded as the pair of its fields
+abbrev pub store_code : {T : Type 0} → Coded T → Coded (Store T)
+store_code {T} code =
+    code_by (List (Option T) × List ℕ) (coded× (coded_list (coded_option code)) (coded_list coded_ℕ)) (λ s. (s.items, s.free)) (λ p. record { items = p.0; free = p.1 }) (λ _. refl)
+
+-- the first of the free indexes, or else the number of slots
+abbrev pub first_or : List ℕ → ℕ → ℕ
+first_or [] count = count
+first_or (ix ∷ rest) count = ix
+
+module _ {T : Type 0} where
+  abbrev pub empty : Store T
+  empty = record { items = []; free = [] }
+
+  -- the item at an index, if it is live
+  abbrev pub get : Store T → ℕ → Option T
+  get s ix = slice_index_or s.items ix None
+
+  -- the number of slots, live and vacant
+  abbrev pub slots : Store T → ℕ
+  slots s = length s.items
+
+  -- the number of live indexes
+  abbrev pub live_count : Store T → ℕ
+  live_count s = count_by is_some s.items
+
+  -- the index is that of a slot without an item
+  abbrev pub IsVacant : Store T → ℕ → Type 0
+  IsVacant s ix = (ix < slots s) × (get s ix ≡ None)
+
+  -- the free indexes are distinct and exactly the vacant ones, and each index is a u32 below 4294967295
+  pub record IsValid (s : Store T) : Type 0 where
+    pub distinct : IsDistinct nat_eq s.free
+    pub vacant : (ix : ℕ) → Contains s.free ix ↔ IsVacant s ix
+    pub counted : live_count s + length s.free ≡ slots s
+    pub small : slots s ≤ 4294967295
+
+  -- the index that the next insert binds
+  abbrev pub next_index : Store T → ℕ
+  next_index s = first_or s.free (slots s)
+
+  -- no index is free, and there are as many slots as there can be
+  abbrev pub IsFull : Store T → Type 0
+  IsFull s = (s.free ≡ []) × (slots s ≡ 4294967295)
+
+  -- the items after an insert at the first free index, or else in a new slot
+  abbrev pub filled : List ℕ → List (Option T) → T → List (Option T)
+  filled [] items item = items ++ Some item ∷ []
+  filled (ix ∷ rest) items item = slice_set items ix (Some item)
+
+  -- the store after an insert: the next index is bound and no longer free
+  abbrev pub inserted : Store T → T → Store T
+  inserted s item = record { items = filled s.free s.items item; free = drop 1 s.free }
+
+  -- the store after the removal of a live index: it is unbound, and the first of the free
+  abbrev pub removed : Store T → ℕ → Store T
+  removed s ix = record { items = slice_set s.items ix None; free = ix ∷ s.free }
+
+  -- the store with another item at a live index
+  abbrev pub rebound : Store T → ℕ → T → Store T
+  rebound s ix item = record s { items = slice_set s.items ix (Some item) }

@@ -1,0 +1,316 @@
+//! Items in slots under stable indexes, where the index of a removed item is given out again.
+//!
+//! A slot is occupied by an item or vacant. The vacant slots are linked into a chain, that freed
+//! last first, so an insert finds its slot without a search and a removal needs no memory: the set
+//! has one block of memory and two numbers beside it.
+ghost use Rattle.std.specs.Prelude.{◌≡◌, ◌+◌, ◌<◌, ◌≤◌, ◌↔◌, length, Some, None, IsSome, IsTrue, IfOk, OnOk, OnErr, IfNone, OnSome, option_copied};
+ghost use Rattle.std.specs.Option.{option_copied_mut};
+ghost use Rattle.std.specs.Borrow.{sem, Lends, RestsIfErr};
+ghost use Rattle.iddqd.specs.Store.{get, slots, live_count, next_index, IsFull, IsValid, empty, inserted, removed};
+ghost use Rattle.iddqd.specs.ItemSet.{room, KeepsOthers, GrowsIfDense};
+
+use crate::item_index::ItemIndex;
+use std::alloc::Global;
+use std::fmt;
+use std::marker::Model;
+use std::mem;
+
+/// How many slots a set can have: one for each index but `SENTINEL`.
+const MAX_SLOTS: usize = 4294967295;
+
+/// A place of the set.
+#[derive(Debug, Drop)]
+pub enum ItemSlot<T> {
+    /// It has an item.
+    Occupied(T),
+    /// It has none, and names the next vacant slot, or `SENTINEL` at the end.
+    Vacant { next: ItemIndex },
+}
+
+/// Why a set can't take one more item.
+#[derive(Clone, Copy, Debug, PartialEq, Eq)]
+pub enum GrowError {
+    /// No slot is vacant, and there are as many slots as there can be.
+    Full,
+    /// Memory was refused.
+    Memory,
+}
+
+/// Items under stable indexes.
+///
+/// An index gives its item until that item is removed. Then it is the next to be given out.
+#[derive(Drop)]
+pub struct ItemSet<T> {
+    slots: Vec<ItemSlot<T>>,
+    // The vacant slot that was freed last.
+    free_head: ItemIndex,
+    // How many slots are occupied.
+    len: u32,
+}
+
+impl<T> Model for ItemSet<T> {
+    ghost use Rattle.std.specs.Prelude.{map, length, vec_capacity};
+    ghost use Rattle.iddqd.specs.ItemSet.{Held, held_code};
+
+    ghost Value = { Held T };
+
+    ghost coded = { held_code T.code };
+
+    ghost use Rattle.iddqd.specs.Slots.{item_of, chain_of, IsSound};
+
+    ghost view = { λ s. record {
+      store = record {
+        items = map item_of s.slots.items;
+        free = chain_of (length s.slots.items) s.slots.items s.free_head;
+      };
+      capacity = vec_capacity s.slots;
+    } };
+
+    ghost invariant = { λ s. IsSound s.slots.items s.free_head s.len };
+}
+
+impl<T> ItemSlot<T> {
+    ghost use Rattle.iddqd.specs.Slots.{item_of};
+    ghost use Rattle.iddqd.specs.contracts.item_set.ItemSlot.{the_row};
+
+    fn item_mut(&mut self) -> &mut T
+        requires { IsSome (item_of self.old) }
+        ensures* writes_back { sem 𝓛 (Lends (the_row T.row) T.row self.entry result ItemSlot.Occupied) }
+        ensures value { item_of self.old ≡ Some result.now }
+    {
+        match self {
+            ItemSlot::Occupied(item) => item,
+            ItemSlot::Vacant { .. } => unreachable!(),
+        }
+    }
+}
+
+impl<T> ItemSet<T> {
+    ghost use Rattle.iddqd.specs.GrowHandle.{handle_set, handle_store, handle_lender};
+    ghost use Rattle.iddqd.specs.Lends.{lends_get, lends_item};
+    ghost use Rattle.iddqd.specs.contracts.item_set.ItemSet.{the_row};
+
+    /// An empty set, which takes no memory.
+    pub fn new(alloc: Global) -> ItemSet<T>
+        ensures { result ≡ record { store = empty; capacity = 0 } }
+    {
+        ItemSet {
+            slots: Vec::new(alloc),
+            free_head: ItemIndex::SENTINEL,
+            len: 0,
+        }
+    }
+
+    /// The number of items.
+    pub fn len(&self) -> usize
+        ensures { result ≡ live_count self.now.store }
+    {
+        self.len as usize
+    }
+
+    /// The number of slots, occupied and vacant: one more than the largest index that was given out.
+    pub fn slot_count(&self) -> usize
+        ensures value { result ≡ slots self.now.store }
+
+        // What every set keeps: the free indexes are distinct and exactly the vacant ones.
+        ensures valid { IsValid self.now.store }
+    {
+        self.slots.len()
+    }
+
+    /// How many inserts need no memory.
+    pub fn room(&self) -> usize
+        ensures { result ≡ room self.now }
+    {
+        let vacant = self.slots.len() - self.len as usize;
+        vacant + (self.slots.capacity().min(MAX_SLOTS) - self.slots.len())
+    }
+
+    /// The item at an index, if it is live.
+    pub fn get(&self, ix: ItemIndex) -> Option<&T>
+        ensures { option_copied result ≡ get self.now.store ix }
+    {
+        match self.slots.get(ix.as_u32() as usize) {
+            Some(ItemSlot::Occupied(item)) => Some(item),
+            _ => None,
+        }
+    }
+
+    /// The item at an index for writing, if it is live.
+    pub fn get_mut(&mut self, ix: ItemIndex) -> Option<&mut T>
+        ensures* writes_back { sem 𝓛 (lends_get T.row self.entry ix result) }
+        ensures value { option_copied_mut result ≡ get self.old.store ix }
+    {
+        if self.is_live(ix) {
+            Some(self.item_mut(ix))
+        } else {
+            None
+        }
+    }
+
+    /// Takes the item at an index, if it is live. The index is then the next to be given out.
+    ///
+    /// An index that isn't live changes nothing. No memory is taken, and none is given back.
+    pub fn remove(&mut self, ix: ItemIndex) -> Option<T>
+        ensures value { result ≡ get self.old.store ix }
+        ensures removed { OnSome result (self.new ≡ record self.old { store = removed self.old.store ix }) }
+        ensures absent { IfNone result (self.new ≡ self.old) }
+        ensures others { KeepsOthers ix self.old.store self.new.store }
+    {
+        if self.is_live(ix) {
+            Some(self.vacate(ix))
+        } else {
+            None
+        }
+    }
+
+    /// Takes the room for one more item, so that the insert through the handle can't fail.
+    ///
+    /// `Full` comes exactly where the set is full, also where no memory is left. `Memory` comes only
+    /// where memory was needed. A handle that is let go leaves the items and indexes as they were.
+    pub fn assert_can_grow(&mut self) -> Result<GrowHandle<'_, T>, GrowError>
+        ensures* refused { sem 𝓛 (RestsIfErr (the_row T.row) self.entry handle_lender result (λ last. last ≡ self.old)) }
+        ensures same_reference { IfOk result (λ h. handle_lender h ≡ self.entry.ghost_name) }
+        ensures contents { IfOk result (λ h. handle_store h ≡ self.old.store) }
+        ensures capacity { IfOk result (λ h. self.old.capacity ≤ (handle_set h).capacity) }
+        ensures full { (result ≡ Err GrowError.Full) ↔ IsFull self.old.store }
+        ensures memory { result ≡ Err GrowError.Memory → room self.old ≡ 0 }
+    {
+        self.reserve_one()?;
+        Ok(GrowHandle { set: self })
+    }
+}
+
+impl<T> fmt::Debug for ItemSet<T> {
+    fn fmt<W: fmt::Write>(&self, f: &mut fmt::Formatter<W>) -> fmt::Result {
+        let len = self.len();
+        let slots = self.slot_count();
+        write!(f, "ItemSet {{ len: {len}, slots: {slots} }}")
+    }
+}
+
+/// A set with room for one more item.
+#[must_use]
+#[derive(Drop)]
+pub struct GrowHandle<'a, T> {
+    set: &'a mut ItemSet<T>,
+    ghost reserved: { 1 ≤ room set.now },
+}
+
+impl<'a, T> GrowHandle<'a, T> {
+    ghost use Rattle.iddqd.specs.GrowHandle.{handle_set, handle_store};
+
+    /// The index that `insert` will use.
+    pub fn next_index(&self) -> ItemIndex
+        ensures { result ≡ next_index (handle_store self.now) }
+    {
+        self.set.next_index()
+    }
+
+    /// The item at an index, if it is live.
+    pub fn get(&self, ix: ItemIndex) -> Option<&T>
+        ensures { option_copied result ≡ get (handle_store self.now) ix }
+    {
+        self.set.get(ix)
+    }
+
+    /// Stores an item at the next index. It takes no memory and can't fail.
+    pub fn insert(self, item: T) -> ItemIndex
+        ensures index { result ≡ next_index (handle_store self.entry) }
+        ensures inserted { self.exit.0.now ≡ record (handle_set self.entry) { store = inserted (handle_store self.entry) item } }
+        ensures slots { GrowsIfDense (handle_store self.entry) self.exit.0.now.store }
+    {
+        self.set.fill(item)
+    }
+}
+
+impl<T> ItemSet<T> {
+    ghost use Rattle.iddqd.specs.Lends.{lends_item};
+
+    fn is_live(&self, ix: ItemIndex) -> bool
+        ensures { IsTrue result ↔ IsSome (get self.now.store ix) }
+    {
+        matches!(self.slots.get(ix.as_u32() as usize), Some(ItemSlot::Occupied(_)))
+    }
+
+    // The item at a live index.
+    fn item_mut(&mut self, ix: ItemIndex) -> &mut T
+        requires { IsSome (get self.old.store ix) }
+        ensures* writes_back { sem 𝓛 (lends_item T.row self.entry ix result) }
+        ensures value { get self.old.store ix ≡ Some result.now }
+    {
+        self.slots[ix.as_u32() as usize].item_mut()
+    }
+
+    // Takes the item at a live index.
+    fn vacate(&mut self, ix: ItemIndex) -> T
+        requires { IsSome (get self.old.store ix) }
+        ensures value { get self.old.store ix ≡ Some result }
+        ensures removed { self.new ≡ record self.old { store = removed self.old.store ix } }
+    {
+        let vacant = ItemSlot::Vacant {
+            next: self.free_head,
+        };
+        match mem::replace(&mut self.slots[ix.as_u32() as usize], vacant) {
+            ItemSlot::Occupied(item) => {
+                self.len -= 1;
+                self.free_head = ix;
+                item
+            }
+            ItemSlot::Vacant { .. } => unreachable!(),
+        }
+    }
+
+    // Takes memory only where there is no room.
+    fn reserve_one(&mut self) -> Result<(), GrowError>
+        ensures room { OnOk result (1 ≤ room self.new) }
+        ensures contents { OnOk result (self.new.store ≡ self.old.store) }
+        ensures capacity { OnOk result (self.old.capacity ≤ self.new.capacity) }
+        ensures refused { OnErr result (self.new ≡ self.old) }
+        ensures full { (result ≡ Err GrowError.Full) ↔ IsFull self.old.store }
+        ensures memory { result ≡ Err GrowError.Memory → room self.old ≡ 0 }
+    {
+        if self.room() > 0 {
+            return Ok(());
+        }
+        if self.slots.len() == MAX_SLOTS {
+            return Err(GrowError::Full);
+        }
+        match self.slots.reserve(1) {
+            Ok(()) => Ok(()),
+            Err(_) => Err(GrowError::Memory),
+        }
+    }
+
+    fn next_index(&self) -> ItemIndex
+        requires { 1 ≤ room self.now }
+        ensures { result ≡ next_index self.now.store }
+    {
+        if self.free_head == ItemIndex::SENTINEL {
+            ItemIndex::new(self.slots.len() as u32)
+        } else {
+            self.free_head
+        }
+    }
+
+    // Stores an item at the next index.
+    fn fill(&mut self, item: T) -> ItemIndex
+        requires { 1 ≤ room self.old }
+        ensures index { result ≡ next_index self.old.store }
+        ensures inserted { self.new ≡ record self.old { store = inserted self.old.store item } }
+        ensures slots { GrowsIfDense self.old.store self.new.store }
+    {
+        let ix = self.next_index();
+        self.len += 1;
+        if self.free_head == ItemIndex::SENTINEL {
+            self.slots.push_reserved(ItemSlot::Occupied(item));
+            return ix;
+        }
+        let at = self.free_head.as_u32() as usize;
+        match mem::replace(&mut self.slots[at], ItemSlot::Occupied(item)) {
+            ItemSlot::Vacant { next } => self.free_head = next,
+            ItemSlot::Occupied(_) => unreachable!(),
+        }
+        ix
+    }
+}

@@ -1,0 +1,10 @@
+//! A store of items in slots under stable indexes.
+//!
+//! [`item_set::ItemSet`] keeps each item in a slot and names it by an
+//! [`item_index::ItemIndex`]. The index of a removed item is given out again, that freed last
+//! first, so slots stay dense and an index stays valid until its item is removed.
+#![tactic(auto)]
+
+pub mod hash_builder;
+pub mod item_index;
+pub mod item_set;
