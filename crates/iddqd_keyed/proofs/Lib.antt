@@ -1,0 +1,2 @@
+pub mod StateLemmas
+pub mod RunLemmas

@@ -1,0 +1,40 @@
+use Rattle.std.proofs.Common.{◌++◌, ◌∷◌, [], length, refl, sym, ap, ◌∙◌, arith, append_assoc, append-nil}
+use Rattle.std.specs.Vec.Iter.{into_iter_items}
+use Rattle.iddqd_keyed.proofs.RunLemmas.{IsChain-push, Run-from_chain, empty_of_length}
+use Rattle.iddqd_keyed.proofs.keyed_items.KeyedItems.run.Goals as goal
+
+pub loop-command-init : goal.loop-command-init
+loop-command-init g c =
+    let given = c.into_iter-command-iterator.ensures.into_iter_gives in
+    let all = ap length given.0 in
+    record {
+      can_next = tt;
+      is_finite = tt;
+      yielded = given.0;
+      moments = [];
+      chain = rw c.in-Ok.ensures.items refl;
+      room = omega (arith, c.in-Ok.ensures.len, c.in-Ok.ensures.capacity, c.len.ensures);
+    }
+
+pub loop-command-preserved : goal.loop-command-preserved
+loop-command-preserved g c =
+    let before = c.loop-command.invariant in
+    let next = c.in-Some.ensures.steps.0 in
+    let one = ap length next in
+    record {
+      can_next = tt;
+      is_finite = tt;
+      yielded = append_assoc c.loop-command.yielded (c.in-Some.command ∷ []) _ ∙ ap (λ rest. c.loop-command.yielded ++ rest) (sym next) ∙ before.yielded;
+      moments = before.moments ++ c.step.new.self ∷ [];
+      chain = rw c.push_reserved.ensures.items (IsChain-push _ _ _ _ _ _ _ _ _ before.chain c.step.ensures);
+      room = omega (arith, before.room);
+    }
+
+pub returns-clause-run : goal.returns-clause-run
+returns-clause-run g c =
+    let before = c.loop-command.invariant in
+    let over = c.in-None.ensures.steps.0 in
+    let ok = c.loop-command.command-iterator.rest.ok in
+    let none = empty_of_length (into_iter_items c.loop-command.command-iterator) (omega (arith, ok, over)) in
+    let all = sym before.yielded ∙ ap (λ rest. c.loop-command.yielded ++ rest) none ∙ append-nil c.loop-command.yielded in
+    Run-from_chain _ _ _ _ _ before.moments (rw all before.chain)

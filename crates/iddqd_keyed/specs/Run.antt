@@ -1,0 +1,36 @@
+-- Runs of the keyed machine, and their quiet moments.
+use Rattle.std.specs.Prelude.{◌≡◌, List, [], ◌∷◌, ◌⊎◌}
+use Rattle.iddqd_keyed.specs.Keys.{Keys}
+use Rattle.iddqd_keyed.specs.State.{State, IsEmpty, InOrder}
+use Rattle.iddqd_keyed.specs.Machine.{Step, IsSilentChange}
+use Rattle.iddqd_keyed.specs.declared.command.Command.{Command}
+use Rattle.iddqd_keyed.specs.declared.command.Reply.{Reply}
+
+module _ {T S K1 K2 : Type 0} (keys : Keys T K1 K2) where
+  -- from old through these later moments to new: one step between neighbours, one reply for each command
+  abbrev pub IsChain : State T S → List (Command T K1 K2) → List (Reply T) → List (State T S) → State T S → Type 0
+  IsChain old [] [] [] new = new ≡ old
+  IsChain old (command ∷ commands) (reply ∷ replies) (next ∷ moments) new =
+      Step keys old command reply next × IsChain next commands replies moments new
+  IsChain old commands replies moments new = ⊥
+
+  -- the first moment is quiet where nothing is live or it is in order
+  abbrev pub IsQuietFirst : State T S → Type 0
+  IsQuietFirst first = IsEmpty first ⊎ InOrder keys first
+
+  -- a later one is where nothing is live, or where the one before is and no silent change stands between
+  abbrev pub IsQuietNext : Type 0 → State T S → Command T K1 K2 → State T S → Type 0
+  IsQuietNext was_quiet old command new = IsEmpty new ⊎ (was_quiet × (IsSilentChange keys old command → ⊥))
+
+  -- each quiet moment is in order; `is_quiet` says whether the first is
+  abbrev pub InOrderWhereQuiet : Type 0 → State T S → List (Command T K1 K2) → List (State T S) → Type 0
+  InOrderWhereQuiet is_quiet moment (command ∷ commands) (next ∷ moments) =
+      (is_quiet → InOrder keys moment)
+      × InOrderWhereQuiet (IsQuietNext is_quiet moment command next) next commands moments
+  InOrderWhereQuiet is_quiet moment commands moments = is_quiet → InOrder keys moment
+
+  -- a run over a list of commands
+  pub record Run (old : State T S) (commands : List (Command T K1 K2)) (replies : List (Reply T)) (new : State T S) : Type 0 where
+    pub moments : List (State T S)
+    pub steps : IsChain old commands replies moments new
+    pub quiet : InOrderWhereQuiet (IsQuietFirst old) old commands moments

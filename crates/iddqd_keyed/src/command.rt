@@ -1,0 +1,42 @@
+//! What can be asked of keyed items, and what is answered.
+use crate::keyed_item::KeyedItem;
+use iddqd::item_index::ItemIndex;
+
+/// Why an item was not taken. The item comes back.
+#[derive(Debug, PartialEq, Eq, Drop)]
+pub enum InsertRefusal<T> {
+    /// One of its keys is there: what the look-ups of its first and its second key answered.
+    Duplicate {
+        item: T,
+        first: Option<ItemIndex>,
+        second: Option<ItemIndex>,
+    },
+    /// Its keys are new, and there are as many items as there can be.
+    Full(T),
+    /// Its keys are new, there is place for it, and memory was refused.
+    Memory(T),
+}
+
+/// A command to keyed items.
+#[derive(Drop)]
+pub enum Command<T: KeyedItem> {
+    /// Take an item with new keys.
+    Insert(T),
+    /// Find the item with this first key.
+    Find1(T::Key1),
+    /// Remove the item at an index.
+    Remove(ItemIndex),
+}
+
+/// The answer to a command.
+#[derive(Debug, PartialEq, Eq, Drop)]
+pub enum Reply<T> {
+    /// To `Insert`: the index of the item.
+    Inserted(ItemIndex),
+    /// To `Insert`: the item was not taken.
+    Refused(InsertRefusal<T>),
+    /// To a find.
+    Found(Option<ItemIndex>),
+    /// To a removal: the item that was removed, and its index.
+    Removed(Option<(ItemIndex, T)>),
+}

@@ -1,0 +1,13 @@
+//! Items with two unique keys each, and the line protocol over them.
+//!
+//! [`keyed_items::KeyedItems`] keeps items that lend their two keys, and obeys one command at a time
+//! or a list of them. [`serve::serve`] reads commands from lines and answers each with a line.
+#![tactic(auto)]
+
+pub mod bytes;
+pub mod command;
+pub mod keyed_item;
+pub mod keyed_items;
+pub mod record;
+mod scan;
+pub mod serve;
