@@ -11,7 +11,7 @@ use Rattle.iddqd.specs.declared.item_set.ItemSlot.{ItemSlot}
 use Rattle.iddqd.specs.declared.item_set.ItemSlot.TheVariants.{Occupied, Vacant}
 use Rattle.iddqd.specs.Slots.{item_of, chain_of, IsChain, IsSound}
 use Rattle.iddqd.specs.ItemSet.{GrowsIfDense}
-use Rattle.iddqd.specs.Store.{Store, live_count, IsVacant, IsValid, slots as slot_total, first_or, next_index, inserted, removed, rebound, empty}
+use Rattle.iddqd.specs.Store.{Store, live_count, IsVacant, IsValid, slot_count, first_or, next_index, inserted, removed, rebound, empty}
 
 -- the index is not on the list
 abbrev pub Off : ℕ → List ℕ → Type 0
@@ -359,7 +359,7 @@ module _ {T : Type 0} where
       (omega (arith, length-map slots item_of), omega (arith, length-map slots item_of))
 
   -- an insert makes a slot only where no slot is vacant
-  pub GrowsIfDense-inserted : (s : Store T) (item : T) → live_count s + length s.free ≡ slot_total s → GrowsIfDense s (inserted s item)
+  pub GrowsIfDense-inserted : (s : Store T) (item : T) → live_count s + length s.free ≡ slot_count s → GrowsIfDense s (inserted s item)
   GrowsIfDense-inserted s item counted = by_free s.items s.free counted
     where
       by_free : (items : List (Option T)) (free : List ℕ) → count_by is_some items + length free ≡ length items → GrowsIfDense (store items free) (inserted (store items free) item)

@@ -1,12 +1,12 @@
 -- What a contract sees of a `GrowHandle`.
 use Rattle.std.specs.Borrow.{GName}
 use Rattle.iddqd.specs.Store.{Store}
-use Rattle.iddqd.specs.ItemSet.{Held}
+use Rattle.iddqd.specs.ItemSet.{SizedStore}
 use Rattle.iddqd.specs.declared.item_set.GrowHandle.{GrowHandle}
 
 module _ {T : Type 0} where
   -- the set as the handle holds it
-  abbrev pub handle_set : GrowHandle T → Held T
+  abbrev pub handle_set : GrowHandle T → SizedStore T
   handle_set h = h.set.now
 
   -- the store as the handle holds it

@@ -1,10 +1,10 @@
 -- What an `ItemSet` ends as, where a `&mut` to one of its items is returned.
 use Rattle.std.specs.Prelude.{ℕ, Option}
 use Rattle.std.specs.Borrow.{Lends, LendsIf, Fml, RattleType, MutBor}
-use Rattle.iddqd.specs.ItemSet.{Held, with_item}
+use Rattle.iddqd.specs.ItemSet.{SizedStore, with_item}
 use Rattle.iddqd.specs.contracts.item_set.ItemSet.{the_row}
 
-module _ (T : RattleType) (s : MutBor (Held T.Denot)) (ix : ℕ) where
+module _ (T : RattleType) (s : MutBor (SizedStore T.Denot)) (ix : ℕ) where
   -- once the borrow r ends, the index has the last item written through r
   abbrev pub lends_item : MutBor T.Denot → Fml
   lends_item r = Lends (the_row T) T s r (with_item s.now ix)

@@ -28,8 +28,12 @@ module _ {T : Type 0} where
   get s ix = slice_index_or s.items ix None
 
   -- the number of slots, live and vacant
-  abbrev pub slots : Store T → ℕ
-  slots s = length s.items
+  abbrev pub slot_count : Store T → ℕ
+  slot_count s = length s.items
+
+  -- the number of slots that it can have: one for each index, none of which is 4294967295
+  abbrev pub slot_limit : Store T → ℕ
+  slot_limit s = 4294967295
 
   -- the number of live indexes
   abbrev pub live_count : Store T → ℕ
@@ -37,22 +41,22 @@ module _ {T : Type 0} where
 
   -- the index is that of a slot without an item
   abbrev pub IsVacant : Store T → ℕ → Type 0
-  IsVacant s ix = (ix < slots s) × (get s ix ≡ None)
+  IsVacant s ix = (ix < slot_count s) × (get s ix ≡ None)
 
-  -- the free indexes are distinct and exactly the vacant ones, and each index is a u32 below 4294967295
+  -- the free indexes are distinct and exactly the vacant ones, and there are no more slots than there can be
   pub record IsValid (s : Store T) : Type 0 where
     pub distinct : IsDistinct nat_eq s.free
     pub vacant : (ix : ℕ) → Contains s.free ix ↔ IsVacant s ix
-    pub counted : live_count s + length s.free ≡ slots s
-    pub small : slots s ≤ 4294967295
+    pub counted : live_count s + length s.free ≡ slot_count s
+    pub small : slot_count s ≤ slot_limit s
 
   -- the index that the next insert binds
   abbrev pub next_index : Store T → ℕ
-  next_index s = first_or s.free (slots s)
+  next_index s = first_or s.free (slot_count s)
 
   -- no index is free, and there are as many slots as there can be
   abbrev pub IsFull : Store T → Type 0
-  IsFull s = (s.free ≡ []) × (slots s ≡ 4294967295)
+  IsFull s = (s.free ≡ []) × (slot_count s ≡ slot_limit s)
 
   -- the items after an insert at the first free index, or else in a new slot
   abbrev pub filled : List ℕ → List (Option T) → T → List (Option T)
@@ -61,11 +65,11 @@ module _ {T : Type 0} where
 
   -- the store after an insert: the next index is bound and no longer free
   abbrev pub inserted : Store T → T → Store T
-  inserted s item = record { items = filled s.free s.items item; free = drop 1 s.free }
+  inserted s item = record s { items = filled s.free s.items item; free = drop 1 s.free }
 
   -- the store after the removal of a live index: it is unbound, and the first of the free
   abbrev pub removed : Store T → ℕ → Store T
-  removed s ix = record { items = slice_set s.items ix None; free = ix ∷ s.free }
+  removed s ix = record s { items = slice_set s.items ix None; free = ix ∷ s.free }
 
   -- the store with another item at a live index
   abbrev pub rebound : Store T → ℕ → T → Store T

@@ -6,7 +6,7 @@
 ghost use Rattle.std.specs.Prelude.{◌≡◌, ◌+◌, ◌<◌, ◌≤◌, ◌↔◌, length, Some, None, IsSome, IsTrue, IfOk, OnOk, OnErr, IfNone, OnSome, option_copied};
 ghost use Rattle.std.specs.Option.{option_copied_mut};
 ghost use Rattle.std.specs.Borrow.{sem, Lends, RestsIfErr};
-ghost use Rattle.iddqd.specs.Store.{get, slots, live_count, next_index, IsFull, IsValid, empty, inserted, removed};
+ghost use Rattle.iddqd.specs.Store.{get, slot_count, live_count, next_index, IsFull, IsValid, empty, inserted, removed};
 ghost use Rattle.iddqd.specs.ItemSet.{room, KeepsOthers, GrowsIfDense};
 
 use crate::item_index::ItemIndex;
@@ -50,11 +50,11 @@ pub struct ItemSet<T> {
 
 impl<T> Model for ItemSet<T> {
     ghost use Rattle.std.specs.Prelude.{map, length, vec_capacity};
-    ghost use Rattle.iddqd.specs.ItemSet.{Held, held_code};
+    ghost use Rattle.iddqd.specs.ItemSet.{SizedStore, sized_store_code};
 
-    ghost Value = { Held T };
+    ghost Value = { SizedStore T };
 
-    ghost coded = { held_code T.code };
+    ghost coded = { sized_store_code T.code };
 
     ghost use Rattle.iddqd.specs.Slots.{item_of, chain_of, IsSound};
 
@@ -108,9 +108,9 @@ impl<T> ItemSet<T> {
         self.len as usize
     }
 
-    /// The number of slots, occupied and vacant: one more than the largest index that was given out.
+    /// The number of slots, occupied and vacant.
     pub fn slot_count(&self) -> usize
-        ensures value { result ≡ slots self.now.store }
+        ensures value { result ≡ slot_count self.now.store }
 
         // What every set keeps: the free indexes are distinct and exactly the vacant ones.
         ensures valid { IsValid self.now.store }
@@ -173,6 +173,7 @@ impl<T> ItemSet<T> {
         ensures same_reference { IfOk result (λ h. handle_lender h ≡ self.entry.ghost_name) }
         ensures contents { IfOk result (λ h. handle_store h ≡ self.old.store) }
         ensures capacity { IfOk result (λ h. self.old.capacity ≤ (handle_set h).capacity) }
+        ensures kept { IfOk result (λ h. 1 ≤ room self.old → handle_set h ≡ self.old) }
         ensures full { (result ≡ Err GrowError.Full) ↔ IsFull self.old.store }
         ensures memory { result ≡ Err GrowError.Memory → room self.old ≡ 0 }
     {
@@ -183,9 +184,13 @@ impl<T> ItemSet<T> {
 
 impl<T> fmt::Debug for ItemSet<T> {
     fn fmt<W: fmt::Write>(&self, f: &mut fmt::Formatter<W>) -> fmt::Result {
-        let len = self.len();
-        let slots = self.slot_count();
-        write!(f, "ItemSet {{ len: {len}, slots: {slots} }}")
+        let len = self.len;
+        let slots = self.slots.len();
+        let free_head = self.free_head;
+        write!(
+            f,
+            "ItemSet {{ len: {len}, slots: {slots}, free_head: {free_head} }}"
+        )
     }
 }
 
@@ -202,7 +207,8 @@ impl<'a, T> GrowHandle<'a, T> {
 
     /// The index that `insert` will use.
     pub fn next_index(&self) -> ItemIndex
-        ensures { result ≡ next_index (handle_store self.now) }
+        ensures index { result ≡ next_index (handle_store self.now) }
+        ensures assignable { result ≤ 4294967294 }
     {
         self.set.next_index()
     }
@@ -217,6 +223,7 @@ impl<'a, T> GrowHandle<'a, T> {
     /// Stores an item at the next index. It takes no memory and can't fail.
     pub fn insert(self, item: T) -> ItemIndex
         ensures index { result ≡ next_index (handle_store self.entry) }
+        ensures assignable { result ≤ 4294967294 }
         ensures inserted { self.exit.0.now ≡ record (handle_set self.entry) { store = inserted (handle_store self.entry) item } }
         ensures slots { GrowsIfDense (handle_store self.entry) self.exit.0.now.store }
     {
@@ -266,6 +273,7 @@ impl<T> ItemSet<T> {
         ensures room { OnOk result (1 ≤ room self.new) }
         ensures contents { OnOk result (self.new.store ≡ self.old.store) }
         ensures capacity { OnOk result (self.old.capacity ≤ self.new.capacity) }
+        ensures kept { OnOk result (1 ≤ room self.old → self.new ≡ self.old) }
         ensures refused { OnErr result (self.new ≡ self.old) }
         ensures full { (result ≡ Err GrowError.Full) ↔ IsFull self.old.store }
         ensures memory { result ≡ Err GrowError.Memory → room self.old ≡ 0 }
@@ -284,7 +292,8 @@ impl<T> ItemSet<T> {
 
     fn next_index(&self) -> ItemIndex
         requires { 1 ≤ room self.now }
-        ensures { result ≡ next_index self.now.store }
+        ensures index { result ≡ next_index self.now.store }
+        ensures assignable { result ≤ 4294967294 }
     {
         if self.free_head == ItemIndex::SENTINEL {
             ItemIndex::new(self.slots.len() as u32)
@@ -297,6 +306,7 @@ impl<T> ItemSet<T> {
     fn fill(&mut self, item: T) -> ItemIndex
         requires { 1 ≤ room self.old }
         ensures index { result ≡ next_index self.old.store }
+        ensures assignable { result ≤ 4294967294 }
         ensures inserted { self.new ≡ record self.old { store = inserted self.old.store item } }
         ensures slots { GrowsIfDense self.old.store self.new.store }
     {

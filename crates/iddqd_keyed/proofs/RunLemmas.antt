@@ -1,9 +1,9 @@
 -- How a run goes on by one step, and that its quiet moments are in order.
-use Rattle.std.proofs.Common.{◌≡◌, ◌⊎◌, List, [], ◌∷◌, ◌++◌, length, refl, subst, inl, inr, arith}
+use Rattle.std.proofs.Common.{◌≡◌, List, [], ◌∷◌, ◌++◌, length, refl, subst, inl, inr, arith}
 use Rattle.iddqd_keyed.specs.Keys.{Keys}
-use Rattle.iddqd_keyed.specs.State.{State, IsEmpty, InOrder}
-use Rattle.iddqd_keyed.specs.Machine.{Step, IsSilentChange}
-use Rattle.iddqd_keyed.specs.Run.{Run, IsChain, IsQuietFirst, IsQuietNext, InOrderWhereQuiet}
+use Rattle.iddqd_keyed.specs.State.{State, InOrder}
+use Rattle.iddqd_keyed.specs.Machine.{Step}
+use Rattle.iddqd_keyed.specs.Run.{Run, IsStepChain, IsQuietFirst, IsQuietNext, InOrderWhereQuiet}
 use Rattle.iddqd_keyed.specs.declared.command.Command.{Command}
 use Rattle.iddqd_keyed.specs.declared.command.Reply.{Reply}
 use Rattle.iddqd_keyed.proofs.StateLemmas.{InOrder-empty}
@@ -14,13 +14,13 @@ empty_of_length (x ∷ rest) p = absurd (omega arith)
 
 module _ {T S K1 K2 : Type 0} (keys : Keys T K1 K2) where
   -- a chain goes on by one step
-  pub IsChain-push : (old mid new : State T S) (commands : List (Command T K1 K2)) (replies : List (Reply T)) (moments : List (State T S)) (command : Command T K1 K2) (reply : Reply T) → IsChain keys old commands replies moments mid → Step keys mid command reply new → IsChain keys old (commands ++ command ∷ []) (replies ++ reply ∷ []) (moments ++ new ∷ []) new
-  IsChain-push old mid new [] [] [] command reply chain step = (subst (λ s. Step keys s command reply new) chain step, refl)
-  IsChain-push old mid new (c ∷ cs) (r ∷ rs) (m ∷ ms) command reply chain step = (chain.0, IsChain-push m mid new cs rs ms command reply chain.1 step)
-  IsChain-push old mid new [] [] (m ∷ ms) command reply chain step = absurd chain
-  IsChain-push old mid new [] (r ∷ rs) ms command reply chain step = absurd chain
-  IsChain-push old mid new (c ∷ cs) [] ms command reply chain step = absurd chain
-  IsChain-push old mid new (c ∷ cs) (r ∷ rs) [] command reply chain step = absurd chain
+  pub IsStepChain-push : (old mid new : State T S) (commands : List (Command T K1 K2)) (replies : List (Reply T)) (moments : List (State T S)) (command : Command T K1 K2) (reply : Reply T) → IsStepChain keys old commands replies moments mid → Step keys mid command reply new → IsStepChain keys old (commands ++ command ∷ []) (replies ++ reply ∷ []) (moments ++ new ∷ []) new
+  IsStepChain-push old mid new [] [] [] command reply chain step = (subst (λ s. Step keys s command reply new) chain step, refl)
+  IsStepChain-push old mid new (c ∷ cs) (r ∷ rs) (m ∷ ms) command reply chain step = (chain.0, IsStepChain-push m mid new cs rs ms command reply chain.1 step)
+  IsStepChain-push old mid new [] [] (m ∷ ms) command reply chain step = absurd chain
+  IsStepChain-push old mid new [] (r ∷ rs) ms command reply chain step = absurd chain
+  IsStepChain-push old mid new (c ∷ cs) [] ms command reply chain step = absurd chain
+  IsStepChain-push old mid new (c ∷ cs) (r ∷ rs) [] command reply chain step = absurd chain
 
   -- a step from a moment that is in order where it is quiet leads to one that is
   quiet_next : (is_quiet : Type 0) (old new : State T S) (command : Command T K1 K2) (reply : Reply T) → Step keys old command reply new → (is_quiet → InOrder keys old) → IsQuietNext keys is_quiet old command new → InOrder keys new
@@ -28,7 +28,7 @@ module _ {T S K1 K2 : Type 0} (keys : Keys T K1 K2) where
   quiet_next is_quiet old new command reply step was (inr kept) = step.in_order (was kept.0) kept.1
 
   -- along a chain, each quiet moment is in order
-  pub quiet_along : (is_quiet : Type 0) (old new : State T S) (commands : List (Command T K1 K2)) (replies : List (Reply T)) (moments : List (State T S)) → IsChain keys old commands replies moments new → (is_quiet → InOrder keys old) → InOrderWhereQuiet keys is_quiet old commands moments
+  pub quiet_along : (is_quiet : Type 0) (old new : State T S) (commands : List (Command T K1 K2)) (replies : List (Reply T)) (moments : List (State T S)) → IsStepChain keys old commands replies moments new → (is_quiet → InOrder keys old) → InOrderWhereQuiet keys is_quiet old commands moments
   quiet_along is_quiet old new [] [] [] chain was = was
   quiet_along is_quiet old new (c ∷ cs) (r ∷ rs) (m ∷ ms) chain was =
       (was, quiet_along (IsQuietNext keys is_quiet old c m) m new cs rs ms chain.1 (quiet_next is_quiet old m c r chain.0 was))
@@ -41,6 +41,6 @@ module _ {T S K1 K2 : Type 0} (keys : Keys T K1 K2) where
   quiet_first s (inl none) = InOrder-empty keys s none
   quiet_first s (inr o) = o
 
-  pub Run-from_chain : (old new : State T S) (commands : List (Command T K1 K2)) (replies : List (Reply T)) (moments : List (State T S)) → IsChain keys old commands replies moments new → Run keys old commands replies new
+  pub Run-from_chain : (old new : State T S) (commands : List (Command T K1 K2)) (replies : List (Reply T)) (moments : List (State T S)) → IsStepChain keys old commands replies moments new → Run keys old commands replies new
   Run-from_chain old new commands replies moments chain =
       record { moments = moments; steps = chain; quiet = quiet_along (IsQuietFirst keys old) old new commands replies moments chain (quiet_first old) }

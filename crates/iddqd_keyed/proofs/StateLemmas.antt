@@ -1,11 +1,11 @@
 -- What steps of the store do to what its indexes have, and that distinct keys stay distinct.
-use Rattle.std.proofs.Common.{◌≡◌, ◌⊎◌, ◌<◌, ◌+◌, ℕ, zero, suc, Bool, true, List, [], ◌∷◌, ◌++◌, length, get_or, set, Option, Some, None, is_some, count_by, cond, refl, sym, ap, subst, ◌∙◌, inl, inr, arith}
+use Rattle.std.proofs.Common.{◌≡◌, ◌⊎◌, ◌<◌, ℕ, zero, suc, Bool, true, List, [], ◌∷◌, ◌++◌, length, get_or, set, Option, Some, None, is_some, count_by, cond, refl, sym, ap, subst, ◌∙◌, inl, inr, arith}
 use Rattle.std.proofs.lemmas.List.{get_or_past}
 use Rattle.std.proofs.lemmas.List.Sums.{get_or-le-sum_by}
 use Rattle.std.specs.Cmp.{IsPartialEquivalence, IsTotalOrder, eq_by_cmp_equiv}
 use Rattle.iddqd.specs.Store.{Store, get, next_index, inserted, removed}
 use Rattle.iddqd_keyed.specs.Keys.{Keys, has_first, has_second}
-use Rattle.iddqd_keyed.specs.State.{State, HasNoHit, AreApart, Adds, Drops, InOrder, IsEmpty}
+use Rattle.iddqd_keyed.specs.State.{State, HasNoHit, AreApart, Binds, Unbinds, InOrder, IsEmpty}
 use Rattle.iddqd_keyed.specs.Machine.{IsNew}
 
 module _ {T : Type 0} where
@@ -56,14 +56,14 @@ module _ {T : Type 0} where
       ]
 
 module _ {T S K1 K2 : Type 0} (keys : Keys T K1 K2) where
-  pub InOrder-removed : (old new : State T S) (ix : ℕ) → Drops old ix new → InOrder keys old → InOrder keys new
+  pub InOrder-removed : (old new : State T S) (ix : ℕ) → Unbinds old ix new → InOrder keys old → InOrder keys new
   InOrder-removed old new ix drops o =
       record {
         first = subst (AreApart _) (sym drops.store) (AreApart-removed _ old.store ix o.first);
         second = subst (AreApart _) (sym drops.store) (AreApart-removed _ old.store ix o.second);
       }
 
-  pub InOrder-inserted : (old new : State T S) (item : T) → IsPartialEquivalence keys.equal_first → IsTotalOrder keys.compare_second → IsNew keys old item → Adds old item new → InOrder keys old → InOrder keys new
+  pub InOrder-inserted : (old new : State T S) (item : T) → IsPartialEquivalence keys.equal_first → IsTotalOrder keys.compare_second → IsNew keys old item → Binds old item new → InOrder keys old → InOrder keys new
   InOrder-inserted old new item e t is_new adds o =
       let symm = (eq_by_cmp_equiv t).symm in
       record {

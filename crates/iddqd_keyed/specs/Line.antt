@@ -1,5 +1,5 @@
 -- The lines of the program: what a line asks, and the words of each reply.
-use Rattle.std.specs.Prelude.{◌≡◌, ◌==◌, ◌&&◌, ℕ, Bool, List, [], ◌∷◌, ◌++◌, length, Option, Some, None, nat_le, nat_lt, codes, if◌then◌else◌}
+use Rattle.std.specs.Prelude.{◌==◌, ◌&&◌, ℕ, Bool, List, [], ◌∷◌, ◌++◌, length, Option, Some, None, nat_le, nat_lt, codes, if◌then◌else◌}
 use Rattle.std.specs.Option.{option_map, option_and_then}
 use Rattle.std.specs.List.{slice_split, list_all}
 use Rattle.std.specs.Char.{is_ascii_digit}
@@ -12,6 +12,7 @@ use Rattle.iddqd_keyed.specs.declared.command.Command.{Command}
 use Rattle.iddqd_keyed.specs.declared.command.Command.TheVariants.{Insert, Find1, Remove}
 use Rattle.iddqd_keyed.specs.declared.command.Reply.{Reply}
 use Rattle.iddqd_keyed.specs.declared.command.Reply.TheVariants.{Inserted, Refused, Found, Removed}
+use Rattle.iddqd_keyed.specs.declared.command.InsertRefusal.{InsertRefusal}
 use Rattle.iddqd_keyed.specs.declared.command.InsertRefusal.TheVariants.{Duplicate, Full, Memory}
 
 abbrev pub is_line_feed : ℕ → Bool
@@ -79,20 +80,24 @@ index_or_dash None = codes "-"
 index_or_dash (Some ix) = decimal ix
 
 -- an index and its record
-abbrev pub row : ℕ → Record → List ℕ
-row ix r = decimal ix ++ codes " " ++ decimal r.first ++ codes " " ++ decimal r.second ++ codes " " ++ decimal r.value
+abbrev pub record_text : ℕ → Record → List ℕ
+record_text ix r = decimal ix ++ codes " " ++ decimal r.first ++ codes " " ++ decimal r.second ++ codes " " ++ decimal r.value
 
 -- an index and the record that the store has there
-abbrev pub row_at : Store Record → ℕ → List ℕ
-row_at s ix = elim (get s ix) [ None ↦ codes "none" | Some r ↦ row ix r ]
+abbrev pub record_text_at : Store Record → ℕ → List ℕ
+record_text_at s ix = elim (get s ix) [ None ↦ codes "none" | Some r ↦ record_text ix r ]
+
+-- why an item was not taken, in words
+abbrev pub refusal_text : InsertRefusal Record → List ℕ
+refusal_text (Duplicate item first second) = codes "duplicate " ++ index_or_dash first ++ codes " " ++ index_or_dash second
+refusal_text (Full item) = codes "full"
+refusal_text (Memory item) = codes "no memory"
 
 -- the words of a reply, over the store that it was given in
 abbrev pub text_of : Store Record → Reply Record → List ℕ
 text_of s (Inserted ix) = codes "inserted " ++ decimal ix
-text_of s (Refused (Duplicate item first second)) = codes "duplicate " ++ index_or_dash first ++ codes " " ++ index_or_dash second
-text_of s (Refused (Full item)) = codes "full"
-text_of s (Refused (Memory item)) = codes "no memory"
+text_of s (Refused refusal) = refusal_text refusal
 text_of s (Found None) = codes "none"
-text_of s (Found (Some ix)) = row_at s ix
+text_of s (Found (Some ix)) = record_text_at s ix
 text_of s (Removed None) = codes "none"
-text_of s (Removed (Some (ix, item))) = row ix item
+text_of s (Removed (Some (ix, item))) = record_text ix item

@@ -2,7 +2,7 @@
 use Rattle.std.specs.Prelude.{◌≡◌, ℕ, Option, Some, None, Result, Ok, Err, ◌⊎◌, IsSome}
 use Rattle.iddqd.specs.Store.{get, next_index, IsFull}
 use Rattle.iddqd_keyed.specs.Keys.{Keys}
-use Rattle.iddqd_keyed.specs.State.{State, Adds, Drops, Finds1, Finds2, InOrder}
+use Rattle.iddqd_keyed.specs.State.{State, Binds, Unbinds, Finds1, Finds2, InOrder}
 use Rattle.iddqd_keyed.specs.declared.command.Command.{Command}
 use Rattle.iddqd_keyed.specs.declared.command.Command.TheVariants.{Insert, Find1, Remove}
 use Rattle.iddqd_keyed.specs.declared.command.Reply.{Reply}
@@ -10,8 +10,14 @@ use Rattle.iddqd_keyed.specs.declared.command.Reply.TheVariants.{Inserted, Refus
 use Rattle.iddqd_keyed.specs.declared.command.InsertRefusal.{InsertRefusal}
 use Rattle.iddqd_keyed.specs.declared.command.InsertRefusal.TheVariants.{Duplicate, Full, Memory}
 
+module _ {T S : Type 0} where
+  -- what a removal may answer and leave: the item of a live index, and none exactly where it isn't live
+  abbrev pub Removes : State T S → ℕ → Option T → State T S → Type 0
+  Removes old ix (Some item) new = (get old.store ix ≡ Some item) × Unbinds old ix new
+  Removes old ix None new = (get old.store ix ≡ None) × (new ≡ old)
+
 module _ {T S K1 K2 : Type 0} (keys : Keys T K1 K2) where
-  -- look-ups of both keys of the item may miss
+  -- both look-ups of the item's keys may answer none
   pub record IsNew (s : State T S) (item : T) : Type 0 where
     pub first : Finds1 keys s (keys.first item) None
     pub second : Finds2 keys s (keys.second item) None
@@ -21,7 +27,7 @@ module _ {T S K1 K2 : Type 0} (keys : Keys T K1 K2) where
     pub is_new : IsNew old item
     pub not_full : IsFull old.store → ⊥
     pub index : ix ≡ next_index old.store
-    pub adds : Adds old item new
+    pub adds : Binds old item new
 
   -- an insert that was refused for a key that is there: both look-ups' answers, not both none
   pub record RefusesDuplicate (old : State T S) (item back : T) (first second : Option ℕ) (new : State T S) : Type 0 where
@@ -52,11 +58,6 @@ module _ {T S K1 K2 : Type 0} (keys : Keys T K1 K2) where
   Inserts old item (Err (Full back)) new = RefusesFull old item back new
   Inserts old item (Err (Memory back)) new = RefusesMemory old item back new
 
-  -- what a removal may answer and leave: the item of a live index, and none exactly where it isn't live
-  abbrev pub Removes : State T S → ℕ → Option T → State T S → Type 0
-  Removes old ix (Some item) new = (get old.store ix ≡ Some item) × Drops old ix new
-  Removes old ix None new = (get old.store ix ≡ None) × (new ≡ old)
-
   -- what a command may answer and leave
   abbrev pub Answers : State T S → Command T K1 K2 → Reply T → State T S → Type 0
   Answers old (Insert item) (Inserted ix) new = Inserts old item (Ok ix) new
@@ -66,7 +67,7 @@ module _ {T S K1 K2 : Type 0} (keys : Keys T K1 K2) where
   Answers old (Remove ix) (Removed None) new = Removes old ix None new
   Answers old command reply new = ⊥
 
-  -- the command gives a live index an item with another first or another second key
+  -- The command gives a live index an item with another first or another second key. No command does so yet.
   abbrev pub IsSilentChange : State T S → Command T K1 K2 → Type 0
   IsSilentChange old command = ⊥
 

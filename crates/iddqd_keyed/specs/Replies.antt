@@ -1,11 +1,11 @@
 -- What the program has written, and what waits in its block of replies.
-use Rattle.std.specs.Prelude.{◌≡◌, ◌++◌, ℕ, Bool, true, List, Option, take, length}
+use Rattle.std.specs.Prelude.{◌++◌, ℕ, List, Option, take}
 use Rattle.std.specs.Option.{option_map}
 use Rattle.std.specs.Io.KnownBytes.{Appends}
 
 -- the bytes written, where they are told, and then those that wait
-abbrev pub sent : Option (List ℕ) → List ℕ → Option (List ℕ)
-sent written waiting = option_map (λ bytes. bytes ++ waiting) written
+abbrev pub sent_bytes : Option (List ℕ) → List ℕ → Option (List ℕ)
+sent_bytes written waiting = option_map (λ bytes. bytes ++ waiting) written
 
 -- a beginning of these bytes was written
 pub record AppendsSome (before after : Option (List ℕ)) (bytes : List ℕ) : Type 0 where

@@ -8,11 +8,11 @@ use Rattle.iddqd_keyed.specs.declared.command.Reply.{Reply}
 
 module _ {T S K1 K2 : Type 0} (keys : Keys T K1 K2) where
   -- from old through these later moments to new: one step between neighbours, one reply for each command
-  abbrev pub IsChain : State T S → List (Command T K1 K2) → List (Reply T) → List (State T S) → State T S → Type 0
-  IsChain old [] [] [] new = new ≡ old
-  IsChain old (command ∷ commands) (reply ∷ replies) (next ∷ moments) new =
-      Step keys old command reply next × IsChain next commands replies moments new
-  IsChain old commands replies moments new = ⊥
+  abbrev pub IsStepChain : State T S → List (Command T K1 K2) → List (Reply T) → List (State T S) → State T S → Type 0
+  IsStepChain old [] [] [] new = new ≡ old
+  IsStepChain old (command ∷ commands) (reply ∷ replies) (next ∷ moments) new =
+      Step keys old command reply next × IsStepChain next commands replies moments new
+  IsStepChain old commands replies moments new = ⊥
 
   -- the first moment is quiet where nothing is live or it is in order
   abbrev pub IsQuietFirst : State T S → Type 0
@@ -32,5 +32,5 @@ module _ {T S K1 K2 : Type 0} (keys : Keys T K1 K2) where
   -- a run over a list of commands
   pub record Run (old : State T S) (commands : List (Command T K1 K2)) (replies : List (Reply T)) (new : State T S) : Type 0 where
     pub moments : List (State T S)
-    pub steps : IsChain old commands replies moments new
+    pub steps : IsStepChain old commands replies moments new
     pub quiet : InOrderWhereQuiet (IsQuietFirst old) old commands moments

@@ -40,12 +40,12 @@ module _ {T S : Type 0} where
   IsEmpty s = live_count s.store ≡ 0
 
   -- the item was stored under the next index, and nothing else changed
-  pub record Adds (old : State T S) (item : T) (new : State T S) : Type 0 where
+  pub record Binds (old : State T S) (item : T) (new : State T S) : Type 0 where
     pub hasher : new.hasher ≡ old.hasher
     pub store : new.store ≡ inserted old.store item
 
   -- a live index was removed, and nothing else changed
-  pub record Drops (old : State T S) (ix : ℕ) (new : State T S) : Type 0 where
+  pub record Unbinds (old : State T S) (ix : ℕ) (new : State T S) : Type 0 where
     pub hasher : new.hasher ≡ old.hasher
     pub store : new.store ≡ removed old.store ix
 

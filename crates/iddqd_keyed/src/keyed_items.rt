@@ -17,10 +17,10 @@ use std::marker::Model;
 
 /// Items that lend two keys each.
 ///
-/// No two items that were inserted share a first key or a second key.
+/// An insert refuses an item whose first or second key is there.
 #[derive(Drop)]
 pub struct KeyedItems<T: KeyedItem, S: BuildHasher> {
-    store: ItemSet<T>,
+    items: ItemSet<T>,
     state: S,
     alloc: Global,
 }
@@ -32,7 +32,7 @@ impl<T: KeyedItem, S: BuildHasher> Model for KeyedItems<T, S> {
 
     ghost coded = { state_code T.code S.code };
 
-    ghost view = { λ k. record { hasher = k.state; store = k.store.store } };
+    ghost view = { λ k. record { hasher = k.state; store = k.items.store } };
 }
 
 impl<T: KeyedItem, S: BuildHasher> KeyedItems<T, S> {
@@ -41,7 +41,7 @@ impl<T: KeyedItem, S: BuildHasher> KeyedItems<T, S> {
         ensures { result ≡ empty_state state }
     {
         KeyedItems {
-            store: ItemSet::new(alloc),
+            items: ItemSet::new(alloc),
             state,
             alloc,
         }
@@ -51,28 +51,28 @@ impl<T: KeyedItem, S: BuildHasher> KeyedItems<T, S> {
     pub fn len(&self) -> usize
         ensures { result ≡ live_count self.now.store }
     {
-        self.store.len()
+        self.items.len()
     }
 
     /// The item at an index, if it is live.
     pub fn get(&self, ix: ItemIndex) -> Option<&T>
         ensures { option_copied result ≡ get self.now.store ix }
     {
-        self.store.get(ix)
+        self.items.get(ix)
     }
 
     /// The index of the item with this first key. It reads every slot at most once.
     pub fn find1(&self, key: &T::Key1) -> Option<ItemIndex>
         ensures { Finds1 (keys_of T.KeyedItem T.Key1.eq T.Key2.cmp) self.now key.now result }
     {
-        scan1(&self.store, key)
+        scan1(&self.items, key)
     }
 
     // The index of the item with this second key.
     fn find2(&self, key: &T::Key2) -> Option<ItemIndex>
         ensures { Finds2 (keys_of T.KeyedItem T.Key1.eq T.Key2.cmp) self.now key.now result }
     {
-        scan2(&self.store, key)
+        scan2(&self.items, key)
     }
 
     /// Takes an item with new keys.
@@ -91,7 +91,7 @@ impl<T: KeyedItem, S: BuildHasher> KeyedItems<T, S> {
                 second,
             });
         }
-        match self.store.assert_can_grow() {
+        match self.items.assert_can_grow() {
             Ok(handle) => Ok(handle.insert(item)),
             Err(GrowError::Full) => Err(InsertRefusal::Full(item)),
             Err(GrowError::Memory) => Err(InsertRefusal::Memory(item)),
@@ -100,9 +100,9 @@ impl<T: KeyedItem, S: BuildHasher> KeyedItems<T, S> {
 
     /// Removes the item at an index, if it is live. It takes no memory.
     pub fn remove(&mut self, ix: ItemIndex) -> Option<T>
-        ensures { Removes (keys_of T.KeyedItem T.Key1.eq T.Key2.cmp) self.old ix result self.new }
+        ensures { Removes self.old ix result self.new }
     {
-        self.store.remove(ix)
+        self.items.remove(ix)
     }
 
     /// Obeys one command.

@@ -6,8 +6,13 @@
 
 pub mod bytes;
 pub mod command;
+mod digits;
 pub mod keyed_item;
 pub mod keyed_items;
+mod line;
+mod line_buffer;
 pub mod record;
+mod replies;
 mod scan;
 pub mod serve;
+mod split;

@@ -1,9 +1,28 @@
 //! The program: lines in, replies out.
-ghost use Rattle.std.specs.Prelude.{◌≡◌, OnOk, IfSome, false};
+//!
+//! The input is read and the replies are written in blocks of fixed size, so the loop takes no memory
+//! of its own. A line that ends in the block that it began in is read where it stands; of one that
+//! goes on in the next block, a beginning is kept.
+ghost use Rattle.std.specs.Prelude.{◌≡◌, ◌++◌, [], List, ℕ, take, OnOk, IfSome, false};
+ghost use Rattle.std.specs.Io.KnownBytes.{Appends};
 ghost use Rattle.iddqd_keyed.specs.Program.{ServesAll};
+ghost use Rattle.iddqd_keyed.specs.Replies.{sent_bytes};
+ghost use Rattle.iddqd_keyed.specs.Split.{HasNo};
+ghost use Rattle.iddqd_keyed.specs.Serve.{IsKept, Obeys, Feeds};
 
 use crate::bytes::{Sink, Source};
+use crate::keyed_items::KeyedItems;
+use crate::line::parse;
+use crate::line_buffer::LineBuffer;
+use crate::record::Record;
+use crate::replies::Replies;
+use crate::split::split_at_first;
+use iddqd::hash_builder::DefaultHashBuilder;
 use std::alloc::Global;
+use std::hash::BuildHasher;
+
+/// How many bytes are read at once.
+const BLOCK: usize = 8192;
 
 /// Why `serve` stopped before the end of its input.
 #[derive(Clone, Copy, Debug, PartialEq, Eq)]
@@ -20,13 +39,113 @@ pub enum ServeFault {
 /// It keeps records of three numbers, and knows the lines `insert 1 10 100`, `get1 1` and
 /// `remove 0`; every other line is answered `bad line`. All replies are out before it reads on.
 /// After 18446744073709551615 reads without an end it stops as at a failed read.
-pub fn serve<I: Source, O: Sink>(alloc: Global, input: &mut I, output: &mut O) -> Result<(), ServeFault>
+pub fn serve<I: Source, O: Sink>(
+    alloc: Global,
+    input: &mut I,
+    output: &mut O,
+) -> Result<(), ServeFault>
     requires reads { I.has_failed input.old ≡ false }
     requires writes { O.has_failed output.old ≡ false }
 
-    // What is proved where source and sink tell their bytes: each line has its reply.
+    // Where source and sink tell their bytes, each line has its reply.
     ensures { OnOk result (IfSome (I.left input.old) (λ bytes. ServesAll bytes (O.written output.old) (O.written output.new))) }
 {
-    let _ = (alloc, input.failed(), output.failed());
+    let mut items = KeyedItems::new(alloc, DefaultHashBuilder::default());
+    let mut begun = LineBuffer::new();
+    let mut replies = Replies::new();
+    let mut block = [0; BLOCK];
+    'reads: for _ in 0..u64::MAX {
+        flush(&mut replies, output)?;
+        let Ok(count) = input.read(&mut block) else {
+            return Err(ServeFault::Read);
+        };
+        if count == 0 {
+            if !begun.is_empty() {
+                obey(&mut items, begun.as_slice(), &mut replies, output)?;
+            }
+            flush(&mut replies, output)?;
+            return Ok(());
+        }
+        feed(
+            &mut items,
+            &mut begun,
+            &block[..count],
+            &mut replies,
+            output,
+        )?;
+    }
+    flush(&mut replies, output)?;
     Err(ServeFault::Read)
+}
+
+// Writes all replies that wait.
+fn flush<O: Sink>(replies: &mut Replies, output: &mut O) -> Result<(), ServeFault>
+    ensures none_waits { OnOk result (replies.new ≡ []) }
+    ensures all { OnOk result (Appends (sent_bytes (O.written output.old) replies.old) (sent_bytes (O.written output.new) replies.new) []) }
+{
+    match replies.flush(output) {
+        Ok(()) => Ok(()),
+        Err(()) => Err(ServeFault::Write),
+    }
+}
+
+// Obeys the lines that these bytes end, and keeps what they begin.
+fn feed<S: BuildHasher, O: Sink>(
+    items: &mut KeyedItems<Record, S>,
+    begun: &mut LineBuffer,
+    bytes: &[u8],
+    replies: &mut Replies,
+    output: &mut O,
+) -> Result<(), ServeFault>
+    ensures { OnOk result ((line : List ℕ) → IsKept begun.old line → Feeds (sent_bytes (O.written output.old) replies.old) (sent_bytes (O.written output.new) replies.new) items.old line bytes.now items.new begun.new) }
+{
+    let mut rest = bytes;
+    while let Some((end, after)) = split_at_first(rest, b'\n') {
+        end_line(items, begun, end, replies, output)?;
+        rest = after;
+    }
+    begun.extend(rest);
+    Ok(())
+}
+
+// Obeys the line that has begun and ends with these bytes.
+fn end_line<S: BuildHasher, O: Sink>(
+    items: &mut KeyedItems<Record, S>,
+    begun: &mut LineBuffer,
+    end: &[u8],
+    replies: &mut Replies,
+    output: &mut O,
+) -> Result<(), ServeFault>
+    ensures obeys { OnOk result ((line : List ℕ) → begun.old ≡ take 129 line → Obeys (sent_bytes (O.written output.old) replies.old) (sent_bytes (O.written output.new) replies.new) items.old (line ++ end.now) items.new) }
+    ensures forgets { OnOk result (begun.new ≡ []) }
+{
+    if begun.is_empty() {
+        return obey(items, end, replies, output);
+    }
+    begun.extend(end);
+    obey(items, begun.as_slice(), replies, output)?;
+    begun.clear();
+    Ok(())
+}
+
+// Answers a line, of which more than 128 bytes may be left out behind the first 129.
+fn obey<S: BuildHasher, O: Sink>(
+    items: &mut KeyedItems<Record, S>,
+    line: &[u8],
+    replies: &mut Replies,
+    output: &mut O,
+) -> Result<(), ServeFault>
+    ensures { OnOk result ((whole : List ℕ) → take 129 line.now ≡ take 129 whole → Obeys (sent_bytes (O.written output.old) replies.old) (sent_bytes (O.written output.new) replies.new) items.old whole items.new) }
+{
+    let Ok(()) = replies.make_room(output) else {
+        return Err(ServeFault::Write);
+    };
+    match parse(line) {
+        Some(command) => {
+            let reply = items.step(command);
+            replies.put_reply(items, &reply);
+        }
+        None => replies.put_bad_line(),
+    }
+    Ok(())
 }

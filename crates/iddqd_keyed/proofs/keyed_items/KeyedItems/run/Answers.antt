@@ -1,6 +1,6 @@
 use Rattle.std.proofs.Common.{◌++◌, ◌∷◌, [], length, refl, sym, ap, ◌∙◌, arith, append_assoc, append-nil}
 use Rattle.std.specs.Vec.Iter.{into_iter_items}
-use Rattle.iddqd_keyed.proofs.RunLemmas.{IsChain-push, Run-from_chain, empty_of_length}
+use Rattle.iddqd_keyed.proofs.RunLemmas.{IsStepChain-push, Run-from_chain, empty_of_length}
 use Rattle.iddqd_keyed.proofs.keyed_items.KeyedItems.run.Goals as goal
 
 pub loop-command-init : goal.loop-command-init
@@ -26,7 +26,7 @@ loop-command-preserved g c =
       is_finite = tt;
       yielded = append_assoc c.loop-command.yielded (c.in-Some.command ∷ []) _ ∙ ap (λ rest. c.loop-command.yielded ++ rest) (sym next) ∙ before.yielded;
       moments = before.moments ++ c.step.new.self ∷ [];
-      chain = rw c.push_reserved.ensures.items (IsChain-push _ _ _ _ _ _ _ _ _ before.chain c.step.ensures);
+      chain = rw c.push_reserved.ensures.items (IsStepChain-push _ _ _ _ _ _ _ _ _ before.chain c.step.ensures);
       room = omega (arith, before.room);
     }
 

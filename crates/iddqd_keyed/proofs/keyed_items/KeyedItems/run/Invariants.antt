@@ -3,7 +3,7 @@ use Rattle.std.specs.Vec.{vec_len, vec_capacity}
 use Rattle.std.specs.Vec.Iter.{into_iter_items}
 use Rattle.iddqd_keyed.specs.Keys.{keys_of}
 use Rattle.iddqd_keyed.specs.State.{State}
-use Rattle.iddqd_keyed.specs.Run.{IsChain}
+use Rattle.iddqd_keyed.specs.Run.{IsStepChain}
 use Rattle.iddqd_keyed.proofs.keyed_items.KeyedItems.run.Given as goal
 
 -- the replies so far answer the commands so far, and there is room for a reply to each command left
@@ -13,6 +13,6 @@ invariant-loop-command g l = record {
   is_finite : (goal.iterator-loop-command g).is_finite l.command-iterator;
   yielded : l.yielded ++ into_iter_items l.command-iterator ≡ l.fn.commands.items;
   moments : List (State g.row.T.Denot g.row.S.Denot);
-  chain : IsChain (keys_of g.T.KeyedItem g.T.Key1.PartialEq.eq g.T.Key2.Ord.cmp) l.fn.self l.yielded l.replies.items moments l.self;
+  chain : IsStepChain (keys_of g.T.KeyedItem g.T.Key1.PartialEq.eq g.T.Key2.Ord.cmp) l.fn.self l.yielded l.replies.items moments l.self;
   room : vec_len l.replies + length (into_iter_items l.command-iterator) ≤ vec_capacity l.replies;
 }

@@ -1,0 +1,9 @@
+use Rattle.std.proofs.Common.{IfSome}
+use Rattle.iddqd_keyed.specs.Replies.{sent_bytes}
+use Rattle.iddqd_keyed.proofs.ServeLemmas.{Reads}
+use Rattle.iddqd_keyed.proofs.serve.serve.Given as goal
+
+-- the bytes that were read were fed
+abbrev pub invariant-reads : goal.invariant-reads
+invariant-reads g l =
+    IfSome (g.I.Source.left l.fn.input) (λ bytes. Reads bytes (g.I.Source.left l.input) (g.O.Sink.written l.fn.output) (sent_bytes (g.O.Sink.written l.output) l.replies) l.initial.items.hasher l.items l.begun)
