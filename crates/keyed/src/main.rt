@@ -1,0 +1,23 @@
+//! Keeps records of two keys and a value, as the lines on standard input say.
+//!
+//! Each line is answered by a line on standard output. The status is 0 at the end of the input, and 1
+//! where reading or writing failed, which standard error then tells.
+#![tactic(auto)]
+
+use iddqd_keyed::bytes::{ReadSource, WriteSink};
+use iddqd_keyed::serve::{ServeFault, serve};
+use std::io;
+use std::process::ExitCode;
+
+fn main(rt: HostRuntime) -> ExitCode {
+    let mut input = ReadSource::new(rt.reader());
+    let mut output = WriteSink::new(io::writer(&rt));
+    let told = match serve(rt.alloc(), &mut input, &mut output) {
+        Ok(()) => return ExitCode::SUCCESS,
+        Err(ServeFault::Read) => eprintln!(rt; "keyed: read failed"),
+        Err(ServeFault::Write) => eprintln!(rt; "keyed: write failed"),
+    };
+    // Where standard error fails too, nobody is left to be told.
+    let _ = told;
+    ExitCode::FAILURE
+}
