@@ -9,6 +9,7 @@ use Rattle.std.proofs.lemmas.List.Sums.{sum_by-set, sum_by_push}
 use Rattle.std.proofs.lemmas.Option.{slice_get_within, slice_get-get_or, slice_get_past, slice_get_read, get_or_from_slice_get}
 use Rattle.iddqd.specs.declared.item_set.ItemSlot.{ItemSlot}
 use Rattle.iddqd.specs.declared.item_set.ItemSlot.TheVariants.{Occupied, Vacant}
+use Rattle.iddqd.proofs.StoreLemmas.{contains_head, contains_tail, contains_cases, contains_none}
 use Rattle.iddqd.specs.Slots.{item_of, chain_of, IsChain, IsSound}
 use Rattle.iddqd.specs.ItemSet.{GrowsIfDense}
 use Rattle.iddqd.specs.Store.{Store, live_count, IsVacant, IsValid, slot_count, first_or, next_index, inserted, removed, rebound, empty}
@@ -17,24 +18,6 @@ use Rattle.iddqd.specs.Store.{Store, live_count, IsVacant, IsValid, slot_count, 
 abbrev pub Off : ℕ → List ℕ → Type 0
 Off at [] = Unit {0}
 Off at (ix ∷ rest) = (ix ≢ at) × Off at rest
-
-module _ {A : Type 0} where
-  contains_head : (x : A) (xs : List A) → Contains (x ∷ xs) x
-  contains_head x xs = (0, omega arith, refl)
-
-  contains_tail : (y x : A) (xs : List A) → Contains xs x → Contains (y ∷ xs) x
-  contains_tail y x xs p = (suc p.0, omega (arith, p.1), p.2)
-
-  -- an element of a list is its first, or one of the others
-  contains_cases : (y x : A) (xs : List A) → Contains (y ∷ xs) x → (y ≡ x) ⊎ Contains xs x
-  contains_cases y x xs p = by_place p.0 p.1 p.2
-    where
-      by_place : (k : ℕ) → k < suc (length xs) → get_or (y ∷ xs) k x ≡ x → (y ≡ x) ⊎ Contains xs x
-      by_place zero within read = inl read
-      by_place (suc k) within read = inr (k, omega arith, read)
-
-  contains_none : (x : A) → Contains [] x → ⊥
-  contains_none x p = omega (arith, p.1)
 
 -- an index off a list differs from each member
 Off-differs : (at : ℕ) (list : List ℕ) → Off at list → AllByRecursion (λ y. nat_eq at y ≡ false) list

@@ -1,7 +1,9 @@
 -- How a run goes on by one step, and that its quiet moments are in order.
 use Rattle.std.proofs.Common.{◌≡◌, List, [], ◌∷◌, ◌++◌, length, refl, subst, inl, inr, arith}
+use Rattle.std.specs.List.{All}
+use Rattle.std.proofs.lemmas.List.Elements.{All-cons, All-nil}
 use Rattle.iddqd_keyed.specs.Keys.{Keys}
-use Rattle.iddqd_keyed.specs.State.{State, InOrder}
+use Rattle.iddqd_keyed.specs.State.{State, IsPaired, IsEmpty, InOrder}
 use Rattle.iddqd_keyed.specs.Machine.{Step}
 use Rattle.iddqd_keyed.specs.Run.{Run, IsStepChain, IsQuietFirst, IsQuietNext, InOrderWhereQuiet}
 use Rattle.iddqd_keyed.specs.declared.command.Command.{Command}
@@ -41,6 +43,17 @@ module _ {T S K1 K2 : Type 0} (keys : Keys T K1 K2) where
   quiet_first s (inl none) = InOrder-empty keys s none
   quiet_first s (inr o) = o
 
-  pub Run-from_chain : (old new : State T S) (commands : List (Command T K1 K2)) (replies : List (Reply T)) (moments : List (State T S)) → IsStepChain keys old commands replies moments new → Run keys old commands replies new
-  Run-from_chain old new commands replies moments chain =
-      record { moments = moments; steps = chain; quiet = quiet_along (IsQuietFirst keys old) old new commands replies moments chain (quiet_first old) }
+  -- along a chain from a paired state, each moment is paired
+  paired_along : (old new : State T S) (commands : List (Command T K1 K2)) (replies : List (Reply T)) (moments : List (State T S)) → IsStepChain keys old commands replies moments new → IsPaired old → All IsPaired (old ∷ moments)
+  paired_along old new [] [] [] chain was = All-cons IsPaired old [] was (All-nil IsPaired)
+  paired_along old new (c ∷ cs) (r ∷ rs) (m ∷ ms) chain was =
+      let step = chain.0 in
+      All-cons IsPaired old (m ∷ ms) was (paired_along m new cs rs ms chain.1 (step.paired was))
+  paired_along old new [] [] (m ∷ ms) chain was = absurd chain
+  paired_along old new [] (r ∷ rs) ms chain was = absurd chain
+  paired_along old new (c ∷ cs) [] ms chain was = absurd chain
+  paired_along old new (c ∷ cs) (r ∷ rs) [] chain was = absurd chain
+
+  pub Run-from_chain : (old new : State T S) (commands : List (Command T K1 K2)) (replies : List (Reply T)) (moments : List (State T S)) → IsPaired old → IsStepChain keys old commands replies moments new → Run keys old commands replies new
+  Run-from_chain old new commands replies moments paired chain =
+      record { moments = moments; steps = chain; paired = paired_along old new commands replies moments chain paired; quiet = quiet_along (IsQuietFirst keys old) old new commands replies moments chain (quiet_first old) }

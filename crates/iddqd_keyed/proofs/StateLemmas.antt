@@ -1,11 +1,15 @@
 -- What steps of the store do to what its indexes have, and that distinct keys stay distinct.
-use Rattle.std.proofs.Common.{◌≡◌, ◌⊎◌, ◌<◌, ℕ, zero, suc, Bool, true, List, [], ◌∷◌, ◌++◌, length, get_or, set, Option, Some, None, is_some, count_by, cond, refl, sym, ap, subst, ◌∙◌, inl, inr, arith}
+use Rattle.std.proofs.Common.{◌≡◌, ◌⊎◌, ◌<◌, ℕ, zero, suc, Bool, true, List, [], ◌∷◌, ◌++◌, length, get_or, set, Result, Ok, Err, Option, Some, None, is_some, count_by, cond, refl, sym, ap, subst, ◌∙◌, inl, inr, arith}
 use Rattle.std.proofs.lemmas.List.{get_or_past}
 use Rattle.std.proofs.lemmas.List.Sums.{get_or-le-sum_by}
 use Rattle.std.specs.Cmp.{IsPartialEquivalence, IsTotalOrder, eq_by_cmp_equiv}
-use Rattle.iddqd.specs.Store.{Store, get, next_index, inserted, removed}
+use Rattle.std.specs.Option.{OnSome, IfNone}
+use Rattle.std.specs.Result.{IfOk, OnErr}
+use Rattle.iddqd.specs.Store.{Store, IsValid, IsFull, get, next_index, inserted, removed}
+use Rattle.iddqd.specs.ItemSet.{SizedStore}
+use Rattle.iddqd.proofs.StoreLemmas.{IsValid-inserted, IsValid-removed}
 use Rattle.iddqd_keyed.specs.Keys.{Keys, has_first, has_second}
-use Rattle.iddqd_keyed.specs.State.{State, HasNoHit, AreApart, Binds, Unbinds, InOrder, IsEmpty}
+use Rattle.iddqd_keyed.specs.State.{State, HasNoHit, AreApart, Binds, Unbinds, IsPaired, InOrder, IsEmpty}
 use Rattle.iddqd_keyed.specs.Machine.{IsNew}
 
 module _ {T : Type 0} where
@@ -84,3 +88,26 @@ module _ {T S K1 K2 : Type 0} (keys : Keys T K1 K2) where
           let inside : i < length items = grind (arith, get_or_past, found) in
           let at_least = rw found at (get_or-le-sum_by (λ o. cond (is_some o) 1 0) items i None inside) in
           omega (arith, at_least)
+
+module _ {T : Type 0} where
+  -- a removal, as the store answers it, keeps the store valid
+  pub IsValid-remove : (old new : SizedStore T) (ix : ℕ) (answer : Option T) → IsValid old.store → answer ≡ get old.store ix → OnSome answer (new ≡ record old { store = removed old.store ix }) → IfNone answer (new ≡ old) → IsValid new.store
+  IsValid-remove old new ix None valid is gone absent = subst (λ h. IsValid h.store) (sym absent) valid
+  IsValid-remove old new ix (Some item) valid is gone absent = subst (λ h. IsValid h.store) (sym gone) (IsValid-removed old.store ix item valid (sym is))
+
+  -- and so does an insert
+  pub IsValid-insert : {E : Type 0} (old new : Store T) (item : T) (answer : Result ℕ E) → IsValid old → IfOk answer (λ ix. (ix ≡ next_index old) × (new ≡ inserted old item) × (IsFull old → ⊥)) → OnErr answer (new ≡ old) → IsValid new
+  IsValid-insert old new item (Ok ix) valid stored unchanged = subst IsValid (sym stored.1) (IsValid-inserted old item valid stored.2)
+  IsValid-insert old new item (Err e) valid stored unchanged = subst IsValid (sym unchanged) valid
+
+module _ {T S : Type 0} where
+  pub IsPaired-valid : (s : State T S) → IsValid s.store → IsPaired s
+  IsPaired-valid s valid = record { valid = valid }
+
+  pub IsPaired-removed : (old new : State T S) (ix : ℕ) (item : T) → get old.store ix ≡ Some item → Unbinds old ix new → IsPaired old → IsPaired new
+  IsPaired-removed old new ix item live unbinds was =
+      record { valid = subst IsValid (sym unbinds.store) (IsValid-removed old.store ix item was.valid live) }
+
+  pub IsPaired-inserted : (old new : State T S) (item : T) → (IsFull old.store → ⊥) → Binds old item new → IsPaired old → IsPaired new
+  IsPaired-inserted old new item not_full binds was =
+      record { valid = subst IsValid (sym binds.store) (IsValid-inserted old.store item was.valid not_full) }

@@ -1,14 +1,21 @@
 -- The keyed machine: what each command may answer, and what state it leaves.
 use Rattle.std.specs.Prelude.{◌≡◌, ℕ, Option, Some, None, Result, Ok, Err, ◌⊎◌, IsSome}
-use Rattle.iddqd.specs.Store.{get, next_index, IsFull}
+use Rattle.iddqd.specs.Store.{Store, get, next_index, IsFull}
 use Rattle.iddqd_keyed.specs.Keys.{Keys}
-use Rattle.iddqd_keyed.specs.State.{State, Binds, Unbinds, Finds1, Finds2, InOrder}
+use Rattle.iddqd_keyed.specs.State.{State, IsPaired, Binds, Unbinds, Finds1, Finds2, InOrder}
 use Rattle.iddqd_keyed.specs.declared.command.Command.{Command}
 use Rattle.iddqd_keyed.specs.declared.command.Command.TheVariants.{Insert, Find1, Remove}
 use Rattle.iddqd_keyed.specs.declared.command.Reply.{Reply}
 use Rattle.iddqd_keyed.specs.declared.command.Reply.TheVariants.{Inserted, Refused, Found, Removed}
 use Rattle.iddqd_keyed.specs.declared.command.InsertRefusal.{InsertRefusal}
 use Rattle.iddqd_keyed.specs.declared.command.InsertRefusal.TheVariants.{Duplicate, Full, Memory}
+
+module _ {T : Type 0} where
+  -- why the store has no place for an item, which comes back
+  abbrev pub HasNoPlace : Store T → T → InsertRefusal T → Type 0
+  HasNoPlace s item (Full back) = (back ≡ item) × IsFull s
+  HasNoPlace s item (Memory back) = (back ≡ item) × (IsFull s → ⊥)
+  HasNoPlace s item (Duplicate back first second) = ⊥
 
 module _ {T S : Type 0} where
   -- what a removal may answer and leave: the item of a live index, and none exactly where it isn't live
@@ -74,4 +81,5 @@ module _ {T S K1 K2 : Type 0} (keys : Keys T K1 K2) where
   -- one step: what it answers and leaves, and what it keeps
   pub record Step (old : State T S) (command : Command T K1 K2) (reply : Reply T) (new : State T S) : Type 0 where
     pub answers : Answers old command reply new
+    pub paired : IsPaired old → IsPaired new
     pub in_order : InOrder keys old → (IsSilentChange old command → ⊥) → InOrder keys new

@@ -1,7 +1,7 @@
 -- Runs of the keyed machine, and their quiet moments.
-use Rattle.std.specs.Prelude.{◌≡◌, List, [], ◌∷◌, ◌⊎◌}
+use Rattle.std.specs.Prelude.{◌≡◌, List, [], ◌∷◌, ◌⊎◌, All}
 use Rattle.iddqd_keyed.specs.Keys.{Keys}
-use Rattle.iddqd_keyed.specs.State.{State, IsEmpty, InOrder}
+use Rattle.iddqd_keyed.specs.State.{State, IsPaired, IsEmpty, InOrder}
 use Rattle.iddqd_keyed.specs.Machine.{Step, IsSilentChange}
 use Rattle.iddqd_keyed.specs.declared.command.Command.{Command}
 use Rattle.iddqd_keyed.specs.declared.command.Reply.{Reply}
@@ -33,4 +33,5 @@ module _ {T S K1 K2 : Type 0} (keys : Keys T K1 K2) where
   pub record Run (old : State T S) (commands : List (Command T K1 K2)) (replies : List (Reply T)) (new : State T S) : Type 0 where
     pub moments : List (State T S)
     pub steps : IsStepChain old commands replies moments new
+    pub paired : All IsPaired (old ∷ moments)
     pub quiet : InOrderWhereQuiet (IsQuietFirst old) old commands moments

@@ -1,7 +1,7 @@
 -- The state of keyed items: the hasher's state and the store.
 use Rattle.std.specs.Prelude.{◌≡◌, ℕ, Bool, true, Option, Some, None, refl}
 use Rattle.std.specs.Coded.{Coded, code_by, coded×}
-use Rattle.iddqd.specs.Store.{Store, store_code, get, live_count, empty, inserted, removed}
+use Rattle.iddqd.specs.Store.{Store, store_code, IsValid, get, live_count, empty, inserted, removed}
 use Rattle.iddqd_keyed.specs.Keys.{Keys, has_first, has_second}
 
 -- no step changes the hasher's state
@@ -34,6 +34,10 @@ module _ {T : Type 0} where
 module _ {T S : Type 0} where
   abbrev pub empty_state : S → State T S
   empty_state hasher = record { hasher = hasher; store = empty }
+
+  -- the free indexes are distinct and exactly the vacant ones
+  pub record IsPaired (s : State T S) : Type 0 where
+    pub valid : IsValid s.store
 
   -- no index is live
   abbrev pub IsEmpty : State T S → Type 0

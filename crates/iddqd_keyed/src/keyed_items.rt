@@ -1,9 +1,9 @@
 //! Items with two unique keys, in one store.
-ghost use Rattle.std.specs.Prelude.{◌≡◌, [], IsOk, IfOk, IfErr, option_copied};
-ghost use Rattle.iddqd.specs.Store.{get, live_count};
+ghost use Rattle.std.specs.Prelude.{◌≡◌, [], IsOk, IfOk, IfErr, OnErr, option_copied};
+ghost use Rattle.iddqd.specs.Store.{get, live_count, next_index, inserted, IsFull};
 ghost use Rattle.iddqd_keyed.specs.Keys.{keys_of};
-ghost use Rattle.iddqd_keyed.specs.State.{empty_state, Finds1, Finds2};
-ghost use Rattle.iddqd_keyed.specs.Machine.{Inserts, Removes, Step};
+ghost use Rattle.iddqd_keyed.specs.State.{empty_state, IsPaired, Finds1, Finds2};
+ghost use Rattle.iddqd_keyed.specs.Machine.{HasNoPlace, Inserts, Removes, Step};
 ghost use Rattle.iddqd_keyed.specs.Run.{Run};
 
 use crate::command::{Command, InsertRefusal, Reply};
@@ -14,6 +14,19 @@ use iddqd::item_set::{GrowError, ItemSet};
 use std::alloc::Global;
 use std::hash::BuildHasher;
 use std::marker::Model;
+
+// Stores an item of new keys, or hands it back.
+fn store<T: Drop>(items: &mut ItemSet<T>, item: T) -> Result<ItemIndex, InsertRefusal<T>>
+    ensures stored { IfOk result (λ ix. (ix ≡ next_index items.old.store) × (items.new.store ≡ inserted items.old.store item) × (IsFull items.old.store → ⊥)) }
+    ensures refused { IfErr result (HasNoPlace items.old.store item) }
+    ensures unchanged { OnErr result (items.new.store ≡ items.old.store) }
+{
+    match items.assert_can_grow() {
+        Ok(handle) => Ok(handle.insert(item)),
+        Err(GrowError::Full) => Err(InsertRefusal::Full(item)),
+        Err(GrowError::Memory) => Err(InsertRefusal::Memory(item)),
+    }
+}
 
 /// Items that lend two keys each.
 ///
@@ -32,7 +45,11 @@ impl<T: KeyedItem, S: BuildHasher> Model for KeyedItems<T, S> {
 
     ghost coded = { state_code T.code S.code };
 
+    ghost use Rattle.iddqd.specs.Store.{IsValid};
+
     ghost view = { λ k. record { hasher = k.state; store = k.items.store } };
+
+    ghost invariant = { λ k. IsValid k.items.store };
 }
 
 impl<T: KeyedItem, S: BuildHasher> KeyedItems<T, S> {
@@ -49,7 +66,10 @@ impl<T: KeyedItem, S: BuildHasher> KeyedItems<T, S> {
 
     /// The number of items.
     pub fn len(&self) -> usize
-        ensures { result ≡ live_count self.now.store }
+        ensures value { result ≡ live_count self.now.store }
+
+        // What every value keeps.
+        ensures paired { IsPaired self.now }
     {
         self.items.len()
     }
@@ -91,11 +111,7 @@ impl<T: KeyedItem, S: BuildHasher> KeyedItems<T, S> {
                 second,
             });
         }
-        match self.items.assert_can_grow() {
-            Ok(handle) => Ok(handle.insert(item)),
-            Err(GrowError::Full) => Err(InsertRefusal::Full(item)),
-            Err(GrowError::Memory) => Err(InsertRefusal::Memory(item)),
-        }
+        store(&mut self.items, item)
     }
 
     /// Removes the item at an index, if it is live. It takes no memory.

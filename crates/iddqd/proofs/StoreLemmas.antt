@@ -1,0 +1,152 @@
+-- The steps of a store keep its free indexes distinct and exactly the vacant ones.
+use Rattle.std.proofs.Common.{◌≡◌, ◌≢◌, ◌⊎◌, ◌+◌, ◌<◌, ◌≤◌, ℕ, zero, suc, Bool, false, nat_eq, cond, List, [], ◌∷◌, ◌++◌, length, get_or, set, Option, Some, None, is_some, count_by, refl, sym, ap, subst, ◌∙◌, inl, inr, arith, length-set}
+use Rattle.std.specs.List.{Contains, IsDistinct, All, AllByRecursion}
+use Rattle.std.proofs.lemmas.Bool.{cases_eq, cases_lt}
+use Rattle.std.proofs.lemmas.Grind.{common_steps}
+use Rattle.std.proofs.lemmas.List.{get_or_past, get_or-set_same, get_or-set_other, get_or_append_left, get_or_push, length_push}
+use Rattle.std.proofs.lemmas.List.Elements.{Contains-get_or, recursion_from_All, All-from_recursion, All-contains}
+use Rattle.std.proofs.lemmas.List.Sums.{sum_by-set, sum_by_push}
+use Rattle.std.proofs.lemmas.Map.Keys.{IsDistinct-cons, IsDistinct-head, IsDistinct-tail}
+use Rattle.iddqd.specs.Store.{Store, get, slot_count, slot_limit, IsVacant, IsValid, IsFull, empty, inserted, removed}
+
+module _ {A : Type 0} where
+  pub contains_head : (x : A) (xs : List A) → Contains (x ∷ xs) x
+  contains_head x xs = (0, omega arith, refl)
+
+  pub contains_tail : (y x : A) (xs : List A) → Contains xs x → Contains (y ∷ xs) x
+  contains_tail y x xs p = (suc p.0, omega (arith, p.1), p.2)
+
+  -- an element of a list is its first, or one of the others
+  pub contains_cases : (y x : A) (xs : List A) → Contains (y ∷ xs) x → (y ≡ x) ⊎ Contains xs x
+  contains_cases y x xs p = by_place p.0 p.1 p.2
+    where
+      by_place : (k : ℕ) → k < suc (length xs) → get_or (y ∷ xs) k x ≡ x → (y ≡ x) ⊎ Contains xs x
+      by_place zero within read = inl read
+      by_place (suc k) within read = inr (k, omega arith, read)
+
+  pub contains_none : (x : A) → Contains [] x → ⊥
+  contains_none x p = omega (arith, p.1)
+
+-- two numbers that differ, by the test
+differs : (a b : ℕ) → a ≢ b → nat_eq a b ≡ false
+differs a b other = grind (arith, common_steps, other)
+
+same_if : (a b : ℕ) → nat_eq a b ≡ false → a ≢ b
+same_if a b test same = grind (arith, common_steps, test, same)
+
+module _ {T : Type 0} where
+  live_within : (items : List (Option T)) (ix : ℕ) (item : T) → get_or items ix None ≡ Some item → ix < length items
+  live_within items ix item live = grind (arith, get_or_past, live)
+
+  pub IsValid-empty : IsValid (empty {T = T})
+  unfolding IsDistinct
+  IsValid-empty = record {
+    distinct = tt;
+    vacant = λ ix. (λ listed. absurd (contains_none ix listed), λ vacant. absurd (omega (arith, vacant.0)));
+    counted = omega arith;
+    small = omega arith;
+  }
+
+  -- a live index is not free
+  live_not_free : (s : Store T) (ix : ℕ) (item : T) → IsValid s → get s ix ≡ Some item → (other : ℕ) → Contains s.free other → ix ≢ other
+  live_not_free s ix item valid live other listed same =
+      let none = ((valid.vacant other).0 listed).1 in
+      let here = ap (λ i. get s i) same in
+      cc
+
+  pub IsValid-removed : (s : Store T) (ix : ℕ) (item : T) → IsValid s → get s ix ≡ Some item → IsValid (removed s ix)
+  IsValid-removed s ix item valid live =
+      let within = live_within s.items ix item live in
+      record {
+        distinct = IsDistinct-cons nat_eq ix s.free (recursion_from_All (λ y. nat_eq ix y ≡ false) s.free not_free) valid.distinct;
+        vacant = λ other. (λ listed. freed other (contains_cases ix other s.free listed), λ vacant. listed_if other vacant (cases_eq other ix));
+        counted =
+          let count = sum_by-set (λ o. cond (is_some o) 1 0) s.items ix None None within in
+          let before = rw live at count in
+          omega (arith, valid.counted, before, length-set s.items ix None);
+        small = omega (arith, valid.small, length-set s.items ix None);
+      }
+    where
+      not_free : All (λ y. nat_eq ix y ≡ false) s.free
+      not_free = λ k d inside. differs ix (get_or s.free k d) (live_not_free s ix item valid live (get_or s.free k d) (Contains-get_or s.free k d inside))
+
+      freed : (other : ℕ) → ((ix ≡ other) ⊎ Contains s.free other) → IsVacant (removed s ix) other
+      freed other (inl same) =
+          let within = live_within s.items ix item live in
+          subst (IsVacant (removed s ix)) same (omega (arith, within, length-set s.items ix None), get_or-set_same s.items ix None None within)
+      freed other (inr listed) =
+          let was = (valid.vacant other).0 listed in
+          let apart : other ≢ ix = λ same. live_not_free s ix item valid live other listed (sym same) in
+          (omega (arith, was.0, length-set s.items ix None), get_or-set_other s.items ix other None None apart ∙ was.1)
+
+      listed_if : (other : ℕ) → IsVacant (removed s ix) other → ((other ≡ ix) ⊎ (other ≡ ix → ⊥)) → Contains (ix ∷ s.free) other
+      listed_if other vacant (inl same) = subst (λ i. Contains (ix ∷ s.free) i) (sym same) (contains_head ix s.free)
+      listed_if other vacant (inr apart) =
+          contains_tail ix other s.free ((valid.vacant other).1 (omega (arith, vacant.0, length-set s.items ix None), sym (get_or-set_other s.items ix other None None apart) ∙ vacant.1))
+
+  pub IsValid-inserted : (s : Store T) (item : T) → IsValid s → (IsFull s → ⊥) → IsValid (inserted s item)
+  unfolding IsDistinct
+  IsValid-inserted s item valid not_full = by_free s.items s.free valid not_full
+    where
+      at_end : (items : List (Option T)) → IsValid (record { items = items; free = [] }) → (IsFull {T = T} (record { items = items; free = [] }) → ⊥) → IsValid (inserted (record { items = items; free = [] }) item)
+      at_end items valid not_full =
+          record {
+            distinct = tt;
+            vacant = λ ix. (λ listed. absurd (contains_none ix listed), λ vacant. absurd (none_vacant ix vacant (cases_lt ix (length items))));
+            counted = rw (sum_by_push (λ o. cond (is_some o) 1 0) items (Some item)) (omega (arith, valid.counted, length_push items (Some item)));
+            small = below (cases_eq (length items) 4294967295);
+          }
+        where
+          none_vacant : (ix : ℕ) → IsVacant (inserted (record { items = items; free = [] }) item) ix → ((ix < length items) ⊎ (length items ≤ ix)) → ⊥
+          none_vacant ix vacant (inl before) =
+              contains_none ix ((valid.vacant ix).1 (before, sym (get_or_append_left items (Some item ∷ []) None ix before) ∙ vacant.1))
+          none_vacant ix vacant (inr past) =
+              let last : length items ≡ ix = omega (arith, vacant.0, length_push items (Some item)) in
+              let pushed = get_or_push items (Some item) None ix last in
+              let none = vacant.1 in
+              cc
+
+          below : ((length items ≡ 4294967295) ⊎ (length items ≡ 4294967295 → ⊥)) → length (items ++ Some item ∷ []) ≤ 4294967295
+          below (inl most) = absurd (not_full (refl, most))
+          below (inr fewer) = omega (arith, valid.small, length_push items (Some item))
+
+      reused : (items : List (Option T)) (ix : ℕ) (rest : List ℕ) → IsValid (record { items = items; free = ix ∷ rest }) → IsValid (inserted (record { items = items; free = ix ∷ rest }) item)
+      reused items ix rest valid =
+          let first = (valid.vacant ix).0 (contains_head ix rest) in
+          record {
+            distinct = IsDistinct-tail nat_eq ix rest valid.distinct;
+            vacant = λ other. (λ listed. still other listed, λ vacant. listed_if other vacant (cases_eq other ix));
+            counted =
+              let count = sum_by-set (λ o. cond (is_some o) 1 0) items ix (Some item) None first.0 in
+              let none = first.1 in
+              let before = rw none at count in
+              omega (arith, valid.counted, before, length-set items ix (Some item));
+            small = omega (arith, valid.small, length-set items ix (Some item));
+          }
+        where
+          not_again : (other : ℕ) → Contains rest other → ix ≢ other
+          not_again other listed = same_if ix other (All-contains (λ y. nat_eq ix y ≡ false) rest other (All-from_recursion (λ y. nat_eq ix y ≡ false) rest (IsDistinct-head nat_eq ix rest valid.distinct)) listed)
+
+          still : (other : ℕ) → Contains rest other → IsVacant (inserted (record { items = items; free = ix ∷ rest }) item) other
+          still other listed =
+              let was = (valid.vacant other).0 (contains_tail ix other rest listed) in
+              let apart : other ≢ ix = λ same. not_again other listed (sym same) in
+              (omega (arith, was.0, length-set items ix (Some item)), get_or-set_other items ix other (Some item) None apart ∙ was.1)
+
+          by_place : (other : ℕ) → (other ≡ ix → ⊥) → ((ix ≡ other) ⊎ Contains rest other) → Contains rest other
+          by_place other apart (inl same) = absurd (apart (sym same))
+          by_place other apart (inr later) = later
+
+          listed_if : (other : ℕ) → IsVacant (inserted (record { items = items; free = ix ∷ rest }) item) other → ((other ≡ ix) ⊎ (other ≡ ix → ⊥)) → Contains rest other
+          listed_if other vacant (inl same) =
+              let first = (valid.vacant ix).0 (contains_head ix rest) in
+              let none : get_or (set items ix (Some item)) ix None ≡ None = subst (λ i. get_or (set items ix (Some item)) i None ≡ None) same vacant.1 in
+              let bound = get_or-set_same items ix (Some item) None first.0 in
+              absurd (cc)
+          listed_if other vacant (inr apart) =
+              let was = (valid.vacant other).1 (omega (arith, vacant.0, length-set items ix (Some item)), sym (get_or-set_other items ix other (Some item) None apart) ∙ vacant.1) in
+              by_place other apart (contains_cases ix other rest was)
+
+      by_free : (items : List (Option T)) (free : List ℕ) → IsValid (record { items = items; free = free }) → (IsFull {T = T} (record { items = items; free = free }) → ⊥) → IsValid (inserted (record { items = items; free = free }) item)
+      by_free items [] valid not_full = at_end items valid not_full
+      by_free items (ix ∷ rest) valid not_full = reused items ix rest valid
