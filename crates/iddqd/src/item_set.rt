@@ -157,11 +157,10 @@ impl<T> ItemSet<T> {
         ensures absent { IfNone result (self.new ≡ self.old) }
         ensures others { KeepsOthers ix self.old.store self.new.store }
     {
-        if self.is_live(ix) {
-            Some(self.vacate(ix))
-        } else {
-            None
+        if !self.is_live(ix) {
+            return None;
         }
+        Some(self.vacate(ix))
     }
 
     /// Takes the room for one more item, so that the insert through the handle can't fail.

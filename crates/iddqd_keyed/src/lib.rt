@@ -4,7 +4,6 @@
 //! or a list of them. [`serve::serve`] reads commands from lines and answers each with a line.
 #![tactic(auto)]
 
-pub mod bytes;
 pub mod command;
 mod digits;
 pub mod keyed_item;
@@ -15,4 +14,6 @@ pub mod record;
 mod replies;
 mod scan;
 pub mod serve;
+pub mod sink;
+pub mod source;
 mod split;

@@ -5,11 +5,11 @@ ghost use Rattle.std.specs.Fmt.{decimal};
 ghost use Rattle.iddqd_keyed.specs.Line.{record_text, index_or_dash, refusal_text, text_of};
 ghost use Rattle.iddqd_keyed.specs.Replies.{sent_bytes, AppendsSome};
 
-use crate::bytes::Sink;
 use crate::command::{InsertRefusal, Reply};
 use crate::digits::Digits;
 use crate::keyed_items::KeyedItems;
 use crate::record::Record;
+use crate::sink::Sink;
 use iddqd::item_index::ItemIndex;
 use std::hash::BuildHasher;
 use std::marker::Model;

@@ -10,12 +10,13 @@ ghost use Rattle.iddqd_keyed.specs.Replies.{sent_bytes};
 ghost use Rattle.iddqd_keyed.specs.Split.{HasNo};
 ghost use Rattle.iddqd_keyed.specs.Serve.{IsKept, Obeys, Feeds};
 
-use crate::bytes::{Sink, Source};
 use crate::keyed_items::KeyedItems;
 use crate::line::parse;
 use crate::line_buffer::LineBuffer;
 use crate::record::Record;
 use crate::replies::Replies;
+use crate::sink::Sink;
+use crate::source::Source;
 use crate::split::split_at_first;
 use iddqd::hash_builder::DefaultHashBuilder;
 use std::alloc::Global;

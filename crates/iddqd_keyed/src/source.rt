@@ -1,0 +1,66 @@
+//! Where the bytes of lines come from.
+ghost use Rattle.std.specs.Prelude.{◌≡◌, ℕ, Bool, List, Option, is_ok, true, false, if◌then◌else◌};
+ghost use Rattle.std.specs.Io.{ReadsAtMost};
+ghost use Rattle.std.specs.Io.KnownBytes.{ReadConsumes};
+
+use std::io::Read;
+
+/// Gives bytes, until it has failed.
+pub trait Source {
+    // The bytes that are left, where they are told.
+    ghost left: { Self → Option (List ℕ) };
+
+    ghost has_failed: { Self → Bool };
+
+    /// Takes bytes off the front, and tells how many. No byte into a buffer that isn't empty is the end.
+    ///
+    /// An error takes none, and the source has failed from then on.
+    fn read(&mut self, buf: &mut [u8]) -> Result<usize, ()>
+        ensures bound { ReadsAtMost result buf.new }
+        ensures bytes { ReadConsumes (left self.old) (left self.new) result buf.new }
+        ensures failed { has_failed self.new ≡ (if is_ok result then has_failed self.old else true) };
+
+    /// Whether a read has failed.
+    fn failed(&self) -> bool
+        ensures { result ≡ has_failed self.now };
+}
+
+/// A source over any reader. An interruption is an error, as any other.
+#[derive(Drop)]
+pub struct ReadSource<R> {
+    reader: R,
+    failed: bool,
+}
+
+impl<R: Read> ReadSource<R> {
+    /// The source of what the reader has left.
+    pub fn new(reader: R) -> ReadSource<R>
+        ensures left { ⟦<ReadSource<R> as Source>⟧.left result ≡ R.remaining reader }
+        ensures not_failed { ⟦<ReadSource<R> as Source>⟧.has_failed result ≡ false }
+    {
+        ReadSource {
+            reader,
+            failed: false,
+        }
+    }
+}
+
+impl<R: Read> Source for ReadSource<R> {
+    ghost left = { λ s. R.remaining s.reader };
+
+    ghost has_failed = { λ s. s.failed };
+
+    fn read(&mut self, buf: &mut [u8]) -> Result<usize, ()> {
+        match self.reader.read(buf) {
+            Ok(count) => Ok(count),
+            Err(_) => {
+                self.failed = true;
+                Err(())
+            }
+        }
+    }
+
+    fn failed(&self) -> bool {
+        self.failed
+    }
+}
