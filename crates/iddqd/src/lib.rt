@@ -8,3 +8,5 @@
 pub mod hash_builder;
 pub mod item_index;
 pub mod item_set;
+#[cfg(test)]
+mod tests;

@@ -17,3 +17,5 @@ pub mod serve;
 pub mod sink;
 pub mod source;
 mod split;
+#[cfg(test)]
+mod tests;

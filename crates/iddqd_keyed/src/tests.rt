@@ -1,0 +1,4 @@
+mod driver;
+mod faults;
+mod lines;
+mod streams;
