@@ -1,9 +1,8 @@
 -- How each change of the slots keeps the count and the chain of vacant slots.
-use Rattle.std.proofs.Common.{◌≡◌, ◌≢◌, ◌⊎◌, ◌↔◌, ℕ, zero, suc, ◌+◌, ◌-◌, ◌<◌, ◌≤◌, Bool, false, nat_eq, List, [], ◌∷◌, ◌++◌, map, length, get_or, set, Option, Some, None, is_some, IsSome, count_by, cond, slice_get, refl, sym, ap, subst, ◌∙◌, inl, inr, arith, length-set, min}
+use Rattle.std.proofs.Common.{◌≡◌, ◌≢◌, ◌⊎◌, ℕ, zero, suc, ◌+◌, ◌-◌, ◌<◌, ◌≤◌, false, nat_eq, List, [], ◌∷◌, ◌++◌, map, length, get_or, set, Option, Some, None, is_some, IsSome, count_by, cond, slice_get, refl, sym, ap, subst, ◌∙◌, inl, inr, arith, length-set, min}
 use Rattle.std.specs.List.{Contains, IsDistinct, AllByRecursion}
 use Rattle.std.proofs.lemmas.Bool.{cases_eq, cases_lt}
 use Rattle.std.proofs.lemmas.Grind.{common_steps}
-use Rattle.std.proofs.lemmas.Map.Keys.{IsDistinct-cons}
 use Rattle.std.proofs.lemmas.List.{map-set, map_push, length-map, length_push, get_or-map, get_or-set_same, get_or-set_other, get_or_past, get_or_append_left, get_or_push}
 use Rattle.std.proofs.lemmas.List.Sums.{sum_by-set, sum_by_push}
 use Rattle.std.proofs.lemmas.Option.{slice_get_within, slice_get-get_or, slice_get_past, slice_get_read, get_or_from_slice_get}
@@ -12,7 +11,7 @@ use Rattle.iddqd.specs.declared.item_set.ItemSlot.TheVariants.{Occupied, Vacant}
 use Rattle.iddqd.proofs.StoreLemmas.{contains_head, contains_tail, contains_cases, contains_none}
 use Rattle.iddqd.specs.Slots.{item_of, chain_of, IsChain, IsSound}
 use Rattle.iddqd.specs.ItemSet.{GrowsIfDense}
-use Rattle.iddqd.specs.Store.{Store, live_count, IsVacant, IsValid, slot_count, first_or, next_index, inserted, removed, rebound, empty}
+use Rattle.iddqd.specs.Store.{Store, live_count, IsValid, slot_count, first_or, next_index, inserted, removed, rebound}
 
 -- the index is not on the list
 abbrev pub Off : ℕ → List ℕ → Type 0
@@ -47,11 +46,10 @@ module _ {T : Type 0} where
   -- a longer chain does not come back to where it began
   pub Off-shorter : (slots : List (ItemSlot T)) (head at : ℕ) (whole list : List ℕ) → length slots ≤ 4294967295 → IsChain slots head whole → length list < length whole → IsChain slots at list → Off head list
   Off-shorter slots head at whole [] small p fewer q = tt
-  Off-shorter slots head at whole (ix ∷ rest) small p fewer q =
-      (
-        λ same. let k = IsChain-unique slots head whole (ix ∷ rest) small p (subst (λ n. IsChain slots n (ix ∷ rest)) (sym q.1 ∙ same) q) in omega arith,
-        Off-shorter slots head q.0 whole rest small p (omega arith) q.3
-      )
+  Off-shorter slots head at whole (ix ∷ rest) small p fewer q = (
+    λ same. let k = IsChain-unique slots head whole (ix ∷ rest) small p (subst (λ n. IsChain slots n (ix ∷ rest)) (sym q.1 ∙ same) q) in omega arith,
+    Off-shorter slots head q.0 whole rest small p (omega arith) q.3,
+  )
 
   -- an occupied slot is on no chain
   pub Off-occupied : (slots : List (ItemSlot T)) (at head : ℕ) (item : T) (list : List ℕ) → slice_get slots at ≡ Some (Occupied item) → IsChain slots head list → Off at list
@@ -143,9 +141,9 @@ module _ {T : Type 0} where
       elim (head_cases slots head len sound) [
         | inl p ↦ absurd (omega (arith, sound.small, p.0))
         | inr p ↦
-          let there = p.4 in
-          let same : p.0 ≡ next = cc in
-          (p.1, p.3, subst (λ n. IsChain slots n p.1) same p.5)
+            let there = p.4 in
+            let same : p.0 ≡ next = cc in
+            (p.1, p.3, subst (λ n. IsChain slots n p.1) same p.5)
       ]
 
   -- before the end, the head is a vacant slot
@@ -322,9 +320,9 @@ module _ {T : Type 0} where
         distinct = subst (IsDistinct nat_eq) (sym free) (IsChain-distinct slots head sound.chain sound.small sound.chained);
         vacant = λ ix. (
           λ listed. let v = IsChain-vacant slots head sound.chain ix sound.chained (subst (λ l. Contains l ix) free listed) in
-          (omega (arith, slice_get_within slots ix _ v.1, count), without_item slots ix v.0 v.1),
+              (omega (arith, slice_get_within slots ix _ v.1, count), without_item slots ix v.0 v.1),
           λ vacant. let v = vacant_at slots ix (omega (arith, vacant.0, count)) vacant.1 in
-          subst (λ l. Contains l ix) (sym free) (sound.complete ix v.0 v.1)
+              subst (λ l. Contains l ix) (sym free) (sound.complete ix v.0 v.1),
         );
         counted = omega (arith, ap length free, sound.total, sound.counted, count);
         small = omega (arith, sound.small, count);

@@ -1,13 +1,13 @@
 -- The steps of a store keep its free indexes distinct and exactly the vacant ones.
-use Rattle.std.proofs.Common.{◌≡◌, ◌≢◌, ◌⊎◌, ◌+◌, ◌<◌, ◌≤◌, ℕ, zero, suc, Bool, false, nat_eq, cond, List, [], ◌∷◌, ◌++◌, length, get_or, set, Option, Some, None, is_some, count_by, refl, sym, ap, subst, ◌∙◌, inl, inr, arith, length-set}
-use Rattle.std.specs.List.{Contains, IsDistinct, All, AllByRecursion}
+use Rattle.std.proofs.Common.{◌≡◌, ◌≢◌, ◌⊎◌, ◌<◌, ◌≤◌, ℕ, zero, suc, false, nat_eq, cond, List, [], ◌∷◌, ◌++◌, length, get_or, set, Option, Some, None, is_some, refl, sym, ap, subst, ◌∙◌, inl, inr, arith, length-set}
+use Rattle.std.specs.List.{Contains, IsDistinct, All}
 use Rattle.std.proofs.lemmas.Bool.{cases_eq, cases_lt}
 use Rattle.std.proofs.lemmas.Grind.{common_steps}
 use Rattle.std.proofs.lemmas.List.{get_or_past, get_or-set_same, get_or-set_other, get_or_append_left, get_or_push, length_push}
 use Rattle.std.proofs.lemmas.List.Elements.{Contains-get_or, recursion_from_All, All-from_recursion, All-contains}
 use Rattle.std.proofs.lemmas.List.Sums.{sum_by-set, sum_by_push}
 use Rattle.std.proofs.lemmas.Map.Keys.{IsDistinct-cons, IsDistinct-head, IsDistinct-tail}
-use Rattle.iddqd.specs.Store.{Store, get, slot_count, slot_limit, IsVacant, IsValid, IsFull, empty, inserted, removed}
+use Rattle.iddqd.specs.Store.{Store, get, IsVacant, IsValid, IsFull, empty, inserted, removed}
 
 module _ {A : Type 0} where
   pub contains_head : (x : A) (xs : List A) → Contains (x ∷ xs) x
@@ -61,9 +61,9 @@ module _ {T : Type 0} where
         distinct = IsDistinct-cons nat_eq ix s.free (recursion_from_All (λ y. nat_eq ix y ≡ false) s.free not_free) valid.distinct;
         vacant = λ other. (λ listed. freed other (contains_cases ix other s.free listed), λ vacant. listed_if other vacant (cases_eq other ix));
         counted =
-          let count = sum_by-set (λ o. cond (is_some o) 1 0) s.items ix None None within in
-          let before = rw live at count in
-          omega (arith, valid.counted, before, length-set s.items ix None);
+            let count = sum_by-set (λ o. cond (is_some o) 1 0) s.items ix None None within in
+            let before = rw live at count in
+            omega (arith, valid.counted, before, length-set s.items ix None);
         small = omega (arith, valid.small, length-set s.items ix None);
       }
     where
@@ -117,10 +117,10 @@ module _ {T : Type 0} where
             distinct = IsDistinct-tail nat_eq ix rest valid.distinct;
             vacant = λ other. (λ listed. still other listed, λ vacant. listed_if other vacant (cases_eq other ix));
             counted =
-              let count = sum_by-set (λ o. cond (is_some o) 1 0) items ix (Some item) None first.0 in
-              let none = first.1 in
-              let before = rw none at count in
-              omega (arith, valid.counted, before, length-set items ix (Some item));
+                let count = sum_by-set (λ o. cond (is_some o) 1 0) items ix (Some item) None first.0 in
+                let none = first.1 in
+                let before = rw none at count in
+                omega (arith, valid.counted, before, length-set items ix (Some item));
             small = omega (arith, valid.small, length-set items ix (Some item));
           }
         where

@@ -3,3 +3,5 @@ pub mod ItemSet
 pub mod Lends
 pub mod GrowHandle
 pub mod Slots
+pub mod MapHash
+pub mod MapHashLaws

@@ -11,9 +11,8 @@ ghost use Rattle.iddqd.specs.ItemSet.{room, KeepsOthers, GrowsIfDense};
 
 use crate::item_index::ItemIndex;
 use std::alloc::Global;
-use std::fmt;
 use std::marker::Model;
-use std::mem;
+use std::{fmt, mem};
 
 /// How many slots a set can have: one for each index but `SENTINEL`.
 const MAX_SLOTS: usize = 4294967295;
@@ -236,7 +235,10 @@ impl<T> ItemSet<T> {
     fn is_live(&self, ix: ItemIndex) -> bool
         ensures { IsTrue result ↔ IsSome (get self.now.store ix) }
     {
-        matches!(self.slots.get(ix.as_u32() as usize), Some(ItemSlot::Occupied(_)))
+        matches!(
+            self.slots.get(ix.as_u32() as usize),
+            Some(ItemSlot::Occupied(_))
+        )
     }
 
     // The item at a live index.

@@ -8,5 +8,6 @@
 pub mod hash_builder;
 pub mod item_index;
 pub mod item_set;
+pub mod map_hash;
 #[cfg(test)]
 mod tests;

@@ -3,7 +3,7 @@ use Rattle.std.proofs.Common.{◌≡◌, List, [], ◌∷◌, ◌++◌, length, 
 use Rattle.std.specs.List.{All}
 use Rattle.std.proofs.lemmas.List.Elements.{All-cons, All-nil}
 use Rattle.iddqd_keyed.specs.Keys.{Keys}
-use Rattle.iddqd_keyed.specs.State.{State, IsPaired, IsEmpty, InOrder}
+use Rattle.iddqd_keyed.specs.State.{State, IsPaired, InOrder}
 use Rattle.iddqd_keyed.specs.Machine.{Step}
 use Rattle.iddqd_keyed.specs.Run.{Run, IsStepChain, IsQuietFirst, IsQuietNext, InOrderWhereQuiet}
 use Rattle.iddqd_keyed.specs.declared.command.Command.{Command}

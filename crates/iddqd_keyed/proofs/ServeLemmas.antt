@@ -105,8 +105,8 @@ module _ {S : Type 0} (before mid after : Option (List ℕ)) (old next new : Sta
         done = f.done ++ g.done;
         left = g.left;
         bytes_are =
-          sym (append_assoc begun bytes more) ∙ ap (λ l. l ++ more) f.bytes_are ∙ append_assoc (ended f.done) f.left more
-          ∙ ap (λ l. ended f.done ++ l) g.bytes_are ∙ sym (append_assoc (ended f.done) (ended g.done) g.left) ∙ ap (λ l. l ++ g.left) (sym (ended-append f.done g.done));
+            sym (append_assoc begun bytes more) ∙ ap (λ l. l ++ more) f.bytes_are ∙ append_assoc (ended f.done) f.left more
+            ∙ ap (λ l. ended f.done ++ l) g.bytes_are ∙ sym (append_assoc (ended f.done) (ended g.done) g.left) ∙ ap (λ l. l ++ g.left) (sym (ended-append f.done g.done));
         each_one_line = All-append (HasNo 10) f.done g.done f.each_one_line g.each_one_line;
         keeps = g.keeps;
         out = f.out ++ g.out;

@@ -22,8 +22,8 @@ cut_at_first byte bytes at found =
     record {
       whole = rw rest (sym (take-append-drop at bytes) ∙ ap (λ l. take at bytes ++ l) parted);
       first = λ k d inside.
-      let before : k < at = omega (arith, length-take-le at bytes (omega arith)) in
-      rw (get_or-take at bytes k d before) ((p d found).2 k before);
+          let before : k < at = omega (arith, length-take-le at bytes (omega arith)) in
+          rw (get_or-take at bytes k d before) ((p d found).2 k before);
     }
 
 -- where there is no first place, the byte isn't there

@@ -129,7 +129,7 @@ fn end_line<S: BuildHasher, O: Sink>(
     Ok(())
 }
 
-// Answers a line, of which more than 128 bytes may be left out behind the first 129.
+// Answers a line. Of a line of more than 128 bytes, what stands behind the first 129 may be left out.
 fn obey<S: BuildHasher, O: Sink>(
     items: &mut KeyedItems<Record, S>,
     line: &[u8],

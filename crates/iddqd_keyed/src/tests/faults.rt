@@ -1,7 +1,7 @@
 use super::streams::serve_in_steps;
+use crate::serve::ServeFault;
 use crate::sink::{Sink, WriteSink};
 use crate::source::{ReadSource, Source};
-use crate::serve::ServeFault;
 use std::io::{self, Read, Write};
 
 #[test]

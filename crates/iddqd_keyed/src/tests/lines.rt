@@ -1,7 +1,7 @@
 use super::streams::serve_in_steps;
+use crate::serve::serve;
 use crate::sink::WriteSink;
 use crate::source::ReadSource;
-use crate::serve::serve;
 use std::alloc::Global;
 use std::process::Abort;
 use std::test::Fail;

@@ -1,8 +1,8 @@
 ghost use Rattle.std.specs.Prelude.{None};
 
+use crate::serve::{ServeFault, serve};
 use crate::sink::Sink;
 use crate::source::Source;
-use crate::serve::{ServeFault, serve};
 use std::alloc::Global;
 
 /// Gives at most `step` bytes a read, and fails after the last where it `breaks`.

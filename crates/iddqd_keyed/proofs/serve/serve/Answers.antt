@@ -25,12 +25,12 @@ returns-then-count-eq0 g c =
     let is_default : IsDefaultHasher c.new-items.result.hasher = rw c.new-items.ensures c.default.ensures in
     elim c.if-not-is_empty.branch [
       | then-not-is_empty+in_ok-obey w ↦
-        let sent = rw (w.output-is, w.replies-is) at flushed in
-        ServesAll-rest _ _ _ _ _ _ _ _ _ is_default all
-        (λ same. let yes = w.if-not-is_empty.true in let test = c.is_empty.ensures in true≢false (sym (test ∙ ap (λ n. n == 0) same) ∙ yes))
-        (λ line same. w.in_ok-obey.ensures line (rw w.as_slice.ensures same))
-        sent
+          let sent = rw (w.output-is, w.replies-is) at flushed in
+          ServesAll-rest _ _ _ _ _ _ _ _ _ is_default all
+          (λ same. let yes = w.if-not-is_empty.true in let test = c.is_empty.ensures in true≢false (sym (test ∙ ap (λ n. n == 0) same) ∙ yes))
+          (λ line same. w.in_ok-obey.ensures line (rw w.as_slice.ensures same))
+          sent
       | else-not-is_empty w ↦
-        let sent = rw (w.output-is, w.replies-is) at flushed in
-        ServesAll-whole _ _ _ _ _ _ _ is_default all (eqb-true _ _ (sym c.is_empty.ensures ∙ w.if-not-is_empty.false)) sent
+          let sent = rw (w.output-is, w.replies-is) at flushed in
+          ServesAll-whole _ _ _ _ _ _ _ is_default all (eqb-true _ _ (sym c.is_empty.ensures ∙ w.if-not-is_empty.false)) sent
     ]

@@ -1,5 +1,5 @@
 use Rattle.std.specs.Vec.{vec_capacity}
-use Rattle.std.proofs.Common.{Some, ◌≡◌, ◌≢◌, ◌<◌, sym, ap, subst, ◌∙◌, length, arith, rules}
+use Rattle.std.proofs.Common.{Some, ◌≡◌, ◌≢◌, sym, ap, subst, ◌∙◌, arith, rules}
 use Rattle.std.proofs.lemmas.Option.{slice_get_within}
 use Rattle.iddqd.specs.ItemSet.{GrowsIfDense}
 use Rattle.iddqd.proofs.SlotLemmas.{store_of, len_below, fits_at_end, pushed-is, filled-is, IsSound-push, IsSound-fill, read_at_head, vacant_at_head, store-is-valid, GrowsIfDense-inserted}

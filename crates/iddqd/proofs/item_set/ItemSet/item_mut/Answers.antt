@@ -1,4 +1,4 @@
-use Rattle.std.proofs.Common.{◌≡◌, refl, sym, ap, ◌∙◌}
+use Rattle.std.proofs.Common.{refl, ap}
 use Rattle.std.specs.Vec.{vec_capacity}
 use Rattle.iddqd.proofs.SlotLemmas.{read_at_live, occupied_slot, item_at_occupied, IsSound-rebind, rebound-is}
 use Rattle.iddqd.proofs.item_set.ItemSet.item_mut.Goals as goal

@@ -1,0 +1,5 @@
+pub mod AskLemmas
+pub mod PermutationLemmas
+pub mod RetainLemmas
+pub mod MapHashTableLemmas
+pub mod FiledLemmas

@@ -1,0 +1,207 @@
+-- How a bag of hashes and indexes makes a map, and what a look-up in the one says of the other.
+use Rattle.std.proofs.Common.{◌≡◌, ◌==◌, ℕ, Bool, true, false, cond, List, [], ◌∷◌, map, filter, length, Option, IsSome, drop, slice_get, ◌≤◌, Some, None, refl, sym, ap, subst, ◌∙◌, arith, ◌+◌}
+use Rattle.std.specs.List.{IsDistinct, AllByRecursion}
+use Rattle.std.specs.List.Sorted.{IsPermutation}
+use Rattle.std.specs.Ordering.{nat_cmp, eq_by_cmp, is_eq}
+use Rattle.std.specs.declared.cmp.Ordering.{Ordering}
+use Rattle.std.specs.declared.cmp.Ordering.TheVariants.{Less, Equal, Greater}
+use Rattle.std.specs.FinMap as finite
+use Rattle.std.specs.FinMap.{FinMap}
+use Rattle.std.specs.FinMap.Entries.{put, find}
+use Rattle.std.specs.Cmp.{nat_cmp_total, IsTotalOrder, eq_by_cmp_equiv}
+use Rattle.std.proofs.lemmas.List.Sorted.{length_permutation, IsPermutation-refl, IsPermutation-trans, IsPermutation-sym, IsPermutation-cons, IsPermutation-map}
+use Rattle.std.proofs.lemmas.List.{length-map, drop_more, drop_all}
+use Rattle.std.proofs.lemmas.Option.{slice_get_within, get_or_from_slice_get}
+use Rattle.std.proofs.lemmas.Map.Keys.{IsDistinct-head, IsDistinct-tail, IsDistinct-cons, IsDistinct-IsPermutation}
+use Rattle.iddqd_hash.proofs.PermutationLemmas.{along_permutation, IsPermutation-turn, IsPermutation-filter}
+use Rattle.iddqd_hash.specs.Asks.{AllRefused, LooksUp}
+use Rattle.iddqd_hash.specs.HashTable.{under, values}
+use Rattle.iddqd_hash.specs.MapHashTable.{turned, filed_from, IsDistinctlyFiled, indexes_under}
+
+module _ {K X : Type 0} (R : K → K → Ordering) where
+  put_new : (k : K) (v : X) (es : List (K × X)) → find R k es ≡ None → IsPermutation ((k, v) ∷ es) (put R k v es)
+  put_new k v [] absent = IsPermutation-refl _
+  put_new k v (e ∷ es) absent =
+      elim (R k e.0) as (λ r. R k e.0 ≡ r → IsPermutation ((k, v) ∷ e ∷ es) (put R k v (e ∷ es))) [
+        | Less ↦ λ is. rw is (IsPermutation-refl _)
+        | Equal ↦ λ is. absurd (let h = rw is at absent in cc)
+        | Greater ↦ λ is. rw is (IsPermutation-trans _ _ _ (IsPermutation-turn (k, v) e es) (IsPermutation-cons e _ _ (put_new k v es (rw is at absent))))
+      ] refl
+
+  find_absent : (k : K) (es : List (K × X)) → AllByRecursion (λ y. eq_by_cmp R k y ≡ false) (map (λ e. e.0) es) → find R k es ≡ None
+  find_absent k [] apart = refl
+  find_absent k (e ∷ es) apart = rw apart.0 (find_absent k es apart.1)
+
+no_entries : {A : Type 0} (es : List A) → length es ≡ 0 → es ≡ []
+no_entries [] e = refl
+no_entries (x ∷ es) e = absurd (omega arith)
+
+module _ {K X : Type 0} {R : K → K → Ordering} (o : IsTotalOrder R) where
+  pub entries-from_entries : (es : List (K × X)) → IsDistinct (eq_by_cmp R) (map (λ e. e.0) es) → IsPermutation es (finite.entries (finite.from_entries {R = R} es))
+  entries-from_entries [] apart =
+      rw (no_entries (finite.entries (finite.empty {X = X} {R = R})) (sym (finite.len-entries _) ∙ finite.len-empty R X)) (IsPermutation-refl [])
+  entries-from_entries (e ∷ es) apart =
+      let rest = finite.from_entries {R = R} es in
+      let new : find R e.0 (finite.entries rest) ≡ None =
+      sym (finite.get-entries rest e.0) ∙ finite.get-from_entries o es e.0 ∙ find_absent R e.0 es (IsDistinct-head _ _ _ apart) in
+      rw (finite.entries-insert o) (IsPermutation-trans _ _ _ (IsPermutation-cons e _ _ (entries-from_entries es (IsDistinct-tail _ _ _ apart))) (put_new R e.0 e.1 _ new))
+
+turned_under : (h : ℕ) (es : List (ℕ × ℕ)) → map (λ (e : ℕ × ℕ). e.0) (filter (λ (e : ℕ × ℕ). e.1 == h) (map turned es)) ≡ under h es
+turned_under h [] = refl
+turned_under h (e ∷ es) =
+    elim (e.0 == h) as (λ b. map (λ (e : ℕ × ℕ). e.0) (cond b ((e.1, e.0) ∷ filter (λ (e : ℕ × ℕ). e.1 == h) (map turned es)) (filter (λ (e : ℕ × ℕ). e.1 == h) (map turned es))) ≡ map (λ (e : ℕ × ℕ). e.1) (cond b (e ∷ filter (λ (e : ℕ × ℕ). e.0 == h) es) (filter (λ (e : ℕ × ℕ). e.0 == h) es))) [
+      | true ↦ ap (λ xs. e.1 ∷ xs) (turned_under h es)
+      | false ↦ turned_under h es
+    ]
+
+turned_keys : (es : List (ℕ × ℕ)) → map (λ (e : ℕ × ℕ). e.0) (map turned es) ≡ values es
+turned_keys [] = refl
+turned_keys (e ∷ es) = ap (λ xs. e.1 ∷ xs) (turned_keys es)
+
+-- the entries of the map are those of the bag
+pub filed_entries : (es : List (ℕ × ℕ)) → IsDistinctlyFiled es → IsPermutation (map turned es) (finite.entries (filed_from es))
+filed_entries es apart = entries-from_entries nat_cmp_total _ (rw (turned_keys es) apart)
+
+pub under_filed : (h : ℕ) (es : List (ℕ × ℕ)) → IsDistinctlyFiled es → IsPermutation (under h es) (indexes_under h (filed_from es))
+under_filed h es apart =
+    rw (← turned_under h es) (IsPermutation-map (λ (e : ℕ × ℕ). e.0) _ _ (IsPermutation-filter (λ (e : ℕ × ℕ). e.1 == h) _ _ (filed_entries es apart)))
+
+pub len_filed : (es : List (ℕ × ℕ)) → IsDistinctlyFiled es → length es ≡ finite.len (filed_from es)
+len_filed es apart = sym (length-map es turned) ∙ sym (length_permutation _ _ (filed_entries es apart)) ∙ sym (finite.len-entries _)
+
+-- A look-up is one by other questions too, where each question of the first is one of the second, and in another order of the values.
+module _ {F G T : Type 0} (ask : F → T → Bool → F → Type 0) (asks : G → T → Bool → G → Type 0) (R : F → G → Type 0) (follows : (f : F) (k : G) (x : T) (b : Bool) (f' : F) → R f k → ask f x b f' → (k' : G) × asks k x b k' × R f' k') where
+  refused_follows : (f : F) (k : G) (xs : List T) (last : F) → R f k → AllRefused ask f xs last → (end : G) × AllRefused asks k xs end × R last end
+  refused_follows f k [] last r same = (k, refl, subst (λ s. R s k) same r)
+  refused_follows f k (x ∷ xs) last r calls =
+      let one = follows f k x false calls.0 r calls.1 in
+      let rest = refused_follows calls.0 one.0 xs last one.2 calls.2 in
+      (rest.0, (one.0, one.1, rest.1), rest.2)
+
+  pub LooksUp-follows : (f : F) (k : G) (xs ys : List T) (r : Option T) → R f k → IsPermutation xs ys → LooksUp ask f xs r → LooksUp asks k ys r
+  LooksUp-follows f k xs ys None r moved miss =
+      let end = refused_follows f k miss.asked miss.last r miss.were_refused in
+      record {
+        asked = miss.asked;
+        each_once = IsPermutation-trans _ _ _ (IsPermutation-sym _ _ moved) miss.each_once;
+        last = end.0;
+        were_refused = end.1;
+      }
+  LooksUp-follows f k xs ys (Some v) r moved hit =
+      let end = refused_follows f k hit.refused hit.before r hit.were_refused in
+      let yes = follows hit.before end.0 v true hit.last end.2 hit.accepted in
+      record {
+        refused = hit.refused;
+        unasked = hit.unasked;
+        each_once = IsPermutation-trans _ _ _ (IsPermutation-sym _ _ moved) hit.each_once;
+        before = end.0;
+        were_refused = end.1;
+        last = yes.0;
+        accepted = yes.1;
+      }
+
+pub tied : (x y : ℕ) → eq_by_cmp nat_cmp x y ≡ true → nat_cmp x y ≡ Equal
+tied x y is = by_answer (nat_cmp x y) is
+  where
+    by_answer : (r : Ordering) → is_eq r ≡ true → r ≡ Equal
+    by_answer Less e = cc
+    by_answer Equal e = refl
+    by_answer Greater e = cc
+
+untied : (x y : ℕ) → (x ≡ y → ⊥) → eq_by_cmp nat_cmp x y ≡ false
+untied x y other = by_test (eq_by_cmp nat_cmp x y) refl
+  where
+    by_test : (b : Bool) → eq_by_cmp nat_cmp x y ≡ b → b ≡ false
+    by_test true is = absurd (other (finite.nat_cmp-IsAntisymmetric x y (tied x y is)))
+    by_test false is = refl
+
+flips : (x y : ℕ) → eq_by_cmp nat_cmp x y ≡ eq_by_cmp nat_cmp y x
+flips x y = (eq_by_cmp_equiv nat_cmp_total).symm x y
+
+pub distinct_moved : (xs ys : List (ℕ × ℕ)) → IsPermutation xs ys → IsDistinctlyFiled xs → IsDistinctlyFiled ys
+distinct_moved xs ys moved = IsDistinct-IsPermutation _ flips _ _ (IsPermutation-map (λ (e : ℕ × ℕ). e.1) xs ys moved)
+
+-- two inserts at different keys, in either order
+inserts_turn : (m : FinMap nat_cmp ℕ) (j k u v : ℕ) → eq_by_cmp nat_cmp j k ≡ false → finite.insert (finite.insert m k v) j u ≡ finite.insert (finite.insert m j u) k v
+inserts_turn m j k u v apart = finite.same_map nat_cmp_total finite.nat_cmp-IsAntisymmetric _ _ at
+  where
+    choose : (a b : Bool) (x y z : Option ℕ) → (a ≡ true → b ≡ true → ⊥) → cond a x (cond b y z) ≡ cond b y (cond a x z)
+    choose true true x y z never = absurd (never refl refl)
+    choose true false x y z never = refl
+    choose false b x y z never = refl
+
+    never : (q : ℕ) → eq_by_cmp nat_cmp q j ≡ true → eq_by_cmp nat_cmp q k ≡ true → ⊥
+    never q a b =
+        let same = finite.nat_cmp-IsAntisymmetric q j (tied q j a) in
+        let e = ap (λ x. eq_by_cmp nat_cmp x k) (sym same) in
+        let f : false ≡ true = sym apart ∙ e ∙ b in cc
+
+    at : (q : ℕ) → finite.get (finite.insert (finite.insert m k v) j u) q ≡ finite.get (finite.insert (finite.insert m j u) k v) q
+    at q =
+        rw (finite.get-insert nat_cmp_total, finite.get-insert nat_cmp_total, finite.get-insert nat_cmp_total, finite.get-insert nat_cmp_total) (choose _ _ _ _ _ (never q))
+
+-- moves keep the pairs, and the map where no index stands twice
+abbrev MovesMap : List (ℕ × ℕ) → List (ℕ × ℕ) → Type 0
+MovesMap xs ys = IsPermutation xs ys × (IsDistinctlyFiled xs → filed_from xs ≡ filed_from ys)
+
+pub filed_moved : (xs ys : List (ℕ × ℕ)) → IsPermutation xs ys → IsDistinctlyFiled xs → filed_from xs ≡ filed_from ys
+filed_moved xs ys moved = (along_permutation MovesMap same skip turn chain xs ys moved).1
+  where
+    same : (xs : List (ℕ × ℕ)) → MovesMap xs xs
+    same xs = (IsPermutation-refl xs, λ d. refl)
+
+    skip : (x : ℕ × ℕ) (xs ys : List (ℕ × ℕ)) → MovesMap xs ys → MovesMap (x ∷ xs) (x ∷ ys)
+    skip x xs ys h = (IsPermutation-cons x _ _ h.0, λ d. ap (λ m. finite.insert m x.1 x.0) (h.1 (IsDistinct-tail _ _ _ d)))
+
+    turn : (x y : ℕ × ℕ) (xs : List (ℕ × ℕ)) → MovesMap (x ∷ y ∷ xs) (y ∷ x ∷ xs)
+    turn x y xs = (IsPermutation-turn x y xs, λ d. inserts_turn (filed_from xs) x.1 y.1 x.0 y.0 (IsDistinct-head _ _ _ d).0)
+
+    chain : (xs ys zs : List (ℕ × ℕ)) → MovesMap xs ys → MovesMap ys zs → MovesMap xs zs
+    chain xs ys zs h k = (IsPermutation-trans _ _ _ h.0 k.0, λ d. h.1 d ∙ k.1 (distinct_moved xs ys h.0 d))
+
+all_apart : (k : ℕ) (es : List (ℕ × ℕ)) → find nat_cmp k (map turned es) ≡ None → AllByRecursion (λ y. eq_by_cmp nat_cmp k y ≡ false) (values es)
+all_apart k [] absent = tt
+all_apart k (e ∷ es) absent =
+    elim (eq_by_cmp nat_cmp k e.1) as (λ b. eq_by_cmp nat_cmp k e.1 ≡ b → cond b (Some e.0) (find nat_cmp k (map turned es)) ≡ None → AllByRecursion (λ y. eq_by_cmp nat_cmp k y ≡ false) (values (e ∷ es))) [
+      | true ↦ λ is none. absurd (cc)
+      | false ↦ λ is none. (is, all_apart k es none)
+    ] refl absent
+
+-- an index that is not filed is added
+pub distinct_added : (es new : List (ℕ × ℕ)) (hash ix : ℕ) → finite.get (filed_from es) ix ≡ None → IsPermutation ((hash, ix) ∷ es) new → IsDistinctlyFiled es → IsDistinctlyFiled new × (filed_from new ≡ finite.insert (filed_from es) ix hash)
+distinct_added es new hash ix absent moved apart =
+    let none = sym (finite.get-from_entries nat_cmp_total (map turned es) ix) ∙ absent in
+    let more : IsDistinctlyFiled ((hash, ix) ∷ es) = IsDistinct-cons _ ix (values es) (all_apart ix es none) apart in
+    (distinct_moved _ _ moved more, sym (filed_moved _ _ moved more))
+
+-- an index that is filed is removed
+pub distinct_removed : (es new : List (ℕ × ℕ)) (hash ix : ℕ) → IsPermutation es ((hash, ix) ∷ new) → IsDistinctlyFiled es → IsDistinctlyFiled new × (filed_from new ≡ finite.remove (filed_from es) ix)
+distinct_removed es new hash ix moved apart =
+    let more : IsDistinctlyFiled ((hash, ix) ∷ new) = distinct_moved _ _ moved apart in
+    let none : finite.get (filed_from new) ix ≡ None =
+    finite.get-from_entries nat_cmp_total (map turned new) ix ∙ find_absent nat_cmp ix (map turned new) (rw (turned_keys new) (IsDistinct-head _ _ _ more)) in
+    let at : (q : ℕ) → finite.get (filed_from new) q ≡ finite.get (finite.remove (finite.insert (filed_from new) ix hash) ix) q = λ q.
+    rw (finite.get-remove nat_cmp_total, finite.get-insert nat_cmp_total)
+    (elim (eq_by_cmp nat_cmp ix q) as (λ b. eq_by_cmp nat_cmp ix q ≡ b → finite.get (filed_from new) q ≡ cond (eq_by_cmp nat_cmp q ix) None (cond (eq_by_cmp nat_cmp q ix) (Some hash) (finite.get (filed_from new) q))) [
+      | true ↦ λ is. rw (sym (flips ix q) ∙ is) (ap (finite.get (filed_from new)) (sym (finite.nat_cmp-IsAntisymmetric ix q (tied ix q is))) ∙ none)
+      | false ↦ λ is. rw (sym (flips ix q) ∙ is) refl
+    ] refl) in
+    (IsDistinct-tail _ _ _ more, finite.same_map nat_cmp_total finite.nat_cmp-IsAntisymmetric _ _ at ∙ ap (λ m. finite.remove m ix) (sym (filed_moved _ _ moved apart)))
+
+-- an index that stands at a place or behind it, and not at the place, stands behind it
+pub filed_past : (es : List (ℕ × ℕ)) (place : ℕ) (e : ℕ × ℕ) (ix : ℕ) → slice_get es place ≡ Some e → (e.1 ≡ ix → ⊥) → IsSome (finite.get (filed_from (drop place es)) ix) → IsSome (finite.get (filed_from (drop (place + 1) es)) ix)
+filed_past es place e ix found other here =
+    let within = slice_get_within es place e found in
+    let read = get_or_from_slice_get es place e e found in
+    let split : drop place es ≡ e ∷ drop (place + 1) es = drop_more es place e within ∙ ap (λ x. x ∷ drop (place + 1) es) read in
+    let opened : IsSome (finite.get (finite.insert (filed_from (drop (place + 1) es)) e.1 e.0) ix) = subst (λ xs. IsSome (finite.get (filed_from xs) ix)) split here in
+    let apart : eq_by_cmp nat_cmp ix e.1 ≡ false = untied ix e.1 (λ same. other (sym same)) in
+    let past : finite.get (finite.insert (filed_from (drop (place + 1) es)) e.1 e.0) ix ≡ finite.get (filed_from (drop (place + 1) es)) ix = rw (finite.get-insert nat_cmp_total, apart) refl in
+    subst IsSome past opened
+
+-- behind the last place stands none
+pub filed_past_all : (es : List (ℕ × ℕ)) (place ix : ℕ) → length es ≤ place → IsSome (finite.get (filed_from (drop place es)) ix) → ⊥
+filed_past_all es place ix past here =
+    let none : finite.get (filed_from []) ix ≡ None = finite.get-empty nat_cmp ix in
+    let empty : IsSome (finite.get (filed_from []) ix) = subst (λ xs. IsSome (finite.get (filed_from xs) ix)) (drop_all place es past) here in
+    let never : false ≡ true = subst (λ (o : Option ℕ). IsSome o) none empty in cc

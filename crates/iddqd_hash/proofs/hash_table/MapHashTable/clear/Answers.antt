@@ -1,0 +1,6 @@
+use Rattle.std.specs.List.{IsDistinct}
+use Rattle.iddqd_hash.proofs.hash_table.MapHashTable.clear.Goals as goal
+
+pub invariant_of-self : goal.invariant_of-self
+unfolding IsDistinct
+invariant_of-self c = rw c.clear.ensures.empty tt

@@ -1,0 +1,5 @@
+pub mod Asks
+pub mod HashTable
+pub mod HashTableEntry
+pub mod MapHashTable
+pub mod MapHashTableEntry

@@ -1,0 +1,40 @@
+-- What a contract sees of a table of indexes under hashes.
+use Rattle.std.specs.Prelude.{◌≡◌, ◌==◌, ℕ, Bool, false, List, Option, Some, None, IsTrue, map, filter}
+use Rattle.std.specs.Ordering.{nat_cmp, eq_by_cmp}
+use Rattle.std.specs.List.{IsDistinct}
+use Rattle.std.specs.FinMap as finite
+use Rattle.std.specs.FinMap.{FinMap}
+use Rattle.std.specs.Fn.{Shared}
+use Rattle.iddqd_hash.specs.HashTable.{Table, values}
+
+-- an index and its hash, from a hash and an index
+abbrev pub turned : ℕ × ℕ → ℕ × ℕ
+turned e = (e.1, e.0)
+
+-- the map that has the pairs of a hash and an index
+abbrev pub filed_from : List (ℕ × ℕ) → FinMap nat_cmp ℕ
+filed_from es = finite.from_entries (map turned es)
+
+-- the hash under which each index is filed
+abbrev pub filed : Table ℕ → FinMap nat_cmp ℕ
+filed t = filed_from t.pairs
+
+-- no index stands twice
+abbrev pub IsDistinctlyFiled : List (ℕ × ℕ) → Type 0
+IsDistinctlyFiled es = IsDistinct (eq_by_cmp nat_cmp) (values es)
+
+-- the indexes that are filed under a hash
+abbrev pub indexes_under : ℕ → FinMap nat_cmp ℕ → List ℕ
+indexes_under hash m = map (λ e. e.0) (filter (λ e. e.1 == hash) (finite.entries m))
+
+-- An ask of a look-up by a query: the lookup gives a key for the index, and the answer is whether the query is
+-- equivalent to it. Neither changes, so there is one state.
+pub record AsksKey {F Q K : Type 0} (g : Shared F (ℕ × Unit {0}) K) (equivalent : Q → K → Bool) (lookup : F) (query : Q) (before : Unit {0}) (ix : ℕ) (answer : Bool) (after : Unit {0}) : Type 0 where
+  pub key : K
+  pub gives : g.post lookup (ix, tt) key
+  pub is : answer ≡ equivalent query key
+
+-- a search for an index under the hash that passes the test: a hit does, and at a miss none does
+abbrev pub FindsWhere : (ℕ → Bool) → ℕ → FinMap nat_cmp ℕ → Option ℕ → Type 0
+FindsWhere test hash m (Some ix) = (finite.get m ix ≡ Some hash) × IsTrue (test ix)
+FindsWhere test hash m None = (ix : ℕ) → finite.get m ix ≡ Some hash → test ix ≡ false

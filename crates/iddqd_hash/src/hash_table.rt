@@ -1,0 +1,250 @@
+//! A table of the indexes of a store, each under the hash of its key.
+//!
+//! The table holds no keys: a call that has to compare them is handed a lookup, which gives the key
+//! of an index. Each index keeps the hash that it was inserted with, so a key that changes unseen
+//! can hide its index from look-ups by key, and never loses it: `remove_by_index` finds it still.
+ghost use Rattle.std.specs.Prelude.{◌≡◌, ◌+◌, ◌≤◌, ◌<◌, ℕ, Contains, Some, None, IsTrue, IsOk, IsSome, IfOk, OnOk, OnErr, length, slice_get};
+ghost use Rattle.std.specs.FinMap as finite;
+ghost use Rattle.iddqd.specs.MapHash.{hash_one};
+ghost use Rattle.iddqd_hash.specs.Asks.{CanAsk, LooksUp, Hits, Misses};
+ghost use Rattle.iddqd_hash.specs.HashTable.{entries, room};
+ghost use Rattle.iddqd_hash.specs.MapHashTable.{filed, indexes_under, AsksKey};
+
+use crate::hash_table_reference::HashTable;
+use iddqd::item_index::ItemIndex;
+use iddqd::map_hash::{Equivalent, MapHash};
+use std::alloc::{AllocError, Global};
+use std::hash::{BuildHasher, Hash};
+use std::marker::Model;
+
+/// An index and the hash that it is filed under.
+#[derive(Clone, Copy, Debug)]
+pub struct HashedIndex {
+    /// The index.
+    pub ix: ItemIndex,
+    /// The hash of its key when it was inserted.
+    pub hash: u64,
+}
+
+/// Indexes under the hashes of their keys, each index once.
+///
+/// A contract sees it as a finite map from an index to its hash, and as the number of inserts that
+/// need no memory.
+#[derive(Debug, Drop)]
+pub struct MapHashTable {
+    table: HashTable<ItemIndex>,
+}
+
+impl Model for MapHashTable {
+    ghost use Rattle.std.specs.Prelude.{ℕ};
+    ghost use Rattle.std.specs.Coded.{coded_ℕ};
+    ghost use Rattle.iddqd_hash.specs.HashTable.{Table, table_code, entries};
+    ghost use Rattle.iddqd_hash.specs.MapHashTable.{IsDistinctlyFiled};
+
+    ghost Value = { Table ℕ };
+
+    ghost coded = { table_code coded_ℕ };
+
+    ghost view = { λ s. s.table };
+
+    ghost invariant = { λ s. IsDistinctlyFiled (entries s.table) };
+}
+
+/// An index that stands in a table.
+#[derive(Drop)]
+pub struct OccupiedEntry<'a> {
+    table: &'a mut MapHashTable,
+    place: usize,
+    ghost within: { place < length (entries table.now) },
+}
+
+impl MapHashTable {
+    ghost use Rattle.std.specs.Borrow.{RestsIfErr, sem};
+    ghost use Rattle.iddqd_hash.specs.contracts.hash_table.MapHashTable.{the_row};
+    ghost use Rattle.iddqd_hash.specs.MapHashTableEntry.{entry_table, entry_pair, entry_lender};
+
+    /// An empty table, which takes no memory.
+    pub fn new(alloc: Global) -> Self
+        ensures { filed result ≡ finite.empty }
+    {
+        MapHashTable {
+            table: HashTable::new(alloc),
+        }
+    }
+
+    /// The number of indexes.
+    pub fn len(&self) -> usize
+        ensures { result ≡ finite.len (filed self.now) }
+    {
+        self.table.len()
+    }
+
+    /// How many inserts need no memory.
+    pub fn room(&self) -> usize
+        ensures { result ≡ room self.now }
+    {
+        self.table.room()
+    }
+
+    /// Makes room for `additional` more indexes.
+    ///
+    /// An `AllocError` means that memory was refused, or that no vector can hold so many; the
+    /// indexes stay, and there is at least the room that there was.
+    pub fn try_reserve(&mut self, additional: usize) -> Result<(), AllocError>
+        ensures contents { filed self.new ≡ filed self.old }
+        ensures reserved { OnOk result (additional ≤ room self.new) }
+        ensures room { room self.old ≤ room self.new }
+        ensures had_room { additional ≤ room self.old → IsOk result }
+    {
+        self.table.try_reserve(additional)
+    }
+
+    /// The hash of a key under a state. Equal keys have the same hash under one state.
+    pub fn compute_hash<S: BuildHasher, K: Hash + Eq + Drop>(&self, state: &S, key: K) -> MapHash
+        ensures hash { result ≡ hash_one S.BuildHasher S.Hasher.Hasher state.now (K.hash_input key) }
+        ensures equal_keys { (other : K) → IsTrue (K.eq key other)
+            → result ≡ hash_one S.BuildHasher S.Hasher.Hasher state.now (K.hash_input other) }
+    {
+        MapHash::new(state.hash_one(key))
+    }
+
+    /// An index under the query's hash whose key is equivalent to the query.
+    ///
+    /// `lookup` is called on indexes under that hash alone, on none twice, and no more after an
+    /// equivalent key. It misses only after each of them was asked.
+    pub fn find_index<S: BuildHasher, Q: Hash + Equivalent<K>, K: Drop, F: Fn(ItemIndex) -> K>(
+        &self,
+        state: &S,
+        query: &Q,
+        lookup: F,
+    ) -> Option<ItemIndex>
+        requires { let hash = hash_one S.BuildHasher S.Hasher.Hasher state.now (Q.hash_input query.now) in
+            (ix : ℕ) → Contains (indexes_under hash (filed self.now)) ix → F.pre lookup ix }
+        ensures { let hash = hash_one S.BuildHasher S.Hasher.Hasher state.now (Q.hash_input query.now) in
+            LooksUp (AsksKey F.Fn Q.equivalent lookup query.now) tt (indexes_under hash (filed self.now)) result }
+    {
+        let hash = state.hash_one(query);
+        self.table
+            .find(
+                hash,
+                |ix: &ItemIndex| -> bool
+                    requires { F.pre lookup ix.now }
+                    ensures { (k : K) × F.post lookup ix.now k × (result ≡ Q.equivalent query.entry.now k) }
+                { query.equivalent(&lookup(*ix)) },
+            )
+            .copied()
+    }
+
+    /// The entry of an index under `hash` at which `f` answers `true`, else `Err(())`.
+    ///
+    /// `f` is asked of indexes under `hash` alone, of none twice, and no more after it answered
+    /// `true`. It misses only after each of them was asked.
+    pub fn find_entry_by_hash<F: FnMut(ItemIndex) -> bool>(
+        &mut self,
+        hash: u64,
+        mut f: F,
+    ) -> Result<OccupiedEntry<'_>, ()>
+        requires { CanAsk F.pre F.step f (indexes_under hash (filed self.old)) }
+
+        // A hit is an index under the hash, and the asks that led to it.
+        ensures found { IfOk result (λ e. (ix : ℕ) × (entry_pair e ≡ Some (hash, ix))
+            × Hits F.step f (indexes_under hash (filed self.old)) ix) }
+        ensures missed { OnErr result (Misses F.step f (indexes_under hash (filed self.old))) }
+
+        // The table is as it was, and an entry borrows it.
+        ensures table { IfOk result (λ e. entry_table e ≡ self.old) }
+        ensures same_reference { IfOk result (λ e. entry_lender e ≡ self.entry.ghost_name) }
+        ensures* unchanged { sem 𝓛 (RestsIfErr the_row self.entry entry_lender result (λ t. t ≡ self.old)) }
+    {
+        let place = self.table.place_of(
+            hash,
+            |ix: &ItemIndex| -> bool
+                requires { F.pre f ix.now }
+                ensures { F.step f.entry ix.now result f.exit }
+            { f(*ix) },
+        );
+        match place {
+            Some(place) => Ok(OccupiedEntry { table: self, place }),
+            None => Err(()),
+        }
+    }
+
+    /// Adds an index under a hash that was computed before, and takes no memory.
+    pub fn insert_prehashed_unchecked(&mut self, hash: MapHash, ix: ItemIndex)
+        requires room { 1 ≤ room self.old }
+        requires new { finite.get (filed self.old) ix ≡ None }
+        ensures added { filed self.new ≡ finite.insert (filed self.old) ix hash }
+        ensures room { room self.old ≤ room self.new + 1 }
+    {
+        self.table.insert_unique(hash.hash(), ix);
+    }
+
+    /// Removes an index by a walk over the table, whatever it is filed under.
+    pub fn remove_by_index(&mut self, ix: ItemIndex)
+        requires { IsSome (finite.get (filed self.old) ix) }
+        ensures removed { filed self.new ≡ finite.remove (filed self.old) ix }
+        ensures room { room self.old ≤ room self.new }
+    {
+        let place = self.place_of_index(ix);
+        self.remove_at(place);
+    }
+
+    /// Removes every index, and keeps the memory.
+    pub fn clear(&mut self)
+        ensures empty { filed self.new ≡ finite.empty }
+        ensures room { room self.old ≤ room self.new }
+    {
+        self.table.clear();
+    }
+
+    fn place_of_index(&self, ix: ItemIndex) -> usize
+        requires { IsSome (finite.get (filed self.now) ix) }
+        ensures within { result < length (entries self.now) }
+        ensures found { (hash : ℕ) × (slice_get (entries self.now) result ≡ Some (hash, ix)) }
+    {
+        for place in 0..self.table.len() {
+            if self.table.pair_at(place).1 == ix {
+                return place;
+            }
+        }
+        unreachable!()
+    }
+
+    fn hashed_at(&self, place: usize) -> HashedIndex
+        requires { place < length (entries self.now) }
+        ensures { slice_get (entries self.now) place ≡ Some (result.hash, result.ix) }
+    {
+        let &(hash, ix) = self.table.pair_at(place);
+        HashedIndex { ix, hash }
+    }
+
+    fn remove_at(&mut self, place: usize)
+        requires { place < length (entries self.old) }
+        ensures removed { (hash ix : ℕ) × (slice_get (entries self.old) place ≡ Some (hash, ix))
+            × (filed self.new ≡ finite.remove (filed self.old) ix) }
+        ensures room { room self.old ≤ room self.new }
+    {
+        self.table.take_at(place);
+    }
+}
+
+impl<'a> OccupiedEntry<'a> {
+    ghost use Rattle.iddqd_hash.specs.MapHashTableEntry.{entry_table, entry_pair, entry_index};
+
+    /// The index.
+    pub fn get(&self) -> ItemIndex
+        ensures { entry_index self.now ≡ Some result }
+    {
+        self.table.hashed_at(self.place).ix
+    }
+
+    /// Takes the index out of the table.
+    pub fn remove(self)
+        ensures removed { (hash ix : ℕ) × (entry_pair self.entry ≡ Some (hash, ix))
+            × (filed self.exit.0.now ≡ finite.remove (filed (entry_table self.entry)) ix) }
+        ensures room { room (entry_table self.entry) ≤ room self.exit.0.now }
+    {
+        let place = self.place;
+        self.table.remove_at(place);
+    }
+}

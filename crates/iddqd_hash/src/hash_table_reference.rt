@@ -1,0 +1,237 @@
+//! A linear table of values under hashes, the plain reference for every other one.
+//!
+//! Each value stands beside the full 64-bit hash that it was inserted with. A look-up asks its
+//! closure of the values under that hash alone, so it costs a walk over the hashes and one ask for
+//! each value under the hash, up to the first that is answered `true`. Which of several matches
+//! comes is open, and so is the order of the values.
+ghost use Rattle.std.specs.Prelude.{◌≡◌, ◌∷◌, ◌+◌, ◌≤◌, ◌<◌, [], ℕ, Some, length, slice_get, option_copied, IfOk, OnOk, OnErr, IsOk, vec_len, vec_capacity};
+ghost use Rattle.std.specs.List.Sorted.{IsPermutation};
+ghost use Rattle.std.specs.Fn.{TakesAt, CalledAt};
+ghost use Rattle.iddqd_hash.specs.Asks.{CanAsk, LooksUp, Hits, Misses, Keeps};
+ghost use Rattle.iddqd_hash.specs.HashTable.{entries, room, under, values, FindsPlace};
+
+use std::alloc::{AllocError, Global};
+use std::marker::Model;
+
+/// Values under hashes, in no order that a caller can rely on.
+///
+/// A contract sees it as a bag of pairs of a hash and a value, and as the number of inserts that
+/// need no memory.
+#[derive(Debug, Drop)]
+pub struct HashTable<T> {
+    pairs: Vec<(u64, T)>,
+}
+
+impl<T> Model for HashTable<T> {
+    ghost use Rattle.std.specs.Prelude.{◌-◌, vec_len, vec_capacity};
+    ghost use Rattle.iddqd_hash.specs.HashTable.{Table, table_code};
+
+    ghost Value = { Table T };
+
+    ghost coded = { table_code T.code };
+
+    ghost view = { λ s. record {
+      pairs = s.pairs.items;
+      spare = vec_capacity s.pairs - vec_len s.pairs;
+    } };
+}
+
+/// A pair that stands in a table.
+#[derive(Drop)]
+pub struct OccupiedEntry<'a, T> {
+    table: &'a mut HashTable<T>,
+    place: usize,
+    ghost within: { place < length (entries table.now) },
+}
+
+impl<T> HashTable<T> {
+    ghost use Rattle.std.specs.Borrow.{RestsIfErr, sem};
+    ghost use Rattle.iddqd_hash.specs.contracts.hash_table_reference.HashTable.{the_row};
+    ghost use Rattle.iddqd_hash.specs.HashTableEntry.{entry_table, entry_pair, entry_lender};
+
+    /// An empty table, which takes no memory.
+    pub fn new(alloc: Global) -> Self
+        ensures { entries result ≡ [] }
+    {
+        HashTable {
+            pairs: Vec::new(alloc),
+        }
+    }
+
+    /// The number of pairs.
+    pub fn len(&self) -> usize
+        ensures { result ≡ length (entries self.now) }
+    {
+        self.pairs.len()
+    }
+
+    /// How many inserts need no memory.
+    pub fn room(&self) -> usize
+        ensures { result ≡ room self.now }
+    {
+        self.pairs.capacity() - self.pairs.len()
+    }
+
+    /// Makes room for `additional` more pairs.
+    ///
+    /// An `AllocError` means that memory was refused, or that no vector can hold so many; the pairs
+    /// stay, and there is at least the room that there was.
+    pub fn try_reserve(&mut self, additional: usize) -> Result<(), AllocError>
+        ensures contents { IsPermutation (entries self.old) (entries self.new) }
+        ensures reserved { OnOk result (additional ≤ room self.new) }
+        ensures room { room self.old ≤ room self.new }
+        ensures had_room { additional ≤ room self.old → IsOk result }
+    {
+        self.pairs.try_reserve(additional)
+    }
+
+    /// A value under `hash` at which `eq` answers `true`.
+    ///
+    /// `eq` is asked of values under `hash` alone, of none twice, and no more after it answered
+    /// `true`. It misses only after each of them was asked.
+    pub fn find<F: FnMut(&T) -> bool>(&self, hash: u64, eq: F) -> Option<&T>
+        requires { CanAsk (TakesAt F.FnMut) (CalledAt F.FnMut) eq (under hash (entries self.now)) }
+        ensures { LooksUp (CalledAt F.FnMut) eq (under hash (entries self.now)) (option_copied result) }
+    {
+        let place = self.place_of(hash, eq)?;
+        Some(&self.pairs[place].1)
+    }
+
+    /// The entry of a value under `hash` at which `eq` answers `true`, else `Err(())`.
+    ///
+    /// `eq` is asked as in `find`.
+    pub fn find_entry<F: FnMut(&T) -> bool>(
+        &mut self,
+        hash: u64,
+        eq: F,
+    ) -> Result<OccupiedEntry<'_, T>, ()>
+        requires { CanAsk (TakesAt F.FnMut) (CalledAt F.FnMut) eq (under hash (entries self.old)) }
+
+        // A hit is a pair under the hash, and the asks that led to it.
+        ensures found { IfOk result (λ e. (v : T) × (entry_pair e ≡ Some (hash, v))
+            × Hits (CalledAt F.FnMut) eq (under hash (entries self.old)) v) }
+        ensures missed { OnErr result (Misses (CalledAt F.FnMut) eq (under hash (entries self.old))) }
+
+        // The table is as it was, and an entry borrows it.
+        ensures table { IfOk result (λ e. entry_table e ≡ self.old) }
+        ensures same_reference { IfOk result (λ e. entry_lender e ≡ self.entry.ghost_name) }
+        ensures* unchanged { sem 𝓛 (RestsIfErr (the_row T.row) self.entry entry_lender result (λ t. t ≡ self.old)) }
+    {
+        match self.place_of(hash, eq) {
+            Some(place) => Ok(OccupiedEntry { table: self, place }),
+            None => Err(()),
+        }
+    }
+
+    /// Adds a pair, and takes no memory.
+    pub fn insert_unique(&mut self, hash: u64, value: T) -> OccupiedEntry<'_, T>
+        requires { 1 ≤ room self.old }
+        ensures pair { entry_pair result ≡ Some (hash, value) }
+        ensures added { IsPermutation ((hash, value) ∷ entries self.old) (entries (entry_table result)) }
+        ensures room { room self.old ≤ room (entry_table result) + 1 }
+        ensures same_reference { entry_lender result ≡ self.entry.ghost_name }
+    {
+        let place = self.pairs.len();
+        self.pairs.push_reserved((hash, value));
+        OccupiedEntry { table: self, place }
+    }
+
+    /// Keeps exactly the values at which `f` answers `true`.
+    ///
+    /// `f` is asked once of each value. No memory is taken or given back.
+    pub fn retain<F: FnMut(&T) -> bool>(&mut self, f: F)
+    where
+        T: Drop,
+        requires { CanAsk (TakesAt F.FnMut) (CalledAt F.FnMut) f (values (entries self.old)) }
+        ensures kept { Keeps (CalledAt F.FnMut) f (entries self.old) (entries self.new) }
+        ensures room { room self.old ≤ room self.new }
+    {
+        retain_pairs(&mut self.pairs, f);
+    }
+
+    /// Removes every pair, and keeps the memory.
+    pub fn clear(&mut self)
+    where
+        T: Drop,
+        ensures empty { entries self.new ≡ [] }
+        ensures room { room self.old ≤ room self.new }
+    {
+        self.pairs.clear();
+    }
+
+    // The place of the pair that a look-up hits.
+    pub(crate) fn place_of<F: FnMut(&T) -> bool>(&self, hash: u64, eq: F) -> Option<usize>
+        requires { CanAsk (TakesAt F.FnMut) (CalledAt F.FnMut) eq (under hash (entries self.now)) }
+        ensures { FindsPlace (CalledAt F.FnMut) eq hash (entries self.now) result }
+    {
+        find_place(self.pairs.as_slice(), hash, eq)
+    }
+
+    pub(crate) fn pair_at(&self, place: usize) -> &(u64, T)
+        requires { place < length (entries self.now) }
+        ensures { slice_get (entries self.now) place ≡ Some result.now }
+    {
+        &self.pairs[place]
+    }
+
+    pub(crate) fn take_at(&mut self, place: usize) -> T
+        requires { place < length (entries self.old) }
+        ensures removed { (hash : ℕ) × (slice_get (entries self.old) place ≡ Some (hash, result))
+            × IsPermutation (entries self.old) ((hash, result) ∷ entries self.new) }
+        ensures room { room self.old ≤ room self.new }
+    {
+        self.pairs.swap_remove(place).1
+    }
+}
+
+impl<'a, T> OccupiedEntry<'a, T> {
+    ghost use Rattle.iddqd_hash.specs.HashTableEntry.{entry_table, entry_pair, entry_value};
+
+    /// The value.
+    pub fn get(&self) -> &T
+        ensures { entry_value self.now ≡ Some result.now }
+    {
+        &self.table.pair_at(self.place).1
+    }
+
+    /// Takes the pair out of the table, and hands back its value.
+    pub fn remove(self) -> T
+        ensures removed { (hash : ℕ) × (entry_pair self.entry ≡ Some (hash, result))
+            × IsPermutation (entries (entry_table self.entry)) ((hash, result) ∷ entries self.exit.0.now) }
+        ensures room { room (entry_table self.entry) ≤ room self.exit.0.now }
+    {
+        let place = self.place;
+        self.table.take_at(place)
+    }
+}
+
+// The place of the pair that a look-up hits.
+fn find_place<T, F: FnMut(&T) -> bool>(pairs: &[(u64, T)], hash: u64, mut eq: F) -> Option<usize>
+    requires { CanAsk (TakesAt F.FnMut) (CalledAt F.FnMut) eq (under hash pairs.now) }
+    ensures { FindsPlace (CalledAt F.FnMut) eq hash pairs.now result }
+{
+    for place in 0..pairs.len() {
+        let (stored, value) = &pairs[place];
+        if *stored == hash && eq(value) {
+            return Some(place);
+        }
+    }
+    None
+}
+
+// Swaps each pair whose value is refused with the last one, which is asked next.
+fn retain_pairs<T: Drop, F: FnMut(&T) -> bool>(pairs: &mut Vec<(u64, T)>, mut f: F)
+    requires { CanAsk (TakesAt F.FnMut) (CalledAt F.FnMut) f (values pairs.old.items) }
+    ensures kept { Keeps (CalledAt F.FnMut) f pairs.old.items pairs.new.items }
+    ensures len { vec_len pairs.new ≤ vec_len pairs.old }
+    ensures capacity { vec_capacity pairs.new ≡ vec_capacity pairs.old }
+{
+    let mut place = 0;
+    while place < pairs.len() {
+        if f(&pairs[place].1) {
+            place += 1;
+        } else {
+            pairs.swap_remove(place);
+        }
+    }
+}

@@ -1,0 +1,51 @@
+-- Asks one after another.
+use Rattle.std.proofs.Common.{◌≡◌, ◌+◌, ◌≤◌, suc, sym, subst, zero-add, ℕ, arith}
+use Rattle.std.specs.declared.cmp.Ordering.{Ordering}
+use Rattle.std.specs.Fn.{Called, Mut}
+use Rattle.iddqd_order.specs.declared.btree_table.asking.Asking.{Asking}
+use Rattle.iddqd_order.specs.Asking.{closure_of, ask_count}
+use Rattle.iddqd_order.specs.Asks.{After, At_once, One_more, CanAsk, Steady, AsksWithin}
+
+module _ {F R : Type 0} (g : Mut F (ℕ × Unit {0}) R) (P : ℕ → Type 0) where
+  pub After-trans : {n m : ℕ} {a b c : F} → After g P n a b → After g P m b c → After g P (m + n) a c
+  After-trans {n = n} {a = a} {c = c} p At_once = subst (λ k. After g P k a c) (sym (zero-add n)) p
+  After-trans {n = n} {m = suc m} {a = a} {c = c} p (One_more q h e) = subst (λ k. After g P k a c) (shift m n) (One_more (After-trans p q) h e)
+    where
+      shift : (m n : ℕ) → suc (m + n) ≡ suc m + n
+      shift m n = omega arith
+
+  pub CanAsk-later : {n : ℕ} {a b : F} → After g P n a b → CanAsk g P a → CanAsk g P b
+  CanAsk-later p h = record { at = λ m f q. h.at _ f (After-trans p q) }
+
+  pub Steady-later : {n : ℕ} {read : R → Ordering} {answer : ℕ → Ordering} {a b : F} → After g P n a b → Steady g P read answer a → Steady g P read answer b
+  Steady-later p h = record { at = λ m f q. h.at _ f (After-trans p q) }
+
+  -- asks that join up
+  pub asks_then : {k l : ℕ} {a b c : Asking F} → AsksWithin g P k a b → AsksWithin g P l b c → AsksWithin g P (k + l) a c
+  asks_then p q = record {
+    asks = q.asks + p.asks;
+    within = (let x = p.within in let y = q.within in omega (arith, x, y));
+    after = After-trans p.after q.after;
+    counted = (let x = p.counted in let y = q.counted in omega (arith, x, y));
+  }
+
+  pub asks_none : (a : Asking F) → AsksWithin g P 0 a a
+  asks_none a = record { asks = 0; within = omega arith; after = At_once; counted = omega arith }
+
+  pub asks_more : {k l : ℕ} {a b : Asking F} → k ≤ l → AsksWithin g P k a b → AsksWithin g P l a b
+  asks_more h p = record { asks = p.asks; within = (let x = p.within in omega (arith, x, h)); after = p.after; counted = p.counted }
+
+  pub asks_one : {a b : Asking F} {ix : ℕ} {r : R} → P ix → Called g (closure_of a) (ix, tt) r (closure_of b) → ask_count b ≡ ask_count a + 1 → AsksWithin g P 1 a b
+  asks_one h e c = record { asks = 1; within = omega arith; after = One_more At_once h e; counted = c }
+
+-- what each call of a closure keeps, all its calls keep
+module _ {F R : Type 0} (g : Mut F (ℕ × Unit {0}) R) (P : ℕ → Type 0) (I : F → Type 0) (keeps : (f f' : F) (ix : ℕ) (r : R) → I f → P ix → Called g f (ix, tt) r f' → I f') where
+  pub After-keeps : {n : ℕ} {a b : F} → I a → After g P n a b → I b
+  After-keeps i At_once = i
+  After-keeps i (One_more p h e) = keeps _ _ _ _ (After-keeps i p) h e
+
+  pub CanAsk-by : ((f : F) (ix : ℕ) → I f → P ix → g.pre f (ix, tt)) → (f : F) → I f → CanAsk g P f
+  CanAsk-by asks f i = record { at = λ n f' p ix h. asks f' ix (After-keeps i p) h }
+
+  pub Steady-by : (read : R → Ordering) (answer : ℕ → Ordering) → ((f f' : F) (ix : ℕ) (r : R) → I f → P ix → Called g f (ix, tt) r f' → read r ≡ answer ix) → (f : F) → I f → Steady g P read answer f
+  Steady-by read answer says f i = record { at = λ n f' p ix h r f'' e. says f' f'' ix r (After-keeps i p) h e }

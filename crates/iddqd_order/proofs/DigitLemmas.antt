@@ -1,0 +1,48 @@
+-- The number of binary digits.
+use Rattle.std.proofs.Common.{◌≡◌, ℕ, zero, suc, ◌+◌, ◌/◌, ◌<◌, ◌≤◌, refl, ap, arith}
+use Rattle.iddqd_order.specs.Digits.{digits, digits_within, bound}
+
+pub digits_within-zero : (k : ℕ) → digits_within k 0 ≡ 0
+digits_within-zero zero = refl
+digits_within-zero (suc k) = refl
+
+pub digits_within-step : (k n : ℕ) → 0 < n → digits_within (suc k) n ≡ 1 + digits_within k (n / 2)
+digits_within-step k zero h = absurd (omega arith)
+digits_within-step k (suc n) h = refl
+
+pub digits_within-enough : (k m n : ℕ) → n ≤ k → n ≤ m → digits_within k n ≡ digits_within m n
+digits_within-enough zero zero zero h h' = refl
+digits_within-enough zero (suc m) zero h h' = refl
+digits_within-enough zero m (suc n) h h' = absurd (omega arith)
+digits_within-enough (suc k) zero zero h h' = refl
+digits_within-enough (suc k) zero (suc n) h h' = absurd (omega arith)
+digits_within-enough (suc k) (suc m) zero h h' = refl
+digits_within-enough (suc k) (suc m) (suc n) h h' = ap (λ x. 1 + x) (digits_within-enough k m (suc n / 2) (omega arith) (omega arith))
+
+pub digits_within-mono : (k a b : ℕ) → a ≤ b → digits_within k a ≤ digits_within k b
+digits_within-mono zero a b h = omega arith
+digits_within-mono (suc k) zero b h = omega (arith, digits_within-zero (suc k))
+digits_within-mono (suc k) (suc a) zero h = absurd (omega arith)
+digits_within-mono (suc k) (suc a) (suc b) h =
+    let half : suc a / 2 ≤ suc b / 2 = omega arith in
+    let less : digits_within k (suc a / 2) ≤ digits_within k (suc b / 2) = digits_within-mono k (suc a / 2) (suc b / 2) half in
+    let goal : 1 + digits_within k (suc a / 2) ≤ 1 + digits_within k (suc b / 2) = omega arith in
+    goal
+
+pub digits-half : (n : ℕ) → 0 < n → digits n ≡ 1 + digits (n / 2)
+unfolding digits
+digits-half zero h = absurd (omega arith)
+digits-half (suc n) h = ap (λ x. 1 + x) (digits_within-enough n (suc n / 2) (suc n / 2) (omega arith) (omega arith))
+
+pub digits-mono : (a b : ℕ) → a ≤ b → digits a ≤ digits b
+unfolding digits
+digits-mono a b h =
+    let e : digits_within a a ≡ digits_within b a = digits_within-enough a b a (omega arith) h in
+    let l : digits_within b a ≤ digits_within b b = digits_within-mono b a b h in
+    omega arith
+
+pub halved : (n m : ℕ) → 0 < n → m ≤ n / 2 → 1 + digits m ≤ digits n
+halved n m h le = let half = digits-half n h in let mono = digits-mono m (n / 2) le in omega arith
+
+pub digits-bound : (n : ℕ) → digits n ≤ bound n
+digits-bound n = omega arith

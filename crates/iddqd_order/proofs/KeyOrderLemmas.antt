@@ -1,0 +1,98 @@
+-- What lawful keys give a table in order by key, ties by index.
+use Rattle.std.proofs.Common.{◌≡◌, ◌∙◌, ℕ, ◌+◌, ◌<◌, ◌==◌, ◌⊎◌, inl, inr, if◌then◌else◌, List, None, Some, length, get_or, insert, refl, sym, ap, Bool, true, false, Ordering, arith}
+use Rattle.std.specs.Cmp.{IsTotalOrder}
+use Rattle.std.specs.List.Sorted.{IsStrictlySortedBy}
+use Rattle.std.specs.Ordering.{nat_cmp, ordering_then, ordering_reverse}
+use Rattle.std.specs.declared.cmp.Ordering.TheVariants.{Less, Equal, Greater}
+use Rattle.std.proofs.lemmas.Bool.Decides.{nat_tests}
+use Rattle.std.proofs.lemmas.Cmp.{nat_cmp_total, on_total, then_total, tied_itself, alike_right}
+use Rattle.std.proofs.lemmas.List.{get_or_default}
+use Rattle.std.proofs.lemmas.Map.Keys.{Less-from_sorted, sorted_from_all_adjacent}
+use Rattle.iddqd_order.specs.KeyOrder.{key_then_index, IsInKeyOrder, ComparesKeys}
+use Rattle.iddqd_order.specs.Search.{settled, IsRising, IsPlace}
+use Rattle.iddqd_order.proofs.IndexListLemmas.{AllPairs-insert}
+
+-- two that stand the other way round
+module _ {K : Type 0} {c : K → K → Ordering} (o : IsTotalOrder c) where
+  Less-from_greater : {a b : K} → c a b ≡ Greater → c b a ≡ Less
+  Less-from_greater {a} {b} e = o.antisymm b a ∙ ap ordering_reverse e
+
+  Greater-from_less : {a b : K} → c a b ≡ Less → c b a ≡ Greater
+  Greater-from_less {a} {b} e = o.antisymm b a ∙ ap ordering_reverse e
+
+-- a list of indexes that a total order sorts, and answers that place ix in that order
+module _ {c : ℕ → ℕ → Ordering} (o : IsTotalOrder c) (xs : List ℕ) (sorted : IsStrictlySortedBy c xs)
+    (ix : ℕ) (answer : ℕ → Ordering) (is : (k : ℕ) → k < length xs → answer (get_or xs k 0) ≡ c ix (get_or xs k 0)) where
+  pub IsRising-from_sorted : IsRising answer xs
+  IsRising-from_sorted = record {
+    greater_before = λ i j lt within e.
+        let after : c (get_or xs j 0) ix ≡ Less = Less-from_greater o (sym (is j within) ∙ e) in
+        is i (omega arith) ∙ Greater-from_less o (o.trans _ _ _ (Less-from_sorted c xs i j 0 sorted lt within) after);
+    less_after = λ i j lt within e.
+        is j within ∙ o.trans _ _ _ (sym (is i (omega arith)) ∙ e) (Less-from_sorted c xs i j 0 sorted lt within);
+  }
+
+  pub IsStrictlySortedBy-insert : (place : ℕ) → IsPlace answer xs place → IsStrictlySortedBy c (insert xs place ix)
+  IsStrictlySortedBy-insert place split =
+      let within = split.within in
+      sorted_from_all_adjacent o (insert xs place ix) 0 (λ k lt.
+      AllPairs-insert (λ a b. c a b ≡ Less) xs place ix within
+      (λ i j d less in_list. Less-from_sorted c xs i j d sorted less in_list)
+      (λ i d low. ap (λ y. c y ix) (get_or_default xs i d 0 (omega arith)) ∙ Less-from_greater o (sym (is i (omega arith)) ∙ split.greater_before i low))
+      (λ i d high in_list. ap (c ix) (get_or_default xs i d 0 in_list) ∙ sym (is i in_list) ∙ split.less_from i high in_list)
+      k (k + 1) 0 (omega arith) lt)
+
+same_number : (a b : ℕ) → (a == b) ≡ true → a ≡ b
+same_number a b e = grind (arith, nat_tests)
+
+choice : (b : Bool) (r s : Ordering) → (b ≡ true → Equal ≡ s) → r ≡ s → if b then Equal else r ≡ s
+choice true r s h e = h refl
+choice false r s h e = e
+
+-- of two in order, the first has the smaller key or an equal one
+keys_of : (r s : Ordering) → ordering_then r s ≡ Less → (r ≡ Less) ⊎ (r ≡ Equal)
+keys_of Less s e = inl refl
+keys_of Equal s e = inr refl
+keys_of Greater s e = cc
+
+module _ {K : Type 0} {cmp : K → K → Ordering} (o : IsTotalOrder cmp) (key : ℕ → K) where
+  pub key_then_index-total : IsTotalOrder (key_then_index cmp key)
+  key_then_index-total = then_total (on_total key o) nat_cmp_total
+
+  -- answers that compare the key of ix, settled, are those of the order by key, ties by index
+  pub settled-key : (ix : ℕ) (answer : ℕ → Ordering) (xs : List ℕ) → ComparesKeys (cmp (key ix)) key answer xs → (k : ℕ) → k < length xs → settled (Some ix) answer (get_or xs k 0) ≡ key_then_index cmp key ix (get_or xs k 0)
+  settled-key ix answer xs compares k lt =
+      let j = get_or xs k 0 in
+      choice (j == ix) _ _ (λ e.
+      let same : j ≡ ix = same_number j ix e in
+      sym (ap (key_then_index cmp key ix) same ∙ tied_itself key_then_index-total ix))
+      (ap (λ r. ordering_then r (nat_cmp ix j)) (compares k 0 lt))
+
+  -- what agrees with the order of the keys
+  module _ (compare : K → Ordering)
+      (less_after : (a b : K) → cmp a b ≡ Less → compare a ≡ Less → compare b ≡ Less)
+      (greater_before : (a b : K) → cmp a b ≡ Less → compare b ≡ Greater → compare a ≡ Greater)
+      (equal_keys : (a b : K) → cmp a b ≡ Equal → compare a ≡ compare b)
+      (xs : List ℕ) (answer : ℕ → Ordering) where
+    pub IsRising-from_query : IsInKeyOrder cmp key xs → ComparesKeys compare key answer xs → IsRising (settled None answer) xs
+    IsRising-from_query sorted is =
+        let pairs : (i j : ℕ) → i < j → j < length xs → (cmp (key (get_or xs i 0)) (key (get_or xs j 0)) ≡ Less) ⊎ (cmp (key (get_or xs i 0)) (key (get_or xs j 0)) ≡ Equal) =
+        λ i j lt within. keys_of _ _ (Less-from_sorted _ xs i j 0 sorted lt within) in
+        record {
+          greater_before = λ i j lt within e. is i 0 (omega arith) ∙ elim (pairs i j lt within) [
+            | inl less ↦ greater_before _ _ less (sym (is j 0 within) ∙ e)
+            | inr equal ↦ equal_keys _ _ equal ∙ sym (is j 0 within) ∙ e
+          ];
+          less_after = λ i j lt within e. is j 0 within ∙ elim (pairs i j lt within) [
+            | inl less ↦ less_after _ _ less (sym (is i 0 (omega arith)) ∙ e)
+            | inr equal ↦ sym (equal_keys _ _ equal) ∙ sym (is i 0 (omega arith)) ∙ e
+          ];
+        }
+
+  -- a key agrees with the order of the keys
+  pub IsRising-from_key : (sought : K) (xs : List ℕ) (answer : ℕ → Ordering) → IsInKeyOrder cmp key xs → ComparesKeys (cmp sought) key answer xs → IsRising (settled None answer) xs
+  IsRising-from_key sought xs answer = IsRising-from_query (cmp sought)
+      (λ a b lt less. o.trans sought a b less lt)
+      (λ a b lt greater. Greater-from_less o (o.trans a b sought lt (Less-from_greater o greater)))
+      (λ a b equal. alike_right o a b sought equal)
+      xs answer

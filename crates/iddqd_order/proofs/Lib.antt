@@ -1,0 +1,6 @@
+pub mod AskLemmas
+pub mod CountSteps
+pub mod DigitLemmas
+pub mod IndexListLemmas
+pub mod KeyOrderLemmas
+pub mod SearchLemmas

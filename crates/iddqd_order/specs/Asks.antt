@@ -1,0 +1,28 @@
+-- What the asks of an `Asking` leave, and how they are answered.
+use Rattle.std.specs.Prelude.{◌≡◌, ℕ, suc, ◌+◌, ◌≤◌}
+use Rattle.std.specs.declared.cmp.Ordering.{Ordering}
+use Rattle.std.specs.Fn.{Called, Mut}
+use Rattle.iddqd_order.specs.declared.btree_table.asking.Asking.{Asking}
+use Rattle.iddqd_order.specs.Asking.{closure_of, ask_count}
+
+-- g has the calls of the closure, and P holds of the indexes that it is asked about
+module _ {F R : Type 0} (g : Mut F (ℕ × Unit {0}) R) (P : ℕ → Type 0) where
+  -- n asks lead from one state of the closure to another
+  pub data After : ℕ → F → F → Type 0 where
+    At_once : {f : F} → After 0 f f
+    One_more : {n : ℕ} {f f' f'' : F} {ix : ℕ} {r : R} → After n f f' → P ix → Called g f' (ix, tt) r f'' → After (suc n) f f''
+
+  -- the closure may be asked about each index with P, in every state that its own asks leave
+  pub record CanAsk (f : F) : Type 0 where
+    pub at : (n : ℕ) (f' : F) → After n f f' → (ix : ℕ) → P ix → g.pre f' (ix, tt)
+
+  -- as they are read, the answers are one function of the index, in every state that the closure's own asks leave
+  pub record Steady (read : R → Ordering) (answer : ℕ → Ordering) (f : F) : Type 0 where
+    pub at : (n : ℕ) (f' : F) → After n f f' → (ix : ℕ) → P ix → (r : R) (f'' : F) → Called g f' (ix, tt) r f'' → read r ≡ answer ix
+
+  -- some number of asks within the limit lead from the old asking to the new one, and all of them are counted
+  pub record AsksWithin (limit : ℕ) (old new : Asking F) : Type 0 where
+    pub asks : ℕ
+    pub within : asks ≤ limit
+    pub after : After asks (closure_of old) (closure_of new)
+    pub counted : ask_count new ≡ ask_count old + asks

@@ -1,0 +1,7 @@
+-- What a contract sees of an `Iter`.
+use Rattle.std.specs.Prelude.{ℕ, List}
+use Rattle.iddqd_order.specs.declared.btree_table.iter.Iter.{Iter}
+
+-- the indexes that are still to come
+abbrev pub indexes_left : Iter → List ℕ
+indexes_left i = i.rest.now

@@ -1,0 +1,9 @@
+pub mod Asking
+pub mod Asks
+pub mod Digits
+pub mod Iter
+pub mod KeyOrder
+pub mod MapBTreeTable
+pub mod PreparedBTreeInsert
+pub mod PreparedBTreeRemove
+pub mod Search

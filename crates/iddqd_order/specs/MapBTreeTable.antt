@@ -1,0 +1,29 @@
+-- What a contract sees of a `MapBTreeTable`.
+use Rattle.std.specs.Prelude.{◌≢◌, ℕ, List, ◌==◌, nat_eq, not, filter, All}
+use Rattle.std.specs.List.{IsDistinct}
+
+-- the indexes in their order, and how many inserts need no memory
+pub record Order : Type 0 where
+  pub indexes : List ℕ
+  pub room : ℕ
+
+-- the indexes in their order
+abbrev pub order_of : Order → List ℕ
+order_of t = t.indexes
+
+-- how many inserts need no memory
+abbrev pub room_of : Order → ℕ
+room_of t = t.room
+
+-- `SENTINEL`, the one number that is never an index
+abbrev pub sentinel : ℕ
+sentinel = 4294967295
+
+-- distinct indexes, each of which can be assigned
+pub record IsIndexList (xs : List ℕ) : Type 0 where
+  pub distinct : IsDistinct nat_eq xs
+  pub assigned : All (λ ix. ix ≢ sentinel) xs
+
+-- the others, in their order
+abbrev pub without : List ℕ → ℕ → List ℕ
+without xs ix = filter (λ j. not (j == ix)) xs

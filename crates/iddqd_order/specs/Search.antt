@@ -1,0 +1,50 @@
+-- How a search asks, and what its answers mean.
+use Rattle.std.specs.Prelude.{◌≡◌, ◌≢◌, ℕ, ◌<◌, ◌≤◌, ◌==◌, List, Contains, Option, Some, None, if◌then◌else◌, slice_index, length}
+use Rattle.std.specs.declared.cmp.Ordering.{Ordering}
+use Rattle.std.specs.declared.cmp.Ordering.TheVariants.{Less, Equal, Greater}
+use Rattle.std.specs.Ordering.{nat_cmp, ordering_then}
+use Rattle.std.specs.Fn.{Mut}
+use Rattle.iddqd_order.specs.declared.btree_table.asking.Asking.{Asking}
+use Rattle.iddqd_order.specs.Asking.{closure_of}
+use Rattle.iddqd_order.specs.Asks.{AsksWithin, CanAsk, Steady}
+use Rattle.iddqd_order.specs.Digits.{bound}
+
+-- the indexes that are asked about: the stored ones, but for the index that is sought by itself
+abbrev pub Askable : List ℕ → Option ℕ → ℕ → Type 0
+Askable stored None j = Contains stored j
+Askable stored (Some ix) j = Contains stored j × (j ≢ ix)
+
+-- how what is sought stands to the stored index j: an index that is sought is Equal to itself, and stands to another by the answer, ties by index
+abbrev pub settled : Option ℕ → (ℕ → Ordering) → ℕ → Ordering
+settled None answer j = answer j
+settled (Some ix) answer j = if j == ix then Equal else ordering_then (answer j) (nat_cmp ix j)
+
+-- along the list the answers are first all Greater, then Equal, then all Less
+pub record IsRising (answer : ℕ → Ordering) (xs : List ℕ) : Type 0 where
+  pub greater_before : (i j : ℕ) → i < j → j < length xs → answer (slice_index xs j) ≡ Greater → answer (slice_index xs i) ≡ Greater
+  pub less_after : (i j : ℕ) → i < j → j < length xs → answer (slice_index xs i) ≡ Less → answer (slice_index xs j) ≡ Less
+
+-- the place where Greater ends: the answers before it are Greater, and those from it on Less
+pub record IsPlace (answer : ℕ → Ordering) (xs : List ℕ) (place : ℕ) : Type 0 where
+  pub within : place ≤ length xs
+  pub greater_before : (k : ℕ) → k < place → answer (slice_index xs k) ≡ Greater
+  pub less_from : (k : ℕ) → place ≤ k → k < length xs → answer (slice_index xs k) ≡ Less
+
+-- a search in the indexes xs, for the index `sought` or else by the answers alone
+module _ {F R : Type 0} (g : Mut F (ℕ × Unit {0}) R) (xs : List ℕ) (sought : Option ℕ) where
+  -- the closure may be asked what the search asks, in every state that its own asks leave
+  abbrev pub CanSearch : Asking F → Type 0
+  CanSearch a = CanAsk g (Askable xs sought) (closure_of a)
+
+  -- the search asks at most 4 and twice the digits of the length, and counts each ask
+  abbrev pub SearchAsks : Asking F → Asking F → Type 0
+  SearchAsks old new = AsksWithin g (Askable xs sought) (bound (length xs)) old new
+
+  -- as they are read, the answers are one function of the index
+  abbrev pub IsSteady : (R → Ordering) → (ℕ → Ordering) → Asking F → Type 0
+  IsSteady read answer a = Steady g (Askable xs sought) read answer (closure_of a)
+
+  -- the answers are steady and rise along the list
+  pub record IsSteadyRising (read : R → Ordering) (answer : ℕ → Ordering) (a : Asking F) : Type 0 where
+    pub steady : IsSteady read answer a
+    pub rising : IsRising (settled sought answer) xs

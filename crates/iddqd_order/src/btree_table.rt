@@ -1,0 +1,18 @@
+//! A list of distinct indexes in an order that only closures know.
+//!
+//! No table holds keys. Each search takes an [`Asking`](asking::Asking), which is asked about
+//! stored indexes and counts how often. `Less` means that what is sought stands before the index.
+pub mod asking;
+pub mod iter;
+mod judge;
+pub mod key_order;
+pub mod prepared_insert;
+pub mod prepared_remove;
+mod search;
+pub mod table;
+
+pub use asking::Asking;
+pub use iter::Iter;
+pub use prepared_insert::PreparedBTreeInsert;
+pub use prepared_remove::PreparedBTreeRemove;
+pub use table::MapBTreeTable;

@@ -1,0 +1,45 @@
+//! The walk along a table.
+use iddqd::item_index::ItemIndex;
+use std::iter::{ExactSizeIterator, FusedIterator};
+
+/// The indexes of a table, in its order. Once it has ended it stays ended.
+#[derive(Clone, Debug, Drop)]
+pub struct Iter<'a> {
+    pub(super) rest: &'a [ItemIndex],
+}
+
+impl<'a> Iterator for Iter<'a> {
+    ghost use Rattle.std.specs.Prelude.{◌≡◌, Some, IfSome, length};
+    ghost use Rattle.std.specs.Iterator.{YieldsFirst, item_count, at_most, UpTo};
+    ghost use Rattle.std.specs.Iterator.SizeHint.{IsWithinCount};
+    ghost use Rattle.iddqd_order.specs.Iter.{indexes_left};
+
+    type Item = ItemIndex;
+
+    ghost next_gives = { YieldsFirst indexes_left };
+
+    ghost remaining = { item_count indexes_left };
+
+    fn next(&mut self) -> Option<ItemIndex> {
+        let (first, rest) = self.rest.split_first()?;
+        self.rest = rest;
+        Some(*first)
+    }
+
+    fn size_hint(&self) -> (usize, Option<usize>)
+        ensures lower { IsWithinCount result.0 (at_most (length (indexes_left self.now))) }
+        ensures upper { IfSome result.1 (UpTo (at_most (length (indexes_left self.now)))) }
+        ensures exact { result ≡ (length (indexes_left self.now), Some (length (indexes_left self.now))) }
+    {
+        let left = self.len();
+        (left, Some(left))
+    }
+}
+
+impl<'a> ExactSizeIterator for Iter<'a> {
+    fn len(&self) -> usize {
+        self.rest.len()
+    }
+}
+
+impl<'a> FusedIterator for Iter<'a> {}

@@ -1,0 +1,402 @@
+//! The table: a vector of distinct indexes, searched by halves.
+ghost use Rattle.std.specs.Prelude.{◌≡◌, ◌≢◌, ℕ, ◌-◌, ◌<◌, ◌≤◌, [], length, slice_get, slice_index, IfOk, IfSome, IsNone, IsSome, All, Contains, insert, IsTrue, false, Some, None};
+ghost use Rattle.std.specs.declared.cmp.Ordering.{Ordering};
+ghost use Rattle.iddqd_order.specs.MapBTreeTable.{order_of, room_of, without, sentinel, IsIndexList};
+ghost use Rattle.iddqd_order.specs.Search.{CanSearch, SearchAsks, IsSteady, IsSteadyRising, settled, IsPlace};
+
+use crate::btree_table::asking::Asking;
+use crate::btree_table::iter::Iter;
+use crate::btree_table::judge::{ByKey, ByQuery, Judge, Plain};
+use crate::btree_table::prepared_insert::PreparedBTreeInsert;
+use crate::btree_table::prepared_remove::PreparedBTreeRemove;
+use crate::btree_table::search::search;
+use iddqd::item_index::ItemIndex;
+use iddqd::map_hash::Comparable;
+use std::alloc::{AllocError, Global};
+use std::cmp::Ordering;
+use std::marker::Model;
+
+/// A list of distinct indexes, none of them `SENTINEL`.
+///
+/// A contract sees the list by `order_of`. The closures that order it may answer anything: each
+/// call keeps the list distinct, changes no index but its own, and asks about stored indexes alone,
+/// at most 4 plus twice the number of binary digits of the length.
+#[derive(Debug, Drop)]
+pub struct MapBTreeTable {
+    items: Vec<ItemIndex>,
+}
+
+impl Model for MapBTreeTable {
+    ghost use Rattle.std.specs.Prelude.{◌-◌, vec_len, vec_capacity};
+    ghost use Rattle.iddqd_order.specs.MapBTreeTable.{Order, IsIndexList};
+
+    ghost Value = { Order };
+
+    ghost view = { λ t. record { indexes = t.items.items; room = vec_capacity t.items - vec_len t.items } };
+
+    ghost invariant = { λ t. IsIndexList t.items.items };
+}
+
+impl MapBTreeTable {
+    ghost use Rattle.std.specs.Borrow.{sem};
+    ghost use Rattle.iddqd_order.specs.Iter.{indexes_left};
+    ghost use Rattle.iddqd_order.specs.PreparedBTreeInsert.{rests_if_refused};
+    ghost use Rattle.iddqd_order.specs.PreparedBTreeInsert as prepared_insert;
+    ghost use Rattle.iddqd_order.specs.PreparedBTreeRemove as prepared_remove;
+
+    /// The empty table. It takes no memory.
+    pub fn new(alloc: Global) -> MapBTreeTable
+        ensures { order_of result ≡ [] }
+    {
+        MapBTreeTable {
+            items: Vec::new(alloc),
+        }
+    }
+
+    /// The number of indexes. They are distinct, and none is `SENTINEL`.
+    pub fn len(&self) -> usize
+        ensures length { result ≡ length (order_of self.now) }
+        ensures indexes { IsIndexList (order_of self.now) }
+    {
+        self.items.len()
+    }
+
+    /// The first index in the table's order.
+    pub fn first(&self) -> Option<ItemIndex>
+        ensures { result ≡ slice_get (order_of self.now) 0 }
+    {
+        self.items.first().copied()
+    }
+
+    /// The last index in the table's order.
+    pub fn last(&self) -> Option<ItemIndex>
+        ensures { result ≡ slice_get (order_of self.now) (length (order_of self.now) - 1) }
+    {
+        self.items.last().copied()
+    }
+
+    /// The indexes in the table's order. It takes no memory.
+    pub fn iter(&self) -> Iter<'_>
+        ensures left { indexes_left result ≡ order_of self.now }
+        ensures indexes { IsIndexList (order_of self.now) }
+    {
+        Iter { rest: &self.items }
+    }
+
+    /// Removes all indexes. It takes no memory.
+    pub fn clear(&mut self)
+        ensures { order_of self.new ≡ [] }
+    {
+        self.items.clear();
+    }
+
+    /// A stored index at which the asking answers Equal. Less says that what is sought stands
+    /// before the stored index.
+    ///
+    /// Under answers that change, the hit is some stored index. It asks at most
+    /// `4 + 2 * digits(len)` times, and takes no memory.
+    pub fn find_by<F: FnMut(ItemIndex) -> Ordering>(
+        &self,
+        asking: &mut Asking<F>,
+    ) -> Option<ItemIndex>
+        requires { CanSearch F.FnMut (order_of self.now) None asking.old }
+        ensures stored { IfSome result (Contains (order_of self.now)) }
+        ensures asked { SearchAsks F.FnMut (order_of self.now) None asking.old asking.new }
+        ensures hit { (answer : ℕ → Ordering) →
+            IsSteady F.FnMut (order_of self.now) None (λ r. r) answer asking.old →
+            IfSome result (λ ix. answer ix ≡ Ordering.Equal) }
+        ensures miss { (answer : ℕ → Ordering) →
+            IsSteadyRising F.FnMut (order_of self.now) None (λ r. r) answer asking.old →
+            IsNone result → All (λ ix. answer ix ≢ Ordering.Equal) (order_of self.now) }
+    {
+        self.find(asking, &Plain)
+    }
+
+    /// A stored index at which the query compares Equal with the key that the asking answers.
+    ///
+    /// Under keys that change, the hit is some stored index. It asks at most
+    /// `4 + 2 * digits(len)` times, and takes no memory.
+    pub fn find_index<K: Ord + Drop, Q: Comparable<K>, F: FnMut(ItemIndex) -> K>(
+        &self,
+        query: &Q,
+        asking: &mut Asking<F>,
+    ) -> Option<ItemIndex>
+        requires { CanSearch F.FnMut (order_of self.now) None asking.old }
+        ensures stored { IfSome result (Contains (order_of self.now)) }
+        ensures asked { SearchAsks F.FnMut (order_of self.now) None asking.old asking.new }
+        ensures hit { (answer : ℕ → Ordering) →
+            IsSteady F.FnMut (order_of self.now) None (Q.compare query.now) answer asking.old →
+            IfSome result (λ ix. answer ix ≡ Ordering.Equal) }
+        ensures miss { (answer : ℕ → Ordering) →
+            IsSteadyRising F.FnMut (order_of self.now) None (Q.compare query.now) answer asking.old →
+            IsNone result → All (λ ix. answer ix ≢ Ordering.Equal) (order_of self.now) }
+    {
+        self.find(asking, &ByQuery(query))
+    }
+
+    // The find, by any reading of the answers.
+    fn find<R, F: FnMut(ItemIndex) -> R, J: Judge<R>>(
+        &self,
+        asking: &mut Asking<F>,
+        judge: &J,
+    ) -> Option<ItemIndex>
+        requires { CanSearch F.FnMut (order_of self.now) None asking.old }
+        ensures stored { IfSome result (Contains (order_of self.now)) }
+        ensures asked { SearchAsks F.FnMut (order_of self.now) None asking.old asking.new }
+        ensures hit { (answer : ℕ → Ordering) →
+            IsSteady F.FnMut (order_of self.now) None (J.judged judge.now) answer asking.old →
+            IfSome result (λ ix. answer ix ≡ Ordering.Equal) }
+        ensures miss { (answer : ℕ → Ordering) →
+            IsSteadyRising F.FnMut (order_of self.now) None (J.judged judge.now) answer asking.old →
+            IsNone result → All (λ ix. answer ix ≢ Ordering.Equal) (order_of self.now) }
+    {
+        match search(&self.items, asking, judge, None) {
+            Ok(place) => Some(self.items[place]),
+            Err(_) => None,
+        }
+    }
+
+    /// Takes the memory of an insert and finds its place by the answers. Equal ones are ordered by
+    /// the indexes.
+    ///
+    /// It asks at most `4 + 2 * digits(len)` times, and answers `AllocError` where memory was
+    /// refused; the contents then stay.
+    pub fn prepare_insert_by<F: FnMut(ItemIndex) -> Ordering>(
+        &mut self,
+        ix: ItemIndex,
+        asking: &mut Asking<F>,
+    ) -> Result<PreparedBTreeInsert<'_>, AllocError>
+        requires assigned { ix ≢ sentinel }
+        requires absent { Contains (order_of self.old) ix → ⊥ }
+        requires can_ask { CanSearch F.FnMut (order_of self.old) (Some ix) asking.old }
+        ensures* unchanged { sem 𝓛 (rests_if_refused self.entry result) }
+        ensures same_reference { IfOk result (λ p. (prepared_insert.table_of p).ghost_name ≡ self.entry.ghost_name) }
+        ensures table { IfOk result (λ p. order_of (prepared_insert.table_of p).now ≡ order_of self.old) }
+        ensures index { IfOk result (λ p. prepared_insert.index_of p ≡ ix) }
+        ensures asked { SearchAsks F.FnMut (order_of self.old) (Some ix) asking.old asking.new }
+        ensures place { (answer : ℕ → Ordering) →
+            IsSteadyRising F.FnMut (order_of self.old) (Some ix) (λ r. r) answer asking.old →
+            IfOk result (λ p. IsPlace (settled (Some ix) answer) (order_of self.old) (prepared_insert.place_of p)) }
+    {
+        self.prepare(ix, asking, &Plain)
+    }
+
+    /// Takes the memory of an insert and finds its place by comparing the query with the keys that
+    /// the asking answers. Equal ones are ordered by the indexes.
+    ///
+    /// It asks at most `4 + 2 * digits(len)` times, and answers `AllocError` where memory was
+    /// refused; the contents then stay.
+    pub fn prepare_insert<K: Ord + Drop, Q: Comparable<K>, F: FnMut(ItemIndex) -> K>(
+        &mut self,
+        ix: ItemIndex,
+        query: &Q,
+        asking: &mut Asking<F>,
+    ) -> Result<PreparedBTreeInsert<'_>, AllocError>
+        requires assigned { ix ≢ sentinel }
+        requires absent { Contains (order_of self.old) ix → ⊥ }
+        requires can_ask { CanSearch F.FnMut (order_of self.old) (Some ix) asking.old }
+        ensures* unchanged { sem 𝓛 (rests_if_refused self.entry result) }
+        ensures same_reference { IfOk result (λ p. (prepared_insert.table_of p).ghost_name ≡ self.entry.ghost_name) }
+        ensures table { IfOk result (λ p. order_of (prepared_insert.table_of p).now ≡ order_of self.old) }
+        ensures index { IfOk result (λ p. prepared_insert.index_of p ≡ ix) }
+        ensures asked { SearchAsks F.FnMut (order_of self.old) (Some ix) asking.old asking.new }
+        ensures place { (answer : ℕ → Ordering) →
+            IsSteadyRising F.FnMut (order_of self.old) (Some ix) (Q.compare query.now) answer asking.old →
+            IfOk result (λ p. IsPlace (settled (Some ix) answer) (order_of self.old) (prepared_insert.place_of p)) }
+    {
+        self.prepare(ix, asking, &ByQuery(query))
+    }
+
+    // The insert, by any reading of the answers.
+    fn prepare<R, F: FnMut(ItemIndex) -> R, J: Judge<R>>(
+        &mut self,
+        ix: ItemIndex,
+        asking: &mut Asking<F>,
+        judge: &J,
+    ) -> Result<PreparedBTreeInsert<'_>, AllocError>
+        requires assigned { ix ≢ sentinel }
+        requires absent { Contains (order_of self.old) ix → ⊥ }
+        requires can_ask { CanSearch F.FnMut (order_of self.old) (Some ix) asking.old }
+        ensures* unchanged { sem 𝓛 (rests_if_refused self.entry result) }
+        ensures same_reference { IfOk result (λ p. (prepared_insert.table_of p).ghost_name ≡ self.entry.ghost_name) }
+        ensures table { IfOk result (λ p. order_of (prepared_insert.table_of p).now ≡ order_of self.old) }
+        ensures index { IfOk result (λ p. prepared_insert.index_of p ≡ ix) }
+        ensures asked { SearchAsks F.FnMut (order_of self.old) (Some ix) asking.old asking.new }
+        ensures place { (answer : ℕ → Ordering) →
+            IsSteadyRising F.FnMut (order_of self.old) (Some ix) (J.judged judge.now) answer asking.old →
+            IfOk result (λ p. IsPlace (settled (Some ix) answer) (order_of self.old) (prepared_insert.place_of p)) }
+    {
+        if let Err(error) = self.items.reserve(1) {
+            return Err(error);
+        }
+        match search(&self.items, asking, judge, Some(ix)) {
+            Ok(_) => unreachable!(),
+            Err(place) => Ok(PreparedBTreeInsert {
+                table: self,
+                place,
+                ix,
+            }),
+        }
+    }
+
+    /// Searches for a stored index by the answers, to remove it. Equal ones are ordered by the
+    /// indexes, and the index itself is not asked about.
+    ///
+    /// It asks at most `4 + 2 * digits(len)` times, and takes no memory. Where the search walks
+    /// past the index, the removal is missing; `SENTINEL` is missing with no ask.
+    pub fn prepare_remove_by<F: FnMut(ItemIndex) -> Ordering>(
+        &mut self,
+        ix: ItemIndex,
+        asking: &mut Asking<F>,
+    ) -> PreparedBTreeRemove<'_>
+        requires can_ask { CanSearch F.FnMut (order_of self.old) (Some ix) asking.old }
+        ensures same_reference { (prepared_remove.table_of result).ghost_name ≡ self.entry.ghost_name }
+        ensures table { (prepared_remove.table_of result).now ≡ self.old }
+        ensures stored { IsTrue (prepared_remove.is_found result) →
+            Contains (order_of self.old) ix }
+        ensures index { IsTrue (prepared_remove.is_found result) →
+            prepared_remove.index_of result ≡ ix }
+        ensures asked { SearchAsks F.FnMut (order_of self.old) (Some ix) asking.old asking.new }
+        ensures missing { ix ≡ sentinel → prepared_remove.is_found result ≡ false }
+        ensures unasked { ix ≡ sentinel → asking.new ≡ asking.old }
+        ensures rising { (answer : ℕ → Ordering) →
+            IsSteadyRising F.FnMut (order_of self.old) (Some ix) (λ r. r) answer asking.old →
+            Contains (order_of self.old) ix → IsTrue (prepared_remove.is_found result) }
+    {
+        self.prepare_removal(ix, asking, &Plain)
+    }
+
+    /// Searches for a stored index by comparing the key with those that the asking answers, to
+    /// remove it. Equal ones are ordered by the indexes, and the index itself is not asked about.
+    ///
+    /// It asks at most `4 + 2 * digits(len)` times, and takes no memory. Where the search walks
+    /// past the index, the removal is missing; `SENTINEL` is missing with no ask.
+    pub fn prepare_remove<K: Ord + Drop, F: FnMut(ItemIndex) -> K>(
+        &mut self,
+        ix: ItemIndex,
+        key: &K,
+        asking: &mut Asking<F>,
+    ) -> PreparedBTreeRemove<'_>
+        requires can_ask { CanSearch F.FnMut (order_of self.old) (Some ix) asking.old }
+        ensures same_reference { (prepared_remove.table_of result).ghost_name ≡ self.entry.ghost_name }
+        ensures table { (prepared_remove.table_of result).now ≡ self.old }
+        ensures stored { IsTrue (prepared_remove.is_found result) →
+            Contains (order_of self.old) ix }
+        ensures index { IsTrue (prepared_remove.is_found result) →
+            prepared_remove.index_of result ≡ ix }
+        ensures asked { SearchAsks F.FnMut (order_of self.old) (Some ix) asking.old asking.new }
+        ensures missing { ix ≡ sentinel → prepared_remove.is_found result ≡ false }
+        ensures unasked { ix ≡ sentinel → asking.new ≡ asking.old }
+        ensures rising { (answer : ℕ → Ordering) →
+            IsSteadyRising F.FnMut (order_of self.old) (Some ix) (K.cmp key.now) answer asking.old →
+            Contains (order_of self.old) ix → IsTrue (prepared_remove.is_found result) }
+    {
+        self.prepare_removal(ix, asking, &ByKey(key))
+    }
+
+    // The removal, by any reading of the answers.
+    fn prepare_removal<R, F: FnMut(ItemIndex) -> R, J: Judge<R>>(
+        &mut self,
+        ix: ItemIndex,
+        asking: &mut Asking<F>,
+        judge: &J,
+    ) -> PreparedBTreeRemove<'_>
+        requires can_ask { CanSearch F.FnMut (order_of self.old) (Some ix) asking.old }
+        ensures same_reference { (prepared_remove.table_of result).ghost_name ≡ self.entry.ghost_name }
+        ensures table { (prepared_remove.table_of result).now ≡ self.old }
+        ensures stored { IsTrue (prepared_remove.is_found result) →
+            Contains (order_of self.old) ix }
+        ensures index { IsTrue (prepared_remove.is_found result) →
+            prepared_remove.index_of result ≡ ix }
+        ensures asked { SearchAsks F.FnMut (order_of self.old) (Some ix) asking.old asking.new }
+        ensures missing { ix ≡ sentinel → prepared_remove.is_found result ≡ false }
+        ensures unasked { ix ≡ sentinel → asking.new ≡ asking.old }
+        ensures rising { (answer : ℕ → Ordering) →
+            IsSteadyRising F.FnMut (order_of self.old) (Some ix) (J.judged judge.now) answer asking.old →
+            Contains (order_of self.old) ix → IsTrue (prepared_remove.is_found result) }
+    {
+        match self.find_place(ix, asking, judge) {
+            Some(place) => PreparedBTreeRemove {
+                table: self,
+                place,
+                is_found: true,
+            },
+            None => PreparedBTreeRemove {
+                table: self,
+                place: 0,
+                is_found: false,
+            },
+        }
+    }
+
+    // The place of a stored index, if the search meets it.
+    fn find_place<R, F: FnMut(ItemIndex) -> R, J: Judge<R>>(
+        &self,
+        ix: ItemIndex,
+        asking: &mut Asking<F>,
+        judge: &J,
+    ) -> Option<usize>
+        requires { CanSearch F.FnMut (order_of self.now) (Some ix) asking.old }
+        ensures within { IfSome result (λ place. place < length (order_of self.now)) }
+        ensures there { IfSome result (λ place. slice_index (order_of self.now) place ≡ ix) }
+        ensures asked { SearchAsks F.FnMut (order_of self.now) (Some ix) asking.old asking.new }
+        ensures missing { ix ≡ sentinel → result ≡ None }
+        ensures unasked { ix ≡ sentinel → asking.new ≡ asking.old }
+        ensures rising { (answer : ℕ → Ordering) →
+            IsSteadyRising F.FnMut (order_of self.now) (Some ix) (J.judged judge.now) answer asking.old →
+            Contains (order_of self.now) ix → IsSome result }
+    {
+        let items = self.items.as_slice();
+        if ix == ItemIndex::SENTINEL {
+            return None;
+        }
+        match search(items, asking, judge, Some(ix)) {
+            Ok(place) => Some(place),
+            Err(_) => None,
+        }
+    }
+
+    /// Removes the index, if it is stored, by a walk along the list. It asks nothing and takes no
+    /// memory. The others keep their order.
+    pub fn remove_exact(&mut self, ix: ItemIndex)
+        ensures { order_of self.new ≡ without (order_of self.old) ix }
+    {
+        self.items.retain(|stored| *stored != ix);
+    }
+
+    // Adds `ix` at `place`, where there is room.
+    pub(super) fn insert_at(&mut self, place: usize, ix: ItemIndex)
+        requires within { place ≤ length (order_of self.old) }
+        requires room { 0 < room_of self.old }
+        requires absent { Contains (order_of self.old) ix → ⊥ }
+        requires assigned { ix ≢ sentinel }
+        ensures { order_of self.new ≡ insert (order_of self.old) place ix }
+    {
+        match self.items.insert(place, ix) {
+            Ok(()) => (),
+            Err(_) => unreachable!(),
+        }
+    }
+
+    // Removes what stands at `place`, if it was found.
+    pub(super) fn remove_found(&mut self, place: usize, is_found: bool) -> bool
+        requires { IsTrue is_found → place < length (order_of self.old) }
+        ensures found { result ≡ is_found }
+        ensures removed { IsTrue result →
+            order_of self.new ≡ without (order_of self.old) (slice_index (order_of self.old) place) }
+        ensures kept { result ≡ false → self.new ≡ self.old }
+    {
+        if is_found {
+            self.remove_at(place);
+        }
+        is_found
+    }
+
+    // Removes what stands at `place`.
+    fn remove_at(&mut self, place: usize)
+        requires { place < length (order_of self.old) }
+        ensures { order_of self.new ≡ without (order_of self.old) (slice_index (order_of self.old) place) }
+    {
+        self.items.remove(place);
+    }
+}

@@ -1,0 +1,85 @@
+//! The calls that ask nothing.
+use super::{has_order, insert_by};
+use crate::btree_table::{Asking, MapBTreeTable};
+use iddqd::item_index::ItemIndex;
+use std::cmp::Ordering;
+use std::test::Fail;
+
+#[test]
+fn a_table_shows_its_order(rt: HostRuntime) -> Result<(), Fail> {
+    let mut table = MapBTreeTable::new(rt.alloc());
+    assert!(rt; table.first().is_none() && table.last().is_none());
+    for ix in [2, 0, 1] {
+        insert_by(&rt, &mut table, ix, |_| Ordering::Greater)?;
+    }
+    assert_eq!(rt; table.first(), Some(ItemIndex::new(2)));
+    assert_eq!(rt; table.last(), Some(ItemIndex::new(1)));
+    assert_eq!(rt;
+        format!(in rt.alloc(); "{table:?}")?.as_str(),
+        "MapBTreeTable { items: [2, 0, 1] }"
+    );
+    let walk = table.iter();
+    assert_eq!(rt;
+        format!(in rt.alloc(); "{walk:?}")?.as_str(),
+        "Iter { rest: [2, 0, 1] }"
+    );
+    table.remove_exact(ItemIndex::new(0));
+    assert!(rt; has_order(&table, &[2, 1]));
+    table.remove_exact(ItemIndex::new(7));
+    assert_eq!(rt; table.len(), 2);
+    table.clear();
+    assert_eq!(rt; table.len(), 0);
+    assert!(rt; table.first().is_none());
+    Ok(())
+}
+
+#[test]
+fn a_walk_counts_down_and_stays_ended(rt: HostRuntime) -> Result<(), Fail> {
+    let mut table = MapBTreeTable::new(rt.alloc());
+    for ix in [2, 0, 1] {
+        insert_by(&rt, &mut table, ix, |_| Ordering::Greater)?;
+    }
+    let mut walk = table.iter();
+    assert_eq!(rt; walk.next(), Some(ItemIndex::new(2)));
+    let mut again = walk.clone()?;
+    for (left, expected) in [(2, Some(0)), (1, Some(1)), (0, None), (0, None)] {
+        assert_eq!(rt; walk.len(), left);
+        assert_eq!(rt; walk.size_hint(), (left, Some(left)));
+        assert_eq!(rt; walk.next(), expected.map(ItemIndex::new));
+    }
+    assert_eq!(rt; again.len(), 2);
+    assert_eq!(rt; again.next(), Some(ItemIndex::new(0)));
+    Ok(())
+}
+
+#[test]
+fn a_prepared_insert_that_is_let_go_changes_nothing(rt: HostRuntime) -> Result<(), Fail> {
+    let mut table = MapBTreeTable::new(rt.alloc());
+    let mut equal = Asking::new(|_: ItemIndex| Ordering::Equal);
+    {
+        let _prepared = table.prepare_insert_by(ItemIndex::new(3), &mut equal)?;
+    }
+    assert_eq!(rt; table.len(), 0);
+    table
+        .prepare_insert_by(ItemIndex::new(3), &mut equal)?
+        .insert();
+    {
+        let _prepared = table.prepare_remove_by(ItemIndex::new(3), &mut equal);
+    }
+    assert_eq!(rt; table.len(), 1);
+    Ok(())
+}
+
+// Where memory is refused, the table has what it had.
+#[test]
+fn a_refused_insert_changes_nothing(rt: HostRuntime) {
+    let mut table = MapBTreeTable::new(rt.alloc());
+    let mut expected = 0usize;
+    for ix in 0..40 {
+        if insert_by(&rt, &mut table, ix, |_| Ordering::Greater).is_ok() {
+            expected = expected.wrapping_add(1);
+        }
+        assert_eq!(rt; table.len(), expected);
+    }
+    assert!(rt; 39 <= expected);
+}
