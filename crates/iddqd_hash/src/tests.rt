@@ -272,6 +272,30 @@ fn refuses_what_no_vector_can_hold(rt: HostRuntime) -> Result<(), Fail> {
     Ok(())
 }
 
+// Whether or not memory is refused, both tables have what they had.
+#[test]
+fn a_refused_reserve_keeps_the_contents(rt: HostRuntime) -> Result<(), Fail> {
+    let mut table = HashTable::new(rt.alloc());
+    add(&mut table, 7, 1u32)?;
+    add(&mut table, 8, 2u32)?;
+    let reserved = table.try_reserve(50).is_ok();
+    assert!(rt; !reserved || 50 <= table.room());
+    assert_eq!(rt; table.len(), 2);
+    assert!(rt; has(&table, 7, &1) && has(&table, 8, &2));
+    assert!(rt; !has(&table, 7, &2) && !has(&table, 8, &1));
+    let keys = [5, 6];
+    let mut table = file_all(rt.alloc(), &Constant, &keys)?;
+    let reserved = table.try_reserve(50).is_ok();
+    assert!(rt; !reserved || 50 <= table.room());
+    assert_eq!(rt; table.len(), 2);
+    for (place, key) in [(0, 5), (1, 6)] {
+        let found = find_number(&table, &Constant, &keys, key);
+        assert_eq!(rt; found, Some(ItemIndex::new(place)));
+    }
+    assert_eq!(rt; answer_each(&mut table, 7, false), (false, 2));
+    Ok(())
+}
+
 #[test]
 fn keeps_room_for_what_was_reserved(rt: HostRuntime) -> Result<(), Fail> {
     let mut table = HashTable::new(rt.alloc());

@@ -86,7 +86,7 @@ impl Replies {
         self.flush(output)
     }
 
-    /// Binds the reply's line, over the items as the command left them.
+    /// Appends the reply's line, over the items as the command left them.
     pub(crate) fn put_reply<S: BuildHasher>(
         &mut self,
         items: &KeyedItems<Record, S>,
@@ -111,7 +111,7 @@ impl Replies {
         self.put(b'\n');
     }
 
-    /// Binds the line that answers what is no command.
+    /// Appends the line that answers what is no command.
     pub(crate) fn put_bad_line(&mut self)
         requires { length self.old + 64 ≤ 8192 }
         ensures { self.new ≡ self.old ++ (codes "bad line" ++ 10 ∷ []) }

@@ -70,16 +70,28 @@ fn a_prepared_insert_that_is_let_go_changes_nothing(rt: HostRuntime) -> Result<(
     Ok(())
 }
 
-// Where memory is refused, the table has what it had.
+fn counts_up(table: &MapBTreeTable) -> bool {
+    let mut expected = 0u32;
+    for ix in table.iter() {
+        if ix != ItemIndex::new(expected) {
+            return false;
+        }
+        expected = expected.wrapping_add(1);
+    }
+    true
+}
+
+// Where memory is refused, the table has what it had, in its order.
 #[test]
 fn a_refused_insert_changes_nothing(rt: HostRuntime) {
     let mut table = MapBTreeTable::new(rt.alloc());
-    let mut expected = 0usize;
-    for ix in 0..40 {
-        if insert_by(&rt, &mut table, ix, |_| Ordering::Greater).is_ok() {
+    let mut expected = 0u32;
+    for _ in 0..40 {
+        if insert_by(&rt, &mut table, expected, |_| Ordering::Greater).is_ok() {
             expected = expected.wrapping_add(1);
         }
-        assert_eq!(rt; table.len(), expected);
+        assert_eq!(rt; table.len(), expected as usize);
+        assert!(rt; counts_up(&table));
     }
     assert!(rt; 39 <= expected);
 }
