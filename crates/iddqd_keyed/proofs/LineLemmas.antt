@@ -11,9 +11,8 @@ use Rattle.std.proofs.lemmas.Bool.Decides.{nat_tests}
 use Rattle.std.proofs.lemmas.List.{take-append-drop, length-take-le}
 use Rattle.std.proofs.lemmas.Int.Digits.{digits_value_more}
 use Rattle.std.proofs.lemmas.List.Folds.{list_all_more}
-use Rattle.std.proofs.lemmas.List.Splits.{slice_split_none, join_with_byte-slice_split}
+use Rattle.std.proofs.lemmas.List.Splits.{length-slice_split, slice_split_none, join_with_byte-slice_split}
 use Rattle.iddqd_keyed.specs.Line.{is_space, number_of, numbers_of, of_one, of_three, record_of, command_for, command_of}
-use Rattle.iddqd_keyed.specs.declared.command.Command.TheVariants.{Find1, Remove}
 
 -- three tests and what they choose
 chosen : (a b c : Bool) (x : Option ℕ) → a ≡ true → b ≡ true → c ≡ true → cond ((a && b) && c) x None ≡ x
@@ -92,36 +91,44 @@ number-no_space word digits = All-from_recursion (λ b. is_space b ≡ false) wo
     each [] all = tt
     each (b ∷ bs) all = (digit_no_space b (list_all_first b bs all), each bs (list_all_rest b bs all))
 
-module _ {A : Type 0} (f : ℕ → A) where
+-- what takes one number alone
+module _ {A : Type 0} (f : List ℕ → Option A) (one : (a b : ℕ) (ns : List ℕ) → f (a ∷ b ∷ ns) ≡ None) where
   -- two words or more are never one number
-  two_words : (a b : Option ℕ) (rest : Option (List ℕ)) → option_and_then (of_one f) (option_and_then (λ n. option_map (λ ns. n ∷ ns) (option_and_then (λ m. option_map (λ ns. m ∷ ns) rest) b)) a) ≡ None
+  two_words : (a b : Option ℕ) (rest : Option (List ℕ)) → option_and_then f (option_and_then (λ n. option_map (λ ns. n ∷ ns) (option_and_then (λ m. option_map (λ ns. m ∷ ns) rest) b)) a) ≡ None
   two_words None b rest = refl
   two_words (Some n) None rest = refl
   two_words (Some n) (Some m) None = refl
-  two_words (Some n) (Some m) (Some ns) = refl
+  two_words (Some n) (Some m) (Some ns) = one n m ns
 
-  one_word : (o : Option ℕ) → option_and_then (of_one f) (option_and_then (λ n. option_map (λ ns. n ∷ ns) (Some [])) o) ≡ option_map f o
+  one_word : (o : Option ℕ) → option_and_then f (option_and_then (λ n. option_map (λ ns. n ∷ ns) (Some [])) o) ≡ option_and_then (λ n. f (n ∷ [])) o
   one_word None = refl
   one_word (Some n) = refl
 
   -- the words are one number exactly where all of them together is
-  pub of_one-words : (words : List ℕ) → option_and_then (of_one f) (numbers_of (slice_split is_space words)) ≡ option_map f (number_of words)
-  of_one-words words = by_digits (cases_Bool (list_all is_ascii_digit words))
+  pub number-words : (words : List ℕ) → option_and_then f (numbers_of (slice_split is_space words)) ≡ option_and_then (λ n. f (n ∷ [])) (number_of words)
+  number-words words = by_digits (cases_Bool (list_all is_ascii_digit words))
     where
-      by_parts : (parts : List (List ℕ)) → slice_split is_space words ≡ parts → number_of words ≡ None → option_and_then (of_one f) (numbers_of parts) ≡ None
-      by_parts [] split none = refl
+      by_parts : (parts : List (List ℕ)) → slice_split is_space words ≡ parts → number_of words ≡ None → option_and_then f (numbers_of parts) ≡ None
+      by_parts [] split none = absurd (omega (arith, ap length split, length-slice_split is_space words))
       by_parts (w ∷ []) split none =
           let same : w ≡ words = sym (ap (join_with_byte 32) split) ∙ join_with_byte-slice_split 32 words in
-          one_word (number_of w) ∙ ap (λ v. option_map f (number_of v)) same ∙ ap (option_map f) none
+          one_word (number_of w) ∙ ap (λ v. option_and_then (λ n. f (n ∷ [])) (number_of v)) same ∙ ap (option_and_then (λ n. f (n ∷ []))) none
       by_parts (w ∷ v ∷ parts) split none = two_words (number_of w) (number_of v) (numbers_of parts)
 
-      by_digits : ((list_all is_ascii_digit words ≡ true) ⊎ (list_all is_ascii_digit words ≡ false)) → option_and_then (of_one f) (numbers_of (slice_split is_space words)) ≡ option_map f (number_of words)
+      by_digits : ((list_all is_ascii_digit words ≡ true) ⊎ (list_all is_ascii_digit words ≡ false)) → option_and_then f (numbers_of (slice_split is_space words)) ≡ option_and_then (λ n. f (n ∷ [])) (number_of words)
       by_digits (inl digits) =
-          ap (λ parts. option_and_then (of_one f) (numbers_of parts)) (slice_split_none is_space words (number-no_space words digits))
+          ap (λ parts. option_and_then f (numbers_of parts)) (slice_split_none is_space words (number-no_space words digits))
           ∙ one_word (number_of words)
       by_digits (inr other) =
           let none = number_of-other words other in
-          by_parts (slice_split is_space words) refl none ∙ sym (ap (option_map f) none)
+          by_parts (slice_split is_space words) refl none ∙ sym (ap (option_and_then (λ n. f (n ∷ []))) none)
+
+of_one-words : {A : Type 0} (f : ℕ → A) (words : List ℕ) → option_and_then (of_one f) (numbers_of (slice_split is_space words)) ≡ option_map f (number_of words)
+of_one-words f words = number-words (of_one f) (λ a b ns. refl) words ∙ as_map (number_of words)
+  where
+    as_map : (o : Option ℕ) → option_and_then (λ n. of_one f (n ∷ [])) o ≡ option_map f o
+    as_map None = refl
+    as_map (Some n) = refl
 
 -- the record of three words, the last of which is all that is left
 pub three_words : (first second value : List ℕ) → option_and_then (of_three record_of) (numbers_of (first ∷ second ∷ slice_split is_space value)) ≡ option_and_then (λ a. option_and_then (λ b. option_map (record_of a b) (number_of value)) (number_of second)) (number_of first)
@@ -138,20 +145,23 @@ three_words first second value = by_numbers (number_of first) (number_of second)
     by_numbers (Some a) None = refl
     by_numbers (Some a) (Some b) = last a b (numbers_of (slice_split is_space value)) ∙ of_one-words (record_of a b) value
 
--- the command of each verb that takes one number
-pub get1_command : (verb words : List ℕ) → bytes_eq verb (codes "insert") ≡ false → bytes_eq verb (codes "get1") ≡ true → option_and_then (command_for verb) (numbers_of (slice_split is_space words)) ≡ option_map Find1 (number_of words)
-get1_command verb words not_insert is_get1 = by_numbers (numbers_of (slice_split is_space words)) ∙ of_one-words Find1 words
-  where
-    by_numbers : (o : Option (List ℕ)) → option_and_then (command_for verb) o ≡ option_and_then (of_one Find1) o
-    by_numbers None = refl
-    by_numbers (Some ns) = rw (not_insert, is_get1)
+either_none : {A : Type 0} (test : Bool) (o : Option A) → o ≡ None → cond test None o ≡ None
+either_none true o none = refl
+either_none false o none = none
 
-pub remove_command : (verb words : List ℕ) → bytes_eq verb (codes "insert") ≡ false → bytes_eq verb (codes "get1") ≡ false → bytes_eq verb (codes "remove") ≡ true → option_and_then (command_for verb) (numbers_of (slice_split is_space words)) ≡ option_map Remove (number_of words)
-remove_command verb words not_insert not_get1 is_remove = by_numbers (numbers_of (slice_split is_space words)) ∙ of_one-words Remove words
+-- no verb but `insert` takes more than one number
+pub number_command-words : (verb words : List ℕ) → bytes_eq verb (codes "insert") ≡ false → option_and_then (command_for verb) (numbers_of (slice_split is_space words)) ≡ option_and_then (λ n. command_for verb (n ∷ [])) (number_of words)
+number_command-words verb words not_insert = number-words (command_for verb) at_most_one words
   where
-    by_numbers : (o : Option (List ℕ)) → option_and_then (command_for verb) o ≡ option_and_then (of_one Remove) o
-    by_numbers None = refl
-    by_numbers (Some ns) = rw (not_insert, not_get1, is_remove)
+    at_most_one : (a b : ℕ) (ns : List ℕ) → command_for verb (a ∷ b ∷ ns) ≡ None
+    at_most_one a b ns =
+        rw not_insert
+        (either_none (bytes_eq verb (codes "get1")) _
+        (either_none (bytes_eq verb (codes "get2")) _
+        (either_none (bytes_eq verb (codes "remove")) _
+        (either_none (bytes_eq verb (codes "remove1")) _
+        (either_none (bytes_eq verb (codes "remove2")) _
+        (either_none (bytes_eq verb (codes "walk")) _ refl))))))
 
 -- a command goes by the first 129 bytes of its line alone
 pub command_of-kept : (kept whole : List ℕ) → take 129 kept ≡ take 129 whole → command_of kept ≡ command_of whole

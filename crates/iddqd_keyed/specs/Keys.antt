@@ -1,25 +1,37 @@
--- The keys of items, packed from the members of the bounds that a clause has.
-use Rattle.std.specs.Prelude.{Bool}
+-- The keys that items lend, and how those are compared and hashed.
+use Rattle.std.specs.Prelude.{Bool, ℕ, List}
 use Rattle.std.specs.Ordering.{is_eq}
 use Rattle.std.specs.declared.cmp.Ordering.{Ordering}
+use Rattle.std.specs.declared.hash.Hasher as hasher
+use Rattle.std.specs.declared.hash.BuildHasher as builder
+use Rattle.iddqd.specs.MapHash.{hash_one}
 use Rattle.iddqd_keyed.specs.declared.keyed_item.KeyedItem.{Ghosts}
 
--- which keys an item has, when two first keys are equal, and how two second keys compare
-pub record Keys (T K1 K2 : Type 0) : Type 0 where
+-- which keys an item has, when two first keys are equal, how two second keys compare, and the hash of a first key
+-- under a state of the hasher
+pub record Keys (T K1 K2 S : Type 0) : Type 0 where
   pub first : T → K1
   pub second : T → K2
   pub equal_first : K1 → K1 → Bool
   pub compare_second : K2 → K2 → Ordering
+  pub hash_first : S → K1 → ℕ
 
-abbrev pub keys_of : {T K1 K2 : Type 0} → Ghosts T K1 K2 → (K1 → K1 → Bool) → (K2 → K2 → Ordering) → Keys T K1 K2
-keys_of item equal compare =
-    record { first = item.first_key; second = item.second_key; equal_first = equal; compare_second = compare }
+-- from the members of the bounds that a clause has
+abbrev pub keys_of : {T K1 K2 S H : Type 0} → Ghosts T K1 K2 → (K1 → K1 → Bool) → (K1 → List (List ℕ)) → (K2 → K2 → Ordering) → builder.Ghosts S H → hasher.Ghosts H → Keys T K1 K2 S
+keys_of item equal hash_input compare b h =
+    record {
+      first = item.first_key;
+      second = item.second_key;
+      equal_first = equal;
+      compare_second = compare;
+      hash_first = λ state key. hash_one b h state (hash_input key);
+    }
 
-module _ {T K1 K2 : Type 0} (keys : Keys T K1 K2) where
+module _ {T K1 K2 S : Type 0} (keys : Keys T K1 K2 S) where
   -- the item has this first key
   abbrev pub has_first : K1 → T → Bool
-  has_first key item = keys.equal_first (keys.first item) key
+  has_first key item = keys.equal_first key (keys.first item)
 
   -- the item has this second key
   abbrev pub has_second : K2 → T → Bool
-  has_second key item = is_eq (keys.compare_second (keys.second item) key)
+  has_second key item = is_eq (keys.compare_second key (keys.second item))

@@ -1,7 +1,7 @@
 -- The lines of the program: what a line asks, and the words of each reply.
 use Rattle.std.specs.Prelude.{◌==◌, ◌&&◌, ℕ, Bool, List, [], ◌∷◌, ◌++◌, length, Option, Some, None, nat_le, nat_lt, codes, if◌then◌else◌}
 use Rattle.std.specs.Option.{option_map, option_and_then}
-use Rattle.std.specs.List.{slice_split, list_all}
+use Rattle.std.specs.List.{slice_split, list_all, join_by}
 use Rattle.std.specs.Char.{is_ascii_digit}
 use Rattle.std.specs.Str.{bytes_eq}
 use Rattle.std.specs.Str.Parse.{digits_value}
@@ -9,9 +9,9 @@ use Rattle.std.specs.Fmt.{decimal}
 use Rattle.iddqd.specs.Store.{Store, get}
 use Rattle.iddqd_keyed.specs.declared.record.Record.{Record}
 use Rattle.iddqd_keyed.specs.declared.command.Command.{Command}
-use Rattle.iddqd_keyed.specs.declared.command.Command.TheVariants.{Insert, Find1, Remove}
+use Rattle.iddqd_keyed.specs.declared.command.Command.TheVariants.{Insert, Find1, Find2, Remove, Remove1, Remove2, Walk}
 use Rattle.iddqd_keyed.specs.declared.command.Reply.{Reply}
-use Rattle.iddqd_keyed.specs.declared.command.Reply.TheVariants.{Inserted, Refused, Found, Removed}
+use Rattle.iddqd_keyed.specs.declared.command.Reply.TheVariants.{Inserted, Refused, Found, Removed, Walked, NoMemory}
 use Rattle.iddqd_keyed.specs.declared.command.InsertRefusal.{InsertRefusal}
 use Rattle.iddqd_keyed.specs.declared.command.InsertRefusal.TheVariants.{Duplicate, Full, Memory}
 
@@ -44,6 +44,11 @@ numbers_of [] = Some []
 numbers_of (word ∷ words) =
     option_and_then (λ n. option_map (λ ns. n ∷ ns) (numbers_of words)) (number_of word)
 
+-- a, where there is no number
+abbrev pub of_none : {A : Type 0} → A → List ℕ → Option A
+of_none a [] = Some a
+of_none a numbers = None
+
 -- f of the one number that there is
 abbrev pub of_one : {A : Type 0} → (ℕ → A) → List ℕ → Option A
 of_one f (a ∷ []) = Some (f a)
@@ -62,8 +67,12 @@ abbrev pub command_for : List ℕ → List ℕ → Option (Command Record ℕ �
 command_for verb numbers =
     if bytes_eq verb (codes "insert") then of_three (λ a b c. Insert (record_of a b c)) numbers
     else (if bytes_eq verb (codes "get1") then of_one Find1 numbers
+    else (if bytes_eq verb (codes "get2") then of_one Find2 numbers
     else (if bytes_eq verb (codes "remove") then of_one Remove numbers
-    else None))
+    else (if bytes_eq verb (codes "remove1") then of_one Remove1 numbers
+    else (if bytes_eq verb (codes "remove2") then of_one Remove2 numbers
+    else (if bytes_eq verb (codes "walk") then of_none Walk numbers
+    else None))))))
 
 -- the command of the words of a line
 abbrev pub command_of_words : List (List ℕ) → Option (Command Record ℕ ℕ)
@@ -93,6 +102,11 @@ refusal_text (Duplicate item first second) = codes "duplicate " ++ index_or_dash
 refusal_text (Full item) = codes "full"
 refusal_text (Memory item) = codes "no memory"
 
+-- indexes with one space between
+abbrev pub walk_text : List ℕ → List ℕ
+walk_text [] = codes "empty"
+walk_text (ix ∷ rest) = join_by decimal (codes " ") (ix ∷ rest)
+
 -- the words of a reply, over the store that it was given in
 abbrev pub text_of : Store Record → Reply Record → List ℕ
 text_of s (Inserted ix) = codes "inserted " ++ decimal ix
@@ -101,3 +115,5 @@ text_of s (Found None) = codes "none"
 text_of s (Found (Some ix)) = record_text_at s ix
 text_of s (Removed None) = codes "none"
 text_of s (Removed (Some (ix, item))) = record_text ix item
+text_of s (Walked indexes) = walk_text indexes.items
+text_of s NoMemory = codes "no memory"

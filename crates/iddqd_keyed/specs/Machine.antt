@@ -1,21 +1,27 @@
 -- The keyed machine: what each command may answer, and what state it leaves.
-use Rattle.std.specs.Prelude.{◌≡◌, ℕ, Option, Some, None, Result, Ok, Err, ◌⊎◌, IsSome}
+use Rattle.std.specs.Prelude.{◌≡◌, ◌≢◌, ◌↔◌, ℕ, Bool, [], List, Option, Some, None, Result, Ok, Err, ◌⊎◌, IsSome, ⊤}
+use Rattle.std.specs.List.{Contains}
+use Rattle.std.specs.Option.{option_map}
 use Rattle.iddqd.specs.Store.{Store, get, next_index, IsFull}
-use Rattle.iddqd_keyed.specs.Keys.{Keys}
-use Rattle.iddqd_keyed.specs.State.{State, IsPaired, Binds, Unbinds, Finds1, Finds2, InOrder}
+use Rattle.iddqd_keyed.specs.Keys.{Keys, has_first, has_second}
+use Rattle.iddqd_keyed.specs.State.{State, IsLive, IsPaired, IsSorted, IsSortedIn, Binds, Unbinds, HasNoHit, AnswersScan, Finds1, Finds2, InOrder}
 use Rattle.iddqd_keyed.specs.declared.command.Command.{Command}
-use Rattle.iddqd_keyed.specs.declared.command.Command.TheVariants.{Insert, Find1, Remove}
+use Rattle.iddqd_keyed.specs.declared.command.Command.TheVariants.{Insert, Find1, Find2, Remove, Remove1, Remove2, Walk}
 use Rattle.iddqd_keyed.specs.declared.command.Reply.{Reply}
-use Rattle.iddqd_keyed.specs.declared.command.Reply.TheVariants.{Inserted, Refused, Found, Removed}
+use Rattle.iddqd_keyed.specs.declared.command.Reply.TheVariants.{Inserted, Refused, Found, Removed, Walked, NoMemory}
 use Rattle.iddqd_keyed.specs.declared.command.InsertRefusal.{InsertRefusal}
 use Rattle.iddqd_keyed.specs.declared.command.InsertRefusal.TheVariants.{Duplicate, Full, Memory}
 
 module _ {T : Type 0} where
-  -- why the store has no place for an item, which comes back
+  -- The item comes back: the store is full, or else memory was refused.
   abbrev pub HasNoPlace : Store T → T → InsertRefusal T → Type 0
   HasNoPlace s item (Full back) = (back ≡ item) × IsFull s
   HasNoPlace s item (Memory back) = (back ≡ item) × (IsFull s → ⊥)
   HasNoPlace s item (Duplicate back first second) = ⊥
+
+  -- the look-up of a removal by a key answers a scan
+  abbrev pub RemovesAsScan : Store T → (T → Bool) → Option (ℕ × T) → Type 0
+  RemovesAsScan s test removed = AnswersScan s test (option_map (λ r. r.0) removed)
 
 module _ {T S : Type 0} where
   -- what a removal may answer and leave: the item of a live index, and none exactly where it isn't live
@@ -23,18 +29,27 @@ module _ {T S : Type 0} where
   Removes old ix (Some item) new = (get old.store ix ≡ Some item) × Unbinds old ix new
   Removes old ix None new = (get old.store ix ≡ None) × (new ≡ old)
 
-module _ {T S K1 K2 : Type 0} (keys : Keys T K1 K2) where
+  -- what a removal by a key may answer and leave: `finds` says what the look-up of the key may answer; a hit is removed
+  abbrev pub RemovesFound : (Option ℕ → Type 0) → State T S → Option (ℕ × T) → State T S → Type 0
+  RemovesFound finds old (Some (ix, item)) new = finds (Some ix) × Removes old ix (Some item) new
+  RemovesFound finds old None new = finds None × (new ≡ old)
+
+module _ {T S K1 K2 : Type 0} (keys : Keys T K1 K2 S) where
   -- both look-ups of the item's keys may answer none
   pub record IsNew (s : State T S) (item : T) : Type 0 where
     pub first : Finds1 keys s (keys.first item) None
     pub second : Finds2 keys s (keys.second item) None
 
+  -- there was place for the item, and it was stored at the next index
+  pub record StoresAt (old : State T S) (item : T) (ix : ℕ) (new : State T S) : Type 0 where
+    pub not_full : IsFull old.store → ⊥
+    pub index : ix ≡ next_index old.store
+    pub adds : Binds keys old item new
+
   -- an insert that was done
   pub record InsertsAt (old : State T S) (item : T) (ix : ℕ) (new : State T S) : Type 0 where
     pub is_new : IsNew old item
-    pub not_full : IsFull old.store → ⊥
-    pub index : ix ≡ next_index old.store
-    pub adds : Binds old item new
+    pub stored : StoresAt old item ix new
 
   -- an insert that was refused for a key that is there: both look-ups' answers, not both none
   pub record RefusesDuplicate (old : State T S) (item back : T) (first second : Option ℕ) (new : State T S) : Type 0 where
@@ -44,42 +59,67 @@ module _ {T S K1 K2 : Type 0} (keys : Keys T K1 K2) where
     pub one_hit : IsSome first ⊎ IsSome second
     pub unchanged : new ≡ old
 
-  -- an insert of new keys that was refused, because the store is full
-  pub record RefusesFull (old : State T S) (item back : T) (new : State T S) : Type 0 where
-    pub given_back : back ≡ item
+  -- an insert of new keys that was refused
+  pub record RefusesNew (old : State T S) (item : T) (refusal : InsertRefusal T) (new : State T S) : Type 0 where
     pub is_new : IsNew old item
-    pub full : IsFull old.store
-    pub unchanged : new ≡ old
-
-  -- an insert of new keys that was refused for want of memory
-  pub record RefusesMemory (old : State T S) (item back : T) (new : State T S) : Type 0 where
-    pub given_back : back ≡ item
-    pub is_new : IsNew old item
-    pub not_full : IsFull old.store → ⊥
+    pub no_place : HasNoPlace old.store item refusal
     pub unchanged : new ≡ old
 
   -- what an insert may answer and leave
   abbrev pub Inserts : State T S → T → Result ℕ (InsertRefusal T) → State T S → Type 0
   Inserts old item (Ok ix) new = InsertsAt old item ix new
   Inserts old item (Err (Duplicate back first second)) new = RefusesDuplicate old item back first second new
-  Inserts old item (Err (Full back)) new = RefusesFull old item back new
-  Inserts old item (Err (Memory back)) new = RefusesMemory old item back new
+  Inserts old item (Err refusal) new = RefusesNew old item refusal new
+
+  -- a duplicate tells what scans for both keys answer, and every other answer says that both find nothing
+  abbrev pub InsertsAsScan : Store T → T → Result ℕ (InsertRefusal T) → Type 0
+  InsertsAsScan s item (Err (Duplicate back first second)) =
+      AnswersScan s (has_first keys (keys.first item)) first × AnswersScan s (has_second keys (keys.second item)) second
+  InsertsAsScan s item result =
+      HasNoHit s (has_first keys (keys.first item)) × HasNoHit s (has_second keys (keys.second item))
+
+  -- these are the live indexes, each once, in order by second key, ties by index
+  pub record IsSortedScan (s : Store T) (indexes : List ℕ) : Type 0 where
+    pub sorted : IsSortedIn keys s indexes
+    pub live : (ix : ℕ) → Contains indexes ix ↔ IsLive s ix
 
   -- what a command may answer and leave
   abbrev pub Answers : State T S → Command T K1 K2 → Reply T → State T S → Type 0
   Answers old (Insert item) (Inserted ix) new = Inserts old item (Ok ix) new
   Answers old (Insert item) (Refused refusal) new = Inserts old item (Err refusal) new
   Answers old (Find1 key) (Found found) new = Finds1 keys old key found × (new ≡ old)
+  Answers old (Find2 key) (Found found) new = Finds2 keys old key found × (new ≡ old)
   Answers old (Remove ix) (Removed (Some (at, item))) new = (at ≡ ix) × Removes old ix (Some item) new
   Answers old (Remove ix) (Removed None) new = Removes old ix None new
+  Answers old (Remove1 key) (Removed removed) new = RemovesFound (Finds1 keys old key) old removed new
+  Answers old (Remove2 key) (Removed removed) new = RemovesFound (Finds2 keys old key) old removed new
+  Answers old Walk (Walked indexes) new = (indexes.items ≡ old.order) × (new ≡ old)
+  Answers old Walk NoMemory new = (old.order ≢ []) × (new ≡ old)
   Answers old command reply new = ⊥
+
+  -- what a command answers in a state in order: that of a scan of the live items
+  abbrev pub AnswersAsScan : Store T → Command T K1 K2 → Reply T → Type 0
+  AnswersAsScan s (Insert item) (Inserted ix) = InsertsAsScan s item (Ok ix)
+  AnswersAsScan s (Insert item) (Refused refusal) = InsertsAsScan s item (Err refusal)
+  AnswersAsScan s (Find1 key) (Found found) = AnswersScan s (has_first keys key) found
+  AnswersAsScan s (Find2 key) (Found found) = AnswersScan s (has_second keys key) found
+  AnswersAsScan s (Remove1 key) (Removed removed) = RemovesAsScan s (has_first keys key) removed
+  AnswersAsScan s (Remove2 key) (Removed removed) = RemovesAsScan s (has_second keys key) removed
+  AnswersAsScan s Walk (Walked indexes) = IsSortedScan s indexes.items
+  AnswersAsScan s command reply = ⊤
 
   -- The command gives a live index an item with another first or another second key. No command does so yet.
   abbrev pub IsSilentChange : State T S → Command T K1 K2 → Type 0
   IsSilentChange old command = ⊥
 
+  -- The command gives a live index an item with another second key. No command does so yet.
+  abbrev pub ChangesSecond : State T S → Command T K1 K2 → Type 0
+  ChangesSecond old command = ⊥
+
   -- one step: what it answers and leaves, and what it keeps
   pub record Step (old : State T S) (command : Command T K1 K2) (reply : Reply T) (new : State T S) : Type 0 where
     pub answers : Answers old command reply new
-    pub paired : IsPaired old → IsPaired new
+    pub paired : IsPaired old × IsPaired new
+    pub sorted : IsSorted keys old → (ChangesSecond old command → ⊥) → IsSorted keys new
     pub in_order : InOrder keys old → (IsSilentChange old command → ⊥) → InOrder keys new
+    pub as_scan : InOrder keys old → AnswersAsScan old.store command reply

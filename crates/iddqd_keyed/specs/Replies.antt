@@ -1,6 +1,7 @@
 -- What the program has written, and what waits in its block of replies.
-use Rattle.std.specs.Prelude.{◌++◌, ℕ, List, Option, take}
+use Rattle.std.specs.Prelude.{◌++◌, ◌∷◌, ℕ, List, Option, take}
 use Rattle.std.specs.Option.{option_map}
+use Rattle.std.specs.Fmt.{decimal}
 use Rattle.std.specs.Io.KnownBytes.{Appends}
 
 -- the bytes written, where they are told, and then those that wait
@@ -11,3 +12,7 @@ sent_bytes written waiting = option_map (λ bytes. bytes ++ waiting) written
 pub record AppendsSome (before after : Option (List ℕ)) (bytes : List ℕ) : Type 0 where
   pub count : ℕ
   pub written : Appends before after (take count bytes)
+
+-- an index with a space before it
+abbrev pub spaced : ℕ → List ℕ
+spaced ix = 32 ∷ decimal ix

@@ -16,11 +16,11 @@ pub record IsKept (kept begun : List ℕ) : Type 0 where
   pub bytes : kept ≡ take 129 begun
   pub one_line : HasNo 10 begun
 
-module _ {S : Type 0} (before after : Option (List ℕ)) (old : State Record S) where
+module _ {S : Type 0} (hash : S → ℕ → ℕ) (before after : Option (List ℕ)) (old : State Record S) where
   -- the line is answered: its out and a line feed are sent
   pub record Obeys (line : List ℕ) (new : State Record S) : Type 0 where
     pub out : List ℕ
-    pub answers : Line old line out new
+    pub answers : Line hash old line out new
     pub sent : Appends before after (out ++ 10 ∷ [])
 
   -- a line had begun; these further bytes end some lines, which are answered, and begin another
@@ -31,5 +31,5 @@ module _ {S : Type 0} (before after : Option (List ℕ)) (old : State Record S) 
     pub each_one_line : All (HasNo 10) done
     pub keeps : IsKept kept left
     pub out : List ℕ
-    pub serves : Serves old done out new
+    pub serves : Serves hash old done out new
     pub sent : Appends before after out

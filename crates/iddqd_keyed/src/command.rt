@@ -24,8 +24,16 @@ pub enum Command<T: KeyedItem> {
     Insert(T),
     /// Find the item with this first key.
     Find1(T::Key1),
+    /// Find the item with this second key.
+    Find2(T::Key2),
     /// Remove the item at an index.
     Remove(ItemIndex),
+    /// Remove the item with this first key.
+    Remove1(T::Key1),
+    /// Remove the item with this second key.
+    Remove2(T::Key2),
+    /// Tell all indexes, in the order of their items' second keys.
+    Walk,
 }
 
 /// The answer to a command.
@@ -39,4 +47,8 @@ pub enum Reply<T> {
     Found(Option<ItemIndex>),
     /// To a removal: the item that was removed, and its index.
     Removed(Option<(ItemIndex, T)>),
+    /// To `Walk`: all indexes.
+    Walked(Vec<ItemIndex>),
+    /// To `Walk`, where memory for the indexes was refused.
+    NoMemory,
 }

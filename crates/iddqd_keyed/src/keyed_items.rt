@@ -1,32 +1,24 @@
-//! Items with two unique keys, in one store.
-ghost use Rattle.std.specs.Prelude.{◌≡◌, [], IsOk, IfOk, IfErr, OnErr, option_copied};
-ghost use Rattle.iddqd.specs.Store.{get, live_count, next_index, inserted, IsFull};
-ghost use Rattle.iddqd_keyed.specs.Keys.{keys_of};
-ghost use Rattle.iddqd_keyed.specs.State.{empty_state, IsPaired, Finds1, Finds2};
-ghost use Rattle.iddqd_keyed.specs.Machine.{HasNoPlace, Inserts, Removes, Step};
+//! Items with two unique keys: a store, a hash table for the first keys, an ordered one for the second.
+ghost use Rattle.std.specs.Prelude.{◌≡◌, [], IsOk, IfOk, IfErr, OnOk, OnErr, option_copied};
+ghost use Rattle.iddqd.specs.Store.{get, live_count};
+ghost use Rattle.iddqd.specs.GrowHandle.{handle_store};
+ghost use Rattle.iddqd_order.specs.Iter.{indexes_left};
+ghost use Rattle.iddqd_keyed.specs.Keys.{keys_of, has_first, has_second};
+ghost use Rattle.iddqd_keyed.specs.State.{empty_state, hash_in, IsLive, IsPaired, IsSorted, InOrder, Keeps, AnswersScan, Finds1, Finds2};
+ghost use Rattle.iddqd_keyed.specs.Machine.{HasNoPlace, StoresAt, Inserts, InsertsAsScan, Removes, RemovesFound, RemovesAsScan, IsSortedScan, Step};
 ghost use Rattle.iddqd_keyed.specs.Run.{Run};
 
 use crate::command::{Command, InsertRefusal, Reply};
 use crate::keyed_item::KeyedItem;
-use crate::scan::{scan1, scan2};
+use crate::lookup::{first_key, second_key, second_key_in, unfile, unorder};
 use iddqd::item_index::ItemIndex;
 use iddqd::item_set::{GrowError, ItemSet};
-use std::alloc::Global;
+use iddqd::map_hash::{MapHash, Same};
+use iddqd_hash::hash_table::MapHashTable;
+use iddqd_order::btree_table::{Asking, Iter, MapBTreeTable};
+use std::alloc::{AllocError, Global};
 use std::hash::BuildHasher;
 use std::marker::Model;
-
-// Stores an item of new keys, or hands it back.
-fn store<T: Drop>(items: &mut ItemSet<T>, item: T) -> Result<ItemIndex, InsertRefusal<T>>
-    ensures stored { IfOk result (λ ix. (ix ≡ next_index items.old.store) × (items.new.store ≡ inserted items.old.store item) × (IsFull items.old.store → ⊥)) }
-    ensures refused { IfErr result (HasNoPlace items.old.store item) }
-    ensures unchanged { OnErr result (items.new.store ≡ items.old.store) }
-{
-    match items.assert_can_grow() {
-        Ok(handle) => Ok(handle.insert(item)),
-        Err(GrowError::Full) => Err(InsertRefusal::Full(item)),
-        Err(GrowError::Memory) => Err(InsertRefusal::Memory(item)),
-    }
-}
 
 /// Items that lend two keys each.
 ///
@@ -34,6 +26,10 @@ fn store<T: Drop>(items: &mut ItemSet<T>, item: T) -> Result<ItemIndex, InsertRe
 #[derive(Drop)]
 pub struct KeyedItems<T: KeyedItem, S: BuildHasher> {
     items: ItemSet<T>,
+    // Each live index, under the hash that its item's first key had when it was inserted.
+    filed: MapHashTable,
+    // Each live index, in the order of the second keys.
+    order: MapBTreeTable,
     state: S,
     alloc: Global,
 }
@@ -45,11 +41,11 @@ impl<T: KeyedItem, S: BuildHasher> Model for KeyedItems<T, S> {
 
     ghost coded = { state_code T.code S.code };
 
-    ghost use Rattle.iddqd.specs.Store.{IsValid};
+    ghost use Rattle.iddqd_keyed.specs.State.{state_of, IsPaired};
 
-    ghost view = { λ k. record { hasher = k.state; store = k.items.store } };
+    ghost view = { λ k. state_of k.state k.items.store k.filed k.order };
 
-    ghost invariant = { λ k. IsValid k.items.store };
+    ghost invariant = { λ k. IsPaired (state_of k.state k.items.store k.filed k.order) };
 }
 
 impl<T: KeyedItem, S: BuildHasher> KeyedItems<T, S> {
@@ -59,6 +55,8 @@ impl<T: KeyedItem, S: BuildHasher> KeyedItems<T, S> {
     {
         KeyedItems {
             items: ItemSet::new(alloc),
+            filed: MapHashTable::new(alloc),
+            order: MapBTreeTable::new(alloc),
             state,
             alloc,
         }
@@ -81,18 +79,56 @@ impl<T: KeyedItem, S: BuildHasher> KeyedItems<T, S> {
         self.items.get(ix)
     }
 
-    /// The index of the item with this first key. It reads every slot at most once.
+    /// The index of the item with this first key. It compares the key with those of the same hash
+    /// alone.
     pub fn find1(&self, key: &T::Key1) -> Option<ItemIndex>
-        ensures { Finds1 (keys_of T.KeyedItem T.Key1.eq T.Key2.cmp) self.now key.now result }
+        ensures paired { IsPaired self.now }
+        ensures found { let keys = keys_of T.KeyedItem T.Key1.eq T.Key1.hash_input T.Key2.cmp S.BuildHasher S.Hasher.Hasher in
+            Finds1 keys self.now key.now result }
+        ensures as_scan { let keys = keys_of T.KeyedItem T.Key1.eq T.Key1.hash_input T.Key2.cmp S.BuildHasher S.Hasher.Hasher in
+            InOrder keys self.now →
+            AnswersScan self.now.store (has_first keys key.now) result }
     {
-        scan1(&self.items, key)
+        let items = &self.items;
+        self.filed.find_index(
+            &self.state,
+            &Same(key),
+            |ix: ItemIndex|
+                requires { IsLive items.now.store ix }
+                ensures { (item : T) × (get items.entry.now.store ix ≡ Some item) × (result.now ≡ T.KeyedItem.first_key item) }
+            { first_key(items, ix) },
+        )
     }
 
-    // The index of the item with this second key.
-    fn find2(&self, key: &T::Key2) -> Option<ItemIndex>
-        ensures { Finds2 (keys_of T.KeyedItem T.Key1.eq T.Key2.cmp) self.now key.now result }
+    /// The index of the item with this second key. It makes at most 4 and twice the binary digits of
+    /// the number of items comparisons.
+    pub fn find2(&self, key: &T::Key2) -> Option<ItemIndex>
+        ensures paired { IsPaired self.now }
+        ensures found { let keys = keys_of T.KeyedItem T.Key1.eq T.Key1.hash_input T.Key2.cmp S.BuildHasher S.Hasher.Hasher in
+            Finds2 keys self.now key.now result }
+        ensures as_scan { let keys = keys_of T.KeyedItem T.Key1.eq T.Key1.hash_input T.Key2.cmp S.BuildHasher S.Hasher.Hasher in
+            InOrder keys self.now →
+            AnswersScan self.now.store (has_second keys key.now) result }
     {
-        scan2(&self.items, key)
+        let items = &self.items;
+        let mut asking = Asking::new(
+            |ix: ItemIndex|
+                requires { IsLive items.now.store ix }
+                ensures { (item : T) × (get items.entry.now.store ix ≡ Some item) × (result.now ≡ T.KeyedItem.second_key item) }
+            { second_key(items, ix) },
+        );
+        self.order.find_index(&Same(key), &mut asking)
+    }
+
+    /// The indexes in the order of their items' second keys. It takes no memory.
+    pub fn walk(&self) -> Iter<'_>
+        ensures order { indexes_left result ≡ self.now.order }
+        ensures paired { IsPaired self.now }
+        ensures as_scan { let keys = keys_of T.KeyedItem T.Key1.eq T.Key1.hash_input T.Key2.cmp S.BuildHasher S.Hasher.Hasher in
+            InOrder keys self.now →
+            IsSortedScan keys self.now.store (indexes_left result) }
+    {
+        self.order.iter()
     }
 
     /// Takes an item with new keys.
@@ -100,7 +136,13 @@ impl<T: KeyedItem, S: BuildHasher> KeyedItems<T, S> {
     /// A duplicate is told even where the store is full or no memory is left, and a full store even
     /// where no memory is left. A refusal hands the item back and changes nothing.
     pub fn insert(&mut self, item: T) -> Result<ItemIndex, InsertRefusal<T>>
-        ensures { Inserts (keys_of T.KeyedItem T.Key1.eq T.Key2.cmp) self.old item result self.new }
+        ensures inserts { let keys = keys_of T.KeyedItem T.Key1.eq T.Key1.hash_input T.Key2.cmp S.BuildHasher S.Hasher.Hasher in
+            Inserts keys self.old item result self.new }
+        ensures keeps { let keys = keys_of T.KeyedItem T.Key1.eq T.Key1.hash_input T.Key2.cmp S.BuildHasher S.Hasher.Hasher in
+            Keeps keys self.old self.new }
+        ensures as_scan { let keys = keys_of T.KeyedItem T.Key1.eq T.Key1.hash_input T.Key2.cmp S.BuildHasher S.Hasher.Hasher in
+            InOrder keys self.old →
+            InsertsAsScan keys self.old.store item result }
     {
         let first = self.find1(item.key1());
         let second = self.find2(item.key2());
@@ -111,19 +153,53 @@ impl<T: KeyedItem, S: BuildHasher> KeyedItems<T, S> {
                 second,
             });
         }
-        store(&mut self.items, item)
+        let hash = self.filed.compute_hash(&self.state, item.key1());
+        self.store(item, hash)
     }
 
     /// Removes the item at an index, if it is live. It takes no memory.
     pub fn remove(&mut self, ix: ItemIndex) -> Option<T>
-        ensures { Removes self.old ix result self.new }
+        ensures removes { Removes self.old ix result self.new }
+        ensures keeps { let keys = keys_of T.KeyedItem T.Key1.eq T.Key1.hash_input T.Key2.cmp S.BuildHasher S.Hasher.Hasher in
+            Keeps keys self.old self.new }
     {
+        let item = self.items.get(ix)?;
+        let hash = self.filed.compute_hash(&self.state, item.key1());
+        unfile(&mut self.filed, hash.hash(), ix);
+        unorder(&mut self.order, &self.items, ix);
         self.items.remove(ix)
+    }
+
+    /// Removes the item with this first key. It takes no memory.
+    pub fn remove1(&mut self, key: &T::Key1) -> Option<(ItemIndex, T)>
+        ensures removes { let keys = keys_of T.KeyedItem T.Key1.eq T.Key1.hash_input T.Key2.cmp S.BuildHasher S.Hasher.Hasher in
+            RemovesFound (Finds1 keys self.old key.now) self.old result self.new }
+        ensures as_scan { let keys = keys_of T.KeyedItem T.Key1.eq T.Key1.hash_input T.Key2.cmp S.BuildHasher S.Hasher.Hasher in
+            InOrder keys self.old → RemovesAsScan self.old.store (has_first keys key.now) result }
+        ensures keeps { let keys = keys_of T.KeyedItem T.Key1.eq T.Key1.hash_input T.Key2.cmp S.BuildHasher S.Hasher.Hasher in
+            Keeps keys self.old self.new }
+    {
+        let ix = self.find1(key)?;
+        Some((ix, self.remove(ix)?))
+    }
+
+    /// Removes the item with this second key. It takes no memory.
+    pub fn remove2(&mut self, key: &T::Key2) -> Option<(ItemIndex, T)>
+        ensures removes { let keys = keys_of T.KeyedItem T.Key1.eq T.Key1.hash_input T.Key2.cmp S.BuildHasher S.Hasher.Hasher in
+            RemovesFound (Finds2 keys self.old key.now) self.old result self.new }
+        ensures as_scan { let keys = keys_of T.KeyedItem T.Key1.eq T.Key1.hash_input T.Key2.cmp S.BuildHasher S.Hasher.Hasher in
+            InOrder keys self.old → RemovesAsScan self.old.store (has_second keys key.now) result }
+        ensures keeps { let keys = keys_of T.KeyedItem T.Key1.eq T.Key1.hash_input T.Key2.cmp S.BuildHasher S.Hasher.Hasher in
+            Keeps keys self.old self.new }
+    {
+        let ix = self.find2(key)?;
+        Some((ix, self.remove(ix)?))
     }
 
     /// Obeys one command.
     pub fn step(&mut self, command: Command<T>) -> Reply<T>
-        ensures { Step (keys_of T.KeyedItem T.Key1.eq T.Key2.cmp) self.old command result self.new }
+        ensures { let keys = keys_of T.KeyedItem T.Key1.eq T.Key1.hash_input T.Key2.cmp S.BuildHasher S.Hasher.Hasher in
+            Step keys self.old command result self.new }
     {
         match command {
             Command::Insert(item) => match self.insert(item) {
@@ -131,9 +207,16 @@ impl<T: KeyedItem, S: BuildHasher> KeyedItems<T, S> {
                 Err(refusal) => Reply::Refused(refusal),
             },
             Command::Find1(key) => Reply::Found(self.find1(&key)),
+            Command::Find2(key) => Reply::Found(self.find2(&key)),
             Command::Remove(ix) => match self.remove(ix) {
                 Some(item) => Reply::Removed(Some((ix, item))),
                 None => Reply::Removed(None),
+            },
+            Command::Remove1(key) => Reply::Removed(self.remove1(&key)),
+            Command::Remove2(key) => Reply::Removed(self.remove2(&key)),
+            Command::Walk => match self.indexes() {
+                Ok(indexes) => Reply::Walked(indexes),
+                Err(AllocError) => Reply::NoMemory,
             },
         }
     }
@@ -143,7 +226,8 @@ impl<T: KeyedItem, S: BuildHasher> KeyedItems<T, S> {
     /// The memory of all replies is taken first. Where it is refused, or no vector can hold so many,
     /// nothing is done and the commands come back; with no command that never happens.
     pub fn run(&mut self, commands: Vec<Command<T>>) -> Result<Vec<Reply<T>>, Vec<Command<T>>>
-        ensures run { IfOk result (λ replies. Run (keys_of T.KeyedItem T.Key1.eq T.Key2.cmp) self.old commands.items replies.items self.new) }
+        ensures run { let keys = keys_of T.KeyedItem T.Key1.eq T.Key1.hash_input T.Key2.cmp S.BuildHasher S.Hasher.Hasher in
+            IfOk result (λ replies. Run keys self.old commands.items replies.items self.new) }
         ensures refused { IfErr result (λ back. (back.items ≡ commands.items) × (self.new ≡ self.old)) }
         ensures empty { commands.items ≡ [] → IsOk result }
     {
@@ -155,5 +239,57 @@ impl<T: KeyedItem, S: BuildHasher> KeyedItems<T, S> {
             replies.push_reserved(self.step(command));
         }
         Ok(replies)
+    }
+}
+
+impl<T: KeyedItem, S: BuildHasher> KeyedItems<T, S> {
+    // Stores an item of new keys under the hash of its first, or hands it back. All memory is taken
+    // before anything is written.
+    fn store(&mut self, item: T, hash: MapHash) -> Result<ItemIndex, InsertRefusal<T>>
+        requires key { let keys = keys_of T.KeyedItem T.Key1.eq T.Key1.hash_input T.Key2.cmp S.BuildHasher S.Hasher.Hasher in
+            hash ≡ hash_in keys self.old (keys.first item) }
+        ensures stored { let keys = keys_of T.KeyedItem T.Key1.eq T.Key1.hash_input T.Key2.cmp S.BuildHasher S.Hasher.Hasher in
+            IfOk result (λ ix. StoresAt keys self.old item ix self.new × (IsSorted keys self.old → IsSorted keys self.new)) }
+        ensures refused { IfErr result (HasNoPlace self.old.store item) }
+        ensures unchanged { OnErr result (self.new ≡ self.old) }
+    {
+        let handle = match self.items.assert_can_grow() {
+            Ok(handle) => handle,
+            Err(GrowError::Full) => return Err(InsertRefusal::Full(item)),
+            Err(GrowError::Memory) => return Err(InsertRefusal::Memory(item)),
+        };
+        if let Err(AllocError) = self.filed.try_reserve(1) {
+            return Err(InsertRefusal::Memory(item));
+        }
+        let ix = handle.next_index();
+        let mut asking = Asking::new(
+            |at: ItemIndex|
+                requires { IsLive (handle_store handle) at }
+                ensures { (item : T) × (get (handle_store handle.entry) at ≡ Some item) × (result.now ≡ T.KeyedItem.second_key item) }
+            { second_key_in(&handle, at) },
+        );
+        match self
+            .order
+            .prepare_insert(ix, &Same(item.key2()), &mut asking)
+        {
+            Ok(prepared) => prepared.insert(),
+            Err(AllocError) => return Err(InsertRefusal::Memory(item)),
+        }
+        self.filed.insert_prehashed_unchecked(hash, ix);
+        Ok(handle.insert(item))
+    }
+
+    // The indexes in the order of their items' second keys, in memory of their own.
+    fn indexes(&self) -> Result<Vec<ItemIndex>, AllocError>
+        ensures paired { IsPaired self.now }
+        ensures all { IfOk result (λ indexes. indexes.items ≡ self.now.order) }
+        ensures empty { self.now.order ≡ [] → IsOk result }
+    {
+        let walk = self.walk();
+        let mut indexes = Vec::with_capacity(self.alloc, walk.len())?;
+        for ix in walk {
+            indexes.push_reserved(ix);
+        }
+        Ok(indexes)
     }
 }

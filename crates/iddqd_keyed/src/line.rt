@@ -19,8 +19,21 @@ pub(crate) fn parse(line: &[u8]) -> Option<Command<Record>>
     if line.len() > MAX_LINE {
         return None;
     }
-    let (verb, rest) = split_word(line);
-    command(verb, rest?)
+    match split_word(line) {
+        (verb, Some(words)) => command(verb, words),
+        (verb, None) => lone_command(verb),
+    }
+}
+
+// The command of a verb that stands alone.
+fn lone_command(verb: &[u8]) -> Option<Command<Record>>
+    ensures { result ≡ command_for verb.now [] }
+{
+    if verb == b"walk".as_slice() {
+        Some(Command::Walk)
+    } else {
+        None
+    }
 }
 
 // The command of a verb and the words behind it.
@@ -29,10 +42,25 @@ fn command(verb: &[u8], words: &[u8]) -> Option<Command<Record>>
 {
     if verb == b"insert".as_slice() {
         Some(Command::Insert(record(words)?))
-    } else if verb == b"get1".as_slice() {
-        Some(Command::Find1(number(words)?))
+    } else {
+        number_command(verb, number(words)?)
+    }
+}
+
+// The command of a verb and one number.
+fn number_command(verb: &[u8], number: u32) -> Option<Command<Record>>
+    ensures { result ≡ command_for verb.now (number ∷ []) }
+{
+    if verb == b"get1".as_slice() {
+        Some(Command::Find1(number))
+    } else if verb == b"get2".as_slice() {
+        Some(Command::Find2(number))
     } else if verb == b"remove".as_slice() {
-        Some(Command::Remove(ItemIndex::new(number(words)?)))
+        Some(Command::Remove(ItemIndex::new(number)))
+    } else if verb == b"remove1".as_slice() {
+        Some(Command::Remove1(number))
+    } else if verb == b"remove2".as_slice() {
+        Some(Command::Remove2(number))
     } else {
         None
     }

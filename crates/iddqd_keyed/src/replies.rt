@@ -2,8 +2,9 @@
 ghost use Rattle.std.specs.Prelude.{◌≡◌, ◌++◌, ◌∷◌, ◌+◌, ◌<◌, ◌≤◌, [], length, codes, is_ok, true, OnOk, OnErr, if◌then◌else◌};
 ghost use Rattle.std.specs.Io.KnownBytes.{Appends};
 ghost use Rattle.std.specs.Fmt.{decimal};
-ghost use Rattle.iddqd_keyed.specs.Line.{record_text, index_or_dash, refusal_text, text_of};
-ghost use Rattle.iddqd_keyed.specs.Replies.{sent_bytes, AppendsSome};
+ghost use Rattle.std.specs.List.{flat_map};
+ghost use Rattle.iddqd_keyed.specs.Line.{record_text, index_or_dash, refusal_text, walk_text, text_of};
+ghost use Rattle.iddqd_keyed.specs.Replies.{sent_bytes, AppendsSome, spaced};
 
 use crate::command::{InsertRefusal, Reply};
 use crate::digits::Digits;
@@ -17,7 +18,7 @@ use std::marker::Model;
 /// How many bytes of replies wait at most.
 const BLOCK: usize = 8192;
 
-/// More bytes than any reply has.
+/// More bytes than are put between two looks for room: a reply's line, or an index of a walk.
 const MAX_REPLY: usize = 64;
 
 /// The replies that wait to be written.
@@ -40,7 +41,7 @@ impl Model for Replies {
 /// Writes all bytes, or a beginning of them where the sink fails.
 pub(crate) fn write_all<O: Sink>(output: &mut O, bytes: &[u8]) -> Result<(), ()>
     ensures all { OnOk result (Appends (O.written output.old) (O.written output.new) bytes.now) }
-    ensures some { OnErr result (AppendsSome (O.written output.old) (O.written output.new) bytes.now) }
+    ensures some { AppendsSome (O.written output.old) (O.written output.new) bytes.now }
     ensures failed { O.has_failed output.new ≡ (if is_ok result then O.has_failed output.old else true) }
 {
     let mut at = 0;
@@ -65,7 +66,7 @@ impl Replies {
     pub(crate) fn flush<O: Sink>(&mut self, output: &mut O) -> Result<(), ()>
         ensures none_waits { OnOk result (self.new ≡ []) }
         ensures all { OnOk result (Appends (sent_bytes (O.written output.old) self.old) (sent_bytes (O.written output.new) self.new) []) }
-        ensures some { OnErr result (AppendsSome (O.written output.old) (O.written output.new) self.old) }
+        ensures some { AppendsSome (O.written output.old) (O.written output.new) self.old }
         ensures failed { O.has_failed output.new ≡ (if is_ok result then O.has_failed output.old else true) }
     {
         write_all(output, &self.bytes[..self.len])?;
@@ -77,7 +78,7 @@ impl Replies {
     pub(crate) fn make_room<O: Sink>(&mut self, output: &mut O) -> Result<(), ()>
         ensures room { OnOk result (length self.new + 64 ≤ 8192) }
         ensures all { OnOk result (Appends (sent_bytes (O.written output.old) self.old) (sent_bytes (O.written output.new) self.new) []) }
-        ensures some { OnErr result (AppendsSome (O.written output.old) (O.written output.new) self.old) }
+        ensures some { AppendsSome (O.written output.old) (O.written output.new) self.old }
         ensures failed { O.has_failed output.new ≡ (if is_ok result then O.has_failed output.old else true) }
     {
         if self.len <= BLOCK - MAX_REPLY {
@@ -86,14 +87,18 @@ impl Replies {
         self.flush(output)
     }
 
-    /// Appends the reply's line, over the items as the command left them.
-    pub(crate) fn put_reply<S: BuildHasher>(
+    /// Appends the reply's line, over the items as the command left them. Of a long walk, it writes what
+    /// waits as often as there is no more room.
+    pub(crate) fn put_reply<S: BuildHasher, O: Sink>(
         &mut self,
         items: &KeyedItems<Record, S>,
         reply: &Reply<Record>,
-    )
+        output: &mut O,
+    ) -> Result<(), ()>
         requires { length self.old + 64 ≤ 8192 }
-        ensures { self.new ≡ self.old ++ (text_of items.now.store reply.now ++ 10 ∷ []) }
+        ensures all { OnOk result (Appends (sent_bytes (O.written output.old) self.old) (sent_bytes (O.written output.new) self.new) (text_of items.now.store reply.now ++ 10 ∷ [])) }
+        ensures some { OnErr result (AppendsSome (O.written output.old) (O.written output.new) (self.old ++ text_of items.now.store reply.now)) }
+        ensures failed { O.has_failed output.new ≡ (if is_ok result then O.has_failed output.old else true) }
     {
         match reply {
             Reply::Inserted(ix) => {
@@ -107,8 +112,46 @@ impl Replies {
             },
             Reply::Removed(Some((ix, record))) => self.put_record(*ix, record),
             Reply::Found(None) | Reply::Removed(None) => self.put_bytes(b"none"),
+            Reply::Walked(indexes) => self.put_walk(indexes, output)?,
+            Reply::NoMemory => self.put_bytes(b"no memory"),
         }
         self.put(b'\n');
+        Ok(())
+    }
+
+    // The indexes, with one space between.
+    fn put_walk<O: Sink>(&mut self, indexes: &[ItemIndex], output: &mut O) -> Result<(), ()>
+        requires { length self.old + 64 ≤ 8192 }
+        ensures room { OnOk result (length self.new < 8192) }
+        ensures all { OnOk result (Appends (sent_bytes (O.written output.old) self.old) (sent_bytes (O.written output.new) self.new) (walk_text indexes.now)) }
+        ensures some { OnErr result (AppendsSome (O.written output.old) (O.written output.new) (self.old ++ walk_text indexes.now)) }
+        ensures failed { O.has_failed output.new ≡ (if is_ok result then O.has_failed output.old else true) }
+    {
+        match indexes.split_first() {
+            Some((first, rest)) => {
+                self.put_number(first.as_u32());
+                self.put_indexes(rest, output)
+            }
+            None => {
+                self.put_bytes(b"empty");
+                Ok(())
+            }
+        }
+    }
+
+    // The indexes, with a space before each. It makes room before each, and behind the last.
+    fn put_indexes<O: Sink>(&mut self, indexes: &[ItemIndex], output: &mut O) -> Result<(), ()>
+        ensures room { OnOk result (length self.new + 64 ≤ 8192) }
+        ensures all { OnOk result (Appends (sent_bytes (O.written output.old) self.old) (sent_bytes (O.written output.new) self.new) (flat_map spaced indexes.now)) }
+        ensures some { AppendsSome (O.written output.old) (O.written output.new) (self.old ++ flat_map spaced indexes.now) }
+        ensures failed { O.has_failed output.new ≡ (if is_ok result then O.has_failed output.old else true) }
+    {
+        for ix in indexes {
+            self.make_room(output)?;
+            self.put(b' ');
+            self.put_number(ix.as_u32());
+        }
+        self.make_room(output)
     }
 
     /// Appends the line that answers what is no command.

@@ -5,9 +5,8 @@
 //! goes on in the next block, a beginning is kept.
 ghost use Rattle.std.specs.Prelude.{◌≡◌, ◌++◌, [], List, ℕ, take, OnOk, IfSome, false};
 ghost use Rattle.std.specs.Io.KnownBytes.{Appends};
-ghost use Rattle.iddqd_keyed.specs.Program.{ServesAll};
+ghost use Rattle.iddqd_keyed.specs.Program.{hash_u32, ServesAll};
 ghost use Rattle.iddqd_keyed.specs.Replies.{sent_bytes};
-ghost use Rattle.iddqd_keyed.specs.Split.{HasNo};
 ghost use Rattle.iddqd_keyed.specs.Serve.{IsKept, Obeys, Feeds};
 
 use crate::keyed_items::KeyedItems;
@@ -37,9 +36,16 @@ pub enum ServeFault {
 
 /// Obeys each line of the input, and answers each with a line.
 ///
-/// It keeps records of three numbers, and knows the lines `insert 1 10 100`, `get1 1` and
-/// `remove 0`; every other line is answered `bad line`. All replies are out before it reads on.
-/// After 18446744073709551615 reads without an end it stops as at a failed read.
+/// It keeps records of three numbers, the first two of which are the keys, and knows these lines:
+///
+/// - `insert 1 10 100` takes a record: `inserted 0`, `duplicate 0 -`, `full` or `no memory`.
+/// - `get1 1` and `get2 10` find a record by its first and by its second key: `0 1 10 100` or `none`.
+/// - `remove 0`, `remove1 1` and `remove2 10` remove the record at an index, with a first key and with
+///   a second key, and are answered as a find.
+/// - `walk` tells the indexes in the order of the second keys: `1 0 2`, `empty` or `no memory`.
+///
+/// Every other line is answered `bad line`. All replies are out before it reads on. After
+/// 18446744073709551615 reads without an end it stops as at a failed read.
 pub fn serve<I: Source, O: Sink>(
     alloc: Global,
     input: &mut I,
@@ -98,7 +104,7 @@ fn feed<S: BuildHasher, O: Sink>(
     replies: &mut Replies,
     output: &mut O,
 ) -> Result<(), ServeFault>
-    ensures { OnOk result ((line : List ℕ) → IsKept begun.old line → Feeds (sent_bytes (O.written output.old) replies.old) (sent_bytes (O.written output.new) replies.new) items.old line bytes.now items.new begun.new) }
+    ensures { OnOk result ((line : List ℕ) → IsKept begun.old line → Feeds (hash_u32 S.BuildHasher S.Hasher.Hasher) (sent_bytes (O.written output.old) replies.old) (sent_bytes (O.written output.new) replies.new) items.old line bytes.now items.new begun.new) }
 {
     let mut rest = bytes;
     while let Some((end, after)) = split_at_first(rest, b'\n') {
@@ -117,7 +123,7 @@ fn end_line<S: BuildHasher, O: Sink>(
     replies: &mut Replies,
     output: &mut O,
 ) -> Result<(), ServeFault>
-    ensures obeys { OnOk result ((line : List ℕ) → begun.old ≡ take 129 line → Obeys (sent_bytes (O.written output.old) replies.old) (sent_bytes (O.written output.new) replies.new) items.old (line ++ end.now) items.new) }
+    ensures obeys { OnOk result ((line : List ℕ) → begun.old ≡ take 129 line → Obeys (hash_u32 S.BuildHasher S.Hasher.Hasher) (sent_bytes (O.written output.old) replies.old) (sent_bytes (O.written output.new) replies.new) items.old (line ++ end.now) items.new) }
     ensures forgets { OnOk result (begun.new ≡ []) }
 {
     if begun.is_empty() {
@@ -136,17 +142,18 @@ fn obey<S: BuildHasher, O: Sink>(
     replies: &mut Replies,
     output: &mut O,
 ) -> Result<(), ServeFault>
-    ensures { OnOk result ((whole : List ℕ) → take 129 line.now ≡ take 129 whole → Obeys (sent_bytes (O.written output.old) replies.old) (sent_bytes (O.written output.new) replies.new) items.old whole items.new) }
+    ensures { OnOk result ((whole : List ℕ) → take 129 line.now ≡ take 129 whole → Obeys (hash_u32 S.BuildHasher S.Hasher.Hasher) (sent_bytes (O.written output.old) replies.old) (sent_bytes (O.written output.new) replies.new) items.old whole items.new) }
 {
     let Ok(()) = replies.make_room(output) else {
         return Err(ServeFault::Write);
     };
-    match parse(line) {
-        Some(command) => {
-            let reply = items.step(command);
-            replies.put_reply(items, &reply);
-        }
-        None => replies.put_bad_line(),
+    let Some(command) = parse(line) else {
+        replies.put_bad_line();
+        return Ok(());
+    };
+    let reply = items.step(command);
+    match replies.put_reply(items, &reply, output) {
+        Ok(()) => Ok(()),
+        Err(()) => Err(ServeFault::Write),
     }
-    Ok(())
 }

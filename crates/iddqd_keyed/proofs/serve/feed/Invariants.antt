@@ -1,4 +1,5 @@
 use Rattle.std.proofs.Common.{◌≡◌, ◌++◌, List, ℕ, length}
+use Rattle.iddqd_keyed.specs.Program.{hash_u32}
 use Rattle.iddqd_keyed.specs.Replies.{sent_bytes}
 use Rattle.iddqd_keyed.specs.Serve.{IsKept, Feeds}
 use Rattle.iddqd_keyed.proofs.serve.feed.Given as goal
@@ -9,7 +10,7 @@ invariant-loop-end g l =
     (line : List ℕ) → IsKept l.fn.begun line → record {
       seen : List ℕ;
       seen_and_rest : l.fn.bytes ≡ seen ++ l.rest;
-      feeds : Feeds (sent_bytes (g.O.Sink.written l.fn.output) l.fn.replies) (sent_bytes (g.O.Sink.written l.output) l.replies) l.fn.items line seen l.items l.begun;
+      feeds : Feeds (hash_u32 g.S.BuildHasher g.S.Hasher.Hasher) (sent_bytes (g.O.Sink.written l.fn.output) l.fn.replies) (sent_bytes (g.O.Sink.written l.output) l.replies) l.fn.items line seen l.items l.begun;
     }
 
 abbrev pub decreases-loop-end : goal.decreases-loop-end

@@ -6,20 +6,20 @@ use Rattle.iddqd_keyed.proofs.serve.serve.Goals.{then-not-is_empty+in_ok-obey, e
 use Rattle.iddqd_keyed.proofs.serve.serve.Goals as goal
 
 pub reads-init : goal.reads-init
-reads-init g c = Reads-none _ _ _ _ _ _ c.new-items.ensures c.new-begun.ensures c.new-replies.ensures
+reads-init g c = Reads-none _ _ _ _ _ _ _ c.new-items.ensures c.new-begun.ensures c.new-replies.ensures
 
 pub reads-preserved : goal.reads-preserved
 reads-preserved g c =
-    let flushed = Reads-flush _ _ _ _ _ _ _ _ c.reads.invariant c.in_ok-flush.ensures.all in
-    Reads-more _ _ _ _ _ _ _ _ flushed _ _ _ _ c.in-Ok.ensures.bytes.0 c.in_ok-feed.ensures
+    let flushed = Reads-flush _ _ _ _ _ _ _ _ _ c.reads.invariant c.in_ok-flush.ensures.all in
+    Reads-more _ _ _ _ _ _ _ _ _ flushed _ _ _ _ c.in-Ok.ensures.bytes.0 c.in_ok-feed.ensures
 
 pub returns-then-count-eq0 : goal.returns-then-count-eq0
 returns-then-count-eq0 g c =
-    let at_start = Reads-flush _ _ _ _ _ _ _ _ c.reads.invariant c.in_ok-flush.ensures.all in
+    let at_start = Reads-flush _ _ _ _ _ _ _ _ _ c.reads.invariant c.in_ok-flush.ensures.all in
     let read = c.in-Ok.ensures.bytes in
     let zero = c.if-count-eq0.true in
     let nothing = rw zero at read.0 in
-    let all = Reads-end _ _ (g.I.Source.left c.read.new.self) _ _ _ _ _ at_start nothing (read.1 zero (omega arith)) in
+    let all = Reads-end _ _ _ (g.I.Source.left c.read.new.self) _ _ _ _ _ at_start nothing (read.1 zero (omega arith)) in
     let nothing_waits = c.in_ok-flush-2.ensures.none_waits in
     let flushed = rw (nothing_waits, sent_bytes-nil) at c.in_ok-flush-2.ensures.all in
     let is_default : IsDefaultHasher c.new-items.result.hasher = rw c.new-items.ensures c.default.ensures in

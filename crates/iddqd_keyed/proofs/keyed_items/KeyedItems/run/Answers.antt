@@ -2,7 +2,6 @@ use Rattle.std.proofs.Common.{◌++◌, ◌∷◌, [], length, refl, sym, ap, �
 use Rattle.std.specs.Vec.Iter.{into_iter_items}
 use Rattle.iddqd_keyed.proofs.RunLemmas.{IsStepChain-push, Run-from_chain, empty_of_length}
 use Rattle.iddqd_keyed.specs.State.{IsPaired}
-use Rattle.iddqd_keyed.proofs.StateLemmas.{IsPaired-valid}
 use Rattle.iddqd_keyed.proofs.keyed_items.KeyedItems.run.Goals as goal
 
 pub loop-command-init : goal.loop-command-init
@@ -39,5 +38,5 @@ returns-clause-run g c =
     let ok = c.loop-command.command-iterator.rest.ok in
     let none = empty_of_length (into_iter_items c.loop-command.command-iterator) (omega (arith, ok, over)) in
     let all = sym before.yielded ∙ ap (λ rest. c.loop-command.yielded ++ rest) none ∙ append-nil c.loop-command.yielded in
-    let paired : IsPaired c.args.self.now = rw (← c.self.view_is) (IsPaired-valid _ c.self.invariant) in
+    let paired : IsPaired c.args.self.now = rw (← c.self.view_is) c.self.invariant in
     Run-from_chain _ _ _ _ _ before.moments paired (rw all before.chain)

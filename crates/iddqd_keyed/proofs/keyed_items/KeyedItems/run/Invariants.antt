@@ -13,6 +13,6 @@ invariant-loop-command g l = record {
   is_finite : (goal.iterator-loop-command g).is_finite l.command-iterator;
   yielded : l.yielded ++ into_iter_items l.command-iterator ≡ l.fn.commands.items;
   moments : List (State g.row.T.Denot g.row.S.Denot);
-  chain : IsStepChain (keys_of g.T.KeyedItem g.T.Key1.PartialEq.eq g.T.Key2.Ord.cmp) l.fn.self l.yielded l.replies.items moments l.self;
+  chain : IsStepChain (keys_of g.T.KeyedItem g.T.Key1.PartialEq.eq g.T.Key1.Hash.hash_input g.T.Key2.Ord.cmp g.S.BuildHasher g.S.Hasher.Hasher) l.fn.self l.yielded l.replies.items moments l.self;
   room : vec_len l.replies + length (into_iter_items l.command-iterator) ≤ vec_capacity l.replies;
 }

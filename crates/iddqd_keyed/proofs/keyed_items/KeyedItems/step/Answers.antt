@@ -1,21 +1,33 @@
 use Rattle.std.proofs.Common.{refl}
-use Rattle.iddqd_keyed.proofs.StateLemmas.{IsPaired-inserted, IsPaired-removed, InOrder-inserted, InOrder-removed}
+use Rattle.iddqd_keyed.proofs.StepLemmas.{Step-keeping, Step-same, Step-walked}
 use Rattle.iddqd_keyed.proofs.keyed_items.KeyedItems.step.Goals as goal
 
 pub returns-in-Ok : goal.returns-in-Ok
-returns-in-Ok g c =
-    let done = c.in-Ok.ensures in
-    rw c.in-Insert.is (record {
-      answers = done;
-      paired = IsPaired-inserted _ _ _ done.not_full done.adds;
-      in_order = λ o _. InOrder-inserted _ _ _ _ g.met.T.Key1.PartialEq.laws g.met.T.Key2.Ord.total done.is_new done.adds o;
-    })
+returns-in-Ok g c = rw c.in-Insert.is (Step-keeping _ _ _ _ _ c.in-Ok.ensures.keeps c.in-Ok.ensures.inserts c.in-Ok.ensures.as_scan)
+
+pub returns-in-Err : goal.returns-in-Err
+returns-in-Err g c = rw c.in-Insert.is (Step-keeping _ _ _ _ _ c.in-Err.ensures.keeps c.in-Err.ensures.inserts c.in-Err.ensures.as_scan)
+
+pub returns-in-Find1 : goal.returns-in-Find1
+returns-in-Find1 g c = rw c.in-Find1.is (Step-same _ _ c.find1.ensures.paired _ _ (c.find1.ensures.found, refl) c.find1.ensures.as_scan)
+
+pub returns-in-Find2 : goal.returns-in-Find2
+returns-in-Find2 g c = rw c.in-Find2.is (Step-same _ _ c.find2.ensures.paired _ _ (c.find2.ensures.found, refl) c.find2.ensures.as_scan)
 
 pub returns-in-Some : goal.returns-in-Some
-returns-in-Some g c =
-    let done = c.in-Some.ensures in
-    rw c.in-Remove.is (record {
-      answers = (refl, done);
-      paired = IsPaired-removed _ _ _ _ done.0 done.1;
-      in_order = λ o _. InOrder-removed _ _ _ _ done.1 o;
-    })
+returns-in-Some g c = rw c.in-Remove.is (Step-keeping _ _ _ _ _ c.in-Some.ensures.keeps (refl, c.in-Some.ensures.removes) (λ _. tt))
+
+pub returns-in-None : goal.returns-in-None
+returns-in-None g c = rw c.in-Remove.is (Step-keeping _ _ _ _ _ c.in-None.ensures.keeps c.in-None.ensures.removes (λ _. tt))
+
+pub returns-in-Remove1 : goal.returns-in-Remove1
+returns-in-Remove1 g c = rw c.in-Remove1.is (Step-keeping _ _ _ _ _ c.remove1.ensures.keeps c.remove1.ensures.removes c.remove1.ensures.as_scan)
+
+pub returns-in-Remove2 : goal.returns-in-Remove2
+returns-in-Remove2 g c = rw c.in-Remove2.is (Step-keeping _ _ _ _ _ c.remove2.ensures.keeps c.remove2.ensures.removes c.remove2.ensures.as_scan)
+
+pub returns-in-Ok-indexes : goal.returns-in-Ok-indexes
+returns-in-Ok-indexes g c = rw c.in-Walk.is (Step-walked _ _ c.in-Ok-indexes.ensures.paired c.in-Ok-indexes.indexes c.in-Ok-indexes.ensures.all)
+
+pub returns-in-Err-indexes : goal.returns-in-Err-indexes
+returns-in-Err-indexes g c = rw c.in-Walk.is (Step-same _ _ c.in-Err-indexes.ensures.paired _ _ (λ none. (let ok = c.in-Err-indexes.ensures.empty none in cc), refl) (λ _. tt))

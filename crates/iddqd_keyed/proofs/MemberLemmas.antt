@@ -1,0 +1,104 @@
+-- What an insert and a removal do to the members of a list of indexes, and to what a map of indexes has.
+use Rattle.std.proofs.Common.{◌≡◌, ◌≢◌, ◌∙◌, ◌⊎◌, inl, inr, ◌==◌, ℕ, true, false, cond, not, List, [], ◌∷◌, ◌++◌, take, drop, insert, Some, None, refl, sym, ap, subst, arith}
+use Rattle.std.specs.List.{Contains}
+use Rattle.std.specs.Ordering.{nat_cmp, eq_by_cmp, is_eq}
+use Rattle.std.specs.FinMap as finite
+use Rattle.std.specs.FinMap.{FinMap}
+use Rattle.std.proofs.lemmas.Bool.{cases_eq}
+use Rattle.std.proofs.lemmas.Bool.Decides.{nat_tests}
+use Rattle.std.proofs.lemmas.Cmp.{nat_cmp_total, tied_itself}
+use Rattle.std.proofs.lemmas.List.{take-append-drop}
+use Rattle.std.proofs.lemmas.List.Elements.{Contains-append_left, Contains-append_right, Contains-append_cases}
+use Rattle.iddqd.proofs.StoreLemmas.{contains_head, contains_tail, contains_cases, contains_none}
+use Rattle.iddqd_hash.proofs.FiledLemmas.{same_index}
+use Rattle.iddqd_order.specs.MapBTreeTable.{without}
+
+-- what stands in the list after an insert
+module _ (xs : List ℕ) (place ix : ℕ) where
+  pub contains-inserted_at : Contains (insert xs place ix) ix
+  contains-inserted_at = Contains-append_right (take place xs) _ ix (contains_head ix (drop place xs))
+
+  pub contains-inserted_other : (j : ℕ) → Contains xs j → Contains (insert xs place ix) j
+  contains-inserted_other j here =
+      elim (Contains-append_cases (take place xs) (drop place xs) j (subst (λ l. Contains l j) (sym (take-append-drop place xs)) here)) [
+        | inl front ↦ Contains-append_left (take place xs) _ j front
+        | inr back ↦ Contains-append_right (take place xs) _ j (contains_tail ix j (drop place xs) back)
+      ]
+
+  pub contains-inserted_cases : (j : ℕ) → Contains (insert xs place ix) j → (j ≡ ix) ⊎ Contains xs j
+  contains-inserted_cases j here =
+      let whole : Contains (take place xs ++ drop place xs) j → Contains xs j = subst (λ l. Contains l j) (take-append-drop place xs) in
+      elim (Contains-append_cases (take place xs) (ix ∷ drop place xs) j here) [
+        | inl front ↦ inr (whole (Contains-append_left (take place xs) (drop place xs) j front))
+        | inr back ↦ elim (contains_cases ix j (drop place xs) back) [
+          | inl same ↦ inl (sym same)
+          | inr later ↦ inr (whole (Contains-append_right (take place xs) (drop place xs) j later))
+        ]
+      ]
+
+-- a test that keeps all numbers but one
+kept_or_not : (y ix : ℕ) → ((y ≡ ix) × (not (y == ix) ≡ false)) ⊎ ((y ≢ ix) × (not (y == ix) ≡ true))
+kept_or_not y ix =
+    elim (cases_eq y ix) [
+      | inl same ↦ inl (same, grind (arith, nat_tests, same))
+      | inr other ↦ inr (other, grind (arith, nat_tests, other))
+    ]
+
+-- the members but for one
+pub contains-without : (xs : List ℕ) (ix j : ℕ) → Contains xs j → j ≢ ix → Contains (without xs ix) j
+contains-without [] ix j here other = here
+contains-without (y ∷ ys) ix j here other =
+    let first : (y ≡ j) ⊎ Contains ys j = contains_cases y j ys here in
+    elim (kept_or_not y ix) [
+      | inl same ↦
+          rw same.1 (elim first [
+            | inl is ↦ absurd (other (sym is ∙ same.0))
+            | inr later ↦ contains-without ys ix j later other
+          ])
+      | inr apart ↦
+          rw apart.1 (elim first [
+            | inl is ↦ subst (λ x. Contains (y ∷ without ys ix) x) is (contains_head y (without ys ix))
+            | inr later ↦ contains_tail y j (without ys ix) (contains-without ys ix j later other)
+          ])
+    ]
+
+pub contains-from_without : (xs : List ℕ) (ix j : ℕ) → Contains (without xs ix) j → Contains xs j × (j ≢ ix)
+contains-from_without [] ix j here = absurd (contains_none j here)
+contains-from_without (y ∷ ys) ix j here =
+    elim (kept_or_not y ix) [
+      | inl same ↦
+          let rest : Contains (without ys ix) j = rw same.1 at here in
+          let back = contains-from_without ys ix j rest in
+          (contains_tail y j ys back.0, back.1)
+      | inr apart ↦
+          let kept : Contains (y ∷ without ys ix) j = rw apart.1 at here in
+          elim (contains_cases y j (without ys ix) kept) [
+            | inl is ↦ (subst (λ x. Contains (y ∷ ys) x) is (contains_head y ys), λ same. apart.0 (is ∙ same))
+            | inr later ↦
+                let back = contains-from_without ys ix j later in
+                (contains_tail y j ys back.0, back.1)
+          ]
+    ]
+
+module _ {X : Type 0} (m : FinMap nat_cmp X) (ix : ℕ) where
+  tied : eq_by_cmp nat_cmp ix ix ≡ true
+  tied = ap is_eq (tied_itself nat_cmp_total ix)
+
+  untied : (j : ℕ) → j ≢ ix → eq_by_cmp nat_cmp j ix ≡ false
+  untied j other =
+      elim (eq_by_cmp nat_cmp j ix) as (λ b. eq_by_cmp nat_cmp j ix ≡ b → b ≡ false) [
+        | true ↦ λ is. absurd (other (same_index j ix is))
+        | false ↦ λ _. refl
+      ] refl
+
+  pub get-insert_at : (x : X) → finite.get (finite.insert m ix x) ix ≡ Some x
+  get-insert_at x = finite.get-insert nat_cmp_total m ix x ix ∙ ap (λ b. cond b (Some x) (finite.get m ix)) tied
+
+  pub get-insert_other : (x : X) (j : ℕ) → j ≢ ix → finite.get (finite.insert m ix x) j ≡ finite.get m j
+  get-insert_other x j other = finite.get-insert nat_cmp_total m ix x j ∙ ap (λ b. cond b (Some x) (finite.get m j)) (untied j other)
+
+  pub get-remove_at : finite.get (finite.remove m ix) ix ≡ None
+  get-remove_at = finite.get-remove nat_cmp_total m ix ix ∙ ap (λ b. cond b None (finite.get m ix)) tied
+
+  pub get-remove_other : (j : ℕ) → j ≢ ix → finite.get (finite.remove m ix) j ≡ finite.get m j
+  get-remove_other j other = finite.get-remove nat_cmp_total m ix j ∙ ap (λ b. cond b None (finite.get m j)) (untied j other)

@@ -1,0 +1,103 @@
+-- The steps of keyed items keep them in order.
+use Rattle.std.proofs.Common.{◌≡◌, ◌≢◌, ◌∙◌, ◌⊎◌, inl, inr, ℕ, Bool, true, List, [], ◌∷◌, Some, None, refl, sym, subst}
+use Rattle.std.specs.List.{Contains}
+use Rattle.std.specs.List.Sorted.{IsStrictlySortedBy}
+use Rattle.std.specs.Cmp.{eq_by_cmp_equiv}
+use Rattle.std.proofs.lemmas.Bool.{cases_eq}
+use Rattle.iddqd.specs.Store.{Store, IsValid, get, next_index, inserted, removed}
+use Rattle.iddqd.proofs.StoreLemmas.{contains_head}
+use Rattle.iddqd_keyed.specs.Keys.{Keys}
+use Rattle.iddqd_keyed.specs.State.{State, HasNoHit, AreApart, IsPaired, IsEmpty, IsSorted, IsSortedIn, Binds, Unbinds, InOrder, Keeps}
+use Rattle.iddqd_keyed.specs.Machine.{IsNew}
+use Rattle.iddqd_keyed.proofs.KeyLemmas.{AreLawful}
+use Rattle.iddqd_keyed.proofs.StoreLemmas.{item_at, none_live, get-removed_at, get-removed_other, get-inserted_at, get-inserted_other}
+use Rattle.iddqd_keyed.proofs.MemberLemmas.{get-insert_at, get-insert_other, get-remove_other}
+use Rattle.iddqd_keyed.proofs.PairedLemmas.{IsPaired-removed}
+use Rattle.iddqd_keyed.proofs.SortedLemmas.{IsSorted-removed}
+use Rattle.iddqd_keyed.proofs.FindLemmas.{AnswersScan-first, AnswersScan-second}
+
+module _ {T : Type 0} where
+  -- an index that is live after a removal is another one, and has what it had
+  live_before : (s : Store T) (ix j : ℕ) (x y : T) → get s ix ≡ Some x → get (removed s ix) j ≡ Some y → (j ≢ ix) × (get s j ≡ Some y)
+  live_before s ix j x y live is =
+      let other : j ≢ ix = λ same. (let gone = get-removed_at s ix x live in let here = subst (λ k. get (removed s ix) k ≡ Some y) same is in cc) in
+      (other, sym (get-removed_other s ix j other) ∙ is)
+
+  -- what is live after an insert is the new item, or was live
+  live_cases : (s : Store T) (item : T) (j : ℕ) (y : T) → IsValid s → get (inserted s item) j ≡ Some y → ((j ≡ next_index s) × (item ≡ y)) ⊎ ((j ≢ next_index s) × (get s j ≡ Some y))
+  live_cases s item j y valid is =
+      elim (cases_eq j (next_index s)) [
+        | inl same ↦
+            let here = get-inserted_at s item valid in
+            let there = subst (λ k. get (inserted s item) k ≡ Some y) same is in
+            inl (same, cc)
+        | inr other ↦ inr (other, sym (get-inserted_other s item j other) ∙ is)
+      ]
+
+  AreApart-removed : (alike : T → T → Bool) (s : Store T) (ix : ℕ) (item : T) → get s ix ≡ Some item → AreApart alike s → AreApart alike (removed s ix)
+  AreApart-removed alike s ix item live apart i j x y p q same =
+      apart i j x y (live_before s ix i item x live p).1 (live_before s ix j item y live q).1 same
+
+  AreApart-inserted : (alike : T → T → Bool) (s : Store T) (item : T) → IsValid s → ((x y : T) → alike x y ≡ alike y x) → HasNoHit s (alike item) → AreApart alike s → AreApart alike (inserted s item)
+  AreApart-inserted alike s item valid turn none apart i j x y p q same =
+      elim (live_cases s item i x valid p) [
+        | inl a ↦ elim (live_cases s item j y valid q) [
+          | inl b ↦ a.0 ∙ sym b.0
+          | inr b ↦ absurd (none j (y, b.1, subst (λ z. alike z y ≡ true) (sym a.1) same))
+        ]
+        | inr a ↦ elim (live_cases s item j y valid q) [
+          | inl b ↦ absurd (none i (x, a.1, turn item x ∙ subst (λ z. alike x z ≡ true) (sym b.1) same))
+          | inr b ↦ apart i j x y a.1 b.1 same
+        ]
+      ]
+
+-- a list without members
+no_members : (xs : List ℕ) → ((x : ℕ) → Contains xs x → ⊥) → xs ≡ []
+no_members [] none = refl
+no_members (x ∷ xs) none = absurd (none x (contains_head x xs))
+
+sorted_nil : (c : ℕ → ℕ → _) → IsStrictlySortedBy c []
+unfolding IsStrictlySortedBy
+sorted_nil c = tt
+
+module _ {T S K1 K2 : Type 0} (keys : Keys T K1 K2 S) where
+  -- where nothing is live, all is in order
+  pub InOrder-empty : (s : State T S) → IsPaired s → IsEmpty s → InOrder keys s
+  InOrder-empty s paired none =
+      let empty : s.order ≡ [] = no_members s.order (λ ix here. let item = item_at s.store ix ((paired.ordered ix).0 here) in none_live s.store ix item.0 none item.1) in
+      record {
+        filed = λ ix item is. absurd (none_live s.store ix item none is);
+        sorted = subst (λ xs. IsSortedIn keys s.store xs) (sym empty) (sorted_nil _);
+        first = λ i j x y p q same. absurd (none_live s.store i x none p);
+        second = λ i j x y p q same. absurd (none_live s.store i x none p);
+      }
+
+module _ {T S K1 K2 : Type 0} (keys : Keys T K1 K2 S) (lawful : AreLawful keys) where
+  pub InOrder-removed : (old new : State T S) (ix : ℕ) (item : T) → get old.store ix ≡ Some item → Unbinds old ix new → InOrder keys old → InOrder keys new
+  InOrder-removed old new ix item live unbinds o =
+      record {
+        filed = λ j y is.
+            let was = live_before old.store ix j item y live (subst (λ s. get s j ≡ Some y) unbinds.store is) in
+            rw (unbinds.filed, unbinds.hasher) (get-remove_other old.filed ix j was.0 ∙ o.filed j y was.1);
+        sorted = IsSorted-removed keys lawful.total old new ix unbinds o.sorted;
+        first = subst (AreApart _) (sym unbinds.store) (AreApart-removed _ old.store ix item live o.first);
+        second = subst (AreApart _) (sym unbinds.store) (AreApart-removed _ old.store ix item live o.second);
+      }
+
+  pub Keeps-removed : (old new : State T S) (ix : ℕ) (item : T) → get old.store ix ≡ Some item → Unbinds old ix new → IsPaired old → Keeps keys old new
+  Keeps-removed old new ix item live unbinds was =
+      record { paired = (was, IsPaired-removed old ix item live new unbinds was); sorted = IsSorted-removed keys lawful.total old new ix unbinds; in_order = InOrder-removed old new ix item live unbinds }
+
+  pub InOrder-inserted : (old new : State T S) (item : T) → IsPaired old → IsNew keys old item → Binds keys old item new → (IsSorted keys old → IsSorted keys new) → InOrder keys old → InOrder keys new
+  InOrder-inserted old new item paired is_new binds sorted o =
+      let symm = (eq_by_cmp_equiv lawful.total).symm in
+      record {
+        filed = λ j y is.
+            elim (live_cases old.store item j y paired.valid (subst (λ s. get s j ≡ Some y) binds.store is)) [
+              | inl new_one ↦ rw (binds.filed, binds.hasher, new_one.0, ← new_one.1) (get-insert_at old.filed (next_index old.store) _)
+              | inr was ↦ rw (binds.filed, binds.hasher) (get-insert_other old.filed (next_index old.store) _ j was.0 ∙ o.filed j y was.1)
+            ];
+        sorted = sorted o.sorted;
+        first = subst (AreApart _) (sym binds.store) (AreApart-inserted _ old.store item paired.valid (λ x y. lawful.equivalence.symm (keys.first x) (keys.first y)) (AnswersScan-first keys lawful old (keys.first item) None o is_new.first) o.first);
+        second = subst (AreApart _) (sym binds.store) (AreApart-inserted _ old.store item paired.valid (λ x y. symm (keys.second x) (keys.second y)) (AnswersScan-second keys lawful old (keys.second item) None o is_new.second) o.second);
+      }

@@ -1,7 +1,0 @@
-use Rattle.iddqd_keyed.specs.Keys.{keys_of, has_first}
-use Rattle.iddqd_keyed.proofs.StateLemmas.{HasNoHitBelow}
-use Rattle.iddqd_keyed.proofs.scan.scan1.Given as goal
-
--- no slot so far has the key
-abbrev pub invariant-loop-slot : goal.invariant-loop-slot
-invariant-loop-slot g l = HasNoHitBelow l.store.store (has_first (keys_of g.T.KeyedItem g.T.Key1.PartialEq.eq g.T.Key2.Ord.cmp) l.key) l.slot
