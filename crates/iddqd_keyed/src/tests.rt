@@ -1,4 +1,10 @@
+mod collisions;
+mod commands;
+mod counted;
 mod driver;
 mod faults;
 mod lines;
+mod model;
+mod original;
+mod refused;
 mod streams;

@@ -1,8 +1,10 @@
+use super::lines::long_walk;
 use super::streams::serve_in_steps;
 use crate::serve::ServeFault;
 use crate::sink::{Sink, WriteSink};
 use crate::source::{ReadSource, Source};
 use std::io::{self, Read, Write};
+use std::test::Fail;
 
 #[test]
 fn a_failed_read_comes_after_the_replies_so_far(rt: HostRuntime) {
@@ -32,6 +34,25 @@ fn a_failed_write_leaves_a_beginning_of_the_replies(rt: HostRuntime) {
             );
         }
     }
+}
+
+#[test]
+fn a_failed_write_within_a_walk_leaves_a_beginning_of_it(rt: HostRuntime) -> Result<(), Fail> {
+    let (input, want) = long_walk(rt.alloc())?;
+    // The replies before the walk's have 26890 bytes, and it has 8890.
+    for room in [26891, 30000, 35779] {
+        assert!(rt; room < want.len());
+        for step in [1, 8192] {
+            let (told, replies) = serve_in_steps(rt.alloc(), input.as_bytes(), step, false, room);
+            assert_eq!(rt; told, Err(ServeFault::Write), "room {room}, step {step}");
+            assert_eq!(rt;
+                replies.as_slice(),
+                &want.as_bytes()[..room],
+                "room {room}, step {step}"
+            );
+        }
+    }
+    Ok(())
 }
 
 // Fails each read, and takes no byte of a write.

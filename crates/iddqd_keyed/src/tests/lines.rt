@@ -38,12 +38,35 @@ fn answers_each_line(rt: HostRuntime) {
             "inserted 0\n0 1 10 100\n0 1 10 100\n",
         ),
         ("insert 1 10 100\nget1 1", "inserted 0\n0 1 10 100\n"),
+        (
+            "get2 10\ninsert 1 10 100\nget2 10\nget2 1\nget1 1\n",
+            "none\ninserted 0\n0 1 10 100\nnone\n0 1 10 100\n",
+        ),
+        (
+            "remove1 1\ninsert 1 10 100\nremove1 10\nremove1 1\nremove1 1\nget2 10\n",
+            "none\ninserted 0\nnone\n0 1 10 100\nnone\nnone\n",
+        ),
+        (
+            "remove2 10\ninsert 1 10 100\nremove2 1\nremove2 10\nremove2 10\nget1 1\n",
+            "none\ninserted 0\nnone\n0 1 10 100\nnone\nnone\n",
+        ),
+        ("walk\ninsert 1 10 100\nwalk", "empty\ninserted 0\n0\n"),
         ("", ""),
         ("\n", "bad line\n"),
     ];
     for (input, want) in cases {
         assert_replies(&rt, rt.alloc(), input, want);
     }
+}
+
+#[test]
+fn a_walk_goes_by_the_second_key(rt: HostRuntime) {
+    assert_replies(
+        &rt,
+        rt.alloc(),
+        "insert 5 50 1\ninsert 6 40 2\ninsert 7 60 3\nwalk\nremove2 50\ninsert 8 50 4\nget2 50\nwalk\n",
+        "inserted 0\ninserted 1\ninserted 2\n1 0 2\n0 5 50 1\ninserted 0\n0 8 50 4\n1 0 2\n",
+    );
 }
 
 #[test]
@@ -58,8 +81,15 @@ fn what_is_no_command_is_a_bad_line(rt: HostRuntime) {
         "insert 1 2",
         "insert 1 2 3 4",
         "get1",
+        "get2",
+        "get3 1",
+        "remove1",
+        "remove2 1 2",
         "INSERT 1 2 3",
-        "walk",
+        "walk 1",
+        "walk ",
+        " walk",
+        "Walk",
         "hello",
     ] {
         assert_replies(&rt, rt.alloc(), line, "bad line\n");
@@ -81,6 +111,30 @@ fn a_line_of_more_than_128_bytes_is_a_bad_line(rt: HostRuntime) -> Result<(), Fa
     );
     let input = format!(in rt.alloc(); "{long}\ninsert 1 2 3\n")?;
     assert_replies(&rt, rt.alloc(), &input, "bad line\ninserted 0\n");
+    Ok(())
+}
+
+/// An input that inserts 2000 records and walks them, and the replies, the last of which is longer than
+/// a block. The second keys go down as the indexes go up.
+pub(super) fn long_walk(alloc: Global) -> Result<(String, String), Fail> {
+    let mut input = String::new(alloc);
+    let mut want = String::new(alloc);
+    for n in 0..2000u32 {
+        writeln!(input, "insert {n} {} 7", 1999 - n)?;
+        writeln!(want, "inserted {n}")?;
+    }
+    writeln!(input, "walk")?;
+    for n in 1..2000u32 {
+        write!(want, "{} ", 2000 - n)?;
+    }
+    writeln!(want, "0")?;
+    Ok((input, want))
+}
+
+#[test]
+fn a_walk_goes_on_over_many_blocks(rt: HostRuntime) -> Result<(), Fail> {
+    let (input, want) = long_walk(rt.alloc())?;
+    assert_replies(&rt, rt.alloc(), &input, &want);
     Ok(())
 }
 
