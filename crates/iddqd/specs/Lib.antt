@@ -5,3 +5,4 @@ pub mod GrowHandle
 pub mod Slots
 pub mod MapHash
 pub mod MapHashLaws
+pub mod Compaction

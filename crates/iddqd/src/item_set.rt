@@ -3,14 +3,16 @@
 //! A slot is occupied by an item or vacant. The vacant slots are linked into a chain, that freed
 //! last first, so an insert finds its slot without a search and a removal needs no memory: the set
 //! has one block of memory and two numbers beside it.
-ghost use Rattle.std.specs.Prelude.{◌≡◌, ◌+◌, ◌<◌, ◌≤◌, ◌↔◌, length, Some, None, IsSome, IsTrue, IfOk, OnOk, OnErr, IfNone, OnSome, option_copied};
+ghost use Rattle.std.specs.Prelude.{◌≡◌, ℕ, [], ◌+◌, ◌<◌, ◌≤◌, ◌↔◌, length, map, Some, None, IsSome, IsTrue, IsOk, IfOk, OnOk, OnErr, IfNone, OnSome, option_copied};
 ghost use Rattle.std.specs.Option.{option_copied_mut};
 ghost use Rattle.std.specs.Borrow.{sem, Lends, RestsIfErr};
 ghost use Rattle.iddqd.specs.Store.{get, slot_count, live_count, next_index, IsFull, IsValid, empty, inserted, removed};
 ghost use Rattle.iddqd.specs.ItemSet.{room, KeepsOthers, GrowsIfDense};
+ghost use Rattle.iddqd.specs.Compaction.{rank, compacted, new_name, numbers, IsRemapOf};
 
+pub use crate::index_remap::IndexRemap;
 use crate::item_index::ItemIndex;
-use std::alloc::Global;
+use std::alloc::{AllocError, Global};
 use std::marker::Model;
 use std::{fmt, mem};
 
@@ -178,6 +180,29 @@ impl<T> ItemSet<T> {
         self.reserve_one()?;
         Ok(GrowHandle { set: self })
     }
+
+    /// Moves every item down to its rank, so that no slot is vacant, and tells the new names.
+    ///
+    /// Where no slot is vacant it is `Identity` and takes no memory. Else the memory of the list of
+    /// names is taken before an item moves; where it is refused nothing changes. The set's own
+    /// memory stays as it was. It walks over the slots twice: for the names, and to close up.
+    pub fn compact(&mut self) -> Result<IndexRemap, AllocError>
+    where
+        T: Drop,
+        ensures remap { IfOk result (IsRemapOf self.old.store) }
+        ensures compacted { OnOk result (self.new.store ≡ compacted self.old.store) }
+        ensures capacity { self.new.capacity ≡ self.old.capacity }
+        ensures refused { OnErr result (self.new ≡ self.old) }
+        ensures dense { self.old.store.free ≡ [] → IsOk result }
+        ensures ranks { (i j : ℕ) → i < j → IsSome (get self.old.store i) → rank self.old.store i < rank self.old.store j }
+    {
+        if self.slots.len() == self.len as usize {
+            return Ok(IndexRemap::Identity);
+        }
+        let names = self.new_names()?;
+        self.close_up();
+        Ok(IndexRemap::Permuted(names))
+    }
 }
 
 impl<T> fmt::Debug for ItemSet<T> {
@@ -323,5 +348,33 @@ impl<T> ItemSet<T> {
             ItemSlot::Occupied(_) => unreachable!(),
         }
         ix
+    }
+    // The new name of each slot, where every item moves down to its rank.
+    fn new_names(&self) -> Result<Vec<ItemIndex>, AllocError>
+        ensures { IfOk result (λ names. names.items ≡ map (new_name self.now.store) (numbers (slot_count self.now.store))) }
+    {
+        let mut names = Vec::with_capacity(*self.slots.allocator(), self.slots.len())?;
+        let mut next = 0u32;
+        for slot in &self.slots {
+            match slot {
+                ItemSlot::Occupied(_) => {
+                    names.push_reserved(ItemIndex::new(next));
+                    next += 1;
+                }
+                ItemSlot::Vacant { .. } => names.push_reserved(ItemIndex::SENTINEL),
+            }
+        }
+        Ok(names)
+    }
+
+    // Lets the vacant slots go. The items keep their order, and no memory is taken.
+    fn close_up(&mut self)
+    where
+        T: Drop,
+        ensures { self.new ≡ record self.old { store = compacted self.old.store } }
+    {
+        self.slots
+            .retain(|slot| matches!(slot, ItemSlot::Occupied(_)));
+        self.free_head = ItemIndex::SENTINEL;
     }
 }

@@ -6,6 +6,7 @@
 #![tactic(auto)]
 
 pub mod hash_builder;
+pub mod index_remap;
 pub mod item_index;
 pub mod item_set;
 pub mod map_hash;

@@ -1,3 +1,5 @@
+mod compaction;
+
 use crate::hash_builder::DefaultHashBuilder;
 use crate::item_index::ItemIndex;
 use crate::item_set::{GrowError, ItemSet, ItemSlot};

@@ -1,5 +1,7 @@
 pub mod AskLemmas
 pub mod PermutationLemmas
 pub mod RetainLemmas
+pub mod RewriteLemmas
 pub mod MapHashTableLemmas
 pub mod FiledLemmas
+pub mod RenameLemmas

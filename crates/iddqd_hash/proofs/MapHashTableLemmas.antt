@@ -108,7 +108,7 @@ tied x y is = by_answer (nat_cmp x y) is
     by_answer Equal e = refl
     by_answer Greater e = cc
 
-untied : (x y : ℕ) → (x ≡ y → ⊥) → eq_by_cmp nat_cmp x y ≡ false
+pub untied : (x y : ℕ) → (x ≡ y → ⊥) → eq_by_cmp nat_cmp x y ≡ false
 untied x y other = by_test (eq_by_cmp nat_cmp x y) refl
   where
     by_test : (b : Bool) → eq_by_cmp nat_cmp x y ≡ b → b ≡ false

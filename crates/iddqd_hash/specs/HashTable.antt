@@ -1,6 +1,8 @@
 -- What a contract sees of a table of values under hashes.
 use Rattle.std.specs.Prelude.{◌≡◌, ◌==◌, ℕ, Bool, List, Option, Some, None, map, filter, refl, slice_get}
 use Rattle.std.specs.Coded.{Coded, code_by, coded×, coded_ℕ, coded_list}
+use Rattle.std.specs.List.{AllZip}
+use Rattle.std.specs.List.Sorted.{IsPermutation}
 use Rattle.iddqd_hash.specs.Asks.{Hits, Misses}
 
 -- the pairs of a hash and a value, in an order that means nothing, and how many inserts need no memory
@@ -40,3 +42,10 @@ module _ {T : Type 0} where
   FindsPlace ask f hash es None = Misses ask f (under hash es)
   FindsPlace ask f hash es (Some place) =
       (pair : ℕ × T) × (slice_get es place ≡ Some pair) × (pair.0 ≡ hash) × Hits ask f (under hash es) pair.1
+
+  -- `gives v w` says that w may take the place of v: each of the old pairs kept its hash, and took such a value, and
+  -- the new pairs are these in some order
+  pub record Rewrites (gives : T → T → Type 0) (old new : List (ℕ × T)) : Type 0 where
+    pub rewritten : List (ℕ × T)
+    pub each : AllZip (λ e w. (w.0 ≡ e.0) × gives e.1 w.1) old rewritten
+    pub moved : IsPermutation rewritten new

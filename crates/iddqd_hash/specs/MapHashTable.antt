@@ -38,3 +38,8 @@ pub record AsksKey {F Q K : Type 0} (g : Shared F (ℕ × Unit {0}) K) (equivale
 abbrev pub FindsWhere : (ℕ → Bool) → ℕ → FinMap nat_cmp ℕ → Option ℕ → Type 0
 FindsWhere test hash m (Some ix) = (finite.get m ix ≡ Some hash) × IsTrue (test ix)
 FindsWhere test hash m None = (ix : ℕ) → finite.get m ix ≡ Some hash → test ix ≡ false
+
+-- each index was given its new name, under the hash that it had; and there is no other
+pub record Renames (name : ℕ → ℕ) (old new : FinMap nat_cmp ℕ) : Type 0 where
+  pub each : (ix hash : ℕ) → finite.get old ix ≡ Some hash → finite.get new (name ix) ≡ Some hash
+  pub no_other : (at hash : ℕ) → finite.get new at ≡ Some hash → (ix : ℕ) × (name ix ≡ at) × (finite.get old ix ≡ Some hash)

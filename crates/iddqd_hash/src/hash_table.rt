@@ -5,12 +5,14 @@
 //! can hide its index from look-ups by key, and never loses it: `remove_by_index` finds it still.
 ghost use Rattle.std.specs.Prelude.{◌≡◌, ◌+◌, ◌≤◌, ◌<◌, ℕ, Contains, Some, None, IsTrue, IsOk, IsSome, IfOk, OnOk, OnErr, length, slice_get};
 ghost use Rattle.std.specs.FinMap as finite;
+ghost use Rattle.iddqd.specs.Compaction.{CanRemap, remapped};
 ghost use Rattle.iddqd.specs.MapHash.{hash_one};
 ghost use Rattle.iddqd_hash.specs.Asks.{CanAsk, LooksUp, Hits, Misses};
 ghost use Rattle.iddqd_hash.specs.HashTable.{entries, room};
-ghost use Rattle.iddqd_hash.specs.MapHashTable.{filed, indexes_under, AsksKey};
+ghost use Rattle.iddqd_hash.specs.MapHashTable.{filed, indexes_under, AsksKey, Renames};
 
 use crate::hash_table_reference::HashTable;
+use iddqd::index_remap::IndexRemap;
 use iddqd::item_index::ItemIndex;
 use iddqd::map_hash::{Equivalent, MapHash};
 use std::alloc::{AllocError, Global};
@@ -195,6 +197,22 @@ impl MapHashTable {
         ensures room { room self.old ≤ room self.new }
     {
         self.table.clear();
+    }
+
+    /// Gives each index its new name, under the hash that it has, and takes no memory.
+    ///
+    /// It costs a walk over the table, and nothing where every index keeps its name without a list.
+    pub fn remap_indexes(&mut self, remap: &IndexRemap)
+        requires can_remap { (ix : ℕ) → IsSome (finite.get (filed self.old) ix) → CanRemap remap.now ix }
+        requires distinct { (i j : ℕ) → IsSome (finite.get (filed self.old) i) → IsSome (finite.get (filed self.old) j)
+            → remapped remap.now i ≡ remapped remap.now j → i ≡ j }
+        ensures renamed { Renames (remapped remap.now) (filed self.old) (filed self.new) }
+        ensures room { room self.old ≤ room self.new }
+    {
+        if remap.is_identity() {
+            return;
+        }
+        self.table.rewrite(|ix| remap.remap(*ix));
     }
 
     fn place_of_index(&self, ix: ItemIndex) -> usize

@@ -6,9 +6,10 @@
 //! comes is open, and so is the order of the values.
 ghost use Rattle.std.specs.Prelude.{◌≡◌, ◌∷◌, ◌+◌, ◌≤◌, ◌<◌, [], ℕ, Some, length, slice_get, option_copied, IfOk, OnOk, OnErr, IsOk, vec_len, vec_capacity};
 ghost use Rattle.std.specs.List.Sorted.{IsPermutation};
-ghost use Rattle.std.specs.Fn.{TakesAt, CalledAt};
+ghost use Rattle.std.specs.List.{Contains};
+ghost use Rattle.std.specs.Fn.{TakesAt, CalledAt, FnReturnsAt};
 ghost use Rattle.iddqd_hash.specs.Asks.{CanAsk, LooksUp, Hits, Misses, Keeps};
-ghost use Rattle.iddqd_hash.specs.HashTable.{entries, room, under, values, FindsPlace};
+ghost use Rattle.iddqd_hash.specs.HashTable.{entries, room, under, values, FindsPlace, Rewrites};
 
 use std::alloc::{AllocError, Global};
 use std::marker::Model;
@@ -149,6 +150,20 @@ impl<T> HashTable<T> {
         retain_pairs(&mut self.pairs, f);
     }
 
+    /// Puts what `f` answers at each value in its place, under the hash that the value had.
+    ///
+    /// `f` is called once on each value, and on no other. No memory is taken or given back. It costs
+    /// a walk over the pairs.
+    pub fn rewrite<F: Fn(&T) -> T>(&mut self, f: F)
+    where
+        T: Drop,
+        requires { (v : _) → Contains (values (entries self.old)) v.now → F.pre f v }
+        ensures rewritten { Rewrites (FnReturnsAt F.Fn f) (entries self.old) (entries self.new) }
+        ensures room { room self.old ≤ room self.new }
+    {
+        rewrite_pairs(self.pairs.as_mut_slice(), f);
+    }
+
     /// Removes every pair, and keeps the memory.
     pub fn clear(&mut self)
     where
@@ -233,5 +248,16 @@ fn retain_pairs<T: Drop, F: FnMut(&T) -> bool>(pairs: &mut Vec<(u64, T)>, mut f:
         } else {
             pairs.swap_remove(place);
         }
+    }
+}
+
+// Puts the answer at each pair's value in its place.
+fn rewrite_pairs<T: Drop, F: Fn(&T) -> T>(pairs: &mut [(u64, T)], f: F)
+    requires { (v : _) → Contains (values pairs.old) v.now → F.pre f v }
+    ensures { Rewrites (FnReturnsAt F.Fn f) pairs.old pairs.new }
+{
+    for at in 0..pairs.len() {
+        let value = f(&pairs[at].1);
+        pairs[at].1 = value;
     }
 }

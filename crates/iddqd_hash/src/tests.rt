@@ -1,5 +1,5 @@
 //! Look-ups with their asks counted, refused room, queries of other types and printed forms.
-ghost use Rattle.std.specs.Prelude.{◌≡◌, ◌≢◌, ◌==◌, ◌<◌, ◌^◌, ℕ, Some, IfOk, IsSome, IsTrue, not, filter, length, slice_index};
+ghost use Rattle.std.specs.Prelude.{◌≡◌, ◌≢◌, ◌==◌, ◌<◌, ◌^◌, ◌/◌, ◌⊎◌, ℕ, Some, IfOk, IsSome, IsTrue, not, filter, length, map, slice_index};
 ghost use Rattle.std.specs.Bool.{OnTrue, OnFalse};
 ghost use Rattle.std.specs.Hash as fed;
 ghost use Rattle.std.specs.List.Sorted.{IsPermutation};
@@ -12,9 +12,11 @@ ghost use Rattle.iddqd_hash.specs.MapHashTable.{filed, FindsWhere};
 use crate::hash_table::{HashedIndex, MapHashTable};
 use crate::hash_table_reference::HashTable;
 use iddqd::hash_builder::DefaultHashBuilder;
+use iddqd::index_remap::IndexRemap;
 use iddqd::item_index::ItemIndex;
 use iddqd::map_hash::{Equivalent, MapHash, Same};
 use std::alloc::{AllocError, Global};
+use std::cell::Cell;
 use std::hash::{BuildHasher, Hash, Hasher};
 use std::test::Fail;
 
@@ -213,6 +215,57 @@ fn take_second(table: &mut HashTable<char>, hash: u64) -> (u32, char, Option<cha
     (asks, asked, taken)
 }
 
+// Halves each value under its hash, and counts the calls.
+fn halve(table: &mut HashTable<u32>) -> u32
+    ensures { IsPermutation (map (λ e. (e.0, e.1 / 2)) (entries table.old)) (entries table.new) }
+{
+    let calls = Cell::new(0u32);
+    table.rewrite(|x| {
+        calls.set(calls.get().saturating_add(1));
+        *x / 2
+    });
+    calls.get()
+}
+
+// Files the indexes 0, 2 and 4, the first and the last under one hash.
+fn file_even(alloc: Global) -> Result<MapHashTable, AllocError>
+    ensures { IfOk result (λ table. (ix : ℕ) → IsSome (finite.get (filed table) ix) → (ix ≡ 0) ⊎ (ix ≡ 2) ⊎ (ix ≡ 4)) }
+{
+    let mut table = MapHashTable::new(alloc);
+    table.try_reserve(4)?;
+    table.insert_prehashed_unchecked(MapHash::new(10), ItemIndex::new(0));
+    table.insert_prehashed_unchecked(MapHash::new(20), ItemIndex::new(2));
+    table.insert_prehashed_unchecked(MapHash::new(10), ItemIndex::new(4));
+    Ok(table)
+}
+
+// Names the indexes 0, 2 and 4 anew as 0, 1 and 2, as where the slots 1 and 3 were vacant.
+fn close_gaps(alloc: Global, table: &mut MapHashTable) -> Result<(), AllocError>
+    requires { (ix : ℕ) → IsSome (finite.get (filed table.old) ix) → (ix ≡ 0) ⊎ (ix ≡ 2) ⊎ (ix ≡ 4) }
+{
+    let vacant = ItemIndex::SENTINEL;
+    let [first, second, third] = [ItemIndex::new(0), ItemIndex::new(1), ItemIndex::new(2)];
+    let names = vec![in alloc; first, vacant, second, vacant, third]?;
+    table.remap_indexes(&IndexRemap::Permuted(names));
+    Ok(())
+}
+
+// An empty table stays empty, under any remap.
+fn remap_none(alloc: Global, remap: &IndexRemap) -> MapHashTable
+    ensures { filed result ≡ finite.empty }
+{
+    let mut table = MapHashTable::new(alloc);
+    table.remap_indexes(remap);
+    table
+}
+
+// A table whose indexes keep their names stays as it is.
+fn keep_names(table: &mut MapHashTable)
+    ensures { filed table.new ≡ filed table.old }
+{
+    table.remap_indexes(&IndexRemap::Identity);
+}
+
 #[test]
 fn finds_by_hash_and_value(rt: HostRuntime) -> Result<(), Fail> {
     let mut table = HashTable::new(rt.alloc());
@@ -360,6 +413,56 @@ fn removes_by_index(rt: HostRuntime) -> Result<(), Fail> {
     assert_eq!(rt; table.len(), 1);
     assert!(rt; !remove_filed(&mut table, 1, ItemIndex::new(4)));
     assert!(rt; remove_filed(&mut table, 2, ItemIndex::SENTINEL));
+    Ok(())
+}
+
+// Each value is asked once, and stands afterwards under the hash that it had.
+#[test]
+fn rewrites_each_value_under_its_hash(rt: HostRuntime) -> Result<(), Fail> {
+    let mut table = HashTable::new(rt.alloc());
+    assert_eq!(rt; halve(&mut table), 0);
+    assert_eq!(rt; table.len(), 0);
+    for (hash, value) in [(7, 10), (7, 11), (9, 6), (9, 40)] {
+        add(&mut table, hash, value)?;
+    }
+    let room = table.room();
+    assert_eq!(rt; halve(&mut table), 4);
+    assert_eq!(rt; (table.len(), table.room()), (4, room));
+    assert_eq!(rt; count_asks(&table, 7, 5), (true, 1));
+    assert!(rt; has(&table, 9, &3) && has(&table, 9, &20));
+    assert!(rt; !has(&table, 7, &10) && !has(&table, 7, &3) && !has(&table, 9, &5));
+    assert_eq!(rt; count_asks(&table, 7, 99), (false, 2));
+    assert_eq!(rt; count_asks(&table, 9, 99), (false, 2));
+    Ok(())
+}
+
+#[test]
+fn gives_each_index_its_new_name(rt: HostRuntime) -> Result<(), Fail> {
+    let mut table = file_even(rt.alloc())?;
+    let room = table.room();
+    keep_names(&mut table);
+    assert_eq!(rt; (table.len(), table.room()), (3, room));
+    assert!(rt; remove_filed(&mut table, 20, ItemIndex::new(2)));
+    let mut table = file_even(rt.alloc())?;
+    close_gaps(rt.alloc(), &mut table)?;
+    assert_eq!(rt; (table.len(), table.room()), (3, room));
+    assert!(rt; !remove_filed(&mut table, 10, ItemIndex::new(4)));
+    assert!(rt; !remove_filed(&mut table, 20, ItemIndex::new(2)));
+    assert!(rt; remove_filed(&mut table, 10, ItemIndex::new(0)));
+    assert!(rt; remove_filed(&mut table, 20, ItemIndex::new(1)));
+    assert!(rt; remove_filed(&mut table, 10, ItemIndex::new(2)));
+    assert_eq!(rt; table.len(), 0);
+    Ok(())
+}
+
+#[test]
+fn remaps_an_empty_table(rt: HostRuntime) -> Result<(), Fail> {
+    assert_eq!(rt; remap_none(rt.alloc(), &IndexRemap::Identity).len(), 0);
+    let names = vec![in rt.alloc(); ItemIndex::SENTINEL]?;
+    assert_eq!(rt;
+        remap_none(rt.alloc(), &IndexRemap::Permuted(names)).len(),
+        0
+    );
     Ok(())
 }
 

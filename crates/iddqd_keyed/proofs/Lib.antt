@@ -12,5 +12,6 @@ pub mod SortedLemmas
 pub mod FindLemmas
 pub mod OrderLemmas
 pub mod InsertLemmas
+pub mod CompactionLemmas
 pub mod StepLemmas
 pub mod RunLemmas

@@ -161,7 +161,8 @@ number_command-words verb words not_insert = number-words (command_for verb) at_
         (either_none (bytes_eq verb (codes "remove")) _
         (either_none (bytes_eq verb (codes "remove1")) _
         (either_none (bytes_eq verb (codes "remove2")) _
-        (either_none (bytes_eq verb (codes "walk")) _ refl))))))
+        (either_none (bytes_eq verb (codes "walk")) _
+        (either_none (bytes_eq verb (codes "compact")) _ refl)))))))
 
 -- a command goes by the first 129 bytes of its line alone
 pub command_of-kept : (kept whole : List ℕ) → take 129 kept ≡ take 129 whole → command_of kept ≡ command_of whole

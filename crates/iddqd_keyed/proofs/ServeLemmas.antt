@@ -15,9 +15,9 @@ use Rattle.iddqd_keyed.specs.Program.{record_keys, AnswersCommand, Line, Serves,
 use Rattle.iddqd_keyed.specs.Serve.{ended, IsKept, Obeys, Feeds}
 use Rattle.iddqd_keyed.specs.declared.record.Record.{Record}
 use Rattle.iddqd_keyed.specs.declared.command.Command.{Command}
-use Rattle.iddqd_keyed.specs.declared.command.Command.TheVariants.{Insert, Find1, Find2, Remove, Remove1, Remove2, Walk}
+use Rattle.iddqd_keyed.specs.declared.command.Command.TheVariants.{Insert, Find1, Find2, Remove, Remove1, Remove2, Compact, Walk}
 use Rattle.iddqd_keyed.specs.declared.command.Reply.{Reply}
-use Rattle.iddqd_keyed.specs.declared.command.Reply.TheVariants.{Inserted, Refused, Found, Removed, Walked, NoMemory}
+use Rattle.iddqd_keyed.specs.declared.command.Reply.TheVariants.{Inserted, Refused, Found, Removed, Compacted, Walked, NoMemory}
 use Rattle.iddqd_keyed.proofs.ByteLemmas.{Appends-trans, Appends-nil, consumed, at_end}
 use Rattle.iddqd_keyed.proofs.LineLemmas.{command_of-kept}
 use Rattle.iddqd_keyed.proofs.LineBufferLemmas.{take-kept, take-take}
@@ -39,9 +39,11 @@ module _ {S : Type 0} (hash : S → ℕ → ℕ) where
   text_of-step old new (Remove at) (Found (Some ix)) step = absurd step.answers
   text_of-step old new (Remove1 key) (Found (Some ix)) step = absurd step.answers
   text_of-step old new (Remove2 key) (Found (Some ix)) step = absurd step.answers
+  text_of-step old new Compact (Found (Some ix)) step = absurd step.answers
   text_of-step old new Walk (Found (Some ix)) step = absurd step.answers
   text_of-step old new command (Removed None) step = refl
   text_of-step old new command (Removed (Some (ix, item))) step = refl
+  text_of-step old new command (Compacted remap) step = refl
   text_of-step old new command (Walked indexes) step = refl
   text_of-step old new command NoMemory step = refl
 

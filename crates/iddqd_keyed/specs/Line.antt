@@ -1,17 +1,20 @@
 -- The lines of the program: what a line asks, and the words of each reply.
 use Rattle.std.specs.Prelude.{◌==◌, ◌&&◌, ℕ, Bool, List, [], ◌∷◌, ◌++◌, length, Option, Some, None, nat_le, nat_lt, codes, if◌then◌else◌}
 use Rattle.std.specs.Option.{option_map, option_and_then}
-use Rattle.std.specs.List.{slice_split, list_all, join_by}
+use Rattle.std.specs.List.{slice_split, list_all, join_by, flat_map}
 use Rattle.std.specs.Char.{is_ascii_digit}
 use Rattle.std.specs.Str.{bytes_eq}
 use Rattle.std.specs.Str.Parse.{digits_value}
 use Rattle.std.specs.Fmt.{decimal}
 use Rattle.iddqd.specs.Store.{Store, get}
+use Rattle.iddqd.specs.Compaction.{sentinel}
+use Rattle.iddqd.specs.declared.index_remap.IndexRemap.{IndexRemap}
+use Rattle.iddqd.specs.declared.index_remap.IndexRemap.TheVariants.{Identity, Permuted}
 use Rattle.iddqd_keyed.specs.declared.record.Record.{Record}
 use Rattle.iddqd_keyed.specs.declared.command.Command.{Command}
-use Rattle.iddqd_keyed.specs.declared.command.Command.TheVariants.{Insert, Find1, Find2, Remove, Remove1, Remove2, Walk}
+use Rattle.iddqd_keyed.specs.declared.command.Command.TheVariants.{Insert, Find1, Find2, Remove, Remove1, Remove2, Walk, Compact}
 use Rattle.iddqd_keyed.specs.declared.command.Reply.{Reply}
-use Rattle.iddqd_keyed.specs.declared.command.Reply.TheVariants.{Inserted, Refused, Found, Removed, Walked, NoMemory}
+use Rattle.iddqd_keyed.specs.declared.command.Reply.TheVariants.{Inserted, Refused, Found, Removed, Walked, Compacted, NoMemory}
 use Rattle.iddqd_keyed.specs.declared.command.InsertRefusal.{InsertRefusal}
 use Rattle.iddqd_keyed.specs.declared.command.InsertRefusal.TheVariants.{Duplicate, Full, Memory}
 
@@ -72,7 +75,8 @@ command_for verb numbers =
     else (if bytes_eq verb (codes "remove1") then of_one Remove1 numbers
     else (if bytes_eq verb (codes "remove2") then of_one Remove2 numbers
     else (if bytes_eq verb (codes "walk") then of_none Walk numbers
-    else None))))))
+    else (if bytes_eq verb (codes "compact") then of_none Compact numbers
+    else None)))))))
 
 -- the command of the words of a line
 abbrev pub command_of_words : List (List ℕ) → Option (Command Record ℕ ℕ)
@@ -107,6 +111,15 @@ abbrev pub walk_text : List ℕ → List ℕ
 walk_text [] = codes "empty"
 walk_text (ix ∷ rest) = join_by decimal (codes " ") (ix ∷ rest)
 
+-- a new name, or a dash for a slot that was vacant
+abbrev pub name_or_dash : ℕ → List ℕ
+name_or_dash name = if name == sentinel then codes "-" else decimal name
+
+-- what became of the indexes, in words
+abbrev pub remap_text : IndexRemap → List ℕ
+remap_text Identity = codes "identity"
+remap_text (Permuted names) = codes "permuted" ++ flat_map (λ name. codes " " ++ name_or_dash name) names.items
+
 -- the words of a reply, over the store that it was given in
 abbrev pub text_of : Store Record → Reply Record → List ℕ
 text_of s (Inserted ix) = codes "inserted " ++ decimal ix
@@ -116,4 +129,5 @@ text_of s (Found (Some ix)) = record_text_at s ix
 text_of s (Removed None) = codes "none"
 text_of s (Removed (Some (ix, item))) = record_text ix item
 text_of s (Walked indexes) = walk_text indexes.items
+text_of s (Compacted remap) = remap_text remap
 text_of s NoMemory = codes "no memory"

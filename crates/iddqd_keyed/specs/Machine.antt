@@ -3,12 +3,13 @@ use Rattle.std.specs.Prelude.{◌≡◌, ◌≢◌, ◌↔◌, ℕ, Bool, [], Li
 use Rattle.std.specs.List.{Contains}
 use Rattle.std.specs.Option.{option_map}
 use Rattle.iddqd.specs.Store.{Store, get, next_index, IsFull}
+use Rattle.iddqd.specs.Compaction.{IsRemapOf}
 use Rattle.iddqd_keyed.specs.Keys.{Keys, has_first, has_second}
-use Rattle.iddqd_keyed.specs.State.{State, IsLive, IsPaired, IsSorted, IsSortedIn, Binds, Unbinds, HasNoHit, AnswersScan, Finds1, Finds2, InOrder}
+use Rattle.iddqd_keyed.specs.State.{State, Compacts, IsLive, IsPaired, IsSorted, IsSortedIn, Binds, Unbinds, HasNoHit, AnswersScan, Finds1, Finds2, InOrder}
 use Rattle.iddqd_keyed.specs.declared.command.Command.{Command}
-use Rattle.iddqd_keyed.specs.declared.command.Command.TheVariants.{Insert, Find1, Find2, Remove, Remove1, Remove2, Walk}
+use Rattle.iddqd_keyed.specs.declared.command.Command.TheVariants.{Insert, Find1, Find2, Remove, Remove1, Remove2, Walk, Compact}
 use Rattle.iddqd_keyed.specs.declared.command.Reply.{Reply}
-use Rattle.iddqd_keyed.specs.declared.command.Reply.TheVariants.{Inserted, Refused, Found, Removed, Walked, NoMemory}
+use Rattle.iddqd_keyed.specs.declared.command.Reply.TheVariants.{Inserted, Refused, Found, Removed, Walked, Compacted, NoMemory}
 use Rattle.iddqd_keyed.specs.declared.command.InsertRefusal.{InsertRefusal}
 use Rattle.iddqd_keyed.specs.declared.command.InsertRefusal.TheVariants.{Duplicate, Full, Memory}
 
@@ -95,6 +96,8 @@ module _ {T S K1 K2 : Type 0} (keys : Keys T K1 K2 S) where
   Answers old (Remove2 key) (Removed removed) new = RemovesFound (Finds2 keys old key) old removed new
   Answers old Walk (Walked indexes) new = (indexes.items ≡ old.order) × (new ≡ old)
   Answers old Walk NoMemory new = (old.order ≢ []) × (new ≡ old)
+  Answers old Compact (Compacted remap) new = IsRemapOf old.store remap × Compacts old new
+  Answers old Compact NoMemory new = (old.store.free ≢ []) × (new ≡ old)
   Answers old command reply new = ⊥
 
   -- what a command answers in a state in order: that of a scan of the live items

@@ -3,6 +3,7 @@ use Rattle.std.specs.Prelude.{◌++◌, ◌∷◌, ℕ, List, Option, take}
 use Rattle.std.specs.Option.{option_map}
 use Rattle.std.specs.Fmt.{decimal}
 use Rattle.std.specs.Io.KnownBytes.{Appends}
+use Rattle.iddqd_keyed.specs.Line.{name_or_dash}
 
 -- the bytes written, where they are told, and then those that wait
 abbrev pub sent_bytes : Option (List ℕ) → List ℕ → Option (List ℕ)
@@ -16,3 +17,7 @@ pub record AppendsSome (before after : Option (List ℕ)) (bytes : List ℕ) : T
 -- an index with a space before it
 abbrev pub spaced : ℕ → List ℕ
 spaced ix = 32 ∷ decimal ix
+
+-- a new name, or a dash, with a space before it
+abbrev pub spaced_name : ℕ → List ℕ
+spaced_name name = 32 ∷ name_or_dash name

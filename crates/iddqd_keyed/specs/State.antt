@@ -1,5 +1,5 @@
 -- The state of keyed items: the hasher's state, the store, and what both tables hold.
-use Rattle.std.specs.Prelude.{◌≡◌, ◌↔◌, ◌≤◌, ℕ, Bool, true, List, [], length, insert, nat_eq, Option, Some, None, IsSome, refl}
+use Rattle.std.specs.Prelude.{◌≡◌, ◌↔◌, ◌≤◌, ℕ, Bool, true, List, [], length, insert, map, nat_eq, Option, Some, None, IsSome, refl}
 use Rattle.std.specs.List.{Contains, IsDistinct}
 use Rattle.std.specs.Option.{option_map, option_cmp}
 use Rattle.std.specs.Ordering.{nat_cmp}
@@ -8,7 +8,8 @@ use Rattle.std.specs.FinMap.{FinMap}
 use Rattle.std.specs.Coded.{Coded, code_by, coded×, coded_ℕ, coded_list}
 use Rattle.iddqd.specs.Store.{Store, store_code, IsValid, get, live_count, next_index, empty, inserted, removed}
 use Rattle.iddqd_hash.specs.HashTable.{Table}
-use Rattle.iddqd_hash.specs.MapHashTable.{filed}
+use Rattle.iddqd.specs.Compaction.{compacted, rank}
+use Rattle.iddqd_hash.specs.MapHashTable.{filed, Renames}
 use Rattle.iddqd_order.specs.KeyOrder.{IsInKeyOrder}
 use Rattle.iddqd_order.specs.MapBTreeTable.{Order, order_of, without}
 use Rattle.iddqd_keyed.specs.Keys.{Keys, has_first, has_second}
@@ -78,6 +79,13 @@ module _ {T S : Type 0} where
     pub store : new.store ≡ removed old.store ix
     pub filed : new.filed ≡ finite.remove old.filed ix
     pub order : new.order ≡ without old.order ix
+
+  -- each live index became its rank, in the store and in both tables, and nothing else changed
+  pub record Compacts (old new : State T S) : Type 0 where
+    pub hasher : new.hasher ≡ old.hasher
+    pub store : new.store ≡ compacted old.store
+    pub filed : Renames (rank old.store) old.filed new.filed
+    pub order : new.order ≡ map (rank old.store) old.order
 
 module _ {T S K1 K2 : Type 0} (keys : Keys T K1 K2 S) where
   -- the hash of a first key under the hasher's state

@@ -1,5 +1,6 @@
 //! What can be asked of keyed items, and what is answered.
 use crate::keyed_item::KeyedItem;
+use iddqd::index_remap::IndexRemap;
 use iddqd::item_index::ItemIndex;
 
 /// Why an item was not taken. The item comes back.
@@ -32,6 +33,8 @@ pub enum Command<T: KeyedItem> {
     Remove1(T::Key1),
     /// Remove the item with this second key.
     Remove2(T::Key2),
+    /// Move every item down to its rank, so that no slot is vacant.
+    Compact,
     /// Tell all indexes, in the order of their items' second keys.
     Walk,
 }
@@ -47,8 +50,10 @@ pub enum Reply<T> {
     Found(Option<ItemIndex>),
     /// To a removal: the item that was removed, and its index.
     Removed(Option<(ItemIndex, T)>),
+    /// To `Compact`: the new name of each old index.
+    Compacted(IndexRemap),
     /// To `Walk`: all indexes.
     Walked(Vec<ItemIndex>),
-    /// To `Walk`, where memory for the indexes was refused.
+    /// To `Compact` or `Walk`, where memory for the answer was refused.
     NoMemory,
 }

@@ -1,16 +1,18 @@
 //! Items with two unique keys: a store, a hash table for the first keys, an ordered one for the second.
 ghost use Rattle.std.specs.Prelude.{◌≡◌, [], IsOk, IfOk, IfErr, OnOk, OnErr, option_copied};
 ghost use Rattle.iddqd.specs.Store.{get, live_count};
+ghost use Rattle.iddqd.specs.Compaction.{IsRemapOf};
 ghost use Rattle.iddqd.specs.GrowHandle.{handle_store};
 ghost use Rattle.iddqd_order.specs.Iter.{indexes_left};
 ghost use Rattle.iddqd_keyed.specs.Keys.{keys_of, has_first, has_second};
-ghost use Rattle.iddqd_keyed.specs.State.{empty_state, hash_in, IsLive, IsPaired, IsSorted, InOrder, Keeps, AnswersScan, Finds1, Finds2};
+ghost use Rattle.iddqd_keyed.specs.State.{empty_state, Compacts, hash_in, IsLive, IsPaired, IsSorted, InOrder, Keeps, AnswersScan, Finds1, Finds2};
 ghost use Rattle.iddqd_keyed.specs.Machine.{HasNoPlace, StoresAt, Inserts, InsertsAsScan, Removes, RemovesFound, RemovesAsScan, IsSortedScan, Step};
 ghost use Rattle.iddqd_keyed.specs.Run.{Run};
 
 use crate::command::{Command, InsertRefusal, Reply};
 use crate::keyed_item::KeyedItem;
 use crate::lookup::{first_key, second_key, second_key_in, unfile, unorder};
+use iddqd::index_remap::IndexRemap;
 use iddqd::item_index::ItemIndex;
 use iddqd::item_set::{GrowError, ItemSet};
 use iddqd::map_hash::{MapHash, Same};
@@ -196,6 +198,24 @@ impl<T: KeyedItem, S: BuildHasher> KeyedItems<T, S> {
         Some((ix, self.remove(ix)?))
     }
 
+    /// Moves every item down to its rank, so that no slot is vacant, and tells the new names.
+    ///
+    /// Both tables keep their order and hashes, and no key is hashed or compared. Where no slot is
+    /// vacant it is `Identity` and takes no memory. Else it takes the memory of one index a slot,
+    /// before an item moves; where that is refused nothing changes.
+    pub fn compact(&mut self) -> Result<IndexRemap, AllocError>
+        ensures compacts { IfOk result (λ remap. IsRemapOf self.old.store remap × Compacts self.old self.new) }
+        ensures refused { OnErr result (self.new ≡ self.old) }
+        ensures dense { self.old.store.free ≡ [] → IsOk result }
+        ensures keeps { let keys = keys_of T.KeyedItem T.Key1.eq T.Key1.hash_input T.Key2.cmp S.BuildHasher S.Hasher.Hasher in
+            Keeps keys self.old self.new }
+    {
+        let remap = self.items.compact()?;
+        self.filed.remap_indexes(&remap);
+        self.order.remap_indexes(&remap);
+        Ok(remap)
+    }
+
     /// Obeys one command.
     pub fn step(&mut self, command: Command<T>) -> Reply<T>
         ensures { let keys = keys_of T.KeyedItem T.Key1.eq T.Key1.hash_input T.Key2.cmp S.BuildHasher S.Hasher.Hasher in
@@ -214,6 +234,10 @@ impl<T: KeyedItem, S: BuildHasher> KeyedItems<T, S> {
             },
             Command::Remove1(key) => Reply::Removed(self.remove1(&key)),
             Command::Remove2(key) => Reply::Removed(self.remove2(&key)),
+            Command::Compact => match self.compact() {
+                Ok(remap) => Reply::Compacted(remap),
+                Err(AllocError) => Reply::NoMemory,
+            },
             Command::Walk => match self.indexes() {
                 Ok(indexes) => Reply::Walked(indexes),
                 Err(AllocError) => Reply::NoMemory,

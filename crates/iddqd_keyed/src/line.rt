@@ -31,6 +31,8 @@ fn lone_command(verb: &[u8]) -> Option<Command<Record>>
 {
     if verb == b"walk".as_slice() {
         Some(Command::Walk)
+    } else if verb == b"compact".as_slice() {
+        Some(Command::Compact)
     } else {
         None
     }

@@ -3,14 +3,15 @@ ghost use Rattle.std.specs.Prelude.{◌≡◌, ◌++◌, ◌∷◌, ◌+◌, ◌
 ghost use Rattle.std.specs.Io.KnownBytes.{Appends};
 ghost use Rattle.std.specs.Fmt.{decimal};
 ghost use Rattle.std.specs.List.{flat_map};
-ghost use Rattle.iddqd_keyed.specs.Line.{record_text, index_or_dash, refusal_text, walk_text, text_of};
-ghost use Rattle.iddqd_keyed.specs.Replies.{sent_bytes, AppendsSome, spaced};
+ghost use Rattle.iddqd_keyed.specs.Line.{record_text, index_or_dash, name_or_dash, refusal_text, walk_text, remap_text, text_of};
+ghost use Rattle.iddqd_keyed.specs.Replies.{sent_bytes, AppendsSome, spaced, spaced_name};
 
 use crate::command::{InsertRefusal, Reply};
 use crate::digits::Digits;
 use crate::keyed_items::KeyedItems;
 use crate::record::Record;
 use crate::sink::Sink;
+use iddqd::index_remap::IndexRemap;
 use iddqd::item_index::ItemIndex;
 use std::hash::BuildHasher;
 use std::marker::Model;
@@ -18,7 +19,7 @@ use std::marker::Model;
 /// How many bytes of replies wait at most.
 const BLOCK: usize = 8192;
 
-/// More bytes than are put between two looks for room: a reply's line, or an index of a walk.
+/// More bytes than are put between two looks for room: a reply's line, or an index of a list.
 const MAX_REPLY: usize = 64;
 
 /// The replies that wait to be written.
@@ -87,7 +88,7 @@ impl Replies {
         self.flush(output)
     }
 
-    /// Appends the reply's line, over the items as the command left them. Of a long walk, it writes what
+    /// Appends the reply's line, over the items as the command left them. Of a long list, it writes what
     /// waits as often as there is no more room.
     pub(crate) fn put_reply<S: BuildHasher, O: Sink>(
         &mut self,
@@ -112,6 +113,7 @@ impl Replies {
             },
             Reply::Removed(Some((ix, record))) => self.put_record(*ix, record),
             Reply::Found(None) | Reply::Removed(None) => self.put_bytes(b"none"),
+            Reply::Compacted(remap) => self.put_remap(remap, output)?,
             Reply::Walked(indexes) => self.put_walk(indexes, output)?,
             Reply::NoMemory => self.put_bytes(b"no memory"),
         }
@@ -137,6 +139,41 @@ impl Replies {
                 Ok(())
             }
         }
+    }
+
+    // What became of the indexes.
+    fn put_remap<O: Sink>(&mut self, remap: &IndexRemap, output: &mut O) -> Result<(), ()>
+        requires { length self.old + 64 ≤ 8192 }
+        ensures room { OnOk result (length self.new < 8192) }
+        ensures all { OnOk result (Appends (sent_bytes (O.written output.old) self.old) (sent_bytes (O.written output.new) self.new) (remap_text remap.now)) }
+        ensures some { OnErr result (AppendsSome (O.written output.old) (O.written output.new) (self.old ++ remap_text remap.now)) }
+        ensures failed { O.has_failed output.new ≡ (if is_ok result then O.has_failed output.old else true) }
+    {
+        match remap {
+            IndexRemap::Identity => {
+                self.put_bytes(b"identity");
+                Ok(())
+            }
+            IndexRemap::Permuted(names) => {
+                self.put_bytes(b"permuted");
+                self.put_names(names, output)
+            }
+        }
+    }
+
+    // The new names, with a space before each. It makes room before each, and behind the last.
+    fn put_names<O: Sink>(&mut self, names: &[ItemIndex], output: &mut O) -> Result<(), ()>
+        ensures room { OnOk result (length self.new + 64 ≤ 8192) }
+        ensures all { OnOk result (Appends (sent_bytes (O.written output.old) self.old) (sent_bytes (O.written output.new) self.new) (flat_map spaced_name names.now)) }
+        ensures some { AppendsSome (O.written output.old) (O.written output.new) (self.old ++ flat_map spaced_name names.now) }
+        ensures failed { O.has_failed output.new ≡ (if is_ok result then O.has_failed output.old else true) }
+    {
+        for name in names {
+            self.make_room(output)?;
+            self.put(b' ');
+            self.put_name(*name);
+        }
+        self.make_room(output)
     }
 
     // The indexes, with a space before each. It makes room before each, and behind the last.
@@ -203,6 +240,19 @@ impl Replies {
         match ix {
             Some(ix) => self.put_number(ix.as_u32()),
             None => self.put(b'-'),
+        }
+    }
+
+    // A new name, or a dash for a slot that was vacant.
+    fn put_name(&mut self, name: ItemIndex)
+        requires { length self.old + 10 ≤ 8192 }
+        ensures text { self.new ≡ self.old ++ name_or_dash name }
+        ensures grows { length self.new ≤ length self.old + 10 }
+    {
+        if name == ItemIndex::SENTINEL {
+            self.put(b'-');
+        } else {
+            self.put_number(name.as_u32());
         }
     }
 

@@ -43,6 +43,8 @@ pub enum ServeFault {
 /// - `remove 0`, `remove1 1` and `remove2 10` remove the record at an index, with a first key and with
 ///   a second key, and are answered as a find.
 /// - `walk` tells the indexes in the order of the second keys: `1 0 2`, `empty` or `no memory`.
+/// - `compact` moves the records, in their order, to the indexes from 0 on, and tells the new name of each
+///   old index: `identity`, `permuted 0 - 1` with a dash where there was none, or `no memory`.
 ///
 /// Every other line is answered `bad line`. All replies are out before it reads on. After
 /// 18446744073709551615 reads without an end it stops as at a failed read.

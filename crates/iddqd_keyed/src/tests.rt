@@ -1,5 +1,6 @@
 mod collisions;
 mod commands;
+mod compaction;
 mod counted;
 mod driver;
 mod faults;

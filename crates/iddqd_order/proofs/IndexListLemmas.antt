@@ -46,7 +46,7 @@ module _ {X : Type 0} (R : X → X → Type 0) (xs : List X) (p : ℕ) (x : X) (
             ]
       ]
 
-eqb-apart : (a b : ℕ) → (a ≡ b → ⊥) → nat_eq a b ≡ false
+pub eqb-apart : (a b : ℕ) → (a ≡ b → ⊥) → nat_eq a b ≡ false
 eqb-apart a b n = grind (arith, nat_tests)
 
 pub IsIndexList-nil : IsIndexList []

@@ -1,12 +1,13 @@
 -- What lawful keys give a table in order by key, ties by index.
-use Rattle.std.proofs.Common.{◌≡◌, ◌∙◌, ℕ, ◌+◌, ◌<◌, ◌==◌, ◌⊎◌, inl, inr, if◌then◌else◌, List, None, Some, length, get_or, insert, refl, sym, ap, Bool, true, false, Ordering, arith}
-use Rattle.std.specs.Cmp.{IsTotalOrder}
+use Rattle.std.proofs.Common.{◌≡◌, ◌∙◌, ℕ, ◌+◌, ◌<◌, ◌==◌, ◌⊎◌, inl, inr, if◌then◌else◌, List, None, Some, length, map, get_or, insert, Contains, refl, sym, ap, Bool, true, false, Ordering, arith}
+use Rattle.std.specs.Cmp.{IsTotalOrder, nat_cmp_is}
 use Rattle.std.specs.List.Sorted.{IsStrictlySortedBy}
-use Rattle.std.specs.Ordering.{nat_cmp, ordering_then, ordering_reverse}
+use Rattle.std.specs.Ordering.{nat_cmp, ordering_then, ordering_reverse, MatchOrdering}
 use Rattle.std.specs.declared.cmp.Ordering.TheVariants.{Less, Equal, Greater}
 use Rattle.std.proofs.lemmas.Bool.Decides.{nat_tests}
-use Rattle.std.proofs.lemmas.Cmp.{nat_cmp_total, on_total, then_total, tied_itself, alike_right}
-use Rattle.std.proofs.lemmas.List.{get_or_default}
+use Rattle.std.proofs.lemmas.Cmp.{nat_cmp_total, on_total, then_total, tied_itself, alike_right, ranked}
+use Rattle.std.proofs.lemmas.List.{get_or_default, get_or-map, length-map}
+use Rattle.std.proofs.lemmas.List.Elements.{Contains-get_or}
 use Rattle.std.proofs.lemmas.Map.Keys.{Less-from_sorted, sorted_from_all_adjacent}
 use Rattle.iddqd_order.specs.KeyOrder.{key_then_index, IsInKeyOrder, ComparesKeys}
 use Rattle.iddqd_order.specs.Search.{settled, IsRising, IsPlace}
@@ -96,3 +97,33 @@ module _ {K : Type 0} {cmp : K → K → Ordering} (o : IsTotalOrder cmp) (key :
       (λ a b lt greater. Greater-from_less o (o.trans a b sought lt (Less-from_greater o greater)))
       (λ a b equal. alike_right o a b sought equal)
       xs answer
+
+-- numbers that rise keep their comparison
+less_again : (a b c d : ℕ) → (a < b → c < d) → nat_cmp a b ≡ Less → nat_cmp c d ≡ Less
+less_again a b c d up less =
+    let lt : a < b = by_answer (nat_cmp a b) (ranked a b _ refl) less in
+    sym (nat_cmp_is c d Less (up lt))
+  where
+    by_answer : (r : Ordering) → MatchOrdering r (a < b) (a ≡ b) (b < a) → r ≡ Less → a < b
+    by_answer Less h e = h
+    by_answer Equal h e = absurd cc
+    by_answer Greater h e = absurd cc
+
+-- a tie that is broken the same way again
+then_again : (r s t : Ordering) → (s ≡ Less → t ≡ Less) → ordering_then r s ≡ Less → ordering_then r t ≡ Less
+then_again Less s t again e = refl
+then_again Equal s t again e = again e
+then_again Greater s t again e = cc
+
+-- a list in key order stays so where each index gets a name that rises with it and keeps its key
+pub IsInKeyOrder-renamed : {K : Type 0} {cmp : K → K → Ordering} (total : IsTotalOrder cmp) (key key' : ℕ → K) (name : ℕ → ℕ) (xs : List ℕ) → ((i : ℕ) → Contains xs i → key' (name i) ≡ key i) → ((i j : ℕ) → Contains xs i → Contains xs j → i < j → name i < name j) → IsInKeyOrder cmp key xs → IsInKeyOrder cmp key' (map name xs)
+IsInKeyOrder-renamed {K} {cmp} total key key' name xs keeps rises sorted =
+    sorted_from_all_adjacent (key_then_index-total total key') (map name xs) 0 (λ k in_new.
+    let within : k + 1 < length xs = omega (arith, length-map xs name) in
+    let lower : k < length xs = omega arith in
+    let a = get_or xs k 0 in
+    let b = get_or xs (k + 1) 0 in
+    let has_a = Contains-get_or xs k 0 lower in
+    let has_b = Contains-get_or xs (k + 1) 0 within in
+    rw (get_or-map name xs k 0 0 lower, get_or-map name xs (k + 1) 0 0 within, keeps a has_a, keeps b has_b)
+    (then_again (cmp (key a) (key b)) (nat_cmp a b) (nat_cmp (name a) (name b)) (less_again a b (name a) (name b) (rises a b has_a has_b)) (Less-from_sorted _ xs k (k + 1) 0 sorted (omega arith) within)))

@@ -3,4 +3,5 @@ pub mod CountSteps
 pub mod DigitLemmas
 pub mod IndexListLemmas
 pub mod KeyOrderLemmas
+pub mod RenameLemmas
 pub mod SearchLemmas

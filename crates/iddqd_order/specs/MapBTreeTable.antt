@@ -1,6 +1,7 @@
 -- What a contract sees of a `MapBTreeTable`.
 use Rattle.std.specs.Prelude.{◌≢◌, ℕ, List, ◌==◌, nat_eq, not, filter, All}
 use Rattle.std.specs.List.{IsDistinct}
+pub use Rattle.iddqd.specs.Compaction.{sentinel}
 
 -- the indexes in their order, and how many inserts need no memory
 pub record Order : Type 0 where
@@ -14,10 +15,6 @@ order_of t = t.indexes
 -- how many inserts need no memory
 abbrev pub room_of : Order → ℕ
 room_of t = t.room
-
--- `SENTINEL`, the one number that is never an index
-abbrev pub sentinel : ℕ
-sentinel = 4294967295
 
 -- distinct indexes, each of which can be assigned
 pub record IsIndexList (xs : List ℕ) : Type 0 where

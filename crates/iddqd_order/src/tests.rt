@@ -11,6 +11,7 @@ use std::process::Abort;
 mod callers;
 mod keys;
 mod lying;
+mod remaps;
 mod walk;
 
 // Whether the index is stored.

@@ -38,18 +38,19 @@ impl Generator {
 
     /// The next command.
     pub(super) fn command(&mut self) -> Command<Record> {
-        let inserts = if self.given % 2000 < 1000 { 12 } else { 2 };
+        let inserts = if self.given % 2000 < 1000 { 120 } else { 20 };
         self.given = self.given.wrapping_add(1);
-        let kind = self.number(6 + inserts);
+        let kind = self.number(61 + inserts);
         let first = self.number(self.range);
         let second = self.number(self.range);
         match kind {
-            0 => Command::Find1(first),
-            1 => Command::Find2(second),
-            2 => Command::Remove(ItemIndex::new(first)),
-            3 => Command::Remove1(first),
-            4 => Command::Remove2(second),
-            5 => Command::Walk,
+            0 => Command::Compact,
+            1..=10 => Command::Find1(first),
+            11..=20 => Command::Find2(second),
+            21..=30 => Command::Remove(ItemIndex::new(first)),
+            31..=40 => Command::Remove1(first),
+            41..=50 => Command::Remove2(second),
+            51..=60 => Command::Walk,
             _ => Command::Insert(Record {
                 first,
                 second,
@@ -74,6 +75,7 @@ pub(super) fn put_line(lines: &mut String, command: &Command<Record>) -> Result<
         Command::Remove(ix) => writeln!(lines, "remove {ix}"),
         Command::Remove1(key) => writeln!(lines, "remove1 {key}"),
         Command::Remove2(key) => writeln!(lines, "remove2 {key}"),
+        Command::Compact => writeln!(lines, "compact"),
         Command::Walk => writeln!(lines, "walk"),
     }
 }

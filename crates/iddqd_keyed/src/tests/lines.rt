@@ -70,6 +70,24 @@ fn a_walk_goes_by_the_second_key(rt: HostRuntime) {
 }
 
 #[test]
+fn a_compaction_tells_the_new_names(rt: HostRuntime) {
+    let cases = [
+        ("compact\n", "identity\n"),
+        (
+            "insert 1 10 100\ninsert 2 20 200\ninsert 1 99 0\nget2 20\nremove 0\ninsert 3 5 300\nwalk\ncompact\n",
+            "inserted 0\ninserted 1\nduplicate 0 -\n1 2 20 200\n0 1 10 100\ninserted 0\n0 1\nidentity\n",
+        ),
+        (
+            "insert 1 30 1\ninsert 2 20 2\ninsert 3 10 3\nremove1 2\nwalk\ncompact\nwalk\nget1 3\nget2 30\ncompact\n",
+            "inserted 0\ninserted 1\ninserted 2\n1 2 20 2\n2 0\npermuted 0 - 1\n1 0\n1 3 10 3\n0 1 30 1\nidentity\n",
+        ),
+    ];
+    for (input, want) in cases {
+        assert_replies(&rt, rt.alloc(), input, want);
+    }
+}
+
+#[test]
 fn what_is_no_command_is_a_bad_line(rt: HostRuntime) {
     for line in [
         " insert 1 2 3",
@@ -90,6 +108,9 @@ fn what_is_no_command_is_a_bad_line(rt: HostRuntime) {
         "walk ",
         " walk",
         "Walk",
+        "compact 1",
+        "compact ",
+        "compact1",
         "hello",
     ] {
         assert_replies(&rt, rt.alloc(), line, "bad line\n");
@@ -134,6 +155,35 @@ pub(super) fn long_walk(alloc: Global) -> Result<(String, String), Fail> {
 #[test]
 fn a_walk_goes_on_over_many_blocks(rt: HostRuntime) -> Result<(), Fail> {
     let (input, want) = long_walk(rt.alloc())?;
+    assert_replies(&rt, rt.alloc(), &input, &want);
+    Ok(())
+}
+
+// Inserts 3000 records, removes every other one by its index, and compacts twice. The first compaction's
+// reply is longer than a block.
+fn long_compaction(alloc: Global) -> Result<(String, String), Fail> {
+    let mut input = String::new(alloc);
+    let mut want = String::new(alloc);
+    for n in 0..3000u32 {
+        writeln!(input, "insert {n} {n} 7")?;
+        writeln!(want, "inserted {n}")?;
+    }
+    for n in 0..1500u32 {
+        writeln!(input, "remove {}", 2 * n)?;
+        writeln!(want, "{} {} {} 7", 2 * n, 2 * n, 2 * n)?;
+    }
+    writeln!(input, "compact\nget1 2999\ncompact")?;
+    write!(want, "permuted")?;
+    for n in 0..1500u32 {
+        write!(want, " - {n}")?;
+    }
+    writeln!(want, "\n1499 2999 2999 7\nidentity")?;
+    Ok((input, want))
+}
+
+#[test]
+fn a_compaction_goes_on_over_many_blocks(rt: HostRuntime) -> Result<(), Fail> {
+    let (input, want) = long_compaction(rt.alloc())?;
     assert_replies(&rt, rt.alloc(), &input, &want);
     Ok(())
 }

@@ -3,6 +3,7 @@ use super::commands::{COMMANDS, Generator};
 use super::driver::no_items;
 use crate::command::{Command, InsertRefusal, Reply};
 use crate::record::Record;
+use iddqd::index_remap::IndexRemap;
 use iddqd::item_index::ItemIndex;
 use std::alloc::{AllocError, Global};
 use std::process::Abort;
@@ -84,6 +85,26 @@ impl Model {
         Ok(Reply::Removed(Some((ix, item))))
     }
 
+    // Moves each item down to the number of items before it.
+    fn compact(&mut self, alloc: Global) -> Result<Reply<Record>, AllocError> {
+        if self.free.is_empty() {
+            return Ok(Reply::Compacted(IndexRemap::Identity));
+        }
+        let mut names = Vec::new(alloc);
+        let mut kept = Vec::new(alloc);
+        for slot in self.slots.iter() {
+            if slot.is_some() {
+                names.push(index(kept.len()))?;
+                kept.push(*slot)?;
+            } else {
+                names.push(ItemIndex::SENTINEL)?;
+            }
+        }
+        self.slots = kept;
+        self.free.clear();
+        Ok(Reply::Compacted(IndexRemap::Permuted(names)))
+    }
+
     fn walk(&self, alloc: Global) -> Result<Reply<Record>, AllocError> {
         let mut keys = Vec::new(alloc);
         for (number, slot) in self.slots.iter().enumerate() {
@@ -108,6 +129,7 @@ impl Model {
             Command::Remove(ix) => self.remove(Some(*ix)),
             Command::Remove1(key) => self.remove(self.find1(*key)),
             Command::Remove2(key) => self.remove(self.find2(*key)),
+            Command::Compact => self.compact(alloc),
             Command::Walk => self.walk(alloc),
         }
     }

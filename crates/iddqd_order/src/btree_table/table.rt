@@ -1,6 +1,7 @@
 //! The table: a vector of distinct indexes, searched by halves.
-ghost use Rattle.std.specs.Prelude.{◌≡◌, ◌≢◌, ℕ, ◌-◌, ◌<◌, ◌≤◌, [], length, slice_get, slice_index, IfOk, IfSome, IsNone, IsSome, All, Contains, insert, IsTrue, false, Some, None};
+ghost use Rattle.std.specs.Prelude.{◌≡◌, ◌≢◌, ℕ, ◌-◌, ◌<◌, ◌≤◌, [], length, map, slice_get, slice_index, IfOk, IfSome, IsNone, IsSome, All, Contains, insert, IsTrue, false, Some, None};
 ghost use Rattle.std.specs.declared.cmp.Ordering.{Ordering};
+ghost use Rattle.iddqd.specs.Compaction.{CanRemap, remapped};
 ghost use Rattle.iddqd_order.specs.MapBTreeTable.{order_of, room_of, without, sentinel, IsIndexList};
 ghost use Rattle.iddqd_order.specs.Search.{CanSearch, SearchAsks, IsSteady, IsSteadyRising, settled, IsPlace};
 
@@ -10,6 +11,7 @@ use crate::btree_table::judge::{ByKey, ByQuery, Judge, Plain};
 use crate::btree_table::prepared_insert::PreparedBTreeInsert;
 use crate::btree_table::prepared_remove::PreparedBTreeRemove;
 use crate::btree_table::search::search;
+use iddqd::index_remap::IndexRemap;
 use iddqd::item_index::ItemIndex;
 use iddqd::map_hash::Comparable;
 use std::alloc::{AllocError, Global};
@@ -362,6 +364,22 @@ impl MapBTreeTable {
         ensures { order_of self.new ≡ without (order_of self.old) ix }
     {
         self.items.retain(|stored| *stored != ix);
+    }
+
+    /// Gives each index its new name in its place, in one walk, or in none where all names stay. It
+    /// asks nothing and takes no memory.
+    pub fn remap_indexes(&mut self, remap: &IndexRemap)
+        requires can_remap { (ix : ℕ) → Contains (order_of self.old) ix → CanRemap remap.now ix }
+        requires distinct { (i j : ℕ) → Contains (order_of self.old) i → Contains (order_of self.old) j →
+            remapped remap.now i ≡ remapped remap.now j → i ≡ j }
+        ensures { order_of self.new ≡ map (remapped remap.now) (order_of self.old) }
+    {
+        if remap.is_identity() {
+            return;
+        }
+        for ix in self.items.iter_mut() {
+            *ix = remap.remap(*ix);
+        }
     }
 
     // Adds `ix` at `place`, where there is room.

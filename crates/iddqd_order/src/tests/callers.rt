@@ -2,12 +2,14 @@
 ghost use Rattle.std.specs.Prelude.{◌≡◌, ◌≢◌, ℕ, ◌<◌, Some, All, Contains, IfSome, IsNone, OnOk, OnErr, insert, length, slice_index, IsTrue, false};
 ghost use Rattle.std.specs.Ordering.{nat_cmp};
 ghost use Rattle.std.specs.declared.cmp.Ordering.{Ordering};
+ghost use Rattle.iddqd.specs.Compaction.{CanRemap, remapped};
 ghost use Rattle.iddqd_order.specs.KeyOrder.{IsInKeyOrder};
 ghost use Rattle.iddqd_order.specs.MapBTreeTable.{order_of, without, sentinel};
 ghost use Rattle.iddqd_order.specs.Search.{CanSearch, IsSteadyRising, settled, IsPlace};
 
 use super::has_order;
 use crate::btree_table::{Asking, MapBTreeTable};
+use iddqd::index_remap::IndexRemap;
 use iddqd::item_index::ItemIndex;
 use std::alloc::AllocError;
 use std::cmp::Ordering;
@@ -105,6 +107,18 @@ fn find_number(table: &MapBTreeTable, numbers: &[u32], sought: u32) -> Option<It
         { sought.cmp(&numbers[ix.as_u32() as usize]) },
     );
     table.find_by(&mut asking)
+}
+
+// Names that rise with their indexes leave a table in order, where each name has its index's key.
+fn rename_in_order(table: &mut MapBTreeTable, remap: &IndexRemap)
+    requires named { (ix : ℕ) → Contains (order_of table.old) ix → CanRemap remap.now ix }
+    requires rising { (i j : ℕ) → Contains (order_of table.old) i → Contains (order_of table.old) j →
+        i < j → remapped remap.now i < remapped remap.now j }
+    ensures { (key new_key : ℕ → ℕ) →
+        ((ix : ℕ) → Contains (order_of table.old) ix → new_key (remapped remap.now ix) ≡ key ix) →
+        IsInKeyOrder nat_cmp key (order_of table.old) → IsInKeyOrder nat_cmp new_key (order_of table.new) }
+{
+    table.remap_indexes(remap);
 }
 
 #[test]

@@ -31,3 +31,9 @@ returns-in-Ok-indexes g c = rw c.in-Walk.is (Step-walked _ _ c.in-Ok-indexes.ens
 
 pub returns-in-Err-indexes : goal.returns-in-Err-indexes
 returns-in-Err-indexes g c = rw c.in-Walk.is (Step-same _ _ c.in-Err-indexes.ensures.paired _ _ (λ none. (let ok = c.in-Err-indexes.ensures.empty none in cc), refl) (λ _. tt))
+
+pub returns-in-Ok-compact : goal.returns-in-Ok-compact
+returns-in-Ok-compact g c = rw c.in-Compact.is (Step-keeping _ _ _ _ _ c.in-Ok-compact.ensures.keeps c.in-Ok-compact.ensures.compacts (λ _. tt))
+
+pub returns-in-Err-compact : goal.returns-in-Err-compact
+returns-in-Err-compact g c = rw c.in-Compact.is (Step-keeping _ _ _ _ _ c.in-Err-compact.ensures.keeps ((λ none. (let ok = c.in-Err-compact.ensures.dense none in cc)), c.in-Err-compact.ensures.refused) (λ _. tt))

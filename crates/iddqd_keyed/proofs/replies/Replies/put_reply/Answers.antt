@@ -3,7 +3,7 @@ use Rattle.std.specs.Io.KnownBytes.{Appends}
 use Rattle.iddqd_keyed.specs.Line.{text_of}
 use Rattle.iddqd_keyed.specs.Replies.{sent_bytes}
 use Rattle.iddqd_keyed.proofs.ByteLemmas.{Appends-put, Appends-more}
-use Rattle.iddqd_keyed.proofs.replies.Replies.put_reply.Goals.{in-Inserted, in-Refused, in-Found-Some+in-Some, in-Found-Some+in-None, in-Removed-Some, in-Walked+in_ok-put_walk-in-Walked, in-NoMemory, in-Found-None}
+use Rattle.iddqd_keyed.proofs.replies.Replies.put_reply.Goals.{in-Inserted, in-Refused, in-Found-Some+in-Some, in-Found-Some+in-None, in-Removed-Some, in-Compacted+in_ok-put_remap-in-Compacted, in-Walked+in_ok-put_walk-in-Walked, in-NoMemory, in-Found-None}
 use Rattle.iddqd_keyed.proofs.replies.Replies.put_reply.Goals as goal
 
 pub returns-clause-all : goal.returns-clause-all
@@ -15,6 +15,7 @@ returns-clause-all g c =
       | in-Found-Some+in-Some w ↦ rw w.output-is (Appends-put _ _ _ _ (search rules))
       | in-Found-Some+in-None w ↦ rw w.output-is (Appends-put _ _ _ _ (search rules))
       | in-Removed-Some w ↦ rw w.output-is (Appends-put _ _ _ _ (search rules))
+      | in-Compacted+in_ok-put_remap-in-Compacted w ↦ search rules
       | in-Walked+in_ok-put_walk-in-Walked w ↦ search rules
       | in-NoMemory w ↦ rw w.output-is (Appends-put _ _ _ _ (search rules))
       | in-Found-None w ↦ rw w.output-is (Appends-put _ _ _ _ (search rules))

@@ -1,0 +1,48 @@
+//! What became of the indexes of a set that was compacted.
+ghost use Rattle.std.specs.Prelude.{◌≡◌, ◌↔◌, IsTrue};
+ghost use Rattle.iddqd.specs.Compaction.{CanRemap, remapped};
+ghost use Rattle.iddqd.specs.declared.index_remap.IndexRemap.TheVariants.{Identity};
+
+use crate::item_index::ItemIndex;
+
+/// The new name of each old index.
+#[derive(Debug, PartialEq, Eq, Drop)]
+pub enum IndexRemap {
+    /// Every index kept its name.
+    Identity,
+    /// The new index of each old slot, or `SENTINEL` for a slot that was vacant.
+    Permuted(Vec<ItemIndex>),
+}
+
+impl IndexRemap {
+    /// Whether every index kept its name without a list.
+    pub fn is_identity(&self) -> bool
+        ensures { IsTrue result ↔ (self.now ≡ Identity) }
+    {
+        matches!(self, IndexRemap::Identity)
+    }
+
+    /// Whether the old index has a new name: it was live when the set was compacted.
+    pub fn can_remap(&self, old: ItemIndex) -> bool
+        ensures { IsTrue result ↔ CanRemap self.now old }
+    {
+        match self {
+            IndexRemap::Identity => true,
+            IndexRemap::Permuted(names) => match names.get(old.as_u32() as usize) {
+                Some(name) => *name != ItemIndex::SENTINEL,
+                None => false,
+            },
+        }
+    }
+
+    /// The new name of an old index that has one.
+    pub fn remap(&self, old: ItemIndex) -> ItemIndex
+        requires { CanRemap self.now old }
+        ensures { result ≡ remapped self.now old }
+    {
+        match self {
+            IndexRemap::Identity => old,
+            IndexRemap::Permuted(names) => names[old.as_u32() as usize],
+        }
+    }
+}

@@ -1,0 +1,128 @@
+-- Compaction keeps store and tables paired and in order.
+use Rattle.std.proofs.Common.{◌≡◌, ◌∙◌, ◌↔◌, ℕ, Bool, List, [], ◌∷◌, map, Option, Some, None, IsSome, option_map, refl, sym, ap, subst}
+use Rattle.std.specs.List.{Contains}
+use Rattle.std.specs.Ordering.{nat_cmp}
+use Rattle.std.specs.FinMap as finite
+use Rattle.std.specs.FinMap.{FinMap}
+use Rattle.std.specs.Cmp.Lexicographic.{options_total}
+use Rattle.iddqd.specs.Store.{Store, IsValid, get}
+use Rattle.iddqd.specs.Compaction.{IsRemapOf, CanRemap, remapped, compacted, rank}
+use Rattle.iddqd.specs.declared.index_remap.IndexRemap.{IndexRemap}
+use Rattle.iddqd.proofs.StoreLemmas.{contains_head, contains_tail}
+use Rattle.iddqd.proofs.CompactionLemmas.{IsValid-compacted, get-compacted, live-compacted, rank_rises, rank_one_to_one, CanRemap-live}
+use Rattle.iddqd_hash.specs.MapHashTable.{Renames}
+use Rattle.iddqd_order.proofs.KeyOrderLemmas.{IsInKeyOrder-renamed}
+use Rattle.iddqd_order.proofs.RenameLemmas.{Contains-map, Contains-from_map, IsDistinct-map}
+use Rattle.iddqd_keyed.specs.Keys.{Keys}
+use Rattle.iddqd_keyed.specs.State.{State, IsLive, AreApart, IsPaired, IsSorted, InOrder, Keeps, Compacts, second_at}
+use Rattle.iddqd_keyed.proofs.KeyLemmas.{AreLawful}
+use Rattle.iddqd_keyed.proofs.StoreLemmas.{item_at, live_at}
+
+-- what is filed has a hash
+filed_hash : (o : Option ℕ) → IsSome o → (hash : ℕ) × (o ≡ Some hash)
+filed_hash (Some hash) here = (hash, refl)
+filed_hash None here = absurd (cc)
+
+pub filed_at : (o : Option ℕ) (hash : ℕ) → o ≡ Some hash → IsSome o
+filed_at o hash is = rw is refl
+
+-- names that agree on what is filed rename alike
+pub Renames-alike : (f g : ℕ → ℕ) (old new : FinMap nat_cmp ℕ) → ((ix : ℕ) → IsSome (finite.get old ix) → f ix ≡ g ix) → Renames f old new → Renames g old new
+Renames-alike f g old new same renames = record {
+  each = λ ix hash is. subst (λ at. finite.get new at ≡ Some hash) (same ix (filed_at _ hash is)) (renames.each ix hash is);
+  no_other = λ at hash is.
+  let (ix, named, was) = renames.no_other at hash is in
+  (ix, sym (same ix (filed_at _ hash was)) ∙ named, was);
+}
+
+-- and those that agree on the members of a list
+pub map-alike : (f g : ℕ → ℕ) (xs : List ℕ) → ((x : ℕ) → Contains xs x → f x ≡ g x) → map f xs ≡ map g xs
+map-alike f g [] same = refl
+map-alike f g (x ∷ xs) same = λ i. same x (contains_head x xs) i ∷ map-alike f g xs (λ y here. same y (contains_tail x y xs here)) i
+
+-- what a store's remap says of a live index
+module _ {T : Type 0} (s : Store T) (remap : IndexRemap) (valid : IsValid s) (is : IsRemapOf s remap) where
+  pub renames : (ix : ℕ) → IsLive s ix → CanRemap remap ix × (remapped remap ix ≡ rank s ix)
+  renames ix live =
+      let (item, here) = item_at s ix live in
+      CanRemap-live s remap valid is ix item here
+
+  pub one_name : (i j : ℕ) → IsLive s i → IsLive s j → remapped remap i ≡ remapped remap j → i ≡ j
+  one_name i j p q same = rank_one_to_one s i j p q (sym (renames i p).1 ∙ same ∙ (renames j q).1)
+
+-- where the store was compacted, and both tables renamed by its remap, all went by rank
+pub Compacts-from_remap : {T S : Type 0} (old new : State T S) (remap : IndexRemap) → IsPaired old → IsRemapOf old.store remap → new.hasher ≡ old.hasher → new.store ≡ compacted old.store → Renames (remapped remap) old.filed new.filed → new.order ≡ map (remapped remap) old.order → Compacts old new
+Compacts-from_remap old new remap was is hasher store filed order = record {
+  hasher = hasher;
+  store = store;
+  filed = Renames-alike (remapped remap) (rank old.store) old.filed new.filed (λ ix here. (renames old.store remap was.valid is ix ((was.filed ix).0 here)).1) filed;
+  order = order ∙ map-alike (remapped remap) (rank old.store) old.order (λ ix here. (renames old.store remap was.valid is ix ((was.ordered ix).0 here)).1);
+}
+
+module _ {T S : Type 0} (old new : State T S) (compacts : Compacts old new) (was : IsPaired old) where
+  live_of : (ix : ℕ) → IsSome (finite.get old.filed ix) → IsLive old.store ix
+  live_of ix here = (was.filed ix).0 here
+
+  one_to_one : (i j : ℕ) → IsLive old.store i → IsLive old.store j → rank old.store i ≡ rank old.store j → i ≡ j
+  one_to_one i j p q same = rank_one_to_one old.store i j p q same
+
+  filed_compacted : (at : ℕ) → IsSome (finite.get new.filed at) ↔ IsLive (compacted old.store) at
+  filed_compacted at =
+      (λ here.
+      let (hash, is) = filed_hash _ here in
+      let (ix, named, stood) = compacts.filed.no_other at hash is in
+      let (item, live) = item_at old.store ix (live_of ix (filed_at _ hash stood)) in
+      subst (IsLive (compacted old.store)) named (live_at (compacted old.store) _ item (get-compacted old.store ix item live)),
+      λ live.
+      let (item, is) = item_at (compacted old.store) at live in
+      let (ix, named, stood) = live-compacted old.store at item is in
+      let (hash, filed) = filed_hash _ ((was.filed ix).1 (live_at old.store ix item stood)) in
+      subst (λ at. IsSome (finite.get new.filed at)) named (filed_at _ hash (compacts.filed.each ix hash filed)))
+
+  ordered_compacted : (at : ℕ) → Contains (map (rank old.store) old.order) at ↔ IsLive (compacted old.store) at
+  ordered_compacted at =
+      (λ here.
+      let (ix, stood, named) = Contains-from_map (rank old.store) old.order at here in
+      let (item, live) = item_at old.store ix ((was.ordered ix).0 stood) in
+      subst (IsLive (compacted old.store)) named (live_at (compacted old.store) _ item (get-compacted old.store ix item live)),
+      λ live.
+      let (item, is) = item_at (compacted old.store) at live in
+      let (ix, named, stood) = live-compacted old.store at item is in
+      subst (Contains (map (rank old.store) old.order)) named (Contains-map (rank old.store) old.order ix ((was.ordered ix).1 (live_at old.store ix item stood))))
+
+  pub IsPaired-compacted : IsPaired new
+  IsPaired-compacted = record {
+    valid = subst IsValid (sym compacts.store) (IsValid-compacted old.store was.valid);
+    filed = λ at. rw compacts.store (filed_compacted at);
+    ordered = λ at. rw (compacts.store, compacts.order) (ordered_compacted at);
+    once = rw compacts.order (IsDistinct-map (rank old.store) old.order (λ i j p q same. one_to_one i j ((was.ordered i).0 p) ((was.ordered j).0 q) same) was.once);
+  }
+
+  AreApart-compacted : (alike : T → T → Bool) → AreApart alike old.store → AreApart alike (compacted old.store)
+  AreApart-compacted alike apart i j x y p q same =
+      let (ix, named, here) = live-compacted old.store i x p in
+      let (jx, other, there) = live-compacted old.store j y q in
+      sym named ∙ ap (rank old.store) (apart ix jx x y here there same) ∙ other
+
+  module _ {K1 K2 : Type 0} (keys : Keys T K1 K2 S) (lawful : AreLawful keys) where
+    IsSorted-compacted : IsSorted keys old → IsSorted keys new
+    IsSorted-compacted sorted =
+        rw (compacts.store, compacts.order) (IsInKeyOrder-renamed (options_total lawful.total) (second_at keys old.store) (second_at keys (compacted old.store)) (rank old.store) old.order
+        (λ i here.
+        let (item, live) = item_at old.store i ((was.ordered i).0 here) in
+        ap (λ o. option_map keys.second o) (get-compacted old.store i item live ∙ sym live))
+        (λ i j here there less. rank_rises old.store i j less ((was.ordered i).0 here))
+        sorted)
+
+    InOrder-compacted : InOrder keys old → InOrder keys new
+    InOrder-compacted o = record {
+      filed = λ at item is.
+      let (ix, named, stood) = live-compacted old.store at item (subst (λ s. get s at ≡ Some item) compacts.store is) in
+      rw (compacts.hasher, ← named) (compacts.filed.each ix _ (o.filed ix item stood));
+      sorted = IsSorted-compacted o.sorted;
+      first = subst (AreApart _) (sym compacts.store) (AreApart-compacted _ o.first);
+      second = subst (AreApart _) (sym compacts.store) (AreApart-compacted _ o.second);
+    }
+
+    pub Keeps-compacted : Keeps keys old new
+    Keeps-compacted = record { paired = (was, IsPaired-compacted); sorted = IsSorted-compacted; in_order = InOrder-compacted }
