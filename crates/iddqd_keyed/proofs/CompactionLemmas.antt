@@ -31,8 +31,8 @@ pub Renames-alike : (f g : ℕ → ℕ) (old new : FinMap nat_cmp ℕ) → ((ix 
 Renames-alike f g old new same renames = record {
   each = λ ix hash is. subst (λ at. finite.get new at ≡ Some hash) (same ix (filed_at _ hash is)) (renames.each ix hash is);
   no_other = λ at hash is.
-  let (ix, named, was) = renames.no_other at hash is in
-  (ix, sym (same ix (filed_at _ hash was)) ∙ named, was);
+      let (ix, named, was) = renames.no_other at hash is in
+      (ix, sym (same ix (filed_at _ hash was)) ∙ named, was);
 }
 
 -- and those that agree on the members of a list
@@ -67,28 +67,30 @@ module _ {T S : Type 0} (old new : State T S) (compacts : Compacts old new) (was
   one_to_one i j p q same = rank_one_to_one old.store i j p q same
 
   filed_compacted : (at : ℕ) → IsSome (finite.get new.filed at) ↔ IsLive (compacted old.store) at
-  filed_compacted at =
-      (λ here.
-      let (hash, is) = filed_hash _ here in
-      let (ix, named, stood) = compacts.filed.no_other at hash is in
-      let (item, live) = item_at old.store ix (live_of ix (filed_at _ hash stood)) in
-      subst (IsLive (compacted old.store)) named (live_at (compacted old.store) _ item (get-compacted old.store ix item live)),
-      λ live.
-      let (item, is) = item_at (compacted old.store) at live in
-      let (ix, named, stood) = live-compacted old.store at item is in
-      let (hash, filed) = filed_hash _ ((was.filed ix).1 (live_at old.store ix item stood)) in
-      subst (λ at. IsSome (finite.get new.filed at)) named (filed_at _ hash (compacts.filed.each ix hash filed)))
+  filed_compacted at = (
+    λ here.
+        let (hash, is) = filed_hash _ here in
+        let (ix, named, stood) = compacts.filed.no_other at hash is in
+        let (item, live) = item_at old.store ix (live_of ix (filed_at _ hash stood)) in
+        subst (IsLive (compacted old.store)) named (live_at (compacted old.store) _ item (get-compacted old.store ix item live)),
+    λ live.
+        let (item, is) = item_at (compacted old.store) at live in
+        let (ix, named, stood) = live-compacted old.store at item is in
+        let (hash, filed) = filed_hash _ ((was.filed ix).1 (live_at old.store ix item stood)) in
+        subst (λ at. IsSome (finite.get new.filed at)) named (filed_at _ hash (compacts.filed.each ix hash filed)),
+  )
 
   ordered_compacted : (at : ℕ) → Contains (map (rank old.store) old.order) at ↔ IsLive (compacted old.store) at
-  ordered_compacted at =
-      (λ here.
-      let (ix, stood, named) = Contains-from_map (rank old.store) old.order at here in
-      let (item, live) = item_at old.store ix ((was.ordered ix).0 stood) in
-      subst (IsLive (compacted old.store)) named (live_at (compacted old.store) _ item (get-compacted old.store ix item live)),
-      λ live.
-      let (item, is) = item_at (compacted old.store) at live in
-      let (ix, named, stood) = live-compacted old.store at item is in
-      subst (Contains (map (rank old.store) old.order)) named (Contains-map (rank old.store) old.order ix ((was.ordered ix).1 (live_at old.store ix item stood))))
+  ordered_compacted at = (
+    λ here.
+        let (ix, stood, named) = Contains-from_map (rank old.store) old.order at here in
+        let (item, live) = item_at old.store ix ((was.ordered ix).0 stood) in
+        subst (IsLive (compacted old.store)) named (live_at (compacted old.store) _ item (get-compacted old.store ix item live)),
+    λ live.
+        let (item, is) = item_at (compacted old.store) at live in
+        let (ix, named, stood) = live-compacted old.store at item is in
+        subst (Contains (map (rank old.store) old.order)) named (Contains-map (rank old.store) old.order ix ((was.ordered ix).1 (live_at old.store ix item stood))),
+  )
 
   pub IsPaired-compacted : IsPaired new
   IsPaired-compacted = record {
@@ -117,8 +119,8 @@ module _ {T S : Type 0} (old new : State T S) (compacts : Compacts old new) (was
     InOrder-compacted : InOrder keys old → InOrder keys new
     InOrder-compacted o = record {
       filed = λ at item is.
-      let (ix, named, stood) = live-compacted old.store at item (subst (λ s. get s at ≡ Some item) compacts.store is) in
-      rw (compacts.hasher, ← named) (compacts.filed.each ix _ (o.filed ix item stood));
+          let (ix, named, stood) = live-compacted old.store at item (subst (λ s. get s at ≡ Some item) compacts.store is) in
+          rw (compacts.hasher, ← named) (compacts.filed.each ix _ (o.filed ix item stood));
       sorted = IsSorted-compacted o.sorted;
       first = subst (AreApart _) (sym compacts.store) (AreApart-compacted _ o.first);
       second = subst (AreApart _) (sym compacts.store) (AreApart-compacted _ o.second);

@@ -1,9 +1,3 @@
-pub mod ByteLemmas
-pub mod DigitLemmas
-pub mod SplitLemmas
-pub mod LineLemmas
-pub mod LineBufferLemmas
-pub mod ServeLemmas
 pub mod StoreLemmas
 pub mod MemberLemmas
 pub mod PairedLemmas

@@ -2,8 +2,3 @@ pub mod Keys
 pub mod State
 pub mod Machine
 pub mod Run
-pub mod Split
-pub mod Line
-pub mod Program
-pub mod Replies
-pub mod Serve

@@ -4,9 +4,9 @@
 //! where reading or writing failed, which standard error then tells.
 #![tactic(auto)]
 
-use iddqd_keyed::serve::{ServeFault, serve};
-use iddqd_keyed::sink::WriteSink;
-use iddqd_keyed::source::ReadSource;
+use iddqd_lines::serve::{ServeFault, serve};
+use iddqd_lines::sink::WriteSink;
+use iddqd_lines::source::ReadSource;
 use std::io;
 use std::process::ExitCode;
 

@@ -1,8 +1,0 @@
-use Rattle.std.proofs.Common.{◌++◌, take, ap, ◌∙◌}
-use Rattle.iddqd_keyed.proofs.LineBufferLemmas.{take-take, take-kept}
-use Rattle.iddqd_keyed.proofs.serve.end_line.Goals as goal
-
-pub returns-clause-obeys : goal.returns-clause-obeys
-returns-clause-obeys g c = λ line kept.
-    let whole = ap (λ l. take 129 (l ++ c.args.end.now)) kept ∙ take-kept 129 line c.args.end.now in
-    c.in_ok-obey.ensures (line ++ c.args.end.now) (rw (c.as_slice.ensures, c.extend.ensures) (take-take 129 _ ∙ whole))

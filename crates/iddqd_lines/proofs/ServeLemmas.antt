@@ -1,0 +1,278 @@
+-- How the answers to lines join, and what they are over a whole input.
+use Rattle.std.proofs.Common.{◌≡◌, ◌==◌, false, ℕ, Option, Some, None, IfSome, MatchOption, List, [], ◌∷◌, ◌++◌, length, take, codes, refl, sym, ap, subst, ◌∙◌, append_assoc, append-nil, arith}
+use Rattle.std.specs.List.{All, slice_split}
+use Rattle.std.specs.Io.KnownBytes.{Appends, Consumes, IsAtEnd}
+use Rattle.std.specs.declared.hash.FoldHasher.{FoldHasher}
+use Rattle.std.specs.declared.hash.BuildHasherDefault.{BuildHasherDefault}
+use Rattle.std.proofs.lemmas.List.Elements.{All-append, All-head, All-tail, All-nil, All-cons}
+use Rattle.std.proofs.lemmas.List.Splits.{slice_split_at, slice_split_none}
+use Rattle.iddqd_keyed.specs.State.{State, empty_state}
+use Rattle.iddqd_keyed.specs.Machine.{Step}
+use Rattle.iddqd_lines.specs.Line.{is_line_feed, lines_of, without_empty_last, command_of, text_of}
+use Rattle.iddqd_lines.specs.Split.{HasNo, IsCut}
+use Rattle.iddqd_lines.specs.Replies.{sent_bytes}
+use Rattle.iddqd_lines.specs.Program.{record_keys, AnswersCommand, Line, Serves, default_hash, IsDefaultHasher, ServesAll}
+use Rattle.iddqd_lines.specs.Serve.{ended, IsKept, Obeys, Feeds}
+use Rattle.iddqd_lines.specs.declared.record.Record.{Record}
+use Rattle.iddqd_keyed.specs.declared.command.Command.{Command}
+use Rattle.iddqd_keyed.specs.declared.command.Command.TheVariants.{Insert, Find1, Find2, Remove, Remove1, Remove2, Compact, Walk}
+use Rattle.iddqd_keyed.specs.declared.command.Reply.{Reply}
+use Rattle.iddqd_keyed.specs.declared.command.Reply.TheVariants.{Inserted, Refused, Found, Removed, Compacted, Walked, NoMemory}
+use Rattle.iddqd_lines.proofs.ByteLemmas.{Appends-trans, Appends-nil, consumed, at_end}
+use Rattle.iddqd_lines.proofs.LineLemmas.{command_of-kept}
+use Rattle.iddqd_lines.proofs.LineBufferLemmas.{take-kept, take-take}
+
+-- a line and what follows, where nothing waits
+pub sent_bytes-nil : (written : Option (List ℕ)) → sent_bytes written [] ≡ written
+sent_bytes-nil None = refl
+sent_bytes-nil (Some bytes) = ap Some (append-nil bytes)
+
+module _ {S : Type 0} (hash : S → ℕ → ℕ) where
+  -- the words of a reply are the same over the store before the step and after it
+  pub text_of-step : (old new : State Record S) (command : Command Record ℕ ℕ) (reply : Reply Record) → Step (record_keys hash) old command reply new → text_of new.store reply ≡ text_of old.store reply
+  text_of-step old new command (Inserted ix) step = refl
+  text_of-step old new command (Refused refusal) step = refl
+  text_of-step old new command (Found None) step = refl
+  text_of-step old new (Find1 key) (Found (Some ix)) step = ap (λ s. text_of s.store (Found (Some ix))) step.answers.1
+  text_of-step old new (Find2 key) (Found (Some ix)) step = ap (λ s. text_of s.store (Found (Some ix))) step.answers.1
+  text_of-step old new (Insert item) (Found (Some ix)) step = absurd step.answers
+  text_of-step old new (Remove at) (Found (Some ix)) step = absurd step.answers
+  text_of-step old new (Remove1 key) (Found (Some ix)) step = absurd step.answers
+  text_of-step old new (Remove2 key) (Found (Some ix)) step = absurd step.answers
+  text_of-step old new Compact (Found (Some ix)) step = absurd step.answers
+  text_of-step old new Walk (Found (Some ix)) step = absurd step.answers
+  text_of-step old new command (Removed None) step = refl
+  text_of-step old new command (Removed (Some (ix, item))) step = refl
+  text_of-step old new command (Compacted remap) step = refl
+  text_of-step old new command (Walked indexes) step = refl
+  text_of-step old new command NoMemory step = refl
+
+  -- a command's line is answered
+  pub Line-command : (old new : State Record S) (kept line out : List ℕ) (command : Command Record ℕ ℕ) (reply : Reply Record) → take 129 kept ≡ take 129 line → Some command ≡ command_of kept → Step (record_keys hash) old command reply new → out ≡ text_of new.store reply → Line hash old line out new
+  Line-command old new kept line out command reply same is step text =
+      subst (λ o. MatchOption o ((out ≡ codes "bad line") × (new ≡ old)) (AnswersCommand hash old line out new)) (is ∙ command_of-kept kept line same)
+      (record { reply = reply; step = step; text = text ∙ text_of-step old new command reply step })
+
+  -- and so is any other
+  pub Line-other : (old : State Record S) (kept line : List ℕ) → take 129 kept ≡ take 129 line → None ≡ command_of kept → Line hash old line (codes "bad line") old
+  Line-other old kept line same is =
+      subst (λ o. MatchOption o ((codes "bad line" ≡ codes "bad line") × (old ≡ old)) (AnswersCommand hash old line (codes "bad line") old)) (is ∙ command_of-kept kept line same) (refl, refl)
+
+  -- some lines, and then others
+  Serves-append : (old mid new : State Record S) (lines more : List (List ℕ)) (bytes rest : List ℕ) → Serves hash old lines bytes mid → Serves hash mid more rest new → Serves hash old (lines ++ more) (bytes ++ rest) new
+  Serves-append old mid new [] more bytes rest p q =
+      subst (λ b. Serves hash old more (b ++ rest) new) (sym p.0) (subst (λ s. Serves hash s more rest new) p.1 q)
+  Serves-append old mid new (line ∷ lines) more bytes rest p q =
+      (p.0, p.1, p.2 ++ rest, p.3, ap (λ b. b ++ rest) p.4 ∙ append_assoc p.0 (10 ∷ p.2) rest, Serves-append p.1 mid new lines more p.2 rest p.5 q)
+
+HasNo-append : (xs ys : List ℕ) → HasNo 10 xs → HasNo 10 ys → HasNo 10 (xs ++ ys)
+HasNo-append xs ys p q = All-append (λ b. (b == 10) ≡ false) xs ys p q
+
+HasNo-nil : HasNo 10 []
+HasNo-nil = All-nil (λ b. (b == 10) ≡ false)
+
+ended-append : (lines more : List (List ℕ)) → ended (lines ++ more) ≡ ended lines ++ ended more
+ended-append [] more = refl
+ended-append (line ∷ lines) more = ap (λ l. line ++ 10 ∷ l) (ended-append lines more) ∙ sym (append_assoc line (10 ∷ ended lines) (ended more))
+
+-- the parts of some lines, each with its line feed, and the bytes of one that has begun
+split-ended : (lines : List (List ℕ)) (left : List ℕ) → All (HasNo 10) lines → HasNo 10 left → slice_split is_line_feed (ended lines ++ left) ≡ lines ++ left ∷ []
+split-ended [] left each last = slice_split_none is_line_feed left last
+split-ended (line ∷ lines) left each last =
+    ap (slice_split is_line_feed) (append_assoc line (10 ∷ ended lines) left)
+    ∙ slice_split_at is_line_feed line 10 (ended lines ++ left) (All-head (HasNo 10) line lines each) refl
+    ∙ ap (λ l. line ∷ l) (split-ended lines left (All-tail (HasNo 10) line lines each) last)
+
+last_dropped : (lines : List (List ℕ)) → without_empty_last (lines ++ [] ∷ []) ≡ lines
+last_dropped [] = refl
+last_dropped ([] ∷ []) = refl
+last_dropped ([] ∷ line ∷ lines) = ap (λ l. [] ∷ l) (last_dropped (line ∷ lines))
+last_dropped ((b ∷ bs) ∷ lines) = ap (λ l. (b ∷ bs) ∷ l) (last_dropped lines)
+
+last_kept : (lines : List (List ℕ)) (b : ℕ) (bs : List ℕ) → without_empty_last (lines ++ (b ∷ bs) ∷ []) ≡ lines ++ (b ∷ bs) ∷ []
+last_kept [] b bs = refl
+last_kept ([] ∷ []) b bs = refl
+last_kept ([] ∷ line ∷ lines) b bs = ap (λ l. [] ∷ l) (last_kept (line ∷ lines) b bs)
+last_kept ((c ∷ cs) ∷ lines) b bs = ap (λ l. (c ∷ cs) ∷ l) (last_kept lines b bs)
+
+module _ {S : Type 0} (hash : S → ℕ → ℕ) (before mid after : Option (List ℕ)) (old next new : State Record S) (begun : List ℕ) where
+  -- some bytes, and then others
+  pub Feeds-append : (bytes more kept last : List ℕ) (f : Feeds hash before mid old begun bytes next kept) → Feeds hash mid after next f.left more new last → Feeds hash before after old begun (bytes ++ more) new last
+  Feeds-append bytes more kept last f g =
+      record {
+        done = f.done ++ g.done;
+        left = g.left;
+        bytes_are =
+            sym (append_assoc begun bytes more) ∙ ap (λ l. l ++ more) f.bytes_are ∙ append_assoc (ended f.done) f.left more
+            ∙ ap (λ l. ended f.done ++ l) g.bytes_are ∙ sym (append_assoc (ended f.done) (ended g.done) g.left) ∙ ap (λ l. l ++ g.left) (sym (ended-append f.done g.done));
+        each_one_line = All-append (HasNo 10) f.done g.done f.each_one_line g.each_one_line;
+        keeps = g.keeps;
+        out = f.out ++ g.out;
+        serves = Serves-append hash old next new f.done g.done f.out g.out f.serves g.serves;
+        sent = Appends-trans before mid after f.out g.out f.sent g.sent;
+      }
+
+module _ {S : Type 0} (hash : S → ℕ → ℕ) where
+  -- before the first byte
+  pub Feeds-none : (sent : Option (List ℕ)) (old : State Record S) (begun kept : List ℕ) → IsKept kept begun → Feeds hash sent sent old begun [] old kept
+  Feeds-none sent old begun kept keeps =
+      record {
+        done = [];
+        left = begun;
+        bytes_are = append-nil begun;
+        each_one_line = All-nil (HasNo 10);
+        keeps = keeps;
+        out = [];
+        serves = (refl, refl);
+        sent = Appends-nil sent;
+      }
+
+  -- a line that ends
+  Feeds-end : (before after : Option (List ℕ)) (old new : State Record S) (begun end : List ℕ) → HasNo 10 begun → HasNo 10 end → Obeys hash before after old (begun ++ end) new → Feeds hash before after old begun (end ++ 10 ∷ []) new []
+  Feeds-end before after old new begun end one_line more o =
+      record {
+        done = (begun ++ end) ∷ [];
+        left = [];
+        bytes_are = sym (append_assoc begun end (10 ∷ [])) ∙ sym (append-nil ((begun ++ end) ++ 10 ∷ []));
+        each_one_line = All-cons (HasNo 10) (begun ++ end) [] (HasNo-append begun end one_line more) (All-nil (HasNo 10));
+        keeps = record { bytes = refl; one_line = HasNo-nil };
+        out = o.out ++ 10 ∷ [];
+        serves = (o.out, new, [], o.answers, refl, (refl, refl));
+        sent = o.sent;
+      }
+
+  -- a line that goes on
+  Feeds-begin : (sent : Option (List ℕ)) (old : State Record S) (begun bytes kept : List ℕ) → HasNo 10 begun → HasNo 10 bytes → kept ≡ take 129 (begun ++ bytes) → Feeds hash sent sent old begun bytes old kept
+  Feeds-begin sent old begun bytes kept one_line more is =
+      record {
+        done = [];
+        left = begun ++ bytes;
+        bytes_are = refl;
+        each_one_line = All-nil (HasNo 10);
+        keeps = record { bytes = is; one_line = HasNo-append begun bytes one_line more };
+        out = [];
+        serves = (refl, refl);
+        sent = Appends-nil sent;
+      }
+
+  -- one line more
+  pub Feeds-line : (before mid after : Option (List ℕ)) (old next new : State Record S) (begun seen kept last : List ℕ) (rest end more : List ℕ) → Feeds hash before mid old begun seen next kept → IsCut 10 rest end more → ((line : List ℕ) → kept ≡ take 129 line → Obeys hash mid after next (line ++ end) new) → last ≡ [] → Feeds hash before after old begun (seen ++ end ++ 10 ∷ []) new last
+  Feeds-line before mid after old next new begun seen kept last rest end more f cut obeys forgets =
+      let keeps = f.keeps in
+      rw (forgets, append_assoc) (Feeds-append hash before mid after old next new begun seen (end ++ 10 ∷ []) kept [] f (Feeds-end mid after next new f.left end keeps.one_line cut.first (obeys f.left keeps.bytes)))
+
+  -- the bytes behind the last line feed
+  pub Feeds-rest : (before mid : Option (List ℕ)) (old next : State Record S) (begun seen kept last rest : List ℕ) → Feeds hash before mid old begun seen next kept → HasNo 10 rest → last ≡ take 129 (kept ++ rest) → Feeds hash before mid old begun (seen ++ rest) next last
+  Feeds-rest before mid old next begun seen kept last rest f none is =
+      let keeps = f.keeps in
+      Feeds-append hash before mid mid old next next begun seen rest kept last f (Feeds-begin mid next f.left rest last keeps.one_line none (is ∙ ap (λ k. take 129 (k ++ rest)) keeps.bytes ∙ take-kept 129 f.left rest))
+
+-- what the loop over reads keeps, of the bytes that the source told at first
+pub record Reads {S : Type 0} (hash : S → ℕ → ℕ) (bytes : List ℕ) (left written now : Option (List ℕ)) (hasher : S) (items : State Record S) (kept : List ℕ) : Type 0 where
+  pub seen : List ℕ
+  pub rest : List ℕ
+  pub seen_and_rest : bytes ≡ seen ++ rest
+  pub left_is : left ≡ Some rest
+  pub feeds : Feeds hash written now (empty_state hasher) [] seen items kept
+
+module _ {S : Type 0} (hash : S → ℕ → ℕ) (told : Option (List ℕ)) (left after written now : Option (List ℕ)) (hasher : S) (items : State Record S) (kept : List ℕ) where
+  -- a read, and what it gave is fed
+  pub Reads-more : IfSome told (λ bytes. Reads hash bytes left written now hasher items kept) → (later : Option (List ℕ)) (bytes : List ℕ) (new : State Record S) (last : List ℕ) → Consumes left after bytes → ((line : List ℕ) → IsKept kept line → Feeds hash now later items line bytes new last) → IfSome told (λ all. Reads hash all after written later hasher new last)
+  Reads-more r later bytes new last taken fed = by_told told r
+    where
+      by_told : (told : Option (List ℕ)) → IfSome told (λ all. Reads hash all left written now hasher items kept) → IfSome told (λ all. Reads hash all after written later hasher new last)
+      by_told None r = tt
+      by_told (Some all) r =
+          let c = consumed left after r.rest bytes r.left_is taken in
+          let f = r.feeds in
+          record {
+            seen = r.seen ++ bytes;
+            rest = c.0;
+            seen_and_rest = r.seen_and_rest ∙ ap (λ l. r.seen ++ l) c.2 ∙ sym (append_assoc r.seen bytes c.0);
+            left_is = c.1;
+            feeds = Feeds-append hash written now later (empty_state hasher) items new [] r.seen bytes kept last f (fed f.left f.keeps);
+          }
+
+  -- at the end, all bytes were fed
+  pub Reads-end : IfSome told (λ bytes. Reads hash bytes left written now hasher items kept) → Consumes left after [] → IsAtEnd after → IfSome told (λ bytes. Feeds hash written now (empty_state hasher) [] bytes items kept)
+  Reads-end r taken ends = by_told told r
+    where
+      by_told : (told : Option (List ℕ)) → IfSome told (λ bytes. Reads hash bytes left written now hasher items kept) → IfSome told (λ bytes. Feeds hash written now (empty_state hasher) [] bytes items kept)
+      by_told None r = tt
+      by_told (Some all) r =
+          subst (λ l. Feeds hash written now (empty_state hasher) [] l items kept) (sym (r.seen_and_rest ∙ ap (λ l. r.seen ++ l) (at_end left after r.rest r.left_is taken ends) ∙ append-nil r.seen)) r.feeds
+
+-- before the first read
+pub Reads-none : {S : Type 0} (hash : S → ℕ → ℕ) (left written : Option (List ℕ)) (hasher : S) (items : State Record S) (kept waiting : List ℕ) → items ≡ empty_state hasher → kept ≡ [] → waiting ≡ [] → IfSome left (λ bytes. Reads hash bytes left written (sent_bytes written waiting) items.hasher items kept)
+Reads-none {S = S} hash left written hasher items kept waiting none no_line no_reply = by_left left
+  where
+    feeds : Feeds hash written (sent_bytes written waiting) (empty_state items.hasher) [] [] items kept
+    feeds =
+        subst (λ i. Feeds hash written (sent_bytes written waiting) (empty_state i.hasher) [] [] i kept) (sym none)
+        (rw (no_line, no_reply, sent_bytes-nil) (Feeds-none hash written (empty_state hasher) [] [] (record { bytes = refl; one_line = HasNo-nil })))
+
+    by_left : (left : Option (List ℕ)) → IfSome left (λ bytes. Reads hash bytes left written (sent_bytes written waiting) items.hasher items kept)
+    by_left None = tt
+    by_left (Some bytes) = record { seen = []; rest = bytes; seen_and_rest = refl; left_is = refl; feeds = feeds }
+
+-- a write of what waits sends nothing new
+pub Reads-flush : {S : Type 0} (hash : S → ℕ → ℕ) (told left written now later : Option (List ℕ)) (hasher : S) (items : State Record S) (kept : List ℕ) → IfSome told (λ bytes. Reads hash bytes left written now hasher items kept) → Appends now later [] → IfSome told (λ bytes. Reads hash bytes left written later hasher items kept)
+Reads-flush hash None left written now later hasher items kept r flushed = tt
+Reads-flush hash (Some bytes) left written now later hasher items kept r flushed =
+    let f = r.feeds in
+    let sent = subst (λ l. Appends written later l) (append-nil f.out) (Appends-trans written now later f.out [] f.sent flushed) in
+    record {
+      seen = r.seen;
+      rest = r.rest;
+      seen_and_rest = r.seen_and_rest;
+      left_is = r.left_is;
+      feeds = record { done = f.done; left = f.left; bytes_are = f.bytes_are; each_one_line = f.each_one_line; keeps = f.keeps; out = f.out; serves = f.serves; sent = sent };
+    }
+
+-- where no line has begun at the end, the lines are all answered
+pub ServesAll-whole : (told written now after : Option (List ℕ)) (hasher : BuildHasherDefault FoldHasher) (items : State Record (BuildHasherDefault FoldHasher)) (kept : List ℕ) → IsDefaultHasher hasher → IfSome told (λ bytes. Feeds default_hash written now (empty_state hasher) [] bytes items kept) → length kept ≡ 0 → Appends now after [] → IfSome told (λ bytes. ServesAll bytes written after)
+ServesAll-whole None written now after hasher items kept is_default f none flushed = tt
+ServesAll-whole (Some bytes) written now after hasher items (b ∷ bs) is_default f none flushed = absurd (omega arith)
+ServesAll-whole (Some bytes) written now after hasher items [] is_default f none flushed =
+    let keeps = f.keeps in
+    let last = empty_left f.left keeps.bytes in
+    let lines : lines_of bytes ≡ f.done =
+    ap lines_of (f.bytes_are ∙ ap (λ l. ended f.done ++ l) last)
+    ∙ ap without_empty_last (split-ended f.done [] f.each_one_line HasNo-nil) ∙ last_dropped f.done in
+    record {
+      hasher = hasher;
+      is_default = is_default;
+      bytes = f.out;
+      last = items;
+      serves = subst (λ ls. Serves default_hash (empty_state hasher) ls f.out items) (sym lines) f.serves;
+      written = subst (λ l. Appends written after l) (append-nil f.out) (Appends-trans written now after f.out [] f.sent flushed);
+    }
+  where
+    empty_left : (left : List ℕ) → [] ≡ take 129 left → left ≡ []
+    empty_left [] p = refl
+    empty_left (x ∷ xs) p = absurd (cc)
+
+-- and where one has, it is the last
+pub ServesAll-rest : (told written now later after : Option (List ℕ)) (hasher : BuildHasherDefault FoldHasher) (items new : State Record (BuildHasherDefault FoldHasher)) (kept : List ℕ) → IsDefaultHasher hasher → IfSome told (λ bytes. Feeds default_hash written now (empty_state hasher) [] bytes items kept) → (length kept ≡ 0 → ⊥) → ((line : List ℕ) → take 129 kept ≡ take 129 line → Obeys default_hash now later items line new) → Appends later after [] → IfSome told (λ bytes. ServesAll bytes written after)
+ServesAll-rest None written now later after hasher items new kept is_default f some obeys flushed = tt
+ServesAll-rest (Some bytes) written now later after hasher items new [] is_default f some obeys flushed = absurd (some refl)
+ServesAll-rest (Some bytes) written now later after hasher items new (b ∷ bs) is_default f some obeys flushed =
+    let keeps = f.keeps in
+    let begun = some_left f.left keeps.bytes in
+    let o = obeys f.left (ap (take 129) keeps.bytes ∙ take-take 129 f.left) in
+    let lines : lines_of bytes ≡ f.done ++ f.left ∷ [] =
+    ap lines_of f.bytes_are ∙ ap without_empty_last (split-ended f.done f.left f.each_one_line keeps.one_line)
+    ∙ subst (λ l. without_empty_last (f.done ++ l ∷ []) ≡ f.done ++ l ∷ []) (sym begun.2) (last_kept f.done begun.0 begun.1) in
+    let answered : Serves default_hash items (f.left ∷ []) (o.out ++ 10 ∷ []) new = (o.out, new, [], o.answers, refl, (refl, refl)) in
+    record {
+      hasher = hasher;
+      is_default = is_default;
+      bytes = f.out ++ o.out ++ 10 ∷ [];
+      last = new;
+      serves = subst (λ ls. Serves default_hash (empty_state hasher) ls (f.out ++ o.out ++ 10 ∷ []) new) (sym lines) (rw append_assoc (Serves-append default_hash (empty_state hasher) items new f.done (f.left ∷ []) f.out (o.out ++ 10 ∷ []) f.serves answered));
+      written = rw append_assoc (subst (λ l. Appends written after l) (append-nil (f.out ++ (o.out ++ 10 ∷ []))) (Appends-trans written later after (f.out ++ (o.out ++ 10 ∷ [])) [] (Appends-trans written now later f.out (o.out ++ 10 ∷ []) f.sent o.sent) flushed));
+    }
+  where
+    some_left : (left : List ℕ) → b ∷ bs ≡ take 129 left → (y : ℕ) × (ys : List ℕ) × (left ≡ y ∷ ys)
+    some_left [] p = absurd (cc)
+    some_left (y ∷ ys) p = (y, ys, refl)

@@ -1,0 +1,17 @@
+use Rattle.std.proofs.Common.{◌≡◌, ◌++◌, List, ℕ, length}
+use Rattle.iddqd_lines.specs.Program.{hash_u32}
+use Rattle.iddqd_lines.specs.Replies.{sent_bytes}
+use Rattle.iddqd_lines.specs.Serve.{IsKept, Feeds}
+use Rattle.iddqd_lines.proofs.serve.feed.Given as goal
+
+-- the bytes so far were fed
+abbrev pub invariant-loop-end : goal.invariant-loop-end
+invariant-loop-end g l =
+    (line : List ℕ) → IsKept l.fn.begun line → record {
+      seen : List ℕ;
+      seen_and_rest : l.fn.bytes ≡ seen ++ l.rest;
+      feeds : Feeds (hash_u32 g.S.BuildHasher g.S.Hasher.Hasher) (sent_bytes (g.O.Sink.written l.fn.output) l.fn.replies) (sent_bytes (g.O.Sink.written l.output) l.replies) l.fn.items line seen l.items l.begun;
+    }
+
+abbrev pub decreases-loop-end : goal.decreases-loop-end
+decreases-loop-end g l = length l.rest

@@ -1,0 +1,112 @@
+//! Lines, read as commands.
+ghost use Rattle.std.specs.Prelude.{◌≡◌, ◌∷◌, [], MatchOption};
+ghost use Rattle.std.specs.Option.{option_and_then};
+ghost use Rattle.std.specs.List.{slice_split};
+ghost use Rattle.iddqd_lines.specs.Line.{is_space, number_of, numbers_of, of_three, record_of, command_for, command_of};
+
+use crate::record::Record;
+use crate::split::split_at_first;
+use iddqd::item_index::ItemIndex;
+use iddqd_keyed::command::Command;
+
+/// The most bytes of a line that is a command.
+pub(crate) const MAX_LINE: usize = 128;
+
+/// The command that a line is, if it is one.
+pub(crate) fn parse(line: &[u8]) -> Option<Command<Record>>
+    ensures { result ≡ command_of line.now }
+{
+    if line.len() > MAX_LINE {
+        return None;
+    }
+    match split_word(line) {
+        (verb, Some(words)) => command(verb, words),
+        (verb, None) => lone_command(verb),
+    }
+}
+
+// The command of a verb that stands alone.
+fn lone_command(verb: &[u8]) -> Option<Command<Record>>
+    ensures { result ≡ command_for verb.now [] }
+{
+    if verb == b"walk".as_slice() {
+        Some(Command::Walk)
+    } else if verb == b"compact".as_slice() {
+        Some(Command::Compact)
+    } else {
+        None
+    }
+}
+
+// The command of a verb and the words behind it.
+fn command(verb: &[u8], words: &[u8]) -> Option<Command<Record>>
+    ensures { result ≡ option_and_then (command_for verb.now) (numbers_of (slice_split is_space words.now)) }
+{
+    if verb == b"insert".as_slice() {
+        Some(Command::Insert(record(words)?))
+    } else {
+        number_command(verb, number(words)?)
+    }
+}
+
+// The command of a verb and one number.
+fn number_command(verb: &[u8], number: u32) -> Option<Command<Record>>
+    ensures { result ≡ command_for verb.now (number ∷ []) }
+{
+    if verb == b"get1".as_slice() {
+        Some(Command::Find1(number))
+    } else if verb == b"get2".as_slice() {
+        Some(Command::Find2(number))
+    } else if verb == b"remove".as_slice() {
+        Some(Command::Remove(ItemIndex::new(number)))
+    } else if verb == b"remove1".as_slice() {
+        Some(Command::Remove1(number))
+    } else if verb == b"remove2".as_slice() {
+        Some(Command::Remove2(number))
+    } else {
+        None
+    }
+}
+
+// The first word, and what stands behind the space after it.
+fn split_word(words: &[u8]) -> (&[u8], Option<&[u8]>)
+    ensures { MatchOption result.1 (slice_split is_space words.now ≡ result.0.now ∷ []) (λ rest. slice_split is_space words.now ≡ result.0.now ∷ slice_split is_space rest.now) }
+{
+    match split_at_first(words, b' ') {
+        Some((word, rest)) => (word, Some(rest)),
+        None => (words, None),
+    }
+}
+
+// The record of three numbers.
+fn record(words: &[u8]) -> Option<Record>
+    ensures { result ≡ option_and_then (of_three record_of) (numbers_of (slice_split is_space words.now)) }
+{
+    let (first, rest) = split_word(words);
+    let (second, value) = split_word(rest?);
+    Some(Record {
+        first: number(first)?,
+        second: number(second)?,
+        value: number(value?)?,
+    })
+}
+
+// The number that a word is.
+fn number(word: &[u8]) -> Option<u32>
+    ensures { result ≡ number_of word.now }
+{
+    if word.is_empty() {
+        return None;
+    }
+    let mut value = 0;
+    for byte in word {
+        if !byte.is_ascii_digit() {
+            return None;
+        }
+        value = 10 * value + u64::from(*byte - b'0');
+        if value > u64::from(u32::MAX) {
+            return None;
+        }
+    }
+    Some(value as u32)
+}

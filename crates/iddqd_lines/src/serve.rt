@@ -1,0 +1,161 @@
+//! The program: lines in, replies out.
+//!
+//! The input is read and the replies are written in blocks of fixed size, so the loop takes no memory
+//! of its own. A line that ends in the block that it began in is read where it stands; of one that
+//! goes on in the next block, a beginning is kept.
+ghost use Rattle.std.specs.Prelude.{◌≡◌, ◌++◌, [], List, ℕ, take, OnOk, IfSome, false};
+ghost use Rattle.std.specs.Io.KnownBytes.{Appends};
+ghost use Rattle.iddqd_lines.specs.Program.{hash_u32, ServesAll};
+ghost use Rattle.iddqd_lines.specs.Replies.{sent_bytes};
+ghost use Rattle.iddqd_lines.specs.Serve.{IsKept, Obeys, Feeds};
+
+use crate::line::parse;
+use crate::line_buffer::LineBuffer;
+use crate::record::Record;
+use crate::replies::Replies;
+use crate::sink::Sink;
+use crate::source::Source;
+use crate::split::split_at_first;
+use iddqd::hash_builder::DefaultHashBuilder;
+use iddqd_keyed::keyed_items::KeyedItems;
+use std::alloc::Global;
+use std::hash::BuildHasher;
+
+/// How many bytes are read at once.
+const BLOCK: usize = 8192;
+
+/// Why `serve` stopped before the end of its input.
+#[derive(Clone, Copy, Debug, PartialEq, Eq)]
+pub enum ServeFault {
+    /// The source failed. The replies of all whole lines before were written, and a line that had
+    /// begun wasn't obeyed.
+    Read,
+    /// The sink failed. The replies before and a beginning of the one that was being written went out.
+    Write,
+}
+
+/// Obeys each line of the input, and answers each with a line.
+///
+/// It keeps records of three numbers, the first two of which are the keys, and knows these lines:
+///
+/// - `insert 1 10 100` takes a record: `inserted 0`, `duplicate 0 -`, `full` or `no memory`.
+/// - `get1 1` and `get2 10` find a record by its first and by its second key: `0 1 10 100` or `none`.
+/// - `remove 0`, `remove1 1` and `remove2 10` remove the record at an index, with a first key and with
+///   a second key, and are answered as a find.
+/// - `walk` tells the indexes in the order of the second keys: `1 0 2`, `empty` or `no memory`.
+/// - `compact` moves the records, in their order, to the indexes from 0 on, and tells the new name of each
+///   old index: `identity`, `permuted 0 - 1` with a dash where there was none, or `no memory`.
+///
+/// Every other line is answered `bad line`. All replies are out before it reads on. After
+/// 18446744073709551615 reads without an end it stops as at a failed read.
+pub fn serve<I: Source, O: Sink>(
+    alloc: Global,
+    input: &mut I,
+    output: &mut O,
+) -> Result<(), ServeFault>
+    requires reads { I.has_failed input.old ≡ false }
+    requires writes { O.has_failed output.old ≡ false }
+
+    // Where source and sink tell their bytes, each line has its reply.
+    ensures { OnOk result (IfSome (I.left input.old) (λ bytes. ServesAll bytes (O.written output.old) (O.written output.new))) }
+{
+    let mut items = KeyedItems::new(alloc, DefaultHashBuilder::default());
+    let mut begun = LineBuffer::new();
+    let mut replies = Replies::new();
+    let mut block = [0; BLOCK];
+    'reads: for _ in 0..u64::MAX {
+        flush(&mut replies, output)?;
+        let Ok(count) = input.read(&mut block) else {
+            return Err(ServeFault::Read);
+        };
+        if count == 0 {
+            if !begun.is_empty() {
+                obey(&mut items, begun.as_slice(), &mut replies, output)?;
+            }
+            flush(&mut replies, output)?;
+            return Ok(());
+        }
+        feed(
+            &mut items,
+            &mut begun,
+            &block[..count],
+            &mut replies,
+            output,
+        )?;
+    }
+    flush(&mut replies, output)?;
+    Err(ServeFault::Read)
+}
+
+// Writes all replies that wait.
+fn flush<O: Sink>(replies: &mut Replies, output: &mut O) -> Result<(), ServeFault>
+    ensures none_waits { OnOk result (replies.new ≡ []) }
+    ensures all { OnOk result (Appends (sent_bytes (O.written output.old) replies.old) (sent_bytes (O.written output.new) replies.new) []) }
+{
+    match replies.flush(output) {
+        Ok(()) => Ok(()),
+        Err(()) => Err(ServeFault::Write),
+    }
+}
+
+// Obeys the lines that these bytes end, and keeps what they begin.
+fn feed<S: BuildHasher, O: Sink>(
+    items: &mut KeyedItems<Record, S>,
+    begun: &mut LineBuffer,
+    bytes: &[u8],
+    replies: &mut Replies,
+    output: &mut O,
+) -> Result<(), ServeFault>
+    ensures { OnOk result ((line : List ℕ) → IsKept begun.old line → Feeds (hash_u32 S.BuildHasher S.Hasher.Hasher) (sent_bytes (O.written output.old) replies.old) (sent_bytes (O.written output.new) replies.new) items.old line bytes.now items.new begun.new) }
+{
+    let mut rest = bytes;
+    while let Some((end, after)) = split_at_first(rest, b'\n') {
+        end_line(items, begun, end, replies, output)?;
+        rest = after;
+    }
+    begun.extend(rest);
+    Ok(())
+}
+
+// Obeys the line that has begun and ends with these bytes.
+fn end_line<S: BuildHasher, O: Sink>(
+    items: &mut KeyedItems<Record, S>,
+    begun: &mut LineBuffer,
+    end: &[u8],
+    replies: &mut Replies,
+    output: &mut O,
+) -> Result<(), ServeFault>
+    ensures obeys { OnOk result ((line : List ℕ) → begun.old ≡ take 129 line → Obeys (hash_u32 S.BuildHasher S.Hasher.Hasher) (sent_bytes (O.written output.old) replies.old) (sent_bytes (O.written output.new) replies.new) items.old (line ++ end.now) items.new) }
+    ensures forgets { OnOk result (begun.new ≡ []) }
+{
+    if begun.is_empty() {
+        return obey(items, end, replies, output);
+    }
+    begun.extend(end);
+    obey(items, begun.as_slice(), replies, output)?;
+    begun.clear();
+    Ok(())
+}
+
+// Answers a line. Of a line of more than 128 bytes, what stands behind the first 129 may be left out.
+fn obey<S: BuildHasher, O: Sink>(
+    items: &mut KeyedItems<Record, S>,
+    line: &[u8],
+    replies: &mut Replies,
+    output: &mut O,
+) -> Result<(), ServeFault>
+    ensures { OnOk result ((whole : List ℕ) → take 129 line.now ≡ take 129 whole → Obeys (hash_u32 S.BuildHasher S.Hasher.Hasher) (sent_bytes (O.written output.old) replies.old) (sent_bytes (O.written output.new) replies.new) items.old whole items.new) }
+{
+    let Ok(()) = replies.make_room(output) else {
+        return Err(ServeFault::Write);
+    };
+    let Some(command) = parse(line) else {
+        replies.put_bad_line();
+        return Ok(());
+    };
+    let reply = items.step(command);
+    match replies.put_reply(items, &reply, output) {
+        Ok(()) => Ok(()),
+        Err(()) => Err(ServeFault::Write),
+    }
+}

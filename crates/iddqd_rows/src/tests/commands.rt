@@ -1,0 +1,81 @@
+//! Commands from a fixed generator.
+use iddqd::item_index::ItemIndex;
+use iddqd_keyed::command::Command;
+use iddqd_lines::record::Record;
+use std::alloc::AllocError;
+
+/// How many commands a test takes.
+pub(super) const COMMANDS: u32 = 10_000;
+
+/// Gives commands of all kinds, over first keys, second keys and indexes below `range`.
+///
+/// Of each 2000 commands most of the first 1000 insert, so the items grow and shrink in turn.
+#[derive(Drop)]
+pub(super) struct Generator {
+    range: u32,
+    given: u32,
+    state: u64,
+}
+
+impl Generator {
+    pub(super) fn new(range: u32) -> Generator {
+        Generator {
+            range,
+            given: 0,
+            state: 1,
+        }
+    }
+
+    // The upper bits of the next number of a linear congruential generator, below the bound.
+    fn number(&mut self, bound: u32) -> u32 {
+        self.state = self
+            .state
+            .wrapping_mul(6364136223846793005)
+            .wrapping_add(1442695040888963407);
+        let upper = (self.state >> 33) as u32;
+        upper.checked_rem(bound).unwrap_or(0)
+    }
+
+    /// The next command.
+    pub(super) fn command(&mut self) -> Command<Record> {
+        let inserts = if self.given % 2000 < 1000 { 120 } else { 20 };
+        self.given = self.given.wrapping_add(1);
+        let kind = self.number(61 + inserts);
+        let first = self.number(self.range);
+        let second = self.number(self.range);
+        match kind {
+            0 => Command::Compact,
+            1..=10 => Command::Find1(first),
+            11..=20 => Command::Find2(second),
+            21..=30 => Command::Remove(ItemIndex::new(first)),
+            31..=40 => Command::Remove1(first),
+            41..=50 => Command::Remove2(second),
+            51..=60 => Command::Walk,
+            _ => Command::Insert(Record {
+                first,
+                second,
+                value: self.given,
+            }),
+        }
+    }
+}
+
+/// Writes the command as a line of the program.
+pub(super) fn put_line(lines: &mut String, command: &Command<Record>) -> Result<(), AllocError> {
+    match command {
+        Command::Insert(item) => {
+            writeln!(
+                lines,
+                "insert {} {} {}",
+                item.first, item.second, item.value
+            )
+        }
+        Command::Find1(key) => writeln!(lines, "get1 {key}"),
+        Command::Find2(key) => writeln!(lines, "get2 {key}"),
+        Command::Remove(ix) => writeln!(lines, "remove {ix}"),
+        Command::Remove1(key) => writeln!(lines, "remove1 {key}"),
+        Command::Remove2(key) => writeln!(lines, "remove2 {key}"),
+        Command::Compact => writeln!(lines, "compact"),
+        Command::Walk => writeln!(lines, "walk"),
+    }
+}
