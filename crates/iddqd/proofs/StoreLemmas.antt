@@ -7,7 +7,7 @@ use Rattle.std.proofs.lemmas.List.{get_or_past, get_or-set_same, get_or-set_othe
 use Rattle.std.proofs.lemmas.List.Elements.{Contains-get_or, recursion_from_All, All-from_recursion, All-contains}
 use Rattle.std.proofs.lemmas.List.Sums.{sum_by-set, sum_by_push}
 use Rattle.std.proofs.lemmas.Map.Keys.{IsDistinct-cons, IsDistinct-head, IsDistinct-tail}
-use Rattle.iddqd.specs.Store.{Store, get, IsVacant, IsValid, IsFull, empty, inserted, removed}
+use Rattle.iddqd.specs.Store.{Store, get, IsVacant, IsValid, IsFull, empty, inserted, removed, rebound}
 
 module _ {A : Type 0} where
   pub contains_head : (x : A) (xs : List A) → Contains (x ∷ xs) x
@@ -83,6 +83,42 @@ module _ {T : Type 0} where
       listed_if other vacant (inl same) = subst (λ i. Contains (ix ∷ s.free) i) (sym same) (contains_head ix s.free)
       listed_if other vacant (inr apart) =
           contains_tail ix other s.free ((valid.vacant other).1 (omega (arith, vacant.0, length-set s.items ix None), sym (get_or-set_other s.items ix other None None apart) ∙ vacant.1))
+
+  -- a live index that is given another item has it
+  pub get-rebound_at : (s : Store T) (ix : ℕ) (item x : T) → get s ix ≡ Some x → get (rebound s ix item) ix ≡ Some item
+  get-rebound_at s ix item x live = get_or-set_same s.items ix (Some item) None (live_within s.items ix x live)
+
+  -- and the others give what they gave
+  pub get-rebound_other : (s : Store T) (ix other : ℕ) (item : T) → other ≢ ix → get (rebound s ix item) other ≡ get s other
+  get-rebound_other s ix other item apart = get_or-set_other s.items ix other (Some item) None apart
+
+  pub IsValid-rebound : (s : Store T) (ix : ℕ) (item x : T) → IsValid s → get s ix ≡ Some x → IsValid (rebound s ix item)
+  IsValid-rebound s ix item x valid live =
+      let within = live_within s.items ix x live in
+      let same = length-set s.items ix (Some item) in
+      record {
+        distinct = valid.distinct;
+        vacant = λ other. (λ listed. still other listed, λ vacant. listed_if other vacant (cases_eq other ix));
+        counted =
+            let count = sum_by-set (λ o. cond (is_some o) 1 0) s.items ix (Some item) None within in
+            let before = rw live at count in
+            omega (arith, valid.counted, before, same);
+        small = omega (arith, valid.small, same);
+      }
+    where
+      still : (other : ℕ) → Contains s.free other → IsVacant (rebound s ix item) other
+      still other listed =
+          let was = (valid.vacant other).0 listed in
+          let apart : other ≢ ix = λ same. live_not_free s ix x valid live other listed (sym same) in
+          (omega (arith, was.0, length-set s.items ix (Some item)), get-rebound_other s ix other item apart ∙ was.1)
+
+      listed_if : (other : ℕ) → IsVacant (rebound s ix item) other → ((other ≡ ix) ⊎ (other ≡ ix → ⊥)) → Contains s.free other
+      listed_if other vacant (inl same) =
+          let none : get (rebound s ix item) ix ≡ None = subst (λ i. get (rebound s ix item) i ≡ None) same vacant.1 in
+          let bound = get-rebound_at s ix item x live in
+          absurd (cc)
+      listed_if other vacant (inr apart) =
+          (valid.vacant other).1 (omega (arith, vacant.0, length-set s.items ix (Some item)), sym (get-rebound_other s ix other item apart) ∙ vacant.1)
 
   pub IsValid-inserted : (s : Store T) (item : T) → IsValid s → (IsFull s → ⊥) → IsValid (inserted s item)
   unfolding IsDistinct

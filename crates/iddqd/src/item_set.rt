@@ -7,7 +7,7 @@ ghost use Rattle.std.specs.Prelude.{◌≡◌, ℕ, [], ◌+◌, ◌<◌, ◌≤
 ghost use Rattle.std.specs.Option.{option_copied_mut};
 ghost use Rattle.std.specs.Borrow.{sem, Lends, RestsIfErr};
 ghost use Rattle.iddqd.specs.Store.{get, slot_count, live_count, next_index, IsFull, IsValid, empty, inserted, removed};
-ghost use Rattle.iddqd.specs.ItemSet.{room, KeepsOthers, GrowsIfDense};
+ghost use Rattle.iddqd.specs.ItemSet.{room, with_item, KeepsOthers, GrowsIfDense};
 ghost use Rattle.iddqd.specs.Compaction.{rank, compacted, new_name, numbers, IsRemapOf};
 
 pub use crate::index_remap::IndexRemap;
@@ -164,6 +164,16 @@ impl<T> ItemSet<T> {
         Some(self.vacate(ix))
     }
 
+    /// Gives a live index another item, and hands the old one back. It takes no memory.
+    pub fn replace(&mut self, ix: ItemIndex, item: T) -> T
+        requires { IsSome (get self.old.store ix) }
+        ensures value { get self.old.store ix ≡ Some result }
+        ensures rebound { self.new ≡ with_item self.old ix item }
+        ensures others { KeepsOthers ix self.old.store self.new.store }
+    {
+        mem::replace(self.item_mut(ix), item)
+    }
+
     /// Takes the room for one more item, so that the insert through the handle can't fail.
     ///
     /// `Full` comes exactly where the set is full, also where no memory is left. `Memory` comes only
@@ -202,6 +212,19 @@ impl<T> ItemSet<T> {
         let names = self.new_names()?;
         self.close_up();
         Ok(IndexRemap::Permuted(names))
+    }
+
+    /// Forgets all items and all slots, so that the next index is 0. The memory is kept: none is
+    /// taken or given back.
+    pub fn clear(&mut self)
+    where
+        T: Drop,
+        ensures store { self.new.store ≡ empty }
+        ensures capacity { self.new.capacity ≡ self.old.capacity }
+    {
+        self.slots.clear();
+        self.free_head = ItemIndex::SENTINEL;
+        self.len = 0;
     }
 }
 

@@ -133,6 +133,41 @@ fn get_mut_writes_one_item(rt: HostRuntime) -> Result<(), Fail> {
 }
 
 #[test]
+fn replace_gives_one_index_another_item(rt: HostRuntime) -> Result<(), Fail> {
+    let mut set = with_a_vacant_slot(&rt, rt.alloc())?;
+    let room = set.room();
+    assert!(rt; set.get(ix(1)).is_some());
+    assert_eq!(rt; set.replace(ix(1), 21), 20);
+    for (at, want) in [(0, Some(&10)), (1, Some(&21)), (2, None), (3, Some(&40))] {
+        assert_eq!(rt; set.get(ix(at)), want, "at {at}");
+    }
+    assert_eq!(rt; (set.len(), set.slot_count(), set.room()), (3, 4, room));
+    assert_eq!(rt; insert(&rt, &mut set, 50)?, ix(2));
+    Ok(())
+}
+
+#[test]
+fn a_cleared_set_begins_anew_in_its_memory(rt: HostRuntime) -> Result<(), Fail> {
+    let mut set = with_a_vacant_slot(&rt, rt.alloc())?;
+    assert_eq!(rt; set.remove(ix(0)), Some(10));
+    let capacity = set.room().saturating_add(set.len());
+    assert!(rt; capacity >= 4, "four slots had memory");
+    set.clear();
+    assert_eq!(rt; (set.len(), set.slot_count(), set.room()), (0, 0, capacity));
+    for n in 0..4 {
+        assert_eq!(rt; set.get(ix(n)), None, "at {n}");
+        assert_eq!(rt; insert(&rt, &mut set, n)?, ix(n));
+    }
+    assert_eq!(rt; (set.len(), set.slot_count()), (4, 4));
+    assert_eq!(rt;
+        set.room(),
+        capacity.saturating_sub(4),
+        "no memory was taken"
+    );
+    Ok(())
+}
+
+#[test]
 fn an_index_without_item_gives_none_and_changes_nothing(rt: HostRuntime) -> Result<(), Fail> {
     let mut set = with_a_vacant_slot(&rt, rt.alloc())?;
     let before = format!(in rt.alloc(); "{set:?}")?;

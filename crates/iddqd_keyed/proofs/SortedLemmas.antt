@@ -5,6 +5,8 @@ use Rattle.std.specs.Option.{option_map, option_cmp}
 use Rattle.std.specs.Ordering.{nat_cmp, ordering_then}
 use Rattle.std.specs.Cmp.{IsTotalOrder}
 use Rattle.std.specs.Cmp.Lexicographic.{options_total}
+use Rattle.std.specs.declared.cmp.Ordering.TheVariants.{Equal}
+use Rattle.std.proofs.lemmas.Cmp.{alike_right, tied_itself}
 use Rattle.std.proofs.lemmas.List.Elements.{Contains-get_or}
 use Rattle.std.proofs.lemmas.List.Kept.{IsStrictlySortedBy-filter}
 use Rattle.std.proofs.lemmas.Map.Keys.{Less-from_sorted, sorted_from_all_adjacent}
@@ -31,15 +33,22 @@ module _ {T S K1 K2 : Type 0} (keys : Keys T K1 K2 S) (total : IsTotalOrder keys
   totals : (s : Store T) → IsTotalOrder (key_then_index (option_cmp keys.compare_second) (second_at keys s))
   totals s = key_then_index-total (options_total total) (second_at keys s)
 
-  -- what is sorted is so over every store that gives the same items
-  IsSortedIn-alike : (s t : Store T) (xs : List ℕ) → ((j : ℕ) → Contains xs j → get t j ≡ get s j) → IsSortedIn keys s xs → IsSortedIn keys t xs
-  IsSortedIn-alike s t xs same sorted =
+  -- what is sorted is so over every store whose second keys there compare Equal with those
+  pub IsSortedIn-tied : (s t : Store T) (xs : List ℕ) → ((j : ℕ) → Contains xs j → option_cmp keys.compare_second (second_at keys t j) (second_at keys s j) ≡ Equal) → IsSortedIn keys s xs → IsSortedIn keys t xs
+  IsSortedIn-tied s t xs ties sorted =
+      let o = options_total total in
       sorted_from_all_adjacent (totals t) xs 0 (λ k within.
-      let key : (i : ℕ) → i < length xs → second_at keys t (get_or xs i 0) ≡ second_at keys s (get_or xs i 0) =
-      λ i inside. ap (λ o. option_map keys.second o) (same (get_or xs i 0) (Contains-get_or xs i 0 inside)) in
-      ap (λ a. ordering_then (option_cmp keys.compare_second a (second_at keys t (get_or xs (k + 1) 0))) (nat_cmp (get_or xs k 0) (get_or xs (k + 1) 0))) (key k (omega arith))
-      ∙ ap (λ b. ordering_then (option_cmp keys.compare_second (second_at keys s (get_or xs k 0)) b) (nat_cmp (get_or xs k 0) (get_or xs (k + 1) 0))) (key (k + 1) within)
+      let i = get_or xs k 0 in
+      let j = get_or xs (k + 1) 0 in
+      let left = o.congr (second_at keys t i) (second_at keys s i) (second_at keys t j) (ties i (Contains-get_or xs k 0 (omega arith))) in
+      let right = alike_right o (second_at keys t j) (second_at keys s j) (second_at keys s i) (ties j (Contains-get_or xs (k + 1) 0 within)) in
+      ap (λ r. ordering_then r (nat_cmp i j)) (left ∙ right)
       ∙ Less-from_sorted _ xs k (k + 1) 0 sorted (omega arith) within)
+
+  -- and over every store that gives the same items
+  IsSortedIn-alike : (s t : Store T) (xs : List ℕ) → ((j : ℕ) → Contains xs j → get t j ≡ get s j) → IsSortedIn keys s xs → IsSortedIn keys t xs
+  IsSortedIn-alike s t xs same = IsSortedIn-tied s t xs (λ j here.
+      subst (λ o. option_cmp keys.compare_second (option_map keys.second o) (second_at keys s j) ≡ Equal) (sym (same j here)) (tied_itself (options_total total) (second_at keys s j)))
 
   pub IsSorted-removed : (old new : State T S) (ix : ℕ) → Unbinds old ix new → IsSorted keys old → IsSorted keys new
   IsSorted-removed old new ix unbinds sorted =

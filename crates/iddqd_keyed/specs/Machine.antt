@@ -2,14 +2,14 @@
 use Rattle.std.specs.Prelude.{◌≡◌, ◌≢◌, ◌↔◌, ℕ, Bool, [], List, Option, Some, None, Result, Ok, Err, ◌⊎◌, IsSome, ⊤}
 use Rattle.std.specs.List.{Contains}
 use Rattle.std.specs.Option.{option_map}
-use Rattle.iddqd.specs.Store.{Store, get, next_index, IsFull}
+use Rattle.iddqd.specs.Store.{Store, get, next_index, IsFull, rebound}
 use Rattle.iddqd.specs.Compaction.{IsRemapOf}
 use Rattle.iddqd_keyed.specs.Keys.{Keys, has_first, has_second}
-use Rattle.iddqd_keyed.specs.State.{State, Compacts, IsLive, IsPaired, IsSorted, IsSortedIn, Binds, Unbinds, HasNoHit, AnswersScan, Finds1, Finds2, InOrder}
+use Rattle.iddqd_keyed.specs.State.{State, empty_state, Compacts, IsLive, IsSortedIn, Binds, Unbinds, AnswersScan, Finds1, Finds2, FirstInOrder, SecondInOrder, KeepsUnless, ChangesFirstAt, ChangesSecondAt}
 use Rattle.iddqd_keyed.specs.declared.command.Command.{Command}
-use Rattle.iddqd_keyed.specs.declared.command.Command.TheVariants.{Insert, Find1, Find2, Remove, Remove1, Remove2, Walk, Compact}
+use Rattle.iddqd_keyed.specs.declared.command.Command.TheVariants.{Insert, Find1, Find2, Remove, Remove1, Remove2, Overwrite, Compact, Clear, Walk}
 use Rattle.iddqd_keyed.specs.declared.command.Reply.{Reply}
-use Rattle.iddqd_keyed.specs.declared.command.Reply.TheVariants.{Inserted, Refused, Found, Removed, Walked, Compacted, NoMemory}
+use Rattle.iddqd_keyed.specs.declared.command.Reply.TheVariants.{Inserted, Refused, Found, Removed, Overwritten, Compacted, Cleared, Walked, NoMemory}
 use Rattle.iddqd_keyed.specs.declared.command.InsertRefusal.{InsertRefusal}
 use Rattle.iddqd_keyed.specs.declared.command.InsertRefusal.TheVariants.{Duplicate, Full, Memory}
 
@@ -19,6 +19,11 @@ module _ {T : Type 0} where
   HasNoPlace s item (Full back) = (back ≡ item) × IsFull s
   HasNoPlace s item (Memory back) = (back ≡ item) × (IsFull s → ⊥)
   HasNoPlace s item (Duplicate back first second) = ⊥
+
+  -- what an insert tells of its look-ups: of a duplicate both answers, else that neither key was found
+  abbrev pub told : Result ℕ (InsertRefusal T) → Option ℕ × Option ℕ
+  told (Err (Duplicate back first second)) = (first, second)
+  told result = (None, None)
 
   -- the look-up of a removal by a key answers a scan
   abbrev pub RemovesAsScan : Store T → (T → Bool) → Option (ℕ × T) → Type 0
@@ -34,6 +39,12 @@ module _ {T S : Type 0} where
   abbrev pub RemovesFound : (Option ℕ → Type 0) → State T S → Option (ℕ × T) → State T S → Type 0
   RemovesFound finds old (Some (ix, item)) new = finds (Some ix) × Removes old ix (Some item) new
   RemovesFound finds old None new = finds None × (new ≡ old)
+
+  -- What an overwrite may answer and leave: the item that a live index had is given back, and neither table is touched;
+  -- of an index that isn't live the given item comes back.
+  abbrev pub Overwrites : State T S → ℕ → T → Result T T → State T S → Type 0
+  Overwrites old ix item (Ok was) new = (get old.store ix ≡ Some was) × (new ≡ record old { store = rebound old.store ix item })
+  Overwrites old ix item (Err back) new = (get old.store ix ≡ None) × (back ≡ item) × (new ≡ old)
 
 module _ {T S K1 K2 : Type 0} (keys : Keys T K1 K2 S) where
   -- both look-ups of the item's keys may answer none
@@ -72,13 +83,6 @@ module _ {T S K1 K2 : Type 0} (keys : Keys T K1 K2 S) where
   Inserts old item (Err (Duplicate back first second)) new = RefusesDuplicate old item back first second new
   Inserts old item (Err refusal) new = RefusesNew old item refusal new
 
-  -- a duplicate tells what scans for both keys answer, and every other answer says that both find nothing
-  abbrev pub InsertsAsScan : Store T → T → Result ℕ (InsertRefusal T) → Type 0
-  InsertsAsScan s item (Err (Duplicate back first second)) =
-      AnswersScan s (has_first keys (keys.first item)) first × AnswersScan s (has_second keys (keys.second item)) second
-  InsertsAsScan s item result =
-      HasNoHit s (has_first keys (keys.first item)) × HasNoHit s (has_second keys (keys.second item))
-
   -- these are the live indexes, each once, in order by second key, ties by index
   pub record IsSortedScan (s : Store T) (indexes : List ℕ) : Type 0 where
     pub sorted : IsSortedIn keys s indexes
@@ -96,33 +100,50 @@ module _ {T S K1 K2 : Type 0} (keys : Keys T K1 K2 S) where
   Answers old (Remove2 key) (Removed removed) new = RemovesFound (Finds2 keys old key) old removed new
   Answers old Walk (Walked indexes) new = (indexes.items ≡ old.order) × (new ≡ old)
   Answers old Walk NoMemory new = (old.order ≢ []) × (new ≡ old)
+  Answers old (Overwrite ix item) (Overwritten result) new = Overwrites old ix item result new
+  Answers old Clear Cleared new = new ≡ empty_state old.hasher
   Answers old Compact (Compacted remap) new = IsRemapOf old.store remap × Compacts old new
   Answers old Compact NoMemory new = (old.store.free ≢ []) × (new ≡ old)
   Answers old command reply new = ⊥
 
-  -- what a command answers in a state in order: that of a scan of the live items
-  abbrev pub AnswersAsScan : Store T → Command T K1 K2 → Reply T → Type 0
-  AnswersAsScan s (Insert item) (Inserted ix) = InsertsAsScan s item (Ok ix)
-  AnswersAsScan s (Insert item) (Refused refusal) = InsertsAsScan s item (Err refusal)
-  AnswersAsScan s (Find1 key) (Found found) = AnswersScan s (has_first keys key) found
-  AnswersAsScan s (Find2 key) (Found found) = AnswersScan s (has_second keys key) found
-  AnswersAsScan s (Remove1 key) (Removed removed) = RemovesAsScan s (has_first keys key) removed
-  AnswersAsScan s (Remove2 key) (Removed removed) = RemovesAsScan s (has_second keys key) removed
-  AnswersAsScan s Walk (Walked indexes) = IsSortedScan s indexes.items
-  AnswersAsScan s command reply = ⊤
+  -- what a command tells of first keys is what a scan of the live items answers
+  abbrev pub FirstAsScan : Store T → Command T K1 K2 → Reply T → Type 0
+  FirstAsScan s (Insert item) (Inserted ix) = AnswersScan s (has_first keys (keys.first item)) (told {T = T} (Ok ix)).0
+  FirstAsScan s (Insert item) (Refused refusal) = AnswersScan s (has_first keys (keys.first item)) (told (Err refusal)).0
+  FirstAsScan s (Find1 key) (Found found) = AnswersScan s (has_first keys key) found
+  FirstAsScan s (Remove1 key) (Removed removed) = RemovesAsScan s (has_first keys key) removed
+  FirstAsScan s command reply = ⊤
 
-  -- The command gives a live index an item with another first or another second key. No command does so yet.
-  abbrev pub IsSilentChange : State T S → Command T K1 K2 → Type 0
-  IsSilentChange old command = ⊥
+  -- what a command tells of second keys is what a scan of the live items answers
+  abbrev pub SecondAsScan : Store T → Command T K1 K2 → Reply T → Type 0
+  SecondAsScan s (Insert item) (Inserted ix) = AnswersScan s (has_second keys (keys.second item)) (told {T = T} (Ok ix)).1
+  SecondAsScan s (Insert item) (Refused refusal) = AnswersScan s (has_second keys (keys.second item)) (told (Err refusal)).1
+  SecondAsScan s (Find2 key) (Found found) = AnswersScan s (has_second keys key) found
+  SecondAsScan s (Remove2 key) (Removed removed) = RemovesAsScan s (has_second keys key) removed
+  SecondAsScan s Walk (Walked indexes) = IsSortedScan s indexes.items
+  SecondAsScan s command reply = ⊤
 
-  -- The command gives a live index an item with another second key. No command does so yet.
+  -- the answer is that of a scan of the live items
+  abbrev pub AsScan : Store T → Command T K1 K2 → Reply T → Type 0
+  AsScan s command reply = FirstAsScan s command reply × SecondAsScan s command reply
+
+  -- the command gives a live index an item with another first key
+  abbrev pub ChangesFirst : State T S → Command T K1 K2 → Type 0
+  ChangesFirst old (Overwrite ix item) = ChangesFirstAt keys old.store ix item
+  ChangesFirst old command = ⊥
+
+  -- the command gives a live index an item with another second key
   abbrev pub ChangesSecond : State T S → Command T K1 K2 → Type 0
+  ChangesSecond old (Overwrite ix item) = ChangesSecondAt keys old.store ix item
   ChangesSecond old command = ⊥
 
-  -- one step: what it answers and leaves, and what it keeps
+  -- the command gives a live index an item with another first or another second key
+  abbrev pub IsSilentChange : State T S → Command T K1 K2 → Type 0
+  IsSilentChange old command = ChangesFirst old command ⊎ ChangesSecond old command
+
+  -- one step: what it answers and leaves, what it keeps, and that each side that is in order answers as a scan
   pub record Step (old : State T S) (command : Command T K1 K2) (reply : Reply T) (new : State T S) : Type 0 where
     pub answers : Answers old command reply new
-    pub paired : IsPaired old × IsPaired new
-    pub sorted : IsSorted keys old → (ChangesSecond old command → ⊥) → IsSorted keys new
-    pub in_order : InOrder keys old → (IsSilentChange old command → ⊥) → InOrder keys new
-    pub as_scan : InOrder keys old → AnswersAsScan old.store command reply
+    pub keeps : KeepsUnless keys (ChangesFirst old command) (ChangesSecond old command) old new
+    pub first_as_scan : FirstInOrder keys old → FirstAsScan old.store command reply
+    pub second_as_scan : SecondInOrder keys old → SecondAsScan old.store command reply

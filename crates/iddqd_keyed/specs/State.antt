@@ -1,5 +1,5 @@
 -- The state of keyed items: the hasher's state, the store, and what both tables hold.
-use Rattle.std.specs.Prelude.{◌≡◌, ◌↔◌, ◌≤◌, ℕ, Bool, true, List, [], length, insert, map, nat_eq, Option, Some, None, IsSome, refl}
+use Rattle.std.specs.Prelude.{◌≡◌, ◌↔◌, ◌≤◌, ℕ, Bool, true, not, List, [], length, insert, map, nat_eq, Option, Some, None, IsSome, refl}
 use Rattle.std.specs.List.{Contains, IsDistinct}
 use Rattle.std.specs.Option.{option_map, option_cmp}
 use Rattle.std.specs.Ordering.{nat_cmp}
@@ -130,16 +130,38 @@ module _ {T S K1 K2 : Type 0} (keys : Keys T K1 K2 S) where
     pub within : place ≤ length old.order
     pub order : new.order ≡ insert old.order place (next_index old.store)
 
-  -- Each live index is filed under the hash of its item's first key, the order is sorted, the first keys of live items
-  -- are pairwise distinct, and the second keys too.
-  pub record InOrder (s : State T S) : Type 0 where
+  -- Each live index is filed under the hash of its item's first key, and the first keys of live items are pairwise
+  -- distinct.
+  pub record FirstInOrder (s : State T S) : Type 0 where
     pub filed : (ix : ℕ) (item : T) → get s.store ix ≡ Some item → finite.get s.filed ix ≡ Some (hash_in s (keys.first item))
-    pub sorted : IsSorted s
-    pub first : AreApart (λ x y. has_first keys (keys.first x) y) s.store
-    pub second : AreApart (λ x y. has_second keys (keys.second x) y) s.store
+    pub apart : AreApart (λ x y. has_first keys (keys.first x) y) s.store
 
-  -- what a call keeps: its states are paired, a sorted order stays sorted, and a state in order stays in order
-  pub record Keeps (old new : State T S) : Type 0 where
+  -- The order is sorted, and the second keys of live items are pairwise distinct.
+  pub record SecondInOrder (s : State T S) : Type 0 where
+    pub sorted : IsSorted s
+    pub apart : AreApart (λ x y. has_second keys (keys.second x) y) s.store
+
+  -- both tables are as the keys of the live items want them, and no two items share a key
+  pub record InOrder (s : State T S) : Type 0 where
+    pub first : FirstInOrder s
+    pub second : SecondInOrder s
+
+  -- What a call keeps: its states are paired, a sorted order stays sorted unless it changes the second key of a live
+  -- index, and each side stays in order unless it changes such a key.
+  pub record KeepsUnless (changes_first changes_second : Type 0) (old new : State T S) : Type 0 where
     pub paired : IsPaired old × IsPaired new
-    pub sorted : IsSorted old → IsSorted new
-    pub in_order : InOrder old → InOrder new
+    pub sorted : IsSorted old → (changes_second → ⊥) → IsSorted new
+    pub first : FirstInOrder old → (changes_first → ⊥) → FirstInOrder new
+    pub second : SecondInOrder old → (changes_second → ⊥) → SecondInOrder new
+
+  -- what a call keeps that changes no key of a live index
+  abbrev pub Keeps : State T S → State T S → Type 0
+  Keeps old new = KeepsUnless ⊥ ⊥ old new
+
+  -- the index is live, and its item has another first key than this item
+  abbrev pub ChangesFirstAt : Store T → ℕ → T → Type 0
+  ChangesFirstAt s ix item = IsHit s (λ was. not (has_first keys (keys.first item) was)) ix
+
+  -- the index is live, and its item has another second key than this item
+  abbrev pub ChangesSecondAt : Store T → ℕ → T → Type 0
+  ChangesSecondAt s ix item = IsHit s (λ was. not (has_second keys (keys.second item) was)) ix

@@ -33,8 +33,12 @@ pub enum Command<T: KeyedItem> {
     Remove1(T::Key1),
     /// Remove the item with this second key.
     Remove2(T::Key2),
+    /// Give a live index another item, whatever the keys of both. Neither table is told.
+    Overwrite(ItemIndex, T),
     /// Move every item down to its rank, so that no slot is vacant.
     Compact,
+    /// Forget all items and all slots.
+    Clear,
     /// Tell all indexes, in the order of their items' second keys.
     Walk,
 }
@@ -50,8 +54,12 @@ pub enum Reply<T> {
     Found(Option<ItemIndex>),
     /// To a removal: the item that was removed, and its index.
     Removed(Option<(ItemIndex, T)>),
+    /// To `Overwrite`: the item that the index had, or else the given one.
+    Overwritten(Result<T, T>),
     /// To `Compact`: the new name of each old index.
     Compacted(IndexRemap),
+    /// To `Clear`.
+    Cleared,
     /// To `Walk`: all indexes.
     Walked(Vec<ItemIndex>),
     /// To `Compact` or `Walk`, where memory for the answer was refused.

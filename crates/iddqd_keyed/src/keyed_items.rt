@@ -1,12 +1,18 @@
 //! Items with two unique keys: a store, a hash table for the first keys, an ordered one for the second.
+//!
+//! The items stand in the store alone, and so do their keys: both tables hold indexes, and read the
+//! key of an index from the store where they need it. So one item is stored once, and an index stays
+//! good until its item is removed or the store is compacted. Every index of an item stands in both
+//! tables once, and no other does, whatever becomes of the keys: an insert takes all memory before it
+//! writes anything, and a removal takes the index out of both tables before its slot is freed.
 ghost use Rattle.std.specs.Prelude.{◌≡◌, [], IsOk, IfOk, IfErr, OnOk, OnErr, option_copied};
 ghost use Rattle.iddqd.specs.Store.{get, live_count};
 ghost use Rattle.iddqd.specs.Compaction.{IsRemapOf};
 ghost use Rattle.iddqd.specs.GrowHandle.{handle_store};
 ghost use Rattle.iddqd_order.specs.Iter.{indexes_left};
 ghost use Rattle.iddqd_keyed.specs.Keys.{keys_of, has_first, has_second};
-ghost use Rattle.iddqd_keyed.specs.State.{empty_state, Compacts, hash_in, IsLive, IsPaired, IsSorted, InOrder, Keeps, AnswersScan, Finds1, Finds2};
-ghost use Rattle.iddqd_keyed.specs.Machine.{HasNoPlace, StoresAt, Inserts, InsertsAsScan, Removes, RemovesFound, RemovesAsScan, IsSortedScan, Step};
+ghost use Rattle.iddqd_keyed.specs.State.{empty_state, Compacts, hash_in, IsLive, IsPaired, IsSorted, FirstInOrder, SecondInOrder, Keeps, KeepsUnless, ChangesFirstAt, ChangesSecondAt, AnswersScan, Finds1, Finds2};
+ghost use Rattle.iddqd_keyed.specs.Machine.{HasNoPlace, StoresAt, Inserts, told, Removes, RemovesFound, RemovesAsScan, Overwrites, IsSortedScan, Step};
 ghost use Rattle.iddqd_keyed.specs.Run.{Run};
 
 use crate::command::{Command, InsertRefusal, Reply};
@@ -88,7 +94,7 @@ impl<T: KeyedItem, S: BuildHasher> KeyedItems<T, S> {
         ensures found { let keys = keys_of T.KeyedItem T.Key1.eq T.Key1.hash_input T.Key2.cmp S.BuildHasher S.Hasher.Hasher in
             Finds1 keys self.now key.now result }
         ensures as_scan { let keys = keys_of T.KeyedItem T.Key1.eq T.Key1.hash_input T.Key2.cmp S.BuildHasher S.Hasher.Hasher in
-            InOrder keys self.now →
+            FirstInOrder keys self.now →
             AnswersScan self.now.store (has_first keys key.now) result }
     {
         let items = &self.items;
@@ -109,7 +115,7 @@ impl<T: KeyedItem, S: BuildHasher> KeyedItems<T, S> {
         ensures found { let keys = keys_of T.KeyedItem T.Key1.eq T.Key1.hash_input T.Key2.cmp S.BuildHasher S.Hasher.Hasher in
             Finds2 keys self.now key.now result }
         ensures as_scan { let keys = keys_of T.KeyedItem T.Key1.eq T.Key1.hash_input T.Key2.cmp S.BuildHasher S.Hasher.Hasher in
-            InOrder keys self.now →
+            SecondInOrder keys self.now →
             AnswersScan self.now.store (has_second keys key.now) result }
     {
         let items = &self.items;
@@ -127,7 +133,7 @@ impl<T: KeyedItem, S: BuildHasher> KeyedItems<T, S> {
         ensures order { indexes_left result ≡ self.now.order }
         ensures paired { IsPaired self.now }
         ensures as_scan { let keys = keys_of T.KeyedItem T.Key1.eq T.Key1.hash_input T.Key2.cmp S.BuildHasher S.Hasher.Hasher in
-            InOrder keys self.now →
+            SecondInOrder keys self.now →
             IsSortedScan keys self.now.store (indexes_left result) }
     {
         self.order.iter()
@@ -142,9 +148,12 @@ impl<T: KeyedItem, S: BuildHasher> KeyedItems<T, S> {
             Inserts keys self.old item result self.new }
         ensures keeps { let keys = keys_of T.KeyedItem T.Key1.eq T.Key1.hash_input T.Key2.cmp S.BuildHasher S.Hasher.Hasher in
             Keeps keys self.old self.new }
-        ensures as_scan { let keys = keys_of T.KeyedItem T.Key1.eq T.Key1.hash_input T.Key2.cmp S.BuildHasher S.Hasher.Hasher in
-            InOrder keys self.old →
-            InsertsAsScan keys self.old.store item result }
+        ensures first_as_scan { let keys = keys_of T.KeyedItem T.Key1.eq T.Key1.hash_input T.Key2.cmp S.BuildHasher S.Hasher.Hasher in
+            FirstInOrder keys self.old →
+            AnswersScan self.old.store (has_first keys (keys.first item)) (told result).0 }
+        ensures second_as_scan { let keys = keys_of T.KeyedItem T.Key1.eq T.Key1.hash_input T.Key2.cmp S.BuildHasher S.Hasher.Hasher in
+            SecondInOrder keys self.old →
+            AnswersScan self.old.store (has_second keys (keys.second item)) (told result).1 }
     {
         let first = self.find1(item.key1());
         let second = self.find2(item.key2());
@@ -177,7 +186,7 @@ impl<T: KeyedItem, S: BuildHasher> KeyedItems<T, S> {
         ensures removes { let keys = keys_of T.KeyedItem T.Key1.eq T.Key1.hash_input T.Key2.cmp S.BuildHasher S.Hasher.Hasher in
             RemovesFound (Finds1 keys self.old key.now) self.old result self.new }
         ensures as_scan { let keys = keys_of T.KeyedItem T.Key1.eq T.Key1.hash_input T.Key2.cmp S.BuildHasher S.Hasher.Hasher in
-            InOrder keys self.old → RemovesAsScan self.old.store (has_first keys key.now) result }
+            FirstInOrder keys self.old → RemovesAsScan self.old.store (has_first keys key.now) result }
         ensures keeps { let keys = keys_of T.KeyedItem T.Key1.eq T.Key1.hash_input T.Key2.cmp S.BuildHasher S.Hasher.Hasher in
             Keeps keys self.old self.new }
     {
@@ -190,12 +199,29 @@ impl<T: KeyedItem, S: BuildHasher> KeyedItems<T, S> {
         ensures removes { let keys = keys_of T.KeyedItem T.Key1.eq T.Key1.hash_input T.Key2.cmp S.BuildHasher S.Hasher.Hasher in
             RemovesFound (Finds2 keys self.old key.now) self.old result self.new }
         ensures as_scan { let keys = keys_of T.KeyedItem T.Key1.eq T.Key1.hash_input T.Key2.cmp S.BuildHasher S.Hasher.Hasher in
-            InOrder keys self.old → RemovesAsScan self.old.store (has_second keys key.now) result }
+            SecondInOrder keys self.old → RemovesAsScan self.old.store (has_second keys key.now) result }
         ensures keeps { let keys = keys_of T.KeyedItem T.Key1.eq T.Key1.hash_input T.Key2.cmp S.BuildHasher S.Hasher.Hasher in
             Keeps keys self.old self.new }
     {
         let ix = self.find2(key)?;
         Some((ix, self.remove(ix)?))
+    }
+
+    /// Gives a live index another item, and hands back the one that it had; of an index that isn't
+    /// live the given item comes back.
+    ///
+    /// Neither table is told, whatever the keys of both items: the index stays filed under the hash
+    /// that it has and in its place in the order. Look-ups may then miss the new keys, but never hit a
+    /// wrong one, and the index can still be removed. It takes no memory.
+    pub fn overwrite(&mut self, ix: ItemIndex, item: T) -> Result<T, T>
+        ensures overwrites { Overwrites self.old ix item result self.new }
+        ensures keeps { let keys = keys_of T.KeyedItem T.Key1.eq T.Key1.hash_input T.Key2.cmp S.BuildHasher S.Hasher.Hasher in
+            KeepsUnless keys (ChangesFirstAt keys self.old.store ix item) (ChangesSecondAt keys self.old.store ix item) self.old self.new }
+    {
+        if self.items.get(ix).is_none() {
+            return Err(item);
+        }
+        Ok(self.items.replace(ix, item))
     }
 
     /// Moves every item down to its rank, so that no slot is vacant, and tells the new names.
@@ -216,6 +242,17 @@ impl<T: KeyedItem, S: BuildHasher> KeyedItems<T, S> {
         Ok(remap)
     }
 
+    /// Forgets all items and all slots, so that the next index is 0. It takes no memory.
+    pub fn clear(&mut self)
+        ensures cleared { self.new ≡ empty_state self.old.hasher }
+        ensures keeps { let keys = keys_of T.KeyedItem T.Key1.eq T.Key1.hash_input T.Key2.cmp S.BuildHasher S.Hasher.Hasher in
+            Keeps keys self.old self.new }
+    {
+        self.items.clear();
+        self.filed.clear();
+        self.order.clear();
+    }
+
     /// Obeys one command.
     pub fn step(&mut self, command: Command<T>) -> Reply<T>
         ensures { let keys = keys_of T.KeyedItem T.Key1.eq T.Key1.hash_input T.Key2.cmp S.BuildHasher S.Hasher.Hasher in
@@ -234,10 +271,15 @@ impl<T: KeyedItem, S: BuildHasher> KeyedItems<T, S> {
             },
             Command::Remove1(key) => Reply::Removed(self.remove1(&key)),
             Command::Remove2(key) => Reply::Removed(self.remove2(&key)),
+            Command::Overwrite(ix, item) => Reply::Overwritten(self.overwrite(ix, item)),
             Command::Compact => match self.compact() {
                 Ok(remap) => Reply::Compacted(remap),
                 Err(AllocError) => Reply::NoMemory,
             },
+            Command::Clear => {
+                self.clear();
+                Reply::Cleared
+            }
             Command::Walk => match self.indexes() {
                 Ok(indexes) => Reply::Walked(indexes),
                 Err(AllocError) => Reply::NoMemory,

@@ -3,7 +3,7 @@ use Rattle.iddqd_keyed.specs.Keys.{Keys, keys_of}
 use Rattle.iddqd_keyed.specs.State.{IsPaired, Finds1, Finds2}
 use Rattle.iddqd_keyed.specs.Machine.{IsNew}
 use Rattle.iddqd_keyed.proofs.KeyLemmas.{AreLawful-from_bounds}
-use Rattle.iddqd_keyed.proofs.InsertLemmas.{IsNew-from_finds, Inserts-from_stored, Keeps-from_stored, InsertsAsScan-from_stored}
+use Rattle.iddqd_keyed.proofs.InsertLemmas.{IsNew-from_finds, Inserts-from_stored, Keeps-from_stored, first_told, second_told}
 use Rattle.iddqd_keyed.proofs.keyed_items.KeyedItems.insert.Goals.{After-store}
 use Rattle.iddqd_keyed.proofs.keyed_items.KeyedItems.insert.Goals as goal
 
@@ -24,6 +24,10 @@ returns-clause-keeps g c =
     let paired : IsPaired c.args.self.now = rw (← c.self.view_is) c.self.invariant in
     Keeps-from_stored _ _ _ c.args.item (new_keys g c) (AreLawful-from_bounds _ _ _ _ g.S.BuildHasher g.S.Hasher.Hasher g.met.T.Key1.PartialEq.laws g.met.T.Key1.Hash.respects_eq g.met.T.Key2.Ord.total) c.store.result paired c.store.ensures.stored c.store.ensures.unchanged
 
-pub returns-clause-as_scan : goal.returns-clause-as_scan
-returns-clause-as_scan g c o =
-    InsertsAsScan-from_stored _ _ c.store.new.self _ (new_keys g c) (AreLawful-from_bounds _ _ _ _ g.S.BuildHasher g.S.Hasher.Hasher g.met.T.Key1.PartialEq.laws g.met.T.Key1.Hash.respects_eq g.met.T.Key2.Ord.total) c.store.result o c.store.ensures.refused
+pub returns-clause-first_as_scan : goal.returns-clause-first_as_scan
+returns-clause-first_as_scan g c o =
+    first_told _ _ c.store.new.self _ (new_keys g c) (AreLawful-from_bounds _ _ _ _ g.S.BuildHasher g.S.Hasher.Hasher g.met.T.Key1.PartialEq.laws g.met.T.Key1.Hash.respects_eq g.met.T.Key2.Ord.total) c.store.result o c.store.ensures.refused
+
+pub returns-clause-second_as_scan : goal.returns-clause-second_as_scan
+returns-clause-second_as_scan g c o =
+    second_told _ _ c.store.new.self _ (new_keys g c) (AreLawful-from_bounds _ _ _ _ g.S.BuildHasher g.S.Hasher.Hasher g.met.T.Key1.PartialEq.laws g.met.T.Key1.Hash.respects_eq g.met.T.Key2.Ord.total) c.store.result o c.store.ensures.refused
