@@ -14,7 +14,7 @@ use Rattle.iddqd_hash.specs.MapHashTable.{Renames}
 use Rattle.iddqd_order.proofs.KeyOrderLemmas.{IsInKeyOrder-renamed}
 use Rattle.iddqd_order.proofs.RenameLemmas.{Contains-map, Contains-from_map, IsDistinct-map}
 use Rattle.iddqd_keyed.specs.Keys.{Keys}
-use Rattle.iddqd_keyed.specs.State.{State, IsLive, AreApart, IsPaired, IsSorted, FirstInOrder, SecondInOrder, Keeps, Compacts, second_at}
+use Rattle.iddqd_keyed.specs.State.{State, IsLive, AreApart, IsPaired, IsSorted, FirstKeysInOrder, SecondKeysInOrder, Keeps, Compacts, second_at}
 use Rattle.iddqd_keyed.proofs.KeyLemmas.{AreLawful}
 use Rattle.iddqd_keyed.proofs.StoreLemmas.{item_at, live_at}
 
@@ -116,21 +116,20 @@ module _ {T S : Type 0} (old new : State T S) (compacts : Compacts old new) (was
         (λ i j here there less. rank_rises old.store i j less ((was.ordered i).0 here))
         sorted)
 
-    FirstInOrder-compacted : FirstInOrder keys old → FirstInOrder keys new
-    FirstInOrder-compacted o = record {
+    FirstKeysInOrder-compacted : FirstKeysInOrder keys old → FirstKeysInOrder keys new
+    FirstKeysInOrder-compacted o = record {
       filed = λ at item is.
           let (ix, named, stood) = live-compacted old.store at item (subst (λ s. get s at ≡ Some item) compacts.store is) in
           rw (compacts.hasher, ← named) (compacts.filed.each ix _ (o.filed ix item stood));
       apart = subst (AreApart _) (sym compacts.store) (AreApart-compacted _ o.apart);
     }
 
-    SecondInOrder-compacted : SecondInOrder keys old → SecondInOrder keys new
-    SecondInOrder-compacted o = record { sorted = IsSorted-compacted o.sorted; apart = subst (AreApart _) (sym compacts.store) (AreApart-compacted _ o.apart) }
+    SecondKeysInOrder-compacted : SecondKeysInOrder keys old → SecondKeysInOrder keys new
+    SecondKeysInOrder-compacted o = record { sorted = IsSorted-compacted o.sorted; apart = subst (AreApart _) (sym compacts.store) (AreApart-compacted _ o.apart) }
 
     pub Keeps-compacted : Keeps keys old new
     Keeps-compacted = record {
       paired = (was, IsPaired-compacted);
-      sorted = λ sorted _. IsSorted-compacted sorted;
-      first = λ o _. FirstInOrder-compacted o;
-      second = λ o _. SecondInOrder-compacted o;
+      first_keys = FirstKeysInOrder-compacted;
+      second_keys = record { sorted = IsSorted-compacted; in_order = SecondKeysInOrder-compacted };
     }

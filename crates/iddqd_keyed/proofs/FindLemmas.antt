@@ -8,7 +8,7 @@ use Rattle.std.proofs.lemmas.List.Elements.{All-contains}
 use Rattle.iddqd.specs.Store.{Store, get}
 use Rattle.iddqd_hash.specs.MapHashTable.{FindsWhere}
 use Rattle.iddqd_keyed.specs.Keys.{Keys, has_first, has_second}
-use Rattle.iddqd_keyed.specs.State.{State, IsHit, HasNoHit, AnswersScan, IsPaired, IsSorted, Finds1, Finds2, FirstInOrder, SecondInOrder, hash_in}
+use Rattle.iddqd_keyed.specs.State.{State, IsHit, HasNoHit, AnswersScan, IsPaired, IsSorted, Finds1, Finds2, FirstKeysInOrder, SecondKeysInOrder, hash_in}
 use Rattle.iddqd_keyed.specs.Machine.{IsSortedScan}
 use Rattle.iddqd_keyed.proofs.KeyLemmas.{AreLawful}
 use Rattle.iddqd_keyed.proofs.StoreLemmas.{item_at, live_at}
@@ -43,7 +43,7 @@ module _ {T S K1 K2 : Type 0} (keys : Keys T K1 K2 S) where
   Finds1-from_filed s key (Some ix) hits = record { hit = hit_from_passes s.store (has_first keys key) ix hits.1; filed = hits.0 }
 
   -- where each live index is filed under the hash of its first key, that is a scan
-  pub AnswersScan-first : AreLawful keys → (s : State T S) (key : K1) (r : Option ℕ) → FirstInOrder keys s → Finds1 keys s key r → AnswersScan s.store (has_first keys key) r
+  pub AnswersScan-first : AreLawful keys → (s : State T S) (key : K1) (r : Option ℕ) → FirstKeysInOrder keys s → Finds1 keys s key r → AnswersScan s.store (has_first keys key) r
   AnswersScan-first lawful s key None o misses = λ ix hit.
       let same = lawful.equal_hash s.hasher key (keys.first hit.0) hit.2 in
       misses ix (record { hit = hit; filed = o.filed ix hit.0 hit.1 ∙ ap Some (sym same) })
@@ -73,7 +73,7 @@ module _ {T S K1 K2 : Type 0} (keys : Keys T K1 K2 S) where
     Finds2-from_order None stored hit miss = λ sorted. second_miss (miss sorted refl)
     Finds2-from_order (Some ix) stored hit miss = second_hit ix stored hit
 
-  pub AnswersScan-second : AreLawful keys → (s : State T S) (key : K2) (r : Option ℕ) → SecondInOrder keys s → Finds2 keys s key r → AnswersScan s.store (has_second keys key) r
+  pub AnswersScan-second : AreLawful keys → (s : State T S) (key : K2) (r : Option ℕ) → SecondKeysInOrder keys s → Finds2 keys s key r → AnswersScan s.store (has_second keys key) r
   AnswersScan-second lawful s key None o misses = misses o.sorted
   AnswersScan-second lawful s key (Some ix) o found = λ j.
       let e = eq_by_cmp_equiv lawful.total in
@@ -84,5 +84,5 @@ module _ {T S K1 K2 : Type 0} (keys : Keys T K1 K2 S) where
         λ same. subst (IsHit s.store (has_second keys key)) (sym same) found,
       )
 
-  pub IsSortedScan-order : (s : State T S) → IsPaired s → SecondInOrder keys s → IsSortedScan keys s.store s.order
+  pub IsSortedScan-order : (s : State T S) → IsPaired s → SecondKeysInOrder keys s → IsSortedScan keys s.store s.order
   IsSortedScan-order s paired o = record { sorted = o.sorted; live = paired.ordered }

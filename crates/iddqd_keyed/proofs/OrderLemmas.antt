@@ -7,8 +7,8 @@ use Rattle.std.proofs.lemmas.Bool.{cases_eq}
 use Rattle.iddqd.specs.Store.{Store, IsValid, get, next_index, inserted, removed}
 use Rattle.iddqd.proofs.StoreLemmas.{contains_head}
 use Rattle.iddqd_keyed.specs.Keys.{Keys}
-use Rattle.iddqd_keyed.specs.State.{State, HasNoHit, AreApart, IsPaired, IsEmpty, IsSorted, IsSortedIn, Binds, Unbinds, FirstInOrder, SecondInOrder, InOrder, Keeps}
-use Rattle.iddqd_keyed.specs.Machine.{IsNew}
+use Rattle.iddqd_keyed.specs.State.{State, HasNoHit, AreApart, IsPaired, IsEmpty, IsSorted, IsSortedIn, Binds, Unbinds, FirstKeysInOrder, SecondKeysInOrder, InOrder, Keeps}
+use Rattle.iddqd_keyed.specs.Machine.{MayMissBoth}
 use Rattle.iddqd_keyed.proofs.KeyLemmas.{AreLawful}
 use Rattle.iddqd_keyed.proofs.StoreLemmas.{item_at, none_live, get-removed_at, get-removed_other, get-inserted_at, get-inserted_other}
 use Rattle.iddqd_keyed.proofs.MemberLemmas.{get-insert_at, get-insert_other, get-remove_other}
@@ -62,14 +62,14 @@ sorted_nil c = tt
 
 module _ {T S K1 K2 : Type 0} (keys : Keys T K1 K2 S) where
   -- where nothing is live, all is in order
-  pub FirstInOrder-empty : (s : State T S) → IsEmpty s → FirstInOrder keys s
-  FirstInOrder-empty s none = record {
+  pub FirstKeysInOrder-empty : (s : State T S) → IsEmpty s → FirstKeysInOrder keys s
+  FirstKeysInOrder-empty s none = record {
     filed = λ ix item is. absurd (none_live s.store ix item none is);
     apart = λ i j x y p q same. absurd (none_live s.store i x none p);
   }
 
-  pub SecondInOrder-empty : (s : State T S) → IsPaired s → IsEmpty s → SecondInOrder keys s
-  SecondInOrder-empty s paired none =
+  pub SecondKeysInOrder-empty : (s : State T S) → IsPaired s → IsEmpty s → SecondKeysInOrder keys s
+  SecondKeysInOrder-empty s paired none =
       let empty : s.order ≡ [] = no_members s.order (λ ix here. let item = item_at s.store ix ((paired.ordered ix).0 here) in none_live s.store ix item.0 none item.1) in
       record {
         sorted = subst (λ xs. IsSortedIn keys s.store xs) (sym empty) (sorted_nil _);
@@ -77,20 +77,20 @@ module _ {T S K1 K2 : Type 0} (keys : Keys T K1 K2 S) where
       }
 
   pub InOrder-empty : (s : State T S) → IsPaired s → IsEmpty s → InOrder keys s
-  InOrder-empty s paired none = record { first = FirstInOrder-empty s none; second = SecondInOrder-empty s paired none }
+  InOrder-empty s paired none = record { first = FirstKeysInOrder-empty s none; second = SecondKeysInOrder-empty s paired none }
 
 module _ {T S K1 K2 : Type 0} (keys : Keys T K1 K2 S) (lawful : AreLawful keys) where
   module _ (old new : State T S) (ix : ℕ) (item : T) (live : get old.store ix ≡ Some item) (unbinds : Unbinds old ix new) where
-    FirstInOrder-removed : FirstInOrder keys old → FirstInOrder keys new
-    FirstInOrder-removed o = record {
+    FirstKeysInOrder-removed : FirstKeysInOrder keys old → FirstKeysInOrder keys new
+    FirstKeysInOrder-removed o = record {
       filed = λ j y is.
           let was = live_before old.store ix j item y live (subst (λ s. get s j ≡ Some y) unbinds.store is) in
           rw (unbinds.filed, unbinds.hasher) (get-remove_other old.filed ix j was.0 ∙ o.filed j y was.1);
       apart = subst (AreApart _) (sym unbinds.store) (AreApart-removed _ old.store ix item live o.apart);
     }
 
-    SecondInOrder-removed : SecondInOrder keys old → SecondInOrder keys new
-    SecondInOrder-removed o = record {
+    SecondKeysInOrder-removed : SecondKeysInOrder keys old → SecondKeysInOrder keys new
+    SecondKeysInOrder-removed o = record {
       sorted = IsSorted-removed keys lawful.total old new ix unbinds o.sorted;
       apart = subst (AreApart _) (sym unbinds.store) (AreApart-removed _ old.store ix item live o.apart);
     }
@@ -98,26 +98,25 @@ module _ {T S K1 K2 : Type 0} (keys : Keys T K1 K2 S) (lawful : AreLawful keys) 
     pub Keeps-removed : IsPaired old → Keeps keys old new
     Keeps-removed was = record {
       paired = (was, IsPaired-removed old ix item live new unbinds was);
-      sorted = λ sorted _. IsSorted-removed keys lawful.total old new ix unbinds sorted;
-      first = λ o _. FirstInOrder-removed o;
-      second = λ o _. SecondInOrder-removed o;
+      first_keys = FirstKeysInOrder-removed;
+      second_keys = record { sorted = IsSorted-removed keys lawful.total old new ix unbinds; in_order = SecondKeysInOrder-removed };
     }
 
-  module _ (old new : State T S) (item : T) (paired : IsPaired old) (is_new : IsNew keys old item) (binds : Binds keys old item new) where
-    pub FirstInOrder-inserted : FirstInOrder keys old → FirstInOrder keys new
-    FirstInOrder-inserted o = record {
+  module _ (old new : State T S) (item : T) (paired : IsPaired old) (missed : MayMissBoth keys old item) (binds : Binds keys old item new) where
+    pub FirstKeysInOrder-inserted : FirstKeysInOrder keys old → FirstKeysInOrder keys new
+    FirstKeysInOrder-inserted o = record {
       filed = λ j y is.
           elim (live_cases old.store item j y paired.valid (subst (λ s. get s j ≡ Some y) binds.store is)) [
             | inl new_one ↦ rw (binds.filed, binds.hasher, new_one.0, ← new_one.1) (get-insert_at old.filed (next_index old.store) _)
             | inr was ↦ rw (binds.filed, binds.hasher) (get-insert_other old.filed (next_index old.store) _ j was.0 ∙ o.filed j y was.1)
           ];
-      apart = subst (AreApart _) (sym binds.store) (AreApart-inserted _ old.store item paired.valid (λ x y. lawful.equivalence.symm (keys.first x) (keys.first y)) (AnswersScan-first keys lawful old (keys.first item) None o is_new.first) o.apart);
+      apart = subst (AreApart _) (sym binds.store) (AreApart-inserted _ old.store item paired.valid (λ x y. lawful.equivalence.symm (keys.first x) (keys.first y)) (AnswersScan-first keys lawful old (keys.first item) None o missed.first) o.apart);
     }
 
-    pub SecondInOrder-inserted : (IsSorted keys old → IsSorted keys new) → SecondInOrder keys old → SecondInOrder keys new
-    SecondInOrder-inserted sorted o =
+    pub SecondKeysInOrder-inserted : (IsSorted keys old → IsSorted keys new) → SecondKeysInOrder keys old → SecondKeysInOrder keys new
+    SecondKeysInOrder-inserted sorted o =
         let symm = (eq_by_cmp_equiv lawful.total).symm in
         record {
           sorted = sorted o.sorted;
-          apart = subst (AreApart _) (sym binds.store) (AreApart-inserted _ old.store item paired.valid (λ x y. symm (keys.second x) (keys.second y)) (AnswersScan-second keys lawful old (keys.second item) None o is_new.second) o.apart);
+          apart = subst (AreApart _) (sym binds.store) (AreApart-inserted _ old.store item paired.valid (λ x y. symm (keys.second x) (keys.second y)) (AnswersScan-second keys lawful old (keys.second item) None o missed.second) o.apart);
         }

@@ -10,7 +10,7 @@ use Rattle.std.proofs.lemmas.Cmp.{tied_itself, tied_back}
 use Rattle.iddqd.specs.Store.{Store, get, rebound}
 use Rattle.iddqd.proofs.StoreLemmas.{IsValid-rebound, get-rebound_at, get-rebound_other}
 use Rattle.iddqd_keyed.specs.Keys.{Keys, has_first, has_second}
-use Rattle.iddqd_keyed.specs.State.{State, IsLive, IsHit, AreApart, IsPaired, IsSorted, FirstInOrder, SecondInOrder, KeepsUnless, ChangesFirstAt, ChangesSecondAt, second_at}
+use Rattle.iddqd_keyed.specs.State.{State, IsLive, IsHit, AreApart, IsPaired, IsSorted, FirstKeysInOrder, SecondKeysInOrder, KeepsFirstKeys, KeepsSecondKeys, ChangesFirstKeyAt, ChangesSecondKeyAt, second_at}
 use Rattle.iddqd_keyed.proofs.KeyLemmas.{AreLawful}
 use Rattle.iddqd_keyed.proofs.FindLemmas.{equal_from_hit}
 use Rattle.iddqd_keyed.proofs.SortedLemmas.{IsSortedIn-tied}
@@ -68,8 +68,8 @@ module _ {T S : Type 0} (old : State T S) (ix : ℕ) (item was : T) (live : get 
   }
 
   module _ {K1 K2 : Type 0} (keys : Keys T K1 K2 S) (lawful : AreLawful keys) where
-    FirstInOrder-rebound : FirstInOrder keys old → has_first keys (keys.first item) was ≡ true → FirstInOrder keys after
-    FirstInOrder-rebound o kept =
+    FirstKeysInOrder-rebound : FirstKeysInOrder keys old → has_first keys (keys.first item) was ≡ true → FirstKeysInOrder keys after
+    FirstKeysInOrder-rebound o kept =
         let e = lawful.equivalence in
         record {
           filed = λ j y is.
@@ -89,21 +89,18 @@ module _ {T S : Type 0} (old : State T S) (ix : ℕ) (item was : T) (live : get 
         ])
         sorted
 
-    SecondInOrder-rebound : SecondInOrder keys old → has_second keys (keys.second item) was ≡ true → SecondInOrder keys after
-    SecondInOrder-rebound o kept =
+    SecondKeysInOrder-rebound : SecondKeysInOrder keys old → has_second keys (keys.second item) was ≡ true → SecondKeysInOrder keys after
+    SecondKeysInOrder-rebound o kept =
         let e = eq_by_cmp_equiv lawful.total in
         record {
           sorted = IsSorted-rebound o.sorted kept;
           apart = AreApart-rebound old.store ix item was live _ (λ x y. e.symm (keys.second x) (keys.second y)) (λ x y z p q. e.congr (keys.second x) (keys.second y) (keys.second z) p ∙ q) kept o.apart;
         }
 
-    pub KeepsUnless-rebound : IsPaired old → KeepsUnless keys (ChangesFirstAt keys old.store ix item) (ChangesSecondAt keys old.store ix item) old after
-    KeepsUnless-rebound p =
-        let first : (ChangesFirstAt keys old.store ix item → ⊥) → has_first keys (keys.first item) was ≡ true = λ none. passes_unless old.store (has_first keys (keys.first item)) ix was live none in
-        let second : (ChangesSecondAt keys old.store ix item → ⊥) → has_second keys (keys.second item) was ≡ true = λ none. passes_unless old.store (has_second keys (keys.second item)) ix was live none in
-        record {
-          paired = (p, IsPaired-rebound p);
-          sorted = λ sorted none. IsSorted-rebound sorted (second none);
-          first = λ o none. FirstInOrder-rebound o (first none);
-          second = λ o none. SecondInOrder-rebound o (second none);
-        }
+    pub KeepsFirstKeys-rebound : (ChangesFirstKeyAt keys old.store ix item → ⊥) → KeepsFirstKeys keys old after
+    KeepsFirstKeys-rebound same o = FirstKeysInOrder-rebound o (passes_unless old.store (has_first keys (keys.first item)) ix was live same)
+
+    pub KeepsSecondKeys-rebound : (ChangesSecondKeyAt keys old.store ix item → ⊥) → KeepsSecondKeys keys old after
+    KeepsSecondKeys-rebound same =
+        let kept = passes_unless old.store (has_second keys (keys.second item)) ix was live same in
+        record { sorted = λ sorted. IsSorted-rebound sorted kept; in_order = λ o. SecondKeysInOrder-rebound o kept }

@@ -5,7 +5,7 @@ use Rattle.std.specs.Option.{option_map}
 use Rattle.iddqd.specs.Store.{Store, get, next_index, IsFull, rebound}
 use Rattle.iddqd.specs.Compaction.{IsRemapOf}
 use Rattle.iddqd_keyed.specs.Keys.{Keys, has_first, has_second}
-use Rattle.iddqd_keyed.specs.State.{State, empty_state, Compacts, IsLive, IsSortedIn, Binds, Unbinds, AnswersScan, Finds1, Finds2, FirstInOrder, SecondInOrder, KeepsUnless, ChangesFirstAt, ChangesSecondAt}
+use Rattle.iddqd_keyed.specs.State.{State, empty_state, Compacts, IsLive, IsPaired, IsSortedIn, Binds, Unbinds, HasNoHit, AnswersScan, Finds1, Finds2, FirstKeysInOrder, SecondKeysInOrder, KeepsFirstKeys, KeepsSecondKeys, ChangesFirstKeyAt, ChangesSecondKeyAt}
 use Rattle.iddqd_keyed.specs.declared.command.Command.{Command}
 use Rattle.iddqd_keyed.specs.declared.command.Command.TheVariants.{Insert, Find1, Find2, Remove, Remove1, Remove2, Overwrite, Compact, Clear, Walk}
 use Rattle.iddqd_keyed.specs.declared.command.Reply.{Reply}
@@ -20,10 +20,10 @@ module _ {T : Type 0} where
   HasNoPlace s item (Memory back) = (back ≡ item) × (IsFull s → ⊥)
   HasNoPlace s item (Duplicate back first second) = ⊥
 
-  -- what an insert tells of its look-ups: of a duplicate both answers, else that neither key was found
-  abbrev pub told : Result ℕ (InsertRefusal T) → Option ℕ × Option ℕ
-  told (Err (Duplicate back first second)) = (first, second)
-  told result = (None, None)
+  -- what an insert tells of its look-ups: of a duplicate both answers, else that both answered none
+  abbrev pub finds_told : Result ℕ (InsertRefusal T) → Option ℕ × Option ℕ
+  finds_told (Err (Duplicate back first second)) = (first, second)
+  finds_told result = (None, None)
 
   -- the look-up of a removal by a key answers a scan
   abbrev pub RemovesAsScan : Store T → (T → Bool) → Option (ℕ × T) → Type 0
@@ -48,7 +48,7 @@ module _ {T S : Type 0} where
 
 module _ {T S K1 K2 : Type 0} (keys : Keys T K1 K2 S) where
   -- both look-ups of the item's keys may answer none
-  pub record IsNew (s : State T S) (item : T) : Type 0 where
+  pub record MayMissBoth (s : State T S) (item : T) : Type 0 where
     pub first : Finds1 keys s (keys.first item) None
     pub second : Finds2 keys s (keys.second item) None
 
@@ -60,7 +60,7 @@ module _ {T S K1 K2 : Type 0} (keys : Keys T K1 K2 S) where
 
   -- an insert that was done
   pub record InsertsAt (old : State T S) (item : T) (ix : ℕ) (new : State T S) : Type 0 where
-    pub is_new : IsNew old item
+    pub missed : MayMissBoth old item
     pub stored : StoresAt old item ix new
 
   -- an insert that was refused for a key that is there: both look-ups' answers, not both none
@@ -71,9 +71,9 @@ module _ {T S K1 K2 : Type 0} (keys : Keys T K1 K2 S) where
     pub one_hit : IsSome first ⊎ IsSome second
     pub unchanged : new ≡ old
 
-  -- an insert of new keys that was refused
-  pub record RefusesNew (old : State T S) (item : T) (refusal : InsertRefusal T) (new : State T S) : Type 0 where
-    pub is_new : IsNew old item
+  -- an insert, neither of whose keys was found, that was refused
+  pub record RefusesMissed (old : State T S) (item : T) (refusal : InsertRefusal T) (new : State T S) : Type 0 where
+    pub missed : MayMissBoth old item
     pub no_place : HasNoPlace old.store item refusal
     pub unchanged : new ≡ old
 
@@ -81,7 +81,7 @@ module _ {T S K1 K2 : Type 0} (keys : Keys T K1 K2 S) where
   abbrev pub Inserts : State T S → T → Result ℕ (InsertRefusal T) → State T S → Type 0
   Inserts old item (Ok ix) new = InsertsAt old item ix new
   Inserts old item (Err (Duplicate back first second)) new = RefusesDuplicate old item back first second new
-  Inserts old item (Err refusal) new = RefusesNew old item refusal new
+  Inserts old item (Err refusal) new = RefusesMissed old item refusal new
 
   -- these are the live indexes, each once, in order by second key, ties by index
   pub record IsSortedScan (s : Store T) (indexes : List ℕ) : Type 0 where
@@ -98,52 +98,55 @@ module _ {T S K1 K2 : Type 0} (keys : Keys T K1 K2 S) where
   Answers old (Remove ix) (Removed None) new = Removes old ix None new
   Answers old (Remove1 key) (Removed removed) new = RemovesFound (Finds1 keys old key) old removed new
   Answers old (Remove2 key) (Removed removed) new = RemovesFound (Finds2 keys old key) old removed new
-  Answers old Walk (Walked indexes) new = (indexes.items ≡ old.order) × (new ≡ old)
-  Answers old Walk NoMemory new = (old.order ≢ []) × (new ≡ old)
   Answers old (Overwrite ix item) (Overwritten result) new = Overwrites old ix item result new
-  Answers old Clear Cleared new = new ≡ empty_state old.hasher
   Answers old Compact (Compacted remap) new = IsRemapOf old.store remap × Compacts old new
   Answers old Compact NoMemory new = (old.store.free ≢ []) × (new ≡ old)
+  Answers old Clear Cleared new = new ≡ empty_state old.hasher
+  Answers old Walk (Walked indexes) new = (indexes.items ≡ old.order) × (new ≡ old)
+  Answers old Walk NoMemory new = (old.order ≢ []) × (new ≡ old)
   Answers old command reply new = ⊥
 
   -- what a command tells of first keys is what a scan of the live items answers
-  abbrev pub FirstAsScan : Store T → Command T K1 K2 → Reply T → Type 0
-  FirstAsScan s (Insert item) (Inserted ix) = AnswersScan s (has_first keys (keys.first item)) (told {T = T} (Ok ix)).0
-  FirstAsScan s (Insert item) (Refused refusal) = AnswersScan s (has_first keys (keys.first item)) (told (Err refusal)).0
-  FirstAsScan s (Find1 key) (Found found) = AnswersScan s (has_first keys key) found
-  FirstAsScan s (Remove1 key) (Removed removed) = RemovesAsScan s (has_first keys key) removed
-  FirstAsScan s command reply = ⊤
+  abbrev pub FirstKeysAsScan : Store T → Command T K1 K2 → Reply T → Type 0
+  FirstKeysAsScan s (Insert item) (Inserted ix) = HasNoHit s (has_first keys (keys.first item))
+  FirstKeysAsScan s (Insert item) (Refused refusal) = AnswersScan s (has_first keys (keys.first item)) (finds_told (Err refusal)).0
+  FirstKeysAsScan s (Find1 key) (Found found) = AnswersScan s (has_first keys key) found
+  FirstKeysAsScan s (Remove1 key) (Removed removed) = RemovesAsScan s (has_first keys key) removed
+  FirstKeysAsScan s command reply = ⊤
 
   -- what a command tells of second keys is what a scan of the live items answers
-  abbrev pub SecondAsScan : Store T → Command T K1 K2 → Reply T → Type 0
-  SecondAsScan s (Insert item) (Inserted ix) = AnswersScan s (has_second keys (keys.second item)) (told {T = T} (Ok ix)).1
-  SecondAsScan s (Insert item) (Refused refusal) = AnswersScan s (has_second keys (keys.second item)) (told (Err refusal)).1
-  SecondAsScan s (Find2 key) (Found found) = AnswersScan s (has_second keys key) found
-  SecondAsScan s (Remove2 key) (Removed removed) = RemovesAsScan s (has_second keys key) removed
-  SecondAsScan s Walk (Walked indexes) = IsSortedScan s indexes.items
-  SecondAsScan s command reply = ⊤
+  abbrev pub SecondKeysAsScan : Store T → Command T K1 K2 → Reply T → Type 0
+  SecondKeysAsScan s (Insert item) (Inserted ix) = HasNoHit s (has_second keys (keys.second item))
+  SecondKeysAsScan s (Insert item) (Refused refusal) = AnswersScan s (has_second keys (keys.second item)) (finds_told (Err refusal)).1
+  SecondKeysAsScan s (Find2 key) (Found found) = AnswersScan s (has_second keys key) found
+  SecondKeysAsScan s (Remove2 key) (Removed removed) = RemovesAsScan s (has_second keys key) removed
+  SecondKeysAsScan s Walk (Walked indexes) = IsSortedScan s indexes.items
+  SecondKeysAsScan s command reply = ⊤
 
   -- the answer is that of a scan of the live items
   abbrev pub AsScan : Store T → Command T K1 K2 → Reply T → Type 0
-  AsScan s command reply = FirstAsScan s command reply × SecondAsScan s command reply
+  AsScan s command reply = FirstKeysAsScan s command reply × SecondKeysAsScan s command reply
 
   -- the command gives a live index an item with another first key
-  abbrev pub ChangesFirst : State T S → Command T K1 K2 → Type 0
-  ChangesFirst old (Overwrite ix item) = ChangesFirstAt keys old.store ix item
-  ChangesFirst old command = ⊥
+  abbrev pub ChangesFirstKey : State T S → Command T K1 K2 → Type 0
+  ChangesFirstKey old (Overwrite ix item) = ChangesFirstKeyAt keys old.store ix item
+  ChangesFirstKey old command = ⊥
 
   -- the command gives a live index an item with another second key
-  abbrev pub ChangesSecond : State T S → Command T K1 K2 → Type 0
-  ChangesSecond old (Overwrite ix item) = ChangesSecondAt keys old.store ix item
-  ChangesSecond old command = ⊥
+  abbrev pub ChangesSecondKey : State T S → Command T K1 K2 → Type 0
+  ChangesSecondKey old (Overwrite ix item) = ChangesSecondKeyAt keys old.store ix item
+  ChangesSecondKey old command = ⊥
 
   -- the command gives a live index an item with another first or another second key
   abbrev pub IsSilentChange : State T S → Command T K1 K2 → Type 0
-  IsSilentChange old command = ChangesFirst old command ⊎ ChangesSecond old command
+  IsSilentChange old command = ChangesFirstKey old command ⊎ ChangesSecondKey old command
 
-  -- one step: what it answers and leaves, what it keeps, and that each side that is in order answers as a scan
+  -- One step: what it answers and leaves, and what it keeps. Where both sides are in order and no key changes, both stay
+  -- so; and a side that is in order answers as a scan.
   pub record Step (old : State T S) (command : Command T K1 K2) (reply : Reply T) (new : State T S) : Type 0 where
     pub answers : Answers old command reply new
-    pub keeps : KeepsUnless keys (ChangesFirst old command) (ChangesSecond old command) old new
-    pub first_as_scan : FirstInOrder keys old → FirstAsScan old.store command reply
-    pub second_as_scan : SecondInOrder keys old → SecondAsScan old.store command reply
+    pub paired : IsPaired old × IsPaired new
+    pub first_keys : (ChangesFirstKey old command → ⊥) → KeepsFirstKeys keys old new
+    pub second_keys : (ChangesSecondKey old command → ⊥) → KeepsSecondKeys keys old new
+    pub first_as_scan : FirstKeysInOrder keys old → FirstKeysAsScan old.store command reply
+    pub second_as_scan : SecondKeysInOrder keys old → SecondKeysAsScan old.store command reply

@@ -132,36 +132,39 @@ module _ {T S K1 K2 : Type 0} (keys : Keys T K1 K2 S) where
 
   -- Each live index is filed under the hash of its item's first key, and the first keys of live items are pairwise
   -- distinct.
-  pub record FirstInOrder (s : State T S) : Type 0 where
+  pub record FirstKeysInOrder (s : State T S) : Type 0 where
     pub filed : (ix : ℕ) (item : T) → get s.store ix ≡ Some item → finite.get s.filed ix ≡ Some (hash_in s (keys.first item))
     pub apart : AreApart (λ x y. has_first keys (keys.first x) y) s.store
 
   -- The order is sorted, and the second keys of live items are pairwise distinct.
-  pub record SecondInOrder (s : State T S) : Type 0 where
+  pub record SecondKeysInOrder (s : State T S) : Type 0 where
     pub sorted : IsSorted s
     pub apart : AreApart (λ x y. has_second keys (keys.second x) y) s.store
 
   -- both tables are as the keys of the live items want them, and no two items share a key
   pub record InOrder (s : State T S) : Type 0 where
-    pub first : FirstInOrder s
-    pub second : SecondInOrder s
+    pub first : FirstKeysInOrder s
+    pub second : SecondKeysInOrder s
 
-  -- What a call keeps: its states are paired, a sorted order stays sorted unless it changes the second key of a live
-  -- index, and each side stays in order unless it changes such a key.
-  pub record KeepsUnless (changes_first changes_second : Type 0) (old new : State T S) : Type 0 where
-    pub paired : IsPaired old × IsPaired new
-    pub sorted : IsSorted old → (changes_second → ⊥) → IsSorted new
-    pub first : FirstInOrder old → (changes_first → ⊥) → FirstInOrder new
-    pub second : SecondInOrder old → (changes_second → ⊥) → SecondInOrder new
+  -- what a call keeps of the first keys' side
+  abbrev pub KeepsFirstKeys : State T S → State T S → Type 0
+  KeepsFirstKeys old new = FirstKeysInOrder old → FirstKeysInOrder new
+
+  -- what a call keeps of the second keys' side: a sorted order stays sorted, also where two items share a key
+  pub record KeepsSecondKeys (old new : State T S) : Type 0 where
+    pub sorted : IsSorted old → IsSorted new
+    pub in_order : SecondKeysInOrder old → SecondKeysInOrder new
 
   -- what a call keeps that changes no key of a live index
-  abbrev pub Keeps : State T S → State T S → Type 0
-  Keeps old new = KeepsUnless ⊥ ⊥ old new
+  pub record Keeps (old new : State T S) : Type 0 where
+    pub paired : IsPaired old × IsPaired new
+    pub first_keys : KeepsFirstKeys old new
+    pub second_keys : KeepsSecondKeys old new
 
   -- the index is live, and its item has another first key than this item
-  abbrev pub ChangesFirstAt : Store T → ℕ → T → Type 0
-  ChangesFirstAt s ix item = IsHit s (λ was. not (has_first keys (keys.first item) was)) ix
+  abbrev pub ChangesFirstKeyAt : Store T → ℕ → T → Type 0
+  ChangesFirstKeyAt s ix item = IsHit s (λ was. not (has_first keys (keys.first item) was)) ix
 
   -- the index is live, and its item has another second key than this item
-  abbrev pub ChangesSecondAt : Store T → ℕ → T → Type 0
-  ChangesSecondAt s ix item = IsHit s (λ was. not (has_second keys (keys.second item) was)) ix
+  abbrev pub ChangesSecondKeyAt : Store T → ℕ → T → Type 0
+  ChangesSecondKeyAt s ix item = IsHit s (λ was. not (has_second keys (keys.second item) was)) ix

@@ -6,22 +6,22 @@ use iddqd::item_index::ItemIndex;
 /// Why an item was not taken. The item comes back.
 #[derive(Debug, PartialEq, Eq, Drop)]
 pub enum InsertRefusal<T> {
-    /// One of its keys is there: what the look-ups of its first and its second key answered.
+    /// One of its keys was found: what the look-ups of its first and its second key answered.
     Duplicate {
         item: T,
         first: Option<ItemIndex>,
         second: Option<ItemIndex>,
     },
-    /// Its keys are new, and there are as many items as there can be.
+    /// Neither of its keys was found, and there are as many items as there can be.
     Full(T),
-    /// Its keys are new, there is place for it, and memory was refused.
+    /// Neither of its keys was found, there is place for it, and memory was refused.
     Memory(T),
 }
 
 /// A command to keyed items.
 #[derive(Drop)]
 pub enum Command<T: KeyedItem> {
-    /// Take an item with new keys.
+    /// Take an item, where neither of its keys is found.
     Insert(T),
     /// Find the item with this first key.
     Find1(T::Key1),
@@ -39,7 +39,7 @@ pub enum Command<T: KeyedItem> {
     Compact,
     /// Forget all items and all slots.
     Clear,
-    /// Tell all indexes, in the order of their items' second keys.
+    /// Tell all indexes, in the order of the ordered table.
     Walk,
 }
 

@@ -5,14 +5,14 @@
 //! good until its item is removed or the store is compacted. Every index of an item stands in both
 //! tables once, and no other does, whatever becomes of the keys: an insert takes all memory before it
 //! writes anything, and a removal takes the index out of both tables before its slot is freed.
-ghost use Rattle.std.specs.Prelude.{◌≡◌, [], IsOk, IfOk, IfErr, OnOk, OnErr, option_copied};
+ghost use Rattle.std.specs.Prelude.{◌≡◌, ◌↔◌, [], IsSome, IsOk, IfOk, IfErr, OnOk, OnErr, option_copied};
 ghost use Rattle.iddqd.specs.Store.{get, live_count};
 ghost use Rattle.iddqd.specs.Compaction.{IsRemapOf};
 ghost use Rattle.iddqd.specs.GrowHandle.{handle_store};
 ghost use Rattle.iddqd_order.specs.Iter.{indexes_left};
 ghost use Rattle.iddqd_keyed.specs.Keys.{keys_of, has_first, has_second};
-ghost use Rattle.iddqd_keyed.specs.State.{empty_state, Compacts, hash_in, IsLive, IsPaired, IsSorted, FirstInOrder, SecondInOrder, Keeps, KeepsUnless, ChangesFirstAt, ChangesSecondAt, AnswersScan, Finds1, Finds2};
-ghost use Rattle.iddqd_keyed.specs.Machine.{HasNoPlace, StoresAt, Inserts, told, Removes, RemovesFound, RemovesAsScan, Overwrites, IsSortedScan, Step};
+ghost use Rattle.iddqd_keyed.specs.State.{empty_state, Compacts, hash_in, IsLive, IsPaired, IsSorted, FirstKeysInOrder, SecondKeysInOrder, Keeps, KeepsFirstKeys, KeepsSecondKeys, ChangesFirstKeyAt, ChangesSecondKeyAt, AnswersScan, Finds1, Finds2};
+ghost use Rattle.iddqd_keyed.specs.Machine.{HasNoPlace, StoresAt, Inserts, finds_told, Removes, RemovesFound, RemovesAsScan, Overwrites, IsSortedScan, Step};
 ghost use Rattle.iddqd_keyed.specs.Run.{Run};
 
 use crate::command::{Command, InsertRefusal, Reply};
@@ -30,13 +30,14 @@ use std::marker::Model;
 
 /// Items that lend two keys each.
 ///
-/// An insert refuses an item whose first or second key is there.
+/// An insert refuses an item one of whose keys a look-up finds. While no key is changed silently, by
+/// `overwrite`, that is each item one of whose keys is there.
 #[derive(Drop)]
 pub struct KeyedItems<T: KeyedItem, S: BuildHasher> {
     items: ItemSet<T>,
     // Each live index, under the hash that its item's first key had when it was inserted.
     filed: MapHashTable,
-    // Each live index, in the order of the second keys.
+    // Each live index: by second key, ties by index, where no second key was changed silently.
     order: MapBTreeTable,
     state: S,
     alloc: Global,
@@ -94,7 +95,7 @@ impl<T: KeyedItem, S: BuildHasher> KeyedItems<T, S> {
         ensures found { let keys = keys_of T.KeyedItem T.Key1.eq T.Key1.hash_input T.Key2.cmp S.BuildHasher S.Hasher.Hasher in
             Finds1 keys self.now key.now result }
         ensures as_scan { let keys = keys_of T.KeyedItem T.Key1.eq T.Key1.hash_input T.Key2.cmp S.BuildHasher S.Hasher.Hasher in
-            FirstInOrder keys self.now →
+            FirstKeysInOrder keys self.now →
             AnswersScan self.now.store (has_first keys key.now) result }
     {
         let items = &self.items;
@@ -115,7 +116,7 @@ impl<T: KeyedItem, S: BuildHasher> KeyedItems<T, S> {
         ensures found { let keys = keys_of T.KeyedItem T.Key1.eq T.Key1.hash_input T.Key2.cmp S.BuildHasher S.Hasher.Hasher in
             Finds2 keys self.now key.now result }
         ensures as_scan { let keys = keys_of T.KeyedItem T.Key1.eq T.Key1.hash_input T.Key2.cmp S.BuildHasher S.Hasher.Hasher in
-            SecondInOrder keys self.now →
+            SecondKeysInOrder keys self.now →
             AnswersScan self.now.store (has_second keys key.now) result }
     {
         let items = &self.items;
@@ -128,20 +129,21 @@ impl<T: KeyedItem, S: BuildHasher> KeyedItems<T, S> {
         self.order.find_index(&Same(key), &mut asking)
     }
 
-    /// The indexes in the order of their items' second keys. It takes no memory.
+    /// The indexes in the order of the ordered table: by second key, where none was changed silently.
+    /// It takes no memory.
     pub fn walk(&self) -> Iter<'_>
         ensures order { indexes_left result ≡ self.now.order }
         ensures paired { IsPaired self.now }
         ensures as_scan { let keys = keys_of T.KeyedItem T.Key1.eq T.Key1.hash_input T.Key2.cmp S.BuildHasher S.Hasher.Hasher in
-            SecondInOrder keys self.now →
+            SecondKeysInOrder keys self.now →
             IsSortedScan keys self.now.store (indexes_left result) }
     {
         self.order.iter()
     }
 
-    /// Takes an item with new keys.
+    /// Takes an item, where neither of its keys is found.
     ///
-    /// A duplicate is told even where the store is full or no memory is left, and a full store even
+    /// A duplicate is finds_told even where the store is full or no memory is left, and a full store even
     /// where no memory is left. A refusal hands the item back and changes nothing.
     pub fn insert(&mut self, item: T) -> Result<ItemIndex, InsertRefusal<T>>
         ensures inserts { let keys = keys_of T.KeyedItem T.Key1.eq T.Key1.hash_input T.Key2.cmp S.BuildHasher S.Hasher.Hasher in
@@ -149,11 +151,11 @@ impl<T: KeyedItem, S: BuildHasher> KeyedItems<T, S> {
         ensures keeps { let keys = keys_of T.KeyedItem T.Key1.eq T.Key1.hash_input T.Key2.cmp S.BuildHasher S.Hasher.Hasher in
             Keeps keys self.old self.new }
         ensures first_as_scan { let keys = keys_of T.KeyedItem T.Key1.eq T.Key1.hash_input T.Key2.cmp S.BuildHasher S.Hasher.Hasher in
-            FirstInOrder keys self.old →
-            AnswersScan self.old.store (has_first keys (keys.first item)) (told result).0 }
+            FirstKeysInOrder keys self.old →
+            AnswersScan self.old.store (has_first keys (keys.first item)) (finds_told result).0 }
         ensures second_as_scan { let keys = keys_of T.KeyedItem T.Key1.eq T.Key1.hash_input T.Key2.cmp S.BuildHasher S.Hasher.Hasher in
-            SecondInOrder keys self.old →
-            AnswersScan self.old.store (has_second keys (keys.second item)) (told result).1 }
+            SecondKeysInOrder keys self.old →
+            AnswersScan self.old.store (has_second keys (keys.second item)) (finds_told result).1 }
     {
         let first = self.find1(item.key1());
         let second = self.find2(item.key2());
@@ -168,9 +170,10 @@ impl<T: KeyedItem, S: BuildHasher> KeyedItems<T, S> {
         self.store(item, hash)
     }
 
-    /// Removes the item at an index, if it is live. It takes no memory.
+    /// Removes the item at an index, if it is live, whatever its keys are now. It takes no memory.
     pub fn remove(&mut self, ix: ItemIndex) -> Option<T>
         ensures removes { Removes self.old ix result self.new }
+        ensures live { IsSome result ↔ IsLive self.old.store ix }
         ensures keeps { let keys = keys_of T.KeyedItem T.Key1.eq T.Key1.hash_input T.Key2.cmp S.BuildHasher S.Hasher.Hasher in
             Keeps keys self.old self.new }
     {
@@ -186,7 +189,7 @@ impl<T: KeyedItem, S: BuildHasher> KeyedItems<T, S> {
         ensures removes { let keys = keys_of T.KeyedItem T.Key1.eq T.Key1.hash_input T.Key2.cmp S.BuildHasher S.Hasher.Hasher in
             RemovesFound (Finds1 keys self.old key.now) self.old result self.new }
         ensures as_scan { let keys = keys_of T.KeyedItem T.Key1.eq T.Key1.hash_input T.Key2.cmp S.BuildHasher S.Hasher.Hasher in
-            FirstInOrder keys self.old → RemovesAsScan self.old.store (has_first keys key.now) result }
+            FirstKeysInOrder keys self.old → RemovesAsScan self.old.store (has_first keys key.now) result }
         ensures keeps { let keys = keys_of T.KeyedItem T.Key1.eq T.Key1.hash_input T.Key2.cmp S.BuildHasher S.Hasher.Hasher in
             Keeps keys self.old self.new }
     {
@@ -199,7 +202,7 @@ impl<T: KeyedItem, S: BuildHasher> KeyedItems<T, S> {
         ensures removes { let keys = keys_of T.KeyedItem T.Key1.eq T.Key1.hash_input T.Key2.cmp S.BuildHasher S.Hasher.Hasher in
             RemovesFound (Finds2 keys self.old key.now) self.old result self.new }
         ensures as_scan { let keys = keys_of T.KeyedItem T.Key1.eq T.Key1.hash_input T.Key2.cmp S.BuildHasher S.Hasher.Hasher in
-            SecondInOrder keys self.old → RemovesAsScan self.old.store (has_second keys key.now) result }
+            SecondKeysInOrder keys self.old → RemovesAsScan self.old.store (has_second keys key.now) result }
         ensures keeps { let keys = keys_of T.KeyedItem T.Key1.eq T.Key1.hash_input T.Key2.cmp S.BuildHasher S.Hasher.Hasher in
             Keeps keys self.old self.new }
     {
@@ -210,13 +213,16 @@ impl<T: KeyedItem, S: BuildHasher> KeyedItems<T, S> {
     /// Gives a live index another item, and hands back the one that it had; of an index that isn't
     /// live the given item comes back.
     ///
-    /// Neither table is told, whatever the keys of both items: the index stays filed under the hash
+    /// Neither table is finds_told, whatever the keys of both items: the index stays filed under the hash
     /// that it has and in its place in the order. Look-ups may then miss the new keys, but never hit a
     /// wrong one, and the index can still be removed. It takes no memory.
     pub fn overwrite(&mut self, ix: ItemIndex, item: T) -> Result<T, T>
         ensures overwrites { Overwrites self.old ix item result self.new }
-        ensures keeps { let keys = keys_of T.KeyedItem T.Key1.eq T.Key1.hash_input T.Key2.cmp S.BuildHasher S.Hasher.Hasher in
-            KeepsUnless keys (ChangesFirstAt keys self.old.store ix item) (ChangesSecondAt keys self.old.store ix item) self.old self.new }
+        ensures paired { IsPaired self.old × IsPaired self.new }
+        ensures first_keys { let keys = keys_of T.KeyedItem T.Key1.eq T.Key1.hash_input T.Key2.cmp S.BuildHasher S.Hasher.Hasher in
+            (ChangesFirstKeyAt keys self.old.store ix item → ⊥) → KeepsFirstKeys keys self.old self.new }
+        ensures second_keys { let keys = keys_of T.KeyedItem T.Key1.eq T.Key1.hash_input T.Key2.cmp S.BuildHasher S.Hasher.Hasher in
+            (ChangesSecondKeyAt keys self.old.store ix item → ⊥) → KeepsSecondKeys keys self.old self.new }
     {
         if self.items.get(ix).is_none() {
             return Err(item);
@@ -309,8 +315,8 @@ impl<T: KeyedItem, S: BuildHasher> KeyedItems<T, S> {
 }
 
 impl<T: KeyedItem, S: BuildHasher> KeyedItems<T, S> {
-    // Stores an item of new keys under the hash of its first, or hands it back. All memory is taken
-    // before anything is written.
+    // Stores an item under the hash of its first key, or hands it back. All memory is taken before
+    // anything is written.
     fn store(&mut self, item: T, hash: MapHash) -> Result<ItemIndex, InsertRefusal<T>>
         requires key { let keys = keys_of T.KeyedItem T.Key1.eq T.Key1.hash_input T.Key2.cmp S.BuildHasher S.Hasher.Hasher in
             hash ≡ hash_in keys self.old (keys.first item) }
@@ -345,7 +351,7 @@ impl<T: KeyedItem, S: BuildHasher> KeyedItems<T, S> {
         Ok(handle.insert(item))
     }
 
-    // The indexes in the order of their items' second keys, in memory of their own.
+    // The indexes in the order of the ordered table, in memory of their own.
     fn indexes(&self) -> Result<Vec<ItemIndex>, AllocError>
         ensures paired { IsPaired self.now }
         ensures all { IfOk result (λ indexes. indexes.items ≡ self.now.order) }
