@@ -135,9 +135,9 @@ fn get_mut_writes_one_item(rt: HostRuntime) -> Result<(), Fail> {
 #[test]
 fn replace_gives_one_index_another_item(rt: HostRuntime) -> Result<(), Fail> {
     let mut set = with_a_vacant_slot(&rt, rt.alloc())?;
-    let room = set.room();
-    assert!(rt; set.get(ix(1)).is_some());
-    assert_eq!(rt; set.replace(ix(1), 21), 20);
+    let (at, room) = (ix(1), set.room());
+    assert!(rt; set.get(at).is_some());
+    assert_eq!(rt; set.replace(at, 21), 20);
     for (at, want) in [(0, Some(&10)), (1, Some(&21)), (2, None), (3, Some(&40))] {
         assert_eq!(rt; set.get(ix(at)), want, "at {at}");
     }
