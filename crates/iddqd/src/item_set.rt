@@ -372,6 +372,7 @@ impl<T> ItemSet<T> {
         }
         ix
     }
+
     // The new name of each slot, where every item moves down to its rank.
     fn new_names(&self) -> Result<Vec<ItemIndex>, AllocError>
         ensures { IfOk result (λ names. names.items ≡ map (new_name self.now.store) (numbers (slot_count self.now.store))) }

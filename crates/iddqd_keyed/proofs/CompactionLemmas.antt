@@ -16,7 +16,7 @@ use Rattle.iddqd_order.proofs.RenameLemmas.{Contains-map, Contains-from_map, IsD
 use Rattle.iddqd_keyed.specs.Keys.{Keys}
 use Rattle.iddqd_keyed.specs.State.{State, IsLive, AreApart, IsPaired, IsSorted, FirstKeysInOrder, SecondKeysInOrder, Keeps, Compacts, second_at}
 use Rattle.iddqd_keyed.proofs.KeyLemmas.{AreLawful}
-use Rattle.iddqd_keyed.proofs.StoreLemmas.{item_at, live_at}
+use Rattle.iddqd_keyed.proofs.LiveLemmas.{item_at, live_at}
 
 -- what is filed has a hash
 filed_hash : (o : Option ℕ) → IsSome o → (hash : ℕ) × (o ≡ Some hash)

@@ -11,7 +11,7 @@ use Rattle.iddqd_keyed.specs.Keys.{Keys, has_first, has_second}
 use Rattle.iddqd_keyed.specs.State.{State, IsHit, HasNoHit, AnswersScan, IsPaired, IsSorted, Finds1, Finds2, FirstKeysInOrder, SecondKeysInOrder, hash_in}
 use Rattle.iddqd_keyed.specs.Machine.{IsSortedScan}
 use Rattle.iddqd_keyed.proofs.KeyLemmas.{AreLawful}
-use Rattle.iddqd_keyed.proofs.StoreLemmas.{item_at, live_at}
+use Rattle.iddqd_keyed.proofs.LiveLemmas.{item_at, live_at}
 use Rattle.iddqd_keyed.proofs.SortedLemmas.{compared_at, compared_live}
 
 pub equal_from_hit : (r : Ordering) → is_eq r ≡ true → r ≡ Equal

@@ -1,5 +1,5 @@
 -- What an insert answers and keeps, from its two look-ups and from what storing the item answers.
-use Rattle.std.proofs.Common.{◌≡◌, ℕ, false, Option, Some, None, is_some, Result, Ok, Err, sym, subst}
+use Rattle.std.proofs.Common.{◌≡◌, ℕ, false, Option, Some, None, is_some, Result, Ok, Err}
 use Rattle.std.specs.Result.{IfOk, IfErr, OnErr}
 use Rattle.iddqd_keyed.specs.Keys.{Keys, has_first, has_second}
 use Rattle.iddqd_keyed.specs.State.{State, IsPaired, IsSorted, Finds1, Finds2, FirstKeysInOrder, SecondKeysInOrder, Keeps, AnswersScan}

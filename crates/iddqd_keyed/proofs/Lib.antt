@@ -1,4 +1,4 @@
-pub mod StoreLemmas
+pub mod LiveLemmas
 pub mod MemberLemmas
 pub mod PairedLemmas
 pub mod KeyLemmas

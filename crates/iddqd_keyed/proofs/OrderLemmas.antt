@@ -10,7 +10,7 @@ use Rattle.iddqd_keyed.specs.Keys.{Keys}
 use Rattle.iddqd_keyed.specs.State.{State, HasNoHit, AreApart, IsPaired, IsEmpty, IsSorted, IsSortedIn, Binds, Unbinds, FirstKeysInOrder, SecondKeysInOrder, InOrder, Keeps}
 use Rattle.iddqd_keyed.specs.Machine.{MayMissBoth}
 use Rattle.iddqd_keyed.proofs.KeyLemmas.{AreLawful}
-use Rattle.iddqd_keyed.proofs.StoreLemmas.{item_at, none_live, get-removed_at, get-removed_other, get-inserted_at, get-inserted_other}
+use Rattle.iddqd_keyed.proofs.LiveLemmas.{item_at, none_live, get-removed_at, get-removed_other, get-inserted_at, get-inserted_other}
 use Rattle.iddqd_keyed.proofs.MemberLemmas.{get-insert_at, get-insert_other, get-remove_other}
 use Rattle.iddqd_keyed.proofs.PairedLemmas.{IsPaired-removed}
 use Rattle.iddqd_keyed.proofs.SortedLemmas.{IsSorted-removed}

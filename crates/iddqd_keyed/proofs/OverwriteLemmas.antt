@@ -1,12 +1,9 @@
 -- Giving a live index another item keeps store and tables paired, and each side in order whose key stays.
-use Rattle.std.proofs.Common.{◌≡◌, ◌≢◌, ◌∙◌, ◌⊎◌, inl, inr, ◌↔◌, ℕ, Bool, true, false, not, Option, Some, None, Ordering, refl, sym, ap, subst}
-use Rattle.std.specs.Option.{option_map, option_cmp}
-use Rattle.std.specs.Ordering.{is_eq}
+use Rattle.std.proofs.Common.{◌≡◌, ◌≢◌, ◌∙◌, ◌⊎◌, inl, inr, ℕ, Bool, true, false, not, Some, refl, sym, ap, subst}
 use Rattle.std.specs.Cmp.{eq_by_cmp_equiv}
 use Rattle.std.specs.Cmp.Lexicographic.{options_total}
-use Rattle.std.specs.declared.cmp.Ordering.TheVariants.{Less, Equal, Greater}
 use Rattle.std.proofs.lemmas.Bool.{cases_eq}
-use Rattle.std.proofs.lemmas.Cmp.{tied_itself, tied_back}
+use Rattle.std.proofs.lemmas.Cmp.{tied_itself}
 use Rattle.iddqd.specs.Store.{Store, get, rebound}
 use Rattle.iddqd.proofs.StoreLemmas.{IsValid-rebound, get-rebound_at, get-rebound_other}
 use Rattle.iddqd_keyed.specs.Keys.{Keys, has_first, has_second}

@@ -1,5 +1,5 @@
 -- Orders that are sorted by second key: how searches are answered there, and that they stay sorted.
-use Rattle.std.proofs.Common.{◌≡◌, ◌∙◌, ◌+◌, ◌<◌, ℕ, List, length, get_or, insert, Some, None, refl, sym, ap, subst, Ordering, arith}
+use Rattle.std.proofs.Common.{◌≡◌, ◌∙◌, ◌+◌, ℕ, List, get_or, insert, Some, None, refl, sym, ap, subst, Ordering, arith}
 use Rattle.std.specs.List.{Contains}
 use Rattle.std.specs.Option.{option_map, option_cmp}
 use Rattle.std.specs.Ordering.{nat_cmp, ordering_then}
@@ -18,7 +18,7 @@ use Rattle.iddqd_order.proofs.KeyOrderLemmas.{key_then_index-total, settled-key,
 use Rattle.iddqd_keyed.specs.Keys.{Keys}
 use Rattle.iddqd_keyed.specs.State.{State, IsLive, IsPaired, IsSorted, IsSortedIn, second_at, Binds, Unbinds}
 use Rattle.iddqd_keyed.specs.Machine.{StoresAt}
-use Rattle.iddqd_keyed.proofs.StoreLemmas.{none_not_live, next_vacant, get-removed_other, get-inserted_at, get-inserted_other}
+use Rattle.iddqd_keyed.proofs.LiveLemmas.{none_not_live, next_vacant, get-removed_other, get-inserted_at, get-inserted_other}
 use Rattle.iddqd_keyed.proofs.MemberLemmas.{contains-from_without}
 
 module _ {T S K1 K2 : Type 0} (keys : Keys T K1 K2 S) where

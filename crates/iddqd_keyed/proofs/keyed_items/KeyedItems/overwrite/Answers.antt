@@ -1,6 +1,6 @@
 use Rattle.std.proofs.Common.{subst}
 use Rattle.iddqd_keyed.specs.Keys.{Keys, keys_of}
-use Rattle.iddqd_keyed.specs.State.{state_of, IsPaired, KeepsFirstKeys, KeepsSecondKeys, ChangesFirstKeyAt, ChangesSecondKeyAt}
+use Rattle.iddqd_keyed.specs.State.{state_of, KeepsFirstKeys, KeepsSecondKeys, ChangesFirstKeyAt, ChangesSecondKeyAt}
 use Rattle.iddqd_keyed.proofs.KeyLemmas.{AreLawful-from_bounds}
 use Rattle.iddqd_keyed.proofs.OverwriteLemmas.{IsPaired-rebound, KeepsFirstKeys-rebound, KeepsSecondKeys-rebound}
 use Rattle.iddqd_keyed.proofs.keyed_items.KeyedItems.overwrite.Goals as goal
