@@ -12,7 +12,10 @@ use Rattle.std.proofs.lemmas.List.{take-append-drop, length-take-le}
 use Rattle.std.proofs.lemmas.Int.Digits.{digits_value_more}
 use Rattle.std.proofs.lemmas.List.Folds.{list_all_more}
 use Rattle.std.proofs.lemmas.List.Splits.{length-slice_split, slice_split_none, join_with_byte-slice_split}
-use Rattle.iddqd_lines.specs.Line.{is_space, number_of, numbers_of, of_one, of_three, record_of, command_for, command_of}
+use Rattle.iddqd_lines.specs.Line.{is_space, number_of, numbers_of, of_one, of_three, of_four, record_of, command_for, command_of}
+use Rattle.iddqd_lines.specs.declared.record.Record.{Record}
+use Rattle.iddqd_keyed.specs.declared.command.Command.{Command}
+use Rattle.iddqd_keyed.specs.declared.command.Command.TheVariants.{Overwrite}
 
 -- three tests and what they choose
 chosen : (a b c : Bool) (x : Option ℕ) → a ≡ true → b ≡ true → c ≡ true → cond ((a && b) && c) x None ≡ x
@@ -145,24 +148,47 @@ three_words first second value = by_numbers (number_of first) (number_of second)
     by_numbers (Some a) None = refl
     by_numbers (Some a) (Some b) = last a b (numbers_of (slice_split is_space value)) ∙ of_one-words (record_of a b) value
 
+abbrev overwrite_of : List ℕ → Option (Command Record ℕ ℕ)
+overwrite_of = of_four (λ ix a b c. Overwrite ix (record_of a b c))
+
+abbrev overwrite_at : ℕ → Option Record → Option (Command Record ℕ ℕ)
+overwrite_at ix = option_map (Overwrite ix)
+
+-- the overwrite of four words, the first of which is the index
+pub four_words : (ix : List ℕ) (words : List (List ℕ)) → option_and_then overwrite_of (numbers_of (ix ∷ words)) ≡ option_and_then (λ i. overwrite_at i (option_and_then (of_three record_of) (numbers_of words))) (number_of ix)
+four_words ix words = by_numbers (number_of ix) (numbers_of words)
+  where
+    by_number : (i : ℕ) (ns : List ℕ) → overwrite_of (i ∷ ns) ≡ overwrite_at i (of_three record_of ns)
+    by_number i [] = refl
+    by_number i (a ∷ []) = refl
+    by_number i (a ∷ b ∷ []) = refl
+    by_number i (a ∷ b ∷ c ∷ []) = refl
+    by_number i (a ∷ b ∷ c ∷ d ∷ ns) = refl
+
+    by_numbers : (i : Option ℕ) (o : Option (List ℕ)) → option_and_then overwrite_of (option_and_then (λ n. option_map (λ ns. n ∷ ns) o) i) ≡ option_and_then (λ n. overwrite_at n (option_and_then (of_three record_of) o)) i
+    by_numbers None o = refl
+    by_numbers (Some i) None = refl
+    by_numbers (Some i) (Some ns) = by_number i ns
+
 either_none : {A : Type 0} (test : Bool) (o : Option A) → o ≡ None → cond test None o ≡ None
 either_none true o none = refl
 either_none false o none = none
 
--- no verb but `insert` takes more than one number
-pub number_command-words : (verb words : List ℕ) → bytes_eq verb (codes "insert") ≡ false → option_and_then (command_for verb) (numbers_of (slice_split is_space words)) ≡ option_and_then (λ n. command_for verb (n ∷ [])) (number_of words)
-number_command-words verb words not_insert = number-words (command_for verb) at_most_one words
+-- no verb but `insert` and `overwrite` takes more than one number
+pub number_command-words : (verb words : List ℕ) → bytes_eq verb (codes "insert") ≡ false → bytes_eq verb (codes "overwrite") ≡ false → option_and_then (command_for verb) (numbers_of (slice_split is_space words)) ≡ option_and_then (λ n. command_for verb (n ∷ [])) (number_of words)
+number_command-words verb words not_insert not_overwrite = number-words (command_for verb) at_most_one words
   where
     at_most_one : (a b : ℕ) (ns : List ℕ) → command_for verb (a ∷ b ∷ ns) ≡ None
     at_most_one a b ns =
-        rw not_insert
+        rw (not_insert, not_overwrite)
         (either_none (bytes_eq verb (codes "get1")) _
         (either_none (bytes_eq verb (codes "get2")) _
         (either_none (bytes_eq verb (codes "remove")) _
         (either_none (bytes_eq verb (codes "remove1")) _
         (either_none (bytes_eq verb (codes "remove2")) _
         (either_none (bytes_eq verb (codes "walk")) _
-        (either_none (bytes_eq verb (codes "compact")) _ refl)))))))
+        (either_none (bytes_eq verb (codes "compact")) _
+        (either_none (bytes_eq verb (codes "clear")) _ refl))))))))
 
 -- a command goes by the first 129 bytes of its line alone
 pub command_of-kept : (kept whole : List ℕ) → take 129 kept ≡ take 129 whole → command_of kept ≡ command_of whole

@@ -8,16 +8,16 @@ use Rattle.std.proofs.lemmas.List.Elements.{All-append, All-head, All-tail, All-
 use Rattle.std.proofs.lemmas.List.Splits.{slice_split_at, slice_split_none}
 use Rattle.iddqd_keyed.specs.State.{State, empty_state}
 use Rattle.iddqd_keyed.specs.Machine.{Step}
-use Rattle.iddqd_lines.specs.Line.{is_line_feed, lines_of, without_empty_last, command_of, text_of}
+use Rattle.iddqd_lines.specs.Line.{is_line_feed, lines_of, without_empty_last, command_of, index_of, text_of}
 use Rattle.iddqd_lines.specs.Split.{HasNo, IsCut}
 use Rattle.iddqd_lines.specs.Replies.{sent_bytes}
 use Rattle.iddqd_lines.specs.Program.{record_keys, AnswersCommand, Line, Serves, default_hash, IsDefaultHasher, ServesAll}
 use Rattle.iddqd_lines.specs.Serve.{ended, IsKept, Obeys, Feeds}
 use Rattle.iddqd_lines.specs.declared.record.Record.{Record}
 use Rattle.iddqd_keyed.specs.declared.command.Command.{Command}
-use Rattle.iddqd_keyed.specs.declared.command.Command.TheVariants.{Insert, Find1, Find2, Remove, Remove1, Remove2, Compact, Walk}
+use Rattle.iddqd_keyed.specs.declared.command.Command.TheVariants.{Insert, Find1, Find2, Remove, Remove1, Remove2, Overwrite, Compact, Clear, Walk}
 use Rattle.iddqd_keyed.specs.declared.command.Reply.{Reply}
-use Rattle.iddqd_keyed.specs.declared.command.Reply.TheVariants.{Inserted, Refused, Found, Removed, Compacted, Walked, NoMemory}
+use Rattle.iddqd_keyed.specs.declared.command.Reply.TheVariants.{Inserted, Refused, Found, Removed, Overwritten, Compacted, Cleared, Walked, NoMemory}
 use Rattle.iddqd_lines.proofs.ByteLemmas.{Appends-trans, Appends-nil, consumed, at_end}
 use Rattle.iddqd_lines.proofs.LineLemmas.{command_of-kept}
 use Rattle.iddqd_lines.proofs.LineBufferLemmas.{take-kept, take-take}
@@ -29,29 +29,33 @@ sent_bytes-nil (Some bytes) = ap Some (append-nil bytes)
 
 module _ {S : Type 0} (hash : S → ℕ → ℕ) where
   -- the words of a reply are the same over the store before the step and after it
-  pub text_of-step : (old new : State Record S) (command : Command Record ℕ ℕ) (reply : Reply Record) → Step (record_keys hash) old command reply new → text_of new.store reply ≡ text_of old.store reply
-  text_of-step old new command (Inserted ix) step = refl
-  text_of-step old new command (Refused refusal) step = refl
-  text_of-step old new command (Found None) step = refl
-  text_of-step old new (Find1 key) (Found (Some ix)) step = ap (λ s. text_of s.store (Found (Some ix))) step.answers.1
-  text_of-step old new (Find2 key) (Found (Some ix)) step = ap (λ s. text_of s.store (Found (Some ix))) step.answers.1
-  text_of-step old new (Insert item) (Found (Some ix)) step = absurd step.answers
-  text_of-step old new (Remove at) (Found (Some ix)) step = absurd step.answers
-  text_of-step old new (Remove1 key) (Found (Some ix)) step = absurd step.answers
-  text_of-step old new (Remove2 key) (Found (Some ix)) step = absurd step.answers
-  text_of-step old new Compact (Found (Some ix)) step = absurd step.answers
-  text_of-step old new Walk (Found (Some ix)) step = absurd step.answers
-  text_of-step old new command (Removed None) step = refl
-  text_of-step old new command (Removed (Some (ix, item))) step = refl
-  text_of-step old new command (Compacted remap) step = refl
-  text_of-step old new command (Walked indexes) step = refl
-  text_of-step old new command NoMemory step = refl
+  pub text_of-step : (old new : State Record S) (named : Option ℕ) (command : Command Record ℕ ℕ) (reply : Reply Record) → Step (record_keys hash) old command reply new → text_of new.store named reply ≡ text_of old.store named reply
+  text_of-step old new named command (Inserted ix) step = refl
+  text_of-step old new named command (Refused refusal) step = refl
+  text_of-step old new named command (Found None) step = refl
+  text_of-step old new named (Find1 key) (Found (Some ix)) step = ap (λ s. text_of s.store named (Found (Some ix))) step.answers.1
+  text_of-step old new named (Find2 key) (Found (Some ix)) step = ap (λ s. text_of s.store named (Found (Some ix))) step.answers.1
+  text_of-step old new named (Insert item) (Found (Some ix)) step = absurd step.answers
+  text_of-step old new named (Remove at) (Found (Some ix)) step = absurd step.answers
+  text_of-step old new named (Remove1 key) (Found (Some ix)) step = absurd step.answers
+  text_of-step old new named (Remove2 key) (Found (Some ix)) step = absurd step.answers
+  text_of-step old new named (Overwrite at item) (Found (Some ix)) step = absurd step.answers
+  text_of-step old new named Compact (Found (Some ix)) step = absurd step.answers
+  text_of-step old new named Clear (Found (Some ix)) step = absurd step.answers
+  text_of-step old new named Walk (Found (Some ix)) step = absurd step.answers
+  text_of-step old new named command (Removed None) step = refl
+  text_of-step old new named command (Removed (Some (ix, item))) step = refl
+  text_of-step old new named command (Overwritten result) step = refl
+  text_of-step old new named command (Compacted remap) step = refl
+  text_of-step old new named command Cleared step = refl
+  text_of-step old new named command (Walked indexes) step = refl
+  text_of-step old new named command NoMemory step = refl
 
   -- a command's line is answered
-  pub Line-command : (old new : State Record S) (kept line out : List ℕ) (command : Command Record ℕ ℕ) (reply : Reply Record) → take 129 kept ≡ take 129 line → Some command ≡ command_of kept → Step (record_keys hash) old command reply new → out ≡ text_of new.store reply → Line hash old line out new
+  pub Line-command : (old new : State Record S) (kept line out : List ℕ) (command : Command Record ℕ ℕ) (reply : Reply Record) → take 129 kept ≡ take 129 line → Some command ≡ command_of kept → Step (record_keys hash) old command reply new → out ≡ text_of new.store (index_of command) reply → Line hash old line out new
   Line-command old new kept line out command reply same is step text =
       subst (λ o. MatchOption o ((out ≡ codes "bad line") × (new ≡ old)) (AnswersCommand hash old line out new)) (is ∙ command_of-kept kept line same)
-      (record { reply = reply; step = step; text = text ∙ text_of-step old new command reply step })
+      (record { reply = reply; step = step; text = text ∙ text_of-step old new (index_of command) command reply step })
 
   -- and so is any other
   pub Line-other : (old : State Record S) (kept line : List ℕ) → take 129 kept ≡ take 129 line → None ≡ command_of kept → Line hash old line (codes "bad line") old

@@ -1,5 +1,5 @@
 -- The lines of the program: what a line asks, and the words of each reply.
-use Rattle.std.specs.Prelude.{◌==◌, ◌&&◌, ℕ, Bool, List, [], ◌∷◌, ◌++◌, length, Option, Some, None, nat_le, nat_lt, codes, if◌then◌else◌}
+use Rattle.std.specs.Prelude.{◌==◌, ◌&&◌, ℕ, Bool, List, [], ◌∷◌, ◌++◌, length, Option, Some, None, Result, Ok, Err, nat_le, nat_lt, codes, if◌then◌else◌}
 use Rattle.std.specs.Option.{option_map, option_and_then}
 use Rattle.std.specs.List.{slice_split, list_all, join_by, flat_map}
 use Rattle.std.specs.Char.{is_ascii_digit}
@@ -12,9 +12,9 @@ use Rattle.iddqd.specs.declared.index_remap.IndexRemap.{IndexRemap}
 use Rattle.iddqd.specs.declared.index_remap.IndexRemap.TheVariants.{Identity, Permuted}
 use Rattle.iddqd_lines.specs.declared.record.Record.{Record}
 use Rattle.iddqd_keyed.specs.declared.command.Command.{Command}
-use Rattle.iddqd_keyed.specs.declared.command.Command.TheVariants.{Insert, Find1, Find2, Remove, Remove1, Remove2, Walk, Compact}
+use Rattle.iddqd_keyed.specs.declared.command.Command.TheVariants.{Insert, Find1, Find2, Remove, Remove1, Remove2, Overwrite, Compact, Clear, Walk}
 use Rattle.iddqd_keyed.specs.declared.command.Reply.{Reply}
-use Rattle.iddqd_keyed.specs.declared.command.Reply.TheVariants.{Inserted, Refused, Found, Removed, Walked, Compacted, NoMemory}
+use Rattle.iddqd_keyed.specs.declared.command.Reply.TheVariants.{Inserted, Refused, Found, Removed, Overwritten, Compacted, Cleared, Walked, NoMemory}
 use Rattle.iddqd_keyed.specs.declared.command.InsertRefusal.{InsertRefusal}
 use Rattle.iddqd_keyed.specs.declared.command.InsertRefusal.TheVariants.{Duplicate, Full, Memory}
 
@@ -62,6 +62,11 @@ abbrev pub of_three : {A : Type 0} → (ℕ → ℕ → ℕ → A) → List ℕ 
 of_three f (a ∷ b ∷ c ∷ []) = Some (f a b c)
 of_three f numbers = None
 
+-- f of the four numbers that there are
+abbrev pub of_four : {A : Type 0} → (ℕ → ℕ → ℕ → ℕ → A) → List ℕ → Option A
+of_four f (a ∷ b ∷ c ∷ d ∷ []) = Some (f a b c d)
+of_four f numbers = None
+
 abbrev pub record_of : ℕ → ℕ → ℕ → Record
 record_of first second value = record { first = first; second = second; value = value }
 
@@ -69,6 +74,7 @@ record_of first second value = record { first = first; second = second; value = 
 abbrev pub command_for : List ℕ → List ℕ → Option (Command Record ℕ ℕ)
 command_for verb numbers =
     if bytes_eq verb (codes "insert") then of_three (λ a b c. Insert (record_of a b c)) numbers
+    else (if bytes_eq verb (codes "overwrite") then of_four (λ ix a b c. Overwrite ix (record_of a b c)) numbers
     else (if bytes_eq verb (codes "get1") then of_one Find1 numbers
     else (if bytes_eq verb (codes "get2") then of_one Find2 numbers
     else (if bytes_eq verb (codes "remove") then of_one Remove numbers
@@ -76,7 +82,8 @@ command_for verb numbers =
     else (if bytes_eq verb (codes "remove2") then of_one Remove2 numbers
     else (if bytes_eq verb (codes "walk") then of_none Walk numbers
     else (if bytes_eq verb (codes "compact") then of_none Compact numbers
-    else None)))))))
+    else (if bytes_eq verb (codes "clear") then of_none Clear numbers
+    else None)))))))))
 
 -- the command of the words of a line
 abbrev pub command_of_words : List (List ℕ) → Option (Command Record ℕ ℕ)
@@ -92,6 +99,11 @@ abbrev pub index_or_dash : Option ℕ → List ℕ
 index_or_dash None = codes "-"
 index_or_dash (Some ix) = decimal ix
 
+-- the index that an overwrite names
+abbrev pub index_of : Command Record ℕ ℕ → Option ℕ
+index_of (Overwrite ix item) = Some ix
+index_of command = None
+
 -- an index and its record
 abbrev pub record_text : ℕ → Record → List ℕ
 record_text ix r = decimal ix ++ codes " " ++ decimal r.first ++ codes " " ++ decimal r.second ++ codes " " ++ decimal r.value
@@ -105,6 +117,11 @@ abbrev pub refusal_text : InsertRefusal Record → List ℕ
 refusal_text (Duplicate item first second) = codes "duplicate " ++ index_or_dash first ++ codes " " ++ index_or_dash second
 refusal_text (Full item) = codes "full"
 refusal_text (Memory item) = codes "no memory"
+
+-- the index and the record that it had, or that it isn't live
+abbrev pub overwritten_text : Option ℕ → Result Record Record → List ℕ
+overwritten_text (Some ix) (Ok was) = record_text ix was
+overwritten_text named result = codes "none"
 
 -- indexes with one space between
 abbrev pub walk_text : List ℕ → List ℕ
@@ -120,14 +137,16 @@ abbrev pub remap_text : IndexRemap → List ℕ
 remap_text Identity = codes "identity"
 remap_text (Permuted names) = codes "permuted" ++ flat_map (λ name. codes " " ++ name_or_dash name) names.items
 
--- the words of a reply, over the store that it was given in
-abbrev pub text_of : Store Record → Reply Record → List ℕ
-text_of s (Inserted ix) = codes "inserted " ++ decimal ix
-text_of s (Refused refusal) = refusal_text refusal
-text_of s (Found None) = codes "none"
-text_of s (Found (Some ix)) = record_text_at s ix
-text_of s (Removed None) = codes "none"
-text_of s (Removed (Some (ix, item))) = record_text ix item
-text_of s (Walked indexes) = walk_text indexes.items
-text_of s (Compacted remap) = remap_text remap
-text_of s NoMemory = codes "no memory"
+-- the words of a reply, over the store that it was given in; `named` is the index that an overwrite named
+abbrev pub text_of : Store Record → Option ℕ → Reply Record → List ℕ
+text_of s named (Inserted ix) = codes "inserted " ++ decimal ix
+text_of s named (Refused refusal) = refusal_text refusal
+text_of s named (Found None) = codes "none"
+text_of s named (Found (Some ix)) = record_text_at s ix
+text_of s named (Removed None) = codes "none"
+text_of s named (Removed (Some (ix, item))) = record_text ix item
+text_of s named (Overwritten result) = overwritten_text named result
+text_of s named (Walked indexes) = walk_text indexes.items
+text_of s named (Compacted remap) = remap_text remap
+text_of s named Cleared = codes "cleared"
+text_of s named NoMemory = codes "no memory"

@@ -14,7 +14,7 @@ use Rattle.iddqd.specs.MapHash.{hash_one}
 use Rattle.iddqd_keyed.specs.Keys.{Keys}
 use Rattle.iddqd_keyed.specs.State.{State, empty_state}
 use Rattle.iddqd_keyed.specs.Machine.{Step}
-use Rattle.iddqd_lines.specs.Line.{lines_of, command_of, text_of}
+use Rattle.iddqd_lines.specs.Line.{lines_of, command_of, index_of, text_of}
 use Rattle.iddqd_lines.specs.declared.record.Record.{Record}
 use Rattle.iddqd_keyed.specs.declared.command.Command.{Command}
 use Rattle.iddqd_keyed.specs.declared.command.Reply.{Reply}
@@ -35,7 +35,7 @@ module _ {S : Type 0} (hash : S → ℕ → ℕ) where
   pub record AnswersCommand (old : State Record S) (line out : List ℕ) (new : State Record S) (command : Command Record ℕ ℕ) : Type 0 where
     pub reply : Reply Record
     pub step : Step (record_keys hash) old command reply new
-    pub text : out ≡ text_of old.store reply
+    pub text : out ≡ text_of old.store (index_of command) reply
 
   -- from old, the line may be answered by this out, and leave new
   abbrev pub Line : State Record S → List ℕ → List ℕ → State Record S → Type 0

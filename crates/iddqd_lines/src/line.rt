@@ -2,7 +2,8 @@
 ghost use Rattle.std.specs.Prelude.{◌≡◌, ◌∷◌, [], MatchOption};
 ghost use Rattle.std.specs.Option.{option_and_then};
 ghost use Rattle.std.specs.List.{slice_split};
-ghost use Rattle.iddqd_lines.specs.Line.{is_space, number_of, numbers_of, of_three, record_of, command_for, command_of};
+ghost use Rattle.iddqd_keyed.specs.declared.command.Command.TheVariants.{Overwrite};
+ghost use Rattle.iddqd_lines.specs.Line.{is_space, number_of, numbers_of, of_three, of_four, record_of, command_for, command_of, index_of};
 
 use crate::record::Record;
 use crate::split::split_at_first;
@@ -25,6 +26,16 @@ pub(crate) fn parse(line: &[u8]) -> Option<Command<Record>>
     }
 }
 
+/// The index that an overwrite names.
+pub(crate) fn named_index(command: &Command<Record>) -> Option<ItemIndex>
+    ensures { result ≡ index_of command.now }
+{
+    match command {
+        Command::Overwrite(ix, _) => Some(*ix),
+        _ => None,
+    }
+}
+
 // The command of a verb that stands alone.
 fn lone_command(verb: &[u8]) -> Option<Command<Record>>
     ensures { result ≡ command_for verb.now [] }
@@ -33,6 +44,8 @@ fn lone_command(verb: &[u8]) -> Option<Command<Record>>
         Some(Command::Walk)
     } else if verb == b"compact".as_slice() {
         Some(Command::Compact)
+    } else if verb == b"clear".as_slice() {
+        Some(Command::Clear)
     } else {
         None
     }
@@ -44,9 +57,20 @@ fn command(verb: &[u8], words: &[u8]) -> Option<Command<Record>>
 {
     if verb == b"insert".as_slice() {
         Some(Command::Insert(record(words)?))
+    } else if verb == b"overwrite".as_slice() {
+        overwrite(words)
     } else {
         number_command(verb, number(words)?)
     }
+}
+
+// The overwrite of an index and the three numbers of a record.
+fn overwrite(words: &[u8]) -> Option<Command<Record>>
+    ensures { result ≡ option_and_then (of_four (λ ix a b c. Overwrite ix (record_of a b c))) (numbers_of (slice_split is_space words.now)) }
+{
+    let (word, numbers) = split_word(words);
+    let ix = ItemIndex::new(number(word)?);
+    Some(Command::Overwrite(ix, record(numbers?)?))
 }
 
 // The command of a verb and one number.

@@ -3,7 +3,7 @@ ghost use Rattle.std.specs.Prelude.{◌≡◌, ◌++◌, ◌∷◌, ◌+◌, ◌
 ghost use Rattle.std.specs.Io.KnownBytes.{Appends};
 ghost use Rattle.std.specs.Fmt.{decimal};
 ghost use Rattle.std.specs.List.{flat_map};
-ghost use Rattle.iddqd_lines.specs.Line.{record_text, index_or_dash, name_or_dash, refusal_text, walk_text, remap_text, text_of};
+ghost use Rattle.iddqd_lines.specs.Line.{record_text, index_or_dash, name_or_dash, refusal_text, overwritten_text, walk_text, remap_text, text_of};
 ghost use Rattle.iddqd_lines.specs.Replies.{sent_bytes, AppendsSome, spaced, spaced_name};
 
 use crate::digits::Digits;
@@ -19,7 +19,8 @@ use std::marker::Model;
 /// How many bytes of replies wait at most.
 const BLOCK: usize = 8192;
 
-/// More bytes than are put between two looks for room: a reply's line, or an index of a list.
+/// The most bytes that are put between two looks for room: a reply's line without its list, or one
+/// index of a list, with the line feed.
 const MAX_REPLY: usize = 64;
 
 /// The replies that wait to be written.
@@ -88,17 +89,18 @@ impl Replies {
         self.flush(output)
     }
 
-    /// Appends the reply's line, over the items as the command left them. Of a long list, it writes what
-    /// waits as often as there is no more room.
+    /// Appends the reply's line, over the items as the command left them; `named` is the index that an
+    /// overwrite named. Of a long list, it writes what waits as often as there is no more room.
     pub(crate) fn put_reply<S: BuildHasher, O: Sink>(
         &mut self,
         items: &KeyedItems<Record, S>,
+        named: Option<ItemIndex>,
         reply: &Reply<Record>,
         output: &mut O,
     ) -> Result<(), ()>
         requires { length self.old + 64 ≤ 8192 }
-        ensures all { OnOk result (Appends (sent_bytes (O.written output.old) self.old) (sent_bytes (O.written output.new) self.new) (text_of items.now.store reply.now ++ 10 ∷ [])) }
-        ensures some { OnErr result (AppendsSome (O.written output.old) (O.written output.new) (self.old ++ text_of items.now.store reply.now)) }
+        ensures all { OnOk result (Appends (sent_bytes (O.written output.old) self.old) (sent_bytes (O.written output.new) self.new) (text_of items.now.store named reply.now ++ 10 ∷ [])) }
+        ensures some { OnErr result (AppendsSome (O.written output.old) (O.written output.new) (self.old ++ text_of items.now.store named reply.now)) }
         ensures failed { O.has_failed output.new ≡ (if is_ok result then O.has_failed output.old else true) }
     {
         match reply {
@@ -113,8 +115,10 @@ impl Replies {
             },
             Reply::Removed(Some((ix, record))) => self.put_record(*ix, record),
             Reply::Found(None) | Reply::Removed(None) => self.put_bytes(b"none"),
+            Reply::Overwritten(outcome) => self.put_overwritten(named, outcome),
             Reply::Compacted(remap) => self.put_remap(remap, output)?,
             Reply::Walked(indexes) => self.put_walk(indexes, output)?,
+            Reply::Cleared => self.put_bytes(b"cleared"),
             Reply::NoMemory => self.put_bytes(b"no memory"),
         }
         self.put(b'\n');
@@ -213,6 +217,18 @@ impl Replies {
             }
             InsertRefusal::Full(_) => self.put_bytes(b"full"),
             InsertRefusal::Memory(_) => self.put_bytes(b"no memory"),
+        }
+    }
+
+    // The index that an overwrite named and the record that it had, or that it isn't live.
+    fn put_overwritten(&mut self, named: Option<ItemIndex>, outcome: &Result<Record, Record>)
+        requires { length self.old + 63 ≤ 8192 }
+        ensures text { self.new ≡ self.old ++ overwritten_text named outcome.now }
+        ensures grows { length self.new ≤ length self.old + 63 }
+    {
+        match (named, outcome) {
+            (Some(ix), Ok(was)) => self.put_record(ix, was),
+            _ => self.put_bytes(b"none"),
         }
     }
 

@@ -9,7 +9,7 @@ ghost use Rattle.iddqd_lines.specs.Program.{hash_u32, ServesAll};
 ghost use Rattle.iddqd_lines.specs.Replies.{sent_bytes};
 ghost use Rattle.iddqd_lines.specs.Serve.{IsKept, Obeys, Feeds};
 
-use crate::line::parse;
+use crate::line::{named_index, parse};
 use crate::line_buffer::LineBuffer;
 use crate::record::Record;
 use crate::replies::Replies;
@@ -42,6 +42,10 @@ pub enum ServeFault {
 /// - `get1 1` and `get2 10` find a record by its first and by its second key: `0 1 10 100` or `none`.
 /// - `remove 0`, `remove1 1` and `remove2 10` remove the record at an index, with a first key and with
 ///   a second key, and are answered as a find.
+/// - `overwrite 0 5 10 1` gives the index another record whatever the keys: the index and the old record,
+///   as `0 1 10 100`, or `none`. The index stays where the old keys filed it: look-ups of other keys may
+///   miss it, and `walk` leaves it in its place.
+/// - `clear` forgets all records: `cleared`.
 /// - `walk` tells the indexes in the order of the second keys: `1 0 2`, `empty` or `no memory`.
 /// - `compact` moves the records, in their order, to the indexes from 0 on, and tells the new name of each
 ///   old index: `identity`, `permuted 0 - 1` with a dash where there was none, or `no memory`.
@@ -153,8 +157,9 @@ fn obey<S: BuildHasher, O: Sink>(
         replies.put_bad_line();
         return Ok(());
     };
+    let named = named_index(&command);
     let reply = items.step(command);
-    match replies.put_reply(items, &reply, output) {
+    match replies.put_reply(items, named, &reply, output) {
         Ok(()) => Ok(()),
         Err(()) => Err(ServeFault::Write),
     }

@@ -6,9 +6,9 @@ use std::alloc::Global;
 use std::hash::{BuildHasher, Hasher};
 use std::process::Abort;
 
-// A hasher that gives every key the hash 7.
+/// A hasher that gives every key the hash 7.
 #[derive(Clone, Copy)]
-struct Constant;
+pub(super) struct Constant;
 
 impl Hasher for Constant {
     ghost write = { λ h _. h };

@@ -7,27 +7,19 @@ use std::alloc::AllocError;
 /// How many commands a test takes.
 pub(super) const COMMANDS: u32 = 10_000;
 
-/// Gives commands of all kinds, over first keys, second keys and indexes below `range`.
-///
-/// Of each 2000 commands most of the first 1000 insert, so the items grow and shrink in turn.
+/// A linear congruential generator.
 #[derive(Drop)]
-pub(super) struct Generator {
-    range: u32,
-    given: u32,
+pub(super) struct Numbers {
     state: u64,
 }
 
-impl Generator {
-    pub(super) fn new(range: u32) -> Generator {
-        Generator {
-            range,
-            given: 0,
-            state: 1,
-        }
+impl Numbers {
+    pub(super) fn new(seed: u64) -> Numbers {
+        Numbers { state: seed }
     }
 
-    // The upper bits of the next number of a linear congruential generator, below the bound.
-    fn number(&mut self, bound: u32) -> u32 {
+    /// The upper bits of the next number, below the bound.
+    pub(super) fn below(&mut self, bound: u32) -> u32 {
         self.state = self
             .state
             .wrapping_mul(6364136223846793005)
@@ -35,14 +27,34 @@ impl Generator {
         let upper = (self.state >> 33) as u32;
         upper.checked_rem(bound).unwrap_or(0)
     }
+}
+
+/// Gives commands of all kinds but overwrites and clears, over first keys, second keys and indexes below `range`.
+///
+/// Of each 2000 commands most of the first 1000 insert, so the items grow and shrink in turn.
+#[derive(Drop)]
+pub(super) struct Generator {
+    range: u32,
+    given: u32,
+    numbers: Numbers,
+}
+
+impl Generator {
+    pub(super) fn new(range: u32) -> Generator {
+        Generator {
+            range,
+            given: 0,
+            numbers: Numbers::new(1),
+        }
+    }
 
     /// The next command.
     pub(super) fn command(&mut self) -> Command<Record> {
         let inserts = if self.given % 2000 < 1000 { 120 } else { 20 };
         self.given = self.given.wrapping_add(1);
-        let kind = self.number(61 + inserts);
-        let first = self.number(self.range);
-        let second = self.number(self.range);
+        let kind = self.numbers.below(61 + inserts);
+        let first = self.numbers.below(self.range);
+        let second = self.numbers.below(self.range);
         match kind {
             0 => Command::Compact,
             1..=10 => Command::Find1(first),
@@ -57,6 +69,22 @@ impl Generator {
                 value: self.given,
             }),
         }
+    }
+}
+
+/// The same command once more.
+pub(super) fn copy_of(command: &Command<Record>) -> Command<Record> {
+    match command {
+        Command::Insert(item) => Command::Insert(*item),
+        Command::Find1(key) => Command::Find1(*key),
+        Command::Find2(key) => Command::Find2(*key),
+        Command::Remove(ix) => Command::Remove(*ix),
+        Command::Remove1(key) => Command::Remove1(*key),
+        Command::Remove2(key) => Command::Remove2(*key),
+        Command::Overwrite(ix, item) => Command::Overwrite(*ix, *item),
+        Command::Compact => Command::Compact,
+        Command::Clear => Command::Clear,
+        Command::Walk => Command::Walk,
     }
 }
 
@@ -76,6 +104,14 @@ pub(super) fn put_line(lines: &mut String, command: &Command<Record>) -> Result<
         Command::Remove1(key) => writeln!(lines, "remove1 {key}"),
         Command::Remove2(key) => writeln!(lines, "remove2 {key}"),
         Command::Compact => writeln!(lines, "compact"),
+        Command::Overwrite(ix, item) => {
+            writeln!(
+                lines,
+                "overwrite {ix} {} {} {}",
+                item.first, item.second, item.value
+            )
+        }
+        Command::Clear => writeln!(lines, "clear"),
         Command::Walk => writeln!(lines, "walk"),
     }
 }

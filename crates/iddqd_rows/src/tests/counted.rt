@@ -18,9 +18,9 @@ use std::process::Abort;
 use std::rc::Rc;
 use std::test::Fail;
 
-// A hasher that gives each number of 32 bits its own hash: the number.
+/// A hasher that gives each number of 32 bits its own hash: the number.
 #[derive(Clone, Copy)]
-struct Own(u32);
+pub(super) struct Own(pub(super) u32);
 
 impl Hasher for Own {
     ghost write = { λ h bytes. record { 0 = if nat_le 4 (length bytes) then from_le_bytes w32 bytes else h.0 } };

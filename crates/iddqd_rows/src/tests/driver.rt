@@ -65,8 +65,8 @@ fn a_key_that_is_there_refuses_a_record(rt: HostRuntime) {
     assert_eq!(rt; items.insert(record(99, 10)), Ok(ix(0)));
 }
 
-// The walk gives those indexes.
-fn assert_walks(rt: &impl Abort, items: &Items, want: &[u32]) {
+/// The walk gives those indexes.
+pub(super) fn assert_walks(rt: &impl Abort, items: &Items, want: &[u32]) {
     let mut walk = items.walk();
     for number in want {
         assert_eq!(rt; walk.next(), Some(ix(*number)), "in {want:?}");

@@ -51,6 +51,18 @@ fn answers_each_line(rt: HostRuntime) {
             "none\ninserted 0\nnone\n0 1 10 100\nnone\nnone\n",
         ),
         ("walk\ninsert 1 10 100\nwalk", "empty\ninserted 0\n0\n"),
+        (
+            "insert 1 10 100\noverwrite 0 1 10 7\nget1 1\nget2 10\nclear\nget1 1\ninsert 2 2 2\n",
+            "inserted 0\n0 1 10 100\n0 1 10 7\n0 1 10 7\ncleared\nnone\ninserted 0\n",
+        ),
+        (
+            "insert 1 10 1\ninsert 2 20 2\ninsert 3 30 3\nremove1 2\ncompact\nget1 3\noverwrite 9 1 1 1\nhello\nclear\nwalk\n",
+            "inserted 0\ninserted 1\ninserted 2\n1 2 20 2\npermuted 0 - 1\n1 3 30 3\nnone\nbad line\ncleared\nempty\n",
+        ),
+        (
+            "insert 1 10 1\noverwrite 0 5 10 1\nget1 1\nget2 10\nremove 0\nremove 0\n",
+            "inserted 0\n0 1 10 1\nnone\n0 5 10 1\n0 5 10 1\nnone\n",
+        ),
         ("", ""),
         ("\n", "bad line\n"),
     ];
@@ -111,6 +123,15 @@ fn what_is_no_command_is_a_bad_line(rt: HostRuntime) {
         "compact 1",
         "compact ",
         "compact1",
+        "overwrite 0",
+        "overwrite 0 1 2",
+        "overwrite 0 1 2 3 4",
+        "overwrite 0 1 2 x",
+        "overwrite  0 1 2 3",
+        "overwrite",
+        "clear 1",
+        "clear ",
+        "clears",
         "hello",
     ] {
         assert_replies(&rt, rt.alloc(), line, "bad line\n");

@@ -6,10 +6,12 @@ use iddqd::item_index::ItemIndex;
 use iddqd_keyed::command::{Command, InsertRefusal, Reply};
 use iddqd_lines::record::Record;
 use std::alloc::{AllocError, Global};
+use std::mem;
 use std::process::Abort;
 use std::test::Fail;
 
-fn index(number: usize) -> ItemIndex {
+/// The index of that number.
+pub(super) fn index(number: usize) -> ItemIndex {
     ItemIndex::new(u32::try_from(number).unwrap_or(u32::MAX))
 }
 
@@ -85,6 +87,13 @@ impl Model {
         Ok(Reply::Removed(Some((ix, item))))
     }
 
+    fn overwrite(&mut self, ix: ItemIndex, item: Record) -> Result<Record, Record> {
+        match self.slots.get_mut(ix.as_u32() as usize) {
+            Some(Some(was)) => Ok(mem::replace(was, item)),
+            _ => Err(item),
+        }
+    }
+
     // Moves each item down to the number of items before it.
     fn compact(&mut self, alloc: Global) -> Result<Reply<Record>, AllocError> {
         if self.free.is_empty() {
@@ -130,6 +139,12 @@ impl Model {
             Command::Remove1(key) => self.remove(self.find1(*key)),
             Command::Remove2(key) => self.remove(self.find2(*key)),
             Command::Compact => self.compact(alloc),
+            Command::Overwrite(ix, item) => Ok(Reply::Overwritten(self.overwrite(*ix, *item))),
+            Command::Clear => {
+                self.slots.clear();
+                self.free.clear();
+                Ok(Reply::Cleared)
+            }
             Command::Walk => self.walk(alloc),
         }
     }

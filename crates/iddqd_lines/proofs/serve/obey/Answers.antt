@@ -1,4 +1,4 @@
-use Rattle.std.proofs.Common.{refl, codes}
+use Rattle.std.proofs.Common.{ap, codes}
 use Rattle.iddqd_lines.specs.Line.{text_of}
 use Rattle.iddqd_lines.proofs.ByteLemmas.{Appends-trans, Appends-reply}
 use Rattle.iddqd_lines.proofs.ServeLemmas.{Line-command, Line-other}
@@ -6,8 +6,8 @@ use Rattle.iddqd_lines.proofs.serve.obey.Goals as goal
 
 pub returns-in-Ok-put_reply : goal.returns-in-Ok-put_reply
 returns-in-Ok-put_reply g c = λ whole same. record {
-  out = text_of c.step-reply.new.self.store c.step-reply.result;
-  answers = Line-command _ _ _ c.args.line.now whole _ c.in-Some.command c.step-reply.result same c.in-Some.ensures c.step-reply.ensures refl;
+  out = text_of c.step-reply.new.self.store c.named_index-named.result c.step-reply.result;
+  answers = Line-command _ _ _ c.args.line.now whole _ c.in-Some.command c.step-reply.result same c.in-Some.ensures c.step-reply.ensures (ap (λ named. text_of c.step-reply.new.self.store named c.step-reply.result) c.named_index-named.ensures);
   sent = Appends-trans _ _ _ _ _ c.in-Ok.ensures.all c.in-Ok-put_reply.ensures.all;
 }
 

@@ -1,0 +1,302 @@
+//! A plain program that says what the driver may answer to a command, and what that leaves.
+//!
+//! It keeps lists and goes over them from end to end. To it the hash of a first key is the key, so the
+//! driver beside it has the hasher `Own`.
+use super::model::index;
+use iddqd::index_remap::IndexRemap;
+use iddqd::item_index::ItemIndex;
+use iddqd_keyed::command::{Command, InsertRefusal, Reply};
+use iddqd_lines::record::Record;
+use std::alloc::{AllocError, Global};
+
+/// The items, and what both tables hold.
+#[derive(Drop)]
+pub(super) struct Machine {
+    alloc: Global,
+    slots: Vec<Option<Record>>,
+    // The vacant indexes, the one that was freed last at the end.
+    free: Vec<ItemIndex>,
+    // Each live index and the hash that it is filed under.
+    filed: Vec<(ItemIndex, u32)>,
+    // Each live index, as the ordered table has them.
+    order: Vec<ItemIndex>,
+}
+
+impl Machine {
+    pub(super) fn new(alloc: Global) -> Machine {
+        Machine {
+            alloc,
+            slots: Vec::new(alloc),
+            free: Vec::new(alloc),
+            filed: Vec::new(alloc),
+            order: Vec::new(alloc),
+        }
+    }
+
+    pub(super) fn slots(&self) -> &[Option<Record>] {
+        self.slots.as_slice()
+    }
+
+    pub(super) fn order(&self) -> &[ItemIndex] {
+        self.order.as_slice()
+    }
+
+    /// The item at an index, if it is live.
+    pub(super) fn item(&self, ix: ItemIndex) -> Option<Record> {
+        match self.slots.get(ix.as_u32() as usize) {
+            Some(slot) => *slot,
+            None => None,
+        }
+    }
+
+    /// The index and its item, if it is live.
+    pub(super) fn entry(&self, ix: ItemIndex) -> Option<(ItemIndex, Record)> {
+        match self.item(ix) {
+            Some(item) => Some((ix, item)),
+            None => None,
+        }
+    }
+
+    /// The index that an insert gives.
+    pub(super) fn next_index(&self) -> ItemIndex {
+        match self.free.last() {
+            Some(ix) => *ix,
+            None => index(self.slots.len()),
+        }
+    }
+
+    /// Whether the index is filed under the hash of that first key.
+    pub(super) fn is_filed(&self, ix: ItemIndex, key: u32) -> bool {
+        self.filed.contains(&(ix, key))
+    }
+
+    /// Whether each index of the order stands before every one with a greater second key, and before
+    /// every greater one with the same.
+    pub(super) fn is_sorted(&self) -> bool {
+        let mut before = None;
+        for ix in self.order.iter() {
+            let pair = self.item(*ix).map(|item| (item.second, *ix));
+            if pair <= before {
+                return false;
+            }
+            before = pair;
+        }
+        true
+    }
+
+    /// Whether the driver may answer the command so, where `walk` is its walk afterwards. The machine
+    /// goes over to what the answer leaves.
+    pub(super) fn obeys(
+        &mut self,
+        command: &Command<Record>,
+        reply: &Reply<Record>,
+        walk: &[ItemIndex],
+    ) -> Result<bool, AllocError> {
+        match (command, reply) {
+            (Command::Insert(item), Reply::Inserted(ix)) => self.inserts(*item, *ix, walk),
+            (Command::Insert(item), Reply::Refused(refusal)) => Ok(self.refuses(*item, refusal)),
+            (Command::Find1(key), Reply::Found(found)) => Ok(self.finds1(*key, *found)),
+            (Command::Find2(key), Reply::Found(found)) => Ok(self.finds2(*key, *found)),
+            (Command::Remove(ix), Reply::Removed(removed)) => self.removes(*ix, removed),
+            (Command::Remove1(key), Reply::Removed(removed)) => {
+                let is_allowed = self.finds1(*key, removed.map(|entry| entry.0));
+                Ok(is_allowed && self.removes_found(removed)?)
+            }
+            (Command::Remove2(key), Reply::Removed(removed)) => {
+                let is_allowed = self.finds2(*key, removed.map(|entry| entry.0));
+                Ok(is_allowed && self.removes_found(removed)?)
+            }
+            (Command::Overwrite(ix, item), Reply::Overwritten(told)) => {
+                Ok(self.overwrites(*ix, *item, told))
+            }
+            (Command::Compact, Reply::Compacted(remap)) => self.compacts(remap),
+            (Command::Clear, Reply::Cleared) => {
+                self.clear();
+                Ok(true)
+            }
+            (Command::Walk, Reply::Walked(indexes)) => Ok(*indexes == self.order),
+            _ => Ok(false),
+        }
+    }
+
+    // Whether the index is live with this first key, and filed under its hash.
+    fn is_found1(&self, ix: ItemIndex, key: u32) -> bool {
+        match self.item(ix) {
+            Some(item) => item.first == key && self.is_filed(ix, key),
+            None => false,
+        }
+    }
+
+    // Whether the index is live with this second key.
+    fn is_found2(&self, ix: ItemIndex, key: u32) -> bool {
+        match self.item(ix) {
+            Some(item) => item.second == key,
+            None => false,
+        }
+    }
+
+    /// Whether a look-up of the first key may answer so.
+    pub(super) fn finds1(&self, key: u32, found: Option<ItemIndex>) -> bool {
+        if let Some(ix) = found {
+            return self.is_found1(ix, key);
+        }
+        for number in 0..self.slots.len() {
+            if self.is_found1(index(number), key) {
+                return false;
+            }
+        }
+        true
+    }
+
+    /// Whether a look-up of the second key may answer so.
+    pub(super) fn finds2(&self, key: u32, found: Option<ItemIndex>) -> bool {
+        if let Some(ix) = found {
+            return self.is_found2(ix, key);
+        }
+        for number in 0..self.slots.len() {
+            if self.is_found2(index(number), key) {
+                return !self.is_sorted();
+            }
+        }
+        true
+    }
+
+    // Whether an insert may be refused so. There are never so many items that it is full.
+    fn refuses(&self, item: Record, refusal: &InsertRefusal<Record>) -> bool {
+        match refusal {
+            InsertRefusal::Duplicate {
+                item: back,
+                first,
+                second,
+            } => {
+                *back == item
+                    && (first.is_some() || second.is_some())
+                    && self.finds1(item.first, *first)
+                    && self.finds2(item.second, *second)
+            }
+            InsertRefusal::Full(_) | InsertRefusal::Memory(_) => false,
+        }
+    }
+
+    // Whether the order afterwards is the one before with the index put in at some place.
+    fn gains(&self, ix: ItemIndex, walk: &[ItemIndex]) -> bool {
+        let mut others = walk.iter().filter(|at| **at != ix);
+        for at in self.order.iter() {
+            if others.next() != Some(at) {
+                return false;
+            }
+        }
+        others.next().is_none() && walk.len() == self.order.len().saturating_add(1)
+    }
+
+    // An insert that is done at that index. An order that is sorted stays so.
+    fn inserts(
+        &mut self,
+        item: Record,
+        ix: ItemIndex,
+        walk: &[ItemIndex],
+    ) -> Result<bool, AllocError> {
+        let is_new = self.finds1(item.first, None) && self.finds2(item.second, None);
+        if !is_new || ix != self.next_index() || !self.gains(ix, walk) {
+            return Ok(false);
+        }
+        let was_sorted = self.is_sorted();
+        if self.free.pop().is_none() {
+            self.slots.push(None)?;
+        }
+        self.set(ix, Some(item));
+        self.filed.push((ix, item.first))?;
+        self.order = walk.to_vec(self.alloc)?;
+        Ok(!was_sorted || self.is_sorted())
+    }
+
+    fn set(&mut self, ix: ItemIndex, item: Option<Record>) {
+        if let Some(slot) = self.slots.get_mut(ix.as_u32() as usize) {
+            *slot = item;
+        }
+    }
+
+    // A removal at the index.
+    fn removes(
+        &mut self,
+        ix: ItemIndex,
+        removed: &Option<(ItemIndex, Record)>,
+    ) -> Result<bool, AllocError> {
+        if *removed != self.entry(ix) {
+            return Ok(false);
+        }
+        if removed.is_some() {
+            self.set(ix, None);
+            self.free.push(ix)?;
+            self.filed.retain(|pair| pair.0 != ix);
+            self.order.retain(|at| *at != ix);
+        }
+        Ok(true)
+    }
+
+    // A removal of what a look-up found.
+    fn removes_found(&mut self, removed: &Option<(ItemIndex, Record)>) -> Result<bool, AllocError> {
+        match removed {
+            Some(entry) => self.removes(entry.0, removed),
+            None => Ok(true),
+        }
+    }
+
+    // An overwrite: neither `filed` nor the order is told.
+    fn overwrites(&mut self, ix: ItemIndex, item: Record, told: &Result<Record, Record>) -> bool {
+        let was = self.item(ix);
+        if was.is_some() {
+            self.set(ix, Some(item));
+        }
+        *told == was.ok_or(item)
+    }
+
+    // The number of live indexes below this one.
+    fn rank(&self, ix: ItemIndex) -> ItemIndex {
+        let below = self.slots.iter().take(ix.as_u32() as usize);
+        index(below.filter(|slot| slot.is_some()).count())
+    }
+
+    // What a compaction tells.
+    fn remap(&self) -> Result<IndexRemap, AllocError> {
+        if self.free.is_empty() {
+            return Ok(IndexRemap::Identity);
+        }
+        let mut names = Vec::new(self.alloc);
+        for (number, slot) in self.slots.iter().enumerate() {
+            let name = match slot {
+                Some(_) => self.rank(index(number)),
+                None => ItemIndex::SENTINEL,
+            };
+            names.push(name)?;
+        }
+        Ok(IndexRemap::Permuted(names))
+    }
+
+    // A compaction.
+    fn compacts(&mut self, remap: &IndexRemap) -> Result<bool, AllocError> {
+        if *remap != self.remap()? {
+            return Ok(false);
+        }
+        let mut filed = Vec::new(self.alloc);
+        for (ix, hash) in self.filed.iter() {
+            filed.push((self.rank(*ix), *hash))?;
+        }
+        let mut order = Vec::new(self.alloc);
+        for ix in self.order.iter() {
+            order.push(self.rank(*ix))?;
+        }
+        self.filed = filed;
+        self.order = order;
+        self.slots.retain(|slot| slot.is_some());
+        self.free.clear();
+        Ok(true)
+    }
+
+    fn clear(&mut self) {
+        self.slots.clear();
+        self.free.clear();
+        self.filed.clear();
+        self.order.clear();
+    }
+}
