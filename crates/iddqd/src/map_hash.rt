@@ -23,7 +23,8 @@ pub trait Equivalent<K> {
 
 /// A query that has a place in the order of the keys.
 ///
-/// Along keys in order its answers are first `Greater`, then `Equal`, then `Less`.
+/// Along keys in order its answers are first `Greater`, then `Equal`, then `Less`. A query that is
+/// equivalent to a key answers as that key does.
 pub trait Comparable<K: Ord>: Equivalent<K> {
     // What `compare` answers.
     ghost compare: { Self → K → Ordering };
@@ -33,8 +34,8 @@ pub trait Comparable<K: Ord>: Equivalent<K> {
         ensures { result ≡ compare self.now key.now };
 
     // It is `Equal` exactly at the keys that the query is equivalent to, `Less` at a key means
-    // `Less` at all keys behind it, `Greater` at a key means `Greater` at all keys before it, and
-    // equal keys compare alike.
+    // `Less` at all keys behind it, `Greater` at a key means `Greater` at all keys before it, equal
+    // keys compare alike, and a query that is equivalent to a key compares as that key does.
     ghost equal_where_equivalent: { (q : Self) (k : K) → IsTrue (Self.equivalent q k) ↔ (compare q k ≡ Equal) };
 
     ghost less_after: { (q : Self) (a b : K) → K.cmp a b ≡ Less → compare q a ≡ Less → compare q b ≡ Less };
@@ -42,6 +43,8 @@ pub trait Comparable<K: Ord>: Equivalent<K> {
     ghost greater_before: { (q : Self) (a b : K) → K.cmp a b ≡ Less → compare q b ≡ Greater → compare q a ≡ Greater };
 
     ghost equal_keys: { (q : Self) (a b : K) → K.cmp a b ≡ Equal → compare q a ≡ compare q b };
+
+    ghost as_equivalent: { (q : Self) (k a : K) → IsTrue (Self.equivalent q k) → compare q a ≡ K.cmp k a };
 }
 
 /// The query that is the key itself: equal, ordered and hashed as the key is.
@@ -81,6 +84,8 @@ impl<'a, 'b, K: Ord> Comparable<&'b K> for Same<'a, K> {
     ghost greater_before = { λ q a b. greater_before_in K.total q.0.now a.now b.now };
 
     ghost equal_keys = { λ q a b. alike_right K.total a.now b.now q.0.now };
+
+    ghost as_equivalent = { λ q k a same. K.total.congr q.0.now k.now a.now ((equal_in _ _ (K.matches_eq q.0.now k.now)).0 same) };
 
     fn compare(&self, key: &&'b K) -> Ordering {
         self.0.cmp(*key)
@@ -151,6 +156,8 @@ mod tests {
         ghost greater_before = { λ q a b. greater_before_in K.total q.0 a b };
 
         ghost equal_keys = { λ q a b. alike_right K.total a b q.0 };
+
+        ghost as_equivalent = { λ q k a same. K.total.congr q.0 k a ((equal_in _ _ (K.matches_eq q.0 k)).0 same) };
 
         fn compare(&self, key: &K) -> Ordering {
             self.0.cmp(key)
