@@ -112,8 +112,7 @@ impl MapHashTable {
 
     /// An index under the query's hash whose key is equivalent to the query.
     ///
-    /// `lookup` is called on indexes under that hash alone, on none twice, and no more after an
-    /// equivalent key. It misses only after each of them was asked.
+    /// `lookup` is called as in `find_index_prehashed`.
     pub fn find_index<S: BuildHasher, Q: Hash + Equivalent<K>, K: Drop, F: Fn(ItemIndex) -> K>(
         &self,
         state: &S,
@@ -125,10 +124,26 @@ impl MapHashTable {
         ensures { let hash = hash_one S.BuildHasher S.Hasher.Hasher state.now (Q.hash_input query.now) in
             LooksUp (AsksKey F.Fn Q.equivalent lookup query.now) tt (indexes_under hash (filed self.now)) result }
     {
-        let hash = state.hash_one(query);
+        let hash = MapHash::new(state.hash_one(query));
+        self.find_index_prehashed(hash, query, lookup)
+    }
+
+    /// An index under a hash that was computed before, whose key is equivalent to the query.
+    ///
+    /// `lookup` is called on indexes under that hash alone, on none twice, and no more after an
+    /// equivalent key. It misses only after each of them was asked.
+    pub fn find_index_prehashed<Q: Equivalent<K>, K: Drop, F: Fn(ItemIndex) -> K>(
+        &self,
+        hash: MapHash,
+        query: &Q,
+        lookup: F,
+    ) -> Option<ItemIndex>
+        requires { (ix : ℕ) → Contains (indexes_under hash (filed self.now)) ix → F.pre lookup ix }
+        ensures { LooksUp (AsksKey F.Fn Q.equivalent lookup query.now) tt (indexes_under hash (filed self.now)) result }
+    {
         self.table
             .find(
-                hash,
+                hash.hash(),
                 |ix: &ItemIndex| -> bool
                     requires { F.pre lookup ix.now }
                     ensures { (k : K) × F.post lookup ix.now k × (result ≡ Q.equivalent query.entry.now k) }

@@ -4,20 +4,20 @@ use Rattle.iddqd_hash.specs.HashTable.{under}
 use Rattle.iddqd_hash.specs.MapHashTable.{AsksKey, indexes_under, filed_from}
 use Rattle.iddqd_hash.proofs.AskLemmas.{CanAsk-by}
 use Rattle.iddqd_hash.proofs.MapHashTableLemmas.{under_filed, LooksUp-follows}
-use Rattle.iddqd_hash.proofs.hash_table.MapHashTable.find_index.Goals as goal
+use Rattle.iddqd_hash.proofs.hash_table.MapHashTable.find_index_prehashed.Goals as goal
 
 pub find-requires : goal.find-requires
 find-requires g c =
     CanAsk-by _ _ (λ s. s.1.now ≡ c.args.lookup) _ (λ s x here i y is.
-    let under_hash : Contains (under c.hash_one-hash.result c.self.inside.table.pairs) x = here in
-    let filed : Contains (indexes_under c.hash_one-hash.result (filed_from c.self.inside.table.pairs)) x = Contains-permutation _ _ x (under_filed _ _ c.self.invariant) under_hash in
-    let may = c.requires x (rw (← c.hash_one-hash.ensures, ← c.self.view_is) filed) in
+    let under_hash : Contains (under c.hash.result c.self.inside.table.pairs) x = here in
+    let filed : Contains (indexes_under c.hash.result (filed_from c.self.inside.table.pairs)) x = Contains-permutation _ _ x (under_filed _ _ c.self.invariant) under_hash in
+    let may = c.requires x (rw (← c.hash.ensures, ← c.self.view_is) filed) in
     rw (i, is) may) (λ s x r t here i called. search rules) _ refl
 
 pub returns : goal.returns
 returns g c =
     let asks = AsksKey g.F.Fn g.Q.Equivalent.equivalent c.args.lookup c.args.query.now in
-    rw (← c.self.view_is, ← c.hash_one-hash.ensures, c.copied.ensures) (
+    rw (← c.self.view_is, ← c.hash.ensures, c.copied.ensures) (
     LooksUp-follows _ asks (λ s k. (s.0.now ≡ c.args.query.now) × (s.1.now ≡ c.args.lookup)) (λ s k x b t r called.
     let said : (key : g.row.K.Denot) × g.F.Fn.post s.1.now (called.shown.now, tt) key × (b ≡ g.Q.Equivalent.equivalent s.0.now key) = search rules in
     let same = rw (r.0, r.1, called.shows) at said in
