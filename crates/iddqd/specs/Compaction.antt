@@ -1,12 +1,9 @@
 -- What compaction does to a store: each live index becomes its rank.
 use Rattle.std.specs.Prelude.{◌≡◌, ◌≢◌, ℕ, zero, suc, ◌<◌, List, [], ◌∷◌, length, take, map, filter, is_some, count_by, slice_index, if◌then◌else◌, ⊤}
 use Rattle.iddqd.specs.Store.{Store, get}
+pub use Rattle.iddqd.specs.Store.{sentinel}
 use Rattle.iddqd.specs.declared.index_remap.IndexRemap.{IndexRemap}
 use Rattle.iddqd.specs.declared.index_remap.IndexRemap.TheVariants.{Identity, Permuted}
-
--- `SENTINEL`, the one number that is never an index
-abbrev pub sentinel : ℕ
-sentinel = 4294967295
 
 -- the old index has a new name
 abbrev pub CanRemap : IndexRemap → ℕ → Type 0
@@ -30,7 +27,7 @@ module _ {T : Type 0} where
 
   -- the live items in their order, and nothing free
   abbrev pub compacted : Store T → Store T
-  compacted s = record { items = filter is_some s.items; free = [] }
+  compacted s = record s { items = filter is_some s.items; free = [] }
 
   -- the new name of a slot: the rank where it is live, else `SENTINEL`
   abbrev pub new_name : Store T → ℕ → ℕ

@@ -3,6 +3,10 @@ use Rattle.std.specs.Prelude.{◌≡◌, ◌≤◌, ◌<◌, ◌+◌, ◌↔◌,
 use Rattle.std.specs.List.{Contains, IsDistinct}
 use Rattle.std.specs.Coded.{Coded, code_by, coded×, coded_ℕ, coded_list, coded_option}
 
+-- the number of `ItemIndex::SENTINEL`, the one number that is never an index
+abbrev pub sentinel : ℕ
+sentinel = 4294967295
+
 -- A finite map from indexes to items, with the number of slots: the list has the item or nothing of
 -- each index below that number. And the free indexes, that freed last first.
 pub record Store (T : Type 0) : Type 0 where
@@ -20,8 +24,13 @@ first_or [] count = count
 first_or (ix ∷ rest) count = ix
 
 module _ {T : Type 0} where
+  -- the store of a new set
   abbrev pub empty : Store T
   empty = record { items = []; free = [] }
+
+  -- what is left of a store that forgets all items and all slots
+  abbrev pub cleared : Store T → Store T
+  cleared s = record s { items = []; free = [] }
 
   -- the item at an index, if it is live
   abbrev pub get : Store T → ℕ → Option T
@@ -31,9 +40,9 @@ module _ {T : Type 0} where
   abbrev pub slot_count : Store T → ℕ
   slot_count s = length s.items
 
-  -- the number of slots that it can have: one for each index, none of which is 4294967295
+  -- the number of slots that it can have: one for each index below `SENTINEL`
   abbrev pub slot_limit : Store T → ℕ
-  slot_limit s = 4294967295
+  slot_limit s = sentinel
 
   -- the number of live indexes
   abbrev pub live_count : Store T → ℕ

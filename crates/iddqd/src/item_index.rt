@@ -1,5 +1,6 @@
 //! Numbers that name the items of an `ItemSet`.
-ghost use Rattle.std.specs.Prelude.{◌≡◌, ◌≤◌, SomeIff};
+ghost use Rattle.std.specs.Prelude.{◌≡◌, ◌<◌, SomeIff};
+ghost use Rattle.iddqd.specs.Store.{sentinel};
 
 use std::cmp::Ordering;
 use std::fmt;
@@ -46,9 +47,9 @@ impl ItemIndex {
 
     /// The index of the slot that follows so many, if it can be assigned.
     pub fn of_slot(slots: usize) -> Option<ItemIndex>
-        ensures { SomeIff result (slots ≤ 4294967294) slots }
+        ensures { SomeIff result (slots < sentinel) slots }
     {
-        if slots <= 4294967294 {
+        if slots < ItemIndex::SENTINEL.0 as usize {
             Some(ItemIndex(slots as u32))
         } else {
             None

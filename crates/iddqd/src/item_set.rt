@@ -6,7 +6,7 @@
 ghost use Rattle.std.specs.Prelude.{◌≡◌, ℕ, [], ◌+◌, ◌<◌, ◌≤◌, ◌↔◌, length, map, Some, None, IsSome, IsTrue, IsOk, IfOk, OnOk, OnErr, IfNone, OnSome, option_copied};
 ghost use Rattle.std.specs.Option.{option_copied_mut};
 ghost use Rattle.std.specs.Borrow.{sem, Lends, RestsIfErr};
-ghost use Rattle.iddqd.specs.Store.{get, slot_count, live_count, next_index, IsFull, IsValid, empty, inserted, removed};
+ghost use Rattle.iddqd.specs.Store.{sentinel, get, slot_count, live_count, next_index, IsFull, IsValid, empty, cleared, inserted, removed};
 ghost use Rattle.iddqd.specs.ItemSet.{room, with_item, KeepsOthers, GrowsIfDense};
 ghost use Rattle.iddqd.specs.Compaction.{rank, compacted, new_name, numbers, IsRemapOf};
 
@@ -219,7 +219,7 @@ impl<T> ItemSet<T> {
     pub fn clear(&mut self)
     where
         T: Drop,
-        ensures store { self.new.store ≡ empty }
+        ensures store { self.new.store ≡ cleared self.old.store }
         ensures capacity { self.new.capacity ≡ self.old.capacity }
     {
         self.slots.clear();
@@ -254,7 +254,7 @@ impl<'a, T> GrowHandle<'a, T> {
     /// The index that `insert` will use.
     pub fn next_index(&self) -> ItemIndex
         ensures index { result ≡ next_index (handle_store self.now) }
-        ensures assignable { result ≤ 4294967294 }
+        ensures assignable { result < sentinel }
     {
         self.set.next_index()
     }
@@ -269,7 +269,7 @@ impl<'a, T> GrowHandle<'a, T> {
     /// Stores an item at the next index. It takes no memory and can't fail.
     pub fn insert(self, item: T) -> ItemIndex
         ensures index { result ≡ next_index (handle_store self.entry) }
-        ensures assignable { result ≤ 4294967294 }
+        ensures assignable { result < sentinel }
         ensures inserted { self.exit.0.now ≡ record (handle_set self.entry) { store = inserted (handle_store self.entry) item } }
         ensures slots { GrowsIfDense (handle_store self.entry) self.exit.0.now.store }
     {
@@ -342,7 +342,7 @@ impl<T> ItemSet<T> {
     fn next_index(&self) -> ItemIndex
         requires { 1 ≤ room self.now }
         ensures index { result ≡ next_index self.now.store }
-        ensures assignable { result ≤ 4294967294 }
+        ensures assignable { result < sentinel }
     {
         if self.free_head == ItemIndex::SENTINEL {
             ItemIndex::new(self.slots.len() as u32)
@@ -355,7 +355,7 @@ impl<T> ItemSet<T> {
     fn fill(&mut self, item: T) -> ItemIndex
         requires { 1 ≤ room self.old }
         ensures index { result ≡ next_index self.old.store }
-        ensures assignable { result ≤ 4294967294 }
+        ensures assignable { result < sentinel }
         ensures inserted { self.new ≡ record self.old { store = inserted self.old.store item } }
         ensures slots { GrowsIfDense self.old.store self.new.store }
     {
