@@ -1,5 +1,5 @@
 -- What an insert and a removal keep of a list.
-use Rattle.std.proofs.Common.{◌≡◌, ◌≢◌, ◌∙◌, ℕ, zero, suc, ◌+◌, ◌-◌, ◌<◌, ◌≤◌, ◌==◌, List, [], ◌∷◌, length, get_or, Contains, refl, sym, ap, subst, arith, inl, inr, nat_eq, not, Bool, true, false, insert, remove, filter}
+use Rattle.std.proofs.Common.{◌≡◌, ◌≢◌, ◌∙◌, ℕ, zero, suc, ◌+◌, ◌-◌, ◌<◌, ◌≤◌, ◌==◌, List, [], ◌∷◌, length, get_or, Contains, refl, sym, ap, subst, arith, inl, inr, nat_eq, not, Bool, true, false, insert, remove, filter, Option, Some, None, is_some}
 use Rattle.std.proofs.lemmas.Bool.Decides.{nat_tests}
 use Rattle.std.specs.List.{IsDistinct, AllByRecursion, AllPairs}
 use Rattle.std.proofs.lemmas.Map.Keys.{apart_from_distinct, IsDistinct-from_apart, IsDistinct-head, IsDistinct-tail}
@@ -8,10 +8,15 @@ use Rattle.std.proofs.lemmas.List.Elements.{All-append, All-cons, All-contains, 
 use Rattle.std.proofs.lemmas.List.Edits.{length-insert, get_or-insert_below, get_or-insert_at, get_or-insert_above}
 use Rattle.std.proofs.lemmas.List.{get_or_default}
 use Rattle.std.proofs.lemmas.Bool.{cases_lt}
-use Rattle.iddqd_order.specs.MapBTreeTable.{IsIndexList, sentinel, without}
+use Rattle.iddqd_order.specs.MapBTreeTable.{IsIndexList, sentinel, without, StandsAt}
 
 pub Contains-at : (xs : List ℕ) (i x : ℕ) → i < length xs → x ≡ get_or xs i 0 → Contains xs x
 Contains-at xs i x h e = (i, h, sym (e ∙ get_or_default xs i 0 x h))
+
+-- an index that stands at a place is stored
+pub Contains-from_place : (xs : List ℕ) (ix : ℕ) (place : Option ℕ) → StandsAt xs ix place → is_some place ≡ true → Contains xs ix
+Contains-from_place xs ix None there found = cc
+Contains-from_place xs ix (Some i) there found = let here = there i refl in Contains-at xs i ix here.0 (sym here.1)
 
 -- what holds of all pairs holds of them where x goes to a place at which it holds of x too
 module _ {X : Type 0} (R : X → X → Type 0) (xs : List X) (p : ℕ) (x : X) (within : p ≤ length xs)
@@ -67,10 +72,8 @@ IsIndexList-insert xs p x within absent assigned h =
     }
 
 -- `SENTINEL` is none of them
-pub sentinel-absent : (xs : List ℕ) (ix : ℕ) → IsIndexList xs → nat_eq ix sentinel ≡ true → Contains xs ix → ⊥
-sentinel-absent xs ix h e held =
-    let same : ix ≡ sentinel = grind (arith, nat_tests) in
-    All-contains (λ j. j ≢ sentinel) xs ix h.assigned held same
+pub sentinel-absent : (xs : List ℕ) → IsIndexList xs → Contains xs sentinel → ⊥
+sentinel-absent xs h held = All-contains (λ j. j ≢ sentinel) xs sentinel h.assigned held refl
 
 -- and where some are left out
 pub IsIndexList-filter : (t : ℕ → Bool) (xs : List ℕ) → IsIndexList xs → IsIndexList (filter t xs)

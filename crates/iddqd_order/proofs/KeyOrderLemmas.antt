@@ -10,7 +10,7 @@ use Rattle.std.proofs.lemmas.List.{get_or_default, get_or-map, length-map}
 use Rattle.std.proofs.lemmas.List.Elements.{Contains-get_or}
 use Rattle.std.proofs.lemmas.Map.Keys.{Less-from_sorted, sorted_from_all_adjacent}
 use Rattle.iddqd_order.specs.KeyOrder.{key_then_index, IsInKeyOrder, ComparesKeys}
-use Rattle.iddqd_order.specs.Search.{settled, IsRising, IsPlace}
+use Rattle.iddqd_order.specs.Search.{with_ties, IsRising, IsPlace}
 use Rattle.iddqd_order.proofs.IndexListLemmas.{AllPairs-insert}
 
 -- two that stand the other way round
@@ -60,9 +60,9 @@ module _ {K : Type 0} {cmp : K → K → Ordering} (o : IsTotalOrder cmp) (key :
   pub key_then_index-total : IsTotalOrder (key_then_index cmp key)
   key_then_index-total = then_total (on_total key o) nat_cmp_total
 
-  -- answers that compare the key of ix, settled, are those of the order by key, ties by index
-  pub settled-key : (ix : ℕ) (answer : ℕ → Ordering) (xs : List ℕ) → ComparesKeys (cmp (key ix)) key answer xs → (k : ℕ) → k < length xs → settled (Some ix) answer (get_or xs k 0) ≡ key_then_index cmp key ix (get_or xs k 0)
-  settled-key ix answer xs compares k lt =
+  -- answers that compare the key of ix, with ties, are those of the order by key, ties by index
+  pub with_ties-key : (ix : ℕ) (answer : ℕ → Ordering) (xs : List ℕ) → ComparesKeys (cmp (key ix)) key answer xs → (k : ℕ) → k < length xs → with_ties (Some ix) answer (get_or xs k 0) ≡ key_then_index cmp key ix (get_or xs k 0)
+  with_ties-key ix answer xs compares k lt =
       let j = get_or xs k 0 in
       choice (j == ix) _ _ (λ e.
       let same : j ≡ ix = same_number j ix e in
@@ -75,7 +75,7 @@ module _ {K : Type 0} {cmp : K → K → Ordering} (o : IsTotalOrder cmp) (key :
       (greater_before : (a b : K) → cmp a b ≡ Less → compare b ≡ Greater → compare a ≡ Greater)
       (equal_keys : (a b : K) → cmp a b ≡ Equal → compare a ≡ compare b)
       (xs : List ℕ) (answer : ℕ → Ordering) where
-    pub IsRising-from_query : IsInKeyOrder cmp key xs → ComparesKeys compare key answer xs → IsRising (settled None answer) xs
+    pub IsRising-from_query : IsInKeyOrder cmp key xs → ComparesKeys compare key answer xs → IsRising (with_ties None answer) xs
     IsRising-from_query sorted is =
         let pairs : (i j : ℕ) → i < j → j < length xs → (cmp (key (get_or xs i 0)) (key (get_or xs j 0)) ≡ Less) ⊎ (cmp (key (get_or xs i 0)) (key (get_or xs j 0)) ≡ Equal) =
         λ i j lt within. keys_of _ _ (Less-from_sorted _ xs i j 0 sorted lt within) in
@@ -91,7 +91,7 @@ module _ {K : Type 0} {cmp : K → K → Ordering} (o : IsTotalOrder cmp) (key :
         }
 
   -- a key agrees with the order of the keys
-  pub IsRising-from_key : (sought : K) (xs : List ℕ) (answer : ℕ → Ordering) → IsInKeyOrder cmp key xs → ComparesKeys (cmp sought) key answer xs → IsRising (settled None answer) xs
+  pub IsRising-from_key : (sought : K) (xs : List ℕ) (answer : ℕ → Ordering) → IsInKeyOrder cmp key xs → ComparesKeys (cmp sought) key answer xs → IsRising (with_ties None answer) xs
   IsRising-from_key sought xs answer = IsRising-from_query (cmp sought)
       (λ a b lt less. o.trans sought a b less lt)
       (λ a b lt greater. Greater-from_less o (o.trans a b sought lt (Less-from_greater o greater)))

@@ -1,12 +1,14 @@
 -- A search by halves through answers that rise.
-use Rattle.std.proofs.Common.{◌≡◌, ◌≢◌, ◌∙◌, ℕ, ◌+◌, ◌<◌, ◌≤◌, List, Option, Some, None, length, get_or, Contains, refl, sym, ap, subst, All, arith, below_more, inl, inr}
+use Rattle.std.proofs.Common.{◌≡◌, ◌≢◌, ◌∙◌, ℕ, ◌+◌, ◌<◌, ◌≤◌, List, Option, Some, None, length, get_or, Contains, refl, sym, ap, subst, All, arith, below_more, inl, inr, Result, Ok, Err, is_ok, true}
 use Rattle.std.proofs.lemmas.Bool.Decides.{nat_tests}
 use Rattle.std.proofs.lemmas.List.{get_or_default}
 use Rattle.std.proofs.lemmas.Bool.{cases_lt}
 use Rattle.std.specs.declared.cmp.Ordering.{Ordering}
 use Rattle.std.specs.declared.cmp.Ordering.TheVariants.{Less, Equal, Greater}
 use Rattle.std.specs.Ordering.{nat_cmp, ordering_then}
-use Rattle.iddqd_order.specs.Search.{Askable, settled, IsRising, IsPlace}
+use Rattle.std.specs.Fn.{Mut}
+use Rattle.iddqd_order.specs.declared.btree_table.asking.Asking.{Asking}
+use Rattle.iddqd_order.specs.Search.{Askable, with_ties, IsRising, IsPlace, IsSteadyRising, Searches}
 
 pub Askable-from_none : (xs : List ℕ) (tie : Option ℕ) (at : ℕ) → tie ≡ None → Contains xs at → Askable xs tie at
 Askable-from_none xs None at e h = h
@@ -16,13 +18,13 @@ pub Askable-from_some : (xs : List ℕ) (tie : Option ℕ) (ix at : ℕ) → tie
 Askable-from_some xs None ix at e n h = cc
 Askable-from_some xs (Some j) ix at e n h = let same : j ≡ ix = cc in (h, λ k. n (k ∙ same))
 
-pub settled-none : (tie : Option ℕ) (answer : ℕ → Ordering) (at : ℕ) → tie ≡ None → settled tie answer at ≡ answer at
-settled-none None answer at e = refl
-settled-none (Some ix) answer at e = cc
+pub with_ties-none : (tie : Option ℕ) (answer : ℕ → Ordering) (at : ℕ) → tie ≡ None → with_ties tie answer at ≡ answer at
+with_ties-none None answer at e = refl
+with_ties-none (Some ix) answer at e = cc
 
-pub settled-some : (tie : Option ℕ) (answer : ℕ → Ordering) (ix at : ℕ) → tie ≡ Some ix → at ≢ ix → settled tie answer at ≡ ordering_then (answer at) (nat_cmp ix at)
-settled-some None answer ix at e n = cc
-settled-some (Some j) answer ix at e n = let same : j ≡ ix = cc in rw same (grind (arith, nat_tests))
+pub with_ties-some : (tie : Option ℕ) (answer : ℕ → Ordering) (ix at : ℕ) → tie ≡ Some ix → at ≢ ix → with_ties tie answer at ≡ ordering_then (answer at) (nat_cmp ix at)
+with_ties-some None answer ix at e n = cc
+with_ties-some (Some j) answer ix at e n = let same : j ≡ ix = cc in rw same (grind (arith, nat_tests))
 
 pub Askable-other : (xs : List ℕ) (tie : Option ℕ) (at : ℕ) → tie ≢ Some at → Contains xs at → Askable xs tie at
 Askable-other xs None at n h = h
@@ -60,10 +62,15 @@ none_at_place a xs i p k d lt e =
       | inr high ↦ (let l = p.less_from k high lt in cc)
     ]
 
-settled-itself : (answer : ℕ → Ordering) (ix : ℕ) → settled (Some ix) answer ix ≡ Equal
-settled-itself answer ix = grind (arith, nat_tests)
+with_ties-itself : (answer : ℕ → Ordering) (ix : ℕ) → with_ties (Some ix) answer ix ≡ Equal
+with_ties-itself answer ix = grind (arith, nat_tests)
 
 -- what is sought by its index isn't missed where answers rise
-pub not_missed : (answer : ℕ → Ordering) (xs : List ℕ) (ix i : ℕ) → IsPlace (settled (Some ix) answer) xs i → Contains xs ix → ⊥
+pub not_missed : (answer : ℕ → Ordering) (xs : List ℕ) (ix i : ℕ) → IsPlace (with_ties (Some ix) answer) xs i → Contains xs ix → ⊥
 not_missed answer xs ix i p held =
-    none_at_place (settled (Some ix) answer) xs i p held.0 ix held.1 (ap (settled (Some ix) answer) held.2 ∙ settled-itself answer ix)
+    none_at_place (with_ties (Some ix) answer) xs i p held.0 ix held.1 (ap (with_ties (Some ix) answer) held.2 ∙ with_ties-itself answer ix)
+
+-- so a search for a stored index meets it where the answers rise
+pub met_where_stored : {F R : Type 0} {g : Mut F (ℕ × Unit {0}) R} {read : R → Ordering} {xs : List ℕ} {ix : ℕ} {old new : Asking F} (end : Result ℕ ℕ) (answer : ℕ → Ordering) → Searches g read xs (Some ix) old end new → IsSteadyRising g xs (Some ix) read answer old → Contains xs ix → is_ok end ≡ true
+met_where_stored (Ok i) answer searches rises held = refl
+met_where_stored {xs = xs} {ix = ix} (Err i) answer searches rises held = absurd (not_missed answer xs ix i (searches.place answer rises) held)

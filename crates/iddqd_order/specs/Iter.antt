@@ -3,5 +3,5 @@ use Rattle.std.specs.Prelude.{ℕ, List}
 use Rattle.iddqd_order.specs.declared.btree_table.iter.Iter.{Iter}
 
 -- the indexes that are still to come
-abbrev pub indexes_left : Iter → List ℕ
+unfoldable pub indexes_left : Iter → List ℕ
 indexes_left i = i.rest.now

@@ -1,8 +1,12 @@
 -- What a contract sees of a `PreparedBTreeInsert`.
-use Rattle.std.specs.Prelude.{◌≡◌, ℕ, Result}
+use Rattle.std.specs.Prelude.{◌≡◌, ◌≤◌, ℕ, List, Some, Result, length}
 use Rattle.std.specs.Borrow.{RestsIfErr, Fml, MutBor}
+use Rattle.std.specs.Fn.{Mut}
+use Rattle.std.specs.declared.cmp.Ordering.{Ordering}
 use Rattle.iddqd_order.specs.MapBTreeTable.{Order, order_of}
+use Rattle.iddqd_order.specs.Search.{IsSteadyRising, IsPlace, with_ties}
 use Rattle.iddqd_order.specs.contracts.btree_table.table.MapBTreeTable.{the_row}
+use Rattle.iddqd_order.specs.declared.btree_table.asking.Asking.{Asking}
 use Rattle.iddqd_order.specs.declared.btree_table.prepared_insert.PreparedBTreeInsert.{PreparedBTreeInsert}
 
 -- the table that it adds to
@@ -10,13 +14,21 @@ abbrev pub table_of : PreparedBTreeInsert → MutBor Order
 table_of p = p.table
 
 -- the index that it adds
-abbrev pub index_of : PreparedBTreeInsert → ℕ
+unfoldable pub index_of : PreparedBTreeInsert → ℕ
 index_of p = p.ix
 
 -- how many indexes will stand before it
-abbrev pub place_of : PreparedBTreeInsert → ℕ
+unfoldable pub place_of : PreparedBTreeInsert → ℕ
 place_of p = p.place
 
 -- where memory was refused, the table has the indexes that it had
 abbrev pub rests_if_refused : {E : Type 0} → MutBor Order → Result PreparedBTreeInsert E → Fml
 rests_if_refused t r = RestsIfErr the_row t (λ p. p.table.ghost_name) r (λ n. order_of n ≡ order_of t.now)
+
+-- an insert of ix among the indexes xs is prepared, by answers that are so read: nothing is added yet, and if the answers rise ix will stand where Greater ends
+module _ {F R : Type 0} (g : Mut F (ℕ × Unit {0}) R) (read : R → Ordering) (xs : List ℕ) (ix : ℕ) where
+  pub record PreparesInsert (old : Asking F) (p : PreparedBTreeInsert) : Type 0 where
+    pub table : order_of (table_of p).now ≡ xs
+    pub index : index_of p ≡ ix
+    pub within : place_of p ≤ length xs
+    pub place : (answer : ℕ → Ordering) → IsSteadyRising g xs (Some ix) read answer old → IsPlace (with_ties (Some ix) answer) xs (place_of p)

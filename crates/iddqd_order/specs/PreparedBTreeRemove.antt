@@ -1,17 +1,31 @@
 -- What a contract sees of a `PreparedBTreeRemove`.
-use Rattle.std.specs.Prelude.{ℕ, Bool, slice_index}
+use Rattle.std.specs.Prelude.{◌≡◌, ℕ, Bool, List, Some, false, Contains, IsTrue, is_some}
 use Rattle.std.specs.Borrow.{MutBor}
-use Rattle.iddqd_order.specs.MapBTreeTable.{Order, order_of}
+use Rattle.std.specs.Fn.{Mut}
+use Rattle.std.specs.declared.cmp.Ordering.{Ordering}
+use Rattle.iddqd_order.specs.MapBTreeTable.{Order, order_of, sentinel}
+use Rattle.iddqd_order.specs.Search.{SearchAsks, IsSteadyRising}
+use Rattle.iddqd_order.specs.declared.btree_table.asking.Asking.{Asking}
 use Rattle.iddqd_order.specs.declared.btree_table.prepared_remove.PreparedBTreeRemove.{PreparedBTreeRemove}
 
 -- the table that it removes from
 abbrev pub table_of : PreparedBTreeRemove → MutBor Order
 table_of p = p.table
 
--- whether the search found the index
-abbrev pub is_found : PreparedBTreeRemove → Bool
-is_found p = p.is_found
+-- the index that it removes
+unfoldable pub index_of : PreparedBTreeRemove → ℕ
+index_of p = p.ix
 
--- the index that was found
-abbrev pub index_of : PreparedBTreeRemove → ℕ
-index_of p = slice_index (order_of p.table.now) p.place
+-- whether the search found the index
+unfoldable pub is_found : PreparedBTreeRemove → Bool
+is_found p = is_some p.place
+
+-- a removal of ix from the indexes xs is prepared, by answers that are so read: it is found only where it is stored, and then if the answers rise; `SENTINEL` is missing with no ask
+module _ {F R : Type 0} (g : Mut F (ℕ × Unit {0}) R) (read : R → Ordering) (xs : List ℕ) (ix : ℕ) where
+  pub record PreparesRemoval (old : Asking F) (p : PreparedBTreeRemove) (new : Asking F) : Type 0 where
+    pub index : index_of p ≡ ix
+    pub stored : IsTrue (is_found p) → Contains xs ix
+    pub asked : SearchAsks g xs (Some ix) old new
+    pub missing : ix ≡ sentinel → is_found p ≡ false
+    pub unasked : ix ≡ sentinel → new ≡ old
+    pub rising : (answer : ℕ → Ordering) → IsSteadyRising g xs (Some ix) read answer old → Contains xs ix → IsTrue (is_found p)

@@ -1,5 +1,5 @@
 -- How a search asks, and what its answers mean.
-use Rattle.std.specs.Prelude.{◌≡◌, ◌≢◌, ℕ, ◌<◌, ◌≤◌, ◌==◌, List, Contains, Option, Some, None, if◌then◌else◌, slice_index, length}
+use Rattle.std.specs.Prelude.{◌≡◌, ◌≢◌, ℕ, ◌<◌, ◌≤◌, ◌==◌, List, All, Contains, Option, Some, None, IfSome, IsNone, Result, IfOk, IfErr, if◌then◌else◌, slice_index, length}
 use Rattle.std.specs.declared.cmp.Ordering.{Ordering}
 use Rattle.std.specs.declared.cmp.Ordering.TheVariants.{Less, Equal, Greater}
 use Rattle.std.specs.Ordering.{nat_cmp, ordering_then}
@@ -14,10 +14,10 @@ abbrev pub Askable : List ℕ → Option ℕ → ℕ → Type 0
 Askable stored None j = Contains stored j
 Askable stored (Some ix) j = Contains stored j × (j ≢ ix)
 
--- how what is sought stands to the stored index j: an index that is sought is Equal to itself, and stands to another by the answer, ties by index
-abbrev pub settled : Option ℕ → (ℕ → Ordering) → ℕ → Ordering
-settled None answer j = answer j
-settled (Some ix) answer j = if j == ix then Equal else ordering_then (answer j) (nat_cmp ix j)
+-- the order with ties: an index that is sought is Equal to itself, and stands to another one, j, by the answer, and where that is Equal by the indexes
+abbrev pub with_ties : Option ℕ → (ℕ → Ordering) → ℕ → Ordering
+with_ties None answer j = answer j
+with_ties (Some ix) answer j = if j == ix then Equal else ordering_then (answer j) (nat_cmp ix j)
 
 -- along the list the answers are first all Greater, then Equal, then all Less
 pub record IsRising (answer : ℕ → Ordering) (xs : List ℕ) : Type 0 where
@@ -47,4 +47,22 @@ module _ {F R : Type 0} (g : Mut F (ℕ × Unit {0}) R) (xs : List ℕ) (sought 
   -- the answers are steady and rise along the list
   pub record IsSteadyRising (read : R → Ordering) (answer : ℕ → Ordering) (a : Asking F) : Type 0 where
     pub steady : IsSteady read answer a
-    pub rising : IsRising (settled sought answer) xs
+    pub rising : IsRising (with_ties sought answer) xs
+
+-- calls that search in the indexes xs and so read the answers
+module _ {F R : Type 0} (g : Mut F (ℕ × Unit {0}) R) (read : R → Ordering) (xs : List ℕ) where
+  -- the search ends at the place of what is sought, which steady answers make Equal, or else at the place where it would go, if the answers rise
+  pub record Searches (sought : Option ℕ) (old : Asking F) (end : Result ℕ ℕ) (new : Asking F) : Type 0 where
+    pub asked : SearchAsks g xs sought old new
+    pub found : IfOk end (λ i. i < length xs)
+    pub missed : IfErr end (λ i. i ≤ length xs)
+    pub itself : IfOk end (λ i. (ix : ℕ) → sought ≡ Some ix → slice_index xs i ≡ ix)
+    pub hit : (answer : ℕ → Ordering) → IsSteady g xs sought read answer old → IfOk end (λ i. with_ties sought answer (slice_index xs i) ≡ Equal)
+    pub place : (answer : ℕ → Ordering) → IsSteadyRising g xs sought read answer old → IfErr end (IsPlace (with_ties sought answer) xs)
+
+  -- the find hits a stored index, which steady answers make Equal, or else misses: none is Equal, if the answers rise
+  pub record Finds (old : Asking F) (found : Option ℕ) (new : Asking F) : Type 0 where
+    pub asked : SearchAsks g xs None old new
+    pub stored : IfSome found (Contains xs)
+    pub hit : (answer : ℕ → Ordering) → IsSteady g xs None read answer old → IfSome found (λ ix. answer ix ≡ Equal)
+    pub miss : (answer : ℕ → Ordering) → IsSteadyRising g xs None read answer old → IsNone found → All (λ ix. answer ix ≢ Equal) xs

@@ -4,10 +4,10 @@
 //! stored indexes and counts how often. `Less` means that what is sought stands before the index.
 pub mod asking;
 pub mod iter;
-mod judge;
 pub mod key_order;
 pub mod prepared_insert;
 pub mod prepared_remove;
+mod reading;
 mod search;
 pub mod table;
 

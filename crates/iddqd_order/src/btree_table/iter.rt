@@ -8,6 +8,7 @@ pub struct Iter<'a> {
     pub(super) rest: &'a [ItemIndex],
 }
 
+#[tactic(auto, unfolding(crate::specs::Iter::indexes_left))]
 impl<'a> Iterator for Iter<'a> {
     ghost use Rattle.std.specs.Prelude.{◌≡◌, Some, IfSome, length};
     ghost use Rattle.std.specs.Iterator.{YieldsFirst, item_count, at_most, UpTo};
@@ -36,6 +37,7 @@ impl<'a> Iterator for Iter<'a> {
     }
 }
 
+#[tactic(auto, unfolding(crate::specs::Iter::indexes_left))]
 impl<'a> ExactSizeIterator for Iter<'a> {
     fn len(&self) -> usize {
         self.rest.len()

@@ -22,6 +22,7 @@ impl<'a> PreparedBTreeInsert<'a> {
     ghost use Rattle.iddqd_order.specs.PreparedBTreeInsert.{table_of, place_of, index_of};
 
     /// Adds the index at its place. The others keep their order.
+    #[tactic(auto, unfolding(crate::specs::PreparedBTreeInsert::place_of, crate::specs::PreparedBTreeInsert::index_of))]
     pub fn insert(self)
         ensures { order_of self.exit.0.now ≡ insert (order_of (table_of self.entry).now) (place_of self.entry) (index_of self.entry) }
     {

@@ -1,15 +1,15 @@
 //! The table: a vector of distinct indexes, searched by halves.
-ghost use Rattle.std.specs.Prelude.{◌≡◌, ◌≢◌, ℕ, ◌-◌, ◌<◌, ◌≤◌, [], length, map, slice_get, slice_index, IfOk, IfSome, IsNone, IsSome, All, Contains, insert, IsTrue, false, Some, None};
+ghost use Rattle.std.specs.Prelude.{◌≡◌, ◌≢◌, ℕ, ◌-◌, ◌<◌, ◌≤◌, [], length, map, slice_get, slice_index, is_some, IfOk, IsOk, IsSome, Contains, insert, IsTrue, false, Some, None};
 ghost use Rattle.std.specs.declared.cmp.Ordering.{Ordering};
 ghost use Rattle.iddqd.specs.Compaction.{CanRemap, remapped};
-ghost use Rattle.iddqd_order.specs.MapBTreeTable.{order_of, room_of, without, sentinel, IsIndexList};
-ghost use Rattle.iddqd_order.specs.Search.{CanSearch, SearchAsks, IsSteady, IsSteadyRising, settled, IsPlace};
+ghost use Rattle.iddqd_order.specs.MapBTreeTable.{order_of, room_of, without, sentinel, IsIndexList, StandsAt};
+ghost use Rattle.iddqd_order.specs.Search.{CanSearch, SearchAsks, IsSteadyRising, Searches, Finds};
 
 use crate::btree_table::asking::Asking;
 use crate::btree_table::iter::Iter;
-use crate::btree_table::judge::{ByKey, ByQuery, Judge, Plain};
 use crate::btree_table::prepared_insert::PreparedBTreeInsert;
 use crate::btree_table::prepared_remove::PreparedBTreeRemove;
+use crate::btree_table::reading::{AsOrdering, ByKey, ByQuery, Reads};
 use crate::btree_table::search::search;
 use iddqd::index_remap::IndexRemap;
 use iddqd::item_index::ItemIndex;
@@ -22,7 +22,8 @@ use std::marker::Model;
 ///
 /// A contract sees the list by `order_of`. The closures that order it may answer anything: each
 /// call keeps the list distinct, changes no index but its own, and asks about stored indexes alone,
-/// at most 4 plus twice the number of binary digits of the length.
+/// at most 4 plus twice the number of binary digits of the length. No call but the two prepares of
+/// an insert can be refused memory.
 #[derive(Debug, Drop)]
 pub struct MapBTreeTable {
     items: Vec<ItemIndex>,
@@ -39,11 +40,13 @@ impl Model for MapBTreeTable {
     ghost invariant = { λ t. IsIndexList t.items.items };
 }
 
+#[tactic(auto, unfolding(crate::specs::MapBTreeTable::order_of, crate::specs::MapBTreeTable::room_of, crate::specs::Iter::indexes_left))]
 impl MapBTreeTable {
     ghost use Rattle.std.specs.Borrow.{sem};
     ghost use Rattle.iddqd_order.specs.Iter.{indexes_left};
-    ghost use Rattle.iddqd_order.specs.PreparedBTreeInsert.{rests_if_refused};
+    ghost use Rattle.iddqd_order.specs.PreparedBTreeInsert.{rests_if_refused, PreparesInsert};
     ghost use Rattle.iddqd_order.specs.PreparedBTreeInsert as prepared_insert;
+    ghost use Rattle.iddqd_order.specs.PreparedBTreeRemove.{PreparesRemoval};
     ghost use Rattle.iddqd_order.specs.PreparedBTreeRemove as prepared_remove;
 
     /// The empty table. It takes no memory.
@@ -102,16 +105,9 @@ impl MapBTreeTable {
         asking: &mut Asking<F>,
     ) -> Option<ItemIndex>
         requires { CanSearch F.FnMut (order_of self.now) None asking.old }
-        ensures stored { IfSome result (Contains (order_of self.now)) }
-        ensures asked { SearchAsks F.FnMut (order_of self.now) None asking.old asking.new }
-        ensures hit { (answer : ℕ → Ordering) →
-            IsSteady F.FnMut (order_of self.now) None (λ r. r) answer asking.old →
-            IfSome result (λ ix. answer ix ≡ Ordering.Equal) }
-        ensures miss { (answer : ℕ → Ordering) →
-            IsSteadyRising F.FnMut (order_of self.now) None (λ r. r) answer asking.old →
-            IsNone result → All (λ ix. answer ix ≢ Ordering.Equal) (order_of self.now) }
+        ensures { Finds F.FnMut (λ r. r) (order_of self.now) asking.old result asking.new }
     {
-        self.find(asking, &Plain)
+        self.find(asking, &AsOrdering)
     }
 
     /// A stored index at which the query compares Equal with the key that the asking answers.
@@ -124,38 +120,45 @@ impl MapBTreeTable {
         asking: &mut Asking<F>,
     ) -> Option<ItemIndex>
         requires { CanSearch F.FnMut (order_of self.now) None asking.old }
-        ensures stored { IfSome result (Contains (order_of self.now)) }
-        ensures asked { SearchAsks F.FnMut (order_of self.now) None asking.old asking.new }
-        ensures hit { (answer : ℕ → Ordering) →
-            IsSteady F.FnMut (order_of self.now) None (Q.compare query.now) answer asking.old →
-            IfSome result (λ ix. answer ix ≡ Ordering.Equal) }
-        ensures miss { (answer : ℕ → Ordering) →
-            IsSteadyRising F.FnMut (order_of self.now) None (Q.compare query.now) answer asking.old →
-            IsNone result → All (λ ix. answer ix ≢ Ordering.Equal) (order_of self.now) }
+        ensures { Finds F.FnMut (Q.compare query.now) (order_of self.now) asking.old result asking.new }
     {
         self.find(asking, &ByQuery(query))
     }
 
     // The find, by any reading of the answers.
-    fn find<R, F: FnMut(ItemIndex) -> R, J: Judge<R>>(
+    fn find<R, F: FnMut(ItemIndex) -> R, H: Reads<R>>(
         &self,
         asking: &mut Asking<F>,
-        judge: &J,
+        how: &H,
     ) -> Option<ItemIndex>
         requires { CanSearch F.FnMut (order_of self.now) None asking.old }
-        ensures stored { IfSome result (Contains (order_of self.now)) }
-        ensures asked { SearchAsks F.FnMut (order_of self.now) None asking.old asking.new }
-        ensures hit { (answer : ℕ → Ordering) →
-            IsSteady F.FnMut (order_of self.now) None (J.judged judge.now) answer asking.old →
-            IfSome result (λ ix. answer ix ≡ Ordering.Equal) }
-        ensures miss { (answer : ℕ → Ordering) →
-            IsSteadyRising F.FnMut (order_of self.now) None (J.judged judge.now) answer asking.old →
-            IsNone result → All (λ ix. answer ix ≢ Ordering.Equal) (order_of self.now) }
+        ensures { Finds F.FnMut (H.reading how.now) (order_of self.now) asking.old result asking.new }
     {
-        match search(&self.items, asking, judge, None) {
-            Ok(place) => Some(self.items[place]),
+        match self.search_in(asking, how, None) {
+            Ok(place) => Some(self.index_at(place)),
             Err(_) => None,
         }
+    }
+
+    // The search of all searching calls: the place of what is sought, or where it would go.
+    fn search_in<R, F: FnMut(ItemIndex) -> R, H: Reads<R>>(
+        &self,
+        asking: &mut Asking<F>,
+        how: &H,
+        tie: Option<ItemIndex>,
+    ) -> Result<usize, usize>
+        requires { CanSearch F.FnMut (order_of self.now) tie asking.old }
+        ensures { Searches F.FnMut (H.reading how.now) (order_of self.now) tie asking.old result asking.new }
+    {
+        search(&self.items, asking, how, tie)
+    }
+
+    // What stands at `place`.
+    fn index_at(&self, place: usize) -> ItemIndex
+        requires { place < length (order_of self.now) }
+        ensures { result ≡ slice_index (order_of self.now) place }
+    {
+        self.items[place]
     }
 
     /// Takes the memory of an insert and finds its place by the answers. Equal ones are ordered by
@@ -173,14 +176,10 @@ impl MapBTreeTable {
         requires can_ask { CanSearch F.FnMut (order_of self.old) (Some ix) asking.old }
         ensures* unchanged { sem 𝓛 (rests_if_refused self.entry result) }
         ensures same_reference { IfOk result (λ p. (prepared_insert.table_of p).ghost_name ≡ self.entry.ghost_name) }
-        ensures table { IfOk result (λ p. order_of (prepared_insert.table_of p).now ≡ order_of self.old) }
-        ensures index { IfOk result (λ p. prepared_insert.index_of p ≡ ix) }
         ensures asked { SearchAsks F.FnMut (order_of self.old) (Some ix) asking.old asking.new }
-        ensures place { (answer : ℕ → Ordering) →
-            IsSteadyRising F.FnMut (order_of self.old) (Some ix) (λ r. r) answer asking.old →
-            IfOk result (λ p. IsPlace (settled (Some ix) answer) (order_of self.old) (prepared_insert.place_of p)) }
+        ensures prepared { IfOk result (PreparesInsert F.FnMut (λ r. r) (order_of self.old) ix asking.old) }
     {
-        self.prepare(ix, asking, &Plain)
+        self.prepare(ix, asking, &AsOrdering)
     }
 
     /// Takes the memory of an insert and finds its place by comparing the query with the keys that
@@ -199,39 +198,31 @@ impl MapBTreeTable {
         requires can_ask { CanSearch F.FnMut (order_of self.old) (Some ix) asking.old }
         ensures* unchanged { sem 𝓛 (rests_if_refused self.entry result) }
         ensures same_reference { IfOk result (λ p. (prepared_insert.table_of p).ghost_name ≡ self.entry.ghost_name) }
-        ensures table { IfOk result (λ p. order_of (prepared_insert.table_of p).now ≡ order_of self.old) }
-        ensures index { IfOk result (λ p. prepared_insert.index_of p ≡ ix) }
         ensures asked { SearchAsks F.FnMut (order_of self.old) (Some ix) asking.old asking.new }
-        ensures place { (answer : ℕ → Ordering) →
-            IsSteadyRising F.FnMut (order_of self.old) (Some ix) (Q.compare query.now) answer asking.old →
-            IfOk result (λ p. IsPlace (settled (Some ix) answer) (order_of self.old) (prepared_insert.place_of p)) }
+        ensures prepared { IfOk result (PreparesInsert F.FnMut (Q.compare query.now) (order_of self.old) ix asking.old) }
     {
         self.prepare(ix, asking, &ByQuery(query))
     }
 
     // The insert, by any reading of the answers.
-    fn prepare<R, F: FnMut(ItemIndex) -> R, J: Judge<R>>(
+    fn prepare<R, F: FnMut(ItemIndex) -> R, H: Reads<R>>(
         &mut self,
         ix: ItemIndex,
         asking: &mut Asking<F>,
-        judge: &J,
+        how: &H,
     ) -> Result<PreparedBTreeInsert<'_>, AllocError>
         requires assigned { ix ≢ sentinel }
         requires absent { Contains (order_of self.old) ix → ⊥ }
         requires can_ask { CanSearch F.FnMut (order_of self.old) (Some ix) asking.old }
         ensures* unchanged { sem 𝓛 (rests_if_refused self.entry result) }
         ensures same_reference { IfOk result (λ p. (prepared_insert.table_of p).ghost_name ≡ self.entry.ghost_name) }
-        ensures table { IfOk result (λ p. order_of (prepared_insert.table_of p).now ≡ order_of self.old) }
-        ensures index { IfOk result (λ p. prepared_insert.index_of p ≡ ix) }
         ensures asked { SearchAsks F.FnMut (order_of self.old) (Some ix) asking.old asking.new }
-        ensures place { (answer : ℕ → Ordering) →
-            IsSteadyRising F.FnMut (order_of self.old) (Some ix) (J.judged judge.now) answer asking.old →
-            IfOk result (λ p. IsPlace (settled (Some ix) answer) (order_of self.old) (prepared_insert.place_of p)) }
+        ensures prepared { IfOk result (PreparesInsert F.FnMut (H.reading how.now) (order_of self.old) ix asking.old) }
     {
-        if let Err(error) = self.items.reserve(1) {
+        if let Err(error) = self.reserve_one() {
             return Err(error);
         }
-        match search(&self.items, asking, judge, Some(ix)) {
+        match self.search_in(asking, how, Some(ix)) {
             Ok(_) => unreachable!(),
             Err(place) => Ok(PreparedBTreeInsert {
                 table: self,
@@ -239,6 +230,14 @@ impl MapBTreeTable {
                 ix,
             }),
         }
+    }
+
+    // Takes the memory of one insert.
+    fn reserve_one(&mut self) -> Result<(), AllocError>
+        ensures kept { order_of self.new ≡ order_of self.old }
+        ensures room { IsOk result → 0 < room_of self.new }
+    {
+        self.items.reserve(1)
     }
 
     /// Searches for a stored index by the answers, to remove it. Equal ones are ordered by the
@@ -251,21 +250,12 @@ impl MapBTreeTable {
         ix: ItemIndex,
         asking: &mut Asking<F>,
     ) -> PreparedBTreeRemove<'_>
-        requires can_ask { CanSearch F.FnMut (order_of self.old) (Some ix) asking.old }
+        requires { CanSearch F.FnMut (order_of self.old) (Some ix) asking.old }
         ensures same_reference { (prepared_remove.table_of result).ghost_name ≡ self.entry.ghost_name }
         ensures table { (prepared_remove.table_of result).now ≡ self.old }
-        ensures stored { IsTrue (prepared_remove.is_found result) →
-            Contains (order_of self.old) ix }
-        ensures index { IsTrue (prepared_remove.is_found result) →
-            prepared_remove.index_of result ≡ ix }
-        ensures asked { SearchAsks F.FnMut (order_of self.old) (Some ix) asking.old asking.new }
-        ensures missing { ix ≡ sentinel → prepared_remove.is_found result ≡ false }
-        ensures unasked { ix ≡ sentinel → asking.new ≡ asking.old }
-        ensures rising { (answer : ℕ → Ordering) →
-            IsSteadyRising F.FnMut (order_of self.old) (Some ix) (λ r. r) answer asking.old →
-            Contains (order_of self.old) ix → IsTrue (prepared_remove.is_found result) }
+        ensures prepared { PreparesRemoval F.FnMut (λ r. r) (order_of self.old) ix asking.old result asking.new }
     {
-        self.prepare_removal(ix, asking, &Plain)
+        self.prepare_removal(ix, asking, &AsOrdering)
     }
 
     /// Searches for a stored index by comparing the key with those that the asking answers, to
@@ -279,83 +269,62 @@ impl MapBTreeTable {
         key: &K,
         asking: &mut Asking<F>,
     ) -> PreparedBTreeRemove<'_>
-        requires can_ask { CanSearch F.FnMut (order_of self.old) (Some ix) asking.old }
+        requires { CanSearch F.FnMut (order_of self.old) (Some ix) asking.old }
         ensures same_reference { (prepared_remove.table_of result).ghost_name ≡ self.entry.ghost_name }
         ensures table { (prepared_remove.table_of result).now ≡ self.old }
-        ensures stored { IsTrue (prepared_remove.is_found result) →
-            Contains (order_of self.old) ix }
-        ensures index { IsTrue (prepared_remove.is_found result) →
-            prepared_remove.index_of result ≡ ix }
-        ensures asked { SearchAsks F.FnMut (order_of self.old) (Some ix) asking.old asking.new }
-        ensures missing { ix ≡ sentinel → prepared_remove.is_found result ≡ false }
-        ensures unasked { ix ≡ sentinel → asking.new ≡ asking.old }
-        ensures rising { (answer : ℕ → Ordering) →
-            IsSteadyRising F.FnMut (order_of self.old) (Some ix) (K.cmp key.now) answer asking.old →
-            Contains (order_of self.old) ix → IsTrue (prepared_remove.is_found result) }
+        ensures prepared { PreparesRemoval F.FnMut (K.cmp key.now) (order_of self.old) ix asking.old result asking.new }
     {
         self.prepare_removal(ix, asking, &ByKey(key))
     }
 
     // The removal, by any reading of the answers.
-    fn prepare_removal<R, F: FnMut(ItemIndex) -> R, J: Judge<R>>(
+    fn prepare_removal<R, F: FnMut(ItemIndex) -> R, H: Reads<R>>(
         &mut self,
         ix: ItemIndex,
         asking: &mut Asking<F>,
-        judge: &J,
+        how: &H,
     ) -> PreparedBTreeRemove<'_>
-        requires can_ask { CanSearch F.FnMut (order_of self.old) (Some ix) asking.old }
+        requires { CanSearch F.FnMut (order_of self.old) (Some ix) asking.old }
         ensures same_reference { (prepared_remove.table_of result).ghost_name ≡ self.entry.ghost_name }
         ensures table { (prepared_remove.table_of result).now ≡ self.old }
-        ensures stored { IsTrue (prepared_remove.is_found result) →
-            Contains (order_of self.old) ix }
-        ensures index { IsTrue (prepared_remove.is_found result) →
-            prepared_remove.index_of result ≡ ix }
-        ensures asked { SearchAsks F.FnMut (order_of self.old) (Some ix) asking.old asking.new }
-        ensures missing { ix ≡ sentinel → prepared_remove.is_found result ≡ false }
-        ensures unasked { ix ≡ sentinel → asking.new ≡ asking.old }
-        ensures rising { (answer : ℕ → Ordering) →
-            IsSteadyRising F.FnMut (order_of self.old) (Some ix) (J.judged judge.now) answer asking.old →
-            Contains (order_of self.old) ix → IsTrue (prepared_remove.is_found result) }
+        ensures prepared { PreparesRemoval F.FnMut (H.reading how.now) (order_of self.old) ix asking.old result asking.new }
     {
-        match self.find_place(ix, asking, judge) {
-            Some(place) => PreparedBTreeRemove {
-                table: self,
-                place,
-                is_found: true,
-            },
-            None => PreparedBTreeRemove {
-                table: self,
-                place: 0,
-                is_found: false,
-            },
+        let place = self.find_place(ix, asking, how);
+        PreparedBTreeRemove {
+            table: self,
+            ix,
+            place,
         }
     }
 
     // The place of a stored index, if the search meets it.
-    fn find_place<R, F: FnMut(ItemIndex) -> R, J: Judge<R>>(
+    fn find_place<R, F: FnMut(ItemIndex) -> R, H: Reads<R>>(
         &self,
         ix: ItemIndex,
         asking: &mut Asking<F>,
-        judge: &J,
+        how: &H,
     ) -> Option<usize>
         requires { CanSearch F.FnMut (order_of self.now) (Some ix) asking.old }
-        ensures within { IfSome result (λ place. place < length (order_of self.now)) }
-        ensures there { IfSome result (λ place. slice_index (order_of self.now) place ≡ ix) }
+        ensures there { StandsAt (order_of self.now) ix result }
         ensures asked { SearchAsks F.FnMut (order_of self.now) (Some ix) asking.old asking.new }
         ensures missing { ix ≡ sentinel → result ≡ None }
         ensures unasked { ix ≡ sentinel → asking.new ≡ asking.old }
         ensures rising { (answer : ℕ → Ordering) →
-            IsSteadyRising F.FnMut (order_of self.now) (Some ix) (J.judged judge.now) answer asking.old →
+            IsSteadyRising F.FnMut (order_of self.now) (Some ix) (H.reading how.now) answer asking.old →
             Contains (order_of self.now) ix → IsSome result }
     {
-        let items = self.items.as_slice();
+        self.stores_no_sentinel();
         if ix == ItemIndex::SENTINEL {
             return None;
         }
-        match search(items, asking, judge, Some(ix)) {
-            Ok(place) => Some(place),
-            Err(_) => None,
-        }
+        self.search_in(asking, how, Some(ix)).ok()
+    }
+
+    // A law for proofs, which does nothing when it runs: `SENTINEL` is not stored.
+    fn stores_no_sentinel(&self)
+        ensures { Contains (order_of self.now) sentinel → ⊥ }
+    {
+        let _items = &self.items;
     }
 
     /// Removes the index, if it is stored, by a walk along the list. It asks nothing and takes no
@@ -396,24 +365,27 @@ impl MapBTreeTable {
         }
     }
 
-    // Removes what stands at `place`, if it was found.
-    pub(super) fn remove_found(&mut self, place: usize, is_found: bool) -> bool
-        requires { IsTrue is_found → place < length (order_of self.old) }
-        ensures found { result ≡ is_found }
-        ensures removed { IsTrue result →
-            order_of self.new ≡ without (order_of self.old) (slice_index (order_of self.old) place) }
+    // Removes `ix`, if there is a place where it stands, and says whether there is one.
+    pub(super) fn remove_found(&mut self, ix: ItemIndex, place: Option<usize>) -> bool
+        requires { StandsAt (order_of self.old) ix place }
+        ensures found { result ≡ is_some place }
+        ensures removed { IsTrue result → order_of self.new ≡ without (order_of self.old) ix }
         ensures kept { result ≡ false → self.new ≡ self.old }
     {
-        if is_found {
-            self.remove_at(place);
+        match place {
+            Some(place) => {
+                self.remove_at(ix, place);
+                true
+            }
+            None => false,
         }
-        is_found
     }
 
-    // Removes what stands at `place`.
-    fn remove_at(&mut self, place: usize)
-        requires { place < length (order_of self.old) }
-        ensures { order_of self.new ≡ without (order_of self.old) (slice_index (order_of self.old) place) }
+    // Removes `ix`, which stands at `place`.
+    fn remove_at(&mut self, ix: ItemIndex, place: usize)
+        requires within { place < length (order_of self.old) }
+        requires there { slice_index (order_of self.old) place ≡ ix }
+        ensures { order_of self.new ≡ without (order_of self.old) ix }
     {
         self.items.remove(place);
     }

@@ -5,7 +5,7 @@ ghost use Rattle.std.specs.declared.cmp.Ordering.{Ordering};
 ghost use Rattle.iddqd.specs.Compaction.{CanRemap, remapped};
 ghost use Rattle.iddqd_order.specs.KeyOrder.{IsInKeyOrder};
 ghost use Rattle.iddqd_order.specs.MapBTreeTable.{order_of, without, sentinel};
-ghost use Rattle.iddqd_order.specs.Search.{CanSearch, IsSteadyRising, settled, IsPlace};
+ghost use Rattle.iddqd_order.specs.Search.{CanSearch, IsSteadyRising, with_ties, IsPlace};
 
 use super::has_order;
 use crate::btree_table::{Asking, MapBTreeTable};
@@ -27,7 +27,7 @@ fn add_by<F: FnMut(ItemIndex) -> Ordering>(
     ensures err { OnErr result (order_of table.new ≡ order_of table.old) }
     ensures place { (answer : ℕ → Ordering) →
         IsSteadyRising F.FnMut (order_of table.old) (Some ix) (λ r. r) answer asking.old →
-        OnOk result ((at : ℕ) × IsPlace (settled (Some ix) answer) (order_of table.old) at × (order_of table.new ≡ insert (order_of table.old) at ix)) }
+        OnOk result ((at : ℕ) × IsPlace (with_ties (Some ix) answer) (order_of table.old) at × (order_of table.new ≡ insert (order_of table.old) at ix)) }
 {
     table.prepare_insert_by(ix, asking)?.insert();
     Ok(())

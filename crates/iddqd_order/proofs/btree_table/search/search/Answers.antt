@@ -1,9 +1,9 @@
-use Rattle.std.proofs.Common.{arith, ◌≡◌, ◌+◌, ◌-◌, ◌/◌, ◌<◌, length, get_or, Contains, sym, ◌∙◌, ap}
+use Rattle.std.proofs.Common.{arith, ◌≡◌, ◌+◌, ◌-◌, ◌/◌, ◌<◌, length, get_or, Contains, refl, sym, ◌∙◌, ap}
 use Rattle.std.proofs.lemmas.List.{get_or_default}
-use Rattle.iddqd_order.specs.Search.{Askable, settled}
+use Rattle.iddqd_order.specs.Search.{Askable, with_ties}
 use Rattle.iddqd_order.specs.Digits.{digits}
 use Rattle.iddqd_order.proofs.AskLemmas.{asks_none, asks_then, asks_more, Steady-later}
-use Rattle.iddqd_order.proofs.DigitLemmas.{halved}
+use Rattle.iddqd_order.proofs.DigitLemmas.{halved, digits-bound}
 use Rattle.iddqd_order.proofs.SearchLemmas.{Askable-other, IsPlace-from_split, split-init, split-less, split-greater}
 use Rattle.iddqd_order.proofs.IndexListLemmas.{Contains-at}
 use Rattle.iddqd_order.proofs.btree_table.search.search.Goals as goal
@@ -13,7 +13,7 @@ loop-low-init g c = record {
   ordered = omega arith;
   within = omega arith;
   asked = (0, (let n = length c.args.items.now in let same : n - 0 ≡ n = omega arith in omega (arith, ap digits same)), asks_none g.F.FnMut (Askable c.args.items.now c.args.tie) _);
-  split = λ answer s r. split-init (settled c.args.tie answer) c.args.items.now;
+  split = λ answer s. split-init (with_ties c.args.tie answer) c.args.items.now;
 }
 
 pub loop-low-preserved-in-Less : goal.loop-low-preserved-in-Less
@@ -30,9 +30,9 @@ loop-low-preserved-in-Less g c =
         (let left = c.loop-low.invariant.asked.1 in omega (arith, left, halved (high - low) (middle - low) (omega arith) (omega arith))),
         asks_then g.F.FnMut (Askable xs c.args.tie) c.loop-low.invariant.asked.2 (c.in-Less.ensures.asks xs held),
       );
-      split = λ answer s r.
-          let told = c.in-Less.ensures.steady xs answer held (Steady-later g.F.FnMut _ c.loop-low.invariant.asked.2.after s) in
-          split-less (settled c.args.tie answer) xs low high middle r lt (c.loop-low.invariant.split answer s r) (ap (settled c.args.tie answer) (sym read) ∙ sym told);
+      split = λ answer s.
+          let told = c.in-Less.ensures.steady xs answer held (Steady-later g.F.FnMut _ c.loop-low.invariant.asked.2.after s.steady) in
+          split-less (with_ties c.args.tie answer) xs low high middle s.rising lt (c.loop-low.invariant.split answer s) (ap (with_ties c.args.tie answer) (sym read) ∙ sym told);
     }
 
 pub loop-low-preserved : goal.loop-low-preserved
@@ -49,36 +49,44 @@ loop-low-preserved g c =
         (let left = c.loop-low.invariant.asked.1 in omega (arith, left, halved (high - low) (high - (middle + 1)) (omega arith) (omega arith))),
         asks_then g.F.FnMut (Askable xs c.args.tie) c.loop-low.invariant.asked.2 (c.in-Greater.ensures.asks xs held),
       );
-      split = λ answer s r.
-          let told = c.in-Greater.ensures.steady xs answer held (Steady-later g.F.FnMut _ c.loop-low.invariant.asked.2.after s) in
-          split-greater (settled c.args.tie answer) xs low high middle r lt (c.loop-low.invariant.split answer s r) (ap (settled c.args.tie answer) (sym read) ∙ sym told);
+      split = λ answer s.
+          let told = c.in-Greater.ensures.steady xs answer held (Steady-later g.F.FnMut _ c.loop-low.invariant.asked.2.after s.steady) in
+          split-greater (with_ties c.args.tie answer) xs low high middle s.rising lt (c.loop-low.invariant.split answer s) (ap (with_ties c.args.tie answer) (sym read) ∙ sym told);
     }
 
-pub returns-in-Equal-clause-asks : goal.returns-in-Equal-clause-asks
-returns-in-Equal-clause-asks g c =
+pub returns-in-Equal : goal.returns-in-Equal
+returns-in-Equal g c =
     let xs = c.args.items.now in let low = c.loop-low.low in let high = c.loop-low.high in let middle = low + (high - low) / 2 in
     let lt : middle < length xs = omega arith in
     let read : c.index-items-middle.result ≡ get_or xs middle 0 = c.index-items-middle.is ∙ get_or_default xs middle _ 0 lt in
+    let held : Contains xs c.index-items-middle.result = Contains-at xs middle _ lt read in
     let left = c.loop-low.invariant.asked.1 in
-    asks_more g.F.FnMut (Askable xs c.args.tie) (omega (arith, left, halved (high - low) 0 (omega arith) (omega arith)))
-    (asks_then g.F.FnMut (Askable xs c.args.tie) c.loop-low.invariant.asked.2 (c.in-Equal.ensures.asks xs (Contains-at xs middle _ lt read)))
+    record {
+      asked =
+          asks_more g.F.FnMut (Askable xs c.args.tie) (omega (arith, left, halved (high - low) 0 (omega arith) (omega arith), digits-bound (length xs)))
+          (asks_then g.F.FnMut (Askable xs c.args.tie) c.loop-low.invariant.asked.2 (c.in-Equal.ensures.asks xs held));
+      found = lt;
+      missed = tt;
+      itself = λ ix same. sym read ∙ c.in-Equal.ensures.itself refl ix same;
+      hit = λ answer s.
+          let told = c.in-Equal.ensures.steady xs answer held (Steady-later g.F.FnMut _ c.loop-low.invariant.asked.2.after s) in
+          ap (with_ties c.args.tie answer) (sym read) ∙ sym told;
+      place = λ answer s. tt;
+    }
 
-pub returns-clause-asks : goal.returns-clause-asks
-returns-clause-asks g c =
+pub returns : goal.returns
+returns g c =
+    let xs = c.args.items.now in
     let left = c.loop-low.invariant.asked.1 in
-    asks_more g.F.FnMut (Askable c.args.items.now c.args.tie) (omega (arith, left)) c.loop-low.invariant.asked.2
-
-pub returns-in-Equal-clause-hit : goal.returns-in-Equal-clause-hit
-returns-in-Equal-clause-hit g c answer s =
-    let xs = c.args.items.now in let low = c.loop-low.low in let high = c.loop-low.high in let middle = low + (high - low) / 2 in
-    let lt : middle < length xs = omega arith in
-    let read : c.index-items-middle.result ≡ get_or xs middle 0 = c.index-items-middle.is ∙ get_or_default xs middle _ 0 lt in
-    let told = c.in-Equal.ensures.steady xs answer (Contains-at xs middle _ lt read) (Steady-later g.F.FnMut _ c.loop-low.invariant.asked.2.after s) in
-    ap (settled c.args.tie answer) (sym read) ∙ sym told
-
-pub returns-clause-place : goal.returns-clause-place
-returns-clause-place g c answer s r =
-    IsPlace-from_split (settled c.args.tie answer) c.args.items.now c.loop-low.low c.loop-low.high (omega arith) (omega arith) c.loop-low.invariant.within (c.loop-low.invariant.split answer s r)
+    record {
+      asked = asks_more g.F.FnMut (Askable xs c.args.tie) (omega (arith, left, digits-bound (length xs))) c.loop-low.invariant.asked.2;
+      found = tt;
+      missed = omega arith;
+      itself = tt;
+      hit = λ answer s. tt;
+      place = λ answer s.
+          IsPlace-from_split (with_ties c.args.tie answer) xs c.loop-low.low c.loop-low.high (omega arith) (omega arith) c.loop-low.invariant.within (c.loop-low.invariant.split answer s);
+    }
 
 pub compare-requires : goal.compare-requires
 compare-requires g c other =

@@ -1,7 +1,6 @@
 use Rattle.std.proofs.Common.{Ordering, ◌-◌, ℕ, ◌+◌, ◌≤◌, length}
-use Rattle.iddqd_order.specs.Asking.{closure_of}
-use Rattle.iddqd_order.specs.Asks.{AsksWithin, Steady}
-use Rattle.iddqd_order.specs.Search.{Askable, settled, IsRising}
+use Rattle.iddqd_order.specs.Asks.{AsksWithin}
+use Rattle.iddqd_order.specs.Search.{Askable, IsSteadyRising, with_ties}
 use Rattle.iddqd_order.proofs.SearchLemmas.{AreSplit}
 use Rattle.iddqd_order.specs.Digits.{digits}
 use Rattle.iddqd_order.proofs.btree_table.search.search.Given as goal
@@ -11,7 +10,7 @@ invariant-loop-low g l = record {
   ordered : l.low ≤ l.high;
   within : l.high ≤ length l.items;
   asked : (k : ℕ) × (k + digits (l.high - l.low) ≤ digits (length l.items)) × AsksWithin g.F.FnMut (Askable l.items l.tie) k l.fn.asking l.asking;
-  split : (answer : ℕ → Ordering) → Steady g.F.FnMut (Askable l.items l.tie) (g.J.Judge.judged l.judge) answer (closure_of l.fn.asking) → IsRising (settled l.tie answer) l.items → AreSplit (settled l.tie answer) l.items l.low l.high;
+  split : (answer : ℕ → Ordering) → IsSteadyRising g.F.FnMut l.items l.tie (g.H.Reads.reading l.how) answer l.fn.asking → AreSplit (with_ties l.tie answer) l.items l.low l.high;
 }
 
 abbrev pub decreases-loop-low : goal.decreases-loop-low

@@ -1,9 +1,10 @@
 use Rattle.std.proofs.Common.{ap}
-use Rattle.iddqd_order.specs.MapBTreeTable.{Order}
+use Rattle.iddqd_order.specs.MapBTreeTable.{order_of}
 use Rattle.iddqd_order.proofs.IndexListLemmas.{IsIndexList-insert}
 use Rattle.iddqd_order.proofs.btree_table.table.MapBTreeTable.insert_at.Goals as goal
 
 pub invariant_of-self : goal.invariant_of-self
+unfolding order_of
 invariant_of-self c =
-    let same = ap (λ (o : Order). o.indexes) c.self.view_is in
+    let same = ap order_of c.self.view_is in
     rw c.in-Ok.ensures.items (IsIndexList-insert c.self.inside.items.items c.args.place c.args.ix (rw same c.requires.within) (rw same c.requires.absent) c.requires.assigned c.self.invariant)

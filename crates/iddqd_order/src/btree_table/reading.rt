@@ -6,21 +6,21 @@ use iddqd::map_hash::Comparable;
 use std::cmp::Ordering;
 
 // Reads an answer about a stored index: Less where what is sought stands before it.
-pub trait Judge<R> {
-    ghost judged: { Self → R → Ordering };
+pub trait Reads<R> {
+    ghost reading: { Self → R → Ordering };
 
-    fn judge(&self, answer: R) -> Ordering
-        ensures { result ≡ judged self.now answer };
+    fn read(&self, answer: R) -> Ordering
+        ensures { result ≡ reading self.now answer };
 }
 
 // The answer is the ordering itself.
 #[derive(Clone, Copy)]
-pub struct Plain;
+pub struct AsOrdering;
 
-impl Judge<Ordering> for Plain {
-    ghost judged = { λ _ r. r };
+impl Reads<Ordering> for AsOrdering {
+    ghost reading = { λ _ r. r };
 
-    fn judge(&self, answer: Ordering) -> Ordering {
+    fn read(&self, answer: Ordering) -> Ordering {
         answer
     }
 }
@@ -29,10 +29,10 @@ impl Judge<Ordering> for Plain {
 #[derive(Drop)]
 pub struct ByQuery<'a, Q>(pub &'a Q);
 
-impl<'a, K: Ord + Drop, Q: Comparable<K>> Judge<K> for ByQuery<'a, Q> {
-    ghost judged = { λ j k. Q.compare j.0.now k };
+impl<'a, K: Ord + Drop, Q: Comparable<K>> Reads<K> for ByQuery<'a, Q> {
+    ghost reading = { λ by k. Q.compare by.0.now k };
 
-    fn judge(&self, answer: K) -> Ordering {
+    fn read(&self, answer: K) -> Ordering {
         self.0.compare(&answer)
     }
 }
@@ -41,10 +41,10 @@ impl<'a, K: Ord + Drop, Q: Comparable<K>> Judge<K> for ByQuery<'a, Q> {
 #[derive(Drop)]
 pub struct ByKey<'a, K>(pub &'a K);
 
-impl<'a, K: Ord + Drop> Judge<K> for ByKey<'a, K> {
-    ghost judged = { λ j k. K.cmp j.0.now k };
+impl<'a, K: Ord + Drop> Reads<K> for ByKey<'a, K> {
+    ghost reading = { λ by k. K.cmp by.0.now k };
 
-    fn judge(&self, answer: K) -> Ordering {
+    fn read(&self, answer: K) -> Ordering {
         self.0.cmp(&answer)
     }
 }
