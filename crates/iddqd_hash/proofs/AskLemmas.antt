@@ -6,8 +6,8 @@ use Rattle.std.proofs.lemmas.List.Elements.{filter-append, Contains-append_left,
 use Rattle.std.proofs.lemmas.List.Sorted.{IsPermutation-refl, IsPermutation-sym, Contains-permutation, list_any-IsPermutation}
 use Rattle.std.proofs.lemmas.Fn.{FoldsTo-push}
 use Rattle.std.proofs.lemmas.Option.{slice_get_read, get_or_from_slice_get}
-use Rattle.iddqd_hash.specs.Asks.{CanAsk, CanAskInTurn, AllRefused, Hits, Misses, LooksUp}
-use Rattle.iddqd_hash.specs.HashTable.{under, FindsPlace}
+use Rattle.iddqd_hash.specs.Asks.{CanAsk, CanAskInTurn, AllRefused, Hits, HitsPair, FindsPlace, Misses, LooksUp}
+use Rattle.iddqd_hash.specs.HashTable.{under}
 
 module _ {F T : Type 0} (takes : F → T → Type 0) (ask : F → T → Bool → F → Type 0) where
   pub CanAsk-takes : (f : F) (xs : List T) (x : T) → CanAsk takes ask f xs → Contains xs x → takes f x
@@ -97,8 +97,13 @@ module _ {T : Type 0} where
       AllRefused-read same refused called =
           rw (under_read_more same) (FoldsTo-push _ f _ before e.1 last refused called)
 
-      pub FindsPlace-read : e.0 ≡ h → AllRefused ask f (under h (take i es)) before → ask before e.1 true last → FindsPlace ask f h es (Some i)
-      FindsPlace-read same refused called = (e, slice_get_read es (length es) i e refl within read, same, Hits-read same refused called)
+      pub FindsPlace-read : e.0 ≡ h → AllRefused ask f (under h (take i es)) before → ask before e.1 true last → FindsPlace ask f h (under h es) (slice_get es) (Some i)
+      FindsPlace-read same refused called =
+          record {
+            value = e.1;
+            is_pair = slice_get_read es (length es) i e refl within read ∙ ap (λ hash. Some (hash, e.1)) same;
+            hit = Hits-read same refused called;
+          }
 
 -- the pair that is read at the place found
 pub pair_found : {X : Type 0} (es : List X) (i : ℕ) (p x : X) → slice_get es i ≡ Some p → x ≡ get_or es i x → p ≡ x

@@ -1,3 +1,4 @@
+pub mod CellLemmas
 pub mod AskLemmas
 pub mod PermutationLemmas
 pub mod RetainLemmas

@@ -1,5 +1,5 @@
 -- How a bag of hashes and indexes makes a map, and what a look-up in the one says of the other.
-use Rattle.std.proofs.Common.{◌≡◌, ◌==◌, ℕ, Bool, true, false, cond, List, [], ◌∷◌, map, filter, length, Option, IsSome, drop, slice_get, ◌≤◌, Some, None, refl, sym, ap, subst, ◌∙◌, arith, ◌+◌}
+use Rattle.std.proofs.Common.{not, eqb-true, eq-eqb, ◌≡◌, ◌==◌, ℕ, Bool, true, false, cond, List, [], ◌∷◌, map, filter, length, Option, IsSome, drop, slice_get, ◌≤◌, Some, None, refl, sym, ap, subst, ◌∙◌, arith, ◌+◌}
 use Rattle.std.specs.List.{IsDistinct, AllByRecursion}
 use Rattle.std.specs.List.Sorted.{IsPermutation}
 use Rattle.std.specs.Ordering.{nat_cmp, eq_by_cmp, is_eq}
@@ -121,15 +121,16 @@ flips x y = (eq_by_cmp_equiv nat_cmp_total).symm x y
 pub distinct_moved : (xs ys : List (ℕ × ℕ)) → IsPermutation xs ys → IsDistinctlyFiled xs → IsDistinctlyFiled ys
 distinct_moved xs ys moved = IsDistinct-IsPermutation _ flips _ _ (IsPermutation-map (λ (e : ℕ × ℕ). e.1) xs ys moved)
 
+-- two tests that do not both pass, in either order
+choose : (a b : Bool) (x y z : Option ℕ) → (a ≡ true → b ≡ true → ⊥) → cond a x (cond b y z) ≡ cond b y (cond a x z)
+choose true true x y z never = absurd (never refl refl)
+choose true false x y z never = refl
+choose false b x y z never = refl
+
 -- two inserts at different keys, in either order
 inserts_turn : (m : FinMap nat_cmp ℕ) (j k u v : ℕ) → eq_by_cmp nat_cmp j k ≡ false → finite.insert (finite.insert m k v) j u ≡ finite.insert (finite.insert m j u) k v
 inserts_turn m j k u v apart = finite.same_map nat_cmp_total finite.nat_cmp-IsAntisymmetric _ _ at
   where
-    choose : (a b : Bool) (x y z : Option ℕ) → (a ≡ true → b ≡ true → ⊥) → cond a x (cond b y z) ≡ cond b y (cond a x z)
-    choose true true x y z never = absurd (never refl refl)
-    choose true false x y z never = refl
-    choose false b x y z never = refl
-
     never : (q : ℕ) → eq_by_cmp nat_cmp q j ≡ true → eq_by_cmp nat_cmp q k ≡ true → ⊥
     never q a b =
         let same = finite.nat_cmp-IsAntisymmetric q j (tied q j a) in
@@ -188,20 +189,62 @@ distinct_removed es new hash ix moved apart =
     ] refl) in
     (IsDistinct-tail _ _ _ more, finite.same_map nat_cmp_total finite.nat_cmp-IsAntisymmetric _ _ at ∙ ap (λ m. finite.remove m ix) (sym (filed_moved _ _ moved apart)))
 
--- an index that stands at a place or behind it, and not at the place, stands behind it
-pub filed_past : (es : List (ℕ × ℕ)) (place : ℕ) (e : ℕ × ℕ) (ix : ℕ) → slice_get es place ≡ Some e → (e.1 ≡ ix → ⊥) → IsSome (finite.get (filed_from (drop place es)) ix) → IsSome (finite.get (filed_from (drop (place + 1) es)) ix)
-filed_past es place e ix found other here =
-    let within = slice_get_within es place e found in
-    let read = get_or_from_slice_get es place e e found in
-    let split : drop place es ≡ e ∷ drop (place + 1) es = drop_more es place e within ∙ ap (λ x. x ∷ drop (place + 1) es) read in
-    let opened : IsSome (finite.get (finite.insert (filed_from (drop (place + 1) es)) e.1 e.0) ix) = subst (λ xs. IsSome (finite.get (filed_from xs) ix)) split here in
-    let apart : eq_by_cmp nat_cmp ix e.1 ≡ false = untied ix e.1 (λ same. other (sym same)) in
-    let past : finite.get (finite.insert (filed_from (drop (place + 1) es)) e.1 e.0) ix ≡ finite.get (filed_from (drop (place + 1) es)) ix = rw (finite.get-insert nat_cmp_total, apart) refl in
-    subst IsSome past opened
+-- the pairs of the other indexes
+abbrev others : ℕ → List (ℕ × ℕ) → List (ℕ × ℕ)
+others ix es = filter (λ (e : ℕ × ℕ). not (e.1 == ix)) es
 
--- behind the last place stands none
-pub filed_past_all : (es : List (ℕ × ℕ)) (place ix : ℕ) → length es ≤ place → IsSome (finite.get (filed_from (drop place es)) ix) → ⊥
-filed_past_all es place ix past here =
-    let none : finite.get (filed_from []) ix ≡ None = finite.get-empty nat_cmp ix in
-    let empty : IsSome (finite.get (filed_from []) ix) = subst (λ xs. IsSome (finite.get (filed_from xs) ix)) (drop_all place es past) here in
-    let never : false ≡ true = subst (λ (o : Option ℕ). IsSome o) none empty in cc
+module _ (ix : ℕ) where
+  apart_others : (k : ℕ) (es : List (ℕ × ℕ)) → AllByRecursion (λ y. eq_by_cmp nat_cmp k y ≡ false) (values es) → AllByRecursion (λ y. eq_by_cmp nat_cmp k y ≡ false) (values (others ix es))
+  apart_others k [] apart = tt
+  apart_others k (e ∷ es) apart =
+      elim (not (e.1 == ix)) as (λ b. AllByRecursion (λ y. eq_by_cmp nat_cmp k y ≡ false) (values (cond b (e ∷ others ix es) (others ix es)))) [
+        | true ↦ (apart.0, apart_others k es apart.1)
+        | false ↦ apart_others k es apart.1
+      ]
+
+  distinct_others : (es : List (ℕ × ℕ)) → IsDistinctlyFiled es → IsDistinctlyFiled (others ix es)
+  distinct_others [] apart = apart
+  distinct_others (e ∷ es) apart =
+      let rest = distinct_others es (IsDistinct-tail _ _ _ apart) in
+      elim (not (e.1 == ix)) as (λ b. IsDistinctlyFiled (cond b (e ∷ others ix es) (others ix es))) [
+        | true ↦ IsDistinct-cons _ e.1 (values (others ix es)) (apart_others e.1 es (IsDistinct-head _ _ _ apart)) rest
+        | false ↦ rest
+      ]
+
+  either_way : (b : Bool) (x : Option ℕ) → x ≡ cond b x x
+  either_way true x = refl
+  either_way false x = refl
+
+  absorbed : (b : Bool) (x y : Option ℕ) → cond b None y ≡ cond b None (cond b x y)
+  absorbed true x y = refl
+  absorbed false x y = refl
+
+  find_others : (q : ℕ) (es : List (ℕ × ℕ)) → find nat_cmp q (map turned (others ix es)) ≡ cond (eq_by_cmp nat_cmp q ix) None (find nat_cmp q (map turned es))
+  find_others q [] = either_way (eq_by_cmp nat_cmp q ix) None
+  find_others q (e ∷ es) =
+      let rest = find_others q es in
+      elim (e.1 == ix) as (λ b. (e.1 == ix) ≡ b → find nat_cmp q (map turned (cond (not b) (e ∷ others ix es) (others ix es))) ≡ cond (eq_by_cmp nat_cmp q ix) None (cond (eq_by_cmp nat_cmp q e.1) (Some e.0) (find nat_cmp q (map turned es)))) [
+        | true ↦ λ same.
+            let is : eq_by_cmp nat_cmp q e.1 ≡ eq_by_cmp nat_cmp q ix = ap (eq_by_cmp nat_cmp q) (eqb-true e.1 ix same) in
+            rest ∙ absorbed (eq_by_cmp nat_cmp q ix) (Some e.0) (find nat_cmp q (map turned es)) ∙ ap (λ b. cond (eq_by_cmp nat_cmp q ix) None (cond b (Some e.0) (find nat_cmp q (map turned es)))) (sym is)
+        | false ↦ λ other.
+            let never : eq_by_cmp nat_cmp q e.1 ≡ true → eq_by_cmp nat_cmp q ix ≡ true → ⊥ = λ a b.
+            let is : e.1 ≡ ix = sym (finite.nat_cmp-IsAntisymmetric q e.1 (tied q e.1 a)) ∙ finite.nat_cmp-IsAntisymmetric q ix (tied q ix b) in
+            let no : false ≡ true = sym other ∙ eq-eqb e.1 ix is in cc in
+            ap (λ o. cond (eq_by_cmp nat_cmp q e.1) (Some e.0) o) rest ∙ choose _ _ _ _ _ never
+      ] refl
+
+  filed_others : (es : List (ℕ × ℕ)) → filed_from (others ix es) ≡ finite.remove (filed_from es) ix
+  filed_others es = finite.same_map nat_cmp_total finite.nat_cmp-IsAntisymmetric _ _ at
+    where
+      at : (q : ℕ) → finite.get (filed_from (others ix es)) q ≡ finite.get (finite.remove (filed_from es) ix) q
+      at q =
+          finite.get-from_entries nat_cmp_total (map turned (others ix es)) q
+          ∙ find_others q es
+          ∙ rw (finite.get-remove nat_cmp_total, finite.get-from_entries nat_cmp_total) refl
+
+  -- where all other indexes are kept, one is removed
+  pub distinct_kept : (es new : List (ℕ × ℕ)) → IsPermutation (others ix es) new → IsDistinctlyFiled es → IsDistinctlyFiled new × (filed_from new ≡ finite.remove (filed_from es) ix)
+  distinct_kept es new moved apart =
+      let kept = distinct_others es apart in
+      (distinct_moved _ _ moved kept, sym (filed_moved _ _ moved kept) ∙ filed_others es)

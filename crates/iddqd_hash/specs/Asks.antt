@@ -1,5 +1,5 @@
 -- Asks of a closure, each on one value and answered by true or false.
-use Rattle.std.specs.Prelude.{map, filter, ℕ, Bool, true, false, List, [], ◌∷◌, ◌++◌, Option, Some, None}
+use Rattle.std.specs.Prelude.{◌≡◌, map, filter, ℕ, Bool, true, false, List, [], ◌∷◌, ◌++◌, Option, Some, None}
 use Rattle.std.specs.List.{Contains, FoldsTo}
 use Rattle.std.specs.List.Sorted.{IsPermutation}
 
@@ -37,6 +37,17 @@ module _ {F T : Type 0} (ask : F → T → Bool → F → Type 0) where
     pub each_once : IsPermutation xs asked
     pub last : F
     pub were_refused : AllRefused f asked last
+
+  -- a look-up under a hash, among the values xs there, hit the value of this pair
+  pub record HitsPair (f : F) (hash : ℕ) (xs : List T) (pair : Option (ℕ × T)) : Type 0 where
+    pub value : T
+    pub is_pair : pair ≡ Some (hash, value)
+    pub hit : Hits f xs value
+
+  -- the same of a look-up that answers a place, where `pair_in` gives the pair at each place
+  abbrev pub FindsPlace : F → ℕ → List T → (ℕ → Option (ℕ × T)) → Option ℕ → Type 0
+  FindsPlace f hash xs pair_in None = Misses f xs
+  FindsPlace f hash xs pair_in (Some place) = HitsPair f hash xs (pair_in place)
 
   -- a look-up among the values xs by f
   abbrev pub LooksUp : F → List T → Option T → Type 0

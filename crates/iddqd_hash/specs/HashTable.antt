@@ -1,33 +1,51 @@
 -- What a contract sees of a table of values under hashes.
-use Rattle.std.specs.Prelude.{◌≡◌, ◌==◌, ℕ, Bool, List, Option, Some, None, map, filter, refl, slice_get}
-use Rattle.std.specs.Coded.{Coded, code_by, coded×, coded_ℕ, coded_list}
-use Rattle.std.specs.List.{AllZip}
+use Rattle.std.specs.Prelude.{◌≡◌, ◌==◌, ◌+◌, ◌≤◌, ℕ, List, Option, Some, None, Result, IsOk, OnOk, OnErr, map, filter, refl, slice_get, ◌∷◌}
+use Rattle.std.specs.Coded.{Coded, code_by, coded×, coded_ℕ, coded_list, coded_option}
+use Rattle.std.specs.List.{AllZip, filter_map}
 use Rattle.std.specs.List.Sorted.{IsPermutation}
-use Rattle.iddqd_hash.specs.Asks.{Hits, Misses}
+use Rattle.std.specs.Option.{option_flatten, option_map}
 
--- the pairs of a hash and a value, in an order that means nothing, and how many inserts need no memory
+-- Cells, in each of which a pair of a hash and a value may stand, how many inserts need no memory, and how many cells
+-- the memory holds. Callers read it by the functions below.
 pub record Table (T : Type 0) : Type 0 where
-  pub pairs : List (ℕ × T)
+  pub cells : List (Option (ℕ × T))
   pub spare : ℕ
+  pub capacity : ℕ
 
--- a table is stored as the pair of its fields
+-- a table is stored as the tuple of its fields
 abbrev pub table_code : {T : Type 0} → Coded T → Coded (Table T)
 table_code {T} code =
     code_by
-    (List (ℕ × T) × ℕ)
-    (coded× (coded_list (coded× coded_ℕ code)) coded_ℕ)
-    (λ t. (t.pairs, t.spare))
-    (λ p. record { pairs = p.0; spare = p.1 })
+    (List (Option (ℕ × T)) × (ℕ × ℕ))
+    (coded× (coded_list (coded_option (coded× coded_ℕ code))) (coded× coded_ℕ coded_ℕ))
+    (λ t. (t.cells, (t.spare, t.capacity)))
+    (λ p. record { cells = p.0; spare = p.1.0; capacity = p.1.1 })
     (λ _. refl)
 
 module _ {T : Type 0} where
-  -- the pairs as a bag: clauses compare it by `IsPermutation`
-  abbrev pub entries : Table T → List (ℕ × T)
-  entries t = t.pairs
+  -- these pairs, each in a cell, with room for so many more in memory for so many cells
+  unfoldable pub listed : List (ℕ × T) → ℕ → ℕ → Table T
+  listed es spare held = record { cells = map Some es; spare = spare; capacity = held }
+
+  -- the pairs that stand in the cells, as a bag: clauses compare it by `IsPermutation`
+  unfoldable pub entries : Table T → List (ℕ × T)
+  entries t = filter_map (λ pair. pair) t.cells
+
+  -- the pair in a cell, if one stands there
+  unfoldable pub pair_at : Table T → ℕ → Option (ℕ × T)
+  pair_at t cell = option_flatten (slice_get t.cells cell)
+
+  -- the value in a cell, if one stands there
+  abbrev pub value_of : Option (ℕ × T) → Option T
+  value_of pair = option_map (λ p. p.1) pair
 
   -- how many inserts need no memory
-  abbrev pub room : Table T → ℕ
+  unfoldable pub room : Table T → ℕ
   room t = t.spare
+
+  -- how many cells the memory holds
+  unfoldable pub capacity : Table T → ℕ
+  capacity t = t.capacity
 
   -- the values of the pairs
   abbrev pub values : List (ℕ × T) → List T
@@ -37,15 +55,39 @@ module _ {T : Type 0} where
   abbrev pub under : ℕ → List (ℕ × T) → List T
   under hash es = values (filter (λ e. e.0 == hash) es)
 
-  -- the place of the pair that a look-up under a hash hits
-  abbrev pub FindsPlace : {F : Type 0} → (F → T → Bool → F → Type 0) → F → ℕ → List (ℕ × T) → Option ℕ → Type 0
-  FindsPlace ask f hash es None = Misses ask f (under hash es)
-  FindsPlace ask f hash es (Some place) =
-      (pair : ℕ × T) × (slice_get es place ≡ Some pair) × (pair.0 ≡ hash) × Hits ask f (under hash es) pair.1
-
   -- `gives v w` says that w may take the place of v: each of the old pairs kept its hash, and took such a value, and
   -- the new pairs are these in some order
   pub record Rewrites (gives : T → T → Type 0) (old new : List (ℕ × T)) : Type 0 where
     pub rewritten : List (ℕ × T)
     pub each : AllZip (λ e w. (w.0 ≡ e.0) × gives e.1 w.1) old rewritten
     pub moved : IsPermutation rewritten new
+
+  -- a pair of some hash and this value was taken out of a table, and no other
+  pub record TakesOut (old : Table T) (pair : Option (ℕ × T)) (value : T) (new : Table T) : Type 0 where
+    pub hash : ℕ
+    pub is_pair : pair ≡ Some (hash, value)
+    pub others_stay : IsPermutation (entries old) ((hash, value) ∷ entries new)
+
+  -- a table that takes no memory
+  pub record HasNoMemory (t : Table T) : Type 0 where
+    pub no_room : room t ≡ 0
+    pub no_cell : capacity t ≡ 0
+
+  -- no memory was taken or given back, and no room lost
+  pub record KeepsMemory (old new : Table T) : Type 0 where
+    pub room_stays : room old ≤ room new
+    pub same_capacity : capacity new ≡ capacity old
+
+  -- no memory was taken or given back, and the room of one pair may be gone
+  pub record UsesRoom (old new : Table T) : Type 0 where
+    pub one_less : room old ≤ room new + 1
+    pub same_capacity : capacity new ≡ capacity old
+
+  -- Room was made for so many pairs more, or else nothing changed. Where there was room, it succeeds and nothing
+  -- changed.
+  pub record Reserves {A E : Type 0} (additional : ℕ) (old : Table T) (result : Result A E) (new : Table T) : Type 0 where
+    pub reserved : OnOk result (additional ≤ room new)
+    pub refused : OnErr result (new ≡ old)
+    pub had_room : additional ≤ room old → IsOk result × (new ≡ old)
+    pub room_stays : room old ≤ room new
+    pub capacity_stays : capacity old ≤ capacity new

@@ -1,7 +1,7 @@
 -- What a contract sees of an entry of a table.
-use Rattle.std.specs.Prelude.{ℕ, Option, slice_get, option_map}
+use Rattle.std.specs.Prelude.{ℕ, Option}
 use Rattle.std.specs.Borrow.{GName}
-use Rattle.iddqd_hash.specs.HashTable.{Table}
+use Rattle.iddqd_hash.specs.HashTable.{Table, pair_at, value_of}
 use Rattle.iddqd_hash.specs.declared.hash_table_reference.OccupiedEntry.{OccupiedEntry}
 
 module _ {T : Type 0} where
@@ -14,9 +14,9 @@ module _ {T : Type 0} where
   entry_lender e = e.table.ghost_name
 
   -- the hash and the value of the entry
-  abbrev pub entry_pair : OccupiedEntry T → Option (ℕ × T)
-  entry_pair e = slice_get e.table.now.pairs e.place
+  unfoldable pub entry_pair : OccupiedEntry T → Option (ℕ × T)
+  entry_pair e = pair_at e.table.now e.place
 
   -- the value of the entry
-  abbrev pub entry_value : OccupiedEntry T → Option T
-  entry_value e = option_map (λ p. p.1) (entry_pair e)
+  unfoldable pub entry_value : OccupiedEntry T → Option T
+  entry_value e = value_of (entry_pair e)

@@ -5,7 +5,7 @@ use Rattle.std.specs.List.{IsDistinct}
 use Rattle.std.specs.FinMap as finite
 use Rattle.std.specs.FinMap.{FinMap}
 use Rattle.std.specs.Fn.{Shared}
-use Rattle.iddqd_hash.specs.HashTable.{Table, values}
+use Rattle.iddqd_hash.specs.HashTable.{Table, entries, values}
 
 -- an index and its hash, from a hash and an index
 abbrev pub turned : ℕ × ℕ → ℕ × ℕ
@@ -16,8 +16,8 @@ abbrev pub filed_from : List (ℕ × ℕ) → FinMap nat_cmp ℕ
 filed_from es = finite.from_entries (map turned es)
 
 -- the hash under which each index is filed
-abbrev pub filed : Table ℕ → FinMap nat_cmp ℕ
-filed t = filed_from t.pairs
+unfoldable pub filed : Table ℕ → FinMap nat_cmp ℕ
+filed t = filed_from (entries t)
 
 -- no index stands twice
 abbrev pub IsDistinctlyFiled : List (ℕ × ℕ) → Type 0
@@ -43,3 +43,10 @@ FindsWhere test hash m None = (ix : ℕ) → finite.get m ix ≡ Some hash → t
 pub record Renames (name : ℕ → ℕ) (old new : FinMap nat_cmp ℕ) : Type 0 where
   pub each : (ix hash : ℕ) → finite.get old ix ≡ Some hash → finite.get new (name ix) ≡ Some hash
   pub no_other : (at hash : ℕ) → finite.get new at ≡ Some hash → (ix : ℕ) × (name ix ≡ at) × (finite.get old ix ≡ Some hash)
+
+-- the index of this pair was taken out of a table, and no other
+pub record Unfiles (old : Table ℕ) (pair : Option (ℕ × ℕ)) (new : Table ℕ) : Type 0 where
+  pub hash : ℕ
+  pub ix : ℕ
+  pub is_pair : pair ≡ Some (hash, ix)
+  pub others_stay : filed new ≡ finite.remove (filed old) ix

@@ -1,7 +1,7 @@
 -- What a contract sees of an entry of a table of indexes.
-use Rattle.std.specs.Prelude.{ℕ, Option, slice_get, option_map}
+use Rattle.std.specs.Prelude.{ℕ, Option}
 use Rattle.std.specs.Borrow.{GName}
-use Rattle.iddqd_hash.specs.HashTable.{Table}
+use Rattle.iddqd_hash.specs.HashTable.{Table, pair_at, value_of}
 use Rattle.iddqd_hash.specs.declared.hash_table.OccupiedEntry.{OccupiedEntry}
 
 -- the table as the entry holds it
@@ -13,9 +13,9 @@ abbrev pub entry_lender : OccupiedEntry → GName
 entry_lender e = e.table.ghost_name
 
 -- the hash and the index of the entry
-abbrev pub entry_pair : OccupiedEntry → Option (ℕ × ℕ)
-entry_pair e = slice_get e.table.now.pairs e.place
+unfoldable pub entry_pair : OccupiedEntry → Option (ℕ × ℕ)
+entry_pair e = pair_at e.table.now e.place
 
 -- the index of the entry
-abbrev pub entry_index : OccupiedEntry → Option ℕ
-entry_index e = option_map (λ p. p.1) (entry_pair e)
+unfoldable pub entry_index : OccupiedEntry → Option ℕ
+entry_index e = value_of (entry_pair e)

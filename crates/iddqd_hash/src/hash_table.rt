@@ -3,13 +3,13 @@
 //! The table holds no keys: a call that has to compare them is handed a lookup, which gives the key
 //! of an index. Each index keeps the hash that it was inserted with, so a key that changes unseen
 //! can hide its index from look-ups by key, and never loses it: `remove_by_index` finds it still.
-ghost use Rattle.std.specs.Prelude.{◌≡◌, ◌+◌, ◌≤◌, ◌<◌, ℕ, Contains, Some, None, IsTrue, IsOk, IsSome, IfOk, OnOk, OnErr, length, slice_get};
+ghost use Rattle.std.specs.Prelude.{◌≡◌, ◌≤◌, ℕ, Contains, Some, None, IsTrue, IsSome, IfOk, OnErr};
 ghost use Rattle.std.specs.FinMap as finite;
 ghost use Rattle.iddqd.specs.Compaction.{CanRemap, remapped};
 ghost use Rattle.iddqd.specs.MapHash.{hash_one};
-ghost use Rattle.iddqd_hash.specs.Asks.{CanAsk, LooksUp, Hits, Misses};
-ghost use Rattle.iddqd_hash.specs.HashTable.{entries, room};
-ghost use Rattle.iddqd_hash.specs.MapHashTable.{filed, indexes_under, AsksKey, Renames};
+ghost use Rattle.iddqd_hash.specs.Asks.{CanAsk, LooksUp, HitsPair, Misses};
+ghost use Rattle.iddqd_hash.specs.HashTable.{room, pair_at, HasNoMemory, KeepsMemory, UsesRoom, Reserves};
+ghost use Rattle.iddqd_hash.specs.MapHashTable.{filed, indexes_under, AsksKey, Renames, Unfiles};
 
 use crate::hash_table_reference::HashTable;
 use iddqd::index_remap::IndexRemap;
@@ -30,8 +30,8 @@ pub struct HashedIndex {
 
 /// Indexes under the hashes of their keys, each index once.
 ///
-/// A contract sees it as a finite map from an index to its hash, and as the number of inserts that
-/// need no memory.
+/// A contract sees it as a finite map from an index to its hash, as the number of inserts that need
+/// no memory, and as the number of cells that its memory holds.
 #[derive(Debug, Drop)]
 pub struct MapHashTable {
     table: HashTable<ItemIndex>,
@@ -57,7 +57,7 @@ impl Model for MapHashTable {
 pub struct OccupiedEntry<'a> {
     table: &'a mut MapHashTable,
     place: usize,
-    ghost within: { place < length (entries table.now) },
+    ghost stands: { IsSome (pair_at table.now place) },
 }
 
 impl MapHashTable {
@@ -67,7 +67,8 @@ impl MapHashTable {
 
     /// An empty table, which takes no memory.
     pub fn new(alloc: Global) -> Self
-        ensures { filed result ≡ finite.empty }
+        ensures empty { filed result ≡ finite.empty }
+        ensures memory { HasNoMemory result }
     {
         MapHashTable {
             table: HashTable::new(alloc),
@@ -90,13 +91,11 @@ impl MapHashTable {
 
     /// Makes room for `additional` more indexes.
     ///
-    /// An `AllocError` means that memory was refused, or that no vector can hold so many; the
-    /// indexes stay, and there is at least the room that there was.
+    /// An `AllocError` means that memory was refused, or that no vector can hold so many; the table
+    /// stays as it was. It stays so too, and takes no memory, where there is room for so many.
     pub fn try_reserve(&mut self, additional: usize) -> Result<(), AllocError>
         ensures contents { filed self.new ≡ filed self.old }
-        ensures reserved { OnOk result (additional ≤ room self.new) }
-        ensures room { room self.old ≤ room self.new }
-        ensures had_room { additional ≤ room self.old → IsOk result }
+        ensures memory { Reserves additional self.old result self.new }
     {
         self.table.try_reserve(additional)
     }
@@ -164,8 +163,7 @@ impl MapHashTable {
         requires { CanAsk F.pre F.step f (indexes_under hash (filed self.old)) }
 
         // A hit is an index under the hash, and the asks that led to it.
-        ensures found { IfOk result (λ e. (ix : ℕ) × (entry_pair e ≡ Some (hash, ix))
-            × Hits F.step f (indexes_under hash (filed self.old)) ix) }
+        ensures found { IfOk result (λ e. HitsPair F.step f hash (indexes_under hash (filed self.old)) (entry_pair e)) }
         ensures missed { OnErr result (Misses F.step f (indexes_under hash (filed self.old))) }
 
         // The table is as it was, and an entry borrows it.
@@ -191,7 +189,7 @@ impl MapHashTable {
         requires room { 1 ≤ room self.old }
         requires new { finite.get (filed self.old) ix ≡ None }
         ensures added { filed self.new ≡ finite.insert (filed self.old) ix hash }
-        ensures room { room self.old ≤ room self.new + 1 }
+        ensures memory { UsesRoom self.old self.new }
     {
         self.table.insert_unique(hash.hash(), ix);
     }
@@ -200,16 +198,15 @@ impl MapHashTable {
     pub fn remove_by_index(&mut self, ix: ItemIndex)
         requires { IsSome (finite.get (filed self.old) ix) }
         ensures removed { filed self.new ≡ finite.remove (filed self.old) ix }
-        ensures room { room self.old ≤ room self.new }
+        ensures memory { KeepsMemory self.old self.new }
     {
-        let place = self.place_of_index(ix);
-        self.remove_at(place);
+        self.table.retain(|at| *at != ix);
     }
 
     /// Removes every index, and keeps the memory.
     pub fn clear(&mut self)
         ensures empty { filed self.new ≡ finite.empty }
-        ensures room { room self.old ≤ room self.new }
+        ensures memory { KeepsMemory self.old self.new }
     {
         self.table.clear();
     }
@@ -222,7 +219,7 @@ impl MapHashTable {
         requires distinct { (i j : ℕ) → IsSome (finite.get (filed self.old) i) → IsSome (finite.get (filed self.old) j)
             → remapped remap.now i ≡ remapped remap.now j → i ≡ j }
         ensures renamed { Renames (remapped remap.now) (filed self.old) (filed self.new) }
-        ensures room { room self.old ≤ room self.new }
+        ensures memory { KeepsMemory self.old self.new }
     {
         if remap.is_identity() {
             return;
@@ -230,32 +227,20 @@ impl MapHashTable {
         self.table.rewrite(|ix| remap.remap(*ix));
     }
 
-    fn place_of_index(&self, ix: ItemIndex) -> usize
-        requires { IsSome (finite.get (filed self.now) ix) }
-        ensures within { result < length (entries self.now) }
-        ensures found { (hash : ℕ) × (slice_get (entries self.now) result ≡ Some (hash, ix)) }
-    {
-        for place in 0..self.table.len() {
-            if self.table.pair_at(place).1 == ix {
-                return place;
-            }
-        }
-        unreachable!()
-    }
-
+    // The pair in a cell.
     fn hashed_at(&self, place: usize) -> HashedIndex
-        requires { place < length (entries self.now) }
-        ensures { slice_get (entries self.now) place ≡ Some (result.hash, result.ix) }
+        requires { IsSome (pair_at self.now place) }
+        ensures { pair_at self.now place ≡ Some (result.hash, result.ix) }
     {
-        let &(hash, ix) = self.table.pair_at(place);
-        HashedIndex { ix, hash }
+        let (hash, ix) = self.table.pair_at(place);
+        HashedIndex { ix: *ix, hash }
     }
 
+    // Takes the index in a cell out of the table.
     fn remove_at(&mut self, place: usize)
-        requires { place < length (entries self.old) }
-        ensures removed { (hash ix : ℕ) × (slice_get (entries self.old) place ≡ Some (hash, ix))
-            × (filed self.new ≡ finite.remove (filed self.old) ix) }
-        ensures room { room self.old ≤ room self.new }
+        requires { IsSome (pair_at self.old place) }
+        ensures removed { Unfiles self.old (pair_at self.old place) self.new }
+        ensures memory { KeepsMemory self.old self.new }
     {
         self.table.take_at(place);
     }
@@ -271,11 +256,10 @@ impl<'a> OccupiedEntry<'a> {
         self.table.hashed_at(self.place).ix
     }
 
-    /// Takes the index out of the table.
+    /// Takes the index out of the table. No memory is taken or given back.
     pub fn remove(self)
-        ensures removed { (hash ix : ℕ) × (entry_pair self.entry ≡ Some (hash, ix))
-            × (filed self.exit.0.now ≡ finite.remove (filed (entry_table self.entry)) ix) }
-        ensures room { room (entry_table self.entry) ≤ room self.exit.0.now }
+        ensures removed { Unfiles (entry_table self.entry) (entry_pair self.entry) self.exit.0.now }
+        ensures memory { KeepsMemory (entry_table self.entry) self.exit.0.now }
     {
         let place = self.place;
         self.table.remove_at(place);

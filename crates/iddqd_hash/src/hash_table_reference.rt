@@ -4,20 +4,20 @@
 //! closure of the values under that hash alone, so it costs a walk over the hashes and one ask for
 //! each value under the hash, up to the first that is answered `true`. Which of several matches
 //! comes is open, and so is the order of the values.
-ghost use Rattle.std.specs.Prelude.{◌≡◌, ◌∷◌, ◌+◌, ◌≤◌, ◌<◌, [], ℕ, Some, length, slice_get, option_copied, IfOk, OnOk, OnErr, IsOk, vec_len, vec_capacity};
+ghost use Rattle.std.specs.Prelude.{◌≡◌, ◌∷◌, ◌≤◌, [], Some, IsSome, length, slice_get, option_copied, IfOk, OnErr, vec_len, vec_capacity};
 ghost use Rattle.std.specs.List.Sorted.{IsPermutation};
 ghost use Rattle.std.specs.List.{Contains};
 ghost use Rattle.std.specs.Fn.{TakesAt, CalledAt, FnReturnsAt};
-ghost use Rattle.iddqd_hash.specs.Asks.{CanAsk, LooksUp, Hits, Misses, Keeps};
-ghost use Rattle.iddqd_hash.specs.HashTable.{entries, room, under, values, FindsPlace, Rewrites};
+ghost use Rattle.iddqd_hash.specs.Asks.{CanAsk, LooksUp, HitsPair, FindsPlace, Misses, Keeps};
+ghost use Rattle.iddqd_hash.specs.HashTable.{entries, room, pair_at, under, values, Rewrites, TakesOut, HasNoMemory, KeepsMemory, UsesRoom, Reserves};
 
 use std::alloc::{AllocError, Global};
 use std::marker::Model;
 
 /// Values under hashes, in no order that a caller can rely on.
 ///
-/// A contract sees it as a bag of pairs of a hash and a value, and as the number of inserts that
-/// need no memory.
+/// A contract sees it as a bag of pairs of a hash and a value, as the number of inserts that need
+/// no memory, and as the number of cells that its memory holds.
 #[derive(Debug, Drop)]
 pub struct HashTable<T> {
     pairs: Vec<(u64, T)>,
@@ -25,16 +25,13 @@ pub struct HashTable<T> {
 
 impl<T> Model for HashTable<T> {
     ghost use Rattle.std.specs.Prelude.{◌-◌, vec_len, vec_capacity};
-    ghost use Rattle.iddqd_hash.specs.HashTable.{Table, table_code};
+    ghost use Rattle.iddqd_hash.specs.HashTable.{Table, table_code, listed};
 
     ghost Value = { Table T };
 
     ghost coded = { table_code T.code };
 
-    ghost view = { λ s. record {
-      pairs = s.pairs.items;
-      spare = vec_capacity s.pairs - vec_len s.pairs;
-    } };
+    ghost view = { λ s. listed s.pairs.items (vec_capacity s.pairs - vec_len s.pairs) (vec_capacity s.pairs) };
 }
 
 /// A pair that stands in a table.
@@ -42,7 +39,7 @@ impl<T> Model for HashTable<T> {
 pub struct OccupiedEntry<'a, T> {
     table: &'a mut HashTable<T>,
     place: usize,
-    ghost within: { place < length (entries table.now) },
+    ghost stands: { IsSome (pair_at table.now place) },
 }
 
 impl<T> HashTable<T> {
@@ -52,7 +49,8 @@ impl<T> HashTable<T> {
 
     /// An empty table, which takes no memory.
     pub fn new(alloc: Global) -> Self
-        ensures { entries result ≡ [] }
+        ensures empty { entries result ≡ [] }
+        ensures memory { HasNoMemory result }
     {
         HashTable {
             pairs: Vec::new(alloc),
@@ -75,14 +73,15 @@ impl<T> HashTable<T> {
 
     /// Makes room for `additional` more pairs.
     ///
-    /// An `AllocError` means that memory was refused, or that no vector can hold so many; the pairs
-    /// stay, and there is at least the room that there was.
+    /// An `AllocError` means that memory was refused, or that no vector can hold so many; the table
+    /// stays as it was. It stays so too, and takes no memory, where there is room for so many.
     pub fn try_reserve(&mut self, additional: usize) -> Result<(), AllocError>
         ensures contents { IsPermutation (entries self.old) (entries self.new) }
-        ensures reserved { OnOk result (additional ≤ room self.new) }
-        ensures room { room self.old ≤ room self.new }
-        ensures had_room { additional ≤ room self.old → IsOk result }
+        ensures memory { Reserves additional self.old result self.new }
     {
+        if additional <= self.room() {
+            return Ok(());
+        }
         self.pairs.try_reserve(additional)
     }
 
@@ -95,7 +94,7 @@ impl<T> HashTable<T> {
         ensures { LooksUp (CalledAt F.FnMut) eq (under hash (entries self.now)) (option_copied result) }
     {
         let place = self.place_of(hash, eq)?;
-        Some(&self.pairs[place].1)
+        Some(self.pair_at(place).1)
     }
 
     /// The entry of a value under `hash` at which `eq` answers `true`, else `Err(())`.
@@ -109,8 +108,7 @@ impl<T> HashTable<T> {
         requires { CanAsk (TakesAt F.FnMut) (CalledAt F.FnMut) eq (under hash (entries self.old)) }
 
         // A hit is a pair under the hash, and the asks that led to it.
-        ensures found { IfOk result (λ e. (v : T) × (entry_pair e ≡ Some (hash, v))
-            × Hits (CalledAt F.FnMut) eq (under hash (entries self.old)) v) }
+        ensures found { IfOk result (λ e. HitsPair (CalledAt F.FnMut) eq hash (under hash (entries self.old)) (entry_pair e)) }
         ensures missed { OnErr result (Misses (CalledAt F.FnMut) eq (under hash (entries self.old))) }
 
         // The table is as it was, and an entry borrows it.
@@ -129,7 +127,7 @@ impl<T> HashTable<T> {
         requires { 1 ≤ room self.old }
         ensures pair { entry_pair result ≡ Some (hash, value) }
         ensures added { IsPermutation ((hash, value) ∷ entries self.old) (entries (entry_table result)) }
-        ensures room { room self.old ≤ room (entry_table result) + 1 }
+        ensures memory { UsesRoom self.old (entry_table result) }
         ensures same_reference { entry_lender result ≡ self.entry.ghost_name }
     {
         let place = self.pairs.len();
@@ -145,7 +143,7 @@ impl<T> HashTable<T> {
         T: Drop,
         requires { CanAsk (TakesAt F.FnMut) (CalledAt F.FnMut) f (values (entries self.old)) }
         ensures kept { Keeps (CalledAt F.FnMut) f (entries self.old) (entries self.new) }
-        ensures room { room self.old ≤ room self.new }
+        ensures memory { KeepsMemory self.old self.new }
     {
         retain_pairs(&mut self.pairs, f);
     }
@@ -159,7 +157,7 @@ impl<T> HashTable<T> {
         T: Drop,
         requires { (v : _) → Contains (values (entries self.old)) v.now → F.pre f v }
         ensures rewritten { Rewrites (FnReturnsAt F.Fn f) (entries self.old) (entries self.new) }
-        ensures room { room self.old ≤ room self.new }
+        ensures memory { KeepsMemory self.old self.new }
     {
         rewrite_pairs(self.pairs.as_mut_slice(), f);
     }
@@ -169,31 +167,33 @@ impl<T> HashTable<T> {
     where
         T: Drop,
         ensures empty { entries self.new ≡ [] }
-        ensures room { room self.old ≤ room self.new }
+        ensures memory { KeepsMemory self.old self.new }
     {
         self.pairs.clear();
     }
 
-    // The place of the pair that a look-up hits.
+    // The cell of the pair that a look-up hits.
     pub(crate) fn place_of<F: FnMut(&T) -> bool>(&self, hash: u64, eq: F) -> Option<usize>
         requires { CanAsk (TakesAt F.FnMut) (CalledAt F.FnMut) eq (under hash (entries self.now)) }
-        ensures { FindsPlace (CalledAt F.FnMut) eq hash (entries self.now) result }
+        ensures { FindsPlace (CalledAt F.FnMut) eq hash (under hash (entries self.now)) (pair_at self.now) result }
     {
         find_place(self.pairs.as_slice(), hash, eq)
     }
 
-    pub(crate) fn pair_at(&self, place: usize) -> &(u64, T)
-        requires { place < length (entries self.now) }
-        ensures { slice_get (entries self.now) place ≡ Some result.now }
+    // The pair in a cell.
+    pub(crate) fn pair_at(&self, place: usize) -> (u64, &T)
+        requires { IsSome (pair_at self.now place) }
+        ensures { pair_at self.now place ≡ Some (result.0, result.1.now) }
     {
-        &self.pairs[place]
+        let (hash, value) = &self.pairs[place];
+        (*hash, value)
     }
 
+    // Takes the pair in a cell out of the table.
     pub(crate) fn take_at(&mut self, place: usize) -> T
-        requires { place < length (entries self.old) }
-        ensures removed { (hash : ℕ) × (slice_get (entries self.old) place ≡ Some (hash, result))
-            × IsPermutation (entries self.old) ((hash, result) ∷ entries self.new) }
-        ensures room { room self.old ≤ room self.new }
+        requires { IsSome (pair_at self.old place) }
+        ensures removed { TakesOut self.old (pair_at self.old place) result self.new }
+        ensures memory { KeepsMemory self.old self.new }
     {
         self.pairs.swap_remove(place).1
     }
@@ -206,14 +206,13 @@ impl<'a, T> OccupiedEntry<'a, T> {
     pub fn get(&self) -> &T
         ensures { entry_value self.now ≡ Some result.now }
     {
-        &self.table.pair_at(self.place).1
+        self.table.pair_at(self.place).1
     }
 
-    /// Takes the pair out of the table, and hands back its value.
+    /// Takes the pair out of the table, and hands back its value. No memory is taken or given back.
     pub fn remove(self) -> T
-        ensures removed { (hash : ℕ) × (entry_pair self.entry ≡ Some (hash, result))
-            × IsPermutation (entries (entry_table self.entry)) ((hash, result) ∷ entries self.exit.0.now) }
-        ensures room { room (entry_table self.entry) ≤ room self.exit.0.now }
+        ensures removed { TakesOut (entry_table self.entry) (entry_pair self.entry) result self.exit.0.now }
+        ensures memory { KeepsMemory (entry_table self.entry) self.exit.0.now }
     {
         let place = self.place;
         self.table.take_at(place)
@@ -223,7 +222,7 @@ impl<'a, T> OccupiedEntry<'a, T> {
 // The place of the pair that a look-up hits.
 fn find_place<T, F: FnMut(&T) -> bool>(pairs: &[(u64, T)], hash: u64, mut eq: F) -> Option<usize>
     requires { CanAsk (TakesAt F.FnMut) (CalledAt F.FnMut) eq (under hash pairs.now) }
-    ensures { FindsPlace (CalledAt F.FnMut) eq hash pairs.now result }
+    ensures { FindsPlace (CalledAt F.FnMut) eq hash (under hash pairs.now) (slice_get pairs.now) result }
 {
     for place in 0..pairs.len() {
         let (stored, value) = &pairs[place];

@@ -1,20 +1,22 @@
 use Rattle.std.proofs.Common.{◌≡◌, refl, rules, Contains}
 use Rattle.std.proofs.lemmas.List.Sorted.{Contains-permutation}
-use Rattle.iddqd_hash.specs.HashTable.{under}
-use Rattle.iddqd_hash.specs.MapHashTable.{AsksKey, indexes_under, filed_from}
+use Rattle.iddqd_hash.specs.HashTable.{entries, under}
+use Rattle.iddqd_hash.specs.MapHashTable.{AsksKey, indexes_under, filed, filed_from}
 use Rattle.iddqd_hash.proofs.AskLemmas.{CanAsk-by}
 use Rattle.iddqd_hash.proofs.MapHashTableLemmas.{under_filed, LooksUp-follows}
 use Rattle.iddqd_hash.proofs.hash_table.MapHashTable.find_index_prehashed.Goals as goal
 
 pub find-requires : goal.find-requires
+unfolding filed
 find-requires g c =
     CanAsk-by _ _ (λ s. s.1.now ≡ c.args.lookup) _ (λ s x here i y is.
-    let under_hash : Contains (under c.hash.result c.self.inside.table.pairs) x = here in
-    let filed : Contains (indexes_under c.hash.result (filed_from c.self.inside.table.pairs)) x = Contains-permutation _ _ x (under_filed _ _ c.self.invariant) under_hash in
+    let under_hash : Contains (under c.hash.result (entries c.self.inside.table)) x = here in
+    let filed : Contains (indexes_under c.hash.result (filed_from (entries c.self.inside.table))) x = Contains-permutation _ _ x (under_filed _ _ c.self.invariant) under_hash in
     let may = c.requires x (rw (← c.hash.ensures, ← c.self.view_is) filed) in
     rw (i, is) may) (λ s x r t here i called. search rules) _ refl
 
 pub returns : goal.returns
+unfolding filed
 returns g c =
     let asks = AsksKey g.F.Fn g.Q.Equivalent.equivalent c.args.lookup c.args.query.now in
     rw (← c.self.view_is, ← c.hash.ensures, c.copied.ensures) (

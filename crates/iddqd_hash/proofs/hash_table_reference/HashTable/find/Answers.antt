@@ -1,10 +1,14 @@
-use Rattle.std.proofs.Common.{◌≡◌, Some, slice_get}
-use Rattle.iddqd_hash.proofs.AskLemmas.{pair_found}
+use Rattle.std.proofs.Common.{◌≡◌, ◌∙◌, Some, sym, ap, refl}
+use Rattle.std.specs.Option.{unwrap_or}
+use Rattle.iddqd_hash.specs.HashTable.{value_of}
 use Rattle.iddqd_hash.proofs.hash_table_reference.HashTable.find.Goals as goal
+
+pub pair_at-requires : goal.pair_at-requires
+pair_at-requires g c = rw c.in_ok-place.ensures.is_pair refl
 
 pub returns : goal.returns
 returns g c =
     let hit = c.in_ok-place.ensures in
-    let found : slice_get c.self.inside.pairs.items c.in_ok-place.place ≡ Some hit.0 = rw (← c.self.view_is) at hit.1 in
-    let same = pair_found c.self.inside.pairs.items c.in_ok-place.place hit.0 c.index.result.now found c.index.ensures in
-    rw (← same) hit.3
+    let both : Some (c.args.hash, hit.value) ≡ Some (c.pair_at.result.0, c.pair_at.result.1.now) = sym hit.is_pair ∙ c.pair_at.ensures in
+    let same : hit.value ≡ c.pair_at.result.1.now = ap (λ o. unwrap_or (value_of o) hit.value) both in
+    rw (← same) hit.hit

@@ -1,0 +1,24 @@
+use Rattle.std.proofs.Common.{rules, ◌≡◌, ◌==◌, ℕ, not, filter, refl}
+use Rattle.std.specs.List.Sorted.{IsPermutation}
+use Rattle.iddqd_hash.specs.HashTable.{entries}
+use Rattle.iddqd_hash.specs.MapHashTable.{filed}
+use Rattle.iddqd_hash.proofs.AskLemmas.{CanAsk-everywhere}
+use Rattle.iddqd_hash.proofs.MapHashTableLemmas.{distinct_kept}
+use Rattle.iddqd_hash.proofs.RetainLemmas.{Keeps-tested}
+use Rattle.iddqd_hash.proofs.hash_table.MapHashTable.remove_by_index.Goals as goal
+
+pub retain-requires : goal.retain-requires
+retain-requires c = CanAsk-everywhere _ _ _ _ (λ s x. search rules)
+
+pub invariant_of-self : goal.invariant_of-self
+invariant_of-self c =
+    let test = λ (x : ℕ). not (x == c.args.ix) in
+    let kept = Keeps-tested _ (λ s. s.0.now ≡ c.args.ix) test (λ s x b t i called. search rules) _ _ _ refl c.retain.ensures.kept in
+    (distinct_kept c.args.ix _ _ kept c.self.invariant).0
+
+pub returns-clause-removed : goal.returns-clause-removed
+unfolding filed
+returns-clause-removed c =
+    let test = λ (x : ℕ). not (x == c.args.ix) in
+    let kept = Keeps-tested _ (λ s. s.0.now ≡ c.args.ix) test (λ s x b t i called. search rules) _ _ _ refl c.retain.ensures.kept in
+    rw (← c.self.view_is) (distinct_kept c.args.ix _ _ kept c.self.invariant).1

@@ -1,0 +1,10 @@
+use Rattle.iddqd_hash.proofs.CellLemmas.{entries-listed, pair_at-listed}
+use Rattle.iddqd_hash.proofs.hash_table_reference.HashTable.place_of.Goals as goal
+
+pub find_place-requires : goal.find_place-requires
+find_place-requires g c =
+    rw (c.as_slice.ensures.value) (rw (← c.self.view_is, entries-listed) at c.requires)
+
+pub returns : goal.returns
+returns g c =
+    rw (← c.self.view_is, entries-listed, pair_at-listed, ← c.as_slice.ensures.value) c.find_place.ensures
