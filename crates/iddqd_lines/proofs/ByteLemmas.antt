@@ -1,11 +1,11 @@
 -- What one write after another does to the bytes of a sink.
-use Rattle.std.proofs.Common.{◌≡◌, ◌+◌, ◌<◌, ℕ, zero, suc, List, [], ◌∷◌, ◌++◌, length, take, drop, get_or, Option, Some, None, refl, sym, ap, ◌∙◌, append_assoc, append-nil}
-use Rattle.std.proofs.Math.Seq.{take-append-add}
+use Rattle.std.proofs.Common.{◌≡◌, ◌+◌, ◌<◌, ◌≤◌, ℕ, List, [], ◌∷◌, ◌++◌, true, cond, take, drop, get_or, length, take_all, Option, Some, None, Result, Ok, Err, OnOk, IsErr, is_ok, refl, sym, ap, subst, ◌∙◌, append_assoc, append-nil}
 use Rattle.std.specs.List.{flat_map}
 use Rattle.std.proofs.lemmas.List.{take_more, flat_map_more, take-append-drop}
 use Rattle.std.proofs.lemmas.Grind.{flat_map-append}
-use Rattle.std.specs.Io.KnownBytes.{Appends, Consumes, IsAtEnd}
-use Rattle.iddqd_lines.specs.Replies.{sent_bytes, AppendsSome}
+use Rattle.std.specs.Io.KnownBytes.{Appends, Keeps, Consumes, IsAtEnd}
+use Rattle.iddqd_lines.specs.Replies.{sent_bytes, Sends}
+use Rattle.iddqd_lines.specs.declared.sink.Sink as sink
 
 pub Appends-trans : (a b c : Option (List ℕ)) (x y : List ℕ) → Appends a b x → Appends b c y → Appends a c (x ++ y)
 Appends-trans None b c x y p q = tt
@@ -17,66 +17,104 @@ pub Appends-nil : (a : Option (List ℕ)) → Appends a a []
 Appends-nil None = tt
 Appends-nil (Some a) = sym (append-nil a)
 
--- what is put behind the bytes that wait is sent
-Appends-waiting : (written : Option (List ℕ)) (waiting more : List ℕ) → Appends (sent_bytes written waiting) (sent_bytes written (waiting ++ more)) more
-Appends-waiting None waiting more = tt
-Appends-waiting (Some bytes) waiting more = sym (append_assoc bytes waiting more)
+-- the bytes written and those that wait, where a beginning of all was written and the others wait
+sent_on : (a b : Option (List ℕ)) (waited text out others waits : List ℕ) → waited ++ text ≡ out ++ others → Appends a b out → waits ≡ others → Appends (sent_bytes a waited) (sent_bytes b waits) text
+sent_on None b waited text out others waits parts written rest = tt
+sent_on (Some a) None waited text out others waits parts written rest = absurd written
+sent_on (Some a) (Some b) waited text out others waits parts written rest =
+    ap (λ l. l ++ waits) written ∙ append_assoc a out waits ∙ ap (λ l. a ++ l) (ap (λ l. out ++ l) rest ∙ sym parts) ∙ sym (append_assoc a waited text)
 
--- what is put is sent
-pub Appends-put : (written : Option (List ℕ)) (waiting new more : List ℕ) → new ≡ waiting ++ more → Appends (sent_bytes written waiting) (sent_bytes written new) more
-Appends-put written waiting new more is = rw is (Appends-waiting written waiting more)
+pub sent_bytes-nil : (written : Option (List ℕ)) → sent_bytes written [] ≡ written
+sent_bytes-nil None = refl
+sent_bytes-nil (Some bytes) = ap Some (append-nil bytes)
 
--- after room was made, what is put behind is sent
-pub Appends-reply : (before : Option (List ℕ)) (written : Option (List ℕ)) (waiting new more : List ℕ) → Appends before (sent_bytes written waiting) [] → new ≡ waiting ++ more → Appends before (sent_bytes written new) more
-Appends-reply before written waiting new more made is =
-    rw is (Appends-trans before (sent_bytes written waiting) (sent_bytes written (waiting ++ more)) [] more made (Appends-waiting written waiting more))
+module _ {O E : Type 0} (g : sink.Ghosts O) where
+  -- what is put waits
+  pub Sends-put : (o : O) (waited text waits : List ℕ) → waits ≡ waited ++ text → Sends {E = E} g o waited text (Ok tt) o waits
+  Sends-put o waited text waits is =
+      record { out = []; others = waited ++ text; parts = refl; written = Appends-nil (g.written o); rest = is; failed = refl }
 
--- behind what was sent, more is put
-pub Appends-more : (before written : Option (List ℕ)) (waiting new text more : List ℕ) → Appends before (sent_bytes written waiting) text → new ≡ waiting ++ more → Appends before (sent_bytes written new) (text ++ more)
-Appends-more before written waiting new text more sent is =
-    rw is (Appends-trans before (sent_bytes written waiting) (sent_bytes written (waiting ++ more)) text more sent (Appends-waiting written waiting more))
+  -- a text, and then another
+  pub Sends-then : (a b c : O) (waited text mid more waits : List ℕ) (r : Result (Unit {0}) E) → Sends {E = E} g a waited text (Ok tt) b mid → Sends g b mid more r c waits → Sends g a waited (text ++ more) r c waits
+  Sends-then a b c waited text mid more waits r p q =
+      record {
+        out = p.out ++ q.out;
+        others = q.others;
+        parts =
+            sym (append_assoc waited text more) ∙ ap (λ l. l ++ more) p.parts ∙ append_assoc p.out p.others more
+            ∙ ap (λ l. p.out ++ l) (ap (λ l. l ++ more) (sym p.rest) ∙ q.parts) ∙ sym (append_assoc p.out q.out q.others);
+        written = Appends-trans (g.written a) (g.written b) (g.written c) p.out q.out p.written q.written;
+        rest = q.rest;
+        failed = subst (λ f. g.has_failed c ≡ cond (is_ok r) f true) p.failed q.failed;
+      }
 
--- The text of one element more is sent, after room was made for it.
-pub Appends-element : {X : Type 0} (text : X → List ℕ) (xs : List X) (i : ℕ) (x : X) → i < length xs → x ≡ get_or xs i x → (before mid written : Option (List ℕ)) (waiting new : List ℕ) → Appends before mid (flat_map text (take i xs)) → Appends mid (sent_bytes written waiting) [] → new ≡ waiting ++ text x → Appends before (sent_bytes written new) (flat_map text (take (i + 1) xs))
-Appends-element text xs i x within here before mid written waiting new sent made is =
-    rw (take_more xs i x within, ← here, ← flat_map_more text [] (take i xs) x)
-    (Appends-trans before mid (sent_bytes written new) _ (text x) sent (Appends-reply mid written waiting new (text x) made is))
+  -- and then none
+  pub Sends-last : (a b c : O) (waited text mid waits : List ℕ) (r : Result (Unit {0}) E) → Sends {E = E} g a waited text (Ok tt) b mid → Sends g b mid [] r c waits → Sends g a waited text r c waits
+  Sends-last a b c waited text mid waits r p q =
+      subst (λ l. Sends g a waited l r c waits) (append-nil text) (Sends-then a b c waited text mid [] waits r p q)
 
-take-front : (count : ℕ) (xs ys : List ℕ) → take count xs ≡ take (length (take count xs)) (xs ++ ys)
-take-front zero xs ys = refl
-take-front (suc count) [] ys = refl
-take-front (suc count) (x ∷ xs) ys = ap (λ l. x ∷ l) (take-front count xs ys)
+  -- after room was made, more is put
+  pub Sends-more : (a b c : O) (waited text mid made more waits : List ℕ) → Sends {E = E} g a waited text (Ok tt) b mid → Sends {E = E} g b mid [] (Ok tt) c made → waits ≡ made ++ more → Sends {E = E} g a waited (text ++ more) (Ok tt) c waits
+  Sends-more a b c waited text mid made more waits p q is =
+      Sends-then a b c waited text mid more waits (Ok tt) p (Sends-then b c c mid [] made more waits (Ok tt) q (Sends-put c made more waits is))
 
-same_rest : (a x y : List ℕ) → a ++ x ≡ a ++ y → x ≡ y
-same_rest [] x y same = same
-same_rest (b ∷ bs) x y same = same_rest bs x y (ap (drop 1) same)
+  -- where a text failed, one that goes on has
+  pub Sends-fails : (a b : O) (waited text more waits : List ℕ) (e : E) (r : Result (Unit {0}) E) → IsErr r → Sends g a waited text (Err e) b waits → Sends g a waited (text ++ more) r b waits
+  Sends-fails a b waited text more waits e (Ok u) err p = absurd (cc)
+  Sends-fails a b waited text more waits e (Err d) err p =
+      record {
+        out = p.out;
+        others = p.others ++ more;
+        parts = sym (append_assoc waited text more) ∙ ap (λ l. l ++ more) p.parts ∙ append_assoc p.out p.others more;
+        written = p.written;
+        rest = tt;
+        failed = p.failed;
+      }
 
--- the first elements and a beginning of the rest are a beginning of all
-take-both : (first rest all : List ℕ) (count : ℕ) → first ++ rest ≡ all → first ++ take count rest ≡ take (length first + count) all
-take-both first rest all count parts = sym (take-append-add first rest count) ∙ ap (take (length first + count)) parts
+  -- bytes that a sink took
+  pub Sends-write : (a b : O) (bytes : List ℕ) (r : Result (Unit {0}) E) → Appends (g.written a) (g.written b) bytes → g.has_failed b ≡ cond (is_ok r) (g.has_failed a) true → Sends g a [] bytes r b []
+  Sends-write a b bytes r written failed =
+      record { out = bytes; others = []; parts = sym (append-nil bytes); written = written; rest = on_ok r; failed = failed }
+    where
+      on_ok : (r : Result (Unit {0}) E) → OnOk r (let none : List ℕ = [] in none ≡ [])
+      on_ok (Ok u) = refl
+      on_ok (Err e) = tt
 
--- some of all these bytes went out, and then some of those that still waited
-AppendsSome-then : (a b c : Option (List ℕ)) (old waiting x more all : List ℕ) → all ≡ (old ++ x) ++ more → AppendsSome a b all → Appends (sent_bytes a old) (sent_bytes b waiting) x → AppendsSome b c waiting → AppendsSome a c all
-AppendsSome-then None b c old waiting x more all parts p sent q = record { count = 0; written = tt }
-AppendsSome-then (Some a) None c old waiting x more all parts p sent q = absurd sent
-AppendsSome-then (Some a) (Some b) None old waiting x more all parts p sent q = absurd q.written
-AppendsSome-then (Some a) (Some b) (Some c) old waiting x more all parts p sent q =
-    let first : List ℕ = take p.count all in
-    let front : b ≡ a ++ first = p.written in
-    let so_far : first ++ waiting ≡ old ++ x =
-    same_rest a _ _ (sym (append_assoc a first waiting) ∙ ap (λ l. l ++ waiting) (sym front) ∙ sent ∙ append_assoc a old x) in
-    let whole : first ++ (waiting ++ more) ≡ all = sym (append_assoc first waiting more) ∙ ap (λ l. l ++ more) so_far ∙ sym parts in
-    let then : c ≡ b ++ take (length (take q.count waiting)) (waiting ++ more) = q.written ∙ ap (λ l. b ++ l) (take-front q.count waiting more) in
-    record {
-      count = length first + length (take q.count waiting);
-      written = then ∙ ap (λ l. l ++ take (length (take q.count waiting)) (waiting ++ more)) front ∙ append_assoc a first _ ∙ ap (λ l. a ++ l) (take-both first (waiting ++ more) all (length (take q.count waiting)) whole);
-    }
+  -- where all went well, the text is sent
+  pub Sends-sent : (a b : O) (waited text waits : List ℕ) → Sends {E = E} g a waited text (Ok tt) b waits → Appends (sent_bytes (g.written a) waited) (sent_bytes (g.written b) waits) text
+  Sends-sent a b waited text waits p = sent_on (g.written a) (g.written b) waited text p.out p.others waits p.parts p.written p.rest
 
--- the same, where the texts of the first elements were sent
-pub AppendsSome-elements : {X : Type 0} (text : X → List ℕ) (xs : List X) (i : ℕ) (a b c : Option (List ℕ)) (old waiting : List ℕ) → AppendsSome a b (old ++ flat_map text xs) → Appends (sent_bytes a old) (sent_bytes b waiting) (flat_map text (take i xs)) → AppendsSome b c waiting → AppendsSome a c (old ++ flat_map text xs)
-AppendsSome-elements text xs i a b c old waiting =
-    AppendsSome-then a b c old waiting (flat_map text (take i xs)) (flat_map text (drop i xs)) (old ++ flat_map text xs)
-    (ap (λ l. old ++ flat_map text l) (sym (take-append-drop i xs)) ∙ ap (λ l. old ++ l) (flat_map-append text (take i xs) (drop i xs)) ∙ sym (append_assoc old (flat_map text (take i xs)) (flat_map text (drop i xs))))
+  -- and so is none, where all that waited is written
+  pub Sends-flushed : (a b : O) (waited waits : List ℕ) (r : Result (Unit {0}) E) → Sends g a waited [] r b waits → OnOk r (waits ≡ []) → OnOk r (Appends (sent_bytes (g.written a) waited) (g.written b) [])
+  Sends-flushed a b waited waits (Err e) p none = tt
+  Sends-flushed a b waited waits (Ok u) p none =
+      subst (λ o. Appends (sent_bytes (g.written a) waited) o []) (ap (sent_bytes (g.written b)) none ∙ sent_bytes-nil (g.written b)) (Sends-sent a b waited [] waits p)
+
+  module _ {X : Type 0} (text : X → List ℕ) (xs : List X) (i : ℕ) (a b c : O) (waited mid : List ℕ) (so_far : Sends {E = E} g a waited (flat_map text (take i xs)) (Ok tt) b mid) where
+    -- the text of one element more is sent, after room was made for it
+    pub Sends-element : (x : X) → i < length xs → x ≡ get_or xs i x → (made waits : List ℕ) → Sends {E = E} g b mid [] (Ok tt) c made → waits ≡ made ++ text x → Sends {E = E} g a waited (flat_map text (take (i + 1) xs)) (Ok tt) c waits
+    Sends-element x within here made waits room is =
+        rw (take_more xs i x within, ← here, ← flat_map_more text [] (take i xs) x)
+        (Sends-more a b c waited (flat_map text (take i xs)) mid made (text x) waits so_far room is)
+
+    -- the text of all is sent
+    pub Sends-end : length xs ≤ i → (waits : List ℕ) (r : Result (Unit {0}) E) → Sends g b mid [] r c waits → Sends g a waited (flat_map text xs) r c waits
+    Sends-end all waits r room =
+        subst (λ l. Sends g a waited (flat_map text l) r c waits) (take_all i xs all) (Sends-last a b c waited (flat_map text (take i xs)) mid waits r so_far room)
+
+    -- the text of all, where it failed at an element
+    pub Sends-stop : (waits : List ℕ) (e : E) (r : Result (Unit {0}) E) → IsErr r → Sends g b mid [] (Err e) c waits → Sends g a waited (flat_map text xs) r c waits
+    Sends-stop waits e r err room =
+        subst (λ l. Sends g a waited l r c waits)
+        (sym (flat_map-append text (take i xs) (drop i xs)) ∙ ap (flat_map text) (take-append-drop i xs))
+        (Sends-fails a c waited (flat_map text (take i xs)) (flat_map text (drop i xs)) waits e r err (Sends-last a b c waited (flat_map text (take i xs)) mid waits (Err e) so_far room))
+
+-- a write that failed appends nothing
+pub Appends-kept : (a b c : Option (List ℕ)) (x : List ℕ) → Appends a b x → Keeps b c → Appends a c x
+Appends-kept None b c x p q = tt
+Appends-kept (Some a) None c x p q = absurd p
+Appends-kept (Some a) (Some b) None x p q = absurd q
+Appends-kept (Some a) (Some b) (Some c) x p q = q ∙ p
 
 -- what a read took off the known bytes
 pub consumed : (a b : Option (List ℕ)) (rest bs : List ℕ) → a ≡ Some rest → Consumes a b bs → (new : List ℕ) × (b ≡ Some new) × (rest ≡ bs ++ new)

@@ -1,5 +1,6 @@
 -- How the answers to lines join, and what they are over a whole input.
-use Rattle.std.proofs.Common.{◌≡◌, ◌==◌, false, ℕ, Option, Some, None, IfSome, MatchOption, List, [], ◌∷◌, ◌++◌, length, take, codes, refl, sym, ap, subst, ◌∙◌, append_assoc, append-nil, arith}
+use Rattle.std.proofs.Common.{◌≡◌, ◌==◌, true, false, true≢false, Bool, Result, Ok, Err, OnOk, ℕ, Option, Some, None, IfSome, MatchOption, List, [], ◌∷◌, ◌++◌, length, take, codes, refl, sym, ap, subst, ◌∙◌, append_assoc, append-nil, arith}
+use borrow.Author.Tests.{eqb-true}
 use Rattle.std.specs.List.{All, slice_split}
 use Rattle.std.specs.Io.KnownBytes.{Appends, Consumes, IsAtEnd}
 use Rattle.std.specs.declared.hash.FoldHasher.{FoldHasher}
@@ -12,20 +13,18 @@ use Rattle.iddqd_lines.specs.Line.{is_line_feed, lines_of, without_empty_last, c
 use Rattle.iddqd_lines.specs.Split.{HasNo, IsCut}
 use Rattle.iddqd_lines.specs.Replies.{sent_bytes}
 use Rattle.iddqd_lines.specs.Program.{record_keys, AnswersCommand, Line, Serves, default_hash, IsDefaultHasher, ServesAll}
-use Rattle.iddqd_lines.specs.Serve.{ended, IsKept, Obeys, Feeds}
+use Rattle.iddqd_lines.specs.Serve.{ended, IsKept, Obeys, Feeds, Finishes}
+use Rattle.iddqd_lines.specs.Stream.{FailsOnErr}
+use Rattle.iddqd_lines.specs.declared.line.TheConstants.{LINE_FEED}
+use Rattle.iddqd_lines.specs.declared.line_buffer.TheConstants.{KEPT}
 use Rattle.iddqd_lines.specs.declared.record.Record.{Record}
 use Rattle.iddqd_keyed.specs.declared.command.Command.{Command}
 use Rattle.iddqd_keyed.specs.declared.command.Command.TheVariants.{Insert, Find1, Find2, Remove, Remove1, Remove2, Overwrite, Compact, Clear, Walk}
 use Rattle.iddqd_keyed.specs.declared.command.Reply.{Reply}
 use Rattle.iddqd_keyed.specs.declared.command.Reply.TheVariants.{Inserted, Refused, Found, Removed, Overwritten, Compacted, Cleared, Walked, NoMemory}
-use Rattle.iddqd_lines.proofs.ByteLemmas.{Appends-trans, Appends-nil, consumed, at_end}
+use Rattle.iddqd_lines.proofs.ByteLemmas.{Appends-trans, Appends-nil, sent_bytes-nil, consumed, at_end}
 use Rattle.iddqd_lines.proofs.LineLemmas.{command_of-kept}
 use Rattle.iddqd_lines.proofs.LineBufferLemmas.{take-kept, take-take}
-
--- a line and what follows, where nothing waits
-pub sent_bytes-nil : (written : Option (List ℕ)) → sent_bytes written [] ≡ written
-sent_bytes-nil None = refl
-sent_bytes-nil (Some bytes) = ap Some (append-nil bytes)
 
 module _ {S : Type 0} (hash : S → ℕ → ℕ) where
   -- the words of a reply are the same over the store before the step and after it
@@ -52,13 +51,13 @@ module _ {S : Type 0} (hash : S → ℕ → ℕ) where
   text_of-step old new named command NoMemory step = refl
 
   -- a command's line is answered
-  pub Line-command : (old new : State Record S) (kept line out : List ℕ) (command : Command Record ℕ ℕ) (reply : Reply Record) → take 129 kept ≡ take 129 line → Some command ≡ command_of kept → Step (record_keys hash) old command reply new → out ≡ text_of new.store (index_of command) reply → Line hash old line out new
+  pub Line-command : (old new : State Record S) (kept line out : List ℕ) (command : Command Record ℕ ℕ) (reply : Reply Record) → take KEPT kept ≡ take KEPT line → Some command ≡ command_of kept → Step (record_keys hash) old command reply new → out ≡ text_of new.store (index_of command) reply → Line hash old line out new
   Line-command old new kept line out command reply same is step text =
       subst (λ o. MatchOption o ((out ≡ codes "bad line") × (new ≡ old)) (AnswersCommand hash old line out new)) (is ∙ command_of-kept kept line same)
       (record { reply = reply; step = step; text = text ∙ text_of-step old new (index_of command) command reply step })
 
   -- and so is any other
-  pub Line-other : (old : State Record S) (kept line : List ℕ) → take 129 kept ≡ take 129 line → None ≡ command_of kept → Line hash old line (codes "bad line") old
+  pub Line-other : (old : State Record S) (kept line : List ℕ) → take KEPT kept ≡ take KEPT line → None ≡ command_of kept → Line hash old line (codes "bad line") old
   Line-other old kept line same is =
       subst (λ o. MatchOption o ((codes "bad line" ≡ codes "bad line") × (old ≡ old)) (AnswersCommand hash old line (codes "bad line") old)) (is ∙ command_of-kept kept line same) (refl, refl)
 
@@ -67,25 +66,25 @@ module _ {S : Type 0} (hash : S → ℕ → ℕ) where
   Serves-append old mid new [] more bytes rest p q =
       subst (λ b. Serves hash old more (b ++ rest) new) (sym p.0) (subst (λ s. Serves hash s more rest new) p.1 q)
   Serves-append old mid new (line ∷ lines) more bytes rest p q =
-      (p.0, p.1, p.2 ++ rest, p.3, ap (λ b. b ++ rest) p.4 ∙ append_assoc p.0 (10 ∷ p.2) rest, Serves-append p.1 mid new lines more p.2 rest p.5 q)
+      (p.0, p.1, p.2 ++ rest, p.3, ap (λ b. b ++ rest) p.4 ∙ append_assoc p.0 (LINE_FEED ∷ p.2) rest, Serves-append p.1 mid new lines more p.2 rest p.5 q)
 
-HasNo-append : (xs ys : List ℕ) → HasNo 10 xs → HasNo 10 ys → HasNo 10 (xs ++ ys)
-HasNo-append xs ys p q = All-append (λ b. (b == 10) ≡ false) xs ys p q
+HasNo-append : (xs ys : List ℕ) → HasNo LINE_FEED xs → HasNo LINE_FEED ys → HasNo LINE_FEED (xs ++ ys)
+HasNo-append xs ys p q = All-append (λ b. (b == LINE_FEED) ≡ false) xs ys p q
 
-HasNo-nil : HasNo 10 []
-HasNo-nil = All-nil (λ b. (b == 10) ≡ false)
+HasNo-nil : HasNo LINE_FEED []
+HasNo-nil = All-nil (λ b. (b == LINE_FEED) ≡ false)
 
 ended-append : (lines more : List (List ℕ)) → ended (lines ++ more) ≡ ended lines ++ ended more
 ended-append [] more = refl
-ended-append (line ∷ lines) more = ap (λ l. line ++ 10 ∷ l) (ended-append lines more) ∙ sym (append_assoc line (10 ∷ ended lines) (ended more))
+ended-append (line ∷ lines) more = ap (λ l. line ++ LINE_FEED ∷ l) (ended-append lines more) ∙ sym (append_assoc line (LINE_FEED ∷ ended lines) (ended more))
 
--- the parts of some lines, each with its line feed, and the bytes of one that has begun
-split-ended : (lines : List (List ℕ)) (left : List ℕ) → All (HasNo 10) lines → HasNo 10 left → slice_split is_line_feed (ended lines ++ left) ≡ lines ++ left ∷ []
+-- the parts of some lines, each with its line feed, and the bytes of one that has partial
+split-ended : (lines : List (List ℕ)) (left : List ℕ) → All (HasNo LINE_FEED) lines → HasNo LINE_FEED left → slice_split is_line_feed (ended lines ++ left) ≡ lines ++ left ∷ []
 split-ended [] left each last = slice_split_none is_line_feed left last
 split-ended (line ∷ lines) left each last =
-    ap (slice_split is_line_feed) (append_assoc line (10 ∷ ended lines) left)
-    ∙ slice_split_at is_line_feed line 10 (ended lines ++ left) (All-head (HasNo 10) line lines each) refl
-    ∙ ap (λ l. line ∷ l) (split-ended lines left (All-tail (HasNo 10) line lines each) last)
+    ap (slice_split is_line_feed) (append_assoc line (LINE_FEED ∷ ended lines) left)
+    ∙ slice_split_at is_line_feed line LINE_FEED (ended lines ++ left) (All-head (HasNo LINE_FEED) line lines each) refl
+    ∙ ap (λ l. line ∷ l) (split-ended lines left (All-tail (HasNo LINE_FEED) line lines each) last)
 
 last_dropped : (lines : List (List ℕ)) → without_empty_last (lines ++ [] ∷ []) ≡ lines
 last_dropped [] = refl
@@ -99,17 +98,17 @@ last_kept ([] ∷ []) b bs = refl
 last_kept ([] ∷ line ∷ lines) b bs = ap (λ l. [] ∷ l) (last_kept (line ∷ lines) b bs)
 last_kept ((c ∷ cs) ∷ lines) b bs = ap (λ l. (c ∷ cs) ∷ l) (last_kept lines b bs)
 
-module _ {S : Type 0} (hash : S → ℕ → ℕ) (before mid after : Option (List ℕ)) (old next new : State Record S) (begun : List ℕ) where
+module _ {S : Type 0} (hash : S → ℕ → ℕ) (before mid after : Option (List ℕ)) (old next new : State Record S) (partial : List ℕ) where
   -- some bytes, and then others
-  pub Feeds-append : (bytes more kept last : List ℕ) (f : Feeds hash before mid old begun bytes next kept) → Feeds hash mid after next f.left more new last → Feeds hash before after old begun (bytes ++ more) new last
+  pub Feeds-append : (bytes more kept last : List ℕ) (f : Feeds hash before mid old partial bytes next kept) → Feeds hash mid after next f.left more new last → Feeds hash before after old partial (bytes ++ more) new last
   Feeds-append bytes more kept last f g =
       record {
         done = f.done ++ g.done;
         left = g.left;
         bytes_are =
-            sym (append_assoc begun bytes more) ∙ ap (λ l. l ++ more) f.bytes_are ∙ append_assoc (ended f.done) f.left more
+            sym (append_assoc partial bytes more) ∙ ap (λ l. l ++ more) f.bytes_are ∙ append_assoc (ended f.done) f.left more
             ∙ ap (λ l. ended f.done ++ l) g.bytes_are ∙ sym (append_assoc (ended f.done) (ended g.done) g.left) ∙ ap (λ l. l ++ g.left) (sym (ended-append f.done g.done));
-        each_one_line = All-append (HasNo 10) f.done g.done f.each_one_line g.each_one_line;
+        each_one_line = All-append (HasNo LINE_FEED) f.done g.done f.each_one_line g.each_one_line;
         keeps = g.keeps;
         out = f.out ++ g.out;
         serves = Serves-append hash old next new f.done g.done f.out g.out f.serves g.serves;
@@ -118,13 +117,13 @@ module _ {S : Type 0} (hash : S → ℕ → ℕ) (before mid after : Option (Lis
 
 module _ {S : Type 0} (hash : S → ℕ → ℕ) where
   -- before the first byte
-  pub Feeds-none : (sent : Option (List ℕ)) (old : State Record S) (begun kept : List ℕ) → IsKept kept begun → Feeds hash sent sent old begun [] old kept
-  Feeds-none sent old begun kept keeps =
+  pub Feeds-none : (sent : Option (List ℕ)) (old : State Record S) (partial kept : List ℕ) → IsKept kept partial → Feeds hash sent sent old partial [] old kept
+  Feeds-none sent old partial kept keeps =
       record {
         done = [];
-        left = begun;
-        bytes_are = append-nil begun;
-        each_one_line = All-nil (HasNo 10);
+        left = partial;
+        bytes_are = append-nil partial;
+        each_one_line = All-nil (HasNo LINE_FEED);
         keeps = keeps;
         out = [];
         serves = (refl, refl);
@@ -132,44 +131,44 @@ module _ {S : Type 0} (hash : S → ℕ → ℕ) where
       }
 
   -- a line that ends
-  Feeds-end : (before after : Option (List ℕ)) (old new : State Record S) (begun end : List ℕ) → HasNo 10 begun → HasNo 10 end → Obeys hash before after old (begun ++ end) new → Feeds hash before after old begun (end ++ 10 ∷ []) new []
-  Feeds-end before after old new begun end one_line more o =
+  Feeds-end : (before after : Option (List ℕ)) (old new : State Record S) (partial end : List ℕ) → HasNo LINE_FEED partial → HasNo LINE_FEED end → Obeys hash before after old (partial ++ end) new → Feeds hash before after old partial (end ++ LINE_FEED ∷ []) new []
+  Feeds-end before after old new partial end one_line more o =
       record {
-        done = (begun ++ end) ∷ [];
+        done = (partial ++ end) ∷ [];
         left = [];
-        bytes_are = sym (append_assoc begun end (10 ∷ [])) ∙ sym (append-nil ((begun ++ end) ++ 10 ∷ []));
-        each_one_line = All-cons (HasNo 10) (begun ++ end) [] (HasNo-append begun end one_line more) (All-nil (HasNo 10));
+        bytes_are = sym (append_assoc partial end (LINE_FEED ∷ [])) ∙ sym (append-nil ((partial ++ end) ++ LINE_FEED ∷ []));
+        each_one_line = All-cons (HasNo LINE_FEED) (partial ++ end) [] (HasNo-append partial end one_line more) (All-nil (HasNo LINE_FEED));
         keeps = record { bytes = refl; one_line = HasNo-nil };
-        out = o.out ++ 10 ∷ [];
+        out = o.out ++ LINE_FEED ∷ [];
         serves = (o.out, new, [], o.answers, refl, (refl, refl));
         sent = o.sent;
       }
 
   -- a line that goes on
-  Feeds-begin : (sent : Option (List ℕ)) (old : State Record S) (begun bytes kept : List ℕ) → HasNo 10 begun → HasNo 10 bytes → kept ≡ take 129 (begun ++ bytes) → Feeds hash sent sent old begun bytes old kept
-  Feeds-begin sent old begun bytes kept one_line more is =
+  Feeds-begin : (sent : Option (List ℕ)) (old : State Record S) (partial bytes kept : List ℕ) → HasNo LINE_FEED partial → HasNo LINE_FEED bytes → kept ≡ take KEPT (partial ++ bytes) → Feeds hash sent sent old partial bytes old kept
+  Feeds-begin sent old partial bytes kept one_line more is =
       record {
         done = [];
-        left = begun ++ bytes;
+        left = partial ++ bytes;
         bytes_are = refl;
-        each_one_line = All-nil (HasNo 10);
-        keeps = record { bytes = is; one_line = HasNo-append begun bytes one_line more };
+        each_one_line = All-nil (HasNo LINE_FEED);
+        keeps = record { bytes = is; one_line = HasNo-append partial bytes one_line more };
         out = [];
         serves = (refl, refl);
         sent = Appends-nil sent;
       }
 
   -- one line more
-  pub Feeds-line : (before mid after : Option (List ℕ)) (old next new : State Record S) (begun seen kept last : List ℕ) (rest end more : List ℕ) → Feeds hash before mid old begun seen next kept → IsCut 10 rest end more → ((line : List ℕ) → kept ≡ take 129 line → Obeys hash mid after next (line ++ end) new) → last ≡ [] → Feeds hash before after old begun (seen ++ end ++ 10 ∷ []) new last
-  Feeds-line before mid after old next new begun seen kept last rest end more f cut obeys forgets =
+  pub Feeds-line : (before mid after : Option (List ℕ)) (old next new : State Record S) (partial seen kept last : List ℕ) (rest end more : List ℕ) → Feeds hash before mid old partial seen next kept → IsCut LINE_FEED rest end more → ((line : List ℕ) → kept ≡ take KEPT line → Obeys hash mid after next (line ++ end) new) → last ≡ [] → Feeds hash before after old partial (seen ++ end ++ LINE_FEED ∷ []) new last
+  Feeds-line before mid after old next new partial seen kept last rest end more f cut obeys forgets =
       let keeps = f.keeps in
-      rw (forgets, append_assoc) (Feeds-append hash before mid after old next new begun seen (end ++ 10 ∷ []) kept [] f (Feeds-end mid after next new f.left end keeps.one_line cut.first (obeys f.left keeps.bytes)))
+      rw (forgets, append_assoc) (Feeds-append hash before mid after old next new partial seen (end ++ LINE_FEED ∷ []) kept [] f (Feeds-end mid after next new f.left end keeps.one_line cut.first (obeys f.left keeps.bytes)))
 
   -- the bytes behind the last line feed
-  pub Feeds-rest : (before mid : Option (List ℕ)) (old next : State Record S) (begun seen kept last rest : List ℕ) → Feeds hash before mid old begun seen next kept → HasNo 10 rest → last ≡ take 129 (kept ++ rest) → Feeds hash before mid old begun (seen ++ rest) next last
-  Feeds-rest before mid old next begun seen kept last rest f none is =
+  pub Feeds-rest : (before mid : Option (List ℕ)) (old next : State Record S) (partial seen kept last rest : List ℕ) → Feeds hash before mid old partial seen next kept → HasNo LINE_FEED rest → last ≡ take KEPT (kept ++ rest) → Feeds hash before mid old partial (seen ++ rest) next last
+  Feeds-rest before mid old next partial seen kept last rest f none is =
       let keeps = f.keeps in
-      Feeds-append hash before mid mid old next next begun seen rest kept last f (Feeds-begin mid next f.left rest last keeps.one_line none (is ∙ ap (λ k. take 129 (k ++ rest)) keeps.bytes ∙ take-kept 129 f.left rest))
+      Feeds-append hash before mid mid old next next partial seen rest kept last f (Feeds-begin mid next f.left rest last keeps.one_line none (is ∙ ap (λ k. take KEPT (k ++ rest)) keeps.bytes ∙ take-kept KEPT f.left rest))
 
 -- what the loop over reads keeps, of the bytes that the source told at first
 pub record Reads {S : Type 0} (hash : S → ℕ → ℕ) (bytes : List ℕ) (left written now : Option (List ℕ)) (hasher : S) (items : State Record S) (kept : List ℕ) : Type 0 where
@@ -233,50 +232,56 @@ Reads-flush hash (Some bytes) left written now later hasher items kept r flushed
       feeds = record { done = f.done; left = f.left; bytes_are = f.bytes_are; each_one_line = f.each_one_line; keeps = f.keeps; out = f.out; serves = f.serves; sent = sent };
     }
 
--- where no line has begun at the end, the lines are all answered
-pub ServesAll-whole : (told written now after : Option (List ℕ)) (hasher : BuildHasherDefault FoldHasher) (items : State Record (BuildHasherDefault FoldHasher)) (kept : List ℕ) → IsDefaultHasher hasher → IfSome told (λ bytes. Feeds default_hash written now (empty_state hasher) [] bytes items kept) → length kept ≡ 0 → Appends now after [] → IfSome told (λ bytes. ServesAll bytes written after)
-ServesAll-whole None written now after hasher items kept is_default f none flushed = tt
-ServesAll-whole (Some bytes) written now after hasher items (b ∷ bs) is_default f none flushed = absurd (omega arith)
-ServesAll-whole (Some bytes) written now after hasher items [] is_default f none flushed =
-    let keeps = f.keeps in
-    let last = empty_left f.left keeps.bytes in
-    let lines : lines_of bytes ≡ f.done =
-    ap lines_of (f.bytes_are ∙ ap (λ l. ended f.done ++ l) last)
-    ∙ ap without_empty_last (split-ended f.done [] f.each_one_line HasNo-nil) ∙ last_dropped f.done in
-    record {
-      hasher = hasher;
-      is_default = is_default;
-      bytes = f.out;
-      last = items;
-      serves = subst (λ ls. Serves default_hash (empty_state hasher) ls f.out items) (sym lines) f.serves;
-      written = subst (λ l. Appends written after l) (append-nil f.out) (Appends-trans written now after f.out [] f.sent flushed);
-    }
+-- the lines of bytes that end some lines and begin another
+lines_of-ended : (lines : List (List ℕ)) (left : List ℕ) → All (HasNo LINE_FEED) lines → HasNo LINE_FEED left → lines_of (ended lines ++ left) ≡ lines ++ lines_of left
+lines_of-ended lines left each last =
+    ap without_empty_last (split-ended lines left each last) ∙ at_last left
+    ∙ ap (λ ls. lines ++ without_empty_last ls) (sym (slice_split_none is_line_feed left last))
   where
-    empty_left : (left : List ℕ) → [] ≡ take 129 left → left ≡ []
-    empty_left [] p = refl
-    empty_left (x ∷ xs) p = absurd (cc)
+    at_last : (left : List ℕ) → without_empty_last (lines ++ left ∷ []) ≡ lines ++ without_empty_last (left ∷ [])
+    at_last [] = last_dropped lines ∙ sym (append-nil lines)
+    at_last (b ∷ bs) = last_kept lines b bs
 
--- and where one has, it is the last
-pub ServesAll-rest : (told written now later after : Option (List ℕ)) (hasher : BuildHasherDefault FoldHasher) (items new : State Record (BuildHasherDefault FoldHasher)) (kept : List ℕ) → IsDefaultHasher hasher → IfSome told (λ bytes. Feeds default_hash written now (empty_state hasher) [] bytes items kept) → (length kept ≡ 0 → ⊥) → ((line : List ℕ) → take 129 kept ≡ take 129 line → Obeys default_hash now later items line new) → Appends later after [] → IfSome told (λ bytes. ServesAll bytes written after)
-ServesAll-rest None written now later after hasher items new kept is_default f some obeys flushed = tt
-ServesAll-rest (Some bytes) written now later after hasher items new [] is_default f some obeys flushed = absurd (some refl)
-ServesAll-rest (Some bytes) written now later after hasher items new (b ∷ bs) is_default f some obeys flushed =
+module _ {S : Type 0} (hash : S → ℕ → ℕ) where
+  -- where no line has begun, what waits is written
+  pub Finishes-none : (before after : Option (List ℕ)) (old : State Record S) (kept line : List ℕ) → (length kept == 0) ≡ true → Appends before after [] → IsKept kept line → Finishes hash before after old line old
+  Finishes-none before after old kept [] none flushed keeps = record { out = []; serves = (refl, refl); sent = flushed }
+  Finishes-none before after old [] (b ∷ bs) none flushed keeps = let no : [] ≡ take KEPT (b ∷ bs) = keeps.bytes in absurd (cc)
+  Finishes-none before after old (x ∷ xs) (b ∷ bs) none flushed keeps = absurd (omega (arith, eqb-true (length (x ∷ xs)) 0 none))
+
+  -- and where one has, it is answered
+  pub Finishes-some : (before mid after : Option (List ℕ)) (old new : State Record S) (kept line : List ℕ) → (length kept == 0) ≡ false → ((whole : List ℕ) → take KEPT kept ≡ take KEPT whole → Obeys hash before mid old whole new) → Appends mid after [] → IsKept kept line → Finishes hash before after old line new
+  Finishes-some before mid after old new kept [] some obeys flushed keeps =
+      let none : length kept ≡ 0 = ap length keeps.bytes in
+      absurd (true≢false (ap (λ n. n == 0) (sym none) ∙ some))
+  Finishes-some before mid after old new kept (b ∷ bs) some obeys flushed keeps =
+      let line : List ℕ = b ∷ bs in
+      let o = obeys line (ap (take KEPT) keeps.bytes ∙ take-take KEPT line) in
+      let whole : lines_of line ≡ line ∷ [] = ap without_empty_last (slice_split_none is_line_feed line keeps.one_line) in
+      let answered : Serves hash old (line ∷ []) (o.out ++ LINE_FEED ∷ []) new = (o.out, new, [], o.answers, refl, (refl, refl)) in
+      record {
+        out = o.out ++ LINE_FEED ∷ [];
+        serves = subst (λ ls. Serves hash old ls (o.out ++ LINE_FEED ∷ []) new) (sym whole) answered;
+        sent = subst (λ l. Appends before after l) (append-nil (o.out ++ LINE_FEED ∷ [])) (Appends-trans before mid after (o.out ++ LINE_FEED ∷ []) [] o.sent flushed);
+      }
+
+-- all lines are answered, once all bytes were fed and the line that had begun is
+pub ServesAll-end : (told written now after : Option (List ℕ)) (hasher : BuildHasherDefault FoldHasher) (items new : State Record (BuildHasherDefault FoldHasher)) (kept : List ℕ) → IsDefaultHasher hasher → IfSome told (λ bytes. Feeds default_hash written now (empty_state hasher) [] bytes items kept) → ((line : List ℕ) → IsKept kept line → Finishes default_hash now after items line new) → IfSome told (λ bytes. ServesAll bytes written after)
+ServesAll-end None written now after hasher items new kept is_default f finishes = tt
+ServesAll-end (Some bytes) written now after hasher items new kept is_default f finishes =
     let keeps = f.keeps in
-    let begun = some_left f.left keeps.bytes in
-    let o = obeys f.left (ap (take 129) keeps.bytes ∙ take-take 129 f.left) in
-    let lines : lines_of bytes ≡ f.done ++ f.left ∷ [] =
-    ap lines_of f.bytes_are ∙ ap without_empty_last (split-ended f.done f.left f.each_one_line keeps.one_line)
-    ∙ subst (λ l. without_empty_last (f.done ++ l ∷ []) ≡ f.done ++ l ∷ []) (sym begun.2) (last_kept f.done begun.0 begun.1) in
-    let answered : Serves default_hash items (f.left ∷ []) (o.out ++ 10 ∷ []) new = (o.out, new, [], o.answers, refl, (refl, refl)) in
+    let last = finishes f.left keeps in
+    let lines : lines_of bytes ≡ f.done ++ lines_of f.left = ap lines_of f.bytes_are ∙ lines_of-ended f.done f.left f.each_one_line keeps.one_line in
     record {
       hasher = hasher;
       is_default = is_default;
-      bytes = f.out ++ o.out ++ 10 ∷ [];
+      bytes = f.out ++ last.out;
       last = new;
-      serves = subst (λ ls. Serves default_hash (empty_state hasher) ls (f.out ++ o.out ++ 10 ∷ []) new) (sym lines) (rw append_assoc (Serves-append default_hash (empty_state hasher) items new f.done (f.left ∷ []) f.out (o.out ++ 10 ∷ []) f.serves answered));
-      written = rw append_assoc (subst (λ l. Appends written after l) (append-nil (f.out ++ (o.out ++ 10 ∷ []))) (Appends-trans written later after (f.out ++ (o.out ++ 10 ∷ [])) [] (Appends-trans written now later f.out (o.out ++ 10 ∷ []) f.sent o.sent) flushed));
+      serves = subst (λ ls. Serves default_hash (empty_state hasher) ls (f.out ++ last.out) new) (sym lines) (Serves-append default_hash (empty_state hasher) items new f.done (lines_of f.left) f.out last.out f.serves last.serves);
+      written = Appends-trans written now after f.out last.out f.sent last.sent;
     }
-  where
-    some_left : (left : List ℕ) → b ∷ bs ≡ take 129 left → (y : ℕ) × (ys : List ℕ) × (left ≡ y ∷ ys)
-    some_left [] p = absurd (cc)
-    some_left (y ∷ ys) p = (y, ys, refl)
+
+-- where all went well, a source that has not failed and a sink that had not have not
+pub unbroken : {A E : Type 0} (r : Result A E) (reading old new : Bool) → reading ≡ false → old ≡ false → FailsOnErr old r new → OnOk r ((reading ≡ false) × (new ≡ false))
+unbroken (Ok a) reading old new no_read no_write fails = (no_read, fails ∙ no_write)
+unbroken (Err e) reading old new no_read no_write fails = tt

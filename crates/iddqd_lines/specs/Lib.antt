@@ -1,4 +1,5 @@
 pub mod Split
+pub mod Stream
 pub mod Line
 pub mod Program
 pub mod Replies

@@ -10,6 +10,7 @@ use Rattle.iddqd.specs.Store.{Store, get}
 use Rattle.iddqd.specs.Compaction.{sentinel}
 use Rattle.iddqd.specs.declared.index_remap.IndexRemap.{IndexRemap}
 use Rattle.iddqd.specs.declared.index_remap.IndexRemap.TheVariants.{Identity, Permuted}
+use Rattle.iddqd_lines.specs.declared.line.TheConstants.{LINE_FEED, SPACE, MAX_LINE}
 use Rattle.iddqd_lines.specs.declared.record.Record.{Record}
 use Rattle.iddqd_keyed.specs.declared.command.Command.{Command}
 use Rattle.iddqd_keyed.specs.declared.command.Command.TheVariants.{Insert, Find1, Find2, Remove, Remove1, Remove2, Overwrite, Compact, Clear, Walk}
@@ -19,10 +20,10 @@ use Rattle.iddqd_keyed.specs.declared.command.InsertRefusal.{InsertRefusal}
 use Rattle.iddqd_keyed.specs.declared.command.InsertRefusal.TheVariants.{Duplicate, Full, Memory}
 
 abbrev pub is_line_feed : ℕ → Bool
-is_line_feed b = b == 10
+is_line_feed b = b == LINE_FEED
 
 abbrev pub is_space : ℕ → Bool
-is_space b = b == 32
+is_space b = b == SPACE
 
 -- the parts but for the last, where that is empty
 abbrev pub without_empty_last : List (List ℕ) → List (List ℕ)
@@ -47,53 +48,63 @@ numbers_of [] = Some []
 numbers_of (word ∷ words) =
     option_and_then (λ n. option_map (λ ns. n ∷ ns) (numbers_of words)) (number_of word)
 
--- a, where there is no number
-abbrev pub of_none : {A : Type 0} → A → List ℕ → Option A
-of_none a [] = Some a
-of_none a numbers = None
+-- the one number that there is
+abbrev pub only : List ℕ → Option ℕ
+only (n ∷ []) = Some n
+only numbers = None
 
--- f of the one number that there is
-abbrev pub of_one : {A : Type 0} → (ℕ → A) → List ℕ → Option A
-of_one f (a ∷ []) = Some (f a)
-of_one f numbers = None
-
--- f of the three numbers that there are
-abbrev pub of_three : {A : Type 0} → (ℕ → ℕ → ℕ → A) → List ℕ → Option A
-of_three f (a ∷ b ∷ c ∷ []) = Some (f a b c)
-of_three f numbers = None
-
--- f of the four numbers that there are
-abbrev pub of_four : {A : Type 0} → (ℕ → ℕ → ℕ → ℕ → A) → List ℕ → Option A
-of_four f (a ∷ b ∷ c ∷ d ∷ []) = Some (f a b c d)
-of_four f numbers = None
-
+-- the record of three numbers
 abbrev pub record_of : ℕ → ℕ → ℕ → Record
 record_of first second value = record { first = first; second = second; value = value }
 
+-- what stands beside this verb
+abbrev pub named : {A : Type 0} → List ℕ → List (List ℕ × A) → Option A
+named verb [] = None
+named verb ((name, a) ∷ rest) = if bytes_eq verb name then Some a else named verb rest
+
+-- the commands of a verb that stands alone
+abbrev pub lone_commands : List (List ℕ × Command Record ℕ ℕ)
+lone_commands =
+    (codes "walk", Walk)
+    ∷ (codes "compact", Compact)
+    ∷ (codes "clear", Clear)
+    ∷ []
+
+-- of a verb and a number
+abbrev pub number_commands : ℕ → List (List ℕ × Command Record ℕ ℕ)
+number_commands n =
+    (codes "get1", Find1 n)
+    ∷ (codes "get2", Find2 n)
+    ∷ (codes "remove", Remove n)
+    ∷ (codes "remove1", Remove1 n)
+    ∷ (codes "remove2", Remove2 n)
+    ∷ []
+
+-- of a verb and the three numbers of a record
+abbrev pub record_commands : Record → List (List ℕ × Command Record ℕ ℕ)
+record_commands r = (codes "insert", Insert r) ∷ []
+
+-- of a verb, an index and a record
+abbrev pub index_commands : ℕ → Record → List (List ℕ × Command Record ℕ ℕ)
+index_commands ix r = (codes "overwrite", Overwrite ix r) ∷ []
+
 -- the command of a verb and its numbers
 abbrev pub command_for : List ℕ → List ℕ → Option (Command Record ℕ ℕ)
-command_for verb numbers =
-    if bytes_eq verb (codes "insert") then of_three (λ a b c. Insert (record_of a b c)) numbers
-    else (if bytes_eq verb (codes "overwrite") then of_four (λ ix a b c. Overwrite ix (record_of a b c)) numbers
-    else (if bytes_eq verb (codes "get1") then of_one Find1 numbers
-    else (if bytes_eq verb (codes "get2") then of_one Find2 numbers
-    else (if bytes_eq verb (codes "remove") then of_one Remove numbers
-    else (if bytes_eq verb (codes "remove1") then of_one Remove1 numbers
-    else (if bytes_eq verb (codes "remove2") then of_one Remove2 numbers
-    else (if bytes_eq verb (codes "walk") then of_none Walk numbers
-    else (if bytes_eq verb (codes "compact") then of_none Compact numbers
-    else (if bytes_eq verb (codes "clear") then of_none Clear numbers
-    else None)))))))))
+command_for verb [] = named verb lone_commands
+command_for verb (n ∷ []) = named verb (number_commands n)
+command_for verb (first ∷ second ∷ value ∷ []) = named verb (record_commands (record_of first second value))
+command_for verb (ix ∷ first ∷ second ∷ value ∷ []) = named verb (index_commands ix (record_of first second value))
+command_for verb numbers = None
 
 -- the command of the words of a line
 abbrev pub command_of_words : List (List ℕ) → Option (Command Record ℕ ℕ)
 command_of_words [] = None
 command_of_words (verb ∷ words) = option_and_then (command_for verb) (numbers_of words)
 
--- the command that a line is: at most 128 bytes, its words with exactly one space between
+-- the command that a line is: of at most MAX_LINE bytes, its words with exactly one space between
 abbrev pub command_of : List ℕ → Option (Command Record ℕ ℕ)
 command_of line =
-    if nat_le (length line) 128 then command_of_words (slice_split is_space line) else None
+    if nat_le (length line) MAX_LINE then command_of_words (slice_split is_space line) else None
 
 abbrev pub index_or_dash : Option ℕ → List ℕ
 index_or_dash None = codes "-"
@@ -111,6 +122,16 @@ record_text ix r = decimal ix ++ codes " " ++ decimal r.first ++ codes " " ++ de
 -- an index and the record that the store has there
 abbrev pub record_text_at : Store Record → ℕ → List ℕ
 record_text_at s ix = elim (get s ix) [ None ↦ codes "none" | Some r ↦ record_text ix r ]
+
+-- the index that was found and its record, if there is one
+abbrev pub found_text : Store Record → Option ℕ → List ℕ
+found_text s None = codes "none"
+found_text s (Some ix) = record_text_at s ix
+
+-- the index and the record that were removed, if there were any
+abbrev pub removed_text : Option (ℕ × Record) → List ℕ
+removed_text None = codes "none"
+removed_text (Some (ix, item)) = record_text ix item
 
 -- why an item was not taken, in words
 abbrev pub refusal_text : InsertRefusal Record → List ℕ
@@ -141,10 +162,8 @@ remap_text (Permuted names) = codes "permuted" ++ flat_map (λ name. codes " " +
 abbrev pub text_of : Store Record → Option ℕ → Reply Record → List ℕ
 text_of s named (Inserted ix) = codes "inserted " ++ decimal ix
 text_of s named (Refused refusal) = refusal_text refusal
-text_of s named (Found None) = codes "none"
-text_of s named (Found (Some ix)) = record_text_at s ix
-text_of s named (Removed None) = codes "none"
-text_of s named (Removed (Some (ix, item))) = record_text ix item
+text_of s named (Found found) = found_text s found
+text_of s named (Removed removed) = removed_text removed
 text_of s named (Overwritten result) = overwritten_text named result
 text_of s named (Walked indexes) = walk_text indexes.items
 text_of s named (Compacted remap) = remap_text remap

@@ -15,7 +15,10 @@ use Rattle.iddqd_keyed.specs.Keys.{Keys}
 use Rattle.iddqd_keyed.specs.State.{State, empty_state}
 use Rattle.iddqd_keyed.specs.Machine.{Step}
 use Rattle.iddqd_lines.specs.Line.{lines_of, command_of, index_of, text_of}
+use Rattle.iddqd_lines.specs.declared.line.TheConstants.{LINE_FEED}
 use Rattle.iddqd_lines.specs.declared.record.Record.{Record}
+use Rattle.iddqd_lines.specs.declared.serve.ServeFault.{ServeFault}
+use Rattle.iddqd_lines.specs.declared.serve.ServeFault.TheVariants.{Read, Write}
 use Rattle.iddqd_keyed.specs.declared.command.Command.{Command}
 use Rattle.iddqd_keyed.specs.declared.command.Reply.{Reply}
 
@@ -47,7 +50,7 @@ module _ {S : Type 0} (hash : S → ℕ → ℕ) where
   Serves old [] bytes new = (bytes ≡ []) × (new ≡ old)
   Serves old (line ∷ lines) bytes new =
       (out : List ℕ) × (next : State Record S) × (rest : List ℕ)
-      × Line old line out next × (bytes ≡ out ++ 10 ∷ rest) × Serves next lines rest new
+      × Line old line out next × (bytes ≡ out ++ LINE_FEED ∷ rest) × Serves next lines rest new
 
 -- how a build hasher hashes a number of 32 bits
 abbrev pub hash_u32 : {S H : Type 0} → builder.Ghosts S H → hasher.Ghosts H → S → ℕ → ℕ
@@ -69,3 +72,8 @@ pub record ServesAll (input : List ℕ) (before after : Option (List ℕ)) : Typ
   pub last : State Record (BuildHasherDefault FoldHasher)
   pub serves : Serves default_hash (empty_state hasher) (lines_of input) bytes last
   pub written : Appends before after bytes
+
+-- the words of a fault
+abbrev pub fault_text : ServeFault → List ℕ
+fault_text Read = codes "read failed"
+fault_text Write = codes "write failed"

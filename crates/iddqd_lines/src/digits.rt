@@ -5,7 +5,7 @@ ghost use Rattle.std.specs.Fmt.{decimal};
 use std::marker::Model;
 
 /// The most digits that 32 bits have.
-const MAX_DIGITS: usize = 10;
+pub(crate) const MAX_DIGITS: usize = 10;
 
 /// The decimal digits of a number, as ASCII.
 #[derive(Drop)]
@@ -17,12 +17,13 @@ pub(crate) struct Digits {
 
 impl Model for Digits {
     ghost use Rattle.std.specs.Prelude.{List, ℕ, drop, ◌≤◌};
+    ghost use Rattle.iddqd_lines.specs.declared.digits.TheConstants.{MAX_DIGITS};
 
     ghost Value = { List ℕ };
 
     ghost view = { λ d. drop d.start d.bytes };
 
-    ghost invariant = { λ d. d.start ≤ 10 };
+    ghost invariant = { λ d. d.start ≤ MAX_DIGITS };
 }
 
 impl Digits {
@@ -51,7 +52,7 @@ impl Digits {
     }
 
     fn put_front(&mut self, digit: u8)
-        requires { length self.old < 10 }
+        requires { length self.old < MAX_DIGITS }
         ensures { self.new ≡ digit ∷ self.old }
     {
         self.start -= 1;

@@ -2,13 +2,18 @@
 ghost use Rattle.std.specs.Prelude.{◌≡◌, ◌∷◌, [], MatchOption};
 ghost use Rattle.std.specs.Option.{option_and_then};
 ghost use Rattle.std.specs.List.{slice_split};
-ghost use Rattle.iddqd_keyed.specs.declared.command.Command.TheVariants.{Overwrite};
-ghost use Rattle.iddqd_lines.specs.Line.{is_space, number_of, numbers_of, of_three, of_four, record_of, command_for, command_of, index_of};
+ghost use Rattle.iddqd_lines.specs.Line.{is_space, number_of, numbers_of, only, command_for, command_of, index_of, named, record_commands, index_commands};
 
 use crate::record::Record;
 use crate::split::split_at_first;
 use iddqd::item_index::ItemIndex;
 use iddqd_keyed::command::Command;
+
+/// What ends a line.
+pub(crate) const LINE_FEED: u8 = b'\n';
+
+/// What stands between two words.
+pub(crate) const SPACE: u8 = b' ';
 
 /// The most bytes of a line that is a command.
 pub(crate) const MAX_LINE: usize = 128;
@@ -55,22 +60,45 @@ fn lone_command(verb: &[u8]) -> Option<Command<Record>>
 fn command(verb: &[u8], words: &[u8]) -> Option<Command<Record>>
     ensures { result ≡ option_and_then (command_for verb.now) (numbers_of (slice_split is_space words.now)) }
 {
-    if verb == b"insert".as_slice() {
-        Some(Command::Insert(record(words)?))
-    } else if verb == b"overwrite".as_slice() {
-        overwrite(words)
-    } else {
-        number_command(verb, number(words)?)
+    match split_word(words) {
+        (word, Some(words)) => long_command(verb, number(word)?, words),
+        (word, None) => number_command(verb, number(word)?),
     }
 }
 
-// The overwrite of an index and the three numbers of a record.
-fn overwrite(words: &[u8]) -> Option<Command<Record>>
-    ensures { result ≡ option_and_then (of_four (λ ix a b c. Overwrite ix (record_of a b c))) (numbers_of (slice_split is_space words.now)) }
+// The command of a verb, a number and the words behind it.
+fn long_command(verb: &[u8], first: u32, words: &[u8]) -> Option<Command<Record>>
+    ensures { result ≡ option_and_then (λ ns. command_for verb.now (first ∷ ns)) (numbers_of (slice_split is_space words.now)) }
 {
-    let (word, numbers) = split_word(words);
-    let ix = ItemIndex::new(number(word)?);
-    Some(Command::Overwrite(ix, record(numbers?)?))
+    match split_word(words) {
+        (word, Some(words)) => longer_command(verb, first, number(word)?, words),
+        (_, None) => None,
+    }
+}
+
+// The command of a verb, two numbers and the words behind them.
+fn longer_command(verb: &[u8], first: u32, second: u32, words: &[u8]) -> Option<Command<Record>>
+    ensures { result ≡ option_and_then (λ ns. command_for verb.now (first ∷ second ∷ ns)) (numbers_of (slice_split is_space words.now)) }
+{
+    match split_word(words) {
+        (word, Some(last)) => index_command(
+            verb,
+            ItemIndex::new(first),
+            Record {
+                first: second,
+                second: number(word)?,
+                value: last_number(last)?,
+            },
+        ),
+        (word, None) => record_command(
+            verb,
+            Record {
+                first,
+                second,
+                value: number(word)?,
+            },
+        ),
+    }
 }
 
 // The command of a verb and one number.
@@ -92,27 +120,46 @@ fn number_command(verb: &[u8], number: u32) -> Option<Command<Record>>
     }
 }
 
+// The command of a verb and a record.
+fn record_command(verb: &[u8], item: Record) -> Option<Command<Record>>
+    ensures { result ≡ named verb.now (record_commands item) }
+{
+    if verb == b"insert".as_slice() {
+        Some(Command::Insert(item))
+    } else {
+        None
+    }
+}
+
+// The command of a verb, an index and a record.
+fn index_command(verb: &[u8], ix: ItemIndex, item: Record) -> Option<Command<Record>>
+    ensures { result ≡ named verb.now (index_commands ix item) }
+{
+    if verb == b"overwrite".as_slice() {
+        Some(Command::Overwrite(ix, item))
+    } else {
+        None
+    }
+}
+
 // The first word, and what stands behind the space after it.
 fn split_word(words: &[u8]) -> (&[u8], Option<&[u8]>)
     ensures { MatchOption result.1 (slice_split is_space words.now ≡ result.0.now ∷ []) (λ rest. slice_split is_space words.now ≡ result.0.now ∷ slice_split is_space rest.now) }
 {
-    match split_at_first(words, b' ') {
+    match split_at_first(words, SPACE) {
         Some((word, rest)) => (word, Some(rest)),
         None => (words, None),
     }
 }
 
-// The record of three numbers.
-fn record(words: &[u8]) -> Option<Record>
-    ensures { result ≡ option_and_then (of_three record_of) (numbers_of (slice_split is_space words.now)) }
+// The number that one word is, where there are no more.
+fn last_number(words: &[u8]) -> Option<u32>
+    ensures { result ≡ option_and_then only (numbers_of (slice_split is_space words.now)) }
 {
-    let (first, rest) = split_word(words);
-    let (second, value) = split_word(rest?);
-    Some(Record {
-        first: number(first)?,
-        second: number(second)?,
-        value: number(value?)?,
-    })
+    match split_word(words) {
+        (word, None) => number(word),
+        (_, Some(_)) => None,
+    }
 }
 
 // The number that a word is.

@@ -1,13 +1,14 @@
 //! The line that has begun.
 ghost use Rattle.std.specs.Prelude.{◌≡◌, ◌==◌, ◌<◌, ◌++◌, ◌∷◌, [], length, take};
 
+use crate::line::MAX_LINE;
 use std::marker::Model;
 
 /// One more than a line may have, so that a longer line is seen to be longer.
-const KEPT: usize = 129;
+pub(crate) const KEPT: usize = MAX_LINE + 1;
 
-/// The first bytes of a line that goes on in the next block: all of them where they are at most 128,
-/// else 129 of them. The others are forgotten.
+/// The first bytes of a line that goes on in the next block, at most `KEPT` of them. The others are
+/// forgotten.
 #[derive(Drop)]
 pub(crate) struct LineBuffer {
     bytes: [u8; KEPT],
@@ -16,12 +17,13 @@ pub(crate) struct LineBuffer {
 
 impl Model for LineBuffer {
     ghost use Rattle.std.specs.Prelude.{List, ℕ, take, ◌≤◌};
+    ghost use Rattle.iddqd_lines.specs.declared.line_buffer.TheConstants.{KEPT};
 
     ghost Value = { List ℕ };
 
     ghost view = { λ l. take l.len l.bytes };
 
-    ghost invariant = { λ l. l.len ≤ 129 };
+    ghost invariant = { λ l. l.len ≤ KEPT };
 }
 
 impl LineBuffer {
@@ -58,7 +60,7 @@ impl LineBuffer {
 
     /// Goes on with these bytes.
     pub(crate) fn extend(&mut self, bytes: &[u8])
-        ensures { self.new ≡ take 129 (self.old ++ bytes.now) }
+        ensures { self.new ≡ take KEPT (self.old ++ bytes.now) }
     {
         let room = KEPT - self.len;
         let kept = &bytes[..bytes.len().min(room)];
@@ -68,7 +70,7 @@ impl LineBuffer {
     }
 
     fn put(&mut self, byte: u8)
-        requires { length self.old < 129 }
+        requires { length self.old < KEPT }
         ensures { self.new ≡ self.old ++ byte ∷ [] }
     {
         self.bytes[self.len] = byte;

@@ -1,12 +1,12 @@
 //! Replies, gathered in one block before they are written.
-ghost use Rattle.std.specs.Prelude.{◌≡◌, ◌++◌, ◌∷◌, ◌+◌, ◌<◌, ◌≤◌, [], length, codes, is_ok, true, OnOk, OnErr, if◌then◌else◌};
-ghost use Rattle.std.specs.Io.KnownBytes.{Appends};
+ghost use Rattle.std.specs.Prelude.{◌≡◌, ◌++◌, ◌∷◌, ◌+◌, ◌<◌, ◌≤◌, [], length, codes, OnOk};
 ghost use Rattle.std.specs.Fmt.{decimal};
 ghost use Rattle.std.specs.List.{flat_map};
-ghost use Rattle.iddqd_lines.specs.Line.{record_text, index_or_dash, name_or_dash, refusal_text, overwritten_text, walk_text, remap_text, text_of};
-ghost use Rattle.iddqd_lines.specs.Replies.{sent_bytes, AppendsSome, spaced, spaced_name};
+ghost use Rattle.iddqd_lines.specs.Line.{record_text, index_or_dash, found_text, removed_text, refusal_text, overwritten_text, walk_text, remap_text, text_of};
+ghost use Rattle.iddqd_lines.specs.Replies.{Sends, spaced, spaced_name};
 
-use crate::digits::Digits;
+use crate::digits::{Digits, MAX_DIGITS};
+use crate::line::{LINE_FEED, SPACE};
 use crate::record::Record;
 use crate::sink::Sink;
 use iddqd::index_remap::IndexRemap;
@@ -32,19 +32,18 @@ pub(crate) struct Replies {
 
 impl Model for Replies {
     ghost use Rattle.std.specs.Prelude.{List, ℕ, take, ◌≤◌};
+    ghost use Rattle.iddqd_lines.specs.declared.replies.TheConstants.{BLOCK};
 
     ghost Value = { List ℕ };
 
     ghost view = { λ r. take r.len r.bytes };
 
-    ghost invariant = { λ r. r.len ≤ 8192 };
+    ghost invariant = { λ r. r.len ≤ BLOCK };
 }
 
 /// Writes all bytes, or a beginning of them where the sink fails.
 pub(crate) fn write_all<O: Sink>(output: &mut O, bytes: &[u8]) -> Result<(), ()>
-    ensures all { OnOk result (Appends (O.written output.old) (O.written output.new) bytes.now) }
-    ensures some { AppendsSome (O.written output.old) (O.written output.new) bytes.now }
-    ensures failed { O.has_failed output.new ≡ (if is_ok result then O.has_failed output.old else true) }
+    ensures { Sends O.Sink output.old [] bytes.now result output.new [] }
 {
     let mut at = 0;
     while at < bytes.len() {
@@ -67,9 +66,7 @@ impl Replies {
     /// Writes all that waits.
     pub(crate) fn flush<O: Sink>(&mut self, output: &mut O) -> Result<(), ()>
         ensures none_waits { OnOk result (self.new ≡ []) }
-        ensures all { OnOk result (Appends (sent_bytes (O.written output.old) self.old) (sent_bytes (O.written output.new) self.new) []) }
-        ensures some { AppendsSome (O.written output.old) (O.written output.new) self.old }
-        ensures failed { O.has_failed output.new ≡ (if is_ok result then O.has_failed output.old else true) }
+        ensures sends { Sends O.Sink output.old self.old [] result output.new self.new }
     {
         write_all(output, &self.bytes[..self.len])?;
         self.len = 0;
@@ -78,10 +75,8 @@ impl Replies {
 
     /// Makes room for one more reply, by writing those that wait where there is none.
     pub(crate) fn make_room<O: Sink>(&mut self, output: &mut O) -> Result<(), ()>
-        ensures room { OnOk result (length self.new + 64 ≤ 8192) }
-        ensures all { OnOk result (Appends (sent_bytes (O.written output.old) self.old) (sent_bytes (O.written output.new) self.new) []) }
-        ensures some { AppendsSome (O.written output.old) (O.written output.new) self.old }
-        ensures failed { O.has_failed output.new ≡ (if is_ok result then O.has_failed output.old else true) }
+        ensures room { OnOk result (length self.new + MAX_REPLY ≤ BLOCK) }
+        ensures sends { Sends O.Sink output.old self.old [] result output.new self.new }
     {
         if self.len <= BLOCK - MAX_REPLY {
             return Ok(());
@@ -98,40 +93,45 @@ impl Replies {
         reply: &Reply<Record>,
         output: &mut O,
     ) -> Result<(), ()>
-        requires { length self.old + 64 ≤ 8192 }
-        ensures all { OnOk result (Appends (sent_bytes (O.written output.old) self.old) (sent_bytes (O.written output.new) self.new) (text_of items.now.store named reply.now ++ 10 ∷ [])) }
-        ensures some { OnErr result (AppendsSome (O.written output.old) (O.written output.new) (self.old ++ text_of items.now.store named reply.now)) }
-        ensures failed { O.has_failed output.new ≡ (if is_ok result then O.has_failed output.old else true) }
+        requires { length self.old + MAX_REPLY ≤ BLOCK }
+        ensures { Sends O.Sink output.old self.old (text_of items.now.store named reply.now ++ LINE_FEED ∷ []) result output.new self.new }
+    {
+        self.put_words(items, named, reply, output)?;
+        self.put(LINE_FEED);
+        Ok(())
+    }
+
+    // The reply without its line feed.
+    fn put_words<S: BuildHasher, O: Sink>(
+        &mut self,
+        items: &KeyedItems<Record, S>,
+        named: Option<ItemIndex>,
+        reply: &Reply<Record>,
+        output: &mut O,
+    ) -> Result<(), ()>
+        requires { length self.old + MAX_REPLY ≤ BLOCK }
+        ensures room { OnOk result (length self.new < BLOCK) }
+        ensures sends { Sends O.Sink output.old self.old (text_of items.now.store named reply.now) result output.new self.new }
     {
         match reply {
-            Reply::Inserted(ix) => {
-                self.put_bytes(b"inserted ");
-                self.put_number(ix.as_u32());
-            }
+            Reply::Compacted(remap) => return self.put_remap(remap, output),
+            Reply::Walked(indexes) => return self.put_walk(indexes, output),
+            Reply::Inserted(ix) => self.put_inserted(*ix),
             Reply::Refused(refusal) => self.put_refusal(refusal),
-            Reply::Found(Some(ix)) => match items.get(*ix) {
-                Some(record) => self.put_record(*ix, record),
-                None => self.put_bytes(b"none"),
-            },
-            Reply::Removed(Some((ix, record))) => self.put_record(*ix, record),
-            Reply::Found(None) | Reply::Removed(None) => self.put_bytes(b"none"),
+            Reply::Found(found) => self.put_found(items, *found),
+            Reply::Removed(removed) => self.put_removed(removed),
             Reply::Overwritten(outcome) => self.put_overwritten(named, outcome),
-            Reply::Compacted(remap) => self.put_remap(remap, output)?,
-            Reply::Walked(indexes) => self.put_walk(indexes, output)?,
             Reply::Cleared => self.put_bytes(b"cleared"),
             Reply::NoMemory => self.put_bytes(b"no memory"),
         }
-        self.put(b'\n');
         Ok(())
     }
 
     // The indexes, with one space between.
     fn put_walk<O: Sink>(&mut self, indexes: &[ItemIndex], output: &mut O) -> Result<(), ()>
-        requires { length self.old + 64 ≤ 8192 }
-        ensures room { OnOk result (length self.new < 8192) }
-        ensures all { OnOk result (Appends (sent_bytes (O.written output.old) self.old) (sent_bytes (O.written output.new) self.new) (walk_text indexes.now)) }
-        ensures some { OnErr result (AppendsSome (O.written output.old) (O.written output.new) (self.old ++ walk_text indexes.now)) }
-        ensures failed { O.has_failed output.new ≡ (if is_ok result then O.has_failed output.old else true) }
+        requires { length self.old + MAX_REPLY ≤ BLOCK }
+        ensures room { OnOk result (length self.new < BLOCK) }
+        ensures sends { Sends O.Sink output.old self.old (walk_text indexes.now) result output.new self.new }
     {
         match indexes.split_first() {
             Some((first, rest)) => {
@@ -147,11 +147,9 @@ impl Replies {
 
     // What became of the indexes.
     fn put_remap<O: Sink>(&mut self, remap: &IndexRemap, output: &mut O) -> Result<(), ()>
-        requires { length self.old + 64 ≤ 8192 }
-        ensures room { OnOk result (length self.new < 8192) }
-        ensures all { OnOk result (Appends (sent_bytes (O.written output.old) self.old) (sent_bytes (O.written output.new) self.new) (remap_text remap.now)) }
-        ensures some { OnErr result (AppendsSome (O.written output.old) (O.written output.new) (self.old ++ remap_text remap.now)) }
-        ensures failed { O.has_failed output.new ≡ (if is_ok result then O.has_failed output.old else true) }
+        requires { length self.old + MAX_REPLY ≤ BLOCK }
+        ensures room { OnOk result (length self.new < BLOCK) }
+        ensures sends { Sends O.Sink output.old self.old (remap_text remap.now) result output.new self.new }
     {
         match remap {
             IndexRemap::Identity => {
@@ -167,14 +165,11 @@ impl Replies {
 
     // The new names, with a space before each. It makes room before each, and behind the last.
     fn put_names<O: Sink>(&mut self, names: &[ItemIndex], output: &mut O) -> Result<(), ()>
-        ensures room { OnOk result (length self.new + 64 ≤ 8192) }
-        ensures all { OnOk result (Appends (sent_bytes (O.written output.old) self.old) (sent_bytes (O.written output.new) self.new) (flat_map spaced_name names.now)) }
-        ensures some { AppendsSome (O.written output.old) (O.written output.new) (self.old ++ flat_map spaced_name names.now) }
-        ensures failed { O.has_failed output.new ≡ (if is_ok result then O.has_failed output.old else true) }
+        ensures room { OnOk result (length self.new + MAX_REPLY ≤ BLOCK) }
+        ensures sends { Sends O.Sink output.old self.old (flat_map spaced_name names.now) result output.new self.new }
     {
         for name in names {
             self.make_room(output)?;
-            self.put(b' ');
             self.put_name(*name);
         }
         self.make_room(output)
@@ -182,37 +177,73 @@ impl Replies {
 
     // The indexes, with a space before each. It makes room before each, and behind the last.
     fn put_indexes<O: Sink>(&mut self, indexes: &[ItemIndex], output: &mut O) -> Result<(), ()>
-        ensures room { OnOk result (length self.new + 64 ≤ 8192) }
-        ensures all { OnOk result (Appends (sent_bytes (O.written output.old) self.old) (sent_bytes (O.written output.new) self.new) (flat_map spaced indexes.now)) }
-        ensures some { AppendsSome (O.written output.old) (O.written output.new) (self.old ++ flat_map spaced indexes.now) }
-        ensures failed { O.has_failed output.new ≡ (if is_ok result then O.has_failed output.old else true) }
+        ensures room { OnOk result (length self.new + MAX_REPLY ≤ BLOCK) }
+        ensures sends { Sends O.Sink output.old self.old (flat_map spaced indexes.now) result output.new self.new }
     {
         for ix in indexes {
             self.make_room(output)?;
-            self.put(b' ');
-            self.put_number(ix.as_u32());
+            self.put_spaced(*ix);
         }
         self.make_room(output)
     }
 
     /// Appends the line that answers what is no command.
     pub(crate) fn put_bad_line(&mut self)
-        requires { length self.old + 64 ≤ 8192 }
-        ensures { self.new ≡ self.old ++ (codes "bad line" ++ 10 ∷ []) }
+        requires { length self.old + MAX_REPLY ≤ BLOCK }
+        ensures { self.new ≡ self.old ++ (codes "bad line" ++ LINE_FEED ∷ []) }
     {
         self.put_bytes(b"bad line\n");
     }
 
+    // The index of a new item.
+    fn put_inserted(&mut self, ix: ItemIndex)
+        requires { length self.old + MAX_REPLY ≤ BLOCK }
+        ensures text { self.new ≡ self.old ++ (codes "inserted " ++ decimal ix) }
+        ensures grows { length self.new < length self.old + MAX_REPLY }
+    {
+        self.put_bytes(b"inserted ");
+        self.put_number(ix.as_u32());
+    }
+
+    // The index that was found and its record, if there is one.
+    fn put_found<S: BuildHasher>(&mut self, items: &KeyedItems<Record, S>, found: Option<ItemIndex>)
+        requires { length self.old + MAX_REPLY ≤ BLOCK }
+        ensures text { self.new ≡ self.old ++ found_text items.now.store found }
+        ensures grows { length self.new < length self.old + MAX_REPLY }
+    {
+        let Some(ix) = found else {
+            self.put_bytes(b"none");
+            return;
+        };
+        match items.get(ix) {
+            Some(record) => self.put_record(ix, record),
+            None => self.put_bytes(b"none"),
+        }
+    }
+
+    // The index and the record that were removed, if there were any.
+    fn put_removed(&mut self, removed: &Option<(ItemIndex, Record)>)
+        requires { length self.old + MAX_REPLY ≤ BLOCK }
+        ensures text { self.new ≡ self.old ++ removed_text removed.now }
+        ensures grows { length self.new < length self.old + MAX_REPLY }
+    {
+        match removed {
+            Some((ix, record)) => self.put_record(*ix, record),
+            None => self.put_bytes(b"none"),
+        }
+    }
+
+    // Why an item wasn't taken.
     fn put_refusal(&mut self, refusal: &InsertRefusal<Record>)
-        requires { length self.old + 63 ≤ 8192 }
+        requires { length self.old + MAX_REPLY ≤ BLOCK }
         ensures text { self.new ≡ self.old ++ refusal_text refusal.now }
-        ensures grows { length self.new ≤ length self.old + 63 }
+        ensures grows { length self.new < length self.old + MAX_REPLY }
     {
         match refusal {
             InsertRefusal::Duplicate { first, second, .. } => {
                 self.put_bytes(b"duplicate ");
                 self.put_index(first);
-                self.put(b' ');
+                self.put(SPACE);
                 self.put_index(second);
             }
             InsertRefusal::Full(_) => self.put_bytes(b"full"),
@@ -222,9 +253,9 @@ impl Replies {
 
     // The index that an overwrite named and the record that it had, or that it isn't live.
     fn put_overwritten(&mut self, named: Option<ItemIndex>, outcome: &Result<Record, Record>)
-        requires { length self.old + 63 ≤ 8192 }
+        requires { length self.old + MAX_REPLY ≤ BLOCK }
         ensures text { self.new ≡ self.old ++ overwritten_text named outcome.now }
-        ensures grows { length self.new ≤ length self.old + 63 }
+        ensures grows { length self.new < length self.old + MAX_REPLY }
     {
         match (named, outcome) {
             (Some(ix), Ok(was)) => self.put_record(ix, was),
@@ -234,24 +265,24 @@ impl Replies {
 
     // An index and its record.
     fn put_record(&mut self, ix: ItemIndex, entry: &Record)
-        requires { length self.old + 63 ≤ 8192 }
+        requires { length self.old + MAX_REPLY ≤ BLOCK }
         ensures text { self.new ≡ self.old ++ record_text ix entry.now }
-        ensures grows { length self.new ≤ length self.old + 43 }
+        ensures grows { length self.new < length self.old + MAX_REPLY }
     {
         self.put_number(ix.as_u32());
-        self.put(b' ');
+        self.put(SPACE);
         self.put_number(entry.first);
-        self.put(b' ');
+        self.put(SPACE);
         self.put_number(entry.second);
-        self.put(b' ');
+        self.put(SPACE);
         self.put_number(entry.value);
     }
 
     // An index, or a dash for none.
     fn put_index(&mut self, ix: &Option<ItemIndex>)
-        requires { length self.old + 10 ≤ 8192 }
+        requires { length self.old + MAX_DIGITS ≤ BLOCK }
         ensures text { self.new ≡ self.old ++ index_or_dash ix.now }
-        ensures grows { length self.new ≤ length self.old + 10 }
+        ensures grows { length self.new ≤ length self.old + MAX_DIGITS }
     {
         match ix {
             Some(ix) => self.put_number(ix.as_u32()),
@@ -259,12 +290,23 @@ impl Replies {
         }
     }
 
-    // A new name, or a dash for a slot that was vacant.
-    fn put_name(&mut self, name: ItemIndex)
-        requires { length self.old + 10 ≤ 8192 }
-        ensures text { self.new ≡ self.old ++ name_or_dash name }
-        ensures grows { length self.new ≤ length self.old + 10 }
+    // An index with a space before it.
+    fn put_spaced(&mut self, ix: ItemIndex)
+        requires { length self.old + MAX_REPLY ≤ BLOCK }
+        ensures text { self.new ≡ self.old ++ spaced ix }
+        ensures grows { length self.new < length self.old + MAX_REPLY }
     {
+        self.put_bytes(b" ");
+        self.put_number(ix.as_u32());
+    }
+
+    // A new name, or a dash for a slot that was vacant, with a space before it.
+    fn put_name(&mut self, name: ItemIndex)
+        requires { length self.old + MAX_REPLY ≤ BLOCK }
+        ensures text { self.new ≡ self.old ++ spaced_name name }
+        ensures grows { length self.new < length self.old + MAX_REPLY }
+    {
+        self.put(SPACE);
         if name == ItemIndex::SENTINEL {
             self.put(b'-');
         } else {
@@ -273,15 +315,15 @@ impl Replies {
     }
 
     fn put_number(&mut self, number: u32)
-        requires { length self.old + 10 ≤ 8192 }
+        requires { length self.old + MAX_DIGITS ≤ BLOCK }
         ensures text { self.new ≡ self.old ++ decimal number }
-        ensures grows { length self.new ≤ length self.old + 10 }
+        ensures grows { length self.new ≤ length self.old + MAX_DIGITS }
     {
         self.put_bytes(Digits::of(number).as_slice());
     }
 
     fn put_bytes(&mut self, bytes: &[u8])
-        requires { length self.old + length bytes.now ≤ 8192 }
+        requires { length self.old + length bytes.now ≤ BLOCK }
         ensures text { self.new ≡ self.old ++ bytes.now }
         ensures grows { length self.new ≡ length self.old + length bytes.now }
     {
@@ -291,7 +333,7 @@ impl Replies {
     }
 
     fn put(&mut self, byte: u8)
-        requires { length self.old < 8192 }
+        requires { length self.old < BLOCK }
         ensures text { self.new ≡ self.old ++ byte ∷ [] }
         ensures grows { length self.new ≡ length self.old + 1 }
     {

@@ -4,13 +4,15 @@
 //! of its own. A line that ends in the block that it began in is read where it stands; of one that
 //! goes on in the next block, a beginning is kept.
 ghost use Rattle.std.specs.Prelude.{◌≡◌, ◌++◌, [], List, ℕ, take, OnOk, IfSome, false};
-ghost use Rattle.std.specs.Io.KnownBytes.{Appends};
+ghost use Rattle.std.specs.Io.{ReadsAtMost};
+ghost use Rattle.std.specs.Io.KnownBytes.{ReadConsumes};
 ghost use Rattle.iddqd_lines.specs.Program.{hash_u32, ServesAll};
-ghost use Rattle.iddqd_lines.specs.Replies.{sent_bytes};
-ghost use Rattle.iddqd_lines.specs.Serve.{IsKept, Obeys, Feeds};
+ghost use Rattle.iddqd_lines.specs.Replies.{sent_bytes, Sends};
+ghost use Rattle.iddqd_lines.specs.Serve.{IsKept, Obeys, Feeds, Finishes};
+ghost use Rattle.iddqd_lines.specs.Stream.{FailsOnErr};
 
-use crate::line::{named_index, parse};
-use crate::line_buffer::LineBuffer;
+use crate::line::{LINE_FEED, named_index, parse};
+use crate::line_buffer::{KEPT, LineBuffer};
 use crate::record::Record;
 use crate::replies::Replies;
 use crate::sink::Sink;
@@ -19,6 +21,7 @@ use crate::split::split_at_first;
 use iddqd::hash_builder::DefaultHashBuilder;
 use iddqd_keyed::keyed_items::KeyedItems;
 use std::alloc::Global;
+use std::fmt;
 use std::hash::BuildHasher;
 
 /// How many bytes are read at once.
@@ -32,6 +35,20 @@ pub enum ServeFault {
     Read,
     /// The sink failed. The replies before and a beginning of the one that was being written went out.
     Write,
+}
+
+impl fmt::Display for ServeFault {
+    ghost use Rattle.std.specs.Prelude.{Some};
+    ghost use Rattle.iddqd_lines.specs.Program.{fault_text};
+
+    ghost output = { λ fault. Some (fault_text fault) };
+
+    fn fmt<W: fmt::Write>(&self, f: &mut fmt::Formatter<W>) -> fmt::Result {
+        match self {
+            ServeFault::Read => write!(f, "read failed"),
+            ServeFault::Write => write!(f, "write failed"),
+        }
+    }
 }
 
 /// Obeys each line of the input, and answers each with a line.
@@ -61,27 +78,24 @@ pub fn serve<I: Source, O: Sink>(
     requires writes { O.has_failed output.old ≡ false }
 
     // Where source and sink tell their bytes, each line has its reply.
-    ensures { OnOk result (IfSome (I.left input.old) (λ bytes. ServesAll bytes (O.written output.old) (O.written output.new))) }
+    ensures serves { OnOk result (IfSome (I.left input.old) (λ bytes. ServesAll bytes (O.written output.old) (O.written output.new))) }
+
+    // Neither has failed where all went well.
+    ensures unbroken { OnOk result ((I.has_failed input.new ≡ false) × (O.has_failed output.new ≡ false)) }
 {
     let mut items = KeyedItems::new(alloc, DefaultHashBuilder::default());
-    let mut begun = LineBuffer::new();
+    let mut partial = LineBuffer::new();
     let mut replies = Replies::new();
     let mut block = [0; BLOCK];
     'reads: for _ in 0..u64::MAX {
         flush(&mut replies, output)?;
-        let Ok(count) = input.read(&mut block) else {
-            return Err(ServeFault::Read);
-        };
+        let count = read(input, &mut block)?;
         if count == 0 {
-            if !begun.is_empty() {
-                obey(&mut items, begun.as_slice(), &mut replies, output)?;
-            }
-            flush(&mut replies, output)?;
-            return Ok(());
+            return finish(&mut items, partial.as_slice(), &mut replies, output);
         }
         feed(
             &mut items,
-            &mut begun,
+            &mut partial,
             &block[..count],
             &mut replies,
             output,
@@ -91,10 +105,22 @@ pub fn serve<I: Source, O: Sink>(
     Err(ServeFault::Read)
 }
 
+// Takes bytes off the input.
+fn read<I: Source>(input: &mut I, block: &mut [u8]) -> Result<usize, ServeFault>
+    ensures bound { ReadsAtMost result block.new }
+    ensures bytes { ReadConsumes (I.left input.old) (I.left input.new) result block.new }
+    ensures failed { FailsOnErr (I.has_failed input.old) result (I.has_failed input.new) }
+{
+    match input.read(block) {
+        Ok(count) => Ok(count),
+        Err(()) => Err(ServeFault::Read),
+    }
+}
+
 // Writes all replies that wait.
 fn flush<O: Sink>(replies: &mut Replies, output: &mut O) -> Result<(), ServeFault>
     ensures none_waits { OnOk result (replies.new ≡ []) }
-    ensures all { OnOk result (Appends (sent_bytes (O.written output.old) replies.old) (sent_bytes (O.written output.new) replies.new) []) }
+    ensures sends { Sends O.Sink output.old replies.old [] result output.new replies.new }
 {
     match replies.flush(output) {
         Ok(()) => Ok(()),
@@ -105,50 +131,71 @@ fn flush<O: Sink>(replies: &mut Replies, output: &mut O) -> Result<(), ServeFaul
 // Obeys the lines that these bytes end, and keeps what they begin.
 fn feed<S: BuildHasher, O: Sink>(
     items: &mut KeyedItems<Record, S>,
-    begun: &mut LineBuffer,
+    partial: &mut LineBuffer,
     bytes: &[u8],
     replies: &mut Replies,
     output: &mut O,
 ) -> Result<(), ServeFault>
-    ensures { OnOk result ((line : List ℕ) → IsKept begun.old line → Feeds (hash_u32 S.BuildHasher S.Hasher.Hasher) (sent_bytes (O.written output.old) replies.old) (sent_bytes (O.written output.new) replies.new) items.old line bytes.now items.new begun.new) }
+    ensures feeds { OnOk result ((line : List ℕ) → IsKept partial.old line → Feeds (hash_u32 S.BuildHasher S.Hasher.Hasher) (sent_bytes (O.written output.old) replies.old) (sent_bytes (O.written output.new) replies.new) items.old line bytes.now items.new partial.new) }
+    ensures failed { FailsOnErr (O.has_failed output.old) result (O.has_failed output.new) }
 {
     let mut rest = bytes;
-    while let Some((end, after)) = split_at_first(rest, b'\n') {
-        end_line(items, begun, end, replies, output)?;
+    while let Some((end, after)) = split_at_first(rest, LINE_FEED) {
+        end_line(items, partial, end, replies, output)?;
         rest = after;
     }
-    begun.extend(rest);
+    partial.extend(rest);
     Ok(())
 }
 
 // Obeys the line that has begun and ends with these bytes.
 fn end_line<S: BuildHasher, O: Sink>(
     items: &mut KeyedItems<Record, S>,
-    begun: &mut LineBuffer,
+    partial: &mut LineBuffer,
     end: &[u8],
     replies: &mut Replies,
     output: &mut O,
 ) -> Result<(), ServeFault>
-    ensures obeys { OnOk result ((line : List ℕ) → begun.old ≡ take 129 line → Obeys (hash_u32 S.BuildHasher S.Hasher.Hasher) (sent_bytes (O.written output.old) replies.old) (sent_bytes (O.written output.new) replies.new) items.old (line ++ end.now) items.new) }
-    ensures forgets { OnOk result (begun.new ≡ []) }
+    ensures obeys { OnOk result ((line : List ℕ) → partial.old ≡ take KEPT line → Obeys (hash_u32 S.BuildHasher S.Hasher.Hasher) (sent_bytes (O.written output.old) replies.old) (sent_bytes (O.written output.new) replies.new) items.old (line ++ end.now) items.new) }
+    ensures forgets { OnOk result (partial.new ≡ []) }
+    ensures failed { FailsOnErr (O.has_failed output.old) result (O.has_failed output.new) }
 {
-    if begun.is_empty() {
+    if partial.is_empty() {
         return obey(items, end, replies, output);
     }
-    begun.extend(end);
-    obey(items, begun.as_slice(), replies, output)?;
-    begun.clear();
+    partial.extend(end);
+    obey(items, partial.as_slice(), replies, output)?;
+    partial.clear();
     Ok(())
 }
 
-// Answers a line. Of a line of more than 128 bytes, what stands behind the first 129 may be left out.
+// At the end of the input: obeys the line that has begun, where one has, and writes all replies.
+fn finish<S: BuildHasher, O: Sink>(
+    items: &mut KeyedItems<Record, S>,
+    partial: &[u8],
+    replies: &mut Replies,
+    output: &mut O,
+) -> Result<(), ServeFault>
+    ensures finishes { OnOk result ((line : List ℕ) → IsKept partial.now line → Finishes (hash_u32 S.BuildHasher S.Hasher.Hasher) (sent_bytes (O.written output.old) replies.old) (O.written output.new) items.old line items.new) }
+    ensures failed { FailsOnErr (O.has_failed output.old) result (O.has_failed output.new) }
+{
+    if partial.is_empty() {
+        return flush(replies, output);
+    }
+    obey(items, partial, replies, output)?;
+    flush(replies, output)
+}
+
+// Answers a line. Of a longer line than a command's, what stands behind the bytes that are kept may be
+// left out.
 fn obey<S: BuildHasher, O: Sink>(
     items: &mut KeyedItems<Record, S>,
     line: &[u8],
     replies: &mut Replies,
     output: &mut O,
 ) -> Result<(), ServeFault>
-    ensures { OnOk result ((whole : List ℕ) → take 129 line.now ≡ take 129 whole → Obeys (hash_u32 S.BuildHasher S.Hasher.Hasher) (sent_bytes (O.written output.old) replies.old) (sent_bytes (O.written output.new) replies.new) items.old whole items.new) }
+    ensures obeys { OnOk result ((whole : List ℕ) → take KEPT line.now ≡ take KEPT whole → Obeys (hash_u32 S.BuildHasher S.Hasher.Hasher) (sent_bytes (O.written output.old) replies.old) (sent_bytes (O.written output.new) replies.new) items.old whole items.new) }
+    ensures failed { FailsOnErr (O.has_failed output.old) result (O.has_failed output.new) }
 {
     let Ok(()) = replies.make_room(output) else {
         return Err(ServeFault::Write);

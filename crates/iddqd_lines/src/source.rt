@@ -1,7 +1,8 @@
 //! Where the bytes of lines come from.
-ghost use Rattle.std.specs.Prelude.{◌≡◌, ℕ, Bool, List, Option, is_ok, true, false, if◌then◌else◌};
+ghost use Rattle.std.specs.Prelude.{◌≡◌, ℕ, Bool, List, Option, false};
 ghost use Rattle.std.specs.Io.{ReadsAtMost};
 ghost use Rattle.std.specs.Io.KnownBytes.{ReadConsumes};
+ghost use Rattle.iddqd_lines.specs.Stream.{FailsOnErr};
 
 use std::io::Read;
 
@@ -18,7 +19,7 @@ pub trait Source {
     fn read(&mut self, buf: &mut [u8]) -> Result<usize, ()>
         ensures bound { ReadsAtMost result buf.new }
         ensures bytes { ReadConsumes (left self.old) (left self.new) result buf.new }
-        ensures failed { has_failed self.new ≡ (if is_ok result then has_failed self.old else true) };
+        ensures failed { FailsOnErr (has_failed self.old) result (has_failed self.new) };
 
     /// Whether a read has failed.
     fn failed(&self) -> bool

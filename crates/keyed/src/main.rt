@@ -4,7 +4,7 @@
 //! where reading or writing failed, which standard error then tells.
 #![tactic(auto)]
 
-use iddqd_lines::serve::{ServeFault, serve};
+use iddqd_lines::serve::serve;
 use iddqd_lines::sink::WriteSink;
 use iddqd_lines::source::ReadSource;
 use std::io;
@@ -13,12 +13,10 @@ use std::process::ExitCode;
 fn main(rt: HostRuntime) -> ExitCode {
     let mut input = ReadSource::new(rt.reader());
     let mut output = WriteSink::new(io::writer(&rt));
-    let told = match serve(rt.alloc(), &mut input, &mut output) {
-        Ok(()) => return ExitCode::SUCCESS,
-        Err(ServeFault::Read) => eprintln!(rt; "keyed: read failed"),
-        Err(ServeFault::Write) => eprintln!(rt; "keyed: write failed"),
+    let Err(fault) = serve(rt.alloc(), &mut input, &mut output) else {
+        return ExitCode::SUCCESS;
     };
     // Where standard error fails too, nobody is left to be told.
-    let _ = told;
+    let _ = eprintln!(rt; "keyed: {fault}");
     ExitCode::FAILURE
 }

@@ -1,8 +1,9 @@
 use Rattle.std.proofs.Common.{◌++◌, take, ap, ◌∙◌}
+use Rattle.iddqd_lines.specs.declared.line_buffer.TheConstants.{KEPT}
 use Rattle.iddqd_lines.proofs.LineBufferLemmas.{take-take, take-kept}
 use Rattle.iddqd_lines.proofs.serve.end_line.Goals as goal
 
 pub returns-clause-obeys : goal.returns-clause-obeys
 returns-clause-obeys g c = λ line kept.
-    let whole = ap (λ l. take 129 (l ++ c.args.end.now)) kept ∙ take-kept 129 line c.args.end.now in
-    c.in_ok-obey.ensures (line ++ c.args.end.now) (rw (c.as_slice.ensures, c.extend.ensures) (take-take 129 _ ∙ whole))
+    let whole = ap (λ l. take KEPT (l ++ c.args.end.now)) kept ∙ take-kept KEPT line c.args.end.now in
+    c.in_ok-obey.ensures.obeys (line ++ c.args.end.now) (rw (c.as_slice.ensures, c.extend.ensures) (take-take KEPT _ ∙ whole))

@@ -4,14 +4,16 @@ use Rattle.iddqd_lines.specs.Replies.{sent_bytes}
 use Rattle.iddqd_lines.specs.Serve.{IsKept, Feeds}
 use Rattle.iddqd_lines.proofs.serve.feed.Given as goal
 
--- the bytes so far were fed
+-- the bytes so far were fed, and no write has failed
 abbrev pub invariant-loop-end : goal.invariant-loop-end
-invariant-loop-end g l =
-    (line : List ℕ) → IsKept l.fn.begun line → record {
-      seen : List ℕ;
-      seen_and_rest : l.fn.bytes ≡ seen ++ l.rest;
-      feeds : Feeds (hash_u32 g.S.BuildHasher g.S.Hasher.Hasher) (sent_bytes (g.O.Sink.written l.fn.output) l.fn.replies) (sent_bytes (g.O.Sink.written l.output) l.replies) l.fn.items line seen l.items l.begun;
-    }
+invariant-loop-end g l = record {
+  feeds : (line : List ℕ) → IsKept l.fn.partial line → record {
+    seen : List ℕ;
+    seen_and_rest : l.fn.bytes ≡ seen ++ l.rest;
+    feeds : Feeds (hash_u32 g.S.BuildHasher g.S.Hasher.Hasher) (sent_bytes (g.O.Sink.written l.fn.output) l.fn.replies) (sent_bytes (g.O.Sink.written l.output) l.replies) l.fn.items line seen l.items l.partial;
+  };
+  writing : g.O.Sink.has_failed l.output ≡ g.O.Sink.has_failed l.fn.output;
+}
 
 abbrev pub decreases-loop-end : goal.decreases-loop-end
 decreases-loop-end g l = length l.rest
