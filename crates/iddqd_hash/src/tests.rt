@@ -98,6 +98,18 @@ fn count_asks(table: &HashTable<u32>, hash: u64, value: u32) -> (bool, u32) {
     (hit, asks)
 }
 
+// A look-up that accepts the first value that it is asked of: whether it hits, and the number of its asks.
+fn accept_first(table: &HashTable<char>, hash: u64) -> (bool, u32) {
+    let mut asks = 0u32;
+    let hit = table
+        .find(hash, |_| {
+            asks = asks.saturating_add(1);
+            true
+        })
+        .is_some();
+    (hit, asks)
+}
+
 // An index for each key, under the hash of the key.
 fn file_all<S: BuildHasher>(
     alloc: Global,
@@ -134,6 +146,47 @@ fn find_number<S: BuildHasher>(
             ensures { result.now ≡ slice_index keys.entry.now ix }
         { &keys[ix.as_u32() as usize] },
     )
+}
+
+// An index whose key is the number, and how many keys the look-up read.
+fn count_reads(table: &MapHashTable, keys: &[u32], number: u32) -> (Option<ItemIndex>, u32)
+    requires { (ix : ℕ) → IsSome (finite.get (filed table.now) ix) → ix < length keys.now }
+{
+    let reads = Cell::new(0u32);
+    let found = table.find_index(
+        &Constant,
+        &Same(&number),
+        |ix: ItemIndex|
+            requires { ix < length keys.now }
+        {
+            reads.set(reads.get().saturating_add(1));
+            &keys[ix.as_u32() as usize]
+        },
+    );
+    (found, reads.get())
+}
+
+// The same under a hash that is given.
+fn count_reads_under(
+    table: &MapHashTable,
+    hash: u64,
+    keys: &[u32],
+    number: u32,
+) -> (Option<ItemIndex>, u32)
+    requires { (ix : ℕ) → IsSome (finite.get (filed table.now) ix) → ix < length keys.now }
+{
+    let reads = Cell::new(0u32);
+    let found = table.find_index_prehashed(
+        MapHash::new(hash),
+        &Same(&number),
+        |ix: ItemIndex|
+            requires { ix < length keys.now }
+        {
+            reads.set(reads.get().saturating_add(1));
+            &keys[ix.as_u32() as usize]
+        },
+    );
+    (found, reads.get())
 }
 
 // The same by a query that isn't a key.
@@ -274,6 +327,10 @@ fn finds_by_hash_and_value(rt: HostRuntime) -> Result<(), Fail> {
     add(&mut table, 9, 'a')?;
     assert!(rt; !has(&table, 9, &'b'));
     assert!(rt; has(&table, 7, &'b'));
+    assert!(rt; !has(&table, 8, &'b'));
+    assert_eq!(rt; accept_first(&table, 7), (true, 1));
+    assert_eq!(rt; accept_first(&table, 9), (true, 1));
+    assert_eq!(rt; accept_first(&table, 8), (false, 0));
     Ok(())
 }
 
@@ -387,6 +444,24 @@ fn finds_indexes_under_a_constant_hasher(rt: HostRuntime) -> Result<(), Fail> {
     assert!(rt; !remove_filed(&mut table, 7, ItemIndex::new(1)));
     assert_eq!(rt; table.len(), 2);
     assert_eq!(rt; answer_each(&mut table, 7, false), (false, 2));
+    Ok(())
+}
+
+// Three keys under one hash, in an order that is open: each look-up reads as many as stand up to its own.
+#[test]
+fn reads_each_key_once_up_to_the_match(rt: HostRuntime) -> Result<(), Fail> {
+    let keys = [10, 20, 30];
+    let table = file_all(rt.alloc(), &Constant, &keys)?;
+    assert_eq!(rt; count_reads(&table, &keys, 40), (None, 3));
+    let mut reads = 0u32;
+    for (place, key) in [(0, 10), (1, 20), (2, 30)] {
+        let (found, count) = count_reads(&table, &keys, key);
+        assert_eq!(rt; found, Some(ItemIndex::new(place)));
+        assert_eq!(rt; count_reads_under(&table, 7, &keys, key), (found, count));
+        reads = reads.saturating_add(count);
+    }
+    assert_eq!(rt; reads, 6);
+    assert_eq!(rt; count_reads_under(&table, 8, &keys, 20), (None, 0));
     Ok(())
 }
 

@@ -31,7 +31,7 @@ insert_prehashed_unchecked-requires-clause-new g c =
 
 pub loop-place-init : goal.loop-place-init
 loop-place-init g c = λ ix stored.
-    absurd (let never : false ≡ true = rw (c.new-table.ensures, finite.get-empty) at stored in cc)
+    absurd (let never : false ≡ true = rw (c.new-table.ensures.empty, finite.get-empty) at stored in cc)
 
 pub loop-place-preserved : goal.loop-place-preserved
 loop-place-preserved g c =

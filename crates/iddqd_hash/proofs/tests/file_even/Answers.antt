@@ -8,15 +8,15 @@ use Rattle.iddqd_hash.proofs.tests.file_even.Goals as goal
 
 pub insert_prehashed_unchecked-requires-clause-new : goal.insert_prehashed_unchecked-requires-clause-new
 insert_prehashed_unchecked-requires-clause-new c =
-    rw (c.in_ok-try_reserve.ensures.contents, c.new-table.ensures) (finite.get-empty nat_cmp _)
+    rw (c.in_ok-try_reserve.ensures.contents, c.new-table.ensures.empty) (finite.get-empty nat_cmp _)
 
 pub insert_prehashed_unchecked-requires-2-clause-new : goal.insert_prehashed_unchecked-requires-2-clause-new
 insert_prehashed_unchecked-requires-2-clause-new c =
-    rw (c.insert_prehashed_unchecked.ensures.added, c.new-2.ensures, c.new-4.ensures, finite.get-insert nat_cmp_total, c.in_ok-try_reserve.ensures.contents, c.new-table.ensures) (finite.get-empty nat_cmp _)
+    rw (c.insert_prehashed_unchecked.ensures.added, c.new-2.ensures, c.new-4.ensures, finite.get-insert nat_cmp_total, c.in_ok-try_reserve.ensures.contents, c.new-table.ensures.empty) (finite.get-empty nat_cmp _)
 
 pub insert_prehashed_unchecked-requires-3-clause-new : goal.insert_prehashed_unchecked-requires-3-clause-new
 insert_prehashed_unchecked-requires-3-clause-new c =
-    rw (c.insert_prehashed_unchecked-2.ensures.added, c.new-4.ensures, c.new-6.ensures, finite.get-insert nat_cmp_total, c.insert_prehashed_unchecked.ensures.added, c.new-2.ensures, finite.get-insert nat_cmp_total, c.in_ok-try_reserve.ensures.contents, c.new-table.ensures) (finite.get-empty nat_cmp _)
+    rw (c.insert_prehashed_unchecked-2.ensures.added, c.new-4.ensures, c.new-6.ensures, finite.get-insert nat_cmp_total, c.insert_prehashed_unchecked.ensures.added, c.new-2.ensures, finite.get-insert nat_cmp_total, c.in_ok-try_reserve.ensures.contents, c.new-table.ensures.empty) (finite.get-empty nat_cmp _)
 
 -- an index that is filed after an insert is the new one, or was filed before
 filed_before : (m : FinMap nat_cmp ℕ) (k v ix : ℕ) → IsSome (finite.get (finite.insert m k v) ix) → (ix ≡ k) ⊎ IsSome (finite.get m ix)
@@ -34,4 +34,4 @@ only_these u v w ix here = ⊎_elim (λ is. inr (inr is)) (λ here.
     absurd (let never : false ≡ true = rw (finite.get-empty nat_cmp ix) at here in cc)) (filed_before _ 0 u ix here)) (filed_before _ 2 v ix here)) (filed_before _ 4 w ix here)
 
 pub returns : goal.returns
-returns c = rw (c.insert_prehashed_unchecked-3.ensures.added, c.new-6.ensures, c.insert_prehashed_unchecked-2.ensures.added, c.new-4.ensures, c.insert_prehashed_unchecked.ensures.added, c.new-2.ensures, c.in_ok-try_reserve.ensures.contents, c.new-table.ensures) (only_these _ _ _)
+returns c = rw (c.insert_prehashed_unchecked-3.ensures.added, c.new-6.ensures, c.insert_prehashed_unchecked-2.ensures.added, c.new-4.ensures, c.insert_prehashed_unchecked.ensures.added, c.new-2.ensures, c.in_ok-try_reserve.ensures.contents, c.new-table.ensures.empty) (only_these _ _ _)

@@ -13,12 +13,12 @@ pub returns-in-Ok-clause-removed : goal.returns-in-Ok-clause-removed
 returns-in-Ok-clause-removed c =
     let test = λ (x : ℕ). x == c.args.ix in
     let found = c.in-Ok.ensures.found in
-    let hit = Hits-filed (filed c.args.table.now) c.args.hash _ (λ s. s.0.now ≡ c.args.ix) test (λ s x b t is i called. search rules) _ found.0 refl found.2 in
-    let is : found.0 ≡ c.args.ix = eqb-true _ _ hit.1 in
+    let hit = Hits-filed (filed c.args.table.now) c.args.hash _ (λ s. s.0.now ≡ c.args.ix) test (λ s x b t is i called. search rules) _ found.value refl found.hit in
+    let is : found.value ≡ c.args.ix = eqb-true _ _ hit.1 in
     let out = c.remove.ensures.removed in
-    let same : Some (out.0, out.1) ≡ Some (c.args.hash, found.0) = sym out.2 ∙ found.1 in
-    let removed : out.1 ≡ c.args.ix = ap (λ (o : Option (ℕ × ℕ)). unwrap_or (option_map (λ p. p.1) o) 0) same ∙ is in
-    let gone = rw (removed, c.in-Ok.ensures.table) at out.3 in
+    let same : Some (out.hash, out.ix) ≡ Some (c.args.hash, found.value) = sym out.is_pair ∙ found.is_pair in
+    let removed : out.ix ≡ c.args.ix = ap (λ (o : Option (ℕ × ℕ)). unwrap_or (option_map (λ p. p.1) o) 0) same ∙ is in
+    let gone = rw (removed, c.in-Ok.ensures.table) at out.others_stay in
     (subst (λ x. finite.get (filed c.args.table.now) x ≡ Some c.args.hash) is hit.0, search (rules, gone))
 
 pub returns-in-Err-clause-missed : goal.returns-in-Err-clause-missed

@@ -6,11 +6,11 @@ use Rattle.iddqd_hash.proofs.tests.removes_by_index.Goals as goal
 
 pub insert_prehashed_unchecked-requires-clause-new : goal.insert_prehashed_unchecked-requires-clause-new
 insert_prehashed_unchecked-requires-clause-new g c =
-    rw (c.in_ok-try_reserve.ensures.contents, c.new-table.ensures) (finite.get-empty nat_cmp _)
+    rw (c.in_ok-try_reserve.ensures.contents, c.new-table.ensures.empty) (finite.get-empty nat_cmp _)
 
 pub insert_prehashed_unchecked-requires-2-clause-new : goal.insert_prehashed_unchecked-requires-2-clause-new
 insert_prehashed_unchecked-requires-2-clause-new g c =
-    rw (c.insert_prehashed_unchecked.ensures.added, c.new-2.ensures, finite.get-insert nat_cmp_total, c.in_ok-try_reserve.ensures.contents, c.new-table.ensures) (finite.get-empty nat_cmp _)
+    rw (c.insert_prehashed_unchecked.ensures.added, c.new-2.ensures, finite.get-insert nat_cmp_total, c.in_ok-try_reserve.ensures.contents, c.new-table.ensures.empty) (finite.get-empty nat_cmp _)
 
 pub remove_by_index-requires : goal.remove_by_index-requires
 remove_by_index-requires g c =
