@@ -1,13 +1,14 @@
 -- What the slots are when the vacant ones are let go, and which name each slot is given.
 use Rattle.std.proofs.Common.{◌≡◌, ℕ, zero, suc, ◌<◌, Bool, List, [], ◌∷◌, map, length, get_or, Some, None, is_some, count_by, slice_get, refl, sym, ap, ◌∙◌, arith}
 use Rattle.std.specs.List.{filter}
-use Rattle.std.proofs.lemmas.List.{length-map, get_or-map}
+use Rattle.std.proofs.lemmas.List.{length-map, get_or-map, nil_from_length}
 use Rattle.std.proofs.lemmas.List.Sums.{length-filter}
 use Rattle.iddqd.specs.declared.item_set.ItemSlot.{ItemSlot}
 use Rattle.iddqd.specs.declared.item_set.ItemSlot.TheVariants.{Occupied, Vacant}
-use Rattle.iddqd.specs.Slots.{item_of, chain_of, IsSound}
+use Rattle.iddqd.specs.Slots.{item_of, chain_of, store_of, IsSoundWithin}
 use Rattle.iddqd.specs.Compaction.{compacted}
-use Rattle.iddqd.proofs.SlotLemmas.{free_is, store_of}
+use Rattle.iddqd.specs.Store.{sentinel}
+use Rattle.iddqd.proofs.SlotLemmas.{free_is}
 use Rattle.iddqd.proofs.CompactionLemmas.{count-filter}
 
 module _ {T : Type 0} where
@@ -25,39 +26,40 @@ module _ {T : Type 0} where
   none_vacant (Occupied item ∷ slots) (suc ix) next found = none_vacant slots ix next found
   none_vacant (Vacant link ∷ slots) ix next found = none_vacant slots ix next found
 
-  -- as many slots are left as there were items
-  pub IsSound-closed_up : (slots : List (ItemSlot T)) (head len : ℕ) → IsSound slots head len → IsSound (filter is_occupied slots) 4294967295 len
-  IsSound-closed_up slots head len sound =
-      let items = map item_of slots in
-      let left : length (filter is_occupied slots) ≡ len = sym (length-map (filter is_occupied slots) item_of) ∙ ap length (items_kept slots) ∙ length-filter is_some items ∙ sym sound.counted in
-      record {
-        counted = sound.counted ∙ sym (length-filter is_some items) ∙ sym (count-filter items) ∙ sym (ap (count_by is_some) (items_kept slots));
-        chain = [];
-        chained = refl;
-        complete = λ ix next vacant. absurd (none_vacant slots ix next vacant);
-        total = omega (arith, left);
-        small = omega (arith, left, sound.total, sound.small);
-      }
-
-  pub closed_up-is : (slots : List (ItemSlot T)) (head len : ℕ) → IsSound slots head len → store_of (filter is_occupied slots) 4294967295 ≡ compacted (store_of slots head)
-  unfolding IsSound-closed_up
-  closed_up-is slots head len sound =
-      let none : chain_of (length (filter is_occupied slots)) (filter is_occupied slots) 4294967295 ≡ [] = free_is _ _ _ (IsSound-closed_up slots head len sound) in
-      ap (λ f. record { items = map item_of (filter is_occupied slots); free = f }) none ∙ ap (λ l. record { items = l; free = [] }) (items_kept slots)
-
   -- what the store has at the index of a slot that was read
   pub item_read : (slots : List (ItemSlot T)) (ix : ℕ) (slot : ItemSlot T) → ix < length slots → slot ≡ get_or slots ix slot → get_or (map item_of slots) ix None ≡ item_of slot
   item_read slots ix slot within read = get_or-map item_of slots ix slot None within ∙ ap item_of (sym read)
 
-  -- nothing is free exactly where as many slots as items are counted
-  pub free_none : (slots : List (ItemSlot T)) (head len : ℕ) → IsSound slots head len → length slots ≡ len → chain_of (length slots) slots head ≡ []
-  free_none slots head len sound same = free_is slots head len sound ∙ by_length sound.chain (omega (arith, sound.total))
-    where
-      by_length : (chain : List ℕ) → length chain ≡ 0 → chain ≡ []
-      by_length [] none = refl
-      by_length (ix ∷ rest) none = absurd (omega arith)
+  module _ {limit : ℕ} {slots : List (ItemSlot T)} {head len : ℕ} (bounded : IsSoundWithin limit slots head len) where
+    -- as many slots are left as there were items
+    pub IsSoundWithin-closed_up : IsSoundWithin limit (filter is_occupied slots) sentinel len
+    IsSoundWithin-closed_up =
+        let items = map item_of slots in
+        let left : length (filter is_occupied slots) ≡ len = sym (length-map (filter is_occupied slots) item_of) ∙ ap length (items_kept slots) ∙ length-filter is_some items ∙ sym bounded.sound.counted in
+        record {
+          sound = record {
+            counted = bounded.sound.counted ∙ sym (length-filter is_some items) ∙ sym (count-filter items) ∙ sym (ap (count_by is_some) (items_kept slots));
+            chain = [];
+            chained = refl;
+            complete = λ ix next vacant. absurd (none_vacant slots ix next vacant);
+            total = omega (arith, left);
+          };
+          small = omega (arith, left, bounded.sound.total, bounded.small);
+          named = bounded.named;
+        }
 
-  pub free_some : (slots : List (ItemSlot T)) (head len : ℕ) → IsSound slots head len → (length slots ≡ len → ⊥) → chain_of (length slots) slots head ≡ [] → ⊥
-  free_some slots head len sound differs none =
-      let short = ap length (sym (free_is slots head len sound) ∙ none) in
-      differs (omega (arith, sound.total))
+    -- nothing is free exactly where as many slots as items are counted
+    pub free_none : length slots ≡ len → chain_of (length slots) slots head ≡ []
+    free_none same = free_is bounded ∙ nil_from_length bounded.sound.chain (omega (arith, bounded.sound.total))
+
+    pub free_some : (length slots ≡ len → ⊥) → chain_of (length slots) slots head ≡ [] → ⊥
+    free_some differs none =
+        let short = ap length (sym (free_is bounded) ∙ none) in
+        differs (omega (arith, bounded.sound.total))
+
+  module _ {limit : ℕ} {slots : List (ItemSlot T)} {head len : ℕ} (bounded : IsSoundWithin limit slots head len) where
+    pub closed_up-is : store_of (filter is_occupied slots) sentinel ≡ compacted (store_of slots head)
+    unfolding IsSoundWithin-closed_up
+    closed_up-is =
+        let none : chain_of (length (filter is_occupied slots)) (filter is_occupied slots) sentinel ≡ [] = free_is (IsSoundWithin-closed_up bounded) in
+        ap (λ f. record { items = map item_of (filter is_occupied slots); free = f }) none ∙ ap (λ l. record { items = l; free = [] }) (items_kept slots)

@@ -1,12 +1,12 @@
--- What callers of `compact` need: a compacted store is valid, and each live index becomes its rank.
+-- For callers of `compact`: a compacted store is valid, and each live index becomes its rank.
 use Rattle.std.proofs.Common.{◌≡◌, ◌≢◌, ◌+◌, ◌<◌, ◌≤◌, ℕ, zero, suc, cond, List, [], ◌∷◌, ◌++◌, map, length, take, get_or, Option, Some, None, is_some, IsSome, count_by, refl, sym, ap, ◌∙◌, inl, inr, arith, add-one, length-take}
 use Rattle.std.specs.List.{IsDistinct, filter}
 use Rattle.std.proofs.lemmas.Bool.{cases_lt}
-use Rattle.std.proofs.lemmas.List.{length-map, get_or-map, get_or_past, map_push}
+use Rattle.std.proofs.lemmas.List.{length-map, get_or-map, map_push}
 use Rattle.std.proofs.lemmas.List.Sums.{sum_by-cons, sum_by-take-le, count_by-le-length, count_by_more_yes, count_by_more_no, length-filter}
-use Rattle.iddqd.proofs.StoreLemmas.{contains_none}
-use Rattle.iddqd.specs.Store.{Store, get, slot_count, live_count, IsValid}
-use Rattle.iddqd.specs.Compaction.{sentinel, CanRemap, remapped, numbers, rank, compacted, new_name, IsRemapOf}
+use Rattle.iddqd.proofs.StoreLemmas.{contains_none, live_within}
+use Rattle.iddqd.specs.Store.{sentinel, Store, get, slot_count, live_count, IsValid}
+use Rattle.iddqd.specs.Compaction.{CanRemap, remapped, numbers, rank, compacted, new_name, IsRemapOf}
 use Rattle.iddqd.specs.declared.index_remap.IndexRemap.{IndexRemap}
 use Rattle.iddqd.specs.declared.index_remap.IndexRemap.TheVariants.{Identity, Permuted}
 
@@ -113,13 +113,6 @@ module _ {T : Type 0} where
         ]
       ]
 
-  live_within : (items : List (Option T)) (ix : ℕ) → IsSome (get_or items ix None) → ix < length items
-  live_within items ix live =
-      elim (cases_lt ix (length items)) [
-        | inl within ↦ within
-        | inr past ↦ let none = get_or_past items ix None past in absurd (cc)
-      ]
-
   -- the rank of a live index is one of the indexes after compaction
   pub rank_below : (s : Store T) (ix : ℕ) → IsSome (get s ix) → rank s ix < live_count s
   rank_below s ix live =
@@ -144,7 +137,7 @@ module _ {T : Type 0} where
   pub compacted_same : (s : Store T) → IsValid s → s.free ≡ [] → compacted s ≡ s
   compacted_same s valid none =
       let kept = filter-dense s.items (all_live s valid none) in
-      ap (λ l. record { items = l; free = [] }) kept ∙ ap (λ f. record { items = s.items; free = f }) (sym none)
+      ap (λ l. record s { items = l; free = [] }) kept ∙ ap (λ f. record s { free = f }) (sym none)
 
   pub IsValid-compacted : (s : Store T) → IsValid s → IsValid (compacted s)
   unfolding IsDistinct

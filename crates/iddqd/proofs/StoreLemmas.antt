@@ -1,5 +1,5 @@
--- The steps of a store keep its free indexes distinct and exactly the vacant ones.
-use Rattle.std.proofs.Common.{◌≡◌, ◌≢◌, ◌⊎◌, ◌<◌, ◌≤◌, ℕ, zero, suc, false, nat_eq, cond, List, [], ◌∷◌, ◌++◌, length, get_or, set, Option, Some, None, is_some, refl, sym, ap, subst, ◌∙◌, inl, inr, arith, length-set}
+-- For callers: the steps of a store keep its free indexes distinct and exactly the vacant ones.
+use Rattle.std.proofs.Common.{◌≡◌, ◌≢◌, ◌⊎◌, ◌<◌, ◌≤◌, ℕ, zero, suc, false, nat_eq, cond, List, [], ◌∷◌, ◌++◌, length, get_or, set, slice_get, Option, Some, None, is_some, IsSome, count_by, ◌+◌, refl, sym, ap, subst, ◌∙◌, inl, inr, arith, length-set}
 use Rattle.std.specs.List.{Contains, IsDistinct, All}
 use Rattle.std.proofs.lemmas.Bool.{cases_eq, cases_lt}
 use Rattle.std.proofs.lemmas.Grind.{common_steps}
@@ -7,7 +7,8 @@ use Rattle.std.proofs.lemmas.List.{get_or_past, get_or-set_same, get_or-set_othe
 use Rattle.std.proofs.lemmas.List.Elements.{Contains-get_or, recursion_from_All, All-from_recursion, All-contains}
 use Rattle.std.proofs.lemmas.List.Sums.{sum_by-set, sum_by_push}
 use Rattle.std.proofs.lemmas.Map.Keys.{IsDistinct-cons, IsDistinct-head, IsDistinct-tail}
-use Rattle.iddqd.specs.Store.{Store, get, IsVacant, IsValid, IsFull, empty, inserted, removed, rebound}
+use Rattle.iddqd.specs.Store.{sentinel, Store, get, slot_count, next_index, first_or, IsVacant, IsValid, IsFull, empty, cleared, inserted, removed, rebound}
+use Rattle.iddqd.specs.ItemSet.{GrowsIfDense}
 
 module _ {A : Type 0} where
   pub contains_head : (x : A) (xs : List A) → Contains (x ∷ xs) x
@@ -35,8 +36,13 @@ same_if : (a b : ℕ) → nat_eq a b ≡ false → a ≢ b
 same_if a b test same = grind (arith, common_steps, test, same)
 
 module _ {T : Type 0} where
-  live_within : (items : List (Option T)) (ix : ℕ) (item : T) → get_or items ix None ≡ Some item → ix < length items
-  live_within items ix item live = grind (arith, get_or_past, live)
+  -- a live index is that of a slot
+  pub live_within : (items : List (Option T)) (ix : ℕ) → IsSome (get_or items ix None) → ix < length items
+  live_within items ix live =
+      elim (cases_lt ix (length items)) [
+        | inl within ↦ within
+        | inr past ↦ let none = get_or_past items ix None past in absurd (cc)
+      ]
 
   pub IsValid-empty : IsValid (empty {T = T})
   unfolding IsDistinct
@@ -47,6 +53,9 @@ module _ {T : Type 0} where
     small = omega arith;
   }
 
+  pub IsValid-cleared : (s : Store T) → IsValid (cleared s)
+  IsValid-cleared s = IsValid-empty
+
   -- a live index is not free
   live_not_free : (s : Store T) (ix : ℕ) (item : T) → IsValid s → get s ix ≡ Some item → (other : ℕ) → Contains s.free other → ix ≢ other
   live_not_free s ix item valid live other listed same =
@@ -56,7 +65,7 @@ module _ {T : Type 0} where
 
   pub IsValid-removed : (s : Store T) (ix : ℕ) (item : T) → IsValid s → get s ix ≡ Some item → IsValid (removed s ix)
   IsValid-removed s ix item valid live =
-      let within = live_within s.items ix item live in
+      let within = live_within s.items ix (ap is_some live) in
       record {
         distinct = IsDistinct-cons nat_eq ix s.free (recursion_from_All (λ y. nat_eq ix y ≡ false) s.free not_free) valid.distinct;
         vacant = λ other. (λ listed. freed other (contains_cases ix other s.free listed), λ vacant. listed_if other vacant (cases_eq other ix));
@@ -72,7 +81,7 @@ module _ {T : Type 0} where
 
       freed : (other : ℕ) → ((ix ≡ other) ⊎ Contains s.free other) → IsVacant (removed s ix) other
       freed other (inl same) =
-          let within = live_within s.items ix item live in
+          let within = live_within s.items ix (ap is_some live) in
           subst (IsVacant (removed s ix)) same (omega (arith, within, length-set s.items ix None), get_or-set_same s.items ix None None within)
       freed other (inr listed) =
           let was = (valid.vacant other).0 listed in
@@ -86,7 +95,7 @@ module _ {T : Type 0} where
 
   -- a live index that is given another item has it
   pub get-rebound_at : (s : Store T) (ix : ℕ) (item x : T) → get s ix ≡ Some x → get (rebound s ix item) ix ≡ Some item
-  get-rebound_at s ix item x live = get_or-set_same s.items ix (Some item) None (live_within s.items ix x live)
+  get-rebound_at s ix item x live = get_or-set_same s.items ix (Some item) None (live_within s.items ix (ap is_some live))
 
   -- and the others give what they gave
   pub get-rebound_other : (s : Store T) (ix other : ℕ) (item : T) → other ≢ ix → get (rebound s ix item) other ≡ get s other
@@ -94,7 +103,7 @@ module _ {T : Type 0} where
 
   pub IsValid-rebound : (s : Store T) (ix : ℕ) (item x : T) → IsValid s → get s ix ≡ Some x → IsValid (rebound s ix item)
   IsValid-rebound s ix item x valid live =
-      let within = live_within s.items ix x live in
+      let within = live_within s.items ix (ap is_some live) in
       let same = length-set s.items ix (Some item) in
       record {
         distinct = valid.distinct;
@@ -120,6 +129,30 @@ module _ {T : Type 0} where
       listed_if other vacant (inr apart) =
           (valid.vacant other).1 (omega (arith, vacant.0, length-set s.items ix (Some item)), sym (get-rebound_other s ix other item apart) ∙ vacant.1)
 
+  -- where the next index is that of a new slot, nothing is free
+  pub none_free : (s : Store T) → IsValid s → next_index s ≡ slot_count s → s.free ≡ []
+  none_free s valid new = by_free s.free (λ ix listed. ((valid.vacant ix).0 listed).0) new
+    where
+      by_free : (free : List ℕ) → ((ix : ℕ) → Contains free ix → ix < slot_count s) → first_or free (slot_count s) ≡ slot_count s → free ≡ []
+      by_free [] within new = refl
+      by_free (ix ∷ rest) within new = absurd (omega (arith, within ix (contains_head ix rest), new))
+
+  -- and else it is the first of the free
+  pub first_free : (s : Store T) → next_index s ≢ slot_count s → slice_get s.free 0 ≡ Some (next_index s)
+  first_free s old = by_free s.free old
+    where
+      by_free : (free : List ℕ) → first_or free (slot_count s) ≢ slot_count s → slice_get free 0 ≡ Some (first_or free (slot_count s))
+      by_free [] old = absurd (old refl)
+      by_free (ix ∷ rest) old = refl
+
+  -- an insert makes a slot only where no slot is vacant
+  pub GrowsIfDense-inserted : (s : Store T) (item : T) → IsValid s → GrowsIfDense s (inserted s item)
+  GrowsIfDense-inserted s item valid = by_free s.items s.free valid.counted
+    where
+      by_free : (items : List (Option T)) (free : List ℕ) → count_by is_some items + length free ≡ length items → GrowsIfDense (record { items = items; free = free }) (inserted (record { items = items; free = free }) item)
+      by_free items [] counted = record { dense = λ _. length_push items (Some item); vacant = λ below. absurd (omega arith) }
+      by_free items (ix ∷ rest) counted = record { dense = λ all. absurd (omega arith); vacant = λ _. length-set items ix (Some item) }
+
   pub IsValid-inserted : (s : Store T) (item : T) → IsValid s → (IsFull s → ⊥) → IsValid (inserted s item)
   unfolding IsDistinct
   IsValid-inserted s item valid not_full = by_free s.items s.free valid not_full
@@ -130,7 +163,7 @@ module _ {T : Type 0} where
             distinct = tt;
             vacant = λ ix. (λ listed. absurd (contains_none ix listed), λ vacant. absurd (none_vacant ix vacant (cases_lt ix (length items))));
             counted = rw (sum_by_push (λ o. cond (is_some o) 1 0) items (Some item)) (omega (arith, valid.counted, length_push items (Some item)));
-            small = below (cases_eq (length items) 4294967295);
+            small = below (cases_eq (length items) sentinel);
           }
         where
           none_vacant : (ix : ℕ) → IsVacant (inserted (record { items = items; free = [] }) item) ix → ((ix < length items) ⊎ (length items ≤ ix)) → ⊥
@@ -142,7 +175,7 @@ module _ {T : Type 0} where
               let none = vacant.1 in
               cc
 
-          below : ((length items ≡ 4294967295) ⊎ (length items ≡ 4294967295 → ⊥)) → length (items ++ Some item ∷ []) ≤ 4294967295
+          below : ((length items ≡ sentinel) ⊎ (length items ≡ sentinel → ⊥)) → length (items ++ Some item ∷ []) ≤ sentinel
           below (inl most) = absurd (not_full (refl, most))
           below (inr fewer) = omega (arith, valid.small, length_push items (Some item))
 

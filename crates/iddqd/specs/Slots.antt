@@ -1,6 +1,7 @@
 -- How an `ItemSet` lays out its slots: the chain of the vacant ones. No public clause cites this module.
 use Rattle.std.specs.Prelude.{◌≡◌, ℕ, zero, suc, ◌+◌, ◌≤◌, List, [], ◌∷◌, map, length, Option, Some, None, is_some, count_by, slice_get}
 use Rattle.std.specs.List.{Contains}
+use Rattle.iddqd.specs.Store.{Store, sentinel}
 use Rattle.iddqd.specs.declared.item_set.ItemSlot.{ItemSlot}
 use Rattle.iddqd.specs.declared.item_set.ItemSlot.TheVariants.{Occupied, Vacant}
 
@@ -28,9 +29,13 @@ module _ {T : Type 0} where
 
   -- the list is the chain from head, to its end
   abbrev pub IsChain : List (ItemSlot T) → ℕ → List ℕ → Type 0
-  IsChain slots head [] = head ≡ 4294967295
+  IsChain slots head [] = head ≡ sentinel
   IsChain slots head (ix ∷ rest) =
       (next : ℕ) × (ix ≡ head) × (slice_get slots head ≡ Some (Vacant next)) × IsChain slots next rest
+
+  -- what a contract sees of these slots and this head
+  abbrev pub store_of : List (ItemSlot T) → ℕ → Store T
+  store_of slots head = record { items = map item_of slots; free = chain_of (length slots) slots head }
 
   -- `len` counts the items, and the chain from `head` has each vacant slot once
   pub record IsSound (slots : List (ItemSlot T)) (head len : ℕ) : Type 0 where
@@ -39,4 +44,9 @@ module _ {T : Type 0} where
     pub chained : IsChain slots head chain
     pub complete : (ix next : ℕ) → slice_get slots ix ≡ Some (Vacant next) → Contains chain ix
     pub total : len + length chain ≡ length slots
-    pub small : length slots ≤ 4294967295
+
+  -- they are sound, and there are no more slots than a limit that leaves each slot an index
+  pub record IsSoundWithin (limit : ℕ) (slots : List (ItemSlot T)) (head len : ℕ) : Type 0 where
+    pub sound : IsSound slots head len
+    pub small : length slots ≤ limit
+    pub named : limit ≤ sentinel

@@ -3,7 +3,7 @@
 //! A slot is occupied by an item or vacant. The vacant slots are linked into a chain, that freed
 //! last first, so an insert finds its slot without a search and a removal needs no memory: the set
 //! has one block of memory and two numbers beside it.
-ghost use Rattle.std.specs.Prelude.{◌≡◌, ℕ, [], ◌+◌, ◌<◌, ◌≤◌, ◌↔◌, length, map, Some, None, IsSome, IsTrue, IsOk, IfOk, OnOk, OnErr, IfNone, OnSome, option_copied};
+ghost use Rattle.std.specs.Prelude.{◌≡◌, ℕ, [], ◌+◌, ◌<◌, ◌≤◌, ◌↔◌, length, map, Some, None, IsSome, IsTrue, IsOk, IfOk, OnOk, OnErr, IfNone, OnSome, option_copied, slice_get};
 ghost use Rattle.std.specs.Option.{option_copied_mut};
 ghost use Rattle.std.specs.Borrow.{sem, Lends, RestsIfErr};
 ghost use Rattle.iddqd.specs.Store.{sentinel, get, slot_count, live_count, next_index, IsFull, IsValid, empty, cleared, inserted, removed};
@@ -50,24 +50,19 @@ pub struct ItemSet<T> {
 }
 
 impl<T> Model for ItemSet<T> {
-    ghost use Rattle.std.specs.Prelude.{map, length, vec_capacity};
+    ghost use Rattle.std.specs.Prelude.{vec_capacity};
+    ghost use Rattle.iddqd.specs.Store.{slot_limit};
     ghost use Rattle.iddqd.specs.ItemSet.{SizedStore, sized_store_code};
 
     ghost Value = { SizedStore T };
 
     ghost coded = { sized_store_code T.code };
 
-    ghost use Rattle.iddqd.specs.Slots.{item_of, chain_of, IsSound};
+    ghost use Rattle.iddqd.specs.Slots.{store_of, IsSoundWithin};
 
-    ghost view = { λ s. record {
-      store = record {
-        items = map item_of s.slots.items;
-        free = chain_of (length s.slots.items) s.slots.items s.free_head;
-      };
-      capacity = vec_capacity s.slots;
-    } };
+    ghost view = { λ s. record { store = store_of s.slots.items s.free_head; capacity = vec_capacity s.slots } };
 
-    ghost invariant = { λ s. IsSound s.slots.items s.free_head s.len };
+    ghost invariant = { λ s. IsSoundWithin (slot_limit (store_of s.slots.items s.free_head)) s.slots.items s.free_head s.len };
 }
 
 impl<T> ItemSlot<T> {
@@ -189,7 +184,8 @@ impl<T> ItemSet<T> {
         ensures memory { result ≡ Err GrowError.Memory → room self.old ≡ 0 }
     {
         self.reserve_one()?;
-        Ok(GrowHandle { set: self })
+        let ix = self.next_index();
+        Ok(GrowHandle { set: self, ix })
     }
 
     /// Moves every item down to its rank, so that no slot is vacant, and tells the new names.
@@ -246,7 +242,11 @@ impl<T> fmt::Debug for ItemSet<T> {
 #[derive(Drop)]
 pub struct GrowHandle<'a, T> {
     set: &'a mut ItemSet<T>,
+    // The index that `insert` will use.
+    ix: ItemIndex,
     ghost reserved: { 1 ≤ room set.now },
+    ghost next: { ix ≡ next_index set.now.store },
+    ghost assignable: { ix < sentinel },
 }
 
 impl<'a, T> GrowHandle<'a, T> {
@@ -258,7 +258,7 @@ impl<'a, T> GrowHandle<'a, T> {
         ensures index { result ≡ next_index (handle_store self.now) }
         ensures assignable { result < sentinel }
     {
-        self.set.next_index()
+        self.ix
     }
 
     /// The item at an index, if it is live.
@@ -277,7 +277,9 @@ impl<'a, T> GrowHandle<'a, T> {
         ensures inserted { self.exit.0.now ≡ record (handle_set self.entry) { store = inserted (handle_store self.entry) item } }
         ensures slots { GrowsIfDense (handle_store self.entry) self.exit.0.now.store }
     {
-        self.set.fill(item)
+        let ix = self.ix;
+        self.set.fill(ix, item);
+        ix
     }
 }
 
@@ -356,25 +358,40 @@ impl<T> ItemSet<T> {
     }
 
     // Stores an item at the next index.
-    fn fill(&mut self, item: T) -> ItemIndex
-        requires { 1 ≤ room self.old }
-        ensures index { result ≡ next_index self.old.store }
-        ensures assignable { result < sentinel }
+    fn fill(&mut self, ix: ItemIndex, item: T)
+        requires room { 1 ≤ room self.old }
+        requires next { ix ≡ next_index self.old.store }
         ensures inserted { self.new ≡ record self.old { store = inserted self.old.store item } }
         ensures slots { GrowsIfDense self.old.store self.new.store }
     {
-        let ix = self.next_index();
-        self.len += 1;
-        if self.free_head == ItemIndex::SENTINEL {
-            self.slots.push_reserved(ItemSlot::Occupied(item));
-            return ix;
+        if ix.as_u32() as usize == self.slot_count() {
+            self.push(item)
+        } else {
+            self.reuse(ix, item)
         }
-        let at = self.free_head.as_u32() as usize;
-        match mem::replace(&mut self.slots[at], ItemSlot::Occupied(item)) {
+    }
+
+    // Stores an item in a new slot.
+    fn push(&mut self, item: T)
+        requires room { 1 ≤ room self.old }
+        requires dense { self.old.store.free ≡ [] }
+        ensures { self.new ≡ record self.old { store = inserted self.old.store item } }
+    {
+        self.len += 1;
+        self.slots.push_reserved(ItemSlot::Occupied(item));
+    }
+
+    // Stores an item in the vacant slot that was freed last.
+    fn reuse(&mut self, ix: ItemIndex, item: T)
+        requires room { 1 ≤ room self.old }
+        requires first { slice_get self.old.store.free 0 ≡ Some ix }
+        ensures { self.new ≡ record self.old { store = inserted self.old.store item } }
+    {
+        self.len += 1;
+        match mem::replace(&mut self.slots[ix.as_u32() as usize], ItemSlot::Occupied(item)) {
             ItemSlot::Vacant { next } => self.free_head = next,
             ItemSlot::Occupied(_) => unreachable!(),
         }
-        ix
     }
 
     // The new name of each slot, where every item moves down to its rank.

@@ -6,15 +6,15 @@ use Rattle.iddqd.proofs.item_set.ItemSet.compact.Goals as goal
 
 pub returns-then-len-self-clause-compacted : goal.returns-then-len-self-clause-compacted
 returns-then-len-self-clause-compacted g c =
-    let none = free_none _ _ _ c.self.invariant (omega arith) in
-    rw (← c.self.view_is) (sym (compacted_same _ (store-is-valid _ _ _ c.self.invariant) none))
+    let none = free_none c.self.invariant (omega arith) in
+    rw (← c.self.view_is) (sym (compacted_same _ (store-is-valid c.self.invariant) none))
 
 pub returns-then-len-self-clause-ranks : goal.returns-then-len-self-clause-ranks
 returns-then-len-self-clause-ranks g c = rank_rises c.args.self.now.store
 
 pub returns-in_err-names-clause-dense : goal.returns-in_err-names-clause-dense
 returns-in_err-names-clause-dense g c =
-    let some = free_some _ _ _ c.self.invariant (omega arith) in
+    let some = free_some c.self.invariant (omega arith) in
     rw (← c.self.view_is) (λ none. absurd (some none))
 
 pub returns-in_err-names-clause-ranks : goal.returns-in_err-names-clause-ranks
@@ -22,7 +22,7 @@ returns-in_err-names-clause-ranks g c = rank_rises c.args.self.now.store
 
 pub returns-clause-remap : goal.returns-clause-remap
 returns-clause-remap g c =
-    let some = free_some _ _ _ c.self.invariant (omega arith) in
+    let some = free_some c.self.invariant (omega arith) in
     (rw (← c.self.view_is) some, c.in_ok-names.ensures)
 
 pub returns-clause-ranks : goal.returns-clause-ranks
