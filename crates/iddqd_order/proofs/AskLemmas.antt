@@ -1,4 +1,4 @@
--- Asks one after another.
+-- For callers too. Asks one after another.
 use Rattle.std.proofs.Common.{◌≡◌, ◌+◌, ◌≤◌, suc, sym, subst, zero-add, ℕ, arith}
 use Rattle.std.specs.declared.cmp.Ordering.{Ordering}
 use Rattle.std.specs.Fn.{Called, Mut}

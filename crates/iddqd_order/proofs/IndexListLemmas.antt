@@ -1,5 +1,5 @@
--- What an insert and a removal keep of a list.
-use Rattle.std.proofs.Common.{◌≡◌, ◌≢◌, ◌∙◌, ℕ, zero, suc, ◌+◌, ◌-◌, ◌<◌, ◌≤◌, ◌==◌, List, [], ◌∷◌, length, get_or, Contains, refl, sym, ap, subst, arith, inl, inr, nat_eq, not, Bool, true, false, insert, remove, filter, Option, Some, None, is_some}
+-- For callers too. What an insert and a removal keep of a list.
+use Rattle.std.proofs.Common.{◌≡◌, ◌≢◌, ◌∙◌, ℕ, zero, suc, ◌+◌, ◌-◌, ◌<◌, ◌≤◌, ◌==◌, List, [], ◌∷◌, length, get_or, Contains, refl, sym, ap, subst, arith, inl, inr, nat_eq, not, Bool, true, false, insert, remove, filter, ne_eqb, Option, Some, None, is_some}
 use Rattle.std.proofs.lemmas.Bool.Decides.{nat_tests}
 use Rattle.std.specs.List.{IsDistinct, AllByRecursion, AllPairs}
 use Rattle.std.proofs.lemmas.Map.Keys.{apart_from_distinct, IsDistinct-from_apart, IsDistinct-head, IsDistinct-tail}
@@ -51,9 +51,6 @@ module _ {X : Type 0} (R : X → X → Type 0) (xs : List X) (p : ℕ) (x : X) (
             ]
       ]
 
-pub eqb-apart : (a b : ℕ) → (a ≡ b → ⊥) → nat_eq a b ≡ false
-eqb-apart a b n = grind (arith, nat_tests)
-
 pub IsIndexList-nil : IsIndexList []
 unfolding IsDistinct
 IsIndexList-nil = record { distinct = tt; assigned = All-nil (λ ix. ix ≢ sentinel) }
@@ -66,8 +63,8 @@ IsIndexList-insert xs p x within absent assigned h =
     record {
       distinct = IsDistinct-from_apart nat_eq (insert xs p x) (AllPairs-insert (λ a b. nat_eq a b ≡ false) xs p x within
           (λ i j d lt below. apart_from_distinct nat_eq xs i j d h.distinct lt below)
-          (λ k d lt. eqb-apart _ _ (other k d (omega arith)))
-          (λ k d high lt. eqb-apart _ _ (λ e. other k d lt (sym e))));
+          (λ k d lt. ne_eqb _ _ (other k d (omega arith)))
+          (λ k d high lt. ne_eqb _ _ (λ e. other k d lt (sym e))));
       assigned = All-append P _ _ (All-take P p xs h.assigned) (All-cons P x _ assigned (All-drop P p xs h.assigned));
     }
 

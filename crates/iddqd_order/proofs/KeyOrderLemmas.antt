@@ -1,25 +1,21 @@
--- What lawful keys give a table in order by key, ties by index.
-use Rattle.std.proofs.Common.{◌≡◌, ◌∙◌, ℕ, ◌+◌, ◌<◌, ◌==◌, ◌⊎◌, inl, inr, if◌then◌else◌, List, None, Some, length, map, get_or, insert, Contains, refl, sym, ap, Bool, true, false, Ordering, arith}
+-- For callers too. What lawful keys give a table in order by key, ties by index.
+use Rattle.std.proofs.Common.{◌≡◌, ◌∙◌, ℕ, ◌+◌, ◌<◌, ◌==◌, ◌⊎◌, inl, inr, if◌then◌else◌, List, None, Some, length, map, get_or, insert, Contains, refl, sym, ap, Bool, true, false, eqb-true, Ordering, arith}
 use Rattle.std.specs.Cmp.{IsTotalOrder, nat_cmp_is}
 use Rattle.std.specs.List.Sorted.{IsStrictlySortedBy}
 use Rattle.std.specs.Ordering.{nat_cmp, ordering_then, ordering_reverse, MatchOrdering}
 use Rattle.std.specs.declared.cmp.Ordering.TheVariants.{Less, Equal, Greater}
-use Rattle.std.proofs.lemmas.Bool.Decides.{nat_tests}
 use Rattle.std.proofs.lemmas.Cmp.{nat_cmp_total, on_total, then_total, tied_itself, alike_right, ranked}
 use Rattle.std.proofs.lemmas.List.{get_or_default, get_or-map, length-map}
 use Rattle.std.proofs.lemmas.List.Elements.{Contains-get_or}
 use Rattle.std.proofs.lemmas.Map.Keys.{Less-from_sorted, sorted_from_all_adjacent}
+use Rattle.iddqd.specs.MapHashLaws.{greater_before_in}
 use Rattle.iddqd_order.specs.KeyOrder.{key_then_index, IsInKeyOrder, ComparesKeys}
 use Rattle.iddqd_order.specs.Search.{with_ties, IsRising, IsPlace}
 use Rattle.iddqd_order.proofs.IndexListLemmas.{AllPairs-insert}
 
 -- two that stand the other way round
-module _ {K : Type 0} {c : K → K → Ordering} (o : IsTotalOrder c) where
-  Less-from_greater : {a b : K} → c a b ≡ Greater → c b a ≡ Less
-  Less-from_greater {a} {b} e = o.antisymm b a ∙ ap ordering_reverse e
-
-  Greater-from_less : {a b : K} → c a b ≡ Less → c b a ≡ Greater
-  Greater-from_less {a} {b} e = o.antisymm b a ∙ ap ordering_reverse e
+Less-from_greater : {K : Type 0} {c : K → K → Ordering} → IsTotalOrder c → {a b : K} → c a b ≡ Greater → c b a ≡ Less
+Less-from_greater o {a} {b} e = o.antisymm b a ∙ ap ordering_reverse e
 
 -- a list of indexes that a total order sorts, and answers that place ix in that order
 module _ {c : ℕ → ℕ → Ordering} (o : IsTotalOrder c) (xs : List ℕ) (sorted : IsStrictlySortedBy c xs)
@@ -27,8 +23,7 @@ module _ {c : ℕ → ℕ → Ordering} (o : IsTotalOrder c) (xs : List ℕ) (so
   pub IsRising-from_sorted : IsRising answer xs
   IsRising-from_sorted = record {
     greater_before = λ i j lt within e.
-        let after : c (get_or xs j 0) ix ≡ Less = Less-from_greater o (sym (is j within) ∙ e) in
-        is i (omega arith) ∙ Greater-from_less o (o.trans _ _ _ (Less-from_sorted c xs i j 0 sorted lt within) after);
+        is i (omega arith) ∙ greater_before_in o ix _ _ (Less-from_sorted c xs i j 0 sorted lt within) (sym (is j within) ∙ e);
     less_after = λ i j lt within e.
         is j within ∙ o.trans _ _ _ (sym (is i (omega arith)) ∙ e) (Less-from_sorted c xs i j 0 sorted lt within);
   }
@@ -42,9 +37,6 @@ module _ {c : ℕ → ℕ → Ordering} (o : IsTotalOrder c) (xs : List ℕ) (so
       (λ i d low. ap (λ y. c y ix) (get_or_default xs i d 0 (omega arith)) ∙ Less-from_greater o (sym (is i (omega arith)) ∙ split.greater_before i low))
       (λ i d high in_list. ap (c ix) (get_or_default xs i d 0 in_list) ∙ sym (is i in_list) ∙ split.less_from i high in_list)
       k (k + 1) 0 (omega arith) lt)
-
-same_number : (a b : ℕ) → (a == b) ≡ true → a ≡ b
-same_number a b e = grind (arith, nat_tests)
 
 choice : (b : Bool) (r s : Ordering) → (b ≡ true → Equal ≡ s) → r ≡ s → if b then Equal else r ≡ s
 choice true r s h e = h refl
@@ -65,7 +57,7 @@ module _ {K : Type 0} {cmp : K → K → Ordering} (o : IsTotalOrder cmp) (key :
   with_ties-key ix answer xs compares k lt =
       let j = get_or xs k 0 in
       choice (j == ix) _ _ (λ e.
-      let same : j ≡ ix = same_number j ix e in
+      let same : j ≡ ix = eqb-true j ix e in
       sym (ap (key_then_index cmp key ix) same ∙ tied_itself key_then_index-total ix))
       (ap (λ r. ordering_then r (nat_cmp ix j)) (compares k 0 lt))
 
@@ -94,7 +86,7 @@ module _ {K : Type 0} {cmp : K → K → Ordering} (o : IsTotalOrder cmp) (key :
   pub IsRising-from_key : (sought : K) (xs : List ℕ) (answer : ℕ → Ordering) → IsInKeyOrder cmp key xs → ComparesKeys (cmp sought) key answer xs → IsRising (with_ties None answer) xs
   IsRising-from_key sought xs answer = IsRising-from_query (cmp sought)
       (λ a b lt less. o.trans sought a b less lt)
-      (λ a b lt greater. Greater-from_less o (o.trans a b sought lt (Less-from_greater o greater)))
+      (greater_before_in o sought)
       (λ a b equal. alike_right o a b sought equal)
       xs answer
 

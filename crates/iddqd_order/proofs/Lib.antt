@@ -1,7 +1,7 @@
 pub mod AskLemmas
-pub mod CountSteps
-pub mod DigitLemmas
+mod CountSteps
+mod DigitLemmas
 pub mod IndexListLemmas
 pub mod KeyOrderLemmas
 pub mod RenameLemmas
-pub mod SearchLemmas
+mod SearchLemmas

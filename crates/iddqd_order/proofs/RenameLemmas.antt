@@ -1,7 +1,6 @@
--- What a list of indexes keeps where each of them gets a new name.
-use Rattle.std.proofs.Common.{◌≡◌, ◌≢◌, ◌∙◌, ℕ, ◌<◌, List, length, map, get_or, Contains, nat_eq, false, inl, inr, sym, ap, arith}
-use Rattle.std.proofs.lemmas.Bool.{cases_lt}
-use Rattle.std.proofs.lemmas.Bool.Decides.{nat_tests}
+-- For callers too. What a list of indexes keeps where each of them gets a new name.
+use Rattle.std.proofs.Common.{◌≡◌, ◌≢◌, ◌∙◌, ℕ, ◌<◌, List, length, map, get_or, Contains, nat_eq, ne_eqb, inl, inr, sym, ap, arith}
+use Rattle.std.proofs.lemmas.Bool.{cases_lt, eqb-false}
 use Rattle.std.specs.List.{IsDistinct}
 use Rattle.std.proofs.lemmas.List.{get_or-map, length-map}
 use Rattle.std.proofs.lemmas.List.Elements.{All-map, Contains-get_or}
@@ -10,10 +9,6 @@ use Rattle.iddqd.specs.Compaction.{CanRemap, remapped}
 use Rattle.iddqd.specs.declared.index_remap.IndexRemap.{IndexRemap}
 use Rattle.iddqd.specs.declared.index_remap.IndexRemap.TheVariants.{Identity, Permuted}
 use Rattle.iddqd_order.specs.MapBTreeTable.{IsIndexList, sentinel}
-use Rattle.iddqd_order.proofs.IndexListLemmas.{eqb-apart}
-
-differ : (a b : ℕ) → nat_eq a b ≡ false → a ≡ b → ⊥
-differ a b apart e = grind (arith, nat_tests)
 
 module _ (name : ℕ → ℕ) (xs : List ℕ) where
   -- the new name of a member is a member
@@ -35,7 +30,7 @@ module _ (name : ℕ → ℕ) (xs : List ℕ) where
       let lower : i < length xs = omega arith in
       let apart = apart_from_distinct nat_eq xs i j d distinct lt within in
       rw (get_or-map name xs i d d lower, get_or-map name xs j d d within)
-      (eqb-apart _ _ (λ e. differ _ _ apart (one _ _ (Contains-get_or xs i d lower) (Contains-get_or xs j d within) e))))
+      (ne_eqb _ _ (λ e. eqb-false _ _ apart (one _ _ (Contains-get_or xs i d lower) (Contains-get_or xs j d within) e))))
 
 -- names that rise with their indexes are never shared
 pub unshared-from_rising : (name : ℕ → ℕ) (xs : List ℕ) → ((i j : ℕ) → Contains xs i → Contains xs j → i < j → name i < name j) → (i j : ℕ) → Contains xs i → Contains xs j → name i ≡ name j → i ≡ j

@@ -3,9 +3,9 @@ use Rattle.std.specs.Prelude.{ℕ}
 use Rattle.iddqd_order.specs.declared.btree_table.asking.Asking.{Asking}
 
 -- the closure, as its calls have left it
-abbrev pub closure_of : {F : Type 0} → Asking F → F
+unfoldable pub closure_of : {F : Type 0} → Asking F → F
 closure_of a = a.closure
 
 -- how many times it was asked
-abbrev pub ask_count : {F : Type 0} → Asking F → ℕ
+unfoldable pub ask_count : {F : Type 0} → Asking F → ℕ
 ask_count a = a.asks.total

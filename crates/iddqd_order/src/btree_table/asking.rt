@@ -38,6 +38,7 @@ pub struct Asking<F> {
     asks: Count,
 }
 
+#[tactic(auto, unfolding(crate::specs::Asking::closure_of, crate::specs::Asking::ask_count))]
 impl<F> Asking<F> {
     ghost use Rattle.iddqd_order.specs.Asking.{closure_of, ask_count};
 

@@ -224,9 +224,9 @@ impl MapBTreeTable {
         }
         match self.search_in(asking, how, Some(ix)) {
             Ok(_) => unreachable!(),
-            Err(place) => Ok(PreparedBTreeInsert {
+            Err(gap) => Ok(PreparedBTreeInsert {
                 table: self,
-                place,
+                place: gap,
                 ix,
             }),
         }

@@ -1,7 +1,6 @@
 //! Searches by keys that a lookup lends.
-ghost use Rattle.std.specs.Prelude.{◌<◌};
-
-use super::{has_order, is_stored};
+use super::asks::Asked;
+use super::{bound, has_order, is_stored};
 use crate::btree_table::{Asking, MapBTreeTable};
 use iddqd::item_index::ItemIndex;
 use iddqd::map_hash::Same;
@@ -34,27 +33,28 @@ fn remove(table: &mut MapBTreeTable, ix: u32) -> bool {
         .remove()
 }
 
-fn find(table: &MapBTreeTable, key: u32) -> Option<ItemIndex> {
-    let mut asking = Asking::new(|j: ItemIndex| key_of(j.as_u32()));
-    table.find_index(&Same(&key), &mut asking)
+// The index that a find by the key hits, and what it asked.
+fn find(table: &MapBTreeTable, sought: u32) -> (Option<ItemIndex>, Asked) {
+    let mut asked = Asked::new();
+    let mut asking = Asking::new(|j: ItemIndex| {
+        let key = key_of(j.as_u32());
+        asked.count(*key == sought);
+        key
+    });
+    let found = table.find_index(&Same(&sought), &mut asking);
+    (found, asked)
 }
 
 // The digit of `code` to base 6 at that place.
-fn digit(code: u32, place: u32) -> u32
-    ensures { result < 6 }
-{
-    let mut rest = code;
-    for _ in 0..place {
-        rest /= 6;
-    }
-    rest % 6
+fn digit(code: u32, place: u32) -> u32 {
+    code.checked_div(6u32.wrapping_pow(place)).unwrap_or(0) % 6
 }
 
 // Whether the six digits of `code` to base 6 are all of 0 to 5.
 fn is_order_of_six(code: u32) -> bool {
     let mut seen = 0u32;
     for place in 0..6 {
-        seen |= 1 << digit(code, place);
+        seen |= 1u32.wrapping_shl(digit(code, place));
     }
     seen == 63
 }
@@ -71,14 +71,14 @@ fn all_orders_of_six_keys(rt: HostRuntime) -> Result<(), Fail> {
         for place in 0..6 {
             insert(&rt, &mut table, digit(code, place))?;
         }
-        assert!(rt;
-            has_order(&table, &[0, 1, 2, 3, 4, 5]),
-            "in the order {code}"
-        );
+        assert!(rt; has_order(&table, &[0, 1, 2, 3, 4, 5]));
         for place in 0..6 {
             let ix = digit(code, place);
-            assert_eq!(rt; find(&table, *key_of(ix)).is_some(), true);
-            assert!(rt; remove(&mut table, ix), "index {ix} in the order {code}");
+            let (found, asked) = find(&table, *key_of(ix));
+            assert!(rt; found.is_some());
+            assert_eq!(rt; asked.after_hit, 0);
+            assert!(rt; asked.asks <= bound(table.len()));
+            assert!(rt; remove(&mut table, ix));
         }
         assert_eq!(rt; table.len(), 0);
     }
@@ -92,9 +92,9 @@ fn a_find_misses_a_key_that_no_index_has(rt: HostRuntime) -> Result<(), Fail> {
     for ix in [3, 0, 5, 4] {
         insert(&rt, &mut table, ix)?;
     }
-    assert_eq!(rt; find(&table, 30), Some(ItemIndex::new(3)));
+    assert_eq!(rt; find(&table, 30).0, Some(ItemIndex::new(3)));
     for key in [0, 20, 35, 99] {
-        assert!(rt; find(&table, key).is_none());
+        assert!(rt; find(&table, key).0.is_none());
     }
     assert!(rt; !remove(&mut table, 1));
     Ok(())

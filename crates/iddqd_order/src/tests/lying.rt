@@ -1,5 +1,5 @@
-//! Answers that fit no order, and how often they are asked for.
-use super::{has_order, insert_by, numbers, remove_by};
+//! Answers that fit no order.
+use super::{bound, filled, find_told, has_order, insert_by, insert_told, is_stored, remove_told};
 use crate::btree_table::{Asking, MapBTreeTable};
 use iddqd::item_index::ItemIndex;
 use std::alloc::{AllocError, Global};
@@ -7,98 +7,58 @@ use std::cmp::Ordering;
 use std::process::Abort;
 use std::test::Fail;
 
-// 4 and twice the number of binary digits of the length.
-fn bound(len: usize) -> u32 {
-    let digits = usize::BITS - len.leading_zeros();
-    4 + 2 * digits
+// The indexes 30, 29, .., 0.
+fn falling(rt: &impl Abort, alloc: Global) -> Result<MapBTreeTable, AllocError> {
+    filled(rt, alloc, 31, Ordering::Less)
 }
 
-// The indexes 30, 29, .., 0, each inserted with every answer Less.
-fn falling(rt: &impl Abort, alloc: Global) -> Result<MapBTreeTable, AllocError> {
-    let mut table = MapBTreeTable::new(alloc);
+// Whether the table has the indexes 30, 29, .., 0 in this order, but for one.
+fn falls_without(table: &MapBTreeTable, missing: u32) -> bool {
+    let mut walk = table.iter();
     for ix in 0..31 {
-        insert_by(rt, &mut table, ix, |_| Ordering::Less)?;
+        let expected = 30 - ix;
+        if expected != missing && walk.next() != Some(ItemIndex::new(expected)) {
+            return false;
+        }
     }
-    Ok(table)
+    walk.next().is_none()
 }
 
 #[test]
 fn equal_answers_go_by_the_index(rt: HostRuntime) -> Result<(), Fail> {
-    let mut table = MapBTreeTable::new(rt.alloc());
-    for ix in 0..4 {
-        insert_by(&rt, &mut table, ix, |_| Ordering::Greater)?;
-    }
-    insert_by(&rt, &mut table, 100, |_| Ordering::Equal)?;
+    let mut table = filled(&rt, rt.alloc(), 4, Ordering::Greater)?;
+    insert_told(&rt, &mut table, 100, Ordering::Equal, Ordering::Equal)?;
     assert!(rt; has_order(&table, &[0, 1, 2, 3, 100]));
-    insert_by(&rt, &mut table, 50, |_| Ordering::Less)?;
+    insert_told(&rt, &mut table, 50, Ordering::Less, Ordering::Less)?;
     assert!(rt; has_order(&table, &[50, 0, 1, 2, 3, 100]));
     Ok(())
 }
 
 #[test]
-fn a_find_in_nothing_asks_nothing(rt: HostRuntime) {
-    let table = MapBTreeTable::new(rt.alloc());
-    let mut asks = 0u32;
-    let mut asking = Asking::new(|_: ItemIndex| {
-        asks = asks.wrapping_add(1);
-        Ordering::Equal
-    });
-    assert!(rt; table.find_by(&mut asking).is_none());
-    assert_eq!(rt; asks, 0);
-}
-
-#[test]
-fn a_find_in_a_thousand_asks_at_most_24_times(rt: HostRuntime) -> Result<(), Fail> {
-    let mut table = MapBTreeTable::new(rt.alloc());
-    for ix in 0..1000 {
-        insert_by(&rt, &mut table, ix, |_| Ordering::Greater)?;
-    }
-    assert_eq!(rt; bound(1000), 24);
-    let patterns = [
-        [Ordering::Less, Ordering::Less],
-        [Ordering::Greater, Ordering::Greater],
-        [Ordering::Less, Ordering::Greater],
-        [Ordering::Greater, Ordering::Less],
-    ];
-    for answers in &patterns {
-        let mut asks = 0u32;
-        let mut asking = Asking::new(|_: ItemIndex| {
-            asks = asks.wrapping_add(1);
-            answers[(asks % 2) as usize]
-        });
-        assert!(rt; table.find_by(&mut asking).is_none());
-        assert!(rt; 0 < asks && asks <= 24, "asked {asks} times");
-    }
+fn an_equal_answer_is_a_hit(rt: HostRuntime) -> Result<(), Fail> {
+    let table = falling(&rt, rt.alloc())?;
+    let (found, asks) = find_told(&table, Ordering::Equal, Ordering::Equal);
+    assert!(rt; found.is_some());
+    assert_eq!(rt; asks, 1);
     Ok(())
 }
 
 #[test]
 fn less_goes_to_the_front(rt: HostRuntime) -> Result<(), Fail> {
     let table = falling(&rt, rt.alloc())?;
-    let mut expected = 31u32;
-    for ix in table.iter() {
-        expected = expected.wrapping_sub(1);
-        assert_eq!(rt; ix.as_u32(), expected);
-    }
-    assert_eq!(rt; expected, 0);
+    assert!(rt; falls_without(&table, 31));
     Ok(())
 }
 
 #[test]
 fn a_removal_finds_what_its_answers_lead_to(rt: HostRuntime) -> Result<(), Fail> {
     let mut table = falling(&rt, rt.alloc())?;
-    assert!(rt; !remove_by(&mut table, 0, |_| Ordering::Less));
-    assert!(rt; remove_by(&mut table, 30, |_| Ordering::Less));
-    assert!(rt; remove_by(&mut table, 0, |_| Ordering::Greater));
-    assert!(rt; !remove_by(&mut table, 99, |_| Ordering::Less));
-    let mut asks = 0u32;
-    assert!(rt;
-        !remove_by(&mut table, 4294967295, |_| {
-            asks = asks.wrapping_add(1);
-            Ordering::Less
-        })
-    );
-    assert_eq!(rt; asks, 0);
+    assert!(rt; !remove_told(&mut table, 0, Ordering::Less, Ordering::Less).0);
+    assert!(rt; remove_told(&mut table, 30, Ordering::Less, Ordering::Less).0);
+    assert!(rt; remove_told(&mut table, 0, Ordering::Greater, Ordering::Greater).0);
+    assert!(rt; !remove_told(&mut table, 99, Ordering::Less, Ordering::Less).0);
+    let sentinel = remove_told(&mut table, 4294967295, Ordering::Less, Ordering::Less);
+    assert_eq!(rt; sentinel, (false, 0));
     assert_eq!(rt; table.len(), 29);
     Ok(())
 }
@@ -106,24 +66,12 @@ fn a_removal_finds_what_its_answers_lead_to(rt: HostRuntime) -> Result<(), Fail>
 #[test]
 fn the_walk_removes_what_a_search_misses(rt: HostRuntime) -> Result<(), Fail> {
     let mut table = falling(&rt, rt.alloc())?;
-    let mut asks = 0u32;
-    let is_removed = remove_by(&mut table, 7, |_| {
-        asks = asks.wrapping_add(1);
-        Ordering::Less
-    });
-    assert!(rt; asks <= 14, "asked {asks} times");
+    let (is_removed, asks) = remove_told(&mut table, 7, Ordering::Less, Ordering::Less);
+    assert!(rt; asks <= 14);
     if !is_removed {
         table.remove_exact(ItemIndex::new(7));
     }
-    assert_eq!(rt; table.len(), 30);
-    let mut expected = 31u32;
-    for ix in table.iter() {
-        expected = expected.wrapping_sub(1);
-        if expected == 7 {
-            expected = 6;
-        }
-        assert_eq!(rt; ix.as_u32(), expected);
-    }
+    assert!(rt; falls_without(&table, 7));
     Ok(())
 }
 
@@ -132,35 +80,17 @@ fn changing_answers_keep_each_index_once(rt: HostRuntime) -> Result<(), Fail> {
     let mut table = MapBTreeTable::new(rt.alloc());
     for ix in 0..200 {
         let most = bound(table.len());
-        let mut asks = 0u32;
-        insert_by(&rt, &mut table, ix, |_| {
-            asks = asks.wrapping_add(1);
-            if asks % 2 == 1 {
-                Ordering::Less
-            } else {
-                Ordering::Greater
-            }
-        })?;
-        assert!(rt; asks <= most, "asked {asks} times for {ix}");
+        let asks = insert_told(&rt, &mut table, ix, Ordering::Less, Ordering::Greater)?;
+        assert!(rt; asks <= most);
     }
-    let mut sorted = numbers(rt.alloc(), &table)?;
-    sorted.sort_unstable();
-    assert_eq!(rt; sorted.len(), 200);
-    for (place, number) in sorted.iter().enumerate() {
-        assert_eq!(rt; *number as usize, place);
+    assert_eq!(rt; table.len(), 200);
+    for ix in 0..200 {
+        assert!(rt; is_stored(&table, ItemIndex::new(ix)));
     }
     for ix in 0..200 {
         let most = bound(table.len());
-        let mut asks = 0u32;
-        let is_removed = remove_by(&mut table, ix, |_| {
-            asks = asks.wrapping_add(1);
-            if asks % 2 == 1 {
-                Ordering::Less
-            } else {
-                Ordering::Greater
-            }
-        });
-        assert!(rt; asks <= most, "asked {asks} times for {ix}");
+        let (is_removed, asks) = remove_told(&mut table, ix, Ordering::Less, Ordering::Greater);
+        assert!(rt; asks <= most);
         if !is_removed {
             table.remove_exact(ItemIndex::new(ix));
         }
@@ -172,10 +102,7 @@ fn changing_answers_keep_each_index_once(rt: HostRuntime) -> Result<(), Fail> {
 // A comparison may itself search another table.
 #[test]
 fn a_comparison_uses_another_table(rt: HostRuntime) -> Result<(), Fail> {
-    let mut other = MapBTreeTable::new(rt.alloc());
-    for ix in 0..8 {
-        insert_by(&rt, &mut other, ix, |_| Ordering::Greater)?;
-    }
+    let other = filled(&rt, rt.alloc(), 8, Ordering::Greater)?;
     let mut table = MapBTreeTable::new(rt.alloc());
     for ix in 0..8 {
         insert_by(&rt, &mut table, ix, |at| {

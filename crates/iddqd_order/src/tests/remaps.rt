@@ -3,12 +3,11 @@ ghost use Rattle.std.specs.Prelude.{◌≡◌, ℕ, IsTrue, IfSome, All, Contain
 ghost use Rattle.iddqd.specs.Compaction.{CanRemap, remapped};
 ghost use Rattle.iddqd_order.specs.MapBTreeTable.{order_of};
 
-use super::{has_order, insert_by};
+use super::{has_order, table_of};
 use crate::btree_table::MapBTreeTable;
 use iddqd::index_remap::IndexRemap;
 use iddqd::item_index::ItemIndex;
 use std::alloc::{AllocError, Global};
-use std::cmp::Ordering;
 use std::process::Abort;
 use std::test::Fail;
 
@@ -60,15 +59,6 @@ fn have_own_names(table: &MapBTreeTable, remap: &IndexRemap) -> bool
 fn rename(rt: &impl Abort, table: &mut MapBTreeTable, remap: &IndexRemap) {
     assert!(rt; have_own_names(table, remap));
     table.remap_indexes(remap);
-}
-
-// A table in that order.
-fn table_of(rt: &impl Abort, alloc: Global, indexes: &[u32]) -> Result<MapBTreeTable, AllocError> {
-    let mut table = MapBTreeTable::new(alloc);
-    for ix in indexes {
-        insert_by(rt, &mut table, *ix, |_| Ordering::Greater)?;
-    }
-    Ok(table)
 }
 
 // The remap that gives each old index that name.

@@ -1,5 +1,5 @@
 //! The calls that ask nothing.
-use super::{has_order, insert_by};
+use super::{has_order, insert_told, table_of};
 use crate::btree_table::{Asking, MapBTreeTable};
 use iddqd::item_index::ItemIndex;
 use std::cmp::Ordering;
@@ -7,11 +7,9 @@ use std::test::Fail;
 
 #[test]
 fn a_table_shows_its_order(rt: HostRuntime) -> Result<(), Fail> {
-    let mut table = MapBTreeTable::new(rt.alloc());
-    assert!(rt; table.first().is_none() && table.last().is_none());
-    for ix in [2, 0, 1] {
-        insert_by(&rt, &mut table, ix, |_| Ordering::Greater)?;
-    }
+    let empty = MapBTreeTable::new(rt.alloc());
+    assert!(rt; empty.first().is_none() && empty.last().is_none());
+    let mut table = table_of(&rt, rt.alloc(), &[2, 0, 1])?;
     assert_eq!(rt; table.first(), Some(ItemIndex::new(2)));
     assert_eq!(rt; table.last(), Some(ItemIndex::new(1)));
     assert_eq!(rt;
@@ -35,10 +33,7 @@ fn a_table_shows_its_order(rt: HostRuntime) -> Result<(), Fail> {
 
 #[test]
 fn a_walk_counts_down_and_stays_ended(rt: HostRuntime) -> Result<(), Fail> {
-    let mut table = MapBTreeTable::new(rt.alloc());
-    for ix in [2, 0, 1] {
-        insert_by(&rt, &mut table, ix, |_| Ordering::Greater)?;
-    }
+    let table = table_of(&rt, rt.alloc(), &[2, 0, 1])?;
     let mut walk = table.iter();
     assert_eq!(rt; walk.next(), Some(ItemIndex::new(2)));
     let mut again = walk.clone()?;
@@ -87,7 +82,15 @@ fn a_refused_insert_changes_nothing(rt: HostRuntime) {
     let mut table = MapBTreeTable::new(rt.alloc());
     let mut expected = 0u32;
     for _ in 0..40 {
-        if insert_by(&rt, &mut table, expected, |_| Ordering::Greater).is_ok() {
+        if insert_told(
+            &rt,
+            &mut table,
+            expected,
+            Ordering::Greater,
+            Ordering::Greater,
+        )
+        .is_ok()
+        {
             expected = expected.wrapping_add(1);
         }
         assert_eq!(rt; table.len(), expected as usize);

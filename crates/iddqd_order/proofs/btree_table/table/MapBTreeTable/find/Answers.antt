@@ -1,11 +1,9 @@
-use Rattle.std.proofs.Common.{◌≡◌, ◌∙◌, true, false, ap}
+use Rattle.std.proofs.Common.{◌∙◌, ap}
+use Rattle.std.proofs.lemmas.Bool.{true≢false}
 use Rattle.iddqd_order.specs.MapBTreeTable.{order_of}
 use Rattle.iddqd_order.proofs.IndexListLemmas.{Contains-at}
 use Rattle.iddqd_order.proofs.SearchLemmas.{none_at_place}
 use Rattle.iddqd_order.proofs.btree_table.table.MapBTreeTable.find.Goals as goal
-
-apart : true ≡ false → ⊥
-apart e = cc
 
 pub returns-in-Ok : goal.returns-in-Ok
 returns-in-Ok g c =
@@ -14,7 +12,7 @@ returns-in-Ok g c =
       asked = c.in-Ok.ensures.asked;
       stored = Contains-at (order_of c.args.self.now) c.in-Ok.place _ c.in-Ok.ensures.found read;
       hit = λ answer s. ap answer read ∙ c.in-Ok.ensures.hit answer s;
-      miss = λ answer s none. absurd (apart none);
+      miss = λ answer s none. absurd (true≢false none);
     }
 
 pub returns-in-Err : goal.returns-in-Err

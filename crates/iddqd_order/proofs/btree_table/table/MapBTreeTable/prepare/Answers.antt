@@ -25,12 +25,12 @@ unfolding place_of index_of
 returns g c =
     let kept = c.reserve_one.ensures.kept in
     let searched =
-    subst (λ xs. Searches g.F.FnMut (g.H.Reads.reading c.args.how.now) xs (Some c.args.ix) c.args.asking.now (Err c.in-Err-search_in.place) c.search_in.new.asking) kept c.in-Err-search_in.ensures in (
+    subst (λ xs. Searches g.F.FnMut (g.H.Reads.reading c.args.how.now) xs (Some c.args.ix) c.args.asking.now (Err c.in-Err-search_in.gap) c.search_in.new.asking) kept c.in-Err-search_in.ensures in (
       (refl, λ w. refl, tt),
       record {
         unchanged = tt;
         same_reference = refl;
         asked = searched.asked;
-        prepared = record { table = kept; index = refl; within = searched.missed; place = searched.place };
+        prepared = record { table = kept; index = refl; within = omega (arith, searched.missed); place = searched.place };
       },
     )
