@@ -1,4 +1,4 @@
--- What the map of a table says of the indexes under a hash, and of look-ups among them.
+-- For callers of a table of indexes: what its map says of the indexes under a hash, and of look-ups among them.
 use Rattle.std.proofs.Common.{◌≡◌, ◌==◌, ◌&&◌, ◌||◌, ◌∙◌, ℕ, Bool, true, false, cond, List, [], ◌∷◌, map, filter, Option, Some, None, IsSome, refl, sym, ap, subst, Contains, eqb-true, eq-eqb, T as Holds}
 use Rattle.std.specs.List.{list_any}
 use Rattle.std.specs.Ordering.{nat_cmp, eq_by_cmp, is_eq, is_lt}

@@ -1,8 +1,9 @@
-pub mod CellLemmas
 pub mod AskLemmas
-pub mod PermutationLemmas
-pub mod RetainLemmas
-pub mod RewriteLemmas
-pub mod MapHashTableLemmas
 pub mod FiledLemmas
-pub mod RenameLemmas
+mod CellLemmas
+mod MapHashTableLemmas
+mod PermutationLemmas
+mod RenameLemmas
+mod RetainLemmas
+mod RewriteLemmas
+mod UnderLemmas

@@ -12,7 +12,7 @@ use Rattle.std.proofs.lemmas.List.Sorted.{IsPermutation-sym, Contains-permutatio
 use Rattle.std.proofs.lemmas.Map.Keys.{IsDistinct-head, IsDistinct-tail, IsDistinct-cons}
 use Rattle.iddqd_hash.specs.HashTable.{values, under, Rewrites}
 use Rattle.iddqd_hash.specs.MapHashTable.{filed_from, IsDistinctlyFiled, Renames}
-use Rattle.iddqd_hash.proofs.AskLemmas.{Contains-read, Contains-under}
+use Rattle.iddqd_hash.proofs.UnderLemmas.{Contains-read, Contains-under}
 use Rattle.iddqd_hash.proofs.RewriteLemmas.{Rewrites-mapped}
 use Rattle.iddqd_hash.proofs.MapHashTableLemmas.{under_filed, untied, distinct_moved}
 use Rattle.iddqd_hash.proofs.FiledLemmas.{filed_from_under, under_from_filed}

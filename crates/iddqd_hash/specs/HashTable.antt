@@ -1,5 +1,5 @@
 -- What a contract sees of a table of values under hashes.
-use Rattle.std.specs.Prelude.{◌≡◌, ◌==◌, ◌+◌, ◌≤◌, ℕ, List, Option, Some, None, Result, IsOk, OnOk, OnErr, map, filter, refl, slice_get, ◌∷◌}
+use Rattle.std.specs.Prelude.{◌≡◌, ◌==◌, ◌+◌, ◌≤◌, ℕ, List, Option, Some, Result, IsOk, OnOk, OnErr, map, filter, refl, slice_get, ◌∷◌}
 use Rattle.std.specs.Coded.{Coded, code_by, coded×, coded_ℕ, coded_list, coded_option}
 use Rattle.std.specs.List.{AllZip, filter_map}
 use Rattle.std.specs.List.Sorted.{IsPermutation}

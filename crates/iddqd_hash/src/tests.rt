@@ -166,7 +166,18 @@ fn count_reads(table: &MapHashTable, keys: &[u32], number: u32) -> (Option<ItemI
     (found, reads.get())
 }
 
-// The same under a hash that is given.
+// How many keys the look-ups of all of them read.
+fn sum_reads(table: &MapHashTable, keys: &[u32]) -> u32
+    requires { (ix : ℕ) → IsSome (finite.get (filed table.now) ix) → ix < length keys.now }
+{
+    let mut reads = 0u32;
+    for key in keys {
+        reads = reads.saturating_add(count_reads(table, keys, *key).1);
+    }
+    reads
+}
+
+// As `count_reads`, under a hash that is given.
 fn count_reads_under(
     table: &MapHashTable,
     hash: u64,
@@ -453,14 +464,10 @@ fn reads_each_key_once_up_to_the_match(rt: HostRuntime) -> Result<(), Fail> {
     let keys = [10, 20, 30];
     let table = file_all(rt.alloc(), &Constant, &keys)?;
     assert_eq!(rt; count_reads(&table, &keys, 40), (None, 3));
-    let mut reads = 0u32;
-    for (place, key) in [(0, 10), (1, 20), (2, 30)] {
-        let (found, count) = count_reads(&table, &keys, key);
-        assert_eq!(rt; found, Some(ItemIndex::new(place)));
-        assert_eq!(rt; count_reads_under(&table, 7, &keys, key), (found, count));
-        reads = reads.saturating_add(count);
-    }
-    assert_eq!(rt; reads, 6);
+    assert_eq!(rt; sum_reads(&table, &keys), 6);
+    let found = count_reads(&table, &keys, 20);
+    assert_eq!(rt; found.0, Some(ItemIndex::new(1)));
+    assert_eq!(rt; count_reads_under(&table, 7, &keys, 20), found);
     assert_eq!(rt; count_reads_under(&table, 8, &keys, 20), (None, 0));
     Ok(())
 }

@@ -1,6 +1,7 @@
 use Rattle.std.proofs.Common.{false, true, refl}
 use Rattle.std.specs.Fn.{TakesAt, CalledAt}
-use Rattle.iddqd_hash.proofs.AskLemmas.{CanAsk-takes, CanAsk-asked, Contains-read, FindsPlace-read, AllRefused-read, under_read_other}
+use Rattle.iddqd_hash.proofs.AskLemmas.{CanAsk-takes, CanAsk-asked}
+use Rattle.iddqd_hash.proofs.UnderLemmas.{Contains-read, FindsPlace-read, AllRefused-read, under_read_other}
 use Rattle.iddqd_hash.proofs.hash_table_reference.find_place.Goals.{else-stored-hash-via-then-stored-hash+else-eq, else-stored-hash-via-else-stored-hash}
 use Rattle.iddqd_hash.proofs.hash_table_reference.find_place.Goals as goal
 

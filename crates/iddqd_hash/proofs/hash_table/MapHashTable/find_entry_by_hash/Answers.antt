@@ -1,9 +1,8 @@
-use Rattle.std.proofs.Common.{slice_get, ap, Some, None, List, ◌≡◌, ◌∙◌, ℕ, Bool, refl, rules, Contains}
+use Rattle.std.proofs.Common.{Some, None, List, ◌≡◌, ℕ, Bool, refl, rules, Contains}
 use Rattle.std.proofs.lemmas.List.Sorted.{Contains-permutation}
-use Rattle.std.proofs.lemmas.Option.{slice_get_within}
 use Rattle.std.specs.Fn.{Called}
 use Rattle.iddqd_hash.specs.Asks.{CanAsk, Hits, Misses}
-use Rattle.iddqd_hash.specs.HashTable.{entries, pair_at, under}
+use Rattle.iddqd_hash.specs.HashTable.{entries, under}
 use Rattle.iddqd_hash.specs.MapHashTable.{indexes_under, filed_from, filed}
 use Rattle.iddqd_hash.specs.MapHashTableEntry.{entry_pair}
 use Rattle.iddqd_hash.proofs.AskLemmas.{CanAsk-by, CanAsk-takes, CanAsk-asked}

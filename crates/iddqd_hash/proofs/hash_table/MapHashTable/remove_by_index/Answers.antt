@@ -1,6 +1,4 @@
-use Rattle.std.proofs.Common.{rules, ◌≡◌, ◌==◌, ℕ, not, filter, refl}
-use Rattle.std.specs.List.Sorted.{IsPermutation}
-use Rattle.iddqd_hash.specs.HashTable.{entries}
+use Rattle.std.proofs.Common.{rules, ◌≡◌, ◌==◌, ℕ, not, refl}
 use Rattle.iddqd_hash.specs.MapHashTable.{filed}
 use Rattle.iddqd_hash.proofs.AskLemmas.{CanAsk-everywhere}
 use Rattle.iddqd_hash.proofs.MapHashTableLemmas.{distinct_kept}

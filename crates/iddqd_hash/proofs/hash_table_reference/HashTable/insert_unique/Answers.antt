@@ -1,4 +1,4 @@
-use Rattle.std.proofs.Common.{rules, ◌≡◌, ◌≤◌, ◌-◌, vec_len, vec_capacity, Some, length, slice_get, arith, refl}
+use Rattle.std.proofs.Common.{◌≤◌, ◌-◌, vec_len, vec_capacity, arith, refl}
 use Rattle.std.proofs.lemmas.List.Sorted.{IsPermutation-sym, IsPermutation-to_front}
 use Rattle.iddqd_hash.specs.HashTableEntry.{entry_pair}
 use Rattle.iddqd_hash.proofs.CellLemmas.{slice_get_pushed, entries-listed, pair_at-listed, room-listed, UsesRoom-listed}

@@ -1,4 +1,4 @@
-use Rattle.std.proofs.Common.{◌≡◌, ◌<◌, Some, length, slice_get, refl, arith}
+use Rattle.std.proofs.Common.{◌<◌, length, refl, arith}
 use Rattle.std.proofs.lemmas.Option.{slice_get_read}
 use Rattle.iddqd_hash.proofs.CellLemmas.{pair_at-listed, within_listed}
 use Rattle.iddqd_hash.proofs.hash_table_reference.HashTable.pair_at.Goals as goal

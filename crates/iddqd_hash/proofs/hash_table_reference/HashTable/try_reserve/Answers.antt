@@ -1,4 +1,4 @@
-use Rattle.std.proofs.Common.{◌-◌, ◌≤◌, ◌<◌, ◌≡◌, arith, vec_len, vec_capacity, OnOk, OnErr}
+use Rattle.std.proofs.Common.{◌-◌, ◌<◌, vec_len, vec_capacity}
 use Rattle.std.proofs.lemmas.List.Sorted.{IsPermutation-refl}
 use Rattle.iddqd_hash.proofs.CellLemmas.{entries-listed, room-listed, Reserves-listed}
 use Rattle.iddqd_hash.proofs.hash_table_reference.HashTable.try_reserve.Goals as goal
