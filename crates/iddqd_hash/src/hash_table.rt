@@ -3,6 +3,11 @@
 //! The table holds no keys: a call that has to compare them is handed a lookup, which gives the key
 //! of an index. Each index keeps the hash that it was inserted with, so a key that changes unseen
 //! can hide its index from look-ups by key, and never loses it: `remove_by_index` finds it still.
+//!
+//! It stands on public calls of the table below, and on three of the crate's own where a call on the
+//! entry that the table lends can't be followed: `place_of`, the cell that a look-up hits, and
+//! `pair_at` and `take_at`, the pair in a cell. Any table with cells can have them with the same
+//! contract.
 ghost use Rattle.std.specs.Prelude.{◌≡◌, ◌≤◌, ℕ, Contains, Some, None, IsTrue, IsSome, IfOk, OnErr};
 ghost use Rattle.std.specs.FinMap as finite;
 ghost use Rattle.iddqd.specs.Compaction.{CanRemap, remapped};
