@@ -9,22 +9,36 @@ use std::test::Fail;
 fn a_table_shows_its_order(rt: HostRuntime) -> Result<(), Fail> {
     let empty = MapBTreeTable::new(rt.alloc());
     assert!(rt; empty.first().is_none() && empty.last().is_none());
-    let mut table = table_of(&rt, rt.alloc(), &[2, 0, 1])?;
+    let table = table_of(&rt, rt.alloc(), &[2, 0, 1])?;
     assert_eq!(rt; table.first(), Some(ItemIndex::new(2)));
     assert_eq!(rt; table.last(), Some(ItemIndex::new(1)));
-    assert_eq!(rt;
-        format!(in rt.alloc(); "{table:?}")?.as_str(),
-        "MapBTreeTable { items: [2, 0, 1] }"
-    );
+    Ok(())
+}
+
+#[test]
+fn a_table_prints_its_order(rt: HostRuntime) -> Result<(), Fail> {
+    let table = table_of(&rt, rt.alloc(), &[2, 0, 1])?;
+    let text = format!(in rt.alloc(); "{table:?}")?;
+    assert_eq!(rt; text.as_str(), "MapBTreeTable { items: [2, 0, 1] }");
     let walk = table.iter();
-    assert_eq!(rt;
-        format!(in rt.alloc(); "{walk:?}")?.as_str(),
-        "Iter { rest: [2, 0, 1] }"
-    );
+    let text = format!(in rt.alloc(); "{walk:?}")?;
+    assert_eq!(rt; text.as_str(), "Iter { rest: [2, 0, 1] }");
+    Ok(())
+}
+
+#[test]
+fn the_walk_removes_its_index_alone(rt: HostRuntime) -> Result<(), Fail> {
+    let mut table = table_of(&rt, rt.alloc(), &[2, 0, 1])?;
     table.remove_exact(ItemIndex::new(0));
     assert!(rt; has_order(&table, &[2, 1]));
     table.remove_exact(ItemIndex::new(7));
     assert_eq!(rt; table.len(), 2);
+    Ok(())
+}
+
+#[test]
+fn a_cleared_table_is_empty(rt: HostRuntime) -> Result<(), Fail> {
+    let mut table = table_of(&rt, rt.alloc(), &[2, 0, 1])?;
     table.clear();
     assert_eq!(rt; table.len(), 0);
     assert!(rt; table.first().is_none());
