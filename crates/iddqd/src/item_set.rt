@@ -388,7 +388,10 @@ impl<T> ItemSet<T> {
         ensures { self.new ≡ record self.old { store = inserted self.old.store item } }
     {
         self.len += 1;
-        match mem::replace(&mut self.slots[ix.as_u32() as usize], ItemSlot::Occupied(item)) {
+        match mem::replace(
+            &mut self.slots[ix.as_u32() as usize],
+            ItemSlot::Occupied(item),
+        ) {
             ItemSlot::Vacant { next } => self.free_head = next,
             ItemSlot::Occupied(_) => unreachable!(),
         }
