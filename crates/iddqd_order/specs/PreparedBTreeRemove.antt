@@ -3,7 +3,7 @@ use Rattle.std.specs.Prelude.{◌≡◌, ℕ, Bool, List, Some, false, Contains,
 use Rattle.std.specs.Borrow.{MutBor}
 use Rattle.std.specs.Fn.{Mut}
 use Rattle.std.specs.declared.cmp.Ordering.{Ordering}
-use Rattle.iddqd_order.specs.MapBTreeTable.{Order, order_of, sentinel}
+use Rattle.iddqd_order.specs.MapBTreeTable.{Order, sentinel}
 use Rattle.iddqd_order.specs.Search.{SearchAsks, IsSteadyRising}
 use Rattle.iddqd_order.specs.declared.btree_table.asking.Asking.{Asking}
 use Rattle.iddqd_order.specs.declared.btree_table.prepared_remove.PreparedBTreeRemove.{PreparedBTreeRemove}

@@ -1,4 +1,4 @@
-use Rattle.std.proofs.Common.{◌≡◌, ◌∙◌, ℕ, List, Ordering, IsTrue}
+use Rattle.std.proofs.Common.{◌∙◌}
 use Rattle.iddqd_order.specs.KeyOrder.{ComparesKeys}
 use Rattle.iddqd_order.proofs.KeyOrderLemmas.{key_then_index-total, with_ties-key, IsRising-from_query, IsRising-from_sorted, IsStrictlySortedBy-insert}
 use Rattle.iddqd_order.proofs.btree_table.key_order.query_answers_rise.Goals as goal

@@ -1,7 +1,7 @@
-use Rattle.std.proofs.Common.{arith, ◌≡◌, ◌≢◌, ℕ, sym, ◌∙◌, ap}
+use Rattle.std.proofs.Common.{arith, ◌≢◌, sym, ◌∙◌, ap}
 use Rattle.std.proofs.lemmas.Bool.{eqb-false}
 use Rattle.iddqd_order.specs.Asks.{At_once}
-use Rattle.std.specs.Ordering.{nat_cmp, ordering_then}
+use Rattle.std.specs.Ordering.{ordering_then}
 use Rattle.iddqd_order.specs.Search.{Askable}
 use Rattle.iddqd_order.proofs.AskLemmas.{asks_one, asks_none, asks_more}
 use Rattle.iddqd_order.proofs.SearchLemmas.{Askable-from_none, Askable-from_some, with_ties-none, with_ties-some}
