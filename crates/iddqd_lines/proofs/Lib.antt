@@ -1,6 +1,6 @@
-pub mod ByteLemmas
-pub mod DigitLemmas
-pub mod SplitLemmas
-pub mod LineLemmas
-pub mod LineBufferLemmas
-pub mod ServeLemmas
+mod ByteLemmas
+mod DigitLemmas
+mod SplitLemmas
+mod LineLemmas
+mod LineBufferLemmas
+mod ServeLemmas

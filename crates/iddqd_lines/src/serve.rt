@@ -30,10 +30,10 @@ const BLOCK: usize = 8192;
 /// Why `serve` stopped before the end of its input.
 #[derive(Clone, Copy, Debug, PartialEq, Eq)]
 pub enum ServeFault {
-    /// The source failed. The replies of all whole lines before were written, and a line that had
-    /// begun wasn't obeyed.
+    /// The source failed. The replies to all whole lines before were written, and a line that had begun
+    /// wasn't obeyed.
     Read,
-    /// The sink failed. The replies before and a beginning of the one that was being written went out.
+    /// The sink failed. A beginning of the replies to the lines that were obeyed was written.
     Write,
 }
 
@@ -59,16 +59,17 @@ impl fmt::Display for ServeFault {
 /// - `get1 1` and `get2 10` find a record by its first and by its second key: `0 1 10 100` or `none`.
 /// - `remove 0`, `remove1 1` and `remove2 10` remove the record at an index, with a first key and with
 ///   a second key, and are answered as a find.
-/// - `overwrite 0 5 10 1` gives the index another record whatever the keys: the index and the old record,
-///   as `0 1 10 100`, or `none`. The index stays where the old keys filed it: look-ups of other keys may
-///   miss it, and `walk` leaves it in its place.
+/// - `overwrite 0 5 10 1` gives the index another record, whatever the keys, and tells neither table: the
+///   index and the old record, as `0 1 10 100`, or `none`. Where it changes a key, look-ups by keys of
+///   that kind may miss records from then on, others too, and an insert may take a key that is there,
+///   until no record is left; what a look-up finds still has the key. `walk` leaves the index in its place.
 /// - `clear` forgets all records: `cleared`.
 /// - `walk` tells the indexes in the order of the second keys: `1 0 2`, `empty` or `no memory`.
-/// - `compact` moves the records, in their order, to the indexes from 0 on, and tells the new name of each
-///   old index: `identity`, `permuted 0 - 1` with a dash where there was none, or `no memory`.
+/// - `compact` moves the records, in the order of their indexes, to the indexes from 0 on, and tells the new
+///   name of each old one: `identity`, `permuted 0 - 1` with a dash where there was none, or `no memory`.
 ///
-/// Every other line is answered `bad line`. All replies are out before it reads on. After
-/// 18446744073709551615 reads without an end it stops as at a failed read.
+/// Every other line is answered `bad line`. All replies are out before it reads on. It ends at the first
+/// read or write that fails, and, as at a failed read, after 18446744073709551615 reads without an end.
 pub fn serve<I: Source, O: Sink>(
     alloc: Global,
     input: &mut I,
