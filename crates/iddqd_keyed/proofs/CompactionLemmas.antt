@@ -14,7 +14,7 @@ use Rattle.iddqd_hash.specs.MapHashTable.{Renames}
 use Rattle.iddqd_order.proofs.KeyOrderLemmas.{IsInKeyOrder-renamed}
 use Rattle.iddqd_order.proofs.RenameLemmas.{Contains-map, Contains-from_map, IsDistinct-map}
 use Rattle.iddqd_keyed.specs.Keys.{Keys}
-use Rattle.iddqd_keyed.specs.State.{State, IsLive, AreApart, IsPaired, IsSorted, FirstKeysInOrder, SecondKeysInOrder, Keeps, Compacts, second_at}
+use Rattle.iddqd_keyed.specs.State.{State, IsLive, AreApart, IsPaired, IsSorted, FirstKeysInOrder, SecondKeysInOrder, Keeps, Compacts, key_at}
 use Rattle.iddqd_keyed.proofs.KeyLemmas.{AreLawful}
 use Rattle.iddqd_keyed.proofs.LiveLemmas.{item_at, live_at}
 
@@ -109,7 +109,7 @@ module _ {T S : Type 0} (old new : State T S) (compacts : Compacts old new) (was
   module _ {K1 K2 : Type 0} (keys : Keys T K1 K2 S) (lawful : AreLawful keys) where
     IsSorted-compacted : IsSorted keys old → IsSorted keys new
     IsSorted-compacted sorted =
-        rw (compacts.store, compacts.order) (IsInKeyOrder-renamed (options_total lawful.total) (second_at keys old.store) (second_at keys (compacted old.store)) (rank old.store) old.order
+        rw (compacts.store, compacts.order) (IsInKeyOrder-renamed (options_total lawful.total) (key_at keys.second old.store) (key_at keys.second (compacted old.store)) (rank old.store) old.order
         (λ i here.
         let (item, live) = item_at old.store i ((was.ordered i).0 here) in
         ap (λ o. option_map keys.second o) (get-compacted old.store i item live ∙ sym live))

@@ -1,18 +1,22 @@
 -- What the tables' answers say of the items.
-use Rattle.std.proofs.Common.{◌≡◌, ◌≢◌, ◌∙◌, ℕ, Bool, true, false, IsTrue, IsNone, IfSome, Option, Some, None, refl, sym, ap, subst, Ordering}
+use Rattle.std.proofs.Common.{◌≡◌, ◌≢◌, ◌∙◌, ◌↔◌, ℕ, List, Bool, true, false, IsTrue, Option, Some, None, refl, sym, ap, subst, Ordering}
 use Rattle.std.specs.List.{Contains, All}
-use Rattle.std.specs.Ordering.{is_eq}
-use Rattle.std.specs.Cmp.{eq_by_cmp_equiv}
+use Rattle.std.specs.Ordering.{is_eq, nat_cmp}
+use Rattle.std.specs.FinMap.{FinMap}
+use Rattle.std.specs.Fn.{Mut}
+use Rattle.std.specs.Cmp.{eq_by_cmp_equiv, IsTotalOrder}
 use Rattle.std.specs.declared.cmp.Ordering.TheVariants.{Less, Equal, Greater}
 use Rattle.std.proofs.lemmas.List.Elements.{All-contains}
 use Rattle.iddqd.specs.Store.{Store, get}
 use Rattle.iddqd_hash.specs.MapHashTable.{FindsWhere}
+use Rattle.iddqd_order.specs.declared.btree_table.asking.Asking.{Asking}
+use Rattle.iddqd_order.specs.Search.{IsSteady, Finds}
 use Rattle.iddqd_keyed.specs.Keys.{Keys, has_first, has_second}
-use Rattle.iddqd_keyed.specs.State.{State, IsHit, HasNoHit, AnswersScan, IsPaired, IsSorted, Finds1, Finds2, FirstKeysInOrder, SecondKeysInOrder, hash_in}
+use Rattle.iddqd_keyed.specs.State.{State, IsLive, IsHit, HasNoHit, AnswersScan, IsPaired, compares_equal, FindsFiled, FindsInOrder, hash_in, Finds1, Finds2, LooksUp1, LooksUp2, FirstKeysInOrder, SecondKeysInOrder}
 use Rattle.iddqd_keyed.specs.Machine.{IsSortedScan}
 use Rattle.iddqd_keyed.proofs.KeyLemmas.{AreLawful}
 use Rattle.iddqd_keyed.proofs.LiveLemmas.{item_at, live_at}
-use Rattle.iddqd_keyed.proofs.SortedLemmas.{compared_at, compared_live}
+use Rattle.iddqd_keyed.proofs.SortedLemmas.{compared_at, compared_live, IsRising-find}
 
 pub equal_from_hit : (r : Ordering) → is_eq r ≡ true → r ≡ Equal
 equal_from_hit Equal e = refl
@@ -34,14 +38,33 @@ module _ {T : Type 0} where
   passes_from_hit : (s : Store T) (test : T → Bool) (ix : ℕ) → IsHit s test ix → passes s test ix ≡ true
   passes_from_hit s test ix (item, is, passed) = rw (passes, is) passed
 
-module _ {T S K1 K2 : Type 0} (keys : Keys T K1 K2 S) where
-  -- a search under the hash of a first key for an item that has it
-  pub Finds1-from_filed : (s : State T S) (key : K1) (r : Option ℕ) → FindsWhere (passes s.store (has_first keys key)) (hash_in keys s key) s.filed r → Finds1 keys s key r
-  Finds1-from_filed s key None misses = λ ix found.
-      let passed : true ≡ false = sym (passes_from_hit s.store (has_first keys key) ix found.hit) ∙ misses ix found.filed in
+  -- a search under a hash for an item that passes
+  pub FindsFiled-from_where : (s : Store T) (m : FinMap nat_cmp ℕ) (hash : ℕ) (test : T → Bool) (r : Option ℕ) → FindsWhere (passes s test) hash m r → FindsFiled s m hash test r
+  FindsFiled-from_where s m hash test None misses = λ ix found.
+      let passed : true ≡ false = sym (passes_from_hit s test ix found.hit) ∙ misses ix found.filed in
       cc
-  Finds1-from_filed s key (Some ix) hits = record { hit = hit_from_passes s.store (has_first keys key) ix hits.1; filed = hits.0 }
+  FindsFiled-from_where s m hash test (Some ix) hits = record { hit = hit_from_passes s test ix hits.1; filed = hits.0 }
 
+module _ {T K : Type 0} (key_of : T → K) (compare : K → K → Ordering) (s : Store T) (order : List ℕ) (key : K) (stored : (ix : ℕ) → Contains order ix ↔ IsLive s ix) where
+  -- a stored index at which the comparison is Equal
+  equal_hit : (ix : ℕ) → Contains order ix → compared_at key_of compare s key ix ≡ Equal → IsHit s (compares_equal key_of compare key) ix
+  equal_hit ix here equal =
+      let live = item_at s ix ((stored ix).0 here) in
+      (live.0, live.1, ap is_eq (sym (compared_live key_of compare s key ix live.0 live.1) ∙ equal))
+
+  -- no stored index at which it is
+  equal_miss : All (λ ix. compared_at key_of compare s key ix ≢ Equal) order → HasNoHit s (compares_equal key_of compare key)
+  equal_miss none ix (item, is, passed) =
+      All-contains (λ j. compared_at key_of compare s key j ≢ Equal) order ix none ((stored ix).1 (live_at s ix item is))
+      (compared_live key_of compare s key ix item is ∙ equal_from_hit _ passed)
+
+  -- what a find in the order tells, where each answer reads as the comparison of the key with that of the index
+  module _ {F R : Type 0} (g : Mut F (ℕ × Unit {0}) R) (read : R → Ordering) (old new : Asking F) (total : IsTotalOrder compare) (steady : IsSteady g order None read (compared_at key_of compare s key) old) where
+    pub FindsInOrder-from_finds : (r : Option ℕ) → Finds g read order old r new → FindsInOrder key_of compare s order key r
+    FindsInOrder-from_finds None finds = λ sorted. equal_miss (finds.miss (compared_at key_of compare s key) (record { steady = steady; rising = IsRising-find key_of compare total s order key sorted }) refl)
+    FindsInOrder-from_finds (Some ix) finds = equal_hit ix finds.stored (finds.hit (compared_at key_of compare s key) steady)
+
+module _ {T S K1 K2 : Type 0} (keys : Keys T K1 K2 S) where
   -- where each live index is filed under the hash of its first key, that is a scan
   pub AnswersScan-first : AreLawful keys → (s : State T S) (key : K1) (r : Option ℕ) → FirstKeysInOrder keys s → Finds1 keys s key r → AnswersScan s.store (has_first keys key) r
   AnswersScan-first lawful s key None o misses = λ ix hit.
@@ -54,24 +77,6 @@ module _ {T S K1 K2 : Type 0} (keys : Keys T K1 K2 S) where
             o.apart j ix hit.0 item hit.1 is alike,
         λ same. subst (IsHit s.store (has_first keys key)) (sym same) found.hit,
       )
-
-  module _ (s : State T S) (key : K2) (paired : IsPaired s) where
-    -- a stored index at which the comparison is Equal
-    second_hit : (ix : ℕ) → Contains s.order ix → compared_at keys s.store key ix ≡ Equal → IsHit s.store (has_second keys key) ix
-    second_hit ix stored equal =
-        let live = item_at s.store ix ((paired.ordered ix).0 stored) in
-        (live.0, live.1, ap is_eq (sym (compared_live keys s.store key ix live.0 live.1) ∙ equal))
-
-    -- no stored index at which it is
-    second_miss : All (λ ix. compared_at keys s.store key ix ≢ Equal) s.order → HasNoHit s.store (has_second keys key)
-    second_miss none ix (item, is, passed) =
-        All-contains (λ j. compared_at keys s.store key j ≢ Equal) s.order ix none ((paired.ordered ix).1 (live_at s.store ix item is))
-        (compared_live keys s.store key ix item is ∙ equal_from_hit _ passed)
-
-    -- a search of the order by comparisons with the key
-    pub Finds2-from_order : (r : Option ℕ) → IfSome r (Contains s.order) → IfSome r (λ ix. compared_at keys s.store key ix ≡ Equal) → (IsSorted keys s → IsNone r → All (λ ix. compared_at keys s.store key ix ≢ Equal) s.order) → Finds2 keys s key r
-    Finds2-from_order None stored hit miss = λ sorted. second_miss (miss sorted refl)
-    Finds2-from_order (Some ix) stored hit miss = second_hit ix stored hit
 
   pub AnswersScan-second : AreLawful keys → (s : State T S) (key : K2) (r : Option ℕ) → SecondKeysInOrder keys s → Finds2 keys s key r → AnswersScan s.store (has_second keys key) r
   AnswersScan-second lawful s key None o misses = misses o.sorted
@@ -86,3 +91,16 @@ module _ {T S K1 K2 : Type 0} (keys : Keys T K1 K2 S) where
 
   pub IsSortedScan-order : (s : State T S) → IsPaired s → SecondKeysInOrder keys s → IsSortedScan keys s.store s.order
   IsSortedScan-order s paired o = record { sorted = o.sorted; live = paired.ordered }
+
+  -- a look-up in the parts of a state, under the hash of the key
+  pub Finds1-seen : (parts s : State T S) (key : K1) (hash : ℕ) (r : Option ℕ) → parts ≡ s → hash ≡ hash_in keys s key → FindsFiled parts.store parts.filed hash (has_first keys key) r → Finds1 keys s key r
+  Finds1-seen parts s key hash r seen hashed found =
+      subst (λ h. FindsFiled s.store s.filed h (has_first keys key) r) hashed (subst (λ s. FindsFiled s.store s.filed hash (has_first keys key) r) seen found)
+
+  -- look-ups of lawful keys
+  module _ (lawful : AreLawful keys) (s : State T S) where
+    pub LooksUp1-found : (key : K1) (r : Option ℕ) → Finds1 keys s key r → LooksUp1 keys s key r
+    LooksUp1-found key r found = record { found = found; as_scan = λ o. AnswersScan-first lawful s key r o found }
+
+    pub LooksUp2-found : (key : K2) (r : Option ℕ) → Finds2 keys s key r → LooksUp2 keys s key r
+    LooksUp2-found key r found = record { found = found; as_scan = λ o. AnswersScan-second lawful s key r o found }

@@ -1,9 +1,11 @@
 -- What an insert answers and keeps, from its two look-ups and from what storing the item answers.
-use Rattle.std.proofs.Common.{◌≡◌, ℕ, false, Option, Some, None, is_some, Result, Ok, Err}
+use Rattle.std.proofs.Common.{◌≡◌, ◌∙◌, ℕ, false, insert, Option, Some, None, is_some, Result, Ok, Err, sym, ap, subst}
+use Rattle.std.specs.FinMap as finite
 use Rattle.std.specs.Result.{IfOk, IfErr, OnErr}
+use Rattle.iddqd.specs.Store.{Store, IsFull, next_index, inserted}
 use Rattle.iddqd_keyed.specs.Keys.{Keys, has_first, has_second}
-use Rattle.iddqd_keyed.specs.State.{State, IsPaired, IsSorted, Finds1, Finds2, FirstKeysInOrder, SecondKeysInOrder, Keeps, AnswersScan}
-use Rattle.iddqd_keyed.specs.Machine.{MayMissBoth, HasNoPlace, StoresAt, Inserts, finds_told}
+use Rattle.iddqd_keyed.specs.State.{State, IsPaired, IsSorted, IsSortedBy, AddsToOrder, Binds, hash_in, Finds1, Finds2, FirstKeysInOrder, SecondKeysInOrder, Keeps, AnswersScan}
+use Rattle.iddqd_keyed.specs.Machine.{MayMissBoth, HasNoPlace, StoresAt, Inserts, TellsAsScan, finds_told}
 use Rattle.iddqd_keyed.specs.declared.command.InsertRefusal.{InsertRefusal}
 use Rattle.iddqd_keyed.specs.declared.command.InsertRefusal.TheVariants.{Duplicate, Full, Memory}
 use Rattle.iddqd_keyed.proofs.KeyLemmas.{AreLawful}
@@ -17,6 +19,26 @@ module _ {T S K1 K2 : Type 0} (keys : Keys T K1 K2 S) where
   MayMissBoth-from_finds s item None None p q first second = record { first = first; second = second }
   MayMissBoth-from_finds s item (Some ix) r p q first second = absurd (cc)
   MayMissBoth-from_finds s item None (Some ix) p q first second = absurd (cc)
+
+  -- an insert into the store and both tables, from what each of the calls did; `lent` is the store as a handle holds it
+  module _ (old new : State T S) (item : T) (lent : Store T) (ix hash : ℕ) (same : lent ≡ old.store) (added : AddsToOrder keys.second keys.compare_second lent item old.order ix new.order) (key : hash ≡ hash_in keys old (keys.first item)) where
+    pub Binds-from_calls : new.hasher ≡ old.hasher → new.store ≡ inserted lent item → new.filed ≡ finite.insert old.filed ix hash → Binds keys old item new
+    Binds-from_calls hasher store filed =
+        let index : ix ≡ next_index old.store = added.index ∙ ap next_index same in
+        record {
+          hasher = hasher;
+          store = store ∙ ap (λ s. inserted s item) same;
+          filed = filed ∙ ap (λ i. finite.insert old.filed i hash) index ∙ ap (finite.insert old.filed (next_index old.store)) key;
+          place = added.place;
+          within = added.within;
+          order = added.added ∙ ap (insert old.order added.place) index;
+        }
+
+    pub StoresAt-from_calls : (at : ℕ) → (IsFull old.store → ⊥) → at ≡ next_index lent → new.hasher ≡ old.hasher → new.store ≡ inserted lent item → new.filed ≡ finite.insert old.filed ix hash → StoresAt keys old item at new × (IsSorted keys old → IsSorted keys new)
+    StoresAt-from_calls at not_full index hasher store filed = (
+      record { not_full = not_full; index = index ∙ ap next_index same; adds = Binds-from_calls hasher store filed },
+      λ sorted. subst (λ s. IsSortedBy keys.second keys.compare_second s new.order) (sym store) (added.sorted (subst (λ s. IsSortedBy keys.second keys.compare_second s old.order) (sym same) sorted)),
+    )
 
   module _ (old new : State T S) (item : T) (missed : MayMissBoth keys old item) where
     pub Inserts-from_stored : (r : Result ℕ (InsertRefusal T)) → IfOk r (λ ix. StoresAt keys old item ix new × (IsSorted keys old → IsSorted keys new)) → IfErr r (HasNoPlace old.store item) → OnErr r (new ≡ old) → Inserts keys old item r new
@@ -35,15 +57,18 @@ module _ {T S K1 K2 : Type 0} (keys : Keys T K1 K2 S) where
           }
       Keeps-from_stored (Err refusal) paired stored unchanged = Keeps-same keys old new paired unchanged
 
-      -- what is finds_told of an item of new keys is that a scan finds neither
-      pub first_told : (r : Result ℕ (InsertRefusal T)) → FirstKeysInOrder keys old → IfErr r (HasNoPlace old.store item) → AnswersScan old.store (has_first keys (keys.first item)) (finds_told r).0
+      -- what is told of an item of new keys is that a scan finds neither
+      first_told : (r : Result ℕ (InsertRefusal T)) → FirstKeysInOrder keys old → IfErr r (HasNoPlace old.store item) → AnswersScan old.store (has_first keys (keys.first item)) (finds_told r).0
       first_told (Ok ix) o refused = AnswersScan-first keys lawful old _ None o missed.first
       first_told (Err (Duplicate back first second)) o refused = absurd refused
       first_told (Err (Full back)) o refused = AnswersScan-first keys lawful old _ None o missed.first
       first_told (Err (Memory back)) o refused = AnswersScan-first keys lawful old _ None o missed.first
 
-      pub second_told : (r : Result ℕ (InsertRefusal T)) → SecondKeysInOrder keys old → IfErr r (HasNoPlace old.store item) → AnswersScan old.store (has_second keys (keys.second item)) (finds_told r).1
+      second_told : (r : Result ℕ (InsertRefusal T)) → SecondKeysInOrder keys old → IfErr r (HasNoPlace old.store item) → AnswersScan old.store (has_second keys (keys.second item)) (finds_told r).1
       second_told (Ok ix) o refused = AnswersScan-second keys lawful old _ None o missed.second
       second_told (Err (Duplicate back first second)) o refused = absurd refused
       second_told (Err (Full back)) o refused = AnswersScan-second keys lawful old _ None o missed.second
       second_told (Err (Memory back)) o refused = AnswersScan-second keys lawful old _ None o missed.second
+
+      pub TellsAsScan-from_stored : (r : Result ℕ (InsertRefusal T)) → IfErr r (HasNoPlace old.store item) → TellsAsScan keys old item r
+      TellsAsScan-from_stored r refused = record { first = λ o. first_told r o refused; second = λ o. second_told r o refused }

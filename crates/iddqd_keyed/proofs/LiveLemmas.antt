@@ -3,8 +3,8 @@ use Rattle.std.proofs.Common.{◌≡◌, ◌≢◌, ◌∙◌, inl, inr, ◌<◌
 use Rattle.std.proofs.lemmas.Bool.{cases_lt}
 use Rattle.std.proofs.lemmas.List.{get_or_past, get_or_push, get_or_append_left, get_or-set_same, get_or-set_other, length_push}
 use Rattle.std.proofs.lemmas.List.Sums.{get_or-le-sum_by}
-use Rattle.iddqd.specs.Store.{Store, IsValid, get, slot_count, live_count, next_index, inserted, removed}
-use Rattle.iddqd.proofs.StoreLemmas.{contains_head}
+use Rattle.iddqd.specs.Store.{Store, IsValid, get, live_count, next_index, inserted, removed}
+use Rattle.iddqd.proofs.StoreLemmas.{contains_head, live_within}
 use Rattle.iddqd_keyed.specs.State.{IsLive}
 
 module _ {T : Type 0} where
@@ -23,11 +23,8 @@ module _ {T : Type 0} where
   pub live_at : (s : Store T) (ix : ℕ) (item : T) → get s ix ≡ Some item → IsLive s ix
   live_at s ix item is = rw is refl
 
-  pub live_within : (s : Store T) (ix : ℕ) (item : T) → get s ix ≡ Some item → ix < slot_count s
-  live_within s ix item live = grind (arith, get_or_past, live)
-
   pub get-removed_at : (s : Store T) (ix : ℕ) (item : T) → get s ix ≡ Some item → get (removed s ix) ix ≡ None
-  get-removed_at s ix item live = get_or-set_same s.items ix None None (live_within s ix item live)
+  get-removed_at s ix item live = get_or-set_same s.items ix None None (live_within s.items ix (live_at s ix item live))
 
   pub get-removed_other : (s : Store T) (ix j : ℕ) → j ≢ ix → get (removed s ix) j ≡ get s j
   get-removed_other s ix j apart = get_or-set_other s.items ix j None None apart
@@ -63,6 +60,6 @@ module _ {T : Type 0} where
   -- where nothing is live, no index has an item
   pub none_live : (s : Store T) (ix : ℕ) (item : T) → live_count s ≡ 0 → get s ix ≡ Some item → ⊥
   none_live s ix item none live =
-      let inside = live_within s ix item live in
+      let inside = live_within s.items ix (live_at s ix item live) in
       let at_least = rw live at (get_or-le-sum_by (λ o. cond (is_some o) 1 0) s.items ix None inside) in
       omega (arith, at_least, none)

@@ -7,13 +7,13 @@ use Rattle.std.proofs.lemmas.Bool.{cases_eq}
 use Rattle.iddqd.specs.Store.{Store, IsValid, get, next_index, inserted, removed}
 use Rattle.iddqd.proofs.StoreLemmas.{contains_head}
 use Rattle.iddqd_keyed.specs.Keys.{Keys}
-use Rattle.iddqd_keyed.specs.State.{State, HasNoHit, AreApart, IsPaired, IsEmpty, IsSorted, IsSortedIn, Binds, Unbinds, FirstKeysInOrder, SecondKeysInOrder, InOrder, Keeps}
-use Rattle.iddqd_keyed.specs.Machine.{MayMissBoth}
+use Rattle.iddqd_keyed.specs.State.{State, HasNoHit, AreApart, IsPaired, IsEmpty, IsSorted, IsSortedBy, Binds, Unbinds, Finds1, FirstKeysInOrder, SecondKeysInOrder, InOrder, Keeps}
+use Rattle.iddqd_keyed.specs.Machine.{MayMissBoth, Removes1}
 use Rattle.iddqd_keyed.proofs.KeyLemmas.{AreLawful}
 use Rattle.iddqd_keyed.proofs.LiveLemmas.{item_at, none_live, get-removed_at, get-removed_other, get-inserted_at, get-inserted_other}
 use Rattle.iddqd_keyed.proofs.MemberLemmas.{get-insert_at, get-insert_other, get-remove_other}
 use Rattle.iddqd_keyed.proofs.PairedLemmas.{IsPaired-removed}
-use Rattle.iddqd_keyed.proofs.SortedLemmas.{IsSorted-removed}
+use Rattle.iddqd_keyed.proofs.SortedLemmas.{IsSortedBy-removed}
 use Rattle.iddqd_keyed.proofs.FindLemmas.{AnswersScan-first, AnswersScan-second}
 
 module _ {T : Type 0} where
@@ -72,7 +72,7 @@ module _ {T S K1 K2 : Type 0} (keys : Keys T K1 K2 S) where
   SecondKeysInOrder-empty s paired none =
       let empty : s.order ≡ [] = no_members s.order (λ ix here. let item = item_at s.store ix ((paired.ordered ix).0 here) in none_live s.store ix item.0 none item.1) in
       record {
-        sorted = subst (λ xs. IsSortedIn keys s.store xs) (sym empty) (sorted_nil _);
+        sorted = subst (λ xs. IsSortedBy keys.second keys.compare_second s.store xs) (sym empty) (sorted_nil _);
         apart = λ i j x y p q same. absurd (none_live s.store i x none p);
       }
 
@@ -81,6 +81,9 @@ module _ {T S K1 K2 : Type 0} (keys : Keys T K1 K2 S) where
 
 module _ {T S K1 K2 : Type 0} (keys : Keys T K1 K2 S) (lawful : AreLawful keys) where
   module _ (old new : State T S) (ix : ℕ) (item : T) (live : get old.store ix ≡ Some item) (unbinds : Unbinds old ix new) where
+    IsSorted-removed : IsSorted keys old → IsSorted keys new
+    IsSorted-removed sorted = rw (unbinds.store, unbinds.order) (IsSortedBy-removed keys.second keys.compare_second lawful.total old.store ix old.order sorted)
+
     FirstKeysInOrder-removed : FirstKeysInOrder keys old → FirstKeysInOrder keys new
     FirstKeysInOrder-removed o = record {
       filed = λ j y is.
@@ -91,7 +94,7 @@ module _ {T S K1 K2 : Type 0} (keys : Keys T K1 K2 S) (lawful : AreLawful keys) 
 
     SecondKeysInOrder-removed : SecondKeysInOrder keys old → SecondKeysInOrder keys new
     SecondKeysInOrder-removed o = record {
-      sorted = IsSorted-removed keys lawful.total old new ix unbinds o.sorted;
+      sorted = IsSorted-removed o.sorted;
       apart = subst (AreApart _) (sym unbinds.store) (AreApart-removed _ old.store ix item live o.apart);
     }
 
@@ -99,7 +102,7 @@ module _ {T S K1 K2 : Type 0} (keys : Keys T K1 K2 S) (lawful : AreLawful keys) 
     Keeps-removed was = record {
       paired = (was, IsPaired-removed old ix item live new unbinds was);
       first_keys = FirstKeysInOrder-removed;
-      second_keys = record { sorted = IsSorted-removed keys lawful.total old new ix unbinds; in_order = SecondKeysInOrder-removed };
+      second_keys = record { sorted = IsSorted-removed; in_order = SecondKeysInOrder-removed };
     }
 
   module _ (old new : State T S) (item : T) (paired : IsPaired old) (missed : MayMissBoth keys old item) (binds : Binds keys old item new) where
@@ -120,3 +123,10 @@ module _ {T S K1 K2 : Type 0} (keys : Keys T K1 K2 S) (lawful : AreLawful keys) 
           sorted = sorted o.sorted;
           apart = subst (AreApart _) (sym binds.store) (AreApart-inserted _ old.store item paired.valid (λ x y. symm (keys.second x) (keys.second y)) (AnswersScan-second keys lawful old (keys.second item) None o missed.second) o.apart);
         }
+
+  -- a removal by a first key, from what its look-up told
+  pub Removes1-removed : (old new : State T S) (key : K1) (ix : ℕ) (item : T) → Finds1 keys old key (Some ix) → get old.store ix ≡ Some item → Unbinds old ix new → Removes1 keys old key (Some (ix, item)) new
+  Removes1-removed old new key ix item found live unbinds = record { removes = (found, (live, unbinds)); as_scan = λ o. AnswersScan-first keys lawful old key (Some ix) o found }
+
+  pub Removes1-missed : (old new : State T S) (key : K1) → Finds1 keys old key None → new ≡ old → Removes1 keys old key None new
+  Removes1-missed old new key missed same = record { removes = (missed, same); as_scan = λ o. AnswersScan-first keys lawful old key None o missed }

@@ -7,10 +7,10 @@ use Rattle.std.proofs.lemmas.Cmp.{tied_itself}
 use Rattle.iddqd.specs.Store.{Store, get, rebound}
 use Rattle.iddqd.proofs.StoreLemmas.{IsValid-rebound, get-rebound_at, get-rebound_other}
 use Rattle.iddqd_keyed.specs.Keys.{Keys, has_first, has_second}
-use Rattle.iddqd_keyed.specs.State.{State, IsLive, IsHit, AreApart, IsPaired, IsSorted, FirstKeysInOrder, SecondKeysInOrder, KeepsFirstKeys, KeepsSecondKeys, ChangesFirstKeyAt, ChangesSecondKeyAt, second_at}
+use Rattle.iddqd_keyed.specs.State.{State, IsLive, IsHit, AreApart, IsPaired, IsSorted, FirstKeysInOrder, SecondKeysInOrder, KeepsFirstKeys, KeepsSecondKeys, ChangesFirstKeyAt, ChangesSecondKeyAt, KeepsUnlessChanged, key_at}
 use Rattle.iddqd_keyed.proofs.KeyLemmas.{AreLawful}
 use Rattle.iddqd_keyed.proofs.FindLemmas.{equal_from_hit}
-use Rattle.iddqd_keyed.proofs.SortedLemmas.{IsSortedIn-tied}
+use Rattle.iddqd_keyed.proofs.SortedLemmas.{IsSortedBy-tied}
 
 -- a test that no other item fails at the index passes the item there
 passes_unless : {T : Type 0} (s : Store T) (test : T → Bool) (ix : ℕ) (was : T) → get s ix ≡ Some was → (IsHit s (λ x. not (test x)) ix → ⊥) → test was ≡ true
@@ -78,11 +78,11 @@ module _ {T S : Type 0} (old : State T S) (ix : ℕ) (item was : T) (live : get 
         }
 
     IsSorted-rebound : IsSorted keys old → has_second keys (keys.second item) was ≡ true → IsSorted keys after
-    IsSorted-rebound sorted kept = IsSortedIn-tied keys lawful.total old.store after.store old.order
+    IsSorted-rebound sorted kept = IsSortedBy-tied keys.second keys.compare_second lawful.total old.store after.store old.order
         (λ j _.
         elim (cases_eq j ix) [
-          | inl same ↦ rw (same, second_at, get-rebound_at old.store ix item was live, live) (equal_from_hit _ kept)
-          | inr other ↦ rw (second_at, get-rebound_other old.store ix j item other) (tied_itself (options_total lawful.total) (second_at keys old.store j))
+          | inl same ↦ rw (same, key_at, get-rebound_at old.store ix item was live, live) (equal_from_hit _ kept)
+          | inr other ↦ rw (key_at, get-rebound_other old.store ix j item other) (tied_itself (options_total lawful.total) (key_at keys.second old.store j))
         ])
         sorted
 
@@ -94,10 +94,13 @@ module _ {T S : Type 0} (old : State T S) (ix : ℕ) (item was : T) (live : get 
           apart = AreApart-rebound old.store ix item was live _ (λ x y. e.symm (keys.second x) (keys.second y)) (λ x y z p q. e.congr (keys.second x) (keys.second y) (keys.second z) p ∙ q) kept o.apart;
         }
 
-    pub KeepsFirstKeys-rebound : (ChangesFirstKeyAt keys old.store ix item → ⊥) → KeepsFirstKeys keys old after
+    KeepsFirstKeys-rebound : (ChangesFirstKeyAt keys old.store ix item → ⊥) → KeepsFirstKeys keys old after
     KeepsFirstKeys-rebound same o = FirstKeysInOrder-rebound o (passes_unless old.store (has_first keys (keys.first item)) ix was live same)
 
-    pub KeepsSecondKeys-rebound : (ChangesSecondKeyAt keys old.store ix item → ⊥) → KeepsSecondKeys keys old after
+    KeepsSecondKeys-rebound : (ChangesSecondKeyAt keys old.store ix item → ⊥) → KeepsSecondKeys keys old after
     KeepsSecondKeys-rebound same =
         let kept = passes_unless old.store (has_second keys (keys.second item)) ix was live same in
         record { sorted = λ sorted. IsSorted-rebound sorted kept; in_order = λ o. SecondKeysInOrder-rebound o kept }
+
+    pub KeepsUnlessChanged-rebound : IsPaired old → KeepsUnlessChanged keys old ix item after
+    KeepsUnlessChanged-rebound p = record { paired = (p, IsPaired-rebound p); first_keys = KeepsFirstKeys-rebound; second_keys = KeepsSecondKeys-rebound }

@@ -1,24 +1,23 @@
 -- The steps of keyed items keep store and tables paired.
-use Rattle.std.proofs.Common.{◌≡◌, ◌≢◌, ◌⊎◌, inl, inr, ◌↔◌, ℕ, get_or, insert, Some, None, IsSome, refl, sym, subst, arith}
+use Rattle.std.proofs.Common.{◌≡◌, ◌≢◌, ◌⊎◌, inl, inr, ◌↔◌, ℕ, [], get_or, insert, Some, None, IsSome, refl, sym, subst, arith}
 use Rattle.std.specs.List.{Contains, IsDistinct}
 use Rattle.std.specs.FinMap as finite
 use Rattle.std.proofs.lemmas.Bool.{cases_eq}
 use Rattle.std.proofs.lemmas.List.Elements.{Contains-get_or}
-use Rattle.iddqd.specs.Store.{Store, IsValid, IsFull, get, next_index, inserted, removed}
-use Rattle.iddqd.proofs.StoreLemmas.{IsValid-empty, IsValid-inserted, IsValid-removed, contains_none}
+use Rattle.iddqd.specs.Store.{Store, IsValid, IsFull, empty, get, next_index, inserted, removed}
+use Rattle.iddqd.proofs.StoreLemmas.{IsValid-empty, IsValid-cleared, IsValid-inserted, IsValid-removed, contains_none, live_within}
 use Rattle.iddqd_order.specs.MapBTreeTable.{IsIndexList, sentinel, without}
 use Rattle.iddqd_order.proofs.IndexListLemmas.{IsIndexList-insert, IsIndexList-filter}
 use Rattle.iddqd_keyed.specs.Keys.{Keys}
-use Rattle.iddqd_keyed.specs.State.{State, IsLive, IsPaired, Binds, Unbinds, empty_state}
-use Rattle.iddqd_keyed.proofs.LiveLemmas.{none_not_live, item_at, live_at, live_within, next_vacant, get-removed_at, get-removed_other, get-inserted_at, get-inserted_other}
+use Rattle.iddqd_keyed.specs.State.{State, IsLive, IsPaired, Binds, Unbinds, empty_state, cleared_state}
+use Rattle.iddqd_keyed.proofs.LiveLemmas.{none_not_live, live_at, next_vacant, get-removed_at, get-removed_other, get-inserted_at, get-inserted_other}
 use Rattle.iddqd_keyed.proofs.MemberLemmas.{contains-inserted_at, contains-inserted_other, contains-inserted_cases, contains-without, contains-from_without, get-insert_at, get-insert_other, get-remove_at, get-remove_other}
 
 module _ {T : Type 0} where
   -- an index that is live isn't `SENTINEL`
   pub live_assigned : (s : Store T) (ix : ℕ) → IsValid s → IsLive s ix → ix ≢ sentinel
   live_assigned s ix valid live is =
-      let item = item_at s ix live in
-      let within = live_within s ix item.0 item.1 in
+      let within = live_within s.items ix live in
       let small = valid.small in
       omega (arith, within, small, is)
 
@@ -29,14 +28,21 @@ module _ {T S : Type 0} where
     assigned = λ k d inside. live_assigned s.store (get_or s.order k d) paired.valid ((paired.ordered (get_or s.order k d)).0 (Contains-get_or s.order k d inside));
   }
 
-  pub IsPaired-empty : (hasher : S) → IsPaired (empty_state {T = T} hasher)
+  -- a store without live items, and nothing in either table
+  IsPaired-bare : (hasher : S) (store : Store T) → IsValid store → ((ix : ℕ) → IsLive store ix → ⊥) → IsPaired (record { hasher = hasher; store = store; filed = finite.empty; order = [] })
   unfolding IsDistinct
-  IsPaired-empty hasher = record {
-    valid = IsValid-empty;
-    filed = λ ix. (λ here. absurd (let never = rw finite.get-empty at here in cc), λ live. absurd (cc));
-    ordered = λ ix. (λ here. absurd (contains_none ix here), λ live. absurd (cc));
+  IsPaired-bare hasher store valid none = record {
+    valid = valid;
+    filed = λ ix. (λ here. absurd (let never = rw finite.get-empty at here in cc), λ live. absurd (none ix live));
+    ordered = λ ix. (λ here. absurd (contains_none ix here), λ live. absurd (none ix live));
     once = tt;
   }
+
+  pub IsPaired-empty : (hasher : S) → IsPaired (empty_state {T = T} hasher)
+  IsPaired-empty hasher = IsPaired-bare hasher empty IsValid-empty (λ ix live. cc)
+
+  pub IsPaired-cleared : (old : State T S) → IsPaired old → IsPaired (cleared_state old)
+  IsPaired-cleared old was = IsPaired-bare old.hasher _ (IsValid-cleared old.store) (λ ix live. cc)
 
   -- the next index is new to both tables
   pub next_unfiled : (s : State T S) → IsPaired s → finite.get s.filed (next_index s.store) ≡ None

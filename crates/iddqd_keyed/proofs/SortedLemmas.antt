@@ -1,8 +1,9 @@
--- Orders that are sorted by second key: how searches are answered there, and that they stay sorted.
+-- Orders that are sorted by key: how searches are answered there, and that they stay sorted.
 use Rattle.std.proofs.Common.{◌≡◌, ◌∙◌, ◌+◌, ℕ, List, get_or, insert, Some, None, refl, sym, ap, subst, Ordering, arith}
 use Rattle.std.specs.List.{Contains}
 use Rattle.std.specs.Option.{option_map, option_cmp}
 use Rattle.std.specs.Ordering.{nat_cmp, ordering_then}
+use Rattle.std.specs.Fn.{Mut}
 use Rattle.std.specs.Cmp.{IsTotalOrder}
 use Rattle.std.specs.Cmp.Lexicographic.{options_total}
 use Rattle.std.specs.declared.cmp.Ordering.TheVariants.{Equal}
@@ -10,88 +11,103 @@ use Rattle.std.proofs.lemmas.Cmp.{alike_right, tied_itself}
 use Rattle.std.proofs.lemmas.List.Elements.{Contains-get_or}
 use Rattle.std.proofs.lemmas.List.Kept.{IsStrictlySortedBy-filter}
 use Rattle.std.proofs.lemmas.Map.Keys.{Less-from_sorted, sorted_from_all_adjacent}
-use Rattle.iddqd.specs.Store.{Store, IsFull, get, next_index, inserted, removed}
+use Rattle.iddqd.specs.Store.{Store, IsValid, get, next_index, inserted, removed}
 use Rattle.iddqd_order.specs.KeyOrder.{key_then_index, ComparesKeys}
 use Rattle.iddqd_order.specs.MapBTreeTable.{without}
-use Rattle.iddqd_order.specs.Search.{settled, IsRising, IsPlace}
-use Rattle.iddqd_order.proofs.KeyOrderLemmas.{key_then_index-total, settled-key, IsRising-from_key, IsRising-from_sorted, IsStrictlySortedBy-insert}
-use Rattle.iddqd_keyed.specs.Keys.{Keys}
-use Rattle.iddqd_keyed.specs.State.{State, IsLive, IsPaired, IsSorted, IsSortedIn, second_at, Binds, Unbinds}
-use Rattle.iddqd_keyed.specs.Machine.{StoresAt}
+use Rattle.iddqd_order.specs.PreparedBTreeInsert.{place_of, PreparesInsert}
+use Rattle.iddqd_order.specs.Search.{with_ties, IsRising, IsPlace, IsSteady}
+use Rattle.iddqd_order.specs.declared.btree_table.asking.Asking.{Asking}
+use Rattle.iddqd_order.specs.declared.btree_table.prepared_insert.PreparedBTreeInsert.{PreparedBTreeInsert}
+use Rattle.iddqd_order.proofs.KeyOrderLemmas.{key_then_index-total, with_ties-key, IsRising-from_key, IsRising-from_sorted, IsStrictlySortedBy-insert}
+use Rattle.iddqd_keyed.specs.State.{IsLive, key_at, IsSortedBy, AddsToOrder}
 use Rattle.iddqd_keyed.proofs.LiveLemmas.{none_not_live, next_vacant, get-removed_other, get-inserted_at, get-inserted_other}
 use Rattle.iddqd_keyed.proofs.MemberLemmas.{contains-from_without}
 
-module _ {T S K1 K2 : Type 0} (keys : Keys T K1 K2 S) where
-  -- how a second key compares with that of the item at an index
-  abbrev pub compared_at : Store T → K2 → ℕ → Ordering
-  compared_at s key ix = option_cmp keys.compare_second (Some key) (second_at keys s ix)
+module _ {T K : Type 0} (key_of : T → K) (compare : K → K → Ordering) where
+  -- how a key compares with that of the item at an index
+  abbrev pub compared_at : Store T → K → ℕ → Ordering
+  compared_at s key ix = option_cmp compare (Some key) (key_at key_of s ix)
 
-  pub compared_live : (s : Store T) (key : K2) (ix : ℕ) (item : T) → get s ix ≡ Some item → compared_at s key ix ≡ keys.compare_second key (keys.second item)
+  pub compared_live : (s : Store T) (key : K) (ix : ℕ) (item : T) → get s ix ≡ Some item → compared_at s key ix ≡ compare key (key_of item)
   compared_live s key ix item is = rw is refl
 
-module _ {T S K1 K2 : Type 0} (keys : Keys T K1 K2 S) (total : IsTotalOrder keys.compare_second) where
-  totals : (s : Store T) → IsTotalOrder (key_then_index (option_cmp keys.compare_second) (second_at keys s))
-  totals s = key_then_index-total (options_total total) (second_at keys s)
+module _ {T K : Type 0} (key_of : T → K) (compare : K → K → Ordering) (total : IsTotalOrder compare) where
+  totals : (s : Store T) → IsTotalOrder (key_then_index (option_cmp compare) (key_at key_of s))
+  totals s = key_then_index-total (options_total total) (key_at key_of s)
 
-  -- what is sorted is so over every store whose second keys there compare Equal with those
-  pub IsSortedIn-tied : (s t : Store T) (xs : List ℕ) → ((j : ℕ) → Contains xs j → option_cmp keys.compare_second (second_at keys t j) (second_at keys s j) ≡ Equal) → IsSortedIn keys s xs → IsSortedIn keys t xs
-  IsSortedIn-tied s t xs ties sorted =
+  -- what is sorted is so over every store whose keys there compare Equal with those
+  pub IsSortedBy-tied : (s t : Store T) (xs : List ℕ) → ((j : ℕ) → Contains xs j → option_cmp compare (key_at key_of t j) (key_at key_of s j) ≡ Equal) → IsSortedBy key_of compare s xs → IsSortedBy key_of compare t xs
+  IsSortedBy-tied s t xs ties sorted =
       let o = options_total total in
       sorted_from_all_adjacent (totals t) xs 0 (λ k within.
       let i = get_or xs k 0 in
       let j = get_or xs (k + 1) 0 in
-      let left = o.congr (second_at keys t i) (second_at keys s i) (second_at keys t j) (ties i (Contains-get_or xs k 0 (omega arith))) in
-      let right = alike_right o (second_at keys t j) (second_at keys s j) (second_at keys s i) (ties j (Contains-get_or xs (k + 1) 0 within)) in
+      let left = o.congr (key_at key_of t i) (key_at key_of s i) (key_at key_of t j) (ties i (Contains-get_or xs k 0 (omega arith))) in
+      let right = alike_right o (key_at key_of t j) (key_at key_of s j) (key_at key_of s i) (ties j (Contains-get_or xs (k + 1) 0 within)) in
       ap (λ r. ordering_then r (nat_cmp i j)) (left ∙ right)
       ∙ Less-from_sorted _ xs k (k + 1) 0 sorted (omega arith) within)
 
   -- and over every store that gives the same items
-  IsSortedIn-alike : (s t : Store T) (xs : List ℕ) → ((j : ℕ) → Contains xs j → get t j ≡ get s j) → IsSortedIn keys s xs → IsSortedIn keys t xs
-  IsSortedIn-alike s t xs same = IsSortedIn-tied s t xs (λ j here.
-      subst (λ o. option_cmp keys.compare_second (option_map keys.second o) (second_at keys s j) ≡ Equal) (sym (same j here)) (tied_itself (options_total total) (second_at keys s j)))
+  IsSortedBy-alike : (s t : Store T) (xs : List ℕ) → ((j : ℕ) → Contains xs j → get t j ≡ get s j) → IsSortedBy key_of compare s xs → IsSortedBy key_of compare t xs
+  IsSortedBy-alike s t xs same = IsSortedBy-tied s t xs (λ j here.
+      subst (λ o. option_cmp compare (option_map key_of o) (key_at key_of s j) ≡ Equal) (sym (same j here)) (tied_itself (options_total total) (key_at key_of s j)))
 
-  pub IsSorted-removed : (old new : State T S) (ix : ℕ) → Unbinds old ix new → IsSorted keys old → IsSorted keys new
-  IsSorted-removed old new ix unbinds sorted =
-      rw (unbinds.store, unbinds.order) (IsSortedIn-alike old.store (removed old.store ix) (without old.order ix)
-      (λ j here. get-removed_other old.store ix j (contains-from_without old.order ix j here).1)
-      (IsStrictlySortedBy-filter _ _ old.order sorted))
+  pub IsSortedBy-removed : (s : Store T) (ix : ℕ) (xs : List ℕ) → IsSortedBy key_of compare s xs → IsSortedBy key_of compare (removed s ix) (without xs ix)
+  IsSortedBy-removed s ix xs sorted =
+      IsSortedBy-alike s (removed s ix) (without xs ix)
+      (λ j here. get-removed_other s ix j (contains-from_without xs ix j here).1)
+      (IsStrictlySortedBy-filter _ _ xs sorted)
 
   -- along a sorted order the comparisons of a key rise
-  pub IsRising-find : (s : State T S) (key : K2) → IsSorted keys s → IsRising (settled None (compared_at keys s.store key)) s.order
-  IsRising-find s key sorted =
-      IsRising-from_key (options_total total) (second_at keys s.store) (Some key) s.order (compared_at keys s.store key) sorted (λ k d within. refl)
+  pub IsRising-find : (s : Store T) (xs : List ℕ) (key : K) → IsSortedBy key_of compare s xs → IsRising (with_ties None (compared_at key_of compare s key)) xs
+  IsRising-find s xs key sorted =
+      IsRising-from_key (options_total total) (key_at key_of s) (Some key) xs (compared_at key_of compare s key) sorted (λ k d within. refl)
 
-  -- an insert of an item at the next index of a store, whose order is sorted
-  module _ (s : State T S) (item : T) (paired : IsPaired s) (sorted : IsSorted keys s) where
+  -- an insert of an item at the next index of a store, where a list of live indexes is sorted
+  module _ (s : Store T) (item : T) (xs : List ℕ) (valid : IsValid s) (stored : (ix : ℕ) → Contains xs ix → IsLive s ix) (sorted : IsSortedBy key_of compare s xs) where
     abbrev after : Store T
-    after = inserted s.store item
+    after = inserted s item
 
     abbrev next : ℕ
-    next = next_index s.store
+    next = next_index s
 
-    others : (j : ℕ) → Contains s.order j → get after j ≡ get s.store j
+    abbrev answer : ℕ → Ordering
+    answer = with_ties (Some next) (compared_at key_of compare s (key_of item))
+
+    others : (j : ℕ) → Contains xs j → get after j ≡ get s j
     others j here =
-        get-inserted_other s.store item j (λ same. none_not_live s.store next (next_vacant s.store paired.valid) (subst (λ x. IsLive s.store x) same ((paired.ordered j).0 here)))
+        get-inserted_other s item j (λ same. none_not_live s next (next_vacant s valid) (subst (λ x. IsLive s x) same (stored j here)))
 
-    sorted_after : IsSortedIn keys after s.order
-    sorted_after = IsSortedIn-alike s.store after s.order others sorted
+    sorted_after : IsSortedBy key_of compare after xs
+    sorted_after = IsSortedBy-alike s after xs others sorted
 
-    compares : ComparesKeys (option_cmp keys.compare_second (second_at keys after next)) (second_at keys after) (compared_at keys s.store (keys.second item)) s.order
+    compares : ComparesKeys (option_cmp compare (key_at key_of after next)) (key_at key_of after) (compared_at key_of compare s (key_of item)) xs
     compares k d within =
-        let j = get_or s.order k d in
-        let own : second_at keys after next ≡ Some (keys.second item) = ap (λ o. option_map keys.second o) (get-inserted_at s.store item paired.valid) in
-        let other : second_at keys after j ≡ second_at keys s.store j = ap (λ o. option_map keys.second o) (others j (Contains-get_or s.order k d within)) in
-        ap (λ a. option_cmp keys.compare_second a (second_at keys s.store j)) (sym own) ∙ ap (λ b. option_cmp keys.compare_second (second_at keys after next) b) (sym other)
+        let j = get_or xs k d in
+        let own : key_at key_of after next ≡ Some (key_of item) = ap (λ o. option_map key_of o) (get-inserted_at s item valid) in
+        let other : key_at key_of after j ≡ key_at key_of s j = ap (λ o. option_map key_of o) (others j (Contains-get_or xs k d within)) in
+        ap (λ a. option_cmp compare a (key_at key_of s j)) (sym own) ∙ ap (λ b. option_cmp compare (key_at key_of after next) b) (sym other)
 
-    pub IsRising-insert : IsRising (settled (Some next) (compared_at keys s.store (keys.second item))) s.order
+    pub IsRising-insert : IsRising answer xs
     IsRising-insert =
-        IsRising-from_sorted (totals after) s.order sorted_after next (settled (Some next) (compared_at keys s.store (keys.second item))) (settled-key (options_total total) (second_at keys after) next (compared_at keys s.store (keys.second item)) s.order compares)
+        IsRising-from_sorted (totals after) xs sorted_after next answer (with_ties-key (options_total total) (key_at key_of after) next (compared_at key_of compare s (key_of item)) xs compares)
 
-    pub IsSortedIn-inserted : (place : ℕ) → IsPlace (settled (Some next) (compared_at keys s.store (keys.second item))) s.order place → IsSortedIn keys after (insert s.order place next)
-    IsSortedIn-inserted place is_place =
-        IsStrictlySortedBy-insert (totals after) s.order sorted_after next (settled (Some next) (compared_at keys s.store (keys.second item))) (settled-key (options_total total) (second_at keys after) next (compared_at keys s.store (keys.second item)) s.order compares) place is_place
+    pub IsSortedBy-inserted : (place : ℕ) → IsPlace answer xs place → IsSortedBy key_of compare after (insert xs place next)
+    IsSortedBy-inserted place is_place =
+        IsStrictlySortedBy-insert (totals after) xs sorted_after next answer (with_ties-key (options_total total) (key_at key_of after) next (compared_at key_of compare s (key_of item)) xs compares) place is_place
 
--- an insert that bound the item at its place keeps a sorted order sorted
-pub StoresAt-sorted : {T S K1 K2 : Type 0} (keys : Keys T K1 K2 S) (old new : State T S) (item : T) (ix : ℕ) → (IsFull old.store → ⊥) → ix ≡ next_index old.store → (binds : Binds keys old item new) → (IsSorted keys old → IsSortedIn keys (inserted old.store item) (insert old.order binds.place (next_index old.store))) → StoresAt keys old item ix new × (IsSorted keys old → IsSorted keys new)
-StoresAt-sorted keys old new item ix not_full index binds sorted =
-    (record { not_full = not_full; index = index; adds = binds }, λ was. rw (binds.store, binds.order) (sorted was))
+  -- an insert of the next index that was prepared by steady answers and done
+  module _ {F R : Type 0} (g : Mut F (ℕ × Unit {0}) R) (read : R → Ordering) (asking : Asking F) (p : PreparedBTreeInsert) (s : Store T) (item : T) (xs new : List ℕ) (valid : IsValid s) (stored : (ix : ℕ) → Contains xs ix → IsLive s ix) where
+    stays_sorted : PreparesInsert g read xs (next_index s) asking p → IsSteady g xs (Some (next_index s)) read (compared_at key_of compare s (key_of item)) asking → new ≡ insert xs (place_of p) (next_index s) → IsSortedBy key_of compare s xs → IsSortedBy key_of compare (inserted s item) new
+    stays_sorted prepares steady added sorted =
+        let place = prepares.place (compared_at key_of compare s (key_of item)) (record { steady = steady; rising = IsRising-insert s item xs valid stored sorted }) in
+        subst (IsSortedBy key_of compare (inserted s item)) (sym added) (IsSortedBy-inserted s item xs valid stored sorted (place_of p) place)
+
+    pub AddsToOrder-prepared : (ix : ℕ) → ix ≡ next_index s → PreparesInsert g read xs ix asking p → IsSteady g xs (Some ix) read (compared_at key_of compare s (key_of item)) asking → new ≡ insert xs (place_of p) ix → AddsToOrder key_of compare s item xs ix new
+    AddsToOrder-prepared ix index prepares steady added = record {
+      index = index;
+      place = place_of p;
+      within = prepares.within;
+      added = added;
+      sorted = subst (λ i. PreparesInsert g read xs i asking p → IsSteady g xs (Some i) read (compared_at key_of compare s (key_of item)) asking → new ≡ insert xs (place_of p) i → IsSortedBy key_of compare s xs → IsSortedBy key_of compare (inserted s item) new) (sym index) stays_sorted prepares steady added;
+    }

@@ -5,7 +5,7 @@ use Rattle.std.specs.Option.{option_map}
 use Rattle.iddqd.specs.Store.{Store, get, next_index, IsFull, rebound}
 use Rattle.iddqd.specs.Compaction.{IsRemapOf}
 use Rattle.iddqd_keyed.specs.Keys.{Keys, has_first, has_second}
-use Rattle.iddqd_keyed.specs.State.{State, empty_state, Compacts, IsLive, IsPaired, IsSortedIn, Binds, Unbinds, HasNoHit, AnswersScan, Finds1, Finds2, FirstKeysInOrder, SecondKeysInOrder, KeepsFirstKeys, KeepsSecondKeys, ChangesFirstKeyAt, ChangesSecondKeyAt}
+use Rattle.iddqd_keyed.specs.State.{State, cleared_state, Compacts, IsLive, IsPaired, IsSortedBy, Binds, Unbinds, HasNoHit, AnswersScan, Finds1, Finds2, FirstKeysInOrder, SecondKeysInOrder, KeepsFirstKeys, KeepsSecondKeys, ChangesFirstKeyAt, ChangesSecondKeyAt}
 use Rattle.iddqd_keyed.specs.declared.command.Command.{Command}
 use Rattle.iddqd_keyed.specs.declared.command.Command.TheVariants.{Insert, Find1, Find2, Remove, Remove1, Remove2, Overwrite, Compact, Clear, Walk}
 use Rattle.iddqd_keyed.specs.declared.command.Reply.{Reply}
@@ -83,9 +83,24 @@ module _ {T S K1 K2 : Type 0} (keys : Keys T K1 K2 S) where
   Inserts old item (Err (Duplicate back first second)) new = RefusesDuplicate old item back first second new
   Inserts old item (Err refusal) new = RefusesMissed old item refusal new
 
+  -- what an insert tells of each look-up is what a scan answers, where the keys of that side are in order
+  pub record TellsAsScan (old : State T S) (item : T) (result : Result ℕ (InsertRefusal T)) : Type 0 where
+    pub first : FirstKeysInOrder keys old → AnswersScan old.store (has_first keys (keys.first item)) (finds_told result).0
+    pub second : SecondKeysInOrder keys old → AnswersScan old.store (has_second keys (keys.second item)) (finds_told result).1
+
+  -- a removal by a first key: what it may answer and leave, and that it finds what a scan does where the first keys are in order
+  pub record Removes1 (old : State T S) (key : K1) (removed : Option (ℕ × T)) (new : State T S) : Type 0 where
+    pub removes : RemovesFound (Finds1 keys old key) old removed new
+    pub as_scan : FirstKeysInOrder keys old → RemovesAsScan old.store (has_first keys key) removed
+
+  -- a removal by a second key: what it may answer and leave, and that it finds what a scan does where the second keys are in order
+  pub record Removes2 (old : State T S) (key : K2) (removed : Option (ℕ × T)) (new : State T S) : Type 0 where
+    pub removes : RemovesFound (Finds2 keys old key) old removed new
+    pub as_scan : SecondKeysInOrder keys old → RemovesAsScan old.store (has_second keys key) removed
+
   -- these are the live indexes, each once, in order by second key, ties by index
   pub record IsSortedScan (s : Store T) (indexes : List ℕ) : Type 0 where
-    pub sorted : IsSortedIn keys s indexes
+    pub sorted : IsSortedBy keys.second keys.compare_second s indexes
     pub live : (ix : ℕ) → Contains indexes ix ↔ IsLive s ix
 
   -- what a command may answer and leave
@@ -101,7 +116,7 @@ module _ {T S K1 K2 : Type 0} (keys : Keys T K1 K2 S) where
   Answers old (Overwrite ix item) (Overwritten result) new = Overwrites old ix item result new
   Answers old Compact (Compacted remap) new = IsRemapOf old.store remap × Compacts old new
   Answers old Compact NoMemory new = (old.store.free ≢ []) × (new ≡ old)
-  Answers old Clear Cleared new = new ≡ empty_state old.hasher
+  Answers old Clear Cleared new = new ≡ cleared_state old
   Answers old Walk (Walked indexes) new = (indexes.items ≡ old.order) × (new ≡ old)
   Answers old Walk NoMemory new = (old.order ≢ []) × (new ≡ old)
   Answers old command reply new = ⊥

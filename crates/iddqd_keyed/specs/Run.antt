@@ -1,5 +1,5 @@
 -- Runs of the keyed machine, and their quiet moments.
-use Rattle.std.specs.Prelude.{◌≡◌, List, [], ◌∷◌, ◌⊎◌, All, ⊤}
+use Rattle.std.specs.Prelude.{List, [], ◌∷◌, ◌⊎◌, All, ⊤}
 use Rattle.iddqd.specs.Store.{Store}
 use Rattle.iddqd_keyed.specs.Keys.{Keys}
 use Rattle.iddqd_keyed.specs.State.{State, IsPaired, IsEmpty, FirstKeysInOrder, SecondKeysInOrder, InOrder}
@@ -37,12 +37,10 @@ module _ {T S K1 K2 : Type 0} (Changes : State T S → Command T K1 K2 → Type 
     pub exact : ExactWhereQuiet Exact (IsQuietAtStart Holds first) first commands replies moments
 
 module _ {T S K1 K2 : Type 0} (keys : Keys T K1 K2 S) where
-  -- from old through these later moments to new: one step between neighbours, one reply for each command
-  abbrev pub IsStepChain : State T S → List (Command T K1 K2) → List (Reply T) → List (State T S) → State T S → Type 0
-  IsStepChain old [] [] [] new = new ≡ old
-  IsStepChain old (command ∷ commands) (reply ∷ replies) (next ∷ moments) new =
-      Step keys old command reply next × IsStepChain next commands replies moments new
-  IsStepChain old commands replies moments new = ⊥
+  -- from one state through these later moments to the last: a step to each moment, and a reply to each command
+  pub data IsStepChain : State T S → List (Command T K1 K2) → List (Reply T) → List (State T S) → State T S → Type 0 where
+    No_step : {s : State T S} → IsStepChain s [] [] [] s
+    Next_step : {old next new : State T S} {command : Command T K1 K2} {reply : Reply T} {commands : List (Command T K1 K2)} {replies : List (Reply T)} {moments : List (State T S)} → Step keys old command reply next → IsStepChain next commands replies moments new → IsStepChain old (command ∷ commands) (reply ∷ replies) (next ∷ moments) new
 
   -- A run over a list of commands. Its steps say of every moment that hits have the key asked for, that a live index is
   -- removed whatever its keys are now, that compaction renames by rank, and that an overwrite leaves both tables.

@@ -2,11 +2,12 @@
 use Rattle.std.specs.Prelude.{◌≡◌, ◌↔◌, ◌≤◌, ℕ, Bool, true, not, List, [], length, insert, map, nat_eq, Option, Some, None, IsSome, refl}
 use Rattle.std.specs.List.{Contains, IsDistinct}
 use Rattle.std.specs.Option.{option_map, option_cmp}
-use Rattle.std.specs.Ordering.{nat_cmp}
+use Rattle.std.specs.Ordering.{nat_cmp, is_eq}
+use Rattle.std.specs.declared.cmp.Ordering.{Ordering}
 use Rattle.std.specs.FinMap as finite
 use Rattle.std.specs.FinMap.{FinMap}
 use Rattle.std.specs.Coded.{Coded, code_by, coded×, coded_ℕ, coded_list}
-use Rattle.iddqd.specs.Store.{Store, store_code, IsValid, get, live_count, next_index, empty, inserted, removed}
+use Rattle.iddqd.specs.Store.{Store, store_code, IsValid, get, live_count, next_index, empty, cleared, inserted, removed}
 use Rattle.iddqd_hash.specs.HashTable.{Table}
 use Rattle.iddqd.specs.Compaction.{compacted, rank}
 use Rattle.iddqd_hash.specs.MapHashTable.{filed, Renames}
@@ -53,9 +54,56 @@ module _ {T : Type 0} where
   abbrev pub AreApart : (T → T → Bool) → Store T → Type 0
   AreApart alike s = (i j : ℕ) (x y : T) → get s i ≡ Some x → get s j ≡ Some y → alike x y ≡ true → i ≡ j
 
+  -- the index is filed under the hash, and its item passes the test
+  pub record IsFiledHit (s : Store T) (hashes : FinMap nat_cmp ℕ) (hash : ℕ) (test : T → Bool) (ix : ℕ) : Type 0 where
+    pub hit : IsHit s test ix
+    pub filed : finite.get hashes ix ≡ Some hash
+
+  -- what a look-up under a hash may answer: an index that is found, and none exactly where there is none
+  abbrev pub FindsFiled : Store T → FinMap nat_cmp ℕ → ℕ → (T → Bool) → Option ℕ → Type 0
+  FindsFiled s hashes hash test None = (ix : ℕ) → IsFiledHit s hashes hash test ix → ⊥
+  FindsFiled s hashes hash test (Some ix) = IsFiledHit s hashes hash test ix
+
+module _ {T K : Type 0} (key_of : T → K) where
+  -- the key of the item at an index, if it is live
+  abbrev pub key_at : Store T → ℕ → Option K
+  key_at s ix = option_map key_of (get s ix)
+
+  -- the index is live, and this is the key of its item
+  abbrev pub IsKeyAt : Store T → ℕ → K → Type 0
+  IsKeyAt s ix key = (item : T) × (get s ix ≡ Some item) × (key ≡ key_of item)
+
+  module _ (compare : K → K → Ordering) where
+    -- these indexes are in order by key, ties by index
+    abbrev pub IsSortedBy : Store T → List ℕ → Type 0
+    IsSortedBy s indexes = IsInKeyOrder (option_cmp compare) (key_at s) indexes
+
+    -- the item's key compares Equal
+    abbrev pub compares_equal : K → T → Bool
+    compares_equal key item = is_eq (compare key (key_of item))
+
+    -- what a look-up in an order may answer: an index whose item has the key, and, where the order is sorted, none
+    -- exactly where there is none
+    abbrev pub FindsInOrder : Store T → List ℕ → K → Option ℕ → Type 0
+    FindsInOrder s order key None = IsSortedBy s order → HasNoHit s (compares_equal key)
+    FindsInOrder s order key (Some ix) = IsHit s (compares_equal key) ix
+
+    -- The next index was put into the order, at some place; a sorted order stays so once the index has the item.
+    pub record AddsToOrder (s : Store T) (item : T) (old : List ℕ) (ix : ℕ) (new : List ℕ) : Type 0 where
+      pub index : ix ≡ next_index s
+      pub place : ℕ
+      pub within : place ≤ length old
+      pub added : new ≡ insert old place ix
+      pub sorted : IsSortedBy s old → IsSortedBy (inserted s item) new
+
 module _ {T S : Type 0} where
+  -- no item and no slot, and nothing in either table
   abbrev pub empty_state : S → State T S
   empty_state hasher = record { hasher = hasher; store = empty; filed = finite.empty; order = [] }
+
+  -- what forgetting all items and all slots leaves
+  abbrev pub cleared_state : State T S → State T S
+  cleared_state old = record old { store = cleared old.store; filed = finite.empty; order = [] }
 
   -- the state of a store and two tables
   abbrev pub state_of : S → Store T → Table ℕ → Order → State T S
@@ -92,33 +140,17 @@ module _ {T S K1 K2 : Type 0} (keys : Keys T K1 K2 S) where
   abbrev pub hash_in : State T S → K1 → ℕ
   hash_in s key = keys.hash_first s.hasher key
 
-  -- the second key of the item at an index, if it is live
-  abbrev pub second_at : Store T → ℕ → Option K2
-  second_at s ix = option_map keys.second (get s ix)
-
-  -- these indexes are in order by second key, ties by index
-  abbrev pub IsSortedIn : Store T → List ℕ → Type 0
-  IsSortedIn s indexes = IsInKeyOrder (option_cmp keys.compare_second) (second_at s) indexes
-
   -- the order is sorted by second key, ties by index
   abbrev pub IsSorted : State T S → Type 0
-  IsSorted s = IsSortedIn s.store s.order
+  IsSorted s = IsSortedBy keys.second keys.compare_second s.store s.order
 
-  -- The index is live, its item has this first key, and it is filed under the key's hash.
-  pub record IsFound1 (s : State T S) (key : K1) (ix : ℕ) : Type 0 where
-    pub hit : IsHit s.store (has_first keys key) ix
-    pub filed : finite.get s.filed ix ≡ Some (hash_in s key)
-
-  -- what a look-up of a first key may answer: an index that is found, and none exactly where there is none
+  -- what a look-up of a first key may answer: an index that is filed under the key's hash and whose item has the key
   abbrev pub Finds1 : State T S → K1 → Option ℕ → Type 0
-  Finds1 s key None = (ix : ℕ) → IsFound1 s key ix → ⊥
-  Finds1 s key (Some ix) = IsFound1 s key ix
+  Finds1 s key result = FindsFiled s.store s.filed (hash_in s key) (has_first keys key) result
 
-  -- what a look-up of a second key may answer: an index whose item has it, and, where the order is sorted, none
-  -- exactly where there is none
+  -- what a look-up of a second key may answer: an index whose item has the key
   abbrev pub Finds2 : State T S → K2 → Option ℕ → Type 0
-  Finds2 s key None = IsSorted s → HasNoHit s.store (has_second keys key)
-  Finds2 s key (Some ix) = IsHit s.store (has_second keys key) ix
+  Finds2 s key result = FindsInOrder keys.second keys.compare_second s.store s.order key result
 
   -- The item was stored under the next index, and that index was filed under the hash of the item's first key and put
   -- into the order, at some place. Nothing else changed.
@@ -168,3 +200,19 @@ module _ {T S K1 K2 : Type 0} (keys : Keys T K1 K2 S) where
   -- the index is live, and its item has another second key than this item
   abbrev pub ChangesSecondKeyAt : Store T → ℕ → T → Type 0
   ChangesSecondKeyAt s ix item = IsHit s (λ was. not (has_second keys (keys.second item) was)) ix
+
+  -- what a call keeps that gives an index this item: the side of each key that the index keeps
+  pub record KeepsUnlessChanged (old : State T S) (ix : ℕ) (item : T) (new : State T S) : Type 0 where
+    pub paired : IsPaired old × IsPaired new
+    pub first_keys : (ChangesFirstKeyAt old.store ix item → ⊥) → KeepsFirstKeys old new
+    pub second_keys : (ChangesSecondKeyAt old.store ix item → ⊥) → KeepsSecondKeys old new
+
+  -- a look-up of a first key: what it may answer, and that this is a scan's answer where the first keys are in order
+  pub record LooksUp1 (s : State T S) (key : K1) (result : Option ℕ) : Type 0 where
+    pub found : Finds1 s key result
+    pub as_scan : FirstKeysInOrder s → AnswersScan s.store (has_first keys key) result
+
+  -- a look-up of a second key: what it may answer, and that this is a scan's answer where the second keys are in order
+  pub record LooksUp2 (s : State T S) (key : K2) (result : Option ℕ) : Type 0 where
+    pub found : Finds2 s key result
+    pub as_scan : SecondKeysInOrder s → AnswersScan s.store (has_second keys key) result

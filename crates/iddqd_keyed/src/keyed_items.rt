@@ -2,28 +2,31 @@
 //!
 //! The items stand in the store alone, and so do their keys: both tables hold indexes, and read the
 //! key of an index from the store where they need it. So one item is stored once, and an index stays
-//! good until its item is removed or the store is compacted. Every index of an item stands in both
+//! good until its item is removed, or all items are moved down or forgotten: by `remove`, `remove1`
+//! and `remove2`, by `compact` and by `clear`. Every index of an item stands in both
 //! tables once, and no other does, whatever becomes of the keys: an insert takes all memory before it
 //! writes anything, and a removal takes the index out of both tables before its slot is freed.
-ghost use Rattle.std.specs.Prelude.{◌≡◌, ◌↔◌, [], IsSome, IsOk, IfOk, IfErr, OnOk, OnErr, option_copied};
+ghost use Rattle.std.specs.Prelude.{◌≡◌, ◌↔◌, [], IsSome, IsOk, IfOk, IfErr, OnErr, option_copied};
 ghost use Rattle.iddqd.specs.Store.{get, live_count};
 ghost use Rattle.iddqd.specs.Compaction.{IsRemapOf};
-ghost use Rattle.iddqd.specs.GrowHandle.{handle_store};
 ghost use Rattle.iddqd_order.specs.Iter.{indexes_left};
-ghost use Rattle.iddqd_keyed.specs.Keys.{keys_of, has_first, has_second};
-ghost use Rattle.iddqd_keyed.specs.State.{empty_state, Compacts, hash_in, IsLive, IsPaired, IsSorted, FirstKeysInOrder, SecondKeysInOrder, Keeps, KeepsFirstKeys, KeepsSecondKeys, ChangesFirstKeyAt, ChangesSecondKeyAt, AnswersScan, Finds1, Finds2};
-ghost use Rattle.iddqd_keyed.specs.Machine.{HasNoPlace, StoresAt, Inserts, finds_told, Removes, RemovesFound, RemovesAsScan, Overwrites, IsSortedScan, Step};
+ghost use Rattle.iddqd_keyed.specs.Keys.{keys_of};
+ghost use Rattle.iddqd_keyed.specs.State.{empty_state, cleared_state, Compacts, hash_in, IsLive, IsPaired, IsSorted, SecondKeysInOrder, Keeps, KeepsUnlessChanged, LooksUp1, LooksUp2};
+ghost use Rattle.iddqd_keyed.specs.Machine.{HasNoPlace, StoresAt, Inserts, TellsAsScan, Removes, Removes1, Removes2, Overwrites, IsSortedScan, Step};
 ghost use Rattle.iddqd_keyed.specs.Run.{Run};
 
 use crate::command::{Command, InsertRefusal, Reply};
 use crate::keyed_item::KeyedItem;
-use crate::lookup::{first_key, second_key, second_key_in, unfile, unorder};
+use crate::lookup::{
+    add_to_order, find_by_first_key, find_by_second_key, remove_from_hash_table, remove_item,
+    take_by_first_key,
+};
 use iddqd::index_remap::IndexRemap;
 use iddqd::item_index::ItemIndex;
 use iddqd::item_set::{GrowError, ItemSet};
-use iddqd::map_hash::{MapHash, Same};
+use iddqd::map_hash::MapHash;
 use iddqd_hash::hash_table::MapHashTable;
-use iddqd_order::btree_table::{Asking, Iter, MapBTreeTable};
+use iddqd_order::btree_table::{Iter, MapBTreeTable};
 use std::alloc::{AllocError, Global};
 use std::hash::BuildHasher;
 use std::marker::Model;
@@ -55,6 +58,27 @@ impl<T: KeyedItem, S: BuildHasher> Model for KeyedItems<T, S> {
     ghost view = { λ k. state_of k.state k.items.store k.filed k.order };
 
     ghost invariant = { λ k. IsPaired (state_of k.state k.items.store k.filed k.order) };
+}
+
+/// The keys of a collection's items, as its clauses speak of them.
+pub trait Keyed {
+    ghost use Rattle.iddqd_keyed.specs.Keys.{Keys};
+
+    /// An item, which lends its keys.
+    type Item: KeyedItem;
+
+    /// What hashes first keys.
+    type State: BuildHasher;
+
+    ghost keys: { Keys Self.Item Self.Item.Key1 Self.Item.Key2 Self.State };
+}
+
+impl<T: KeyedItem, S: BuildHasher> Keyed for KeyedItems<T, S> {
+    type Item = T;
+
+    type State = S;
+
+    ghost keys = { keys_of T.KeyedItem T.Key1.eq T.Key1.hash_input T.Key2.cmp S.BuildHasher S.Hasher.Hasher };
 }
 
 impl<T: KeyedItem, S: BuildHasher> KeyedItems<T, S> {
@@ -92,41 +116,19 @@ impl<T: KeyedItem, S: BuildHasher> KeyedItems<T, S> {
     /// alone.
     pub fn find1(&self, key: &T::Key1) -> Option<ItemIndex>
         ensures paired { IsPaired self.now }
-        ensures found { let keys = keys_of T.KeyedItem T.Key1.eq T.Key1.hash_input T.Key2.cmp S.BuildHasher S.Hasher.Hasher in
-            Finds1 keys self.now key.now result }
-        ensures as_scan { let keys = keys_of T.KeyedItem T.Key1.eq T.Key1.hash_input T.Key2.cmp S.BuildHasher S.Hasher.Hasher in
-            FirstKeysInOrder keys self.now →
-            AnswersScan self.now.store (has_first keys key.now) result }
+        ensures found { LooksUp1 ⟦<Self as Keyed>⟧.keys self.now key.now result }
     {
-        let items = &self.items;
-        self.filed.find_index(
-            &self.state,
-            &Same(key),
-            |ix: ItemIndex|
-                requires { IsLive items.now.store ix }
-                ensures { (item : T) × (get items.entry.now.store ix ≡ Some item) × (result.now ≡ T.KeyedItem.first_key item) }
-            { first_key(items, ix) },
-        )
+        let hash = self.filed.compute_hash(&self.state, key);
+        self.find_hashed(hash, key)
     }
 
     /// The index of the item with this second key. It makes at most 4 and twice the binary digits of
     /// the number of items comparisons.
     pub fn find2(&self, key: &T::Key2) -> Option<ItemIndex>
         ensures paired { IsPaired self.now }
-        ensures found { let keys = keys_of T.KeyedItem T.Key1.eq T.Key1.hash_input T.Key2.cmp S.BuildHasher S.Hasher.Hasher in
-            Finds2 keys self.now key.now result }
-        ensures as_scan { let keys = keys_of T.KeyedItem T.Key1.eq T.Key1.hash_input T.Key2.cmp S.BuildHasher S.Hasher.Hasher in
-            SecondKeysInOrder keys self.now →
-            AnswersScan self.now.store (has_second keys key.now) result }
+        ensures found { LooksUp2 ⟦<Self as Keyed>⟧.keys self.now key.now result }
     {
-        let items = &self.items;
-        let mut asking = Asking::new(
-            |ix: ItemIndex|
-                requires { IsLive items.now.store ix }
-                ensures { (item : T) × (get items.entry.now.store ix ≡ Some item) × (result.now ≡ T.KeyedItem.second_key item) }
-            { second_key(items, ix) },
-        );
-        self.order.find_index(&Same(key), &mut asking)
+        find_by_second_key(&self.order, &self.items, key)
     }
 
     /// The indexes in the order of the ordered table: by second key, where none was changed silently.
@@ -134,30 +136,24 @@ impl<T: KeyedItem, S: BuildHasher> KeyedItems<T, S> {
     pub fn walk(&self) -> Iter<'_>
         ensures order { indexes_left result ≡ self.now.order }
         ensures paired { IsPaired self.now }
-        ensures as_scan { let keys = keys_of T.KeyedItem T.Key1.eq T.Key1.hash_input T.Key2.cmp S.BuildHasher S.Hasher.Hasher in
-            SecondKeysInOrder keys self.now →
-            IsSortedScan keys self.now.store (indexes_left result) }
+        ensures as_scan { let keys = ⟦<Self as Keyed>⟧.keys in
+            SecondKeysInOrder keys self.now → IsSortedScan keys self.now.store (indexes_left result) }
     {
         self.order.iter()
     }
 
     /// Takes an item, where neither of its keys is found.
     ///
-    /// A duplicate is finds_told even where the store is full or no memory is left, and a full store even
+    /// A duplicate is told even where the store is full or no memory is left, and a full store even
     /// where no memory is left. A refusal hands the item back and changes nothing.
     pub fn insert(&mut self, item: T) -> Result<ItemIndex, InsertRefusal<T>>
-        ensures inserts { let keys = keys_of T.KeyedItem T.Key1.eq T.Key1.hash_input T.Key2.cmp S.BuildHasher S.Hasher.Hasher in
-            Inserts keys self.old item result self.new }
-        ensures keeps { let keys = keys_of T.KeyedItem T.Key1.eq T.Key1.hash_input T.Key2.cmp S.BuildHasher S.Hasher.Hasher in
-            Keeps keys self.old self.new }
-        ensures first_as_scan { let keys = keys_of T.KeyedItem T.Key1.eq T.Key1.hash_input T.Key2.cmp S.BuildHasher S.Hasher.Hasher in
-            FirstKeysInOrder keys self.old →
-            AnswersScan self.old.store (has_first keys (keys.first item)) (finds_told result).0 }
-        ensures second_as_scan { let keys = keys_of T.KeyedItem T.Key1.eq T.Key1.hash_input T.Key2.cmp S.BuildHasher S.Hasher.Hasher in
-            SecondKeysInOrder keys self.old →
-            AnswersScan self.old.store (has_second keys (keys.second item)) (finds_told result).1 }
+        ensures inserts { Inserts ⟦<Self as Keyed>⟧.keys self.old item result self.new }
+        ensures tells { TellsAsScan ⟦<Self as Keyed>⟧.keys self.old item result }
+        ensures keeps { Keeps ⟦<Self as Keyed>⟧.keys self.old self.new }
     {
-        let first = self.find1(item.key1());
+        let key = item.key1();
+        let hash = self.filed.compute_hash(&self.state, key);
+        let first = self.find_hashed(hash, key);
         let second = self.find2(item.key2());
         if first.is_some() || second.is_some() {
             return Err(InsertRefusal::Duplicate {
@@ -166,7 +162,6 @@ impl<T: KeyedItem, S: BuildHasher> KeyedItems<T, S> {
                 second,
             });
         }
-        let hash = self.filed.compute_hash(&self.state, item.key1());
         self.store(item, hash)
     }
 
@@ -174,37 +169,28 @@ impl<T: KeyedItem, S: BuildHasher> KeyedItems<T, S> {
     pub fn remove(&mut self, ix: ItemIndex) -> Option<T>
         ensures removes { Removes self.old ix result self.new }
         ensures live { IsSome result ↔ IsLive self.old.store ix }
-        ensures keeps { let keys = keys_of T.KeyedItem T.Key1.eq T.Key1.hash_input T.Key2.cmp S.BuildHasher S.Hasher.Hasher in
-            Keeps keys self.old self.new }
+        ensures keeps { Keeps ⟦<Self as Keyed>⟧.keys self.old self.new }
     {
         let item = self.items.get(ix)?;
         let hash = self.filed.compute_hash(&self.state, item.key1());
-        unfile(&mut self.filed, hash.hash(), ix);
-        unorder(&mut self.order, &self.items, ix);
-        self.items.remove(ix)
+        remove_from_hash_table(&mut self.filed, hash.hash(), ix);
+        Some(remove_item(&mut self.order, &mut self.items, ix))
     }
 
     /// Removes the item with this first key. It takes no memory.
     pub fn remove1(&mut self, key: &T::Key1) -> Option<(ItemIndex, T)>
-        ensures removes { let keys = keys_of T.KeyedItem T.Key1.eq T.Key1.hash_input T.Key2.cmp S.BuildHasher S.Hasher.Hasher in
-            RemovesFound (Finds1 keys self.old key.now) self.old result self.new }
-        ensures as_scan { let keys = keys_of T.KeyedItem T.Key1.eq T.Key1.hash_input T.Key2.cmp S.BuildHasher S.Hasher.Hasher in
-            FirstKeysInOrder keys self.old → RemovesAsScan self.old.store (has_first keys key.now) result }
-        ensures keeps { let keys = keys_of T.KeyedItem T.Key1.eq T.Key1.hash_input T.Key2.cmp S.BuildHasher S.Hasher.Hasher in
-            Keeps keys self.old self.new }
+        ensures removes { Removes1 ⟦<Self as Keyed>⟧.keys self.old key.now result self.new }
+        ensures keeps { Keeps ⟦<Self as Keyed>⟧.keys self.old self.new }
     {
-        let ix = self.find1(key)?;
-        Some((ix, self.remove(ix)?))
+        let hash = self.filed.compute_hash(&self.state, key);
+        let ix = take_by_first_key(&mut self.filed, &self.items, hash.hash(), key)?;
+        Some((ix, remove_item(&mut self.order, &mut self.items, ix)))
     }
 
     /// Removes the item with this second key. It takes no memory.
     pub fn remove2(&mut self, key: &T::Key2) -> Option<(ItemIndex, T)>
-        ensures removes { let keys = keys_of T.KeyedItem T.Key1.eq T.Key1.hash_input T.Key2.cmp S.BuildHasher S.Hasher.Hasher in
-            RemovesFound (Finds2 keys self.old key.now) self.old result self.new }
-        ensures as_scan { let keys = keys_of T.KeyedItem T.Key1.eq T.Key1.hash_input T.Key2.cmp S.BuildHasher S.Hasher.Hasher in
-            SecondKeysInOrder keys self.old → RemovesAsScan self.old.store (has_second keys key.now) result }
-        ensures keeps { let keys = keys_of T.KeyedItem T.Key1.eq T.Key1.hash_input T.Key2.cmp S.BuildHasher S.Hasher.Hasher in
-            Keeps keys self.old self.new }
+        ensures removes { Removes2 ⟦<Self as Keyed>⟧.keys self.old key.now result self.new }
+        ensures keeps { Keeps ⟦<Self as Keyed>⟧.keys self.old self.new }
     {
         let ix = self.find2(key)?;
         Some((ix, self.remove(ix)?))
@@ -213,16 +199,12 @@ impl<T: KeyedItem, S: BuildHasher> KeyedItems<T, S> {
     /// Gives a live index another item, and hands back the one that it had; of an index that isn't
     /// live the given item comes back.
     ///
-    /// Neither table is finds_told, whatever the keys of both items: the index stays filed under the hash
+    /// Neither table is told, whatever the keys of both items: the index stays filed under the hash
     /// that it has and in its place in the order. Look-ups may then miss the new keys, but never hit a
     /// wrong one, and the index can still be removed. It takes no memory.
     pub fn overwrite(&mut self, ix: ItemIndex, item: T) -> Result<T, T>
         ensures overwrites { Overwrites self.old ix item result self.new }
-        ensures paired { IsPaired self.old × IsPaired self.new }
-        ensures first_keys { let keys = keys_of T.KeyedItem T.Key1.eq T.Key1.hash_input T.Key2.cmp S.BuildHasher S.Hasher.Hasher in
-            (ChangesFirstKeyAt keys self.old.store ix item → ⊥) → KeepsFirstKeys keys self.old self.new }
-        ensures second_keys { let keys = keys_of T.KeyedItem T.Key1.eq T.Key1.hash_input T.Key2.cmp S.BuildHasher S.Hasher.Hasher in
-            (ChangesSecondKeyAt keys self.old.store ix item → ⊥) → KeepsSecondKeys keys self.old self.new }
+        ensures keeps { KeepsUnlessChanged ⟦<Self as Keyed>⟧.keys self.old ix item self.new }
     {
         if self.items.get(ix).is_none() {
             return Err(item);
@@ -239,8 +221,7 @@ impl<T: KeyedItem, S: BuildHasher> KeyedItems<T, S> {
         ensures compacts { IfOk result (λ remap. IsRemapOf self.old.store remap × Compacts self.old self.new) }
         ensures refused { OnErr result (self.new ≡ self.old) }
         ensures dense { self.old.store.free ≡ [] → IsOk result }
-        ensures keeps { let keys = keys_of T.KeyedItem T.Key1.eq T.Key1.hash_input T.Key2.cmp S.BuildHasher S.Hasher.Hasher in
-            Keeps keys self.old self.new }
+        ensures keeps { Keeps ⟦<Self as Keyed>⟧.keys self.old self.new }
     {
         let remap = self.items.compact()?;
         self.filed.remap_indexes(&remap);
@@ -250,9 +231,8 @@ impl<T: KeyedItem, S: BuildHasher> KeyedItems<T, S> {
 
     /// Forgets all items and all slots, so that the next index is 0. It takes no memory.
     pub fn clear(&mut self)
-        ensures cleared { self.new ≡ empty_state self.old.hasher }
-        ensures keeps { let keys = keys_of T.KeyedItem T.Key1.eq T.Key1.hash_input T.Key2.cmp S.BuildHasher S.Hasher.Hasher in
-            Keeps keys self.old self.new }
+        ensures cleared { self.new ≡ cleared_state self.old }
+        ensures keeps { Keeps ⟦<Self as Keyed>⟧.keys self.old self.new }
     {
         self.items.clear();
         self.filed.clear();
@@ -261,8 +241,7 @@ impl<T: KeyedItem, S: BuildHasher> KeyedItems<T, S> {
 
     /// Obeys one command.
     pub fn step(&mut self, command: Command<T>) -> Reply<T>
-        ensures { let keys = keys_of T.KeyedItem T.Key1.eq T.Key1.hash_input T.Key2.cmp S.BuildHasher S.Hasher.Hasher in
-            Step keys self.old command result self.new }
+        ensures { Step ⟦<Self as Keyed>⟧.keys self.old command result self.new }
     {
         match command {
             Command::Insert(item) => match self.insert(item) {
@@ -298,8 +277,7 @@ impl<T: KeyedItem, S: BuildHasher> KeyedItems<T, S> {
     /// The memory of all replies is taken first. Where it is refused, or no vector can hold so many,
     /// nothing is done and the commands come back; with no command that never happens.
     pub fn run(&mut self, commands: Vec<Command<T>>) -> Result<Vec<Reply<T>>, Vec<Command<T>>>
-        ensures run { let keys = keys_of T.KeyedItem T.Key1.eq T.Key1.hash_input T.Key2.cmp S.BuildHasher S.Hasher.Hasher in
-            IfOk result (λ replies. Run keys self.old commands.items replies.items self.new) }
+        ensures run { IfOk result (λ replies. Run ⟦<Self as Keyed>⟧.keys self.old commands.items replies.items self.new) }
         ensures refused { IfErr result (λ back. (back.items ≡ commands.items) × (self.new ≡ self.old)) }
         ensures empty { commands.items ≡ [] → IsOk result }
     {
@@ -315,12 +293,20 @@ impl<T: KeyedItem, S: BuildHasher> KeyedItems<T, S> {
 }
 
 impl<T: KeyedItem, S: BuildHasher> KeyedItems<T, S> {
+    // The index of the item with this first key, whose hash was computed before.
+    fn find_hashed(&self, hash: MapHash, key: &T::Key1) -> Option<ItemIndex>
+        requires { hash ≡ hash_in ⟦<Self as Keyed>⟧.keys self.now key.now }
+        ensures { LooksUp1 ⟦<Self as Keyed>⟧.keys self.now key.now result }
+    {
+        find_by_first_key(&self.filed, &self.items, hash, key)
+    }
+
     // Stores an item under the hash of its first key, or hands it back. All memory is taken before
     // anything is written.
+    #[tactic(auto, unfolding(iddqd::specs::GrowHandle::handle_set, iddqd::specs::GrowHandle::handle_lender))]
     fn store(&mut self, item: T, hash: MapHash) -> Result<ItemIndex, InsertRefusal<T>>
-        requires key { let keys = keys_of T.KeyedItem T.Key1.eq T.Key1.hash_input T.Key2.cmp S.BuildHasher S.Hasher.Hasher in
-            hash ≡ hash_in keys self.old (keys.first item) }
-        ensures stored { let keys = keys_of T.KeyedItem T.Key1.eq T.Key1.hash_input T.Key2.cmp S.BuildHasher S.Hasher.Hasher in
+        requires { let keys = ⟦<Self as Keyed>⟧.keys in hash ≡ hash_in keys self.old (keys.first item) }
+        ensures stored { let keys = ⟦<Self as Keyed>⟧.keys in
             IfOk result (λ ix. StoresAt keys self.old item ix self.new × (IsSorted keys self.old → IsSorted keys self.new)) }
         ensures refused { IfErr result (HasNoPlace self.old.store item) }
         ensures unchanged { OnErr result (self.new ≡ self.old) }
@@ -333,20 +319,10 @@ impl<T: KeyedItem, S: BuildHasher> KeyedItems<T, S> {
         if let Err(AllocError) = self.filed.try_reserve(1) {
             return Err(InsertRefusal::Memory(item));
         }
-        let ix = handle.next_index();
-        let mut asking = Asking::new(
-            |at: ItemIndex|
-                requires { IsLive (handle_store handle) at }
-                ensures { (item : T) × (get (handle_store handle.entry) at ≡ Some item) × (result.now ≡ T.KeyedItem.second_key item) }
-            { second_key_in(&handle, at) },
-        );
-        match self
-            .order
-            .prepare_insert(ix, &Same(item.key2()), &mut asking)
-        {
-            Ok(prepared) => prepared.insert(),
+        let ix = match add_to_order(&mut self.order, &handle, &item) {
+            Ok(ix) => ix,
             Err(AllocError) => return Err(InsertRefusal::Memory(item)),
-        }
+        };
         self.filed.insert_prehashed_unchecked(hash, ix);
         Ok(handle.insert(item))
     }

@@ -1,12 +1,14 @@
 use Rattle.std.proofs.Common.{subst}
 use Rattle.iddqd_keyed.specs.Keys.{Keys, keys_of}
 use Rattle.iddqd_keyed.specs.State.{state_of, Keeps}
-use Rattle.iddqd_keyed.proofs.PairedLemmas.{IsPaired-empty}
+use Rattle.iddqd_keyed.proofs.PairedLemmas.{IsPaired-cleared}
 use Rattle.iddqd_keyed.proofs.KeepsLemmas.{Keeps-cleared}
 use Rattle.iddqd_keyed.proofs.keyed_items.KeyedItems.clear.Goals as goal
 
 pub invariant_of-self : goal.invariant_of-self
-invariant_of-self g c = rw (c.clear.ensures.store, c.clear-2.ensures.empty, c.clear-3.ensures) (IsPaired-empty _)
+invariant_of-self g c =
+    let s = state_of c.self.inside.state c.self.inside.items.store c.self.inside.filed c.self.inside.order in
+    rw (c.clear.ensures.store, c.clear-2.ensures.empty, c.clear-3.ensures) (IsPaired-cleared s c.self.invariant)
 
 pub returns-clause-keeps : goal.returns-clause-keeps
 returns-clause-keeps g c =

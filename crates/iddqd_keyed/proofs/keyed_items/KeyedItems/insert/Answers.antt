@@ -1,20 +1,30 @@
-use Rattle.std.proofs.Common.{◌∙◌, sym, subst}
+use Rattle.std.proofs.Common.{◌∙◌, ap, sym, subst}
 use Rattle.iddqd_keyed.specs.Keys.{Keys, keys_of}
-use Rattle.iddqd_keyed.specs.State.{IsPaired, Finds1, Finds2}
+use Rattle.iddqd_keyed.specs.State.{IsPaired, Finds1, Finds2, hash_in}
 use Rattle.iddqd_keyed.specs.Machine.{MayMissBoth}
 use Rattle.iddqd_keyed.proofs.KeyLemmas.{AreLawful-from_bounds}
-use Rattle.iddqd_keyed.proofs.InsertLemmas.{MayMissBoth-from_finds, Inserts-from_stored, Keeps-from_stored, first_told, second_told}
+use Rattle.iddqd_keyed.proofs.InsertLemmas.{MayMissBoth-from_finds, Inserts-from_stored, Keeps-from_stored, TellsAsScan-from_stored}
 use Rattle.iddqd_keyed.proofs.keyed_items.KeyedItems.insert.Goals.{After-store}
 use Rattle.iddqd_keyed.proofs.keyed_items.KeyedItems.insert.Goals as goal
+
+pub find_hashed-first-requires : goal.find_hashed-first-requires
+find_hashed-first-requires g c =
+    let keys : Keys _ _ _ _ = keys_of g.T.KeyedItem g.T.Key1.PartialEq.eq g.T.Key1.Hash.hash_input g.T.Key2.Ord.cmp g.S.BuildHasher g.S.Hasher.Hasher in
+    c.compute_hash-hash.ensures.hash ∙ ap (λ s. hash_in keys s c.key1-key.result.now) c.self.view_is
+
+pub store-requires : goal.store-requires
+store-requires g c =
+    let keys : Keys _ _ _ _ = keys_of g.T.KeyedItem g.T.Key1.PartialEq.eq g.T.Key1.Hash.hash_input g.T.Key2.Ord.cmp g.S.BuildHasher g.S.Hasher.Hasher in
+    c.compute_hash-hash.ensures.hash ∙ ap (λ s. hash_in keys s c.key1-key.result.now) c.self.view_is ∙ ap (hash_in keys c.args.self.now) c.key1-key.ensures
 
 -- both look-ups answered none
 missed : (g : _) (c : After-store g) → MayMissBoth (keys_of g.T.KeyedItem g.T.Key1.PartialEq.eq g.T.Key1.Hash.hash_input g.T.Key2.Ord.cmp g.S.BuildHasher g.S.Hasher.Hasher) c.args.self.now c.args.item
 missed g c =
     let keys : Keys _ _ _ _ = keys_of g.T.KeyedItem g.T.Key1.PartialEq.eq g.T.Key1.Hash.hash_input g.T.Key2.Ord.cmp g.S.BuildHasher g.S.Hasher.Hasher in
-    MayMissBoth-from_finds keys c.args.self.now c.args.item c.find1-first.result c.find2-second.result
+    MayMissBoth-from_finds keys c.args.self.now c.args.item c.find_hashed-first.result c.find2-second.result
     (sym c.is_some.ensures ∙ c.if-is_some.false) (sym c.is_some-else-is_some.ensures ∙ c.if-is_some-2.false)
-    (subst (λ k. Finds1 keys c.args.self.now k c.find1-first.result) c.key1.ensures c.find1-first.ensures.found)
-    (subst (λ k. Finds2 keys c.args.self.now k c.find2-second.result) c.key2.ensures c.find2-second.ensures.found)
+    (subst (λ k. Finds1 keys c.args.self.now k c.find_hashed-first.result) c.key1-key.ensures c.find_hashed-first.ensures.found)
+    (subst (λ k. Finds2 keys c.args.self.now k c.find2-second.result) c.key2.ensures c.find2-second.ensures.found.found)
 
 pub returns-clause-inserts : goal.returns-clause-inserts
 returns-clause-inserts g c = Inserts-from_stored _ _ _ _ (missed g c) _ c.store.ensures.stored c.store.ensures.refused c.store.ensures.unchanged
@@ -24,10 +34,5 @@ returns-clause-keeps g c =
     let paired : IsPaired c.args.self.now = rw (← c.self.view_is) c.self.invariant in
     Keeps-from_stored _ _ _ c.args.item (missed g c) (AreLawful-from_bounds _ _ _ _ g.S.BuildHasher g.S.Hasher.Hasher g.met.T.Key1.PartialEq.laws g.met.T.Key1.Hash.respects_eq g.met.T.Key2.Ord.total) c.store.result paired c.store.ensures.stored c.store.ensures.unchanged
 
-pub returns-clause-first_as_scan : goal.returns-clause-first_as_scan
-returns-clause-first_as_scan g c o =
-    first_told _ _ c.store.new.self _ (missed g c) (AreLawful-from_bounds _ _ _ _ g.S.BuildHasher g.S.Hasher.Hasher g.met.T.Key1.PartialEq.laws g.met.T.Key1.Hash.respects_eq g.met.T.Key2.Ord.total) c.store.result o c.store.ensures.refused
-
-pub returns-clause-second_as_scan : goal.returns-clause-second_as_scan
-returns-clause-second_as_scan g c o =
-    second_told _ _ c.store.new.self _ (missed g c) (AreLawful-from_bounds _ _ _ _ g.S.BuildHasher g.S.Hasher.Hasher g.met.T.Key1.PartialEq.laws g.met.T.Key1.Hash.respects_eq g.met.T.Key2.Ord.total) c.store.result o c.store.ensures.refused
+pub returns-clause-tells : goal.returns-clause-tells
+returns-clause-tells g c = TellsAsScan-from_stored _ _ c.store.new.self _ (missed g c) (AreLawful-from_bounds _ _ _ _ g.S.BuildHasher g.S.Hasher.Hasher g.met.T.Key1.PartialEq.laws g.met.T.Key1.Hash.respects_eq g.met.T.Key2.Ord.total) c.store.result c.store.ensures.refused

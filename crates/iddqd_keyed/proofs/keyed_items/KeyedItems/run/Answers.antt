@@ -1,6 +1,8 @@
-use Rattle.std.proofs.Common.{◌++◌, ◌∷◌, [], length, refl, sym, ap, ◌∙◌, arith, append_assoc, append-nil}
+use Rattle.std.proofs.Common.{◌++◌, ◌∷◌, [], length, sym, ap, ◌∙◌, arith, append_assoc, append-nil}
 use Rattle.std.specs.Vec.Iter.{into_iter_items}
-use Rattle.iddqd_keyed.proofs.RunLemmas.{IsStepChain-push, Run-from_chain, empty_of_length}
+use Rattle.std.proofs.lemmas.List.{nil_from_length}
+use Rattle.iddqd_keyed.specs.Run.{No_step}
+use Rattle.iddqd_keyed.proofs.RunLemmas.{IsStepChain-push, Run-from_chain}
 use Rattle.iddqd_keyed.specs.State.{IsPaired}
 use Rattle.iddqd_keyed.proofs.keyed_items.KeyedItems.run.Goals as goal
 
@@ -13,7 +15,7 @@ loop-command-init g c =
       is_finite = tt;
       yielded = given.0;
       moments = [];
-      chain = rw c.in-Ok.ensures.items refl;
+      chain = rw c.in-Ok.ensures.items No_step;
       room = omega (arith, c.in-Ok.ensures.len, c.in-Ok.ensures.capacity, c.len.ensures);
     }
 
@@ -27,7 +29,7 @@ loop-command-preserved g c =
       is_finite = tt;
       yielded = append_assoc c.loop-command.yielded (c.in-Some.command ∷ []) _ ∙ ap (λ rest. c.loop-command.yielded ++ rest) (sym next) ∙ before.yielded;
       moments = before.moments ++ c.step.new.self ∷ [];
-      chain = rw c.push_reserved.ensures.items (IsStepChain-push _ _ _ _ _ _ _ _ _ before.chain c.step.ensures);
+      chain = rw c.push_reserved.ensures.items (IsStepChain-push _ before.chain c.step.ensures);
       room = omega (arith, before.room);
     }
 
@@ -36,7 +38,7 @@ returns-clause-run g c =
     let before = c.loop-command.invariant in
     let over = c.in-None.ensures.steps.0 in
     let ok = c.loop-command.command-iterator.rest.ok in
-    let none = empty_of_length (into_iter_items c.loop-command.command-iterator) (omega (arith, ok, over)) in
+    let none = nil_from_length (into_iter_items c.loop-command.command-iterator) (omega (arith, ok, over)) in
     let all = sym before.yielded ∙ ap (λ rest. c.loop-command.yielded ++ rest) none ∙ append-nil c.loop-command.yielded in
     let paired : IsPaired c.args.self.now = rw (← c.self.view_is) c.self.invariant in
-    Run-from_chain _ _ _ _ _ before.moments paired (rw all before.chain)
+    Run-from_chain _ {moments = before.moments} (rw all before.chain) paired

@@ -1,74 +1,49 @@
-use Rattle.std.proofs.Common.{rules, ◌≡◌, ◌∙◌, Some, refl, ap, sym, subst}
-use Rattle.iddqd.specs.Store.{get, next_index, IsFull}
-use Rattle.iddqd.specs.GrowHandle.{handle_store}
-use Rattle.iddqd_order.specs.Asking.{closure_of}
+use Rattle.std.proofs.Common.{rules, ◌≡◌, ◌∙◌, refl, ap, sym, subst}
+use Rattle.std.specs.FinMap as finite
+use Rattle.iddqd.specs.Store.{IsFull}
+use Rattle.iddqd.specs.GrowHandle.{handle_set, handle_lender, handle_store}
 use Rattle.iddqd_order.specs.MapBTreeTable.{order_of}
-use Rattle.iddqd_order.specs.Search.{settled, IsPlace, IsRising}
-use Rattle.iddqd_order.proofs.AskLemmas.{CanAsk-by, Steady-by}
 use Rattle.iddqd_keyed.specs.Keys.{Keys, keys_of}
-use Rattle.iddqd_keyed.specs.State.{IsLive, IsPaired, state_of}
-use Rattle.iddqd_keyed.proofs.PairedLemmas.{IsPaired-inserted, next_absent}
-use Rattle.iddqd_keyed.proofs.SortedLemmas.{compared_at, compared_live, IsRising-insert, IsSortedIn-inserted, StoresAt-sorted}
+use Rattle.iddqd_keyed.specs.State.{state_of, hash_in, AddsToOrder}
+use Rattle.iddqd_keyed.proofs.PairedLemmas.{IsPaired-inserted, next_unfiled}
+use Rattle.iddqd_keyed.proofs.InsertLemmas.{Binds-from_calls, StoresAt-from_calls}
 use Rattle.iddqd_keyed.proofs.keyed_items.KeyedItems.store.Goals as goal
 
-pub prepare_insert-requires-clause-absent : goal.prepare_insert-requires-clause-absent
-prepare_insert-requires-clause-absent g c =
-    let s = state_of c.self.inside.state c.self.inside.items.store c.self.inside.filed c.self.inside.order in
-    rw (c.next_index-ix.ensures.index, c.in-Ok.ensures.contents) (next_absent s c.self.invariant)
+pub add_to_order-requires-clause-valid : goal.add_to_order-requires-clause-valid
+add_to_order-requires-clause-valid g c = rw c.in-Ok.ensures.contents c.self.invariant.valid
 
-pub prepare_insert-requires-clause-can_ask : goal.prepare_insert-requires-clause-can_ask
-prepare_insert-requires-clause-can_ask g c =
-    CanAsk-by _ _ (λ f. f ≡ closure_of c.new-asking.result) (λ f f' ix r i h e. search rules)
-    (λ f ix i h.
-    let live : IsLive (handle_store c.in-Ok.handle) ix = rw c.in-Ok.ensures.contents ((c.self.invariant.ordered ix).0 h.0) in
-    search rules)
-    _ refl
+pub add_to_order-requires-clause-stored : goal.add_to_order-requires-clause-stored
+add_to_order-requires-clause-stored g c = λ ix here. rw c.in-Ok.ensures.contents ((c.self.invariant.ordered ix).0 here)
+
+pub insert_prehashed_unchecked-requires-clause-new : goal.insert_prehashed_unchecked-requires-clause-new
+insert_prehashed_unchecked-requires-clause-new g c =
+    let s = state_of c.self.inside.state c.self.inside.items.store c.self.inside.filed c.self.inside.order in
+    rw (c.in-Ok-add_to_order.ensures.added.index, c.in-Ok.ensures.contents, c.try_reserve.ensures.contents) (next_unfiled s c.self.invariant)
+
+pub insert_prehashed_unchecked-requires-clause-room : goal.insert_prehashed_unchecked-requires-clause-room
+insert_prehashed_unchecked-requires-clause-room g c = c.in_default.ensures.memory.reserved
 
 pub invariant_of-self-2 : goal.invariant_of-self-2
+unfolding handle_set handle_lender
 invariant_of-self-2 g c =
     let keys : Keys _ _ _ _ = keys_of g.T.KeyedItem g.T.Key1.PartialEq.eq g.T.Key1.Hash.hash_input g.T.Key2.Ord.cmp g.S.BuildHasher g.S.Hasher.Hasher in
     let s = state_of c.self.inside.state c.self.inside.items.store c.self.inside.filed c.self.inside.order in
+    let filed_so = c.insert_prehashed_unchecked.ensures.added ∙ ap (λ m. finite.insert m c.in-Ok-add_to_order.ix c.args.hash) c.try_reserve.ensures.contents in
+    let key = c.requires ∙ ap (λ s. hash_in keys s (keys.first c.args.item)) (sym c.self.view_is) in
     IsPaired-inserted keys s _ c.args.item (λ full. let err = c.in-Ok.ensures.full.1 full in cc)
-    (record {
-      hasher = refl;
-      store = search rules;
-      filed = search rules;
-      place = c.in-Ok-prepare_insert.prepared.place;
-      within = search rules;
-      order = search rules;
-    }) c.self.invariant
+    (Binds-from_calls keys s _ c.args.item (handle_store c.in-Ok.handle) c.in-Ok-add_to_order.ix c.args.hash c.in-Ok.ensures.contents c.in-Ok-add_to_order.ensures.added key refl (search (rules, c.insert.ensures.inserted)) filed_so)
+    c.self.invariant
 
 pub returns-clause-stored : goal.returns-clause-stored
+unfolding handle_set handle_lender
 returns-clause-stored g c =
     let keys : Keys _ _ _ _ = keys_of g.T.KeyedItem g.T.Key1.PartialEq.eq g.T.Key1.Hash.hash_input g.T.Key2.Ord.cmp g.S.BuildHasher g.S.Hasher.Hasher in
     let s = c.args.self.now in
-    let item = c.args.item in
-    let prepared = c.in-Ok-prepare_insert.prepared in
-    let paired : IsPaired s = rw (← c.self.view_is) c.self.invariant in
-    let same : c.self.inside.items.store ≡ s.store = ap (λ s. s.store) c.self.view_is in
-    let order : order_of c.self.inside.order ≡ s.order = ap (λ s. s.order) c.self.view_is in
-    let held : handle_store c.in-Ok.handle ≡ s.store = c.in-Ok.ensures.contents ∙ same in
-    let next : c.next_index-ix.result ≡ next_index s.store = c.next_index-ix.ensures.index ∙ ap next_index held in
-    StoresAt-sorted keys s _ item _ (λ full. let err = c.in-Ok.ensures.full.1 (subst IsFull (sym same) full) in cc) (search rules)
-    (record {
-      hasher = search rules;
-      store = search rules;
-      filed = search rules;
-      place = prepared.place;
-      within = search rules;
-      order = search rules;
-    })
-    (λ sorted.
-    let answer = compared_at keys s.store (g.T.KeyedItem.second_key item) in
-    let rising : IsRising (settled (Some c.next_index-ix.result) answer) s.order = rw next (IsRising-insert keys g.met.T.Key2.Ord.total s item paired sorted) in
-    let place : IsPlace (settled (Some c.next_index-ix.result) answer) s.order prepared.place =
-    subst (λ xs. IsPlace (settled (Some c.next_index-ix.result) answer) xs prepared.place) order (c.in-Ok-prepare_insert.ensures.place answer (record {
-      steady = Steady-by _ _ (λ f. f ≡ closure_of c.new-asking.result) (λ f f' ix r i h e. search rules) _ _
-          (λ f f' ix r i h e.
-          let read : (x : g.row.T.Denot) × (get (handle_store c.in-Ok.handle) ix ≡ Some x) × (r.now ≡ g.T.KeyedItem.second_key x) = search (rules, i, e) in
-          let here : get s.store ix ≡ Some read.0 = ap (λ s. get s ix) (sym held) ∙ read.1 in
-          ap (λ k. g.T.Key2.Ord.cmp k r.now) c.key2.ensures ∙ ap (g.T.Key2.Ord.cmp (g.T.KeyedItem.second_key item)) read.2 ∙ sym (compared_live keys s.store (g.T.KeyedItem.second_key item) ix read.0 here))
-          _ refl;
-      rising = subst (λ xs. IsRising (settled (Some c.next_index-ix.result) answer) xs) (sym order) rising;
-    })) in
-    IsSortedIn-inserted keys g.met.T.Key2.Ord.total s item paired sorted prepared.place (rw next at place))
+    let ix = c.in-Ok-add_to_order.ix in
+    let handle = handle_store c.in-Ok.handle in
+    let same : handle ≡ s.store = c.in-Ok.ensures.contents ∙ ap (λ s. s.store) c.self.view_is in
+    let added = subst (λ xs. AddsToOrder keys.second keys.compare_second handle c.args.item xs ix (order_of c.add_to_order.new.table)) (ap (λ s. s.order) c.self.view_is) c.in-Ok-add_to_order.ensures.added in
+    let filed_so = c.insert_prehashed_unchecked.ensures.added ∙ ap (λ m. finite.insert m ix c.args.hash) (c.try_reserve.ensures.contents ∙ ap (λ s. s.filed) c.self.view_is) in
+    StoresAt-from_calls keys s _ c.args.item handle ix c.args.hash same added c.requires c.insert.result
+    (λ full. let err = c.in-Ok.ensures.full.1 (subst IsFull (sym (ap (λ s. s.store) c.self.view_is)) full) in cc)
+    c.insert.ensures.index (ap (λ s. s.hasher) c.self.view_is) (search (rules, c.insert.ensures.inserted)) filed_so
