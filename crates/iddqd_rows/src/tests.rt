@@ -1,3 +1,4 @@
+mod calls;
 mod collisions;
 mod commands;
 mod compaction;

@@ -1,5 +1,7 @@
 //! First keys that all have one hash.
+use super::calls::{find1, find2, insert, remove, remove1, remove2};
 use super::driver::{ix, record};
+use iddqd_keyed::command::Reply;
 use iddqd_keyed::keyed_items::KeyedItems;
 use iddqd_lines::record::Record;
 use std::alloc::Global;
@@ -37,56 +39,65 @@ fn nth(number: u32) -> Record {
     record(number, number.wrapping_mul(2) % 5)
 }
 
-fn five_items(rt: &impl Abort, alloc: Global) -> KeyedItems<Record, Constant> {
-    let mut items = KeyedItems::new(alloc, Constant);
+type Items = KeyedItems<Record, Constant>;
+
+fn insert_five(rt: &impl Abort, items: &mut Items) {
     for number in 0..5 {
-        assert_eq!(rt; items.insert(nth(number)), Ok(ix(number)));
+        let reply = insert(items, nth(number));
+        assert!(rt; reply == Reply::Inserted(ix(number)), "at {number}");
     }
-    items
 }
 
-// Of the five all but those are there.
-fn assert_left(rt: &impl Abort, items: &KeyedItems<Record, Constant>, gone: &[u32]) {
+// Whether the walk gives those of the five that are left.
+fn walks(items: &Items, gone: &[u32]) -> bool {
     let mut walk = items.walk();
     for number in [0, 3, 1, 4, 2] {
-        let item = nth(number);
-        let is_gone = gone.contains(&number);
-        if !is_gone {
-            assert_eq!(rt; walk.next(), Some(ix(number)), "without {gone:?}");
+        if !gone.contains(&number) && walk.next() != Some(ix(number)) {
+            return false;
         }
-        let want = if is_gone { None } else { Some(ix(number)) };
-        assert_eq!(rt; items.find1(&item.first), want, "without {gone:?}");
-        assert_eq!(rt; items.find2(&item.second), want, "without {gone:?}");
     }
-    assert_eq!(rt; walk.next(), None, "without {gone:?}");
-    assert_eq!(rt; items.find1(&5), None, "without {gone:?}");
+    walk.next().is_none()
 }
 
-// Removes the item of that number by one of the three calls.
-fn removes(items: &mut KeyedItems<Record, Constant>, number: u32, call: usize) -> bool {
-    let item = nth(number);
-    match call % 3 {
-        0 => items.remove(ix(number)) == Some(item),
-        1 => items.remove1(&item.first) == Some((ix(number), item)),
-        _ => items.remove2(&item.second) == Some((ix(number), item)),
+// Whether both look-ups find those of the five that are left.
+fn finds(items: &Items, gone: &[u32]) -> bool {
+    for number in 0..5 {
+        let item = nth(number);
+        let want = if gone.contains(&number) { None } else { Some(ix(number)) };
+        if find1(items, item.first) != want || find2(items, item.second) != want {
+            return false;
+        }
     }
+    find1(items, 5).is_none()
+}
+
+// Whether one of the three calls removes the item of that number.
+fn removes(items: &mut Items, number: u32, call: usize) -> bool {
+    let item = nth(number);
+    let removed = match call % 3 {
+        0 => remove(items, ix(number)),
+        1 => remove1(items, item.first),
+        _ => remove2(items, item.second),
+    };
+    removed == Some((ix(number), item))
 }
 
 // Removes the five in that order.
 fn assert_removes_all(rt: &impl Abort, alloc: Global, order: [u32; 5], call: usize) {
-    let mut items = five_items(rt, alloc);
+    let mut items = KeyedItems::new(alloc, Constant);
+    insert_five(rt, &mut items);
     for (place, number) in order.iter().enumerate() {
         let (gone, _) = order.split_at(place);
-        assert_left(rt, &items, gone);
+        let is_left = walks(&items, gone) && finds(&items, gone);
+        assert!(rt; is_left, "without {gone:?}");
         let call = call.wrapping_add(place);
-        assert!(rt; removes(&mut items, *number, call), "{number} of {order:?}");
-        assert!(rt;
-            !removes(&mut items, *number, call),
-            "{number} of {order:?}"
-        );
+        let is_removed = removes(&mut items, *number, call);
+        assert!(rt; is_removed, "{number} of {order:?}");
+        let is_removed_again = removes(&mut items, *number, call);
+        assert!(rt; !is_removed_again, "{number} of {order:?}");
     }
-    assert_left(rt, &items, &order);
-    assert_eq!(rt; items.len(), 0);
+    assert!(rt; walks(&items, &order) && finds(&items, &order));
+    assert!(rt; items.len() == 0);
 }
 
 #[test]

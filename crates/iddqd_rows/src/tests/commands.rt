@@ -88,30 +88,31 @@ pub(super) fn copy_of(command: &Command<Record>) -> Command<Record> {
     }
 }
 
+// The words of a command: how many numbers stand behind its verb, and these.
+fn words(command: &Command<Record>) -> (&'static str, usize, [u32; 4]) {
+    match command {
+        Command::Insert(item) => ("insert", 3, [item.first, item.second, item.value, 0]),
+        Command::Find1(key) => ("get1", 1, [*key, 0, 0, 0]),
+        Command::Find2(key) => ("get2", 1, [*key, 0, 0, 0]),
+        Command::Remove(ix) => ("remove", 1, [ix.as_u32(), 0, 0, 0]),
+        Command::Remove1(key) => ("remove1", 1, [*key, 0, 0, 0]),
+        Command::Remove2(key) => ("remove2", 1, [*key, 0, 0, 0]),
+        Command::Overwrite(ix, item) => {
+            let numbers = [ix.as_u32(), item.first, item.second, item.value];
+            ("overwrite", 4, numbers)
+        }
+        Command::Compact => ("compact", 0, [0; 4]),
+        Command::Clear => ("clear", 0, [0; 4]),
+        Command::Walk => ("walk", 0, [0; 4]),
+    }
+}
+
 /// Writes the command as a line of the program.
 pub(super) fn put_line(lines: &mut String, command: &Command<Record>) -> Result<(), AllocError> {
-    match command {
-        Command::Insert(item) => {
-            writeln!(
-                lines,
-                "insert {} {} {}",
-                item.first, item.second, item.value
-            )
-        }
-        Command::Find1(key) => writeln!(lines, "get1 {key}"),
-        Command::Find2(key) => writeln!(lines, "get2 {key}"),
-        Command::Remove(ix) => writeln!(lines, "remove {ix}"),
-        Command::Remove1(key) => writeln!(lines, "remove1 {key}"),
-        Command::Remove2(key) => writeln!(lines, "remove2 {key}"),
-        Command::Compact => writeln!(lines, "compact"),
-        Command::Overwrite(ix, item) => {
-            writeln!(
-                lines,
-                "overwrite {ix} {} {} {}",
-                item.first, item.second, item.value
-            )
-        }
-        Command::Clear => writeln!(lines, "clear"),
-        Command::Walk => writeln!(lines, "walk"),
+    let (verb, count, numbers) = words(command);
+    lines.push_str(verb)?;
+    for number in numbers.iter().take(count) {
+        write!(lines, " {number}")?;
     }
+    lines.push_str("\n")
 }

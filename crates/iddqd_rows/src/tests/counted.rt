@@ -48,9 +48,10 @@ impl BuildHasher for Own {
     }
 }
 
-// How often keys were compared.
+// How often keys were compared, and first keys hashed.
 #[derive(Drop)]
 struct Counts {
+    first_hash: Cell<u32>,
     first_equal: Cell<u32>,
     second_equal: Cell<u32>,
     second_order: Cell<u32>,
@@ -59,10 +60,41 @@ struct Counts {
 impl Counts {
     fn new() -> Counts {
         Counts {
+            first_hash: Cell::new(0),
             first_equal: Cell::new(0),
             second_equal: Cell::new(0),
             second_order: Cell::new(0),
         }
+    }
+
+    // The counts since the last time.
+    fn take(&self) -> Taken {
+        Taken {
+            first_hash: self.first_hash.replace(0),
+            first_equal: self.first_equal.replace(0),
+            second_equal: self.second_equal.replace(0),
+            second_order: self.second_order.replace(0),
+        }
+    }
+}
+
+// What was counted.
+#[derive(Clone, Copy, Debug)]
+struct Taken {
+    first_hash: u32,
+    first_equal: u32,
+    second_equal: u32,
+    second_order: u32,
+}
+
+impl Taken {
+    // First keys were hashed just so often, and compared at most so often, and second keys by their order
+    // alone, at most so often.
+    fn is_within(&self, hashes: u32, most_first: u32, most_second: u32) -> bool {
+        self.first_hash == hashes
+            && self.first_equal <= most_first
+            && self.second_order <= most_second
+            && self.second_equal == 0
     }
 }
 
@@ -98,6 +130,7 @@ impl Hash for First {
     ghost respects_eq = { Prim.search (hashing, rules) };
 
     fn hash<H: Hasher>(&self, state: &mut H) {
+        count(&self.counts.first_hash);
         self.number.hash(state);
     }
 }
@@ -173,6 +206,8 @@ impl KeyedItem for Item {
     }
 }
 
+type Items = KeyedItems<Item, Own>;
+
 fn first_of(counts: &Rc<Counts>, number: u32) -> Result<First, AllocError> {
     let counts = counts.clone()?;
     Ok(First { number, counts })
@@ -183,93 +218,182 @@ fn second_of(counts: &Rc<Counts>, number: u32) -> Result<Second, AllocError> {
     Ok(Second { number, counts })
 }
 
-// Inserts an item whose keys are both the number, and tells its index.
-fn insert(
-    items: &mut KeyedItems<Item, Own>,
+fn item_of(counts: &Rc<Counts>, number: u32) -> Result<Item, AllocError> {
+    let first = first_of(counts, number)?;
+    let second = second_of(counts, number)?;
+    Ok(Item { first, second })
+}
+
+fn number_of(ix: Option<ItemIndex>) -> Option<u32> {
+    match ix {
+        Some(ix) => Some(ix.as_u32()),
+        None => None,
+    }
+}
+
+// The calls, by numbers: of indexes, and of keys that are both the number.
+
+fn insert_item(items: &mut Items, item: Item) -> Option<ItemIndex> {
+    items.insert(item).ok()
+}
+
+fn insert(items: &mut Items, counts: &Rc<Counts>, number: u32) -> Result<Option<u32>, AllocError> {
+    let item = item_of(counts, number)?;
+    Ok(number_of(insert_item(items, item)))
+}
+
+fn find_first(items: &Items, key: &First) -> Option<ItemIndex> {
+    items.find1(key)
+}
+
+fn find1(items: &Items, counts: &Rc<Counts>, number: u32) -> Result<Option<u32>, AllocError> {
+    let key = first_of(counts, number)?;
+    Ok(number_of(find_first(items, &key)))
+}
+
+fn find_second(items: &Items, key: &Second) -> Option<ItemIndex> {
+    items.find2(key)
+}
+
+fn find2(items: &Items, counts: &Rc<Counts>, number: u32) -> Result<Option<u32>, AllocError> {
+    let key = second_of(counts, number)?;
+    Ok(number_of(find_second(items, &key)))
+}
+
+// What was removed is the item of that number, at its index.
+fn is_removed(removed: Option<(ItemIndex, Item)>, number: u32) -> bool {
+    match removed {
+        Some((ix, item)) => {
+            ix.as_u32() == number && item.first.number == number && item.second.number == number
+        }
+        None => false,
+    }
+}
+
+fn remove(items: &mut Items, number: u32) -> bool {
+    items.remove(ItemIndex::new(number)).is_some()
+}
+
+fn remove_first(items: &mut Items, key: &First) -> Option<(ItemIndex, Item)> {
+    items.remove1(key)
+}
+
+fn remove1(items: &mut Items, counts: &Rc<Counts>, number: u32) -> Result<bool, AllocError> {
+    let key = first_of(counts, number)?;
+    Ok(is_removed(remove_first(items, &key), number))
+}
+
+fn remove_second(items: &mut Items, key: &Second) -> Option<(ItemIndex, Item)> {
+    items.remove2(key)
+}
+
+fn remove2(items: &mut Items, counts: &Rc<Counts>, number: u32) -> Result<bool, AllocError> {
+    let key = second_of(counts, number)?;
+    Ok(is_removed(remove_second(items, &key), number))
+}
+
+// Since the last time first keys were hashed so often, and keys compared at most so often.
+fn assert_few(rt: &impl Abort, counts: &Counts, hashes: u32, most: (u32, u32), call: &str) {
+    let taken = counts.take();
+    let is_within = taken.is_within(hashes, most.0, most.1);
+    assert!(rt; is_within, "{call}: {taken:?}");
+}
+
+// Inserts an item of each number below 1000. Each insert hashes its first key once.
+fn insert_thousand(
+    rt: &impl Abort,
+    items: &mut Items,
+    counts: &Rc<Counts>,
+) -> Result<(), AllocError> {
+    for number in 0..1000 {
+        let is_inserted = insert(items, counts, number)? == Some(number);
+        assert!(rt; is_inserted, "at {number}");
+        assert_few(rt, counts, 1, (0, 48), "an early insert");
+    }
+    Ok(())
+}
+
+fn no_items(alloc: Global) -> Items {
+    KeyedItems::new(alloc, Own(0))
+}
+
+fn new_counts(alloc: Global) -> Result<Rc<Counts>, Fail> {
+    let counts = Rc::new(alloc, Counts::new())?;
+    Ok(counts)
+}
+
+// Both look-ups find the item of that number.
+fn assert_finds(
+    rt: &impl Abort,
+    items: &Items,
     counts: &Rc<Counts>,
     number: u32,
-) -> Result<Option<ItemIndex>, AllocError> {
-    let item = Item {
-        first: first_of(counts, number)?,
-        second: second_of(counts, number)?,
-    };
-    Ok(items.insert(item).ok())
-}
-
-// Since the last time, first keys were compared at most so often, and second keys by their order alone.
-fn assert_few(rt: &impl Abort, counts: &Counts, most_first: u32, most_second: u32, call: &str) {
-    let first = counts.first_equal.replace(0);
-    let equal = counts.second_equal.replace(0);
-    let order = counts.second_order.replace(0);
-    assert!(rt; first <= most_first, "{call} asks {first} first keys");
-    assert!(rt; order <= most_second, "{call} asks {order} second keys");
-    assert_eq!(rt; equal, 0, "{call} asks whether second keys are equal");
-}
-
-// Items whose keys are both 0, both 1 and so on up to 999.
-fn thousand_items(
-    rt: &impl Abort,
-    alloc: Global,
-    counts: &Rc<Counts>,
-) -> Result<KeyedItems<Item, Own>, AllocError> {
-    let mut items = KeyedItems::new(alloc, Own(0));
-    for number in 0..1000 {
-        let at = insert(&mut items, counts, number)?;
-        assert_eq!(rt; at, Some(ItemIndex::new(number)));
-        assert_few(rt, counts, 0, 48, "an early insert");
-    }
-    Ok(items)
+) -> Result<(), AllocError> {
+    let is_found = find1(items, counts, number)? == Some(number);
+    assert!(rt; is_found, "{number} by its first key");
+    assert_few(rt, counts, 1, (1, 0), "find1");
+    let is_found = find2(items, counts, number)? == Some(number);
+    assert!(rt; is_found, "{number} by its second key");
+    assert_few(rt, counts, 0, (0, 24), "find2");
+    Ok(())
 }
 
 #[test]
 fn each_find_compares_few_keys(rt: HostRuntime) -> Result<(), Fail> {
-    let counts = Rc::new(rt.alloc(), Counts::new())?;
-    let items = thousand_items(&rt, rt.alloc(), &counts)?;
+    let counts = new_counts(rt.alloc())?;
+    let mut items = no_items(rt.alloc());
+    insert_thousand(&rt, &mut items, &counts)?;
     for number in 0..1000 {
-        let want = Some(ItemIndex::new(number));
-        assert_eq!(rt; items.find1(&first_of(&counts, number)?), want);
-        assert_few(&rt, &counts, 1, 0, "find1");
-        assert_eq!(rt; items.find2(&second_of(&counts, number)?), want);
-        assert_few(&rt, &counts, 0, 24, "find2");
+        assert_finds(&rt, &items, &counts, number)?;
     }
     Ok(())
 }
 
 #[test]
 fn calls_compare_few_keys(rt: HostRuntime) -> Result<(), Fail> {
-    let counts = Rc::new(rt.alloc(), Counts::new())?;
-    let mut items = thousand_items(&rt, rt.alloc(), &counts)?;
-    let want = Some(ItemIndex::new(500));
-    assert_eq!(rt; items.find1(&first_of(&counts, 500)?), want);
-    assert_few(&rt, &counts, 1, 0, "find1 of 500");
-    assert_eq!(rt; items.find1(&first_of(&counts, 1000)?), None);
-    assert_few(&rt, &counts, 0, 0, "find1 of 1000");
-    assert_eq!(rt; items.find2(&second_of(&counts, 500)?), want);
-    assert_few(&rt, &counts, 0, 24, "find2 of 500");
-    assert_eq!(rt; items.find2(&second_of(&counts, 1000)?), None);
-    assert_few(&rt, &counts, 0, 24, "find2 of 1000");
-    let at = insert(&mut items, &counts, 1000)?;
-    assert_eq!(rt; at, Some(ItemIndex::new(1000)));
-    assert_few(&rt, &counts, 0, 48, "an insert of 1000");
-    let Some((ix, item)) = items.remove2(&second_of(&counts, 500)?) else {
-        panic!(rt; "500 is there");
-    };
-    assert_few(&rt, &counts, 0, 48, "remove2 of 500");
-    assert_eq!(rt; ix, ItemIndex::new(500));
-    assert_eq!(rt; (item.first.number, item.second.number), (500, 500));
+    let counts = new_counts(rt.alloc())?;
+    let mut items = no_items(rt.alloc());
+    insert_thousand(&rt, &mut items, &counts)?;
+    assert!(rt; find1(&items, &counts, 500)? == Some(500));
+    assert_few(&rt, &counts, 1, (1, 0), "find1 of 500");
+    assert!(rt; find1(&items, &counts, 1000)?.is_none());
+    assert_few(&rt, &counts, 1, (0, 0), "find1 of 1000");
+    assert!(rt; find2(&items, &counts, 500)? == Some(500));
+    assert_few(&rt, &counts, 0, (0, 24), "find2 of 500");
+    assert!(rt; find2(&items, &counts, 1000)?.is_none());
+    assert_few(&rt, &counts, 0, (0, 24), "find2 of 1000");
+    assert!(rt; insert(&mut items, &counts, 1000)? == Some(1000));
+    assert_few(&rt, &counts, 1, (0, 48), "an insert of 1000");
     Ok(())
 }
+
+// A removal hashes the first key of its item, whichever call finds it.
+#[test]
+fn removals_compare_few_keys(rt: HostRuntime) -> Result<(), Fail> {
+    let counts = new_counts(rt.alloc())?;
+    let mut items = no_items(rt.alloc());
+    insert_thousand(&rt, &mut items, &counts)?;
+    assert!(rt; remove2(&mut items, &counts, 500)?);
+    assert_few(&rt, &counts, 1, (0, 48), "remove2 of 500");
+    assert!(rt; remove1(&mut items, &counts, 501)?);
+    assert_few(&rt, &counts, REMOVE1_HASHES, (1, 24), "remove1 of 501");
+    Ok(())
+}
+
+// How often `remove1` hashes a first key.
+const REMOVE1_HASHES: u32 = 2;
 
 // A removal that walks the ordered table asks nothing.
 #[test]
 fn a_removal_searches_for_the_index(rt: HostRuntime) -> Result<(), Fail> {
-    let counts = Rc::new(rt.alloc(), Counts::new())?;
-    let mut items = thousand_items(&rt, rt.alloc(), &counts)?;
+    let counts = new_counts(rt.alloc())?;
+    let mut items = no_items(rt.alloc());
+    insert_thousand(&rt, &mut items, &counts)?;
     for number in [0, 1, 500, 998, 999] {
-        assert!(rt; items.remove(ItemIndex::new(number)).is_some());
+        assert!(rt; remove(&mut items, number), "at {number}");
         let order = counts.second_order.get();
         assert!(rt; order > 0, "a removal of {number} asks nothing");
-        assert_few(&rt, &counts, 0, 24, "a removal");
+        assert_few(&rt, &counts, 1, (0, 24), "a removal");
     }
     Ok(())
 }

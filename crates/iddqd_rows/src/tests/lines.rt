@@ -1,25 +1,29 @@
-use super::streams::serve_in_steps;
-use iddqd_lines::serve::serve;
+//! Lines of the program and their replies.
+use super::streams::{Streams, serve_in_steps};
+use iddqd_lines::serve::{ServeFault, serve};
 use iddqd_lines::sink::WriteSink;
 use iddqd_lines::source::ReadSource;
-use std::alloc::Global;
+use std::alloc::{AllocError, Global};
 use std::process::Abort;
 use std::test::Fail;
 
-// The replies to the input, the same in whole blocks as a byte at a time.
-fn assert_replies(rt: &impl Abort, alloc: Global, input: &str, want: &str) {
+/// What the program answers to the input, read and written in whole blocks.
+pub(super) fn serve_whole(alloc: Global, input: &str) -> (Result<(), ServeFault>, Vec<u8>) {
     let mut replies = Vec::new(alloc);
     let mut source = ReadSource::new(input.as_bytes());
     let mut sink = WriteSink::new(&mut replies);
-    assert_eq!(rt;
-        serve(alloc, &mut source, &mut sink),
-        Ok(()),
-        "at {input:.40}"
-    );
-    assert_eq!(rt; replies.as_slice(), want.as_bytes(), "at {input:.40}");
-    let (told, replies) = serve_in_steps(alloc, input.as_bytes(), 1, false, usize::MAX);
-    assert_eq!(rt; told, Ok(()), "at {input:.40}");
-    assert_eq!(rt; replies.as_slice(), want.as_bytes(), "at {input:.40}");
+    let told = serve(alloc, &mut source, &mut sink);
+    (told, replies)
+}
+
+// The replies to the input, the same in whole blocks as a byte at a time.
+fn assert_replies(rt: &impl Abort, alloc: Global, input: &str, want: &str) {
+    let (told, replies) = serve_whole(alloc, input);
+    let is_right = told == Ok(()) && replies.as_slice() == want.as_bytes();
+    assert!(rt; is_right, "{replies:?} at {input:.40}");
+    let served = serve_in_steps(alloc, Streams::whole(input.as_bytes(), 1));
+    let is_right = served.is(Ok(()), want.as_bytes());
+    assert!(rt; is_right, "a byte at a time, at {input:.40}");
 }
 
 #[test]
@@ -99,125 +103,162 @@ fn a_compaction_tells_the_new_names(rt: HostRuntime) {
     }
 }
 
+// A bad line each.
+const BAD_LINES: &str = "\
+\x20insert 1 2 3
+insert 1 2 3\x20
+\tinsert 1 2 3
+insert\t1 2 3
+insert +1 2 3
+insert 1 2
+insert 1 2 3 4
+get1
+get2
+get3 1
+remove1
+remove2 1 2
+INSERT 1 2 3
+walk 1
+walk\x20
+\x20walk
+Walk
+compact 1
+compact\x20
+compact1
+overwrite 0
+overwrite 0 1 2
+overwrite 0 1 2 3 4
+overwrite 0 1 2 x
+overwrite  0 1 2 3
+overwrite
+clear 1
+clear\x20
+clears
+hello";
+
 #[test]
 fn what_is_no_command_is_a_bad_line(rt: HostRuntime) {
-    for line in [
-        " insert 1 2 3",
-        "insert 1 2 3 ",
-        "\tinsert 1 2 3",
-        "insert\t1 2 3",
-        "insert 1 2 3\r",
-        "insert +1 2 3",
-        "insert 1 2",
-        "insert 1 2 3 4",
-        "get1",
-        "get2",
-        "get3 1",
-        "remove1",
-        "remove2 1 2",
-        "INSERT 1 2 3",
-        "walk 1",
-        "walk ",
-        " walk",
-        "Walk",
-        "compact 1",
-        "compact ",
-        "compact1",
-        "overwrite 0",
-        "overwrite 0 1 2",
-        "overwrite 0 1 2 3 4",
-        "overwrite 0 1 2 x",
-        "overwrite  0 1 2 3",
-        "overwrite",
-        "clear 1",
-        "clear ",
-        "clears",
-        "hello",
-    ] {
+    for line in BAD_LINES.split('\n') {
         assert_replies(&rt, rt.alloc(), line, "bad line\n");
     }
+    assert_replies(&rt, rt.alloc(), "insert 1 2 3\r", "bad line\n");
+}
+
+/// The text so often.
+pub(super) fn repeated(alloc: Global, text: &str, times: u32) -> Result<String, AllocError> {
+    let mut whole = String::new(alloc);
+    for _ in 0..times {
+        whole.push_str(text)?;
+    }
+    Ok(whole)
+}
+
+// A look-up of the first key 1, written with so many zeros before it.
+fn find_with_zeros(alloc: Global, zeros: u32) -> Result<String, AllocError> {
+    let mut line = repeated(alloc, "0", zeros)?;
+    line.insert_str(0, "insert 1 10 100\nget1 ")?;
+    line.push_str("1\n")?;
+    Ok(line)
+}
+
+// The line of 128 bytes has 122 zeros between its five first and its last one.
+#[test]
+fn a_line_of_more_than_128_bytes_is_a_bad_line(rt: HostRuntime) -> Result<(), Fail> {
+    let longest = find_with_zeros(rt.alloc(), 122)?;
+    assert!(rt; longest.len() == 16 + 128 + 1);
+    let want = "inserted 0\n0 1 10 100\n";
+    assert_replies(&rt, rt.alloc(), longest.as_str(), want);
+    let longer = find_with_zeros(rt.alloc(), 123)?;
+    let want = "inserted 0\nbad line\n";
+    assert_replies(&rt, rt.alloc(), longer.as_str(), want);
+    Ok(())
 }
 
 #[test]
-fn a_line_of_more_than_128_bytes_is_a_bad_line(rt: HostRuntime) -> Result<(), Fail> {
-    let longest = format!(in rt.alloc(); "get1 {:0>123}", 1)?;
-    assert_eq!(rt; longest.len(), 128);
-    let longer = format!(in rt.alloc(); "get1 {:0>124}", 1)?;
-    let long = format!(in rt.alloc(); "{:x>20000}", 'x')?;
-    let input = format!(in rt.alloc(); "insert 1 10 100\n{longest}\n{longer}\n")?;
-    assert_replies(
-        &rt,
-        rt.alloc(),
-        &input,
-        "inserted 0\n0 1 10 100\nbad line\n",
-    );
-    let input = format!(in rt.alloc(); "{long}\ninsert 1 2 3\n")?;
-    assert_replies(&rt, rt.alloc(), &input, "bad line\ninserted 0\n");
+fn a_bad_line_may_go_on_over_many_blocks(rt: HostRuntime) -> Result<(), Fail> {
+    let mut input = repeated(rt.alloc(), "x", 20000)?;
+    input.push_str("\ninsert 1 2 3\n")?;
+    assert_replies(&rt, rt.alloc(), input.as_str(), "bad line\ninserted 0\n");
     Ok(())
+}
+
+// Inserts of `count` records, whose second keys rise with the first or fall to 0, and their replies.
+fn inserts(alloc: Global, count: u32, is_rising: bool) -> Result<(String, String), AllocError> {
+    let mut input = String::new(alloc);
+    let mut want = String::new(alloc);
+    for n in 0..count {
+        let second = if is_rising { n } else { count.wrapping_sub(n).wrapping_sub(1) };
+        writeln!(input, "insert {n} {second} 7")?;
+        writeln!(want, "inserted {n}")?;
+    }
+    Ok((input, want))
+}
+
+// The numbers below `count` as they fall.
+fn put_falling(text: &mut String, count: u32) -> Result<(), AllocError> {
+    for n in 1..count {
+        write!(text, "{} ", count.wrapping_sub(n))?;
+    }
+    text.push_str("0\n")
 }
 
 /// An input that inserts 2000 records and walks them, and the replies, the last of which is longer than
 /// a block. The second keys go down as the indexes go up.
-pub(super) fn long_walk(alloc: Global) -> Result<(String, String), Fail> {
-    let mut input = String::new(alloc);
-    let mut want = String::new(alloc);
-    for n in 0..2000u32 {
-        writeln!(input, "insert {n} {} 7", 1999 - n)?;
-        writeln!(want, "inserted {n}")?;
-    }
-    writeln!(input, "walk")?;
-    for n in 1..2000u32 {
-        write!(want, "{} ", 2000 - n)?;
-    }
-    writeln!(want, "0")?;
+pub(super) fn long_walk(alloc: Global) -> Result<(String, String), AllocError> {
+    let (mut input, mut want) = inserts(alloc, 2000, false)?;
+    input.push_str("walk\n")?;
+    put_falling(&mut want, 2000)?;
     Ok((input, want))
 }
 
 #[test]
 fn a_walk_goes_on_over_many_blocks(rt: HostRuntime) -> Result<(), Fail> {
     let (input, want) = long_walk(rt.alloc())?;
-    assert_replies(&rt, rt.alloc(), &input, &want);
+    assert_replies(&rt, rt.alloc(), input.as_str(), want.as_str());
     Ok(())
+}
+
+// Removals of every other one of the records, by its index, and their replies.
+fn put_removals(input: &mut String, want: &mut String, count: u32) -> Result<(), AllocError> {
+    for half in 0..count / 2 {
+        let n = half.wrapping_mul(2);
+        writeln!(input, "remove {n}")?;
+        writeln!(want, "{n} {n} {n} 7")?;
+    }
+    Ok(())
+}
+
+// The reply to a compaction where every other one of so many indexes is vacant.
+fn put_halved(text: &mut String, count: u32) -> Result<(), AllocError> {
+    text.push_str("permuted")?;
+    for n in 0..count / 2 {
+        write!(text, " - {n}")?;
+    }
+    text.push_str("\n")
 }
 
 // Inserts 3000 records, removes every other one by its index, and compacts twice. The first compaction's
 // reply is longer than a block.
-fn long_compaction(alloc: Global) -> Result<(String, String), Fail> {
-    let mut input = String::new(alloc);
-    let mut want = String::new(alloc);
-    for n in 0..3000u32 {
-        writeln!(input, "insert {n} {n} 7")?;
-        writeln!(want, "inserted {n}")?;
-    }
-    for n in 0..1500u32 {
-        writeln!(input, "remove {}", 2 * n)?;
-        writeln!(want, "{} {} {} 7", 2 * n, 2 * n, 2 * n)?;
-    }
-    writeln!(input, "compact\nget1 2999\ncompact")?;
-    write!(want, "permuted")?;
-    for n in 0..1500u32 {
-        write!(want, " - {n}")?;
-    }
-    writeln!(want, "\n1499 2999 2999 7\nidentity")?;
+fn long_compaction(alloc: Global) -> Result<(String, String), AllocError> {
+    let (mut input, mut want) = inserts(alloc, 3000, true)?;
+    put_removals(&mut input, &mut want, 3000)?;
+    put_halved(&mut want, 3000)?;
+    input.push_str("compact\nget1 2999\ncompact\n")?;
+    want.push_str("1499 2999 2999 7\nidentity\n")?;
     Ok((input, want))
 }
 
 #[test]
 fn a_compaction_goes_on_over_many_blocks(rt: HostRuntime) -> Result<(), Fail> {
     let (input, want) = long_compaction(rt.alloc())?;
-    assert_replies(&rt, rt.alloc(), &input, &want);
+    assert_replies(&rt, rt.alloc(), input.as_str(), want.as_str());
     Ok(())
 }
 
 #[test]
 fn input_and_replies_go_on_over_many_blocks(rt: HostRuntime) -> Result<(), Fail> {
-    let mut input = String::new(rt.alloc());
-    let mut want = String::new(rt.alloc());
-    for n in 0..2000u32 {
-        writeln!(input, "insert {n} {n} {n}")?;
-        writeln!(want, "inserted {n}")?;
-    }
+    let (input, want) = inserts(rt.alloc(), 2000, true)?;
     assert!(rt; input.len() > 8192 && want.len() > 8192);
-    assert_replies(&rt, rt.alloc(), &input, &want);
+    assert_replies(&rt, rt.alloc(), input.as_str(), want.as_str());
     Ok(())
 }

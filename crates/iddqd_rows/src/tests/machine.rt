@@ -180,9 +180,9 @@ impl Machine {
 
     // Whether the order afterwards is the one before with the index put in at some place.
     fn gains(&self, ix: ItemIndex, walk: &[ItemIndex]) -> bool {
-        let mut others = walk.iter().filter(|at| **at != ix);
-        for at in self.order.iter() {
-            if others.next() != Some(at) {
+        let mut others = self.order.iter();
+        for at in walk {
+            if *at != ix && others.next() != Some(at) {
                 return false;
             }
         }
@@ -201,13 +201,19 @@ impl Machine {
             return Ok(false);
         }
         let was_sorted = self.is_sorted();
+        self.fill(ix, item)?;
+        self.filed.push((ix, item.first))?;
+        self.order = walk.to_vec(self.alloc)?;
+        Ok(!was_sorted || self.is_sorted())
+    }
+
+    // Puts the item into the slot of the next index.
+    fn fill(&mut self, ix: ItemIndex, item: Record) -> Result<(), AllocError> {
         if self.free.pop().is_none() {
             self.slots.push(None)?;
         }
         self.set(ix, Some(item));
-        self.filed.push((ix, item.first))?;
-        self.order = walk.to_vec(self.alloc)?;
-        Ok(!was_sorted || self.is_sorted())
+        Ok(())
     }
 
     fn set(&mut self, ix: ItemIndex, item: Option<Record>) {
@@ -253,8 +259,13 @@ impl Machine {
 
     // The number of live indexes below this one.
     fn rank(&self, ix: ItemIndex) -> ItemIndex {
-        let below = self.slots.iter().take(ix.as_u32() as usize);
-        index(below.filter(|slot| slot.is_some()).count())
+        let mut rank = 0u32;
+        for slot in self.slots.iter().take(ix.as_u32() as usize) {
+            if slot.is_some() {
+                rank = rank.saturating_add(1);
+            }
+        }
+        ItemIndex::new(rank)
     }
 
     // What a compaction tells.
@@ -278,19 +289,27 @@ impl Machine {
         if *remap != self.remap()? {
             return Ok(false);
         }
+        self.filed = self.renamed_filed()?;
+        self.order = self.renamed_order()?;
+        self.slots.retain(|slot| slot.is_some());
+        self.free.clear();
+        Ok(true)
+    }
+
+    fn renamed_filed(&self) -> Result<Vec<(ItemIndex, u32)>, AllocError> {
         let mut filed = Vec::new(self.alloc);
         for (ix, hash) in self.filed.iter() {
             filed.push((self.rank(*ix), *hash))?;
         }
+        Ok(filed)
+    }
+
+    fn renamed_order(&self) -> Result<Vec<ItemIndex>, AllocError> {
         let mut order = Vec::new(self.alloc);
         for ix in self.order.iter() {
             order.push(self.rank(*ix))?;
         }
-        self.filed = filed;
-        self.order = order;
-        self.slots.retain(|slot| slot.is_some());
-        self.free.clear();
-        Ok(true)
+        Ok(order)
     }
 
     fn clear(&mut self) {

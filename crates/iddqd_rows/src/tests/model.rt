@@ -1,5 +1,6 @@
 //! The driver beside a model that has neither table.
 use super::commands::{COMMANDS, Generator};
+use super::calls::step;
 use super::driver::no_items;
 use iddqd::index_remap::IndexRemap;
 use iddqd::item_index::ItemIndex;
@@ -158,15 +159,15 @@ fn assert_alike(rt: &impl Abort, alloc: Global, range: u32) -> Result<(), AllocE
     for number in 0..COMMANDS {
         let command = generator.command();
         let want = model.step(alloc, &command)?;
-        assert_eq!(rt; items.step(command), want, "command {number} below {range}");
+        let is_alike = step(&mut items, command) == want;
+        assert!(rt; is_alike, "command {number} below {range}");
     }
     Ok(())
 }
 
 #[test]
 fn steps_as_a_model_without_tables(rt: HostRuntime) -> Result<(), Fail> {
-    for range in [40, 400] {
-        assert_alike(&rt, rt.alloc(), range)?;
-    }
+    assert_alike(&rt, rt.alloc(), 40)?;
+    assert_alike(&rt, rt.alloc(), 400)?;
     Ok(())
 }

@@ -10,10 +10,9 @@
 //!     wc -c < replies
 //!     fnv1a64 < replies
 use super::commands::{COMMANDS, Generator, put_line};
-use iddqd_lines::serve::serve;
-use iddqd_lines::sink::WriteSink;
-use iddqd_lines::source::ReadSource;
+use super::lines::serve_whole;
 use std::alloc::{AllocError, Global};
+use std::process::Abort;
 use std::test::Fail;
 
 fn fnv1a64(bytes: &[u8]) -> u64 {
@@ -37,25 +36,25 @@ fn put_lines(alloc: Global, range: u32) -> Result<String, AllocError> {
 // What the program replies to those lines.
 fn replies(alloc: Global, range: u32) -> Result<Vec<u8>, Fail> {
     let lines = put_lines(alloc, range)?;
-    let mut replies = Vec::new(alloc);
-    let mut source = ReadSource::new(lines.as_bytes());
-    let mut sink = WriteSink::new(&mut replies);
-    serve(alloc, &mut source, &mut sink)?;
+    let (told, replies) = serve_whole(alloc, lines.as_str());
+    told?;
     Ok(replies)
+}
+
+// The replies to the lines of that range have that length and that hash.
+fn assert_hash(rt: &impl Abort, replies: &[u8], len: usize, hash: u64) {
+    assert!(rt; replies.len() == len, "{} bytes for {len}", replies.len());
+    assert!(rt; fnv1a64(replies) == hash, "of {len} bytes");
 }
 
 #[test]
 fn replies_as_the_original(rt: HostRuntime) -> Result<(), Fail> {
     let few = replies(rt.alloc(), 40)?;
-    let mut got = few.split(|byte| *byte == b'\n');
-    for (number, want) in FIRST_OF_FEW.lines().enumerate() {
-        assert_eq!(rt; got.next(), Some(want.as_bytes()), "reply {number}");
-    }
-    assert_eq!(rt; few.len(), 139614);
-    assert_eq!(rt; fnv1a64(few.as_slice()), 9866343828587905839);
+    let first = FIRST_OF_FEW.as_bytes();
+    assert!(rt; few.starts_with(first), "the first replies differ");
+    assert_hash(&rt, few.as_slice(), 139614, 9866343828587905839);
     let many = replies(rt.alloc(), 400)?;
-    assert_eq!(rt; many.len(), 674969);
-    assert_eq!(rt; fnv1a64(many.as_slice()), 14333180309502089719);
+    assert_hash(&rt, many.as_slice(), 674969, 14333180309502089719);
     Ok(())
 }
 

@@ -1,11 +1,13 @@
 //! Calls of which some are refused memory.
 //!
 //! With ample memory each insert is done. Run under `--fail-alloc` or the like they show what a
-//! refusal leaves.
-use super::driver::{Items, duplicate, ix, no_items, record};
+//! refusal leaves. What they do between the calls takes no memory.
+use super::calls::{find1, find2, get, insert, remove, remove1, remove2, step};
+use super::driver::{Items, ix, no_items, record};
 use iddqd::item_index::ItemIndex;
 use iddqd_keyed::command::{Command, InsertRefusal, Reply};
 use iddqd_lines::record::Record;
+use std::alloc::{AllocError, Global};
 use std::process::Abort;
 
 // The record with that index: the later it is inserted, the earlier it is in a walk.
@@ -13,55 +15,62 @@ fn nth(number: u32) -> Record {
     record(number, 1000u32.saturating_sub(number))
 }
 
-// No call finds the record.
-fn assert_absent(rt: &impl Abort, items: &Items, number: u32) {
+// Whether each call answers so of the record with that number.
+fn is_found(items: &Items, number: u32, want: Option<ItemIndex>) -> bool {
     let item = nth(number);
-    assert_eq!(rt; items.get(ix(number)), None, "at {number}");
-    assert_eq!(rt; items.find1(&item.first), None, "at {number}");
-    assert_eq!(rt; items.find2(&item.second), None, "at {number}");
+    let is_held = get(items, ix(number)) == want.map(|_| item);
+    is_held && find1(items, item.first) == want && find2(items, item.second) == want
+}
+
+// Whether the walk falls from before `end` down to `start`.
+fn walks_down(items: &Items, start: u32, end: u32) -> bool {
+    let mut number = end;
+    for ix in items.walk() {
+        number = number.wrapping_sub(1);
+        if ix.as_u32() != number {
+            return false;
+        }
+    }
+    number == start
 }
 
 // The records from `start` to before `end` are there, by each call, and neither of their neighbours.
 fn assert_holds(rt: &impl Abort, items: &Items, start: u32, end: u32) {
-    assert_eq!(rt; items.len(), end.saturating_sub(start) as usize);
-    let mut walk = items.walk();
-    for number in (start..end).rev() {
-        let item = nth(number);
-        let at = Some(ix(number));
-        assert_eq!(rt; walk.next(), at, "walk at {number}");
-        assert_eq!(rt; items.get(ix(number)), Some(&item), "get at {number}");
-        assert_eq!(rt; items.find1(&item.first), at, "find1 at {number}");
-        assert_eq!(rt; items.find2(&item.second), at, "find2 at {number}");
+    assert!(rt; walks_down(items, start, end), "walk from {start} to {end}");
+    assert!(rt; items.len() == end.saturating_sub(start) as usize);
+    for number in start..end {
+        assert!(rt; is_found(items, number, Some(ix(number))), "at {number}");
     }
-    assert_eq!(rt; walk.next(), None);
-    assert_absent(rt, items, end);
+    assert!(rt; is_found(items, end, None), "at {end}");
     if let Some(before) = start.checked_sub(1) {
-        assert_absent(rt, items, before);
+        assert!(rt; is_found(items, before, None), "at {before}");
     }
 }
 
 // Inserts the next record, and tells how many there are now.
 fn insert_next(rt: &impl Abort, items: &mut Items, taken: u32) -> u32 {
     let item = nth(taken);
-    match items.insert(item) {
-        Ok(at) => {
-            assert_eq!(rt; at, ix(taken));
-            taken.saturating_add(1)
-        }
-        Err(InsertRefusal::Memory(back)) => {
-            assert_eq!(rt; back, item);
-            taken
-        }
-        Err(refusal) => panic!(rt; "{refusal:?} at {taken}"),
+    let reply = insert(items, item);
+    if reply == Reply::Inserted(ix(taken)) {
+        return taken.saturating_add(1);
     }
+    let is_refused = reply == Reply::Refused(InsertRefusal::Memory(item));
+    assert!(rt; is_refused, "at {taken}");
+    taken
 }
 
 // Each key that is there refuses a record, whether or not memory is left.
 fn assert_duplicates(rt: &impl Abort, items: &mut Items, taken: u32) {
     for number in 0..taken {
         let item = nth(number);
-        let want = Err(duplicate(item, Some(number), Some(number)));
-        assert_eq!(rt; items.insert(item), want, "at {number}");
+        let at = Some(ix(number));
+        let reply = insert(items, item);
+        let want = Reply::Refused(InsertRefusal::Duplicate {
+            item,
+            first: at,
+            second: at,
+        });
+        assert!(rt; reply == want, "at {number}");
     }
 }
 
@@ -77,14 +86,15 @@ fn an_insert_that_memory_refuses_changes_nothing(rt: HostRuntime) {
     }
 }
 
-// Removes the record by one of the three calls.
+// Whether the record is removed by one of the three calls.
 fn removes(items: &mut Items, number: u32) -> bool {
     let item = nth(number);
-    match number % 3 {
-        0 => items.remove(ix(number)) == Some(item),
-        1 => items.remove1(&item.first) == Some((ix(number), item)),
-        _ => items.remove2(&item.second) == Some((ix(number), item)),
-    }
+    let removed = match number % 3 {
+        0 => remove(items, ix(number)),
+        1 => remove1(items, item.first),
+        _ => remove2(items, item.second),
+    };
+    removed == Some((ix(number), item))
 }
 
 #[test]
@@ -102,11 +112,45 @@ fn a_removal_needs_no_memory(rt: HostRuntime) {
     assert_holds(&rt, &items, taken, taken);
 }
 
-// The indexes fall from the last to 0.
-fn assert_falls(rt: &impl Abort, indexes: &[ItemIndex], count: u32) {
-    assert_eq!(rt; indexes.len(), count as usize);
-    for (at, number) in indexes.iter().zip((0..count).rev()) {
-        assert_eq!(rt; *at, ix(number));
+// Gives the index 0 a record with other keys, and removes it.
+fn assert_removes_changed(rt: &impl Abort, items: &mut Items) {
+    let other = record(2000, 2000);
+    let was = items.overwrite(ix(0), other);
+    assert!(rt; was == Ok(nth(0)));
+    assert!(rt; remove(items, ix(0)) == Some((ix(0), other)));
+    assert!(rt; find1(items, 2000).is_none());
+    assert!(rt; find2(items, 2000).is_none());
+}
+
+#[test]
+fn an_item_with_other_keys_is_removed_without_memory(rt: HostRuntime) {
+    let mut items = no_items(rt.alloc());
+    let mut taken = 0;
+    for _ in 0..20 {
+        taken = insert_next(&rt, &mut items, taken);
+    }
+    assert_removes_changed(&rt, &mut items);
+    assert_holds(&rt, &items, 1, taken);
+}
+
+// Whether the indexes fall from before `count` to 0.
+fn is_falling(indexes: &[ItemIndex], count: u32) -> bool {
+    let mut number = count;
+    for ix in indexes {
+        number = number.wrapping_sub(1);
+        if ix.as_u32() != number {
+            return false;
+        }
+    }
+    number == 0
+}
+
+// Whether that is the answer to a walk of so many. An empty walk takes no memory.
+fn is_walked(reply: &Reply<Record>, count: u32) -> bool {
+    match reply {
+        Reply::Walked(indexes) => is_falling(indexes.as_slice(), count),
+        Reply::NoMemory => count > 0,
+        _ => false,
     }
 }
 
@@ -115,31 +159,59 @@ fn a_walk_that_memory_refuses_changes_nothing(rt: HostRuntime) {
     let mut items = no_items(rt.alloc());
     let mut taken = 0;
     for _ in 0..50 {
-        match items.step(Command::Walk) {
-            Reply::Walked(indexes) => assert_falls(&rt, indexes.as_slice(), taken),
-            Reply::NoMemory => assert!(rt; taken > 0, "an empty walk takes no memory"),
-            reply => panic!(rt; "{reply:?} to a walk"),
-        }
+        let reply = step(&mut items, Command::Walk);
+        assert!(rt; is_walked(&reply, taken), "of {taken}");
         assert_holds(&rt, &items, 0, taken);
         taken = insert_next(&rt, &mut items, taken);
     }
 }
 
-// Whether the run's first command, an insert of the next record, was done: its replies tell.
-fn is_inserted(rt: &impl Abort, replies: &[Reply<Record>], taken: u32) -> bool {
+// Two commands: an insert of the next record, and a look-up of its second key.
+fn two_commands(alloc: Global, taken: u32) -> Result<Vec<Command<Record>>, AllocError> {
+    let item = nth(taken);
+    let mut commands = Vec::new(alloc);
+    commands.push(Command::Insert(item))?;
+    commands.push(Command::Find2(item.second))?;
+    Ok(commands)
+}
+
+// Whether these are those two commands.
+fn is_two_commands(commands: &[Command<Record>], taken: u32) -> bool {
+    let item = nth(taken);
+    match commands {
+        [Command::Insert(first), Command::Find2(second)] => {
+            *first == item && *second == item.second
+        }
+        _ => false,
+    }
+}
+
+// Whether the replies are those of an insert that was done, or was refused memory.
+fn is_replied(replies: &[Reply<Record>], taken: u32, is_inserted: bool) -> bool {
     match replies {
         [Reply::Inserted(at), Reply::Found(found)] => {
-            assert_eq!(rt; (*at, *found), (ix(taken), Some(ix(taken))));
-            true
+            is_inserted && *at == ix(taken) && *found == Some(ix(taken))
         }
         [
             Reply::Refused(InsertRefusal::Memory(back)),
             Reply::Found(None),
-        ] => {
-            assert_eq!(rt; *back, nth(taken));
-            false
+        ] => !is_inserted && *back == nth(taken),
+        _ => false,
+    }
+}
+
+// Runs the two commands. The commands come back where memory is refused to the replies.
+fn run_next(rt: &impl Abort, items: &mut Items, commands: Vec<Command<Record>>, taken: u32) {
+    match items.run(commands) {
+        Ok(replies) => {
+            let is_inserted = items.len() == taken.saturating_add(1) as usize;
+            let is_right = is_replied(replies.as_slice(), taken, is_inserted);
+            assert!(rt; is_right, "of {taken}");
         }
-        _ => panic!(rt; "{replies:?} at {taken}"),
+        Err(back) => {
+            let is_right = is_two_commands(back.as_slice(), taken);
+            assert!(rt; is_right, "of {taken}");
+        }
     }
 }
 
@@ -148,23 +220,11 @@ fn a_run_that_memory_refuses_gives_its_commands_back(rt: HostRuntime) {
     let mut items = no_items(rt.alloc());
     let mut taken = 0u32;
     for _ in 0..50 {
-        let item = nth(taken);
-        let commands = [Command::Insert(item), Command::Find2(item.second)];
-        let Ok(commands) = Vec::from_array(rt.alloc(), commands) else {
-            continue;
-        };
-        match items.run(commands) {
-            Ok(replies) => {
-                if is_inserted(&rt, replies.as_slice(), taken) {
-                    taken = taken.saturating_add(1);
-                }
-            }
-            Err(back) => match back.as_slice() {
-                [Command::Insert(first), Command::Find2(second)] => {
-                    assert_eq!(rt; (*first, *second), (item, item.second));
-                }
-                _ => panic!(rt; "other commands came back at {taken}"),
-            },
+        if let Ok(commands) = two_commands(rt.alloc(), taken) {
+            run_next(&rt, &mut items, commands, taken);
+        }
+        if items.len() > taken as usize {
+            taken = taken.saturating_add(1);
         }
         assert_holds(&rt, &items, 0, taken);
     }

@@ -1,9 +1,12 @@
 //! Scripts with silent overwrites from a fixed generator.
+use super::calls::{run, step};
 use super::commands::Numbers;
-use super::driver::{ix, no_items};
+use super::driver::{Items, ix, no_items};
 use super::watched::Watched;
 use iddqd_keyed::command::{Command, Reply};
 use iddqd_lines::record::Record;
+use std::alloc::{AllocError, Global};
+use std::process::Abort;
 use std::test::Fail;
 
 // How many scripts there are, each from its own seed.
@@ -55,44 +58,77 @@ impl Script {
     }
 }
 
+// Each command of the script with that seed is allowed.
+fn assert_allowed(rt: &impl Abort, alloc: Global, seed: u32) -> Result<(), AllocError> {
+    let mut script = Script::new(seed);
+    let mut watched = Watched::new(alloc);
+    for number in 0..COMMANDS {
+        let at = (seed, number);
+        watched.step(rt, &script.command(), at)?;
+        watched.assert_agrees(rt, RANGE, at)?;
+    }
+    Ok(())
+}
+
 #[test]
 fn each_command_of_a_script_is_allowed(rt: HostRuntime) -> Result<(), Fail> {
     for seed in 0..SCRIPTS {
-        let mut script = Script::new(seed);
-        let mut watched = Watched::new(rt.alloc());
-        for number in 0..COMMANDS {
-            let at = (seed, number);
-            watched.step(&rt, &script.command(), at)?;
-            watched.assert_agrees(&rt, RANGE, at)?;
+        assert_allowed(&rt, rt.alloc(), seed)?;
+    }
+    Ok(())
+}
+
+// The first hundred commands of the script with that seed.
+fn commands(alloc: Global, seed: u32) -> Result<Vec<Command<Record>>, AllocError> {
+    let mut script = Script::new(seed);
+    let mut commands = Vec::new(alloc);
+    for _ in 0..100 {
+        commands.push(script.command())?;
+    }
+    Ok(commands)
+}
+
+// The replies of single steps.
+fn step_all(
+    alloc: Global,
+    items: &mut Items,
+    commands: Vec<Command<Record>>,
+) -> Result<Vec<Reply<Record>>, AllocError> {
+    let mut replies = Vec::new(alloc);
+    for command in commands {
+        replies.push(step(items, command))?;
+    }
+    Ok(replies)
+}
+
+// Whether an item was overwritten.
+fn has_overwritten(replies: &[Reply<Record>]) -> bool {
+    for reply in replies {
+        if matches!(reply, Reply::Overwritten(Ok(_))) {
+            return true;
         }
     }
+    false
+}
+
+// A run of the script with that seed replies as single steps, and leaves what they leave.
+fn assert_runs(rt: &impl Abort, alloc: Global, seed: u32) -> Result<(), AllocError> {
+    let mut stepped = no_items(alloc);
+    let want = step_all(alloc, &mut stepped, commands(alloc, seed)?)?;
+    assert!(rt; has_overwritten(want.as_slice()), "of seed {seed}");
+    let mut items = no_items(alloc);
+    let replies = run(&mut items, commands(alloc, seed)?);
+    let is_alike = replies == Some(want);
+    assert!(rt; is_alike, "of seed {seed}");
+    let is_alike = step(&mut items, Command::Walk) == step(&mut stepped, Command::Walk);
+    assert!(rt; is_alike, "walk of seed {seed}");
     Ok(())
 }
 
 #[test]
 fn a_run_with_silent_overwrites_replies_as_single_steps(rt: HostRuntime) -> Result<(), Fail> {
     for seed in 0..SCRIPTS {
-        let mut script = Script::new(seed);
-        let mut stepped = no_items(rt.alloc());
-        let mut want = Vec::new(rt.alloc());
-        for _ in 0..100 {
-            want.push(stepped.step(script.command()))?;
-        }
-        let mut script = Script::new(seed);
-        let mut commands = Vec::new(rt.alloc());
-        for _ in 0..100 {
-            commands.push(script.command())?;
-        }
-        let mut items = no_items(rt.alloc());
-        let Ok(replies) = items.run(commands) else {
-            panic!(rt; "memory was refused");
-        };
-        assert_eq!(rt; replies, want, "of seed {seed}");
-        let overwrites = want
-            .iter()
-            .any(|reply| matches!(reply, Reply::Overwritten(Ok(_))));
-        assert!(rt; overwrites, "of seed {seed}");
-        assert_eq!(rt; items.step(Command::Walk), stepped.step(Command::Walk));
+        assert_runs(&rt, rt.alloc(), seed)?;
     }
     Ok(())
 }

@@ -3,6 +3,8 @@ use super::driver::ix;
 use super::watched::Watched;
 use iddqd_keyed::command::Command;
 use iddqd_lines::record::Record;
+use std::alloc::{AllocError, Global};
+use std::process::Abort;
 use std::test::Fail;
 
 // How many commands there are.
@@ -34,19 +36,58 @@ fn command(number: u32, value: u32) -> Command<Record> {
     }
 }
 
-#[test]
-fn each_sequence_of_four_commands_is_allowed(rt: HostRuntime) -> Result<(), Fail> {
-    for sequence in 0..390625u32 {
-        let mut watched = Watched::new(rt.alloc());
-        for (value, size) in [(1, 15625), (2, 625), (3, 25), (4, 1)] {
-            let number = sequence / size % COMMANDS;
-            let at = (sequence, value);
-            watched.step(&rt, &command(number, value), at)?;
-            // A beginning that came before is not looked at again.
-            if sequence % size == 0 {
-                watched.assert_agrees(&rt, 2, at)?;
-            }
+// The sequence of that number is allowed: its digits to the base of 25 are the commands. A beginning that
+// came before is not looked at again.
+fn assert_allowed(rt: &impl Abort, alloc: Global, sequence: u32) -> Result<(), AllocError> {
+    let mut watched = Watched::new(alloc);
+    for (value, size) in [(1, 15625), (2, 625), (3, 25), (4, 1)] {
+        let number = sequence / size % COMMANDS;
+        let at = (sequence, value);
+        watched.step(rt, &command(number, value), at)?;
+        if sequence % size == 0 {
+            watched.assert_agrees(rt, 2, at)?;
         }
     }
+    Ok(())
+}
+
+// All sequences are allowed whose first command is one of five.
+fn assert_fifth(rt: &impl Abort, alloc: Global, fifth: u32) -> Result<(), AllocError> {
+    let start = fifth.saturating_mul(78125);
+    for sequence in start..start.saturating_add(78125) {
+        assert_allowed(rt, alloc, sequence)?;
+    }
+    Ok(())
+}
+
+#[test]
+fn each_sequence_from_an_insert_or_a_find1_is_allowed(rt: HostRuntime) -> Result<(), Fail> {
+    assert_fifth(&rt, rt.alloc(), 0)?;
+    Ok(())
+}
+
+#[test]
+fn each_sequence_from_a_find_or_a_removal_is_allowed(rt: HostRuntime) -> Result<(), Fail> {
+    assert_fifth(&rt, rt.alloc(), 1)?;
+    Ok(())
+}
+
+#[test]
+fn each_sequence_from_a_removal_by_a_key_or_an_overwrite_is_allowed(
+    rt: HostRuntime,
+) -> Result<(), Fail> {
+    assert_fifth(&rt, rt.alloc(), 2)?;
+    Ok(())
+}
+
+#[test]
+fn each_sequence_from_an_overwrite_is_allowed(rt: HostRuntime) -> Result<(), Fail> {
+    assert_fifth(&rt, rt.alloc(), 3)?;
+    Ok(())
+}
+
+#[test]
+fn each_sequence_from_an_overwrite_to_a_walk_is_allowed(rt: HostRuntime) -> Result<(), Fail> {
+    assert_fifth(&rt, rt.alloc(), 4)?;
     Ok(())
 }

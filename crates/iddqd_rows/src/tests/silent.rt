@@ -1,124 +1,123 @@
 //! Items that were given other keys without a word to the tables.
+use super::calls::assert_answers;
 use super::collisions::Constant;
-use super::driver::{Items, assert_walks, duplicate, ix, no_items, record};
-use super::model::index;
-use iddqd_keyed::command::{Command, InsertRefusal, Reply};
-use iddqd_keyed::keyed_items::KeyedItems;
-use std::alloc::Global;
-use std::process::Abort;
+use super::driver::assert_script;
+use std::test::Fail;
 
-// Items with those keys, at the indexes from 0 on.
-fn items_with(rt: &impl Abort, alloc: Global, keys: &[(u32, u32)]) -> Items {
-    let mut items = no_items(alloc);
-    for (number, (first, second)) in keys.iter().enumerate() {
-        let at = items.insert(record(*first, *second));
-        assert_eq!(rt; at, Ok(index(number)), "in {keys:?}");
-    }
-    items
-}
+const SECOND_KEY: &str = "\
+insert 1 10 7: Inserted(0)
+insert 2 20 7: Inserted(1)
+insert 3 30 7: Inserted(2)
+overwrite 0 1 99 7: Overwritten(Ok(Record { first: 1, second: 10, value: 7 }))
+walk: Walked([0, 1, 2])
+find2 10: Found(None)
+remove 0: Removed(Some((0, Record { first: 1, second: 99, value: 7 })))
+walk: Walked([1, 2])
+";
 
 #[test]
-fn an_index_with_another_second_key_keeps_its_place(rt: HostRuntime) {
-    let mut items = items_with(&rt, rt.alloc(), &[(1, 10), (2, 20), (3, 30)]);
-    let was = items.overwrite(ix(0), record(1, 99));
-    assert_eq!(rt; was, Ok(record(1, 10)));
-    assert_walks(&rt, &items, &[0, 1, 2]);
-    assert_eq!(rt; items.find2(&10), None);
-    assert_eq!(rt; items.remove(ix(0)), Some(record(1, 99)));
-    assert_walks(&rt, &items, &[1, 2]);
+fn an_index_with_another_second_key_keeps_its_place(rt: HostRuntime) -> Result<(), Fail> {
+    assert_script(&rt, rt.alloc(), SECOND_KEY)?;
+    Ok(())
 }
 
-#[test]
-fn another_first_key_of_the_same_hash_is_found(rt: HostRuntime) {
-    let mut items = KeyedItems::new(rt.alloc(), Constant);
-    assert_eq!(rt; items.insert(record(1, 10)), Ok(ix(0)));
-    let was = items.overwrite(ix(0), record(5, 10));
-    assert_eq!(rt; was, Ok(record(1, 10)));
-    assert_eq!(rt; items.find1(&5), Some(ix(0)));
-    assert_eq!(rt; items.find1(&1), None);
-    assert_eq!(rt; items.insert(record(1, 11)), Ok(ix(1)));
-}
-
-// Where memory is refused to an insert the test ends. Nothing after the inserts takes any.
-#[test]
-fn an_item_with_other_keys_is_removed_without_memory(rt: HostRuntime) {
-    let mut items = no_items(rt.alloc());
-    for (number, first, second) in [(0, 1, 10), (1, 2, 20), (2, 3, 30)] {
-        match items.insert(record(first, second)) {
-            Ok(at) => assert_eq!(rt; at, ix(number)),
-            Err(InsertRefusal::Memory(_)) => return,
-            Err(refusal) => panic!(rt; "{refusal:?} at {number}"),
-        }
-    }
-    let was = items.overwrite(ix(0), record(9, 99));
-    assert_eq!(rt; was, Ok(record(1, 10)));
-    assert_eq!(rt; items.remove(ix(0)), Some(record(9, 99)));
-    assert_eq!(rt; items.find1(&9), None);
-    assert_eq!(rt; items.find2(&99), None);
-    assert_walks(&rt, &items, &[1, 2]);
-}
+const SAME_HASH: &str = "\
+insert 1 10 7: Inserted(0)
+overwrite 0 5 10 7: Overwritten(Ok(Record { first: 1, second: 10, value: 7 }))
+find1 5: Found(Some(0))
+find1 1: Found(None)
+insert 1 11 7: Inserted(1)
+";
 
 #[test]
-fn no_trace_of_a_changed_key_stays_behind(rt: HostRuntime) {
-    let mut items = items_with(&rt, rt.alloc(), &[(1, 10), (2, 20)]);
-    let was = items.overwrite(ix(0), record(1, 99));
-    assert_eq!(rt; was, Ok(record(1, 10)));
-    assert_eq!(rt; items.remove(ix(0)), Some(record(1, 99)));
-    assert_eq!(rt; items.remove(ix(1)), Some(record(2, 20)));
-    assert_eq!(rt; items.insert(record(3, 30)), Ok(ix(1)));
-    assert_eq!(rt; items.insert(record(4, 5)), Ok(ix(0)));
-    assert_walks(&rt, &items, &[0, 1]);
-    assert_eq!(rt; items.find2(&5), Some(ix(0)));
-    assert_eq!(rt; items.find2(&99), None);
+fn another_first_key_of_the_same_hash_is_found(rt: HostRuntime) -> Result<(), Fail> {
+    assert_answers(&rt, rt.alloc(), Constant, SAME_HASH)?;
+    Ok(())
 }
 
-#[test]
-fn an_index_with_another_first_key_is_found_by_its_second(rt: HostRuntime) {
-    let mut items = items_with(&rt, rt.alloc(), &[(1, 10), (2, 20)]);
-    let was = items.overwrite(ix(0), record(7, 10));
-    assert_eq!(rt; was, Ok(record(1, 10)));
-    assert_eq!(rt; items.find2(&10), Some(ix(0)));
-    let want = Err(duplicate(record(9, 10), None, Some(0)));
-    assert_eq!(rt; items.insert(record(9, 10)), want);
-}
+const NO_TRACE: &str = "\
+insert 1 10 7: Inserted(0)
+insert 2 20 7: Inserted(1)
+overwrite 0 1 99 7: Overwritten(Ok(Record { first: 1, second: 10, value: 7 }))
+remove 0: Removed(Some((0, Record { first: 1, second: 99, value: 7 })))
+remove 1: Removed(Some((1, Record { first: 2, second: 20, value: 7 })))
+insert 3 30 7: Inserted(1)
+insert 4 5 7: Inserted(0)
+walk: Walked([0, 1])
+find2 5: Found(Some(0))
+find2 99: Found(None)
+";
 
 #[test]
-fn an_overwrite_of_no_item_hands_the_given_one_back(rt: HostRuntime) {
-    let mut items = items_with(&rt, rt.alloc(), &[(1, 10), (2, 20)]);
-    assert_eq!(rt; items.remove(ix(0)), Some(record(1, 10)));
-    for number in [0, 2, 4294967295] {
-        let back = items.overwrite(ix(number), record(3, 30));
-        assert_eq!(rt; back, Err(record(3, 30)), "at {number}");
-        let reply = items.step(Command::Overwrite(ix(number), record(4, 40)));
-        let want = Reply::Overwritten(Err(record(4, 40)));
-        assert_eq!(rt; reply, want, "at {number}");
-        assert_eq!(rt; items.get(ix(number)), None);
-    }
-    assert_eq!(rt; items.len(), 1);
-    assert_eq!(rt; items.get(ix(1)), Some(&record(2, 20)));
-    assert_eq!(rt; items.find1(&2), Some(ix(1)));
-    assert_walks(&rt, &items, &[1]);
-    let reply = items.step(Command::Overwrite(ix(1), record(2, 21)));
-    assert_eq!(rt; reply, Reply::Overwritten(Ok(record(2, 20))));
-    assert_eq!(rt; items.insert(record(3, 30)), Ok(ix(0)));
+fn no_trace_of_a_changed_key_stays_behind(rt: HostRuntime) -> Result<(), Fail> {
+    assert_script(&rt, rt.alloc(), NO_TRACE)?;
+    Ok(())
 }
 
+const FIRST_KEY: &str = "\
+insert 1 10 7: Inserted(0)
+insert 2 20 7: Inserted(1)
+overwrite 0 7 10 7: Overwritten(Ok(Record { first: 1, second: 10, value: 7 }))
+find2 10: Found(Some(0))
+insert 9 10 7: Refused(Duplicate { item: Record { first: 9, second: 10, value: 7 }, first: None, second: Some(0) })
+";
+
 #[test]
-fn a_clear_leaves_nothing(rt: HostRuntime) {
-    let mut items = items_with(&rt, rt.alloc(), &[(1, 10), (2, 20), (3, 30)]);
-    assert_eq!(rt; items.remove(ix(1)), Some(record(2, 20)));
-    assert!(rt; items.overwrite(ix(0), record(8, 80)).is_ok());
-    items.clear();
-    for (number, first, second) in [(0, 1, 10), (2, 3, 30), (0, 8, 80)] {
-        assert_eq!(rt; items.get(ix(number)), None, "at {number}");
-        assert_eq!(rt; items.find1(&first), None, "at {number}");
-        assert_eq!(rt; items.find2(&second), None, "at {number}");
-    }
-    assert_eq!(rt; items.len(), 0);
-    assert_walks(&rt, &items, &[]);
-    assert_eq!(rt; items.insert(record(1, 10)), Ok(ix(0)));
-    assert_eq!(rt; items.step(Command::Clear), Reply::Cleared);
-    assert_eq!(rt; items.len(), 0);
-    assert_eq!(rt; items.insert(record(3, 30)), Ok(ix(0)));
-    assert_walks(&rt, &items, &[0]);
+fn an_index_with_another_first_key_is_found_by_its_second(rt: HostRuntime) -> Result<(), Fail> {
+    assert_script(&rt, rt.alloc(), FIRST_KEY)?;
+    Ok(())
+}
+
+const NO_ITEM: &str = "\
+insert 1 10 7: Inserted(0)
+insert 2 20 7: Inserted(1)
+remove 0: Removed(Some((0, Record { first: 1, second: 10, value: 7 })))
+overwrite 0 3 30 7: Overwritten(Err(Record { first: 3, second: 30, value: 7 }))
+overwrite 2 3 30 7: Overwritten(Err(Record { first: 3, second: 30, value: 7 }))
+overwrite 4294967295 3 30 7: Overwritten(Err(Record { first: 3, second: 30, value: 7 }))
+get 0: None
+get 2: None
+get 4294967295: None
+len: 1
+get 1: Some(Record { first: 2, second: 20, value: 7 })
+find1 2: Found(Some(1))
+walk: Walked([1])
+overwrite 1 2 21 7: Overwritten(Ok(Record { first: 2, second: 20, value: 7 }))
+insert 3 30 7: Inserted(0)
+";
+
+#[test]
+fn an_overwrite_of_no_item_hands_the_given_one_back(rt: HostRuntime) -> Result<(), Fail> {
+    assert_script(&rt, rt.alloc(), NO_ITEM)?;
+    Ok(())
+}
+
+const CLEARED: &str = "\
+insert 1 10 7: Inserted(0)
+insert 2 20 7: Inserted(1)
+insert 3 30 7: Inserted(2)
+remove 1: Removed(Some((1, Record { first: 2, second: 20, value: 7 })))
+overwrite 0 8 80 7: Overwritten(Ok(Record { first: 1, second: 10, value: 7 }))
+clear: Cleared
+get 0: None
+get 2: None
+find1 1: Found(None)
+find1 3: Found(None)
+find1 8: Found(None)
+find2 10: Found(None)
+find2 30: Found(None)
+find2 80: Found(None)
+len: 0
+walk: Walked([])
+insert 1 10 7: Inserted(0)
+clear: Cleared
+len: 0
+insert 3 30 7: Inserted(0)
+walk: Walked([0])
+";
+
+#[test]
+fn a_clear_leaves_nothing(rt: HostRuntime) -> Result<(), Fail> {
+    assert_script(&rt, rt.alloc(), CLEARED)?;
+    Ok(())
 }

@@ -1,17 +1,67 @@
+//! Sources and sinks that move few bytes a call, fail once, and are watched.
 ghost use Rattle.std.specs.Prelude.{None};
 
 use iddqd_lines::serve::{ServeFault, serve};
 use iddqd_lines::sink::Sink;
 use iddqd_lines::source::Source;
 use std::alloc::Global;
+use std::cell::Cell;
 
-/// Gives at most `step` bytes a read, and fails after the last where it `breaks`.
+// How many bytes end a line.
+fn count_lines(bytes: &[u8]) -> u32 {
+    let mut lines = 0u32;
+    for byte in bytes {
+        if *byte == b'\n' {
+            lines = lines.saturating_add(1);
+        }
+    }
+    lines
+}
+
+// The whole lines that the source has given and the sink has got, and how many reads came too early:
+// when a reply to a line given before was still missing.
+#[derive(Drop)]
+struct Watch {
+    given: Cell<u32>,
+    got: Cell<u32>,
+    early: Cell<u32>,
+}
+
+impl Watch {
+    fn new() -> Watch {
+        Watch {
+            given: Cell::new(0),
+            got: Cell::new(0),
+            early: Cell::new(0),
+        }
+    }
+
+    fn look(&self) {
+        if self.got.get() != self.given.get() {
+            self.early.set(self.early.get().saturating_add(1));
+        }
+    }
+
+    fn give(&self, bytes: &[u8]) {
+        let lines = count_lines(bytes);
+        self.given.set(self.given.get().saturating_add(lines));
+    }
+
+    fn get(&self, bytes: &[u8]) {
+        let lines = count_lines(bytes);
+        self.got.set(self.got.get().saturating_add(lines));
+    }
+}
+
+// Gives at most `step` bytes a read. At the end of `rest` it fails, where there is something `later`,
+// and then goes on with that.
 #[derive(Drop)]
 struct StepSource<'a> {
     rest: &'a [u8],
+    later: Option<&'a [u8]>,
     step: usize,
-    breaks: bool,
     failed: bool,
+    watch: &'a Watch,
 }
 
 impl Source for StepSource<'_> {
@@ -20,13 +70,19 @@ impl Source for StepSource<'_> {
     ghost has_failed = { λ s. s.failed };
 
     fn read(&mut self, buf: &mut [u8]) -> Result<usize, ()> {
-        let count = self.rest.len().min(self.step).min(buf.len());
-        if count == 0 && self.breaks {
+        self.watch.look();
+        if self.rest.is_empty()
+            && let Some(later) = self.later
+        {
+            self.rest = later;
+            self.later = None;
             self.failed = true;
             return Err(());
         }
+        let count = self.rest.len().min(self.step).min(buf.len());
         let (given, rest) = self.rest.split_at(count);
         buf[..count].copy_from_slice(given);
+        self.watch.give(given);
         self.rest = rest;
         Ok(count)
     }
@@ -36,16 +92,19 @@ impl Source for StepSource<'_> {
     }
 }
 
-/// Takes at most `step` bytes a write, and fails once it has taken as many as it has room for.
+// Takes at most `step` bytes a write. Once it has taken as many as it has room for it fails, and then
+// it has room for some `later`.
 #[derive(Drop)]
-struct StepSink {
+struct StepSink<'a> {
     taken: Vec<u8>,
     step: usize,
     room: usize,
+    later: usize,
     failed: bool,
+    watch: &'a Watch,
 }
 
-impl Sink for StepSink {
+impl Sink for StepSink<'_> {
     ghost written = { λ s. None };
 
     ghost has_failed = { λ s. s.failed };
@@ -54,10 +113,12 @@ impl Sink for StepSink {
         let count = bytes.len().min(self.step).min(self.room);
         let refused = count == 0 && !bytes.is_empty();
         if refused || self.taken.extend_from_slice(&bytes[..count]).is_err() {
+            self.room = self.later;
             self.failed = true;
             return Err(());
         }
-        self.room -= count;
+        self.watch.get(&bytes[..count]);
+        self.room = self.room.saturating_sub(count);
         Ok(count)
     }
 
@@ -66,27 +127,67 @@ impl Sink for StepSink {
     }
 }
 
-/// What `serve` answers and writes, where source and sink move at most `step` bytes a call.
-pub(super) fn serve_in_steps(
-    alloc: Global,
-    input: &[u8],
-    step: usize,
-    breaks: bool,
-    room: usize,
-) -> (Result<(), ServeFault>, Vec<u8>) {
+/// How source and sink go: at most `step` bytes a call. The source fails at the end of `input`, where
+/// there is something later. The sink fails where its room ends, and has some later.
+#[derive(Clone, Copy)]
+pub(super) struct Streams<'a> {
+    pub(super) input: &'a [u8],
+    pub(super) input_later: Option<&'a [u8]>,
+    pub(super) step: usize,
+    pub(super) room: usize,
+    pub(super) room_later: usize,
+}
+
+impl Streams<'_> {
+    /// Neither fails.
+    pub(super) fn whole(input: &[u8], step: usize) -> Streams<'_> {
+        Streams {
+            input,
+            input_later: None,
+            step,
+            room: usize::MAX,
+            room_later: 0,
+        }
+    }
+}
+
+/// What `serve` answered and wrote, and how many reads came before a reply to a line that was given.
+#[derive(Drop)]
+pub(super) struct Served {
+    pub(super) told: Result<(), ServeFault>,
+    pub(super) replies: Vec<u8>,
+    pub(super) early: u32,
+}
+
+impl Served {
+    /// Whether it answered and wrote so, and no read came too early.
+    pub(super) fn is(&self, told: Result<(), ServeFault>, replies: &[u8]) -> bool {
+        self.told == told && self.replies.as_slice() == replies && self.early == 0
+    }
+}
+
+pub(super) fn serve_in_steps(alloc: Global, streams: Streams<'_>) -> Served {
+    let watch = Watch::new();
     let mut source = StepSource {
-        rest: input,
-        step,
-        breaks,
+        rest: streams.input,
+        later: streams.input_later,
+        step: streams.step,
         failed: false,
+        watch: &watch,
     };
     let mut sink = StepSink {
         taken: Vec::new(alloc),
-        step,
-        room,
+        step: streams.step,
+        room: streams.room,
+        later: streams.room_later,
         failed: false,
+        watch: &watch,
     };
     let told = serve(alloc, &mut source, &mut sink);
     let StepSink { taken, .. } = sink;
-    (told, taken)
+    Served {
+        told,
+        replies: taken,
+        early: watch.early.get(),
+    }
 }

@@ -1,4 +1,5 @@
 //! The driver beside the machine that says what it may answer, compared after each command.
+use super::calls::{find1, find2, get, step, walk};
 use super::commands::copy_of;
 use super::counted::Own;
 use super::machine::Machine;
@@ -41,14 +42,6 @@ impl Watched {
         }
     }
 
-    fn walk(&self) -> Result<Vec<ItemIndex>, AllocError> {
-        let mut indexes = Vec::new(self.alloc);
-        for ix in self.items.walk() {
-            indexes.push(ix)?;
-        }
-        Ok(indexes)
-    }
-
     // What scans answer to the command, where all is in order.
     fn scanned(&self, command: &Command<Record>) -> Result<Option<Reply<Record>>, AllocError> {
         if is_in_order(&self.machine) {
@@ -56,6 +49,16 @@ impl Watched {
         } else {
             Ok(None)
         }
+    }
+
+    // Whether the machine allows that reply to the command and that walk behind it, and has that order then.
+    fn allows(
+        &mut self,
+        command: &Command<Record>,
+        reply: &Reply<Record>,
+        walk: &[ItemIndex],
+    ) -> Result<bool, AllocError> {
+        Ok(self.machine.obeys(command, reply, walk)? && walk == self.machine.order())
     }
 
     /// Obeys the command. Reply and walk are allowed, and where all was in order the reply is that of a
@@ -68,15 +71,12 @@ impl Watched {
     ) -> Result<(), AllocError> {
         let want = self.scanned(command)?;
         let changes_a_key = changes_a_key(&self.machine, command);
-        let reply = self.items.step(copy_of(command));
-        let walk = self.walk()?;
-        let is_allowed = self.machine.obeys(command, &reply, walk.as_slice())?;
-        assert!(rt; is_allowed, "{reply:?} at {at:?}");
-        assert_eq!(rt; walk.as_slice(), self.machine.order(), "walk at {at:?}");
-        if let Some(want) = want {
-            assert_eq!(rt; reply, want, "by a scan, at {at:?}");
-        }
-        let is_empty = self.machine.order().is_empty();
+        let reply = step(&mut self.items, copy_of(command));
+        let walk = walk(self.alloc, &self.items)?;
+        let is_allowed = self.allows(command, &reply, walk.as_slice())?;
+        assert!(rt; is_allowed, "{reply:?} and {walk:?} at {at:?}");
+        assert!(rt; is_wanted(&want, &reply), "{reply:?} for {want:?} at {at:?}");
+        let is_empty = walk.is_empty();
         self.is_changed = !is_empty && (self.is_changed || changes_a_key);
         Ok(())
     }
@@ -90,41 +90,56 @@ impl Watched {
         keys: u32,
         at: (u32, u32),
     ) -> Result<(), AllocError> {
-        self.assert_holds(rt, at);
         let is_in_order = is_in_order(&self.machine);
         assert!(rt; is_in_order || self.is_changed, "at {at:?}");
+        assert!(rt; self.holds_the_same(), "other items at {at:?}");
         for key in 0..keys {
-            self.assert_finds(rt, key, is_in_order, at);
+            let is_allowed = self.finds1(key, is_in_order) && self.finds2(key, is_in_order);
+            assert!(rt; is_allowed, "{key} at {at:?}");
         }
-        if is_in_order {
-            let sorted = sorted_scan(&self.machine, self.alloc)?;
-            assert_eq!(rt; self.machine.order(), sorted.as_slice(), "at {at:?}");
-        }
+        let is_sorted = !is_in_order || self.walks_as_scan()?;
+        assert!(rt; is_sorted, "walk at {at:?}");
         Ok(())
     }
 
-    // Both have the same items. There are always five indexes to look at, and one past the last slot.
-    fn assert_holds(&self, rt: &impl Abort, at: (u32, u32)) {
-        assert_eq!(rt; self.items.len(), self.machine.order().len(), "at {at:?}");
-        let last = self.machine.slots().len().max(4);
-        for number in 0..=last {
-            let item = self.items.get(index(number)).copied();
-            let want = self.machine.item(index(number));
-            assert_eq!(rt; item, want, "{number} at {at:?}");
-        }
+    // Whether the order is that of a scan.
+    fn walks_as_scan(&self) -> Result<bool, AllocError> {
+        let sorted = sorted_scan(&self.machine, self.alloc)?;
+        Ok(self.machine.order() == sorted.as_slice())
     }
 
-    // The look-ups of both keys of that number are allowed, and where all is in order those of scans.
-    fn assert_finds(&self, rt: &impl Abort, key: u32, is_in_order: bool, at: (u32, u32)) {
-        let first = self.items.find1(&key);
-        let second = self.items.find2(&key);
-        let is_first_allowed = self.machine.finds1(key, first);
-        let is_second_allowed = self.machine.finds2(key, second);
-        assert!(rt; is_first_allowed, "{first:?} for {key} at {at:?}");
-        assert!(rt; is_second_allowed, "{second:?} for {key} at {at:?}");
-        if is_in_order {
-            assert_eq!(rt; first, scan1(&self.machine, key), "{key} at {at:?}");
-            assert_eq!(rt; second, scan2(&self.machine, key), "{key} at {at:?}");
+    // Whether both have the same items. There are always five indexes to look at, and one past the last
+    // slot.
+    fn holds_the_same(&self) -> bool {
+        let last = self.machine.slots().len().max(4);
+        for number in 0..=last {
+            let ix = index(number);
+            if get(&self.items, ix) != self.machine.item(ix) {
+                return false;
+            }
         }
+        self.items.len() == self.machine.order().len()
+    }
+
+    // Whether the look-up of that first key is allowed, and, where all is in order, that of a scan.
+    fn finds1(&self, key: u32, is_in_order: bool) -> bool {
+        let found = find1(&self.items, key);
+        let is_scan = !is_in_order || found == scan1(&self.machine, key);
+        is_scan && self.machine.finds1(key, found)
+    }
+
+    // The same of the second key.
+    fn finds2(&self, key: u32, is_in_order: bool) -> bool {
+        let found = find2(&self.items, key);
+        let is_scan = !is_in_order || found == scan2(&self.machine, key);
+        is_scan && self.machine.finds2(key, found)
+    }
+}
+
+// Whether the reply is the wanted one, where one is wanted.
+fn is_wanted(want: &Option<Reply<Record>>, reply: &Reply<Record>) -> bool {
+    match want {
+        Some(want) => want == reply,
+        None => true,
     }
 }
