@@ -116,7 +116,7 @@ pub(super) fn printed<T: Debug>(alloc: Global, value: &T) -> Result<String, Allo
     format!(in alloc; "{value:?}")
 }
 
-#[derive(Clone, Copy, PartialEq, Eq)]
+#[derive(Clone, Copy)]
 enum Verb {
     Insert,
     Find1,
@@ -158,15 +158,17 @@ fn verb_of(rt: &impl Abort, word: &str) -> Verb {
 }
 
 // The numbers of a text of digits and spaces.
-fn numbers(text: &str) -> [u32; 4] {
+fn numbers(rt: &impl Abort, text: &str) -> [u32; 4] {
     let mut numbers = [0u32; 4];
     let mut place = 0usize;
     for byte in text.as_bytes() {
-        if *byte == b' ' {
-            place = place.wrapping_add(1);
-        } else if let Some(number) = numbers.get_mut(place) {
-            let digit = u32::from(byte.wrapping_sub(b'0'));
-            *number = number.wrapping_mul(10).wrapping_add(digit);
+        let digit = byte.wrapping_sub(b'0');
+        match numbers.get_mut(place) {
+            Some(number) if digit < 10 => {
+                *number = number.wrapping_mul(10).wrapping_add(u32::from(digit));
+            }
+            Some(_) if *byte == b' ' => place = place.wrapping_add(1),
+            _ => panic!(rt; "{text} is no four numbers"),
         }
     }
     numbers
@@ -176,7 +178,7 @@ fn parse(rt: &impl Abort, text: &str) -> Call {
     let (word, rest) = text.split_once(' ').unwrap_or((text, ""));
     Call {
         verb: verb_of(rt, word),
-        numbers: numbers(rest),
+        numbers: numbers(rt, rest),
     }
 }
 

@@ -63,7 +63,11 @@ fn walks(items: &Items, gone: &[u32]) -> bool {
 fn finds(items: &Items, gone: &[u32]) -> bool {
     for number in 0..5 {
         let item = nth(number);
-        let want = if gone.contains(&number) { None } else { Some(ix(number)) };
+        let want = if gone.contains(&number) {
+            None
+        } else {
+            Some(ix(number))
+        };
         if find1(items, item.first) != want || find2(items, item.second) != want {
             return false;
         }

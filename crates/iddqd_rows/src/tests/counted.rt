@@ -367,25 +367,22 @@ fn calls_compare_few_keys(rt: HostRuntime) -> Result<(), Fail> {
     Ok(())
 }
 
-// A removal hashes the first key of its item, whichever call finds it.
+// Either hashes one key: that of the item which it found, or the given one.
 #[test]
-fn removals_compare_few_keys(rt: HostRuntime) -> Result<(), Fail> {
+fn removals_by_a_key_compare_few_keys(rt: HostRuntime) -> Result<(), Fail> {
     let counts = new_counts(rt.alloc())?;
     let mut items = no_items(rt.alloc());
     insert_thousand(&rt, &mut items, &counts)?;
     assert!(rt; remove2(&mut items, &counts, 500)?);
     assert_few(&rt, &counts, 1, (0, 48), "remove2 of 500");
     assert!(rt; remove1(&mut items, &counts, 501)?);
-    assert_few(&rt, &counts, REMOVE1_HASHES, (1, 24), "remove1 of 501");
+    assert_few(&rt, &counts, 1, (1, 24), "remove1 of 501");
     Ok(())
 }
 
-// How often `remove1` hashes a first key.
-const REMOVE1_HASHES: u32 = 2;
-
-// A removal that walks the ordered table asks nothing.
+// A removal that walks the ordered table asks nothing. One that only walks the hash table need not hash.
 #[test]
-fn a_removal_searches_for_the_index(rt: HostRuntime) -> Result<(), Fail> {
+fn a_removal_searches_both_tables_for_the_index(rt: HostRuntime) -> Result<(), Fail> {
     let counts = new_counts(rt.alloc())?;
     let mut items = no_items(rt.alloc());
     insert_thousand(&rt, &mut items, &counts)?;

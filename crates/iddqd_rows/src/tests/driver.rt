@@ -30,7 +30,11 @@ pub(super) fn record(first: u32, second: u32) -> Record {
 }
 
 /// The script is answered under the hasher of the program.
-pub(super) fn assert_script(rt: &impl Abort, alloc: Global, script: &str) -> Result<(), AllocError> {
+pub(super) fn assert_script(
+    rt: &impl Abort,
+    alloc: Global,
+    script: &str,
+) -> Result<(), AllocError> {
     assert_answers(rt, alloc, DefaultHashBuilder::default(), script)
 }
 
@@ -135,9 +139,10 @@ fn calls_steps_and_a_run_give_the_same_answers(rt: HostRuntime) -> Result<(), Fa
 
 #[test]
 fn a_run_of_no_commands_takes_no_memory(rt: HostRuntime) {
-    let replies = run(&mut no_items(rt.alloc()), Vec::new(rt.alloc()));
-    let is_empty = matches!(replies, Some(replies) if replies.is_empty());
-    assert!(rt; is_empty);
+    let Some(replies) = run(&mut no_items(rt.alloc()), Vec::new(rt.alloc())) else {
+        panic!(rt; "memory was refused");
+    };
+    assert!(rt; replies.is_empty());
 }
 
 fn assert_prints<T: Debug>(

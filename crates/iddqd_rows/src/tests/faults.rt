@@ -77,7 +77,11 @@ fn all_replies_are_out_before_it_reads_on(rt: HostRuntime) -> Result<(), Fail> {
         let served = serve_in_steps(rt.alloc(), Streams::whole(input.as_bytes(), step));
         assert!(rt; served.told == Ok(()), "step {step}");
         assert!(rt; served.replies.len() > 8192, "step {step}");
-        assert!(rt; served.early == 0, "{} early reads, step {step}", served.early);
+        assert!(rt;
+            served.early == 0,
+            "{} early reads, step {step}",
+            served.early
+        );
     }
     Ok(())
 }

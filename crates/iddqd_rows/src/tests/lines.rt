@@ -187,7 +187,11 @@ fn inserts(alloc: Global, count: u32, is_rising: bool) -> Result<(String, String
     let mut input = String::new(alloc);
     let mut want = String::new(alloc);
     for n in 0..count {
-        let second = if is_rising { n } else { count.wrapping_sub(n).wrapping_sub(1) };
+        let second = if is_rising {
+            n
+        } else {
+            count.wrapping_sub(n).wrapping_sub(1)
+        };
         writeln!(input, "insert {n} {second} 7")?;
         writeln!(want, "inserted {n}")?;
     }

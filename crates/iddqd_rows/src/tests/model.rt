@@ -1,6 +1,6 @@
 //! The driver beside a model that has neither table.
-use super::commands::{COMMANDS, Generator};
 use super::calls::step;
+use super::commands::{COMMANDS, Generator};
 use super::driver::no_items;
 use iddqd::index_remap::IndexRemap;
 use iddqd::item_index::ItemIndex;

@@ -63,12 +63,11 @@ fn insert_next(rt: &impl Abort, items: &mut Items, taken: u32) -> u32 {
 fn assert_duplicates(rt: &impl Abort, items: &mut Items, taken: u32) {
     for number in 0..taken {
         let item = nth(number);
-        let at = Some(ix(number));
         let reply = insert(items, item);
         let want = Reply::Refused(InsertRefusal::Duplicate {
             item,
-            first: at,
-            second: at,
+            first: Some(ix(number)),
+            second: Some(ix(number)),
         });
         assert!(rt; reply == want, "at {number}");
     }
@@ -129,8 +128,10 @@ fn an_item_with_other_keys_is_removed_without_memory(rt: HostRuntime) {
     for _ in 0..20 {
         taken = insert_next(&rt, &mut items, taken);
     }
-    assert_removes_changed(&rt, &mut items);
-    assert_holds(&rt, &items, 1, taken);
+    if taken > 0 {
+        assert_removes_changed(&rt, &mut items);
+        assert_holds(&rt, &items, 1, taken);
+    }
 }
 
 // Whether the indexes fall from before `count` to 0.

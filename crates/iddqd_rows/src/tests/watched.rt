@@ -75,7 +75,10 @@ impl Watched {
         let walk = walk(self.alloc, &self.items)?;
         let is_allowed = self.allows(command, &reply, walk.as_slice())?;
         assert!(rt; is_allowed, "{reply:?} and {walk:?} at {at:?}");
-        assert!(rt; is_wanted(&want, &reply), "{reply:?} for {want:?} at {at:?}");
+        assert!(rt;
+            is_wanted(&want, &reply),
+            "{reply:?} for {want:?} at {at:?}"
+        );
         let is_empty = walk.is_empty();
         self.is_changed = !is_empty && (self.is_changed || changes_a_key);
         Ok(())
