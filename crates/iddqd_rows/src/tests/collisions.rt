@@ -52,8 +52,12 @@ fn insert_five(rt: &impl Abort, items: &mut Items) {
 fn walks(items: &Items, gone: &[u32]) -> bool {
     let mut walk = items.walk();
     for number in [0, 3, 1, 4, 2] {
-        if !gone.contains(&number) && walk.next() != Some(ix(number)) {
-            return false;
+        let is_gone = gone.contains(&number);
+        if !is_gone {
+            let found = walk.next();
+            if found != Some(ix(number)) {
+                return false;
+            }
         }
     }
     walk.next().is_none()

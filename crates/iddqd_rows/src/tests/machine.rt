@@ -180,13 +180,18 @@ impl Machine {
 
     // Whether the order afterwards is the one before with the index put in at some place.
     fn gains(&self, ix: ItemIndex, walk: &[ItemIndex]) -> bool {
-        let mut others = self.order.iter();
+        let order = self.order.as_slice();
+        let mut place = 0usize;
         for at in walk {
-            if *at != ix && others.next() != Some(at) {
+            let is_other = *at != ix;
+            if is_other && order.get(place) != Some(at) {
                 return false;
             }
+            if is_other {
+                place = place.wrapping_add(1);
+            }
         }
-        others.next().is_none() && walk.len() == self.order.len().saturating_add(1)
+        place == order.len() && walk.len() == order.len().saturating_add(1)
     }
 
     // An insert that is done at that index. An order that is sorted stays so.
