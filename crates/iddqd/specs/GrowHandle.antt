@@ -6,7 +6,7 @@ use Rattle.iddqd.specs.declared.item_set.GrowHandle.{GrowHandle}
 
 module _ {T : Type 0} where
   -- the set as the handle holds it
-  unfoldable pub handle_set : GrowHandle T → SizedStore T
+  abbrev pub handle_set : GrowHandle T → SizedStore T
   handle_set h = h.set.now
 
   -- the store as the handle holds it
@@ -14,5 +14,5 @@ module _ {T : Type 0} where
   handle_store h = (handle_set h).store
 
   -- the ghost name of the reference to the set
-  unfoldable pub handle_lender : GrowHandle T → GName
+  abbrev pub handle_lender : GrowHandle T → GName
   handle_lender h = h.set.ghost_name

@@ -173,7 +173,6 @@ impl<T> ItemSet<T> {
     ///
     /// `Full` comes exactly where the set is full, also where no memory is left. `Memory` comes only
     /// where memory was needed. A handle that is let go leaves the items and indexes as they were.
-    #[tactic(auto, unfolding(crate::specs::GrowHandle::handle_set, crate::specs::GrowHandle::handle_lender))]
     pub fn assert_can_grow(&mut self) -> Result<GrowHandle<'_, T>, GrowError>
         ensures* refused { sem 𝓛 (RestsIfErr (the_row T.row) self.entry handle_lender result (λ last. last ≡ self.old)) }
         ensures same_reference { IfOk result (λ h. handle_lender h ≡ self.entry.ghost_name) }
@@ -253,7 +252,6 @@ impl<'a, T> GrowHandle<'a, T> {
     ghost use Rattle.iddqd.specs.GrowHandle.{handle_set, handle_store};
 
     /// The index that `insert` will use.
-    #[tactic(auto, unfolding(crate::specs::GrowHandle::handle_set))]
     pub fn next_index(&self) -> ItemIndex
         ensures index { result ≡ next_index (handle_store self.now) }
         ensures assignable { result < sentinel }
@@ -262,7 +260,6 @@ impl<'a, T> GrowHandle<'a, T> {
     }
 
     /// The item at an index, if it is live.
-    #[tactic(auto, unfolding(crate::specs::GrowHandle::handle_set))]
     pub fn get(&self, ix: ItemIndex) -> Option<&T>
         ensures { option_copied result ≡ get (handle_store self.now) ix }
     {
@@ -270,7 +267,6 @@ impl<'a, T> GrowHandle<'a, T> {
     }
 
     /// Stores an item at the next index. It takes no memory and can't fail.
-    #[tactic(auto, unfolding(crate::specs::GrowHandle::handle_set))]
     pub fn insert(self, item: T) -> ItemIndex
         ensures index { result ≡ next_index (handle_store self.entry) }
         ensures assignable { result < sentinel }

@@ -303,7 +303,6 @@ impl<T: KeyedItem, S: BuildHasher> KeyedItems<T, S> {
 
     // Stores an item under the hash of its first key, or hands it back. All memory is taken before
     // anything is written.
-    #[tactic(auto, unfolding(iddqd::specs::GrowHandle::handle_set, iddqd::specs::GrowHandle::handle_lender))]
     fn store(&mut self, item: T, hash: MapHash) -> Result<ItemIndex, InsertRefusal<T>>
         requires { let keys = ⟦<Self as Keyed>⟧.keys in hash ≡ hash_in keys self.old (keys.first item) }
         ensures stored { let keys = ⟦<Self as Keyed>⟧.keys in

@@ -1,7 +1,7 @@
 use Rattle.std.proofs.Common.{rules, ◌≡◌, ◌∙◌, refl, ap, sym, subst}
 use Rattle.std.specs.FinMap as finite
 use Rattle.iddqd.specs.Store.{IsFull}
-use Rattle.iddqd.specs.GrowHandle.{handle_set, handle_lender, handle_store}
+use Rattle.iddqd.specs.GrowHandle.{handle_store}
 use Rattle.iddqd_order.specs.MapBTreeTable.{order_of}
 use Rattle.iddqd_keyed.specs.Keys.{Keys, keys_of}
 use Rattle.iddqd_keyed.specs.State.{state_of, hash_in, AddsToOrder}
@@ -24,7 +24,6 @@ pub insert_prehashed_unchecked-requires-clause-room : goal.insert_prehashed_unch
 insert_prehashed_unchecked-requires-clause-room g c = c.in_default.ensures.memory.reserved
 
 pub invariant_of-self-2 : goal.invariant_of-self-2
-unfolding handle_set handle_lender
 invariant_of-self-2 g c =
     let keys : Keys _ _ _ _ = keys_of g.T.KeyedItem g.T.Key1.PartialEq.eq g.T.Key1.Hash.hash_input g.T.Key2.Ord.cmp g.S.BuildHasher g.S.Hasher.Hasher in
     let s = state_of c.self.inside.state c.self.inside.items.store c.self.inside.filed c.self.inside.order in
@@ -35,7 +34,6 @@ invariant_of-self-2 g c =
     c.self.invariant
 
 pub returns-clause-stored : goal.returns-clause-stored
-unfolding handle_set handle_lender
 returns-clause-stored g c =
     let keys : Keys _ _ _ _ = keys_of g.T.KeyedItem g.T.Key1.PartialEq.eq g.T.Key1.Hash.hash_input g.T.Key2.Ord.cmp g.S.BuildHasher g.S.Hasher.Hasher in
     let s = c.args.self.now in
