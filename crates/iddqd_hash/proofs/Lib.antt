@@ -2,6 +2,12 @@ pub mod AskLemmas
 pub mod FiledLemmas
 mod CellLemmas
 mod MapHashTableLemmas
+mod OpenLookupLemmas
+mod OpenMoveLemmas
+mod OpenRetainLemmas
+mod OpenSlotLemmas
+mod OpenTableLemmas
+mod OpenWalkLemmas
 mod PermutationLemmas
 mod RenameLemmas
 mod RetainLemmas

@@ -3,3 +3,5 @@ pub mod HashTable
 pub mod HashTableEntry
 pub mod MapHashTable
 pub mod MapHashTableEntry
+pub mod OpenTable
+pub mod OpenTableEntry

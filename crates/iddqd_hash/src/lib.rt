@@ -7,5 +7,6 @@
 
 pub mod hash_table;
 pub mod hash_table_reference;
+pub mod open_table;
 #[cfg(test)]
 mod tests;

@@ -1,0 +1,221 @@
+-- What is read of a table with open addressing, and what it keeps.
+use lib.Dec.{eqb}
+use mir.Val.{bool_byte}
+use Rattle.std.proofs.Common.{not, inl, inr, ◌⊎◌, Bool, true, false, cond, ◌≡◌, ◌∙◌, ◌==◌, ℕ, zero, suc, ◌+◌, ◌-◌, ◌*◌, ◌/◌, ◌%◌, ◌^◌, ◌<◌, ◌≤◌, List, [], ◌∷◌, Option, Some, None, IsSome, Result, Ok, Err, OnOk, OnErr, length, replicate, set, get_or, slice_get, slice_index, count_by, refl, sym, ap, subst, arith}
+use Rattle.std.proofs.lemmas.List.{length-set, length-map, length-replicate, nil_from_length, get_or_default, get_or-map}
+use Rattle.std.proofs.lemmas.List.Sorted.{IsPermutation-refl}
+use Rattle.std.proofs.lemmas.Nat.{pow_pos}
+use Rattle.std.proofs.lemmas.Option.{slice_get-get_or, slice_get_past}
+use Rattle.std.specs.Option.{option_flatten, option_map}
+use Rattle.iddqd_hash.specs.Asks.{FindsPlace, HitsPair, Misses}
+use Rattle.iddqd_hash.specs.HashTable.{Table, entries, pair_at, under, room, capacity, HasNoMemory, KeepsMemory, UsesRoom, Reserves}
+use Rattle.iddqd_hash.specs.declared.open_table.cells.Cell.{Cell}
+use Rattle.iddqd_hash.specs.OpenTable.{tag_of, limit_of, is_used, slot_at, slots_of, hashes_of, pair_in, pairs, Suits, HasEmpty, IsPowerOfTwo, IsReached, IsProbed, IsSound, opened}
+use Rattle.iddqd_hash.proofs.OpenSlotLemmas.{IsProbed-put, IsProbed-taken, IsProbed-empty, length-put, length-taken, used-set, used_one, used_count, used-cons, unused, pairs-empty, free_slot, IsProbed-rewritten, length-rewritten}
+
+module _ {T : Type 0} (slots : List (Option (ℕ × T))) (used : ℕ) where
+  pub entries-opened : entries (opened slots used) ≡ pairs slots
+  unfolding entries opened
+  entries-opened = refl
+
+  pub room-opened : room (opened slots used) ≡ limit_of (length slots) - used
+  unfolding room opened
+  room-opened = refl
+
+  pub capacity-opened : capacity (opened slots used) ≡ length slots
+  unfolding capacity opened
+  capacity-opened = refl
+
+  pub pair_at-opened : (place : ℕ) → pair_at (opened slots used) place ≡ slot_at slots place
+  unfolding pair_at opened
+  pair_at-opened place = flattened slots place
+    where
+      flattened : (slots : List (Option (ℕ × T))) (place : ℕ) → option_flatten (slice_get slots place) ≡ slot_at slots place
+      flattened [] place = refl
+      flattened (None ∷ slots) zero = refl
+      flattened (Some pair ∷ slots) zero = refl
+      flattened (slot ∷ slots) (suc place) = flattened slots place
+
+module _ {T : Type 0} (old new : List (Option (ℕ × T))) (before after : ℕ) (same : length new ≡ length old) where
+  pub KeepsMemory-opened : after ≤ before → KeepsMemory (opened old before) (opened new after)
+  KeepsMemory-opened less =
+      record {
+        room_stays = rw (room-opened old, room-opened new, same) (omega arith);
+        same_capacity = rw (capacity-opened old, capacity-opened new) same;
+      }
+
+  pub UsesRoom-opened : after ≤ before + 1 → UsesRoom (opened old before) (opened new after)
+  UsesRoom-opened less =
+      record {
+        one_less = rw (room-opened old, room-opened new, same) (omega arith);
+        same_capacity = rw (capacity-opened old, capacity-opened new) same;
+      }
+
+pub HasNoMemory-opened : {T : Type 0} (cells : List (Cell T)) (used : ℕ) → cells ≡ [] → HasNoMemory (opened (slots_of cells) used)
+HasNoMemory-opened cells used none =
+    record {
+      no_room = room-opened (slots_of cells) used ∙ ap (λ xs. limit_of (length (slots_of xs)) - used) none ∙ omega arith;
+      no_cell = capacity-opened (slots_of cells) used ∙ ap (λ xs. length (slots_of xs)) none;
+    }
+
+-- a place that is found in slots
+pub FindsPlace-opened : {F T : Type 0} (ask : F → T → Bool → F → Type 0) (f : F) (hash : ℕ) (xs : List T) (slots : List (Option (ℕ × T))) (used : ℕ) (r : Option ℕ) → FindsPlace ask f hash xs (slot_at slots) r → FindsPlace ask f hash xs (pair_at (opened slots used)) r
+FindsPlace-opened ask f hash xs slots used None finds = finds
+FindsPlace-opened ask f hash xs slots used (Some place) finds = subst (λ o. HitsPair ask f hash xs o) (sym (pair_at-opened slots used place)) finds
+
+-- a look-up where there is no cell
+pub Misses-nothing : {F T : Type 0} (ask : F → T → Bool → F → Type 0) (f : F) (hash : ℕ) (slots : List (Option (ℕ × T))) → length slots ≡ 0 → Misses ask f (under hash (pairs slots))
+Misses-nothing {T} ask f hash slots none = rw (nil_from_length slots none) (record { asked = []; each_once = IsPermutation-refl []; last = f; were_refused = refl })
+
+pub cells_long : {T : Type 0} (cells : List (Cell T)) → length (slots_of cells) ≡ length cells
+cells_long {T} cells = length-map cells (pair_in {T = T})
+
+either_counts : (b : Bool) → bool_byte b + cond (not b) 1 0 ≡ 1
+either_counts true = refl
+either_counts false = refl
+
+-- a cell that is full or marked from now on counts as one more if it was empty
+pub was_empty_counts : (tags : List ℕ) (place tag : ℕ) → place < length tags → tag ≡ get_or tags place tag → bool_byte (eqb tag 0) + used_count (slice_index tags place) ≡ 1
+was_empty_counts tags place tag inside read =
+    let is : tag ≡ slice_index tags place = read ∙ get_or_default tags place tag 0 inside in
+    ap (λ t. bool_byte (eqb tag 0) + used_count t) (sym is) ∙ either_counts (eqb tag 0)
+
+pub some_empty : (tags : List ℕ) → count_by is_used tags < length tags → HasEmpty tags
+some_empty [] less = absurd (omega arith)
+some_empty (zero ∷ tags) less = (0, omega arith, refl)
+some_empty (suc tag ∷ tags) less =
+    let rest = some_empty tags (omega (arith, used-cons (suc tag) tags, used_one (suc tag) (omega arith))) in
+    (suc rest.0, omega (arith, rest.1), rest.2)
+
+-- where there are cells
+module _ {T : Type 0} (tags : List ℕ) (slots : List (Option (ℕ × T))) (len used : ℕ) (sound : IsSound tags slots len used) where
+  pub power_from : 0 < length tags → IsPowerOfTwo (length tags)
+  power_from some = elim sound.count [ inl none ↦ absurd (omega arith) | inr power ↦ power ]
+
+  pub empty_from : 0 < length tags → HasEmpty tags
+  empty_from some = some_empty tags (omega (arith, sound.marked, sound.limited))
+
+module _ {T : Type 0} where
+  pub IsSound-none : (tags : List ℕ) (cells : List (Cell T)) → tags ≡ [] → cells ≡ [] → IsSound tags (slots_of cells) 0 0
+  IsSound-none tags cells no_tag no_cell = rw (no_tag, no_cell) nothing
+    where
+      nothing : IsSound {T = T} [] [] 0 0
+      nothing =
+          record {
+            count = inl refl;
+            probed = IsProbed-empty 0;
+            counted = refl;
+            marked = refl;
+            limited = omega arith;
+          }
+
+  module _ (tags : List ℕ) (slots : List (Option (ℕ × T))) (len used : ℕ) (sound : IsSound tags slots len used) where
+    same_power : (place tag : ℕ) → (length (set tags place tag) ≡ 0) ⊎ IsPowerOfTwo (length (set tags place tag))
+    same_power place tag = rw (length-set tags place tag) sound.count
+
+    -- a pair that was taken out, and the mark that it left
+    pub IsSound-taken : (place : ℕ) (pair : ℕ × T) → place < length tags → slot_at slots place ≡ Some pair → IsSound (set tags place 1) (set slots place None) (len - 1) used
+    IsSound-taken place pair inside full =
+        let within : place < length slots = omega (arith, sound.probed.same_length) in
+        let fewer = length-taken slots place pair within full in
+        let suits : slice_index tags place ≡ tag_of pair.0 = subst (λ o. Suits (slice_index tags place) o) full (sound.probed.suited place inside) in
+        let was : used_count (slice_index tags place) ≡ 1 = used_one (slice_index tags place) (omega arith) in
+        let counts = used-set tags place 1 inside in
+        record {
+          count = same_power place 1;
+          probed = IsProbed-taken tags slots sound.probed place inside;
+          counted = omega (arith, sound.counted);
+          marked = omega (arith, sound.marked);
+          limited = omega (arith, sound.limited, length-set tags place 1);
+        }
+
+    -- a pair that was put into a free cell, which was empty or marked
+    pub IsSound-put : (place hash : ℕ) (value : T) (now : ℕ) → place < length tags → slice_index tags place < 128 → IsReached tags hash place → now + used_count (slice_index tags place) ≡ used + 1 → now ≤ limit_of (length tags) → IsSound (set tags place (tag_of hash)) (set slots place (Some (hash, value))) (len + 1) now
+    IsSound-put place hash value now inside small reached counts limited =
+        let within : place < length slots = omega (arith, sound.probed.same_length) in
+        let free : slot_at slots place ≡ None = free_slot (slice_index tags place) (slot_at slots place) (sound.probed.suited place inside) small in
+        let more = length-put slots place (hash, value) within free in
+        let is : used_count (tag_of hash) ≡ 1 = used_one (tag_of hash) (omega arith) in
+        let counted = used-set tags place (tag_of hash) inside in
+        record {
+          count = same_power place (tag_of hash);
+          probed = IsProbed-put tags slots sound.probed place inside hash value reached;
+          counted = omega (arith, sound.counted);
+          marked = omega (arith, sound.marked);
+          limited = rw (length-set tags place (tag_of hash)) limited;
+        }
+
+  -- what is left after some pairs were taken out, with marks in their places
+  pub IsSound-retained : (tags now_tags : List ℕ) (slots now_slots : List (Option (ℕ × T))) (len used removed : ℕ) → IsSound tags slots len used → length now_tags ≡ length tags → IsProbed now_tags now_slots → count_by is_used now_tags ≡ count_by is_used tags → removed + length (pairs now_slots) ≡ length (pairs slots) → IsSound now_tags now_slots (len - removed) used
+  IsSound-retained tags now_tags slots now_slots len used removed sound same probed marked counted =
+      record {
+        count = rw same sound.count;
+        probed = probed;
+        counted = omega (arith, sound.counted);
+        marked = sound.marked ∙ sym marked;
+        limited = rw same sound.limited;
+      }
+
+  -- a table with the pairs that it had, after they were placed anew
+  pub IsSound-placed : (tags : List ℕ) (slots : List (Option (ℕ × T))) (len : ℕ) → IsPowerOfTwo (length tags) → IsProbed tags slots → count_by is_used tags ≡ length (pairs slots) → len ≡ length (pairs slots) → len ≤ limit_of (length tags) → IsSound tags slots len len
+  IsSound-placed tags slots len power probed marked counted fits =
+      record {
+        count = inr power;
+        probed = probed;
+        counted = counted;
+        marked = counted ∙ sym marked;
+        limited = fits;
+      }
+
+  -- cells that are all empty
+  pub IsSound-cleared : (tags now_tags : List ℕ) (slots now_slots : List (Option (ℕ × T))) (len used : ℕ) → IsSound tags slots len used → now_tags ≡ replicate (length tags) 0 → now_slots ≡ replicate (length tags) None → IsSound now_tags now_slots 0 0
+  IsSound-cleared tags now_tags slots now_slots len used sound no_tag no_pair =
+      rw (no_tag, no_pair)
+      (record {
+        count = rw (length-replicate {A = ℕ} (length tags) 0) sound.count;
+        probed = IsProbed-empty (length tags);
+        counted = sym (ap length (pairs-empty (length tags)));
+        marked = sym (unused (length tags));
+        limited = omega arith;
+      })
+
+  -- slots with other values under the same hashes
+  pub IsSound-rewritten : (tags : List ℕ) (slots now : List (Option (ℕ × T))) (len used : ℕ) → IsSound tags slots len used → hashes_of now ≡ hashes_of slots → IsSound tags now len used
+  IsSound-rewritten tags slots now len used sound same =
+      record {
+        count = sound.count;
+        probed = IsProbed-rewritten tags slots now sound.probed same;
+        counted = sound.counted ∙ sym (length-rewritten slots now same);
+        marked = sound.marked;
+        limited = sound.limited;
+      }
+
+pub pow_some : (k : ℕ) → 0 < 2 ^ k
+pow_some k = pow_pos k
+
+-- what stands in a cell whose value is read
+pub slot_of_value : {T : Type 0} (cells : List (Cell T)) (at : ℕ) (d : Cell T) (o : Option T) → at < length cells → (get_or cells at d).value ≡ o → slot_at (slots_of cells) at ≡ option_map {U = ℕ × T} (λ v. ((get_or cells at d).hash, v)) o
+slot_of_value {T} cells at d o inside is =
+    get_or-map pair_in cells at d None inside ∙ ap (λ o. option_map {U = ℕ × T} (λ v. ((get_or cells at d).hash, v)) o) is
+
+pub same_value : {T : Type 0} (cells : List (Cell T)) (at : ℕ) (d e : Cell T) (o : Option T) → at < length cells → (get_or cells at d).value ≡ o → (get_or cells at e).value ≡ o
+same_value {T} cells at d e o inside is = ap (λ (c : Cell T). c.value) (get_or_default cells at e d inside) ∙ is
+
+-- a table whose pairs were placed anew, since there was less room than was asked for
+pub Reserves-placed : {T A E : Type 0} (additional : ℕ) (old new : Table T) (r : Result A E) (limit count : ℕ) → room old < additional → additional ≤ limit - length (entries old) → capacity old ≤ count → OnErr r (new ≡ old) → OnOk r (room new ≡ limit - length (entries old)) → OnOk r (capacity new ≡ count) → Reserves additional old r new
+Reserves-placed additional old new (Ok x) limit count short enough more refused roomy cells =
+    record {
+      reserved = omega arith;
+      refused = tt;
+      had_room = λ had. absurd (omega arith);
+      room_stays = omega arith;
+      capacity_stays = omega arith;
+    }
+Reserves-placed additional old new (Err e) limit count short enough more refused roomy cells =
+    record {
+      reserved = tt;
+      refused = refused;
+      had_room = λ had. absurd (omega arith);
+      room_stays = subst (λ t. room old ≤ room t) (sym refused) (omega arith);
+      capacity_stays = subst (λ t. capacity old ≤ capacity t) (sym refused) (omega arith);
+    }

@@ -1,0 +1,6 @@
+use Rattle.iddqd_hash.specs.OpenTableEntry.{entry_pair}
+use Rattle.iddqd_hash.proofs.open_table.OccupiedEntry.remove.Goals as goal
+
+pub returns-clause-removed : goal.returns-clause-removed
+unfolding entry_pair
+returns-clause-removed g c = c.take_at.ensures.removed

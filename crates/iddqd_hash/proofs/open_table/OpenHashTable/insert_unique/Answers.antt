@@ -1,0 +1,10 @@
+use Rattle.std.proofs.Common.{refl}
+use Rattle.iddqd_hash.specs.OpenTableEntry.{entry_pair}
+use Rattle.iddqd_hash.proofs.open_table.OpenHashTable.insert_unique.Goals as goal
+
+pub invariant_of-result : goal.invariant_of-result
+invariant_of-result g c = record { stands = rw c.add-place.ensures.pair refl }
+
+pub returns-clause-pair : goal.returns-clause-pair
+unfolding entry_pair
+returns-clause-pair g c = c.add-place.ensures.pair

@@ -1,0 +1,52 @@
+use Rattle.std.proofs.Common.{rules, ◌≡◌, ◌∙◌, ◌≤◌, None, length, replicate, sym, ap, arith}
+use Rattle.std.proofs.lemmas.List.{with_items_is}
+use Rattle.std.proofs.lemmas.List.Sorted.{length_permutation}
+use Rattle.std.specs.Vec.{with_items}
+use Rattle.iddqd_hash.specs.OpenTable.{limit_of, slots_of, pairs}
+use Rattle.iddqd_hash.proofs.OpenTableLemmas.{entries-opened, room-opened, capacity-opened, IsSound-placed}
+use Rattle.iddqd_hash.proofs.open_table.OpenHashTable.place_anew.Goals as goal
+
+pub move_cells-requires-clause-power : goal.move_cells-requires-clause-power
+move_cells-requires-clause-power g c = rw (c.as_mut_slice.ensures.len ∙ c.in_ok-tags.ensures.len) c.requires.power
+
+pub move_cells-requires-clause-no_tag : goal.move_cells-requires-clause-no_tag
+move_cells-requires-clause-no_tag g c =
+    let long : length c.as_mut_slice.result.now ≡ c.args.count = c.as_mut_slice.ensures.len ∙ c.in_ok-tags.ensures.len in
+    c.as_mut_slice.ensures.value ∙ c.in_ok-tags.ensures.items_if_clones_equal (λ y same. search rules) ∙ ap (λ n. replicate n 0) (sym long)
+
+pub move_cells-requires-clause-no_pair : goal.move_cells-requires-clause-no_pair
+move_cells-requires-clause-no_pair g c =
+    let long : length c.as_mut_slice.result.now ≡ c.args.count = c.as_mut_slice.ensures.len ∙ c.in_ok-tags.ensures.len in
+    ap slots_of c.as_mut_slice-2.ensures.value ∙ c.in_ok-cells.ensures ∙ ap (λ n. replicate n None) (sym long)
+
+pub move_cells-requires-clause-fits : goal.move_cells-requires-clause-fits
+move_cells-requires-clause-fits g c =
+    rw (c.as_mut_slice.ensures.len ∙ c.in_ok-tags.ensures.len) (rw (← c.self.view_is, entries-opened) at c.requires.fits)
+
+pub invariant_of-self : goal.invariant_of-self
+invariant_of-self g c =
+    let long : length c.move_cells.new.tags ≡ c.args.count = c.move_cells.auto.tags ∙ c.as_mut_slice.ensures.len ∙ c.in_ok-tags.ensures.len in
+    let fits : length (pairs (slots_of c.self.inside.cells.items)) ≤ limit_of c.args.count = rw (← c.self.view_is, entries-opened) at c.requires.fits in
+    let tags-is = with_items_is c.in_ok-tags.tags c.move_cells.new.tags (c.move_cells.auto.tags ∙ c.as_mut_slice.ensures.len) in
+    let cells-is = with_items_is c.in_ok-cells.cells c.move_cells.new.cells (c.move_cells.auto.cells ∙ c.as_mut_slice-2.ensures.len) in
+    let same = length_permutation _ _ c.move_cells.ensures.moved in
+    rw (tags-is, c.replace.ensures.after, cells-is)
+    (IsSound-placed c.move_cells.new.tags (slots_of c.move_cells.new.cells) c.self.inside.len (rw long c.requires.power) c.move_cells.ensures.probed c.move_cells.ensures.unmarked
+    (omega (arith, same, c.self.invariant.counted)) (rw long (omega (arith, fits, c.self.invariant.counted))))
+
+pub returns-clause-contents : goal.returns-clause-contents
+returns-clause-contents g c =
+    let cells-is = with_items_is c.in_ok-cells.cells c.move_cells.new.cells (c.move_cells.auto.cells ∙ c.as_mut_slice-2.ensures.len) in
+    rw (← c.self.view_is, entries-opened, entries-opened, c.replace.ensures.after, cells-is) c.move_cells.ensures.moved
+
+pub returns-clause-room : goal.returns-clause-room
+returns-clause-room g c =
+    let long : length (slots_of c.move_cells.new.cells) ≡ c.args.count = c.move_cells.ensures.probed.same_length ∙ c.move_cells.auto.tags ∙ c.as_mut_slice.ensures.len ∙ c.in_ok-tags.ensures.len in
+    let cells-is = with_items_is c.in_ok-cells.cells c.move_cells.new.cells (c.move_cells.auto.cells ∙ c.as_mut_slice-2.ensures.len) in
+    rw (← c.self.view_is, entries-opened, room-opened, c.replace.ensures.after, cells-is) (omega (arith, long, c.self.invariant.counted))
+
+pub returns-clause-capacity : goal.returns-clause-capacity
+returns-clause-capacity g c =
+    let long : length (slots_of c.move_cells.new.cells) ≡ c.args.count = c.move_cells.ensures.probed.same_length ∙ c.move_cells.auto.tags ∙ c.as_mut_slice.ensures.len ∙ c.in_ok-tags.ensures.len in
+    let cells-is = with_items_is c.in_ok-cells.cells c.move_cells.new.cells (c.move_cells.auto.cells ∙ c.as_mut_slice-2.ensures.len) in
+    rw (capacity-opened, c.replace.ensures.after, cells-is) long

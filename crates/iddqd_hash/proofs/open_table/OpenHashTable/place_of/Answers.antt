@@ -1,0 +1,30 @@
+use Rattle.std.proofs.Common.{◌≡◌, ◌∙◌, ◌<◌, length, arith}
+use Rattle.std.specs.Fn.{CalledAt}
+use Rattle.iddqd_hash.specs.OpenTable.{slots_of}
+use Rattle.iddqd_hash.proofs.OpenTableLemmas.{entries-opened, power_from, empty_from, FindsPlace-opened, Misses-nothing}
+use Rattle.iddqd_hash.proofs.open_table.OpenHashTable.place_of.Goals as goal
+
+pub find_cell-requires-clause-power : goal.find_cell-requires-clause-power
+find_cell-requires-clause-power g c =
+    let some : 0 < length c.self.inside.tags.items = omega arith in
+    rw c.as_slice.ensures.value (power_from _ _ _ _ c.self.invariant some)
+
+pub find_cell-requires-clause-ends : goal.find_cell-requires-clause-ends
+find_cell-requires-clause-ends g c =
+    let some : 0 < length c.self.inside.tags.items = omega arith in
+    rw c.as_slice.ensures.value (empty_from _ _ _ _ c.self.invariant some)
+
+pub find_cell-requires-clause-probed : goal.find_cell-requires-clause-probed
+find_cell-requires-clause-probed g c = rw (c.as_slice.ensures.value, c.as_slice-2.ensures.value) c.self.invariant.probed
+
+pub find_cell-requires-clause-callable : goal.find_cell-requires-clause-callable
+find_cell-requires-clause-callable g c = rw c.as_slice-2.ensures.value (rw (← c.self.view_is, entries-opened) at c.requires)
+
+pub returns-then-count-eq0 : goal.returns-then-count-eq0
+returns-then-count-eq0 g c =
+    let none : length c.self.inside.tags.items ≡ 0 = omega arith in
+    rw (← c.self.view_is, entries-opened) (Misses-nothing (CalledAt g.F.FnMut) _ _ _ (c.self.invariant.probed.same_length ∙ none))
+
+pub returns : goal.returns
+returns g c =
+    rw (← c.self.view_is, entries-opened, ← c.as_slice-2.ensures.value) (FindsPlace-opened (CalledAt g.F.FnMut) _ _ _ _ _ _ c.find_cell.ensures)

@@ -1,0 +1,25 @@
+use Rattle.std.proofs.Common.{◌≡◌, ◌∙◌, length, ap, sym, arith}
+use Rattle.std.proofs.lemmas.List.{with_items_is}
+use Rattle.iddqd_hash.specs.OpenTable.{slots_of, hashes_of}
+use Rattle.iddqd_hash.proofs.OpenTableLemmas.{entries-opened, cells_long, IsSound-rewritten, KeepsMemory-opened}
+use Rattle.iddqd_hash.proofs.open_table.OpenHashTable.rewrite.Goals as goal
+
+pub rewrite_cells-requires : goal.rewrite_cells-requires
+rewrite_cells-requires g c = rw (c.as_mut_slice.ensures.value) (rw (← c.self.view_is, entries-opened) at c.requires)
+
+pub invariant_of-self : goal.invariant_of-self
+invariant_of-self g c =
+    let cells-is = with_items_is c.self.inside.cells c.rewrite_cells.new.cells (c.rewrite_cells.auto.cells ∙ c.as_mut_slice.ensures.len) in
+    rw cells-is (IsSound-rewritten _ (slots_of c.self.inside.cells.items) (slots_of c.rewrite_cells.new.cells) _ _ c.self.invariant (c.rewrite_cells.ensures.same_hashes ∙ ap (λ cells. hashes_of (slots_of cells)) c.as_mut_slice.ensures.value))
+
+pub returns-clause-rewritten : goal.returns-clause-rewritten
+returns-clause-rewritten g c =
+    let cells-is = with_items_is c.self.inside.cells c.rewrite_cells.new.cells (c.rewrite_cells.auto.cells ∙ c.as_mut_slice.ensures.len) in
+    rw (← c.self.view_is, entries-opened, entries-opened, cells-is, ← c.as_mut_slice.ensures.value) c.rewrite_cells.ensures.rewritten
+
+pub returns-clause-memory : goal.returns-clause-memory
+returns-clause-memory g c =
+    let cells-is = with_items_is c.self.inside.cells c.rewrite_cells.new.cells (c.rewrite_cells.auto.cells ∙ c.as_mut_slice.ensures.len) in
+    let long : length (slots_of c.rewrite_cells.new.cells) ≡ length (slots_of c.self.inside.cells.items) =
+    cells_long c.rewrite_cells.new.cells ∙ c.rewrite_cells.auto.cells ∙ ap length c.as_mut_slice.ensures.value ∙ sym (cells_long c.self.inside.cells.items) in
+    rw (← c.self.view_is) (KeepsMemory-opened _ _ _ _ (rw cells-is long) (omega arith))

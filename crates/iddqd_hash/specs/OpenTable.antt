@@ -1,0 +1,99 @@
+-- What the cells of a table with open addressing keep, so that a walk finds each pair.
+use Rattle.std.specs.Prelude.{◌≡◌, ◌≢◌, ◌==◌, map, ◌+◌, ◌-◌, ◌*◌, ◌/◌, ◌%◌, ◌^◌, ◌<◌, ◌≤◌, ◌⊎◌, ℕ, Bool, not, List, Option, Some, None, length, count_by, slice_index, slice_index_or}
+use Rattle.std.specs.List.{filter_map}
+use Rattle.std.specs.Option.{option_map}
+use Rattle.iddqd_hash.specs.HashTable.{Table}
+use Rattle.iddqd_hash.specs.declared.open_table.cells.Cell.{Cell}
+
+-- the tag of a full cell: the top seven bits of its hash, from 128 on
+abbrev pub tag_of : ℕ → ℕ
+tag_of hash = hash / 2 ^ 57 + 128
+
+-- how many of so many cells may be full or marked: seven of eight
+abbrev pub limit_of : ℕ → ℕ
+limit_of count = count / 8 * 7
+
+-- a power of two from 16 on
+abbrev pub IsPowerOfTwo : ℕ → Type 0
+IsPowerOfTwo count = (k : ℕ) × (count ≡ 2 ^ (k + 4))
+
+-- whether a cell with this tag is full or marked
+abbrev pub is_used : ℕ → Bool
+is_used tag = not (tag == 0)
+
+-- some cell is empty
+abbrev pub HasEmpty : List ℕ → Type 0
+HasEmpty tags = (k : ℕ) × (k < length tags) × (slice_index tags k ≡ 0)
+
+-- no cell is empty among the first so many that a walk comes to from a place, the first place after the last
+abbrev pub Passed : List ℕ → ℕ → ℕ → Type 0
+Passed tags from steps = (k : ℕ) → k < steps → 0 < slice_index tags ((from + k) % length tags)
+
+-- the walk from the home of a hash comes to a place, and meets no empty cell before it
+pub record IsReached (tags : List ℕ) (hash place : ℕ) : Type 0 where
+  pub steps : ℕ
+  pub is_there : (hash + steps) % length tags ≡ place
+  pub passed : Passed tags hash steps
+
+-- a place with no pair
+pub record IsFree (tags : List ℕ) (place : ℕ) : Type 0 where
+  pub within : place < length tags
+  pub free : slice_index tags place < 128
+
+module _ {T : Type 0} where
+  -- the pair in a cell
+  abbrev pub pair_in : Cell T → Option (ℕ × T)
+  pair_in cell = option_map (λ value. (cell.hash, value)) cell.value
+
+  -- the slots of a table: what stands in each cell
+  abbrev pub slots_of : List (Cell T) → List (Option (ℕ × T))
+  slots_of cells = map pair_in cells
+
+  -- the slot at a place, none past the last
+  abbrev pub slot_at : List (Option (ℕ × T)) → ℕ → Option (ℕ × T)
+  slot_at slots place = slice_index_or slots place None
+
+  -- the pairs that stand in slots
+  abbrev pub pairs : List (Option (ℕ × T)) → List (ℕ × T)
+  pairs slots = filter_map (λ slot. slot) slots
+
+  -- the hash of the pair in each slot
+  abbrev pub hashes_of : List (Option (ℕ × T)) → List (Option ℕ)
+  hashes_of slots = map (λ slot. option_map (λ pair. pair.0) slot) slots
+
+  -- whether a tag suits a slot: 0 or 1 where no pair stands there, else the tag of the pair's hash
+  abbrev pub Suits : ℕ → Option (ℕ × T) → Type 0
+  Suits tag None = tag ≤ 1
+  Suits tag (Some pair) = tag ≡ tag_of pair.0
+
+  -- Each tag suits its slot, and each pair stands where a walk from the home of its hash comes to it before any empty
+  -- cell.
+  pub record IsProbed (tags : List ℕ) (slots : List (Option (ℕ × T))) : Type 0 where
+    pub same_length : length slots ≡ length tags
+    pub suited : (place : ℕ) → place < length tags → Suits (slice_index tags place) (slot_at slots place)
+    pub reached : (place : ℕ) (pair : ℕ × T) → slot_at slots place ≡ Some pair → IsReached tags pair.0 place
+
+  -- a walk from one place comes to another past full and marked cells, in none of which is a pair under the hash
+  pub record PassesBy (tags : List ℕ) (slots : List (Option (ℕ × T))) (hash from at : ℕ) : Type 0 where
+    pub walk : IsReached tags from at
+    pub others : (k : ℕ) (value : T) → k < walk.steps → slot_at slots ((from + k) % length tags) ≢ Some (hash, value)
+
+  -- a walk from a place comes to a pair under the hash, or first to an empty cell
+  abbrev pub FindsNext : List ℕ → List (Option (ℕ × T)) → ℕ → ℕ → Option ℕ → Type 0
+  FindsNext tags slots hash from (Some place) =
+      PassesBy tags slots hash from place × ((value : T) × (slot_at slots place ≡ Some (hash, value)))
+  FindsNext tags slots hash from None =
+      (place : ℕ) × PassesBy tags slots hash from place × (slice_index tags place ≡ 0)
+
+  -- What a table with open addressing keeps of its tags, its slots, the number of pairs and that of the cells that are
+  -- full or marked. Where there are cells, at least one of eight is empty.
+  pub record IsSound (tags : List ℕ) (slots : List (Option (ℕ × T))) (len used : ℕ) : Type 0 where
+    pub count : (length tags ≡ 0) ⊎ IsPowerOfTwo (length tags)
+    pub probed : IsProbed tags slots
+    pub counted : len ≡ length (pairs slots)
+    pub marked : used ≡ count_by is_used tags
+    pub limited : used ≤ limit_of (length tags)
+
+  -- what a contract sees of slots, so many of which are full or marked
+  unfoldable pub opened : List (Option (ℕ × T)) → ℕ → Table T
+  opened slots used = record { cells = slots; spare = limit_of (length slots) - used; capacity = length slots }

@@ -1,0 +1,291 @@
+//! A table of values under hashes with open addressing: cells in a ring, each beside a tag.
+//!
+//! A pair stands in a cell that a walk by steps of one from cell `hash % cells` comes to before any
+//! empty cell, so a look-up ends at the first empty one. The full hash is kept beside each value, and
+//! a byte for each cell has seven bits of it, so that a walk reads few cells. A removed pair leaves a
+//! mark, which a walk passes and an insert takes. At least one cell of eight is empty. The contracts
+//! are those of [`HashTable`](crate::hash_table_reference::HashTable).
+ghost use Rattle.std.specs.Prelude.{◌≡◌, ◌∷◌, ◌≤◌, ◌<◌, ◌-◌, ◌⊎◌, [], Some, IsSome, length, option_copied, IfOk, IfSome, OnOk, OnErr, vec_len};
+ghost use Rattle.std.specs.List.Sorted.{IsPermutation};
+ghost use Rattle.std.specs.List.{Contains};
+ghost use Rattle.std.specs.Fn.{TakesAt, CalledAt, FnReturnsAt};
+ghost use Rattle.iddqd_hash.specs.Asks.{CanAsk, LooksUp, HitsPair, FindsPlace, Misses, Keeps};
+ghost use Rattle.iddqd_hash.specs.HashTable.{entries, room, capacity, pair_at, under, values, Rewrites, TakesOut, HasNoMemory, KeepsMemory, UsesRoom, Reserves};
+ghost use Rattle.iddqd_hash.specs.OpenTable.{limit_of, IsPowerOfTwo};
+
+use crate::open_table::cells::{
+    Cell, clear_cells, clear_tags, empty_cells, find_cell, move_cells, put, retain_cells,
+    rewrite_cells, take, value_in,
+};
+use crate::open_table::tags::{count_for, free_place, limit_of};
+use std::alloc::{AllocError, Global};
+use std::marker::Model;
+use std::mem;
+
+mod cells;
+mod tags;
+
+/// Values under hashes, in no order that a caller can rely on.
+///
+/// A contract sees it as a bag of pairs of a hash and a value, as the number of inserts that need
+/// no memory, and as the number of cells that its memory holds.
+#[derive(Debug, Drop)]
+pub struct OpenHashTable<T> {
+    tags: Vec<u8>,
+    cells: Vec<Cell<T>>,
+    len: usize,
+    // how many cells are full or marked
+    used: usize,
+}
+
+impl<T> Model for OpenHashTable<T> {
+    ghost use Rattle.iddqd_hash.specs.HashTable.{Table, table_code};
+    ghost use Rattle.iddqd_hash.specs.OpenTable.{opened, slots_of, IsSound};
+
+    ghost Value = { Table T };
+
+    ghost coded = { table_code T.code };
+
+    ghost view = { λ s. opened (slots_of s.cells.items) s.used };
+
+    ghost invariant = { λ s. IsSound s.tags.items (slots_of s.cells.items) s.len s.used };
+}
+
+/// A pair that stands in a table.
+#[derive(Drop)]
+pub struct OccupiedEntry<'a, T> {
+    table: &'a mut OpenHashTable<T>,
+    place: usize,
+    ghost stands: { IsSome (pair_at table.now place) },
+}
+
+impl<T> OpenHashTable<T> {
+    ghost use Rattle.std.specs.Borrow.{RestsIfErr, sem};
+    ghost use Rattle.iddqd_hash.specs.contracts.open_table.OpenHashTable.{the_row};
+    ghost use Rattle.iddqd_hash.specs.OpenTableEntry.{entry_table, entry_pair, entry_lender};
+
+    /// An empty table, which takes no memory.
+    pub fn new(alloc: Global) -> Self
+        ensures empty { entries result ≡ [] }
+        ensures memory { HasNoMemory result }
+    {
+        OpenHashTable {
+            tags: Vec::new(alloc),
+            cells: Vec::new(alloc),
+            len: 0,
+            used: 0,
+        }
+    }
+
+    /// The number of pairs.
+    pub fn len(&self) -> usize
+        ensures { result ≡ length (entries self.now) }
+    {
+        self.len
+    }
+
+    /// How many inserts need no memory.
+    pub fn room(&self) -> usize
+        ensures { result ≡ room self.now }
+    {
+        let limit = limit_of(self.tags.len());
+        limit - self.used
+    }
+
+    /// Makes room for `additional` more pairs.
+    ///
+    /// An `AllocError` means that memory was refused, or that no vector can hold so many; the table
+    /// stays as it was. It stays so too, and takes no memory, where there is room for so many.
+    pub fn try_reserve(&mut self, additional: usize) -> Result<(), AllocError>
+        ensures contents { IsPermutation (entries self.old) (entries self.new) }
+        ensures memory { Reserves additional self.old result self.new }
+    {
+        if additional <= self.room() {
+            return Ok(());
+        }
+        let needed = self.len.checked_add(additional).ok_or(AllocError)?;
+        let count = count_for(self.tags.len(), needed).ok_or(AllocError)?;
+        self.place_anew(count)
+    }
+
+    /// A value under `hash` at which `eq` answers `true`.
+    ///
+    /// `eq` is asked of values under `hash` alone, of none twice, and no more after it answered
+    /// `true`. It misses only after each of them was asked.
+    pub fn find<F: FnMut(&T) -> bool>(&self, hash: u64, eq: F) -> Option<&T>
+        requires { CanAsk (TakesAt F.FnMut) (CalledAt F.FnMut) eq (under hash (entries self.now)) }
+        ensures { LooksUp (CalledAt F.FnMut) eq (under hash (entries self.now)) (option_copied result) }
+    {
+        let place = self.place_of(hash, eq)?;
+        Some(self.pair_at(place).1)
+    }
+
+    /// The entry of a value under `hash` at which `eq` answers `true`, else `Err(())`.
+    ///
+    /// `eq` is asked as in `find`.
+    pub fn find_entry<F: FnMut(&T) -> bool>(
+        &mut self,
+        hash: u64,
+        eq: F,
+    ) -> Result<OccupiedEntry<'_, T>, ()>
+        requires { CanAsk (TakesAt F.FnMut) (CalledAt F.FnMut) eq (under hash (entries self.old)) }
+
+        // A hit is a pair under the hash, and the asks that led to it.
+        ensures found { IfOk result (λ e. HitsPair (CalledAt F.FnMut) eq hash (under hash (entries self.old)) (entry_pair e)) }
+        ensures missed { OnErr result (Misses (CalledAt F.FnMut) eq (under hash (entries self.old))) }
+
+        // The table is as it was, and an entry borrows it.
+        ensures table { IfOk result (λ e. entry_table e ≡ self.old) }
+        ensures same_reference { IfOk result (λ e. entry_lender e ≡ self.entry.ghost_name) }
+        ensures* unchanged { sem 𝓛 (RestsIfErr (the_row T.row) self.entry entry_lender result (λ t. t ≡ self.old)) }
+    {
+        match self.place_of(hash, eq) {
+            Some(place) => Ok(OccupiedEntry { table: self, place }),
+            None => Err(()),
+        }
+    }
+
+    /// Adds a pair, and takes no memory.
+    pub fn insert_unique(&mut self, hash: u64, value: T) -> OccupiedEntry<'_, T>
+        requires { 1 ≤ room self.old }
+        ensures pair { entry_pair result ≡ Some (hash, value) }
+        ensures added { IsPermutation ((hash, value) ∷ entries self.old) (entries (entry_table result)) }
+        ensures memory { UsesRoom self.old (entry_table result) }
+        ensures same_reference { entry_lender result ≡ self.entry.ghost_name }
+    {
+        let place = self.add(hash, value);
+        OccupiedEntry { table: self, place }
+    }
+
+    /// Keeps exactly the values at which `f` answers `true`.
+    ///
+    /// `f` is asked once of each value. No memory is taken or given back.
+    pub fn retain<F: FnMut(&T) -> bool>(&mut self, f: F)
+    where
+        T: Drop,
+        requires { CanAsk (TakesAt F.FnMut) (CalledAt F.FnMut) f (values (entries self.old)) }
+        ensures kept { Keeps (CalledAt F.FnMut) f (entries self.old) (entries self.new) }
+        ensures memory { KeepsMemory self.old self.new }
+    {
+        let removed = retain_cells(self.tags.as_mut_slice(), self.cells.as_mut_slice(), f);
+        self.len -= removed;
+    }
+
+    /// Puts what `f` answers at each value in its place, under the hash that the value had.
+    ///
+    /// `f` is called once on each value, and on no other. No memory is taken or given back. It costs
+    /// a walk over the pairs.
+    pub fn rewrite<F: Fn(&T) -> T>(&mut self, f: F)
+    where
+        T: Drop,
+        requires { (v : _) → Contains (values (entries self.old)) v.now → F.pre f v }
+        ensures rewritten { Rewrites (FnReturnsAt F.Fn f) (entries self.old) (entries self.new) }
+        ensures memory { KeepsMemory self.old self.new }
+    {
+        rewrite_cells(self.cells.as_mut_slice(), f);
+    }
+
+    /// Removes every pair, and keeps the memory.
+    pub fn clear(&mut self)
+    where
+        T: Drop,
+        ensures empty { entries self.new ≡ [] }
+        ensures memory { KeepsMemory self.old self.new }
+    {
+        clear_tags(self.tags.as_mut_slice());
+        clear_cells(self.cells.as_mut_slice());
+        self.len = 0;
+        self.used = 0;
+    }
+
+    // The cell of the pair that a look-up hits.
+    pub(crate) fn place_of<F: FnMut(&T) -> bool>(&self, hash: u64, eq: F) -> Option<usize>
+        requires { CanAsk (TakesAt F.FnMut) (CalledAt F.FnMut) eq (under hash (entries self.now)) }
+        ensures { FindsPlace (CalledAt F.FnMut) eq hash (under hash (entries self.now)) (pair_at self.now) result }
+    {
+        let count = self.tags.len();
+        if count == 0 {
+            return None;
+        }
+        find_cell(self.tags.as_slice(), self.cells.as_slice(), hash, eq)
+    }
+
+    // The pair in a cell.
+    pub(crate) fn pair_at(&self, place: usize) -> (u64, &T)
+        requires { IsSome (pair_at self.now place) }
+        ensures { pair_at self.now place ≡ Some (result.0, result.1.now) }
+    {
+        let cell = &self.cells[place];
+        (cell.hash, value_in(cell))
+    }
+
+    // Takes the pair in a cell out of the table.
+    pub(crate) fn take_at(&mut self, place: usize) -> T
+        requires { IsSome (pair_at self.old place) }
+        ensures removed { TakesOut self.old (pair_at self.old place) result self.new }
+        ensures memory { KeepsMemory self.old self.new }
+    {
+        self.len -= 1;
+        take(self.tags.as_mut_slice(), self.cells.as_mut_slice(), place)
+    }
+
+    // Adds a pair, and returns its cell.
+    fn add(&mut self, hash: u64, value: T) -> usize
+        requires { 1 ≤ room self.old }
+        ensures pair { pair_at self.new result ≡ Some (hash, value) }
+        ensures added { IsPermutation ((hash, value) ∷ entries self.old) (entries self.new) }
+        ensures memory { UsesRoom self.old self.new }
+    {
+        let place = free_place(self.tags.as_slice(), hash);
+        let was_empty = self.tags[place] == 0;
+        self.used += was_empty as usize;
+        self.len += 1;
+        put(
+            self.tags.as_mut_slice(),
+            self.cells.as_mut_slice(),
+            place,
+            hash,
+            value,
+        );
+        place
+    }
+
+    // Moves every pair into so many new cells.
+    fn place_anew(&mut self, count: usize) -> Result<(), AllocError>
+        requires power { IsPowerOfTwo count }
+        requires fits { length (entries self.old) ≤ limit_of count }
+        ensures contents { IsPermutation (entries self.old) (entries self.new) }
+        ensures refused { OnErr result (self.new ≡ self.old) }
+        ensures room { OnOk result (room self.new ≡ limit_of count - length (entries self.old)) }
+        ensures capacity { OnOk result (capacity self.new ≡ count) }
+    {
+        let alloc = *self.cells.allocator();
+        let mut tags = vec![in alloc; 0u8; count]?;
+        let mut cells = empty_cells(alloc, count)?;
+        move_cells(&mut self.cells, tags.as_mut_slice(), cells.as_mut_slice());
+        self.tags = tags;
+        mem::replace(&mut self.cells, cells).destroy_empty();
+        self.used = self.len;
+        Ok(())
+    }
+}
+
+impl<'a, T> OccupiedEntry<'a, T> {
+    ghost use Rattle.iddqd_hash.specs.OpenTableEntry.{entry_table, entry_pair, entry_value};
+
+    /// The value.
+    pub fn get(&self) -> &T
+        ensures { entry_value self.now ≡ Some result.now }
+    {
+        self.table.pair_at(self.place).1
+    }
+
+    /// Takes the pair out of the table, and hands back its value. No memory is taken or given back.
+    pub fn remove(self) -> T
+        ensures removed { TakesOut (entry_table self.entry) (entry_pair self.entry) result self.exit.0.now }
+        ensures memory { KeepsMemory (entry_table self.entry) self.exit.0.now }
+    {
+        let place = self.place;
+        self.table.take_at(place)
+    }
+}

@@ -1,0 +1,208 @@
+//! The cells of a table with open addressing, beside their tags.
+ghost use Rattle.std.specs.Prelude.{◌≡◌, ◌+◌, ◌<◌, ◌≤◌, vec_len, count_by, Some, None, IsSome, IfOk, length, replicate, slice_index, slice_set};
+ghost use Rattle.std.specs.Fn.{TakesAt, CalledAt, FnReturnsAt};
+ghost use Rattle.std.specs.List.{Contains};
+ghost use Rattle.std.specs.List.Sorted.{IsPermutation};
+ghost use Rattle.iddqd_hash.specs.Asks.{CanAsk, FindsPlace, Keeps};
+ghost use Rattle.iddqd_hash.specs.HashTable.{under, value_of, values, Rewrites};
+ghost use Rattle.iddqd_hash.specs.OpenTable.{tag_of, limit_of, is_used, hashes_of, pair_in, slots_of, slot_at, pairs, IsPowerOfTwo, HasEmpty, IsProbed, FindsNext};
+
+use crate::open_table::tags::{free_place, home_of, next, tag_of};
+use std::alloc::{AllocError, Global};
+use std::mem;
+
+/// A place for a pair. The hash means something where there is a value.
+#[derive(Debug, Drop)]
+pub struct Cell<T> {
+    pub hash: u64,
+    pub value: Option<T>,
+}
+
+/// So many empty cells.
+pub fn empty_cells<T>(alloc: Global, count: usize) -> Result<Vec<Cell<T>>, AllocError>
+    ensures { IfOk result (λ cells. slots_of cells.items ≡ replicate count None) }
+{
+    let mut cells = Vec::with_capacity(alloc, count)?;
+    'empty: for _ in 0..count {
+        cells.push_reserved(Cell {
+            hash: 0,
+            value: None,
+        });
+    }
+    Ok(cells)
+}
+
+/// The value in a cell.
+pub fn value_in<T>(cell: &Cell<T>) -> &T
+    requires { IsSome (pair_in cell.now) }
+    ensures { pair_in cell.now ≡ Some (cell.now.hash, result.now) }
+{
+    match &cell.value {
+        Some(value) => value,
+        None => unreachable!(),
+    }
+}
+
+/// The first place from `from` on that has a pair under the hash, or none where an empty cell comes first.
+pub fn next_match<T>(tags: &[u8], cells: &[Cell<T>], from: usize, hash: u64) -> Option<usize>
+    requires power { IsPowerOfTwo (length tags.now) }
+    requires ends { HasEmpty tags.now }
+    requires probed { IsProbed tags.now (slots_of cells.now) }
+    requires inside { from < length tags.now }
+    ensures { FindsNext tags.now (slots_of cells.now) hash from result }
+{
+    let count = tags.len();
+    let tag = tag_of(hash);
+    let mut at = from;
+    while tags[at] != 0 {
+        if tags[at] == tag && cells[at].hash == hash {
+            return Some(at);
+        }
+        at = next(at, count);
+    }
+    None
+}
+
+/// The place of the pair that a look-up hits.
+pub fn find_cell<T, F: FnMut(&T) -> bool>(
+    tags: &[u8],
+    cells: &[Cell<T>],
+    hash: u64,
+    mut eq: F,
+) -> Option<usize>
+    requires power { IsPowerOfTwo (length tags.now) }
+    requires ends { HasEmpty tags.now }
+    requires probed { IsProbed tags.now (slots_of cells.now) }
+    requires callable { CanAsk (TakesAt F.FnMut) (CalledAt F.FnMut) eq (under hash (pairs (slots_of cells.now))) }
+    ensures { FindsPlace (CalledAt F.FnMut) eq hash (under hash (pairs (slots_of cells.now))) (slot_at (slots_of cells.now)) result }
+{
+    let count = tags.len();
+    let mut at = home_of(hash, count);
+    while let Some(place) = next_match(tags, cells, at, hash) {
+        if eq(value_in(&cells[place])) {
+            return Some(place);
+        }
+        at = next(place, count);
+    }
+    None
+}
+
+/// Puts a pair into a cell that has none.
+pub fn put<T>(tags: &mut [u8], cells: &mut [Cell<T>], place: usize, hash: u64, value: T)
+    requires inside { place < length tags.old }
+    requires same_length { length cells.old ≡ length tags.old }
+    requires free { slot_at (slots_of cells.old) place ≡ None }
+    ensures tags { tags.new ≡ slice_set tags.old place (tag_of hash) }
+    ensures slots { slots_of cells.new ≡ slice_set (slots_of cells.old) place (Some (hash, value)) }
+{
+    tags[place] = tag_of(hash);
+    let cell = &mut cells[place];
+    cell.hash = hash;
+    match mem::replace(&mut cell.value, Some(value)) {
+        None => {}
+        Some(_) => unreachable!(),
+    }
+}
+
+/// Takes the value of a pair out of its cell, and leaves a mark.
+pub fn take<T>(tags: &mut [u8], cells: &mut [Cell<T>], place: usize) -> T
+    requires inside { place < length tags.old }
+    requires same_length { length cells.old ≡ length tags.old }
+    requires full { IsSome (slot_at (slots_of cells.old) place) }
+    ensures value { value_of (slot_at (slots_of cells.old) place) ≡ Some result }
+    ensures tags { tags.new ≡ slice_set tags.old place 1 }
+    ensures slots { slots_of cells.new ≡ slice_set (slots_of cells.old) place None }
+{
+    tags[place] = 1;
+    let cell = &mut cells[place];
+    match cell.value.take() {
+        Some(value) => value,
+        None => unreachable!(),
+    }
+}
+
+/// Moves every pair into cells that are empty.
+pub fn move_cells<T>(old: &mut Vec<Cell<T>>, tags: &mut [u8], cells: &mut [Cell<T>])
+    requires power { IsPowerOfTwo (length tags.old) }
+    requires no_tag { tags.old ≡ replicate (length tags.old) 0 }
+    requires no_pair { slots_of cells.old ≡ replicate (length tags.old) None }
+    requires fits { length (pairs (slots_of old.old.items)) ≤ limit_of (length tags.old) }
+    ensures none_left { vec_len old.new ≡ 0 }
+    ensures moved { IsPermutation (pairs (slots_of old.old.items)) (pairs (slots_of cells.new)) }
+    ensures probed { IsProbed tags.new (slots_of cells.new) }
+    ensures unmarked { count_by is_used tags.new ≡ length (pairs (slots_of cells.new)) }
+{
+    'moving: while let Some(cell) = old.pop() {
+        let Cell { hash, value } = cell;
+        if let Some(value) = value {
+            let place = free_place(tags, hash);
+            put(tags, cells, place, hash, value);
+        }
+    }
+}
+
+/// Asks once of each value, and takes out those that are refused. Returns how many it took.
+pub fn retain_cells<T: Drop, F: FnMut(&T) -> bool>(
+    tags: &mut [u8],
+    cells: &mut [Cell<T>],
+    mut f: F,
+) -> usize
+    requires probed { IsProbed tags.old (slots_of cells.old) }
+    requires callable { CanAsk (TakesAt F.FnMut) (CalledAt F.FnMut) f (values (pairs (slots_of cells.old))) }
+    ensures kept { Keeps (CalledAt F.FnMut) f (pairs (slots_of cells.old)) (pairs (slots_of cells.new)) }
+    ensures probed { IsProbed tags.new (slots_of cells.new) }
+    ensures marked { count_by is_used tags.new ≡ count_by is_used tags.old }
+    ensures counted { result + length (pairs (slots_of cells.new)) ≡ length (pairs (slots_of cells.old)) }
+{
+    let mut removed = 0;
+    for at in 0..tags.len() {
+        if tags[at] < 128 {
+            continue;
+        }
+        if f(value_in(&cells[at])) {
+            continue;
+        }
+        take(tags, cells, at);
+        removed += 1;
+    }
+    removed
+}
+
+/// Puts the answer at each value in its place.
+pub fn rewrite_cells<T: Drop, F: Fn(&T) -> T>(cells: &mut [Cell<T>], f: F)
+    requires { (v : _) → Contains (values (pairs (slots_of cells.old))) v.now → F.pre f v }
+    ensures rewritten { Rewrites (FnReturnsAt F.Fn f) (pairs (slots_of cells.old)) (pairs (slots_of cells.new)) }
+    ensures same_hashes { hashes_of (slots_of cells.new) ≡ hashes_of (slots_of cells.old) }
+{
+    for at in 0..cells.len() {
+        let Some(value) = &cells[at].value else {
+            continue;
+        };
+        let answer = f(value);
+        set_value(&mut cells[at], answer);
+    }
+}
+
+fn set_value<T: Drop>(cell: &mut Cell<T>, value: T)
+    ensures { cell.new ≡ record cell.old { value = Some value } }
+{
+    cell.value = Some(value);
+}
+
+/// Makes every cell empty.
+pub fn clear_cells<T: Drop>(cells: &mut [Cell<T>])
+    ensures { slots_of cells.new ≡ replicate (length cells.old) None }
+{
+    for at in 0..cells.len() {
+        cells[at].value = None;
+    }
+}
+
+/// Gives every cell the tag of an empty one.
+pub fn clear_tags(tags: &mut [u8])
+    ensures { tags.new ≡ replicate (length tags.old) 0 }
+{
+    for at in 0..tags.len() {
+        tags[at] = 0;
+    }
+}

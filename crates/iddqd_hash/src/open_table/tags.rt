@@ -1,0 +1,83 @@
+//! The tags of a table with open addressing, a byte for each cell, and walks over them.
+//!
+//! A tag is 0 where its cell is empty and 1 where a pair was removed from it. From 128 on the cell is
+//! full, and the tag has the top seven bits of the hash. A walk goes from the home of a hash by steps of
+//! one, the first place after the last, up to an empty cell.
+ghost use Rattle.std.specs.Prelude.{◌≡◌, ◌+◌, ◌<◌, ◌≤◌, ◌%◌, ◌⊎◌, length, IfSome};
+ghost use Rattle.iddqd_hash.specs.OpenTable.{tag_of, limit_of, IsPowerOfTwo, HasEmpty, IsFree, IsReached, Passed};
+
+/// The tag of a full cell.
+pub fn tag_of(hash: u64) -> u8
+    ensures { result ≡ tag_of hash }
+{
+    (hash >> 57) as u8 + 128
+}
+
+/// The place where a walk begins.
+pub fn home_of(hash: u64, count: usize) -> usize
+    requires { IsPowerOfTwo count }
+    ensures { result ≡ hash % count }
+{
+    hash as usize & (count - 1)
+}
+
+/// The place after another, the first after the last.
+pub fn next(at: usize, count: usize) -> usize
+    requires power { IsPowerOfTwo count }
+    requires inside { at < count }
+    ensures { result ≡ (at + 1) % count }
+{
+    (at + 1) & (count - 1)
+}
+
+/// The first place from the home on that has no pair.
+pub fn free_place(tags: &[u8], hash: u64) -> usize
+    requires power { IsPowerOfTwo (length tags.now) }
+    requires ends { HasEmpty tags.now }
+    ensures free { IsFree tags.now result }
+    ensures reached { IsReached tags.now hash result }
+{
+    let count = tags.len();
+    let mut at = home_of(hash, count);
+    while tags[at] >= 128 {
+        at = next(at, count);
+    }
+    at
+}
+
+/// How many of so many cells may be full or marked: seven of eight.
+pub fn limit_of(count: usize) -> usize
+    ensures { result ≡ limit_of count }
+{
+    count / 8 * 7
+}
+
+/// How many cells a table of `current` ones takes for so many pairs, if so many can be.
+///
+/// As many as it has where that leaves room, so that removed pairs give way; else at least twice as many.
+pub fn count_for(current: usize, needed: usize) -> Option<usize>
+    requires count { (current ≡ 0) ⊎ IsPowerOfTwo current }
+    requires some { 0 < needed }
+    ensures power { IfSome result (λ count. IsPowerOfTwo count) }
+    ensures fits { IfSome result (λ count. needed ≤ limit_of count) }
+    ensures no_fewer { IfSome result (λ count. current ≤ count) }
+{
+    if needed <= current / 64 * 49 {
+        return Some(current);
+    }
+    least_count(needed.max(limit_of(current) + 1))
+}
+
+// The least number of cells of which so many may be full.
+fn least_count(needed: usize) -> Option<usize>
+    ensures power { IfSome result (λ count. IsPowerOfTwo count) }
+    ensures fits { IfSome result (λ count. needed ≤ limit_of count) }
+{
+    for exponent in 4..60u32 {
+        let count = 1usize << exponent;
+        if needed <= limit_of(count) {
+            return Some(count);
+        }
+    }
+    None
+}
