@@ -34,7 +34,7 @@ impl BuildHasher for Constant {
     }
 }
 
-// The record with that index, of 0 to 4. In the order of their second keys they are 0, 3, 1, 4, 2.
+// The record with that index, of 0 to 4.
 fn nth(number: u32) -> Record {
     record(number, number.wrapping_mul(2) % 5)
 }
@@ -48,19 +48,29 @@ fn insert_five(rt: &impl Abort, items: &mut Items) {
     }
 }
 
-// Whether the walk gives those of the five that are left.
-fn walks(items: &Items, gone: &[u32]) -> bool {
-    let mut walk = items.walk();
-    for number in [0, 3, 1, 4, 2] {
-        let is_gone = gone.contains(&number);
-        if !is_gone {
-            let found = walk.next();
-            if found != Some(ix(number)) {
-                return false;
-            }
+// The five in the order of their second keys.
+const BY_SECOND: [u32; 5] = [0, 3, 1, 4, 2];
+
+// The first place from there on of one that is left.
+fn next_left(gone: &[u32], start: usize) -> usize {
+    for (place, number) in BY_SECOND.iter().enumerate() {
+        if place >= start && !gone.contains(number) {
+            return place;
         }
     }
-    walk.next().is_none()
+    BY_SECOND.len()
+}
+
+// Whether the walk gives those of the five that are left.
+fn walks(items: &Items, gone: &[u32]) -> bool {
+    let mut place = next_left(gone, 0);
+    for ix in items.walk() {
+        if BY_SECOND.get(place).copied() != Some(ix.as_u32()) {
+            return false;
+        }
+        place = next_left(gone, place.wrapping_add(1));
+    }
+    place == BY_SECOND.len()
 }
 
 // Whether both look-ups find those of the five that are left.
