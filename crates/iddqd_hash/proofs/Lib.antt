@@ -2,9 +2,11 @@ pub mod AskLemmas
 pub mod FiledLemmas
 mod CellLemmas
 mod MapHashTableLemmas
+mod OpenLaneLemmas
 mod OpenLookupLemmas
 mod OpenMoveLemmas
 mod OpenRetainLemmas
+mod OpenSkipLemmas
 mod OpenSlotLemmas
 mod OpenTableLemmas
 mod OpenWalkLemmas

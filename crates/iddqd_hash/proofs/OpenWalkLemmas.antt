@@ -92,3 +92,32 @@ places_left-next tags from at some walk used =
     let then : steps_to n from ((at + 1) % n) ≡ walk.steps + 1 =
     subst (λ x. steps_to n from x ≡ walk.steps + 1) (one_on tags from at walk used) (steps_to-walked n from (walk.steps + 1) within) in
     omega arith
+
+-- one walk, and another from its end
+module _ (tags : List ℕ) (from a b : ℕ) (walk : IsReached tags from a) (further : IsReached tags a b) where
+  moved_on : (k : ℕ) → (from + (walk.steps + k)) % length tags ≡ (a + k) % length tags
+  moved_on k = sym (onward (length tags) from walk.steps k) ∙ ap (λ x. (x + k) % length tags) walk.is_there
+
+  passed_both : Passed tags from (walk.steps + further.steps)
+  passed_both k below =
+      elim (ltb k walk.steps) as (λ b. ltb k walk.steps ≡ b → 0 < slice_index tags ((from + k) % length tags)) [
+        | true ↦ λ is. walk.passed k (ltb-true _ _ is)
+        | false ↦ λ is.
+            let past : walk.steps ≤ k = ltb-false _ _ is in
+            let j : ℕ = k - walk.steps in
+            let k-is : k ≡ walk.steps + j = omega arith in
+            let same : (from + k) % length tags ≡ (a + j) % length tags = ap (λ x. (from + x) % length tags) k-is ∙ moved_on j in
+            subst (λ x. 0 < slice_index tags x) (sym same) (further.passed j (omega arith))
+      ] refl
+
+  pub IsReached-on : IsReached tags from b
+  IsReached-on = record { steps = walk.steps + further.steps; is_there = moved_on further.steps ∙ further.is_there; passed = passed_both }
+
+  pub places_left-on : HasEmpty tags → places_left (length tags) from b ≤ places_left (length tags) from a
+  places_left-on some =
+      let n : ℕ = length tags in
+      let within : walk.steps + further.steps < n = steps_within tags from (walk.steps + further.steps) some passed_both in
+      let now : steps_to n from a ≡ walk.steps = subst (λ x. steps_to n from x ≡ walk.steps) walk.is_there (steps_to-walked n from walk.steps (omega arith)) in
+      let then : steps_to n from b ≡ walk.steps + further.steps =
+      subst (λ x. steps_to n from x ≡ walk.steps + further.steps) (moved_on further.steps ∙ further.is_there) (steps_to-walked n from (walk.steps + further.steps) within) in
+      omega arith

@@ -1,5 +1,6 @@
 -- What the cells of a table with open addressing keep, so that a walk finds each pair.
-use Rattle.std.specs.Prelude.{◌≡◌, ◌≢◌, ◌==◌, map, ◌+◌, ◌-◌, ◌*◌, ◌/◌, ◌%◌, ◌^◌, ◌<◌, ◌≤◌, ◌⊎◌, ℕ, Bool, not, List, Option, Some, None, length, count_by, slice_index, slice_index_or}
+use Rattle.std.specs.Prelude.{◌≡◌, ◌≢◌, ◌==◌, map, ◌+◌, ◌-◌, ◌*◌, ◌/◌, ◌%◌, ◌^◌, ◌<◌, ◌≤◌, ◌⊎◌, ℕ, Bool, true, false, not, List, Option, Some, None, length, count_by, slice_index, slice_index_or}
+use mathlib.Core.Bool.{◌||◌}
 use Rattle.std.specs.List.{filter_map}
 use Rattle.std.specs.Option.{option_map}
 use Rattle.iddqd_hash.specs.HashTable.{Table}
@@ -34,6 +35,20 @@ pub record IsReached (tags : List ℕ) (hash place : ℕ) : Type 0 where
   pub steps : ℕ
   pub is_there : (hash + steps) % length tags ≡ place
   pub passed : Passed tags hash steps
+
+-- whether a walk that looks for a tag stops here: at the tag, or where a cell is empty
+abbrev pub is_stop : ℕ → ℕ → Bool
+is_stop tag here = (here == tag) || (here == 0)
+
+-- no place from one on, up to so many further, is a stop
+abbrev pub NoStops : ℕ → List ℕ → ℕ → ℕ → Type 0
+NoStops tag tags at run = (k : ℕ) → at ≤ k → k < at + run → is_stop tag (slice_index tags k) ≡ false
+
+-- a walk from one place comes to another past places that aren't stops
+pub record Skips (tags : List ℕ) (tag from at : ℕ) : Type 0 where
+  pub steps : ℕ
+  pub is_there : (from + steps) % length tags ≡ at
+  pub others : (k : ℕ) → k < steps → is_stop tag (slice_index tags ((from + k) % length tags)) ≡ false
 
 -- a place with no pair
 pub record IsFree (tags : List ℕ) (place : ℕ) : Type 0 where

@@ -23,7 +23,10 @@ use std::marker::Model;
 use std::mem;
 
 mod cells;
+mod lanes;
 mod tags;
+#[cfg(test)]
+mod tests;
 
 /// Values under hashes, in no order that a caller can rely on.
 ///

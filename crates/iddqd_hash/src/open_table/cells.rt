@@ -7,7 +7,7 @@ ghost use Rattle.iddqd_hash.specs.Asks.{CanAsk, FindsPlace, Keeps};
 ghost use Rattle.iddqd_hash.specs.HashTable.{under, value_of, values, Rewrites};
 ghost use Rattle.iddqd_hash.specs.OpenTable.{tag_of, limit_of, is_used, hashes_of, pair_in, slots_of, slot_at, pairs, IsPowerOfTwo, HasEmpty, IsProbed, FindsNext};
 
-use crate::open_table::tags::{free_place, home_of, next, tag_of};
+use crate::open_table::tags::{free_place, home_of, next, next_stop, tag_of};
 use std::alloc::{AllocError, Global};
 use std::mem;
 
@@ -53,12 +53,15 @@ pub fn next_match<T>(tags: &[u8], cells: &[Cell<T>], from: usize, hash: u64) -> 
 {
     let count = tags.len();
     let tag = tag_of(hash);
-    let mut at = from;
+    if tags[from] == tag && cells[from].hash == hash {
+        return Some(from);
+    }
+    let mut at = next_stop(tags, from, tag);
     while tags[at] != 0 {
-        if tags[at] == tag && cells[at].hash == hash {
+        if cells[at].hash == hash {
             return Some(at);
         }
-        at = next(at, count);
+        at = next_stop(tags, next(at, count), tag);
     }
     None
 }

@@ -3,8 +3,10 @@
 //! A tag is 0 where its cell is empty and 1 where a pair was removed from it. From 128 on the cell is
 //! full, and the tag has the top seven bits of the hash. A walk goes from the home of a hash by steps of
 //! one, the first place after the last, up to an empty cell.
-ghost use Rattle.std.specs.Prelude.{◌≡◌, ◌+◌, ◌<◌, ◌≤◌, ◌%◌, ◌⊎◌, length, IfSome};
-ghost use Rattle.iddqd_hash.specs.OpenTable.{tag_of, limit_of, IsPowerOfTwo, HasEmpty, IsFree, IsReached, Passed};
+ghost use Rattle.std.specs.Prelude.{◌≡◌, ◌+◌, ◌<◌, ◌≤◌, ◌%◌, ◌⊎◌, length, slice_index, IfSome, IsTrue};
+ghost use Rattle.iddqd_hash.specs.OpenTable.{tag_of, limit_of, is_stop, IsPowerOfTwo, HasEmpty, Skips, IsFree, IsReached, Passed};
+
+use crate::open_table::lanes::run_of_others;
 
 /// The tag of a full cell.
 pub fn tag_of(hash: u64) -> u8
@@ -43,6 +45,37 @@ pub fn free_place(tags: &[u8], hash: u64) -> usize
         at = next(at, count);
     }
     at
+}
+
+/// The first place from `from` on that is empty or has the tag.
+pub fn next_stop(tags: &[u8], from: usize, tag: u8) -> usize
+    requires power { IsPowerOfTwo (length tags.now) }
+    requires ends { HasEmpty tags.now }
+    requires inside { from < length tags.now }
+    ensures skipped { Skips tags.now tag from result }
+    ensures stop { IsTrue (is_stop tag (slice_index tags.now result)) }
+{
+    let count = tags.len();
+    let mut at = past_others(tags, from, tag);
+    while !is_stop(tags[at], tag) {
+        at = past_others(tags, next(at, count), tag);
+    }
+    at
+}
+
+fn is_stop(here: u8, tag: u8) -> bool
+    ensures { result ≡ is_stop tag here }
+{
+    here == tag || here == 0
+}
+
+// A place from `at` on with no stop before it.
+fn past_others(tags: &[u8], at: usize, tag: u8) -> usize
+    requires power { IsPowerOfTwo (length tags.now) }
+    requires inside { at < length tags.now }
+    ensures { Skips tags.now tag at result }
+{
+    (at + run_of_others(tags, at, tag)) & (tags.len() - 1)
 }
 
 /// How many of so many cells may be full or marked: seven of eight.

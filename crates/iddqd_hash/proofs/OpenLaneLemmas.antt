@@ -1,0 +1,26 @@
+-- Of sixteen tags, which are empty or have a tag.
+use Rattle.std.proofs.Common.{◌≡◌, ◌==◌, ◌%◌, ◌^◌, ◌||◌, ℕ, Bool, true, false, cond, List, [], ◌∷◌, map, length, refl, bit_or, arith}
+use Rattle.std.specs.Prelude.{replicate}
+use Rattle.std.proofs.lemmas.List.{length-map}
+use Rattle.std.proofs.lemmas.Simd.{zip2_splat, zip2-map, map-map, mask_l-mod}
+use lib.Lanes.{zip2, mask_l, top}
+use Rattle.iddqd_hash.specs.OpenTable.{is_stop}
+
+abbrev pub same : ℕ → ℕ → ℕ
+same a b = cond (a == b) 255 0
+
+top_joined : (p q : Bool) → top 7 (bit_or (cond p 255 0) (cond q 255 0)) ≡ (p || q)
+top_joined true true = refl
+top_joined true false = refl
+top_joined false true = refl
+top_joined false false = refl
+
+tops : (tag : ℕ) (v : List ℕ) → map (λ x. top 7 (bit_or (same x tag) (same x 0))) v ≡ map (is_stop tag) v
+tops tag [] = refl
+tops tag (x ∷ v) = rw (top_joined (x == tag) (x == 0), tops tag v) refl
+
+pub stops_mask : (v : List ℕ) (tag : ℕ) → length v ≡ 16
+    → mask_l (map (top 7) (zip2 bit_or (zip2 same v (replicate 16 tag)) (zip2 same v (replicate 16 0)))) % 2 ^ 64 ≡ mask_l (map (is_stop tag) v)
+stops_mask v tag long =
+    rw (zip2_splat same v 16 tag long, zip2_splat same v 16 0 long, zip2-map bit_or (λ x. same x tag) (λ x. same x 0) v, map-map, tops tag v)
+    (mask_l-mod (map (is_stop tag) v) 64 (omega (arith, length-map v (is_stop tag))))

@@ -1,0 +1,10 @@
+use Rattle.std.proofs.Common.{length}
+use Rattle.iddqd_hash.specs.OpenTable.{Skips}
+use Rattle.iddqd_hash.proofs.OpenWalkLemmas.{places_left}
+use Rattle.iddqd_hash.proofs.open_table.tags.next_stop.Given as goal
+
+abbrev pub invariant-loop-at : goal.invariant-loop-at
+invariant-loop-at l = Skips l.tags l.tag l.from l.at
+
+abbrev pub decreases-loop-at : goal.decreases-loop-at
+decreases-loop-at l = places_left (length l.tags) l.from l.at

@@ -1,0 +1,41 @@
+//! Sixteen tags at a time.
+ghost use Rattle.std.specs.Int.{w64, trailing_zeros};
+ghost use Rattle.std.specs.Prelude.{if◌then◌else◌, ◌==◌, ◌≡◌, ◌+◌, ◌<◌, ◌≤◌, length};
+ghost use Rattle.iddqd_hash.specs.OpenTable.{NoStops};
+
+use std::simd::prelude::*;
+
+/// How many places from `at` on, up to sixteen, are not empty and have another tag, where that is
+/// known at once.
+pub fn run_of_others(tags: &[u8], at: usize, tag: u8) -> usize
+    requires { at < length tags.now }
+    ensures inside { at + result ≤ length tags.now }
+    ensures others { NoStops tag tags.now at result }
+{
+    if tags.len() - at >= 16 {
+        first_stop(tags, at, tag)
+    } else {
+        0
+    }
+}
+
+fn first_stop(tags: &[u8], at: usize, tag: u8) -> usize
+    requires { at + 16 ≤ length tags.now }
+    ensures inside { at + result ≤ length tags.now }
+    ensures others { NoStops tag tags.now at result }
+{
+    let lanes = u8x16::from_slice(&tags[at..]);
+    let stops = lanes.simd_eq(u8x16::splat(tag)) | lanes.simd_eq(u8x16::splat(0));
+    first_set(stops.to_bitmask())
+}
+
+// The lowest of sixteen bits that is set, or 16.
+fn first_set(mask: u64) -> usize
+    ensures { result ≡ (if mask == 0 then 16 else trailing_zeros w64 mask) }
+{
+    if mask == 0 {
+        16
+    } else {
+        mask.trailing_zeros() as usize
+    }
+}
