@@ -16,7 +16,7 @@ ghost use Rattle.iddqd_hash.specs.Asks.{CanAsk, LooksUp, HitsPair, Misses};
 ghost use Rattle.iddqd_hash.specs.HashTable.{room, pair_at, HasNoMemory, KeepsMemory, UsesRoom, Reserves};
 ghost use Rattle.iddqd_hash.specs.MapHashTable.{filed, indexes_under, AsksKey, Renames, Unfiles};
 
-use crate::hash_table_reference::HashTable;
+use crate::open_table::OpenHashTable;
 use iddqd::index_remap::IndexRemap;
 use iddqd::item_index::ItemIndex;
 use iddqd::map_hash::{Equivalent, MapHash};
@@ -39,7 +39,7 @@ pub struct HashedIndex {
 /// no memory, and as the number of cells that its memory holds.
 #[derive(Debug, Drop)]
 pub struct MapHashTable {
-    table: HashTable<ItemIndex>,
+    table: OpenHashTable<ItemIndex>,
 }
 
 impl Model for MapHashTable {
@@ -76,7 +76,7 @@ impl MapHashTable {
         ensures memory { HasNoMemory result }
     {
         MapHashTable {
-            table: HashTable::new(alloc),
+            table: OpenHashTable::new(alloc),
         }
     }
 

@@ -20,7 +20,7 @@ use crate::open_table::cells::{
 use crate::open_table::tags::{count_for, free_place, limit_of};
 use std::alloc::{AllocError, Global};
 use std::marker::Model;
-use std::mem;
+use std::{fmt, mem};
 
 mod cells;
 mod lanes;
@@ -32,7 +32,7 @@ mod tests;
 ///
 /// A contract sees it as a bag of pairs of a hash and a value, as the number of inserts that need
 /// no memory, and as the number of cells that its memory holds.
-#[derive(Debug, Drop)]
+#[derive(Drop)]
 pub struct OpenHashTable<T> {
     tags: Vec<u8>,
     cells: Vec<Cell<T>>,
@@ -270,6 +270,18 @@ impl<T> OpenHashTable<T> {
         mem::replace(&mut self.cells, cells).destroy_empty();
         self.used = self.len;
         Ok(())
+    }
+}
+
+impl<T> fmt::Debug for OpenHashTable<T> {
+    fn fmt<W: fmt::Write>(&self, f: &mut fmt::Formatter<W>) -> fmt::Result {
+        let len = self.len;
+        let cells = self.cells.len();
+        let used = self.used;
+        write!(
+            f,
+            "OpenHashTable {{ len: {len}, cells: {cells}, used: {used} }}"
+        )
     }
 }
 

@@ -558,7 +558,7 @@ fn prints(rt: HostRuntime) -> Result<(), Fail> {
     let text = format!(in rt.alloc(); "{table:?}")?;
     assert_eq!(rt;
         text.as_str(),
-        "MapHashTable { table: HashTable { pairs: [(7, 0)] } }"
+        "MapHashTable { table: OpenHashTable { len: 1, cells: 16, used: 1 } }"
     );
     let entry = HashedIndex {
         ix: ItemIndex::new(3),
