@@ -1,5 +1,5 @@
 -- For callers of a table of indexes: what its map says of the indexes under a hash, and of look-ups among them.
-use Rattle.std.proofs.Common.{◌≡◌, ◌==◌, ◌&&◌, ◌||◌, ◌∙◌, ℕ, Bool, true, false, cond, List, [], ◌∷◌, map, filter, Option, Some, None, IsSome, refl, sym, ap, subst, Contains, eqb-true, eq-eqb, T as Holds}
+use Rattle.std.proofs.Common.{◌+◌, ◌<◌, arith, ◌≡◌, ◌==◌, ◌&&◌, ◌||◌, ◌∙◌, ℕ, Bool, true, false, cond, List, [], ◌∷◌, map, filter, Option, Some, None, IsSome, refl, sym, ap, subst, Contains, eqb-true, eq-eqb, T as Holds}
 use Rattle.std.specs.List.{list_any}
 use Rattle.std.specs.Ordering.{nat_cmp, eq_by_cmp, is_eq, is_lt}
 use Rattle.std.specs.declared.cmp.Ordering.TheVariants.{Less, Equal, Greater}
@@ -116,3 +116,22 @@ module _ (m : FinMap nat_cmp ℕ) (hash : ℕ) where
   pub FindsWhere-by_key : {F Q K : Type 0} (g : Shared F (ℕ × Unit {0}) K) (equivalent : Q → K → Bool) (lookup : F) (query : Q) (test : ℕ → Bool) (r : Option ℕ) → LooksUp (AsksKey g equivalent lookup query) tt (indexes_under hash m) r → ((ix : ℕ) (key : K) → finite.get m ix ≡ Some hash → g.post lookup (ix, tt) key → equivalent query key ≡ test ix) → FindsWhere test hash m r
   FindsWhere-by_key g equivalent lookup query test r looked_up agrees =
       FindsWhere-looked_up (AsksKey g equivalent lookup query) (λ _. Unit {0}) test (λ _ ix b _ is _ asked. (asked.is ∙ agrees ix asked.key is asked.gives, tt)) tt r tt looked_up
+
+-- each index of the map is below n
+abbrev pub AllBelow : FinMap nat_cmp ℕ → ℕ → Type 0
+AllBelow m n = (ix : ℕ) → IsSome (finite.get m ix) → ix < n
+
+pub AllBelow-fresh : (m : FinMap nat_cmp ℕ) (n : ℕ) → AllBelow m n → finite.get m n ≡ None
+AllBelow-fresh m n below =
+    elim (finite.get m n) as (λ o. finite.get m n ≡ o → o ≡ None) [
+      | Some hash ↦ λ is. absurd (let never : n < n = below n (rw is refl) in omega arith)
+      | None ↦ λ _. refl
+    ] refl
+
+pub AllBelow-insert : (m : FinMap nat_cmp ℕ) (n ix hash : ℕ) → ix ≡ n → AllBelow m n → AllBelow (finite.insert m ix hash) (n + 1)
+AllBelow-insert m n ix hash last below q stored =
+    let opened : IsSome (cond (eq_by_cmp nat_cmp q ix) (Some hash) (finite.get m q)) = rw (finite.get-insert nat_cmp_total) at stored in
+    elim (eq_by_cmp nat_cmp q ix) as (λ b. eq_by_cmp nat_cmp q ix ≡ b → IsSome (cond b (Some hash) (finite.get m q)) → q < n + 1) [
+      | true ↦ λ is _. let same : q ≡ ix = same_index q ix is in omega arith
+      | false ↦ λ _ here. let under : q < n = below q here in omega arith
+    ] refl opened

@@ -1,15 +1,14 @@
 -- What a walk from a home meets of the pairs under a hash.
-use Rattle.std.proofs.Common.{inl, inr, ◌⊎◌, Bool, true, false, ltb, ltb-true, ltb-false, eq-eqb, ne_eqb, ◌≡◌, ◌≢◌, ◌==◌, ◌∙◌, ℕ, zero, suc, ◌+◌, ◌-◌, ◌*◌, ◌/◌, ◌%◌, ◌<◌, ◌≤◌, List, [], ◌∷◌, ◌++◌, Option, Some, None, IsSome, length, take, drop, get_or, slice_index, map, filter_map, refl, sym, ap, subst, arith, Contains, add-zero}
+use Rattle.std.proofs.Common.{inl, inr, ◌⊎◌, Bool, true, false, ltb, ltb-true, ltb-false, eq-eqb, ne_eqb, ◌≡◌, ◌≢◌, ◌∙◌, ℕ, zero, suc, ◌+◌, ◌-◌, ◌*◌, ◌/◌, ◌%◌, ◌<◌, ◌≤◌, List, [], ◌∷◌, ◌++◌, Option, Some, None, length, take, drop, get_or, slice_index, refl, sym, ap, subst, arith, Contains, add-zero}
 use Rattle.std.proofs.Math.Nat.{mod-eq_of_lt, mod-lt, mul-add-mod_self_left, div-add-mod}
-use Rattle.std.specs.List.{FoldsTo}
 use Rattle.std.specs.Option.{option_map}
 use Rattle.std.specs.List.Sorted.{IsPermutation}
 use Rattle.std.proofs.lemmas.List.{append-nil, take_more, drop_more, take-append-drop, get_or_append_left, get_or-append_right, get_or-drop, get_or-take, get_or-map, length-drop, length-append, length-take-le, length-map}
 use Rattle.std.proofs.lemmas.List.Elements.{filter_map-append, Contains-append_right}
-use Rattle.std.proofs.lemmas.List.Sorted.{IsPermutation-refl, IsPermutation-trans, IsPermutation-sym, IsPermutation-append_comm, Contains-permutation}
+use Rattle.std.proofs.lemmas.List.Sorted.{IsPermutation-append_comm}
 use Rattle.std.proofs.lemmas.Fn.{FoldsTo-push}
-use borrow.Author.Count.{below_none, below_more}
-use Rattle.iddqd_hash.specs.Asks.{AllRefused, Hits, HitsPair, Misses}
+use borrow.Author.Count.{below_more}
+use Rattle.iddqd_hash.specs.Asks.{AllRefused, HitsPair, Misses}
 use Rattle.iddqd_hash.specs.HashTable.{under}
 use Rattle.iddqd_hash.specs.declared.open_table.cells.Cell.{Cell}
 use Rattle.iddqd_hash.specs.OpenTable.{tag_of, slot_at, slots_of, pair_in, pairs, Suits, HasEmpty, Passed, IsReached, IsProbed, PassesBy, FindsNext}

@@ -1,12 +1,11 @@
 -- The steps of a loop that moves each pair into cells that began empty.
-use Rattle.std.proofs.Common.{cond, ◌≡◌, ◌≢◌, ◌∙◌, ℕ, ◌+◌, ◌-◌, ◌*◌, ◌/◌, ◌<◌, ◌≤◌, inl, inr, List, [], ◌∷◌, ◌++◌, Option, Some, None, length, set, replicate, slice_index, count_by, refl, sym, ap, subst, arith}
+use Rattle.std.proofs.Common.{◌≡◌, ◌≢◌, ◌∙◌, ℕ, ◌<◌, ◌≤◌, inl, inr, List, [], ◌∷◌, ◌++◌, Option, Some, None, length, set, replicate, slice_index, count_by, sym, ap, subst, arith}
 use Rattle.std.proofs.lemmas.Bool.{cases_eq}
 use Rattle.std.proofs.lemmas.List.{append-nil, append_assoc, length-append, get_or-set_same, get_or-set_other}
-use Rattle.std.proofs.lemmas.List.Elements.{filter_map-append}
-use Rattle.std.proofs.lemmas.List.Sorted.{IsPermutation-refl, IsPermutation-trans, IsPermutation-sym, IsPermutation-to_front, IsPermutation-append_left, length_permutation}
+use Rattle.std.proofs.lemmas.List.Sorted.{IsPermutation-refl, IsPermutation-trans, IsPermutation-to_front, IsPermutation-append_left, length_permutation}
 use Rattle.std.specs.List.Sorted.{IsPermutation}
 use Rattle.iddqd_hash.specs.OpenTable.{tag_of, limit_of, is_used, slot_at, pairs, Suits, HasEmpty, IsReached, IsProbed}
-use Rattle.iddqd_hash.proofs.OpenSlotLemmas.{zero_everywhere, IsProbed-empty, IsProbed-put, pairs-empty, pairs-put, length-put, unused, used-set, used_one, used_count, free_slot}
+use Rattle.iddqd_hash.proofs.OpenSlotLemmas.{pairs-push, zero_everywhere, IsProbed-empty, IsProbed-put, pairs-empty, pairs-put, length-put, unused, used-set, used_one, used_count, free_slot}
 use Rattle.iddqd_hash.proofs.OpenTableLemmas.{some_empty}
 
 module _ {T : Type 0} where
@@ -26,9 +25,6 @@ module _ {T : Type 0} where
         unmarked = λ k is. absurd (let zero_here : slice_index (replicate n 0) k ≡ 0 = zero_everywhere n k in omega arith);
         counted = unused n ∙ sym (ap length (pairs-empty n));
       })
-
-  pairs-push : (left : List (Option (ℕ × T))) (slot : Option (ℕ × T)) → pairs (left ++ slot ∷ []) ≡ pairs left ++ pairs (slot ∷ [])
-  pairs-push left slot = filter_map-append (λ (slot : Option (ℕ × T)). slot) left (slot ∷ [])
 
   module _ (old left : List (Option (ℕ × T))) (tags : List ℕ) (slots : List (Option (ℕ × T))) (state : Moving old left tags slots) where
     few : count_by is_used tags ≤ length (pairs old)

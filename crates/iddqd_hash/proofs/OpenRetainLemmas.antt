@@ -1,8 +1,7 @@
 -- The steps of loops over slots: one that asks of each pair and takes out those refused, and one that puts an answer
 -- in the place of each value.
-use Rattle.std.proofs.Common.{◌≡◌, ◌∙◌, ℕ, ◌+◌, ◌<◌, ◌≤◌, Bool, true, false, List, [], ◌∷◌, ◌++◌, Option, Some, None, map, filter, filter_map, length, take, drop, set, get_or, refl, sym, ap, subst, arith, Contains}
+use Rattle.std.proofs.Common.{◌≡◌, ◌∙◌, ℕ, ◌+◌, ◌<◌, ◌≤◌, Bool, true, false, List, [], ◌∷◌, ◌++◌, Option, Some, None, map, filter, length, take, drop, set, refl, sym, ap, subst, arith, Contains}
 use Rattle.std.specs.List.{FoldsTo, AllZip}
-use Rattle.std.specs.List.Sorted.{IsPermutation}
 use Rattle.std.specs.Option.{option_map}
 use Rattle.std.proofs.Math.Seq.{map-set_same}
 use Rattle.std.proofs.lemmas.List.{take_all, take_more, take_more_set, drop_more, drop-set-lt, take-append-drop, map-append, append-nil, length-set}
@@ -12,12 +11,10 @@ use Rattle.std.proofs.lemmas.Fn.{FoldsTo-push}
 use Rattle.iddqd_hash.specs.Asks.{Keeps}
 use Rattle.iddqd_hash.specs.HashTable.{values, Rewrites}
 use Rattle.iddqd_hash.specs.OpenTable.{slot_at, pairs, hashes_of}
+use Rattle.iddqd_hash.proofs.OpenSlotLemmas.{pairs-push}
 use Rattle.iddqd_hash.proofs.RetainLemmas.{Contains-values}
 
 module _ {T : Type 0} where
-  pairs-push : (slots : List (Option (ℕ × T))) (slot : Option (ℕ × T)) → pairs (slots ++ slot ∷ []) ≡ pairs slots ++ pairs (slot ∷ [])
-  pairs-push slots slot = filter_map-append (λ (slot : Option (ℕ × T)). slot) slots (slot ∷ [])
-
   pairs_more : (slots : List (Option (ℕ × T))) (at : ℕ) (slot : Option (ℕ × T)) → at < length slots → slot_at slots at ≡ slot → pairs (take (at + 1) slots) ≡ pairs (take at slots) ++ pairs (slot ∷ [])
   pairs_more slots at slot below is = ap pairs (take_more slots at None below ∙ ap (λ s. take at slots ++ s ∷ []) is) ∙ pairs-push (take at slots) slot
 

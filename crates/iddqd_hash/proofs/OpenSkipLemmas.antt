@@ -2,7 +2,7 @@
 use Rattle.std.proofs.Common.{◌≡◌, ◌≢◌, ◌∙◌, ◌==◌, ◌||◌, ℕ, ◌+◌, ◌-◌, ◌%◌, ◌<◌, ◌≤◌, Bool, true, false, List, Option, Some, length, slice_index, ltb, ltb-true, ltb-false, eq-eqb, eqb-true, inl, inr, refl, sym, ap, subst, arith}
 use Rattle.std.proofs.Math.Nat.{mod-eq_of_lt, mod-lt}
 use Rattle.std.proofs.lemmas.Bool.{cases_eq}
-use Rattle.iddqd_hash.specs.OpenTable.{tag_of, is_stop, slot_at, HasEmpty, NoStops, Skips, IsReached, IsProbed, PassesBy}
+use Rattle.iddqd_hash.specs.OpenTable.{tag_of, is_stop, slot_at, NoStops, Skips, IsReached, IsProbed, PassesBy}
 use Rattle.iddqd_hash.proofs.OpenWalkLemmas.{onward}
 use Rattle.iddqd_hash.proofs.OpenLookupLemmas.{tag_read}
 

@@ -1,16 +1,14 @@
 -- How each change of a table with open addressing keeps what its look-ups stand on.
-use Rattle.std.proofs.Common.{ne_eqb, not, inl, inr, ◌⊎◌, Bool, true, false, cond, ◌≡◌, ◌≢◌, ◌∙◌, ◌==◌, ℕ, zero, suc, ◌+◌, ◌-◌, ◌*◌, ◌/◌, ◌%◌, ◌^◌, ◌<◌, ◌≤◌, List, [], ◌∷◌, ◌++◌, Option, Some, None, IsSome, length, take, drop, set, get_or, slice_get, slice_index, replicate, count_by, filter_map, refl, sym, ap, subst, arith, add-one}
+use Rattle.std.proofs.Common.{ne_eqb, not, inl, inr, ◌⊎◌, true, false, cond, ◌≡◌, ◌∙◌, ℕ, zero, suc, ◌+◌, ◌%◌, ◌<◌, ◌≤◌, List, [], ◌∷◌, ◌++◌, Option, Some, None, IsSome, length, take, drop, set, slice_index, replicate, count_by, refl, sym, ap, subst, arith, add-one}
 use Rattle.std.proofs.lemmas.Bool.{cases_eq}
-use Rattle.std.proofs.lemmas.List.{length-set, length-map, length-replicate, get_or-set_same, get_or-set_other, get_or-replicate, get_or_past, set_split, take-append-drop, drop_more}
+use Rattle.std.proofs.lemmas.List.{length-set, length-map, length-replicate, get_or-set_same, get_or-set_other, get_or_past, set_split, take-append-drop, drop_more}
 use Rattle.std.proofs.lemmas.List.Elements.{filter_map-append}
 use Rattle.std.proofs.lemmas.List.Folds.{sum_by-replicate}
 use Rattle.std.proofs.lemmas.List.Sums.{sum_by-set, sum_by-cons}
 use Rattle.std.proofs.lemmas.List.Sorted.{IsPermutation-middle, IsPermutation-sym, length_permutation}
-use Rattle.std.proofs.lemmas.Option.{slice_get-get_or, slice_get_past}
 use Rattle.std.specs.List.Sorted.{IsPermutation}
 use Rattle.std.specs.Option.{option_map}
-use Rattle.iddqd_hash.specs.HashTable.{Table, entries, pair_at, room, capacity}
-use Rattle.iddqd_hash.specs.OpenTable.{tag_of, limit_of, is_used, slot_at, hashes_of, pairs, Suits, HasEmpty, Passed, IsPowerOfTwo, IsReached, IsProbed, IsSound, opened}
+use Rattle.iddqd_hash.specs.OpenTable.{tag_of, is_used, slot_at, hashes_of, pairs, Suits, IsReached, IsProbed}
 
 -- a place of more used cells is reached as before
 IsReached-kept : (tags now : List ℕ) (hash place : ℕ) → length now ≡ length tags → ((k : ℕ) → 0 < slice_index tags k → 0 < slice_index now k) → IsReached tags hash place → IsReached now hash place
@@ -43,6 +41,9 @@ zero_everywhere (suc n) zero = refl
 zero_everywhere (suc n) (suc at) = zero_everywhere n at
 
 module _ {T : Type 0} where
+  pub pairs-push : (slots : List (Option (ℕ × T))) (slot : Option (ℕ × T)) → pairs (slots ++ slot ∷ []) ≡ pairs slots ++ pairs (slot ∷ [])
+  pairs-push slots slot = filter_map-append (λ (slot : Option (ℕ × T)). slot) slots (slot ∷ [])
+
   pairs_at : (slots : List (Option (ℕ × T))) (place : ℕ) → place < length slots → pairs slots ≡ pairs (take place slots) ++ (pairs (slot_at slots place ∷ []) ++ pairs (drop (place + 1) slots))
   pairs_at slots place inside =
       ap pairs (sym (take-append-drop place slots) ∙ ap (λ xs. take place slots ++ xs) (drop_more slots place None inside))

@@ -1,11 +1,10 @@
 -- What is read of a table with open addressing, and what it keeps.
 use lib.Dec.{eqb}
 use mir.Val.{bool_byte}
-use Rattle.std.proofs.Common.{not, inl, inr, ◌⊎◌, Bool, true, false, cond, ◌≡◌, ◌∙◌, ◌==◌, ℕ, zero, suc, ◌+◌, ◌-◌, ◌*◌, ◌/◌, ◌%◌, ◌^◌, ◌<◌, ◌≤◌, List, [], ◌∷◌, Option, Some, None, IsSome, Result, Ok, Err, OnOk, OnErr, length, replicate, set, get_or, slice_get, slice_index, count_by, refl, sym, ap, subst, arith}
+use Rattle.std.proofs.Common.{not, inl, inr, ◌⊎◌, Bool, true, false, cond, ◌≡◌, ◌∙◌, ℕ, zero, suc, ◌+◌, ◌-◌, ◌^◌, ◌<◌, ◌≤◌, List, [], ◌∷◌, Option, Some, None, Result, Ok, Err, OnOk, OnErr, length, replicate, set, get_or, slice_get, slice_index, count_by, refl, sym, ap, subst, arith}
 use Rattle.std.proofs.lemmas.List.{length-set, length-map, length-replicate, nil_from_length, get_or_default, get_or-map}
 use Rattle.std.proofs.lemmas.List.Sorted.{IsPermutation-refl}
 use Rattle.std.proofs.lemmas.Nat.{pow_pos}
-use Rattle.std.proofs.lemmas.Option.{slice_get-get_or, slice_get_past}
 use Rattle.std.specs.Option.{option_flatten, option_map}
 use Rattle.iddqd_hash.specs.Asks.{FindsPlace, HitsPair, Misses}
 use Rattle.iddqd_hash.specs.HashTable.{Table, entries, pair_at, under, room, capacity, HasNoMemory, KeepsMemory, UsesRoom, Reserves}

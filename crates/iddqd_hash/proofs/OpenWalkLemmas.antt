@@ -1,7 +1,7 @@
 -- Walks by steps of one round a list of tags, the first place after the last.
-use Rattle.std.proofs.Common.{◌≡◌, ◌∙◌, ℕ, ◌+◌, ◌-◌, ◌*◌, ◌/◌, ◌%◌, ◌<◌, ◌≤◌, List, length, slice_index, slice_index_or, Bool, true, false, ltb, ltb-true, ltb-false, refl, sym, ap, subst, arith, add_assoc, add-zero}
-use Rattle.std.proofs.Math.Nat.{mod-add-mod, add-mod-mod, mod-add-div, mod-eq_of_lt, mod-lt, mul-add-mod_self_left, div-add-mod}
-use borrow.Author.Count.{below_none, below_more}
+use Rattle.std.proofs.Common.{◌≡◌, ◌∙◌, ℕ, ◌+◌, ◌-◌, ◌*◌, ◌/◌, ◌%◌, ◌<◌, ◌≤◌, List, length, slice_index, true, false, ltb, ltb-true, ltb-false, refl, sym, ap, subst, arith, add_assoc, add-zero}
+use Rattle.std.proofs.Math.Nat.{mod-add-mod, add-mod-mod, mod-eq_of_lt, mod-lt, mul-add-mod_self_left, div-add-mod}
+use borrow.Author.Count.{below_more}
 use Rattle.iddqd_hash.specs.OpenTable.{HasEmpty, Passed, IsReached}
 
 -- two walks, one from the end of the other

@@ -1,5 +1,5 @@
 -- What the cells of a table with open addressing keep, so that a walk finds each pair.
-use Rattle.std.specs.Prelude.{◌≡◌, ◌≢◌, ◌==◌, map, ◌+◌, ◌-◌, ◌*◌, ◌/◌, ◌%◌, ◌^◌, ◌<◌, ◌≤◌, ◌⊎◌, ℕ, Bool, true, false, not, List, Option, Some, None, length, count_by, slice_index, slice_index_or}
+use Rattle.std.specs.Prelude.{◌≡◌, ◌≢◌, ◌==◌, map, ◌+◌, ◌-◌, ◌*◌, ◌/◌, ◌%◌, ◌^◌, ◌<◌, ◌≤◌, ◌⊎◌, ℕ, Bool, false, not, List, Option, Some, None, length, count_by, slice_index, slice_index_or}
 use mathlib.Core.Bool.{◌||◌}
 use Rattle.std.specs.List.{filter_map}
 use Rattle.std.specs.Option.{option_map}

@@ -25,8 +25,6 @@ use std::{fmt, mem};
 mod cells;
 mod lanes;
 mod tags;
-#[cfg(test)]
-mod tests;
 
 /// Values under hashes, in no order that a caller can rely on.
 ///

@@ -12,7 +12,7 @@ use std::alloc::{AllocError, Global};
 use std::mem;
 
 /// A place for a pair. The hash means something where there is a value.
-#[derive(Debug, Drop)]
+#[derive(Drop)]
 pub struct Cell<T> {
     pub hash: u64,
     pub value: Option<T>,

@@ -1,6 +1,6 @@
 use Rattle.std.proofs.Common.{◌≡◌, ◌∙◌, None, length, replicate, ap, sym, arith}
 use Rattle.std.proofs.lemmas.List.{with_items_is}
-use Rattle.iddqd_hash.specs.OpenTable.{slots_of, pairs}
+use Rattle.iddqd_hash.specs.OpenTable.{slots_of}
 use Rattle.iddqd_hash.proofs.OpenSlotLemmas.{pairs-empty}
 use Rattle.iddqd_hash.proofs.OpenTableLemmas.{entries-opened, cells_long, IsSound-cleared, KeepsMemory-opened}
 use Rattle.iddqd_hash.proofs.open_table.OpenHashTable.clear.Goals as goal

@@ -1,4 +1,4 @@
-use Rattle.std.proofs.Common.{◌≡◌, ◌<◌, ◌∙◌, length, IsSome, sym, subst, arith}
+use Rattle.std.proofs.Common.{◌∙◌, IsSome, subst, arith}
 use Rattle.iddqd_hash.specs.OpenTable.{slots_of, slot_at}
 use Rattle.iddqd_hash.proofs.OpenTableLemmas.{pair_at-opened, cells_long}
 use Rattle.iddqd_hash.proofs.OpenSlotLemmas.{some_inside}

@@ -1,7 +1,6 @@
 use Rattle.std.proofs.Common.{rules, ◌≡◌, ◌∙◌, ◌≤◌, None, length, replicate, sym, ap, arith}
 use Rattle.std.proofs.lemmas.List.{with_items_is}
 use Rattle.std.proofs.lemmas.List.Sorted.{length_permutation}
-use Rattle.std.specs.Vec.{with_items}
 use Rattle.iddqd_hash.specs.OpenTable.{limit_of, slots_of, pairs}
 use Rattle.iddqd_hash.proofs.OpenTableLemmas.{entries-opened, room-opened, capacity-opened, IsSound-placed}
 use Rattle.iddqd_hash.proofs.open_table.OpenHashTable.place_anew.Goals as goal

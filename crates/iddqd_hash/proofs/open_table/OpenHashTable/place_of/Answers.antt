@@ -1,6 +1,5 @@
 use Rattle.std.proofs.Common.{◌≡◌, ◌∙◌, ◌<◌, length, arith}
 use Rattle.std.specs.Fn.{CalledAt}
-use Rattle.iddqd_hash.specs.OpenTable.{slots_of}
 use Rattle.iddqd_hash.proofs.OpenTableLemmas.{entries-opened, power_from, empty_from, FindsPlace-opened, Misses-nothing}
 use Rattle.iddqd_hash.proofs.open_table.OpenHashTable.place_of.Goals as goal
 

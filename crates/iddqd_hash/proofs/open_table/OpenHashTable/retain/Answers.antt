@@ -1,7 +1,6 @@
 use Rattle.std.proofs.Common.{◌≡◌, ◌∙◌, length, ap, sym, arith}
 use Rattle.std.proofs.lemmas.List.{with_items_is}
-use Rattle.std.specs.Vec.{with_items}
-use Rattle.iddqd_hash.specs.OpenTable.{slots_of, pairs}
+use Rattle.iddqd_hash.specs.OpenTable.{slots_of}
 use Rattle.iddqd_hash.proofs.OpenTableLemmas.{entries-opened, cells_long, IsSound-retained, KeepsMemory-opened}
 use Rattle.iddqd_hash.proofs.open_table.OpenHashTable.retain.Goals as goal
 

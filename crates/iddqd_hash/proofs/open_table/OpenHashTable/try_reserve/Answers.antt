@@ -1,6 +1,6 @@
-use Rattle.std.proofs.Common.{◌≡◌, ◌≤◌, ◌<◌, ◌+◌, ◌-◌, length, arith}
+use Rattle.std.proofs.Common.{◌≤◌, ◌<◌, ◌-◌, length, arith}
 use Rattle.iddqd_hash.specs.HashTable.{entries, room, capacity}
-use Rattle.iddqd_hash.specs.OpenTable.{limit_of, slots_of, pairs}
+use Rattle.iddqd_hash.specs.OpenTable.{limit_of}
 use Rattle.iddqd_hash.proofs.OpenTableLemmas.{entries-opened, capacity-opened, Reserves-placed}
 use Rattle.iddqd_hash.proofs.open_table.OpenHashTable.try_reserve.Goals as goal
 

@@ -1,5 +1,5 @@
-use Rattle.std.proofs.Common.{◌≡◌, ◌∙◌, ◌+◌, ◌<◌, ◌∷◌, ◌++◌, [], None, length, replicate, take, sym, ap, refl, arith}
-use Rattle.std.proofs.lemmas.List.{map-set, take_more_set, take_all, replicate_more, length-set}
+use Rattle.std.proofs.Common.{◌∙◌, ◌+◌, ◌<◌, ◌∷◌, ◌++◌, [], None, length, replicate, take, sym, ap, arith}
+use Rattle.std.proofs.lemmas.List.{map-set, take_more_set, take_all, replicate_more}
 use Rattle.iddqd_hash.specs.OpenTable.{slots_of, pair_in}
 use Rattle.iddqd_hash.proofs.OpenTableLemmas.{cells_long}
 use Rattle.iddqd_hash.proofs.open_table.cells.clear_cells.Goals as goal

@@ -1,4 +1,4 @@
-use Rattle.std.proofs.Common.{◌≡◌, ◌∙◌, ◌∷◌, ◌++◌, [], replicate, sym, ap, arith}
+use Rattle.std.proofs.Common.{◌∙◌, ◌∷◌, ◌++◌, [], replicate, sym, ap, arith}
 use Rattle.std.proofs.lemmas.List.{take_more_set, take_all, replicate_more}
 use Rattle.iddqd_hash.proofs.open_table.cells.clear_tags.Goals as goal
 

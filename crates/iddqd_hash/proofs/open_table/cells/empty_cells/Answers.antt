@@ -1,4 +1,4 @@
-use Rattle.std.proofs.Common.{◌∙◌, ◌∷◌, ◌++◌, [], None, ap, arith, refl}
+use Rattle.std.proofs.Common.{◌∙◌, ◌∷◌, ◌++◌, [], None, ap, arith}
 use Rattle.std.proofs.lemmas.List.{map_push, replicate_more}
 use Rattle.iddqd_hash.specs.OpenTable.{pair_in}
 use Rattle.iddqd_hash.proofs.open_table.cells.empty_cells.Goals as goal

@@ -1,9 +1,9 @@
-use Rattle.std.proofs.Common.{◌≡◌, ◌<◌, ◌≤◌, ◌%◌, ◌+◌, length, Some, true, false, slice_index, refl, arith}
+use Rattle.std.proofs.Common.{◌<◌, ◌≤◌, ◌%◌, ◌+◌, length, true, false, refl, arith}
 use Rattle.std.specs.Fn.{TakesAt, CalledAt}
-use Rattle.iddqd_hash.specs.OpenTable.{slots_of, slot_at}
+use Rattle.iddqd_hash.specs.OpenTable.{slots_of}
 use Rattle.iddqd_hash.proofs.AskLemmas.{CanAsk-takes, CanAsk-asked}
 use Rattle.iddqd_hash.proofs.OpenWalkLemmas.{places_left, places_left-next}
-use Rattle.iddqd_hash.proofs.OpenLookupLemmas.{Looking, Looking-start, Looking-passed, Looking-next, HitsPair-looked, Misses-looked, passed_left, used, PassesBy-inside, FindsNext-none, Contains-met, value_read}
+use Rattle.iddqd_hash.proofs.OpenLookupLemmas.{Looking-start, Looking-passed, Looking-next, HitsPair-looked, Misses-looked, passed_left, used, PassesBy-inside, FindsNext-none, Contains-met, value_read}
 use Rattle.iddqd_hash.proofs.open_table.cells.find_cell.Goals as goal
 
 pub loop-place-init : goal.loop-place-init

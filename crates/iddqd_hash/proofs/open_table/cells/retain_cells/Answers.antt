@@ -1,6 +1,6 @@
-use Rattle.std.proofs.Common.{◌≡◌, ◌∙◌, ◌<◌, ◌≤◌, ◌+◌, ℕ, Some, None, IsSome, true, false, length, get_or, slice_index, count_by, refl, sym, ap, subst, arith}
+use Rattle.std.proofs.Common.{◌≡◌, ◌∙◌, ◌<◌, IsSome, true, false, length, slice_index, refl, sym, ap, subst, arith}
 use Rattle.std.specs.Fn.{TakesAt, CalledAt}
-use Rattle.iddqd_hash.specs.OpenTable.{slots_of, slot_at, pair_in, is_used}
+use Rattle.iddqd_hash.specs.OpenTable.{slots_of, slot_at, pair_in}
 use Rattle.iddqd_hash.proofs.AskLemmas.{CanAsk-takes, CanAsk-asked}
 use Rattle.iddqd_hash.proofs.OpenLookupLemmas.{slot_read}
 use Rattle.iddqd_hash.proofs.OpenSlotLemmas.{free_slot, full_slot, length_pairs, length-taken, used-set, used_one, used_count, IsProbed-taken}

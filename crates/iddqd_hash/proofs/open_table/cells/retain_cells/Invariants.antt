@@ -1,4 +1,4 @@
-use Rattle.std.proofs.Common.{◌≡◌, ◌+◌, ◌≤◌, length, count_by}
+use Rattle.std.proofs.Common.{◌≡◌, ◌+◌, length, count_by}
 use Rattle.std.specs.Fn.{TakesAt, CalledAt}
 use Rattle.iddqd_hash.specs.Asks.{CanAsk}
 use Rattle.iddqd_hash.specs.HashTable.{values}

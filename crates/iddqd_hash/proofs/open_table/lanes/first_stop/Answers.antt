@@ -1,4 +1,4 @@
-use Rattle.std.proofs.Common.{◌≡◌, ◌==◌, ◌%◌, ◌^◌, ◌∙◌, ◌+◌, ◌≤◌, cond, map, arith, bit_or, length, not, ap}
+use Rattle.std.proofs.Common.{◌≡◌, ◌==◌, ◌%◌, ◌^◌, ◌∙◌, cond, map, arith, bit_or, not, ap}
 use Rattle.std.specs.Int.{w64, trailing_zeros}
 use Rattle.std.specs.List.{prefix_len}
 use Rattle.std.specs.Prelude.{replicate}

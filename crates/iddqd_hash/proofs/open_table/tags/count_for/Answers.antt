@@ -1,4 +1,4 @@
-use Rattle.std.proofs.Common.{◌≡◌, inl, inr, arith}
+use Rattle.std.proofs.Common.{inl, inr, arith}
 use Rattle.iddqd_hash.proofs.open_table.tags.count_for.Goals as goal
 
 pub returns-then-needed-current-clause-power : goal.returns-then-needed-current-clause-power

@@ -1,4 +1,4 @@
-use Rattle.std.proofs.Common.{◌<◌, ◌≤◌, slice_index, arith}
+use Rattle.std.proofs.Common.{◌<◌, slice_index, arith}
 use Rattle.iddqd_hash.proofs.OpenWalkLemmas.{IsReached-start, IsReached-next, places_left-next}
 use Rattle.iddqd_hash.proofs.open_table.tags.free_place.Goals as goal
 

@@ -1,4 +1,4 @@
-use Rattle.std.proofs.Common.{◌≡◌, ◌∙◌, ◌+◌, ◌-◌, ◌^◌, ap, arith}
+use Rattle.std.proofs.Common.{◌∙◌, ◌-◌, ◌^◌, ap, arith}
 use Rattle.std.proofs.lemmas.Nat.{one_shl}
 use Rattle.iddqd_hash.proofs.open_table.tags.least_count.Goals as goal
 

@@ -1,6 +1,0 @@
-use Rattle.std.proofs.Common.{rules}
-use Rattle.iddqd_hash.proofs.AskLemmas.{CanAsk-everywhere}
-use Rattle.iddqd_hash.proofs.tests.accept_first.Goals as goal
-
-pub find-requires : goal.find-requires
-find-requires c = CanAsk-everywhere _ _ _ _ (λ s x. search rules)
