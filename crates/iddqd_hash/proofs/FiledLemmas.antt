@@ -10,9 +10,17 @@ use Rattle.std.specs.FinMap.Entries.{find, is_sorted, below_all}
 use Rattle.std.specs.Fn.{Shared}
 use Rattle.std.proofs.lemmas.Map.Views.{list_any-from_Contains, Contains-from_any}
 use Rattle.iddqd_hash.specs.Asks.{Hits, Misses, LooksUp}
+use Rattle.iddqd_hash.specs.HashTable.{value_of}
 use Rattle.iddqd_hash.specs.MapHashTable.{indexes_under, AsksKey, FindsWhere}
+use Rattle.iddqd_hash.specs.MapHashTableEntry.{entry_pair, entry_index}
+use Rattle.iddqd_hash.specs.declared.hash_table.OccupiedEntry.{OccupiedEntry}
 use Rattle.iddqd_hash.proofs.AskLemmas.{Hits-tested, Misses-tested, list_any-passed, or_true}
 use Rattle.iddqd_hash.proofs.MapHashTableLemmas.{tied}
+
+-- the index of an entry is that of its pair
+pub entry_index-value : (e : OccupiedEntry) → entry_index e ≡ value_of (entry_pair e)
+unfolding entry_index
+entry_index-value e = refl
 
 both_hold : (a b : Bool) → Holds (a && b) → Holds a × Holds b
 both_hold true b h = (tt, h)

@@ -1,5 +1,5 @@
 -- What one write after another does to the bytes of a sink.
-use Rattle.std.proofs.Common.{◌≡◌, ◌+◌, ◌<◌, ◌≤◌, ℕ, List, [], ◌∷◌, ◌++◌, true, cond, take, drop, get_or, length, take_all, Option, Some, None, Result, Ok, Err, OnOk, IsErr, is_ok, refl, sym, ap, subst, ◌∙◌, append_assoc, append-nil}
+use Rattle.std.proofs.Common.{◌≡◌, ◌+◌, ◌<◌, ◌≤◌, ℕ, List, [], ◌++◌, true, cond, take, drop, get_or, length, take_all, Option, Some, None, Result, Ok, Err, OnOk, IsErr, is_ok, refl, sym, ap, subst, ◌∙◌, append_assoc, append-nil}
 use Rattle.std.specs.List.{flat_map}
 use Rattle.std.proofs.lemmas.List.{take_more, flat_map_more, take-append-drop}
 use Rattle.std.proofs.lemmas.Grind.{flat_map-append}

@@ -175,10 +175,15 @@ fn numbers(rt: &impl Abort, text: &str) -> [u32; 4] {
 }
 
 fn parse(rt: &impl Abort, text: &str) -> Call {
-    let (word, rest) = text.split_once(' ').unwrap_or((text, ""));
-    Call {
-        verb: verb_of(rt, word),
-        numbers: numbers(rt, rest),
+    match text.split_once(' ') {
+        Some((word, rest)) => Call {
+            verb: verb_of(rt, word),
+            numbers: numbers(rt, rest),
+        },
+        None => Call {
+            verb: verb_of(rt, text),
+            numbers: [0; 4],
+        },
     }
 }
 

@@ -5,5 +5,8 @@ use Rattle.iddqd_keyed.proofs.lookup.remove_item.Goals as goal
 pub unreachable-requires : goal.unreachable-requires
 unreachable-requires g c = none_not_live c.args.items.now.store c.args.ix (sym c.in-None.ensures.value) c.requires.live
 
-pub returns : goal.returns
-returns g c = record { item = sym c.in-Some.ensures.value; store = ap (λ s. s.store) c.in-Some.ensures.removed; order = c.remove_from_order.ensures }
+pub returns-clause-item : goal.returns-clause-item
+returns-clause-item g c = sym c.in-Some.ensures.value
+
+pub returns-clause-store : goal.returns-clause-store
+returns-clause-store g c = ap (λ s. s.store) c.in-Some.ensures.removed

@@ -2,9 +2,8 @@ use Rattle.std.proofs.Common.{rules, ◌≡◌, ◌∙◌, Some, None, ap, sym, 
 use Rattle.iddqd.specs.Store.{get}
 use Rattle.iddqd_hash.specs.HashTable.{value_of}
 use Rattle.iddqd_hash.specs.MapHashTable.{filed}
-use Rattle.iddqd_hash.specs.MapHashTableEntry.{entry_index}
 use Rattle.iddqd_hash.proofs.AskLemmas.{CanAsk-by}
-use Rattle.iddqd_hash.proofs.FiledLemmas.{under_all_filed, FindsWhere-looked_up}
+use Rattle.iddqd_hash.proofs.FiledLemmas.{entry_index-value, under_all_filed, FindsWhere-looked_up}
 use Rattle.iddqd_keyed.specs.State.{IsLive, IsFiledHit}
 use Rattle.iddqd_keyed.proofs.FindLemmas.{passes, FindsFiled-from_where}
 use Rattle.iddqd_keyed.proofs.lookup.take_by_first_key.Goals as goal
@@ -18,12 +17,11 @@ find_entry_by_hash-found-requires g c =
     (λ s x r t here i called. search rules) _ (refl, refl)
 
 pub returns-in-Ok-clause-found : goal.returns-in-Ok-clause-found
-unfolding entry_index
 returns-in-Ok-clause-found g c =
     let store = c.args.items.now.store in
     let test = λ (item : g.row.T.Denot). g.T.Key1.PartialEq.eq c.args.key.now (g.T.KeyedItem.first_key item) in
     let found = c.in-Ok.ensures.found in
-    let same : Some c.get-ix.result ≡ Some found.value = sym c.get-ix.ensures ∙ ap value_of found.is_pair in
+    let same : Some c.get-ix.result ≡ Some found.value = sym c.get-ix.ensures ∙ entry_index-value _ ∙ ap value_of found.is_pair in
     let hit = FindsFiled-from_where store (filed c.args.table.now) c.args.hash test (Some found.value)
     (FindsWhere-looked_up (filed c.args.table.now) c.args.hash _ (λ s. (s.0.now ≡ c.args.key.now) × (s.1.now ≡ c.args.items.now)) (passes store test)
     (λ s x b t is i called.
@@ -35,10 +33,9 @@ returns-in-Ok-clause-found g c =
     subst (λ ix. IsFiledHit store (filed c.args.table.now) c.args.hash test ix) (let back : found.value ≡ c.get-ix.result = cc in back) hit
 
 pub returns-in-Ok-clause-taken : goal.returns-in-Ok-clause-taken
-unfolding entry_index
 returns-in-Ok-clause-taken g c =
     let out = c.remove.ensures.removed in
-    let same : Some c.get-ix.result ≡ Some out.ix = sym c.get-ix.ensures ∙ ap value_of out.is_pair in
+    let same : Some c.get-ix.result ≡ Some out.ix = sym c.get-ix.ensures ∙ entry_index-value _ ∙ ap value_of out.is_pair in
     let removed : out.ix ≡ c.get-ix.result = cc in
     let gone = rw (removed, c.in-Ok.ensures.table) at out.others_stay in
     search (rules, gone)

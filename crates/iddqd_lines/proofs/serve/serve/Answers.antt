@@ -1,4 +1,4 @@
-use Rattle.std.proofs.Common.{ap, sym, ◌∙◌, arith}
+use Rattle.std.proofs.Common.{◌∙◌, arith}
 use Rattle.std.proofs.lemmas.Result.{on_ok_weaker}
 use Rattle.iddqd_lines.specs.Program.{IsDefaultHasher}
 use Rattle.iddqd_lines.proofs.ByteLemmas.{Sends-sent}

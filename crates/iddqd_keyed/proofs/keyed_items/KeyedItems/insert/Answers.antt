@@ -1,6 +1,6 @@
-use Rattle.std.proofs.Common.{◌∙◌, ap, sym, subst}
-use Rattle.iddqd_keyed.specs.Keys.{Keys, keys_of}
-use Rattle.iddqd_keyed.specs.State.{IsPaired, Finds1, Finds2, hash_in}
+use Rattle.std.proofs.Common.{rules, ◌∙◌, ◌⊎◌, IsSome, ap, refl, sym, subst}
+use Rattle.iddqd_keyed.specs.Keys.{Keys, keys_of, has_first, has_second}
+use Rattle.iddqd_keyed.specs.State.{IsPaired, Finds1, Finds2, FirstKeysInOrder, SecondKeysInOrder, AnswersScan, hash_in}
 use Rattle.iddqd_keyed.specs.Machine.{MayMissBoth}
 use Rattle.iddqd_keyed.proofs.KeyLemmas.{AreLawful-from_bounds}
 use Rattle.iddqd_keyed.proofs.InsertLemmas.{MayMissBoth-from_finds, Inserts-from_stored, Keeps-from_stored, TellsAsScan-from_stored}
@@ -36,3 +36,22 @@ returns-clause-keeps g c =
 
 pub returns-clause-tells : goal.returns-clause-tells
 returns-clause-tells g c = TellsAsScan-from_stored _ _ c.store.new.self _ (missed g c) (AreLawful-from_bounds _ _ _ _ g.S.BuildHasher g.S.Hasher.Hasher g.met.T.Key1.PartialEq.laws g.met.T.Key1.Hash.respects_eq g.met.T.Key2.Ord.total) c.store.result c.store.ensures.refused
+
+pub returns-then-is_some-clause-inserts : goal.returns-then-is_some-clause-inserts
+returns-then-is_some-clause-inserts g c =
+    let keys : Keys _ _ _ _ = keys_of g.T.KeyedItem g.T.Key1.PartialEq.eq g.T.Key1.Hash.hash_input g.T.Key2.Ord.cmp g.S.BuildHasher g.S.Hasher.Hasher in
+    record {
+      given_back = refl;
+      first_found = subst (λ k. Finds1 keys c.args.self.now k c.find_hashed-first.result) c.key1-key.ensures c.find_hashed-first.ensures.found;
+      second_found = subst (λ k. Finds2 keys c.args.self.now k c.find2-second.result) c.key2.ensures c.find2-second.ensures.found.found;
+      one_hit = let hit : IsSome c.find_hashed-first.result ⊎ IsSome c.find2-second.result = search rules in hit;
+      unchanged = refl;
+    }
+
+pub returns-then-is_some-clause-tells : goal.returns-then-is_some-clause-tells
+returns-then-is_some-clause-tells g c =
+    let keys : Keys _ _ _ _ = keys_of g.T.KeyedItem g.T.Key1.PartialEq.eq g.T.Key1.Hash.hash_input g.T.Key2.Ord.cmp g.S.BuildHasher g.S.Hasher.Hasher in
+    record {
+      first = subst (λ k. FirstKeysInOrder keys c.args.self.now → AnswersScan c.args.self.now.store (has_first keys k) c.find_hashed-first.result) c.key1-key.ensures c.find_hashed-first.ensures.as_scan;
+      second = subst (λ k. SecondKeysInOrder keys c.args.self.now → AnswersScan c.args.self.now.store (has_second keys k) c.find2-second.result) c.key2.ensures c.find2-second.ensures.found.as_scan;
+    }
