@@ -1,5 +1,5 @@
--- Of sixteen tags, which are empty or have a tag.
-use Rattle.std.proofs.Common.{◌≡◌, ◌==◌, ◌%◌, ◌^◌, ◌||◌, ℕ, Bool, true, false, cond, List, [], ◌∷◌, map, length, refl, bit_or, arith}
+-- Of sixteen tags, which are empty or have a tag, and which are not full.
+use Rattle.std.proofs.Common.{◌≡◌, ◌==◌, ◌%◌, ◌^◌, ◌||◌, ◌≤◌, ltb, ltb-false, ℕ, Bool, true, false, cond, List, [], ◌∷◌, map, length, refl, bit_or, arith}
 use Rattle.std.specs.Prelude.{replicate}
 use Rattle.std.proofs.lemmas.List.{length-map}
 use Rattle.std.proofs.lemmas.Simd.{zip2_splat, zip2-map, map-map, mask_l-mod}
@@ -24,3 +24,24 @@ pub stops_mask : (v : List ℕ) (tag : ℕ) → length v ≡ 16
 stops_mask v tag long =
     rw (zip2_splat same v 16 tag long, zip2_splat same v 16 0 long, zip2-map bit_or (λ x. same x tag) (λ x. same x 0) v, map-map, tops tag v)
     (mask_l-mod (map (is_stop tag) v) 64 (omega (arith, length-map v (is_stop tag))))
+
+-- whether no pair stands in a cell with this tag
+abbrev pub is_free : ℕ → Bool
+is_free tag = ltb tag 128
+
+abbrev pub less : ℕ → ℕ → ℕ
+less a b = cond (ltb a b) 255 0
+
+top_kept : (p : Bool) → top 7 (cond p 255 0) ≡ p
+top_kept true = refl
+top_kept false = refl
+
+free_tops : (v : List ℕ) → map (λ x. top 7 (less x 128)) v ≡ map is_free v
+free_tops [] = refl
+free_tops (x ∷ v) = rw (top_kept (ltb x 128), free_tops v) refl
+
+pub free_mask : (v : List ℕ) → length v ≡ 16 → mask_l (map (top 7) (zip2 less v (replicate 16 128))) % 2 ^ 64 ≡ mask_l (map is_free v)
+free_mask v long = rw (zip2_splat less v 16 128 long, map-map, free_tops v) (mask_l-mod (map is_free v) 64 (omega (arith, length-map v is_free)))
+
+pub not_free : (tag : ℕ) → is_free tag ≡ false → 128 ≤ tag
+not_free tag is = ltb-false tag 128 is

@@ -2,7 +2,7 @@
 use Rattle.std.proofs.Common.{◌≡◌, ◌≢◌, ◌∙◌, ◌==◌, ◌||◌, ℕ, ◌+◌, ◌-◌, ◌%◌, ◌<◌, ◌≤◌, Bool, true, false, List, Option, Some, length, slice_index, ltb, ltb-true, ltb-false, eq-eqb, eqb-true, inl, inr, refl, sym, ap, subst, arith}
 use Rattle.std.proofs.Math.Nat.{mod-eq_of_lt, mod-lt}
 use Rattle.std.proofs.lemmas.Bool.{cases_eq}
-use Rattle.iddqd_hash.specs.OpenTable.{tag_of, is_stop, slot_at, NoStops, Skips, IsReached, IsProbed, PassesBy}
+use Rattle.iddqd_hash.specs.OpenTable.{tag_of, is_stop, slot_at, NoStops, AllFull, Skips, IsReached, IsProbed, PassesBy}
 use Rattle.iddqd_hash.proofs.OpenWalkLemmas.{onward}
 use Rattle.iddqd_hash.proofs.OpenLookupLemmas.{tag_read}
 
@@ -33,6 +33,17 @@ Skips-run tags tag at run place inside none is =
       steps = run;
       is_there = is;
       others = λ k below. subst (λ x. is_stop tag (slice_index tags x) ≡ false) (sym (mod-eq_of_lt (omega arith))) (none (at + k) (omega arith) (omega arith));
+    }
+
+pub IsReached-run : (tags : List ℕ) (at run place : ℕ) → at + run ≤ length tags → AllFull tags at run → (at + run) % length tags ≡ place → IsReached tags at place
+IsReached-run tags at run place inside full is =
+    record {
+      steps = run;
+      is_there = is;
+      passed = λ k below.
+          let here : (at + k) % length tags ≡ at + k = mod-eq_of_lt (omega arith) in
+          let tag : 128 ≤ slice_index tags (at + k) = full (at + k) (omega arith) (omega arith) in
+          subst (λ x. 0 < slice_index tags x) (sym here) (omega arith);
     }
 
 pub IsReached-skips : (tags : List ℕ) (tag from at : ℕ) → Skips tags tag from at → IsReached tags from at

@@ -44,6 +44,10 @@ is_stop tag here = (here == tag) || (here == 0)
 abbrev pub NoStops : ℕ → List ℕ → ℕ → ℕ → Type 0
 NoStops tag tags at run = (k : ℕ) → at ≤ k → k < at + run → is_stop tag (slice_index tags k) ≡ false
 
+-- each place from one on, up to so many further, is full
+abbrev pub AllFull : List ℕ → ℕ → ℕ → Type 0
+AllFull tags at run = (k : ℕ) → at ≤ k → k < at + run → 128 ≤ slice_index tags k
+
 -- a walk from one place comes to another past places that aren't stops
 pub record Skips (tags : List ℕ) (tag from at : ℕ) : Type 0 where
   pub steps : ℕ

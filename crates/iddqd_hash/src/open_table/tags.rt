@@ -6,7 +6,7 @@
 ghost use Rattle.std.specs.Prelude.{◌≡◌, ◌+◌, ◌<◌, ◌≤◌, ◌%◌, ◌⊎◌, length, slice_index, IfSome, IsTrue};
 ghost use Rattle.iddqd_hash.specs.OpenTable.{tag_of, limit_of, is_stop, IsPowerOfTwo, HasEmpty, Skips, IsFree, IsReached, Passed};
 
-use crate::open_table::lanes::run_of_others;
+use crate::open_table::lanes::{run_of_full, run_of_others};
 
 /// The tag of a full cell.
 pub fn tag_of(hash: u64) -> u8
@@ -42,9 +42,18 @@ pub fn free_place(tags: &[u8], hash: u64) -> usize
     let count = tags.len();
     let mut at = home_of(hash, count);
     while tags[at] >= 128 {
-        at = next(at, count);
+        at = past_full(tags, next(at, count));
     }
     at
+}
+
+// A place from `at` on with only full ones before it.
+fn past_full(tags: &[u8], at: usize) -> usize
+    requires power { IsPowerOfTwo (length tags.now) }
+    requires inside { at < length tags.now }
+    ensures { IsReached tags.now at result }
+{
+    (at + run_of_full(tags, at)) & (tags.len() - 1)
 }
 
 /// The first place from `from` on that is empty or has the tag.
