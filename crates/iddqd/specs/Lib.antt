@@ -1,5 +1,6 @@
 pub mod Store
 pub mod ItemSet
+pub mod Sizes
 pub mod Lends
 pub mod GrowHandle
 pub mod Slots

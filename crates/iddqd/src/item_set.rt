@@ -10,6 +10,8 @@ ghost use Rattle.iddqd.specs.Store.{sentinel, get, slot_count, live_count, next_
 ghost use Rattle.iddqd.specs.ItemSet.{room, with_item, KeepsOthers, GrowsIfDense};
 ghost use Rattle.iddqd.specs.Compaction.{rank, compacted, new_name, numbers, IsRemapOf};
 
+mod sizes;
+
 pub use crate::index_remap::IndexRemap;
 use crate::item_index::ItemIndex;
 use std::alloc::{AllocError, Global};
@@ -152,6 +154,7 @@ impl<T> ItemSet<T> {
         ensures removed { OnSome result (self.new ≡ record self.old { store = removed self.old.store ix }) }
         ensures absent { IfNone result (self.new ≡ self.old) }
         ensures others { KeepsOthers ix self.old.store self.new.store }
+        ensures room { OnSome result (room self.new ≡ room self.old + 1) }
     {
         if !self.is_live(ix) {
             return None;
@@ -201,6 +204,7 @@ impl<T> ItemSet<T> {
         ensures refused { OnErr result (self.new ≡ self.old) }
         ensures dense { self.old.store.free ≡ [] → IsOk result }
         ensures ranks { (i j : ℕ) → i < j → IsSome (get self.old.store i) → rank self.old.store i < rank self.old.store j }
+        ensures room { room self.new ≡ room self.old }
     {
         if self.slots.len() == self.len as usize {
             return Ok(IndexRemap::Identity);
@@ -217,6 +221,7 @@ impl<T> ItemSet<T> {
         T: Drop,
         ensures store { self.new.store ≡ cleared self.old.store }
         ensures capacity { self.new.capacity ≡ self.old.capacity }
+        ensures room { room self.old ≤ room self.new }
     {
         self.slots.clear();
         self.free_head = ItemIndex::SENTINEL;
@@ -272,6 +277,7 @@ impl<'a, T> GrowHandle<'a, T> {
         ensures assignable { result < sentinel }
         ensures inserted { self.exit.0.now ≡ record (handle_set self.entry) { store = inserted (handle_store self.entry) item } }
         ensures slots { GrowsIfDense (handle_store self.entry) self.exit.0.now.store }
+        ensures room { room self.exit.0.now + 1 ≡ room (handle_set self.entry) }
     {
         let ix = self.ix;
         self.set.fill(ix, item);
@@ -305,6 +311,7 @@ impl<T> ItemSet<T> {
         requires { IsSome (get self.old.store ix) }
         ensures value { get self.old.store ix ≡ Some result }
         ensures removed { self.new ≡ record self.old { store = removed self.old.store ix } }
+        ensures room { room self.new ≡ room self.old + 1 }
     {
         let vacant = ItemSlot::Vacant {
             next: self.free_head,
@@ -359,6 +366,7 @@ impl<T> ItemSet<T> {
         requires next { ix ≡ next_index self.old.store }
         ensures inserted { self.new ≡ record self.old { store = inserted self.old.store item } }
         ensures slots { GrowsIfDense self.old.store self.new.store }
+        ensures room { room self.new + 1 ≡ room self.old }
     {
         if ix.as_u32() as usize == self.slot_count() {
             self.push(item)
@@ -415,7 +423,8 @@ impl<T> ItemSet<T> {
     fn close_up(&mut self)
     where
         T: Drop,
-        ensures { self.new ≡ record self.old { store = compacted self.old.store } }
+        ensures compacted { self.new ≡ record self.old { store = compacted self.old.store } }
+        ensures room { room self.new ≡ room self.old }
     {
         self.slots
             .retain(|slot| matches!(slot, ItemSlot::Occupied(_)));

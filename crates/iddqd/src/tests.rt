@@ -2,6 +2,7 @@ mod compaction;
 mod handles;
 mod indexes;
 mod printing;
+mod sizes;
 mod slots;
 
 use crate::item_index::ItemIndex;

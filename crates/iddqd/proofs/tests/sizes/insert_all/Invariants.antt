@@ -1,0 +1,6 @@
+use Rattle.std.proofs.Common.{◌+◌, ◌≤◌, length}
+use Rattle.iddqd.specs.ItemSet.{room}
+use Rattle.iddqd.proofs.tests.sizes.insert_all.Given as goal
+
+abbrev pub invariant-loop-item : goal.invariant-loop-item
+invariant-loop-item l = length l.items ≤ room l.set + l.item-index

@@ -1,0 +1,85 @@
+//! How many slots a set's memory holds, and how it is taken ahead and given back.
+ghost use Rattle.std.specs.Prelude.{◌≡◌, ◌≤◌, ◌==◌, min, IsOk, IfOk, OnOk};
+ghost use Rattle.iddqd.specs.Store.{empty, slot_count, live_count};
+ghost use Rattle.iddqd.specs.ItemSet.{room};
+ghost use Rattle.iddqd.specs.Sizes.{insertable, ReservesSlots, Shrinks};
+
+use super::ItemSet;
+use crate::item_index::ItemIndex;
+use std::alloc::{AllocError, Global};
+
+impl<T> ItemSet<T> {
+    /// An empty set whose memory holds at least so many slots. With 0 it takes no memory.
+    pub fn with_capacity(alloc: Global, capacity: usize) -> Result<ItemSet<T>, AllocError>
+        ensures contents { IfOk result (λ set. set.store ≡ empty) }
+        ensures capacity { IfOk result (λ set. capacity ≤ set.capacity) }
+        ensures none { capacity ≡ 0 → IsOk result }
+    {
+        Ok(ItemSet {
+            slots: Vec::with_capacity(alloc, capacity)?,
+            free_head: ItemIndex::SENTINEL,
+            len: 0,
+        })
+    }
+
+    /// Whether there is no item.
+    pub fn is_empty(&self) -> bool
+        ensures { result ≡ (live_count self.now.store == 0) }
+    {
+        self.len == 0
+    }
+
+    /// How many slots the memory holds.
+    pub fn capacity(&self) -> usize
+        ensures value { result ≡ self.now.capacity }
+        ensures holds_all { slot_count self.now.store ≤ result }
+    {
+        self.slots.capacity()
+    }
+
+    /// Takes memory for so many slots past those that there are, so that as many inserts need none.
+    ///
+    /// It is the capacity that inserts use, so removals, `clear` and `compact` between them lose nothing. Where it is
+    /// refused, or where no vector can hold so many, nothing changes. Memory may be taken past the number of slots
+    /// that there can be. It grows as the vector does, which at least doubles.
+    pub fn reserve(&mut self, additional: usize) -> Result<(), AllocError>
+        ensures memory { ReservesSlots additional self.old result self.new }
+        ensures room { OnOk result (min additional (insertable self.new.store) ≤ room self.new) }
+    {
+        if additional <= self.slots.capacity() - self.slots.len() {
+            return Ok(());
+        }
+        self.slots.reserve(additional)
+    }
+
+    /// The same as `reserve`, under the name that it has where `reserve` can't be refused.
+    pub fn try_reserve(&mut self, additional: usize) -> Result<(), AllocError>
+        ensures memory { ReservesSlots additional self.old result self.new }
+        ensures room { OnOk result (min additional (insertable self.new.store) ≤ room self.new) }
+    {
+        self.reserve(additional)
+    }
+
+    /// Gives back the memory past the slots that there are. Vacant slots stay.
+    ///
+    /// The items move to a smaller block; where that is refused they stay where they are.
+    pub fn shrink_capacity_to_fit(&mut self) -> Result<(), AllocError>
+        ensures { Shrinks 0 self.old result self.new }
+    {
+        self.shrink_capacity_to(0)
+    }
+
+    /// Gives back the memory past so many slots, or past those that there are where these are more.
+    ///
+    /// The items move to a smaller block; where that is refused they stay where they are.
+    pub fn shrink_capacity_to(&mut self, least: usize) -> Result<(), AllocError>
+        ensures { Shrinks least self.old result self.new }
+    {
+        let wanted = least.max(self.slots.len());
+        self.slots.shrink_to(wanted);
+        if wanted < self.slots.capacity() {
+            return Err(AllocError);
+        }
+        Ok(())
+    }
+}
