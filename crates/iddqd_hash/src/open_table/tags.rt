@@ -104,7 +104,7 @@ pub fn count_for(current: usize, needed: usize) -> Option<usize>
     ensures fits { IfSome result (λ count. needed ≤ limit_of count) }
     ensures no_fewer { IfSome result (λ count. current ≤ count) }
 {
-    if needed <= current / 64 * 49 {
+    if needed <= current / 64 * 42 {
         return Some(current);
     }
     least_count(needed.max(limit_of(current) + 1))
