@@ -1,0 +1,226 @@
+//! The table with open addressing beside hashbrown's raw table, under equal hashes: the least nanoseconds an entry
+//! over some rounds, and the ratio of the two.
+use hashbrown012::raw::RawTable;
+use std::hint::black_box;
+
+#[repr(C)]
+#[derive(Clone, Copy)]
+struct Record {
+    key: u32,
+    second: u32,
+    value: u32,
+}
+
+#[repr(C)]
+#[derive(Clone, Copy)]
+struct Round {
+    insert: u64,
+    hit: u64,
+    miss: u64,
+    churn: u64,
+    retain: u64,
+    sum: u64,
+}
+
+#[repr(C)]
+struct Timespec {
+    seconds: i64,
+    nanos: i64,
+}
+
+unsafe extern "C" {
+    fn clock_gettime(clock: i32, time: *mut Timespec) -> i32;
+
+    // A slice is a pointer and a length.
+    #[allow(clippy::too_many_arguments)]
+    fn bench_round(
+        records: *mut Record,
+        count: usize,
+        hits: *const u32,
+        hit_count: usize,
+        misses: *const u32,
+        miss_count: usize,
+        order: *const u32,
+        order_count: usize,
+    ) -> Round;
+}
+
+/// The nanoseconds that this thread has run.
+#[unsafe(no_mangle)]
+extern "C" fn bench_now() -> u64 {
+    let mut time = Timespec { seconds: 0, nanos: 0 };
+    unsafe { clock_gettime(3, &mut time) };
+    time.seconds as u64 * 1_000_000_000 + time.nanos as u64
+}
+
+#[inline(always)]
+fn hash_of(key: u32) -> u64 {
+    let wide = (key as u64 | (key as u64) << 32) ^ 0x243f_6a88_85a3_08d3;
+    let product = (wide as u128).wrapping_mul(0x9e37_79b9_7f4a_7c1d);
+    product as u64 ^ (product >> 64) as u64
+}
+
+fn key_of(number: usize) -> u32 {
+    number.wrapping_mul(2654435769) as u32
+}
+
+#[inline(never)]
+fn insert_all(table: &mut RawTable<u32>, records: &[Record]) {
+    for (number, record) in records.iter().enumerate() {
+        table.reserve(1, |&ix| hash_of(records[ix as usize].key));
+        table.insert(hash_of(record.key), number as u32, |_| unreachable!("room was made"));
+    }
+}
+
+#[inline(never)]
+fn find_all(table: &RawTable<u32>, records: &[Record], keys: &[u32]) -> u64 {
+    let mut sum = 0u64;
+    for &key in keys {
+        if let Some(&ix) = table.get(hash_of(key), |&ix| records[ix as usize].key == key) {
+            sum += ix as u64;
+        }
+    }
+    sum
+}
+
+#[inline(never)]
+fn churn(table: &mut RawTable<u32>, records: &mut [Record], order: &[u32]) -> u64 {
+    let mut removed = 0;
+    let mut fresh = records.len() * 2;
+    for &number in order {
+        let hash = hash_of(records[number as usize].key);
+        if let Some(bucket) = table.find(hash, |&ix| ix == number) {
+            unsafe { table.remove(bucket) };
+            removed += 1;
+        }
+        let key = key_of(fresh);
+        records[number as usize].key = key;
+        fresh += 1;
+        table.reserve(1, |&ix| hash_of(records[ix as usize].key));
+        table.insert(hash_of(key), number, |_| unreachable!("room was made"));
+    }
+    removed
+}
+
+#[inline(never)]
+fn retain_half(table: &mut RawTable<u32>, records: &[Record]) -> u64 {
+    unsafe {
+        for bucket in table.iter() {
+            if records[*bucket.as_ref() as usize].value & 1 != 0 {
+                table.erase(bucket);
+            }
+        }
+    }
+    table.len() as u64
+}
+
+fn hashbrown_round(records: &mut [Record], hits: &[u32], misses: &[u32], order: &[u32]) -> Round {
+    let mut table = RawTable::new();
+    let start = bench_now();
+    insert_all(&mut table, records);
+    let inserted = bench_now();
+    let found = find_all(black_box(&table), records, hits);
+    let hit = bench_now();
+    let others = find_all(black_box(&table), records, misses);
+    let missed = bench_now();
+    let removed = churn(&mut table, records, order);
+    let churned = bench_now();
+    let left = retain_half(&mut table, records);
+    let retained = bench_now();
+    Round {
+        insert: inserted - start,
+        hit: hit - inserted,
+        miss: missed - hit,
+        churn: churned - missed,
+        retain: retained - churned,
+        sum: found + others + removed + left,
+    }
+}
+
+struct Random(u64);
+
+impl Random {
+    fn next(&mut self) -> u64 {
+        self.0 = self.0.wrapping_add(0x9e37_79b9_7f4a_7c15);
+        let mut z = self.0;
+        z = (z ^ (z >> 30)).wrapping_mul(0xbf58_476d_1ce4_e5b9);
+        z = (z ^ (z >> 27)).wrapping_mul(0x94d0_49bb_1331_11eb);
+        z ^ (z >> 31)
+    }
+
+    fn shuffle(&mut self, xs: &mut [u32]) {
+        for i in (1..xs.len()).rev() {
+            xs.swap(i, (self.next() % (i as u64 + 1)) as usize);
+        }
+    }
+}
+
+/// The parts of a round, by name.
+fn parts(round: &Round) -> [(&'static str, u64); 5] {
+    [
+        ("insert, growing", round.insert),
+        ("find, hit", round.hit),
+        ("find, miss", round.miss),
+        ("remove and insert", round.churn),
+        ("retain half", round.retain),
+    ]
+}
+
+/// The least nanoseconds of each part over the rounds, of the table and of hashbrown's.
+fn least(count: usize, rounds: usize) -> [[f64; 5]; 2] {
+    let mut random = Random(7);
+    let mut records: Vec<Record> = (0..count)
+        .map(|number| Record { key: key_of(number), second: 0, value: (random.next() >> 40) as u32 })
+        .collect();
+    let mut hits: Vec<u32> = (0..count).map(key_of).collect();
+    let mut misses: Vec<u32> = (count..2 * count).map(key_of).collect();
+    let mut order: Vec<u32> = (0..count as u32).collect();
+    let mut least = [[f64::MAX; 5]; 2];
+    for _ in 0..rounds {
+        random.shuffle(&mut hits);
+        random.shuffle(&mut misses);
+        random.shuffle(&mut order);
+        let mut sums = [0; 2];
+        for (which, least) in least.iter_mut().enumerate() {
+            for (number, record) in records.iter_mut().enumerate() {
+                record.key = key_of(number);
+            }
+            let round = if which == 0 {
+                let (count, records) = (records.len(), records.as_mut_ptr());
+                let (hits, misses, order) = (hits.as_ptr(), misses.as_ptr(), order.as_ptr());
+                unsafe { bench_round(records, count, hits, count, misses, count, order, count) }
+            } else {
+                hashbrown_round(&mut records, &hits, &misses, &order)
+            };
+            sums[which] = round.sum;
+            for (least, (_, nanos)) in least.iter_mut().zip(parts(&round)) {
+                *least = least.min(nanos as f64 / count as f64);
+            }
+        }
+        assert_eq!(sums[0], sums[1], "the answers differ");
+    }
+    least
+}
+
+fn main() {
+    // So many rounds; twice as many on a busy machine do no harm.
+    let scale: usize = std::env::args().nth(1).map_or(1, |word| word.parse().expect("a number"));
+    let sizes = [(1_000, 2_000 * scale), (100_000, 30 * scale), (1_000_000, 6 * scale)];
+    let all: Vec<_> = sizes.iter().map(|&(count, rounds)| least(count, rounds)).collect();
+    let names = parts(&Round { insert: 0, hit: 0, miss: 0, churn: 0, retain: 0, sum: 0 });
+    println!("| ns an entry, table / hashbrown's: ratio | 1,000 | 100,000 | 1,000,000 |");
+    println!("|---|---|---|---|");
+    for (part, (name, _)) in names.iter().enumerate() {
+        print!("| {name} |");
+        for [ours, theirs] in &all {
+            print!(" {:.1} / {:.1}: {:.2} |", ours[part], theirs[part], ours[part] / theirs[part]);
+        }
+        println!();
+    }
+    print!("| average of the ratios |");
+    for [ours, theirs] in &all {
+        let ratios = (0..5).map(|part| ours[part] / theirs[part]);
+        print!(" {:.2} |", ratios.sum::<f64>() / 5.0);
+    }
+    println!();
+}
