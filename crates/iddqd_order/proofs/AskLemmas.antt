@@ -38,6 +38,21 @@ module _ {F R : Type 0} (g : Mut F (ℕ × Unit {0}) R) (P : ℕ → Type 0) whe
   pub asks_one : {a b : Asking F} {ix : ℕ} {r : R} → P ix → Called g (closure_of a) (ix, tt) r (closure_of b) → ask_count b ≡ ask_count a + 1 → AsksWithin g P 1 a b
   asks_one h e c = record { asks = 1; within = omega arith; after = One_more At_once h e; counted = c }
 
+-- asks of fewer indexes
+module _ {F R : Type 0} (g : Mut F (ℕ × Unit {0}) R) (P Q : ℕ → Type 0) (wider : (ix : ℕ) → P ix → Q ix) where
+  pub After-wider : {n : ℕ} {a b : F} → After g P n a b → After g Q n a b
+  After-wider At_once = At_once
+  After-wider (One_more p h e) = One_more (After-wider p) (wider _ h) e
+
+  pub CanAsk-fewer : {f : F} → CanAsk g Q f → CanAsk g P f
+  CanAsk-fewer c = record { at = λ n f' p ix h. c.at n f' (After-wider p) ix (wider ix h) }
+
+  pub Steady-fewer : {read : R → Ordering} {answer : ℕ → Ordering} {f : F} → Steady g Q read answer f → Steady g P read answer f
+  Steady-fewer s = record { at = λ n f' p ix h. s.at n f' (After-wider p) ix (wider ix h) }
+
+  pub asks_wider : {k : ℕ} {a b : Asking F} → AsksWithin g P k a b → AsksWithin g Q k a b
+  asks_wider p = record { asks = p.asks; within = p.within; after = After-wider p.after; counted = p.counted }
+
 -- what each call of a closure keeps, all its calls keep
 module _ {F R : Type 0} (g : Mut F (ℕ × Unit {0}) R) (P : ℕ → Type 0) (I : F → Type 0) (keeps : (f f' : F) (ix : ℕ) (r : R) → I f → P ix → Called g f (ix, tt) r f' → I f') where
   pub After-keeps : {n : ℕ} {a b : F} → I a → After g P n a b → I b

@@ -1,14 +1,10 @@
 -- The number of binary digits.
 use Rattle.std.proofs.Common.{◌≡◌, ℕ, zero, suc, ◌+◌, ◌/◌, ◌<◌, ◌≤◌, refl, ap, arith}
-use Rattle.iddqd_order.specs.Digits.{digits, digits_within, bound}
+use Rattle.iddqd_order.specs.Digits.{digits, digits_within}
 
 pub digits_within-zero : (k : ℕ) → digits_within k 0 ≡ 0
 digits_within-zero zero = refl
 digits_within-zero (suc k) = refl
-
-pub digits_within-step : (k n : ℕ) → 0 < n → digits_within (suc k) n ≡ 1 + digits_within k (n / 2)
-digits_within-step k zero h = absurd (omega arith)
-digits_within-step k (suc n) h = refl
 
 pub digits_within-enough : (k m n : ℕ) → n ≤ k → n ≤ m → digits_within k n ≡ digits_within m n
 digits_within-enough zero zero zero h h' = refl
@@ -44,5 +40,10 @@ digits-mono a b h =
 pub halved : (n m : ℕ) → 0 < n → m ≤ n / 2 → 1 + digits m ≤ digits n
 halved n m h le = let half = digits-half n h in let mono = digits-mono m (n / 2) le in omega arith
 
-pub digits-bound : (n : ℕ) → digits n ≤ bound n
-digits-bound n = omega arith
+digits-eleven : digits 11 ≤ 4
+unfolding digits
+digits-eleven = omega arith
+
+-- a row is searched by four asks
+pub digits-row : (n : ℕ) → n ≤ 11 → digits n ≤ 4
+digits-row n le = let four : digits 11 ≤ 4 = digits-eleven in omega (arith, digits-mono n 11 le)

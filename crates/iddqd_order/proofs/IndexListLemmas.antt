@@ -1,22 +1,17 @@
 -- For callers too. What an insert and a removal keep of a list.
-use Rattle.std.proofs.Common.{◌≡◌, ◌≢◌, ◌∙◌, ℕ, zero, suc, ◌+◌, ◌-◌, ◌<◌, ◌≤◌, ◌==◌, List, [], ◌∷◌, length, get_or, Contains, refl, sym, ap, subst, arith, inl, inr, nat_eq, not, Bool, true, false, insert, remove, filter, ne_eqb, Option, Some, None, is_some}
+use Rattle.std.proofs.Common.{◌≡◌, ◌≢◌, ◌∙◌, ℕ, zero, suc, ◌+◌, ◌-◌, ◌<◌, ◌≤◌, ◌==◌, List, [], ◌∷◌, length, get_or, Contains, refl, sym, ap, subst, arith, inl, inr, nat_eq, not, Bool, true, false, insert, remove, filter, ne_eqb}
 use Rattle.std.proofs.lemmas.Bool.Decides.{nat_tests}
 use Rattle.std.specs.List.{IsDistinct, AllByRecursion, AllPairs}
 use Rattle.std.proofs.lemmas.Map.Keys.{apart_from_distinct, IsDistinct-from_apart, IsDistinct-head, IsDistinct-tail}
 use Rattle.std.proofs.lemmas.List.Kept.{AllPairs-filter}
-use Rattle.std.proofs.lemmas.List.Elements.{All-append, All-cons, All-contains, All-take, All-drop, All-filter, All-nil, All-get_or, All-from_recursion, Contains-get_or}
+use Rattle.std.proofs.lemmas.List.Elements.{All-append, All-cons, All-contains, All-take, All-drop, All-filter, All-nil, All-get_or, All-from_recursion, recursion_from_All, Contains-get_or}
 use Rattle.std.proofs.lemmas.List.Edits.{length-insert, get_or-insert_below, get_or-insert_at, get_or-insert_above}
 use Rattle.std.proofs.lemmas.List.{get_or_default}
 use Rattle.std.proofs.lemmas.Bool.{cases_lt}
-use Rattle.iddqd_order.specs.MapBTreeTable.{IsIndexList, sentinel, without, StandsAt}
+use Rattle.iddqd_order.specs.MapBTreeTable.{IsIndexList, sentinel, without}
 
 pub Contains-at : (xs : List ℕ) (i x : ℕ) → i < length xs → x ≡ get_or xs i 0 → Contains xs x
 Contains-at xs i x h e = (i, h, sym (e ∙ get_or_default xs i 0 x h))
-
--- an index that stands at a place is stored
-pub Contains-from_place : (xs : List ℕ) (ix : ℕ) (place : Option ℕ) → StandsAt xs ix place → is_some place ≡ true → Contains xs ix
-Contains-from_place xs ix None there found = cc
-Contains-from_place xs ix (Some i) there found = let here = there i refl in Contains-at xs i ix here.0 (sym here.1)
 
 -- what holds of all pairs holds of them where x goes to a place at which it holds of x too
 module _ {X : Type 0} (R : X → X → Type 0) (xs : List X) (p : ℕ) (x : X) (within : p ≤ length xs)
@@ -85,6 +80,11 @@ without-absent x [] h = refl
 without-absent x (y ∷ ys) h =
     let kept : not (y == x) ≡ true = (let apart = h.0 in grind (arith, nat_tests)) in
     rw kept (ap (λ zs. y ∷ zs) (without-absent x ys h.1))
+
+-- and where x is missing
+pub without-missing : (xs : List ℕ) (x : ℕ) → (Contains xs x → ⊥) → without xs x ≡ xs
+without-missing xs x none =
+    without-absent x xs (recursion_from_All (λ y. nat_eq x y ≡ false) xs (λ k d lt. ne_eqb x _ (λ e. none (k, lt, sym (e ∙ get_or_default xs k d x lt)))))
 
 -- of distinct indexes the removal at a place leaves those other than the one that stands there
 pub remove-distinct : (xs : List ℕ) (p : ℕ) → IsDistinct nat_eq xs → p < length xs → remove xs p ≡ without xs (get_or xs p 0)

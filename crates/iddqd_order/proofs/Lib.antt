@@ -1,7 +1,22 @@
 pub mod AskLemmas
 mod CountSteps
+mod DescentLemmas
 mod DigitLemmas
+mod EndLemmas
 pub mod IndexListLemmas
+pub mod InsertLemmas
 pub mod KeyOrderLemmas
+mod MendLemmas
+pub mod NodeLemmas
+mod NodeRenameLemmas
+mod PartLemmas
+mod ReckoningLemmas
+mod RemovalLemmas
 pub mod RenameLemmas
+pub mod RowLemmas
 mod SearchLemmas
+pub mod TableLemmas
+pub mod TreeLemmas
+mod WalkLemmas
+pub mod WeaveLemmas
+mod WeaveRemovalLemmas

@@ -4,4 +4,4 @@ use Rattle.iddqd_order.specs.declared.btree_table.iter.Iter.{Iter}
 
 -- the indexes that are still to come
 unfoldable pub indexes_left : Iter → List ℕ
-indexes_left i = i.rest.now
+indexes_left i = i

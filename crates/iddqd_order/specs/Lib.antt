@@ -1,9 +1,15 @@
 pub mod Asking
 pub mod Asks
+pub mod Descent
 pub mod Digits
 pub mod Iter
 pub mod KeyOrder
 pub mod MapBTreeTable
+pub mod Node
 pub mod PreparedBTreeInsert
 pub mod PreparedBTreeRemove
+pub mod Removal
+pub mod Row
 pub mod Search
+pub mod Tree
+pub mod Walk

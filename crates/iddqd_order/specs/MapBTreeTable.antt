@@ -1,21 +1,22 @@
 -- What a contract sees of a `MapBTreeTable`.
-use Rattle.std.specs.Prelude.{◌≡◌, ◌≢◌, ◌<◌, ℕ, List, Option, ◌==◌, nat_eq, not, filter, All, length, slice_index}
+use Rattle.std.specs.Prelude.{◌≡◌, ◌≢◌, ◌<◌, ℕ, List, Option, ◌==◌, nat_eq, not, filter, All, length, slice_index, Some, None, ⊤}
 use Rattle.std.specs.List.{IsDistinct}
 use Rattle.std.specs.Option.{ForSome}
+use Rattle.std.specs.Coded.{×_prop, Unit-prop}
+use native.Mathlib.Nat.{ℕ_set}
+use Rattle.iddqd_order.specs.declared.btree_table.node.Node.{Node}
+use Rattle.iddqd_order.specs.Tree.{in_order, HoldsIn, spot_in, HoldsIn-prop}
 pub use Rattle.iddqd.specs.Compaction.{sentinel}
 
--- the indexes in their order, and how many inserts need no memory
+-- the tree, and how many blocks wait for later inserts
 pub record Order : Type 0 where
-  pub indexes : List ℕ
-  pub room : ℕ
+  pub root : Option Node
+  pub height : ℕ
+  pub blocks : ℕ
 
 -- the indexes in their order
 unfoldable pub order_of : Order → List ℕ
-order_of t = t.indexes
-
--- how many inserts need no memory
-unfoldable pub room_of : Order → ℕ
-room_of t = t.room
+order_of t = in_order t.root t.height
 
 -- distinct indexes, each of which can be assigned
 pub record IsIndexList (xs : List ℕ) : Type 0 where
@@ -29,3 +30,12 @@ without xs ix = filter (λ j. not (j == ix)) xs
 -- if there is a place, the index stands there
 abbrev pub StandsAt : List ℕ → ℕ → Option ℕ → Type 0
 StandsAt xs ix place = ForSome place (λ i. (i < length xs) × (slice_index xs i ≡ ix))
+
+-- if there is a way, a path and a level, it goes to the index
+abbrev pub LeadsTo : Order → ℕ → Option (List ℕ × ℕ) → Type 0
+LeadsTo t ix None = ⊤
+LeadsTo t ix (Some way) = HoldsIn way.1 t.root t.height way.0 × (slice_index (in_order t.root t.height) (spot_in way.1 t.root t.height way.0) ≡ ix)
+
+pub LeadsTo-prop : (t : Order) (ix : ℕ) (way : Option (List ℕ × ℕ)) → IsProp (LeadsTo t ix way)
+LeadsTo-prop t ix None = Unit-prop
+LeadsTo-prop t ix (Some way) = ×_prop (HoldsIn-prop way.1 t.root t.height way.0) (ℕ_set _ _)

@@ -5,6 +5,7 @@ use Rattle.std.specs.Fn.{Mut}
 use Rattle.std.specs.declared.cmp.Ordering.{Ordering}
 use Rattle.iddqd_order.specs.MapBTreeTable.{Order, order_of}
 use Rattle.iddqd_order.specs.Search.{IsSteadyRising, IsPlace, with_ties}
+use Rattle.iddqd_order.specs.Tree.{place_in}
 use Rattle.iddqd_order.specs.contracts.btree_table.table.MapBTreeTable.{the_row}
 use Rattle.iddqd_order.specs.declared.btree_table.asking.Asking.{Asking}
 use Rattle.iddqd_order.specs.declared.btree_table.prepared_insert.PreparedBTreeInsert.{PreparedBTreeInsert}
@@ -19,7 +20,7 @@ index_of p = p.ix
 
 -- how many indexes will stand before it
 unfoldable pub place_of : PreparedBTreeInsert → ℕ
-place_of p = p.place
+place_of p = place_in p.table.now.root p.table.now.height p.path
 
 -- where memory was refused, the table has the indexes that it had
 abbrev pub rests_if_refused : {E : Type 0} → MutBor Order → Result PreparedBTreeInsert E → Fml

@@ -18,7 +18,7 @@ index_of p = p.ix
 
 -- whether the search found the index
 unfoldable pub is_found : PreparedBTreeRemove → Bool
-is_found p = is_some p.place
+is_found p = is_some p.way
 
 -- a removal of ix from the indexes xs is prepared, by answers that are so read: it is found only where it is stored, and then if the answers rise; `SENTINEL` is missing with no ask
 module _ {F R : Type 0} (g : Mut F (ℕ × Unit {0}) R) (read : R → Ordering) (xs : List ℕ) (ix : ℕ) where

@@ -51,14 +51,18 @@ module _ {F R : Type 0} (g : Mut F (ℕ × Unit {0}) R) (xs : List ℕ) (sought 
 
 -- calls that search in the indexes xs and so read the answers
 module _ {F R : Type 0} (g : Mut F (ℕ × Unit {0}) R) (read : R → Ordering) (xs : List ℕ) where
-  -- the search ends at the place of what is sought, which steady answers make Equal, or else at the place where it would go, if the answers rise
-  pub record Searches (sought : Option ℕ) (old : Asking F) (end : Result ℕ ℕ) (new : Asking F) : Type 0 where
-    pub asked : SearchAsks g xs sought old new
+  -- the search asks at most `limit` times, and ends at the place of what is sought, which steady answers make Equal, or else at the place where it would go, if the answers rise
+  pub record SearchesWithin (limit : ℕ) (sought : Option ℕ) (old : Asking F) (end : Result ℕ ℕ) (new : Asking F) : Type 0 where
+    pub asked : AsksWithin g (Askable xs sought) limit old new
     pub found : IfOk end (λ i. i < length xs)
     pub missed : IfErr end (λ i. i ≤ length xs)
     pub itself : IfOk end (λ i. (ix : ℕ) → sought ≡ Some ix → slice_index xs i ≡ ix)
     pub hit : (answer : ℕ → Ordering) → IsSteady g xs sought read answer old → IfOk end (λ i. with_ties sought answer (slice_index xs i) ≡ Equal)
     pub place : (answer : ℕ → Ordering) → IsSteadyRising g xs sought read answer old → IfErr end (IsPlace (with_ties sought answer) xs)
+
+  -- the same with the most asks of a search in all indexes
+  abbrev pub Searches : Option ℕ → Asking F → Result ℕ ℕ → Asking F → Type 0
+  Searches sought old end new = SearchesWithin (bound (length xs)) sought old end new
 
   -- the find hits a stored index, which steady answers make Equal, or else misses: none is Equal, if the answers rise
   pub record Finds (old : Asking F) (found : Option ℕ) (new : Asking F) : Type 0 where

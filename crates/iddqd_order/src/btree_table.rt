@@ -3,13 +3,24 @@
 //! No table holds keys. Each search takes an [`Asking`](asking::Asking), which is asked about
 //! stored indexes and counts how often. `Less` means that what is sought stands before the index.
 pub mod asking;
+mod descent;
+mod ends;
 pub mod iter;
 pub mod key_order;
+mod node;
+mod path;
 pub mod prepared_insert;
 pub mod prepared_remove;
 mod reading;
+mod removal;
+mod renaming;
+mod row;
 mod search;
+#[cfg(test)]
+mod shape;
 pub mod table;
+mod tree;
+mod walk;
 
 pub use asking::Asking;
 pub use iter::Iter;

@@ -10,9 +10,11 @@ use std::process::Abort;
 
 mod asks;
 mod callers;
+mod depths;
 mod keys;
 mod lying;
 mod remaps;
+mod trees;
 mod walk;
 
 // Whether the index is stored.

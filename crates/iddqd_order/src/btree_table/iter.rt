@@ -1,11 +1,48 @@
 //! The walk along a table.
+use crate::btree_table::node::Node;
+use crate::btree_table::walk::Walk;
 use iddqd::item_index::ItemIndex;
+use std::fmt::{self, Debug, Formatter, Write};
 use std::iter::{ExactSizeIterator, FusedIterator};
+use std::marker::Model;
 
 /// The indexes of a table, in its order. Once it has ended it stays ended.
-#[derive(Clone, Debug, Drop)]
+///
+/// It takes no memory. A step costs a constant time on the average, and at most as much as a search.
+#[derive(Clone, Drop)]
 pub struct Iter<'a> {
-    pub(super) rest: &'a [ItemIndex],
+    walk: Walk<'a>,
+    left: usize,
+}
+
+impl<'a> Model for Iter<'a> {
+    ghost use Rattle.std.specs.Prelude.{◌≡◌, ℕ, List, length};
+    ghost use Rattle.iddqd_order.specs.Walk.{IsWalk, walk_left};
+
+    ghost Value = { List ℕ };
+
+    ghost view = { λ a. walk_left a.walk };
+
+    ghost invariant = { λ a. IsWalk a.walk × (a.left ≡ length (walk_left a.walk)) };
+}
+
+#[tactic(auto, unfolding(crate::specs::Iter::indexes_left))]
+impl<'a> Iter<'a> {
+    ghost use Rattle.std.specs.Prelude.{◌≡◌, length};
+    ghost use Rattle.iddqd_order.specs.Tree.{IsTree, in_order};
+    ghost use Rattle.iddqd_order.specs.Iter.{indexes_left};
+
+    // All indexes of a tree, of which there are `len`.
+    pub(super) fn new(root: &'a Option<Node>, height: usize, len: usize) -> Iter<'a>
+        requires tree { IsTree root.now height }
+        requires counted { len ≡ length (in_order root.now height) }
+        ensures { indexes_left result ≡ in_order root.now height }
+    {
+        Iter {
+            walk: Walk::new(root, height),
+            left: len,
+        }
+    }
 }
 
 #[tactic(auto, unfolding(crate::specs::Iter::indexes_left))]
@@ -22,9 +59,9 @@ impl<'a> Iterator for Iter<'a> {
     ghost remaining = { item_count indexes_left };
 
     fn next(&mut self) -> Option<ItemIndex> {
-        let (first, rest) = self.rest.split_first()?;
-        self.rest = rest;
-        Some(*first)
+        let ix = self.walk.next()?;
+        self.left -= 1;
+        Some(ix)
     }
 
     fn size_hint(&self) -> (usize, Option<usize>)
@@ -40,8 +77,24 @@ impl<'a> Iterator for Iter<'a> {
 #[tactic(auto, unfolding(crate::specs::Iter::indexes_left))]
 impl<'a> ExactSizeIterator for Iter<'a> {
     fn len(&self) -> usize {
-        self.rest.len()
+        self.left
     }
 }
 
 impl<'a> FusedIterator for Iter<'a> {}
+
+// The indexes that are left, printed as a list.
+#[derive(Drop)]
+pub(super) struct Rest<'a, 'b>(pub(super) &'b Iter<'a>);
+
+impl Debug for Rest<'_, '_> {
+    fn fmt<W: Write>(&self, f: &mut Formatter<W>) -> fmt::Result {
+        f.debug_list().entries(self.0.clone()?).finish()
+    }
+}
+
+impl Debug for Iter<'_> {
+    fn fmt<W: Write>(&self, f: &mut Formatter<W>) -> fmt::Result {
+        f.debug_struct("Iter").field("rest", &Rest(self)).finish()
+    }
+}

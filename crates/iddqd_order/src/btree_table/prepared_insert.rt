@@ -1,7 +1,9 @@
 //! An insert whose place is found and whose memory is taken.
-ghost use Rattle.std.specs.Prelude.{◌≡◌, ◌≢◌, ◌<◌, ◌≤◌, length, insert, Contains};
-ghost use Rattle.iddqd_order.specs.MapBTreeTable.{order_of, room_of, sentinel};
+ghost use Rattle.std.specs.Prelude.{◌≡◌, ◌≢◌, insert, Contains};
+ghost use Rattle.iddqd_order.specs.MapBTreeTable.{order_of, sentinel};
+ghost use Rattle.iddqd_order.specs.Tree.{GoesIn, FullIn, AreEnough, GoesIn-prop, FullIn-prop};
 
+use crate::btree_table::path::Path;
 use crate::btree_table::table::MapBTreeTable;
 use iddqd::item_index::ItemIndex;
 
@@ -10,10 +12,13 @@ use iddqd::item_index::ItemIndex;
 #[derive(Drop)]
 pub struct PreparedBTreeInsert<'a> {
     pub(super) table: &'a mut MapBTreeTable,
-    pub(super) place: usize,
+    pub(super) path: Path,
+    // How many nodes at the lower end of the path are full.
+    pub(super) full: usize,
     pub(super) ix: ItemIndex,
-    ghost within: { place ≤ length (order_of table.now) },
-    ghost room: { 0 < room_of table.now },
+    ghost goes: { GoesIn table.now.root table.now.height path } by { GoesIn-prop table.now.root table.now.height path },
+    ghost full_nodes: { FullIn full table.now.root table.now.height path } by { FullIn-prop full table.now.root table.now.height path },
+    ghost enough: { AreEnough full table.now.height table.now.blocks },
     ghost absent: { Contains (order_of table.now) ix → ⊥ },
     ghost assigned: { ix ≢ sentinel },
 }
@@ -26,8 +31,9 @@ impl<'a> PreparedBTreeInsert<'a> {
     pub fn insert(self)
         ensures { order_of self.exit.0.now ≡ insert (order_of (table_of self.entry).now) (place_of self.entry) (index_of self.entry) }
     {
-        let place = self.place;
+        let path = self.path;
+        let full = self.full;
         let ix = self.ix;
-        self.table.insert_at(place, ix)
+        self.table.insert_at(&path, full, ix)
     }
 }

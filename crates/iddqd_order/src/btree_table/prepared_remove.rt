@@ -1,7 +1,8 @@
 //! A removal whose place is found, or missing.
 ghost use Rattle.std.specs.Prelude.{◌≡◌, IsTrue, false};
-ghost use Rattle.iddqd_order.specs.MapBTreeTable.{order_of, without, StandsAt};
+ghost use Rattle.iddqd_order.specs.MapBTreeTable.{order_of, without, LeadsTo, LeadsTo-prop};
 
+use crate::btree_table::path::Path;
 use crate::btree_table::table::MapBTreeTable;
 use iddqd::item_index::ItemIndex;
 
@@ -11,8 +12,9 @@ use iddqd::item_index::ItemIndex;
 pub struct PreparedBTreeRemove<'a> {
     pub(super) table: &'a mut MapBTreeTable,
     pub(super) ix: ItemIndex,
-    pub(super) place: Option<usize>,
-    ghost there: { StandsAt (order_of table.now) ix place },
+    // The way to the index, a path and a level.
+    pub(super) way: Option<(Path, usize)>,
+    ghost there: { LeadsTo table.now ix way } by { LeadsTo-prop table.now ix way },
 }
 
 impl<'a> PreparedBTreeRemove<'a> {
@@ -28,7 +30,7 @@ impl<'a> PreparedBTreeRemove<'a> {
         ensures kept { result ≡ false → self.exit.0.now ≡ (table_of self.entry).now }
     {
         let ix = self.ix;
-        let place = self.place;
-        self.table.remove_found(ix, place)
+        let way = self.way;
+        self.table.remove_found(ix, &way)
     }
 }

@@ -1,9 +1,10 @@
-//! The search by halves, on which all searching calls stand.
-ghost use Rattle.std.specs.Prelude.{◌≡◌, ◌≢◌, ℕ, List, Contains, Some};
+//! The search of a row by halves, on which all searching calls stand.
+ghost use Rattle.std.specs.Prelude.{◌≡◌, ◌≢◌, ℕ, List, Contains, Some, length};
 ghost use Rattle.std.specs.declared.cmp.Ordering.{Ordering};
 ghost use Rattle.iddqd_order.specs.Asking.{closure_of};
 ghost use Rattle.iddqd_order.specs.Asks.{AsksWithin, Steady};
-ghost use Rattle.iddqd_order.specs.Search.{Askable, CanSearch, Searches, with_ties};
+ghost use Rattle.iddqd_order.specs.Digits.{digits};
+ghost use Rattle.iddqd_order.specs.Search.{Askable, CanSearch, SearchesWithin, with_ties};
 
 use crate::btree_table::asking::Asking;
 use crate::btree_table::reading::Reads;
@@ -43,16 +44,16 @@ pub(super) fn search<R, F: FnMut(ItemIndex) -> R, H: Reads<R>>(
     items: &[ItemIndex],
     asking: &mut Asking<F>,
     how: &H,
-    tie: Option<ItemIndex>,
+    tie: &Option<ItemIndex>,
 ) -> Result<usize, usize>
-    requires { CanSearch F.FnMut items.now tie asking.old }
-    ensures { Searches F.FnMut (H.reading how.now) items.now tie asking.old result asking.new }
+    requires { CanSearch F.FnMut items.now tie.now asking.old }
+    ensures { SearchesWithin F.FnMut (H.reading how.now) items.now (digits (length items.now)) tie.now asking.old result asking.new }
 {
     let mut low = 0;
     let mut high = items.len();
     while low < high {
         let middle = low + (high - low) / 2;
-        match compare(asking, how, &tie, items[middle]) {
+        match compare(asking, how, tie, items[middle]) {
             Ordering::Less => high = middle,
             Ordering::Equal => return Ok(middle),
             Ordering::Greater => low = middle + 1,

@@ -1,21 +1,30 @@
-//! The table: a vector of distinct indexes, searched by halves.
-ghost use Rattle.std.specs.Prelude.{◌≡◌, ◌≢◌, ℕ, ◌-◌, ◌<◌, ◌≤◌, [], length, map, slice_get, slice_index, is_some, IfOk, IsOk, IsSome, Contains, insert, IsTrue, false, Some, None};
+//! The table: a tree of distinct indexes, searched from the root down.
+ghost use Rattle.std.specs.Prelude.{◌≡◌, ◌≢◌, ℕ, ◌+◌, ◌-◌, ◌<◌, ◌≤◌, [], length, map, slice_get, slice_index, is_some, IfOk, IsOk, IsSome, Contains, insert, IsTrue, false, Some, None};
 ghost use Rattle.std.specs.declared.cmp.Ordering.{Ordering};
 ghost use Rattle.iddqd.specs.Compaction.{CanRemap, remapped};
-ghost use Rattle.iddqd_order.specs.MapBTreeTable.{order_of, room_of, without, sentinel, IsIndexList, StandsAt};
-ghost use Rattle.iddqd_order.specs.Search.{CanSearch, SearchAsks, IsSteadyRising, Searches, Finds};
+ghost use Rattle.iddqd_order.specs.MapBTreeTable.{order_of, without, sentinel, IsIndexList, LeadsTo};
+ghost use Rattle.iddqd_order.specs.Tree.{GoesIn, place_in, FullIn, HoldsIn, spot_in, AreEnough};
+ghost use Rattle.iddqd_order.specs.Search.{CanSearch, SearchAsks, IsSteadyRising, IsPlace, Finds, with_ties};
 
 use crate::btree_table::asking::Asking;
-use crate::btree_table::iter::Iter;
+use crate::btree_table::ends::{first_in, last_in};
+use crate::btree_table::iter::{Iter, Rest};
+use crate::btree_table::node::Node;
+use crate::btree_table::path::Path;
 use crate::btree_table::prepared_insert::PreparedBTreeInsert;
 use crate::btree_table::prepared_remove::PreparedBTreeRemove;
 use crate::btree_table::reading::{AsOrdering, ByKey, ByQuery, Reads};
-use crate::btree_table::search::search;
+use crate::btree_table::removal::take_out;
+use crate::btree_table::renaming::rename_in;
+#[cfg(test)]
+use crate::btree_table::shape::count_in;
+use crate::btree_table::tree::{put_in, take_blocks};
 use iddqd::index_remap::IndexRemap;
 use iddqd::item_index::ItemIndex;
 use iddqd::map_hash::Comparable;
 use std::alloc::{AllocError, Global};
 use std::cmp::Ordering;
+use std::fmt;
 use std::marker::Model;
 
 /// A list of distinct indexes, none of them `SENTINEL`.
@@ -24,23 +33,35 @@ use std::marker::Model;
 /// call keeps the list distinct, changes no index but its own, and asks about stored indexes alone,
 /// at most 4 plus twice the number of binary digits of the length. No call but the two prepares of
 /// an insert can be refused memory.
-#[derive(Debug, Drop)]
+#[derive(Drop)]
 pub struct MapBTreeTable {
-    items: Vec<ItemIndex>,
+    root: Option<Node>,
+    // The levels above the leaves.
+    height: usize,
+    len: usize,
+    // Empty blocks, which prepared inserts took and have not used.
+    blocks: Vec<Vec<Node>>,
+    alloc: Global,
 }
 
 impl Model for MapBTreeTable {
-    ghost use Rattle.std.specs.Prelude.{◌-◌, vec_len, vec_capacity};
-    ghost use Rattle.iddqd_order.specs.MapBTreeTable.{Order, IsIndexList};
+    ghost use Rattle.std.specs.Prelude.{vec_len};
+    ghost use Rattle.iddqd_order.specs.MapBTreeTable.{Order};
+    ghost use Rattle.iddqd_order.specs.Tree.{IsTable};
+
+    ghost use Rattle.std.specs.Coded.{codes};
+    ghost use Rattle.iddqd_order.specs.contracts.btree_table.node.Node as node;
 
     ghost Value = { Order };
 
-    ghost view = { λ t. record { indexes = t.items.items; room = vec_capacity t.items - vec_len t.items } };
+    ghost coded = { Prim.hlevel (codes, node.the_row.coded) };
 
-    ghost invariant = { λ t. IsIndexList t.items.items };
+    ghost view = { λ t. record { root = t.root; height = t.height; blocks = vec_len t.blocks } };
+
+    ghost invariant = { λ t. IsTable t.root t.height t.len t.blocks.items };
 }
 
-#[tactic(auto, unfolding(crate::specs::MapBTreeTable::order_of, crate::specs::MapBTreeTable::room_of, crate::specs::Iter::indexes_left))]
+#[tactic(auto, unfolding(crate::specs::MapBTreeTable::order_of))]
 impl MapBTreeTable {
     ghost use Rattle.std.specs.Borrow.{sem};
     ghost use Rattle.iddqd_order.specs.Iter.{indexes_left};
@@ -54,7 +75,11 @@ impl MapBTreeTable {
         ensures { order_of result ≡ [] }
     {
         MapBTreeTable {
-            items: Vec::new(alloc),
+            root: None,
+            height: 0,
+            len: 0,
+            blocks: Vec::new(alloc),
+            alloc,
         }
     }
 
@@ -63,21 +88,21 @@ impl MapBTreeTable {
         ensures length { result ≡ length (order_of self.now) }
         ensures indexes { IsIndexList (order_of self.now) }
     {
-        self.items.len()
+        self.len
     }
 
     /// The first index in the table's order.
     pub fn first(&self) -> Option<ItemIndex>
         ensures { result ≡ slice_get (order_of self.now) 0 }
     {
-        self.items.first().copied()
+        first_in(&self.root, self.height)
     }
 
     /// The last index in the table's order.
     pub fn last(&self) -> Option<ItemIndex>
         ensures { result ≡ slice_get (order_of self.now) (length (order_of self.now) - 1) }
     {
-        self.items.last().copied()
+        last_in(&self.root, self.height)
     }
 
     /// The indexes in the table's order. It takes no memory.
@@ -85,14 +110,16 @@ impl MapBTreeTable {
         ensures left { indexes_left result ≡ order_of self.now }
         ensures indexes { IsIndexList (order_of self.now) }
     {
-        Iter { rest: &self.items }
+        Iter::new(&self.root, self.height, self.len)
     }
 
     /// Removes all indexes. It takes no memory.
     pub fn clear(&mut self)
         ensures { order_of self.new ≡ [] }
     {
-        self.items.clear();
+        self.root = None;
+        self.height = 0;
+        self.len = 0;
     }
 
     /// A stored index at which the asking answers Equal. Less says that what is sought stands
@@ -134,31 +161,10 @@ impl MapBTreeTable {
         requires { CanSearch F.FnMut (order_of self.now) None asking.old }
         ensures { Finds F.FnMut (H.reading how.now) (order_of self.now) asking.old result asking.new }
     {
-        match self.search_in(asking, how, None) {
-            Ok(place) => Some(self.index_at(place)),
-            Err(_) => None,
+        match &self.root {
+            None => None,
+            Some(root) => root.find(self.height, asking, how),
         }
-    }
-
-    // The search of all searching calls: the place of what is sought, or where it would go.
-    fn search_in<R, F: FnMut(ItemIndex) -> R, H: Reads<R>>(
-        &self,
-        asking: &mut Asking<F>,
-        how: &H,
-        tie: Option<ItemIndex>,
-    ) -> Result<usize, usize>
-        requires { CanSearch F.FnMut (order_of self.now) tie asking.old }
-        ensures { Searches F.FnMut (H.reading how.now) (order_of self.now) tie asking.old result asking.new }
-    {
-        search(&self.items, asking, how, tie)
-    }
-
-    // What stands at `place`.
-    fn index_at(&self, place: usize) -> ItemIndex
-        requires { place < length (order_of self.now) }
-        ensures { result ≡ slice_index (order_of self.now) place }
-    {
-        self.items[place]
     }
 
     /// Takes the memory of an insert and finds its place by the answers. Equal ones are ordered by
@@ -219,25 +225,58 @@ impl MapBTreeTable {
         ensures asked { SearchAsks F.FnMut (order_of self.old) (Some ix) asking.old asking.new }
         ensures prepared { IfOk result (PreparesInsert F.FnMut (H.reading how.now) (order_of self.old) ix asking.old) }
     {
-        if let Err(error) = self.reserve_one() {
+        let (path, full) = self.find_gap(ix, asking, how);
+        if let Err(error) = self.reserve(full) {
             return Err(error);
         }
-        match self.search_in(asking, how, Some(ix)) {
+        Ok(PreparedBTreeInsert {
+            table: self,
+            path,
+            full,
+            ix,
+        })
+    }
+
+    // Where an index goes that is not stored: the way, and how many nodes at its lower end are full.
+    fn find_gap<R, F: FnMut(ItemIndex) -> R, H: Reads<R>>(
+        &self,
+        ix: ItemIndex,
+        asking: &mut Asking<F>,
+        how: &H,
+    ) -> (Path, usize)
+        requires absent { Contains (order_of self.now) ix → ⊥ }
+        requires can_ask { CanSearch F.FnMut (order_of self.now) (Some ix) asking.old }
+        ensures goes { GoesIn self.now.root self.now.height result.0 }
+        ensures full { FullIn result.1 self.now.root self.now.height result.0 }
+        ensures levels { result.1 ≤ self.now.height + 1 }
+        ensures within { place_in self.now.root self.now.height result.0 ≤ length (order_of self.now) }
+        ensures asked { SearchAsks F.FnMut (order_of self.now) (Some ix) asking.old asking.new }
+        ensures place { (answer : ℕ → Ordering) →
+            IsSteadyRising F.FnMut (order_of self.now) (Some ix) (H.reading how.now) answer asking.old →
+            IsPlace (with_ties (Some ix) answer) (order_of self.now) (place_in self.now.root self.now.height result.0) }
+    {
+        let mut path = Path::new();
+        let Some(root) = &self.root else {
+            return (path, 0);
+        };
+        match root.descend(self.height, asking, how, &Some(ix), &mut path) {
             Ok(_) => unreachable!(),
-            Err(gap) => Ok(PreparedBTreeInsert {
-                table: self,
-                place: gap,
-                ix,
-            }),
+            Err(full) => (path, full),
         }
     }
 
-    // Takes the memory of one insert.
-    fn reserve_one(&mut self) -> Result<(), AllocError>
-        ensures kept { order_of self.new ≡ order_of self.old }
-        ensures room { IsOk result → 0 < room_of self.new }
+    // Takes the memory of an insert through so many full nodes.
+    fn reserve(&mut self, full: usize) -> Result<(), AllocError>
+        requires { full ≤ self.old.height + 1 }
+        ensures root { self.new.root ≡ self.old.root }
+        ensures height { self.new.height ≡ self.old.height }
+        ensures enough { IsOk result → AreEnough full self.new.height self.new.blocks }
     {
-        self.items.reserve(1)
+        let wanted = if full > self.height { full } else { full.saturating_sub(1) };
+        if self.blocks.len() >= wanted {
+            return Ok(());
+        }
+        take_blocks(&mut self.blocks, wanted, self.alloc)
     }
 
     /// Searches for a stored index by the answers, to remove it. Equal ones are ordered by the
@@ -289,23 +328,24 @@ impl MapBTreeTable {
         ensures table { (prepared_remove.table_of result).now ≡ self.old }
         ensures prepared { PreparesRemoval F.FnMut (H.reading how.now) (order_of self.old) ix asking.old result asking.new }
     {
-        let place = self.find_place(ix, asking, how);
+        let way = self.find_way(ix, asking, how);
         PreparedBTreeRemove {
             table: self,
             ix,
-            place,
+            way,
         }
     }
 
-    // The place of a stored index, if the search meets it.
-    fn find_place<R, F: FnMut(ItemIndex) -> R, H: Reads<R>>(
+    // The way to a stored index, if the search meets it: a path and a level.
+    fn find_way<R, F: FnMut(ItemIndex) -> R, H: Reads<R>>(
         &self,
         ix: ItemIndex,
         asking: &mut Asking<F>,
         how: &H,
-    ) -> Option<usize>
+    ) -> Option<(Path, usize)>
         requires { CanSearch F.FnMut (order_of self.now) (Some ix) asking.old }
-        ensures there { StandsAt (order_of self.now) ix result }
+        ensures there { LeadsTo self.now ix result }
+        ensures stored { IsSome result → Contains (order_of self.now) ix }
         ensures asked { SearchAsks F.FnMut (order_of self.now) (Some ix) asking.old asking.new }
         ensures missing { ix ≡ sentinel → result ≡ None }
         ensures unasked { ix ≡ sentinel → asking.new ≡ asking.old }
@@ -317,14 +357,21 @@ impl MapBTreeTable {
         if ix == ItemIndex::SENTINEL {
             return None;
         }
-        self.search_in(asking, how, Some(ix)).ok()
+        let Some(root) = &self.root else {
+            return None;
+        };
+        let mut path = Path::new();
+        match root.descend(self.height, asking, how, &Some(ix), &mut path) {
+            Ok(level) => Some((path, level)),
+            Err(_) => None,
+        }
     }
 
     // A law for proofs, which does nothing when it runs: `SENTINEL` is not stored.
     fn stores_no_sentinel(&self)
         ensures { Contains (order_of self.now) sentinel → ⊥ }
     {
-        let _items = &self.items;
+        let _root = &self.root;
     }
 
     /// Removes the index, if it is stored, by a walk along the list. It asks nothing and takes no
@@ -332,7 +379,11 @@ impl MapBTreeTable {
     pub fn remove_exact(&mut self, ix: ItemIndex)
         ensures { order_of self.new ≡ without (order_of self.old) ix }
     {
-        self.items.retain(|stored| *stored != ix);
+        let Some(root) = &self.root else { return };
+        let mut path = Path::new();
+        if let Some(level) = root.locate(self.height, ix, &mut path) {
+            self.remove_at(ix, &path, level);
+        }
     }
 
     /// Gives each index its new name in its place, in one walk, or in none where all names stay. It
@@ -346,47 +397,75 @@ impl MapBTreeTable {
         if remap.is_identity() {
             return;
         }
-        for ix in self.items.iter_mut() {
-            *ix = remap.remap(*ix);
+        Self::names_fit(remap);
+        rename_in(&mut self.root, self.height, remap);
+    }
+
+    // A law for proofs, which changes nothing when it runs: the new names have 32 bits.
+    fn names_fit(remap: &IndexRemap)
+        ensures { (ix : ℕ) → ix < 4294967296 → CanRemap remap.now ix → remapped remap.now ix < 4294967296 }
+    {
+        if let IndexRemap::Permuted(names) = remap {
+            for name in names {
+                let _number = name.as_u32();
+            }
         }
     }
 
-    // Adds `ix` at `place`, where there is room.
-    pub(super) fn insert_at(&mut self, place: usize, ix: ItemIndex)
-        requires within { place ≤ length (order_of self.old) }
-        requires room { 0 < room_of self.old }
+    // Adds `ix` where the path goes, through so many full nodes at its lower end.
+    pub(super) fn insert_at(&mut self, path: &Path, full: usize, ix: ItemIndex)
+        requires goes { GoesIn self.old.root self.old.height path.now }
+        requires full { FullIn full self.old.root self.old.height path.now }
+        requires enough { AreEnough full self.old.height self.old.blocks }
         requires absent { Contains (order_of self.old) ix → ⊥ }
         requires assigned { ix ≢ sentinel }
-        ensures { order_of self.new ≡ insert (order_of self.old) place ix }
+        ensures { order_of self.new ≡ insert (order_of self.old) (place_in self.old.root self.old.height path.now) ix }
     {
-        match self.items.insert(place, ix) {
-            Ok(()) => (),
-            Err(_) => unreachable!(),
-        }
+        let _number = ix.as_u32();
+        let height = self.height;
+        let alloc = self.alloc;
+        self.height = put_in(&mut self.root, height, path, full, ix, &mut self.blocks, alloc);
+        self.len += 1;
     }
 
-    // Removes `ix`, if there is a place where it stands, and says whether there is one.
-    pub(super) fn remove_found(&mut self, ix: ItemIndex, place: Option<usize>) -> bool
-        requires { StandsAt (order_of self.old) ix place }
-        ensures found { result ≡ is_some place }
+    // Removes `ix`, if there is a way to it, and says whether there is one.
+    pub(super) fn remove_found(&mut self, ix: ItemIndex, way: &Option<(Path, usize)>) -> bool
+        requires { LeadsTo self.old ix way.now }
+        ensures found { result ≡ is_some way.now }
         ensures removed { IsTrue result → order_of self.new ≡ without (order_of self.old) ix }
         ensures kept { result ≡ false → self.new ≡ self.old }
     {
-        match place {
-            Some(place) => {
-                self.remove_at(ix, place);
+        match way {
+            Some((path, level)) => {
+                self.remove_at(ix, path, *level);
                 true
             }
             None => false,
         }
     }
 
-    // Removes `ix`, which stands at `place`.
-    fn remove_at(&mut self, ix: ItemIndex, place: usize)
-        requires within { place < length (order_of self.old) }
-        requires there { slice_index (order_of self.old) place ≡ ix }
+    // Removes `ix`, to which the path goes at the level.
+    fn remove_at(&mut self, ix: ItemIndex, path: &Path, level: usize)
+        requires holds { HoldsIn level self.old.root self.old.height path.now }
+        requires there { slice_index (order_of self.old) (spot_in level self.old.root self.old.height path.now) ≡ ix }
         ensures { order_of self.new ≡ without (order_of self.old) ix }
     {
-        self.items.remove(place);
+        self.height = take_out(&mut self.root, self.height, path, level);
+        self.len -= 1;
+    }
+
+    // Whether a plain walk finds the tree in its shape, and as many indexes as are counted.
+    #[cfg(test)]
+    pub fn is_formed(&self) -> bool {
+        count_in(&self.root, self.height) == Some(self.len)
+    }
+}
+
+impl fmt::Debug for MapBTreeTable {
+    fn fmt<W: fmt::Write>(&self, f: &mut fmt::Formatter<W>) -> fmt::Result {
+        let walk = self.iter();
+        f.debug_struct("MapBTreeTable")
+            .field("items", &Rest(&walk))
+            .finish()
     }
 }

@@ -112,3 +112,27 @@ fn a_refused_insert_changes_nothing(rt: HostRuntime) {
     }
     assert!(rt; 39 <= expected);
 }
+
+// Added in rising order, an index goes through full nodes alone where the tree gets another level.
+#[test]
+fn a_refused_insert_over_full_nodes_changes_nothing(rt: HostRuntime) {
+    let mut table = MapBTreeTable::new(rt.alloc());
+    let mut expected = 0u32;
+    for _ in 0..700 {
+        if insert_told(
+            &rt,
+            &mut table,
+            expected,
+            Ordering::Greater,
+            Ordering::Greater,
+        )
+        .is_ok()
+        {
+            expected = expected.wrapping_add(1);
+        }
+        assert_eq!(rt; table.len(), expected as usize);
+        assert!(rt; table.is_formed());
+    }
+    assert!(rt; counts_up(&table));
+    assert!(rt; 699 <= expected);
+}

@@ -3,7 +3,7 @@ use Rattle.std.proofs.lemmas.List.{get_or_default}
 use Rattle.iddqd_order.specs.Search.{Askable, with_ties}
 use Rattle.iddqd_order.specs.Digits.{digits}
 use Rattle.iddqd_order.proofs.AskLemmas.{asks_none, asks_then, asks_more, Steady-later}
-use Rattle.iddqd_order.proofs.DigitLemmas.{halved, digits-bound}
+use Rattle.iddqd_order.proofs.DigitLemmas.{halved}
 use Rattle.iddqd_order.proofs.SearchLemmas.{Askable-other, IsPlace-from_split, split-init, split-less, split-greater}
 use Rattle.iddqd_order.proofs.IndexListLemmas.{Contains-at}
 use Rattle.iddqd_order.proofs.btree_table.search.search.Goals as goal
@@ -12,8 +12,8 @@ pub loop-low-init : goal.loop-low-init
 loop-low-init g c = record {
   ordered = omega arith;
   within = omega arith;
-  asked = (0, (let n = length c.args.items.now in let same : n - 0 ≡ n = omega arith in omega (arith, ap digits same)), asks_none g.F.FnMut (Askable c.args.items.now c.args.tie) _);
-  split = λ answer s. split-init (with_ties c.args.tie answer) c.args.items.now;
+  asked = (0, (let n = length c.args.items.now in let same : n - 0 ≡ n = omega arith in omega (arith, ap digits same)), asks_none g.F.FnMut (Askable c.args.items.now c.args.tie.now) _);
+  split = λ answer s. split-init (with_ties c.args.tie.now answer) c.args.items.now;
 }
 
 pub loop-low-preserved-in-Less : goal.loop-low-preserved-in-Less
@@ -28,11 +28,11 @@ loop-low-preserved-in-Less g c =
       asked = (
         c.loop-low.invariant.asked.0 + 1,
         (let left = c.loop-low.invariant.asked.1 in omega (arith, left, halved (high - low) (middle - low) (omega arith) (omega arith))),
-        asks_then g.F.FnMut (Askable xs c.args.tie) c.loop-low.invariant.asked.2 (c.in-Less.ensures.asks xs held),
+        asks_then g.F.FnMut (Askable xs c.args.tie.now) c.loop-low.invariant.asked.2 (c.in-Less.ensures.asks xs held),
       );
       split = λ answer s.
           let told = c.in-Less.ensures.steady xs answer held (Steady-later g.F.FnMut _ c.loop-low.invariant.asked.2.after s.steady) in
-          split-less (with_ties c.args.tie answer) xs low high middle s.rising lt (c.loop-low.invariant.split answer s) (ap (with_ties c.args.tie answer) (sym read) ∙ sym told);
+          split-less (with_ties c.args.tie.now answer) xs low high middle s.rising lt (c.loop-low.invariant.split answer s) (ap (with_ties c.args.tie.now answer) (sym read) ∙ sym told);
     }
 
 pub loop-low-preserved : goal.loop-low-preserved
@@ -47,11 +47,11 @@ loop-low-preserved g c =
       asked = (
         c.loop-low.invariant.asked.0 + 1,
         (let left = c.loop-low.invariant.asked.1 in omega (arith, left, halved (high - low) (high - (middle + 1)) (omega arith) (omega arith))),
-        asks_then g.F.FnMut (Askable xs c.args.tie) c.loop-low.invariant.asked.2 (c.in-Greater.ensures.asks xs held),
+        asks_then g.F.FnMut (Askable xs c.args.tie.now) c.loop-low.invariant.asked.2 (c.in-Greater.ensures.asks xs held),
       );
       split = λ answer s.
           let told = c.in-Greater.ensures.steady xs answer held (Steady-later g.F.FnMut _ c.loop-low.invariant.asked.2.after s.steady) in
-          split-greater (with_ties c.args.tie answer) xs low high middle s.rising lt (c.loop-low.invariant.split answer s) (ap (with_ties c.args.tie answer) (sym read) ∙ sym told);
+          split-greater (with_ties c.args.tie.now answer) xs low high middle s.rising lt (c.loop-low.invariant.split answer s) (ap (with_ties c.args.tie.now answer) (sym read) ∙ sym told);
     }
 
 pub returns-in-Equal : goal.returns-in-Equal
@@ -63,14 +63,14 @@ returns-in-Equal g c =
     let left = c.loop-low.invariant.asked.1 in
     record {
       asked =
-          asks_more g.F.FnMut (Askable xs c.args.tie) (omega (arith, left, halved (high - low) 0 (omega arith) (omega arith), digits-bound (length xs)))
-          (asks_then g.F.FnMut (Askable xs c.args.tie) c.loop-low.invariant.asked.2 (c.in-Equal.ensures.asks xs held));
+          asks_more g.F.FnMut (Askable xs c.args.tie.now) (omega (arith, left, halved (high - low) 0 (omega arith) (omega arith)))
+          (asks_then g.F.FnMut (Askable xs c.args.tie.now) c.loop-low.invariant.asked.2 (c.in-Equal.ensures.asks xs held));
       found = lt;
       missed = tt;
       itself = λ ix same. sym read ∙ c.in-Equal.ensures.itself refl ix same;
       hit = λ answer s.
           let told = c.in-Equal.ensures.steady xs answer held (Steady-later g.F.FnMut _ c.loop-low.invariant.asked.2.after s) in
-          ap (with_ties c.args.tie answer) (sym read) ∙ sym told;
+          ap (with_ties c.args.tie.now answer) (sym read) ∙ sym told;
       place = λ answer s. tt;
     }
 
@@ -79,13 +79,13 @@ returns g c =
     let xs = c.args.items.now in
     let left = c.loop-low.invariant.asked.1 in
     record {
-      asked = asks_more g.F.FnMut (Askable xs c.args.tie) (omega (arith, left, digits-bound (length xs))) c.loop-low.invariant.asked.2;
+      asked = asks_more g.F.FnMut (Askable xs c.args.tie.now) (omega (arith, left)) c.loop-low.invariant.asked.2;
       found = tt;
       missed = omega arith;
       itself = tt;
       hit = λ answer s. tt;
       place = λ answer s.
-          IsPlace-from_split (with_ties c.args.tie answer) xs c.loop-low.low c.loop-low.high (omega arith) (omega arith) c.loop-low.invariant.within (c.loop-low.invariant.split answer s);
+          IsPlace-from_split (with_ties c.args.tie.now answer) xs c.loop-low.low c.loop-low.high (omega arith) (omega arith) c.loop-low.invariant.within (c.loop-low.invariant.split answer s);
     }
 
 pub compare-requires : goal.compare-requires
@@ -93,4 +93,4 @@ compare-requires g c other =
     let xs = c.args.items.now in let low = c.loop-low.low in let high = c.loop-low.high in let middle = low + (high - low) / 2 in
     let lt : middle < length xs = omega arith in
     let read : c.index-items-middle.result ≡ get_or xs middle 0 = c.index-items-middle.is ∙ get_or_default xs middle _ 0 lt in
-    c.requires.at _ _ c.loop-low.invariant.asked.2.after _ (Askable-other xs c.args.tie _ other (Contains-at xs middle _ lt read))
+    c.requires.at _ _ c.loop-low.invariant.asked.2.after _ (Askable-other xs c.args.tie.now _ other (Contains-at xs middle _ lt read))

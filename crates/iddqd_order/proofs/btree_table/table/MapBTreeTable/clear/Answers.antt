@@ -1,5 +1,5 @@
-use Rattle.iddqd_order.proofs.IndexListLemmas.{IsIndexList-nil}
+use Rattle.iddqd_order.proofs.TableLemmas.{IsTable-none}
 use Rattle.iddqd_order.proofs.btree_table.table.MapBTreeTable.clear.Goals as goal
 
 pub invariant_of-self : goal.invariant_of-self
-invariant_of-self c = rw c.clear.ensures.items IsIndexList-nil
+invariant_of-self c = IsTable-none _ c.self.invariant.spare

@@ -1,10 +1,29 @@
-use Rattle.std.proofs.Common.{ap}
+use Rattle.std.proofs.Common.{◌≡◌, ◌≢◌, ℕ, ◌+◌, ◌<◌, ◌≤◌, length, ap, sym, ◌∙◌, arith}
 use Rattle.iddqd_order.specs.MapBTreeTable.{order_of}
-use Rattle.iddqd_order.proofs.IndexListLemmas.{IsIndexList-insert}
+use Rattle.iddqd_order.specs.Tree.{in_order}
+use Rattle.iddqd_order.proofs.TableLemmas.{can_put, longer, IsTable-put}
 use Rattle.iddqd_order.proofs.btree_table.table.MapBTreeTable.insert_at.Goals as goal
 
+pub put_in-self-inside-requires-clause-fits : goal.put_in-self-inside-requires-clause-fits
+put_in-self-inside-requires-clause-fits c =
+    let number = c.as_u32-number.ensures in
+    let small = c.as_u32-number.type_inv in
+    let r = can_put c.args.self.now c.self.inside.root c.self.inside.height _ c.args.path.now c.args.ix c.self.view_is c.requires.goes c.requires.absent c.requires.assigned (omega arith) in
+    (longer _ _ _ _ _ _ c.self.invariant r).fits
+
+pub overflow_add-self : goal.overflow_add-self
+overflow_add-self c =
+    let number = c.as_u32-number.ensures in
+    let small = c.as_u32-number.type_inv in
+    let r = can_put c.args.self.now c.self.inside.root c.self.inside.height _ c.args.path.now c.args.ix c.self.view_is c.requires.goes c.requires.absent c.requires.assigned (omega arith) in
+    let fits = (longer _ _ _ _ _ _ c.self.invariant r).fits in
+    let counted = c.self.invariant.counted in
+    omega arith
+
 pub invariant_of-self : goal.invariant_of-self
-unfolding order_of
 invariant_of-self c =
-    let same = ap order_of c.self.view_is in
-    rw c.in-Ok.ensures.items (IsIndexList-insert c.self.inside.items.items c.args.place c.args.ix (rw same c.requires.within) (rw same c.requires.absent) c.requires.assigned c.self.invariant)
+    let number = c.as_u32-number.ensures in
+    let small = c.as_u32-number.type_inv in
+    let r = can_put c.args.self.now c.self.inside.root c.self.inside.height _ c.args.path.now c.args.ix c.self.view_is c.requires.goes c.requires.absent c.requires.assigned (omega arith) in
+    let put = c.put_in-self-inside.ensures in
+    IsTable-put _ _ _ _ _ _ _ _ _ c.self.invariant r put.tree put.items put.spare

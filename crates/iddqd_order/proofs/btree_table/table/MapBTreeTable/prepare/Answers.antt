@@ -1,36 +1,29 @@
-use Rattle.std.proofs.Common.{arith, Some, Err, refl, sym, subst}
-use Rattle.iddqd_order.specs.MapBTreeTable.{order_of}
+use Rattle.std.proofs.Common.{refl, ap, ◌∙◌, ◌≡◌, Option, ℕ, List}
+use Rattle.iddqd_order.specs.declared.btree_table.node.Node.{Node}
+use Rattle.iddqd_order.specs.MapBTreeTable.{Order, order_of}
+use Rattle.iddqd_order.specs.Tree.{in_order, place_in}
 use Rattle.iddqd_order.specs.PreparedBTreeInsert.{place_of, index_of}
-use Rattle.iddqd_order.specs.Search.{Askable, CanSearch, Searches}
-use Rattle.iddqd_order.proofs.AskLemmas.{asks_more, asks_none}
 use Rattle.iddqd_order.proofs.btree_table.table.MapBTreeTable.prepare.Goals as goal
 
-pub returns-in-Err : goal.returns-in-Err
-returns-in-Err g c = (
-  (refl, λ _. tt, c.reserve_one.ensures.kept),
-  record {
-    unchanged = tt;
-    same_reference = tt;
-    asked = asks_more g.F.FnMut _ (omega arith) (asks_none g.F.FnMut (Askable (order_of c.args.self.now) (Some c.args.ix)) _);
-    prepared = tt;
-  },
-)
+same_order : (o p : Order) → p.root ≡ o.root → p.height ≡ o.height → order_of p ≡ order_of o
+unfolding order_of
+same_order o p r h = rw (r, h) refl
 
-pub search_in-requires : goal.search_in-requires
-search_in-requires g c =
-    subst (λ xs. CanSearch g.F.FnMut xs (Some c.args.ix) c.args.asking.now) (sym c.reserve_one.ensures.kept) c.requires.can_ask
+same_place : (o p : Order) (path : List ℕ) → p.root ≡ o.root → p.height ≡ o.height → place_in p.root p.height path ≡ place_in o.root o.height path
+same_place o p path r h = rw (r, h) refl
 
 pub returns : goal.returns
 unfolding place_of index_of
 returns g c =
-    let kept = c.reserve_one.ensures.kept in
-    let searched =
-    subst (λ xs. Searches g.F.FnMut (g.H.Reads.reading c.args.how.now) xs (Some c.args.ix) c.args.asking.now (Err c.in-Err-search_in.gap) c.search_in.new.asking) kept c.in-Err-search_in.ensures in (
+    let gap = c.find_gap-path.ensures in
+    let kept = c.reserve.ensures in
+    let place = same_place c.args.self.now c.reserve.new.self c.find_gap-path.result.0 kept.root kept.height in
+    (
       (refl, λ w. refl, tt),
       record {
         unchanged = tt;
         same_reference = refl;
-        asked = searched.asked;
-        prepared = record { table = kept; index = refl; within = omega (arith, searched.missed); place = searched.place };
+        asked = gap.asked;
+        prepared = record { table = same_order c.args.self.now c.reserve.new.self kept.root kept.height; index = refl; within = rw place gap.within; place = λ answer s. rw place (gap.place answer s) };
       },
     )

@@ -1,18 +1,16 @@
 use Rattle.std.proofs.Common.{refl, ap, is_some}
-use Rattle.iddqd_order.specs.MapBTreeTable.{order_of}
 use Rattle.iddqd_order.specs.PreparedBTreeRemove.{index_of, is_found}
-use Rattle.iddqd_order.proofs.IndexListLemmas.{Contains-from_place}
 use Rattle.iddqd_order.proofs.btree_table.table.MapBTreeTable.prepare_removal.Goals as goal
 
 pub returns-clause-prepared : goal.returns-clause-prepared
 unfolding index_of is_found
 returns-clause-prepared g c =
-    let place = c.find_place-place in
+    let way = c.find_way-way.ensures in
     record {
       index = refl;
-      stored = Contains-from_place (order_of c.args.self.now) c.args.ix place.result place.ensures.there;
-      asked = place.ensures.asked;
-      missing = λ e. ap is_some (place.ensures.missing e);
-      unasked = place.ensures.unasked;
-      rising = place.ensures.rising;
+      stored = way.stored;
+      asked = way.asked;
+      missing = λ e. ap is_some (way.missing e);
+      unasked = way.unasked;
+      rising = way.rising;
     }

@@ -1,21 +1,14 @@
-use Rattle.std.proofs.Common.{◌≡◌, ◌++◌, length, take, drop, map, ap, rules}
-use Rattle.std.proofs.lemmas.List.{take_all, drop_all}
-use Rattle.std.proofs.lemmas.List.Edits.{map_over_more}
-use Rattle.iddqd.specs.Compaction.{remapped}
-use Rattle.iddqd_order.specs.MapBTreeTable.{order_of}
-use Rattle.iddqd_order.proofs.RenameLemmas.{IsIndexList-remapped}
+use Rattle.std.proofs.lemmas.List.Elements.{Contains-get_or}
+use Rattle.iddqd_order.proofs.TableLemmas.{can_remap_inside, unshared_inside, IsTable-renamed}
 use Rattle.iddqd_order.proofs.btree_table.table.MapBTreeTable.remap_indexes.Goals as goal
 
-pub loop-ix-preserved : goal.loop-ix-preserved
-loop-ix-preserved c = search (rules, map_over_more (remapped c.args.remap.now))
+pub rename_in-requires-clause-can_remap : goal.rename_in-requires-clause-can_remap
+rename_in-requires-clause-can_remap c k d lt =
+    can_remap_inside c.args.self.now _ _ _ c.args.remap.now c.self.view_is c.requires.can_remap _ (Contains-get_or _ k d lt)
 
 pub invariant_of-self : goal.invariant_of-self
-unfolding order_of
 invariant_of-self c =
-    let same = ap order_of c.self.view_is in
-    let new : take c.self.inside.items.len (c.loop-ix.ix-items ++ drop (length c.loop-ix.ix-items) c.self.inside.items.items) ≡ map (remapped c.args.remap.now) c.self.inside.items.items = search (rules, take_all, drop_all) in
-    rw new (IsIndexList-remapped c.args.remap.now c.self.inside.items.items (rw same c.requires.can_remap) (rw same c.requires.distinct) c.self.invariant)
-
-pub returns : goal.returns
-unfolding order_of
-returns c = search (rules, take_all, drop_all)
+    IsTable-renamed _ _ _ _ _ c.args.remap.now c.self.invariant
+    (can_remap_inside c.args.self.now _ _ _ c.args.remap.now c.self.view_is c.requires.can_remap)
+    (unshared_inside c.args.self.now _ _ _ c.args.remap.now c.self.view_is c.requires.distinct)
+    c.names_fit.ensures c.rename_in.ensures.tree c.rename_in.ensures.items

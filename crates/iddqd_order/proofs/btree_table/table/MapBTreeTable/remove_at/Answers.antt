@@ -1,20 +1,24 @@
-use Rattle.std.proofs.Common.{◌≡◌, ◌∙◌, get_or, ap}
+use Rattle.std.proofs.Common.{◌≡◌, ◌∙◌, ◌≤◌, ap}
 use Rattle.iddqd_order.specs.MapBTreeTable.{order_of, without}
-use Rattle.iddqd_order.proofs.IndexListLemmas.{IsIndexList-filter, remove-distinct}
+use Rattle.iddqd_order.proofs.TableLemmas.{way_inside, there_inside, order_inside, shorter}
 use Rattle.iddqd_order.proofs.btree_table.table.MapBTreeTable.remove_at.Goals as goal
 
+pub overflow_sub-self : goal.overflow_sub-self
+overflow_sub-self c =
+    let held = way_inside c.args.self.now c.self.inside.root c.self.inside.height _ c.args.level c.args.path.now c.self.view_is c.requires.holds in
+    let there = there_inside c.args.self.now c.self.inside.root c.self.inside.height _ c.args.level c.args.path.now c.args.ix c.self.view_is c.requires.there in
+    (shorter _ _ _ _ _ _ _ _ _ c.self.invariant held there c.take_out-self-inside.ensures.tree c.take_out-self-inside.ensures.items).some
+
 pub invariant_of-self : goal.invariant_of-self
-unfolding order_of
 invariant_of-self c =
-    let same = ap order_of c.self.view_is in
-    let xs = c.self.inside.items.items in
-    let left : c.remove.new.self.items ≡ without xs (get_or xs c.args.place 0) = c.remove.ensures.items ∙ remove-distinct xs c.args.place c.self.invariant.distinct (rw same c.requires.within) in
-    rw left (IsIndexList-filter _ _ c.self.invariant)
+    let held = way_inside c.args.self.now c.self.inside.root c.self.inside.height _ c.args.level c.args.path.now c.self.view_is c.requires.holds in
+    let there = there_inside c.args.self.now c.self.inside.root c.self.inside.height _ c.args.level c.args.path.now c.args.ix c.self.view_is c.requires.there in
+    (shorter _ _ _ _ _ _ _ _ _ c.self.invariant held there c.take_out-self-inside.ensures.tree c.take_out-self-inside.ensures.items).table
 
 pub returns : goal.returns
 unfolding order_of
 returns c =
-    let same = ap order_of c.self.view_is in
-    let xs = c.self.inside.items.items in
-    let left : c.remove.new.self.items ≡ without xs (get_or xs c.args.place 0) = c.remove.ensures.items ∙ remove-distinct xs c.args.place c.self.invariant.distinct (rw same c.requires.within) in
-    left ∙ ap (λ o. without (order_of o) (get_or (order_of o) c.args.place 0)) c.self.view_is ∙ ap (without (order_of c.args.self.now)) c.requires.there
+    let held = way_inside c.args.self.now c.self.inside.root c.self.inside.height _ c.args.level c.args.path.now c.self.view_is c.requires.holds in
+    let there = there_inside c.args.self.now c.self.inside.root c.self.inside.height _ c.args.level c.args.path.now c.args.ix c.self.view_is c.requires.there in
+    (shorter _ _ _ _ _ _ _ _ _ c.self.invariant held there c.take_out-self-inside.ensures.tree c.take_out-self-inside.ensures.items).items
+    ∙ ap (λ xs. without xs c.args.ix) (order_inside c.args.self.now _ _ _ c.self.view_is)

@@ -1,17 +1,9 @@
-use Rattle.std.proofs.Common.{◌≡◌, ◌∙◌, ap, rules}
-use Rattle.std.proofs.lemmas.Fn.{filter_same}
-use Rattle.iddqd_order.specs.MapBTreeTable.{order_of, without}
-use Rattle.iddqd_order.proofs.IndexListLemmas.{IsIndexList-filter}
+use Rattle.std.proofs.Common.{sym, subst, ℕ, List, Contains, refl}
+use Rattle.iddqd_order.proofs.IndexListLemmas.{without-missing}
+use Rattle.iddqd_order.proofs.TableLemmas.{root_of}
 use Rattle.iddqd_order.proofs.btree_table.table.MapBTreeTable.remove_exact.Goals as goal
 
-pub invariant_of-self : goal.invariant_of-self
-unfolding order_of
-invariant_of-self c =
-    let kept : c.retain.new.self.items ≡ without c.self.inside.items.items c.args.ix = filter_same _ _ _ (λ x b f' k. search rules) _ _ c.retain.ensures.filtered in
-    rw kept (IsIndexList-filter _ _ c.self.invariant)
-
-pub returns : goal.returns
-unfolding order_of
-returns c =
-    let kept : c.retain.new.self.items ≡ without c.self.inside.items.items c.args.ix = filter_same _ _ _ (λ x b f' k. search rules) _ _ c.retain.ensures.filtered in
-    kept ∙ ap (λ o. without (order_of o) c.args.ix) c.self.view_is
+pub returns-in_default-locate : goal.returns-in_default-locate
+returns-in_default-locate c =
+    let r = root_of c.args.self.now _ _ _ _ _ c.in-Some.root c.self.view_is c.self.invariant c.in-Some.is in
+    sym (without-missing _ _ (λ held. c.in_default-locate.ensures.missing refl (subst (λ (xs : List ℕ). Contains xs c.args.ix) (sym r.list) held)))

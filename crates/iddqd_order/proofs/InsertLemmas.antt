@@ -1,0 +1,230 @@
+-- What an insert leaves of a node.
+use Rattle.std.proofs.Common.{◌≡◌, ℕ, zero, suc, ◌+◌, ◌-◌, ◌<◌, ◌≤◌, ◌≢◌, List, [], ◌∷◌, ◌++◌, length, take, drop, set, get_or, map, slice_index, refl, ap, sym, ◌∙◌, arith, length-append, length-set, subst, All, inl, inr}
+use Rattle.std.proofs.lemmas.Bool.{cases_lt}
+use Rattle.std.specs.List.{insert}
+use Rattle.std.proofs.lemmas.List.{length-map, get_or-map, map-set, map-append}
+use Rattle.std.proofs.lemmas.List.Edits.{length-insert}
+use Rattle.std.proofs.lemmas.List.Elements.{All-set, All-take, All-drop, All-head}
+use Rattle.std.proofs.Math.Seq.{drop-append_seam, take-append_seam}
+use Rattle.iddqd_order.specs.declared.btree_table.node.Node.{Node}
+use Rattle.iddqd_order.specs.Node.{row, children, child, room, weave, before, flat, IsInner, IsLeaf, IsFormed, Goes, place, FullBelow, IsFullBelow}
+use Rattle.iddqd_order.specs.Row.{IsCut}
+use Rattle.iddqd_order.proofs.WeaveLemmas.{edited, widened, weave-append}
+use Rattle.iddqd_order.proofs.NodeLemmas.{AreChildren, lists, formed-leaf, leaf-formed, flat-leaf, goes-leaf, place-leaf, formed-within, formed-inner, inner-formed, flat-inner, goes-inner, place-inner, full-inner, full-here, any_default, map-insert, All-insert, place-within}
+
+-- g is the i-th child, which the path takes
+pub record IsTaken (h : ℕ) (old : Node) (p : List ℕ) (i : ℕ) (g : Node) : Type 0 where
+  pub inner : h ≢ 0
+  pub formed : IsFormed h old
+  pub goes : Goes h old p
+  pub at : i ≡ slice_index p h
+  pub is : g ≡ get_or (children old) i g
+
+-- what is known of it
+pub record Taken (h : ℕ) (old : Node) (p : List ℕ) (i : ℕ) (g : Node) : Type 0 where
+  pub same : g ≡ child old i
+  pub here : i < length (children old)
+  pub in_lists : i < length (lists (h - 1) (children old))
+  pub one_more : length (lists (h - 1) (children old)) ≡ length (row old) + 1
+  pub node : IsInner old
+  pub below : AreChildren (h - 1) (children old)
+  pub least : 5 ≤ length (row g)
+  pub formed : IsFormed (h - 1) g
+  pub goes : Goes (h - 1) g p
+  pub list : get_or (lists (h - 1) (children old)) i [] ≡ flat (h - 1) g
+  pub within : place (h - 1) g p ≤ length (get_or (lists (h - 1) (children old)) i [])
+  pub place_is : place h old p ≡ length (before i (row old) (lists (h - 1) (children old))) + place (h - 1) g p
+
+pub taken : (h : ℕ) (old : Node) (p : List ℕ) (i : ℕ) (g : Node) → IsTaken h old p i g → Taken h old p i g
+taken h old p i g t =
+    let fs = formed-inner h old t.inner t.formed in
+    let at = goes-inner h old p t.inner t.goes in
+    let here : i < length (children old) = rw t.at at.here in
+    let same : g ≡ child old i = t.is ∙ any_default (children old) i g old here in
+    let on : Goes (h - 1) (child old i) p = rw t.at at.on in
+    let len : length (lists (h - 1) (children old)) ≡ length (children old) = length-map (children old) (λ k. flat (h - 1) k) in
+    let one = fs.inner.one_more in
+    let of : (5 ≤ length (row (child old i))) × IsFormed (h - 1) (child old i) = fs.below i old here in
+    let formed : IsFormed (h - 1) g = rw same of.1 in
+    let goes : Goes (h - 1) g p = rw same on in
+    let list : get_or (lists (h - 1) (children old)) i [] ≡ flat (h - 1) g = get_or-map (λ k. flat (h - 1) k) (children old) i old [] here ∙ ap (λ z. flat (h - 1) z) (sym same) in
+    record {
+      same = same;
+      here = here;
+      in_lists = omega arith;
+      one_more = omega arith;
+      node = fs.inner;
+      below = fs.below;
+      least = rw same of.0;
+      formed = formed;
+      goes = goes;
+      list = list;
+      within = rw list (place-within (h - 1) g p formed goes);
+      place_is = place-inner h old p t.inner ∙ ap (λ z. length (before z (row old) (lists (h - 1) (children old))) + place (h - 1) (child old z) p) (sym t.at) ∙ ap (λ z. length (before i (row old) (lists (h - 1) (children old))) + place (h - 1) z p) (sym same)
+    }
+
+-- an index was put in, and the node is as it has to be
+pub record Put (h : ℕ) (old new : Node) (p : List ℕ) (x : ℕ) : Type 0 where
+  pub items : flat h new ≡ insert (flat h old) (place h old p) x
+  pub formed : IsFormed h new
+  pub longer : length (row old) ≤ length (row new)
+
+-- an index was put in, and the node is cut in two about the index m
+pub record Cut (h : ℕ) (old new : Node) (m : ℕ) (up : Node) (p : List ℕ) (x : ℕ) : Type 0 where
+  pub items : flat h new ++ m ∷ flat h up ≡ insert (flat h old) (place h old p) x
+  pub low : (5 ≤ length (row new)) × IsFormed h new
+  pub high : (5 ≤ length (row up)) × IsFormed h up
+
+-- the child that the path takes got the index: k stands in its place
+pub put_below : (h : ℕ) (old new : Node) (p : List ℕ) (x : ℕ) (i : ℕ) (g k : Node) → IsTaken h old p i g → Put (h - 1) g k p x
+  → row new ≡ row old → children new ≡ set (children old) i k → 12 ≤ room new → Put h old new p x
+put_below h old new p x i g k t d er ek rm =
+    let b = taken h old p i g t in
+    let f : Node → List ℕ = λ k. flat (h - 1) k in
+    let ls : List (List ℕ) = lists (h - 1) (children old) in
+    let one = b.node.one_more in
+    let few = b.node.within in
+    let k_least : 5 ≤ length (row k) = let a = b.least in let l = d.longer in omega arith in
+    let e1 : lists (h - 1) (children new) ≡ set ls i (f k) = ap (λ z. lists (h - 1) z) ek ∙ map-set f (children old) i k in
+    let e2 = edited i (row old) ls [] (f k) (place (h - 1) g p) x b.in_lists b.one_more b.within (d.items ∙ ap (λ z. insert z (place (h - 1) g p) x) (sym b.list)) in
+    let ln : length (children new) ≡ length (children old) = ap length ek ∙ length-set (children old) i k in
+    let P : Node → Type 0 = λ k. (5 ≤ length (row k)) × IsFormed (h - 1) k in
+    record {
+      items = rw (flat-inner h new t.inner, er, e1, flat-inner h old t.inner, b.place_is) e2;
+      formed = inner-formed h new t.inner (record { within = rw er few; one_more = rw er (omega arith); has_room = rm }) (rw ek (All-set P (children old) i k (k_least, d.formed) b.below));
+      longer = rw er (omega arith)
+    }
+
+-- the child was cut in two, and the node had room for the upper part
+pub put_here : (h : ℕ) (old new : Node) (p : List ℕ) (x : ℕ) (i : ℕ) (g k : Node) (m : ℕ) (u : Node) → IsTaken h old p i g → Cut (h - 1) g k m u p x
+  → length (row old) < 11 → row new ≡ insert (row old) i m → children new ≡ insert (set (children old) i k) (i + 1) u → 12 ≤ room new → Put h old new p x
+put_here h old new p x i g k m u t d lt er ek rm =
+    let b = taken h old p i g t in
+    let f : Node → List ℕ = λ k. flat (h - 1) k in
+    let ls : List (List ℕ) = lists (h - 1) (children old) in
+    let one = b.node.one_more in
+    let here = b.here in
+    let e1 : lists (h - 1) (children new) ≡ insert (set ls i (f k)) (i + 1) (f u) =
+      ap (λ z. lists (h - 1) z) ek ∙ map-insert f (set (children old) i k) (i + 1) u ∙ ap (λ z. insert z (i + 1) (f u)) (map-set f (children old) i k) in
+    let e2 = widened i (row old) ls [] (f k) (f u) m (place (h - 1) g p) x b.in_lists b.one_more b.within (d.items ∙ ap (λ z. insert z (place (h - 1) g p) x) (sym b.list)) in
+    let same = length-set (children old) i k in
+    let ln : length (children new) ≡ length (children old) + 1 = ap length ek ∙ length-insert (set (children old) i k) (i + 1) u (omega arith) ∙ ap (λ z. z + 1) same in
+    let lr : length (row new) ≡ length (row old) + 1 = ap length er ∙ length-insert (row old) i m (omega arith) in
+    let P : Node → Type 0 = λ k. (5 ≤ length (row k)) × IsFormed (h - 1) k in
+    record {
+      items = rw (flat-inner h new t.inner, er, e1, flat-inner h old t.inner, b.place_is) e2;
+      formed = inner-formed h new t.inner (record { within = omega arith; one_more = omega arith; has_room = rm }) (rw ek (All-insert P (set (children old) i k) (i + 1) u (All-set P (children old) i k d.low b.below) d.high));
+      longer = omega arith
+    }
+
+low_within : (n i : ℕ) → (i ≤ 5 → n ≡ 5) × (5 < i → n ≡ 6) → (5 ≤ n) × (n ≤ 6)
+low_within n i f =
+    elim (cases_lt 5 i) [
+      | inl q ↦ let e : n ≡ 6 = f.1 q in (omega arith, omega arith)
+      | inr q ↦ let e : n ≡ 5 = f.0 q in (omega arith, omega arith)
+    ]
+
+-- the members of a list that is put together
+pub All-front : {X : Type 0} → (P : X → Type 0) (xs ys : List X) → All P (xs ++ ys) → All P xs
+All-front P xs ys a = subst (All P) (take-append_seam xs ys) (All-take P (length xs) (xs ++ ys) a)
+
+pub All-back : {X : Type 0} → (P : X → Type 0) (xs ys : List X) → All P (xs ++ ys) → All P ys
+All-back P xs ys a = subst (All P) (drop-append_seam xs ys) (All-drop P (length xs) (xs ++ ys) a)
+
+-- the child was cut in two, and so is the node, which was full
+pub cut_here : (h : ℕ) (old new : Node) (m2 : ℕ) (up : Node) (p : List ℕ) (x : ℕ) (i : ℕ) (g k : Node) (m : ℕ) (u : Node) → IsTaken h old p i g → Cut (h - 1) g k m u p x
+  → IsCut (row old) i m (row new) m2 (row up) → children new ++ children up ≡ insert (set (children old) i k) (i + 1) u
+  → length (children new) ≡ length (row new) + 1 → 12 ≤ room new → 12 ≤ room up → Cut h old new m2 up p x
+cut_here h old new m2 up p x i g k m u t d c ek lk rm ru =
+    let b = taken h old p i g t in
+    let f : Node → List ℕ = λ k. flat (h - 1) k in
+    let ls : List (List ℕ) = lists (h - 1) (children old) in
+    let P : Node → Type 0 = λ k. (5 ≤ length (row k)) × IsFormed (h - 1) k in
+    let one = b.node.one_more in
+    let here = b.here in
+    let e1 : lists (h - 1) (children new) ++ lists (h - 1) (children up) ≡ insert (set ls i (f k)) (i + 1) (f u) =
+      sym (map-append f (children new) (children up)) ∙ ap (λ z. lists (h - 1) z) ek ∙ map-insert f (set (children old) i k) (i + 1) u ∙ ap (λ z. insert z (i + 1) (f u)) (map-set f (children old) i k) in
+    let e2 = widened i (row old) ls [] (f k) (f u) m (place (h - 1) g p) x b.in_lists b.one_more b.within (d.items ∙ ap (λ z. insert z (place (h - 1) g p) x) (sym b.list)) in
+    let lm = length-map (children new) f in
+    let e3 : weave (row new ++ m2 ∷ row up) (lists (h - 1) (children new) ++ lists (h - 1) (children up)) ≡ weave (row new) (lists (h - 1) (children new)) ++ m2 ∷ weave (row up) (lists (h - 1) (children up)) =
+      weave-append (row new) m2 (row up) (lists (h - 1) (children new)) (lists (h - 1) (children up)) (omega arith) in
+    let e4 : weave (row new ++ m2 ∷ row up) (lists (h - 1) (children new) ++ lists (h - 1) (children up)) ≡ weave (insert (row old) i m) (insert (set ls i (f k)) (i + 1) (f u)) =
+      ap (λ z. weave z (lists (h - 1) (children new) ++ lists (h - 1) (children up))) c.is ∙ ap (λ z. weave (insert (row old) i m) z) e1 in
+    let low = low_within (length (row new)) i c.low_length in
+    let low5 : 5 ≤ length (row new) = low.0 in
+    let low6 : length (row new) ≤ 6 = low.1 in
+    let sum = c.high_length in
+    let same = length-set (children old) i k in
+    let la = length-append (children new) (children up) in
+    let ln : length (children new ++ children up) ≡ length (children old) + 1 = ap length ek ∙ length-insert (set (children old) i k) (i + 1) u (omega arith) ∙ ap (λ z. z + 1) same in
+    let lx = length-append (row new) (m2 ∷ row up) in
+    let lr : length (row new ++ m2 ∷ row up) ≡ length (row old) + 1 = ap length c.is ∙ length-insert (row old) i m (omega arith) in
+    let every : All P (children new ++ children up) = rw ek (All-insert P (set (children old) i k) (i + 1) u (All-set P (children old) i k d.low b.below) d.high) in
+    record {
+      items = rw (flat-inner h new t.inner, flat-inner h up t.inner, flat-inner h old t.inner, b.place_is) (sym e3 ∙ e4 ∙ e2);
+      low = (low5, inner-formed h new t.inner (record { within = omega arith; one_more = lk; has_room = rm }) (All-front P (children new) (children up) every));
+      high = (omega arith, inner-formed h up t.inner (record { within = omega arith; one_more = omega arith; has_room = ru }) (All-back P (children new) (children up) every))
+    }
+
+-- at a leaf with room
+pub put_leaf : (h : ℕ) (old new : Node) (p : List ℕ) (i x : ℕ) → h ≡ 0 → IsFormed h old → Goes h old p → i ≡ slice_index p h → length (row old) < 11
+  → row new ≡ insert (row old) i x → children new ≡ children old → Put h old new p x
+put_leaf zero old new p i x e f g at lt er ek =
+    let l = formed-leaf 0 old refl f in
+    let le : i ≤ length (row old) = rw at (goes-leaf 0 old p refl g) in
+    let lr : length (row new) ≡ length (row old) + 1 = ap length er ∙ length-insert (row old) i x le in
+    record {
+      items = rw (flat-leaf 0 new refl, flat-leaf 0 old refl, place-leaf 0 old p refl, ← at) er;
+      formed = leaf-formed 0 new refl (record { within = omega arith; childless = ek ∙ l.childless });
+      longer = omega arith
+    }
+put_leaf (suc h) old new p i x e f g at lt er ek = absurd (omega arith)
+
+-- at a full leaf
+pub cut_leaf : (h : ℕ) (old new : Node) (m : ℕ) (up : Node) (p : List ℕ) (i x : ℕ) → h ≡ 0 → IsFormed h old → Goes h old p → i ≡ slice_index p h
+  → IsCut (row old) i x (row new) m (row up) → children new ≡ children old → children up ≡ [] → Cut h old new m up p x
+cut_leaf zero old new m up p i x e f g at c ek eu =
+    let l = formed-leaf 0 old refl f in
+    let low = low_within (length (row new)) i c.low_length in
+    let low5 : 5 ≤ length (row new) = low.0 in
+    let low6 : length (row new) ≤ 6 = low.1 in
+    let sum = c.high_length in
+    record {
+      items = rw (flat-leaf 0 new refl, flat-leaf 0 up refl, flat-leaf 0 old refl, place-leaf 0 old p refl, ← at) c.is;
+      low = (low5, leaf-formed 0 new refl (record { within = omega arith; childless = ek ∙ l.childless }));
+      high = (omega arith, leaf-formed 0 up refl (record { within = omega arith; childless = eu }))
+    }
+cut_leaf (suc h) old new m up p i x e f g at c ek eu = absurd (omega arith)
+
+-- the place of a path in a leaf
+pub leaf_place : (h : ℕ) (n : Node) (p : List ℕ) → h ≡ 0 → Goes h n p → slice_index p h ≤ length (row n)
+leaf_place zero n p e g = goes-leaf 0 n p refl g
+leaf_place (suc h) n p e g = absurd (omega arith)
+
+-- the levels below the node are full as far as they have to be
+pub full_child : (k h : ℕ) (old : Node) (p : List ℕ) (i : ℕ) (g : Node) → IsTaken h old p i g → IsFullBelow k h old p → IsFullBelow k (h - 1) g p
+full_child k h old p i g t f =
+    let b = taken h old p i g t in
+    let on = (full-inner k h old p t.inner f).on in
+    let same : g ≡ child old (slice_index p h) = b.same ∙ ap (λ z. child old z) t.at in
+    rw same on
+
+-- a full node, among full ones
+pub full_row : (h : ℕ) (n : Node) (p : List ℕ) → IsFormed h n → IsFullBelow (h + 1) h n p → length (row n) ≡ 11
+full_row h n p f full =
+    let most = formed-within h n f in
+    let least = (full-here (h + 1) h n p full).0 (omega arith) in
+    omega arith
+
+-- where all nodes are full, no level above them matters
+pub all_full : (k l h : ℕ) (n : Node) (p : List ℕ) → h < l → l ≤ k → IsFullBelow k h n p → IsFullBelow l h n p
+unfolding IsFullBelow
+all_full k l zero n p lt le f = ((λ q. f.0 (omega arith)), (λ q. absurd (omega arith)))
+all_full k l (suc h) n p lt le f = (((λ q. f.0.0 (omega arith)), (λ q. absurd (omega arith))), all_full k l h (child n (slice_index p (suc h))) p (omega arith) le f.1)
+
+-- the last of a list, and the others
+pub All-last : {X : Type 0} → (P : X → Type 0) (xs ys : List X) (x : X) → All P xs → xs ≡ ys ++ x ∷ [] → P x
+All-last P xs ys x a e = All-head P x [] (All-back P ys (x ∷ []) (subst (All P) e a))
+
+pub All-others : {X : Type 0} → (P : X → Type 0) (xs ys : List X) (x : X) → All P xs → xs ≡ ys ++ x ∷ [] → All P ys
+All-others P xs ys x a e = All-front P ys (x ∷ []) (subst (All P) e a)

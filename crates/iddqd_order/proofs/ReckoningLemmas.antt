@@ -1,0 +1,84 @@
+-- How many indexes a tree has at least, and so how many levels it has and how many asks a search takes at most.
+use Rattle.std.proofs.Common.{◌≡◌, ◌≢◌, ℕ, zero, suc, ◌+◌, ◌*◌, ◌/◌, ◌^◌, ◌<◌, ◌≤◌, List, [], ◌∷◌, length, All, arith, inl, inr, length-append, sub-one, false, eqb, ne_eqb, nat_eq, refl, sym, ◌∙◌}
+use Rattle.std.proofs.Math.Nat.{mul-le-mul_right, pow-suc, one-le-pow, pow-le-pow_right}
+use Rattle.std.specs.List.{IsDistinct, list_any}
+use Rattle.std.proofs.lemmas.Bool.{cases_lt, true≢false}
+use Rattle.std.proofs.lemmas.List.{length-map}
+use Rattle.std.proofs.lemmas.List.Elements.{All-head, All-tail, All-map}
+use Rattle.std.proofs.lemmas.List.Folds.{list_any_none}
+use Rattle.std.proofs.lemmas.Map.Steps.{length-le_from_distinct_below}
+use Rattle.iddqd_order.specs.declared.btree_table.node.Node.{Node}
+use Rattle.iddqd_order.specs.Digits.{digits, bound}
+use Rattle.iddqd_order.specs.Node.{row, children, weave, flat, IsFormed}
+use Rattle.iddqd_order.proofs.DigitLemmas.{digits-half}
+use Rattle.iddqd_order.proofs.NodeLemmas.{lists, flat-leaf, formed-inner, flat-inner}
+
+-- lists of at least b - 1 indexes each, woven
+wide : (b : ℕ) (xs : List ℕ) (ks : List (List ℕ)) → length ks ≡ length xs + 1 → All (λ k. b ≤ length k + 1) ks → length ks * b ≤ length (weave xs ks) + 1
+wide b [] [] e a = absurd (omega arith)
+wide b [] (k ∷ []) e a = let h = All-head (λ k. b ≤ length k + 1) k [] a in omega arith
+wide b [] (k ∷ (k2 ∷ ks)) e a = absurd (omega arith)
+wide b (x ∷ xs) [] e a = absurd (omega arith)
+wide b (x ∷ xs) (k ∷ ks) e a =
+    let h = All-head (λ k. b ≤ length k + 1) k ks a in
+    let rest = wide b xs ks (omega arith) (All-tail (λ k. b ≤ length k + 1) k ks a) in
+    omega (arith, length-append k (x ∷ weave xs ks))
+
+-- a tree whose root has m indexes, and each node below it five
+pub least : (m h : ℕ) (n : Node) → IsFormed h n → m ≤ length (row n) → (m + 1) * 6 ^ h ≤ length (flat h n) + 1
+least m zero n f le = rw (flat-leaf zero n refl) (omega arith)
+least m (suc h) n f le =
+    let ne : suc h ≢ 0 = λ e. absurd (omega arith) in
+    let at = formed-inner (suc h) n ne f in
+    let one = at.inner.one_more in
+    let below = rw sub-one at at.below in
+    let power : 6 ^ suc h ≡ 6 ^ h * 6 = pow-suc 6 h in
+    let every : All (λ k. 6 ^ suc h ≤ length k + 1) (lists h (children n)) =
+    All-map (λ k. 6 ^ suc h ≤ length k + 1) (λ k. flat h k) (children n) (λ i d lt. let e = below i d lt in let l = least 5 h _ e.1 e.0 in omega arith) in
+    let len = length-map (children n) (λ k. flat h k) in
+    let w = wide (6 ^ suc h) (row n) (lists h (children n)) (omega arith) every in
+    let more : (m + 1) * 6 ^ suc h ≤ length (lists h (children n)) * 6 ^ suc h = mul-le-mul_right (6 ^ suc h) (omega arith) in
+    rw (flat-inner (suc h) n ne, sub-one) (omega arith)
+
+power_pos : (h : ℕ) → 1 ≤ 6 ^ h
+power_pos h = one-le-pow h 6 (omega arith)
+
+-- a sixth of a number has two digits less, or more
+pub digits-six : (h n : ℕ) → 6 ^ h ≤ n → 2 * h + 1 ≤ digits n
+digits-six zero n le = let half = digits-half n (omega arith) in omega arith
+digits-six (suc h) n le =
+    let power : 6 ^ suc h ≡ 6 ^ h * 6 = pow-suc 6 h in
+    let pos = power_pos h in
+    let half = digits-half n (omega arith) in
+    let quarter = digits-half (n / 2) (omega arith) in
+    let rest = digits-six h (n / 2 / 2) (omega arith) in
+    omega arith
+
+-- four asks in each level are within the bound
+pub reckoning : (h : ℕ) (n : Node) → IsFormed h n → 1 ≤ length (row n) → 4 * (h + 1) ≤ bound (length (flat h n))
+reckoning h n f one =
+    let pos = power_pos h in
+    let many = least 1 h n f one in
+    let few = digits-six h (length (flat h n)) (omega arith) in
+    omega arith
+
+-- as many indexes as there are lie in at most twelve levels
+pub twelve_levels : (h : ℕ) (n : Node) → IsFormed h n → 1 ≤ length (row n) → length (flat h n) ≤ 4294967296 → h ≤ 11
+twelve_levels h n f one few =
+    elim (cases_lt 11 h) [
+      | inr le ↦ le
+      | inl gt ↦
+          (let many = least 1 h n f one in
+          let more : 6 ^ 12 ≤ 6 ^ h = pow-le-pow_right (omega arith) {i = 12} {j = h} (omega arith) in
+          absurd (omega arith))
+    ]
+
+-- distinct numbers of 32 bits are no more than there are
+pub few_indexes : (xs : List ℕ) → IsDistinct nat_eq xs → All (λ ix. ix < 4294967296) xs → length xs ≤ 4294967296
+few_indexes xs distinct small = length-le_from_distinct_below xs 4294967296 distinct (λ q held.
+    elim (cases_lt q 4294967296) [
+      | inl lt ↦ lt
+      | inr ge ↦
+          (let none : list_any (eqb q) xs ≡ false = list_any_none (eqb q) xs (λ k d lt. ne_eqb _ _ (λ e. let below = small k d lt in absurd (omega arith))) in
+          absurd (true≢false (sym held ∙ none)))
+    ])

@@ -1,0 +1,56 @@
+-- What an insert leaves of a tree.
+use Rattle.std.proofs.Common.{◌≡◌, ℕ, zero, suc, ◌+◌, ◌-◌, ◌<◌, ◌≤◌, ◌≢◌, List, [], ◌∷◌, ◌++◌, length, slice_index, refl, ap, sym, ◌∙◌, arith, Option, Some, None, All}
+use Rattle.std.specs.List.{insert}
+use Rattle.std.proofs.lemmas.List.Edits.{length-insert}
+use Rattle.std.proofs.lemmas.List.Elements.{All-cons, All-nil}
+use Rattle.iddqd_order.specs.declared.btree_table.node.Node.{Node}
+use Rattle.iddqd_order.specs.Node.{row, children, room, weave, flat, IsInner, IsLeaf, IsFormed, Goes, place}
+use Rattle.iddqd_order.specs.Tree.{in_order, IsTree, GoesIn, place_in}
+use Rattle.iddqd_order.proofs.NodeLemmas.{AreChildren, lists, leaf-formed, flat-leaf, inner-formed, flat-inner, place-within}
+use Rattle.iddqd_order.proofs.InsertLemmas.{Cut}
+use Rattle.iddqd_order.proofs.ReckoningLemmas.{twelve_levels}
+
+-- a root at level h, and the indexes of its tree
+pub record IsRoot (h : ℕ) (n : Node) (xs : List ℕ) : Type 0 where
+  pub low : h ≤ 11
+  pub formed : IsFormed h n
+  pub root : 1 ≤ length (row n)
+  pub items : flat h n ≡ xs
+
+pub first_root : (n : Node) (x : ℕ) → row n ≡ x ∷ [] → children n ≡ [] → IsRoot 0 n (x ∷ [])
+first_root n x er ek =
+    let l = ap length er in
+    record {
+      low = omega arith;
+      formed = leaf-formed 0 n refl (record { within = omega arith; childless = ek });
+      root = omega arith;
+      items = flat-leaf 0 n refl ∙ er
+    }
+
+-- a new root above the two parts of a root that was cut
+pub new_root : (h : ℕ) (old lower new : Node) (m : ℕ) (upper : Node) (p : List ℕ) (x : ℕ) → IsFormed h old → Goes h old p → Cut h old lower m upper p x
+  → row new ≡ m ∷ [] → children new ≡ lower ∷ upper ∷ [] → 12 ≤ room new → length (flat h old) < 4294967296
+  → IsRoot (h + 1) new (insert (flat h old) (place h old p) x)
+new_root h old lower new m upper p x f g c er ek rm small =
+    let ne : h + 1 ≢ 0 = λ z. absurd (omega arith) in
+    let same : h + 1 - 1 ≡ h = omega arith in
+    let lr = ap length er in
+    let lk = ap length ek in
+    let P : Node → Type 0 = λ k. (5 ≤ length (row k)) × IsFormed h k in
+    let below : AreChildren (h + 1 - 1) (children new) = rw (same, ek) (All-cons P lower (upper ∷ []) c.low (All-cons P upper [] c.high (All-nil P))) in
+    let formed : IsFormed (h + 1) new = inner-formed (h + 1) new ne (record { within = omega arith; one_more = omega arith; has_room = rm }) below in
+    let items : flat (h + 1) new ≡ insert (flat h old) (place h old p) x = flat-inner (h + 1) new ne ∙ rw (er, ek, same) c.items in
+    let one : 1 ≤ length (row new) = omega arith in
+    let len : length (flat (h + 1) new) ≤ 4294967296 = rw items (omega (arith, length-insert (flat h old) (place h old p) x (place-within h old p f g))) in
+    record { low = twelve_levels (h + 1) new formed one len; formed = formed; root = one; items = items }
+
+-- the list as the clause and as the call below write it
+pub told : (r : Option Node) (n : Node) (h : ℕ) (p : List ℕ) (x : ℕ) → r ≡ Some n → insert (flat h n) (place h n p) x ≡ insert (in_order r h) (place_in r h p) x
+told r n h p x e = ap (λ z. insert (in_order z h) (place_in z h p) x) (sym e)
+
+pub place_in-within : (r : Option Node) (h : ℕ) (p : List ℕ) → IsTree r h → GoesIn r h p → place_in r h p ≤ length (in_order r h)
+place_in-within None h p t g = omega arith
+place_in-within (Some n) h p t g = place-within h n p t.0 g
+
+pub length-put : (r : Option Node) (h : ℕ) (p : List ℕ) (x : ℕ) → IsTree r h → GoesIn r h p → length (insert (in_order r h) (place_in r h p) x) ≡ length (in_order r h) + 1
+length-put r h p x t g = length-insert (in_order r h) (place_in r h p) x (place_in-within r h p t g)

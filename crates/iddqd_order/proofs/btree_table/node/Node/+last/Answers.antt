@@ -1,0 +1,25 @@
+use Rattle.std.proofs.Common.{◌-◌, ◌∙◌, length, slice_index, arith, ap, sym, rules}
+use Rattle.iddqd_order.specs.Node.{row}
+use Rattle.iddqd_order.proofs.NodeLemmas.{flat-leaf}
+use Rattle.iddqd_order.proofs.EndLemmas.{last-below}
+use Rattle.iddqd_order.proofs.RemovalLemmas.{child-before, within-children}
+use Rattle.iddqd_order.proofs.btree_table.node.Node.+last.Goals as goal
+
+pub index-requires : goal.index-requires
+index-requires t c =
+    let w = within-children c.args.height c.len-count.result c.args.self.now c.if-height-eq0.false (omega arith) c.requires.formed in
+    search (rules, w)
+
+pub last-requires : goal.last-requires
+last-requires t c =
+    let e = child-before c.args.height c.len-count.result c.args.self.now c.index.result.now c.if-height-eq0.false (omega arith) c.requires.formed (search rules) in
+    let five = e.1.0 in
+    (omega arith, (e.1.1, omega arith))
+
+pub returns-then-height-eq0 : goal.returns-then-height-eq0
+returns-then-height-eq0 t c =
+    c.get.ensures ∙ ap (λ z. slice_index (row c.args.self.now) (z - 1)) c.len-count.ensures.length
+    ∙ ap (λ z. slice_index z (length z - 1)) (sym (flat-leaf c.args.height c.args.self.now c.if-height-eq0.true))
+
+pub returns-else-height-eq0 : goal.returns-else-height-eq0
+returns-else-height-eq0 t c = c.last.ensures ∙ last-below c.args.height c.len-count.result c.args.self.now c.index.result.now c.if-height-eq0.false c.len-count.ensures.length c.requires.formed (search rules)

@@ -1,0 +1,100 @@
+-- What a node of the tree represents, and what holds of it. A tree is read with its height: h levels of inner nodes above the leaves.
+use Rattle.std.specs.Prelude.{◌≡◌, ℕ, zero, suc, ◌+◌, ◌-◌, ◌<◌, ◌≤◌, List, [], ◌∷◌, ◌++◌, All, length, map, slice_index, slice_index_or, vec_capacity, Vec, nat_eq, if◌then◌else◌}
+use Rattle.std.specs.declared.alloc.Global.{Global}
+use Rattle.iddqd_order.specs.declared.btree_table.node.Node.{Node}
+use Rattle.iddqd_order.specs.declared.btree_table.node.Node.TheOpen.{Node-F}
+use Rattle.iddqd_order.specs.declared.btree_table.node.Node.TheViews.{out-Node, roll-Node}
+
+-- the indexes that a node itself holds
+abbrev pub row : Node → List ℕ
+row n = (out-Node n).row
+
+-- its children, none at a leaf
+abbrev pub children : Node → List Node
+children n = (out-Node n).children.items
+
+-- how many children its block has room for
+abbrev pub room : Node → ℕ
+room n = vec_capacity (out-Node n).children
+
+-- the i-th child
+abbrev pub child : Node → ℕ → Node
+child n i = slice_index_or (children n) i n
+
+-- the indexes xs with the lists ks between them: one list more than indexes, or none
+abbrev pub weave : List ℕ → List (List ℕ) → List ℕ
+weave xs [] = xs
+weave [] (k ∷ ks) = k
+weave (x ∷ xs) (k ∷ ks) = k ++ x ∷ weave xs ks
+
+-- what stands before the i-th list
+abbrev pub before : ℕ → List ℕ → List (List ℕ) → List ℕ
+before zero xs ks = []
+before (suc i) [] ks = []
+before (suc i) (x ∷ xs) [] = []
+before (suc i) (x ∷ xs) (k ∷ ks) = k ++ x ∷ before i xs ks
+
+-- what stands after the i-th list
+abbrev pub after : ℕ → List ℕ → List (List ℕ) → List ℕ
+after zero [] ks = []
+after zero (x ∷ xs) [] = x ∷ xs
+after zero (x ∷ xs) (k ∷ ks) = x ∷ weave xs ks
+after (suc i) [] ks = []
+after (suc i) (x ∷ xs) [] = x ∷ xs
+after (suc i) (x ∷ xs) (k ∷ ks) = after i xs ks
+
+-- all indexes of a tree, in order
+unfoldable pub flat : ℕ → Node → List ℕ
+flat zero n = row n
+flat (suc h) n = weave (row n) (map (λ k. flat h k) (children n))
+
+-- at most eleven indexes, and no child
+pub record IsLeaf (n : Node) : Type 0 where
+  pub within : length (row n) ≤ 11
+  pub childless : children n ≡ []
+
+-- at most eleven indexes, one child more than indexes, and room for twelve children
+pub record IsInner (n : Node) : Type 0 where
+  pub within : length (row n) ≤ 11
+  pub one_more : length (children n) ≡ length (row n) + 1
+  pub has_room : 12 ≤ room n
+
+-- all leaves are equally deep, and each node below the root has five indexes or more
+unfoldable pub IsFormed : ℕ → Node → Type 0
+IsFormed zero n = IsLeaf n
+IsFormed (suc h) n = IsInner n × All (λ k. (5 ≤ length (row k)) × IsFormed h k) (children n)
+
+-- a path p has at each level above the leaves the place of the child taken there, and at level 0 a place in the leaf
+unfoldable pub Goes : ℕ → Node → List ℕ → Type 0
+Goes zero n p = slice_index p 0 ≤ length (row n)
+Goes (suc h) n p = (slice_index p (suc h) < length (children n)) × Goes h (child n (slice_index p (suc h))) p
+
+-- the place in the whole list to which a path goes
+unfoldable pub place : ℕ → Node → List ℕ → ℕ
+place zero n p = slice_index p 0
+place (suc h) n p = length (before (slice_index p (suc h)) (row n) (map (λ k. flat h k) (children n))) + place h (child n (slice_index p (suc h))) p
+
+-- a path goes down to level l, and there to an index
+unfoldable pub Holds : ℕ → ℕ → Node → List ℕ → Type 0
+Holds l zero n p = (l ≤ 0) × (slice_index p 0 < length (row n))
+Holds l (suc h) n p = (l ≤ suc h) × (l ≡ suc h → slice_index p (suc h) < length (row n))
+  × (l ≤ h → (slice_index p (suc h) < length (children n)) × Holds l h (child n (slice_index p (suc h))) p)
+
+-- the place in the whole list of the index to which a path goes at level l: in an inner node it stands after the child of its own place
+unfoldable pub spot : ℕ → ℕ → Node → List ℕ → ℕ
+spot l zero n p = slice_index p 0
+spot l (suc h) n p = length (before (slice_index p (suc h)) (row n) (map (λ k. flat h k) (children n)))
+  + (if nat_eq l (suc h) then length (flat h (child n (slice_index p (suc h)))) else spot l h (child n (slice_index p (suc h))) p)
+
+-- the node at level l is as it has to be where the nodes at levels below k are full, and the one at level k isn't
+abbrev pub FullBelow : ℕ → ℕ → Node → Type 0
+FullBelow k l n = (l < k → 11 ≤ length (row n)) × (l ≡ k → length (row n) < 11)
+
+-- the nodes on a path at levels below k are full, and the one at level k isn't; where k is the number of levels, all are full
+unfoldable pub IsFullBelow : ℕ → ℕ → Node → List ℕ → Type 0
+IsFullBelow k zero n p = FullBelow k 0 n
+IsFullBelow k (suc h) n p = FullBelow k (suc h) n × IsFullBelow k h (child n (slice_index p (suc h))) p
+
+-- an empty block with room for twelve children
+abbrev pub IsSpare : Vec Node Global → Type 0
+IsSpare s = (s.items ≡ []) × (12 ≤ vec_capacity s)

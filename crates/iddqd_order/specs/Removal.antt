@@ -1,0 +1,36 @@
+-- What the removal of an index leaves of a node.
+use Rattle.std.specs.Prelude.{◌≡◌, ◌≢◌, ℕ, ◌+◌, ◌<◌, ◌≤◌, List, [], All, Option, Some, None, min, length, map, slice_index_or}
+use Rattle.iddqd_order.specs.declared.btree_table.node.Node.{Node}
+use Rattle.iddqd_order.specs.Node.{row, weave, flat, IsFormed}
+
+-- a node below another one, over h levels
+abbrev pub IsChild : ℕ → Node → Type 0
+IsChild h k = (5 ≤ length (row k)) × IsFormed h k
+
+-- a node's indexes and its children, which are as they have to be but that the i-th child may have one index too few
+pub record MayLackOne (h i : ℕ) (xs : List ℕ) (ks : List Node) : Type 0 where
+  pub some : 1 ≤ length xs
+  pub within : length xs ≤ 11
+  pub one_more : length ks ≡ length xs + 1
+  pub here : i < length ks
+  pub at : (d : Node) → (4 ≤ length (row (slice_index_or ks i d))) × IsFormed h (slice_index_or ks i d)
+  pub others : (j : ℕ) (d : Node) → j < length ks → j ≢ i → IsChild h (slice_index_or ks j d)
+
+-- what mending makes of a node's indexes and its children: all are as they have to be, and the order is as before
+pub record IsMended (h : ℕ) (xs : List ℕ) (ks : List Node) (new_xs : List ℕ) (new_ks : List Node) : Type 0 where
+  pub within : length new_xs ≤ 11
+  pub fewer : length xs ≤ length new_xs + 1
+  pub one_more : length new_ks ≡ length new_xs + 1
+  pub below : All (IsChild h) new_ks
+  pub items : weave new_xs (map (λ k. flat h k) new_ks) ≡ weave xs (map (λ k. flat h k) ks)
+
+-- a node out of which an index was taken without mending: it holds what is left, and has five indexes as before
+pub record IsTakenOut (h : ℕ) (old new : Node) (left : List ℕ) : Type 0 where
+  pub items : flat h new ≡ left
+  pub formed : IsFormed h new
+  pub enough : min 5 (length (row old)) ≤ length (row new)
+
+-- a root without indexes
+abbrev pub IsEmptied : Option Node → ℕ → Type 0
+IsEmptied None h = ⊥
+IsEmptied (Some n) h = IsFormed h n × (row n ≡ []) × (h ≤ 11)

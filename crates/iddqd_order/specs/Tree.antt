@@ -1,0 +1,86 @@
+-- What a table's tree holds: the tree below a root, or nothing.
+use Rattle.std.specs.Prelude.{◌≡◌, ℕ, zero, suc, ◌+◌, ◌<◌, ◌≤◌, List, [], All, length, slice_index, Option, Some, None, Vec, nat_eq, ⊤}
+use Rattle.std.specs.List.{IsDistinct}
+use Rattle.std.specs.Coded.{×_prop, Π_prop, →_prop, Unit-prop, le_prop}
+use Rattle.std.specs.declared.alloc.Global.{Global}
+use Rattle.iddqd.specs.Compaction.{sentinel}
+use Rattle.iddqd_order.specs.declared.btree_table.node.Node.{Node}
+use Rattle.iddqd_order.specs.Node.{row, child, children, flat, IsFormed, Goes, place, Holds, spot, FullBelow, IsFullBelow, IsSpare}
+
+-- its indexes, in order
+abbrev pub in_order : Option Node → ℕ → List ℕ
+in_order None h = []
+in_order (Some n) h = flat h n
+
+-- the root has an index, and there are at most twelve levels
+abbrev pub IsTree : Option Node → ℕ → Type 0
+IsTree None h = h ≡ 0
+IsTree (Some n) h = IsFormed h n × (1 ≤ length (row n)) × (h ≤ 11)
+
+-- a path goes to a place
+abbrev pub GoesIn : Option Node → ℕ → List ℕ → Type 0
+GoesIn None h p = ⊤
+GoesIn (Some n) h p = Goes h n p
+
+-- the place to which it goes
+abbrev pub place_in : Option Node → ℕ → List ℕ → ℕ
+place_in None h p = 0
+place_in (Some n) h p = place h n p
+
+-- the nodes on a path at levels below k are full, and the one at level k isn't
+abbrev pub FullIn : ℕ → Option Node → ℕ → List ℕ → Type 0
+FullIn k None h p = ⊤
+FullIn k (Some n) h p = IsFullBelow k h n p
+
+-- a path goes down to level l, and there to an index
+abbrev pub HoldsIn : ℕ → Option Node → ℕ → List ℕ → Type 0
+HoldsIn l None h p = ⊥
+HoldsIn l (Some n) h p = Holds l h n p
+
+-- the place of that index
+abbrev pub spot_in : ℕ → Option Node → ℕ → List ℕ → ℕ
+spot_in l None h p = 0
+spot_in l (Some n) h p = spot l h n p
+
+-- the blocks of an insert: one for each full inner node that it cuts, and where all nodes on the path are full one more for a new root
+pub record AreEnough (full height blocks : ℕ) : Type 0 where
+  pub for_nodes : full ≤ height → full ≤ blocks + 1
+  pub for_root : height < full → height < blocks
+
+-- a table's parts: a tree of distinct indexes below `SENTINEL`, their number, and blocks for later inserts
+pub record IsTable (root : Option Node) (height len : ℕ) (blocks : List (Vec Node Global)) : Type 0 where
+  pub tree : IsTree root height
+  pub counted : len ≡ length (in_order root height)
+  pub distinct : IsDistinct nat_eq (in_order root height)
+  pub assigned : All (λ ix. ix < sentinel) (in_order root height)
+  pub spare : All IsSpare blocks
+
+Goes-prop : (h : ℕ) (n : Node) (p : List ℕ) → IsProp (Goes h n p)
+unfolding Goes
+Goes-prop zero n p = le_prop
+Goes-prop (suc h) n p = ×_prop le_prop (Goes-prop h _ _)
+
+pub GoesIn-prop : (r : Option Node) (h : ℕ) (p : List ℕ) → IsProp (GoesIn r h p)
+GoesIn-prop None h p = Unit-prop
+GoesIn-prop (Some n) h p = Goes-prop h n p
+
+FullBelow-prop : (k l : ℕ) (n : Node) → IsProp (FullBelow k l n)
+FullBelow-prop k l n = ×_prop (→_prop le_prop) (→_prop le_prop)
+
+IsFullBelow-prop : (k h : ℕ) (n : Node) (p : List ℕ) → IsProp (IsFullBelow k h n p)
+unfolding IsFullBelow
+IsFullBelow-prop k zero n p = FullBelow-prop k 0 n
+IsFullBelow-prop k (suc h) n p = ×_prop (FullBelow-prop k (suc h) n) (IsFullBelow-prop k h _ _)
+
+pub FullIn-prop : (k : ℕ) (r : Option Node) (h : ℕ) (p : List ℕ) → IsProp (FullIn k r h p)
+FullIn-prop k None h p = Unit-prop
+FullIn-prop k (Some n) h p = IsFullBelow-prop k h n p
+
+Holds-prop : (l h : ℕ) (n : Node) (p : List ℕ) → IsProp (Holds l h n p)
+unfolding Holds
+Holds-prop l zero n p u v = ×_prop le_prop le_prop u v
+Holds-prop l (suc h) n p u v = λ i. (le_prop u.0 v.0 i, →_prop le_prop u.1 v.1 i, →_prop (×_prop le_prop (Holds-prop l h (child n (slice_index p (suc h))) p)) u.2 v.2 i)
+
+pub HoldsIn-prop : (l : ℕ) (r : Option Node) (h : ℕ) (p : List ℕ) → IsProp (HoldsIn l r h p)
+HoldsIn-prop l None h p = λ x y. absurd x
+HoldsIn-prop l (Some n) h p = Holds-prop l h n p

@@ -1,0 +1,121 @@
+//! Searches of a tree: one walk down from the root, four asks a level.
+ghost use Rattle.std.specs.Prelude.{◌≡◌, ℕ, ◌+◌, ◌<◌, ◌≤◌, Some, None, IfSome, IsNone, Contains, length, slice_index};
+ghost use Rattle.iddqd_order.specs.Descent.{Descends, FindsIn};
+ghost use Rattle.iddqd_order.specs.MapBTreeTable.{StandsAt};
+ghost use Rattle.iddqd_order.specs.Node.{flat, IsFormed, Holds, spot};
+ghost use Rattle.iddqd_order.specs.Search.{CanSearch};
+
+use crate::btree_table::asking::Asking;
+use crate::btree_table::node::Node;
+use crate::btree_table::path::Path;
+use crate::btree_table::reading::Reads;
+use crate::btree_table::row::CAPACITY;
+use crate::btree_table::search::search;
+use iddqd::item_index::ItemIndex;
+
+impl Node {
+    // The index at which a search ends, if it ends at one.
+    pub fn find<R, F: FnMut(ItemIndex) -> R, H: Reads<R>>(
+        &self,
+        height: usize,
+        asking: &mut Asking<F>,
+        how: &H,
+    ) -> Option<ItemIndex>
+        requires formed { IsFormed height self.now }
+        requires can_search { CanSearch F.FnMut (flat height self.now) None asking.old }
+        ensures { FindsIn F.FnMut (H.reading how.now) None height self.now asking.old result asking.new }
+    {
+        let tie = None;
+        let mut node = self;
+        let mut level = height;
+        loop {
+            match search(node.row.as_slice(), asking, how, &tie) {
+                Ok(i) => return Some(node.row.get(i)),
+                Err(i) => {
+                    if level == 0 {
+                        return None;
+                    }
+                    level -= 1;
+                    node = &node.children[i];
+                }
+            }
+        }
+    }
+
+    // Writes the way of a search to the path. It answers the level at which the search ends, or, where
+    // it ends in a leaf, how many nodes at the lower end of the way are full.
+    pub fn descend<R, F: FnMut(ItemIndex) -> R, H: Reads<R>>(
+        &self,
+        height: usize,
+        asking: &mut Asking<F>,
+        how: &H,
+        tie: &Option<ItemIndex>,
+        path: &mut Path,
+    ) -> Result<usize, usize>
+        requires formed { IsFormed height self.now }
+        requires levels { height ≤ 11 }
+        requires path { length path.old ≡ 12 }
+        requires can_search { CanSearch F.FnMut (flat height self.now) tie.now asking.old }
+        ensures path { length path.new ≡ 12 }
+        ensures descends { Descends F.FnMut (H.reading how.now) tie.now (height + 1) height self.now asking.old path.new result asking.new }
+    {
+        let mut node = self;
+        let mut level = height;
+        let mut full = height + 1;
+        loop {
+            if node.row.len() < CAPACITY {
+                full = level;
+            }
+            match search(node.row.as_slice(), asking, how, tie) {
+                Ok(i) => {
+                    path.set(level, i);
+                    return Ok(level);
+                }
+                Err(i) => {
+                    path.set(level, i);
+                    if level == 0 {
+                        return Err(full);
+                    }
+                    level -= 1;
+                    node = &node.children[i];
+                }
+            }
+        }
+    }
+
+    // Finds an index wherever it is stored, by a walk that asks nothing: its level, with the way to it
+    // in the path.
+    pub fn locate(&self, height: usize, ix: ItemIndex, path: &mut Path) -> Option<usize>
+        requires formed { IsFormed height self.now }
+        requires levels { height ≤ 11 }
+        requires path { length path.old ≡ 12 }
+        ensures found { IfSome result (λ l. Holds l height self.now path.new) }
+        ensures there { IfSome result (λ l. slice_index (flat height self.now) (spot l height self.now path.new) ≡ ix) }
+        ensures missing { IsNone result → Contains (flat height self.now) ix → ⊥ }
+        ensures path { length path.new ≡ 12 }
+        ensures above { (l : ℕ) → height < l → slice_index path.new l ≡ slice_index path.old l }
+    {
+        if let Some(i) = position(self.row.as_slice(), ix) {
+            path.set(height, i);
+            return Some(height);
+        }
+        if height == 0 {
+            return None;
+        }
+        for i in 0..self.children.len() {
+            path.set(height, i);
+            if let Some(level) = self.children[i].locate(height - 1, ix, path) {
+                return Some(level);
+            }
+        }
+        None
+    }
+}
+
+// Where the index stands in a row.
+fn position(items: &[ItemIndex], ix: ItemIndex) -> Option<usize>
+    ensures there { StandsAt items.now ix result }
+    ensures missing { IsNone result → Contains items.now ix → ⊥ }
+{
+    items.iter().position(|stored| *stored == ix)
+}

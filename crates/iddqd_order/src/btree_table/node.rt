@@ -1,0 +1,189 @@
+//! A node of the tree, and the insert into one.
+ghost use Rattle.std.specs.Prelude.{◌≡◌, ℕ, ◌+◌, ◌<◌, ◌≤◌, List, [], ◌∷◌, ◌++◌, length, take, drop, slice_index, vec_len, vec_capacity, All};
+ghost use Rattle.std.specs.List.{insert};
+ghost use Rattle.iddqd_order.specs.Node.{row, flat, IsFormed, Goes, place, IsFullBelow, IsSpare};
+ghost use Rattle.iddqd_order.specs.Row.{IsCut};
+
+use crate::btree_table::path::Path;
+use crate::btree_table::row::Row;
+use iddqd::item_index::ItemIndex;
+use std::alloc::Global;
+
+// A node and all below it. The children lie in one block with room for twelve; a leaf has none.
+#[derive(Drop)]
+pub struct Node {
+    pub row: Row,
+    pub children: Vec<Node>,
+}
+
+// Moves the nodes from `at` on to an empty block.
+fn move_tail(from: &mut Vec<Node>, at: usize, to: &mut Vec<Node>)
+    requires within { at ≤ vec_len from.old }
+    requires empty { to.old.items ≡ [] }
+    requires fits { vec_len from.old ≤ vec_capacity to.old + at }
+    ensures head { from.new.items ≡ take at from.old.items }
+    ensures tail { to.new.items ≡ drop at from.old.items }
+    ensures count { vec_len to.new + at ≡ vec_len from.old }
+    ensures capacity { vec_capacity from.new ≡ vec_capacity from.old }
+    ensures other_capacity { vec_capacity to.new ≡ vec_capacity to.old }
+{
+    while from.len() > at {
+        to.push_reserved(from.take_last());
+    }
+    to.reverse();
+}
+
+// Puts one more node after the i-th of twelve, and moves all but the first `low` to an empty block.
+fn cut_children(children: &mut Vec<Node>, low: usize, i: usize, after: Node, upper: &mut Vec<Node>)
+    requires full { vec_len children.old ≡ 12 }
+    requires some { 1 ≤ low }
+    requires not_all { low ≤ 12 }
+    requires within { i ≤ 11 }
+    requires empty { upper.old.items ≡ [] }
+    requires room { 12 ≤ vec_capacity children.old }
+    requires other_room { 12 ≤ vec_capacity upper.old }
+    ensures parts { children.new.items ++ upper.new.items ≡ insert children.old.items (i + 1) after }
+    ensures low { vec_len children.new ≡ low }
+    ensures capacity { 12 ≤ vec_capacity children.new }
+    ensures other_capacity { 12 ≤ vec_capacity upper.new }
+{
+    if i + 1 < low {
+        move_tail(children, low - 1, upper);
+        let _ = children.insert(i + 1, after);
+    } else {
+        move_tail(children, low, upper);
+        let _ = upper.insert(i + 1 - low, after);
+    }
+}
+
+// Puts an index and the child after it into an inner node that isn't full.
+fn put_between(row: &mut Row, children: &mut Vec<Node>, i: usize, ix: ItemIndex, after: Node)
+    requires within { i ≤ length row.old }
+    requires room { length row.old < 11 }
+    requires one_more { vec_len children.old ≡ length row.old + 1 }
+    requires has_room { 12 ≤ vec_capacity children.old }
+    ensures row { row.new ≡ insert row.old i ix }
+    ensures children { children.new.items ≡ insert children.old.items (i + 1) after }
+    ensures has_room { 12 ≤ vec_capacity children.new }
+{
+    row.insert(i, ix);
+    let _ = children.insert(i + 1, after);
+}
+
+// Puts an index and the child after it into a full inner node, and cuts the node in two: the index
+// in the middle and the upper row are answered, and the upper children lie in the empty block.
+fn cut_inner(
+    row: &mut Row,
+    children: &mut Vec<Node>,
+    i: usize,
+    ix: ItemIndex,
+    after: Node,
+    upper: &mut Vec<Node>,
+) -> (ItemIndex, Row)
+    requires within { i ≤ length row.old }
+    requires full { length row.old ≡ 11 }
+    requires one_more { vec_len children.old ≡ 12 }
+    requires has_room { 12 ≤ vec_capacity children.old }
+    requires spare { IsSpare upper.old }
+    ensures cut { IsCut row.old i ix row.new result.0 result.1 }
+    ensures parts { children.new.items ++ upper.new.items ≡ insert children.old.items (i + 1) after }
+    ensures one_more { vec_len children.new ≡ length row.new + 1 }
+    ensures has_room { 12 ≤ vec_capacity children.new }
+    ensures other_room { 12 ≤ vec_capacity upper.new }
+{
+    let (middle, upper_row) = row.cut(i, ix);
+    cut_children(children, row.len() + 1, i, after, upper);
+    (middle, upper_row)
+}
+
+impl Node {
+    // Puts an index where the path goes, in a leaf that isn't full.
+    pub fn put_in_leaf(&mut self, height: usize, path: &Path, ix: ItemIndex)
+        requires low { height ≤ 11 }
+        requires formed { IsFormed height self.old }
+        requires goes { Goes height self.old path.now }
+        requires room { IsFullBelow 0 height self.old path.now }
+        ensures items { flat height self.new ≡ insert (flat height self.old) (place height self.old path.now) ix }
+        ensures formed { IsFormed height self.new }
+        ensures longer { length (row self.old) ≤ length (row self.new) }
+    {
+        let i = path.get(height);
+        if height == 0 {
+            self.row.insert(i, ix);
+        } else {
+            self.children[i].put_in_leaf(height - 1, path, ix)
+        }
+    }
+
+    // Puts an index where the path goes: the nodes below level `full` are full and are cut in two,
+    // and the one at that level takes what they give up. It takes no memory but the blocks.
+    pub fn put_above(
+        &mut self,
+        height: usize,
+        full: usize,
+        path: &Path,
+        ix: ItemIndex,
+        blocks: &mut Vec<Vec<Node>>,
+        alloc: Global,
+    )
+        requires low { height ≤ 11 }
+        requires some { 0 < full }
+        requires not_all { full ≤ height }
+        requires formed { IsFormed height self.old }
+        requires goes { Goes height self.old path.now }
+        requires full { IsFullBelow full height self.old path.now }
+        requires enough { full ≤ vec_len blocks.old + 1 }
+        requires spare { All IsSpare blocks.old.items }
+        ensures items { flat height self.new ≡ insert (flat height self.old) (place height self.old path.now) ix }
+        ensures formed { IsFormed height self.new }
+        ensures longer { length (row self.old) ≤ length (row self.new) }
+        ensures spare { All IsSpare blocks.new.items }
+    {
+        let i = path.get(height);
+        if height > full {
+            self.children[i].put_above(height - 1, full, path, ix, blocks, alloc)
+        } else {
+            let (middle, after) = self.children[i].cut(height - 1, path, ix, blocks, alloc);
+            put_between(&mut self.row, &mut self.children, i, middle, after)
+        }
+    }
+
+    // Puts an index where the path goes, through full nodes alone, and cuts each of them in two: the
+    // index and the node that come after this one are answered. It takes no memory but the blocks.
+    pub fn cut(
+        &mut self,
+        height: usize,
+        path: &Path,
+        ix: ItemIndex,
+        blocks: &mut Vec<Vec<Node>>,
+        alloc: Global,
+    ) -> (ItemIndex, Node)
+        requires low { height ≤ 11 }
+        requires formed { IsFormed height self.old }
+        requires goes { Goes height self.old path.now }
+        requires full { IsFullBelow (height + 1) height self.old path.now }
+        requires enough { height ≤ vec_len blocks.old }
+        requires spare { All IsSpare blocks.old.items }
+        ensures items { flat height self.new ++ result.0 ∷ flat height result.1 ≡ insert (flat height self.old) (place height self.old path.now) ix }
+        ensures low { (5 ≤ length (row self.new)) × IsFormed height self.new }
+        ensures high { (5 ≤ length (row result.1)) × IsFormed height result.1 }
+        ensures left { vec_len blocks.new + height ≡ vec_len blocks.old }
+        ensures spare { All IsSpare blocks.new.items }
+    {
+        let i = path.get(height);
+        if height == 0 {
+            let (middle, row) = self.row.cut(i, ix);
+            return (
+                middle,
+                Node {
+                    row,
+                    children: Vec::new(alloc),
+                },
+            );
+        }
+        let (middle, after) = self.children[i].cut(height - 1, path, ix, blocks, alloc);
+        let mut children = blocks.take_last();
+        let (middle, row) = cut_inner(&mut self.row, &mut self.children, i, middle, after, &mut children);
+        (middle, Node { row, children })
+    }
+}

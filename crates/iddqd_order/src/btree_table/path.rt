@@ -1,0 +1,47 @@
+//! A way down the tree.
+ghost use Rattle.std.specs.Prelude.{◌≡◌, ℕ, ◌<◌, ◌≤◌, List, length, slice_index, slice_set};
+
+use std::marker::Model;
+
+/// The most levels of a tree.
+pub const LEVELS: usize = 12;
+
+// A place for each level: at level 0 a place in the leaf, and at a level above the leaves the place
+// of the child that is taken there.
+#[derive(Clone, Copy)]
+pub struct Path {
+    places: [u8; LEVELS],
+}
+
+impl Model for Path {
+    ghost Value = { List ℕ };
+
+    ghost view = { λ p. p.places };
+
+    ghost inverse = { λ n. record { places = n } };
+}
+
+impl Path {
+    pub fn new() -> Path
+        ensures { length result ≡ 12 }
+    {
+        Path { places: [0; LEVELS] }
+    }
+
+    pub fn get(&self, level: usize) -> usize
+        requires { level < 12 }
+        ensures { result ≡ slice_index self.now level }
+    {
+        let places = &self.places;
+        places[level] as usize
+    }
+
+    pub fn set(&mut self, level: usize, place: usize)
+        requires level { level < 12 }
+        requires place { place ≤ 12 }
+        ensures place { self.new ≡ slice_set self.old level place }
+        ensures length { length self.new ≡ 12 }
+    {
+        self.places[level] = place as u8;
+    }
+}

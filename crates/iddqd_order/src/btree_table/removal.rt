@@ -1,0 +1,254 @@
+//! Removal from a node, which takes no memory.
+ghost use Rattle.std.specs.Prelude.{◌≡◌, ◌↔◌, ℕ, ◌+◌, ◌<◌, ◌≤◌, [], ◌∷◌, ◌++◌, length, slice_index_or, option_to_list, vec_capacity, IsSome, IsTrue, false};
+ghost use Rattle.std.specs.List.{remove};
+ghost use Rattle.iddqd_order.specs.declared.btree_table.node.Node.{Node};
+ghost use Rattle.iddqd_order.specs.Node.{row, children, room, row as row_of, flat, IsFormed, Holds, spot};
+ghost use Rattle.iddqd_order.specs.Removal.{MayLackOne, IsMended, IsTakenOut, IsEmptied};
+ghost use Rattle.iddqd_order.specs.Tree.{in_order, IsTree, HoldsIn, spot_in};
+
+use crate::btree_table::node::Node;
+use crate::btree_table::path::Path;
+use crate::btree_table::row::{LEAST, Row};
+use iddqd::item_index::ItemIndex;
+
+// Takes out the index to which the path goes at the level, and answers the new height. It takes no
+// memory.
+pub fn take_out(root: &mut Option<Node>, height: usize, path: &Path, level: usize) -> usize
+    requires tree { IsTree root.old height }
+    requires holds { HoldsIn level root.old height path.now }
+    ensures tree { IsTree root.new result }
+    ensures items { in_order root.new result ≡ remove (in_order root.old height) (spot_in level root.old height path.now) }
+{
+    if let Some(node) = root {
+        if level == 0 && node.take_from_leaf(height, path) {
+            return height;
+        }
+        node.remove(height, path, level);
+        if node.row.len() > 0 {
+            return height;
+        }
+    }
+    lower(root, height)
+}
+
+// Lets go of a root without indexes: its only child, if there is one, is the new root.
+fn lower(root: &mut Option<Node>, height: usize) -> usize
+    requires { IsEmptied root.old height }
+    ensures tree { IsTree root.new result }
+    ensures items { in_order root.new result ≡ in_order root.old height }
+{
+    let Some(Node { mut children, .. }) = root.take() else {
+        return height;
+    };
+    *root = children.pop();
+    height.saturating_sub(1)
+}
+
+impl Node {
+    // Takes an index out of a leaf, if the leaf has more than the least, and says whether it has.
+    fn take_from_leaf(&mut self, height: usize, path: &Path) -> bool
+        requires low { height ≤ 11 }
+        requires formed { IsFormed height self.old }
+        requires holds { Holds 0 height self.old path.now }
+        ensures taken { IsTrue result → IsTakenOut height self.old self.new (remove (flat height self.old) (spot 0 height self.old path.now)) }
+        ensures kept { result ≡ false → self.new ≡ self.old }
+    {
+        let i = path.get(height);
+        if height > 0 {
+            return self.children[i].take_from_leaf(height - 1, path);
+        }
+        if self.row.len() <= LEAST {
+            return false;
+        }
+        self.row.remove(i);
+        true
+    }
+
+    // Takes out the index to which the path goes at the level. The node may be left with one index
+    // less.
+    pub fn remove(&mut self, height: usize, path: &Path, level: usize)
+        requires low { height ≤ 11 }
+        requires some { 1 ≤ length (row self.old) }
+        requires formed { IsFormed height self.old }
+        requires holds { Holds level height self.old path.now }
+        ensures items { flat height self.new ≡ remove (flat height self.old) (spot level height self.old path.now) }
+        ensures formed { IsFormed height self.new }
+        ensures fewer { length (row self.old) ≤ length (row self.new) + 1 }
+    {
+        let i = path.get(height);
+        if height == 0 {
+            self.row.remove(i);
+            return;
+        }
+        if height == level {
+            let last = self.children[i].remove_last(height - 1);
+            self.row.set(i, last);
+        } else {
+            self.children[i].remove(height - 1, path, level);
+        }
+        mend(&mut self.row, &mut self.children, i);
+    }
+
+    // Takes out the last index of all. The node may be left with one index less.
+    fn remove_last(&mut self, height: usize) -> ItemIndex
+        requires some { 1 ≤ length (row self.old) }
+        requires formed { IsFormed height self.old }
+        ensures items { flat height self.old ≡ flat height self.new ++ result ∷ [] }
+        ensures formed { IsFormed height self.new }
+        ensures fewer { length (row self.old) ≤ length (row self.new) + 1 }
+    {
+        let count = self.row.len();
+        if height == 0 {
+            return self.row.remove(count - 1);
+        }
+        let last = self.children[count].remove_last(height - 1);
+        mend(&mut self.row, &mut self.children, count);
+        last
+    }
+
+    // Takes the last index, and the last child if there is one.
+    fn take_last(&mut self) -> (ItemIndex, Option<Node>)
+        requires { 0 < length (row self.old) }
+        ensures row { row self.old ≡ row self.new ++ result.0 ∷ [] }
+        ensures children { children self.old ≡ children self.new ++ option_to_list result.1 }
+        ensures child { IsSome result.1 ↔ (0 < length (children self.old)) }
+        ensures room { room self.new ≡ room self.old }
+    {
+        let last = self.row.len() - 1;
+        let ix = self.row.remove(last);
+        (ix, self.children.pop())
+    }
+
+    // Takes the first index, and the first child if there is one.
+    fn take_first(&mut self) -> (ItemIndex, Option<Node>)
+        requires { 0 < length (row self.old) }
+        ensures row { row self.old ≡ result.0 ∷ row self.new }
+        ensures children { children self.old ≡ option_to_list result.1 ++ children self.new }
+        ensures child { IsSome result.1 ↔ (0 < length (children self.old)) }
+        ensures room { room self.new ≡ room self.old }
+    {
+        let ix = self.row.remove(0);
+        if self.children.is_empty() {
+            return (ix, None);
+        }
+        (ix, Some(self.children.remove(0)))
+    }
+
+    // Puts an index, and a child if there is one, before the others.
+    fn put_first(&mut self, ix: ItemIndex, child: Option<Node>)
+        requires fits { length (row self.old) < 11 }
+        requires room { length (option_to_list child) + length (children self.old) ≤ room self.old }
+        ensures row { row self.new ≡ ix ∷ row self.old }
+        ensures children { children self.new ≡ option_to_list child ++ children self.old }
+        ensures room { room self.old ≤ room self.new }
+    {
+        self.row.insert(0, ix);
+        if let Some(child) = child {
+            let _ = self.children.insert(0, child);
+        }
+    }
+
+    // Puts an index, and a child if there is one, after the others.
+    fn put_last(&mut self, ix: ItemIndex, child: Option<Node>)
+        requires fits { length (row self.old) < 11 }
+        requires room { length (option_to_list child) + length (children self.old) ≤ room self.old }
+        ensures row { row self.new ≡ row self.old ++ ix ∷ [] }
+        ensures children { children self.new ≡ children self.old ++ option_to_list child }
+        ensures room { room self.old ≤ room self.new }
+    {
+        self.row.insert(self.row.len(), ix);
+        if let Some(child) = child {
+            let _ = self.children.push(child);
+        }
+    }
+
+    // Puts an index and all of another node after the others.
+    fn join(&mut self, middle: ItemIndex, other: Node)
+        requires fits { length (row self.old) + length (row other) ≤ 10 }
+        requires room { length (children self.old) + length (children other) ≤ room self.old }
+        ensures row { row self.new ≡ row self.old ++ middle ∷ row other }
+        ensures children { children self.new ≡ children self.old ++ children other }
+        ensures room { room self.old ≤ room self.new }
+    {
+        let Node { row, mut children } = other;
+        self.row.insert(self.row.len(), middle);
+        self.row.append(&row);
+        let _ = self.children.append(&mut children);
+    }
+}
+
+// Mends the i-th child where it has one index too few.
+fn mend(row: &mut Row, children: &mut Vec<Node>, i: usize)
+    requires { (h : ℕ) × MayLackOne h i row.old children.old.items }
+    ensures mended { (h : ℕ) → MayLackOne h i row.old children.old.items → IsMended h row.old children.old.items row.new children.new.items }
+    ensures capacity { vec_capacity children.new ≡ vec_capacity children.old }
+{
+    if children[i].row.len() < LEAST {
+        fill_up(row, children, i);
+    }
+}
+
+// Gives the i-th child an index from a child beside it, or makes the two one child.
+#[inline(never)]
+fn fill_up(row: &mut Row, children: &mut Vec<Node>, i: usize)
+    requires lacks { (h : ℕ) × MayLackOne h i row.old children.old.items }
+    requires poor { (d : Node) → length (row_of (slice_index_or children.old.items i d)) < 5 }
+    ensures mended { (h : ℕ) → MayLackOne h i row.old children.old.items → IsMended h row.old children.old.items row.new children.new.items }
+    ensures capacity { vec_capacity children.new ≡ vec_capacity children.old }
+{
+    if i > 0 {
+        if children[i - 1].row.len() > LEAST {
+            borrow_left(row, children, i - 1);
+        } else {
+            merge(row, children, i - 1);
+        }
+    } else if children[1].row.len() > LEAST {
+        borrow_right(row, children, 0);
+    } else {
+        merge(row, children, 0);
+    }
+}
+
+// Moves the last index of a child up, and the index that stood after that child down to the next,
+// which has one too few.
+fn borrow_left(row: &mut Row, children: &mut Vec<Node>, left: usize)
+    requires lacks { (h : ℕ) × MayLackOne h (left + 1) row.old children.old.items }
+    requires more { (d : Node) → 5 < length (row_of (slice_index_or children.old.items left d)) }
+    requires poor { (d : Node) → length (row_of (slice_index_or children.old.items (left + 1) d)) < 5 }
+    ensures mended { (h : ℕ) → MayLackOne h (left + 1) row.old children.old.items → IsMended h row.old children.old.items row.new children.new.items }
+    ensures capacity { vec_capacity children.new ≡ vec_capacity children.old }
+{
+    let (last, moved) = children[left].take_last();
+    let middle = row.get(left);
+    row.set(left, last);
+    children[left + 1].put_first(middle, moved);
+}
+
+// Moves the first index of a child up, and the index that stood before that child down to the one
+// before, which has one too few.
+fn borrow_right(row: &mut Row, children: &mut Vec<Node>, left: usize)
+    requires lacks { (h : ℕ) × MayLackOne h left row.old children.old.items }
+    requires within { left < length row.old }
+    requires more { (d : Node) → 5 < length (row_of (slice_index_or children.old.items (left + 1) d)) }
+    requires poor { (d : Node) → length (row_of (slice_index_or children.old.items left d)) < 5 }
+    ensures mended { (h : ℕ) → MayLackOne h left row.old children.old.items → IsMended h row.old children.old.items row.new children.new.items }
+    ensures capacity { vec_capacity children.new ≡ vec_capacity children.old }
+{
+    let (first, moved) = children[left + 1].take_first();
+    let middle = row.get(left);
+    row.set(left, first);
+    children[left].put_last(middle, moved);
+}
+
+// Makes two children and the index between them one child.
+fn merge(row: &mut Row, children: &mut Vec<Node>, left: usize)
+    requires lacks { (h : ℕ) × ((i : ℕ) × ((left ≤ i) × ((i ≤ left + 1) × MayLackOne h i row.old children.old.items))) }
+    requires within { left < length row.old }
+    requires few { (d : Node) → length (row_of (slice_index_or children.old.items left d)) + length (row_of (slice_index_or children.old.items (left + 1) d)) ≤ 10 }
+    ensures mended { (h i : ℕ) → left ≤ i → i ≤ left + 1 → MayLackOne h i row.old children.old.items → IsMended h row.old children.old.items row.new children.new.items }
+    ensures capacity { vec_capacity children.new ≡ vec_capacity children.old }
+{
+    let middle = row.remove(left);
+    let other = children.remove(left + 1);
+    children[left].join(middle, other);
+}

@@ -1,0 +1,142 @@
+//! At most eleven indexes in a row, in one place of memory.
+ghost use Rattle.std.specs.Prelude.{◌≡◌, ℕ, ◌+◌, ◌<◌, ◌≤◌, List, [], ◌++◌, length, take, drop, slice_index, slice_set};
+ghost use Rattle.std.specs.List.{insert, remove};
+ghost use Rattle.iddqd_order.specs.Row.{IsCut};
+
+use iddqd::item_index::ItemIndex;
+use std::marker::Model;
+
+/// The most indexes of a row.
+pub const CAPACITY: usize = 11;
+
+// The least indexes of a row, but in the root.
+pub const LEAST: usize = 5;
+
+// A list of at most eleven indexes.
+#[derive(Drop)]
+pub struct Row {
+    items: [ItemIndex; CAPACITY],
+    len: u8,
+}
+
+impl Model for Row {
+    ghost Value = { List ℕ };
+
+    ghost view = { λ a. take a.len a.items };
+
+    ghost invariant = { λ a. (length a.items ≡ 11) × (a.len ≤ 11) };
+}
+
+impl Row {
+    pub fn new() -> Row
+        ensures { result ≡ [] }
+    {
+        Row {
+            items: [ItemIndex::new(0); CAPACITY],
+            len: 0,
+        }
+    }
+
+    pub fn len(&self) -> usize
+        ensures length { result ≡ length self.now }
+        ensures within { result ≤ 11 }
+    {
+        self.len as usize
+    }
+
+    pub fn as_slice(&self) -> &[ItemIndex]
+        ensures { result.now ≡ self.now }
+    {
+        &self.items[..self.len as usize]
+    }
+
+    pub fn get(&self, at: usize) -> ItemIndex
+        requires { at < length self.now }
+        ensures { result ≡ slice_index self.now at }
+    {
+        let items = &self.items;
+        items[at]
+    }
+
+    pub fn set(&mut self, at: usize, ix: ItemIndex)
+        requires { at < length self.old }
+        ensures { self.new ≡ slice_set self.old at ix }
+    {
+        let items = &mut self.items;
+        items[at] = ix;
+    }
+
+    pub fn insert(&mut self, at: usize, ix: ItemIndex)
+        requires in_bounds { at ≤ length self.old }
+        requires room { length self.old < 11 }
+        ensures { self.new ≡ insert self.old at ix }
+    {
+        let len = self.len as usize;
+        self.items.copy_within(at..len, at + 1);
+        self.items[at] = ix;
+        self.len += 1;
+    }
+
+    pub fn remove(&mut self, at: usize) -> ItemIndex
+        requires { at < length self.old }
+        ensures value { result ≡ slice_index self.old at }
+        ensures items { self.new ≡ remove self.old at }
+    {
+        let len = self.len as usize;
+        let ix = self.items[at];
+        self.items.copy_within(at + 1..len, at);
+        self.len -= 1;
+        ix
+    }
+
+    // Moves the indexes from `at` on to a new row.
+    pub fn split_off(&mut self, at: usize) -> Row
+        requires { at ≤ length self.old }
+        ensures head { self.new ≡ take at self.old }
+        ensures tail { result ≡ drop at self.old }
+    {
+        let count = self.len - at as u8;
+        let mut items = [ItemIndex::new(0); CAPACITY];
+        let own = &self.items[..];
+        items[..count as usize].copy_from_slice(&own[at..self.len as usize]);
+        self.len = at as u8;
+        Row { items, len: count }
+    }
+
+    pub fn append(&mut self, other: &Row)
+        requires { length self.old + length other.now ≤ 11 }
+        ensures { self.new ≡ self.old ++ other.now }
+    {
+        let len = self.len as usize;
+        let more = other.len as usize;
+        let items = &mut self.items[..];
+        items[len..len + more].copy_from_slice(&other.items[..more]);
+        self.len += other.len;
+    }
+
+    // Puts an index into a full row and cuts it in two: the index in the middle and the upper part
+    // are answered.
+    pub fn cut(&mut self, at: usize, ix: ItemIndex) -> (ItemIndex, Row)
+        requires full { length self.old ≡ 11 }
+        requires in_bounds { at ≤ length self.old }
+        ensures { IsCut self.old at ix self.new result.0 result.1 }
+    {
+        if at <= 5 {
+            let upper = self.split_off(5);
+            if at == 5 {
+                return (ix, upper);
+            }
+            let middle = self.remove(4);
+            self.insert(at, ix);
+            (middle, upper)
+        } else {
+            let mut upper = self.split_off(6);
+            if at == 6 {
+                return (ix, upper);
+            }
+            let middle = upper.remove(0);
+            upper.insert(at - 7, ix);
+            (middle, upper)
+        }
+    }
+}
