@@ -44,6 +44,14 @@ module _ {T : Type 0} where
         | inr past ↦ let none = get_or_past items ix None past in absurd (cc)
       ]
 
+  -- an index that isn't live gives nothing
+  pub none_where_not_live : (s : Store T) (ix : ℕ) → (IsSome (get s ix) → ⊥) → get s ix ≡ None
+  none_where_not_live s ix not_live = by_item (get s ix) not_live
+    where
+      by_item : (item : Option T) → (IsSome item → ⊥) → item ≡ None
+      by_item None not_live = refl
+      by_item (Some item) not_live = absurd (not_live refl)
+
   pub IsValid-empty : IsValid (empty {T = T})
   unfolding IsDistinct
   IsValid-empty = record {

@@ -1,6 +1,7 @@
 pub mod Store
 pub mod ItemSet
 pub mod Sizes
+pub mod Reads
 pub mod Lends
 pub mod GrowHandle
 pub mod Slots

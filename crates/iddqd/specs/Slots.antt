@@ -1,4 +1,4 @@
--- How an `ItemSet` lays out its slots: the chain of the vacant ones. No public clause cites this module.
+-- How an `ItemSet` lays out its slots: the chain of the vacant ones. Of public clauses those of `ItemSlot` alone cite it.
 use Rattle.std.specs.Prelude.{◌≡◌, ℕ, zero, suc, ◌+◌, ◌≤◌, List, [], ◌∷◌, map, length, Option, Some, None, is_some, count_by, slice_get}
 use Rattle.std.specs.List.{Contains}
 use Rattle.iddqd.specs.Store.{Store, sentinel}

@@ -2,6 +2,7 @@ mod compaction;
 mod handles;
 mod indexes;
 mod printing;
+mod reads;
 mod sizes;
 mod slots;
 
