@@ -1,4 +1,5 @@
 pub mod Store
+pub mod LiveItems
 pub mod ItemSet
 pub mod Sizes
 pub mod Reads

@@ -2,6 +2,7 @@
 use Rattle.std.specs.Prelude.{◌≡◌, ℕ, zero, suc, ◌+◌, ◌≤◌, List, [], ◌∷◌, map, length, Option, Some, None, is_some, count_by, slice_get}
 use Rattle.std.specs.List.{Contains}
 use Rattle.iddqd.specs.Store.{Store, sentinel}
+use Rattle.iddqd.specs.LiveItems.{pairs_from}
 use Rattle.iddqd.specs.declared.item_set.ItemSlot.{ItemSlot}
 use Rattle.iddqd.specs.declared.item_set.ItemSlot.TheVariants.{Occupied, Vacant}
 
@@ -50,3 +51,8 @@ module _ {T : Type 0} where
     pub sound : IsSound slots head len
     pub small : length slots ≤ limit
     pub named : limit ≤ sentinel
+
+  -- a walk has these slots left, the first of which has this index, and `left` counts their items
+  pub record IsWalk (slots : List (ItemSlot T)) (first left : ℕ) : Type 0 where
+    pub counted : left ≡ length (pairs_from first (map item_of slots))
+    pub named : first + length slots ≤ sentinel

@@ -12,9 +12,13 @@ ghost use Rattle.iddqd.specs.Compaction.{rank, compacted, new_name, numbers, IsR
 
 mod reads;
 mod sizes;
+pub mod consuming;
+pub mod iter;
 
 pub use crate::index_remap::IndexRemap;
 use crate::item_index::ItemIndex;
+pub use consuming::ConsumingItemSet;
+pub use iter::{IntoValues, Iter, Values};
 use std::alloc::{AllocError, Global};
 use std::marker::Model;
 use std::{fmt, mem};
@@ -430,5 +434,49 @@ impl<T> ItemSet<T> {
         self.slots
             .retain(|slot| matches!(slot, ItemSlot::Occupied(_)));
         self.free_head = ItemIndex::SENTINEL;
+    }
+}
+
+/// The walks over a set, and the set as slots that are emptied. They take no memory.
+impl<T> ItemSet<T> {
+    ghost use Rattle.iddqd.specs.LiveItems.{live_pairs, live_items, IsWalkOf};
+
+    /// The live indexes with their items, by rising index. A whole walk costs a step a slot.
+    pub fn iter(&self) -> Iter<'_, T>
+        ensures pairs { result ≡ live_pairs self.now.store }
+        ensures len { length result ≡ live_count self.now.store }
+        ensures walk { IsWalkOf self.now.store result }
+    {
+        Iter {
+            slots: self.slots.as_slice(),
+            first: 0,
+            left: self.len as usize,
+        }
+    }
+
+    /// The items, by rising index. A whole walk costs a step a slot.
+    pub fn values(&self) -> Values<'_, T>
+        ensures items { result ≡ live_items self.now.store }
+        ensures len { length result ≡ live_count self.now.store }
+    {
+        Values { pairs: self.iter() }
+    }
+
+    /// The items by value, by rising index. A whole walk costs a step a slot.
+    pub fn into_values(self) -> IntoValues<T>
+        ensures items { result ≡ live_items self.store }
+        ensures len { length result ≡ live_count self.store }
+    {
+        IntoValues {
+            slots: self.slots.into_iter(),
+            left: self.len as usize,
+        }
+    }
+
+    /// The slots, out of which the items are taken by their indexes. It costs the same for each set.
+    pub fn into_consuming(self) -> ConsumingItemSet<T>
+        ensures { result ≡ self.store.items }
+    {
+        ConsumingItemSet { slots: self.slots }
     }
 }

@@ -5,6 +5,7 @@ mod printing;
 mod reads;
 mod sizes;
 mod slots;
+mod walks;
 
 use crate::item_index::ItemIndex;
 use crate::item_set::{GrowError, ItemSet};
