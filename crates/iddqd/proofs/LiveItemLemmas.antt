@@ -1,14 +1,10 @@
 -- For callers of the walks: each live index comes once with its item, by rising index, and there are as many as are live.
-use Rattle.std.proofs.Common.{◌≡◌, ◌≢◌, ◌⊎◌, ℕ, zero, suc, ◌+◌, ◌<◌, ◌≤◌, List, [], ◌∷◌, map, length, set, get_or, Option, Some, None, is_some, count_by, cond, slice_get, refl, sym, ap, ◌∙◌, inl, inr, arith, add-zero, zero-add}
+use Rattle.std.proofs.Common.{◌≡◌, ℕ, zero, suc, ◌+◌, ◌<◌, ◌≤◌, List, [], ◌∷◌, ◌++◌, map, length, get_or, Option, Some, None, is_some, count_by, cond, slice_get, refl, ap, ◌∙◌, inl, inr, arith, add-zero, zero-add}
 use Rattle.std.specs.List.{Contains}
-use Rattle.std.proofs.lemmas.List.{map-set, length-map, get_or-set_same, get_or-set_other}
 use Rattle.std.proofs.lemmas.List.Sums.{sum_by-cons}
 use Rattle.iddqd.proofs.StoreLemmas.{contains_cases, contains_tail}
-use Rattle.iddqd.specs.Store.{Store, get, live_count}
-use Rattle.iddqd.specs.Slots.{item_of}
-use Rattle.iddqd.specs.LiveItems.{pairs_from, live_pairs, items_in, live_items, item_at, IsWalkOf, KeepsOtherItems}
-use Rattle.iddqd.specs.declared.item_set.ItemSlot.{ItemSlot}
-use Rattle.iddqd.specs.declared.item_set.ItemSlot.TheVariants.{Vacant}
+use Rattle.iddqd.specs.Store.{Store, get}
+use Rattle.iddqd.specs.LiveItems.{pairs_from, live_pairs, items_in, IsWalkOf}
 
 module _ {T : Type 0} where
   -- there are as many pairs as items
@@ -27,6 +23,21 @@ module _ {T : Type 0} where
   items_of_pairs first [] = refl
   items_of_pairs first (None ∷ rest) = items_of_pairs (first + 1) rest
   items_of_pairs first (Some item ∷ rest) = ap (λ l. item ∷ l) (items_of_pairs (first + 1) rest)
+
+  -- the walk over slots, and then over more
+  pub pairs_from-append : (first : ℕ) (front back : List (Option T)) → pairs_from first (front ++ back) ≡ pairs_from first front ++ pairs_from (first + length front) back
+  pairs_from-append first [] back = rw add-zero
+  pairs_from-append first (None ∷ rest) back =
+      let shift : first + 1 + length rest ≡ first + suc (length rest) = omega arith in
+      rw (pairs_from-append (first + 1) rest back, shift)
+  pairs_from-append first (Some item ∷ rest) back =
+      let shift : first + 1 + length rest ≡ first + suc (length rest) = omega arith in
+      rw (pairs_from-append (first + 1) rest back, shift)
+
+  pub items_in-append : (front back : List (Option T)) → items_in (front ++ back) ≡ items_in front ++ items_in back
+  items_in-append [] back = refl
+  items_in-append (None ∷ rest) back = items_in-append rest back
+  items_in-append (Some item ∷ rest) back = ap (λ l. item ∷ l) (items_in-append rest back)
 
   pair_of_slot : (first : ℕ) (slots : List (Option T)) (at : ℕ) (item : T) → get_or slots at None ≡ Some item → Contains (pairs_from first slots) (first + at, item)
   pair_of_slot first [] at item found = absurd (cc)
@@ -77,12 +88,3 @@ module _ {T : Type 0} where
     );
     rising = pairs_rise 0 s.items;
   }
-
-  -- a slot that is emptied has nothing, and the others have what they had
-  pub item_at-emptied : (slots : List (ItemSlot T)) (ix next : ℕ) → ix < length slots → item_at (map item_of (set slots ix (Vacant next))) ix ≡ None
-  item_at-emptied slots ix next within =
-      ap (λ l. item_at l ix) (map-set item_of slots ix (Vacant next)) ∙ get_or-set_same (map item_of slots) ix None None (omega (arith, length-map slots item_of))
-
-  pub KeepsOtherItems-emptied : (slots : List (ItemSlot T)) (ix next : ℕ) → KeepsOtherItems ix (map item_of slots) (map item_of (set slots ix (Vacant next)))
-  KeepsOtherItems-emptied slots ix next other apart =
-      ap (λ l. item_at l other) (map-set item_of slots ix (Vacant next)) ∙ get_or-set_other (map item_of slots) ix other None None apart

@@ -10,18 +10,22 @@ ghost use Rattle.iddqd.specs.Store.{sentinel, get, slot_count, live_count, next_
 ghost use Rattle.iddqd.specs.ItemSet.{room, with_item, KeepsOthers, GrowsIfDense};
 ghost use Rattle.iddqd.specs.Compaction.{rank, compacted, new_name, numbers, IsRemapOf};
 
+mod consuming;
+mod into_values;
+mod iter;
 mod reads;
 mod sizes;
-pub mod consuming;
-pub mod iter;
+mod values;
 
 pub use crate::index_remap::IndexRemap;
 use crate::item_index::ItemIndex;
 pub use consuming::ConsumingItemSet;
-pub use iter::{IntoValues, Iter, Values};
+pub use into_values::IntoValues;
+pub use iter::Iter;
 use std::alloc::{AllocError, Global};
 use std::marker::Model;
 use std::{fmt, mem};
+pub use values::Values;
 
 /// How many slots a set can have: one for each index but `SENTINEL`.
 const MAX_SLOTS: usize = 4294967295;

@@ -1,3 +1,4 @@
+mod both_ends;
 mod compaction;
 mod handles;
 mod indexes;
@@ -5,6 +6,7 @@ mod printing;
 mod reads;
 mod sizes;
 mod slots;
+mod taking;
 mod walks;
 
 use crate::item_index::ItemIndex;
@@ -57,6 +59,31 @@ fn with_gaps(
     }
     for at in removed {
         remove(rt, &mut set, *at, at.saturating_mul(10));
+    }
+    Ok(set)
+}
+
+fn is_gap(gaps: u32, at: u32) -> bool {
+    gaps.checked_shr(at).is_some_and(|rest| rest % 2 == 1)
+}
+
+// How many choices of gaps there are among so many slots.
+fn gap_choices(slots: u32) -> u32 {
+    1u32.checked_shl(slots).unwrap_or(u32::MAX)
+}
+
+// A set of so many slots, from which the items at the gaps were removed by rising index.
+fn gapped(
+    rt: &impl Abort,
+    alloc: Global,
+    slots: u32,
+    gaps: u32,
+) -> Result<ItemSet<u32>, GrowError> {
+    let mut set = with_gaps(rt, alloc, slots, &[])?;
+    for at in 0..slots {
+        if is_gap(gaps, at) {
+            remove(rt, &mut set, at, at.saturating_mul(10));
+        }
     }
     Ok(set)
 }

@@ -1,4 +1,4 @@
-use super::{expect_item, expect_items, expect_room, insert_at, ix, remove, with_gaps};
+use super::{expect_item, expect_items, expect_room, gapped, insert_at, is_gap, ix, with_gaps};
 use crate::item_index::ItemIndex;
 use crate::item_set::{IndexRemap, ItemSet};
 use std::process::Abort;
@@ -76,18 +76,6 @@ fn a_set_of_gaps_becomes_empty(rt: HostRuntime) -> Result<(), Fail> {
     Ok(())
 }
 
-fn is_gap(gaps: u32, at: u32) -> bool {
-    gaps.checked_shr(at).is_some_and(|rest| rest % 2 == 1)
-}
-
-fn remove_gaps(rt: &impl Abort, set: &mut ItemSet<u32>, gaps: u32) {
-    for at in 0..6u32 {
-        if is_gap(gaps, at) {
-            remove(rt, set, at, at.saturating_mul(10));
-        }
-    }
-}
-
 // Each item that was left stands at its rank, which is its new name. The number of these.
 fn expect_ranks(rt: &impl Abort, set: &ItemSet<u32>, remap: &IndexRemap, gaps: u32) -> u32 {
     let mut rank = 0u32;
@@ -106,8 +94,7 @@ fn expect_ranks(rt: &impl Abort, set: &ItemSet<u32>, remap: &IndexRemap, gaps: u
 #[test]
 fn every_choice_of_gaps_gives_the_ranks(rt: HostRuntime) -> Result<(), Fail> {
     for gaps in 0..64u32 {
-        let mut set = with_gaps(&rt, rt.alloc(), 6, &[])?;
-        remove_gaps(&rt, &mut set, gaps);
+        let mut set = gapped(&rt, rt.alloc(), 6, gaps)?;
         let room = set.room();
         let remap = set.compact()?;
         assert_eq!(rt; remap.is_identity(), gaps == 0);

@@ -37,3 +37,21 @@ fn refusals_print(rt: HostRuntime) -> Result<(), Fail> {
     assert_eq!(rt; text.as_str(), "Full Memory");
     Ok(())
 }
+
+#[test]
+fn walks_print(rt: HostRuntime) -> Result<(), Fail> {
+    let set = with_gaps(&rt, rt.alloc(), 3, &[1])?;
+    let (mut pairs, values) = (set.iter(), set.values());
+    pairs.next();
+    let text = format!(in rt.alloc(); "{pairs:?} {values:?}")?;
+    assert_eq!(rt;
+        text.as_str(),
+        "Iter { remaining: 1 } Values { remaining: 2 }"
+    );
+    let text = format!(in rt.alloc(); "{:?}", set.into_values())?;
+    assert_eq!(rt; text.as_str(), "IntoValues { remaining: 2 }");
+    let slots = with_gaps(&rt, rt.alloc(), 3, &[1])?.into_consuming();
+    let text = format!(in rt.alloc(); "{slots:?}")?;
+    assert_eq!(rt; text.as_str(), "ConsumingItemSet { slots: 3 }");
+    Ok(())
+}

@@ -1,5 +1,5 @@
 use Rattle.std.proofs.Common.{arith}
-use Rattle.iddqd.proofs.LiveItemLemmas.{item_at-emptied, KeepsOtherItems-emptied}
+use Rattle.iddqd.proofs.WalkLemmas.{item_at-emptied, KeepsOtherItems-emptied}
 use Rattle.iddqd.proofs.item_set.consuming.ConsumingItemSet.take.Goals as goal
 
 pub returns-clause-taken : goal.returns-clause-taken

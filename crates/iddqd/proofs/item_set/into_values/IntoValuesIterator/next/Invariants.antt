@@ -2,7 +2,7 @@ use Rattle.std.proofs.Common.{◌≡◌, map, length}
 use Rattle.std.specs.Vec.Iter.{into_iter_items}
 use Rattle.iddqd.specs.LiveItems.{items_in}
 use Rattle.iddqd.specs.Slots.{item_of}
-use Rattle.iddqd.proofs.item_set.iter.IntoValuesIterator.next.Given as goal
+use Rattle.iddqd.proofs.item_set.into_values.IntoValuesIterator.next.Given as goal
 
 -- only vacant slots were passed over
 abbrev pub invariant-loop-slot : goal.invariant-loop-slot
