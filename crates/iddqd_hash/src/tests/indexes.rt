@@ -88,7 +88,7 @@ pub(crate) fn remove_filed(table: &mut MapHashTable, hash: u64, ix: ItemIndex) -
 }
 
 // A look-up that gives the same answer at each index under the hash: whether it hits, and the number of its asks.
-fn answer_each(table: &mut MapHashTable, hash: u64, answer: bool) -> (bool, u32) {
+pub(crate) fn answer_each(table: &mut MapHashTable, hash: u64, answer: bool) -> (bool, u32) {
     let mut asks = 0u32;
     let hit = table
         .find_entry_by_hash(hash, |_| {

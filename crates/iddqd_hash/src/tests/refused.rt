@@ -1,6 +1,8 @@
-//! Calls of which some are refused memory, on both tables.
+//! Calls of which some are refused memory, on both tables and on that of indexes.
 //!
 //! With ample memory each insert is done. Run under `--fail-alloc` they show what a refusal leaves.
+use super::indexes::answer_each;
+use super::renames::file_even;
 use super::table::Table;
 use std::alloc::AllocError;
 use std::process::Abort;
@@ -86,4 +88,21 @@ fn refuses_all(rt: &impl Abort, mut table: Table) {
 fn refuses_what_no_vector_can_hold(rt: HostRuntime) {
     refuses_all(&rt, Table::linear(rt.alloc()));
     refuses_all(&rt, Table::open(rt.alloc()));
+}
+
+#[test]
+fn a_refused_reserve_keeps_the_indexes(rt: HostRuntime) {
+    let Ok(mut table) = file_even(rt.alloc()) else {
+        return;
+    };
+    let reserved = table.try_reserve(50).is_ok();
+    assert!(rt; !reserved || table.room() >= 50);
+    assert!(rt; table.try_reserve(18446744073709551615) == Err(AllocError));
+    assert!(rt; table.len() == 3);
+    assert!(rt; answer_each(&mut table, 10, false) == (false, 2));
+    assert!(rt; answer_each(&mut table, 20, false) == (false, 1));
+    let room = table.room();
+    table.clear();
+    assert!(rt; table.len() == 0 && table.room() >= room);
+    assert!(rt; answer_each(&mut table, 10, true) == (false, 0));
 }

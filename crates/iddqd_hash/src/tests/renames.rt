@@ -12,7 +12,7 @@ use std::alloc::{AllocError, Global};
 use std::test::Fail;
 
 // Files the indexes 0, 2 and 4, the first and the last under one hash.
-fn file_even(alloc: Global) -> Result<MapHashTable, AllocError>
+pub(crate) fn file_even(alloc: Global) -> Result<MapHashTable, AllocError>
     ensures { IfOk result (λ table. (ix : ℕ) → IsSome (finite.get (filed table) ix) → (ix ≡ 0) ⊎ (ix ≡ 2) ⊎ (ix ≡ 4)) }
 {
     let mut table = MapHashTable::new(alloc);
