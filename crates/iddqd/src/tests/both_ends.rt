@@ -1,7 +1,6 @@
-use super::walks::live;
+use super::walks::{live, pair_from};
 use super::{gap_choices, gapped, is_gap, ix};
-use crate::item_index::ItemIndex;
-use crate::item_set::{IntoValues, ItemSet, Iter, Values};
+use crate::item_set::{IntoValues, ItemSet, Values};
 use std::test::Fail;
 
 const SLOTS: u32 = 5;
@@ -15,18 +14,6 @@ fn index_from(rest: &mut &[u32], is_back: bool) -> Option<u32> {
     };
     *rest = others;
     Some(*at)
-}
-
-fn pair_from(walk: &mut Iter<'_, u32>, is_back: bool) -> Option<(ItemIndex, u32)> {
-    let pair = if is_back {
-        walk.next_back()
-    } else {
-        walk.next()
-    };
-    match pair {
-        Some((at, item)) => Some((at, *item)),
-        None => None,
-    }
 }
 
 fn value_from(walk: &mut Values<'_, u32>, is_back: bool) -> Option<u32> {

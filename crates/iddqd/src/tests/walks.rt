@@ -20,10 +20,15 @@ fn tells(len: usize, hint: (usize, Option<usize>), left: usize) -> bool {
     len == left && hint.0 == left && hint.1 == Some(left)
 }
 
-fn is_pair(pair: Option<(ItemIndex, &u32)>, want: u32) -> bool {
+pub(super) fn pair_from(walk: &mut Iter<'_, u32>, is_back: bool) -> Option<(ItemIndex, u32)> {
+    let pair = if is_back {
+        walk.next_back()
+    } else {
+        walk.next()
+    };
     match pair {
-        Some((at, item)) => at == ix(want) && *item == want.saturating_mul(10),
-        None => false,
+        Some((at, item)) => Some((at, *item)),
+        None => None,
     }
 }
 
@@ -31,7 +36,8 @@ fn is_pair(pair: Option<(ItemIndex, &u32)>, want: u32) -> bool {
 fn gives_pairs(mut walk: Iter<'_, u32>, want: &[u32]) -> bool {
     let mut left = want.len();
     for at in want {
-        if !tells(walk.len(), walk.size_hint(), left) || !is_pair(walk.next(), *at) {
+        let pair = Some((ix(*at), at.saturating_mul(10)));
+        if !tells(walk.len(), walk.size_hint(), left) || pair_from(&mut walk, false) != pair {
             return false;
         }
         left = left.saturating_sub(1);
