@@ -15,6 +15,15 @@ abbrev pub remapped : IndexRemap → ℕ → ℕ
 remapped Identity old = old
 remapped (Permuted names) old = slice_index names.items old
 
+-- `Identity` of `Identity`, and else the same new names
+abbrev pub IsRemapClone : IndexRemap → IndexRemap → Type 0
+IsRemapClone Identity copy = copy ≡ Identity
+IsRemapClone (Permuted names) copy = ForPermuted copy
+  where
+    ForPermuted : IndexRemap → Type 0
+    ForPermuted Identity = ⊥
+    ForPermuted (Permuted others) = others.items ≡ names.items
+
 -- the numbers from 0 on, so many
 abbrev pub numbers : ℕ → List ℕ
 numbers zero = []

@@ -8,4 +8,5 @@ pub mod GrowHandle
 pub mod Slots
 pub mod MapHash
 pub mod MapHashLaws
+pub mod Clones
 pub mod Compaction

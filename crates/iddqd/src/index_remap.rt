@@ -4,6 +4,7 @@ ghost use Rattle.iddqd.specs.Compaction.{CanRemap, remapped};
 ghost use Rattle.iddqd.specs.declared.index_remap.IndexRemap.TheVariants.{Identity};
 
 use crate::item_index::ItemIndex;
+use std::alloc::AllocError;
 
 /// The new name of each old index.
 #[derive(Debug, PartialEq, Eq, Drop)]
@@ -12,6 +13,19 @@ pub enum IndexRemap {
     Identity,
     /// The new index of each old slot, or `SENTINEL` for a slot that was vacant.
     Permuted(Vec<ItemIndex>),
+}
+
+impl Clone for IndexRemap {
+    ghost use Rattle.iddqd.specs.Compaction.{IsRemapClone};
+
+    ghost is_clone = { IsRemapClone };
+
+    fn clone(&self) -> Result<IndexRemap, AllocError> {
+        match self {
+            IndexRemap::Identity => Ok(IndexRemap::Identity),
+            IndexRemap::Permuted(names) => Ok(IndexRemap::Permuted(names.clone()?)),
+        }
+    }
 }
 
 impl IndexRemap {

@@ -10,6 +10,7 @@ ghost use Rattle.iddqd.specs.Store.{sentinel, get, slot_count, live_count, next_
 ghost use Rattle.iddqd.specs.ItemSet.{room, with_item, KeepsOthers, GrowsIfDense};
 ghost use Rattle.iddqd.specs.Compaction.{rank, compacted, new_name, numbers, IsRemapOf};
 
+mod clones;
 mod consuming;
 mod into_values;
 mod iter;

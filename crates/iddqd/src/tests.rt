@@ -1,4 +1,5 @@
 mod both_ends;
+mod clones;
 mod compaction;
 mod handles;
 mod indexes;

@@ -1,0 +1,22 @@
+-- What a clone of a slot and of a store is, where this is what a clone of an item is.
+use Rattle.std.specs.Prelude.{◌≡◌, Option, Some, None}
+use Rattle.std.specs.List.{AllZip}
+use Rattle.iddqd.specs.Store.{Store}
+use Rattle.iddqd.specs.declared.item_set.ItemSlot.{ItemSlot}
+use Rattle.iddqd.specs.declared.item_set.ItemSlot.TheVariants.{Occupied, Vacant}
+
+module _ {T : Type 0} (is_clone : T → T → Type 0) where
+  -- a clone of the item where there is one, and else nothing
+  abbrev pub IsItemClone : Option T → Option T → Type 0
+  IsItemClone None copy = copy ≡ None
+  IsItemClone (Some item) copy = (other : T) × (copy ≡ Some other) × is_clone item other
+
+  -- a slot with a clone of the item where there is one, and else vacant with the same link
+  abbrev pub IsSlotClone : ItemSlot T → ItemSlot T → Type 0
+  IsSlotClone (Vacant next) copy = copy ≡ Vacant next
+  IsSlotClone (Occupied item) copy = (other : T) × (copy ≡ Occupied other) × is_clone item other
+
+  -- for each slot a clone of its item or nothing, and the same free indexes in the same order
+  pub record IsStoreClone (s copy : Store T) : Type 0 where
+    pub items : AllZip IsItemClone s.items copy.items
+    pub free : copy.free ≡ s.free
