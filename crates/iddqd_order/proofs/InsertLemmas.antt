@@ -60,7 +60,7 @@ taken h old p i g t =
       goes = goes;
       list = list;
       within = rw list (place-within (h - 1) g p formed goes);
-      place_is = place-inner h old p t.inner ∙ ap (λ z. length (before z (row old) (lists (h - 1) (children old))) + place (h - 1) (child old z) p) (sym t.at) ∙ ap (λ z. length (before i (row old) (lists (h - 1) (children old))) + place (h - 1) z p) (sym same)
+      place_is = place-inner h old p t.inner ∙ ap (λ z. length (before z (row old) (lists (h - 1) (children old))) + place (h - 1) (child old z) p) (sym t.at) ∙ ap (λ z. length (before i (row old) (lists (h - 1) (children old))) + place (h - 1) z p) (sym same);
     }
 
 -- an index was put in, and the node is as it has to be
@@ -77,7 +77,7 @@ pub record Cut (h : ℕ) (old new : Node) (m : ℕ) (up : Node) (p : List ℕ) (
 
 -- the child that the path takes got the index: k stands in its place
 pub put_below : (h : ℕ) (old new : Node) (p : List ℕ) (x : ℕ) (i : ℕ) (g k : Node) → IsTaken h old p i g → Put (h - 1) g k p x
-  → row new ≡ row old → children new ≡ set (children old) i k → 12 ≤ room new → Put h old new p x
+    → row new ≡ row old → children new ≡ set (children old) i k → 12 ≤ room new → Put h old new p x
 put_below h old new p x i g k t d er ek rm =
     let b = taken h old p i g t in
     let f : Node → List ℕ = λ k. flat (h - 1) k in
@@ -92,12 +92,12 @@ put_below h old new p x i g k t d er ek rm =
     record {
       items = rw (flat-inner h new t.inner, er, e1, flat-inner h old t.inner, b.place_is) e2;
       formed = inner-formed h new t.inner (record { within = rw er few; one_more = rw er (omega arith); has_room = rm }) (rw ek (All-set P (children old) i k (k_least, d.formed) b.below));
-      longer = rw er (omega arith)
+      longer = rw er (omega arith);
     }
 
 -- the child was cut in two, and the node had room for the upper part
 pub put_here : (h : ℕ) (old new : Node) (p : List ℕ) (x : ℕ) (i : ℕ) (g k : Node) (m : ℕ) (u : Node) → IsTaken h old p i g → Cut (h - 1) g k m u p x
-  → length (row old) < 11 → row new ≡ insert (row old) i m → children new ≡ insert (set (children old) i k) (i + 1) u → 12 ≤ room new → Put h old new p x
+    → length (row old) < 11 → row new ≡ insert (row old) i m → children new ≡ insert (set (children old) i k) (i + 1) u → 12 ≤ room new → Put h old new p x
 put_here h old new p x i g k m u t d lt er ek rm =
     let b = taken h old p i g t in
     let f : Node → List ℕ = λ k. flat (h - 1) k in
@@ -105,7 +105,7 @@ put_here h old new p x i g k m u t d lt er ek rm =
     let one = b.node.one_more in
     let here = b.here in
     let e1 : lists (h - 1) (children new) ≡ insert (set ls i (f k)) (i + 1) (f u) =
-      ap (λ z. lists (h - 1) z) ek ∙ map-insert f (set (children old) i k) (i + 1) u ∙ ap (λ z. insert z (i + 1) (f u)) (map-set f (children old) i k) in
+    ap (λ z. lists (h - 1) z) ek ∙ map-insert f (set (children old) i k) (i + 1) u ∙ ap (λ z. insert z (i + 1) (f u)) (map-set f (children old) i k) in
     let e2 = widened i (row old) ls [] (f k) (f u) m (place (h - 1) g p) x b.in_lists b.one_more b.within (d.items ∙ ap (λ z. insert z (place (h - 1) g p) x) (sym b.list)) in
     let same = length-set (children old) i k in
     let ln : length (children new) ≡ length (children old) + 1 = ap length ek ∙ length-insert (set (children old) i k) (i + 1) u (omega arith) ∙ ap (λ z. z + 1) same in
@@ -114,7 +114,7 @@ put_here h old new p x i g k m u t d lt er ek rm =
     record {
       items = rw (flat-inner h new t.inner, er, e1, flat-inner h old t.inner, b.place_is) e2;
       formed = inner-formed h new t.inner (record { within = omega arith; one_more = omega arith; has_room = rm }) (rw ek (All-insert P (set (children old) i k) (i + 1) u (All-set P (children old) i k d.low b.below) d.high));
-      longer = omega arith
+      longer = omega arith;
     }
 
 low_within : (n i : ℕ) → (i ≤ 5 → n ≡ 5) × (5 < i → n ≡ 6) → (5 ≤ n) × (n ≤ 6)
@@ -133,8 +133,8 @@ All-back P xs ys a = subst (All P) (drop-append_seam xs ys) (All-drop P (length 
 
 -- the child was cut in two, and so is the node, which was full
 pub cut_here : (h : ℕ) (old new : Node) (m2 : ℕ) (up : Node) (p : List ℕ) (x : ℕ) (i : ℕ) (g k : Node) (m : ℕ) (u : Node) → IsTaken h old p i g → Cut (h - 1) g k m u p x
-  → IsCut (row old) i m (row new) m2 (row up) → children new ++ children up ≡ insert (set (children old) i k) (i + 1) u
-  → length (children new) ≡ length (row new) + 1 → 12 ≤ room new → 12 ≤ room up → Cut h old new m2 up p x
+    → IsCut (row old) i m (row new) m2 (row up) → children new ++ children up ≡ insert (set (children old) i k) (i + 1) u
+    → length (children new) ≡ length (row new) + 1 → 12 ≤ room new → 12 ≤ room up → Cut h old new m2 up p x
 cut_here h old new m2 up p x i g k m u t d c ek lk rm ru =
     let b = taken h old p i g t in
     let f : Node → List ℕ = λ k. flat (h - 1) k in
@@ -143,13 +143,13 @@ cut_here h old new m2 up p x i g k m u t d c ek lk rm ru =
     let one = b.node.one_more in
     let here = b.here in
     let e1 : lists (h - 1) (children new) ++ lists (h - 1) (children up) ≡ insert (set ls i (f k)) (i + 1) (f u) =
-      sym (map-append f (children new) (children up)) ∙ ap (λ z. lists (h - 1) z) ek ∙ map-insert f (set (children old) i k) (i + 1) u ∙ ap (λ z. insert z (i + 1) (f u)) (map-set f (children old) i k) in
+    sym (map-append f (children new) (children up)) ∙ ap (λ z. lists (h - 1) z) ek ∙ map-insert f (set (children old) i k) (i + 1) u ∙ ap (λ z. insert z (i + 1) (f u)) (map-set f (children old) i k) in
     let e2 = widened i (row old) ls [] (f k) (f u) m (place (h - 1) g p) x b.in_lists b.one_more b.within (d.items ∙ ap (λ z. insert z (place (h - 1) g p) x) (sym b.list)) in
     let lm = length-map (children new) f in
     let e3 : weave (row new ++ m2 ∷ row up) (lists (h - 1) (children new) ++ lists (h - 1) (children up)) ≡ weave (row new) (lists (h - 1) (children new)) ++ m2 ∷ weave (row up) (lists (h - 1) (children up)) =
-      weave-append (row new) m2 (row up) (lists (h - 1) (children new)) (lists (h - 1) (children up)) (omega arith) in
+    weave-append (row new) m2 (row up) (lists (h - 1) (children new)) (lists (h - 1) (children up)) (omega arith) in
     let e4 : weave (row new ++ m2 ∷ row up) (lists (h - 1) (children new) ++ lists (h - 1) (children up)) ≡ weave (insert (row old) i m) (insert (set ls i (f k)) (i + 1) (f u)) =
-      ap (λ z. weave z (lists (h - 1) (children new) ++ lists (h - 1) (children up))) c.is ∙ ap (λ z. weave (insert (row old) i m) z) e1 in
+    ap (λ z. weave z (lists (h - 1) (children new) ++ lists (h - 1) (children up))) c.is ∙ ap (λ z. weave (insert (row old) i m) z) e1 in
     let low = low_within (length (row new)) i c.low_length in
     let low5 : 5 ≤ length (row new) = low.0 in
     let low6 : length (row new) ≤ 6 = low.1 in
@@ -163,12 +163,12 @@ cut_here h old new m2 up p x i g k m u t d c ek lk rm ru =
     record {
       items = rw (flat-inner h new t.inner, flat-inner h up t.inner, flat-inner h old t.inner, b.place_is) (sym e3 ∙ e4 ∙ e2);
       low = (low5, inner-formed h new t.inner (record { within = omega arith; one_more = lk; has_room = rm }) (All-front P (children new) (children up) every));
-      high = (omega arith, inner-formed h up t.inner (record { within = omega arith; one_more = omega arith; has_room = ru }) (All-back P (children new) (children up) every))
+      high = (omega arith, inner-formed h up t.inner (record { within = omega arith; one_more = omega arith; has_room = ru }) (All-back P (children new) (children up) every));
     }
 
 -- at a leaf with room
 pub put_leaf : (h : ℕ) (old new : Node) (p : List ℕ) (i x : ℕ) → h ≡ 0 → IsFormed h old → Goes h old p → i ≡ slice_index p h → length (row old) < 11
-  → row new ≡ insert (row old) i x → children new ≡ children old → Put h old new p x
+    → row new ≡ insert (row old) i x → children new ≡ children old → Put h old new p x
 put_leaf zero old new p i x e f g at lt er ek =
     let l = formed-leaf 0 old refl f in
     let le : i ≤ length (row old) = rw at (goes-leaf 0 old p refl g) in
@@ -176,13 +176,13 @@ put_leaf zero old new p i x e f g at lt er ek =
     record {
       items = rw (flat-leaf 0 new refl, flat-leaf 0 old refl, place-leaf 0 old p refl, ← at) er;
       formed = leaf-formed 0 new refl (record { within = omega arith; childless = ek ∙ l.childless });
-      longer = omega arith
+      longer = omega arith;
     }
 put_leaf (suc h) old new p i x e f g at lt er ek = absurd (omega arith)
 
 -- at a full leaf
 pub cut_leaf : (h : ℕ) (old new : Node) (m : ℕ) (up : Node) (p : List ℕ) (i x : ℕ) → h ≡ 0 → IsFormed h old → Goes h old p → i ≡ slice_index p h
-  → IsCut (row old) i x (row new) m (row up) → children new ≡ children old → children up ≡ [] → Cut h old new m up p x
+    → IsCut (row old) i x (row new) m (row up) → children new ≡ children old → children up ≡ [] → Cut h old new m up p x
 cut_leaf zero old new m up p i x e f g at c ek eu =
     let l = formed-leaf 0 old refl f in
     let low = low_within (length (row new)) i c.low_length in
@@ -192,7 +192,7 @@ cut_leaf zero old new m up p i x e f g at c ek eu =
     record {
       items = rw (flat-leaf 0 new refl, flat-leaf 0 up refl, flat-leaf 0 old refl, place-leaf 0 old p refl, ← at) c.is;
       low = (low5, leaf-formed 0 new refl (record { within = omega arith; childless = ek ∙ l.childless }));
-      high = (omega arith, leaf-formed 0 up refl (record { within = omega arith; childless = eu }))
+      high = (omega arith, leaf-formed 0 up refl (record { within = omega arith; childless = eu }));
     }
 cut_leaf (suc h) old new m up p i x e f g at c ek eu = absurd (omega arith)
 

@@ -88,7 +88,7 @@ inner-goes zero n p e g = absurd (e refl)
 inner-goes (suc h) n p e g = (g.here, rw sub-one at g.on)
 
 pub place-inner : (h : ℕ) (n : Node) (p : List ℕ) → h ≢ 0
-  → place h n p ≡ length (before (slice_index p h) (row n) (lists (h - 1) (children n))) + place (h - 1) (child n (slice_index p h)) p
+    → place h n p ≡ length (before (slice_index p h) (row n) (lists (h - 1) (children n))) + place (h - 1) (child n (slice_index p h)) p
 unfolding place
 place-inner zero n p e = absurd (e refl)
 place-inner (suc h) n p e = rw sub-one

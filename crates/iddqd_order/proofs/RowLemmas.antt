@@ -61,7 +61,7 @@ cut_before xs x n =
     record {
       is = refl;
       low_length = ((λ _. length-take-le 5 xs (omega arith)), (λ q. absurd (omega arith)));
-      high_length = omega (arith, length-take-le 5 xs (omega arith), length-drop 5 xs)
+      high_length = omega (arith, length-take-le 5 xs (omega arith), length-drop 5 xs);
     }
 
 pub cut_after : (xs : List ℕ) (x : ℕ) → length xs ≡ 11 → IsCut xs 6 x (take 6 xs) x (drop 6 xs)
@@ -69,7 +69,7 @@ cut_after xs x n =
     record {
       is = refl;
       low_length = ((λ q. absurd (omega arith)), (λ _. length-take-le 6 xs (omega arith)));
-      high_length = omega (arith, length-take-le 6 xs (omega arith), length-drop 6 xs)
+      high_length = omega (arith, length-take-le 6 xs (omega arith), length-drop 6 xs);
     }
 
 -- the index goes to the lower part
@@ -84,7 +84,7 @@ cut_low xs i x n p =
     record {
       is = sym (ap (λ z. insert z i x) e ∙ insert-append_left l (m ∷ drop 5 xs) i x (omega arith));
       low_length = ((λ _. low), (λ q. absurd (omega arith)));
-      high_length = omega (arith, length-drop 5 xs)
+      high_length = omega (arith, length-drop 5 xs);
     }
 
 -- the index goes to the upper part
@@ -101,5 +101,5 @@ cut_high xs i x n p q =
     record {
       is = sym (ap (λ z. insert z i x) e ∙ insert-append_right (take 6 xs) (m ∷ r) 6 i x t (omega arith) ∙ ap (λ z. take 6 xs ++ insert (m ∷ r) z x) j);
       low_length = ((λ q. absurd (omega arith)), (λ _. t));
-      high_length = omega arith
+      high_length = omega arith;
     }

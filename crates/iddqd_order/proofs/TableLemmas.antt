@@ -39,13 +39,13 @@ pub record CanPut (r : Option Node) (h : ℕ) (p : List ℕ) (ix : ℕ) : Type 0
 
 -- as the table is seen from outside
 pub can_put : (o : Order) (r : Option Node) (h b : ℕ) (p : List ℕ) (ix : ℕ) → record { root = r; height = h; blocks = b } ≡ o
-  → GoesIn o.root o.height p → (Contains (order_of o) ix → ⊥) → ix ≢ sentinel → ix < 4294967296 → CanPut r h p ix
+    → GoesIn o.root o.height p → (Contains (order_of o) ix → ⊥) → ix ≢ sentinel → ix < 4294967296 → CanPut r h p ix
 unfolding order_of
 can_put o r h b p ix e g absent ne lt =
     record {
       goes = subst (λ (t : Order). GoesIn t.root t.height p) (sym e) g;
       absent = subst (λ (t : Order). Contains (in_order t.root t.height) ix → ⊥) (sym e) absent;
-      assigned = omega arith
+      assigned = omega arith;
     }
 
 -- a way to an index, from inside
@@ -53,7 +53,7 @@ pub way_inside : (o : Order) (r : Option Node) (h b l : ℕ) (p : List ℕ) → 
 way_inside o r h b l p e held = subst (λ (t : Order). HoldsIn l t.root t.height p) (sym e) held
 
 pub there_inside : (o : Order) (r : Option Node) (h b l : ℕ) (p : List ℕ) (ix : ℕ) → record { root = r; height = h; blocks = b } ≡ o
-  → slice_index (order_of o) (spot_in l o.root o.height p) ≡ ix → slice_index (in_order r h) (spot_in l r h p) ≡ ix
+    → slice_index (order_of o) (spot_in l o.root o.height p) ≡ ix → slice_index (in_order r h) (spot_in l r h p) ≡ ix
 unfolding order_of
 there_inside o r h b l p ix e there = subst (λ (t : Order). slice_index (in_order t.root t.height) (spot_in l t.root t.height p) ≡ ix) (sym e) there
 
@@ -99,7 +99,7 @@ root_of o r h len b bs n e t is =
       formed = tree.0;
       some = tree.1;
       low = tree.2;
-      list = ap (λ (s : Option Node). in_order s h) (sym is) ∙ order_inside o r h b e
+      list = ap (λ (s : Option Node). in_order s h) (sym is) ∙ order_inside o r h b e;
     }
 
 -- where a path goes from it
@@ -131,7 +131,7 @@ longer r h n bs p ix t c =
     record { distinct = distinct; assigned = assigned; more = more; fits = omega arith }
 
 pub IsTable-put : (r : Option Node) (h n : ℕ) (bs : List (Vec Node Global)) (p : List ℕ) (ix : ℕ) (s : Option Node) (k : ℕ) (cs : List (Vec Node Global)) → IsTable r h n bs → CanPut r h p ix
-  → IsTree s k → in_order s k ≡ insert (in_order r h) (place_in r h p) ix → All IsSpare cs → IsTable s k (n + 1) cs
+    → IsTree s k → in_order s k ≡ insert (in_order r h) (place_in r h p) ix → All IsSpare cs → IsTable s k (n + 1) cs
 IsTable-put r h n bs p ix s k cs t c tree items spare =
     let l = longer r h n bs p ix t c in
     let more = l.more in
@@ -150,7 +150,7 @@ pub record Shorter (r : Option Node) (h n : ℕ) (ix : ℕ) (s : Option Node) (k
   pub table : IsTable s k (n - 1) bs
 
 pub shorter : (r : Option Node) (h n : ℕ) (bs : List (Vec Node Global)) (l : ℕ) (p : List ℕ) (ix : ℕ) (s : Option Node) (k : ℕ) → IsTable r h n bs → HoldsIn l r h p → slice_index (in_order r h) (spot_in l r h p) ≡ ix
-  → IsTree s k → in_order s k ≡ remove (in_order r h) (spot_in l r h p) → Shorter r h n ix s k bs
+    → IsTree s k → in_order s k ≡ remove (in_order r h) (spot_in l r h p) → Shorter r h n ix s k bs
 shorter r h n bs l p ix s k t held there tree items =
     let xs : List ℕ = in_order r h in
     let at : ℕ = spot_in l r h p in
@@ -167,32 +167,32 @@ shorter r h n bs l p ix s k t held there tree items =
         counted = omega arith;
         distinct = rw same (IsIndexList-filter (λ j. not (j == ix)) xs (index_list r h n bs t)).distinct;
         assigned = rw same (All-filter (λ j. not (j == ix)) (λ j. j < sentinel) xs t.assigned);
-        spare = t.spare
-      }
+        spare = t.spare;
+      };
     }
 
 -- what a caller says of the indexes, from inside
 pub can_remap_inside : (o : Order) (r : Option Node) (h b : ℕ) (remap : IndexRemap) → record { root = r; height = h; blocks = b } ≡ o
-  → ((ix : ℕ) → Contains (order_of o) ix → CanRemap remap ix) → (ix : ℕ) → Contains (in_order r h) ix → CanRemap remap ix
+    → ((ix : ℕ) → Contains (order_of o) ix → CanRemap remap ix) → (ix : ℕ) → Contains (in_order r h) ix → CanRemap remap ix
 can_remap_inside o r h b remap e can ix held = can ix (subst (λ (xs : List ℕ). Contains xs ix) (order_inside o r h b e) held)
 
 pub unshared_inside : (o : Order) (r : Option Node) (h b : ℕ) (remap : IndexRemap) → record { root = r; height = h; blocks = b } ≡ o
-  → ((i j : ℕ) → Contains (order_of o) i → Contains (order_of o) j → remapped remap i ≡ remapped remap j → i ≡ j)
-  → (i j : ℕ) → Contains (in_order r h) i → Contains (in_order r h) j → remapped remap i ≡ remapped remap j → i ≡ j
+    → ((i j : ℕ) → Contains (order_of o) i → Contains (order_of o) j → remapped remap i ≡ remapped remap j → i ≡ j)
+    → (i j : ℕ) → Contains (in_order r h) i → Contains (in_order r h) j → remapped remap i ≡ remapped remap j → i ≡ j
 unshared_inside o r h b remap e one i j p q same =
     one i j (subst (λ (xs : List ℕ). Contains xs i) (order_inside o r h b e) p) (subst (λ (xs : List ℕ). Contains xs j) (order_inside o r h b e) q) same
 
 -- the indexes with new names
 pub IsTable-renamed : (r : Option Node) (h n : ℕ) (bs : List (Vec Node Global)) (s : Option Node) (remap : IndexRemap) → IsTable r h n bs
-  → ((ix : ℕ) → Contains (in_order r h) ix → CanRemap remap ix)
-  → ((i j : ℕ) → Contains (in_order r h) i → Contains (in_order r h) j → remapped remap i ≡ remapped remap j → i ≡ j)
-  → ((ix : ℕ) → ix < 4294967296 → CanRemap remap ix → remapped remap ix < 4294967296)
-  → IsTree s h → in_order s h ≡ map (remapped remap) (in_order r h) → IsTable s h n bs
+    → ((ix : ℕ) → Contains (in_order r h) ix → CanRemap remap ix)
+    → ((i j : ℕ) → Contains (in_order r h) i → Contains (in_order r h) j → remapped remap i ≡ remapped remap j → i ≡ j)
+    → ((ix : ℕ) → ix < 4294967296 → CanRemap remap ix → remapped remap ix < 4294967296)
+    → IsTree s h → in_order s h ≡ map (remapped remap) (in_order r h) → IsTable s h n bs
 IsTable-renamed r h n bs s remap t can unshared fits tree items =
     let xs : List ℕ = in_order r h in
     let named : IsIndexList (map (remapped remap) xs) = IsIndexList-remapped remap xs can unshared (index_list r h n bs t) in
     let small : All (λ ix. ix < 4294967296) (map (remapped remap) xs) =
-      All-map (λ ix. ix < 4294967296) (remapped remap) xs (λ k d lt. let below = t.assigned k d lt in fits (get_or xs k d) (omega arith) (can (get_or xs k d) (Contains-get_or xs k d lt))) in
+    All-map (λ ix. ix < 4294967296) (remapped remap) xs (λ k d lt. let below = t.assigned k d lt in fits (get_or xs k d) (omega arith) (can (get_or xs k d) (Contains-get_or xs k d lt))) in
     let assigned : All (λ ix. ix < sentinel) (map (remapped remap) xs) = λ k d lt. let ne = named.assigned k d lt in let below = small k d lt in omega arith in
     let counted = t.counted in
     let len = ap length items in

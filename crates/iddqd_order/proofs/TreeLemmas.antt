@@ -24,13 +24,13 @@ first_root n x er ek =
       low = omega arith;
       formed = leaf-formed 0 n refl (record { within = omega arith; childless = ek });
       root = omega arith;
-      items = flat-leaf 0 n refl ∙ er
+      items = flat-leaf 0 n refl ∙ er;
     }
 
 -- a new root above the two parts of a root that was cut
 pub new_root : (h : ℕ) (old lower new : Node) (m : ℕ) (upper : Node) (p : List ℕ) (x : ℕ) → IsFormed h old → Goes h old p → Cut h old lower m upper p x
-  → row new ≡ m ∷ [] → children new ≡ lower ∷ upper ∷ [] → 12 ≤ room new → length (flat h old) < 4294967296
-  → IsRoot (h + 1) new (insert (flat h old) (place h old p) x)
+    → row new ≡ m ∷ [] → children new ≡ lower ∷ upper ∷ [] → 12 ≤ room new → length (flat h old) < 4294967296
+    → IsRoot (h + 1) new (insert (flat h old) (place h old p) x)
 new_root h old lower new m upper p x f g c er ek rm small =
     let ne : h + 1 ≢ 0 = λ z. absurd (omega arith) in
     let same : h + 1 - 1 ≡ h = omega arith in

@@ -8,7 +8,7 @@ use Rattle.iddqd_order.specs.Node.{weave, before, after}
 
 -- a woven list, apart at its i-th list
 pub apart : (i : ℕ) (xs : List ℕ) (ks : List (List ℕ)) (d : List ℕ) → i < length ks → length ks ≡ length xs + 1
-  → weave xs ks ≡ before i xs ks ++ (get_or ks i d ++ after i xs ks)
+    → weave xs ks ≡ before i xs ks ++ (get_or ks i d ++ after i xs ks)
 apart zero [] [] d p e = absurd (omega arith)
 apart zero [] (k ∷ ks) d p e = simp append-nil
 apart zero (x ∷ xs) [] d p e = absurd (omega arith)
@@ -35,7 +35,7 @@ after-set (suc i) (x ∷ xs) (y ∷ ks) k e = after-set i xs ks k (omega arith)
 
 -- a child cut in two about an index
 pub halved : (i : ℕ) (xs : List ℕ) (ks : List (List ℕ)) (l : List ℕ) (m : ℕ) (u : List ℕ) → i < length ks → length ks ≡ length xs + 1
-  → weave (insert xs i m) (insert (set ks i l) (i + 1) u) ≡ weave xs (set ks i (l ++ m ∷ u))
+    → weave (insert xs i m) (insert (set ks i l) (i + 1) u) ≡ weave xs (set ks i (l ++ m ∷ u))
 halved zero [] [] l m u p e = absurd (omega arith)
 halved zero [] (k ∷ []) l m u p e = refl
 halved zero [] (k ∷ (k2 ∷ ks)) l m u p e = absurd (omega arith)
@@ -48,7 +48,7 @@ halved (suc i) (x ∷ xs) (k ∷ ks) l m u p e = let ih = rw add-one at (halved 
 
 -- a woven list cut at its i-th index
 pub cut : (i : ℕ) (xs : List ℕ) (ks : List (List ℕ)) (d : ℕ) → i < length xs → length ks ≡ length xs + 1
-  → weave xs ks ≡ weave (take i xs) (take (i + 1) ks) ++ get_or xs i d ∷ weave (drop (i + 1) xs) (drop (i + 1) ks)
+    → weave xs ks ≡ weave (take i xs) (take (i + 1) ks) ++ get_or xs i d ∷ weave (drop (i + 1) xs) (drop (i + 1) ks)
 cut zero [] ks d p e = absurd (omega arith)
 cut zero (x ∷ xs) [] d p e = absurd (omega arith)
 cut zero (x ∷ xs) (k ∷ ks) d p e = refl
@@ -58,7 +58,7 @@ cut (suc i) (x ∷ xs) (k ∷ ks) d p e = let ih = simp add-one at (cut i xs ks 
 
 -- an index put into the i-th list
 pub edited : (i : ℕ) (xs : List ℕ) (ks : List (List ℕ)) (d k : List ℕ) (q x : ℕ) → i < length ks → length ks ≡ length xs + 1 → q ≤ length (get_or ks i d) → k ≡ insert (get_or ks i d) q x
-  → weave xs (set ks i k) ≡ insert (weave xs ks) (length (before i xs ks) + q) x
+    → weave xs (set ks i k) ≡ insert (weave xs ks) (length (before i xs ks) + q) x
 edited i xs ks d k q x p e w is =
     let b : List ℕ = before i xs ks in
     let a : List ℕ = after i xs ks in
@@ -74,7 +74,7 @@ edited i xs ks d k q x p e w is =
 
 -- a place in the i-th list is a place in all
 pub within : (i : ℕ) (xs : List ℕ) (ks : List (List ℕ)) (d : List ℕ) (q : ℕ) → i < length ks → length ks ≡ length xs + 1 → q ≤ length (get_or ks i d)
-  → length (before i xs ks) + q ≤ length (weave xs ks)
+    → length (before i xs ks) + q ≤ length (weave xs ks)
 within i xs ks d q p e w =
     rw (apart i xs ks d p e) (omega (arith, length-append (before i xs ks) (get_or ks i d ++ after i xs ks), length-append (get_or ks i d) (after i xs ks)))
 
@@ -87,5 +87,5 @@ weave-append (x ∷ lo) m hi (k ∷ ks) ls e = ap (λ z. k ++ x ∷ z) (weave-ap
 
 -- as halved, for what a child's insert left
 pub widened : (i : ℕ) (xs : List ℕ) (ks : List (List ℕ)) (d l u : List ℕ) (m q x : ℕ) → i < length ks → length ks ≡ length xs + 1 → q ≤ length (get_or ks i d) → l ++ m ∷ u ≡ insert (get_or ks i d) q x
-  → weave (insert xs i m) (insert (set ks i l) (i + 1) u) ≡ insert (weave xs ks) (length (before i xs ks) + q) x
+    → weave (insert xs i m) (insert (set ks i l) (i + 1) u) ≡ insert (weave xs ks) (length (before i xs ks) + q) x
 widened i xs ks d l u m q x p e w is = halved i xs ks l m u p e ∙ edited i xs ks d (l ++ m ∷ u) q x p e w is

@@ -78,13 +78,13 @@ place (suc h) n p = length (before (slice_index p (suc h)) (row n) (map (λ k. f
 unfoldable pub Holds : ℕ → ℕ → Node → List ℕ → Type 0
 Holds l zero n p = (l ≤ 0) × (slice_index p 0 < length (row n))
 Holds l (suc h) n p = (l ≤ suc h) × (l ≡ suc h → slice_index p (suc h) < length (row n))
-  × (l ≤ h → (slice_index p (suc h) < length (children n)) × Holds l h (child n (slice_index p (suc h))) p)
+    × (l ≤ h → (slice_index p (suc h) < length (children n)) × Holds l h (child n (slice_index p (suc h))) p)
 
 -- the place in the whole list of the index to which a path goes at level l: in an inner node it stands after the child of its own place
 unfoldable pub spot : ℕ → ℕ → Node → List ℕ → ℕ
 spot l zero n p = slice_index p 0
 spot l (suc h) n p = length (before (slice_index p (suc h)) (row n) (map (λ k. flat h k) (children n)))
-  + (if nat_eq l (suc h) then length (flat h (child n (slice_index p (suc h)))) else spot l h (child n (slice_index p (suc h))) p)
+    + (if nat_eq l (suc h) then length (flat h (child n (slice_index p (suc h)))) else spot l h (child n (slice_index p (suc h))) p)
 
 -- the node at level l is as it has to be where the nodes at levels below k are full, and the one at level k isn't
 abbrev pub FullBelow : ℕ → ℕ → Node → Type 0

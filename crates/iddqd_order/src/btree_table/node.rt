@@ -183,7 +183,14 @@ impl Node {
         }
         let (middle, after) = self.children[i].cut(height - 1, path, ix, blocks, alloc);
         let mut children = blocks.take_last();
-        let (middle, row) = cut_inner(&mut self.row, &mut self.children, i, middle, after, &mut children);
+        let (middle, row) = cut_inner(
+            &mut self.row,
+            &mut self.children,
+            i,
+            middle,
+            after,
+            &mut children,
+        );
         (middle, Node { row, children })
     }
 }

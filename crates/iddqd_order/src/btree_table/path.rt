@@ -25,7 +25,9 @@ impl Path {
     pub fn new() -> Path
         ensures { length result ≡ 12 }
     {
-        Path { places: [0; LEVELS] }
+        Path {
+            places: [0; LEVELS],
+        }
     }
 
     pub fn get(&self, level: usize) -> usize

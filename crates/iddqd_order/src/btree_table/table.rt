@@ -48,7 +48,6 @@ impl Model for MapBTreeTable {
     ghost use Rattle.std.specs.Prelude.{vec_len};
     ghost use Rattle.iddqd_order.specs.MapBTreeTable.{Order};
     ghost use Rattle.iddqd_order.specs.Tree.{IsTable};
-
     ghost use Rattle.std.specs.Coded.{codes};
     ghost use Rattle.iddqd_order.specs.contracts.btree_table.node.Node as node;
 
@@ -272,7 +271,11 @@ impl MapBTreeTable {
         ensures height { self.new.height ≡ self.old.height }
         ensures enough { IsOk result → AreEnough full self.new.height self.new.blocks }
     {
-        let wanted = if full > self.height { full } else { full.saturating_sub(1) };
+        let wanted = if full > self.height {
+            full
+        } else {
+            full.saturating_sub(1)
+        };
         if self.blocks.len() >= wanted {
             return Ok(());
         }
@@ -424,7 +427,15 @@ impl MapBTreeTable {
         let _number = ix.as_u32();
         let height = self.height;
         let alloc = self.alloc;
-        self.height = put_in(&mut self.root, height, path, full, ix, &mut self.blocks, alloc);
+        self.height = put_in(
+            &mut self.root,
+            height,
+            path,
+            full,
+            ix,
+            &mut self.blocks,
+            alloc,
+        );
         self.len += 1;
     }
 

@@ -109,7 +109,11 @@ fn grow(node: &mut Node, middle: ItemIndex, upper: Node, block: Vec<Node>)
 
 // Takes blocks until there are so many. Refused, it lets go of all.
 #[inline(never)]
-pub fn take_blocks(blocks: &mut Vec<Vec<Node>>, wanted: usize, alloc: Global) -> Result<(), AllocError>
+pub fn take_blocks(
+    blocks: &mut Vec<Vec<Node>>,
+    wanted: usize,
+    alloc: Global,
+) -> Result<(), AllocError>
     requires spare { All IsSpare blocks.old.items }
     ensures enough { IsOk result → wanted ≤ vec_len blocks.new }
     ensures none { OnErr result (blocks.new.items ≡ []) }

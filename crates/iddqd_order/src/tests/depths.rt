@@ -49,7 +49,12 @@ fn numbers(alloc: Global, len: u32) -> Result<Vec<u32>, AllocError> {
 fn a_walk_gives_all_in_order(rt: HostRuntime) -> Result<(), Fail> {
     for (len, _) in &LEVELS {
         let mut expected = numbers(rt.alloc(), *len)?;
-        assert!(rt; walks_along(&filled(&rt, rt.alloc(), *len, Ordering::Greater)?, &expected));
+        assert!(rt;
+            walks_along(
+                &filled(&rt, rt.alloc(), *len, Ordering::Greater)?,
+                &expected
+            )
+        );
         expected.reverse();
         assert!(rt; walks_along(&filled(&rt, rt.alloc(), *len, Ordering::Less)?, &expected));
     }
@@ -74,7 +79,11 @@ fn a_walk_gives_what_removals_left(rt: HostRuntime) -> Result<(), Fail> {
     for step in 0..701u32 {
         let gone = step.wrapping_mul(97) % 701;
         let mut asking = Asking::new(|at: ItemIndex| ItemIndex::new(gone).cmp(&at));
-        assert!(rt; table.prepare_remove_by(ItemIndex::new(gone), &mut asking).remove());
+        assert!(rt;
+            table
+                .prepare_remove_by(ItemIndex::new(gone), &mut asking)
+                .remove()
+        );
         expected.retain(|number| *number != gone);
         if step % 50 == 0 || step > 660 {
             assert!(rt; walks_along(&table, &expected));

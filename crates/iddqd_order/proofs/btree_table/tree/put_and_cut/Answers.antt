@@ -13,6 +13,6 @@ grow-requires c = All-last IsSpare _ _ _ c.cut-middle.ensures.spare c.take_last-
 pub returns : goal.returns
 returns c =
     let cut : Cut c.args.height c.args.node.now c.cut-middle.new.self c.cut-middle.result.0 c.cut-middle.result.1 c.args.path.now c.args.ix =
-      record { items = c.cut-middle.ensures.items; low = c.cut-middle.ensures.low; high = c.cut-middle.ensures.high } in
+    record { items = c.cut-middle.ensures.items; low = c.cut-middle.ensures.low; high = c.cut-middle.ensures.high } in
     let r = new_root _ _ _ _ _ _ _ _ c.requires.formed c.requires.goes cut c.grow.ensures.root_row c.grow.ensures.root_children c.grow.ensures.has_room c.requires.fits in
     record { low = r.low; formed = r.formed; root = r.root; items = r.items; spare = All-others IsSpare _ _ _ c.cut-middle.ensures.spare c.take_last-children.ensures.items }

@@ -15,7 +15,7 @@ pub returns-then-height-eq0 : goal.returns-then-height-eq0
 returns-then-height-eq0 t c =
     let zero = c.if-height-eq0.true in
     let k = cut_leaf c.args.height c.args.self.now (roll-Node (record { row = c.cut-middle.new.self; children = (out-Node c.args.self.now).children })) c.cut-middle.result.0 (roll-Node (record { row = c.cut-middle.result.1; children = c.new.result })) c.args.path.now c.get-i.result c.args.ix
-      zero c.requires.formed c.requires.goes c.get-i.ensures (simp row-roll c.cut-middle.ensures) (children-roll _) (children-roll _ ∙ c.new.ensures.items) in
+    zero c.requires.formed c.requires.goes c.get-i.ensures (simp row-roll c.cut-middle.ensures) (children-roll _) (children-roll _ ∙ c.new.ensures.items) in
     record { items = k.items; low = k.low; high = k.high; left = omega arith; spare = c.requires.spare }
 
 pub index_mut-requires : goal.index_mut-requires
@@ -24,7 +24,7 @@ index_mut-requires t c = let g = goes-inner _ _ _ c.if-height-eq0.false c.requir
 pub cut-middle-requires-2 : goal.cut-middle-requires-2
 cut-middle-requires-2 t c =
     let k : IsTaken c.args.height c.args.self.now c.args.path.now c.get-i.result c.index_mut.result.now =
-      record { inner = c.if-height-eq0.false; formed = c.requires.formed; goes = c.requires.goes; at = c.get-i.ensures; is = c.index_mut.ensures.value } in
+    record { inner = c.if-height-eq0.false; formed = c.requires.formed; goes = c.requires.goes; at = c.get-i.ensures; is = c.index_mut.ensures.value } in
     let b = taken _ _ _ _ _ k in
     let full = all_full _ (c.args.height - 1 + 1) _ _ _ (omega arith) (omega arith) (full_child _ _ _ _ _ _ k c.requires.full) in
     (omega arith, (omega arith, (b.formed, (b.goes, (full, (omega (arith, c.requires.enough), c.requires.spare))))))
@@ -32,7 +32,7 @@ cut-middle-requires-2 t c =
 pub cut_inner-middle-requires : goal.cut_inner-middle-requires
 cut_inner-middle-requires t c =
     let k : IsTaken c.args.height c.args.self.now c.args.path.now c.get-i.result c.index_mut.result.now =
-      record { inner = c.if-height-eq0.false; formed = c.requires.formed; goes = c.requires.goes; at = c.get-i.ensures; is = c.index_mut.ensures.value } in
+    record { inner = c.if-height-eq0.false; formed = c.requires.formed; goes = c.requires.goes; at = c.get-i.ensures; is = c.index_mut.ensures.value } in
     let b = taken _ _ _ _ _ k in
     let full = full_row _ _ _ c.requires.formed c.requires.full in
     let here = b.here in
@@ -43,20 +43,22 @@ cut_inner-middle-requires t c =
       full = rw out-roll-Node full;
       one_more = simp out-roll-Node count;
       has_room = simp out-roll-Node b.node.has_room;
-      spare = All-last IsSpare _ _ _ c.cut-middle-2.ensures.spare c.take_last-children.ensures.items
+      spare = All-last IsSpare _ _ _ c.cut-middle-2.ensures.spare c.take_last-children.ensures.items;
     }
 
 pub returns : goal.returns
 returns t c =
     let k : IsTaken c.args.height c.args.self.now c.args.path.now c.get-i.result c.index_mut.result.now =
-      record { inner = c.if-height-eq0.false; formed = c.requires.formed; goes = c.requires.goes; at = c.get-i.ensures; is = c.index_mut.ensures.value } in
+    record { inner = c.if-height-eq0.false; formed = c.requires.formed; goes = c.requires.goes; at = c.get-i.ensures; is = c.index_mut.ensures.value } in
     let d : Cut (c.args.height - 1) c.index_mut.result.now c.cut-middle-2.new.self c.cut-middle-2.result.0 c.cut-middle-2.result.1 c.args.path.now c.args.ix =
-      record { items = c.cut-middle-2.ensures.items; low = c.cut-middle-2.ensures.low; high = c.cut-middle-2.ensures.high } in
+    record { items = c.cut-middle-2.ensures.items; low = c.cut-middle-2.ensures.low; high = c.cut-middle-2.ensures.high } in
     let e = simp out-roll-Node at c.cut_inner-middle.ensures in
     let r = cut_here c.args.height c.args.self.now (roll-Node (record { row = c.cut_inner-middle.new.row; children = c.cut_inner-middle.new.children })) c.cut_inner-middle.result.0 (roll-Node (record { row = c.cut_inner-middle.result.1; children = c.cut_inner-middle.new.upper })) c.args.path.now c.args.ix c.get-i.result c.index_mut.result.now c.cut-middle-2.new.self c.cut-middle-2.result.0 c.cut-middle-2.result.1 k d
-      (simp row-roll e.cut) (simp children-roll e.parts) (simp (row-roll, children-roll) (search (rules, e.one_more))) (room-from _ e.has_room) (room-from _ e.other_room) in
+    (simp row-roll e.cut) (simp children-roll e.parts) (simp (row-roll, children-roll) (search (rules, e.one_more))) (room-from _ e.has_room) (room-from _ e.other_room) in
     record {
-      items = r.items; low = r.low; high = r.high;
+      items = r.items;
+      low = r.low;
+      high = r.high;
       left = omega (arith, c.cut-middle-2.ensures.left, c.take_last-children.ensures.len);
-      spare = All-others IsSpare _ _ _ c.cut-middle-2.ensures.spare c.take_last-children.ensures.items
+      spare = All-others IsSpare _ _ _ c.cut-middle-2.ensures.spare c.take_last-children.ensures.items;
     }

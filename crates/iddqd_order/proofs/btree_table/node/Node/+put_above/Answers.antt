@@ -11,7 +11,7 @@ index_mut-requires t c = let more = c.if-height-full.true in let g = goes-inner 
 pub put_above-requires : goal.put_above-requires
 put_above-requires t c =
     let k : IsTaken c.args.height c.args.self.now c.args.path.now c.get-i.result c.index_mut.result.now =
-      record { inner = λ e. absurd (omega arith); formed = c.requires.formed; goes = c.requires.goes; at = c.get-i.ensures; is = c.index_mut.ensures.value } in
+    record { inner = λ e. absurd (omega arith); formed = c.requires.formed; goes = c.requires.goes; at = c.get-i.ensures; is = c.index_mut.ensures.value } in
     let b = taken _ _ _ _ _ k in
     let more = c.if-height-full.true in
     (omega arith, (omega arith, (c.requires.some, (omega arith, (b.formed, (b.goes, (full_child _ _ _ _ _ _ k c.requires.full, (c.requires.enough, c.requires.spare))))))))
@@ -29,12 +29,15 @@ cut-middle-requires t c =
     let here = c.if-height-full.false in
     let enough = c.requires.enough in
     let k : IsTaken c.args.height c.args.self.now c.args.path.now c.get-i.result c.index_mut-else-height-full.result.now =
-      record { inner = λ e. absurd (omega arith); formed = c.requires.formed; goes = c.requires.goes; at = c.get-i.ensures; is = c.index_mut-else-height-full.ensures.value } in
+    record { inner = λ e. absurd (omega arith); formed = c.requires.formed; goes = c.requires.goes; at = c.get-i.ensures; is = c.index_mut-else-height-full.ensures.value } in
     let b = taken _ _ _ _ _ k in
     record {
-      low = omega arith; formed = b.formed; goes = b.goes;
+      low = omega arith;
+      formed = b.formed;
+      goes = b.goes;
       full = all_full _ (c.args.height - 1 + 1) _ _ _ (omega arith) (omega arith) (full_child _ _ _ _ _ _ k c.requires.full);
-      enough = omega arith; spare = c.requires.spare
+      enough = omega arith;
+      spare = c.requires.spare;
     }
 
 pub put_between-requires : goal.put_between-requires
@@ -43,7 +46,7 @@ put_between-requires t c =
     let not_all = c.requires.not_all in
     let last = c.if-height-full.false in
     let k : IsTaken c.args.height c.args.self.now c.args.path.now c.get-i.result c.index_mut-else-height-full.result.now =
-      record { inner = λ e. absurd (omega arith); formed = c.requires.formed; goes = c.requires.goes; at = c.get-i.ensures; is = c.index_mut-else-height-full.ensures.value } in
+    record { inner = λ e. absurd (omega arith); formed = c.requires.formed; goes = c.requires.goes; at = c.get-i.ensures; is = c.index_mut-else-height-full.ensures.value } in
     let b = taken _ _ _ _ _ k in
     let here = b.here in
     let one = b.node.one_more in
@@ -54,11 +57,11 @@ put_between-requires t c =
 pub returns-then-height-full : goal.returns-then-height-full
 returns-then-height-full t c =
     let k : IsTaken c.args.height c.args.self.now c.args.path.now c.get-i.result c.index_mut.result.now =
-      record { inner = λ e. absurd (omega arith); formed = c.requires.formed; goes = c.requires.goes; at = c.get-i.ensures; is = c.index_mut.ensures.value } in
+    record { inner = λ e. absurd (omega arith); formed = c.requires.formed; goes = c.requires.goes; at = c.get-i.ensures; is = c.index_mut.ensures.value } in
     let b = taken _ _ _ _ _ k in
     let p = put_below c.args.height c.args.self.now (roll-Node _) c.args.path.now c.args.ix c.get-i.result c.index_mut.result.now c.put_above.new.self k
-      (record { items = c.put_above.ensures.items; formed = c.put_above.ensures.formed; longer = c.put_above.ensures.longer })
-      (row-roll _) (children-roll _) (room-from _ b.node.has_room) in
+    (record { items = c.put_above.ensures.items; formed = c.put_above.ensures.formed; longer = c.put_above.ensures.longer })
+    (row-roll _) (children-roll _) (room-from _ b.node.has_room) in
     record { items = p.items; formed = p.formed; longer = p.longer; spare = c.put_above.ensures.spare }
 
 pub returns-else-height-full : goal.returns-else-height-full
@@ -67,11 +70,11 @@ returns-else-height-full t c =
     let not_all = c.requires.not_all in
     let last = c.if-height-full.false in
     let k : IsTaken c.args.height c.args.self.now c.args.path.now c.get-i.result c.index_mut-else-height-full.result.now =
-      record { inner = λ e. absurd (omega arith); formed = c.requires.formed; goes = c.requires.goes; at = c.get-i.ensures; is = c.index_mut-else-height-full.ensures.value } in
+    record { inner = λ e. absurd (omega arith); formed = c.requires.formed; goes = c.requires.goes; at = c.get-i.ensures; is = c.index_mut-else-height-full.ensures.value } in
     let d : Cut (c.args.height - 1) c.index_mut-else-height-full.result.now c.cut-middle.new.self c.cut-middle.result.0 c.cut-middle.result.1 c.args.path.now c.args.ix =
-      record { items = c.cut-middle.ensures.items; low = c.cut-middle.ensures.low; high = c.cut-middle.ensures.high } in
+    record { items = c.cut-middle.ensures.items; low = c.cut-middle.ensures.low; high = c.cut-middle.ensures.high } in
     let room = (full-here _ _ _ _ c.requires.full).1 (omega arith) in
     let e = simp out-roll-Node at c.put_between.ensures in
     let p = put_here c.args.height c.args.self.now (roll-Node _) c.args.path.now c.args.ix c.get-i.result c.index_mut-else-height-full.result.now c.cut-middle.new.self c.cut-middle.result.0 c.cut-middle.result.1 k d
-      room (row-roll _ ∙ e.row) (children-roll _ ∙ e.children) (room-from _ e.has_room) in
+    room (row-roll _ ∙ e.row) (children-roll _ ∙ e.children) (room-from _ e.has_room) in
     record { items = p.items; formed = p.formed; longer = p.longer; spare = c.cut-middle.ensures.spare }

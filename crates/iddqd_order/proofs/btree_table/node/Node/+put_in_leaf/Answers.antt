@@ -17,7 +17,7 @@ index_mut-requires t c = let g = goes-inner _ _ _ c.if-height-eq0.false c.requir
 pub put_in_leaf-requires : goal.put_in_leaf-requires
 put_in_leaf-requires t c =
     let k : IsTaken c.args.height c.args.self.now c.args.path.now c.get-i.result c.index_mut.result.now =
-      record { inner = c.if-height-eq0.false; formed = c.requires.formed; goes = c.requires.goes; at = c.get-i.ensures; is = c.index_mut.ensures.value } in
+    record { inner = c.if-height-eq0.false; formed = c.requires.formed; goes = c.requires.goes; at = c.get-i.ensures; is = c.index_mut.ensures.value } in
     let b = taken _ _ _ _ _ k in
     (omega arith, (omega arith, (b.formed, (b.goes, full_child _ _ _ _ _ _ k c.requires.room))))
 
@@ -30,9 +30,9 @@ returns-then-height-eq0 t c =
 pub returns-else-height-eq0 : goal.returns-else-height-eq0
 returns-else-height-eq0 t c =
     let k : IsTaken c.args.height c.args.self.now c.args.path.now c.get-i.result c.index_mut.result.now =
-      record { inner = c.if-height-eq0.false; formed = c.requires.formed; goes = c.requires.goes; at = c.get-i.ensures; is = c.index_mut.ensures.value } in
+    record { inner = c.if-height-eq0.false; formed = c.requires.formed; goes = c.requires.goes; at = c.get-i.ensures; is = c.index_mut.ensures.value } in
     let b = taken _ _ _ _ _ k in
     let p = put_below c.args.height c.args.self.now (roll-Node _) c.args.path.now c.args.ix c.get-i.result c.index_mut.result.now c.put_in_leaf.new.self k
-      (record { items = c.put_in_leaf.ensures.items; formed = c.put_in_leaf.ensures.formed; longer = c.put_in_leaf.ensures.longer })
-      (row-roll _) (children-roll _) (room-from _ b.node.has_room) in
+    (record { items = c.put_in_leaf.ensures.items; formed = c.put_in_leaf.ensures.formed; longer = c.put_in_leaf.ensures.longer })
+    (row-roll _) (children-roll _) (room-from _ b.node.has_room) in
     record { items = p.items; formed = p.formed; longer = p.longer }

@@ -30,7 +30,9 @@ pub descend-requires : goal.descend-requires
 descend-requires g c =
     let r = root_of c.args.self.now _ _ _ _ _ c.in-Some.root c.self.view_is c.self.invariant c.in-Some.is in
     record {
-      formed = r.formed; levels = r.low; path = c.new-path.ensures;
+      formed = r.formed;
+      levels = r.low;
+      path = c.new-path.ensures;
       can_search = subst (λ xs. CanSearch g.F.FnMut xs (Some c.args.ix) c.args.asking.now) (sym r.list) c.requires;
     }
 

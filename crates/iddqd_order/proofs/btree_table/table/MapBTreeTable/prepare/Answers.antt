@@ -17,8 +17,7 @@ unfolding place_of index_of
 returns g c =
     let gap = c.find_gap-path.ensures in
     let kept = c.reserve.ensures in
-    let place = same_place c.args.self.now c.reserve.new.self c.find_gap-path.result.0 kept.root kept.height in
-    (
+    let place = same_place c.args.self.now c.reserve.new.self c.find_gap-path.result.0 kept.root kept.height in (
       (refl, λ w. refl, tt),
       record {
         unchanged = tt;
