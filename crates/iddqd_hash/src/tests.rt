@@ -1,12 +1,21 @@
 //! Both tables of values under the same calls, and the table of indexes.
-mod both;
+mod agreement;
+mod asked;
+mod asks;
 mod callers;
+mod changes;
+mod filed;
+mod found;
 mod indexes;
 mod keys;
+mod look_ups;
+mod many;
 mod printed;
 mod reads;
 mod refused;
 mod renames;
+mod reserved;
+mod rewrites;
 mod sequences;
 mod table;
 mod walks;

@@ -3,7 +3,7 @@ ghost use Rattle.std.specs.Prelude.{◌<◌, ℕ, IsSome, length};
 ghost use Rattle.std.specs.FinMap as finite;
 ghost use Rattle.iddqd_hash.specs.MapHashTable.{filed};
 
-use super::indexes::file_all;
+use super::filed::file_all;
 use super::keys::Constant;
 use crate::hash_table::MapHashTable;
 use iddqd::item_index::ItemIndex;

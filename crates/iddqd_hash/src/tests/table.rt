@@ -1,38 +1,19 @@
 //! Either table of values, under the same calls.
+use super::asked::Asked;
+use super::changes::{
+    drop_with_linear, drop_with_open, halve_linear, halve_open, insert_linear, insert_open,
+    remove_linear, remove_open,
+};
+use super::look_ups::{find_linear, find_open, take_second_linear, take_second_open};
 use crate::hash_table_reference::HashTable;
 use crate::open_table::OpenHashTable;
 use std::alloc::{AllocError, Global};
-use std::cell::Cell;
 
 // A table of numbers.
 #[derive(Drop)]
 pub(crate) enum Table {
     Linear(HashTable<u32>),
     Open(OpenHashTable<u32>),
-}
-
-// What was asked: how often, the bits that some value had, and the last value.
-#[derive(Clone, Copy)]
-pub(crate) struct Asked {
-    pub(crate) asks: u32,
-    pub(crate) bits: u32,
-    pub(crate) last: u32,
-}
-
-impl Asked {
-    fn new() -> Asked {
-        Asked {
-            asks: 0,
-            bits: 0,
-            last: 0,
-        }
-    }
-
-    fn note(&mut self, value: u32) {
-        self.asks = self.asks.saturating_add(1);
-        self.bits |= value;
-        self.last = value;
-    }
 }
 
 impl Table {
@@ -125,112 +106,4 @@ impl Table {
             Table::Open(table) => table.clear(),
         }
     }
-}
-
-fn insert_linear(table: &mut HashTable<u32>, hash: u64, value: u32) -> bool {
-    if table.room() == 0 {
-        return false;
-    }
-    table.insert_unique(hash, value);
-    true
-}
-
-fn insert_open(table: &mut OpenHashTable<u32>, hash: u64, value: u32) -> bool {
-    if table.room() == 0 {
-        return false;
-    }
-    table.insert_unique(hash, value);
-    true
-}
-
-fn find_linear(table: &HashTable<u32>, hash: u64, value: u32) -> (bool, Asked) {
-    let mut asked = Asked::new();
-    let found = table.find(hash, |x| {
-        asked.note(*x);
-        *x == value
-    });
-    (found.is_some(), asked)
-}
-
-fn find_open(table: &OpenHashTable<u32>, hash: u64, value: u32) -> (bool, Asked) {
-    let mut asked = Asked::new();
-    let found = table.find(hash, |x| {
-        asked.note(*x);
-        *x == value
-    });
-    (found.is_some(), asked)
-}
-
-fn remove_linear(table: &mut HashTable<u32>, hash: u64, value: u32) -> bool {
-    match table.find_entry(hash, |x| *x == value) {
-        Ok(entry) => entry.remove() == value,
-        Err(()) => false,
-    }
-}
-
-fn remove_open(table: &mut OpenHashTable<u32>, hash: u64, value: u32) -> bool {
-    match table.find_entry(hash, |x| *x == value) {
-        Ok(entry) => entry.remove() == value,
-        Err(()) => false,
-    }
-}
-
-fn take_second_linear(table: &mut HashTable<u32>, hash: u64) -> (Option<u32>, Asked) {
-    let mut asked = Asked::new();
-    let found = table.find_entry(hash, |x| {
-        asked.note(*x);
-        asked.asks == 2
-    });
-    match found {
-        Ok(entry) => (Some(entry.remove()), asked),
-        Err(()) => (None, asked),
-    }
-}
-
-fn take_second_open(table: &mut OpenHashTable<u32>, hash: u64) -> (Option<u32>, Asked) {
-    let mut asked = Asked::new();
-    let found = table.find_entry(hash, |x| {
-        asked.note(*x);
-        asked.asks == 2
-    });
-    match found {
-        Ok(entry) => (Some(entry.remove()), asked),
-        Err(()) => (None, asked),
-    }
-}
-
-fn drop_with_linear(table: &mut HashTable<u32>, bits: u32) -> Asked {
-    let mut asked = Asked::new();
-    table.retain(|x| {
-        asked.note(*x);
-        *x & bits == 0
-    });
-    asked
-}
-
-fn drop_with_open(table: &mut OpenHashTable<u32>, bits: u32) -> Asked {
-    let mut asked = Asked::new();
-    table.retain(|x| {
-        asked.note(*x);
-        *x & bits == 0
-    });
-    asked
-}
-
-fn halve_linear(table: &mut HashTable<u32>) -> u32 {
-    let calls = Cell::new(0u32);
-    table.rewrite(|x| {
-        calls.set(calls.get().saturating_add(1));
-        *x / 2
-    });
-    calls.get()
-}
-
-fn halve_open(table: &mut OpenHashTable<u32>) -> u32 {
-    let calls = Cell::new(0u32);
-    table.rewrite(|x| {
-        calls.set(calls.get().saturating_add(1));
-        *x / 2
-    });
-    calls.get()
 }

@@ -1,0 +1,33 @@
+//! Both tables give the same answers.
+use super::table::Table;
+use std::alloc::AllocError;
+use std::process::Abort;
+use std::test::Fail;
+
+// A removal of one match in three calls, and else an insert, on both.
+fn run_both(rt: &impl Abort, plain: &mut Table, open: &mut Table) -> Result<(), AllocError> {
+    for i in 0..2000u32 {
+        let (hash, value) = ((i * 5 % 8) as u64, i * 7 % 31);
+        if i % 3 == 0 {
+            let removed = plain.remove(hash, value);
+            assert!(rt; removed == open.remove(hash, value), "at {i}");
+        } else {
+            assert!(rt; plain.add(hash, value)? && open.add(hash, value)?, "at {i}");
+        }
+        assert!(rt; plain.len() == open.len(), "at {i}");
+    }
+    Ok(())
+}
+
+#[test]
+fn both_tables_agree(rt: HostRuntime) -> Result<(), Fail> {
+    let mut plain = Table::linear(rt.alloc());
+    let mut open = Table::open(rt.alloc());
+    run_both(&rt, &mut plain, &mut open)?;
+    for pair in 0..248u32 {
+        let (hash, value) = ((pair / 31) as u64, pair % 31);
+        let hit = plain.find(hash, value).0;
+        assert!(rt; hit == open.find(hash, value).0, "at {pair}");
+    }
+    Ok(())
+}

@@ -1,0 +1,32 @@
+//! Room that was reserved.
+use super::table::Table;
+use std::alloc::AllocError;
+use std::process::Abort;
+use std::test::Fail;
+
+// Reserved room serves so many inserts, whatever is removed between them.
+fn keeps_reserved_room(rt: &impl Abort, mut table: Table) -> Result<(), AllocError> {
+    assert!(rt; table.room() == 0);
+    table.reserve(64)?;
+    for value in 0..64u32 {
+        let hash = (value % 5) as u64;
+        assert!(rt; table.insert(hash, value), "at {value}");
+        assert!(rt; value % 3 > 0 || table.remove(hash, value), "at {value}");
+    }
+    assert!(rt; table.len() == 42);
+    for value in 0..64u32 {
+        let hit = table.find((value % 5) as u64, value).0;
+        assert!(rt; hit == (value % 3 > 0), "at {value}");
+    }
+    table.clear();
+    assert!(rt; table.len() == 0 && table.room() >= 64);
+    assert!(rt; table.find(1, 1).1.asks == 0);
+    Ok(())
+}
+
+#[test]
+fn keeps_room_for_what_was_reserved(rt: HostRuntime) -> Result<(), Fail> {
+    keeps_reserved_room(&rt, Table::linear(rt.alloc()))?;
+    keeps_reserved_room(&rt, Table::open(rt.alloc()))?;
+    Ok(())
+}
