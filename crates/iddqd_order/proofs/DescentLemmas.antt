@@ -16,7 +16,7 @@ use Rattle.iddqd_order.specs.Digits.{digits}
 use Rattle.iddqd_order.proofs.DigitLemmas.{digits-row}
 use Rattle.iddqd_order.proofs.AskLemmas.{asks_wider, CanAsk-fewer, CanAsk-later, Steady-fewer}
 use Rattle.iddqd_order.proofs.NodeLemmas.{lists, formed-inner, formed-within, flat-leaf, flat-inner, inner-goes, leaf-goes, place-inner, place-leaf, any_default}
-use Rattle.iddqd_order.proofs.PartLemmas.{Askable-wider, greater_up_to, less_from_on, shifted, in_middle, middle_held, SearchesWithin-more, LeadsTo, Searches-part}
+use Rattle.iddqd_order.proofs.PartLemmas.{Askable-wider, greater_up_to, less_from_on, shifted, in_middle, middle_held, SearchesWithin-more, SearchesWithin-later, LeadsTo, Searches-part}
 use Rattle.iddqd_order.proofs.RemovalLemmas.{holds-level, spot-leaf, spot-at, spot-below, spot-within}
 use Rattle.iddqd_order.proofs.IndexListLemmas.{Contains-at}
 use Rattle.iddqd_order.proofs.ReckoningLemmas.{reckoning}
@@ -204,6 +204,9 @@ child-within l n i ne f le = let one = (formed-inner l n ne f).inner.one_more in
 pub child-formed : (l : ℕ) (n : Node) (i : ℕ) → l ≢ 0 → IsFormed l n → i < length (children n) → IsFormed (l - 1) (child n i)
 child-formed l n i ne f lt = ((formed-inner l n ne f).below i n lt).1
 
+pub child-some : (l : ℕ) (n : Node) (i : ℕ) → l ≢ 0 → IsFormed l n → i < length (children n) → 1 ≤ length (row (child n i))
+child-some l n i ne f lt = let five = ((formed-inner l n ne f).below i n lt).0 in omega arith
+
 pub child_is : (n : Node) (i : ℕ) (k : Node) → i < length (children n) → k ≡ get_or (children n) i k → k ≡ child n i
 child_is n i k lt e = e ∙ any_default (children n) i k n lt
 
@@ -305,20 +308,20 @@ module _ {F R : Type 0} (g : Mut F (ℕ × Unit {0}) R) (read : R → Ordering) 
       (Searches-below xs ks (lists-one_more l n ne f) g read tie i end s (subst (λ zs. SearchesWithin g read zs m tie b end c) (sym (lists-at (l - 1) n i lt)) t))
 
   -- the walk ends at an index of the node
-  pub Descends-hit : (full l : ℕ) (n : Node) (p : List ℕ) (a b : Asking F) → IsFormed l n → SearchesWithin g read (row n) 4 tie a (Ok (slice_index p l)) b → Descends g read tie full l n a p (Ok l) b
-  Descends-hit full zero n p a b f s = record {
-    searches = rw (flat-leaf zero n refl, spot-leaf zero zero n p refl) s;
+  pub Descends-hit : (limit full l : ℕ) (n : Node) (p : List ℕ) (a b : Asking F) → 4 ≤ limit → IsFormed l n → SearchesWithin g read (row n) 4 tie a (Ok (slice_index p l)) b → Descends g read tie limit full l n a p (Ok l) b
+  Descends-hit limit full zero n p a b le f s = record {
+    searches = rw (flat-leaf zero n refl, spot-leaf zero zero n p refl) (SearchesWithin-more g read tie le s);
     holds = holds-here zero n p s.found;
     goes = tt;
     full_below = tt;
     level = tt;
   }
-  Descends-hit full (suc h) n p a b f s =
+  Descends-hit limit full (suc h) n p a b le f s =
       let ne : suc h ≢ 0 = λ e. absurd (omega arith) in
       let lt : slice_index p (suc h) < length (row n) = s.found in
       let in_children = child-within (suc h) n (slice_index p (suc h)) ne f (omega arith) in
       record {
-        searches = rw (spot-here (suc h) n p ne in_children) (SearchesWithin-more g read tie (omega arith) (Searches-row (suc h) n (slice_index p (suc h)) a b ne f s));
+        searches = rw (spot-here (suc h) n p ne in_children) (SearchesWithin-more g read tie le (Searches-row (suc h) n (slice_index p (suc h)) a b ne f s));
         holds = holds-here (suc h) n p lt;
         goes = tt;
         full_below = tt;
@@ -326,13 +329,13 @@ module _ {F R : Type 0} (g : Mut F (ℕ × Unit {0}) R) (read : R → Ordering) 
       }
 
   -- or in a leaf
-  pub Descends-leaf : (full full_below l : ℕ) (n : Node) (p : List ℕ) (a b : Asking F) → l ≡ 0 → IsFormed l n → SearchesWithin g read (row n) 4 tie a (Err (slice_index p l)) b → Counts n full l full_below
-      → Descends g read tie full l n a p (Err full_below) b
-  Descends-leaf full full_below (suc h) n p a b e f s c = absurd (omega arith)
-  Descends-leaf full full_below zero n p a b e f s c =
+  pub Descends-leaf : {k : ℕ} (limit full full_below l : ℕ) (n : Node) (p : List ℕ) (a b : Asking F) → k ≤ limit → l ≡ 0 → IsFormed l n → SearchesWithin g read (row n) k tie a (Err (slice_index p l)) b → Counts n full l full_below
+      → Descends g read tie limit full l n a p (Err full_below) b
+  Descends-leaf limit full full_below (suc h) n p a b le e f s c = absurd (omega arith)
+  Descends-leaf limit full full_below zero n p a b le e f s c =
       let here = counts_here n full 0 full_below full_below c (λ _. refl) in
       record {
-        searches = rw (flat-leaf zero n refl, place-leaf zero n p refl) s;
+        searches = rw (flat-leaf zero n refl, place-leaf zero n p refl) (SearchesWithin-more g read tie le s);
         holds = tt;
         goes = leaf-goes zero n p refl s.missed;
         full_below = full-leaf full_below zero n p refl here.0;
@@ -345,32 +348,51 @@ module _ {F R : Type 0} (g : Mut F (ℕ × Unit {0}) R) (read : R → Ordering) 
   end-below l n p (Ok m) ne holds = let le = holds-level m (l - 1) (child n (slice_index p l)) p holds in ap Ok (spot-below m l n p ne (λ e. absurd (omega arith)))
   end-below l n p (Err k) ne holds = ap Err (place-inner l n p ne)
 
-  searched_below : (full_below l : ℕ) (n : Node) (p : List ℕ) (end : Result ℕ ℕ) (a b c : Asking F) → l ≢ 0 → IsFormed l n → SearchesWithin g read (row n) 4 tie a (Err (slice_index p l)) b
-      → Descends g read tie full_below (l - 1) (child n (slice_index p l)) b p end c → SearchesWithin g read (flat l n) (4 * (l + 1)) tie a (end_of l n p end) c
-  searched_below full_below l n p end a b c ne f s d =
+  searched_below : {k m : ℕ} (limit full_below l : ℕ) (n : Node) (p : List ℕ) (end : Result ℕ ℕ) (a b c : Asking F) → k + m ≤ limit → l ≢ 0 → IsFormed l n → SearchesWithin g read (row n) k tie a (Err (slice_index p l)) b
+      → Descends g read tie m full_below (l - 1) (child n (slice_index p l)) b p end c → SearchesWithin g read (flat l n) limit tie a (end_of l n p end) c
+  searched_below limit full_below l n p end a b c le ne f s d =
       rw (end-below l n p end ne d.holds)
-      (SearchesWithin-more g read tie (omega arith) (Searches-child l n (slice_index p l) (end_of (l - 1) (child n (slice_index p l)) p end) a b c ne f s d.searches))
+      (SearchesWithin-more g read tie le (Searches-child l n (slice_index p l) (end_of (l - 1) (child n (slice_index p l)) p end) a b c ne f s d.searches))
 
   -- or below the node
-  pub Descends-below : (full full_below l : ℕ) (n : Node) (p : List ℕ) (end : Result ℕ ℕ) (a b c : Asking F) → l ≢ 0 → IsFormed l n → SearchesWithin g read (row n) 4 tie a (Err (slice_index p l)) b → Counts n full l full_below
-      → Descends g read tie full_below (l - 1) (child n (slice_index p l)) b p end c → Descends g read tie full l n a p end c
-  Descends-below full full_below l n p (Ok m) a b c ne f s counts d = record {
-    searches = searched_below full_below l n p (Ok m) a b c ne f s d;
-    holds = below-holds m l n p ne (child-within l n (slice_index p l) ne f s.missed) d.holds;
+  pub Descends-below : {k m : ℕ} (limit full full_below l : ℕ) (n : Node) (p : List ℕ) (end : Result ℕ ℕ) (a b c : Asking F) → k + m ≤ limit → l ≢ 0 → IsFormed l n → SearchesWithin g read (row n) k tie a (Err (slice_index p l)) b → Counts n full l full_below
+      → Descends g read tie m full_below (l - 1) (child n (slice_index p l)) b p end c → Descends g read tie limit full l n a p end c
+  Descends-below limit full full_below l n p (Ok at) a b c le ne f s counts d = record {
+    searches = searched_below limit full_below l n p (Ok at) a b c le ne f s d;
+    holds = below-holds at l n p ne (child-within l n (slice_index p l) ne f s.missed) d.holds;
     goes = tt;
     full_below = tt;
     level = tt;
   }
-  Descends-below full full_below l n p (Err k) a b c ne f s counts d =
+  Descends-below limit full full_below l n p (Err at) a b c le ne f s counts d =
       let lt : slice_index p l < length (children n) = child-within l n (slice_index p l) ne f s.missed in
-      let here = counts_here n full l full_below k counts (λ le. d.level (omega arith)) in
+      let here = counts_here n full l full_below at counts (λ le. d.level (omega arith)) in
       record {
-        searches = searched_below full_below l n p (Err k) a b c ne f s d;
+        searches = searched_below limit full_below l n p (Err at) a b c le ne f s d;
         holds = tt;
         goes = inner-goes l n p ne (record { here = lt; on = d.goes });
-        full_below = full-below k l n p ne here.0 d.full_below;
+        full_below = full-below at l n p ne here.0 d.full_below;
         level = here.1;
       }
+
+  -- an ask about the node before the walk
+  pub Descends-later : {k m : ℕ} (limit full l : ℕ) (n : Node) (p : List ℕ) (end : Result ℕ ℕ) (a b c : Asking F) → k + m ≤ limit → AsksWithin g (Askable (flat l n) tie) k a b → Descends g read tie m full l n b p end c → Descends g read tie limit full l n a p end c
+  Descends-later limit full l n p end a b c le asked d = record {
+    searches = SearchesWithin-more g read tie le (SearchesWithin-later g read tie asked d.searches);
+    holds = d.holds;
+    goes = d.goes;
+    full_below = d.full_below;
+    level = d.level;
+  }
+
+  -- what may be asked in the row may be asked in the tree
+  pub asks_in_tree : {k : ℕ} (l : ℕ) (n : Node) (a b : Asking F) → IsFormed l n → AsksWithin g (Askable (row n) tie) k a b → AsksWithin g (Askable (flat l n) tie) k a b
+  asks_in_tree {k = k} zero n a b f asked = subst (λ xs. AsksWithin g (Askable xs tie) k a b) (sym (flat-leaf zero n refl)) asked
+  asks_in_tree {k = k} (suc h) n a b f asked =
+      let ne : suc h ≢ 0 = λ e. absurd (omega arith) in
+      let xs : List ℕ = row n in let ks : List (List ℕ) = lists (suc h - 1) (children n) in
+      subst (λ zs. AsksWithin g (Askable zs tie) k a b) (sym (flat-inner (suc h) n ne))
+      (asks_wider g (Askable xs tie) (Askable (weave xs ks) tie) (Askable-wider xs (weave xs ks) tie (row_held xs ks (lists-one_more (suc h) n ne f))) asked)
 
   -- a find ends at an index of the node
   pub FindsIn-hit : (l : ℕ) (n : Node) (i ix : ℕ) (a b : Asking F) → IsFormed l n → SearchesWithin g read (row n) 4 tie a (Ok i) b → ix ≡ slice_index (row n) i → FindsIn g read tie l n a (Some ix) b
@@ -416,14 +438,14 @@ module _ {F R : Type 0} (g : Mut F (ℕ × Unit {0}) R) (read : R → Ordering) 
       }
 
   -- a walk down a tree with an index in its root is a search of all indexes
-  pub Searches-from_descends : {full : ℕ} (h : ℕ) (n : Node) (p : List ℕ) (end : Result ℕ ℕ) (a b : Asking F) → IsFormed h n → 1 ≤ length (row n) → Descends g read tie full h n a p end b
+  pub Searches-from_descends : {limit full : ℕ} (h : ℕ) (n : Node) (p : List ℕ) (end : Result ℕ ℕ) (a b : Asking F) → limit ≤ 4 * (h + 1) + 2 → IsFormed h n → 1 ≤ length (row n) → Descends g read tie limit full h n a p end b
       → Searches g read (flat h n) tie a (end_of h n p end) b
-  Searches-from_descends h n p end a b f one d = SearchesWithin-more g read tie (reckoning h n f one) d.searches
+  Searches-from_descends h n p end a b le f one d = let few = reckoning h n f one in SearchesWithin-more g read tie (omega arith) d.searches
 
 -- and so is a find
 pub Finds-from_findsin : {F R : Type 0} (g : Mut F (ℕ × Unit {0}) R) (read : R → Ordering) (h : ℕ) (n : Node) (found : Option ℕ) (a b : Asking F) → IsFormed h n → 1 ≤ length (row n) → FindsIn g read None h n a found b
     → Finds g read (flat h n) a found b
-Finds-from_findsin g read h n found a b f one d = finds d.end (SearchesWithin-more g read None (reckoning h n f one) d.searches) d.index
+Finds-from_findsin g read h n found a b f one d = finds d.end (let few = reckoning h n f one in SearchesWithin-more g read None (omega arith) d.searches) d.index
   where
     finds : (end : Result ℕ ℕ) → Searches g read (flat h n) None a end b → found ≡ index_at (flat h n) end → Finds g read (flat h n) a found b
     finds (Ok i) s e = subst (λ r. Finds g read (flat h n) a r b) (sym e) (record {

@@ -54,8 +54,8 @@ digits-six (suc h) n le =
     let rest = digits-six h (n / 2 / 2) (omega arith) in
     omega arith
 
--- four asks in each level are within the bound
-pub reckoning : (h : ℕ) (n : Node) → IsFormed h n → 1 ≤ length (row n) → 4 * (h + 1) ≤ bound (length (flat h n))
+-- four asks in each level are within the bound, and two are left over
+pub reckoning : (h : ℕ) (n : Node) → IsFormed h n → 1 ≤ length (row n) → 4 * (h + 1) + 2 ≤ bound (length (flat h n))
 reckoning h n f one =
     let pos = power_pos h in
     let many = least 1 h n f one in

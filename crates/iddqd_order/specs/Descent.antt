@@ -17,17 +17,17 @@ abbrev pub index_at : List ℕ → Result ℕ ℕ → Option ℕ
 index_at xs (Ok i) = Some (slice_index xs i)
 index_at xs (Err i) = None
 
--- a walk down n, a tree with h levels above the leaves, by answers that are so read: four asks a level
+-- a walk down n, a tree with h levels above the leaves, by answers that are so read
 module _ {F R : Type 0} (g : Mut F (ℕ × Unit {0}) R) (read : R → Ordering) (sought : Option ℕ) where
-  -- the walk writes the path p and ends at a level, or else in a leaf, with the number of full nodes at the lower end: more than h levels stand for `full`
-  pub record Descends (full h : ℕ) (n : Node) (old : Asking F) (p : List ℕ) (end : Result ℕ ℕ) (new : Asking F) : Type 0 where
-    pub searches : SearchesWithin g read (flat h n) (4 * (h + 1)) sought old (end_of h n p end) new
+  -- the walk asks at most `limit` times, writes the path p and ends at a level, or else in a leaf, with the number of full nodes at the lower end: more than h levels stand for `full`
+  pub record Descends (limit full h : ℕ) (n : Node) (old : Asking F) (p : List ℕ) (end : Result ℕ ℕ) (new : Asking F) : Type 0 where
+    pub searches : SearchesWithin g read (flat h n) limit sought old (end_of h n p end) new
     pub holds : IfOk end (λ l. Holds l h n p)
     pub goes : IfErr end (λ k. Goes h n p)
     pub full_below : IfErr end (λ k. IsFullBelow k h n p)
     pub level : IfErr end (λ k. h < k → k ≡ full)
 
-  -- the walk ends at an index that answers Equal, or else at none
+  -- the walk asks four times a level, and ends at an index that answers Equal, or else at none
   pub record FindsIn (h : ℕ) (n : Node) (old : Asking F) (found : Option ℕ) (new : Asking F) : Type 0 where
     pub end : Result ℕ ℕ
     pub searches : SearchesWithin g read (flat h n) (4 * (h + 1)) sought old end new

@@ -5,6 +5,7 @@
 pub mod asking;
 mod descent;
 mod ends;
+mod gap;
 pub mod iter;
 pub mod key_order;
 mod node;

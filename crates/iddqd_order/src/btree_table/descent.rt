@@ -1,5 +1,5 @@
 //! Searches of a tree: one walk down from the root, four asks a level.
-ghost use Rattle.std.specs.Prelude.{◌≡◌, ℕ, ◌+◌, ◌<◌, ◌≤◌, Some, None, IfSome, IsNone, Contains, length, slice_index};
+ghost use Rattle.std.specs.Prelude.{◌≡◌, ℕ, ◌+◌, ◌*◌, ◌<◌, ◌≤◌, Some, None, IfSome, IsNone, Contains, length, slice_index};
 ghost use Rattle.iddqd_order.specs.Descent.{Descends, FindsIn};
 ghost use Rattle.iddqd_order.specs.MapBTreeTable.{StandsAt};
 ghost use Rattle.iddqd_order.specs.Node.{flat, IsFormed, Holds, spot};
@@ -43,10 +43,11 @@ impl Node {
     }
 
     // Writes the way of a search to the path. It answers the level at which the search ends, or, where
-    // it ends in a leaf, how many nodes at the lower end of the way are full.
+    // it ends in a leaf, how many nodes at the lower end of the way are full: `above` where all are.
     pub fn descend<R, F: FnMut(ItemIndex) -> R, H: Reads<R>>(
         &self,
         height: usize,
+        above: usize,
         asking: &mut Asking<F>,
         how: &H,
         tie: &Option<ItemIndex>,
@@ -54,14 +55,16 @@ impl Node {
     ) -> Result<usize, usize>
         requires formed { IsFormed height self.now }
         requires levels { height ≤ 11 }
+        requires above { height < above }
         requires path { length path.old ≡ 12 }
         requires can_search { CanSearch F.FnMut (flat height self.now) tie.now asking.old }
         ensures path { length path.new ≡ 12 }
-        ensures descends { Descends F.FnMut (H.reading how.now) tie.now (height + 1) height self.now asking.old path.new result asking.new }
+        ensures kept { (l : ℕ) → height < l → slice_index path.new l ≡ slice_index path.old l }
+        ensures descends { Descends F.FnMut (H.reading how.now) tie.now (4 * (height + 1)) above height self.now asking.old path.new result asking.new }
     {
         let mut node = self;
         let mut level = height;
-        let mut full = height + 1;
+        let mut full = above;
         loop {
             if node.row.len() < CAPACITY {
                 full = level;

@@ -13,7 +13,7 @@ use std::cmp::Ordering;
 
 // How what is sought stands to the stored index `at`. It asks once, or not at all where `at` itself
 // is sought.
-fn compare<R, F: FnMut(ItemIndex) -> R, H: Reads<R>>(
+pub(super) fn compare<R, F: FnMut(ItemIndex) -> R, H: Reads<R>>(
     asking: &mut Asking<F>,
     how: &H,
     tie: &Option<ItemIndex>,

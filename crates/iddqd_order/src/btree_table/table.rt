@@ -258,7 +258,7 @@ impl MapBTreeTable {
         let Some(root) = &self.root else {
             return (path, 0);
         };
-        match root.descend(self.height, asking, how, &Some(ix), &mut path) {
+        match root.descend_left(self.height, asking, how, &Some(ix), &mut path) {
             Ok(_) => unreachable!(),
             Err(full) => (path, full),
         }
@@ -364,7 +364,14 @@ impl MapBTreeTable {
             return None;
         };
         let mut path = Path::new();
-        match root.descend(self.height, asking, how, &Some(ix), &mut path) {
+        match root.descend(
+            self.height,
+            self.height + 1,
+            asking,
+            how,
+            &Some(ix),
+            &mut path,
+        ) {
             Ok(level) => Some((path, level)),
             Err(_) => None,
         }

@@ -1,5 +1,5 @@
 //! How often a search asks, as its closure counts it.
-use super::{bound, filled, find_told};
+use super::{bound, filled, find_told, insert_told};
 use crate::btree_table::{Asking, MapBTreeTable};
 use iddqd::item_index::ItemIndex;
 use std::cmp::Ordering;
@@ -67,5 +67,14 @@ fn a_find_asks_nothing_after_its_hit(rt: HostRuntime) -> Result<(), Fail> {
         assert_eq!(rt; asked.after_hit, 0);
         assert!(rt; asked.asks <= 18);
     }
+    Ok(())
+}
+
+#[test]
+fn a_falling_insert_asks_once_a_level(rt: HostRuntime) -> Result<(), Fail> {
+    let mut table = filled(&rt, rt.alloc(), 1000, Ordering::Less)?;
+    // A tree of five levels has 2591 indexes at least.
+    let asks = insert_told(&rt, &mut table, 1000, Ordering::Less, Ordering::Less)?;
+    assert!(rt; 0 < asks && asks <= 4);
     Ok(())
 }

@@ -1,4 +1,4 @@
-use Rattle.std.proofs.Common.{◌≡◌, ◌-◌, ◌<◌, Ok, Err, length, slice_index, arith, sym, ap, ◌∙◌, subst, rules}
+use Rattle.std.proofs.Common.{◌≡◌, ◌+◌, ◌-◌, ◌*◌, ◌<◌, refl, Ok, Err, length, slice_index, arith, sym, ap, ◌∙◌, subst, rules}
 use Rattle.iddqd_order.specs.Descent.{Descends}
 use Rattle.iddqd_order.specs.Node.{row, children, child, flat}
 use Rattle.iddqd_order.specs.Search.{CanSearch, SearchesWithin}
@@ -12,8 +12,10 @@ loop-full-init g c = record {
   levels = c.requires.levels;
   path = c.requires.path;
   can_search = c.requires.can_search;
-  above = omega arith;
+  above = c.requires.above;
   rest = λ p end new same d. d;
+  below = omega arith;
+  kept = λ m up. refl;
 }
 
 pub search-requires : goal.search-requires
@@ -40,7 +42,7 @@ returns-in-Ok-clause-descends g c =
     let s = row_searched g.F.FnMut read tie l n c.as_slice.result.now (Ok c.in-Ok.i) a b held.formed c.as_slice.ensures c.in-Ok.ensures in
     let here : slice_index p l ≡ c.in-Ok.i = path-here c.loop-full.path p l c.in-Ok.i held.path held.levels c.set.ensures.place in
     held.rest p (Ok l) b (λ m lt. path-above c.loop-full.path p l c.in-Ok.i m c.set.ensures.place lt)
-    (Descends-hit g.F.FnMut read tie c.loop-full.full l n p a b held.formed (subst (λ i. SearchesWithin g.F.FnMut read (row n) 4 tie a (Ok i) b) (sym here) s))
+    (Descends-hit g.F.FnMut read tie (4 * (l + 1)) c.loop-full.full l n p a b (omega arith) held.formed (subst (λ i. SearchesWithin g.F.FnMut read (row n) 4 tie a (Ok i) b) (sym here) s))
 
 pub returns-then-level-eq0-clause-descends : goal.returns-then-level-eq0-clause-descends
 returns-then-level-eq0-clause-descends g c =
@@ -60,7 +62,7 @@ returns-then-level-eq0-clause-descends g c =
       | else-len-lt-CAPACITY w ↦ Counts-full n c.loop-full.full l c.if-len-lt-CAPACITY.full c.len.result held.above c.len.ensures.length w.if-len-lt-CAPACITY.false w.full-is
     ] in
     held.rest p (Err c.if-len-lt-CAPACITY.full) b (λ m lt. path-above c.loop-full.path p l c.in-Err.i m c.set-in-Err.ensures.place lt)
-    (Descends-leaf g.F.FnMut read tie c.loop-full.full c.if-len-lt-CAPACITY.full l n p a b c.if-level-eq0.true held.formed (subst (λ i. SearchesWithin g.F.FnMut read (row n) 4 tie a (Err i) b) (sym here) s) counts)
+    (Descends-leaf g.F.FnMut read tie (4 * (l + 1)) c.loop-full.full c.if-len-lt-CAPACITY.full l n p a b (omega arith) c.if-level-eq0.true held.formed (subst (λ i. SearchesWithin g.F.FnMut read (row n) 4 tie a (Err i) b) (sym here) s) counts)
 
 pub index-node-requires : goal.index-node-requires
 index-node-requires g c =
@@ -93,8 +95,11 @@ loop-full-preserved g c =
       | then-len-lt-CAPACITY w ↦ Counts-not_full n c.loop-full.full l c.if-len-lt-CAPACITY.full c.len.result held.above c.len.ensures.length w.if-len-lt-CAPACITY.true w.full-is
       | else-len-lt-CAPACITY w ↦ Counts-full n c.loop-full.full l c.if-len-lt-CAPACITY.full c.len.result held.above c.len.ensures.length w.if-len-lt-CAPACITY.false w.full-is
     ] in
+    let down = held.below in
     record {
       formed = rw same (child-formed l n i ne held.formed lt);
+      below = omega arith;
+      kept = λ m up. path-above c.loop-full.path path l i m c.set-in-Err.ensures.place (omega arith) ∙ held.kept m up;
       levels = omega arith;
       path = c.set-in-Err.ensures.length;
       can_search = subst (λ z. CanSearch g.F.FnMut (flat (l - 1) z) tie b) (sym same) (can_ask_below g.F.FnMut read tie l n i a b ne held.formed s held.can_search);
@@ -102,6 +107,6 @@ loop-full-preserved g c =
       rest = λ p end new on d.
           let here : slice_index p l ≡ i = on l (omega arith) ∙ path-here c.loop-full.path path l i held.path held.levels c.set-in-Err.ensures.place in
           held.rest p end new (λ m up. on m (omega arith) ∙ path-above c.loop-full.path path l i m c.set-in-Err.ensures.place up)
-          (Descends-below g.F.FnMut read tie c.loop-full.full full l n p end a b new ne held.formed (subst (λ z. SearchesWithin g.F.FnMut read (row n) 4 tie a (Err z) b) (sym here) s) counts
-          (subst (λ z. Descends g.F.FnMut read tie full (l - 1) z b p end new) (same ∙ ap (child n) (sym here)) d));
+          (Descends-below g.F.FnMut read tie (4 * (l + 1)) c.loop-full.full full l n p end a b new (omega arith) ne held.formed (subst (λ z. SearchesWithin g.F.FnMut read (row n) 4 tie a (Err z) b) (sym here) s) counts
+          (subst (λ z. Descends g.F.FnMut read tie (4 * (l - 1 + 1)) full (l - 1) z b p end new) (same ∙ ap (child n) (sym here)) d));
     }

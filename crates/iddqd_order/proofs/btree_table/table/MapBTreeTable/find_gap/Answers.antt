@@ -21,11 +21,12 @@ returns-in_default g c =
       place = λ answer s. IsPlace-none _ _ _ none.list none.place;
     }
 
-pub descend-requires : goal.descend-requires
-descend-requires g c =
+pub descend_left-requires : goal.descend_left-requires
+descend_left-requires g c =
     let r = root_of c.args.self.now _ _ _ _ _ c.in-Some.root c.self.view_is c.self.invariant c.in-Some.is in
     record {
       formed = r.formed;
+      some = r.some;
       levels = r.low;
       path = c.new-path.ensures;
       can_search = subst (λ xs. CanSearch g.F.FnMut xs (Some c.args.ix) c.args.asking.now) (sym r.list) c.requires.can_ask;
@@ -41,8 +42,8 @@ pub returns : goal.returns
 returns g c =
     let r = root_of c.args.self.now _ _ _ _ _ c.in-Some.root c.self.view_is c.self.invariant c.in-Some.is in
     let d = c.in-Err.ensures.descends in
-    let s = Searches-from_descends g.F.FnMut (g.H.Reads.reading c.args.how.now) (Some c.args.ix) _ _ _ _ _ _ r.formed r.some d in
-    let t = subst (λ xs. Searches g.F.FnMut (g.H.Reads.reading c.args.how.now) xs (Some c.args.ix) c.args.asking.now (Err (place c.self.inside.height c.in-Some.root c.descend.new.path)) c.descend.new.asking) r.list s in
+    let s = Searches-from_descends g.F.FnMut (g.H.Reads.reading c.args.how.now) (Some c.args.ix) _ _ _ _ _ _ (omega arith) r.formed r.some d in
+    let t = subst (λ xs. Searches g.F.FnMut (g.H.Reads.reading c.args.how.now) xs (Some c.args.ix) c.args.asking.now (Err (place c.self.inside.height c.in-Some.root c.descend_left.new.path)) c.descend_left.new.asking) r.list s in
     record {
       goes = rw (r.root, r.height) d.goes;
       full = rw (r.root, r.height) d.full_below;

@@ -32,6 +32,7 @@ descend-requires g c =
     record {
       formed = r.formed;
       levels = r.low;
+      above = omega arith;
       path = c.new-path.ensures;
       can_search = subst (λ xs. CanSearch g.F.FnMut xs (Some c.args.ix) c.args.asking.now) (sym r.list) c.requires;
     }
@@ -51,20 +52,20 @@ returns-in-Ok-clause-stored g c is =
 pub returns-in-Ok-clause-asked : goal.returns-in-Ok-clause-asked
 returns-in-Ok-clause-asked g c =
     let r = root_of c.args.self.now _ _ _ _ _ c.in-Some.root c.self.view_is c.self.invariant c.in-Some.is in
-    let s = Searches-from_descends g.F.FnMut (g.H.Reads.reading c.args.how.now) (Some c.args.ix) _ _ _ _ _ _ r.formed r.some c.in-Ok.ensures.descends in
+    let s = Searches-from_descends g.F.FnMut (g.H.Reads.reading c.args.how.now) (Some c.args.ix) _ _ _ _ _ _ (omega arith) r.formed r.some c.in-Ok.ensures.descends in
     let t = subst (λ xs. Searches g.F.FnMut (g.H.Reads.reading c.args.how.now) xs (Some c.args.ix) c.args.asking.now (Ok (spot c.in-Ok.level c.self.inside.height c.in-Some.root c.descend.new.path)) c.descend.new.asking) r.list s in
     t.asked
 
 pub returns-in-Err-clause-asked : goal.returns-in-Err-clause-asked
 returns-in-Err-clause-asked g c =
     let r = root_of c.args.self.now _ _ _ _ _ c.in-Some.root c.self.view_is c.self.invariant c.in-Some.is in
-    let s = Searches-from_descends g.F.FnMut (g.H.Reads.reading c.args.how.now) (Some c.args.ix) _ _ _ _ _ _ r.formed r.some c.in-Err.ensures.descends in
+    let s = Searches-from_descends g.F.FnMut (g.H.Reads.reading c.args.how.now) (Some c.args.ix) _ _ _ _ _ _ (omega arith) r.formed r.some c.in-Err.ensures.descends in
     let t = subst (λ xs. Searches g.F.FnMut (g.H.Reads.reading c.args.how.now) xs (Some c.args.ix) c.args.asking.now (Err (place c.self.inside.height c.in-Some.root c.descend.new.path)) c.descend.new.asking) r.list s in
     t.asked
 
 pub returns-in-Err-clause-rising : goal.returns-in-Err-clause-rising
 returns-in-Err-clause-rising g c answer steady held =
     let r = root_of c.args.self.now _ _ _ _ _ c.in-Some.root c.self.view_is c.self.invariant c.in-Some.is in
-    let s = Searches-from_descends g.F.FnMut (g.H.Reads.reading c.args.how.now) (Some c.args.ix) _ _ _ _ _ _ r.formed r.some c.in-Err.ensures.descends in
+    let s = Searches-from_descends g.F.FnMut (g.H.Reads.reading c.args.how.now) (Some c.args.ix) _ _ _ _ _ _ (omega arith) r.formed r.some c.in-Err.ensures.descends in
     let t = subst (λ xs. Searches g.F.FnMut (g.H.Reads.reading c.args.how.now) xs (Some c.args.ix) c.args.asking.now (Err (place c.self.inside.height c.in-Some.root c.descend.new.path)) c.descend.new.asking) r.list s in
     met_where_stored _ answer t steady held

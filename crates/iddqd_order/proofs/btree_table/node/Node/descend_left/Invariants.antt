@@ -1,0 +1,21 @@
+use Rattle.std.proofs.Common.{◌≡◌, ◌<◌, ◌≤◌, ℕ, ◌+◌, ◌*◌, Result, length, slice_index}
+use Rattle.iddqd_order.specs.Descent.{Descends}
+use Rattle.iddqd_order.specs.Node.{row, flat, IsFormed}
+use Rattle.iddqd_order.specs.Search.{CanSearch}
+use Rattle.iddqd_order.proofs.btree_table.node.Node.descend_left.Given as goal
+
+abbrev pub invariant-loop-full : goal.invariant-loop-full
+invariant-loop-full g l = record {
+  formed : IsFormed l.level l.node;
+  some : 1 ≤ length (row l.node);
+  levels : l.level ≤ 11;
+  path : length l.path ≡ 12;
+  can_search : CanSearch g.F.FnMut (flat l.level l.node) l.tie l.asking;
+  above : l.level < l.full;
+  rest : (p : _) (end : Result ℕ ℕ) (new : _) → ((m : ℕ) → l.level < m → slice_index p m ≡ slice_index l.path m)
+      → Descends g.F.FnMut (g.H.Reads.reading l.how) l.tie (4 * (l.level + 1) + 1) l.full l.level l.node l.asking p end new
+      → Descends g.F.FnMut (g.H.Reads.reading l.how) l.tie (4 * (l.fn.height + 1) + 1) (l.fn.height + 1) l.fn.height l.fn.self l.fn.asking p end new;
+}
+
+abbrev pub decreases-loop-full : goal.decreases-loop-full
+decreases-loop-full g l = l.level
