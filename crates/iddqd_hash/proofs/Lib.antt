@@ -1,6 +1,7 @@
 pub mod AskLemmas
 pub mod FiledLemmas
 mod CellLemmas
+mod CopyLemmas
 mod MapHashTableLemmas
 mod OpenLaneLemmas
 mod OpenLookupLemmas
@@ -14,4 +15,5 @@ mod PermutationLemmas
 mod RenameLemmas
 mod RetainLemmas
 mod RewriteLemmas
+mod SizeLemmas
 mod UnderLemmas

@@ -1,7 +1,11 @@
 pub mod Asks
+pub mod Clones
+pub mod Entries
 pub mod HashTable
 pub mod HashTableEntry
 pub mod MapHashTable
 pub mod MapHashTableEntry
 pub mod OpenTable
 pub mod OpenTableEntry
+pub mod OpenTableSizes
+pub mod Sizes

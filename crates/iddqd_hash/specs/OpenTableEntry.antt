@@ -1,8 +1,11 @@
 -- What a contract sees of an entry of a table with open addressing.
-use Rattle.std.specs.Prelude.{ℕ, Option}
+use Rattle.std.specs.Prelude.{ℕ, Option, Result, Ok, Err}
 use Rattle.std.specs.Borrow.{GName}
 use Rattle.iddqd_hash.specs.HashTable.{Table, pair_at, value_of}
 use Rattle.iddqd_hash.specs.declared.open_table.OccupiedEntry.{OccupiedEntry}
+use Rattle.iddqd_hash.specs.declared.open_table.entry.Entry.{Entry}
+use Rattle.iddqd_hash.specs.declared.open_table.entry.Entry.TheVariants.{Occupied, Vacant}
+use Rattle.iddqd_hash.specs.declared.open_table.entry.VacantEntry.{VacantEntry}
 
 module _ {T : Type 0} where
   -- the table as the entry holds it
@@ -20,3 +23,38 @@ module _ {T : Type 0} where
   -- the value of the entry
   unfoldable pub entry_value : OccupiedEntry T → Option T
   entry_value e = value_of (entry_pair e)
+
+  -- the table as a vacant entry holds it
+  abbrev pub vacant_table : VacantEntry T → Table T
+  vacant_table e = e.table.now
+
+  -- the ghost name of its reference to the table
+  abbrev pub vacant_lender : VacantEntry T → GName
+  vacant_lender e = e.table.ghost_name
+
+  -- the hash under which it files
+  unfoldable pub vacant_hash : VacantEntry T → ℕ
+  vacant_hash e = e.hash
+
+  -- the ghost name of the reference to the table, of either entry
+  abbrev pub lender_of : Entry T → GName
+  lender_of (Occupied e) = entry_lender e
+  lender_of (Vacant e) = vacant_lender e
+
+  -- what is said of the entry of a pair
+  abbrev pub IfOccupied : {E : Type 0} → Result (Entry T) E → (OccupiedEntry T → Type 0) → Type 0
+  IfOccupied (Ok (Occupied e)) P = P e
+  IfOccupied (Ok (Vacant e)) P = Unit {0}
+  IfOccupied (Err error) P = Unit {0}
+
+  -- what is said of a vacant entry
+  abbrev pub IfVacant : {E : Type 0} → Result (Entry T) E → (VacantEntry T → Type 0) → Type 0
+  IfVacant (Ok (Occupied e)) P = Unit {0}
+  IfVacant (Ok (Vacant e)) P = P e
+  IfVacant (Err error) P = Unit {0}
+
+  -- what is said where there is no entry of a pair
+  abbrev pub UnlessOccupied : {E : Type 0} → Result (Entry T) E → Type 0 → Type 0
+  UnlessOccupied (Ok (Occupied e)) P = Unit {0}
+  UnlessOccupied (Ok (Vacant e)) P = P
+  UnlessOccupied (Err error) P = P

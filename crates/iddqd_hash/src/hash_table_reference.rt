@@ -11,6 +11,13 @@ ghost use Rattle.std.specs.Fn.{TakesAt, CalledAt, FnReturnsAt};
 ghost use Rattle.iddqd_hash.specs.Asks.{CanAsk, LooksUp, HitsPair, FindsPlace, Misses, Keeps};
 ghost use Rattle.iddqd_hash.specs.HashTable.{entries, room, pair_at, under, values, Rewrites, TakesOut, HasNoMemory, KeepsMemory, UsesRoom, Reserves};
 
+mod copies;
+mod entry;
+mod iter;
+mod sizes;
+
+pub use entry::{Entry, VacantEntry};
+pub use iter::TableIter;
 use std::alloc::{AllocError, Global};
 use std::marker::Model;
 

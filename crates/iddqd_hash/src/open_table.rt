@@ -23,8 +23,15 @@ use std::marker::Model;
 use std::{fmt, mem};
 
 mod cells;
+mod copies;
+mod entry;
+mod iter;
 mod lanes;
+mod sizes;
 mod tags;
+
+pub use entry::{Entry, VacantEntry};
+pub use iter::TableIter;
 
 /// Values under hashes, in no order that a caller can rely on.
 ///

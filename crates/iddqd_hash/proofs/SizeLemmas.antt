@@ -1,0 +1,97 @@
+-- Memory that is taken ahead and given back, of both tables.
+use Rattle.std.proofs.Common.{arith, ◌≡◌, ◌∙◌, ◌+◌, ◌-◌, ◌*◌, ◌^◌, ◌<◌, ◌≤◌, ◌/◌, inr, ℕ, zero, suc, List, [], ◌∷◌, ◌++◌, Option, Some, None, length, replicate, min, max, Result, Ok, Err, OnOk, OnErr, refl, sym, ap, subst}
+use Rattle.std.proofs.lemmas.List.{length-replicate, length-append, map_push, nil_from_length}
+use Rattle.std.proofs.lemmas.Nat.{pow-add}
+use Rattle.std.specs.Option.{option_map}
+use Rattle.iddqd_hash.specs.declared.open_table.cells.Cell.{Cell}
+use Rattle.iddqd_hash.specs.HashTable.{Table, entries, room, capacity, listed}
+use Rattle.iddqd_hash.specs.OpenTable.{limit_of, opened, pair_in, pairs, slots_of, IsPowerOfTwo, IsSound}
+use Rattle.iddqd_hash.specs.Sizes.{most_cells, kept, TakesRoom, Shrinks}
+use Rattle.iddqd_hash.proofs.CellLemmas.{entries-listed, room-listed, capacity-listed, HasNoMemory-listed}
+use Rattle.iddqd_hash.proofs.OpenSlotLemmas.{IsProbed-empty, pairs-empty, pairs-push, unused}
+use Rattle.iddqd_hash.proofs.OpenTableLemmas.{room-opened}
+
+module _ {T : Type 0} where
+  -- an empty list, in memory for so many pairs
+  pub TakesRoom-listed : {E : Type 0} (n : ℕ) (es : List (ℕ × T)) (spare held : ℕ) → spare ≡ n → held ≡ n → TakesRoom {E = E} n (Ok (listed es spare held))
+  TakesRoom-listed n es spare held roomy same =
+      record {
+        roomy = rw room-listed (omega arith);
+        succeeds = λ none. refl;
+        no_memory = λ none. HasNoMemory-listed es spare held (omega arith) (omega arith);
+      }
+
+  module _ (least : ℕ) (es now_es : List (ℕ × T)) (len now held holds : ℕ) (counted : len ≡ length es) (same : now ≡ len) (less : holds ≤ held) (enough : min (max least len) held ≤ holds) where
+    pub Shrinks-listed : {A E : Type 0} (r : Result A E) → OnOk r (holds ≤ max least len) → OnErr r (max least len < holds) → Shrinks least (listed es (held - len) held) r (listed now_es (holds - now) holds)
+    Shrinks-listed r shrunk refused =
+        record {
+          never_more = rw (capacity-listed now_es, capacity-listed es) less;
+          room_stays = rw (room-listed es, room-listed now_es, entries-listed) (omega arith);
+          shrunk = rw (capacity-listed now_es, entries-listed) (few r shrunk);
+          refused = rw (capacity-listed now_es, entries-listed) (many r refused);
+        }
+      where
+        few : {A E : Type 0} (r : Result A E) → OnOk r (holds ≤ max least len) → OnOk r (holds ≤ most_cells (max least (length es)))
+        few (Ok x) is = omega arith
+        few (Err e) is = tt
+
+        many : {A E : Type 0} (r : Result A E) → OnErr r (max least len < holds) → OnErr r (max least (length es) < holds)
+        many (Ok x) is = tt
+        many (Err e) is = omega arith
+
+  -- cells that are all empty, for so many pairs
+  pub IsSound-empty : (tags : List ℕ) (slots : List (Option (ℕ × T))) (n : ℕ) → tags ≡ replicate n 0 → slots ≡ replicate n None → IsPowerOfTwo n → IsSound tags slots 0 0
+  IsSound-empty tags slots n no_tag no_pair power =
+      rw (no_tag, no_pair)
+      (record {
+        count = rw (length-replicate {A = ℕ} n 0) (inr power);
+        probed = IsProbed-empty n;
+        counted = sym (ap length (pairs-empty n));
+        marked = sym (unused n);
+        limited = omega arith;
+      })
+
+  pub TakesRoom-opened : {E : Type 0} (n : ℕ) (slots : List (Option (ℕ × T))) → 0 < n → n ≤ limit_of (length slots) → TakesRoom {E = E} n (Ok (opened slots 0))
+  TakesRoom-opened n slots some fits =
+      record {
+        roomy = rw room-opened (omega arith);
+        succeeds = λ none. refl;
+        no_memory = λ none. absurd (omega arith);
+      }
+
+  -- a table that is as it was, and one whose pairs were placed in fewer cells
+  pub Shrinks-same : {A E : Type 0} (least : ℕ) (t : Table T) (x : A) → capacity t ≤ most_cells (kept least t) → Shrinks {E = E} least t (Ok x) t
+  Shrinks-same least t x few = record { never_more = omega arith; room_stays = omega arith; shrunk = few; refused = tt }
+
+  pub Shrinks-placed : {A E : Type 0} (least : ℕ) (old new : Table T) (r : Result A E) (count : ℕ) → kept least old ≤ limit_of count → count < capacity old → count ≤ most_cells (kept least old) → OnErr r (new ≡ old) → OnOk r (room new ≡ limit_of count - length (entries old)) → OnOk r (capacity new ≡ count) → Shrinks least old r new
+  Shrinks-placed least old new (Ok x) count fits fewer few refused roomy cells =
+      record { never_more = omega arith; room_stays = omega arith; shrunk = omega arith; refused = tt }
+  Shrinks-placed least old new (Err e) count fits fewer few refused roomy cells =
+      record {
+        never_more = subst (λ t. capacity t ≤ capacity old) (sym refused) (omega arith);
+        room_stays = subst (λ t. min (room old) (least - length (entries old)) ≤ room t) (sym refused) (omega arith);
+        shrunk = tt;
+        refused = subst (λ t. kept least old < capacity t) (sym refused) (omega arith);
+      }
+
+pub half_power : (count : ℕ) → IsPowerOfTwo count → 16 < count → IsPowerOfTwo (count / 2)
+half_power count (zero, is) more = absurd (omega arith)
+half_power count (suc k, is) more =
+    let same : suc k + 4 ≡ 1 + (k + 4) = omega arith in
+    let twice : count ≡ 2 ^ 1 * 2 ^ (k + 4) = is ∙ ap (λ n. 2 ^ n) same ∙ pow-add 2 1 (k + 4) in
+    (k, omega arith)
+
+-- cells with no pair, of which the last is let go
+module _ {T : Type 0} (cells rest : List (Cell T)) (cell : Cell T) (split : cells ≡ rest ++ cell ∷ []) (none : pairs (slots_of cells) ≡ []) where
+  parts : length (pairs (slots_of rest)) + length (pairs (pair_in cell ∷ [])) ≡ 0
+  parts =
+      sym (length-append (pairs (slots_of rest)) (pairs (pair_in cell ∷ [])))
+      ∙ ap length (sym (pairs-push (slots_of rest) (pair_in cell)) ∙ ap pairs (sym (map_push pair_in rest cell)) ∙ ap (λ xs. pairs (slots_of xs)) (sym split) ∙ none)
+
+  pub none_in_rest : pairs (slots_of rest) ≡ []
+  none_in_rest = nil_from_length (pairs (slots_of rest)) (omega (arith, parts))
+
+  pub none_in_last : (value : T) → cell.value ≡ Some value → ⊥
+  none_in_last value is =
+      let one : length (pairs (pair_in cell ∷ [])) ≡ 1 = ap (λ o. length (pairs (option_map {U = ℕ × T} (λ v. (cell.hash, v)) o ∷ []))) is in
+      absurd (omega (arith, parts, one))

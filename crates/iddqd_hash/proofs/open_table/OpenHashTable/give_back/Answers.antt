@@ -1,0 +1,21 @@
+use Rattle.std.proofs.Common.{◌≡◌, ◌∙◌, [], length, ap}
+use Rattle.iddqd_hash.specs.OpenTable.{slots_of, pairs}
+use Rattle.iddqd_hash.proofs.OpenTableLemmas.{entries-opened, HasNoMemory-opened, IsSound-none}
+use Rattle.iddqd_hash.proofs.open_table.OpenHashTable.give_back.Goals as goal
+
+pub let_go-requires : goal.let_go-requires
+let_go-requires g c = rw (← c.self.view_is, entries-opened) at c.requires
+
+pub invariant_of-self : goal.invariant_of-self
+invariant_of-self g c =
+    let none : pairs (slots_of c.self.inside.cells.items) ≡ [] = rw (← c.self.view_is, entries-opened) at c.requires in
+    let empty : c.self.inside.len ≡ 0 = c.self.invariant.counted ∙ ap length none in
+    rw empty (IsSound-none _ _ c.new.ensures.items (rw c.replace.ensures.after c.new-2.ensures.items))
+
+pub returns-clause-empty : goal.returns-clause-empty
+returns-clause-empty g c =
+    let none : c.replace.new.dest.items ≡ [] = rw c.replace.ensures.after c.new-2.ensures.items in
+    entries-opened _ _ ∙ ap (λ cells. pairs (slots_of cells)) none
+
+pub returns-clause-memory : goal.returns-clause-memory
+returns-clause-memory g c = HasNoMemory-opened _ _ (rw c.replace.ensures.after c.new-2.ensures.items)

@@ -1,0 +1,21 @@
+use Rattle.std.proofs.Common.{rules, ◌≡◌, ◌≤◌, ◌∙◌, None, length, ap, arith}
+use Rattle.std.proofs.lemmas.List.{length-replicate}
+use Rattle.iddqd_hash.specs.OpenTable.{limit_of, slots_of, pairs, IsPowerOfTwo}
+use Rattle.iddqd_hash.proofs.OpenSlotLemmas.{pairs-empty}
+use Rattle.iddqd_hash.proofs.OpenTableLemmas.{entries-opened}
+use Rattle.iddqd_hash.proofs.SizeLemmas.{IsSound-empty, TakesRoom-opened}
+use Rattle.iddqd_hash.proofs.open_table.OpenHashTable.with_capacity.Goals as goal
+
+pub invariant_of-result : goal.invariant_of-result
+invariant_of-result g c =
+    let power : IsPowerOfTwo c.in_ok-count.count = rw c.in_ok-count.ensures.ok_part at c.count_for.ensures.power in
+    IsSound-empty _ _ c.in_ok-count.count (c.in_ok-tags.ensures.items_if_clones_equal (λ y same. search rules)) c.in_ok-cells.ensures power
+
+pub returns-clause-empty : goal.returns-clause-empty
+returns-clause-empty g c = entries-opened _ _ ∙ ap pairs c.in_ok-cells.ensures ∙ pairs-empty c.in_ok-count.count
+
+pub returns-clause-memory : goal.returns-clause-memory
+returns-clause-memory g c =
+    let fits : c.args.capacity ≤ limit_of c.in_ok-count.count = rw c.in_ok-count.ensures.ok_part at c.count_for.ensures.fits in
+    let long : length (slots_of c.in_ok-cells.cells.items) ≡ c.in_ok-count.count = ap length c.in_ok-cells.ensures ∙ length-replicate c.in_ok-count.count None in
+    TakesRoom-opened c.args.capacity (slots_of c.in_ok-cells.cells.items) (omega arith) (rw long fits)

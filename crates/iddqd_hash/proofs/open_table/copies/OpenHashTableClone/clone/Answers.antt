@@ -1,0 +1,13 @@
+use Rattle.std.proofs.Common.{◌∙◌}
+use Rattle.iddqd_hash.proofs.CopyLemmas.{hashes_of_clones, Rewrites-cells}
+use Rattle.iddqd_hash.proofs.OpenTableLemmas.{entries-opened, IsSound-rewritten}
+use Rattle.iddqd_hash.proofs.open_table.copies.OpenHashTableClone.clone.Goals as goal
+
+pub invariant_of-result : goal.invariant_of-result
+invariant_of-result g c =
+    rw (c.in_ok-from_slice.ensures.items ∙ c.as_slice.ensures.value)
+    (IsSound-rewritten _ _ _ _ _ c.self.invariant (hashes_of_clones g.T.Clone.is_clone _ _ c.in_ok-clone.ensures.cases.0))
+
+pub returns : goal.returns
+returns g c =
+    record { cases = rw (← c.self.view_is, entries-opened, entries-opened) (Rewrites-cells g.T.Clone.is_clone _ _ c.in_ok-clone.ensures.cases.0) }

@@ -1,0 +1,9 @@
+-- How many cells a table with open addressing shrinks to.
+use Rattle.std.specs.Prelude.{◌<◌, ◌≤◌, ℕ}
+use Rattle.iddqd_hash.specs.OpenTable.{limit_of, IsPowerOfTwo}
+
+-- fewer cells, in which so many pairs fit
+pub record FewerCells (pairs current count : ℕ) : Type 0 where
+  pub power : IsPowerOfTwo count
+  pub fits : pairs ≤ limit_of count
+  pub fewer : count < current

@@ -1,0 +1,81 @@
+//! The place of a value in a table, or room for one that isn't there.
+ghost use Rattle.std.specs.Prelude.{◌≡◌, ◌∷◌, ◌≤◌, Some, IfOk, OnErr};
+ghost use Rattle.std.specs.List.Sorted.{IsPermutation};
+ghost use Rattle.std.specs.Fn.{TakesAt, CalledAt};
+ghost use Rattle.iddqd_hash.specs.Asks.{CanAsk, HitsPair, Misses};
+ghost use Rattle.iddqd_hash.specs.Entries.{IsVacancy};
+ghost use Rattle.iddqd_hash.specs.HashTable.{entries, room, under, UsesRoom};
+
+use super::{HashTable, OccupiedEntry};
+use std::alloc::AllocError;
+
+/// Where a value that was looked up stands, or could stand.
+#[derive(Drop)]
+pub enum Entry<'a, T> {
+    /// It stands there.
+    Occupied(OccupiedEntry<'a, T>),
+    /// It doesn't, and there is room for it.
+    Vacant(VacantEntry<'a, T>),
+}
+
+/// Room for one pair under a hash. An entry that is let go leaves the pairs as they were.
+#[derive(Drop)]
+pub struct VacantEntry<'a, T> {
+    table: &'a mut HashTable<T>,
+    hash: u64,
+    ghost roomy: { 1 ≤ room table.now },
+}
+
+impl<T> HashTable<T> {
+    ghost use Rattle.std.specs.Borrow.{RestsIfErr, sem};
+    ghost use Rattle.iddqd_hash.specs.contracts.hash_table_reference.HashTable.{the_row};
+    ghost use Rattle.iddqd_hash.specs.HashTableEntry.{entry_table, entry_pair, vacant_table, vacant_hash, lender_of, IfOccupied, IfVacant, UnlessOccupied};
+
+    /// The entry of a value under `hash` at which `eq` answers `true`, else a vacant one, which has its room.
+    ///
+    /// `eq` is asked as in `find`. An `AllocError` comes only at a miss for which there was no room; the table stays as it
+    /// was. Room is made as in `try_reserve`, and where there is some no memory is taken.
+    pub fn entry<F: FnMut(&T) -> bool>(
+        &mut self,
+        hash: u64,
+        eq: F,
+    ) -> Result<Entry<'_, T>, AllocError>
+        requires { CanAsk (TakesAt F.FnMut) (CalledAt F.FnMut) eq (under hash (entries self.old)) }
+
+        // A hit is a pair under the hash, in the table as it was, and the asks that led to it.
+        ensures found { IfOccupied result (λ e. HitsPair (CalledAt F.FnMut) eq hash (under hash (entries self.old)) (entry_pair e)) }
+        ensures same_table { IfOccupied result (λ e. entry_table e ≡ self.old) }
+
+        // Else each value under the hash was refused.
+        ensures missed { UnlessOccupied result (Misses (CalledAt F.FnMut) eq (under hash (entries self.old))) }
+        ensures vacant { IfVacant result (λ e. IsVacancy hash self.old (vacant_hash e) (vacant_table e)) }
+        ensures refused { OnErr result (room self.old ≡ 0) }
+
+        // An entry borrows the table, and without one it is as it was.
+        ensures same_reference { IfOk result (λ e. lender_of e ≡ self.entry.ghost_name) }
+        ensures* unchanged { sem 𝓛 (RestsIfErr (the_row T.row) self.entry lender_of result (λ t. t ≡ self.old)) }
+    {
+        if let Some(place) = self.place_of(hash, eq) {
+            return Ok(Entry::Occupied(OccupiedEntry { table: self, place }));
+        }
+        if let Err(error) = self.try_reserve(1) {
+            return Err(error);
+        }
+        Ok(Entry::Vacant(VacantEntry { table: self, hash }))
+    }
+}
+
+impl<'a, T> VacantEntry<'a, T> {
+    ghost use Rattle.iddqd_hash.specs.HashTableEntry.{entry_table, entry_pair, entry_lender, vacant_table, vacant_hash, vacant_lender};
+
+    /// Adds a value under the hash of the entry, and takes no memory.
+    pub fn insert(self, value: T) -> OccupiedEntry<'a, T>
+        ensures pair { entry_pair result ≡ Some (vacant_hash self.entry, value) }
+        ensures added { IsPermutation ((vacant_hash self.entry, value) ∷ entries (vacant_table self.entry)) (entries (entry_table result)) }
+        ensures memory { UsesRoom (vacant_table self.entry) (entry_table result) }
+        ensures same_reference { entry_lender result ≡ vacant_lender self.entry }
+    {
+        let hash = self.hash;
+        self.table.insert_unique(hash, value)
+    }
+}

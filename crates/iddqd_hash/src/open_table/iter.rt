@@ -1,0 +1,89 @@
+//! The walk over the values of a table with open addressing.
+ghost use Rattle.std.specs.Prelude.{◌≡◌, Some, IfSome, length};
+ghost use Rattle.std.specs.Iterator.{YieldsFirstRef, item_count, at_most, UpTo};
+ghost use Rattle.std.specs.Iterator.SizeHint.{IsWithinCount};
+ghost use Rattle.std.specs.List.Sorted.{IsPermutation};
+ghost use Rattle.iddqd_hash.specs.HashTable.{entries, values};
+
+use super::OpenHashTable;
+use super::cells::Cell;
+use std::fmt;
+use std::iter::FusedIterator;
+use std::marker::Model;
+
+/// The values of a table, each once, in no order that a caller can rely on. Once it has ended it stays ended.
+///
+/// It takes no memory.
+#[derive(Drop)]
+pub struct TableIter<'a, T> {
+    cells: &'a [Cell<T>],
+    // How many of the cells are full.
+    left: usize,
+}
+
+impl<'a, T> Model for TableIter<'a, T> {
+    ghost use Rattle.std.specs.Prelude.{◌≡◌, List, length};
+    ghost use Rattle.iddqd_hash.specs.HashTable.{values};
+    ghost use Rattle.iddqd_hash.specs.OpenTable.{pairs, slots_of};
+
+    ghost Value = { List T };
+
+    ghost view = { λ it. values (pairs (slots_of it.cells.now)) };
+
+    ghost invariant = { λ it. it.left ≡ length (pairs (slots_of it.cells.now)) };
+}
+
+impl<T> OpenHashTable<T> {
+    /// The values, each once. A whole walk costs a step a cell.
+    pub fn iter(&self) -> TableIter<'_, T>
+        ensures { IsPermutation (values (entries self.now)) result }
+    {
+        TableIter {
+            cells: self.cells.as_slice(),
+            left: self.len,
+        }
+    }
+}
+
+impl<'a, T> Iterator for TableIter<'a, T> {
+    type Item = &'a T;
+
+    ghost next_gives = { YieldsFirstRef (λ rest. rest) };
+
+    ghost remaining = { item_count (λ rest. rest) };
+
+    fn next(&mut self) -> Option<&'a T> {
+        'cells: while let Some((cell, rest)) = self.cells.split_first() {
+            self.cells = rest;
+            if let Some(value) = &cell.value {
+                self.left -= 1;
+                return Some(value);
+            }
+        }
+        None
+    }
+
+    fn size_hint(&self) -> (usize, Option<usize>)
+        ensures lower { IsWithinCount result.0 (at_most (length self.now)) }
+        ensures upper { IfSome result.1 (UpTo (at_most (length self.now))) }
+        ensures exact { result ≡ (length self.now, Some (length self.now)) }
+    {
+        (self.left, Some(self.left))
+    }
+}
+
+impl<'a, T> ExactSizeIterator for TableIter<'a, T> {
+    fn len(&self) -> usize {
+        self.left
+    }
+}
+
+impl<'a, T> FusedIterator for TableIter<'a, T> {}
+
+impl<'a, T> fmt::Debug for TableIter<'a, T> {
+    fn fmt<W: fmt::Write>(&self, f: &mut fmt::Formatter<W>) -> fmt::Result {
+        f.debug_struct("TableIter")
+            .field("remaining", &self.left)
+            .finish()
+    }
+}

@@ -1,0 +1,112 @@
+//! Memory that a table with open addressing takes ahead, and gives back.
+ghost use Rattle.std.specs.Prelude.{◌≡◌, ◌⊎◌, ◌<◌, ◌≤◌, [], IfOk, vec_len};
+ghost use Rattle.std.specs.List.Sorted.{IsPermutation};
+ghost use Rattle.iddqd_hash.specs.HashTable.{entries, HasNoMemory, Reserves};
+ghost use Rattle.iddqd_hash.specs.OpenTable.{limit_of, pairs, slots_of, IsPowerOfTwo};
+ghost use Rattle.iddqd_hash.specs.OpenTableSizes.{FewerCells};
+ghost use Rattle.iddqd_hash.specs.Sizes.{most_cells, TakesRoom, Shrinks};
+
+use super::OpenHashTable;
+use super::cells::{Cell, empty_cells};
+use super::tags::{count_for, limit_of};
+use std::alloc::{AllocError, Global};
+use std::mem;
+
+impl<T> OpenHashTable<T> {
+    /// An empty table with room for so many pairs. With 0 it takes no memory.
+    pub fn with_capacity(alloc: Global, capacity: usize) -> Result<OpenHashTable<T>, AllocError>
+        ensures empty { IfOk result (λ t. entries t ≡ []) }
+        ensures memory { TakesRoom capacity result }
+    {
+        if capacity == 0 {
+            return Ok(OpenHashTable::new(alloc));
+        }
+        let count = count_for(0, capacity).ok_or(AllocError)?;
+        let tags = vec![in alloc; 0u8; count]?;
+        let cells = empty_cells(alloc, count)?;
+        Ok(OpenHashTable {
+            tags,
+            cells,
+            len: 0,
+            used: 0,
+        })
+    }
+
+    /// The same as `try_reserve`, under the name that it has where it can't be refused.
+    pub fn reserve(&mut self, additional: usize) -> Result<(), AllocError>
+        ensures contents { IsPermutation (entries self.old) (entries self.new) }
+        ensures memory { Reserves additional self.old result self.new }
+    {
+        self.try_reserve(additional)
+    }
+
+    /// Gives back the memory that the pairs don't need.
+    ///
+    /// Where the fewer cells are refused, the table stays as it was.
+    pub fn shrink_to_fit(&mut self) -> Result<(), AllocError>
+        ensures contents { IsPermutation (entries self.old) (entries self.new) }
+        ensures memory { Shrinks 0 self.old result self.new }
+    {
+        self.shrink_to(0)
+    }
+
+    /// Gives back the memory that so many pairs don't need, or those that there are where these are more.
+    ///
+    /// Every pair is placed anew in fewer cells. Where these are refused, the table stays as it was.
+    pub fn shrink_to(&mut self, least: usize) -> Result<(), AllocError>
+        ensures contents { IsPermutation (entries self.old) (entries self.new) }
+        ensures memory { Shrinks least self.old result self.new }
+    {
+        let needed = least.max(self.len);
+        if needed == 0 {
+            self.give_back();
+            return Ok(());
+        }
+        let count = fewer_cells(self.tags.len(), needed);
+        if count == self.tags.len() {
+            return Ok(());
+        }
+        self.place_anew(count)
+    }
+
+    // Gives back the memory of a table with no pair.
+    fn give_back(&mut self)
+        requires { entries self.old ≡ [] }
+        ensures empty { entries self.new ≡ [] }
+        ensures memory { HasNoMemory self.new }
+    {
+        let alloc = *self.cells.allocator();
+        self.tags = Vec::new(alloc);
+        let_go(&mut self.cells);
+        mem::replace(&mut self.cells, Vec::new(alloc)).destroy_empty();
+        self.used = 0;
+    }
+}
+
+// Lets go of cells with no pair.
+fn let_go<T>(cells: &mut Vec<Cell<T>>)
+    requires { pairs (slots_of cells.old.items) ≡ [] }
+    ensures { vec_len cells.new ≡ 0 }
+{
+    'letting_go: while let Some(cell) = cells.pop() {
+        let Cell { hash: _, value } = cell;
+        match value {
+            None => {}
+            Some(_) => unreachable!(),
+        }
+    }
+}
+
+// The number of cells, halved as long as so many pairs fit.
+fn fewer_cells(current: usize, needed: usize) -> usize
+    requires count { (current ≡ 0) ⊎ IsPowerOfTwo current }
+    requires some { 0 < needed }
+    ensures halved { (result ≡ current) ⊎ FewerCells needed current result }
+    ensures few { result ≤ most_cells needed }
+{
+    let mut count = current;
+    while count > 16 && needed <= limit_of(count / 2) {
+        count /= 2;
+    }
+    count
+}
