@@ -2,6 +2,7 @@ pub mod AskLemmas
 pub mod FiledLemmas
 mod CellLemmas
 mod CopyLemmas
+mod IndexLemmas
 mod MapHashTableLemmas
 mod OpenLaneLemmas
 mod OpenLookupLemmas

@@ -53,7 +53,7 @@ turned_under h (e ∷ es) =
       | false ↦ turned_under h es
     ]
 
-turned_keys : (es : List (ℕ × ℕ)) → map (λ (e : ℕ × ℕ). e.0) (map turned es) ≡ values es
+pub turned_keys : (es : List (ℕ × ℕ)) → map (λ (e : ℕ × ℕ). e.0) (map turned es) ≡ values es
 turned_keys [] = refl
 turned_keys (e ∷ es) = ap (λ xs. e.1 ∷ xs) (turned_keys es)
 

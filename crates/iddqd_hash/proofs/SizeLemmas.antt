@@ -4,10 +4,10 @@ use Rattle.std.proofs.lemmas.List.{length-replicate, length-append, map_push, ni
 use Rattle.std.proofs.lemmas.Nat.{pow-add}
 use Rattle.std.specs.Option.{option_map}
 use Rattle.iddqd_hash.specs.declared.open_table.cells.Cell.{Cell}
-use Rattle.iddqd_hash.specs.HashTable.{Table, entries, room, capacity, listed}
+use Rattle.iddqd_hash.specs.HashTable.{Table, room, capacity, listed}
 use Rattle.iddqd_hash.specs.OpenTable.{limit_of, opened, pair_in, pairs, slots_of, IsPowerOfTwo, IsSound}
-use Rattle.iddqd_hash.specs.Sizes.{most_cells, kept, TakesRoom, Shrinks}
-use Rattle.iddqd_hash.proofs.CellLemmas.{entries-listed, room-listed, capacity-listed, HasNoMemory-listed}
+use Rattle.iddqd_hash.specs.Sizes.{most_cells, TakesRoom, Shrinks}
+use Rattle.iddqd_hash.proofs.CellLemmas.{room-listed, capacity-listed, HasNoMemory-listed}
 use Rattle.iddqd_hash.proofs.OpenSlotLemmas.{IsProbed-empty, pairs-empty, pairs-push, unused}
 use Rattle.iddqd_hash.proofs.OpenTableLemmas.{room-opened}
 
@@ -21,23 +21,19 @@ module _ {T : Type 0} where
         no_memory = λ none. HasNoMemory-listed es spare held (omega arith) (omega arith);
       }
 
-  module _ (least : ℕ) (es now_es : List (ℕ × T)) (len now held holds : ℕ) (counted : len ≡ length es) (same : now ≡ len) (less : holds ≤ held) (enough : min (max least len) held ≤ holds) where
-    pub Shrinks-listed : {A E : Type 0} (r : Result A E) → OnOk r (holds ≤ max least len) → OnErr r (max least len < holds) → Shrinks least (listed es (held - len) held) r (listed now_es (holds - now) holds)
+  module _ (least len : ℕ) (es now_es : List (ℕ × T)) (counted now held holds : ℕ) (was : counted ≡ len) (same : now ≡ counted) (less : holds ≤ held) (enough : min (max least len) held ≤ holds) where
+    pub Shrinks-listed : {A E : Type 0} (r : Result A E) → OnOk r (holds ≤ max least len) → OnErr r (max least len < holds) → Shrinks least len (listed es (held - counted) held) r (listed now_es (holds - now) holds)
     Shrinks-listed r shrunk refused =
         record {
           never_more = rw (capacity-listed now_es, capacity-listed es) less;
-          room_stays = rw (room-listed es, room-listed now_es, entries-listed) (omega arith);
-          shrunk = rw (capacity-listed now_es, entries-listed) (few r shrunk);
-          refused = rw (capacity-listed now_es, entries-listed) (many r refused);
+          room_stays = rw (room-listed es, room-listed now_es) (omega arith);
+          shrunk = rw (capacity-listed now_es) (few r shrunk);
+          refused = rw (capacity-listed now_es) refused;
         }
       where
-        few : {A E : Type 0} (r : Result A E) → OnOk r (holds ≤ max least len) → OnOk r (holds ≤ most_cells (max least (length es)))
+        few : {A E : Type 0} (r : Result A E) → OnOk r (holds ≤ max least len) → OnOk r (holds ≤ most_cells (max least len))
         few (Ok x) is = omega arith
         few (Err e) is = tt
-
-        many : {A E : Type 0} (r : Result A E) → OnErr r (max least len < holds) → OnErr r (max least (length es) < holds)
-        many (Ok x) is = tt
-        many (Err e) is = omega arith
 
   -- cells that are all empty, for so many pairs
   pub IsSound-empty : (tags : List ℕ) (slots : List (Option (ℕ × T))) (n : ℕ) → tags ≡ replicate n 0 → slots ≡ replicate n None → IsPowerOfTwo n → IsSound tags slots 0 0
@@ -60,18 +56,18 @@ module _ {T : Type 0} where
       }
 
   -- a table that is as it was, and one whose pairs were placed in fewer cells
-  pub Shrinks-same : {A E : Type 0} (least : ℕ) (t : Table T) (x : A) → capacity t ≤ most_cells (kept least t) → Shrinks {E = E} least t (Ok x) t
-  Shrinks-same least t x few = record { never_more = omega arith; room_stays = omega arith; shrunk = few; refused = tt }
+  pub Shrinks-same : {A E : Type 0} (least len : ℕ) (t : Table T) (x : A) → capacity t ≤ most_cells (max least len) → Shrinks {E = E} least len t (Ok x) t
+  Shrinks-same least len t x few = record { never_more = omega arith; room_stays = omega arith; shrunk = few; refused = tt }
 
-  pub Shrinks-placed : {A E : Type 0} (least : ℕ) (old new : Table T) (r : Result A E) (count : ℕ) → kept least old ≤ limit_of count → count < capacity old → count ≤ most_cells (kept least old) → OnErr r (new ≡ old) → OnOk r (room new ≡ limit_of count - length (entries old)) → OnOk r (capacity new ≡ count) → Shrinks least old r new
-  Shrinks-placed least old new (Ok x) count fits fewer few refused roomy cells =
+  pub Shrinks-placed : {A E : Type 0} (least len : ℕ) (old new : Table T) (r : Result A E) (count : ℕ) → max least len ≤ limit_of count → count < capacity old → count ≤ most_cells (max least len) → OnErr r (new ≡ old) → OnOk r (room new ≡ limit_of count - len) → OnOk r (capacity new ≡ count) → Shrinks least len old r new
+  Shrinks-placed least len old new (Ok x) count fits fewer few refused roomy cells =
       record { never_more = omega arith; room_stays = omega arith; shrunk = omega arith; refused = tt }
-  Shrinks-placed least old new (Err e) count fits fewer few refused roomy cells =
+  Shrinks-placed least len old new (Err e) count fits fewer few refused roomy cells =
       record {
         never_more = subst (λ t. capacity t ≤ capacity old) (sym refused) (omega arith);
-        room_stays = subst (λ t. min (room old) (least - length (entries old)) ≤ room t) (sym refused) (omega arith);
+        room_stays = subst (λ t. min (room old) (least - len) ≤ room t) (sym refused) (omega arith);
         shrunk = tt;
-        refused = subst (λ t. kept least old < capacity t) (sym refused) (omega arith);
+        refused = subst (λ t. max least len < capacity t) (sym refused) (omega arith);
       }
 
 pub half_power : (count : ℕ) → IsPowerOfTwo count → 16 < count → IsPowerOfTwo (count / 2)

@@ -1,14 +1,11 @@
 -- What an entry without a pair says of its table.
 use Rattle.std.specs.Prelude.{◌≡◌, ◌≤◌, ℕ}
-use Rattle.std.specs.List.Sorted.{IsPermutation}
-use Rattle.iddqd_hash.specs.HashTable.{Table, entries, room, capacity}
+use Rattle.iddqd_hash.specs.HashTable.{Table, room, capacity}
 
 module _ {T : Type 0} where
-  -- A vacant entry under this hash, in this table: the pairs are those that there were. Where there was room, the table is
-  -- as it was; else room was made.
+  -- a vacant entry under this hash, in this table: where there was room, the table is as it was; else room was made
   pub record IsVacancy (hash : ℕ) (old : Table T) (under : ℕ) (new : Table T) : Type 0 where
     pub same_hash : under ≡ hash
-    pub contents : IsPermutation (entries old) (entries new)
     pub roomy : 1 ≤ room new
     pub had_room : 1 ≤ room old → new ≡ old
     pub room_stays : room old ≤ room new

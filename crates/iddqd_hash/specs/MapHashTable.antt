@@ -27,6 +27,14 @@ IsDistinctlyFiled es = IsDistinct (eq_by_cmp nat_cmp) (values es)
 abbrev pub indexes_under : ℕ → FinMap nat_cmp ℕ → List ℕ
 indexes_under hash m = map (λ e. e.0) (filter (λ e. e.1 == hash) (finite.entries m))
 
+-- the indexes that are filed
+abbrev pub indexes_of : FinMap nat_cmp ℕ → List ℕ
+indexes_of m = map (λ e. e.0) (finite.entries m)
+
+-- the hash and the index of each that is filed
+abbrev pub pairs_of : FinMap nat_cmp ℕ → List (ℕ × ℕ)
+pairs_of m = map turned (finite.entries m)
+
 -- An ask of a look-up by a query: the lookup gives a key for the index, and the answer is whether the query is
 -- equivalent to it. Neither changes, so there is one state.
 pub record AsksKey {F Q K : Type 0} (g : Shared F (ℕ × Unit {0}) K) (equivalent : Q → K → Bool) (lookup : F) (query : Q) (before : Unit {0}) (ix : ℕ) (answer : Bool) (after : Unit {0}) : Type 0 where

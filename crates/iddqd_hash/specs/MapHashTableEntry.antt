@@ -1,8 +1,11 @@
 -- What a contract sees of an entry of a table of indexes.
-use Rattle.std.specs.Prelude.{ℕ, Option}
+use Rattle.std.specs.Prelude.{ℕ, Option, Result, Ok, Err}
 use Rattle.std.specs.Borrow.{GName}
 use Rattle.iddqd_hash.specs.HashTable.{Table, pair_at, value_of}
 use Rattle.iddqd_hash.specs.declared.hash_table.OccupiedEntry.{OccupiedEntry}
+use Rattle.iddqd_hash.specs.declared.hash_table.entry.Entry.{Entry}
+use Rattle.iddqd_hash.specs.declared.hash_table.entry.Entry.TheVariants.{Occupied, Vacant}
+use Rattle.iddqd_hash.specs.declared.hash_table.entry.VacantEntry.{VacantEntry}
 
 -- the table as the entry holds it
 abbrev pub entry_table : OccupiedEntry → Table ℕ
@@ -19,3 +22,38 @@ entry_pair e = pair_at e.table.now e.place
 -- the index of the entry
 unfoldable pub entry_index : OccupiedEntry → Option ℕ
 entry_index e = value_of (entry_pair e)
+
+-- the table as a vacant entry holds it
+abbrev pub vacant_table : VacantEntry → Table ℕ
+vacant_table e = e.table.now
+
+-- the ghost name of its reference to the table
+abbrev pub vacant_lender : VacantEntry → GName
+vacant_lender e = e.table.ghost_name
+
+-- the hash under which it files
+unfoldable pub vacant_hash : VacantEntry → ℕ
+vacant_hash e = e.hash
+
+-- the ghost name of the reference to the table, of either entry
+abbrev pub lender_of : Entry → GName
+lender_of (Occupied e) = entry_lender e
+lender_of (Vacant e) = vacant_lender e
+
+-- what is said of the entry of an index
+abbrev pub IfOccupied : {E : Type 0} → Result Entry E → (OccupiedEntry → Type 0) → Type 0
+IfOccupied (Ok (Occupied e)) P = P e
+IfOccupied (Ok (Vacant e)) P = Unit {0}
+IfOccupied (Err error) P = Unit {0}
+
+-- what is said of a vacant entry
+abbrev pub IfVacant : {E : Type 0} → Result Entry E → (VacantEntry → Type 0) → Type 0
+IfVacant (Ok (Occupied e)) P = Unit {0}
+IfVacant (Ok (Vacant e)) P = P e
+IfVacant (Err error) P = Unit {0}
+
+-- what is said where there is no entry of an index
+abbrev pub UnlessOccupied : {E : Type 0} → Result Entry E → Type 0 → Type 0
+UnlessOccupied (Ok (Occupied e)) P = Unit {0}
+UnlessOccupied (Ok (Vacant e)) P = P
+UnlessOccupied (Err error) P = P

@@ -16,10 +16,17 @@ ghost use Rattle.iddqd_hash.specs.Asks.{CanAsk, LooksUp, HitsPair, Misses};
 ghost use Rattle.iddqd_hash.specs.HashTable.{room, pair_at, HasNoMemory, KeepsMemory, UsesRoom, Reserves};
 ghost use Rattle.iddqd_hash.specs.MapHashTable.{filed, indexes_under, AsksKey, Renames, Unfiles};
 
+mod copies;
+mod entry;
+mod indexes;
+mod sizes;
+
 use crate::open_table::OpenHashTable;
+pub use entry::{Entry, VacantEntry};
 use iddqd::index_remap::IndexRemap;
 use iddqd::item_index::ItemIndex;
 use iddqd::map_hash::{Equivalent, MapHash};
+pub use indexes::Indexes;
 use std::alloc::{AllocError, Global};
 use std::hash::{BuildHasher, Hash};
 use std::marker::Model;

@@ -46,9 +46,10 @@ impl<T> HashTable<T> {
         ensures found { IfOccupied result (λ e. HitsPair (CalledAt F.FnMut) eq hash (under hash (entries self.old)) (entry_pair e)) }
         ensures same_table { IfOccupied result (λ e. entry_table e ≡ self.old) }
 
-        // Else each value under the hash was refused.
+        // Else each value under the hash was refused, and the pairs stay.
         ensures missed { UnlessOccupied result (Misses (CalledAt F.FnMut) eq (under hash (entries self.old))) }
         ensures vacant { IfVacant result (λ e. IsVacancy hash self.old (vacant_hash e) (vacant_table e)) }
+        ensures contents { IfVacant result (λ e. IsPermutation (entries self.old) (entries (vacant_table e))) }
         ensures refused { OnErr result (room self.old ≡ 0) }
 
         // An entry borrows the table, and without one it is as it was.

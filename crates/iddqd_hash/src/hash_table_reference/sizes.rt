@@ -1,5 +1,5 @@
 //! Memory that a linear table takes ahead, and gives back.
-ghost use Rattle.std.specs.Prelude.{◌≡◌, [], IfOk};
+ghost use Rattle.std.specs.Prelude.{◌≡◌, [], length, IfOk};
 ghost use Rattle.std.specs.List.Sorted.{IsPermutation};
 ghost use Rattle.iddqd_hash.specs.HashTable.{entries, Reserves};
 ghost use Rattle.iddqd_hash.specs.Sizes.{TakesRoom, Shrinks};
@@ -31,7 +31,7 @@ impl<T> HashTable<T> {
     /// Where the smaller block is refused, the pairs stay where they are.
     pub fn shrink_to_fit(&mut self) -> Result<(), AllocError>
         ensures contents { IsPermutation (entries self.old) (entries self.new) }
-        ensures memory { Shrinks 0 self.old result self.new }
+        ensures memory { Shrinks 0 (length (entries self.old)) self.old result self.new }
     {
         self.shrink_to(0)
     }
@@ -41,7 +41,7 @@ impl<T> HashTable<T> {
     /// Where the smaller block is refused, the pairs stay where they are.
     pub fn shrink_to(&mut self, least: usize) -> Result<(), AllocError>
         ensures contents { IsPermutation (entries self.old) (entries self.new) }
-        ensures memory { Shrinks least self.old result self.new }
+        ensures memory { Shrinks least (length (entries self.old)) self.old result self.new }
     {
         let wanted = least.max(self.pairs.len());
         self.pairs.shrink_to(wanted);

@@ -1,5 +1,5 @@
 //! Memory that a table with open addressing takes ahead, and gives back.
-ghost use Rattle.std.specs.Prelude.{◌≡◌, ◌⊎◌, ◌<◌, ◌≤◌, [], IfOk, vec_len};
+ghost use Rattle.std.specs.Prelude.{◌≡◌, ◌⊎◌, ◌<◌, ◌≤◌, [], length, IfOk, vec_len};
 ghost use Rattle.std.specs.List.Sorted.{IsPermutation};
 ghost use Rattle.iddqd_hash.specs.HashTable.{entries, HasNoMemory, Reserves};
 ghost use Rattle.iddqd_hash.specs.OpenTable.{limit_of, pairs, slots_of, IsPowerOfTwo};
@@ -45,7 +45,7 @@ impl<T> OpenHashTable<T> {
     /// Where the fewer cells are refused, the table stays as it was.
     pub fn shrink_to_fit(&mut self) -> Result<(), AllocError>
         ensures contents { IsPermutation (entries self.old) (entries self.new) }
-        ensures memory { Shrinks 0 self.old result self.new }
+        ensures memory { Shrinks 0 (length (entries self.old)) self.old result self.new }
     {
         self.shrink_to(0)
     }
@@ -55,7 +55,7 @@ impl<T> OpenHashTable<T> {
     /// Every pair is placed anew in fewer cells. Where these are refused, the table stays as it was.
     pub fn shrink_to(&mut self, least: usize) -> Result<(), AllocError>
         ensures contents { IsPermutation (entries self.old) (entries self.new) }
-        ensures memory { Shrinks least self.old result self.new }
+        ensures memory { Shrinks least (length (entries self.old)) self.old result self.new }
     {
         let needed = least.max(self.len);
         if needed == 0 {

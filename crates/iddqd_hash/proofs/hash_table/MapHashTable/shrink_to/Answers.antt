@@ -1,0 +1,19 @@
+use Rattle.std.proofs.Common.{◌≡◌, length, sym}
+use Rattle.std.specs.FinMap as finite
+use Rattle.iddqd_hash.specs.HashTable.{entries}
+use Rattle.iddqd_hash.specs.MapHashTable.{filed, filed_from}
+use Rattle.iddqd_hash.proofs.MapHashTableLemmas.{distinct_moved, filed_moved, len_filed}
+use Rattle.iddqd_hash.proofs.hash_table.MapHashTable.shrink_to.Goals as goal
+
+pub invariant_of-self : goal.invariant_of-self
+invariant_of-self c = distinct_moved _ _ c.shrink_to.ensures.contents c.self.invariant
+
+pub returns-clause-contents : goal.returns-clause-contents
+unfolding filed
+returns-clause-contents c = rw (← c.self.view_is) (sym (filed_moved _ _ c.shrink_to.ensures.contents c.self.invariant))
+
+pub returns-clause-memory : goal.returns-clause-memory
+unfolding filed
+returns-clause-memory c =
+    let long : length (entries c.self.inside.table) ≡ finite.len (filed_from (entries c.self.inside.table)) = len_filed _ c.self.invariant in
+    rw (← c.self.view_is, ← long) c.shrink_to.ensures.memory

@@ -1,0 +1,110 @@
+//! The place of an index in a table, or room for one that isn't there.
+ghost use Rattle.std.specs.Prelude.{◌≡◌, ◌≤◌, ℕ, Contains, None, IfOk, OnErr};
+ghost use Rattle.std.specs.FinMap as finite;
+ghost use Rattle.iddqd.specs.MapHash.{hash_one};
+ghost use Rattle.iddqd_hash.specs.Asks.{HitsPair, FindsPlace, Misses};
+ghost use Rattle.iddqd_hash.specs.Entries.{IsVacancy};
+ghost use Rattle.iddqd_hash.specs.HashTable.{pair_at, room, UsesRoom};
+ghost use Rattle.iddqd_hash.specs.MapHashTable.{filed, indexes_under, AsksKey};
+
+use super::{MapHashTable, OccupiedEntry};
+use iddqd::item_index::ItemIndex;
+use iddqd::map_hash::MapHash;
+use std::alloc::AllocError;
+use std::hash::{BuildHasher, Hash};
+
+/// Where an index that was looked up stands, or could stand.
+#[derive(Drop)]
+pub enum Entry<'a> {
+    /// It stands there.
+    Occupied(OccupiedEntry<'a>),
+    /// It doesn't, and there is room for it.
+    Vacant(VacantEntry<'a>),
+}
+
+/// Room for one index under a hash. An entry that is let go leaves the indexes as they were.
+#[derive(Drop)]
+pub struct VacantEntry<'a> {
+    table: &'a mut MapHashTable,
+    hash: u64,
+    ghost roomy: { 1 ≤ room table.now },
+}
+
+impl MapHashTable {
+    ghost use Rattle.std.specs.Borrow.{RestsIfErr, sem};
+    ghost use Rattle.iddqd_hash.specs.contracts.hash_table.MapHashTable.{the_row};
+    ghost use Rattle.iddqd_hash.specs.MapHashTableEntry.{entry_table, entry_pair, vacant_table, vacant_hash, lender_of, IfOccupied, IfVacant, UnlessOccupied};
+
+    /// The entry of an index under the key's hash whose key equals it, else a vacant one, which has its room.
+    ///
+    /// `lookup` is called as in `find_index_prehashed`. An `AllocError` comes only at a miss for which there was no room; the
+    /// table stays as it was. Where there is room no memory is taken. The key is let go when the call ends.
+    pub fn entry<S: BuildHasher, K: Hash + Eq + Drop, F: Fn(ItemIndex) -> K>(
+        &mut self,
+        state: &S,
+        key: K,
+        lookup: F,
+    ) -> Result<Entry<'_>, AllocError>
+        requires { let hash = hash_one S.BuildHasher S.Hasher.Hasher state.now (K.hash_input key) in
+            (ix : ℕ) → Contains (indexes_under hash (filed self.old)) ix → F.pre lookup ix }
+
+        // A hit is an index under the hash, in the table as it was, and the asks that led to it.
+        ensures found { let hash = hash_one S.BuildHasher S.Hasher.Hasher state.now (K.hash_input key) in
+            IfOccupied result (λ e. HitsPair (AsksKey F.Fn (λ k other. K.eq other k) lookup key) tt hash (indexes_under hash (filed self.old)) (entry_pair e)) }
+        ensures same_table { IfOccupied result (λ e. entry_table e ≡ self.old) }
+
+        // Else each key of an index under the hash differed, and the indexes stay.
+        ensures missed { let hash = hash_one S.BuildHasher S.Hasher.Hasher state.now (K.hash_input key) in
+            UnlessOccupied result (Misses (AsksKey F.Fn (λ k other. K.eq other k) lookup key) tt (indexes_under hash (filed self.old))) }
+        ensures vacant { let hash = hash_one S.BuildHasher S.Hasher.Hasher state.now (K.hash_input key) in
+            IfVacant result (λ e. IsVacancy hash self.old (vacant_hash e) (vacant_table e)) }
+        ensures contents { IfVacant result (λ e. filed (vacant_table e) ≡ filed self.old) }
+        ensures refused { OnErr result (room self.old ≡ 0) }
+
+        // An entry borrows the table, and without one it is as it was.
+        ensures same_reference { IfOk result (λ e. lender_of e ≡ self.entry.ghost_name) }
+        ensures* unchanged { sem 𝓛 (RestsIfErr the_row self.entry lender_of result (λ t. t ≡ self.old)) }
+    {
+        let hash = state.hash_one(&key);
+        if let Some(place) = self.place_of_key(hash, &key, lookup) {
+            return Ok(Entry::Occupied(OccupiedEntry { table: self, place }));
+        }
+        if let Err(error) = self.try_reserve(1) {
+            return Err(error);
+        }
+        Ok(Entry::Vacant(VacantEntry { table: self, hash }))
+    }
+
+    // The cell of the index that a look-up by a key hits.
+    fn place_of_key<K: Eq + Drop, F: Fn(ItemIndex) -> K>(
+        &self,
+        hash: u64,
+        key: &K,
+        lookup: F,
+    ) -> Option<usize>
+        requires { (ix : ℕ) → Contains (indexes_under hash (filed self.now)) ix → F.pre lookup ix }
+        ensures { FindsPlace (AsksKey F.Fn (λ k other. K.eq other k) lookup key.now) tt hash (indexes_under hash (filed self.now)) (pair_at self.now) result }
+    {
+        self.table.place_of(
+            hash,
+            |ix: &ItemIndex| -> bool
+                requires { F.pre lookup ix.now }
+                ensures { (k : K) × F.post lookup ix.now k × (result ≡ K.eq k key.entry.now) }
+            { lookup(*ix) == *key },
+        )
+    }
+}
+
+impl<'a> VacantEntry<'a> {
+    ghost use Rattle.iddqd_hash.specs.MapHashTableEntry.{vacant_table, vacant_hash};
+
+    /// Adds an index under the hash of the entry, and takes no memory.
+    pub fn insert(self, ix: ItemIndex)
+        requires { finite.get (filed (vacant_table self)) ix ≡ None }
+        ensures added { filed self.exit.0.now ≡ finite.insert (filed (vacant_table self.entry)) ix (vacant_hash self.entry) }
+        ensures memory { UsesRoom (vacant_table self.entry) self.exit.0.now }
+    {
+        let hash = MapHash::new(self.hash);
+        self.table.insert_prehashed_unchecked(hash, ix);
+    }
+}
