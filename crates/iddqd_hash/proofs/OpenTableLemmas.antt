@@ -1,7 +1,7 @@
 -- What is read of a table with open addressing, and what it keeps.
 use lib.Dec.{eqb}
 use mir.Val.{bool_byte}
-use Rattle.std.proofs.Common.{not, inl, inr, ◌⊎◌, Bool, true, false, cond, ◌≡◌, ◌∙◌, ℕ, zero, suc, ◌+◌, ◌-◌, ◌^◌, ◌<◌, ◌≤◌, List, [], ◌∷◌, Option, Some, None, Result, Ok, Err, OnOk, OnErr, length, replicate, set, get_or, slice_get, slice_index, count_by, refl, sym, ap, subst, arith}
+use Rattle.std.proofs.Common.{not, inl, inr, ◌⊎◌, Bool, true, false, cond, ◌≡◌, ◌∙◌, ℕ, zero, suc, ◌+◌, ◌-◌, ◌^◌, ◌<◌, ◌≤◌, List, [], ◌∷◌, Option, Some, None, IfSome, Result, Ok, Err, OnOk, OnErr, length, replicate, set, get_or, slice_get, slice_index, count_by, refl, sym, ap, subst, arith}
 use Rattle.std.proofs.lemmas.List.{length-set, length-map, length-replicate, nil_from_length, get_or_default, get_or-map}
 use Rattle.std.proofs.lemmas.List.Sorted.{IsPermutation-refl}
 use Rattle.std.proofs.lemmas.Nat.{pow_pos}
@@ -61,6 +61,11 @@ HasNoMemory-opened cells used none =
 pub FindsPlace-opened : {F T : Type 0} (ask : F → T → Bool → F → Type 0) (f : F) (hash : ℕ) (xs : List T) (slots : List (Option (ℕ × T))) (used : ℕ) (r : Option ℕ) → FindsPlace ask f hash xs (slot_at slots) r → FindsPlace ask f hash xs (pair_at (opened slots used)) r
 FindsPlace-opened ask f hash xs slots used None finds = finds
 FindsPlace-opened ask f hash xs slots used (Some place) finds = subst (λ o. HitsPair ask f hash xs o) (sym (pair_at-opened slots used place)) finds
+
+-- what is said of the pair that it hit, if it hit one
+pub IfSome-opened : {T V : Type 0} (value : V → T) (hash : ℕ) (slots : List (Option (ℕ × T))) (used : ℕ) (r : Option (ℕ × V)) → IfSome r (λ found. slot_at slots found.0 ≡ Some (hash, value found.1)) → IfSome r (λ found. pair_at (opened slots used) found.0 ≡ Some (hash, value found.1))
+IfSome-opened value hash slots used None is = tt
+IfSome-opened value hash slots used (Some found) is = pair_at-opened slots used found.0 ∙ is
 
 -- a look-up where there is no cell
 pub Misses-nothing : {F T : Type 0} (ask : F → T → Bool → F → Type 0) (f : F) (hash : ℕ) (slots : List (Option (ℕ × T))) → length slots ≡ 0 → Misses ask f (under hash (pairs slots))

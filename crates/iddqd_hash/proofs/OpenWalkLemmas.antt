@@ -1,5 +1,5 @@
 -- Walks by steps of one round a list of tags, the first place after the last.
-use Rattle.std.proofs.Common.{◌≡◌, ◌∙◌, ℕ, ◌+◌, ◌-◌, ◌*◌, ◌/◌, ◌%◌, ◌<◌, ◌≤◌, List, length, slice_index, true, false, ltb, ltb-true, ltb-false, refl, sym, ap, subst, arith, add_assoc, add-zero}
+use Rattle.std.proofs.Common.{◌≡◌, ◌∙◌, ℕ, ◌+◌, ◌-◌, ◌*◌, ◌/◌, ◌%◌, ◌<◌, ◌≤◌, List, Option, Some, None, length, slice_index, true, false, ltb, ltb-true, ltb-false, refl, sym, ap, subst, arith, add_assoc, add-zero}
 use Rattle.std.proofs.Math.Nat.{mod-add-mod, add-mod-mod, mod-eq_of_lt, mod-lt, mul-add-mod_self_left, div-add-mod}
 use borrow.Author.Count.{below_more}
 use Rattle.iddqd_hash.specs.OpenTable.{HasEmpty, Passed, IsReached}
@@ -121,3 +121,12 @@ module _ (tags : List ℕ) (from a b : ℕ) (walk : IsReached tags from a) (furt
       let then : steps_to n from b ≡ walk.steps + further.steps =
       subst (λ x. steps_to n from x ≡ walk.steps + further.steps) (moved_on further.steps ∙ further.is_there) (steps_to-walked n from (walk.steps + further.steps) within) in
       omega arith
+
+-- how many places a walk that looks for a hash has before it, where it stands at what it found, or found none
+abbrev pub found_left : ℕ → ℕ → Option ℕ → ℕ
+found_left n from None = 0
+found_left n from (Some place) = places_left n from place + 1
+
+pub found_left-next : (n from place : ℕ) (r : Option ℕ) → ((next : ℕ) → r ≡ Some next → places_left n from next < places_left n from place) → found_left n from r < found_left n from (Some place)
+found_left-next n from place None less = omega arith
+found_left-next n from place (Some next) less = let here : places_left n from next < places_left n from place = less next refl in omega arith

@@ -8,6 +8,7 @@
 ghost use Rattle.std.specs.Prelude.{◌≡◌, ◌∷◌, ◌≤◌, ◌<◌, ◌-◌, ◌⊎◌, [], Some, IsSome, length, option_copied, IfOk, IfSome, OnOk, OnErr, vec_len};
 ghost use Rattle.std.specs.List.Sorted.{IsPermutation};
 ghost use Rattle.std.specs.List.{Contains};
+ghost use Rattle.std.specs.Option.{option_map};
 ghost use Rattle.std.specs.Fn.{TakesAt, CalledAt, FnReturnsAt};
 ghost use Rattle.iddqd_hash.specs.Asks.{CanAsk, LooksUp, HitsPair, FindsPlace, Misses, Keeps};
 ghost use Rattle.iddqd_hash.specs.HashTable.{entries, room, capacity, pair_at, under, values, Rewrites, TakesOut, HasNoMemory, KeepsMemory, UsesRoom, Reserves};
@@ -111,9 +112,7 @@ impl<T> OpenHashTable<T> {
         if additional <= self.room() {
             return Ok(());
         }
-        let needed = self.len.checked_add(additional).ok_or(AllocError)?;
-        let count = count_for(self.tags.len(), needed).ok_or(AllocError)?;
-        self.place_anew(count)
+        self.grow(additional)
     }
 
     /// A value under `hash` at which `eq` answers `true`.
@@ -124,8 +123,7 @@ impl<T> OpenHashTable<T> {
         requires { CanAsk (TakesAt F.FnMut) (CalledAt F.FnMut) eq (under hash (entries self.now)) }
         ensures { LooksUp (CalledAt F.FnMut) eq (under hash (entries self.now)) (option_copied result) }
     {
-        let place = self.place_of(hash, eq)?;
-        Some(self.pair_at(place).1)
+        Some(self.seek(hash, eq)?.1)
     }
 
     /// The entry of a value under `hash` at which `eq` answers `true`, else `Err(())`.
@@ -211,6 +209,15 @@ impl<T> OpenHashTable<T> {
         requires { CanAsk (TakesAt F.FnMut) (CalledAt F.FnMut) eq (under hash (entries self.now)) }
         ensures { FindsPlace (CalledAt F.FnMut) eq hash (under hash (entries self.now)) (pair_at self.now) result }
     {
+        Some(self.seek(hash, eq)?.0)
+    }
+
+    // The cell and the value of the pair that a look-up hits.
+    fn seek<F: FnMut(&T) -> bool>(&self, hash: u64, eq: F) -> Option<(usize, &T)>
+        requires { CanAsk (TakesAt F.FnMut) (CalledAt F.FnMut) eq (under hash (entries self.now)) }
+        ensures place { FindsPlace (CalledAt F.FnMut) eq hash (under hash (entries self.now)) (pair_at self.now) (option_map (λ found. found.0) result) }
+        ensures value { IfSome result (λ found. pair_at self.now found.0 ≡ Some (hash, found.1.now)) }
+    {
         let count = self.tags.len();
         if count == 0 {
             return None;
@@ -256,6 +263,18 @@ impl<T> OpenHashTable<T> {
             value,
         );
         place
+    }
+
+    // Makes room where there is less. It stands apart so that `try_reserve` is short where nothing is to do.
+    #[inline(never)]
+    fn grow(&mut self, additional: usize) -> Result<(), AllocError>
+        requires { room self.old < additional }
+        ensures contents { IsPermutation (entries self.old) (entries self.new) }
+        ensures memory { Reserves additional self.old result self.new }
+    {
+        let needed = self.len.checked_add(additional).ok_or(AllocError)?;
+        let count = count_for(self.tags.len(), needed).ok_or(AllocError)?;
+        self.place_anew(count)
     }
 
     // Moves every pair into so many new cells.

@@ -1,15 +1,16 @@
 //! The cells of a table with open addressing, beside their tags.
-ghost use Rattle.std.specs.Prelude.{◌≡◌, ◌+◌, ◌<◌, ◌≤◌, vec_len, count_by, Some, None, IsSome, IfOk, length, replicate, slice_index, slice_set};
+ghost use Rattle.std.specs.Prelude.{◌≡◌, ◌+◌, ◌<◌, ◌≤◌, ◌%◌, vec_len, count_by, Some, None, IsSome, IfOk, IfSome, length, replicate, slice_index, slice_set};
 ghost use Rattle.std.specs.Fn.{TakesAt, CalledAt, FnReturnsAt};
 ghost use Rattle.std.specs.List.{Contains};
+ghost use Rattle.std.specs.Option.{option_map};
 ghost use Rattle.std.specs.List.Sorted.{IsPermutation};
 ghost use Rattle.iddqd_hash.specs.Asks.{CanAsk, FindsPlace, Keeps};
 ghost use Rattle.iddqd_hash.specs.HashTable.{under, value_of, values, Rewrites};
 ghost use Rattle.iddqd_hash.specs.OpenTable.{tag_of, limit_of, is_used, hashes_of, pair_in, slots_of, slot_at, pairs, IsPowerOfTwo, HasEmpty, IsProbed, FindsNext};
 
-use crate::open_table::tags::{free_place, home_of, next, next_stop, tag_of};
+use crate::open_table::tags::{LARGE, free_place, home_of, next, next_stop, tag_of};
 use std::alloc::{AllocError, Global};
-use std::mem;
+use std::mem::{self, ManuallyDrop};
 
 /// A place for a pair. The hash means something where there is a value.
 #[derive(Drop)]
@@ -53,9 +54,6 @@ pub fn next_match<T>(tags: &[u8], cells: &[Cell<T>], from: usize, hash: u64) -> 
 {
     let count = tags.len();
     let tag = tag_of(hash);
-    if tags[from] == tag && cells[from].hash == hash {
-        return Some(from);
-    }
     let mut at = next_stop(tags, from, tag);
     while tags[at] != 0 {
         if cells[at].hash == hash {
@@ -66,26 +64,42 @@ pub fn next_match<T>(tags: &[u8], cells: &[Cell<T>], from: usize, hash: u64) -> 
     None
 }
 
-/// The place of the pair that a look-up hits.
-pub fn find_cell<T, F: FnMut(&T) -> bool>(
+/// The first place from the home of a hash on that has a pair under it, or none where an empty cell comes first.
+pub fn first_match<T>(tags: &[u8], cells: &[Cell<T>], hash: u64) -> Option<usize>
+    requires power { IsPowerOfTwo (length tags.now) }
+    requires ends { HasEmpty tags.now }
+    requires probed { IsProbed tags.now (slots_of cells.now) }
+    ensures { FindsNext tags.now (slots_of cells.now) hash (hash % length tags.now) result }
+{
+    let home = home_of(hash, tags.len());
+    if tags.len() > LARGE && tags[home] == tag_of(hash) && cells[home].hash == hash {
+        return Some(home);
+    }
+    next_match(tags, cells, home, hash)
+}
+
+/// The place and the value of the pair that a look-up hits.
+pub fn find_cell<'a, T, F: FnMut(&T) -> bool>(
     tags: &[u8],
-    cells: &[Cell<T>],
+    cells: &'a [Cell<T>],
     hash: u64,
     mut eq: F,
-) -> Option<usize>
+) -> Option<(usize, &'a T)>
     requires power { IsPowerOfTwo (length tags.now) }
     requires ends { HasEmpty tags.now }
     requires probed { IsProbed tags.now (slots_of cells.now) }
     requires callable { CanAsk (TakesAt F.FnMut) (CalledAt F.FnMut) eq (under hash (pairs (slots_of cells.now))) }
-    ensures { FindsPlace (CalledAt F.FnMut) eq hash (under hash (pairs (slots_of cells.now))) (slot_at (slots_of cells.now)) result }
+    ensures place { FindsPlace (CalledAt F.FnMut) eq hash (under hash (pairs (slots_of cells.now))) (slot_at (slots_of cells.now)) (option_map (λ found. found.0) result) }
+    ensures value { IfSome result (λ found. slot_at (slots_of cells.now) found.0 ≡ Some (hash, found.1.now)) }
 {
     let count = tags.len();
-    let mut at = home_of(hash, count);
-    while let Some(place) = next_match(tags, cells, at, hash) {
-        if eq(value_in(&cells[place])) {
-            return Some(place);
+    let mut found = first_match(tags, cells, hash);
+    while let Some(place) = found {
+        let value = value_in(&cells[place]);
+        if eq(value) {
+            return Some((place, value));
         }
-        at = next(place, count);
+        found = next_match(tags, cells, next(place, count), hash);
     }
     None
 }
@@ -101,10 +115,16 @@ pub fn put<T>(tags: &mut [u8], cells: &mut [Cell<T>], place: usize, hash: u64, v
     tags[place] = tag_of(hash);
     let cell = &mut cells[place];
     cell.hash = hash;
-    match mem::replace(&mut cell.value, Some(value)) {
-        None => {}
-        Some(_) => unreachable!(),
-    }
+    fill(&mut cell.value, value);
+}
+
+// Writes a value where there is none, without a look at what was there: a look would load the cell first.
+fn fill<T>(slot: &mut Option<T>, value: T)
+    requires { slot.old ≡ None }
+    ensures { slot.new ≡ Some value }
+{
+    let none = mem::replace(slot, Some(value));
+    let _kept = unsafe { ManuallyDrop::new_unchecked(none) };
 }
 
 /// Takes the value of a pair out of its cell, and leaves a mark.

@@ -8,6 +8,10 @@ ghost use Rattle.iddqd_hash.specs.OpenTable.{tag_of, limit_of, is_stop, IsPowerO
 
 use crate::open_table::lanes::{run_of_full, run_of_others};
 
+// Up to so many cells a walk begins with sixteen tags, past them with the home alone: there a cell is mostly
+// far off, and the processor fetches that of the home before it has the tag.
+pub const LARGE: usize = 65536;
+
 /// The tag of a full cell.
 pub fn tag_of(hash: u64) -> u8
     ensures { result ≡ tag_of hash }
@@ -40,11 +44,24 @@ pub fn free_place(tags: &[u8], hash: u64) -> usize
     ensures reached { IsReached tags.now hash result }
 {
     let count = tags.len();
-    let mut at = home_of(hash, count);
+    let mut at = first_place(tags, hash);
     while tags[at] >= 128 {
         at = past_full(tags, next(at, count));
     }
     at
+}
+
+// The home, or a place behind it with only full ones before.
+fn first_place(tags: &[u8], hash: u64) -> usize
+    requires power { IsPowerOfTwo (length tags.now) }
+    ensures { IsReached tags.now hash result }
+{
+    let home = home_of(hash, tags.len());
+    if tags.len() > LARGE {
+        home
+    } else {
+        past_full(tags, home)
+    }
 }
 
 // A place from `at` on with only full ones before it.

@@ -5,11 +5,6 @@ use Rattle.iddqd_hash.proofs.OpenSkipLemmas.{IsReached-skips, PassesBy-skips, st
 use Rattle.iddqd_hash.proofs.OpenLookupLemmas.{PassesBy-start, PassesBy-next, PassesBy-inside, full_read, hash_read}
 use Rattle.iddqd_hash.proofs.open_table.cells.next_match.Goals as goal
 
-pub returns-then-cells-from : goal.returns-then-cells-from
-returns-then-cells-from g c =
-    let full : 1 < slice_index c.args.tags.now c.args.from = omega arith in
-    (PassesBy-start _ _ _ _ c.requires.inside, full_read c.args.tags.now c.args.cells.now c.args.from _ c.requires.inside c.index-cells-from.is c.requires.probed _ full c.if-cells-from.true)
-
 pub loop-at-init : goal.loop-at-init
 loop-at-init g c =
     let skipped = rw c.tag_of-tag.ensures at c.next_stop-at.ensures.skipped in

@@ -6,4 +6,4 @@ use Rattle.iddqd_hash.proofs.open_table.cells.put.Goals as goal
 
 pub returns-clause-slots : goal.returns-clause-slots
 returns-clause-slots g c =
-    map-set pair_in _ _ _ ∙ ap (λ o. set (slots_of c.args.cells.now) c.args.place (option_map (λ value. (c.args.hash, value)) o)) c.replace.ensures.after
+    map-set pair_in _ _ _ ∙ ap (λ o. set (slots_of c.args.cells.now) c.args.place (option_map (λ value. (c.args.hash, value)) o)) c.fill.ensures

@@ -1,10 +1,7 @@
 use Rattle.std.proofs.Common.{◌+◌, ◌%◌, ◌<◌, length, slice_index, arith}
 use Rattle.iddqd_hash.specs.OpenTable.{IsReached}
-use Rattle.iddqd_hash.proofs.OpenWalkLemmas.{places_left-next, places_left-on, IsReached-start, IsReached-next, IsReached-on}
+use Rattle.iddqd_hash.proofs.OpenWalkLemmas.{places_left-next, places_left-on, IsReached-next, IsReached-on}
 use Rattle.iddqd_hash.proofs.open_table.tags.free_place.Goals as goal
-
-pub loop-at-init : goal.loop-at-init
-loop-at-init c = rw c.home_of-at.ensures (IsReached-start c.args.tags.now c.args.hash)
 
 pub loop-at-preserved : goal.loop-at-preserved
 loop-at-preserved c =

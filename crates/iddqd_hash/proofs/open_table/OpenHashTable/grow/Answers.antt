@@ -2,7 +2,7 @@ use Rattle.std.proofs.Common.{◌≤◌, ◌<◌, ◌-◌, length, arith}
 use Rattle.iddqd_hash.specs.HashTable.{entries, room, capacity}
 use Rattle.iddqd_hash.specs.OpenTable.{limit_of}
 use Rattle.iddqd_hash.proofs.OpenTableLemmas.{entries-opened, capacity-opened, Reserves-placed}
-use Rattle.iddqd_hash.proofs.open_table.OpenHashTable.try_reserve.Goals as goal
+use Rattle.iddqd_hash.proofs.open_table.OpenHashTable.grow.Goals as goal
 
 pub place_anew-requires-clause-fits : goal.place_anew-requires-clause-fits
 place_anew-requires-clause-fits g c =
@@ -21,5 +21,5 @@ returns-clause-memory g c =
     let enough : c.args.additional ≤ limit_of c.in_ok-count.count - length (entries c.args.self.now) =
     rw (← c.self.view_is, entries-opened) (omega (arith, fits, needed.1, c.len.ensures, c.self.invariant.counted)) in
     let more : capacity c.args.self.now ≤ c.in_ok-count.count = rw (← c.self.view_is, capacity-opened) (omega (arith, no_fewer, c.len.ensures, c.self.invariant.probed.same_length)) in
-    let short : room c.args.self.now < c.args.additional = omega (arith, c.if-additional-room.false, c.room.ensures) in
+    let short : room c.args.self.now < c.args.additional = omega (arith, c.requires) in
     Reserves-placed _ _ _ c.place_anew.result _ _ short enough more c.place_anew.ensures.refused c.place_anew.ensures.room c.place_anew.ensures.capacity

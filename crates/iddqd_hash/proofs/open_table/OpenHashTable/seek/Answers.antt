@@ -1,7 +1,7 @@
 use Rattle.std.proofs.Common.{◌≡◌, ◌∙◌, ◌<◌, length, arith}
 use Rattle.std.specs.Fn.{CalledAt}
-use Rattle.iddqd_hash.proofs.OpenTableLemmas.{entries-opened, power_from, empty_from, FindsPlace-opened, Misses-nothing}
-use Rattle.iddqd_hash.proofs.open_table.OpenHashTable.place_of.Goals as goal
+use Rattle.iddqd_hash.proofs.OpenTableLemmas.{entries-opened, IfSome-opened, power_from, empty_from, FindsPlace-opened, Misses-nothing}
+use Rattle.iddqd_hash.proofs.open_table.OpenHashTable.seek.Goals as goal
 
 pub find_cell-requires-clause-power : goal.find_cell-requires-clause-power
 find_cell-requires-clause-power g c =
@@ -19,11 +19,15 @@ find_cell-requires-clause-probed g c = rw (c.as_slice.ensures.value, c.as_slice-
 pub find_cell-requires-clause-callable : goal.find_cell-requires-clause-callable
 find_cell-requires-clause-callable g c = rw c.as_slice-2.ensures.value (rw (← c.self.view_is, entries-opened) at c.requires)
 
-pub returns-then-count-eq0 : goal.returns-then-count-eq0
-returns-then-count-eq0 g c =
+pub returns-then-count-eq0-clause-place : goal.returns-then-count-eq0-clause-place
+returns-then-count-eq0-clause-place g c =
     let none : length c.self.inside.tags.items ≡ 0 = omega arith in
     rw (← c.self.view_is, entries-opened) (Misses-nothing (CalledAt g.F.FnMut) _ _ _ (c.self.invariant.probed.same_length ∙ none))
 
-pub returns : goal.returns
-returns g c =
-    rw (← c.self.view_is, entries-opened, ← c.as_slice-2.ensures.value) (FindsPlace-opened (CalledAt g.F.FnMut) _ _ _ _ _ _ c.find_cell.ensures)
+pub returns-clause-place : goal.returns-clause-place
+returns-clause-place g c =
+    rw (← c.self.view_is, entries-opened, ← c.as_slice-2.ensures.value) (FindsPlace-opened (CalledAt g.F.FnMut) _ _ _ _ _ _ c.find_cell.ensures.place)
+
+pub returns-clause-value : goal.returns-clause-value
+returns-clause-value g c =
+    rw (← c.self.view_is, ← c.as_slice-2.ensures.value) (IfSome-opened (λ value. value.now) _ _ _ c.find_cell.result c.find_cell.ensures.value)
