@@ -41,10 +41,10 @@ loop-found-smaller g c =
     rw c.in-Some.is
     (found_left-next n c.args.hash c.in-Some.place c.next_match-found.result
     (λ place is.
-      let onward = rw is at further in
-      let no_more : places_left n c.args.hash place ≤ places_left n c.args.hash ((c.in-Some.place + 1) % n) =
-      passed_left (CalledAt g.F.FnMut) _ _ _ _ c.requires.probed c.requires.ends _ _ _ next onward.0 in
-      omega (arith, after, no_more)))
+    let onward = rw is at further in
+    let no_more : places_left n c.args.hash place ≤ places_left n c.args.hash ((c.in-Some.place + 1) % n) =
+    passed_left (CalledAt g.F.FnMut) _ _ _ _ c.requires.probed c.requires.ends _ _ _ next onward.0 in
+    omega (arith, after, no_more)))
 
 pub loop-found-preserved : goal.loop-found-preserved
 loop-found-preserved g c =

@@ -10,8 +10,7 @@ returns-then-cells-home g c =
     let home = c.home_of-home.result in
     let below : c.args.hash % length tags < length tags = mod-lt c.args.hash (omega arith) in
     let inside : home < length tags = subst (λ x. x < length tags) (sym c.home_of-home.ensures) below in
-    let full : 1 < slice_index tags home = omega arith in
-    (
+    let full : 1 < slice_index tags home = omega arith in (
       subst (λ x. PassesBy tags (slots_of c.args.cells.now) c.args.hash (c.args.hash % length tags) x) (sym c.home_of-home.ensures) (PassesBy-start _ _ _ _ below),
       full_read tags c.args.cells.now home _ inside c.index-cells-home.is c.requires.probed _ full c.if-cells-home.true,
     )
