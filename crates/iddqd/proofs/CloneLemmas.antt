@@ -66,11 +66,12 @@ module _ {T : Type 0} (is_clone : T → T → Type 0) where
           named = bounded.named;
         }
 
-    pub IsStoreClone-clone : IsStoreClone is_clone (store_of slots head) (store_of copies head)
+    pub IsStoreClone-clone : IsStoreClone is_clone (store_of slots head limit) (store_of copies head limit)
     unfolding IsSoundWithin-clone
     IsStoreClone-clone = record {
       items = items_are_clones slots copies all;
       free = free_is IsSoundWithin-clone ∙ sym (free_is bounded);
+      limit = refl;
     }
 
   -- where clones of items equal them, a clone of a store equals it
@@ -84,5 +85,6 @@ module _ {T : Type 0} (is_clone : T → T → Type 0) where
 
   pub same_store : ((x y : T) → is_clone x y → y ≡ x) → (s copy : Store T) → IsStoreClone is_clone s copy → copy ≡ s
   same_store equal s copy is =
-      ap (λ i. record { items = i; free = copy.free }) (same_items equal s.items copy.items is.items)
-      ∙ ap (λ f. record { items = s.items; free = f }) is.free
+      ap (λ i. record { items = i; free = copy.free; limit = copy.limit }) (same_items equal s.items copy.items is.items)
+      ∙ ap (λ f. record { items = s.items; free = f; limit = copy.limit }) is.free
+      ∙ ap (λ l. record { items = s.items; free = s.free; limit = l }) is.limit

@@ -58,8 +58,8 @@ module _ {T : Type 0} where
         differs (omega (arith, bounded.sound.total))
 
   module _ {limit : ℕ} {slots : List (ItemSlot T)} {head len : ℕ} (bounded : IsSoundWithin limit slots head len) where
-    pub closed_up-is : store_of (filter is_occupied slots) sentinel ≡ compacted (store_of slots head)
+    pub closed_up-is : store_of (filter is_occupied slots) sentinel limit ≡ compacted (store_of slots head limit)
     unfolding IsSoundWithin-closed_up
     closed_up-is =
         let none : chain_of (length (filter is_occupied slots)) (filter is_occupied slots) sentinel ≡ [] = free_is (IsSoundWithin-closed_up bounded) in
-        ap (λ f. record { items = map item_of (filter is_occupied slots); free = f }) none ∙ ap (λ l. record { items = l; free = [] }) (items_kept slots)
+        ap (λ f. record { items = map item_of (filter is_occupied slots); free = f; limit = limit }) none ∙ ap (λ l. record { items = l; free = []; limit = limit }) (items_kept slots)

@@ -123,7 +123,7 @@ module _ {T : Type 0} where
 
   -- the rank of a live index isn't `SENTINEL`
   pub rank_assigned : (s : Store T) (ix : ℕ) → IsValid s → IsSome (get s ix) → rank s ix ≢ sentinel
-  rank_assigned s ix valid live same = omega (arith, same, rank_below s ix live, valid.counted, valid.small)
+  rank_assigned s ix valid live same = omega (arith, same, rank_below s ix live, valid.counted, valid.small, valid.named)
 
   all_live : (s : Store T) → IsValid s → s.free ≡ [] → live_count s ≡ slot_count s
   all_live s valid none = omega (arith, valid.counted, ap length none)
@@ -146,6 +146,7 @@ module _ {T : Type 0} where
     vacant = λ ix. (λ listed. absurd (contains_none ix listed), λ vacant. absurd (get-filter_none s.items ix vacant.0 vacant.1));
     counted = omega (arith, count-filter s.items);
     small = omega (arith, valid.small, length-filter is_some s.items, count_by-le-length is_some s.items);
+    named = valid.named;
   }
 
   -- after compaction nothing is free, and the number of slots is that of the items

@@ -24,7 +24,7 @@ module _ {T : Type 0} where
   pub room-inserted : (s : Store T) (capacity : ℕ) (item : T) → 1 ≤ room (sized s capacity) → room (sized (inserted s item) capacity) + 1 ≡ room (sized s capacity)
   room-inserted s capacity item some = by_free s.items s.free some
     where
-      by_free : (items : List (Option T)) (free : List ℕ) → 1 ≤ room (sized (record { items = items; free = free }) capacity) → room (sized (inserted (record { items = items; free = free }) item) capacity) + 1 ≡ room (sized (record { items = items; free = free }) capacity)
+      by_free : (items : List (Option T)) (free : List ℕ) → 1 ≤ room (sized (record { items = items; free = free; limit = s.limit }) capacity) → room (sized (inserted (record { items = items; free = free; limit = s.limit }) item) capacity) + 1 ≡ room (sized (record { items = items; free = free; limit = s.limit }) capacity)
       by_free items [] some = omega (arith, length_push items (Some item))
       by_free items (ix ∷ rest) some = omega (arith, length-set items ix (Some item))
 

@@ -51,8 +51,8 @@ module _ {T : Type 0} where
       get_or-map item_of slots ix (Occupied item) None (slice_get_within slots ix _ found)
       ∙ ap item_of (get_or_from_slice_get slots ix _ (Occupied item) found)
 
-  pub IsSoundWithin-none : IsSoundWithin {T = T} sentinel [] sentinel 0
-  IsSoundWithin-none = record {
+  pub IsSoundWithin-none : (limit : ℕ) → limit ≤ sentinel → IsSoundWithin {T = T} limit [] sentinel 0
+  IsSoundWithin-none limit named = record {
     sound = record {
       counted = refl;
       chain = [];
@@ -61,7 +61,7 @@ module _ {T : Type 0} where
       total = omega arith;
     };
     small = omega arith;
-    named = omega arith;
+    named = named;
   }
 
   module _ {limit : ℕ} {slots : List (ItemSlot T)} {head len : ℕ} (bounded : IsSoundWithin limit slots head len) where
@@ -217,14 +217,14 @@ module _ {T : Type 0} where
         }
 
     -- the next index is the head where it is vacant
-    pub next-vacant : head ≢ sentinel → next_index (store_of slots head) ≡ head
+    pub next-vacant : head ≢ sentinel → next_index (store_of slots head limit) ≡ head
     next-vacant before =
         let v = vacant_at_head before in
         let p = chain_from_vacant v.0 v.1 in
         ap (λ f. first_or f (length (map item_of slots))) (free_is ∙ p.1)
 
     -- the free indexes are distinct and exactly the vacant ones
-    pub store-is-valid : IsValid (store_of slots head)
+    pub store-is-valid : IsValid (store_of slots head limit)
     store-is-valid =
         let free = free_is in
         let count = length-map slots item_of in
@@ -237,7 +237,8 @@ module _ {T : Type 0} where
                 subst (λ l. Contains l ix) (sym free) (bounded.sound.complete ix v.0 v.1),
           );
           counted = omega (arith, ap length free, bounded.sound.total, bounded.sound.counted, count);
-          small = omega (arith, all_named, count);
+          small = omega (arith, bounded.small, count);
+          named = bounded.named;
         }
 
     -- where there is room, the count of items is below the limit
@@ -251,38 +252,38 @@ module _ {T : Type 0} where
         let none = ap length (free_is ∙ chain_at_end ends) in
         (omega (arith, length-map slots item_of), omega (arith, length-map slots item_of))
 
-  abbrev store : List (Option T) → List ℕ → Store T
-  store items free = record { items = items; free = free }
+  abbrev store : ℕ → List (Option T) → List ℕ → Store T
+  store limit items free = record { items = items; free = free; limit = limit }
 
-  same_store : (i j : List (Option T)) (f g : List ℕ) → i ≡ j → f ≡ g → store i f ≡ store j g
-  same_store i j f g p q = ap (λ x. store x f) p ∙ ap (λ x. store j x) q
+  same_store : (limit : ℕ) (i j : List (Option T)) (f g : List ℕ) → i ≡ j → f ≡ g → store limit i f ≡ store limit j g
+  same_store limit i j f g p q = ap (λ x. store limit x f) p ∙ ap (λ x. store limit j x) q
 
   module _ {limit : ℕ} {slots : List (ItemSlot T)} {head len : ℕ} (bounded : IsSoundWithin limit slots head len) where
-    pub removed-is : (ix : ℕ) (item : T) → slice_get slots ix ≡ Some (Occupied item) → store_of (set slots ix (Vacant head)) ix ≡ removed (store_of slots head) ix
+    pub removed-is : (ix : ℕ) (item : T) → slice_get slots ix ≡ Some (Occupied item) → store_of (set slots ix (Vacant head)) ix limit ≡ removed (store_of slots head limit) ix
     unfolding IsSoundWithin-vacate
     removed-is ix item found =
-        same_store _ _ _ _ (map-set item_of slots ix (Vacant head)) (free_is (IsSoundWithin-vacate bounded ix item found) ∙ ap (λ l. ix ∷ l) (sym (free_is bounded)))
+        same_store limit _ _ _ _ (map-set item_of slots ix (Vacant head)) (free_is (IsSoundWithin-vacate bounded ix item found) ∙ ap (λ l. ix ∷ l) (sym (free_is bounded)))
 
-    pub pushed-is : (item : T) → head ≡ sentinel → length slots < limit → store_of (slots ++ Occupied item ∷ []) head ≡ inserted (store_of slots head) item
+    pub pushed-is : (item : T) → head ≡ sentinel → length slots < limit → store_of (slots ++ Occupied item ∷ []) head limit ≡ inserted (store_of slots head limit) item
     unfolding IsSoundWithin-push
     pushed-is item ends below =
         let none : chain_of (length slots) slots head ≡ [] = free_is bounded ∙ chain_at_end bounded ends in
         let after : chain_of (length (slots ++ Occupied item ∷ [])) (slots ++ Occupied item ∷ []) head ≡ [] = free_is (IsSoundWithin-push bounded item ends below) in
-        same_store _ _ _ _ (map_push item_of slots (Occupied item)) after
-        ∙ ap (λ f. inserted (store (map item_of slots) f) item) (sym none)
+        same_store limit _ _ _ _ (map_push item_of slots (Occupied item)) after
+        ∙ ap (λ f. inserted (store limit (map item_of slots) f) item) (sym none)
 
-    reused-is : (next : ℕ) (item : T) → slice_get slots head ≡ Some (Vacant next) → store_of (set slots head (Occupied item)) next ≡ inserted (store_of slots head) item
+    reused-is : (next : ℕ) (item : T) → slice_get slots head ≡ Some (Vacant next) → store_of (set slots head (Occupied item)) next limit ≡ inserted (store_of slots head limit) item
     unfolding IsSoundWithin-reuse
     reused-is next item found =
         let p = chain_from_vacant bounded next found in
         let before : chain_of (length slots) slots head ≡ head ∷ p.0 = free_is bounded ∙ p.1 in
-        same_store _ _ _ _ (map-set item_of slots head (Occupied item)) (free_is (IsSoundWithin-reuse bounded next item found))
-        ∙ ap (λ f. inserted (store (map item_of slots) f) item) (sym before)
+        same_store limit _ _ _ _ (map-set item_of slots head (Occupied item)) (free_is (IsSoundWithin-reuse bounded next item found))
+        ∙ ap (λ f. inserted (store limit (map item_of slots) f) item) (sym before)
 
-    pub rebound-is : (ix : ℕ) (old item : T) → slice_get slots ix ≡ Some (Occupied old) → store_of (set slots ix (Occupied item)) head ≡ rebound (store_of slots head) ix item
+    pub rebound-is : (ix : ℕ) (old item : T) → slice_get slots ix ≡ Some (Occupied old) → store_of (set slots ix (Occupied item)) head limit ≡ rebound (store_of slots head limit) ix item
     unfolding IsSoundWithin-rebind
     rebound-is ix old item found =
-        same_store _ _ _ _ (map-set item_of slots ix (Occupied item)) (free_is (IsSoundWithin-rebind bounded ix old item found) ∙ sym (free_is bounded))
+        same_store limit _ _ _ _ (map-set item_of slots ix (Occupied item)) (free_is (IsSoundWithin-rebind bounded ix old item found) ∙ sym (free_is bounded))
 
     module _ (ix : ℕ) (first : slice_get (chain_of (length slots) slots head) 0 ≡ Some ix) where
       -- what a read at the first free index gives is the slot there
@@ -308,7 +309,7 @@ module _ {T : Type 0} where
           let same = (vacant_at_first bounded ix first).0 in
           subst (λ i. IsSoundWithin limit (set slots i (Occupied item)) next (len + 1)) same (IsSoundWithin-reuse bounded next item (ap (λ i. slice_get slots i) same ∙ found))
 
-      pub reused_first-is : (next : ℕ) (item : T) → slice_get slots ix ≡ Some (Vacant next) → store_of (set slots ix (Occupied item)) next ≡ inserted (store_of slots head) item
+      pub reused_first-is : (next : ℕ) (item : T) → slice_get slots ix ≡ Some (Vacant next) → store_of (set slots ix (Occupied item)) next limit ≡ inserted (store_of slots head limit) item
       reused_first-is next item found =
           let same = (vacant_at_first bounded ix first).0 in
-          subst (λ i. store_of (set slots i (Occupied item)) next ≡ inserted (store_of slots head) item) same (reused-is next item (ap (λ i. slice_get slots i) same ∙ found))
+          subst (λ i. store_of (set slots i (Occupied item)) next limit ≡ inserted (store_of slots head limit) item) same (reused-is next item (ap (λ i. slice_get slots i) same ∙ found))

@@ -7,7 +7,7 @@ use Rattle.std.proofs.lemmas.List.{get_or_past, get_or-set_same, get_or-set_othe
 use Rattle.std.proofs.lemmas.List.Elements.{Contains-get_or, recursion_from_All, All-from_recursion, All-contains}
 use Rattle.std.proofs.lemmas.List.Sums.{sum_by-set, sum_by_push}
 use Rattle.std.proofs.lemmas.Map.Keys.{IsDistinct-cons, IsDistinct-head, IsDistinct-tail}
-use Rattle.iddqd.specs.Store.{sentinel, Store, get, slot_count, next_index, first_or, IsVacant, IsValid, IsFull, empty, cleared, inserted, removed, rebound}
+use Rattle.iddqd.specs.Store.{Store, get, slot_limit, slot_count, next_index, first_or, IsVacant, IsValid, IsFull, empty_within, cleared, inserted, removed, rebound}
 use Rattle.iddqd.specs.ItemSet.{GrowsIfDense}
 
 module _ {A : Type 0} where
@@ -52,17 +52,18 @@ module _ {T : Type 0} where
       by_item None not_live = refl
       by_item (Some item) not_live = absurd (not_live refl)
 
-  pub IsValid-empty : IsValid (empty {T = T})
+  pub IsValid-empty : (limit : ℕ) → limit ≤ slot_limit → IsValid (empty_within {T = T} limit)
   unfolding IsDistinct
-  IsValid-empty = record {
+  IsValid-empty limit named = record {
     distinct = tt;
     vacant = λ ix. (λ listed. absurd (contains_none ix listed), λ vacant. absurd (omega (arith, vacant.0)));
     counted = omega arith;
     small = omega arith;
+    named = named;
   }
 
-  pub IsValid-cleared : (s : Store T) → IsValid (cleared s)
-  IsValid-cleared s = IsValid-empty
+  pub IsValid-cleared : (s : Store T) → IsValid s → IsValid (cleared s)
+  IsValid-cleared s valid = IsValid-empty s.limit valid.named
 
   -- a live index is not free
   live_not_free : (s : Store T) (ix : ℕ) (item : T) → IsValid s → get s ix ≡ Some item → (other : ℕ) → Contains s.free other → ix ≢ other
@@ -82,6 +83,7 @@ module _ {T : Type 0} where
             let before = rw live at count in
             omega (arith, valid.counted, before, length-set s.items ix None);
         small = omega (arith, valid.small, length-set s.items ix None);
+        named = valid.named;
       }
     where
       not_free : All (λ y. nat_eq ix y ≡ false) s.free
@@ -121,6 +123,7 @@ module _ {T : Type 0} where
             let before = rw live at count in
             omega (arith, valid.counted, before, same);
         small = omega (arith, valid.small, same);
+        named = valid.named;
       }
     where
       still : (other : ℕ) → Contains s.free other → IsVacant (rebound s ix item) other
@@ -157,7 +160,7 @@ module _ {T : Type 0} where
   pub GrowsIfDense-inserted : (s : Store T) (item : T) → IsValid s → GrowsIfDense s (inserted s item)
   GrowsIfDense-inserted s item valid = by_free s.items s.free valid.counted
     where
-      by_free : (items : List (Option T)) (free : List ℕ) → count_by is_some items + length free ≡ length items → GrowsIfDense (record { items = items; free = free }) (inserted (record { items = items; free = free }) item)
+      by_free : (items : List (Option T)) (free : List ℕ) → count_by is_some items + length free ≡ length items → GrowsIfDense (record { items = items; free = free; limit = s.limit }) (inserted (record { items = items; free = free; limit = s.limit }) item)
       by_free items [] counted = record { dense = λ _. length_push items (Some item); vacant = λ below. absurd (omega arith) }
       by_free items (ix ∷ rest) counted = record { dense = λ all. absurd (omega arith); vacant = λ _. length-set items ix (Some item) }
 
@@ -165,16 +168,17 @@ module _ {T : Type 0} where
   unfolding IsDistinct
   IsValid-inserted s item valid not_full = by_free s.items s.free valid not_full
     where
-      at_end : (items : List (Option T)) → IsValid (record { items = items; free = [] }) → (IsFull {T = T} (record { items = items; free = [] }) → ⊥) → IsValid (inserted (record { items = items; free = [] }) item)
+      at_end : (items : List (Option T)) → IsValid (record { items = items; free = []; limit = s.limit }) → (IsFull {T = T} (record { items = items; free = []; limit = s.limit }) → ⊥) → IsValid (inserted (record { items = items; free = []; limit = s.limit }) item)
       at_end items valid not_full =
           record {
             distinct = tt;
             vacant = λ ix. (λ listed. absurd (contains_none ix listed), λ vacant. absurd (none_vacant ix vacant (cases_lt ix (length items))));
             counted = rw (sum_by_push (λ o. cond (is_some o) 1 0) items (Some item)) (omega (arith, valid.counted, length_push items (Some item)));
-            small = below (cases_eq (length items) sentinel);
+            small = below (cases_eq (length items) s.limit);
+            named = valid.named;
           }
         where
-          none_vacant : (ix : ℕ) → IsVacant (inserted (record { items = items; free = [] }) item) ix → ((ix < length items) ⊎ (length items ≤ ix)) → ⊥
+          none_vacant : (ix : ℕ) → IsVacant (inserted (record { items = items; free = []; limit = s.limit }) item) ix → ((ix < length items) ⊎ (length items ≤ ix)) → ⊥
           none_vacant ix vacant (inl before) =
               contains_none ix ((valid.vacant ix).1 (before, sym (get_or_append_left items (Some item ∷ []) None ix before) ∙ vacant.1))
           none_vacant ix vacant (inr past) =
@@ -183,11 +187,11 @@ module _ {T : Type 0} where
               let none = vacant.1 in
               cc
 
-          below : ((length items ≡ sentinel) ⊎ (length items ≡ sentinel → ⊥)) → length (items ++ Some item ∷ []) ≤ sentinel
+          below : ((length items ≡ s.limit) ⊎ (length items ≡ s.limit → ⊥)) → length (items ++ Some item ∷ []) ≤ s.limit
           below (inl most) = absurd (not_full (refl, most))
           below (inr fewer) = omega (arith, valid.small, length_push items (Some item))
 
-      reused : (items : List (Option T)) (ix : ℕ) (rest : List ℕ) → IsValid (record { items = items; free = ix ∷ rest }) → IsValid (inserted (record { items = items; free = ix ∷ rest }) item)
+      reused : (items : List (Option T)) (ix : ℕ) (rest : List ℕ) → IsValid (record { items = items; free = ix ∷ rest; limit = s.limit }) → IsValid (inserted (record { items = items; free = ix ∷ rest; limit = s.limit }) item)
       reused items ix rest valid =
           let first = (valid.vacant ix).0 (contains_head ix rest) in
           record {
@@ -199,12 +203,13 @@ module _ {T : Type 0} where
                 let before = rw none at count in
                 omega (arith, valid.counted, before, length-set items ix (Some item));
             small = omega (arith, valid.small, length-set items ix (Some item));
+            named = valid.named;
           }
         where
           not_again : (other : ℕ) → Contains rest other → ix ≢ other
           not_again other listed = same_if ix other (All-contains (λ y. nat_eq ix y ≡ false) rest other (All-from_recursion (λ y. nat_eq ix y ≡ false) rest (IsDistinct-head nat_eq ix rest valid.distinct)) listed)
 
-          still : (other : ℕ) → Contains rest other → IsVacant (inserted (record { items = items; free = ix ∷ rest }) item) other
+          still : (other : ℕ) → Contains rest other → IsVacant (inserted (record { items = items; free = ix ∷ rest; limit = s.limit }) item) other
           still other listed =
               let was = (valid.vacant other).0 (contains_tail ix other rest listed) in
               let apart : other ≢ ix = λ same. not_again other listed (sym same) in
@@ -214,7 +219,7 @@ module _ {T : Type 0} where
           by_place other apart (inl same) = absurd (apart (sym same))
           by_place other apart (inr later) = later
 
-          listed_if : (other : ℕ) → IsVacant (inserted (record { items = items; free = ix ∷ rest }) item) other → ((other ≡ ix) ⊎ (other ≡ ix → ⊥)) → Contains rest other
+          listed_if : (other : ℕ) → IsVacant (inserted (record { items = items; free = ix ∷ rest; limit = s.limit }) item) other → ((other ≡ ix) ⊎ (other ≡ ix → ⊥)) → Contains rest other
           listed_if other vacant (inl same) =
               let first = (valid.vacant ix).0 (contains_head ix rest) in
               let none : get_or (set items ix (Some item)) ix None ≡ None = subst (λ i. get_or (set items ix (Some item)) i None ≡ None) same vacant.1 in
@@ -224,6 +229,6 @@ module _ {T : Type 0} where
               let was = (valid.vacant other).1 (omega (arith, vacant.0, length-set items ix (Some item)), sym (get_or-set_other items ix other (Some item) None apart) ∙ vacant.1) in
               by_place other apart (contains_cases ix other rest was)
 
-      by_free : (items : List (Option T)) (free : List ℕ) → IsValid (record { items = items; free = free }) → (IsFull {T = T} (record { items = items; free = free }) → ⊥) → IsValid (inserted (record { items = items; free = free }) item)
+      by_free : (items : List (Option T)) (free : List ℕ) → IsValid (record { items = items; free = free; limit = s.limit }) → (IsFull {T = T} (record { items = items; free = free; limit = s.limit }) → ⊥) → IsValid (inserted (record { items = items; free = free; limit = s.limit }) item)
       by_free items [] valid not_full = at_end items valid not_full
       by_free items (ix ∷ rest) valid not_full = reused items ix rest valid

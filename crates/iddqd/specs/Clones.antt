@@ -16,7 +16,8 @@ module _ {T : Type 0} (is_clone : T → T → Type 0) where
   IsSlotClone (Vacant next) copy = copy ≡ Vacant next
   IsSlotClone (Occupied item) copy = (other : T) × (copy ≡ Occupied other) × is_clone item other
 
-  -- for each slot a clone of its item or nothing, and the same free indexes in the same order
+  -- for each slot a clone of its item or nothing, the same free indexes in the same order, and the same limit
   pub record IsStoreClone (s copy : Store T) : Type 0 where
     pub items : AllZip IsItemClone s.items copy.items
     pub free : copy.free ≡ s.free
+    pub limit : copy.limit ≡ s.limit

@@ -1,7 +1,7 @@
 -- What a contract sees of an `ItemSet`: its store, and how many slots its memory holds.
 use Rattle.std.specs.Prelude.{◌≡◌, ◌≢◌, ◌+◌, ◌-◌, ◌<◌, ℕ, length, min, refl}
 use Rattle.std.specs.Coded.{Coded, code_by, coded×, coded_ℕ}
-use Rattle.iddqd.specs.Store.{Store, store_code, slot_count, slot_limit, live_count, get, rebound}
+use Rattle.iddqd.specs.Store.{Store, store_code, slot_count, live_count, get, rebound}
 
 -- a store, and the number of slots that fit without more memory, which is no part of the contents
 pub record SizedStore (T : Type 0) : Type 0 where
@@ -15,7 +15,7 @@ sized_store_code {T} code =
 module _ {T : Type 0} where
   -- how many inserts need no memory
   abbrev pub room : SizedStore T → ℕ
-  room h = length h.store.free + (min h.capacity (slot_limit h.store) - slot_count h.store)
+  room h = length h.store.free + (min h.capacity h.store.limit - slot_count h.store)
 
   -- every index but this one gives what it gave
   abbrev pub KeepsOthers : ℕ → Store T → Store T → Type 0

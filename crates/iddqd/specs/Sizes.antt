@@ -1,12 +1,12 @@
 -- How a set takes memory ahead, and gives it back.
 use Rattle.std.specs.Prelude.{◌≡◌, ◌+◌, ◌-◌, ◌<◌, ◌≤◌, ℕ, min, max, Result, IsOk, OnOk, OnErr}
-use Rattle.iddqd.specs.Store.{Store, slot_count, slot_limit, live_count}
+use Rattle.iddqd.specs.Store.{Store, slot_count, live_count}
 use Rattle.iddqd.specs.ItemSet.{SizedStore}
 
 module _ {T : Type 0} where
   -- how many more items there can be
   abbrev pub insertable : Store T → ℕ
-  insertable s = slot_limit s - live_count s
+  insertable s = s.limit - live_count s
 
   -- Memory is there for so many slots past those that there are, or else nothing changed. Where it was there before, it
   -- succeeds and nothing changed.

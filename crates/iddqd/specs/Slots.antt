@@ -34,9 +34,9 @@ module _ {T : Type 0} where
   IsChain slots head (ix ∷ rest) =
       (next : ℕ) × (ix ≡ head) × (slice_get slots head ≡ Some (Vacant next)) × IsChain slots next rest
 
-  -- what a contract sees of these slots and this head
-  abbrev pub store_of : List (ItemSlot T) → ℕ → Store T
-  store_of slots head = record { items = map item_of slots; free = chain_of (length slots) slots head }
+  -- what a contract sees of these slots, this head and this limit
+  abbrev pub store_of : List (ItemSlot T) → ℕ → ℕ → Store T
+  store_of slots head limit = record { items = map item_of slots; free = chain_of (length slots) slots head; limit = limit }
 
   -- `len` counts the items, and the chain from `head` has each vacant slot once
   pub record IsSound (slots : List (ItemSlot T)) (head len : ℕ) : Type 0 where

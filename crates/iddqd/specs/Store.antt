@@ -7,16 +7,27 @@ use Rattle.std.specs.Coded.{Coded, code_by, coded×, coded_ℕ, coded_list, code
 abbrev pub sentinel : ℕ
 sentinel = 4294967295
 
+-- the most slots that any store can have: one for each index below `SENTINEL`
+abbrev pub slot_limit : ℕ
+slot_limit = sentinel
+
 -- A finite map from indexes to items, with the number of slots: the list has the item or nothing of
--- each index below that number. And the free indexes, that freed last first.
+-- each index below that number. The free indexes, that freed last first. And the limit: the most slots that it can have,
+-- which no step changes.
 pub record Store (T : Type 0) : Type 0 where
   pub items : List (Option T)
   pub free : List ℕ
+  pub limit : ℕ
 
--- a store is coded as the pair of its fields
+-- a store is coded as its fields
 abbrev pub store_code : {T : Type 0} → Coded T → Coded (Store T)
 store_code {T} code =
-    code_by (List (Option T) × List ℕ) (coded× (coded_list (coded_option code)) (coded_list coded_ℕ)) (λ s. (s.items, s.free)) (λ p. record { items = p.0; free = p.1 }) (λ _. refl)
+    code_by
+    (List (Option T) × (List ℕ × ℕ))
+    (coded× (coded_list (coded_option code)) (coded× (coded_list coded_ℕ) coded_ℕ))
+    (λ s. (s.items, (s.free, s.limit)))
+    (λ p. record { items = p.0; free = p.1.0; limit = p.1.1 })
+    (λ _. refl)
 
 -- the first of the free indexes, or else the number of slots
 abbrev pub first_or : List ℕ → ℕ → ℕ
@@ -24,9 +35,13 @@ first_or [] count = count
 first_or (ix ∷ rest) count = ix
 
 module _ {T : Type 0} where
-  -- the store of a new set
+  -- the store of a new set that can have so many slots
+  abbrev pub empty_within : ℕ → Store T
+  empty_within limit = record { items = []; free = []; limit = limit }
+
+  -- the store of a new set for which no limit is given
   abbrev pub empty : Store T
-  empty = record { items = []; free = [] }
+  empty = empty_within slot_limit
 
   -- what is left of a store that forgets all items and all slots
   abbrev pub cleared : Store T → Store T
@@ -40,10 +55,6 @@ module _ {T : Type 0} where
   abbrev pub slot_count : Store T → ℕ
   slot_count s = length s.items
 
-  -- the number of slots that it can have: one for each index below `SENTINEL`
-  abbrev pub slot_limit : Store T → ℕ
-  slot_limit s = sentinel
-
   -- the number of live indexes
   abbrev pub live_count : Store T → ℕ
   live_count s = count_by is_some s.items
@@ -52,20 +63,22 @@ module _ {T : Type 0} where
   abbrev pub IsVacant : Store T → ℕ → Type 0
   IsVacant s ix = (ix < slot_count s) × (get s ix ≡ None)
 
-  -- the free indexes are distinct and exactly the vacant ones, and there are no more slots than there can be
+  -- The free indexes are distinct and exactly the vacant ones. There are no more slots than the limit, and that leaves
+  -- each slot an index.
   pub record IsValid (s : Store T) : Type 0 where
     pub distinct : IsDistinct nat_eq s.free
     pub vacant : (ix : ℕ) → Contains s.free ix ↔ IsVacant s ix
     pub counted : live_count s + length s.free ≡ slot_count s
-    pub small : slot_count s ≤ slot_limit s
+    pub small : slot_count s ≤ s.limit
+    pub named : s.limit ≤ slot_limit
 
   -- the index that the next insert binds
   abbrev pub next_index : Store T → ℕ
   next_index s = first_or s.free (slot_count s)
 
-  -- no index is free, and there are as many slots as there can be
+  -- no index is free, and there are as many slots as the limit
   abbrev pub IsFull : Store T → Type 0
-  IsFull s = (s.free ≡ []) × (slot_count s ≡ slot_limit s)
+  IsFull s = (s.free ≡ []) × (slot_count s ≡ s.limit)
 
   -- the items after an insert at the first free index, or else in a new slot
   abbrev pub filled : List ℕ → List (Option T) → T → List (Option T)

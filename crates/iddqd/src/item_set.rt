@@ -6,7 +6,7 @@
 ghost use Rattle.std.specs.Prelude.{◌≡◌, ℕ, [], ◌+◌, ◌<◌, ◌≤◌, ◌↔◌, length, map, Some, None, IsSome, IsTrue, IsOk, IfOk, OnOk, OnErr, IfNone, OnSome, option_copied, slice_get};
 ghost use Rattle.std.specs.Option.{option_copied_mut};
 ghost use Rattle.std.specs.Borrow.{sem, Lends, RestsIfErr};
-ghost use Rattle.iddqd.specs.Store.{sentinel, get, slot_count, live_count, next_index, IsFull, IsValid, empty, cleared, inserted, removed};
+ghost use Rattle.iddqd.specs.Store.{sentinel, get, slot_count, live_count, next_index, IsFull, IsValid, empty, empty_within, cleared, inserted, removed};
 ghost use Rattle.iddqd.specs.ItemSet.{room, with_item, KeepsOthers, GrowsIfDense};
 ghost use Rattle.iddqd.specs.Compaction.{rank, compacted, new_name, numbers, IsRemapOf};
 
@@ -28,8 +28,8 @@ use std::marker::Model;
 use std::{fmt, mem};
 pub use values::Values;
 
-/// How many slots a set can have: one for each index but `SENTINEL`.
-const MAX_SLOTS: usize = 4294967295;
+/// The most slots that any set can have: one for each index but `SENTINEL`.
+const MAX_SLOTS: u32 = 4294967295;
 
 /// A place of the set.
 #[derive(Debug, Drop)]
@@ -43,7 +43,7 @@ pub enum ItemSlot<T> {
 /// Why a set can't take one more item.
 #[derive(Clone, Copy, Debug, PartialEq, Eq)]
 pub enum GrowError {
-    /// No slot is vacant, and there are as many slots as there can be.
+    /// No slot is vacant, and there are as many slots as the set's limit.
     Full,
     /// Memory was refused.
     Memory,
@@ -59,11 +59,12 @@ pub struct ItemSet<T> {
     free_head: ItemIndex,
     // How many slots are occupied.
     len: u32,
+    // The most slots that there can be.
+    limit: u32,
 }
 
 impl<T> Model for ItemSet<T> {
     ghost use Rattle.std.specs.Prelude.{vec_capacity};
-    ghost use Rattle.iddqd.specs.Store.{slot_limit};
     ghost use Rattle.iddqd.specs.ItemSet.{SizedStore, sized_store_code};
 
     ghost Value = { SizedStore T };
@@ -72,9 +73,9 @@ impl<T> Model for ItemSet<T> {
 
     ghost use Rattle.iddqd.specs.Slots.{store_of, IsSoundWithin};
 
-    ghost view = { λ s. record { store = store_of s.slots.items s.free_head; capacity = vec_capacity s.slots } };
+    ghost view = { λ s. record { store = store_of s.slots.items s.free_head s.limit; capacity = vec_capacity s.slots } };
 
-    ghost invariant = { λ s. IsSoundWithin (slot_limit (store_of s.slots.items s.free_head)) s.slots.items s.free_head s.len };
+    ghost invariant = { λ s. IsSoundWithin s.limit s.slots.items s.free_head s.len };
 }
 
 impl<T> ItemSlot<T> {
@@ -98,14 +99,24 @@ impl<T> ItemSet<T> {
     ghost use Rattle.iddqd.specs.Lends.{lends_get, lends_item};
     ghost use Rattle.iddqd.specs.contracts.item_set.ItemSet.{the_row};
 
-    /// An empty set, which takes no memory.
+    /// An empty set, which takes no memory. It can have a slot for each index but `SENTINEL`.
     pub fn new(alloc: Global) -> ItemSet<T>
         ensures { result ≡ record { store = empty; capacity = 0 } }
+    {
+        ItemSet::with_limit(alloc, MAX_SLOTS)
+    }
+
+    /// An empty set that never has more slots than the limit. It takes no memory.
+    ///
+    /// No call changes the limit: `clear` and `compact` keep it, and a clone has it too.
+    pub fn with_limit(alloc: Global, limit: u32) -> ItemSet<T>
+        ensures { result ≡ record { store = empty_within limit; capacity = 0 } }
     {
         ItemSet {
             slots: Vec::new(alloc),
             free_head: ItemIndex::SENTINEL,
             len: 0,
+            limit,
         }
     }
 
@@ -131,7 +142,7 @@ impl<T> ItemSet<T> {
         ensures { result ≡ room self.now }
     {
         let vacant = self.slots.len() - self.len as usize;
-        vacant + (self.slots.capacity().min(MAX_SLOTS) - self.slots.len())
+        vacant + (self.slots.capacity().min(self.limit as usize) - self.slots.len())
     }
 
     /// The item at an index, if it is live.
@@ -349,7 +360,7 @@ impl<T> ItemSet<T> {
         if self.room() > 0 {
             return Ok(());
         }
-        if self.slots.len() == MAX_SLOTS {
+        if self.slots.len() == self.limit as usize {
             return Err(GrowError::Full);
         }
         match self.slots.reserve(1) {

@@ -3,6 +3,7 @@ mod clones;
 mod compaction;
 mod handles;
 mod indexes;
+mod limits;
 mod printing;
 mod reads;
 mod sizes;

@@ -1,15 +1,15 @@
 -- The steps of keyed items keep store and tables paired.
-use Rattle.std.proofs.Common.{◌≡◌, ◌≢◌, ◌⊎◌, inl, inr, ◌↔◌, ℕ, [], get_or, insert, Some, None, IsSome, refl, sym, subst, arith}
+use Rattle.std.proofs.Common.{◌≡◌, ◌≢◌, ◌⊎◌, inl, inr, ◌↔◌, ◌≤◌, ℕ, [], get_or, insert, Some, None, IsSome, refl, sym, subst, arith}
 use Rattle.std.specs.List.{Contains, IsDistinct}
 use Rattle.std.specs.FinMap as finite
 use Rattle.std.proofs.lemmas.Bool.{cases_eq}
 use Rattle.std.proofs.lemmas.List.Elements.{Contains-get_or}
-use Rattle.iddqd.specs.Store.{Store, IsValid, IsFull, empty, get, next_index, inserted, removed}
+use Rattle.iddqd.specs.Store.{Store, IsValid, IsFull, slot_limit, empty_within, get, next_index, inserted, removed}
 use Rattle.iddqd.proofs.StoreLemmas.{IsValid-empty, IsValid-cleared, IsValid-inserted, IsValid-removed, contains_none, live_within}
 use Rattle.iddqd_order.specs.MapBTreeTable.{IsIndexList, sentinel, without}
 use Rattle.iddqd_order.proofs.IndexListLemmas.{IsIndexList-insert, IsIndexList-filter}
 use Rattle.iddqd_keyed.specs.Keys.{Keys}
-use Rattle.iddqd_keyed.specs.State.{State, IsLive, IsPaired, Binds, Unbinds, empty_state, cleared_state}
+use Rattle.iddqd_keyed.specs.State.{State, IsLive, IsPaired, Binds, Unbinds, empty_state_within, cleared_state}
 use Rattle.iddqd_keyed.proofs.LiveLemmas.{none_not_live, live_at, next_vacant, get-removed_at, get-removed_other, get-inserted_at, get-inserted_other}
 use Rattle.iddqd_keyed.proofs.MemberLemmas.{contains-inserted_at, contains-inserted_other, contains-inserted_cases, contains-without, contains-from_without, get-insert_at, get-insert_other, get-remove_at, get-remove_other}
 
@@ -18,8 +18,7 @@ module _ {T : Type 0} where
   pub live_assigned : (s : Store T) (ix : ℕ) → IsValid s → IsLive s ix → ix ≢ sentinel
   live_assigned s ix valid live is =
       let within = live_within s.items ix live in
-      let small = valid.small in
-      omega (arith, within, small, is)
+      omega (arith, within, valid.small, valid.named, is)
 
 module _ {T S : Type 0} where
   pub IsIndexList-paired : (s : State T S) → IsPaired s → IsIndexList s.order
@@ -38,11 +37,11 @@ module _ {T S : Type 0} where
     once = tt;
   }
 
-  pub IsPaired-empty : (hasher : S) → IsPaired (empty_state {T = T} hasher)
-  IsPaired-empty hasher = IsPaired-bare hasher empty IsValid-empty (λ ix live. cc)
+  pub IsPaired-empty : (limit : ℕ) (hasher : S) → limit ≤ slot_limit → IsPaired (empty_state_within {T = T} limit hasher)
+  IsPaired-empty limit hasher named = IsPaired-bare hasher (empty_within limit) (IsValid-empty limit named) (λ ix live. cc)
 
   pub IsPaired-cleared : (old : State T S) → IsPaired old → IsPaired (cleared_state old)
-  IsPaired-cleared old was = IsPaired-bare old.hasher _ (IsValid-cleared old.store) (λ ix live. cc)
+  IsPaired-cleared old was = IsPaired-bare old.hasher _ (IsValid-cleared old.store was.valid) (λ ix live. cc)
 
   -- the next index is new to both tables
   pub next_unfiled : (s : State T S) → IsPaired s → finite.get s.filed (next_index s.store) ≡ None

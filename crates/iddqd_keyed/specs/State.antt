@@ -7,7 +7,7 @@ use Rattle.std.specs.declared.cmp.Ordering.{Ordering}
 use Rattle.std.specs.FinMap as finite
 use Rattle.std.specs.FinMap.{FinMap}
 use Rattle.std.specs.Coded.{Coded, code_by, coded×, coded_ℕ, coded_list}
-use Rattle.iddqd.specs.Store.{Store, store_code, IsValid, get, live_count, next_index, empty, cleared, inserted, removed}
+use Rattle.iddqd.specs.Store.{Store, store_code, IsValid, get, live_count, next_index, slot_limit, empty_within, cleared, inserted, removed}
 use Rattle.iddqd_hash.specs.HashTable.{Table}
 use Rattle.iddqd.specs.Compaction.{compacted, rank}
 use Rattle.iddqd_hash.specs.MapHashTable.{filed, Renames}
@@ -97,9 +97,13 @@ module _ {T K : Type 0} (key_of : T → K) where
       pub sorted : IsSortedBy s old → IsSortedBy (inserted s item) new
 
 module _ {T S : Type 0} where
-  -- no item and no slot, and nothing in either table
+  -- no item and no slot, and nothing in either table; and there can be so many slots
+  abbrev pub empty_state_within : ℕ → S → State T S
+  empty_state_within limit hasher = record { hasher = hasher; store = empty_within limit; filed = finite.empty; order = [] }
+
+  -- the same where no limit is given
   abbrev pub empty_state : S → State T S
-  empty_state hasher = record { hasher = hasher; store = empty; filed = finite.empty; order = [] }
+  empty_state hasher = empty_state_within slot_limit hasher
 
   -- what forgetting all items and all slots leaves
   abbrev pub cleared_state : State T S → State T S

@@ -11,7 +11,7 @@ ghost use Rattle.iddqd.specs.Store.{get, live_count};
 ghost use Rattle.iddqd.specs.Compaction.{IsRemapOf};
 ghost use Rattle.iddqd_order.specs.Iter.{indexes_left};
 ghost use Rattle.iddqd_keyed.specs.Keys.{keys_of};
-ghost use Rattle.iddqd_keyed.specs.State.{empty_state, cleared_state, Compacts, hash_in, IsLive, IsPaired, IsSorted, SecondKeysInOrder, Keeps, KeepsUnlessChanged, LooksUp1, LooksUp2};
+ghost use Rattle.iddqd_keyed.specs.State.{empty_state, empty_state_within, cleared_state, Compacts, hash_in, IsLive, IsPaired, IsSorted, SecondKeysInOrder, Keeps, KeepsUnlessChanged, LooksUp1, LooksUp2};
 ghost use Rattle.iddqd_keyed.specs.Machine.{HasNoPlace, StoresAt, Inserts, TellsAsScan, Removes, Removes1, Removes2, Overwrites, IsSortedScan, Step};
 ghost use Rattle.iddqd_keyed.specs.Run.{Run};
 
@@ -82,12 +82,21 @@ impl<T: KeyedItem, S: BuildHasher> Keyed for KeyedItems<T, S> {
 }
 
 impl<T: KeyedItem, S: BuildHasher> KeyedItems<T, S> {
-    /// No items. It takes no memory.
+    /// No items, and slots for as many as there are indexes but `SENTINEL`. It takes no memory.
     pub fn new(alloc: Global, state: S) -> KeyedItems<T, S>
         ensures { result ≡ empty_state state }
     {
+        KeyedItems::with_limit(alloc, state, u32::MAX)
+    }
+
+    /// No items, and never more slots than the limit. It takes no memory.
+    ///
+    /// No command changes the limit: `clear` and `compact` keep it.
+    pub fn with_limit(alloc: Global, state: S, limit: u32) -> KeyedItems<T, S>
+        ensures { result ≡ empty_state_within limit state }
+    {
         KeyedItems {
-            items: ItemSet::new(alloc),
+            items: ItemSet::with_limit(alloc, limit),
             filed: MapHashTable::new(alloc),
             order: MapBTreeTable::new(alloc),
             state,

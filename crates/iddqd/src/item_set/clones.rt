@@ -26,6 +26,7 @@ impl<T: Clone> Clone for ItemSet<T> {
             slots: self.slots.clone()?,
             free_head: self.free_head,
             len: self.len,
+            limit: self.limit,
         })
     }
 }

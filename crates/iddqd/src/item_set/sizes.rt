@@ -4,21 +4,22 @@ ghost use Rattle.iddqd.specs.Store.{empty, slot_count, live_count};
 ghost use Rattle.iddqd.specs.ItemSet.{room};
 ghost use Rattle.iddqd.specs.Sizes.{insertable, ReservesSlots, Shrinks};
 
-use super::ItemSet;
+use super::{ItemSet, MAX_SLOTS};
 use crate::item_index::ItemIndex;
 use std::alloc::{AllocError, Global};
 
 impl<T> ItemSet<T> {
-    /// An empty set whose memory holds at least so many slots. With 0 it takes no memory.
+    /// An empty set whose memory holds exactly so many slots. With 0 it takes no memory.
     pub fn with_capacity(alloc: Global, capacity: usize) -> Result<ItemSet<T>, AllocError>
         ensures contents { IfOk result (λ set. set.store ≡ empty) }
-        ensures capacity { IfOk result (λ set. capacity ≤ set.capacity) }
+        ensures capacity { IfOk result (λ set. set.capacity ≡ capacity) }
         ensures none { capacity ≡ 0 → IsOk result }
     {
         Ok(ItemSet {
             slots: Vec::with_capacity(alloc, capacity)?,
             free_head: ItemIndex::SENTINEL,
             len: 0,
+            limit: MAX_SLOTS,
         })
     }
 

@@ -1,6 +1,6 @@
 //! Memory taken ahead and given back. The first functions are callers, proved from the contracts alone.
 ghost use Rattle.std.specs.Prelude.{◌≡◌, ◌+◌, ◌≤◌, length};
-ghost use Rattle.iddqd.specs.Store.{inserted, live_count, next_index, slot_limit};
+ghost use Rattle.iddqd.specs.Store.{inserted, live_count, next_index};
 ghost use Rattle.iddqd.specs.ItemSet.{room};
 
 use super::{expect_items, expect_room, ix, with_gaps};
@@ -26,7 +26,8 @@ fn insert_in_room(set: &mut ItemSet<u32>, item: u32) -> ItemIndex
 
 // Takes the memory of all items before it inserts the first.
 fn insert_all(set: &mut ItemSet<u32>, items: &[u32]) -> Result<(), AllocError>
-    requires { live_count set.old.store + length items.now ≤ slot_limit set.old.store }
+    requires { live_count set.old.store + length items.now ≤ set.old.store.limit }
+    ensures { set.new.store.limit ≡ set.old.store.limit }
 {
     set.try_reserve(items.len())?;
     for item in items {
@@ -37,7 +38,7 @@ fn insert_all(set: &mut ItemSet<u32>, items: &[u32]) -> Result<(), AllocError>
 
 // Takes memory for two items, and inserts them after steps that lose none of it.
 fn insert_after_steps(set: &mut ItemSet<u32>, removed: ItemIndex) -> Result<ItemIndex, AllocError>
-    requires { live_count set.old.store + 2 ≤ slot_limit set.old.store }
+    requires { live_count set.old.store + 2 ≤ set.old.store.limit }
 {
     set.try_reserve(2)?;
     set.remove(removed);
@@ -143,7 +144,8 @@ fn shrinking_keeps_the_slots_and_what_is_asked(rt: HostRuntime) -> Result<(), Fa
 
 #[test]
 fn callers_of_sizes(rt: HostRuntime) -> Result<(), Fail> {
-    let mut set = with_gaps(&rt, rt.alloc(), 3, &[])?;
+    let mut set = ItemSet::new(rt.alloc());
+    insert_all(&mut set, &[0, 10, 20])?;
     assert!(rt; set.len() == 3);
     insert_all(&mut set, &[30, 40])?;
     expect_items(

@@ -7,11 +7,11 @@ use Rattle.iddqd.proofs.SlotLemmas.{IsSoundWithin-none, store-is-valid}
 use Rattle.iddqd.proofs.item_set.ItemSet.clear.Goals as goal
 
 pub invariant_of-self : goal.invariant_of-self
-invariant_of-self g c = rw c.clear.ensures.items IsSoundWithin-none
+invariant_of-self g c = rw c.clear.ensures.items (IsSoundWithin-none c.self.inside.limit c.self.invariant.named)
 
 pub returns : goal.returns
 returns g c = record {
-  store = rw c.clear.ensures.items refl;
+  store = rw (c.clear.ensures.items, ← c.self.view_is) refl;
   capacity = rw (← c.self.view_is) c.clear.ensures.capacity;
   room =
       let valid = store-is-valid c.self.invariant in
