@@ -26,7 +26,7 @@ use iddqd::item_index::ItemIndex;
 use iddqd::item_set::{GrowError, ItemSet};
 use iddqd::map_hash::MapHash;
 use iddqd_hash::hash_table::MapHashTable;
-use iddqd_order::btree_table::{Iter, MapBTreeTable};
+use iddqd_order::btree_table::{Hint, Iter, MapBTreeTable};
 use std::alloc::{AllocError, Global};
 use std::hash::BuildHasher;
 use std::marker::Model;
@@ -137,7 +137,7 @@ impl<T: KeyedItem, S: BuildHasher> KeyedItems<T, S> {
         ensures paired { IsPaired self.now }
         ensures found { LooksUp2 ⟦<Self as Keyed>⟧.keys self.now key.now result }
     {
-        find_by_second_key(&self.order, &self.items, key)
+        self.find2_with_hint(key).0
     }
 
     /// The indexes in the order of the ordered table: by second key, where none was changed silently.
@@ -163,7 +163,7 @@ impl<T: KeyedItem, S: BuildHasher> KeyedItems<T, S> {
         let key = item.key1();
         let hash = self.filed.compute_hash(&self.state, key);
         let first = self.find_hashed(hash, key);
-        let second = self.find2(item.key2());
+        let (second, hint) = self.find2_with_hint(item.key2());
         if first.is_some() || second.is_some() {
             return Err(InsertRefusal::Duplicate {
                 item,
@@ -171,7 +171,7 @@ impl<T: KeyedItem, S: BuildHasher> KeyedItems<T, S> {
                 second,
             });
         }
-        self.store(item, hash)
+        self.store(item, hash, &hint)
     }
 
     /// Removes the item at an index, if it is live, whatever its keys are now. It takes no memory.
@@ -310,9 +310,17 @@ impl<T: KeyedItem, S: BuildHasher> KeyedItems<T, S> {
         find_by_first_key(&self.filed, &self.items, hash, key)
     }
 
+    // The index of the item with this second key, and where the search ended.
+    fn find2_with_hint(&self, key: &T::Key2) -> (Option<ItemIndex>, Hint)
+        ensures paired { IsPaired self.now }
+        ensures found { LooksUp2 ⟦<Self as Keyed>⟧.keys self.now key.now result.0 }
+    {
+        find_by_second_key(&self.order, &self.items, key)
+    }
+
     // Stores an item under the hash of its first key, or hands it back. All memory is taken before
-    // anything is written.
-    fn store(&mut self, item: T, hash: MapHash) -> Result<ItemIndex, InsertRefusal<T>>
+    // anything is written. The hint is of a search for its second key.
+    fn store(&mut self, item: T, hash: MapHash, hint: &Hint) -> Result<ItemIndex, InsertRefusal<T>>
         requires { let keys = ⟦<Self as Keyed>⟧.keys in hash ≡ hash_in keys self.old (keys.first item) }
         ensures stored { let keys = ⟦<Self as Keyed>⟧.keys in
             IfOk result (λ ix. StoresAt keys self.old item ix self.new × (IsSorted keys self.old → IsSorted keys self.new)) }
@@ -327,7 +335,7 @@ impl<T: KeyedItem, S: BuildHasher> KeyedItems<T, S> {
         if let Err(AllocError) = self.filed.try_reserve(1) {
             return Err(InsertRefusal::Memory(item));
         }
-        let ix = match add_to_order(&mut self.order, &handle, &item) {
+        let ix = match add_to_order(&mut self.order, &handle, &item, hint) {
             Ok(ix) => ix,
             Err(AllocError) => return Err(InsertRefusal::Memory(item)),
         };

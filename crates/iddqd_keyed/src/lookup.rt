@@ -15,7 +15,7 @@ use iddqd::item_index::ItemIndex;
 use iddqd::item_set::{GrowHandle, ItemSet};
 use iddqd::map_hash::{MapHash, Same};
 use iddqd_hash::hash_table::MapHashTable;
-use iddqd_order::btree_table::{Asking, MapBTreeTable};
+use iddqd_order::btree_table::{Asking, Hint, MapBTreeTable};
 use std::alloc::AllocError;
 
 /// The index under a hash whose item has this first key.
@@ -40,14 +40,15 @@ pub(crate) fn find_by_first_key<T: KeyedItem>(
     )
 }
 
-/// The index whose item has this second key, by a search of the ordered table.
+/// The index whose item has this second key, by a search of the ordered table, and where the search
+/// ended.
 pub(crate) fn find_by_second_key<T: KeyedItem>(
     table: &MapBTreeTable,
     items: &ItemSet<T>,
     key: &T::Key2,
-) -> Option<ItemIndex>
+) -> (Option<ItemIndex>, Hint)
     requires { (ix : ℕ) → Contains (order_of table.now) ix ↔ IsLive items.now.store ix }
-    ensures { FindsInOrder T.KeyedItem.second_key T.Key2.cmp items.now.store (order_of table.now) key.now result }
+    ensures { FindsInOrder T.KeyedItem.second_key T.Key2.cmp items.now.store (order_of table.now) key.now result.0 }
 {
     let mut asking = Asking::new(
         |at: ItemIndex|
@@ -55,7 +56,7 @@ pub(crate) fn find_by_second_key<T: KeyedItem>(
             ensures { IsKeyAt T.KeyedItem.second_key items.entry.now.store at result.now }
         { second_key(items, at) },
     );
-    table.find_index(&Same(key), &mut asking)
+    table.find_index_with_hint(&Same(key), &mut asking)
 }
 
 /// Takes the index under a hash whose item has this first key out of the hash table, by one look-up.
@@ -88,13 +89,15 @@ pub(crate) fn take_by_first_key<T: KeyedItem>(
     }
 }
 
-/// Adds the next index to the ordered table, at the place that its item will have, and tells it.
+/// Adds the next index to the ordered table, at the place that its item will have, and tells it. The
+/// hint is of a search for the item's second key.
 ///
 /// Its memory is taken before the table changes; where that is refused, the indexes stay.
 pub(crate) fn add_to_order<T: KeyedItem>(
     table: &mut MapBTreeTable,
     handle: &GrowHandle<'_, T>,
     item: &T,
+    hint: &Hint,
 ) -> Result<ItemIndex, AllocError>
     requires valid { IsValid (handle_store handle.now) }
     requires stored { (ix : ℕ) → Contains (order_of table.old) ix → IsLive (handle_store handle.now) ix }
@@ -109,7 +112,7 @@ pub(crate) fn add_to_order<T: KeyedItem>(
             ensures { IsKeyAt T.KeyedItem.second_key (handle_store handle.entry.now) at result.now }
         { second_key_in(handle, at) },
     );
-    match table.prepare_insert(ix, &Same(key), &mut asking) {
+    match table.prepare_insert_near(ix, &Same(key), &mut asking, hint) {
         Ok(prepared) => prepared.insert(),
         Err(AllocError) => return Err(AllocError),
     }

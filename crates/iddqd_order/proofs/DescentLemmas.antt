@@ -261,7 +261,8 @@ counts_above n full l full_below ne c =
       | inr ge ↦ (let is = c.is_full ge in omega arith)
     ]
 
-counts_here : (n : Node) (full l full_below k : ℕ) → Counts n full l full_below → (l ≤ k → k ≡ full_below) → FullBelow k l n × (l < k → k ≡ full)
+-- and what it says of the node
+pub counts_here : (n : Node) (full l full_below k : ℕ) → Counts n full l full_below → (l ≤ k → k ≡ full_below) → FullBelow k l n × (l < k → k ≡ full)
 counts_here n full l full_below k c on =
     elim (cases_lt (length (row n)) 11) [
       | inl lt ↦ (let is = c.not_full lt in ((λ up. absurd (omega arith), λ e. lt), λ up. absurd (omega arith)))

@@ -3,6 +3,7 @@ mod CountSteps
 mod DescentLemmas
 mod DigitLemmas
 mod EndLemmas
+mod GapLemmas
 pub mod IndexListLemmas
 pub mod InsertLemmas
 pub mod KeyOrderLemmas

@@ -2,6 +2,7 @@ pub mod Asking
 pub mod Asks
 pub mod Descent
 pub mod Digits
+pub mod Gap
 pub mod Iter
 pub mod KeyOrder
 pub mod MapBTreeTable

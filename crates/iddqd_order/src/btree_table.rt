@@ -5,7 +5,7 @@
 pub mod asking;
 mod descent;
 mod ends;
-mod gap;
+pub mod gap;
 pub mod iter;
 pub mod key_order;
 mod node;
@@ -24,6 +24,7 @@ mod tree;
 mod walk;
 
 pub use asking::Asking;
+pub use gap::Hint;
 pub use iter::Iter;
 pub use prepared_insert::PreparedBTreeInsert;
 pub use prepared_remove::PreparedBTreeRemove;

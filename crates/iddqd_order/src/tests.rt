@@ -11,6 +11,7 @@ use std::process::Abort;
 mod asks;
 mod callers;
 mod depths;
+mod hints;
 mod keys;
 mod lying;
 mod remaps;

@@ -14,16 +14,20 @@ use crate::btree_table::search::search;
 use iddqd::item_index::ItemIndex;
 
 impl Node {
-    // The index at which a search ends, if it ends at one.
+    // The index at which a search ends, if it ends at one. It writes the way of the search to the path.
     pub fn find<R, F: FnMut(ItemIndex) -> R, H: Reads<R>>(
         &self,
         height: usize,
         asking: &mut Asking<F>,
         how: &H,
+        path: &mut Path,
     ) -> Option<ItemIndex>
         requires formed { IsFormed height self.now }
+        requires levels { height ≤ 11 }
+        requires path { length path.old ≡ 12 }
         requires can_search { CanSearch F.FnMut (flat height self.now) None asking.old }
-        ensures { FindsIn F.FnMut (H.reading how.now) None height self.now asking.old result asking.new }
+        ensures path { length path.new ≡ 12 }
+        ensures finds { FindsIn F.FnMut (H.reading how.now) None height self.now asking.old result asking.new }
     {
         let tie = None;
         let mut node = self;
@@ -32,6 +36,7 @@ impl Node {
             match search(node.row.as_slice(), asking, how, &tie) {
                 Ok(i) => return Some(node.row.get(i)),
                 Err(i) => {
+                    path.set(level, i);
                     if level == 0 {
                         return None;
                     }

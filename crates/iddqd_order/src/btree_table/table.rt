@@ -8,6 +8,7 @@ ghost use Rattle.iddqd_order.specs.Search.{CanSearch, SearchAsks, IsSteadyRising
 
 use crate::btree_table::asking::Asking;
 use crate::btree_table::ends::{first_in, last_in};
+use crate::btree_table::gap::Hint;
 use crate::btree_table::iter::{Iter, Rest};
 use crate::btree_table::node::Node;
 use crate::btree_table::path::Path;
@@ -31,7 +32,7 @@ use std::marker::Model;
 ///
 /// A contract sees the list by `order_of`. The closures that order it may answer anything: each
 /// call keeps the list distinct, changes no index but its own, and asks about stored indexes alone,
-/// at most 4 plus twice the number of binary digits of the length. No call but the two prepares of
+/// at most 4 plus twice the number of binary digits of the length. No call but the three prepares of
 /// an insert can be refused memory.
 #[derive(Drop)]
 pub struct MapBTreeTable {
@@ -133,7 +134,7 @@ impl MapBTreeTable {
         requires { CanSearch F.FnMut (order_of self.now) None asking.old }
         ensures { Finds F.FnMut (λ r. r) (order_of self.now) asking.old result asking.new }
     {
-        self.find(asking, &AsOrdering)
+        self.find(asking, &AsOrdering).0
     }
 
     /// A stored index at which the query compares Equal with the key that the asking answers.
@@ -148,22 +149,37 @@ impl MapBTreeTable {
         requires { CanSearch F.FnMut (order_of self.now) None asking.old }
         ensures { Finds F.FnMut (Q.compare query.now) (order_of self.now) asking.old result asking.new }
     {
-        self.find(asking, &ByQuery(query))
+        self.find(asking, &ByQuery(query)).0
     }
 
-    // The find, by any reading of the answers.
+    /// The same find, with a hint for an insert that follows it: see [`Self::prepare_insert_near`].
+    pub fn find_index_with_hint<K: Ord + Drop, Q: Comparable<K>, F: FnMut(ItemIndex) -> K>(
+        &self,
+        query: &Q,
+        asking: &mut Asking<F>,
+    ) -> (Option<ItemIndex>, Hint)
+        requires { CanSearch F.FnMut (order_of self.now) None asking.old }
+        ensures { Finds F.FnMut (Q.compare query.now) (order_of self.now) asking.old result.0 asking.new }
+    {
+        let by = ByQuery(query);
+        self.find(asking, &by)
+    }
+
+    // The find, by any reading of the answers, and where it ended.
     fn find<R, F: FnMut(ItemIndex) -> R, H: Reads<R>>(
         &self,
         asking: &mut Asking<F>,
         how: &H,
-    ) -> Option<ItemIndex>
+    ) -> (Option<ItemIndex>, Hint)
         requires { CanSearch F.FnMut (order_of self.now) None asking.old }
-        ensures { Finds F.FnMut (H.reading how.now) (order_of self.now) asking.old result asking.new }
+        ensures { Finds F.FnMut (H.reading how.now) (order_of self.now) asking.old result.0 asking.new }
     {
-        match &self.root {
-            None => None,
-            Some(root) => root.find(self.height, asking, how),
-        }
+        let mut path = Path::new();
+        let Some(root) = &self.root else {
+            return (None, Hint { path });
+        };
+        let found = root.find(self.height, asking, how, &mut path);
+        (found, Hint { path })
     }
 
     /// Takes the memory of an insert and finds its place by the answers. Equal ones are ordered by
@@ -184,7 +200,7 @@ impl MapBTreeTable {
         ensures asked { SearchAsks F.FnMut (order_of self.old) (Some ix) asking.old asking.new }
         ensures prepared { IfOk result (PreparesInsert F.FnMut (λ r. r) (order_of self.old) ix asking.old) }
     {
-        self.prepare(ix, asking, &AsOrdering)
+        self.prepare(ix, asking, &AsOrdering, None)
     }
 
     /// Takes the memory of an insert and finds its place by comparing the query with the keys that
@@ -206,15 +222,39 @@ impl MapBTreeTable {
         ensures asked { SearchAsks F.FnMut (order_of self.old) (Some ix) asking.old asking.new }
         ensures prepared { IfOk result (PreparesInsert F.FnMut (Q.compare query.now) (order_of self.old) ix asking.old) }
     {
-        self.prepare(ix, asking, &ByQuery(query))
+        self.prepare(ix, asking, &ByQuery(query), None)
     }
 
-    // The insert, by any reading of the answers.
+    /// The same insert, by the hint of a find with this query. Where it fits, it asks twice at most,
+    /// and else it searches: any hint will do, of an earlier state or of another table.
+    ///
+    /// It asks at most `4 + 2 * digits(len)` times in all, and answers `AllocError` where memory was
+    /// refused; the contents then stay.
+    pub fn prepare_insert_near<K: Ord + Drop, Q: Comparable<K>, F: FnMut(ItemIndex) -> K>(
+        &mut self,
+        ix: ItemIndex,
+        query: &Q,
+        asking: &mut Asking<F>,
+        hint: &Hint,
+    ) -> Result<PreparedBTreeInsert<'_>, AllocError>
+        requires assigned { ix ≢ sentinel }
+        requires absent { Contains (order_of self.old) ix → ⊥ }
+        requires can_ask { CanSearch F.FnMut (order_of self.old) (Some ix) asking.old }
+        ensures* unchanged { sem 𝓛 (rests_if_refused self.entry result) }
+        ensures same_reference { IfOk result (λ p. (prepared_insert.table_of p).ghost_name ≡ self.entry.ghost_name) }
+        ensures asked { SearchAsks F.FnMut (order_of self.old) (Some ix) asking.old asking.new }
+        ensures prepared { IfOk result (PreparesInsert F.FnMut (Q.compare query.now) (order_of self.old) ix asking.old) }
+    {
+        self.prepare(ix, asking, &ByQuery(query), Some(hint))
+    }
+
+    // The insert, by any reading of the answers, and by the hint where there is one.
     fn prepare<R, F: FnMut(ItemIndex) -> R, H: Reads<R>>(
         &mut self,
         ix: ItemIndex,
         asking: &mut Asking<F>,
         how: &H,
+        hint: Option<&Hint>,
     ) -> Result<PreparedBTreeInsert<'_>, AllocError>
         requires assigned { ix ≢ sentinel }
         requires absent { Contains (order_of self.old) ix → ⊥ }
@@ -224,7 +264,7 @@ impl MapBTreeTable {
         ensures asked { SearchAsks F.FnMut (order_of self.old) (Some ix) asking.old asking.new }
         ensures prepared { IfOk result (PreparesInsert F.FnMut (H.reading how.now) (order_of self.old) ix asking.old) }
     {
-        let (path, full) = self.find_gap(ix, asking, how);
+        let (path, full) = self.find_gap(ix, asking, how, hint);
         if let Err(error) = self.reserve(full) {
             return Err(error);
         }
@@ -242,6 +282,7 @@ impl MapBTreeTable {
         ix: ItemIndex,
         asking: &mut Asking<F>,
         how: &H,
+        hint: Option<&Hint>,
     ) -> (Path, usize)
         requires absent { Contains (order_of self.now) ix → ⊥ }
         requires can_ask { CanSearch F.FnMut (order_of self.now) (Some ix) asking.old }
@@ -258,7 +299,7 @@ impl MapBTreeTable {
         let Some(root) = &self.root else {
             return (path, 0);
         };
-        match root.descend_left(self.height, asking, how, &Some(ix), &mut path) {
+        match root.descend_to_gap(self.height, asking, how, &Some(ix), hint, &mut path) {
             Ok(_) => unreachable!(),
             Err(full) => (path, full),
         }

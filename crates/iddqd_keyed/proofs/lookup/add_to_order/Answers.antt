@@ -8,13 +8,13 @@ use Rattle.iddqd_keyed.proofs.LiveLemmas.{none_not_live, next_vacant}
 use Rattle.iddqd_keyed.proofs.SortedLemmas.{compared_live, AddsToOrder-prepared}
 use Rattle.iddqd_keyed.proofs.lookup.add_to_order.Goals as goal
 
-pub prepare_insert-requires-clause-absent : goal.prepare_insert-requires-clause-absent
-prepare_insert-requires-clause-absent g c = λ here.
+pub prepare_insert_near-requires-clause-absent : goal.prepare_insert_near-requires-clause-absent
+prepare_insert_near-requires-clause-absent g c = λ here.
     let s = handle_store c.args.handle.now in
     none_not_live s _ (next_vacant s c.requires.valid) (subst (IsLive s) c.next_index-ix.ensures.index (c.requires.stored _ here))
 
-pub prepare_insert-requires-clause-can_ask : goal.prepare_insert-requires-clause-can_ask
-prepare_insert-requires-clause-can_ask g c =
+pub prepare_insert_near-requires-clause-can_ask : goal.prepare_insert_near-requires-clause-can_ask
+prepare_insert_near-requires-clause-can_ask g c =
     CanAsk-by _ _ (λ f. f ≡ closure_of c.new-asking.result) (λ f f' ix r i h e. search rules)
     (λ f ix i h.
     let live : IsLive (handle_store c.args.handle.now) ix = c.requires.stored ix h.0 in

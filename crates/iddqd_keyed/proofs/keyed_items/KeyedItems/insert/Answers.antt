@@ -21,10 +21,10 @@ store-requires g c =
 missed : (g : _) (c : After-store g) → MayMissBoth (keys_of g.T.KeyedItem g.T.Key1.PartialEq.eq g.T.Key1.Hash.hash_input g.T.Key2.Ord.cmp g.S.BuildHasher g.S.Hasher.Hasher) c.args.self.now c.args.item
 missed g c =
     let keys : Keys _ _ _ _ = keys_of g.T.KeyedItem g.T.Key1.PartialEq.eq g.T.Key1.Hash.hash_input g.T.Key2.Ord.cmp g.S.BuildHasher g.S.Hasher.Hasher in
-    MayMissBoth-from_finds keys c.args.self.now c.args.item c.find_hashed-first.result c.find2-second.result
+    MayMissBoth-from_finds keys c.args.self.now c.args.item c.find_hashed-first.result c.find2_with_hint-second.result.0
     (sym c.is_some.ensures ∙ c.if-is_some.false) (sym c.is_some-else-is_some.ensures ∙ c.if-is_some-2.false)
     (subst (λ k. Finds1 keys c.args.self.now k c.find_hashed-first.result) c.key1-key.ensures c.find_hashed-first.ensures.found)
-    (subst (λ k. Finds2 keys c.args.self.now k c.find2-second.result) c.key2.ensures c.find2-second.ensures.found.found)
+    (subst (λ k. Finds2 keys c.args.self.now k c.find2_with_hint-second.result.0) c.key2.ensures c.find2_with_hint-second.ensures.found.found)
 
 pub returns-clause-inserts : goal.returns-clause-inserts
 returns-clause-inserts g c = Inserts-from_stored _ _ _ _ (missed g c) _ c.store.ensures.stored c.store.ensures.refused c.store.ensures.unchanged
@@ -43,8 +43,8 @@ returns-then-is_some-clause-inserts g c =
     record {
       given_back = refl;
       first_found = subst (λ k. Finds1 keys c.args.self.now k c.find_hashed-first.result) c.key1-key.ensures c.find_hashed-first.ensures.found;
-      second_found = subst (λ k. Finds2 keys c.args.self.now k c.find2-second.result) c.key2.ensures c.find2-second.ensures.found.found;
-      one_hit = let hit : IsSome c.find_hashed-first.result ⊎ IsSome c.find2-second.result = search rules in hit;
+      second_found = subst (λ k. Finds2 keys c.args.self.now k c.find2_with_hint-second.result.0) c.key2.ensures c.find2_with_hint-second.ensures.found.found;
+      one_hit = let hit : IsSome c.find_hashed-first.result ⊎ IsSome c.find2_with_hint-second.result.0 = search rules in hit;
       unchanged = refl;
     }
 
@@ -53,5 +53,5 @@ returns-then-is_some-clause-tells g c =
     let keys : Keys _ _ _ _ = keys_of g.T.KeyedItem g.T.Key1.PartialEq.eq g.T.Key1.Hash.hash_input g.T.Key2.Ord.cmp g.S.BuildHasher g.S.Hasher.Hasher in
     record {
       first = subst (λ k. FirstKeysInOrder keys c.args.self.now → AnswersScan c.args.self.now.store (has_first keys k) c.find_hashed-first.result) c.key1-key.ensures c.find_hashed-first.ensures.as_scan;
-      second = subst (λ k. SecondKeysInOrder keys c.args.self.now → AnswersScan c.args.self.now.store (has_second keys k) c.find2-second.result) c.key2.ensures c.find2-second.ensures.found.as_scan;
+      second = subst (λ k. SecondKeysInOrder keys c.args.self.now → AnswersScan c.args.self.now.store (has_second keys k) c.find2_with_hint-second.result.0) c.key2.ensures c.find2_with_hint-second.ensures.found.as_scan;
     }

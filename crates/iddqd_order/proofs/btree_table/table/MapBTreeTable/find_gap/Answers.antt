@@ -21,8 +21,8 @@ returns-in_default g c =
       place = λ answer s. IsPlace-none _ _ _ none.list none.place;
     }
 
-pub descend_left-requires : goal.descend_left-requires
-descend_left-requires g c =
+pub descend_to_gap-requires : goal.descend_to_gap-requires
+descend_to_gap-requires g c =
     let r = root_of c.args.self.now _ _ _ _ _ c.in-Some.root c.self.view_is c.self.invariant c.in-Some.is in
     record {
       formed = r.formed;
@@ -43,7 +43,7 @@ returns g c =
     let r = root_of c.args.self.now _ _ _ _ _ c.in-Some.root c.self.view_is c.self.invariant c.in-Some.is in
     let d = c.in-Err.ensures.descends in
     let s = Searches-from_descends g.F.FnMut (g.H.Reads.reading c.args.how.now) (Some c.args.ix) _ _ _ _ _ _ (omega arith) r.formed r.some d in
-    let t = subst (λ xs. Searches g.F.FnMut (g.H.Reads.reading c.args.how.now) xs (Some c.args.ix) c.args.asking.now (Err (place c.self.inside.height c.in-Some.root c.descend_left.new.path)) c.descend_left.new.asking) r.list s in
+    let t = subst (λ xs. Searches g.F.FnMut (g.H.Reads.reading c.args.how.now) xs (Some c.args.ix) c.args.asking.now (Err (place c.self.inside.height c.in-Some.root c.descend_to_gap.new.path)) c.descend_to_gap.new.asking) r.list s in
     record {
       goes = rw (r.root, r.height) d.goes;
       full = rw (r.root, r.height) d.full_below;
