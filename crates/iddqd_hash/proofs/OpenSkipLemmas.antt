@@ -1,7 +1,6 @@
 -- Walks past places that are neither empty nor have a tag.
-use Rattle.std.proofs.Common.{◌≡◌, ◌≢◌, ◌∙◌, ◌==◌, ◌||◌, ℕ, ◌+◌, ◌-◌, ◌%◌, ◌<◌, ◌≤◌, Bool, true, false, List, Option, Some, length, slice_index, ltb, ltb-true, ltb-false, eq-eqb, eqb-true, inl, inr, refl, sym, ap, subst, arith}
+use Rattle.std.proofs.Common.{◌≡◌, ◌≢◌, ◌∙◌, ◌==◌, ◌||◌, ℕ, ◌+◌, ◌-◌, ◌%◌, ◌<◌, ◌≤◌, Bool, true, false, List, Option, Some, length, slice_index, ltb, ltb-true, ltb-false, eq-eqb, refl, sym, ap, subst, arith}
 use Rattle.std.proofs.Math.Nat.{mod-eq_of_lt, mod-lt}
-use Rattle.std.proofs.lemmas.Bool.{cases_eq}
 use Rattle.iddqd_hash.specs.OpenTable.{tag_of, is_stop, slot_at, NoStops, AllFull, Skips, IsReached, IsProbed, PassesBy}
 use Rattle.iddqd_hash.proofs.OpenWalkLemmas.{onward}
 use Rattle.iddqd_hash.proofs.OpenLookupLemmas.{tag_read}
@@ -16,16 +15,6 @@ other_tag tag here other =
     let both = or_false (here == tag) (here == 0) other in
     let some : here ≢ 0 = λ none. let yes : (here == 0) ≡ true = eq-eqb here 0 none in let no : (here == 0) ≡ false = both.1 in cc in
     (λ same. let yes : (here == tag) ≡ true = eq-eqb here tag same in let no : (here == tag) ≡ false = both.0 in cc, omega arith)
-
--- a stop that isn't empty has the tag
-pub stop_tag : (tag here : ℕ) → is_stop tag here ≡ true → here ≢ 0 → here ≡ tag
-stop_tag tag here stop some =
-    elim (here == tag) as (λ b. (here == tag) ≡ b → here ≡ tag) [
-      | true ↦ λ is. eqb-true here tag is
-      | false ↦ λ is.
-          let zero_here : (here == 0) ≡ true = rw is at stop in
-          absurd (some (eqb-true here 0 zero_here))
-    ] refl
 
 pub Skips-run : (tags : List ℕ) (tag at run place : ℕ) → at + run ≤ length tags → NoStops tag tags at run → (at + run) % length tags ≡ place → Skips tags tag at place
 Skips-run tags tag at run place inside none is =
@@ -53,33 +42,6 @@ IsReached-skips tags tag from at skips =
       is_there = skips.is_there;
       passed = λ k below. (other_tag tag _ (skips.others k below)).1;
     }
-
-module _ (tags : List ℕ) (tag from a b : ℕ) (first : Skips tags tag from a) (other : is_stop tag (slice_index tags a) ≡ false) (second : Skips tags tag ((a + 1) % length tags) b) where
-  moved : (j : ℕ) → (from + (first.steps + (1 + j))) % length tags ≡ ((a + 1) % length tags + j) % length tags
-  moved j =
-      sym (onward (length tags) from first.steps (1 + j)) ∙ ap (λ x. (x + (1 + j)) % length tags) first.is_there ∙ sym (onward (length tags) a 1 j)
-
-  pub Skips-on : Skips tags tag from b
-  Skips-on =
-      record {
-        steps = first.steps + (1 + second.steps);
-        is_there = moved second.steps ∙ second.is_there;
-        others = λ k below.
-            elim (ltb k first.steps) as (λ b. ltb k first.steps ≡ b → is_stop tag (slice_index tags ((from + k) % length tags)) ≡ false) [
-              | true ↦ λ is. first.others k (ltb-true _ _ is)
-              | false ↦ λ is. beyond k below (ltb-false _ _ is)
-            ] refl;
-      }
-    where
-      beyond : (k : ℕ) → k < first.steps + (1 + second.steps) → first.steps ≤ k → is_stop tag (slice_index tags ((from + k) % length tags)) ≡ false
-      beyond k below past =
-          elim (cases_eq k first.steps) [
-            | inl same ↦ subst (λ x. is_stop tag (slice_index tags x) ≡ false) (sym (ap (λ x. (from + x) % length tags) same ∙ first.is_there)) other
-            | inr differ ↦
-                let j : ℕ = k - (first.steps + 1) in
-                let k-is : k ≡ first.steps + (1 + j) = omega arith in
-                subst (λ x. is_stop tag (slice_index tags x) ≡ false) (sym (ap (λ x. (from + x) % length tags) k-is ∙ moved j)) (second.others j (omega arith))
-          ]
 
 -- a walk that passes by what isn't under a hash goes on past places that have other tags
 module _ {T : Type 0} (tags : List ℕ) (slots : List (Option (ℕ × T))) (hash from a b : ℕ) (probed : IsProbed tags slots) (some : 0 < length tags) (by : PassesBy tags slots hash from a) (skips : Skips tags (tag_of hash) a b) where

@@ -8,7 +8,7 @@ ghost use Rattle.iddqd_hash.specs.Asks.{CanAsk, FindsPlace, Keeps};
 ghost use Rattle.iddqd_hash.specs.HashTable.{under, value_of, values, Rewrites};
 ghost use Rattle.iddqd_hash.specs.OpenTable.{tag_of, limit_of, is_used, hashes_of, pair_in, slots_of, slot_at, pairs, IsPowerOfTwo, HasEmpty, IsProbed, FindsNext};
 
-use crate::open_table::tags::{LARGE, free_place, home_of, next, next_stop, tag_of};
+use crate::open_table::tags::{LARGE, free_place, home_of, next, past_others, tag_of};
 use std::alloc::{AllocError, Global};
 use std::mem::{self, ManuallyDrop};
 
@@ -45,6 +45,7 @@ pub fn value_in<T>(cell: &Cell<T>) -> &T
 }
 
 /// The first place from `from` on that has a pair under the hash, or none where an empty cell comes first.
+#[inline(always)]
 pub fn next_match<T>(tags: &[u8], cells: &[Cell<T>], from: usize, hash: u64) -> Option<usize>
     requires power { IsPowerOfTwo (length tags.now) }
     requires ends { HasEmpty tags.now }
@@ -54,17 +55,18 @@ pub fn next_match<T>(tags: &[u8], cells: &[Cell<T>], from: usize, hash: u64) -> 
 {
     let count = tags.len();
     let tag = tag_of(hash);
-    let mut at = next_stop(tags, from, tag);
+    let mut at = past_others(tags, from, tag);
     while tags[at] != 0 {
-        if cells[at].hash == hash {
+        if tags[at] == tag && cells[at].hash == hash {
             return Some(at);
         }
-        at = next_stop(tags, next(at, count), tag);
+        at = past_others(tags, next(at, count), tag);
     }
     None
 }
 
 /// The first place from the home of a hash on that has a pair under it, or none where an empty cell comes first.
+#[inline(always)]
 pub fn first_match<T>(tags: &[u8], cells: &[Cell<T>], hash: u64) -> Option<usize>
     requires power { IsPowerOfTwo (length tags.now) }
     requires ends { HasEmpty tags.now }
@@ -79,6 +81,7 @@ pub fn first_match<T>(tags: &[u8], cells: &[Cell<T>], hash: u64) -> Option<usize
 }
 
 /// The place and the value of the pair that a look-up hits.
+#[inline(always)]
 pub fn find_cell<'a, T, F: FnMut(&T) -> bool>(
     tags: &[u8],
     cells: &'a [Cell<T>],
@@ -92,14 +95,13 @@ pub fn find_cell<'a, T, F: FnMut(&T) -> bool>(
     ensures place { FindsPlace (CalledAt F.FnMut) eq hash (under hash (pairs (slots_of cells.now))) (slot_at (slots_of cells.now)) (option_map (λ found. found.0) result) }
     ensures value { IfSome result (λ found. slot_at (slots_of cells.now) found.0 ≡ Some (hash, found.1.now)) }
 {
-    let count = tags.len();
     let mut found = first_match(tags, cells, hash);
     while let Some(place) = found {
         let value = value_in(&cells[place]);
         if eq(value) {
             return Some((place, value));
         }
-        found = next_match(tags, cells, next(place, count), hash);
+        found = next_match(tags, cells, next(place, tags.len()), hash);
     }
     None
 }

@@ -4,7 +4,7 @@
 //! full, and the tag has the top seven bits of the hash. A walk goes from the home of a hash by steps of
 //! one, the first place after the last, up to an empty cell.
 ghost use Rattle.std.specs.Prelude.{◌≡◌, ◌+◌, ◌<◌, ◌≤◌, ◌%◌, ◌⊎◌, length, slice_index, IfSome, IsTrue};
-ghost use Rattle.iddqd_hash.specs.OpenTable.{tag_of, limit_of, is_stop, IsPowerOfTwo, HasEmpty, Skips, IsFree, IsReached, Passed};
+ghost use Rattle.iddqd_hash.specs.OpenTable.{tag_of, limit_of, IsPowerOfTwo, HasEmpty, Skips, IsFree, IsReached, Passed};
 
 use crate::open_table::lanes::{run_of_full, run_of_others};
 
@@ -73,30 +73,8 @@ fn past_full(tags: &[u8], at: usize) -> usize
     (at + run_of_full(tags, at)) & (tags.len() - 1)
 }
 
-/// The first place from `from` on that is empty or has the tag.
-pub fn next_stop(tags: &[u8], from: usize, tag: u8) -> usize
-    requires power { IsPowerOfTwo (length tags.now) }
-    requires ends { HasEmpty tags.now }
-    requires inside { from < length tags.now }
-    ensures skipped { Skips tags.now tag from result }
-    ensures stop { IsTrue (is_stop tag (slice_index tags.now result)) }
-{
-    let count = tags.len();
-    let mut at = past_others(tags, from, tag);
-    while !is_stop(tags[at], tag) {
-        at = past_others(tags, next(at, count), tag);
-    }
-    at
-}
-
-fn is_stop(here: u8, tag: u8) -> bool
-    ensures { result ≡ is_stop tag here }
-{
-    here == tag || here == 0
-}
-
-// A place from `at` on with no stop before it.
-fn past_others(tags: &[u8], at: usize, tag: u8) -> usize
+/// A place from `at` on, the first after the last, before which none is empty or has the tag.
+pub fn past_others(tags: &[u8], at: usize, tag: u8) -> usize
     requires power { IsPowerOfTwo (length tags.now) }
     requires inside { at < length tags.now }
     ensures { Skips tags.now tag at result }
