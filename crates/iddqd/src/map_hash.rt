@@ -6,9 +6,10 @@
 ghost use Rattle.std.specs.Prelude.{◌≡◌, ◌↔◌, Bool, IsTrue};
 ghost use Rattle.std.specs.declared.cmp.Ordering.{Ordering};
 ghost use Rattle.std.specs.declared.cmp.Ordering.TheVariants.{Less, Equal, Greater};
+ghost use Rattle.iddqd.specs.MapHash.{hash_one};
 
 use std::cmp::Ordering;
-use std::hash::{Hash, Hasher};
+use std::hash::{BuildHasher, Hash, Hasher};
 use std::marker::Model;
 
 /// A query that may be equivalent to a key.
@@ -123,6 +124,14 @@ impl MapHash {
         ensures { result ≡ self.now }
     {
         self.hash
+    }
+
+    /// Whether it is the hash of the key under the state.
+    pub fn is_same_hash<S: BuildHasher, K: Hash + Drop>(&self, state: &S, key: K) -> bool
+        ensures { IsTrue result ↔ (self.now ≡ hash_one S.BuildHasher S.Hasher.Hasher state.now (K.hash_input key)) }
+    {
+        let Self { hash } = *self;
+        hash == state.hash_one(key)
     }
 }
 

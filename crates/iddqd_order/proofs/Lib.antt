@@ -1,4 +1,5 @@
 pub mod AskLemmas
+mod CopyLemmas
 mod CountSteps
 mod DescentLemmas
 mod DigitLemmas
@@ -14,10 +15,12 @@ mod PartLemmas
 mod ReckoningLemmas
 mod RemovalLemmas
 pub mod RenameLemmas
+mod RetainLemmas
 pub mod RowLemmas
 mod SearchLemmas
 pub mod TableLemmas
 pub mod TreeLemmas
 mod WalkLemmas
+mod WayLemmas
 pub mod WeaveLemmas
 mod WeaveRemovalLemmas

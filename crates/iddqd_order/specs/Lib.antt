@@ -1,8 +1,10 @@
 pub mod Asking
 pub mod Asks
+pub mod Copies
 pub mod Descent
 pub mod Digits
 pub mod Gap
+pub mod IntoIter
 pub mod Iter
 pub mod KeyOrder
 pub mod MapBTreeTable
@@ -10,7 +12,10 @@ pub mod Node
 pub mod PreparedBTreeInsert
 pub mod PreparedBTreeRemove
 pub mod Removal
+pub mod Retain
 pub mod Row
 pub mod Search
+pub mod State
 pub mod Tree
 pub mod Walk
+pub mod Ways

@@ -3,9 +3,11 @@
 //! No table holds keys. Each search takes an [`Asking`](asking::Asking), which is asked about
 //! stored indexes and counts how often. `Less` means that what is sought stands before the index.
 pub mod asking;
+mod copies;
 mod descent;
 mod ends;
 pub mod gap;
+pub mod into_iter;
 pub mod iter;
 pub mod key_order;
 mod node;
@@ -15,16 +17,20 @@ pub mod prepared_remove;
 mod reading;
 mod removal;
 mod renaming;
+mod retain;
 mod row;
 mod search;
 #[cfg(test)]
 mod shape;
+mod state;
 pub mod table;
 mod tree;
 mod walk;
+mod ways;
 
 pub use asking::Asking;
 pub use gap::Hint;
+pub use into_iter::IntoIter;
 pub use iter::Iter;
 pub use prepared_insert::PreparedBTreeInsert;
 pub use prepared_remove::PreparedBTreeRemove;

@@ -10,11 +10,13 @@ use std::process::Abort;
 
 mod asks;
 mod callers;
+mod copies;
 mod depths;
 mod hints;
 mod keys;
 mod lying;
 mod remaps;
+mod retains;
 mod trees;
 mod walk;
 

@@ -23,7 +23,8 @@ impl Model for Path {
 
 impl Path {
     pub fn new() -> Path
-        ensures { length result ≡ 12 }
+        ensures length { length result ≡ 12 }
+        ensures first { (l : ℕ) → slice_index result l ≡ 0 }
     {
         Path {
             places: [0; LEVELS],
@@ -45,5 +46,21 @@ impl Path {
         ensures length { length self.new ≡ 12 }
     {
         self.places[level] = place as u8;
+    }
+
+    // Sets the place at a level, and the first place at each level below.
+    pub fn turn(&mut self, level: usize, place: usize)
+        requires path { length self.old ≡ 12 }
+        requires level { level < 12 }
+        requires place { place ≤ 12 }
+        ensures here { slice_index self.new level ≡ place }
+        ensures below { (l : ℕ) → l < level → slice_index self.new l ≡ 0 }
+        ensures above { (l : ℕ) → level < l → slice_index self.new l ≡ slice_index self.old l }
+        ensures length { length self.new ≡ 12 }
+    {
+        for l in 0..level {
+            self.set(l, 0);
+        }
+        self.set(level, place);
     }
 }

@@ -32,7 +32,7 @@ pub fn take_out(root: &mut Option<Node>, height: usize, path: &Path, level: usiz
 }
 
 // Lets go of a root without indexes: its only child, if there is one, is the new root.
-fn lower(root: &mut Option<Node>, height: usize) -> usize
+pub fn lower(root: &mut Option<Node>, height: usize) -> usize
     requires { IsEmptied root.old height }
     ensures tree { IsTree root.new result }
     ensures items { in_order root.new result ≡ in_order root.old height }
@@ -90,7 +90,7 @@ impl Node {
     }
 
     // Takes out the last index of all. The node may be left with one index less.
-    fn remove_last(&mut self, height: usize) -> ItemIndex
+    pub fn remove_last(&mut self, height: usize) -> ItemIndex
         requires some { 1 ≤ length (row self.old) }
         requires formed { IsFormed height self.old }
         ensures items { flat height self.old ≡ flat height self.new ++ result ∷ [] }

@@ -66,6 +66,15 @@ impl Row {
         items[at] = ix;
     }
 
+    pub fn copy(&self) -> Row
+        ensures { result ≡ self.now }
+    {
+        Row {
+            items: self.items,
+            len: self.len,
+        }
+    }
+
     pub fn insert(&mut self, at: usize, ix: ItemIndex)
         requires in_bounds { at ≤ length self.old }
         requires room { length self.old < 11 }

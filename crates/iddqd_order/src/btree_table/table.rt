@@ -1,5 +1,5 @@
 //! The table: a tree of distinct indexes, searched from the root down.
-ghost use Rattle.std.specs.Prelude.{◌≡◌, ◌≢◌, ℕ, ◌+◌, ◌-◌, ◌<◌, ◌≤◌, [], length, map, slice_get, slice_index, is_some, IfOk, IsOk, IsSome, Contains, insert, IsTrue, false, Some, None};
+ghost use Rattle.std.specs.Prelude.{◌≡◌, ◌≢◌, ◌↔◌, ℕ, ◌+◌, ◌-◌, ◌<◌, ◌≤◌, [], length, map, slice_get, slice_index, is_some, IfOk, IsOk, IsSome, Contains, insert, IsTrue, false, Some, None};
 ghost use Rattle.std.specs.declared.cmp.Ordering.{Ordering};
 ghost use Rattle.iddqd.specs.Compaction.{CanRemap, remapped};
 ghost use Rattle.iddqd_order.specs.MapBTreeTable.{order_of, without, sentinel, IsIndexList, LeadsTo};
@@ -7,8 +7,10 @@ ghost use Rattle.iddqd_order.specs.Tree.{GoesIn, place_in, FullIn, HoldsIn, spot
 ghost use Rattle.iddqd_order.specs.Search.{CanSearch, SearchAsks, IsSteadyRising, IsPlace, Finds, with_ties};
 
 use crate::btree_table::asking::Asking;
+use crate::btree_table::copies::copy_of;
 use crate::btree_table::ends::{first_in, last_in};
 use crate::btree_table::gap::Hint;
+use crate::btree_table::into_iter::IntoIter;
 use crate::btree_table::iter::{Iter, Rest};
 use crate::btree_table::node::Node;
 use crate::btree_table::path::Path;
@@ -17,15 +19,19 @@ use crate::btree_table::prepared_remove::PreparedBTreeRemove;
 use crate::btree_table::reading::{AsOrdering, ByKey, ByQuery, Reads};
 use crate::btree_table::removal::take_out;
 use crate::btree_table::renaming::rename_in;
+use crate::btree_table::retain::retain_in;
 #[cfg(test)]
 use crate::btree_table::shape::count_in;
+use crate::btree_table::state::State;
 use crate::btree_table::tree::{put_in, take_blocks};
+use iddqd::hash_builder::DefaultHashBuilder;
 use iddqd::index_remap::IndexRemap;
 use iddqd::item_index::ItemIndex;
-use iddqd::map_hash::Comparable;
+use iddqd::map_hash::{Comparable, MapHash};
 use std::alloc::{AllocError, Global};
 use std::cmp::Ordering;
 use std::fmt;
+use std::hash::{BuildHasher, Hash};
 use std::marker::Model;
 
 /// A list of distinct indexes, none of them `SENTINEL`.
@@ -42,6 +48,7 @@ pub struct MapBTreeTable {
     len: usize,
     // Empty blocks, which prepared inserts took and have not used.
     blocks: Vec<Vec<Node>>,
+    state: State,
     alloc: Global,
 }
 
@@ -64,11 +71,17 @@ impl Model for MapBTreeTable {
 #[tactic(auto, unfolding(crate::specs::MapBTreeTable::order_of))]
 impl MapBTreeTable {
     ghost use Rattle.std.specs.Borrow.{sem};
+    ghost use Rattle.iddqd_order.specs.Asks.{CanAsk};
+    ghost use Rattle.iddqd_order.specs.IntoIter.{indexes_to_come};
     ghost use Rattle.iddqd_order.specs.Iter.{indexes_left};
     ghost use Rattle.iddqd_order.specs.PreparedBTreeInsert.{rests_if_refused, PreparesInsert};
     ghost use Rattle.iddqd_order.specs.PreparedBTreeInsert as prepared_insert;
     ghost use Rattle.iddqd_order.specs.PreparedBTreeRemove.{PreparesRemoval};
     ghost use Rattle.iddqd_order.specs.PreparedBTreeRemove as prepared_remove;
+    ghost use Rattle.iddqd_order.specs.Retain.{Retains};
+    ghost use Rattle.iddqd_order.specs.State.{default_hash};
+    ghost use Rattle.std.specs.Hash.BuildHasherDefault.{initial_hasher};
+    ghost use Rattle.std.specs.Hash.FoldHasher.{initial};
 
     /// The empty table. It takes no memory.
     pub fn new(alloc: Global) -> MapBTreeTable
@@ -79,6 +92,7 @@ impl MapBTreeTable {
             height: 0,
             len: 0,
             blocks: Vec::new(alloc),
+            state: State::new(),
             alloc,
         }
     }
@@ -111,6 +125,58 @@ impl MapBTreeTable {
         ensures indexes { IsIndexList (order_of self.now) }
     {
         Iter::new(&self.root, self.height, self.len)
+    }
+
+    /// The indexes in the table's order, which give the table up. It takes no memory.
+    pub fn into_iter(self) -> IntoIter
+        ensures to_come { indexes_to_come result ≡ order_of self }
+        ensures indexes { IsIndexList (order_of self) }
+    {
+        let MapBTreeTable {
+            root,
+            height,
+            len,
+            ..
+        } = self;
+        IntoIter::new(root, height, len)
+    }
+
+    /// Whether the index is stored, by a walk along the list that asks nothing.
+    pub fn contains_index(&self, ix: ItemIndex) -> bool
+        ensures { IsTrue result ↔ Contains (order_of self.now) ix }
+    {
+        let Some(root) = &self.root else {
+            return false;
+        };
+        let mut path = Path::new();
+        root.locate(self.height, ix, &mut path).is_some()
+    }
+
+    /// Keeps exactly the indexes at which `f` answers true, in their order.
+    ///
+    /// `f` is asked about each index once, in the table's order. No memory is taken. Each index that
+    /// is kept is moved at most once, and each step costs at most as much as a search.
+    pub fn retain<F: FnMut(ItemIndex) -> bool>(&mut self, f: F)
+        requires { CanAsk F.FnMut (Contains (order_of self.old)) f }
+        ensures { Retains F.FnMut f (order_of self.old) (order_of self.new) }
+    {
+        let (height, len) = retain_in(&mut self.root, self.height, self.len, f);
+        self.height = height;
+        self.len = len;
+    }
+
+    /// The table's own build hasher, which is the default one in every table.
+    pub fn state(&self) -> &DefaultHashBuilder
+        ensures { initial_hasher result.now ≡ initial }
+    {
+        self.state.builder()
+    }
+
+    /// The hash of the key under the table's own build hasher.
+    pub fn compute_hash<K: Hash + Drop>(&self, key: K) -> MapHash
+        ensures { result ≡ default_hash (K.hash_input key) }
+    {
+        MapHash::new(self.state().hash_one(key))
     }
 
     /// Removes all indexes. It takes no memory.
@@ -517,6 +583,22 @@ impl MapBTreeTable {
     #[cfg(test)]
     pub fn is_formed(&self) -> bool {
         count_in(&self.root, self.height) == Some(self.len)
+    }
+}
+
+// Where memory is refused, the nodes copied so far are let go.
+impl Clone for MapBTreeTable {
+    ghost is_clone = { λ table copy. order_of copy ≡ order_of table };
+
+    fn clone(&self) -> Result<MapBTreeTable, AllocError> {
+        Ok(MapBTreeTable {
+            root: copy_of(&self.root, self.height, self.alloc)?,
+            height: self.height,
+            len: self.len,
+            blocks: Vec::new(self.alloc),
+            state: self.state,
+            alloc: self.alloc,
+        })
     }
 }
 

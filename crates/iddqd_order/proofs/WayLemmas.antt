@@ -1,0 +1,411 @@
+-- Ways: what a step along one leaves, and what stays of them where an index is put in the place of another.
+use Rattle.std.proofs.Common.{◌≡◌, ◌≢◌, ◌∙◌, ℕ, zero, suc, ◌+◌, ◌-◌, ◌<◌, ◌≤◌, List, [], ◌∷◌, ◌++◌, length, get_or, set, slice_index, slice_set, map, refl, sym, ap, subst, arith, Option, Some, None, IsNone, IfSome, IsTrue, ◌↔◌, Contains, Bool, is_some, true, false, sub-one, length-append, length-set, get_or-set_same, get_or-set_other, All, inl, inr}
+use Rattle.std.proofs.lemmas.Bool.{cases_lt, cases_eq}
+use Rattle.std.proofs.lemmas.List.{append-nil, length-map, map-set, set-append_left, set-append_right}
+use Rattle.std.proofs.lemmas.List.Elements.{All-set}
+use Rattle.iddqd_order.specs.declared.btree_table.node.Node.{Node}
+use Rattle.iddqd_order.specs.declared.btree_table.ways.Way.{Way}
+use Rattle.iddqd_order.specs.Node.{row, children, child, room, weave, before, after, flat, IsInner, IsFormed, Holds, spot}
+use Rattle.iddqd_order.specs.Tree.{IsTree}
+use Rattle.iddqd_order.specs.Ways.{StepsOn, SamePlaces, IsWay, IsWayIn}
+use Rattle.iddqd_order.proofs.NodeLemmas.{lists, AreChildren, formed-leaf, leaf-formed, flat-leaf, formed-inner, inner-formed, formed-within, flat-inner, any_default}
+use Rattle.iddqd_order.proofs.RemovalLemmas.{holds-leaf, holds-at, holds-level, holds-below, spot-leaf, spot-at, spot-below, spot-within}
+use Rattle.iddqd_order.proofs.DescentLemmas.{index_place, after-last, before-more, lists-one_more, lists-at, child-within, child-formed, holds-here, below-holds, spot-here, spot-row, spot-child}
+use Rattle.iddqd_order.proofs.IndexListLemmas.{Contains-at}
+use Rattle.iddqd_order.proofs.WeaveLemmas.{apart, before-set, after-set}
+
+-- the first way goes to the first index
+pub record IsFirst (h : ℕ) (n : Node) (p : List ℕ) : Type 0 where
+  pub holds : Holds 0 h n p
+  pub place : spot 0 h n p ≡ 0
+
+pub first-way : (h : ℕ) (n : Node) (p : List ℕ) → IsFormed h n → 1 ≤ length (row n) → ((m : ℕ) → m ≤ h → slice_index p m ≡ 0) → IsFirst h n p
+first-way zero n p f some zeros =
+    let z = zeros 0 (omega arith) in
+    record { holds = holds-here 0 n p (omega arith); place = spot-leaf 0 0 n p refl ∙ z }
+first-way (suc h) n p f some zeros =
+    let ne : suc h ≢ 0 = λ e. absurd (omega arith) in
+    let here : slice_index p (suc h) ≡ 0 = zeros (suc h) (omega arith) in
+    let fs = formed-inner (suc h) n ne f in
+    let one = fs.inner.one_more in
+    let lt : 0 < length (children n) = omega arith in
+    let five = (fs.below 0 n lt).0 in
+    let below : IsFormed h (child n 0) = rw sub-one at (child-formed (suc h) n 0 ne f lt) in
+    let ih = first-way h (child n 0) p below (omega arith) (λ m le. zeros m (omega arith)) in
+    record {
+      holds = below-holds 0 (suc h) n p ne (rw here lt) (rw (here, sub-one) ih.holds);
+      place =
+          let below : spot 0 (suc h) n p ≡ 0 + spot 0 h (child n 0) p = rw (here, sub-one) at (spot-below 0 (suc h) n p ne (λ e. absurd (omega arith))) in
+          let none = ih.place in
+          omega arith;
+    }
+
+-- a step in a leaf
+pub steps-leaf : (h l i : ℕ) (n : Node) (p q : List ℕ) → h ≡ 0 → i ≡ slice_index p h → Holds l h n p → i + 1 < length (row n) → slice_index q 0 ≡ i + 1 → StepsOn h n l p (Some 0) q
+steps-leaf (suc h) l i n p q e ei w lt next = absurd (omega arith)
+steps-leaf zero l i n p q e ei w lt next =
+    (holds-here 0 n q (omega arith), spot-leaf 0 0 n q refl ∙ next ∙ ap (λ z. z + 1) ei ∙ ap (λ z. z + 1) (sym (spot-leaf l 0 n p refl)))
+
+pub ends-leaf : (h l i : ℕ) (n : Node) (p q : List ℕ) → h ≡ 0 → i ≡ slice_index p h → Holds l h n p → length (row n) ≤ i + 1 → StepsOn h n l p None q
+ends-leaf (suc h) l i n p q e ei w le = absurd (omega arith)
+ends-leaf zero l i n p q e ei w le =
+    let lt = holds-leaf l 0 n p refl w in
+    rw (flat-leaf zero n refl, spot-leaf l 0 n p refl) (omega arith)
+
+-- from an index of an inner node to the first one below the next child
+pub steps-here : (h l i : ℕ) (n : Node) (p q : List ℕ) → h ≢ 0 → h ≡ l → i ≡ slice_index p h → IsFormed h n → Holds l h n p → slice_index q h ≡ i + 1 → ((m : ℕ) → m < h → slice_index q m ≡ 0)
+    → StepsOn h n l p (Some 0) q
+steps-here h l i n p q ne e ei f w next zeros =
+    let at : slice_index p h < length (row n) = holds-at l h n p ne e w in
+    let one = (formed-inner h n ne f).inner.one_more in
+    let lt : i + 1 < length (children n) = omega arith in
+    let five = ((formed-inner h n ne f).below (i + 1) n lt).0 in
+    let first = first-way (h - 1) (child n (i + 1)) q (child-formed h n (i + 1) ne f lt) (omega arith) (λ m le. zeros m (omega arith)) in
+    let xs : List ℕ = row n in let ks : List (List ℕ) = lists (h - 1) (children n) in
+    let more = before-more i xs ks 0 (omega arith) (lists-one_more h n ne f) in
+    let here = lists-at (h - 1) n i (omega arith) in
+    let was : spot l h n p ≡ length (before i xs ks) + length (flat (h - 1) (child n i)) =
+    spot-at l h n p ne e ∙ ap (λ z. length (before z xs ks) + length (flat (h - 1) (child n z))) (sym ei) in
+    let up : suc i ≡ i + 1 = omega arith in
+    let is : spot 0 h n q ≡ length (before (i + 1) xs ks) + spot 0 (h - 1) (child n (i + 1)) q =
+    spot-below 0 h n q ne ne ∙ ap (λ z. length (before z xs ks) + spot 0 (h - 1) (child n z) q) next in
+    let len : length (before (i + 1) xs ks) ≡ length (before i xs ks) + (length (get_or ks i []) + 1) =
+    ap (λ z. length (before z xs ks)) (sym up) ∙ ap length more ∙ length-append (before i xs ks) (get_or ks i [] ++ get_or xs i 0 ∷ []) ∙ ap (λ z. length (before i xs ks) + z) (length-append (get_or ks i []) (get_or xs i 0 ∷ [])) in
+    let same : length (get_or ks i []) ≡ length (flat (h - 1) (child n i)) = ap length here in
+    let none = first.place in
+    (below-holds 0 h n q ne (rw next lt) (rw next first.holds), omega arith)
+
+-- a step below the i-th child
+pub steps-below : (h l i m : ℕ) (n : Node) (p q : List ℕ) → h ≢ 0 → h ≢ l → i ≡ slice_index p h → Holds l h n p → slice_index q h ≡ slice_index p h → StepsOn (h - 1) (child n i) l p (Some m) q
+    → StepsOn h n l p (Some m) q
+steps-below h l i m n p q ne e ei w same s =
+    let down = holds-below l h n p ne e w in
+    let here : slice_index q h ≡ i = same ∙ sym ei in
+    let xs : List ℕ = row n in let ks : List (List ℕ) = lists (h - 1) (children n) in
+    let le = holds-level m (h - 1) (child n i) q s.0 in
+    let was : spot l h n p ≡ length (before i xs ks) + spot l (h - 1) (child n i) p =
+    spot-below l h n p ne e ∙ ap (λ z. length (before z xs ks) + spot l (h - 1) (child n z) p) (sym ei) in
+    let is : spot m h n q ≡ length (before i xs ks) + spot m (h - 1) (child n i) q =
+    spot-below m h n q ne (λ z. absurd (omega arith)) ∙ ap (λ z. length (before z xs ks) + spot m (h - 1) (child n z) q) here in
+    let next = s.1 in
+    (below-holds m h n q ne (rw (here, ei) down.here) (rw here s.0), omega arith)
+
+-- from the last one below the i-th child to the i-th index
+pub steps-out : (h l i : ℕ) (n : Node) (p q : List ℕ) → h ≢ 0 → h ≢ l → i ≡ slice_index p h → IsFormed h n → Holds l h n p → q ≡ p → i < length (row n) → StepsOn (h - 1) (child n i) l p None q
+    → StepsOn h n l p (Some h) q
+steps-out h l i n p q ne e ei f w same lt s =
+    let here : slice_index q h ≡ i = ap (λ z. slice_index z h) same ∙ sym ei in
+    let xs : List ℕ = row n in let ks : List (List ℕ) = lists (h - 1) (children n) in
+    let was : spot l h n p ≡ length (before i xs ks) + spot l (h - 1) (child n i) p =
+    spot-below l h n p ne e ∙ ap (λ z. length (before z xs ks) + spot l (h - 1) (child n z) p) (sym ei) in
+    let is : spot h h n q ≡ length (before i xs ks) + length (flat (h - 1) (child n i)) =
+    spot-at h h n q ne refl ∙ ap (λ z. length (before z xs ks) + length (flat (h - 1) (child n z))) here in
+    (holds-here h n q (rw here lt), omega arith)
+
+-- or to the end of the node
+pub ends-below : (h l i : ℕ) (n : Node) (p q : List ℕ) → h ≢ 0 → h ≢ l → i ≡ slice_index p h → IsFormed h n → Holds l h n p → length (row n) ≤ i → StepsOn (h - 1) (child n i) l p None q
+    → StepsOn h n l p None q
+ends-below h l i n p q ne e ei f w le s =
+    let down = holds-below l h n p ne e w in
+    let xs : List ℕ = row n in let ks : List (List ℕ) = lists (h - 1) (children n) in
+    let one = lists-one_more h n ne f in
+    let in_children : i < length (children n) = rw ei down.here in
+    let len : length ks ≡ length (children n) = length-map (children n) (λ k. flat (h - 1) k) in
+    let was : spot l h n p ≡ length (before i xs ks) + spot l (h - 1) (child n i) p =
+    spot-below l h n p ne e ∙ ap (λ z. length (before z xs ks) + spot l (h - 1) (child n z) p) (sym ei) in
+    let whole : flat h n ≡ before i xs ks ++ (get_or ks i [] ++ []) =
+    flat-inner h n ne ∙ apart i xs ks [] (omega arith) one ∙ ap (λ z. before i xs ks ++ (get_or ks i [] ++ z)) (after-last i xs ks le one) in
+    let all : length (flat h n) ≡ length (before i xs ks) + length (flat (h - 1) (child n i)) =
+    ap length whole ∙ length-append (before i xs ks) (get_or ks i [] ++ []) ∙ ap (λ z. length (before i xs ks) + length z) (append-nil (get_or ks i []) ∙ lists-at (h - 1) n i in_children) in
+    omega arith
+
+-- the index to which a path goes, in the node itself
+pub read-here : (h l i ix : ℕ) (n : Node) (p : List ℕ) → h ≡ l → i ≡ slice_index p h → IsFormed h n → Holds l h n p → i < length (row n) → ix ≡ slice_index (row n) i → ix ≡ slice_index (flat h n) (spot l h n p)
+read-here h l i ix n p e ei f w lt is =
+    is ∙ ap (slice_index (row n)) ei ∙ sym (spot-row h n p f (rw (sym ei) lt)) ∙ ap (λ z. slice_index (flat h n) (spot z h n p)) e
+
+-- and below its i-th child
+pub read-below : (h l i ix : ℕ) (n : Node) (p : List ℕ) → h ≢ 0 → h ≢ l → i ≡ slice_index p h → IsFormed h n → Holds l h n p → ix ≡ slice_index (flat (h - 1) (child n i)) (spot l (h - 1) (child n i) p)
+    → ix ≡ slice_index (flat h n) (spot l h n p)
+read-below h l i ix n p ne e ei f w is =
+    let down = holds-below l h n p ne e w in
+    is ∙ ap (λ z. slice_index (flat (h - 1) (child n z)) (spot l (h - 1) (child n z) p)) ei ∙ sym (spot-child l h n p ne f down.here down.on)
+
+-- where a path goes in a node
+pub holds-row : (h l i : ℕ) (n : Node) (p : List ℕ) → h ≡ l → i ≡ slice_index p h → Holds l h n p → i < length (row n)
+holds-row zero l i n p e ei w = rw ei (holds-leaf l 0 n p refl w)
+holds-row (suc h) l i n p e ei w = rw ei (holds-at l (suc h) n p (λ z. absurd (omega arith)) e w)
+
+pub record GoesBelow (h l i : ℕ) (n : Node) (p : List ℕ) : Type 0 where
+  pub inner : h ≢ 0
+  pub other : h ≢ l
+  pub here : i < length (children n)
+  pub formed : IsFormed (h - 1) (child n i)
+  pub holds : Holds l (h - 1) (child n i) p
+
+pub goes-below : (h l i : ℕ) (n : Node) (p : List ℕ) → l < h → i ≡ slice_index p h → IsFormed h n → Holds l h n p → GoesBelow h l i n p
+goes-below h l i n p lt ei f w =
+    let ne : h ≢ 0 = λ e. absurd (omega arith) in
+    let other : h ≢ l = λ e. absurd (omega arith) in
+    let down = holds-below l h n p ne other w in
+    let in_children : i < length (children n) = rw ei down.here in
+    record {
+      inner = ne;
+      other = other;
+      here = in_children;
+      formed = child-formed h n i ne f in_children;
+      holds = rw ei down.on;
+    }
+
+-- what a step below the i-th child answers, if anything
+pub steps-below_any : (h l i : ℕ) (r : Option ℕ) (n : Node) (p q : List ℕ) → h ≢ 0 → h ≢ l → i ≡ slice_index p h → Holds l h n p → slice_index q h ≡ slice_index p h → is_some r ≡ true → StepsOn (h - 1) (child n i) l p r q
+    → StepsOn h n l p r q
+steps-below_any h l i None n p q ne e ei w same some s = absurd (cc)
+steps-below_any h l i (Some m) n p q ne e ei w same some s = steps-below h l i m n p q ne e ei w same s
+
+pub none-is : (r : Option ℕ) → is_some r ≡ false → r ≡ None
+none-is None e = refl
+none-is (Some m) e = absurd (cc)
+
+-- an index is put in the place of another of its row
+weave-set_own : (i : ℕ) (xs : List ℕ) (ks : List (List ℕ)) (x : ℕ) → i < length xs → length ks ≡ length xs + 1 → weave (set xs i x) ks ≡ set (weave xs ks) (index_place i xs ks) x
+weave-set_own i [] ks x lt e = absurd (omega arith)
+weave-set_own i (y ∷ xs) [] x lt e = absurd (omega arith)
+weave-set_own zero (y ∷ xs) (k ∷ ks) x lt e =
+    let none : 0 + length k - length k ≡ 0 = omega arith in
+    sym (set-append_right k (y ∷ weave xs ks) (length k) (0 + length k) x refl (omega arith) ∙ ap (λ z. k ++ set (y ∷ weave xs ks) z x) none)
+weave-set_own (suc i) (y ∷ xs) (k ∷ ks) x lt e =
+    let ih = weave-set_own i xs ks x (omega arith) (omega arith) in
+    let len : length (k ++ y ∷ before i xs ks) ≡ length k + suc (length (before i xs ks)) = length-append k (y ∷ before i xs ks) in
+    let at : length (k ++ y ∷ before i xs ks) + length (get_or ks i []) - length k ≡ suc (index_place i xs ks) = omega arith in
+    ap (λ z. k ++ y ∷ z) ih
+    ∙ sym (set-append_right k (y ∷ weave xs ks) (length k) (length (k ++ y ∷ before i xs ks) + length (get_or ks i [])) x refl (omega arith) ∙ ap (λ z. k ++ set (y ∷ weave xs ks) z x) at)
+
+-- or below it
+weave-set_below : (i : ℕ) (xs : List ℕ) (ks : List (List ℕ)) (k : List ℕ) (q x : ℕ) → i < length ks → length ks ≡ length xs + 1 → q < length (get_or ks i []) → k ≡ set (get_or ks i []) q x
+    → weave xs (set ks i k) ≡ set (weave xs ks) (length (before i xs ks) + q) x
+weave-set_below i xs ks k q x p e w is =
+    let b : List ℕ = before i xs ks in
+    let a : List ℕ = after i xs ks in
+    let g : List ℕ = get_or ks i [] in
+    let new : weave xs (set ks i k) ≡ before i xs (set ks i k) ++ (get_or (set ks i k) i [] ++ after i xs (set ks i k)) = apart i xs (set ks i k) [] (omega (arith, length-set ks i k)) (omega (arith, length-set ks i k)) in
+    let here : get_or (set ks i k) i [] ≡ k = get_or-set_same ks i k [] p in
+    let new2 : weave xs (set ks i k) ≡ b ++ (k ++ a) = cc (new, here, before-set i xs ks k, after-set i xs ks k e) in
+    let old : weave xs ks ≡ b ++ (g ++ a) = apart i xs ks [] p e in
+    let c1 : set (b ++ (g ++ a)) (length b + q) x ≡ b ++ set (g ++ a) (length b + q - length b) x = set-append_right b (g ++ a) (length b) (length b + q) x refl (omega arith) in
+    let c2 : length b + q - length b ≡ q = omega arith in
+    let c3 : set (g ++ a) q x ≡ set g q x ++ a = set-append_left g a q x w in
+    new2 ∙ ap (λ z. b ++ (z ++ a)) is ∙ ap (λ z. b ++ z) (sym c3) ∙ ap (λ z. b ++ set (g ++ a) z x) (sym c2) ∙ sym c1 ∙ ap (λ z. set z (length b + q) x) (sym old)
+
+-- what stands before a list is as long where the lists are as long
+before-as_long : (i : ℕ) (xs ys : List ℕ) (ks ls : List (List ℕ)) → length xs ≡ length ys → length ks ≡ length ls → ((j : ℕ) → j < length ks → length (get_or ks j []) ≡ length (get_or ls j []))
+    → length (before i xs ks) ≡ length (before i ys ls)
+before-as_long zero xs ys ks ls ex ek each = refl
+before-as_long (suc i) [] [] ks ls ex ek each = refl
+before-as_long (suc i) [] (y ∷ ys) ks ls ex ek each = absurd (omega arith)
+before-as_long (suc i) (x ∷ xs) [] ks ls ex ek each = absurd (omega arith)
+before-as_long (suc i) (x ∷ xs) (y ∷ ys) [] [] ex ek each = refl
+before-as_long (suc i) (x ∷ xs) (y ∷ ys) [] (l ∷ ls) ex ek each = absurd (omega arith)
+before-as_long (suc i) (x ∷ xs) (y ∷ ys) (k ∷ ks) [] ex ek each = absurd (omega arith)
+before-as_long (suc i) (x ∷ xs) (y ∷ ys) (k ∷ ks) (l ∷ ls) ex ek each =
+    let first = each 0 (omega arith) in
+    let ih = before-as_long i xs ys ks ls (omega arith) (omega arith) (λ j lt. each (suc j) (omega arith)) in
+    omega (arith, length-append k (x ∷ before i xs ks), length-append l (y ∷ before i ys ls))
+
+-- two nodes with rows that are as long, and children of which the paths go to the same places
+pub record AreAlike (h : ℕ) (n m : Node) : Type 0 where
+  pub rows : length (row m) ≡ length (row n)
+  pub count : length (children m) ≡ length (children n)
+  pub lengths : (j : ℕ) → j < length (children n) → length (flat h (child m j)) ≡ length (flat h (child n j))
+  pub places : (j : ℕ) → j < length (children n) → SamePlaces h (child n j) (child m j)
+
+same-places-leaf : (n m : Node) → length (row m) ≡ length (row n) → SamePlaces 0 n m
+same-places-leaf n m rows l p w =
+    let at = holds-leaf l 0 n p refl w in
+    let zero_is = holds-level l 0 n p w in
+    let e : l ≡ 0 = omega arith in
+    (subst (λ z. Holds z 0 m p) (sym e) (holds-here 0 m p (omega arith)), spot-leaf l 0 m p refl ∙ sym (spot-leaf l 0 n p refl))
+
+same-places-inner : (h : ℕ) (n m : Node) → h ≢ 0 → length (children n) ≡ length (row n) + 1 → AreAlike (h - 1) n m → SamePlaces h n m
+same-places-inner h n m ne one a l p w =
+    let i : ℕ = slice_index p h in
+    let rows = a.rows in let count = a.count in
+    let ln = length-map (children n) (λ k. flat (h - 1) k) in
+    let lm = length-map (children m) (λ k. flat (h - 1) k) in
+    let befores : length (before i (row m) (lists (h - 1) (children m))) ≡ length (before i (row n) (lists (h - 1) (children n))) =
+    before-as_long i (row m) (row n) (lists (h - 1) (children m)) (lists (h - 1) (children n)) rows (omega arith)
+    (λ j lt. ap length (lists-at (h - 1) m j (omega arith)) ∙ a.lengths j (omega arith) ∙ sym (ap length (lists-at (h - 1) n j (omega arith)))) in
+    elim (cases_eq h l) [
+      | inl e ↦
+          (let at : i < length (row n) = holds-at l h n p ne e w in
+          let same = a.lengths i (omega arith) in
+          let sm = spot-at l h m p ne e in
+          let sn = spot-at l h n p ne e in
+          (subst (λ z. Holds z h m p) e (holds-here h m p (omega arith)), omega arith))
+      | inr other ↦
+          (let down = holds-below l h n p ne other w in
+          let here = down.here in
+          let on = a.places i here l p down.on in
+          let same = on.1 in
+          let sm = spot-below l h m p ne other in
+          let sn = spot-below l h n p ne other in
+          (below-holds l h m p ne (omega arith) on.0, omega arith))
+    ]
+
+-- what an index that is put in the place of another leaves of a node
+pub record IsPut (h l : ℕ) (n m : Node) (p : List ℕ) (x : ℕ) : Type 0 where
+  pub items : flat h m ≡ slice_set (flat h n) (spot l h n p) x
+  pub formed : IsFormed h m
+  pub same_length : length (row m) ≡ length (row n)
+  pub same_places : SamePlaces h n m
+
+put-leaf : (l x : ℕ) (n m : Node) (p : List ℕ) → IsFormed 0 n → Holds l 0 n p → row m ≡ set (row n) (slice_index p 0) x → children m ≡ children n → IsPut 0 l n m p x
+put-leaf l x n m p f w er ek =
+    let leaf = formed-leaf 0 n refl f in
+    let within = leaf.within in
+    let rows : length (row m) ≡ length (row n) = ap length er ∙ length-set (row n) (slice_index p 0) x in
+    record {
+      items = flat-leaf 0 m refl ∙ er ∙ ap (λ z. set z (slice_index p 0) x) (sym (flat-leaf 0 n refl)) ∙ ap (λ z. set (flat 0 n) z x) (sym (spot-leaf l 0 n p refl));
+      formed = leaf-formed 0 m refl (record { within = omega arith; childless = ek ∙ leaf.childless });
+      same_length = rows;
+      same_places = same-places-leaf n m rows;
+    }
+
+put-own : (h l x : ℕ) (n m : Node) (p : List ℕ) → h ≢ 0 → h ≡ l → IsFormed h n → Holds l h n p → row m ≡ set (row n) (slice_index p h) x → children m ≡ children n → room n ≤ room m → IsPut h l n m p x
+put-own h l x n m p ne e f w er ek rm =
+    let i : ℕ = slice_index p h in
+    let at : i < length (row n) = holds-at l h n p ne e w in
+    let fs = formed-inner h n ne f in
+    let one = fs.inner.one_more in
+    let within = fs.inner.within in
+    let has_room = fs.inner.has_room in
+    let count = ap length ek in
+    let rows : length (row m) ≡ length (row n) = ap length er ∙ length-set (row n) i x in
+    let same : (j : ℕ) → j < length (children n) → child m j ≡ child n j = λ j lt. ap (λ z. get_or z j m) ek ∙ any_default (children n) j m n lt in
+    let in_children : i < length (children n) = omega arith in
+    let place : index_place i (row n) (lists (h - 1) (children n)) ≡ spot l h n p =
+    sym (spot-at l h n p ne e ∙ ap (λ z. length (before i (row n) (lists (h - 1) (children n))) + length z) (sym (lists-at (h - 1) n i in_children))) in
+    record {
+      items =
+          flat-inner h m ne ∙ ap (λ z. weave z (lists (h - 1) (children m))) er ∙ ap (λ z. weave (set (row n) i x) (lists (h - 1) z)) ek
+          ∙ weave-set_own i (row n) (lists (h - 1) (children n)) x at (lists-one_more h n ne f)
+          ∙ ap (λ z. set (weave (row n) (lists (h - 1) (children n))) z x) place ∙ ap (λ z. set z (spot l h n p) x) (sym (flat-inner h n ne));
+      formed = inner-formed h m ne (record { within = omega arith; one_more = omega arith; has_room = omega arith }) (subst (AreChildren (h - 1)) (sym ek) fs.below);
+      same_length = rows;
+      same_places = same-places-inner h n m ne one (record {
+        rows = rows;
+        count = count;
+        lengths = λ j lt. ap (λ z. length (flat (h - 1) z)) (same j lt);
+        places = λ j lt. subst (λ z. SamePlaces (h - 1) (child n j) z) (sym (same j lt)) (λ l p w. (w, refl));
+      });
+    }
+
+pub put-here : (h l i x : ℕ) (n m : Node) (p : List ℕ) → h ≡ l → i ≡ slice_index p h → IsFormed h n → Holds l h n p → row m ≡ set (row n) i x → children m ≡ children n → room n ≤ room m → IsPut h l n m p x
+put-here zero l i x n m p e ei f w er ek rm = put-leaf l x n m p f w (er ∙ ap (λ z. set (row n) z x) ei) ek
+put-here (suc h) l i x n m p e ei f w er ek rm = put-own (suc h) l x n m p (λ z. absurd (omega arith)) e f w (er ∙ ap (λ z. set (row n) z x) ei) ek rm
+
+-- the same where it goes on below the i-th child g, which k is put in the place of
+pub put-below : (h l i x : ℕ) (n g k m : Node) (p : List ℕ) → l < h → i ≡ slice_index p h → IsFormed h n → Holds l h n p → g ≡ child n i → IsPut (h - 1) l g k p x
+    → row m ≡ row n → children m ≡ set (children n) i k → room n ≤ room m → IsPut h l n m p x
+put-below h l i x n g k m p low ei f w is_g put er ek rm =
+    let b = goes-below h l i n p low ei f w in
+    let ne = b.inner in
+    let fs = formed-inner h n ne f in
+    let one = fs.inner.one_more in
+    let within = fs.inner.within in
+    let has_room = fs.inner.has_room in
+    let here : i < length (children n) = b.here in
+    let five = (fs.below i n here).0 in
+    let rows : length (row m) ≡ length (row n) = ap length er in
+    let count : length (children m) ≡ length (children n) = ap length ek ∙ length-set (children n) i k in
+    let at : child m i ≡ k = ap (λ z. get_or z i m) ek ∙ get_or-set_same (children n) i k m here in
+    let other : (j : ℕ) → j < length (children n) → j ≢ i → child m j ≡ child n j =
+    λ j lt away. ap (λ z. get_or z j m) ek ∙ get_or-set_other (children n) i j k m away ∙ any_default (children n) j m n lt in
+    let was : IsPut (h - 1) l (child n i) k p x = subst (λ z. IsPut (h - 1) l z k p x) is_g put in
+    let len : length (flat (h - 1) k) ≡ length (flat (h - 1) (child n i)) = ap length was.items ∙ length-set (flat (h - 1) (child n i)) (spot l (h - 1) (child n i) p) x in
+    let row_len = was.same_length in
+    let inside = spot-within l (h - 1) (child n i) p b.formed b.holds in
+    let list : get_or (lists (h - 1) (children n)) i [] ≡ flat (h - 1) (child n i) = lists-at (h - 1) n i here in
+    let in_lists : i < length (lists (h - 1) (children n)) = omega (arith, length-map (children n) (λ k. flat (h - 1) k)) in
+    let lt : spot l (h - 1) (child n i) p < length (get_or (lists (h - 1) (children n)) i []) = rw list inside in
+    let new : flat (h - 1) k ≡ set (get_or (lists (h - 1) (children n)) i []) (spot l (h - 1) (child n i) p) x = rw list was.items in
+    let place : length (before i (row n) (lists (h - 1) (children n))) + spot l (h - 1) (child n i) p ≡ spot l h n p =
+    sym (spot-below l h n p ne b.other ∙ ap (λ z. length (before z (row n) (lists (h - 1) (children n))) + spot l (h - 1) (child n z) p) (sym ei)) in
+    record {
+      items =
+          flat-inner h m ne ∙ ap (λ z. weave z (lists (h - 1) (children m))) er ∙ ap (λ z. weave (row n) (lists (h - 1) z)) ek
+          ∙ ap (λ z. weave (row n) z) (map-set (λ k. flat (h - 1) k) (children n) i k)
+          ∙ weave-set_below i (row n) (lists (h - 1) (children n)) (flat (h - 1) k) (spot l (h - 1) (child n i) p) x in_lists (lists-one_more h n ne f) lt new
+          ∙ ap (λ z. set (weave (row n) (lists (h - 1) (children n))) z x) place ∙ ap (λ z. set z (spot l h n p) x) (sym (flat-inner h n ne));
+      formed = inner-formed h m ne (record { within = omega arith; one_more = omega arith; has_room = omega arith })
+          (subst (AreChildren (h - 1)) (sym ek) (All-set (λ z. (5 ≤ length (row z)) × IsFormed (h - 1) z) (children n) i k (omega arith, was.formed) fs.below));
+      same_length = rows;
+      same_places = same-places-inner h n m ne one (record {
+        rows = rows;
+        count = count;
+        lengths = λ j lt. elim (cases_eq j i) [
+          | inl e ↦ rw (e, at) len
+          | inr away ↦ ap (λ z. length (flat (h - 1) z)) (other j lt away)
+        ];
+        places = λ j lt. elim (cases_eq j i) [
+          | inl e ↦ subst (λ z. SamePlaces (h - 1) (child n z) (child m z)) (sym e) (subst (λ z. SamePlaces (h - 1) (child n i) z) (sym at) was.same_places)
+          | inr away ↦ subst (λ z. SamePlaces (h - 1) (child n j) z) (sym (other j lt away)) (λ l p w. (w, refl))
+        ];
+      });
+    }
+
+-- the way to the first index
+pub IsWay-first : (h : ℕ) (n : Node) (w : Way) → IsFormed h n → 1 ≤ length (row n) → h ≤ 11 → length w.path ≡ 12 → ((l : ℕ) → slice_index w.path l ≡ 0) → w.level ≡ 0 → w.place ≡ 0 → IsWay h n w
+IsWay-first h n w f some low path zeros level place =
+    let first = first-way h n w.path f some (λ m le. zeros m) in
+    record {
+      path = path;
+      within = omega arith;
+      holds = λ more. subst (λ l. Holds l h n w.path) (sym level) first.holds;
+      leads = λ more. ap (λ l. spot l h n w.path) level ∙ first.place ∙ sym place;
+    }
+
+-- the way after a step
+pub IsWay-next : (h : ℕ) (n : Node) (old new : Way) (r : Option ℕ) → IsWay h n old → old.place < length (flat h n) → StepsOn h n old.level old.path r new.path → length new.path ≡ 12
+    → ((m : ℕ) → r ≡ Some m → new.level ≡ m) → new.place ≡ old.place + 1 → IsWay h n new
+IsWay-next h n old new None w more s path level place =
+    let at = w.leads more in
+    let last : length (flat h n) ≡ spot old.level h n old.path + 1 = s in
+    record { path = path; within = omega arith; holds = λ again. absurd (omega arith); leads = λ again. absurd (omega arith) }
+IsWay-next h n old new (Some m) w more s path level place =
+    let at = w.leads more in
+    let next = s.1 in
+    let is = level m refl in
+    record {
+      path = path;
+      within = omega arith;
+      holds = λ again. subst (λ l. Holds l h n new.path) (sym is) s.0;
+      leads = λ again. ap (λ l. spot l h n new.path) is ∙ next ∙ ap (λ z. z + 1) at ∙ sym place;
+    }
+
+-- a way stays one where the tree changes indexes alone
+pub IsWay-same : (h : ℕ) (n m : Node) (w : Way) → SamePlaces h n m → length (flat h m) ≡ length (flat h n) → IsWay h n w → IsWay h m w
+IsWay-same h n m w same len is =
+    let within = is.within in
+    record {
+      path = is.path;
+      within = omega arith;
+      holds = λ more. (same w.level w.path (is.holds (omega arith))).0;
+      leads = λ more. (same w.level w.path (is.holds (omega arith))).1 ∙ is.leads (omega arith);
+    }
+
+-- the same of a tree, or of none
+pub IsWayIn-first : (r : Option Node) (h : ℕ) (w : Way) → IsTree r h → length w.path ≡ 12 → ((l : ℕ) → slice_index w.path l ≡ 0) → w.level ≡ 0 → w.place ≡ 0 → IsWayIn r h w
+IsWayIn-first None h w t path zeros level place = place
+IsWayIn-first (Some n) h w t path zeros level place = IsWay-first h n w t.0 t.1 t.2 path zeros level place
+
+-- where a walk along all indexes ends
+pub found_where : (r : Option ℕ) (h : ℕ) (n : Node) (ix : ℕ) (p : List ℕ) → IsFormed h n → IfSome r (λ l. Holds l h n p) → IfSome r (λ l. slice_index (flat h n) (spot l h n p) ≡ ix) → (IsNone r → Contains (flat h n) ix → ⊥)
+    → IsTrue (is_some r) ↔ Contains (flat h n) ix
+found_where None h n ix p f holds there none = (λ t. absurd (cc), λ held. absurd (none refl held))
+found_where (Some l) h n ix p f holds there none = (λ _. Contains-at (flat h n) (spot l h n p) ix (spot-within l h n p f holds) (sym there), λ _. refl)
+
+pub is_contained : (b : Bool) (xs : List ℕ) (r : Option ℕ) (h : ℕ) (n : Node) (ix : ℕ) (p : List ℕ) → b ≡ is_some r → flat h n ≡ xs → IsFormed h n → IfSome r (λ l. Holds l h n p) → IfSome r (λ l. slice_index (flat h n) (spot l h n p) ≡ ix)
+    → (IsNone r → Contains (flat h n) ix → ⊥) → IsTrue b ↔ Contains xs ix
+is_contained b xs r h n ix p eb ex f holds there none =
+    subst (λ z. IsTrue z ↔ Contains xs ix) (sym eb) (subst (λ zs. IsTrue (is_some r) ↔ Contains zs ix) ex (found_where r h n ix p f holds there none))

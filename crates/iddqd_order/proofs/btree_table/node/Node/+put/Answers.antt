@@ -1,0 +1,44 @@
+use Rattle.std.proofs.Common.{◌≡◌, ◌∙◌, ℕ, List, ◌+◌, ◌-◌, ◌<◌, ◌≤◌, length, slice_index, refl, sym, ap, arith, subst, rules}
+use Rattle.iddqd_order.specs.declared.btree_table.node.Node.{Node}
+use Rattle.iddqd_order.specs.declared.btree_table.node.Node.TheViews.{roll-Node}
+use Rattle.iddqd_order.specs.Node.{row, children, child, Holds}
+use Rattle.iddqd_order.proofs.NodeLemmas.{row-roll, children-roll}
+use Rattle.iddqd_order.proofs.DescentLemmas.{child_is}
+use Rattle.iddqd_order.proofs.RemovalLemmas.{holds-level, room-kept}
+use Rattle.iddqd_order.proofs.WayLemmas.{IsPut, goes-below, holds-row, put-here, put-below}
+use Rattle.iddqd_order.proofs.btree_table.node.Node.+put.Goals as goal
+
+pub index_mut-requires : goal.index_mut-requires
+index_mut-requires t c =
+    let b = goes-below c.args.height c.args.level c.get-i.result c.args.self.now c.args.path.now c.if-height-level.true c.get-i.ensures c.requires.formed c.requires.holds in
+    search (rules, b.here)
+
+pub put-requires : goal.put-requires
+put-requires t c =
+    let b = goes-below c.args.height c.args.level c.get-i.result c.args.self.now c.args.path.now c.if-height-level.true c.get-i.ensures c.requires.formed c.requires.holds in
+    let same : c.index_mut.result.now ≡ child c.args.self.now c.get-i.result = child_is c.args.self.now c.get-i.result c.index_mut.result.now b.here (search rules) in
+    let levels = c.requires.levels in
+    (omega arith, (rw same b.formed, (omega arith, rw same b.holds)))
+
+pub returns-then-height-level : goal.returns-then-height-level
+returns-then-height-level t c =
+    let b = goes-below c.args.height c.args.level c.get-i.result c.args.self.now c.args.path.now c.if-height-level.true c.get-i.ensures c.requires.formed c.requires.holds in
+    let same : c.index_mut.result.now ≡ child c.args.self.now c.get-i.result = child_is c.args.self.now c.get-i.result c.index_mut.result.now b.here (search rules) in
+    let d = c.put.ensures in
+    let k = put-below c.args.height c.args.level c.get-i.result c.args.ix c.args.self.now c.index_mut.result.now c.put.new.self (roll-Node _) c.args.path.now c.if-height-level.true c.get-i.ensures c.requires.formed c.requires.holds same
+    (record { items = d.items; formed = d.formed; same_length = d.same_length; same_places = d.same_places }) (row-roll _) (children-roll _) (room-kept c.args.self.now _ refl) in
+    record { items = k.items; formed = k.formed; same_length = k.same_length; same_places = k.same_places }
+
+level_is : (h l : ℕ) (n : Node) (p : List ℕ) → h ≤ l → Holds l h n p → h ≡ l
+level_is h l n p le w = let down = holds-level l h n p w in omega arith
+
+pub set-requires : goal.set-requires
+set-requires t c =
+    let e = level_is c.args.height c.args.level c.args.self.now c.args.path.now c.if-height-level.false c.requires.holds in
+    holds-row c.args.height c.args.level c.get-i.result c.args.self.now c.args.path.now e c.get-i.ensures c.requires.holds
+
+pub returns : goal.returns
+returns t c =
+    let e = level_is c.args.height c.args.level c.args.self.now c.args.path.now c.if-height-level.false c.requires.holds in
+    let k = put-here c.args.height c.args.level c.get-i.result c.args.ix c.args.self.now (roll-Node _) c.args.path.now e c.get-i.ensures c.requires.formed c.requires.holds (row-roll _ ∙ c.set.ensures) (children-roll _) (room-kept c.args.self.now _ refl) in
+    record { items = k.items; formed = k.formed; same_length = k.same_length; same_places = k.same_places }

@@ -1,0 +1,6 @@
+use Rattle.iddqd_order.proofs.RetainLemmas.{IsTable-retained}
+use Rattle.iddqd_order.proofs.btree_table.table.MapBTreeTable.retain.Goals as goal
+
+pub invariant_of-self : goal.invariant_of-self
+invariant_of-self g c =
+    IsTable-retained g.F.FnMut c.args.f _ _ _ _ _ _ _ c.self.invariant c.retain_in-height.ensures.tree c.retain_in-height.ensures.counted c.retain_in-height.ensures.kept

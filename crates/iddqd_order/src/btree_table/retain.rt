@@ -1,0 +1,94 @@
+//! The indexes that a closure keeps, gathered in place.
+ghost use Rattle.std.specs.Prelude.{◌≡◌, ℕ, ◌+◌, ◌-◌, ◌≤◌, length, take, Contains};
+ghost use Rattle.iddqd_order.specs.Asks.{CanAsk};
+ghost use Rattle.iddqd_order.specs.Node.{row, flat, IsFormed};
+ghost use Rattle.iddqd_order.specs.Retain.{Retains};
+ghost use Rattle.iddqd_order.specs.Tree.{in_order, IsTree};
+
+use crate::btree_table::node::Node;
+use crate::btree_table::removal::lower;
+use crate::btree_table::ways::Way;
+use iddqd::item_index::ItemIndex;
+
+// Keeps the indexes at which `f` answers true, in their order, and answers the new height and how
+// many they are. It takes no memory.
+pub fn retain_in<F: FnMut(ItemIndex) -> bool>(
+    root: &mut Option<Node>,
+    height: usize,
+    len: usize,
+    f: F,
+) -> (usize, usize)
+    requires tree { IsTree root.old height }
+    requires counted { len ≡ length (in_order root.old height) }
+    requires can_ask { CanAsk F.FnMut (Contains (in_order root.old height)) f }
+    ensures tree { IsTree root.new result.0 }
+    ensures counted { result.1 ≡ length (in_order root.new result.0) }
+    ensures kept { Retains F.FnMut f (in_order root.old height) (in_order root.new result.0) }
+{
+    let mut kept = 0;
+    if let Some(node) = root {
+        kept = gather(node, height, len, f);
+    }
+    (cut_off(root, height, len - kept), kept)
+}
+
+// Moves the indexes at which `f` answers true to the front, in their order, and says how many they
+// are. Each is asked about before any index is put in its place.
+fn gather<F: FnMut(ItemIndex) -> bool>(
+    root: &mut Node,
+    height: usize,
+    len: usize,
+    mut f: F,
+) -> usize
+    requires formed { IsFormed height root.old }
+    requires some { 1 ≤ length (row root.old) }
+    requires levels { height ≤ 11 }
+    requires counted { len ≡ length (flat height root.old) }
+    requires can_ask { CanAsk F.FnMut (Contains (flat height root.old)) f }
+    ensures formed { IsFormed height root.new }
+    ensures some { 1 ≤ length (row root.new) }
+    ensures counted { length (flat height root.new) ≡ len }
+    ensures within { result ≤ len }
+    ensures kept { Retains F.FnMut f (flat height root.old) (take result (flat height root.new)) }
+{
+    let mut from = Way::first();
+    let mut to = from;
+    while from.place < len {
+        let ix = from.step(root, height);
+        if !f(ix) {
+            continue;
+        }
+        to.put(root, height, ix);
+    }
+    to.place
+}
+
+// Takes out the last indexes, so many, and answers the new height.
+fn cut_off(root: &mut Option<Node>, height: usize, count: usize) -> usize
+    requires tree { IsTree root.old height }
+    requires within { count ≤ length (in_order root.old height) }
+    ensures tree { IsTree root.new result }
+    ensures items { in_order root.new result ≡ take (length (in_order root.old height) - count) (in_order root.old height) }
+{
+    let mut new_height = height;
+    for _i in 0..count {
+        new_height = take_last(root, new_height);
+    }
+    new_height
+}
+
+// Takes out the last index, and answers the new height. It takes no memory.
+fn take_last(root: &mut Option<Node>, height: usize) -> usize
+    requires tree { IsTree root.old height }
+    requires some { 1 ≤ length (in_order root.old height) }
+    ensures tree { IsTree root.new result }
+    ensures items { in_order root.new result ≡ take (length (in_order root.old height) - 1) (in_order root.old height) }
+{
+    if let Some(node) = root {
+        node.remove_last(height);
+        if node.row.len() > 0 {
+            return height;
+        }
+    }
+    lower(root, height)
+}

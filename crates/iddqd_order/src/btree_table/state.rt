@@ -1,0 +1,27 @@
+//! The table's own hasher.
+ghost use Rattle.std.specs.Prelude.{◌≡◌};
+ghost use Rattle.std.specs.Hash.BuildHasherDefault.{initial_hasher};
+ghost use Rattle.std.specs.Hash.FoldHasher.{initial};
+
+use iddqd::hash_builder::DefaultHashBuilder;
+
+// The default build hasher, which is the same in every table.
+#[derive(Clone, Copy)]
+pub struct State {
+    builder: DefaultHashBuilder,
+    ghost fixed: { initial_hasher builder ≡ initial },
+}
+
+impl State {
+    pub fn new() -> State {
+        State {
+            builder: DefaultHashBuilder::default(),
+        }
+    }
+
+    pub fn builder(&self) -> &DefaultHashBuilder
+        ensures { initial_hasher result.now ≡ initial }
+    {
+        &self.builder
+    }
+}

@@ -1,0 +1,126 @@
+//! Ways through a tree, to one index after another.
+//!
+//! A way holds no reference, so the tree may change its indexes between two steps.
+ghost use Rattle.std.specs.Prelude.{◌≡◌, ℕ, ◌+◌, ◌<◌, ◌≤◌, length, slice_index, slice_set, None};
+ghost use Rattle.iddqd_order.specs.Node.{row, flat, IsFormed, Holds, spot};
+ghost use Rattle.iddqd_order.specs.Ways.{IsWay, StepsOn, SamePlaces};
+
+use crate::btree_table::node::Node;
+use crate::btree_table::path::Path;
+use iddqd::item_index::ItemIndex;
+
+// A path that goes to an index at a level, and the place of that index among all.
+#[derive(Clone, Copy)]
+pub struct Way {
+    pub path: Path,
+    pub level: usize,
+    pub place: usize,
+}
+
+impl Way {
+    // The way to the first index.
+    pub fn first() -> Way
+        ensures path { length result.path ≡ 12 }
+        ensures places { (l : ℕ) → slice_index result.path l ≡ 0 }
+        ensures level { result.level ≡ 0 }
+        ensures place { result.place ≡ 0 }
+    {
+        Way {
+            path: Path::new(),
+            level: 0,
+            place: 0,
+        }
+    }
+
+    // The index to which the way goes. The way then goes to the next one.
+    pub fn step(&mut self, root: &Node, height: usize) -> ItemIndex
+        requires formed { IsFormed height root.now }
+        requires levels { height ≤ 11 }
+        requires way { IsWay height root.now self.old }
+        requires more { self.old.place < length (flat height root.now) }
+        requires few { length (flat height root.now) ≤ usize.MAX }
+        ensures index { result ≡ slice_index (flat height root.now) self.old.place }
+        ensures way { IsWay height root.now self.new }
+        ensures place { self.new.place ≡ self.old.place + 1 }
+    {
+        let (ix, next) = root.step(height, &mut self.path, self.level);
+        self.level = next.unwrap_or(0);
+        self.place += 1;
+        ix
+    }
+
+    // Puts an index in the place of that to which the way goes. The way then goes to the next one.
+    pub fn put(&mut self, root: &mut Node, height: usize, ix: ItemIndex)
+        requires formed { IsFormed height root.old }
+        requires levels { height ≤ 11 }
+        requires way { IsWay height root.old self.old }
+        requires more { self.old.place < length (flat height root.old) }
+        requires few { length (flat height root.old) ≤ usize.MAX }
+        ensures items { flat height root.new ≡ slice_set (flat height root.old) self.old.place ix }
+        ensures formed { IsFormed height root.new }
+        ensures same_length { length (row root.new) ≡ length (row root.old) }
+        ensures same_places { SamePlaces height root.old root.new }
+        ensures way { IsWay height root.new self.new }
+        ensures place { self.new.place ≡ self.old.place + 1 }
+    {
+        let here = *self;
+        self.step(root, height);
+        root.put(height, &here.path, here.level, ix);
+    }
+}
+
+impl Node {
+    // The index to which a path goes at a level, and the level of the next one, to which the path is
+    // made to go, if there is one below this node.
+    pub fn step(&self, height: usize, path: &mut Path, level: usize) -> (ItemIndex, Option<usize>)
+        requires formed { IsFormed height self.now }
+        requires levels { height ≤ 11 }
+        requires path { length path.old ≡ 12 }
+        requires holds { Holds level height self.now path.old }
+        ensures index { result.0 ≡ slice_index (flat height self.now) (spot level height self.now path.old) }
+        ensures next { StepsOn height self.now level path.old result.1 path.new }
+        ensures path { length path.new ≡ 12 }
+        ensures above { (l : ℕ) → height < l → slice_index path.new l ≡ slice_index path.old l }
+        ensures ended { result.1 ≡ None → path.new ≡ path.old }
+    {
+        let i = path.get(height);
+        if height > level {
+            let (ix, next) = self.children[i].step(height - 1, path, level);
+            if next.is_some() {
+                return (ix, next);
+            }
+            if i < self.row.len() {
+                return (ix, Some(height));
+            }
+            return (ix, None);
+        }
+        let ix = self.row.get(i);
+        if height > 0 {
+            path.turn(height, i + 1);
+            return (ix, Some(0));
+        }
+        if i + 1 < self.row.len() {
+            path.set(0, i + 1);
+            return (ix, Some(0));
+        }
+        (ix, None)
+    }
+
+    // Puts an index in the place of that to which a path goes at a level.
+    pub fn put(&mut self, height: usize, path: &Path, level: usize, ix: ItemIndex)
+        requires formed { IsFormed height self.old }
+        requires levels { height ≤ 11 }
+        requires holds { Holds level height self.old path.now }
+        ensures items { flat height self.new ≡ slice_set (flat height self.old) (spot level height self.old path.now) ix }
+        ensures formed { IsFormed height self.new }
+        ensures same_length { length (row self.new) ≡ length (row self.old) }
+        ensures same_places { SamePlaces height self.old self.new }
+    {
+        let i = path.get(height);
+        if height > level {
+            self.children[i].put(height - 1, path, level, ix);
+            return;
+        }
+        self.row.set(i, ix);
+    }
+}
