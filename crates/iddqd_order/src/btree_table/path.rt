@@ -23,8 +23,15 @@ impl Model for Path {
 
 impl Path {
     pub fn new() -> Path
+        ensures { length result ≡ 12 }
+    {
+        Path::first()
+    }
+
+    // The path of first places.
+    pub fn first() -> Path
         ensures length { length result ≡ 12 }
-        ensures first { (l : ℕ) → slice_index result l ≡ 0 }
+        ensures places { (l : ℕ) → slice_index result l ≡ 0 }
     {
         Path {
             places: [0; LEVELS],

@@ -587,6 +587,7 @@ impl MapBTreeTable {
 }
 
 // Where memory is refused, the nodes copied so far are let go.
+#[tactic(auto, unfolding(crate::specs::MapBTreeTable::order_of))]
 impl Clone for MapBTreeTable {
     ghost is_clone = { λ table copy. order_of copy ≡ order_of table };
 

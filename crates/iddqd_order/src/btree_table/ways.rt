@@ -26,7 +26,7 @@ impl Way {
         ensures place { result.place ≡ 0 }
     {
         Way {
-            path: Path::new(),
+            path: Path::first(),
             level: 0,
             place: 0,
         }
