@@ -17,6 +17,7 @@ mod keys;
 mod lying;
 mod remaps;
 mod retains;
+mod sequences;
 mod trees;
 mod walk;
 

@@ -9,6 +9,7 @@ mod lines;
 mod machine;
 mod model;
 mod original;
+mod queries;
 mod refused;
 mod scans;
 mod scripts;

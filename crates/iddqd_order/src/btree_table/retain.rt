@@ -58,6 +58,11 @@ fn gather<F: FnMut(ItemIndex) -> bool>(
         if !f(ix) {
             continue;
         }
+        if to.place + 1 == from.place {
+            // It stays where it is: none was refused so far.
+            to = from;
+            continue;
+        }
         to.put(root, height, ix);
     }
     to.place

@@ -19,13 +19,13 @@ use std::test::Fail;
 
 // A table in order by the indexes themselves, and its indexes in a plain list.
 #[derive(Drop)]
-struct Pair {
-    table: MapBTreeTable,
-    list: Vec<u32>,
+pub(super) struct Pair {
+    pub(super) table: MapBTreeTable,
+    pub(super) list: Vec<u32>,
 }
 
 impl Pair {
-    fn new(alloc: Global) -> Pair {
+    pub(super) fn new(alloc: Global) -> Pair {
         Pair {
             table: MapBTreeTable::new(alloc),
             list: Vec::new(alloc),
@@ -33,7 +33,7 @@ impl Pair {
     }
 
     // Adds an index, or removes it where it is stored.
-    fn turn(&mut self, rt: &impl Abort, ix: u32) -> Result<(), AllocError> {
+    pub(super) fn turn(&mut self, rt: &impl Abort, ix: u32) -> Result<(), AllocError> {
         match self.list.binary_search(&ix) {
             Ok(place) => {
                 self.list.remove(place);

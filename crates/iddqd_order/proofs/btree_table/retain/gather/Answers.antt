@@ -1,4 +1,5 @@
-use Rattle.std.proofs.Common.{rules, ◌≡◌, ◌∙◌, ℕ, ◌+◌, ◌-◌, ◌≤◌, ◌<◌, length, true, false, refl, sym, ap, subst, arith}
+use Rattle.std.proofs.Common.{rules, ◌≡◌, ◌∙◌, ℕ, ◌+◌, ◌-◌, ◌≤◌, ◌<◌, List, length, set, slice_index, true, false, refl, sym, ap, subst, arith}
+use Rattle.std.proofs.lemmas.List.{set-get_or}
 use Rattle.std.specs.Fn.{Called}
 use Rattle.iddqd_order.specs.Node.{row, flat}
 use Rattle.iddqd_order.proofs.RetainLemmas.{gathers-none, may_ask, gathers-refused, gathers-kept, gathers-all}
@@ -61,4 +62,26 @@ loop-from-preserved g c =
       from = IsWay-same c.args.height c.loop-from.root c.put.new.root c.step-ix.new.self put.same_places (omega arith) c.step-ix.ensures.way;
       to = put.way;
       gathers = next;
+    }
+
+pub loop-from-preserved-then-to-from : goal.loop-from-preserved-then-to-from
+loop-from-preserved-then-to-from g c =
+    let i = c.loop-from.invariant in
+    let counted = i.gathers.counted in
+    let len = c.requires.counted in
+    let test = c.loop-from-test.true in
+    let yes : c.f.result ≡ true = search rules in
+    let said : Called g.F.FnMut c.loop-from.f (c.step-ix.result, tt) true c.f.new.self = subst (λ b. Called g.F.FnMut c.loop-from.f (c.step-ix.result, tt) b c.f.new.self) yes c.f.ensures in
+    let next = c.step-ix.ensures.place in
+    let none_refused = c.if-to-from.true in
+    let there : c.loop-from.to.place ≡ c.loop-from.from.place = omega arith in
+    let xs : List ℕ = flat c.args.height c.loop-from.root in
+    let stays : xs ≡ set xs c.loop-from.to.place c.step-ix.result =
+    sym (ap (set xs c.loop-from.to.place) (c.step-ix.ensures.index ∙ ap (slice_index xs) (sym there)) ∙ set-get_or xs c.loop-from.to.place 0) in
+    record {
+      formed = i.formed;
+      some = i.some;
+      from = c.step-ix.ensures.way;
+      to = c.step-ix.ensures.way;
+      gathers = gathers-kept g.F.FnMut c.step-ix.result c.step-ix.new.self.place c.step-ix.new.self.place xs c.f.new.self i.gathers (omega arith) c.step-ix.ensures.index said stays next (omega arith);
     }
