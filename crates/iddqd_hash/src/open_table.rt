@@ -41,10 +41,11 @@ pub use iter::TableIter;
 #[derive(Drop)]
 pub struct OpenHashTable<T> {
     tags: Vec<u8>,
+    // How many cells are full or marked. It stands apart from `len`: side by side the two are read as one, and such
+    // a read waits for a write of one of them.
+    used: usize,
     cells: Vec<Cell<T>>,
     len: usize,
-    // how many cells are full or marked
-    used: usize,
 }
 
 impl<T> Model for OpenHashTable<T> {
