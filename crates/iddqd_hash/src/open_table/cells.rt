@@ -8,7 +8,7 @@ ghost use Rattle.iddqd_hash.specs.Asks.{CanAsk, FindsPlace, Keeps};
 ghost use Rattle.iddqd_hash.specs.HashTable.{under, value_of, values, Rewrites};
 ghost use Rattle.iddqd_hash.specs.OpenTable.{tag_of, limit_of, is_used, hashes_of, pair_in, slots_of, slot_at, pairs, IsPowerOfTwo, HasEmpty, IsProbed, FindsNext};
 
-use crate::open_table::tags::{LARGE, free_place, home_of, next, past_others, tag_of};
+use crate::open_table::tags::{LARGE, free_near_home, home_of, next, past_others, tag_of};
 use std::alloc::{AllocError, Global};
 use std::mem::{self, ManuallyDrop};
 
@@ -160,7 +160,7 @@ pub fn move_cells<T>(old: &mut Vec<Cell<T>>, tags: &mut [u8], cells: &mut [Cell<
     'moving: while let Some(cell) = old.pop() {
         let Cell { hash, value } = cell;
         if let Some(value) = value {
-            let place = free_place(tags, hash);
+            let place = free_near_home(tags, hash);
             put(tags, cells, place, hash, value);
         }
     }

@@ -43,8 +43,31 @@ pub fn free_place(tags: &[u8], hash: u64) -> usize
     ensures free { IsFree tags.now result }
     ensures reached { IsReached tags.now hash result }
 {
+    free_from(tags, hash, first_place(tags, hash))
+}
+
+/// The same where few cells are full and the tags beside were just written. The home is mostly free then, and sixteen
+/// tags at once would wait for those writes.
+pub fn free_near_home(tags: &[u8], hash: u64) -> usize
+    requires power { IsPowerOfTwo (length tags.now) }
+    requires ends { HasEmpty tags.now }
+    ensures free { IsFree tags.now result }
+    ensures reached { IsReached tags.now hash result }
+{
+    free_from(tags, hash, home_of(hash, tags.len()))
+}
+
+#[inline(always)]
+fn free_from(tags: &[u8], hash: u64, from: usize) -> usize
+    requires power { IsPowerOfTwo (length tags.now) }
+    requires ends { HasEmpty tags.now }
+    requires reached { IsReached tags.now hash from }
+    requires inside { from < length tags.now }
+    ensures free { IsFree tags.now result }
+    ensures reached { IsReached tags.now hash result }
+{
     let count = tags.len();
-    let mut at = first_place(tags, hash);
+    let mut at = from;
     while tags[at] >= 128 {
         at = past_full(tags, next(at, count));
     }

@@ -1,7 +1,7 @@
 use Rattle.std.proofs.Common.{length}
 use Rattle.iddqd_hash.specs.OpenTable.{IsReached}
 use Rattle.iddqd_hash.proofs.OpenWalkLemmas.{places_left}
-use Rattle.iddqd_hash.proofs.open_table.tags.free_place.Given as goal
+use Rattle.iddqd_hash.proofs.open_table.tags.free_from.Given as goal
 
 abbrev pub invariant-loop-at : goal.invariant-loop-at
 invariant-loop-at l = IsReached l.tags l.hash l.at

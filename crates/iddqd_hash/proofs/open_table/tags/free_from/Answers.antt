@@ -1,7 +1,7 @@
 use Rattle.std.proofs.Common.{◌+◌, ◌%◌, ◌<◌, length, slice_index, arith}
 use Rattle.iddqd_hash.specs.OpenTable.{IsReached}
 use Rattle.iddqd_hash.proofs.OpenWalkLemmas.{places_left-next, places_left-on, IsReached-next, IsReached-on}
-use Rattle.iddqd_hash.proofs.open_table.tags.free_place.Goals as goal
+use Rattle.iddqd_hash.proofs.open_table.tags.free_from.Goals as goal
 
 pub loop-at-preserved : goal.loop-at-preserved
 loop-at-preserved c =
