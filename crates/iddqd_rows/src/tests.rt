@@ -5,6 +5,7 @@ mod compaction;
 mod counted;
 mod driver;
 mod faults;
+mod limits;
 mod lines;
 mod machine;
 mod model;

@@ -319,11 +319,23 @@ pub(super) fn assert_answers<S: BuildHasher + Copy>(
     hasher: S,
     script: &str,
 ) -> Result<(), AllocError> {
-    assert_calls(rt, alloc, &mut KeyedItems::new(alloc, hasher), script)?;
-    let mut items = KeyedItems::new(alloc, hasher);
+    assert_answers_within(rt, alloc, hasher, u32::MAX, script)
+}
+
+/// The same where there are no more slots than the limit.
+pub(super) fn assert_answers_within<S: BuildHasher + Copy>(
+    rt: &impl Abort,
+    alloc: Global,
+    hasher: S,
+    limit: u32,
+    script: &str,
+) -> Result<(), AllocError> {
+    let mut items = KeyedItems::with_limit(alloc, hasher, limit);
+    assert_calls(rt, alloc, &mut items, script)?;
+    let mut items = KeyedItems::with_limit(alloc, hasher, limit);
     let replies = steps(alloc, &mut items, commands(rt, alloc, script)?)?;
     assert_replies(rt, alloc, replies.as_slice(), script)?;
-    let mut items = KeyedItems::new(alloc, hasher);
+    let mut items = KeyedItems::with_limit(alloc, hasher, limit);
     let Some(replies) = run(&mut items, commands(rt, alloc, script)?) else {
         panic!(rt; "memory was refused");
     };

@@ -20,16 +20,19 @@ pub(super) struct Machine {
     filed: Vec<(ItemIndex, u32)>,
     // Each live index, as the ordered table has them.
     order: Vec<ItemIndex>,
+    // The most slots that there can be.
+    limit: usize,
 }
 
 impl Machine {
-    pub(super) fn new(alloc: Global) -> Machine {
+    pub(super) fn new(alloc: Global, limit: u32) -> Machine {
         Machine {
             alloc,
             slots: Vec::new(alloc),
             free: Vec::new(alloc),
             filed: Vec::new(alloc),
             order: Vec::new(alloc),
+            limit: limit as usize,
         }
     }
 
@@ -63,6 +66,11 @@ impl Machine {
             Some(ix) => *ix,
             None => index(self.slots.len()),
         }
+    }
+
+    /// Whether no index is vacant and there are as many slots as there can be.
+    pub(super) fn is_full(&self) -> bool {
+        self.free.is_empty() && self.slots.len() == self.limit
     }
 
     /// Whether the index is filed under the hash of that first key.
@@ -161,7 +169,12 @@ impl Machine {
         true
     }
 
-    // Whether an insert may be refused so. There are never so many items that it is full.
+    // Whether neither look-up of an item's keys has to hit.
+    fn may_miss_both(&self, item: Record) -> bool {
+        self.finds1(item.first, None) && self.finds2(item.second, None)
+    }
+
+    // Whether an insert may be refused so.
     fn refuses(&self, item: Record, refusal: &InsertRefusal<Record>) -> bool {
         match refusal {
             InsertRefusal::Duplicate {
@@ -174,7 +187,10 @@ impl Machine {
                     && self.finds1(item.first, *first)
                     && self.finds2(item.second, *second)
             }
-            InsertRefusal::Full(_) | InsertRefusal::Memory(_) => false,
+            InsertRefusal::Full(back) => {
+                *back == item && self.may_miss_both(item) && self.is_full()
+            }
+            InsertRefusal::Memory(_) => false,
         }
     }
 
@@ -201,8 +217,8 @@ impl Machine {
         ix: ItemIndex,
         walk: &[ItemIndex],
     ) -> Result<bool, AllocError> {
-        let is_new = self.finds1(item.first, None) && self.finds2(item.second, None);
-        if !is_new || ix != self.next_index() || !self.gains(ix, walk) {
+        let is_taken = self.may_miss_both(item) && !self.is_full();
+        if !is_taken || ix != self.next_index() || !self.gains(ix, walk) {
             return Ok(false);
         }
         let was_sorted = self.is_sorted();

@@ -1,7 +1,7 @@
 //! The driver beside a model that has neither table.
 use super::calls::step;
 use super::commands::{COMMANDS, Generator};
-use super::driver::no_items;
+use super::driver::{Items, items_within, no_items};
 use iddqd::index_remap::IndexRemap;
 use iddqd::item_index::ItemIndex;
 use iddqd_keyed::command::{Command, InsertRefusal, Reply};
@@ -21,13 +21,16 @@ pub(super) fn index(number: usize) -> ItemIndex {
 struct Model {
     slots: Vec<Option<Record>>,
     free: Vec<usize>,
+    // The most slots that there can be.
+    limit: usize,
 }
 
 impl Model {
-    fn new(alloc: Global) -> Model {
+    fn new(alloc: Global, limit: u32) -> Model {
         Model {
             slots: Vec::new(alloc),
             free: Vec::new(alloc),
+            limit: limit as usize,
         }
     }
 
@@ -64,6 +67,9 @@ impl Model {
             }));
         }
         let Some(number) = self.free.pop() else {
+            if self.slots.len() == self.limit {
+                return Ok(Reply::Refused(InsertRefusal::Full(item)));
+            }
             self.slots.push(Some(item))?;
             return Ok(Reply::Inserted(index(self.slots.len().saturating_sub(1))));
         };
@@ -151,23 +157,38 @@ impl Model {
     }
 }
 
-// Both answer each command alike.
-fn assert_alike(rt: &impl Abort, alloc: Global, range: u32) -> Result<(), AllocError> {
+// Both answer each command alike, from no items within the limit.
+fn assert_alike(
+    rt: &impl Abort,
+    alloc: Global,
+    range: u32,
+    limit: u32,
+    mut items: Items,
+) -> Result<(), AllocError> {
     let mut generator = Generator::new(range);
-    let mut model = Model::new(alloc);
-    let mut items = no_items(alloc);
+    let mut model = Model::new(alloc, limit);
     for number in 0..COMMANDS {
         let command = generator.command();
         let want = model.step(alloc, &command)?;
         let is_alike = step(&mut items, command) == want;
-        assert!(rt; is_alike, "command {number} below {range}");
+        assert!(rt; is_alike, "command {number} below {range} within {limit}");
     }
     Ok(())
 }
 
 #[test]
 fn steps_as_a_model_without_tables(rt: HostRuntime) -> Result<(), Fail> {
-    assert_alike(&rt, rt.alloc(), 40)?;
-    assert_alike(&rt, rt.alloc(), 400)?;
+    let alloc = rt.alloc();
+    assert_alike(&rt, alloc, 40, u32::MAX, no_items(alloc))?;
+    assert_alike(&rt, alloc, 400, u32::MAX, no_items(alloc))?;
+    Ok(())
+}
+
+#[test]
+fn steps_as_a_model_within_a_limit(rt: HostRuntime) -> Result<(), Fail> {
+    let alloc = rt.alloc();
+    for limit in [0, 1, 2, 3, 20] {
+        assert_alike(&rt, alloc, 40, limit, items_within(alloc, limit))?;
+    }
     Ok(())
 }

@@ -64,14 +64,17 @@ pub(super) fn is_in_order(machine: &Machine) -> bool {
 fn scanned_insert(machine: &Machine, item: Record) -> Reply<Record> {
     let first = scan1(machine, item.first);
     let second = scan2(machine, item.second);
-    if first.is_none() && second.is_none() {
-        return Reply::Inserted(machine.next_index());
+    if first.is_some() || second.is_some() {
+        return Reply::Refused(InsertRefusal::Duplicate {
+            item,
+            first,
+            second,
+        });
     }
-    Reply::Refused(InsertRefusal::Duplicate {
-        item,
-        first,
-        second,
-    })
+    if machine.is_full() {
+        return Reply::Refused(InsertRefusal::Full(item));
+    }
+    Reply::Inserted(machine.next_index())
 }
 
 // What a removal of the index answers.

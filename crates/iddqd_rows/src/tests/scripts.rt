@@ -58,10 +58,10 @@ impl Script {
     }
 }
 
-// Each command of the script with that seed is allowed.
-fn assert_allowed(rt: &impl Abort, alloc: Global, seed: u32) -> Result<(), AllocError> {
+// Each command of the script with that seed is allowed where there are no more slots than the limit.
+fn assert_allowed(rt: &impl Abort, alloc: Global, seed: u32, limit: u32) -> Result<(), AllocError> {
     let mut script = Script::new(seed);
-    let mut watched = Watched::new(alloc);
+    let mut watched = Watched::new(alloc, limit);
     for number in 0..COMMANDS {
         let at = (seed, number);
         watched.step(rt, &script.command(), at)?;
@@ -73,7 +73,17 @@ fn assert_allowed(rt: &impl Abort, alloc: Global, seed: u32) -> Result<(), Alloc
 #[test]
 fn each_command_of_a_script_is_allowed(rt: HostRuntime) -> Result<(), Fail> {
     for seed in 0..SCRIPTS {
-        assert_allowed(&rt, rt.alloc(), seed)?;
+        assert_allowed(&rt, rt.alloc(), seed, u32::MAX)?;
+    }
+    Ok(())
+}
+
+#[test]
+fn each_command_of_a_script_within_a_limit_is_allowed(rt: HostRuntime) -> Result<(), Fail> {
+    for limit in 0..4 {
+        for seed in 0..SCRIPTS {
+            assert_allowed(&rt, rt.alloc(), seed, limit)?;
+        }
     }
     Ok(())
 }

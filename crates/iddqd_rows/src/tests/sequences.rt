@@ -36,10 +36,15 @@ fn command(number: u32, value: u32) -> Command<Record> {
     }
 }
 
-// The sequence of that number is allowed: its digits to the base of 25 are the commands. A beginning that
+// The sequence of that number is allowed where there are no more slots than the limit: its digits to the base of 25 are the commands. A beginning that
 // came before is not looked at again.
-fn assert_allowed(rt: &impl Abort, alloc: Global, sequence: u32) -> Result<(), AllocError> {
-    let mut watched = Watched::new(alloc);
+fn assert_allowed(
+    rt: &impl Abort,
+    alloc: Global,
+    sequence: u32,
+    limit: u32,
+) -> Result<(), AllocError> {
+    let mut watched = Watched::new(alloc, limit);
     for (value, size) in [(1, 15625), (2, 625), (3, 25), (4, 1)] {
         let number = sequence / size % COMMANDS;
         let at = (sequence, value);
@@ -52,23 +57,23 @@ fn assert_allowed(rt: &impl Abort, alloc: Global, sequence: u32) -> Result<(), A
 }
 
 // All sequences are allowed whose first command is one of five.
-fn assert_fifth(rt: &impl Abort, alloc: Global, fifth: u32) -> Result<(), AllocError> {
+fn assert_fifth(rt: &impl Abort, alloc: Global, fifth: u32, limit: u32) -> Result<(), AllocError> {
     let start = fifth.saturating_mul(78125);
     for sequence in start..start.saturating_add(78125) {
-        assert_allowed(rt, alloc, sequence)?;
+        assert_allowed(rt, alloc, sequence, limit)?;
     }
     Ok(())
 }
 
 #[test]
 fn each_sequence_from_an_insert_or_a_find1_is_allowed(rt: HostRuntime) -> Result<(), Fail> {
-    assert_fifth(&rt, rt.alloc(), 0)?;
+    assert_fifth(&rt, rt.alloc(), 0, u32::MAX)?;
     Ok(())
 }
 
 #[test]
 fn each_sequence_from_a_find_or_a_removal_is_allowed(rt: HostRuntime) -> Result<(), Fail> {
-    assert_fifth(&rt, rt.alloc(), 1)?;
+    assert_fifth(&rt, rt.alloc(), 1, u32::MAX)?;
     Ok(())
 }
 
@@ -76,18 +81,29 @@ fn each_sequence_from_a_find_or_a_removal_is_allowed(rt: HostRuntime) -> Result<
 fn each_sequence_from_a_removal_by_a_key_or_an_overwrite_is_allowed(
     rt: HostRuntime,
 ) -> Result<(), Fail> {
-    assert_fifth(&rt, rt.alloc(), 2)?;
+    assert_fifth(&rt, rt.alloc(), 2, u32::MAX)?;
     Ok(())
 }
 
 #[test]
 fn each_sequence_from_an_overwrite_is_allowed(rt: HostRuntime) -> Result<(), Fail> {
-    assert_fifth(&rt, rt.alloc(), 3)?;
+    assert_fifth(&rt, rt.alloc(), 3, u32::MAX)?;
     Ok(())
 }
 
 #[test]
 fn each_sequence_from_an_overwrite_to_a_walk_is_allowed(rt: HostRuntime) -> Result<(), Fail> {
-    assert_fifth(&rt, rt.alloc(), 4)?;
+    assert_fifth(&rt, rt.alloc(), 4, u32::MAX)?;
+    Ok(())
+}
+
+// Those that begin with the insert of one item: from no items every other beginning is like it, or like none.
+#[test]
+fn each_sequence_from_one_insert_within_a_limit_is_allowed(rt: HostRuntime) -> Result<(), Fail> {
+    for limit in 0..4 {
+        for sequence in 0..15625 {
+            assert_allowed(&rt, rt.alloc(), sequence, limit)?;
+        }
+    }
     Ok(())
 }

@@ -33,11 +33,12 @@ fn changes_a_key(machine: &Machine, command: &Command<Record>) -> bool {
 }
 
 impl Watched {
-    pub(super) fn new(alloc: Global) -> Watched {
+    /// No items, and never more slots than the limit.
+    pub(super) fn new(alloc: Global, limit: u32) -> Watched {
         Watched {
             alloc,
-            items: KeyedItems::new(alloc, Own(0)),
-            machine: Machine::new(alloc),
+            items: KeyedItems::with_limit(alloc, Own(0), limit),
+            machine: Machine::new(alloc, limit),
             is_changed: false,
         }
     }
