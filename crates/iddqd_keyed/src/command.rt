@@ -12,7 +12,7 @@ pub enum InsertRefusal<T> {
         first: Option<ItemIndex>,
         second: Option<ItemIndex>,
     },
-    /// Neither of its keys was found, and there are as many items as there can be.
+    /// Neither of its keys was found, and there are as many items as the limit allows.
     Full(T),
     /// Neither of its keys was found, there is place for it, and memory was refused.
     Memory(T),

@@ -59,7 +59,7 @@ fn items_with_one_refused(alloc: Global, refused: u32) -> Result<ItemSet<Item>, 
 }
 
 #[test]
-fn an_item_whose_copy_is_refused_ends_the_copy(rt: HostRuntime) -> Result<(), Fail> {
+fn an_item_that_gives_no_copy_ends_the_copy(rt: HostRuntime) -> Result<(), Fail> {
     for refused in 0..5u32 {
         let set = items_with_one_refused(rt.alloc(), refused)?;
         assert_eq!(rt; set.clone().is_ok(), refused == 4);
