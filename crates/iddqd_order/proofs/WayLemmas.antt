@@ -4,11 +4,13 @@ use Rattle.std.proofs.lemmas.Bool.{cases_lt, cases_eq}
 use Rattle.std.proofs.lemmas.List.{append-nil, length-map, map-set, set-append_left, set-append_right}
 use Rattle.std.proofs.lemmas.List.Elements.{All-set}
 use Rattle.iddqd_order.specs.declared.btree_table.node.Node.{Node}
+use Rattle.iddqd_order.specs.declared.btree_table.ways.Reader.{Reader}
 use Rattle.iddqd_order.specs.declared.btree_table.ways.Way.{Way}
 use Rattle.iddqd_order.specs.Node.{row, children, child, room, weave, before, after, flat, IsInner, IsFormed, Holds, spot}
 use Rattle.iddqd_order.specs.Tree.{IsTree}
-use Rattle.iddqd_order.specs.Ways.{StepsOn, SamePlaces, IsWay, IsWayIn}
+use Rattle.iddqd_order.specs.Ways.{StepsOn, SamePlaces, IsWay, IsReader, IsReaderIn}
 use Rattle.iddqd_order.proofs.NodeLemmas.{lists, AreChildren, formed-leaf, leaf-formed, flat-leaf, formed-inner, inner-formed, formed-within, flat-inner, any_default}
+use Rattle.iddqd_order.proofs.PartLemmas.{in_middle}
 use Rattle.iddqd_order.proofs.RemovalLemmas.{holds-leaf, holds-at, holds-level, holds-below, spot-leaf, spot-at, spot-below, spot-within}
 use Rattle.iddqd_order.proofs.DescentLemmas.{index_place, after-last, before-more, lists-one_more, lists-at, child-within, child-formed, holds-here, below-holds, spot-here, spot-row, spot-child}
 use Rattle.iddqd_order.proofs.IndexListLemmas.{Contains-at}
@@ -41,12 +43,12 @@ first-way (suc h) n p f some zeros =
     }
 
 -- a step in a leaf
-pub steps-leaf : (h l i : ℕ) (n : Node) (p q : List ℕ) → h ≡ 0 → i ≡ slice_index p h → Holds l h n p → i + 1 < length (row n) → slice_index q 0 ≡ i + 1 → StepsOn h n l p (Some 0) q
+pub steps-leaf : (h l i : ℕ) (n : Node) (p q : List ℕ) → h ≡ 0 → i ≡ slice_index p h → Holds l h n p → i + 1 < length (row n) → slice_index q 0 ≡ i + 1 → StepsOn h n l p 1 (Some 0) q
 steps-leaf (suc h) l i n p q e ei w lt next = absurd (omega arith)
 steps-leaf zero l i n p q e ei w lt next =
     (holds-here 0 n q (omega arith), spot-leaf 0 0 n q refl ∙ next ∙ ap (λ z. z + 1) ei ∙ ap (λ z. z + 1) (sym (spot-leaf l 0 n p refl)))
 
-pub ends-leaf : (h l i : ℕ) (n : Node) (p q : List ℕ) → h ≡ 0 → i ≡ slice_index p h → Holds l h n p → length (row n) ≤ i + 1 → StepsOn h n l p None q
+pub ends-leaf : (h l i : ℕ) (n : Node) (p q : List ℕ) → h ≡ 0 → i ≡ slice_index p h → Holds l h n p → length (row n) ≤ i + 1 → StepsOn h n l p 1 None q
 ends-leaf (suc h) l i n p q e ei w le = absurd (omega arith)
 ends-leaf zero l i n p q e ei w le =
     let lt = holds-leaf l 0 n p refl w in
@@ -54,7 +56,7 @@ ends-leaf zero l i n p q e ei w le =
 
 -- from an index of an inner node to the first one below the next child
 pub steps-here : (h l i : ℕ) (n : Node) (p q : List ℕ) → h ≢ 0 → h ≡ l → i ≡ slice_index p h → IsFormed h n → Holds l h n p → slice_index q h ≡ i + 1 → ((m : ℕ) → m < h → slice_index q m ≡ 0)
-    → StepsOn h n l p (Some 0) q
+    → StepsOn h n l p 1 (Some 0) q
 steps-here h l i n p q ne e ei f w next zeros =
     let at : slice_index p h < length (row n) = holds-at l h n p ne e w in
     let one = (formed-inner h n ne f).inner.one_more in
@@ -76,9 +78,9 @@ steps-here h l i n p q ne e ei f w next zeros =
     (below-holds 0 h n q ne (rw next lt) (rw next first.holds), omega arith)
 
 -- a step below the i-th child
-pub steps-below : (h l i m : ℕ) (n : Node) (p q : List ℕ) → h ≢ 0 → h ≢ l → i ≡ slice_index p h → Holds l h n p → slice_index q h ≡ slice_index p h → StepsOn (h - 1) (child n i) l p (Some m) q
-    → StepsOn h n l p (Some m) q
-steps-below h l i m n p q ne e ei w same s =
+pub steps-below : (c : ℕ) (h l i m : ℕ) (n : Node) (p q : List ℕ) → h ≢ 0 → h ≢ l → i ≡ slice_index p h → Holds l h n p → slice_index q h ≡ slice_index p h → StepsOn (h - 1) (child n i) l p c (Some m) q
+    → StepsOn h n l p c (Some m) q
+steps-below c h l i m n p q ne e ei w same s =
     let down = holds-below l h n p ne e w in
     let here : slice_index q h ≡ i = same ∙ sym ei in
     let xs : List ℕ = row n in let ks : List (List ℕ) = lists (h - 1) (children n) in
@@ -91,9 +93,9 @@ steps-below h l i m n p q ne e ei w same s =
     (below-holds m h n q ne (rw (here, ei) down.here) (rw here s.0), omega arith)
 
 -- from the last one below the i-th child to the i-th index
-pub steps-out : (h l i : ℕ) (n : Node) (p q : List ℕ) → h ≢ 0 → h ≢ l → i ≡ slice_index p h → IsFormed h n → Holds l h n p → q ≡ p → i < length (row n) → StepsOn (h - 1) (child n i) l p None q
-    → StepsOn h n l p (Some h) q
-steps-out h l i n p q ne e ei f w same lt s =
+pub steps-out : (c : ℕ) (h l i : ℕ) (n : Node) (p q : List ℕ) → h ≢ 0 → h ≢ l → i ≡ slice_index p h → IsFormed h n → Holds l h n p → q ≡ p → i < length (row n) → StepsOn (h - 1) (child n i) l p c None q
+    → StepsOn h n l p c (Some h) q
+steps-out c h l i n p q ne e ei f w same lt s =
     let here : slice_index q h ≡ i = ap (λ z. slice_index z h) same ∙ sym ei in
     let xs : List ℕ = row n in let ks : List (List ℕ) = lists (h - 1) (children n) in
     let was : spot l h n p ≡ length (before i xs ks) + spot l (h - 1) (child n i) p =
@@ -103,9 +105,9 @@ steps-out h l i n p q ne e ei f w same lt s =
     (holds-here h n q (rw here lt), omega arith)
 
 -- or to the end of the node
-pub ends-below : (h l i : ℕ) (n : Node) (p q : List ℕ) → h ≢ 0 → h ≢ l → i ≡ slice_index p h → IsFormed h n → Holds l h n p → length (row n) ≤ i → StepsOn (h - 1) (child n i) l p None q
-    → StepsOn h n l p None q
-ends-below h l i n p q ne e ei f w le s =
+pub ends-below : (c : ℕ) (h l i : ℕ) (n : Node) (p q : List ℕ) → h ≢ 0 → h ≢ l → i ≡ slice_index p h → IsFormed h n → Holds l h n p → length (row n) ≤ i → StepsOn (h - 1) (child n i) l p c None q
+    → StepsOn h n l p c None q
+ends-below c h l i n p q ne e ei f w le s =
     let down = holds-below l h n p ne e w in
     let xs : List ℕ = row n in let ks : List (List ℕ) = lists (h - 1) (children n) in
     let one = lists-one_more h n ne f in
@@ -158,10 +160,10 @@ goes-below h l i n p lt ei f w =
     }
 
 -- what a step below the i-th child answers, if anything
-pub steps-below_any : (h l i : ℕ) (r : Option ℕ) (n : Node) (p q : List ℕ) → h ≢ 0 → h ≢ l → i ≡ slice_index p h → Holds l h n p → slice_index q h ≡ slice_index p h → is_some r ≡ true → StepsOn (h - 1) (child n i) l p r q
-    → StepsOn h n l p r q
-steps-below_any h l i None n p q ne e ei w same some s = absurd (cc)
-steps-below_any h l i (Some m) n p q ne e ei w same some s = steps-below h l i m n p q ne e ei w same s
+pub steps-below_any : (c : ℕ) (h l i : ℕ) (r : Option ℕ) (n : Node) (p q : List ℕ) → h ≢ 0 → h ≢ l → i ≡ slice_index p h → Holds l h n p → slice_index q h ≡ slice_index p h → is_some r ≡ true → StepsOn (h - 1) (child n i) l p c r q
+    → StepsOn h n l p c r q
+steps-below_any c h l i None n p q ne e ei w same some s = absurd (cc)
+steps-below_any c h l i (Some m) n p q ne e ei w same some s = steps-below c h l i m n p q ne e ei w same s
 
 pub none-is : (r : Option ℕ) → is_some r ≡ false → r ≡ None
 none-is None e = refl
@@ -366,21 +368,22 @@ IsWay-first h n w f some low path zeros level place =
     }
 
 -- the way after a step
-pub IsWay-next : (h : ℕ) (n : Node) (old new : Way) (r : Option ℕ) → IsWay h n old → old.place < length (flat h n) → StepsOn h n old.level old.path r new.path → length new.path ≡ 12
-    → ((m : ℕ) → r ≡ Some m → new.level ≡ m) → new.place ≡ old.place + 1 → IsWay h n new
-IsWay-next h n old new None w more s path level place =
+pub IsWay-next : (c h : ℕ) (n : Node) (old new : Way) (r : Option ℕ) → IsFormed h n → IsWay h n old → old.place < length (flat h n) → StepsOn h n old.level old.path c r new.path → length new.path ≡ 12
+    → ((m : ℕ) → r ≡ Some m → new.level ≡ m) → new.place ≡ old.place + c → 1 ≤ c → IsWay h n new
+IsWay-next c h n old new None f w more s path level place some =
     let at = w.leads more in
-    let last : length (flat h n) ≡ spot old.level h n old.path + 1 = s in
+    let last : length (flat h n) ≡ spot old.level h n old.path + c = s in
     record { path = path; within = omega arith; holds = λ again. absurd (omega arith); leads = λ again. absurd (omega arith) }
-IsWay-next h n old new (Some m) w more s path level place =
+IsWay-next c h n old new (Some m) f w more s path level place some =
     let at = w.leads more in
     let next = s.1 in
     let is = level m refl in
+    let inside = spot-within m h n new.path f s.0 in
     record {
       path = path;
       within = omega arith;
       holds = λ again. subst (λ l. Holds l h n new.path) (sym is) s.0;
-      leads = λ again. ap (λ l. spot l h n new.path) is ∙ next ∙ ap (λ z. z + 1) at ∙ sym place;
+      leads = λ again. ap (λ l. spot l h n new.path) is ∙ next ∙ ap (λ z. z + c) at ∙ sym place;
     }
 
 -- a way stays one where the tree changes indexes alone
@@ -394,10 +397,79 @@ IsWay-same h n m w same len is =
       leads = λ more. (same w.level w.path (is.holds (omega arith))).1 ∙ is.leads (omega arith);
     }
 
--- the same of a tree, or of none
-pub IsWayIn-first : (r : Option Node) (h : ℕ) (w : Way) → IsTree r h → length w.path ≡ 12 → ((l : ℕ) → slice_index w.path l ≡ 0) → w.level ≡ 0 → w.place ≡ 0 → IsWayIn r h w
-IsWayIn-first None h w t path zeros level place = place
-IsWayIn-first (Some n) h w t path zeros level place = IsWay-first h n w t.0 t.1 t.2 path zeros level place
+-- a reader before the first index
+pub IsReader-first : (h : ℕ) (n : Node) (r : Reader) → IsFormed h n → 1 ≤ length (row n) → h ≤ 11 → length r.way.path ≡ 12 → ((l : ℕ) → slice_index r.way.path l ≡ 0) → r.way.level ≡ 0 → r.way.place ≡ 0
+    → r.leaf ≡ [] → r.at ≡ 0 → r.place ≡ 0 → IsReader h n r
+IsReader-first h n r f some low path zeros level place none at here =
+    let len : length r.leaf ≡ 0 = ap length none in
+    record {
+      way = IsWay-first h n r.way f some low path zeros level place;
+      first = zeros 0;
+      within = omega arith;
+      ahead = omega arith;
+      read = λ k lt. absurd (omega arith);
+    }
+
+pub IsReaderIn-first : (t : Option Node) (h : ℕ) (r : Reader) → IsTree t h → length r.way.path ≡ 12 → ((l : ℕ) → slice_index r.way.path l ≡ 0) → r.way.level ≡ 0 → r.way.place ≡ 0 → r.leaf ≡ [] → r.at ≡ 0 → r.place ≡ 0 → IsReaderIn t h r
+IsReaderIn-first None h r t path zeros level place none at here = here
+IsReaderIn-first (Some n) h r t path zeros level place none at here = IsReader-first h n r t.0 t.1 t.2 path zeros level place none at here
+
+-- a leaf is read whole, from the beginning on
+pub record ReadsLeaf (h : ℕ) (n : Node) (p : List ℕ) (xs : List ℕ) (r : Option ℕ) : Type 0 where
+  pub items : (k : ℕ) → k < length xs → slice_index xs k ≡ slice_index (flat h n) (spot 0 h n p + k)
+  pub next : StepsOn h n 0 p (length xs) r p
+  pub some : 1 ≤ length xs
+
+pub reads-leaf : (h : ℕ) (n : Node) (p xs : List ℕ) → h ≡ 0 → Holds 0 h n p → slice_index p 0 ≡ 0 → xs ≡ row n → ReadsLeaf h n p xs None
+reads-leaf (suc h) n p xs e w first is = absurd (omega arith)
+reads-leaf zero n p xs e w first is =
+    let lt = holds-leaf 0 0 n p refl w in
+    let at : spot 0 0 n p ≡ 0 = spot-leaf 0 0 n p refl ∙ first in
+    let len : length xs ≡ length (row n) = ap length is in
+    record {
+      items = λ k low. (let k_is : k ≡ spot 0 0 n p + k = omega arith in ap (λ z. slice_index z k) (is ∙ sym (flat-leaf 0 n refl)) ∙ ap (slice_index (flat 0 n)) k_is);
+      next = (let all : length (flat 0 n) ≡ length (row n) = ap length (flat-leaf 0 n refl) in omega arith);
+      some = omega arith;
+    }
+
+-- the list of a child stands in the whole
+child_read : (h i k s : ℕ) (n : Node) → h ≢ 0 → IsFormed h n → i < length (children n) → k < length (flat (h - 1) (child n i)) → s ≡ length (before i (row n) (lists (h - 1) (children n))) + k
+    → slice_index (flat (h - 1) (child n i)) k ≡ slice_index (flat h n) s
+child_read h i k s n ne f lt low es =
+    let xs : List ℕ = row n in let ks : List (List ℕ) = lists (h - 1) (children n) in
+    let at = lists-at (h - 1) n i lt in
+    let inside : k < length (get_or ks i []) = rw at low in
+    let whole : flat h n ≡ before i xs ks ++ (get_or ks i [] ++ after i xs ks) = flat-inner h n ne ∙ apart i xs ks [] (omega (arith, length-map (children n) (λ k. flat (h - 1) k))) (lists-one_more h n ne f) in
+    sym (ap (slice_index (flat h n)) es ∙ ap (λ zs. slice_index zs (length (before i xs ks) + k)) whole ∙ in_middle (before i xs ks) (get_or ks i []) (after i xs ks) k inside ∙ ap (λ zs. slice_index zs k) at)
+
+-- how far a leaf goes
+pub leaf_within : (h : ℕ) (n : Node) (p xs : List ℕ) (r : Option ℕ) → IsFormed h n → StepsOn h n 0 p (length xs) r p → spot 0 h n p + length xs ≤ length (flat h n)
+leaf_within h n p xs None f s = omega (arith, s)
+leaf_within h n p xs (Some m) f s = let inside = spot-within m h n p f s.0 in let next = s.1 in omega arith
+
+below_items : (h i : ℕ) (r : Option ℕ) (n : Node) (p xs : List ℕ) → h ≢ 0 → i ≡ slice_index p h → IsFormed h n → Holds 0 h n p → ReadsLeaf (h - 1) (child n i) p xs r
+    → (k : ℕ) → k < length xs → slice_index xs k ≡ slice_index (flat h n) (spot 0 h n p + k)
+below_items h i r n p xs ne ei f w l k low =
+    let down = holds-below 0 h n p ne ne w in
+    let in_children : i < length (children n) = rw ei down.here in
+    let formed = child-formed h n i ne f in_children in
+    let end = leaf_within (h - 1) (child n i) p xs r formed l.next in
+    let was : spot 0 h n p ≡ length (before i (row n) (lists (h - 1) (children n))) + spot 0 (h - 1) (child n i) p =
+    spot-below 0 h n p ne ne ∙ ap (λ z. length (before z (row n) (lists (h - 1) (children n))) + spot 0 (h - 1) (child n z) p) (sym ei) in
+    l.items k low ∙ child_read h i (spot 0 (h - 1) (child n i) p + k) (spot 0 h n p + k) n ne f in_children (omega arith) (omega arith)
+
+-- the leaf lies below the i-th child
+pub reads-below : (h i : ℕ) (r : Option ℕ) (n : Node) (p xs : List ℕ) → h ≢ 0 → i ≡ slice_index p h → IsFormed h n → Holds 0 h n p → is_some r ≡ true → ReadsLeaf (h - 1) (child n i) p xs r → ReadsLeaf h n p xs r
+reads-below h i r n p xs ne ei f w some l =
+    record { items = below_items h i r n p xs ne ei f w l; next = steps-below_any (length xs) h 0 i r n p p ne ne ei w refl some l.next; some = l.some }
+
+pub reads-out : (h i : ℕ) (n : Node) (p xs : List ℕ) → h ≢ 0 → i ≡ slice_index p h → IsFormed h n → Holds 0 h n p → i < length (row n) → ReadsLeaf (h - 1) (child n i) p xs None → ReadsLeaf h n p xs (Some h)
+reads-out h i n p xs ne ei f w lt l =
+    record { items = below_items h i None n p xs ne ei f w l; next = steps-out (length xs) h 0 i n p p ne ne ei f w refl lt l.next; some = l.some }
+
+pub reads-end : (h i : ℕ) (n : Node) (p xs : List ℕ) → h ≢ 0 → i ≡ slice_index p h → IsFormed h n → Holds 0 h n p → length (row n) ≤ i → ReadsLeaf (h - 1) (child n i) p xs None → ReadsLeaf h n p xs None
+reads-end h i n p xs ne ei f w le l =
+    record { items = below_items h i None n p xs ne ei f w l; next = ends-below (length xs) h 0 i n p p ne ne ei f w le l.next; some = l.some }
 
 -- where a walk along all indexes ends
 pub found_where : (r : Option ℕ) (h : ℕ) (n : Node) (ix : ℕ) (p : List ℕ) → IsFormed h n → IfSome r (λ l. Holds l h n p) → IfSome r (λ l. slice_index (flat h n) (spot l h n p) ≡ ix) → (IsNone r → Contains (flat h n) ix → ⊥)
@@ -409,3 +481,33 @@ pub is_contained : (b : Bool) (xs : List ℕ) (r : Option ℕ) (h : ℕ) (n : No
     → (IsNone r → Contains (flat h n) ix → ⊥) → IsTrue b ↔ Contains xs ix
 is_contained b xs r h n ix p eb ex f holds there none =
     subst (λ z. IsTrue z ↔ Contains xs ix) (sym eb) (subst (λ zs. IsTrue (is_some r) ↔ Contains zs ix) ex (found_where r h n ix p f holds there none))
+
+-- a leaf's next index is taken
+pub reader-taken : (h : ℕ) (n : Node) (old new : Reader) → IsReader h n old → old.at < length old.leaf → new.way ≡ old.way → new.leaf ≡ old.leaf → new.at ≡ old.at + 1 → new.place ≡ old.place + 1 → IsReader h n new
+reader-taken h n old new r lt way leaf at place =
+    let ahead = r.ahead in
+    let len = ap length leaf in
+    let ways = ap (λ w. w.place) way in
+    record {
+      way = subst (IsWay h n) (sym way) r.way;
+      first = ap (λ w. slice_index w.path 0) way ∙ r.first;
+      within = omega arith;
+      ahead = omega arith;
+      read = λ k low.
+          let next = r.read (suc k) (omega arith) in
+          let from : new.at + k ≡ old.at + suc k = omega arith in
+          let to : old.place + suc k ≡ new.place + k = omega arith in
+          ap (λ z. slice_index z (new.at + k)) leaf ∙ ap (slice_index old.leaf) from ∙ next ∙ ap (slice_index (flat h n)) to;
+    }
+
+-- a reader stays one where another index is put in a place that it has passed
+pub IsReader-same : (h : ℕ) (n m : Node) (r : Reader) (t x : ℕ) → SamePlaces h n m → flat h m ≡ slice_set (flat h n) t x → t < r.place → IsReader h n r → IsReader h m r
+IsReader-same h n m r t x same is passed reader =
+    let len : length (flat h m) ≡ length (flat h n) = ap length is ∙ length-set (flat h n) t x in
+    record {
+      way = IsWay-same h n m r.way same len reader.way;
+      first = reader.first;
+      within = reader.within;
+      ahead = reader.ahead;
+      read = λ k low. reader.read k low ∙ sym (ap (λ z. slice_index z (r.place + k)) is ∙ get_or-set_other (flat h n) t (r.place + k) x 0 (λ e. absurd (omega arith)));
+    }

@@ -1,6 +1,6 @@
 //! The walk along a table that is given up.
 use crate::btree_table::node::Node;
-use crate::btree_table::ways::Way;
+use crate::btree_table::ways::Reader;
 use iddqd::item_index::ItemIndex;
 use std::fmt::{self, Debug, Formatter, Write};
 use std::iter::{ExactSizeIterator, FusedIterator};
@@ -8,26 +8,26 @@ use std::marker::Model;
 
 /// The indexes of a table, in its order. Once it has ended it stays ended.
 ///
-/// It takes no memory, and a step costs at most as much as a search. The table's memory is given
-/// back with it.
+/// It takes no memory. A step costs a constant time on the average, and at most as much as a search.
+/// The table's memory is given back with it.
 #[derive(Drop)]
 pub struct IntoIter {
     root: Option<Node>,
     height: usize,
     len: usize,
-    way: Way,
+    reader: Reader,
 }
 
 impl Model for IntoIter {
     ghost use Rattle.std.specs.Prelude.{◌≡◌, ℕ, List, drop, length};
     ghost use Rattle.iddqd_order.specs.Tree.{in_order, IsTree};
-    ghost use Rattle.iddqd_order.specs.Ways.{IsWayIn};
+    ghost use Rattle.iddqd_order.specs.Ways.{IsReaderIn};
 
     ghost Value = { List ℕ };
 
-    ghost view = { λ a. drop a.way.place (in_order a.root a.height) };
+    ghost view = { λ a. drop a.reader.place (in_order a.root a.height) };
 
-    ghost invariant = { λ a. IsTree a.root a.height × (a.len ≡ length (in_order a.root a.height)) × IsWayIn a.root a.height a.way };
+    ghost invariant = { λ a. IsTree a.root a.height × (a.len ≡ length (in_order a.root a.height)) × IsReaderIn a.root a.height a.reader };
 }
 
 #[tactic(auto, unfolding(crate::specs::IntoIter::indexes_to_come))]
@@ -46,7 +46,7 @@ impl IntoIter {
             root,
             height,
             len,
-            way: Way::first(),
+            reader: Reader::first(),
         }
     }
 }
@@ -68,10 +68,10 @@ impl Iterator for IntoIter {
         let Some(root) = &self.root else {
             return None;
         };
-        if self.way.place == self.len {
+        if self.reader.place == self.len {
             return None;
         }
-        Some(self.way.step(root, self.height))
+        Some(self.reader.next(root, self.height))
     }
 
     fn size_hint(&self) -> (usize, Option<usize>)
@@ -87,7 +87,7 @@ impl Iterator for IntoIter {
 #[tactic(auto, unfolding(crate::specs::IntoIter::indexes_to_come))]
 impl ExactSizeIterator for IntoIter {
     fn len(&self) -> usize {
-        self.len - self.way.place
+        self.len - self.reader.place
     }
 }
 

@@ -7,7 +7,7 @@ ghost use Rattle.iddqd_order.specs.Tree.{in_order, IsTree};
 
 use crate::btree_table::node::Node;
 use crate::btree_table::removal::lower;
-use crate::btree_table::ways::Way;
+use crate::btree_table::ways::{Reader, Way};
 use iddqd::item_index::ItemIndex;
 
 // Keeps the indexes at which `f` answers true, in their order, and answers the new height and how
@@ -51,21 +51,24 @@ fn gather<F: FnMut(ItemIndex) -> bool>(
     ensures within { result ≤ len }
     ensures kept { Retains F.FnMut f (flat height root.old) (take result (flat height root.new)) }
 {
-    let mut from = Way::first();
-    let mut to = from;
+    let mut from = Reader::first();
+    let mut to = Way::first();
+    let mut kept = 0;
     while from.place < len {
-        let ix = from.step(root, height);
+        let ix = from.next(root, height);
         if !f(ix) {
             continue;
         }
-        if to.place + 1 == from.place {
+        if kept + 1 == from.place {
             // It stays where it is: none was refused so far.
-            to = from;
+            kept += 1;
             continue;
         }
+        to.go_on(root, height, kept);
         to.put(root, height, ix);
+        kept += 1;
     }
-    to.place
+    kept
 }
 
 // Takes out the last indexes, so many, and answers the new height.

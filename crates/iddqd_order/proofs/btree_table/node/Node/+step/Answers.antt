@@ -31,8 +31,8 @@ pub returns-then-is_some-clause-next : goal.returns-then-is_some-clause-next
 returns-then-is_some-clause-next t c =
     let b = goes-below c.args.height c.args.level c.get-i.result c.args.self.now c.args.path.now c.if-height-level.true c.get-i.ensures c.requires.formed c.requires.holds in
     let same : c.index.result.now ≡ child c.args.self.now c.get-i.result = child_is c.args.self.now c.get-i.result c.index.result.now b.here c.index.ensures in
-    steps-below_any c.args.height c.args.level c.get-i.result c.step-ix.result.1 c.args.self.now c.args.path.now c.step-ix.new.path b.inner b.other c.get-i.ensures c.requires.holds (c.step-ix.ensures.above c.args.height (omega arith)) (search rules)
-    (subst (λ z. StepsOn (c.args.height - 1) z c.args.level c.args.path.now c.step-ix.result.1 c.step-ix.new.path) same c.step-ix.ensures.next)
+    steps-below_any 1 c.args.height c.args.level c.get-i.result c.step-ix.result.1 c.args.self.now c.args.path.now c.step-ix.new.path b.inner b.other c.get-i.ensures c.requires.holds (c.step-ix.ensures.above c.args.height (omega arith)) (search rules)
+    (subst (λ z. StepsOn (c.args.height - 1) z c.args.level c.args.path.now 1 c.step-ix.result.1 c.step-ix.new.path) same c.step-ix.ensures.next)
 
 pub returns-then-i-len-clause-index : goal.returns-then-i-len-clause-index
 returns-then-i-len-clause-index t c =
@@ -47,9 +47,9 @@ returns-then-i-len-clause-next t c =
     let same : c.index.result.now ≡ child c.args.self.now c.get-i.result = child_is c.args.self.now c.get-i.result c.index.result.now b.here c.index.ensures in
     let none : c.step-ix.result.1 ≡ None = none-is c.step-ix.result.1 (search rules) in
     let len = c.len.ensures.length in
-    steps-out c.args.height c.args.level c.get-i.result c.args.self.now c.args.path.now c.step-ix.new.path b.inner b.other c.get-i.ensures c.requires.formed c.requires.holds (c.step-ix.ensures.ended none) (let lt = c.if-i-len.true in search (rules, lt))
-    (subst (λ r. StepsOn (c.args.height - 1) (child c.args.self.now c.get-i.result) c.args.level c.args.path.now r c.step-ix.new.path) none
-    (subst (λ z. StepsOn (c.args.height - 1) z c.args.level c.args.path.now c.step-ix.result.1 c.step-ix.new.path) same c.step-ix.ensures.next))
+    steps-out 1 c.args.height c.args.level c.get-i.result c.args.self.now c.args.path.now c.step-ix.new.path b.inner b.other c.get-i.ensures c.requires.formed c.requires.holds (c.step-ix.ensures.ended none) (let lt = c.if-i-len.true in search (rules, lt))
+    (subst (λ r. StepsOn (c.args.height - 1) (child c.args.self.now c.get-i.result) c.args.level c.args.path.now 1 r c.step-ix.new.path) none
+    (subst (λ z. StepsOn (c.args.height - 1) z c.args.level c.args.path.now 1 c.step-ix.result.1 c.step-ix.new.path) same c.step-ix.ensures.next))
 
 pub returns-then-height-level-clause-index : goal.returns-then-height-level-clause-index
 returns-then-height-level-clause-index t c =
@@ -63,9 +63,9 @@ returns-then-height-level-clause-next t c =
     let b = goes-below c.args.height c.args.level c.get-i.result c.args.self.now c.args.path.now c.if-height-level.true c.get-i.ensures c.requires.formed c.requires.holds in
     let same : c.index.result.now ≡ child c.args.self.now c.get-i.result = child_is c.args.self.now c.get-i.result c.index.result.now b.here c.index.ensures in
     let none : c.step-ix.result.1 ≡ None = none-is c.step-ix.result.1 (search rules) in
-    ends-below c.args.height c.args.level c.get-i.result c.args.self.now c.args.path.now c.step-ix.new.path b.inner b.other c.get-i.ensures c.requires.formed c.requires.holds (search rules)
-    (subst (λ r. StepsOn (c.args.height - 1) (child c.args.self.now c.get-i.result) c.args.level c.args.path.now r c.step-ix.new.path) none
-    (subst (λ z. StepsOn (c.args.height - 1) z c.args.level c.args.path.now c.step-ix.result.1 c.step-ix.new.path) same c.step-ix.ensures.next))
+    ends-below 1 c.args.height c.args.level c.get-i.result c.args.self.now c.args.path.now c.step-ix.new.path b.inner b.other c.get-i.ensures c.requires.formed c.requires.holds (search rules)
+    (subst (λ r. StepsOn (c.args.height - 1) (child c.args.self.now c.get-i.result) c.args.level c.args.path.now 1 r c.step-ix.new.path) none
+    (subst (λ z. StepsOn (c.args.height - 1) z c.args.level c.args.path.now 1 c.step-ix.result.1 c.step-ix.new.path) same c.step-ix.ensures.next))
 
 -- from here on the path ends at this node
 level_is : (h l : ℕ) (n : Node) (p : List ℕ) → h ≤ l → Holds l h n p → h ≡ l
@@ -132,3 +132,8 @@ returns-clause-next t c =
     let over = c.if-i-len-2.false in
     let len = c.len-2.ensures.length in
     ends-leaf c.args.height c.args.level c.get-i.result c.args.self.now c.args.path.now c.args.path.now (omega arith) c.get-i.ensures c.requires.holds (search (rules, over))
+
+pub returns-then-i-len-2-clause-first : goal.returns-then-i-len-2-clause-first
+returns-then-i-len-2-clause-first t c above zero =
+    let e = level_is c.args.height c.args.level c.args.self.now c.args.path.now c.if-height-level.false c.requires.holds in
+    absurd (omega arith)
