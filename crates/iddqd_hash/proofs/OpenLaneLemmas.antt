@@ -1,8 +1,8 @@
 -- Of sixteen tags, which are empty or have a tag, and which are not full.
-use Rattle.std.proofs.Common.{◌≡◌, ◌==◌, ◌%◌, ◌^◌, ◌||◌, ◌≤◌, ltb, ltb-false, ℕ, Bool, true, false, cond, List, [], ◌∷◌, map, length, refl, bit_or, arith}
+use Rattle.std.proofs.Common.{◌≡◌, ◌==◌, ◌%◌, ◌^◌, ◌||◌, ◌≤◌, ◌<◌, leb, leb-false, ltb, ltb-false, ℕ, Bool, true, false, cond, List, [], ◌∷◌, map, length, refl, bit_or, arith}
 use Rattle.std.specs.Prelude.{replicate}
 use Rattle.std.proofs.lemmas.List.{length-map}
-use Rattle.std.proofs.lemmas.Simd.{zip2_splat, zip2-map, map-map, mask_l-mod}
+use Rattle.std.proofs.lemmas.Simd.{zip2_splat, zip2_splat_left, zip2-map, map-map, mask_l-mod}
 use lib.Lanes.{zip2, mask_l, top}
 use Rattle.iddqd_hash.specs.OpenTable.{is_stop}
 
@@ -45,3 +45,19 @@ free_mask v long = rw (zip2_splat less v 16 128 long, map-map, free_tops v) (mas
 
 pub not_free : (tag : ℕ) → is_free tag ≡ false → 128 ≤ tag
 not_free tag is = ltb-false tag 128 is
+
+abbrev pub is_full : ℕ → Bool
+is_full tag = leb 128 tag
+
+abbrev pub at_most : ℕ → ℕ → ℕ
+at_most a b = cond (leb a b) 255 0
+
+full_tops : (v : List ℕ) → map (λ x. top 7 (at_most 128 x)) v ≡ map is_full v
+full_tops [] = refl
+full_tops (x ∷ v) = rw (top_kept (is_full x), full_tops v) refl
+
+pub full_mask : (v : List ℕ) → length v ≡ 16 → mask_l (map (top 7) (zip2 at_most (replicate 16 128) v)) % 2 ^ 64 ≡ mask_l (map is_full v)
+full_mask v long = rw (zip2_splat_left at_most 128 16 v long, map-map, full_tops v) (mask_l-mod (map is_full v) 64 (omega (arith, length-map v is_full)))
+
+pub not_full : (tag : ℕ) → is_full tag ≡ false → tag < 128
+not_full tag is = leb-false 128 tag is

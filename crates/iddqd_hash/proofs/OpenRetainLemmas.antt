@@ -1,6 +1,6 @@
 -- The steps of loops over slots: one that asks of each pair and takes out those refused, and one that puts an answer
 -- in the place of each value.
-use Rattle.std.proofs.Common.{◌≡◌, ◌∙◌, ℕ, ◌+◌, ◌<◌, ◌≤◌, Bool, true, false, List, [], ◌∷◌, ◌++◌, Option, Some, None, map, filter, length, take, drop, set, refl, sym, ap, subst, arith, Contains}
+use Rattle.std.proofs.Common.{◌≡◌, ◌∙◌, ℕ, zero, suc, ◌+◌, ◌-◌, ◌<◌, ◌≤◌, Bool, true, false, List, [], ◌∷◌, ◌++◌, Option, Some, None, map, filter, length, take, drop, set, refl, sym, ap, subst, arith, Contains}
 use Rattle.std.specs.List.{FoldsTo, AllZip}
 use Rattle.std.specs.Option.{option_map}
 use Rattle.std.proofs.Math.Seq.{map-set_same}
@@ -10,8 +10,8 @@ use Rattle.std.proofs.lemmas.List.Sorted.{IsPermutation-refl}
 use Rattle.std.proofs.lemmas.Fn.{FoldsTo-push}
 use Rattle.iddqd_hash.specs.Asks.{Keeps}
 use Rattle.iddqd_hash.specs.HashTable.{values, Rewrites}
-use Rattle.iddqd_hash.specs.OpenTable.{slot_at, pairs, hashes_of}
-use Rattle.iddqd_hash.proofs.OpenSlotLemmas.{pairs-push}
+use Rattle.iddqd_hash.specs.OpenTable.{slot_at, pairs, hashes_of, NoneFull, IsProbed}
+use Rattle.iddqd_hash.proofs.OpenSlotLemmas.{pairs-push, free_slot}
 use Rattle.iddqd_hash.proofs.RetainLemmas.{Contains-values}
 
 module _ {T : Type 0} where
@@ -97,6 +97,18 @@ module _ {F T : Type 0} (ask : F → T → Bool → F → Type 0) (f : F) (old :
                 ∙ state.kept ∙ sym (pairs_more_set now at None in_now ∙ append-nil _);
             behind = drop-set-lt (at + 1) now at None (omega arith) ∙ (both_ways old now at within in_now state.behind).1;
           }
+
+  -- so many places without a pair
+  pub Keeping-skip : (before : F) (now : List (Option (ℕ × T))) (at run : ℕ) → at + run ≤ length old → ((k : ℕ) → at ≤ k → k < at + run → slot_at now k ≡ None) → Keeping before now at → Keeping before now (at + run)
+  Keeping-skip before now at zero within none state = subst (Keeping before now) (let same : at ≡ at + 0 = omega arith in same) state
+  Keeping-skip before now at (suc run) within none state =
+      subst (Keeping before now) (let same : at + run + 1 ≡ at + suc run = omega arith in same)
+      (Keeping-none before now (at + run) (omega arith) (Keeping-skip before now at run (omega arith) (λ k from to. none k from (omega arith)) state) (none (at + run) (omega arith) (omega arith)))
+
+  pub Keeping-gaps : (before : F) (now : List (Option (ℕ × T))) (at to : ℕ) (tags : List ℕ) → IsProbed tags now → at ≤ to → to < length tags → NoneFull tags at (to - at) → Keeping before now at → Keeping before now to
+  Keeping-gaps before now at to tags probed onward inside gaps state =
+      subst (Keeping before now) (let same : at + (to - at) ≡ to = omega arith in same)
+      (Keeping-skip before now at (to - at) (omega (arith, state.same_length, probed.same_length)) (λ k from below. free_slot _ _ (probed.suited k (omega arith)) (gaps k from below)) state)
 
   pub Keeps-from_keeping : (last : F) (now : List (Option (ℕ × T))) (at : ℕ) → length old ≤ at → Keeping last now at → Keeps ask f (pairs old) (pairs now)
   Keeps-from_keeping last now at past state =

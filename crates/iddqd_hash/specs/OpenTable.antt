@@ -48,6 +48,10 @@ NoStops tag tags at run = (k : ℕ) → at ≤ k → k < at + run → is_stop ta
 abbrev pub AllFull : List ℕ → ℕ → ℕ → Type 0
 AllFull tags at run = (k : ℕ) → at ≤ k → k < at + run → 128 ≤ slice_index tags k
 
+-- no place from one on, up to so many further, is full
+abbrev pub NoneFull : List ℕ → ℕ → ℕ → Type 0
+NoneFull tags at run = (k : ℕ) → at ≤ k → k < at + run → slice_index tags k < 128
+
 -- a walk from one place comes to another past places that aren't stops
 pub record Skips (tags : List ℕ) (tag from at : ℕ) : Type 0 where
   pub steps : ℕ

@@ -8,7 +8,9 @@ ghost use Rattle.iddqd_hash.specs.Asks.{CanAsk, FindsPlace, Keeps};
 ghost use Rattle.iddqd_hash.specs.HashTable.{under, value_of, values, Rewrites};
 ghost use Rattle.iddqd_hash.specs.OpenTable.{tag_of, limit_of, is_used, hashes_of, pair_in, slots_of, slot_at, pairs, IsPowerOfTwo, HasEmpty, IsProbed, FindsNext};
 
-use crate::open_table::tags::{LARGE, free_near_home, home_of, next, past_others, tag_of};
+use crate::open_table::tags::{
+    LARGE, free_near_home, home_of, next, past_gaps, past_others, tag_of,
+};
 use std::alloc::{AllocError, Global};
 use std::mem::{self, ManuallyDrop};
 
@@ -180,14 +182,17 @@ pub fn retain_cells<T: Drop, F: FnMut(&T) -> bool>(
     ensures counted { result + length (pairs (slots_of cells.new)) ≡ length (pairs (slots_of cells.old)) }
 {
     let mut removed = 0;
-    for at in 0..tags.len() {
-        if tags[at] < 128 {
+    let mut at = 0;
+    'asking: while at < tags.len() {
+        let here = past_gaps(tags, at);
+        at = here + 1;
+        if tags[here] < 128 {
             continue;
         }
-        if f(value_in(&cells[at])) {
+        if f(value_in(&cells[here])) {
             continue;
         }
-        take(tags, cells, at);
+        take(tags, cells, here);
         removed += 1;
     }
     removed

@@ -1,7 +1,7 @@
 //! Sixteen tags at a time.
 ghost use Rattle.std.specs.Int.{w64, trailing_zeros};
 ghost use Rattle.std.specs.Prelude.{if◌then◌else◌, ◌==◌, ◌≡◌, ◌+◌, ◌<◌, ◌≤◌, length};
-ghost use Rattle.iddqd_hash.specs.OpenTable.{NoStops, AllFull};
+ghost use Rattle.iddqd_hash.specs.OpenTable.{NoStops, AllFull, NoneFull};
 
 use std::simd::prelude::*;
 
@@ -49,6 +49,28 @@ fn first_free(tags: &[u8], at: usize) -> usize
 {
     let lanes = u8x16::from_slice(&tags[at..]);
     first_set(lanes.simd_lt(u8x16::splat(128)).to_bitmask())
+}
+
+/// How many places from `at` on, up to sixteen, are not full, where that is known at once.
+pub fn run_of_gaps(tags: &[u8], at: usize) -> usize
+    requires { at < length tags.now }
+    ensures inside { at + result ≤ length tags.now }
+    ensures gaps { NoneFull tags.now at result }
+{
+    if tags.len() - at >= 16 {
+        first_full(tags, at)
+    } else {
+        0
+    }
+}
+
+fn first_full(tags: &[u8], at: usize) -> usize
+    requires { at + 16 ≤ length tags.now }
+    ensures inside { at + result ≤ length tags.now }
+    ensures gaps { NoneFull tags.now at result }
+{
+    let lanes = u8x16::from_slice(&tags[at..]);
+    first_set(lanes.simd_ge(u8x16::splat(128)).to_bitmask())
 }
 
 // The lowest of sixteen bits that is set, or 16.

@@ -1,4 +1,4 @@
-use Rattle.std.proofs.Common.{◌≡◌, ◌+◌, length, count_by}
+use Rattle.std.proofs.Common.{◌≡◌, ◌+◌, ◌-◌, ◌≤◌, length, count_by}
 use Rattle.std.specs.Fn.{TakesAt, CalledAt}
 use Rattle.iddqd_hash.specs.Asks.{CanAsk}
 use Rattle.iddqd_hash.specs.HashTable.{values}
@@ -6,10 +6,14 @@ use Rattle.iddqd_hash.specs.OpenTable.{slots_of, pairs, is_used, IsProbed}
 use Rattle.iddqd_hash.proofs.OpenRetainLemmas.{Keeping}
 use Rattle.iddqd_hash.proofs.open_table.cells.retain_cells.Given as goal
 
-abbrev pub invariant-loop-at : goal.invariant-loop-at
-invariant-loop-at g l =
+abbrev pub invariant-asking : goal.invariant-asking
+invariant-asking g l =
     CanAsk (TakesAt g.F.FnMut) (CalledAt g.F.FnMut) l.f (values (pairs (slots_of l.fn.cells)))
     × Keeping (CalledAt g.F.FnMut) l.fn.f (slots_of l.fn.cells) l.f (slots_of l.cells) l.at
     × IsProbed l.tags (slots_of l.cells)
     × (count_by is_used l.tags ≡ count_by is_used l.fn.tags)
     × (l.removed + length (pairs (slots_of l.cells)) ≡ length (pairs (slots_of l.fn.cells)))
+    × (l.at ≤ length l.fn.tags)
+
+abbrev pub decreases-asking : goal.decreases-asking
+decreases-asking g l = length l.fn.tags - l.at
