@@ -18,6 +18,8 @@ struct Round {
     hit: u64,
     miss: u64,
     churn: u64,
+    walk: u64,
+    clone: u64,
     retain: u64,
     sum: u64,
 }
@@ -103,6 +105,16 @@ fn churn(table: &mut RawTable<u32>, records: &mut [Record], order: &[u32]) -> u6
 }
 
 #[inline(never)]
+fn walk(table: &RawTable<u32>) -> u64 {
+    unsafe { table.iter() }.map(|bucket| u64::from(unsafe { *bucket.as_ref() })).sum()
+}
+
+#[inline(never)]
+fn copy(table: &RawTable<u32>) -> u64 {
+    black_box(table.clone()).len() as u64
+}
+
+#[inline(never)]
 fn retain_half(table: &mut RawTable<u32>, records: &[Record]) -> u64 {
     unsafe {
         for bucket in table.iter() {
@@ -125,6 +137,10 @@ fn hashbrown_round(records: &mut [Record], hits: &[u32], misses: &[u32], order: 
     let missed = bench_now();
     let removed = churn(&mut table, records, order);
     let churned = bench_now();
+    let walked_sum = walk(black_box(&table));
+    let walked = bench_now();
+    let copied = copy(black_box(&table));
+    let cloned = bench_now();
     let left = retain_half(&mut table, records);
     let retained = bench_now();
     Round {
@@ -132,8 +148,10 @@ fn hashbrown_round(records: &mut [Record], hits: &[u32], misses: &[u32], order: 
         hit: hit - inserted,
         miss: missed - hit,
         churn: churned - missed,
-        retain: retained - churned,
-        sum: found + others + removed + left,
+        walk: walked - churned,
+        clone: cloned - walked,
+        retain: retained - cloned,
+        sum: found + others + removed + walked_sum + copied + left,
     }
 }
 
@@ -156,18 +174,20 @@ impl Random {
 }
 
 /// The parts of a round, by name.
-fn parts(round: &Round) -> [(&'static str, u64); 5] {
+fn parts(round: &Round) -> [(&'static str, u64); 7] {
     [
         ("insert, growing", round.insert),
         ("find, hit", round.hit),
         ("find, miss", round.miss),
         ("remove and insert", round.churn),
+        ("walk", round.walk),
+        ("clone", round.clone),
         ("retain half", round.retain),
     ]
 }
 
 /// The least nanoseconds of each part over the rounds, of the table and of hashbrown's.
-fn least(count: usize, rounds: usize) -> [[f64; 5]; 2] {
+fn least(count: usize, rounds: usize) -> [[f64; 7]; 2] {
     let mut random = Random(7);
     let mut records: Vec<Record> = (0..count)
         .map(|number| Record { key: key_of(number), second: 0, value: (random.next() >> 40) as u32 })
@@ -175,7 +195,7 @@ fn least(count: usize, rounds: usize) -> [[f64; 5]; 2] {
     let mut hits: Vec<u32> = (0..count).map(key_of).collect();
     let mut misses: Vec<u32> = (count..2 * count).map(key_of).collect();
     let mut order: Vec<u32> = (0..count as u32).collect();
-    let mut least = [[f64::MAX; 5]; 2];
+    let mut least = [[f64::MAX; 7]; 2];
     for _ in 0..rounds {
         random.shuffle(&mut hits);
         random.shuffle(&mut misses);
@@ -207,7 +227,7 @@ fn main() {
     let scale: usize = std::env::args().nth(1).map_or(1, |word| word.parse().expect("a number"));
     let sizes = [(1_000, 2_000 * scale), (100_000, 30 * scale), (1_000_000, 6 * scale)];
     let all: Vec<_> = sizes.iter().map(|&(count, rounds)| least(count, rounds)).collect();
-    let names = parts(&Round { insert: 0, hit: 0, miss: 0, churn: 0, retain: 0, sum: 0 });
+    let names = parts(&Round { insert: 0, hit: 0, miss: 0, churn: 0, walk: 0, clone: 0, retain: 0, sum: 0 });
     println!("| ns an entry, table / hashbrown's: ratio | 1,000 | 100,000 | 1,000,000 |");
     println!("|---|---|---|---|");
     for (part, (name, _)) in names.iter().enumerate() {
@@ -219,8 +239,8 @@ fn main() {
     }
     print!("| average of the ratios |");
     for [ours, theirs] in &all {
-        let ratios = (0..5).map(|part| ours[part] / theirs[part]);
-        print!(" {:.2} |", ratios.sum::<f64>() / 5.0);
+        let ratios = (0..7).map(|part| ours[part] / theirs[part]);
+        print!(" {:.2} |", ratios.sum::<f64>() / 7.0);
     }
     println!();
 }
