@@ -8,12 +8,12 @@ use std::alloc::AllocError;
 use std::process::Abort;
 
 // Hashes with few homes.
-fn hash_of(value: u32) -> u64 {
+pub(crate) fn hash_of(value: u32) -> u64 {
     (value % 7) as u64
 }
 
 // The table has the values from `start` to before `end`, and no other.
-fn assert_holds(rt: &impl Abort, table: &Table, start: u32, end: u32) {
+pub(crate) fn assert_holds(rt: &impl Abort, table: &Table, start: u32, end: u32) {
     assert!(rt;
         table.len() == end.saturating_sub(start) as usize,
         "of {end}"
@@ -25,7 +25,7 @@ fn assert_holds(rt: &impl Abort, table: &Table, start: u32, end: u32) {
 }
 
 // Adds the next value where memory is left, and tells how many were added.
-fn add_next(rt: &impl Abort, table: &mut Table, taken: u32) -> u32 {
+pub(crate) fn add_next(rt: &impl Abort, table: &mut Table, taken: u32) -> u32 {
     let room = table.room();
     match table.add(hash_of(taken), taken) {
         Ok(is_added) => {
