@@ -113,8 +113,10 @@ fn a_query_of_its_own_answers_as_the_key_does(rt: HostRuntime) -> Result<(), Fai
     for sought in 0..90u32 {
         let place = KEYS.iter().position(|key| *key == sought);
         let expected = place.and_then(|at| ItemIndex::of_slot(at));
-        assert_eq!(rt; tables.find(&Held(sought)), (expected, expected));
-        assert_eq!(rt; tables.find(&Same(&sought)), (expected, expected));
+        for (hashed, ordered) in [tables.find(&Held(sought)), tables.find(&Same(&sought))] {
+            assert_eq!(rt; hashed, expected);
+            assert_eq!(rt; ordered, expected);
+        }
     }
     Ok(())
 }
