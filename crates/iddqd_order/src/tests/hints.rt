@@ -164,7 +164,7 @@ fn lies_keep_each_index_once(rt: HostRuntime) -> Result<(), Fail> {
         table
             .prepare_insert_near(ix, &Same(&key), &mut asking, &hint)?
             .insert();
-        assert!(rt; asks <= 2 * bound(60 + number as usize));
+        assert!(rt; asks <= bound(60 + number as usize).wrapping_mul(2));
         assert!(rt; is_stored(&table, ix));
         assert_eq!(rt; table.len(), 61 + number as usize);
         assert!(rt; table.is_formed());
