@@ -1,6 +1,6 @@
 use Rattle.std.proofs.Common.{rules, ◌<◌, length}
 use Rattle.iddqd_hash.proofs.FiledLemmas.{under_all_filed}
-use Rattle.iddqd_hash.proofs.tests.map_calls.file_if_new.Goals as goal
+use Rattle.iddqd_hash.proofs.tests.map_entries.file_if_new.Goals as goal
 
 pub entry-requires : goal.entry-requires
 entry-requires g c = λ ix here.
