@@ -21,6 +21,7 @@ mod random;
 mod reads;
 mod refused;
 mod refused_calls;
+mod refused_indexes;
 mod renames;
 mod reserved;
 mod rewrites;

@@ -1,4 +1,4 @@
-//! Entries of the table of indexes. The first function is a caller, proved from the contracts alone.
+//! Entries of the table of indexes. The first functions are callers, proved from the contracts alone.
 ghost use Rattle.std.specs.Prelude.{◌≡◌, ◌<◌, ◌≤◌, ◌^◌, ℕ, IsSome, OnErr, length};
 ghost use Rattle.std.specs.FinMap as finite;
 ghost use Rattle.iddqd_hash.specs.MapHashTable.{filed};
@@ -41,6 +41,28 @@ fn file_if_new<S: BuildHasher>(
     }
 }
 
+// The key of an index, which one other has too.
+fn half_of(ix: ItemIndex) -> u32 {
+    ix.as_u32() / 2
+}
+
+// Files an index where neither it nor the other one with its key is filed, and tells whether it did.
+pub(crate) fn file_by_half(table: &mut MapHashTable, ix: ItemIndex) -> Result<bool, AllocError>
+    ensures refused { OnErr result (table.new ≡ table.old) }
+{
+    if table.contains_index(ix) {
+        return Ok(false);
+    }
+    match table.entry(&Constant, half_of(ix), |at: ItemIndex| half_of(at)) {
+        Ok(Entry::Occupied(_entry)) => Ok(false),
+        Ok(Entry::Vacant(entry)) => {
+            entry.insert(ix);
+            Ok(true)
+        }
+        Err(error) => Err(error),
+    }
+}
+
 // Files one more index beside the first ones, and tells whether it was new, and how many there are.
 fn file_one_more(
     alloc: Global,
@@ -64,5 +86,16 @@ fn an_index_is_filed_where_its_key_is_new(rt: HostRuntime) -> Result<(), Fail> {
     assert!(rt; file_one_more(rt.alloc(), &keys, 2, 1)? == (false, 2));
     assert!(rt; file_one_more(rt.alloc(), &keys, 2, 2)? == (false, 2));
     assert!(rt; file_one_more(rt.alloc(), &keys, 2, 3)? == (true, 3));
+    Ok(())
+}
+
+#[test]
+fn entries_fill_a_table_of_indexes(rt: HostRuntime) -> Result<(), Fail> {
+    let mut table = MapHashTable::new(rt.alloc());
+    for number in 0..120u32 {
+        let is_new = file_by_half(&mut table, ItemIndex::new(number))?;
+        assert!(rt; is_new == (number % 2 == 0), "at {number}");
+    }
+    assert!(rt; table.len() == 60);
     Ok(())
 }
