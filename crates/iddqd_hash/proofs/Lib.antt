@@ -4,6 +4,7 @@ mod CellLemmas
 mod CopyLemmas
 mod IndexLemmas
 mod MapHashTableLemmas
+mod OpenAheadLemmas
 mod OpenLaneLemmas
 mod OpenLookupLemmas
 mod OpenMoveLemmas

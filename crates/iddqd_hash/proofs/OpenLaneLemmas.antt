@@ -5,6 +5,7 @@ use Rattle.std.proofs.lemmas.List.{length-map}
 use Rattle.std.proofs.lemmas.Simd.{zip2_splat, zip2_splat_left, zip2-map, map-map, mask_l-mod}
 use lib.Lanes.{zip2, mask_l, top}
 use Rattle.iddqd_hash.specs.OpenTable.{is_stop}
+use Rattle.iddqd_hash.specs.OpenWalk.{is_full}
 
 abbrev pub same : ℕ → ℕ → ℕ
 same a b = cond (a == b) 255 0
@@ -45,9 +46,6 @@ free_mask v long = rw (zip2_splat less v 16 128 long, map-map, free_tops v) (mas
 
 pub not_free : (tag : ℕ) → is_free tag ≡ false → 128 ≤ tag
 not_free tag is = ltb-false tag 128 is
-
-abbrev pub is_full : ℕ → Bool
-is_full tag = leb 128 tag
 
 abbrev pub at_most : ℕ → ℕ → ℕ
 at_most a b = cond (leb a b) 255 0

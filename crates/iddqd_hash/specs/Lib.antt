@@ -7,5 +7,6 @@ pub mod MapHashTable
 pub mod MapHashTableEntry
 pub mod OpenTable
 pub mod OpenTableEntry
+pub mod OpenWalk
 pub mod OpenTableSizes
 pub mod Sizes

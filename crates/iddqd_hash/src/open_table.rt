@@ -28,6 +28,7 @@ mod copies;
 mod entry;
 mod iter;
 mod lanes;
+mod places;
 mod sizes;
 mod tags;
 

@@ -6,7 +6,8 @@ ghost use Rattle.std.specs.List.Sorted.{IsPermutation};
 ghost use Rattle.iddqd_hash.specs.HashTable.{entries, values};
 
 use super::OpenHashTable;
-use super::cells::Cell;
+use super::cells::{Cell, value_in};
+use super::places::FullPlaces;
 use std::fmt;
 use std::iter::FusedIterator;
 use std::marker::Model;
@@ -16,21 +17,24 @@ use std::marker::Model;
 /// It takes no memory.
 #[derive(Drop)]
 pub struct TableIter<'a, T> {
+    tags: &'a [u8],
     cells: &'a [Cell<T>],
-    // How many of the cells are full.
+    places: FullPlaces,
+    // How many values are still to come.
     left: usize,
 }
 
 impl<'a, T> Model for TableIter<'a, T> {
-    ghost use Rattle.std.specs.Prelude.{◌≡◌, List, length};
+    ghost use Rattle.std.specs.Prelude.{List, drop};
     ghost use Rattle.iddqd_hash.specs.HashTable.{values};
     ghost use Rattle.iddqd_hash.specs.OpenTable.{pairs, slots_of};
+    ghost use Rattle.iddqd_hash.specs.OpenWalk.{IsWalk};
 
     ghost Value = { List T };
 
-    ghost view = { λ it. values (pairs (slots_of it.cells.now)) };
+    ghost view = { λ it. values (pairs (drop it.places.at (slots_of it.cells.now))) };
 
-    ghost invariant = { λ it. it.left ≡ length (pairs (slots_of it.cells.now)) };
+    ghost invariant = { λ it. IsWalk it.tags.now (slots_of it.cells.now) it.places.at it.places.end it.places.mask it.left };
 }
 
 impl<T> OpenHashTable<T> {
@@ -39,7 +43,9 @@ impl<T> OpenHashTable<T> {
         ensures { IsPermutation (values (entries self.now)) result }
     {
         TableIter {
+            tags: self.tags.as_slice(),
             cells: self.cells.as_slice(),
+            places: FullPlaces::new(),
             left: self.len,
         }
     }
@@ -53,14 +59,12 @@ impl<'a, T> Iterator for TableIter<'a, T> {
     ghost remaining = { item_count (λ rest. rest) };
 
     fn next(&mut self) -> Option<&'a T> {
-        'cells: while let Some((cell, rest)) = self.cells.split_first() {
-            self.cells = rest;
-            if let Some(value) = &cell.value {
-                self.left -= 1;
-                return Some(value);
-            }
+        if self.left == 0 {
+            return None;
         }
-        None
+        let here = self.places.next(self.tags);
+        self.left -= 1;
+        Some(value_in(&self.cells[here]))
     }
 
     fn size_hint(&self) -> (usize, Option<usize>)

@@ -2,6 +2,7 @@
 ghost use Rattle.std.specs.Int.{w64, trailing_zeros};
 ghost use Rattle.std.specs.Prelude.{if◌then◌else◌, ◌==◌, ◌≡◌, ◌+◌, ◌<◌, ◌≤◌, length};
 ghost use Rattle.iddqd_hash.specs.OpenTable.{NoStops, AllFull, NoneFull};
+ghost use Rattle.iddqd_hash.specs.OpenWalk.{full_mask};
 
 use std::simd::prelude::*;
 
@@ -71,6 +72,15 @@ fn first_full(tags: &[u8], at: usize) -> usize
 {
     let lanes = u8x16::from_slice(&tags[at..]);
     first_set(lanes.simd_ge(u8x16::splat(128)).to_bitmask())
+}
+
+/// Which of the sixteen places from `at` on are full: a bit for each, the lowest for the first.
+pub fn full_places(tags: &[u8], at: usize) -> u64
+    requires { at + 16 ≤ length tags.now }
+    ensures { result ≡ full_mask tags.now at (at + 16) }
+{
+    let lanes = u8x16::from_slice(&tags[at..]);
+    lanes.simd_ge(u8x16::splat(128)).to_bitmask()
 }
 
 // The lowest of sixteen bits that is set, or 16.

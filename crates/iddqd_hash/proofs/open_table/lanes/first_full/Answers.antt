@@ -4,7 +4,8 @@ use Rattle.std.specs.List.{prefix_len}
 use Rattle.std.specs.Prelude.{replicate}
 use Rattle.std.proofs.lemmas.Simd.{first_set_mask_l, run_in_chunk_fails, run_in_chunk_le, length-chunk}
 use lib.Lanes.{zip2, mask_l, top, chunk}
-use Rattle.iddqd_hash.proofs.OpenLaneLemmas.{at_most, is_full, full_mask, not_full}
+use Rattle.iddqd_hash.proofs.OpenLaneLemmas.{at_most, full_mask, not_full}
+use Rattle.iddqd_hash.specs.OpenWalk.{is_full}
 use Rattle.iddqd_hash.proofs.open_table.lanes.first_full.Goals as goal
 
 counted : (c : goal.After-first_set) → c.first_set.result ≡ prefix_len (λ x. not (is_full x)) (chunk c.args.at 16 c.args.tags.now)
