@@ -126,7 +126,21 @@ fn retain_half(table: &mut RawTable<u32>, records: &[Record]) -> u64 {
     table.len() as u64
 }
 
-fn hashbrown_round(records: &mut [Record], hits: &[u32], misses: &[u32], order: &[u32]) -> Round {
+/// The nanoseconds of a clone of hashbrown's table with each hash beside its index, which has the contents of ours.
+fn clone_pairs(table: &RawTable<u32>, records: &[Record]) -> u64 {
+    let mut pairs = RawTable::with_capacity(table.len());
+    for bucket in unsafe { table.iter() } {
+        let ix = unsafe { *bucket.as_ref() };
+        let hash = hash_of(records[ix as usize].key);
+        pairs.insert(hash, (hash, ix), |pair: &(u64, u32)| pair.0);
+    }
+    let start = bench_now();
+    black_box(black_box(&pairs).clone());
+    bench_now() - start
+}
+
+/// A round, and what a clone of pairs takes.
+fn hashbrown_round(records: &mut [Record], hits: &[u32], misses: &[u32], order: &[u32]) -> (Round, u64) {
     let mut table = RawTable::new();
     let start = bench_now();
     insert_all(&mut table, records);
@@ -141,18 +155,21 @@ fn hashbrown_round(records: &mut [Record], hits: &[u32], misses: &[u32], order: 
     let walked = bench_now();
     let copied = copy(black_box(&table));
     let cloned = bench_now();
+    let pairs = clone_pairs(&table, records);
+    let start_of_retain = bench_now();
     let left = retain_half(&mut table, records);
     let retained = bench_now();
-    Round {
+    let round = Round {
         insert: inserted - start,
         hit: hit - inserted,
         miss: missed - hit,
         churn: churned - missed,
         walk: walked - churned,
         clone: cloned - walked,
-        retain: retained - cloned,
+        retain: retained - start_of_retain,
         sum: found + others + removed + walked_sum + copied + left,
-    }
+    };
+    (round, pairs)
 }
 
 struct Random(u64);
@@ -173,8 +190,10 @@ impl Random {
     }
 }
 
+const PARTS: usize = 8;
+
 /// The parts of a round, by name.
-fn parts(round: &Round) -> [(&'static str, u64); 7] {
+fn parts(round: &Round, clone_of_pairs: u64) -> [(&'static str, u64); PARTS] {
     [
         ("insert, growing", round.insert),
         ("find, hit", round.hit),
@@ -183,11 +202,12 @@ fn parts(round: &Round) -> [(&'static str, u64); 7] {
         ("walk", round.walk),
         ("clone", round.clone),
         ("retain half", round.retain),
+        ("clone, beside a table of pairs", clone_of_pairs),
     ]
 }
 
 /// The least nanoseconds of each part over the rounds, of the table and of hashbrown's.
-fn least(count: usize, rounds: usize) -> [[f64; 7]; 2] {
+fn least(count: usize, rounds: usize) -> [[f64; PARTS]; 2] {
     let mut random = Random(7);
     let mut records: Vec<Record> = (0..count)
         .map(|number| Record { key: key_of(number), second: 0, value: (random.next() >> 40) as u32 })
@@ -195,7 +215,7 @@ fn least(count: usize, rounds: usize) -> [[f64; 7]; 2] {
     let mut hits: Vec<u32> = (0..count).map(key_of).collect();
     let mut misses: Vec<u32> = (count..2 * count).map(key_of).collect();
     let mut order: Vec<u32> = (0..count as u32).collect();
-    let mut least = [[f64::MAX; 7]; 2];
+    let mut least = [[f64::MAX; PARTS]; 2];
     for _ in 0..rounds {
         random.shuffle(&mut hits);
         random.shuffle(&mut misses);
@@ -205,15 +225,16 @@ fn least(count: usize, rounds: usize) -> [[f64; 7]; 2] {
             for (number, record) in records.iter_mut().enumerate() {
                 record.key = key_of(number);
             }
-            let round = if which == 0 {
+            let (round, clone_of_pairs) = if which == 0 {
                 let (count, records) = (records.len(), records.as_mut_ptr());
                 let (hits, misses, order) = (hits.as_ptr(), misses.as_ptr(), order.as_ptr());
-                unsafe { bench_round(records, count, hits, count, misses, count, order, count) }
+                let round = unsafe { bench_round(records, count, hits, count, misses, count, order, count) };
+                (round, round.clone)
             } else {
                 hashbrown_round(&mut records, &hits, &misses, &order)
             };
             sums[which] = round.sum;
-            for (least, (_, nanos)) in least.iter_mut().zip(parts(&round)) {
+            for (least, (_, nanos)) in least.iter_mut().zip(parts(&round, clone_of_pairs)) {
                 *least = least.min(nanos as f64 / count as f64);
             }
         }
@@ -227,7 +248,7 @@ fn main() {
     let scale: usize = std::env::args().nth(1).map_or(1, |word| word.parse().expect("a number"));
     let sizes = [(1_000, 2_000 * scale), (100_000, 30 * scale), (1_000_000, 6 * scale)];
     let all: Vec<_> = sizes.iter().map(|&(count, rounds)| least(count, rounds)).collect();
-    let names = parts(&Round { insert: 0, hit: 0, miss: 0, churn: 0, walk: 0, clone: 0, retain: 0, sum: 0 });
+    let names = parts(&Round { insert: 0, hit: 0, miss: 0, churn: 0, walk: 0, clone: 0, retain: 0, sum: 0 }, 0);
     println!("| ns an entry, table / hashbrown's: ratio | 1,000 | 100,000 | 1,000,000 |");
     println!("|---|---|---|---|");
     for (part, (name, _)) in names.iter().enumerate() {
@@ -239,8 +260,8 @@ fn main() {
     }
     print!("| average of the ratios |");
     for [ours, theirs] in &all {
-        let ratios = (0..7).map(|part| ours[part] / theirs[part]);
-        print!(" {:.2} |", ratios.sum::<f64>() / 7.0);
+        let ratios = (0..PARTS - 1).map(|part| ours[part] / theirs[part]);
+        print!(" {:.2} |", ratios.sum::<f64>() / (PARTS - 1) as f64);
     }
     println!();
 }
