@@ -13,15 +13,17 @@ struct Record {
     value: u32,
 }
 
-const PARTS: usize = 6;
-const NAMES: [&str; PARTS] = ["insert", "find, hit", "find, miss", "walk", "remove and insert", "remove"];
+const PARTS: usize = 8;
+const NAMES: [&str; PARTS] =
+    ["insert", "find, hit", "find, miss", "walk", "clone", "into_iter", "remove and insert", "remove"];
+// The parts that compare: an insert, a hit, a miss, a removal with an insert, and a removal.
+const ASKING: [usize; 5] = [0, 1, 2, 6, 7];
 
 #[repr(C)]
 #[derive(Clone, Copy, Default)]
 struct Round {
     nanos: [u64; PARTS],
-    // Of an insert, a hit, a miss, a removal with an insert, and a removal.
-    asks: [u64; 5],
+    asks: [u64; ASKING.len()],
     sum: u64,
 }
 
@@ -89,6 +91,7 @@ impl Ord for Key {
 }
 
 /// An index, by the key of its record and then by itself.
+#[derive(Clone)]
 struct Index(u32);
 
 impl Borrow<Key> for Index {
@@ -148,6 +151,16 @@ fn walk_all(set: &BTreeSet<Index>) -> u64 {
 }
 
 #[inline(never)]
+fn copy(set: &BTreeSet<Index>) -> BTreeSet<Index> {
+    set.clone()
+}
+
+#[inline(never)]
+fn take_all(set: BTreeSet<Index>) -> u64 {
+    set.into_iter().fold(0u64, |sum, index| sum.wrapping_mul(3).wrapping_add(index.0 as u64))
+}
+
+#[inline(never)]
 fn churn(set: &mut BTreeSet<Index>, records: &mut [Record], order: &[u32], fresh: &[u32]) -> u64 {
     let mut found = 0;
     for (&number, &key) in order.iter().zip(fresh) {
@@ -166,6 +179,7 @@ fn remove_all(set: &mut BTreeSet<Index>, order: &[u32]) -> u64 {
 fn set_round(records: &mut [Record], hits: &[u32], misses: &[u32], order: &[u32], fresh: &[u32]) -> Round {
     unsafe { RECORDS = records.as_ptr() };
     let mut set = BTreeSet::new();
+    let mut copied = BTreeSet::new();
     let mut round = Round::default();
     asked();
     let mut last = bench_now();
@@ -179,14 +193,19 @@ fn set_round(records: &mut [Record], hits: &[u32], misses: &[u32], order: &[u32]
             1 => find_all(black_box(&set), hits),
             2 => find_all(black_box(&set), misses),
             3 => walk_all(black_box(&set)),
-            4 => churn(&mut set, records, order, fresh),
+            4 => {
+                copied = copy(black_box(&set));
+                0
+            }
+            5 => take_all(std::mem::take(&mut copied)),
+            6 => churn(&mut set, records, order, fresh),
             _ => remove_all(&mut set, order),
         };
         let now = bench_now();
         round.nanos[part] = now - last;
         let asks = asked();
-        if part != 3 {
-            round.asks[if part < 3 { part } else { part - 1 }] = asks;
+        if let Some(place) = ASKING.iter().position(|&asking| asking == part) {
+            round.asks[place] = asks;
         }
         sum = sum.wrapping_add(told);
         last = bench_now();
@@ -217,7 +236,7 @@ impl Random {
 #[derive(Clone, Copy)]
 struct Told {
     nanos: [[f64; PARTS]; 2],
-    asks: [[f64; 5]; 2],
+    asks: [[f64; ASKING.len()]; 2],
 }
 
 /// The order in which keys are inserted.
@@ -236,7 +255,7 @@ fn least(count: usize, rounds: usize, keys: Keys) -> Told {
     let mut first = hits.clone();
     let mut order: Vec<u32> = (0..count as u32).collect();
     let mut records = vec![Record { key: 0, second: 0, value: 0 }; count];
-    let mut told = Told { nanos: [[f64::MAX; PARTS]; 2], asks: [[0.0; 5]; 2] };
+    let mut told = Told { nanos: [[f64::MAX; PARTS]; 2], asks: [[0.0; ASKING.len()]; 2] };
     match keys {
         Keys::Random => random.shuffle(&mut first),
         Keys::Rising => (),
@@ -290,10 +309,10 @@ fn main() {
             let cells = all.iter().enumerate().map(|(size, told)| {
                 let [ours, theirs] = told.nanos.map(|nanos| nanos[part]);
                 ratios[size].push(ours / theirs);
-                let asks = match part {
-                    3 => String::new(),
-                    _ => {
-                        let [ours, theirs] = told.asks.map(|asks| asks[if part < 3 { part } else { part - 1 }]);
+                let asks = match ASKING.iter().position(|&asking| asking == part) {
+                    None => String::new(),
+                    Some(place) => {
+                        let [ours, theirs] = told.asks.map(|asks| asks[place]);
                         format!("; {ours:.1} / {theirs:.1}")
                     }
                 };
