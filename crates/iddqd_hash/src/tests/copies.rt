@@ -3,6 +3,7 @@ ghost use Rattle.std.specs.Prelude.{◌≡◌, IfOk};
 ghost use Rattle.std.specs.List.Sorted.{IsPermutation};
 ghost use Rattle.iddqd_hash.specs.HashTable.{entries};
 
+use super::refused::hash_of;
 use super::table::Table;
 use crate::hash_table_reference::HashTable;
 use crate::open_table::OpenHashTable;
@@ -34,35 +35,52 @@ impl Table {
     }
 }
 
+// The values below 50 but for the multiples of five.
+fn fill(rt: &impl Abort, table: &mut Table) -> Result<(), AllocError> {
+    for value in 0..50 {
+        assert!(rt; table.add(hash_of(value), value)?);
+        assert!(rt; value % 5 > 0 || table.remove(hash_of(value), value));
+    }
+    Ok(())
+}
+
+fn assert_same_hits(rt: &impl Abort, table: &Table, copy: &Table) {
+    for value in 0..60 {
+        let hit = table.find(hash_of(value), value).0;
+        assert!(rt; hit == copy.find(hash_of(value), value).0, "at {value}");
+    }
+}
+
+// Adds 40 values to the copy, and removes what is there of 40 others from its source.
+fn change_apart(rt: &impl Abort, table: &mut Table, copy: &mut Table) -> Result<(), AllocError> {
+    for value in 1..41u32 {
+        let added = value + 49;
+        assert!(rt; copy.add(hash_of(added), added)?);
+        assert!(rt; table.remove(hash_of(value), value) == (value % 5 > 0));
+    }
+    Ok(())
+}
+
+fn assert_apart(rt: &impl Abort, table: &Table, copy: &Table) {
+    for value in 1..41u32 {
+        let hit = copy.find(hash_of(value), value).0;
+        assert!(rt; hit == (value % 5 > 0), "at {value}");
+        let added = value + 49;
+        assert!(rt; !table.find(hash_of(added), added).0, "at {value}");
+    }
+}
+
 // What is added to the one, or removed from it, is so there alone.
 fn keeps_apart(rt: &impl Abort, alloc: Global, mut table: Table) -> Result<(), AllocError> {
     assert!(rt; table.copy()?.values(rt, alloc)?.is_empty());
-    for value in 0..50 {
-        assert!(rt; table.add(value as u64 % 7, value)?);
-        assert!(rt; value % 5 > 0 || table.remove(value as u64 % 7, value));
-    }
+    fill(rt, &mut table)?;
     let mut copy = table.copy()?;
     let values = table.values(rt, alloc)?;
     assert!(rt; copy.len() == 40 && copy.values(rt, alloc)?.as_slice() == values.as_slice());
-    for value in 0..60 {
-        let hit = table.find(value as u64 % 7, value).0;
-        assert!(rt; hit == copy.find(value as u64 % 7, value).0, "at {value}");
-    }
-    for value in 50..90 {
-        assert!(rt; copy.add(value as u64 % 7, value)?);
-        assert!(rt; table.remove(value as u64 % 7, value - 49) == ((value - 49) % 5 > 0));
-    }
+    assert_same_hits(rt, &table, &copy);
+    change_apart(rt, &mut table, &mut copy)?;
     assert!(rt; copy.len() == 80 && table.len() == 8);
-    for value in 1..41 {
-        assert!(rt;
-            copy.find(value as u64 % 7, value).0 == (value % 5 > 0),
-            "at {value}"
-        );
-        assert!(rt;
-            !table.find(value as u64 % 7, value.wrapping_add(49)).0,
-            "at {value}"
-        );
-    }
+    assert_apart(rt, &table, &copy);
     Ok(())
 }
 
@@ -92,27 +110,23 @@ impl Clone for Item {
     }
 }
 
+// The copy of the third one is refused.
+fn numbered(number: u32) -> Item {
+    Item {
+        number,
+        is_refused: number == 2,
+    }
+}
+
 #[test]
 fn a_copy_fails_where_that_of_a_value_does(rt: HostRuntime) -> Result<(), Fail> {
     let mut plain = HashTable::with_capacity(rt.alloc(), 4)?;
     let mut open = OpenHashTable::with_capacity(rt.alloc(), 4)?;
     for number in 0..4u32 {
         plain.try_reserve(1)?;
-        plain.insert_unique(
-            7,
-            Item {
-                number,
-                is_refused: number == 2,
-            },
-        );
+        plain.insert_unique(7, numbered(number));
         open.try_reserve(1)?;
-        open.insert_unique(
-            7,
-            Item {
-                number,
-                is_refused: number == 2,
-            },
-        );
+        open.insert_unique(7, numbered(number));
     }
     assert!(rt; plain.clone().is_err() && open.clone().is_err());
     assert!(rt; plain.len() == 4);
