@@ -374,7 +374,8 @@ impl MapBTreeTable {
         let Some(root) = &self.root else {
             return (path, 0);
         };
-        match root.descend_to_gap(self.height, asking, how, &Some(ix), hint, &mut path) {
+        let most = self.most_asks();
+        match root.descend_to_gap(self.height, asking, how, &Some(ix), hint, most, &mut path) {
             Ok(_) => unreachable!(),
             Err(full) => (path, full),
         }
@@ -486,6 +487,7 @@ impl MapBTreeTable {
             asking,
             how,
             &Some(ix),
+            self.most_asks(),
             &mut path,
         ) {
             Ok(level) => Some((path, level)),

@@ -8,8 +8,7 @@ use Rattle.iddqd_order.specs.Node.{flat}
 use Rattle.iddqd_order.specs.Search.{Askable, CanSearch, Finds}
 use Rattle.iddqd_order.proofs.AskLemmas.{asks_more, asks_none}
 use Rattle.iddqd_order.proofs.DescentLemmas.{Finds-from_findsin}
-use Rattle.iddqd_order.proofs.ReckoningLemmas.{reckoning}
-use Rattle.iddqd_order.proofs.TableLemmas.{root_of, nowhere}
+use Rattle.iddqd_order.proofs.TableLemmas.{root_of, most_suffices, most_of_root, nowhere}
 use Rattle.iddqd_order.proofs.btree_table.table.MapBTreeTable.find.Goals as goal
 
 pub find-found-requires-clause-can_search : goal.find-found-requires-clause-can_search
@@ -29,10 +28,8 @@ returns-in_default g c =
 
 pub find-found-requires-clause-most : goal.find-found-requires-clause-most
 find-found-requires-clause-most g c =
-    let h = c.self.inside.height in
     let r = root_of c.args.self.now _ _ _ _ _ c.in-Some.root c.self.view_is c.self.invariant c.in-Some.is in
-    let few : 4 * (h + 1) + 2 ≤ bound (length (order_of c.args.self.now)) = subst (λ (xs : List ℕ). 4 * (h + 1) + 2 ≤ bound (length xs)) r.list (reckoning h c.in-Some.root r.formed r.some) in
-    let most = c.most_asks.ensures in
+    let enough = most_suffices _ _ _ _ r c.most_asks.ensures in
     omega arith
 
 pub returns : goal.returns
@@ -41,7 +38,7 @@ returns g c =
     let n = c.in-Some.root in
     let read = g.H.Reads.reading c.args.how.now in
     let r = root_of c.args.self.now _ _ _ _ _ n c.self.view_is c.self.invariant c.in-Some.is in
-    let most : c.most_asks.result ≡ bound (length (flat h n)) = c.most_asks.ensures ∙ ap (λ (xs : List ℕ). bound (length xs)) (sym r.list) in
+    let most = most_of_root _ _ _ _ r c.most_asks.ensures in
     subst (λ xs. Finds g.F.FnMut read xs c.args.asking.now c.find-found.result c.find-found.new.asking) r.list
     (Finds-from_findsin g.F.FnMut read h n c.find-found.result c.args.asking.now c.find-found.new.asking
     (subst (λ m. FindsIn g.F.FnMut read None m h n c.args.asking.now c.find-found.result c.find-found.new.asking) most c.find-found.ensures.finds))
