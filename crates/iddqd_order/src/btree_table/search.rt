@@ -33,7 +33,10 @@ pub(super) fn compare<R, F: FnMut(ItemIndex) -> R, H: Reads<R>>(
             if at == ix {
                 Ordering::Equal
             } else {
-                how.read(asking.ask(at)).then(ix.cmp(&at))
+                match how.read(asking.ask(at)) {
+                    Ordering::Equal => ix.cmp(&at),
+                    other => other,
+                }
             }
         }
     }
