@@ -67,6 +67,20 @@ pub fn next_match<T>(tags: &[u8], cells: &[Cell<T>], from: usize, hash: u64) -> 
     None
 }
 
+// The same, out of line: after a refused value, which is rare. So the code of a look-up that ends at its first one is
+// short, and the processor works on more of them at a time.
+#[cold]
+#[inline(never)]
+fn later_match<T>(tags: &[u8], cells: &[Cell<T>], from: usize, hash: u64) -> Option<usize>
+    requires power { IsPowerOfTwo (length tags.now) }
+    requires ends { HasEmpty tags.now }
+    requires probed { IsProbed tags.now (slots_of cells.now) }
+    requires inside { from < length tags.now }
+    ensures { FindsNext tags.now (slots_of cells.now) hash from result }
+{
+    next_match(tags, cells, from, hash)
+}
+
 /// The first place from the home of a hash on that has a pair under it, or none where an empty cell comes first.
 #[inline(always)]
 pub fn first_match<T>(tags: &[u8], cells: &[Cell<T>], hash: u64) -> Option<usize>
@@ -103,7 +117,7 @@ pub fn find_cell<'a, T, F: FnMut(&T) -> bool>(
         if eq(value) {
             return Some((place, value));
         }
-        found = next_match(tags, cells, next(place, tags.len()), hash);
+        found = later_match(tags, cells, next(place, tags.len()), hash);
     }
     None
 }

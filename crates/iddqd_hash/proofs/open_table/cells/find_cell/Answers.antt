@@ -37,9 +37,9 @@ loop-found-smaller g c =
     let here = used (CalledAt g.F.FnMut) _ _ _ _ c.requires.probed c.requires.ends _ _ looking _ c.eq.new.self finds.1.1 in
     let next = Looking-next (CalledAt g.F.FnMut) _ _ _ _ c.requires.probed c.requires.ends _ _ looking _ _ found called in
     let after : places_left n c.args.hash ((c.in-Some.place + 1) % n) < places_left n c.args.hash c.in-Some.place = places_left-next _ _ _ c.requires.ends looking.walk here in
-    let further : FindsNext c.args.tags.now (slots_of c.args.cells.now) c.args.hash ((c.in-Some.place + 1) % n) c.next_match-found.result = rw c.next.ensures at c.next_match-found.ensures in
+    let further : FindsNext c.args.tags.now (slots_of c.args.cells.now) c.args.hash ((c.in-Some.place + 1) % n) c.later_match-found.result = rw c.next.ensures at c.later_match-found.ensures in
     rw c.in-Some.is
-    (found_left-next n c.args.hash c.in-Some.place c.next_match-found.result
+    (found_left-next n c.args.hash c.in-Some.place c.later_match-found.result
     (λ place is.
     let onward = rw is at further in
     let no_more : places_left n c.args.hash place ≤ places_left n c.args.hash ((c.in-Some.place + 1) % n) =
@@ -56,7 +56,7 @@ loop-found-preserved g c =
     record { shown = _; shows = refl; called = rw c.if-eq.false at c.eq.ensures } in
     let looking = Looking-passed (CalledAt g.F.FnMut) _ _ _ _ c.requires.probed c.requires.ends _ _ _ c.loop-found.invariant.1.1 finds.0 in (
       CanAsk-asked (TakesAt g.F.FnMut) (CalledAt g.F.FnMut) _ _ _ false _ c.loop-found.invariant.0 here called,
-      (_, Looking-next (CalledAt g.F.FnMut) _ _ _ _ c.requires.probed c.requires.ends _ _ looking _ _ found called, rw c.next.ensures at c.next_match-found.ensures),
+      (_, Looking-next (CalledAt g.F.FnMut) _ _ _ _ c.requires.probed c.requires.ends _ _ looking _ _ found called, rw c.next.ensures at c.later_match-found.ensures),
     )
 
 pub returns-clause-place : goal.returns-clause-place
