@@ -1,11 +1,11 @@
 -- Copies: a node whose children are copies is one.
-use Rattle.std.proofs.Common.{◌≡◌, ◌≢◌, ◌∙◌, ℕ, ◌+◌, ◌-◌, ◌<◌, ◌≤◌, List, [], ◌∷◌, ◌++◌, length, get_or, refl, sym, ap, subst, arith, inl, inr}
+use Rattle.std.proofs.Common.{◌≡◌, ◌≢◌, ◌∙◌, ℕ, ◌+◌, ◌-◌, ◌<◌, ◌≤◌, List, [], ◌∷◌, ◌++◌, length, get_or, sym, ap, subst, arith, inl, inr}
 use Rattle.std.proofs.lemmas.Bool.{cases_lt}
 use Rattle.std.proofs.lemmas.List.{length-map, get_or-map, same_lists, get_or_append_left, get_or_push}
 use Rattle.iddqd_order.specs.declared.btree_table.node.Node.{Node}
 use Rattle.iddqd_order.specs.Copies.{IsCopy}
 use Rattle.iddqd_order.specs.Node.{row, children, child, room, weave, flat, IsFormed}
-use Rattle.iddqd_order.proofs.NodeLemmas.{lists, formed-leaf, leaf-formed, flat-leaf, formed-inner, inner-formed, flat-inner, any_default}
+use Rattle.iddqd_order.proofs.NodeLemmas.{lists, formed-leaf, leaf-formed, flat-leaf, formed-inner, inner-formed, flat-inner}
 
 pub copy-leaf : (h : ℕ) (n m : Node) → h ≡ 0 → IsFormed h n → row m ≡ row n → children m ≡ children n → IsCopy h n m
 copy-leaf h n m e f er ek =

@@ -1,5 +1,5 @@
 -- A walk down a tree: what the search of a row says of the search of the tree.
-use Rattle.std.proofs.Common.{◌≡◌, ◌≢◌, ◌∙◌, ℕ, zero, suc, ◌+◌, ◌-◌, ◌*◌, ◌<◌, ◌≤◌, List, [], ◌∷◌, ◌++◌, length, get_or, drop, slice_index, slice_set, get_or-set_same, get_or-set_other, Contains, refl, sym, ap, subst, All, arith, ◌⊎◌, inl, inr, Option, Some, None, Result, Ok, Err, IfOk, length-append, append_assoc, sub-one}
+use Rattle.std.proofs.Common.{◌≡◌, ◌≢◌, ◌∙◌, ℕ, zero, suc, ◌+◌, ◌-◌, ◌<◌, ◌≤◌, List, [], ◌∷◌, ◌++◌, length, get_or, drop, slice_index, slice_set, get_or-set_same, get_or-set_other, Contains, refl, sym, ap, subst, All, arith, ◌⊎◌, inl, inr, Option, Some, None, Result, Ok, Err, IfOk, length-append, append_assoc, sub-one}
 use Rattle.std.proofs.lemmas.Bool.{cases_lt, true≢false}
 use Rattle.std.proofs.lemmas.List.{get_or-append-add, length-map, get_or-map}
 use Rattle.std.proofs.lemmas.List.Elements.{All-nil, Contains-append_cases}
@@ -12,9 +12,9 @@ use Rattle.iddqd_order.specs.declared.btree_table.node.Node.{Node}
 use Rattle.iddqd_order.specs.Node.{row, children, child, weave, before, after, flat, IsFormed, Holds, spot, FullBelow, IsFullBelow}
 use Rattle.iddqd_order.specs.Search.{Askable, CanSearch, with_ties, IsRising, IsPlace, IsSteadyRising, SearchesWithin, Searches, Finds}
 use Rattle.iddqd_order.specs.Descent.{end_of, index_at, Descends, FindsIn}
-use Rattle.iddqd_order.specs.Digits.{digits, bound}
+use Rattle.iddqd_order.specs.Digits.{bound}
 use Rattle.iddqd_order.proofs.AskLemmas.{asks_wider, CanAsk-fewer, CanAsk-later, Steady-fewer}
-use Rattle.iddqd_order.proofs.NodeLemmas.{lists, formed-inner, formed-within, flat-leaf, flat-inner, inner-goes, leaf-goes, place-inner, place-leaf, any_default}
+use Rattle.iddqd_order.proofs.NodeLemmas.{lists, formed-inner, flat-leaf, flat-inner, inner-goes, leaf-goes, place-inner, place-leaf, any_default}
 use Rattle.iddqd_order.proofs.PartLemmas.{Askable-wider, greater_up_to, less_from_on, shifted, in_middle, middle_held, SearchesWithin-more, SearchesWithin-later, LeadsTo, Searches-part}
 use Rattle.iddqd_order.proofs.RemovalLemmas.{holds-level, spot-leaf, spot-at, spot-below, spot-within}
 use Rattle.iddqd_order.proofs.IndexListLemmas.{Contains-at}

@@ -13,7 +13,7 @@ use Rattle.iddqd_order.specs.declared.btree_table.node.Node.{Node}
 use Rattle.iddqd_order.specs.Descent.{Descends}
 use Rattle.iddqd_order.specs.Gap.{AreBeside, AreHeld, AreAround}
 use Rattle.iddqd_order.specs.Node.{row, children, child, weave, before, after, flat, IsFormed, Goes, IsFullBelow, place}
-use Rattle.iddqd_order.specs.Search.{Askable, with_ties, IsRising, IsPlace, IsSteadyRising, SearchesWithin}
+use Rattle.iddqd_order.specs.Search.{Askable, with_ties, IsRising, IsPlace, SearchesWithin}
 use Rattle.iddqd_order.proofs.DescentLemmas.{index_place, before-more, after-begins, after-last, get_or-index_place, lists-one_more, lists-at}
 use Rattle.iddqd_order.proofs.IndexListLemmas.{Contains-at}
 use Rattle.iddqd_order.proofs.NodeLemmas.{lists, flat-inner, flat-leaf, leaf-goes, place-inner, place-leaf}

@@ -1,5 +1,5 @@
 -- What an insert leaves of a node.
-use Rattle.std.proofs.Common.{◌≡◌, ℕ, zero, suc, ◌+◌, ◌-◌, ◌<◌, ◌≤◌, ◌≢◌, List, [], ◌∷◌, ◌++◌, length, take, drop, set, get_or, map, slice_index, refl, ap, sym, ◌∙◌, arith, length-append, length-set, subst, All, inl, inr}
+use Rattle.std.proofs.Common.{◌≡◌, ℕ, zero, suc, ◌+◌, ◌-◌, ◌<◌, ◌≤◌, ◌≢◌, List, [], ◌∷◌, ◌++◌, length, set, get_or, slice_index, refl, ap, sym, ◌∙◌, arith, length-append, length-set, subst, All, inl, inr}
 use Rattle.std.proofs.lemmas.Bool.{cases_lt}
 use Rattle.std.specs.List.{insert}
 use Rattle.std.proofs.lemmas.List.{length-map, get_or-map, map-set, map-append}
@@ -7,7 +7,7 @@ use Rattle.std.proofs.lemmas.List.Edits.{length-insert}
 use Rattle.std.proofs.lemmas.List.Elements.{All-set, All-take, All-drop, All-head}
 use Rattle.std.proofs.Math.Seq.{drop-append_seam, take-append_seam}
 use Rattle.iddqd_order.specs.declared.btree_table.node.Node.{Node}
-use Rattle.iddqd_order.specs.Node.{row, children, child, room, weave, before, flat, IsInner, IsLeaf, IsFormed, Goes, place, FullBelow, IsFullBelow}
+use Rattle.iddqd_order.specs.Node.{row, children, child, room, weave, before, flat, IsInner, IsFormed, Goes, place, IsFullBelow}
 use Rattle.iddqd_order.specs.Row.{IsCut}
 use Rattle.iddqd_order.proofs.WeaveLemmas.{edited, widened, weave-append}
 use Rattle.iddqd_order.proofs.NodeLemmas.{AreChildren, lists, formed-leaf, leaf-formed, flat-leaf, goes-leaf, place-leaf, formed-within, formed-inner, inner-formed, flat-inner, goes-inner, place-inner, full-inner, full-here, any_default, map-insert, All-insert, place-within}

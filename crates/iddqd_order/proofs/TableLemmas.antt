@@ -1,5 +1,5 @@
 -- What a table's calls leave of its parts.
-use Rattle.std.proofs.Common.{◌≡◌, ◌≢◌, ℕ, zero, suc, ◌+◌, ◌-◌, ◌*◌, ◌<◌, ◌≤◌, List, [], ◌∷◌, ◌++◌, length, get_or, map, slice_index, refl, ap, sym, ◌∙◌, subst, arith, Option, Some, None, All, Contains, nat_eq, Vec, not, ◌==◌, Ordering, inl, inr}
+use Rattle.std.proofs.Common.{◌≡◌, ◌≢◌, ℕ, ◌+◌, ◌-◌, ◌*◌, ◌<◌, ◌≤◌, List, [], length, get_or, map, slice_index, refl, ap, sym, ◌∙◌, subst, arith, Option, Some, None, All, Contains, nat_eq, Vec, not, ◌==◌, Ordering, inl, inr}
 use Rattle.std.proofs.lemmas.Bool.{cases_lt}
 use Rattle.std.specs.List.{insert, remove, IsDistinct}
 use Rattle.std.proofs.lemmas.List.Edits.{length-insert, length-remove}

@@ -1,18 +1,18 @@
 -- Ways: what a step along one leaves, and what stays of them where an index is put in the place of another.
-use Rattle.std.proofs.Common.{◌≡◌, ◌≢◌, ◌∙◌, ℕ, zero, suc, ◌+◌, ◌-◌, ◌<◌, ◌≤◌, List, [], ◌∷◌, ◌++◌, length, get_or, set, slice_index, slice_set, map, refl, sym, ap, subst, arith, Option, Some, None, IsNone, IfSome, IsTrue, ◌↔◌, Contains, Bool, is_some, true, false, sub-one, length-append, length-set, get_or-set_same, get_or-set_other, All, inl, inr}
-use Rattle.std.proofs.lemmas.Bool.{cases_lt, cases_eq}
+use Rattle.std.proofs.Common.{◌≡◌, ◌≢◌, ◌∙◌, ℕ, zero, suc, ◌+◌, ◌-◌, ◌<◌, ◌≤◌, List, [], ◌∷◌, ◌++◌, length, get_or, set, slice_index, slice_set, refl, sym, ap, subst, arith, Option, Some, None, IsNone, IfSome, IsTrue, ◌↔◌, Contains, Bool, is_some, true, false, sub-one, length-append, length-set, get_or-set_same, get_or-set_other, inl, inr}
+use Rattle.std.proofs.lemmas.Bool.{cases_eq}
 use Rattle.std.proofs.lemmas.List.{append-nil, length-map, map-set, set-append_left, set-append_right}
 use Rattle.std.proofs.lemmas.List.Elements.{All-set}
 use Rattle.iddqd_order.specs.declared.btree_table.node.Node.{Node}
 use Rattle.iddqd_order.specs.declared.btree_table.ways.Reader.{Reader}
 use Rattle.iddqd_order.specs.declared.btree_table.ways.Way.{Way}
-use Rattle.iddqd_order.specs.Node.{row, children, child, room, weave, before, after, flat, IsInner, IsFormed, Holds, spot}
+use Rattle.iddqd_order.specs.Node.{row, children, child, room, weave, before, after, flat, IsFormed, Holds, spot}
 use Rattle.iddqd_order.specs.Tree.{IsTree}
 use Rattle.iddqd_order.specs.Ways.{StepsOn, SamePlaces, IsWay, IsReader, IsReaderIn}
-use Rattle.iddqd_order.proofs.NodeLemmas.{lists, AreChildren, formed-leaf, leaf-formed, flat-leaf, formed-inner, inner-formed, formed-within, flat-inner, any_default}
+use Rattle.iddqd_order.proofs.NodeLemmas.{lists, AreChildren, formed-leaf, leaf-formed, flat-leaf, formed-inner, inner-formed, flat-inner, any_default}
 use Rattle.iddqd_order.proofs.PartLemmas.{in_middle}
 use Rattle.iddqd_order.proofs.RemovalLemmas.{holds-leaf, holds-at, holds-level, holds-below, spot-leaf, spot-at, spot-below, spot-within}
-use Rattle.iddqd_order.proofs.DescentLemmas.{index_place, after-last, before-more, lists-one_more, lists-at, child-within, child-formed, holds-here, below-holds, spot-here, spot-row, spot-child}
+use Rattle.iddqd_order.proofs.DescentLemmas.{index_place, after-last, before-more, lists-one_more, lists-at, child-formed, holds-here, below-holds, spot-row, spot-child}
 use Rattle.iddqd_order.proofs.IndexListLemmas.{Contains-at}
 use Rattle.iddqd_order.proofs.WeaveLemmas.{apart, before-set, after-set}
 

@@ -1,9 +1,8 @@
 -- What a node of the tree represents, and what holds of it. A tree is read with its height: h levels of inner nodes above the leaves.
-use Rattle.std.specs.Prelude.{◌≡◌, ℕ, zero, suc, ◌+◌, ◌-◌, ◌<◌, ◌≤◌, List, [], ◌∷◌, ◌++◌, All, length, map, slice_index, slice_index_or, vec_capacity, Vec, nat_eq, if◌then◌else◌}
+use Rattle.std.specs.Prelude.{◌≡◌, ℕ, zero, suc, ◌+◌, ◌<◌, ◌≤◌, List, [], ◌∷◌, ◌++◌, All, length, map, slice_index, slice_index_or, vec_capacity, Vec, nat_eq, if◌then◌else◌}
 use Rattle.std.specs.declared.alloc.Global.{Global}
 use Rattle.iddqd_order.specs.declared.btree_table.node.Node.{Node}
-use Rattle.iddqd_order.specs.declared.btree_table.node.Node.TheOpen.{Node-F}
-use Rattle.iddqd_order.specs.declared.btree_table.node.Node.TheViews.{out-Node, roll-Node}
+use Rattle.iddqd_order.specs.declared.btree_table.node.Node.TheViews.{out-Node}
 
 -- the indexes that a node itself holds
 abbrev pub row : Node → List ℕ

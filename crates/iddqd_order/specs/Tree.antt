@@ -1,11 +1,11 @@
 -- What a table's tree holds: the tree below a root, or nothing.
 use Rattle.std.specs.Prelude.{◌≡◌, ℕ, zero, suc, ◌+◌, ◌<◌, ◌≤◌, List, [], All, length, slice_index, Option, Some, None, Vec, nat_eq, ⊤}
 use Rattle.std.specs.List.{IsDistinct}
-use Rattle.std.specs.Coded.{×_prop, Π_prop, →_prop, Unit-prop, le_prop}
+use Rattle.std.specs.Coded.{×_prop, →_prop, Unit-prop, le_prop}
 use Rattle.std.specs.declared.alloc.Global.{Global}
 use Rattle.iddqd.specs.Compaction.{sentinel}
 use Rattle.iddqd_order.specs.declared.btree_table.node.Node.{Node}
-use Rattle.iddqd_order.specs.Node.{row, child, children, flat, IsFormed, Goes, place, Holds, spot, FullBelow, IsFullBelow, IsSpare}
+use Rattle.iddqd_order.specs.Node.{row, child, flat, IsFormed, Goes, place, Holds, spot, FullBelow, IsFullBelow, IsSpare}
 
 -- its indexes, in order
 abbrev pub in_order : Option Node → ℕ → List ℕ

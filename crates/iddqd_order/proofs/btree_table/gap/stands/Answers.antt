@@ -1,5 +1,5 @@
-use Rattle.std.proofs.Common.{◌≡◌, Contains, IfSome, Some, None, sym, ap, ◌∙◌, arith, rules}
-use Rattle.iddqd_order.specs.Search.{Askable, with_ties}
+use Rattle.std.proofs.Common.{◌≡◌, Contains, sym, ◌∙◌, arith, rules}
+use Rattle.iddqd_order.specs.Search.{Askable}
 use Rattle.iddqd_order.proofs.AskLemmas.{asks_more, asks_none}
 use Rattle.iddqd_order.proofs.btree_table.gap.stands.Goals as goal
 

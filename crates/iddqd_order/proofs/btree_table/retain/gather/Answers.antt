@@ -1,8 +1,8 @@
-use Rattle.std.proofs.Common.{rules, ◌≡◌, ◌∙◌, ℕ, ◌+◌, ◌-◌, ◌≤◌, ◌<◌, List, length, set, slice_index, true, false, refl, sym, ap, subst, arith}
+use Rattle.std.proofs.Common.{rules, ◌≡◌, ◌∙◌, ℕ, ◌+◌, ◌≤◌, List, length, set, slice_index, true, false, refl, sym, ap, subst, arith}
 use Rattle.std.proofs.lemmas.List.{set-get_or}
 use Rattle.std.specs.Fn.{Called}
 use Rattle.iddqd_order.specs.Node.{row, flat}
-use Rattle.iddqd_order.proofs.RetainLemmas.{gathers-none, may_ask, gathers-refused, gathers-kept, gathers-all}
+use Rattle.iddqd_order.proofs.RetainLemmas.{gathers-none, may_ask, gathers-refused, gathers-kept}
 use Rattle.iddqd_order.proofs.WayLemmas.{IsWay-first, IsReader-first, IsReader-same}
 use Rattle.iddqd_order.proofs.btree_table.retain.gather.Goals as goal
 

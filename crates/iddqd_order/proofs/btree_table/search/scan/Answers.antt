@@ -1,4 +1,4 @@
-use Rattle.std.proofs.Common.{arith, ◌≡◌, ◌+◌, ◌<◌, length, get_or, Contains, refl, sym, ◌∙◌, ap}
+use Rattle.std.proofs.Common.{arith, ◌≡◌, ◌<◌, length, get_or, Contains, refl, sym, ◌∙◌, ap}
 use Rattle.std.proofs.lemmas.List.{get_or_default}
 use Rattle.iddqd_order.specs.Search.{Askable, with_ties}
 use Rattle.iddqd_order.proofs.AskLemmas.{asks_none, asks_then, asks_more, Steady-later}

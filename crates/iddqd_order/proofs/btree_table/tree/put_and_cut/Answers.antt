@@ -1,5 +1,5 @@
-use Rattle.std.proofs.Common.{◌≡◌, ℕ, ◌+◌, ◌<◌, ◌≤◌, length, arith}
-use Rattle.iddqd_order.specs.Node.{row, flat, IsFormed, IsSpare, place}
+use Rattle.std.proofs.Common.{◌+◌, arith}
+use Rattle.iddqd_order.specs.Node.{IsSpare}
 use Rattle.iddqd_order.proofs.InsertLemmas.{Cut, all_full, All-last, All-others}
 use Rattle.iddqd_order.proofs.TreeLemmas.{new_root}
 use Rattle.iddqd_order.proofs.btree_table.tree.put_and_cut.Goals as goal

@@ -1,7 +1,7 @@
-use Rattle.std.proofs.Common.{◌≡◌, List, ℕ, Contains, IsTrue, arith, rules}
+use Rattle.std.proofs.Common.{Contains, IsTrue, rules}
 use Rattle.iddqd_order.specs.Asks.{At_once}
-use Rattle.iddqd_order.specs.Search.{Askable, CanSearch}
-use Rattle.iddqd_order.proofs.AskLemmas.{asks_more, asks_then, CanAsk-later, Steady-later}
+use Rattle.iddqd_order.specs.Search.{Askable}
+use Rattle.iddqd_order.proofs.AskLemmas.{asks_then, Steady-later}
 use Rattle.iddqd_order.proofs.GapLemmas.{IfSome-weaker}
 use Rattle.iddqd_order.proofs.SearchLemmas.{Askable-other}
 use Rattle.iddqd_order.proofs.btree_table.gap.Sides.are_around.Goals as goal

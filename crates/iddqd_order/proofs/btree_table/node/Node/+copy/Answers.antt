@@ -1,7 +1,7 @@
-use Rattle.std.proofs.Common.{rules, ◌≡◌, ◌≢◌, ◌∙◌, ℕ, ◌+◌, ◌-◌, ◌<◌, ◌≤◌, length, vec_len, refl, sym, ap, arith}
+use Rattle.std.proofs.Common.{rules, ◌≡◌, ◌∙◌, ◌-◌, ◌<◌, ◌≤◌, length, vec_len, sym, ap, arith}
 use Rattle.iddqd_order.specs.declared.btree_table.node.Node.TheViews.{roll-Node}
 use Rattle.iddqd_order.specs.Copies.{IsCopy}
-use Rattle.iddqd_order.specs.Node.{row, children, child}
+use Rattle.iddqd_order.specs.Node.{children, child}
 use Rattle.iddqd_order.proofs.CopyLemmas.{copy-leaf, copy-inner, pushed}
 use Rattle.iddqd_order.proofs.DescentLemmas.{child_is, child-formed}
 use Rattle.iddqd_order.proofs.NodeLemmas.{formed-inner, formed-leaf, row-roll, children-roll, room-from}

@@ -1,6 +1,6 @@
-use Rattle.std.proofs.Common.{rules, ◌≡◌, ◌≢◌, ℕ, ◌+◌, ◌-◌, ◌<◌, ◌≤◌, List, ◌++◌, ◌∷◌, [], length, slice_index, arith, sym, ◌∙◌, All, vec_len}
+use Rattle.std.proofs.Common.{rules, ◌≡◌, ◌+◌, ◌-◌, arith, ◌∙◌, vec_len}
 use Rattle.iddqd_order.specs.declared.btree_table.node.Node.TheViews.{out-Node, roll-Node, out-roll-Node}
-use Rattle.iddqd_order.specs.Node.{row, children, room, flat, IsFormed, Goes, IsFullBelow, IsSpare, place}
+use Rattle.iddqd_order.specs.Node.{IsSpare}
 use Rattle.iddqd_order.proofs.NodeLemmas.{goes-inner, row-roll, children-roll, room-from}
 use Rattle.iddqd_order.proofs.InsertLemmas.{IsTaken, taken, Cut, cut_leaf, cut_here, leaf_place, full_row, full_child, all_full, All-last, All-others}
 use Rattle.iddqd_order.proofs.btree_table.node.Node.+cut.Goals as goal

@@ -1,11 +1,11 @@
-use Rattle.std.proofs.Common.{◌≡◌, ◌∙◌, ℕ, List, ◌+◌, ◌-◌, ◌<◌, ◌≤◌, length, slice_index, refl, sym, ap, arith, subst, rules}
+use Rattle.std.proofs.Common.{◌≡◌, ◌∙◌, ℕ, List, ◌≤◌, refl, arith, rules}
 use Rattle.iddqd_order.specs.declared.btree_table.node.Node.{Node}
 use Rattle.iddqd_order.specs.declared.btree_table.node.Node.TheViews.{roll-Node}
-use Rattle.iddqd_order.specs.Node.{row, children, child, Holds}
+use Rattle.iddqd_order.specs.Node.{child, Holds}
 use Rattle.iddqd_order.proofs.NodeLemmas.{row-roll, children-roll}
 use Rattle.iddqd_order.proofs.DescentLemmas.{child_is}
 use Rattle.iddqd_order.proofs.RemovalLemmas.{holds-level, room-kept}
-use Rattle.iddqd_order.proofs.WayLemmas.{IsPut, goes-below, holds-row, put-here, put-below}
+use Rattle.iddqd_order.proofs.WayLemmas.{goes-below, holds-row, put-here, put-below}
 use Rattle.iddqd_order.proofs.btree_table.node.Node.+put.Goals as goal
 
 pub index_mut-requires : goal.index_mut-requires

@@ -1,6 +1,6 @@
-use Rattle.std.proofs.Common.{rules, ◌≡◌, ◌≢◌, ℕ, ◌+◌, ◌-◌, ◌<◌, ◌≤◌, List, ◌++◌, ◌∷◌, [], length, slice_index, arith, sym, ◌∙◌, All, vec_len, set, get_or}
+use Rattle.std.proofs.Common.{rules, ◌≡◌, ◌+◌, ◌-◌, length, arith, ◌∙◌, vec_len}
 use Rattle.iddqd_order.specs.declared.btree_table.node.Node.TheViews.{out-Node, roll-Node, out-roll-Node}
-use Rattle.iddqd_order.specs.Node.{row, children, room, flat, IsFormed, Goes, IsFullBelow, IsSpare, place}
+use Rattle.iddqd_order.specs.Node.{row}
 use Rattle.iddqd_order.proofs.NodeLemmas.{goes-inner, full-here, row-roll, children-roll, room-from}
 use Rattle.iddqd_order.proofs.InsertLemmas.{IsTaken, taken, Cut, put_below, put_here, full_child, all_full}
 use Rattle.iddqd_order.proofs.btree_table.node.Node.+put_above.Goals as goal

@@ -1,8 +1,7 @@
-use Rattle.std.proofs.Common.{rules, ◌≡◌, ◌≢◌, ℕ, ◌+◌, ◌-◌, ◌<◌, ◌≤◌, length, slice_index, arith, sym, ◌∙◌}
+use Rattle.std.proofs.Common.{rules, arith, ◌∙◌}
 use Rattle.iddqd_order.specs.declared.btree_table.node.Node.TheViews.{roll-Node}
-use Rattle.iddqd_order.specs.Node.{row, children, room, flat, IsFormed, Goes, IsFullBelow, place}
-use Rattle.iddqd_order.proofs.NodeLemmas.{goes-inner, full-here, full-inner, row-roll, children-roll, room-from}
-use Rattle.iddqd_order.proofs.InsertLemmas.{IsTaken, taken, Put, put_leaf, put_below, leaf_place, full_child}
+use Rattle.iddqd_order.proofs.NodeLemmas.{goes-inner, full-here, row-roll, children-roll, room-from}
+use Rattle.iddqd_order.proofs.InsertLemmas.{IsTaken, taken, put_leaf, put_below, leaf_place, full_child}
 use Rattle.iddqd_order.proofs.btree_table.node.Node.+put_in_leaf.Goals as goal
 
 pub insert-requires-clause-in_bounds : goal.insert-requires-clause-in_bounds

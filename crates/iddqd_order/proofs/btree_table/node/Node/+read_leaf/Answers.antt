@@ -1,5 +1,5 @@
-use Rattle.std.proofs.Common.{◌≡◌, ◌≢◌, ◌∙◌, ℕ, List, ◌+◌, ◌-◌, ◌<◌, ◌≤◌, length, slice_index, refl, sym, ap, arith, subst, rules, Some, None, true, false}
-use Rattle.iddqd_order.specs.Node.{row, children, child, flat, Holds, spot}
+use Rattle.std.proofs.Common.{◌≡◌, ◌-◌, arith, subst, rules, None}
+use Rattle.iddqd_order.specs.Node.{child}
 use Rattle.iddqd_order.proofs.DescentLemmas.{child_is}
 use Rattle.iddqd_order.proofs.WayLemmas.{ReadsLeaf, reads-leaf, reads-below, reads-out, reads-end, goes-below, none-is}
 use Rattle.iddqd_order.proofs.btree_table.node.Node.+read_leaf.Goals as goal

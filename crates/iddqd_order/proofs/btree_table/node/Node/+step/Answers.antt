@@ -1,11 +1,11 @@
-use Rattle.std.proofs.Common.{◌≡◌, ◌∙◌, ℕ, List, ◌+◌, ◌-◌, ◌<◌, ◌≤◌, length, slice_index, refl, sym, ap, arith, subst, rules, Some, None}
+use Rattle.std.proofs.Common.{◌≡◌, ℕ, List, ◌+◌, ◌-◌, ◌≤◌, slice_index, arith, subst, rules, None}
 use Rattle.iddqd_order.specs.declared.btree_table.node.Node.{Node}
-use Rattle.iddqd_order.specs.Node.{row, children, child, flat, Holds, spot}
+use Rattle.iddqd_order.specs.Node.{child, flat, Holds, spot}
 use Rattle.iddqd_order.specs.Ways.{StepsOn}
 use Rattle.iddqd_order.proofs.NodeLemmas.{formed-within}
 use Rattle.iddqd_order.proofs.DescentLemmas.{path-here, child_is}
 use Rattle.iddqd_order.proofs.RemovalLemmas.{holds-level}
-use Rattle.iddqd_order.proofs.WayLemmas.{GoesBelow, goes-below, holds-row, steps-leaf, ends-leaf, steps-here, steps-below_any, none-is, steps-out, ends-below, read-here, read-below}
+use Rattle.iddqd_order.proofs.WayLemmas.{goes-below, holds-row, steps-leaf, ends-leaf, steps-here, steps-below_any, none-is, steps-out, ends-below, read-here, read-below}
 use Rattle.iddqd_order.proofs.btree_table.node.Node.+step.Goals as goal
 
 pub index-requires : goal.index-requires

@@ -1,4 +1,4 @@
-use Rattle.std.proofs.Common.{◌≡◌, ◌+◌, ◌-◌, ◌*◌, ◌<◌, refl, Ok, Err, length, slice_index, arith, sym, ap, ◌∙◌, subst, rules}
+use Rattle.std.proofs.Common.{◌≡◌, ◌-◌, ◌<◌, refl, Ok, Err, length, slice_index, arith, sym, ap, ◌∙◌, subst, rules}
 use Rattle.iddqd_order.specs.Descent.{Descends}
 use Rattle.iddqd_order.specs.Node.{row, children, child, flat}
 use Rattle.iddqd_order.specs.Search.{CanSearch, SearchesWithin}

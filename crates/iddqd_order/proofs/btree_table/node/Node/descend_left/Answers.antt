@@ -1,4 +1,4 @@
-use Rattle.std.proofs.Common.{◌≡◌, ℕ, ◌+◌, ◌*◌, ◌-◌, ◌<◌, ◌≤◌, Err, Contains, length, slice_index, arith, refl, sym, ap, ◌∙◌, subst, rules}
+use Rattle.std.proofs.Common.{◌≡◌, ◌-◌, ◌<◌, Err, Contains, length, slice_index, arith, sym, ap, ◌∙◌, subst, rules}
 use Rattle.std.specs.declared.cmp.Ordering.TheVariants.{Less}
 use Rattle.iddqd_order.specs.Asks.{At_once}
 use Rattle.iddqd_order.specs.Descent.{Descends}

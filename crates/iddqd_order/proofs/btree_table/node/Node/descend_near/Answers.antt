@@ -1,5 +1,4 @@
-use Rattle.std.proofs.Common.{◌≡◌, ◌+◌, ◌*◌, ◌≤◌, Err, refl, sym, subst, length, arith, rules}
-use Rattle.iddqd_order.specs.Descent.{Descends}
+use Rattle.std.proofs.Common.{◌+◌, ◌≤◌, refl, length, arith, rules}
 use Rattle.iddqd_order.specs.Gap.{AreHeld}
 use Rattle.iddqd_order.specs.Node.{flat, place}
 use Rattle.iddqd_order.specs.Search.{Askable}

@@ -1,7 +1,7 @@
-use Rattle.std.proofs.Common.{◌≡◌, ◌+◌, ◌-◌, ◌*◌, ◌<◌, ◌≤◌, Some, None, Ok, Err, length, arith, ap, sym, subst, rules}
+use Rattle.std.proofs.Common.{◌≡◌, ◌-◌, ◌<◌, Some, None, Ok, Err, length, arith, ap, sym, subst, rules}
 use Rattle.iddqd_order.specs.Descent.{FindsIn}
-use Rattle.iddqd_order.specs.Node.{row, children, child, flat}
-use Rattle.iddqd_order.specs.Search.{CanSearch, SearchesWithin}
+use Rattle.iddqd_order.specs.Node.{children, child, flat}
+use Rattle.iddqd_order.specs.Search.{CanSearch}
 use Rattle.iddqd_order.proofs.DescentLemmas.{FindsIn-hit, FindsIn-leaf, FindsIn-below, can_ask_row, can_ask_below, child-within, child-formed, child_is, searched_in}
 use Rattle.iddqd_order.proofs.NodeLemmas.{formed-within}
 use Rattle.iddqd_order.proofs.btree_table.node.Node.find.Goals as goal

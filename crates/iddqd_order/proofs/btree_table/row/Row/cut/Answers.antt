@@ -1,5 +1,4 @@
-use Rattle.std.proofs.Common.{◌≡◌, ◌+◌, ◌-◌, ◌<◌, ◌≤◌, length, arith}
-use Rattle.iddqd_order.specs.Row.{IsCut}
+use Rattle.std.proofs.Common.{◌<◌, ◌≤◌, arith}
 use Rattle.iddqd_order.proofs.RowLemmas.{cut_before, cut_after, cut_low, cut_high}
 use Rattle.iddqd_order.proofs.btree_table.row.Row.cut.Goals as goal
 

@@ -1,10 +1,8 @@
-use Rattle.std.proofs.Common.{ℕ, List, [], Some, None, Option, ap, sym, subst, ◌∙◌, ◌≡◌, ◌≢◌, ◌+◌, ◌*◌, ◌≤◌, All, length, arith}
+use Rattle.std.proofs.Common.{[], None, sym, subst, ◌≢◌, All, arith}
 use Rattle.std.specs.declared.cmp.Ordering.TheVariants.{Equal}
 use Rattle.std.proofs.lemmas.List.Elements.{All-nil}
 use Rattle.iddqd_order.specs.Descent.{FindsIn}
-use Rattle.iddqd_order.specs.Digits.{bound}
 use Rattle.iddqd_order.specs.MapBTreeTable.{order_of}
-use Rattle.iddqd_order.specs.Node.{flat}
 use Rattle.iddqd_order.specs.Search.{Askable, CanSearch, Finds}
 use Rattle.iddqd_order.proofs.AskLemmas.{asks_more, asks_none}
 use Rattle.iddqd_order.proofs.DescentLemmas.{Finds-from_findsin}

@@ -1,8 +1,7 @@
-use Rattle.std.proofs.Common.{ℕ, List, [], Some, Err, refl, sym, subst, ◌≡◌, ◌≤◌, ◌<◌, ◌+◌, arith, Contains, length}
+use Rattle.std.proofs.Common.{ℕ, List, Some, Err, refl, sym, subst, ◌≤◌, arith, Contains, length}
 use Rattle.iddqd_order.specs.MapBTreeTable.{order_of}
 use Rattle.iddqd_order.specs.Search.{Askable, CanSearch, Searches, IsPlace, with_ties}
-use Rattle.iddqd_order.specs.Tree.{place_in}
-use Rattle.iddqd_order.specs.Node.{flat, place}
+use Rattle.iddqd_order.specs.Node.{place}
 use Rattle.iddqd_order.proofs.AskLemmas.{asks_more, asks_none}
 use Rattle.iddqd_order.proofs.IndexListLemmas.{Contains-at}
 use Rattle.iddqd_order.proofs.DescentLemmas.{Searches-from_descends}

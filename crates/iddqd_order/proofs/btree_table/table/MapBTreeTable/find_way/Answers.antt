@@ -1,5 +1,4 @@
-use Rattle.std.proofs.Common.{ℕ, List, [], Some, None, Ok, Err, Result, refl, sym, subst, ap, eqb-true, ◌≡◌, ◌∙◌, ◌≤◌, ◌<◌, ◌+◌, arith, Contains, is_some, slice_index}
-use Rattle.std.proofs.lemmas.Bool.{true≢false}
+use Rattle.std.proofs.Common.{ℕ, List, [], Some, Ok, Err, refl, sym, subst, eqb-true, ◌∙◌, arith, Contains}
 use Rattle.iddqd_order.specs.MapBTreeTable.{order_of}
 use Rattle.iddqd_order.specs.Search.{Askable, CanSearch, Searches}
 use Rattle.iddqd_order.specs.Node.{place, spot}

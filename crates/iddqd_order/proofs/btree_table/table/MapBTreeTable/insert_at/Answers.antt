@@ -1,6 +1,4 @@
-use Rattle.std.proofs.Common.{◌≡◌, ◌≢◌, ℕ, ◌+◌, ◌<◌, ◌≤◌, length, ap, sym, ◌∙◌, arith}
-use Rattle.iddqd_order.specs.MapBTreeTable.{order_of}
-use Rattle.iddqd_order.specs.Tree.{in_order}
+use Rattle.std.proofs.Common.{arith}
 use Rattle.iddqd_order.proofs.TableLemmas.{can_put, longer, IsTable-put}
 use Rattle.iddqd_order.proofs.btree_table.table.MapBTreeTable.insert_at.Goals as goal
 

@@ -1,7 +1,6 @@
-use Rattle.std.proofs.Common.{refl, ap, ◌∙◌, ◌≡◌, Option, ℕ, List}
-use Rattle.iddqd_order.specs.declared.btree_table.node.Node.{Node}
+use Rattle.std.proofs.Common.{refl, ◌≡◌, ℕ, List}
 use Rattle.iddqd_order.specs.MapBTreeTable.{Order, order_of}
-use Rattle.iddqd_order.specs.Tree.{in_order, place_in}
+use Rattle.iddqd_order.specs.Tree.{place_in}
 use Rattle.iddqd_order.specs.PreparedBTreeInsert.{place_of, index_of}
 use Rattle.iddqd_order.proofs.btree_table.table.MapBTreeTable.prepare.Goals as goal
 

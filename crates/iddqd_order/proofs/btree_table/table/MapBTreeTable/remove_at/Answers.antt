@@ -1,4 +1,4 @@
-use Rattle.std.proofs.Common.{◌≡◌, ◌∙◌, ◌≤◌, ap}
+use Rattle.std.proofs.Common.{◌∙◌, ap}
 use Rattle.iddqd_order.specs.MapBTreeTable.{order_of, without}
 use Rattle.iddqd_order.proofs.TableLemmas.{way_inside, there_inside, order_inside, shorter}
 use Rattle.iddqd_order.proofs.btree_table.table.MapBTreeTable.remove_at.Goals as goal

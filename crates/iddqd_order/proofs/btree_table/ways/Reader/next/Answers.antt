@@ -1,4 +1,4 @@
-use Rattle.std.proofs.Common.{◌≡◌, ◌<◌, length, arith, rules}
+use Rattle.std.proofs.Common.{arith}
 use Rattle.iddqd_order.proofs.WayLemmas.{reader-taken}
 use Rattle.iddqd_order.proofs.btree_table.ways.Reader.next.Goals as goal
 

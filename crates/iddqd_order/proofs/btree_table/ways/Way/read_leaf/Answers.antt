@@ -1,5 +1,5 @@
-use Rattle.std.proofs.Common.{◌≡◌, ◌∙◌, ℕ, ◌+◌, ◌≤◌, length, refl, sym, ap, arith, subst, rules}
-use Rattle.iddqd_order.specs.Node.{flat, spot}
+use Rattle.std.proofs.Common.{◌≡◌, ◌∙◌, ◌+◌, length, sym, ap, arith, subst, rules}
+use Rattle.iddqd_order.specs.Node.{spot}
 use Rattle.iddqd_order.specs.Ways.{StepsOn}
 use Rattle.iddqd_order.proofs.WayLemmas.{leaf_within, IsWay-next}
 use Rattle.iddqd_order.proofs.btree_table.ways.Way.read_leaf.Goals as goal
