@@ -1,5 +1,5 @@
 -- A walk down a tree: what the search of a row says of the search of the tree.
-use Rattle.std.proofs.Common.{◌≡◌, ◌≢◌, ◌∙◌, ℕ, zero, suc, ◌+◌, ◌-◌, ◌<◌, ◌≤◌, List, [], ◌∷◌, ◌++◌, length, get_or, drop, slice_index, slice_set, get_or-set_same, get_or-set_other, Contains, refl, sym, ap, subst, All, arith, ◌⊎◌, inl, inr, Option, Some, None, Result, Ok, Err, IfOk, length-append, append_assoc, sub-one}
+use Rattle.std.proofs.Common.{◌≡◌, ◌≢◌, ◌∙◌, ℕ, zero, suc, ◌+◌, ◌-◌, ◌*◌, ◌<◌, ◌≤◌, List, [], ◌∷◌, ◌++◌, length, get_or, drop, slice_index, slice_set, get_or-set_same, get_or-set_other, Contains, refl, sym, ap, subst, All, arith, ◌⊎◌, inl, inr, Option, Some, None, Result, Ok, Err, IfOk, length-append, append_assoc, sub-one}
 use Rattle.std.proofs.lemmas.Bool.{cases_lt, true≢false}
 use Rattle.std.proofs.lemmas.List.{get_or-append-add, length-map, get_or-map}
 use Rattle.std.proofs.lemmas.List.Elements.{All-nil, Contains-append_cases}
@@ -12,12 +12,14 @@ use Rattle.iddqd_order.specs.declared.btree_table.node.Node.{Node}
 use Rattle.iddqd_order.specs.Node.{row, children, child, weave, before, after, flat, IsFormed, Holds, spot, FullBelow, IsFullBelow}
 use Rattle.iddqd_order.specs.Search.{Askable, CanSearch, with_ties, IsRising, IsPlace, IsSteadyRising, SearchesWithin, Searches, Finds}
 use Rattle.iddqd_order.specs.Descent.{end_of, index_at, Descends, FindsIn}
-use Rattle.iddqd_order.specs.Digits.{bound}
+use Rattle.iddqd_order.specs.Digits.{digits, bound}
+use Rattle.iddqd_order.proofs.DigitLemmas.{digits-row}
 use Rattle.iddqd_order.proofs.AskLemmas.{asks_wider, CanAsk-fewer, CanAsk-later, Steady-fewer}
-use Rattle.iddqd_order.proofs.NodeLemmas.{lists, formed-inner, flat-leaf, flat-inner, inner-goes, leaf-goes, place-inner, place-leaf, any_default}
+use Rattle.iddqd_order.proofs.NodeLemmas.{lists, formed-inner, formed-within, flat-leaf, flat-inner, inner-goes, leaf-goes, place-inner, place-leaf, any_default}
 use Rattle.iddqd_order.proofs.PartLemmas.{Askable-wider, greater_up_to, less_from_on, shifted, in_middle, middle_held, SearchesWithin-more, SearchesWithin-later, LeadsTo, Searches-part}
 use Rattle.iddqd_order.proofs.RemovalLemmas.{holds-level, spot-leaf, spot-at, spot-below, spot-within}
 use Rattle.iddqd_order.proofs.IndexListLemmas.{Contains-at}
+use Rattle.iddqd_order.proofs.ReckoningLemmas.{reckoning}
 use Rattle.iddqd_order.proofs.SearchLemmas.{none_at_place}
 use Rattle.iddqd_order.proofs.WeaveLemmas.{apart}
 
@@ -275,6 +277,11 @@ module _ {F R : Type 0} (g : Mut F (ℕ × Unit {0}) R) (read : R → Ordering) 
       let ne : suc h ≢ 0 = λ e. absurd (omega arith) in
       CanSearch-row (row n) (lists (suc h - 1) (children n)) (lists-one_more (suc h) n ne f) g read tie a (subst (λ xs. CanSearch g xs tie a) (flat-inner (suc h) n ne) c)
 
+  -- four asks search a row
+  pub row_searched : (l : ℕ) (n : Node) (xs : List ℕ) (end : Result ℕ ℕ) (a b : Asking F) → IsFormed l n → xs ≡ row n → SearchesWithin g read xs (digits (length xs)) tie a end b → SearchesWithin g read (row n) 4 tie a end b
+  row_searched l n xs end a b f e s =
+      subst (λ zs. SearchesWithin g read zs 4 tie a end b) e (SearchesWithin-more g read tie (digits-row (length xs) (rw e (formed-within l n f))) s)
+
   -- the search of a row, as its end is told
   pub searched_in : {k : ℕ} (n : Node) (xs : List ℕ) (told end : Result ℕ ℕ) (a b : Asking F) → xs ≡ row n → told ≡ end → SearchesWithin g read xs k tie a told b → SearchesWithin g read (row n) k tie a end b
   searched_in {k = k} n xs told end a b e is s = subst (λ zs. SearchesWithin g read zs k tie a end b) e (subst (λ r. SearchesWithin g read xs k tie a r b) is s)
@@ -306,7 +313,7 @@ module _ {F R : Type 0} (g : Mut F (ℕ × Unit {0}) R) (read : R → Ordering) 
       (Searches-below xs ks (lists-one_more l n ne f) g read tie i end s (subst (λ zs. SearchesWithin g read zs m tie b end c) (sym (lists-at (l - 1) n i lt)) t))
 
   -- the walk ends at an index of the node
-  pub Descends-hit : {k : ℕ} (limit full l : ℕ) (n : Node) (p : List ℕ) (a b : Asking F) → k ≤ limit → IsFormed l n → SearchesWithin g read (row n) k tie a (Ok (slice_index p l)) b → Descends g read tie limit full l n a p (Ok l) b
+  pub Descends-hit : (limit full l : ℕ) (n : Node) (p : List ℕ) (a b : Asking F) → 4 ≤ limit → IsFormed l n → SearchesWithin g read (row n) 4 tie a (Ok (slice_index p l)) b → Descends g read tie limit full l n a p (Ok l) b
   Descends-hit limit full zero n p a b le f s = record {
     searches = rw (flat-leaf zero n refl, spot-leaf zero zero n p refl) (SearchesWithin-more g read tie le s);
     holds = holds-here zero n p s.found;
@@ -435,10 +442,10 @@ module _ {F R : Type 0} (g : Mut F (ℕ × Unit {0}) R) (read : R → Ordering) 
         index = t.index ∙ read-below l n i t.end ne f lt t.searches.found;
       }
 
-  -- a walk down a tree within the bound is a search of all indexes
-  pub Searches-from_descends : {limit full : ℕ} (h : ℕ) (n : Node) (p : List ℕ) (end : Result ℕ ℕ) (a b : Asking F) → limit ≡ bound (length (flat h n)) → Descends g read tie limit full h n a p end b
+  -- a walk down a tree with an index in its root is a search of all indexes
+  pub Searches-from_descends : {limit full : ℕ} (h : ℕ) (n : Node) (p : List ℕ) (end : Result ℕ ℕ) (a b : Asking F) → limit ≤ 4 * (h + 1) + 2 → IsFormed h n → 1 ≤ length (row n) → Descends g read tie limit full h n a p end b
       → Searches g read (flat h n) tie a (end_of h n p end) b
-  Searches-from_descends h n p end a b e d = subst (λ limit. SearchesWithin g read (flat h n) limit tie a (end_of h n p end) b) e d.searches
+  Searches-from_descends h n p end a b le f one d = let few = reckoning h n f one in SearchesWithin-more g read tie (omega arith) d.searches
 
 -- and so is a find within the bound
 pub Finds-from_findsin : {F R : Type 0} (g : Mut F (ℕ × Unit {0}) R) (read : R → Ordering) (h : ℕ) (n : Node) (found : Option ℕ) (a b : Asking F) → FindsIn g read None (bound (length (flat h n))) h n a found b

@@ -1,5 +1,5 @@
 -- What a table's calls leave of its parts.
-use Rattle.std.proofs.Common.{◌≡◌, ◌≢◌, ℕ, ◌+◌, ◌-◌, ◌*◌, ◌<◌, ◌≤◌, List, [], length, get_or, map, slice_index, refl, ap, sym, ◌∙◌, subst, arith, Option, Some, None, All, Contains, nat_eq, Vec, not, ◌==◌, Ordering, inl, inr}
+use Rattle.std.proofs.Common.{◌≡◌, ◌≢◌, ℕ, ◌+◌, ◌-◌, ◌<◌, ◌≤◌, List, [], length, get_or, map, slice_index, refl, ap, sym, ◌∙◌, subst, arith, Option, Some, None, All, Contains, nat_eq, Vec, not, ◌==◌, Ordering, inl, inr}
 use Rattle.std.proofs.lemmas.Bool.{cases_lt}
 use Rattle.std.specs.List.{insert, remove, IsDistinct}
 use Rattle.std.proofs.lemmas.List.Edits.{length-insert, length-remove}
@@ -13,10 +13,9 @@ use Rattle.iddqd_order.specs.Node.{IsSpare, row, flat, IsFormed, place, spot}
 use Rattle.iddqd_order.specs.Tree.{in_order, IsTree, IsTable, GoesIn, place_in, FullIn, HoldsIn, spot_in}
 use Rattle.iddqd_order.specs.MapBTreeTable.{Order, order_of, IsIndexList, without, sentinel}
 use Rattle.iddqd_order.specs.Search.{IsPlace}
-use Rattle.iddqd_order.specs.Digits.{bound}
 use Rattle.iddqd_order.proofs.NodeLemmas.{All-insert}
 use Rattle.iddqd_order.proofs.IndexListLemmas.{IsIndexList-nil, IsIndexList-insert, IsIndexList-filter, remove-distinct}
-use Rattle.iddqd_order.proofs.ReckoningLemmas.{few_indexes, reckoning}
+use Rattle.iddqd_order.proofs.ReckoningLemmas.{few_indexes}
 use Rattle.iddqd_order.proofs.RenameLemmas.{IsIndexList-remapped}
 use Rattle.iddqd_order.proofs.RemovalLemmas.{spot-within}
 use Rattle.iddqd_order.proofs.TreeLemmas.{place_in-within}
@@ -102,15 +101,6 @@ root_of o r h len b bs n e t is =
       low = tree.2;
       list = ap (λ (s : Option Node). in_order s h) (sym is) ∙ order_inside o r h b e;
     }
-
--- as many asks as the bound has are enough for each walk down from it
-pub most_suffices : (o : Order) (h : ℕ) (n : Node) (most : ℕ) → IsRootOf o h n → most ≡ bound (length (order_of o)) → 4 * (h + 1) + 2 ≤ most
-most_suffices o h n most r e =
-    let few = subst (λ (xs : List ℕ). 4 * (h + 1) + 2 ≤ bound (length xs)) r.list (reckoning h n r.formed r.some) in
-    omega arith
-
-pub most_of_root : (o : Order) (h : ℕ) (n : Node) (most : ℕ) → IsRootOf o h n → most ≡ bound (length (order_of o)) → most ≡ bound (length (flat h n))
-most_of_root o h n most r e = e ∙ ap (λ (xs : List ℕ). bound (length xs)) (sym r.list)
 
 -- where a path goes from it
 pub place_of_root : (o : Order) (h : ℕ) (n : Node) (p : List ℕ) → IsRootOf o h n → place h n p ≡ place_in o.root o.height p

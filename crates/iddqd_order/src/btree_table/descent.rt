@@ -1,4 +1,4 @@
-//! Searches of a tree: one walk down from the root. Each keeps four asks for each level below.
+//! Searches of a tree: one walk down from the root, four asks a level.
 ghost use Rattle.std.specs.Prelude.{◌≡◌, ℕ, ◌+◌, ◌*◌, ◌<◌, ◌≤◌, Some, None, IfSome, IsNone, Contains, length, slice_index};
 ghost use Rattle.iddqd_order.specs.Descent.{Descends, FindsIn};
 ghost use Rattle.iddqd_order.specs.MapBTreeTable.{StandsAt};
@@ -10,7 +10,7 @@ use crate::btree_table::node::Node;
 use crate::btree_table::path::Path;
 use crate::btree_table::reading::Reads;
 use crate::btree_table::row::CAPACITY;
-use crate::btree_table::search::search_within;
+use crate::btree_table::search::{search, search_within};
 use iddqd::item_index::ItemIndex;
 
 impl Node {
@@ -56,8 +56,7 @@ impl Node {
     }
 
     // Writes the way of a search to the path. It answers the level at which the search ends, or, where
-    // it ends in a leaf, how many nodes at the lower end of the way are full: `above` where all are. It
-    // asks at most so often.
+    // it ends in a leaf, how many nodes at the lower end of the way are full: `above` where all are.
     pub fn descend<R, F: FnMut(ItemIndex) -> R, H: Reads<R>>(
         &self,
         height: usize,
@@ -65,31 +64,25 @@ impl Node {
         asking: &mut Asking<F>,
         how: &H,
         tie: &Option<ItemIndex>,
-        most: usize,
         path: &mut Path,
     ) -> Result<usize, usize>
         requires formed { IsFormed height self.now }
-        requires most { 4 * (height + 1) ≤ most }
         requires levels { height ≤ 11 }
         requires above { height < above }
         requires path { length path.old ≡ 12 }
         requires can_search { CanSearch F.FnMut (flat height self.now) tie.now asking.old }
         ensures path { length path.new ≡ 12 }
         ensures kept { (l : ℕ) → height < l → slice_index path.new l ≡ slice_index path.old l }
-        ensures descends { Descends F.FnMut (H.reading how.now) tie.now most above height self.now asking.old path.new result asking.new }
+        ensures descends { Descends F.FnMut (H.reading how.now) tie.now (4 * (height + 1)) above height self.now asking.old path.new result asking.new }
     {
         let mut node = self;
         let mut level = height;
         let mut full = above;
-        let mut left = most;
         loop {
             if node.row.len() < CAPACITY {
                 full = level;
             }
-            // Four asks a level are kept for the levels below.
-            let here = left - 4 * level;
-            let (end, asked) = search_within(node.row.as_slice(), asking, how, tie, here);
-            match end {
+            match search(node.row.as_slice(), asking, how, tie) {
                 Ok(i) => {
                     path.set(level, i);
                     return Ok(level);
@@ -99,7 +92,6 @@ impl Node {
                     if level == 0 {
                         return Err(full);
                     }
-                    left -= asked;
                     level -= 1;
                     node = &node.children[i];
                 }

@@ -131,16 +131,14 @@ impl Node {
         asking: &mut Asking<F>,
         how: &H,
         tie: &Option<ItemIndex>,
-        most: usize,
         path: &mut Path,
     ) -> Result<usize, usize>
         requires formed { IsFormed height self.now }
-        requires most { 4 * (height + 1) + 2 ≤ most }
         requires levels { height ≤ 11 }
         requires path { length path.old ≡ 12 }
         requires can_search { CanSearch F.FnMut (flat height self.now) tie.now asking.old }
         ensures path { length path.new ≡ 12 }
-        ensures descends { Descends F.FnMut (H.reading how.now) tie.now most (height + 1) height self.now asking.old path.new result asking.new }
+        ensures descends { Descends F.FnMut (H.reading how.now) tie.now (4 * (height + 1) + 2) (height + 1) height self.now asking.old path.new result asking.new }
     {
         let outer = Sides {
             before: None,
@@ -150,7 +148,7 @@ impl Node {
         if sides.are_around(asking, how, tie) {
             return Err(full);
         }
-        self.descend(height, height + 1, asking, how, tie, most - 2, path)
+        self.descend(height, height + 1, asking, how, tie, path)
     }
 
     // The descent for an index that may go before all others: while the way is the leftmost, it asks
@@ -161,22 +159,19 @@ impl Node {
         asking: &mut Asking<F>,
         how: &H,
         tie: &Option<ItemIndex>,
-        most: usize,
         path: &mut Path,
     ) -> Result<usize, usize>
         requires formed { IsFormed height self.now }
         requires some { 1 ≤ length (row self.now) }
-        requires most { 4 * (height + 1) + 1 ≤ most }
         requires levels { height ≤ 11 }
         requires path { length path.old ≡ 12 }
         requires can_search { CanSearch F.FnMut (flat height self.now) tie.now asking.old }
         ensures path { length path.new ≡ 12 }
-        ensures descends { Descends F.FnMut (H.reading how.now) tie.now most (height + 1) height self.now asking.old path.new result asking.new }
+        ensures descends { Descends F.FnMut (H.reading how.now) tie.now (4 * (height + 1) + 1) (height + 1) height self.now asking.old path.new result asking.new }
     {
         let mut node = self;
         let mut level = height;
         let mut full = height + 1;
-        let mut left = most;
         while compare(asking, how, tie, node.row.get(0)) == Ordering::Less {
             if node.row.len() < CAPACITY {
                 full = level;
@@ -185,11 +180,10 @@ impl Node {
             if level == 0 {
                 return Err(full);
             }
-            left -= 1;
             level -= 1;
             node = &node.children[0];
         }
-        node.descend(level, full, asking, how, tie, left - 1, path)
+        node.descend(level, full, asking, how, tie, path)
     }
 
     // Writes the way to a place to the path, by the hint where there is one.
@@ -200,23 +194,21 @@ impl Node {
         how: &H,
         tie: &Option<ItemIndex>,
         hint: Option<&Hint>,
-        most: usize,
         path: &mut Path,
     ) -> Result<usize, usize>
         requires formed { IsFormed height self.now }
         requires some { 1 ≤ length (row self.now) }
-        requires most { 4 * (height + 1) + 2 ≤ most }
         requires levels { height ≤ 11 }
         requires path { length path.old ≡ 12 }
         requires can_search { CanSearch F.FnMut (flat height self.now) tie.now asking.old }
         ensures path { length path.new ≡ 12 }
-        ensures descends { Descends F.FnMut (H.reading how.now) tie.now most (height + 1) height self.now asking.old path.new result asking.new }
+        ensures descends { Descends F.FnMut (H.reading how.now) tie.now (4 * (height + 1) + 2) (height + 1) height self.now asking.old path.new result asking.new }
     {
         match hint {
-            None => self.descend_left(height, asking, how, tie, most, path),
+            None => self.descend_left(height, asking, how, tie, path),
             Some(hint) => {
                 *path = hint.path;
-                self.descend_near(height, asking, how, tie, most, path)
+                self.descend_near(height, asking, how, tie, path)
             }
         }
     }

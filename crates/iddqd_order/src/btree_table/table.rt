@@ -374,8 +374,7 @@ impl MapBTreeTable {
         let Some(root) = &self.root else {
             return (path, 0);
         };
-        let most = self.most_asks();
-        match root.descend_to_gap(self.height, asking, how, &Some(ix), hint, most, &mut path) {
+        match root.descend_to_gap(self.height, asking, how, &Some(ix), hint, &mut path) {
             Ok(_) => unreachable!(),
             Err(full) => (path, full),
         }
@@ -487,7 +486,6 @@ impl MapBTreeTable {
             asking,
             how,
             &Some(ix),
-            self.most_asks(),
             &mut path,
         ) {
             Ok(level) => Some((path, level)),

@@ -108,8 +108,8 @@ fn a_walk_may_be_cloned_at_each_place(rt: HostRuntime) -> Result<(), Fail> {
 }
 
 #[test]
-fn a_search_asks_within_the_bound(rt: HostRuntime) -> Result<(), Fail> {
-    for (len, _) in &LEVELS {
+fn a_search_asks_four_times_a_level(rt: HostRuntime) -> Result<(), Fail> {
+    for (len, levels) in &LEVELS {
         let mut table = filled(&rt, rt.alloc(), *len, Ordering::Greater)?;
         for odd in [Ordering::Less, Ordering::Greater] {
             for even in [Ordering::Less, Ordering::Greater] {
@@ -118,7 +118,7 @@ fn a_search_asks_within_the_bound(rt: HostRuntime) -> Result<(), Fail> {
                 assert!(rt; asks <= bound(*len as usize));
                 let (is_removed, asks) = remove_told(&mut table, *len, odd, even);
                 assert!(rt; !is_removed);
-                assert!(rt; asks <= bound(*len as usize));
+                assert!(rt; asks <= levels.wrapping_mul(4));
             }
         }
     }

@@ -1,9 +1,8 @@
-use Rattle.std.proofs.Common.{◌≡◌, ◌-◌, ◌<◌, refl, Ok, Err, length, slice_index, arith, sym, ap, ◌∙◌, subst, rules}
+use Rattle.std.proofs.Common.{◌≡◌, ◌+◌, ◌-◌, ◌*◌, ◌<◌, refl, Ok, Err, length, slice_index, arith, sym, ap, ◌∙◌, subst, rules}
 use Rattle.iddqd_order.specs.Descent.{Descends}
 use Rattle.iddqd_order.specs.Node.{row, children, child, flat}
 use Rattle.iddqd_order.specs.Search.{CanSearch, SearchesWithin}
-use Rattle.iddqd_order.proofs.DescentLemmas.{Counts, Counts-not_full, Counts-full, counts_above, Descends-hit, Descends-leaf, Descends-below, can_ask_row, can_ask_below, child-within, child-formed, child_is, searched_in, path-here, path-above}
-use Rattle.iddqd_order.proofs.NodeLemmas.{formed-within}
+use Rattle.iddqd_order.proofs.DescentLemmas.{Counts, Counts-not_full, Counts-full, counts_above, Descends-hit, Descends-leaf, Descends-below, can_ask_row, can_ask_below, child-within, child-formed, child_is, row_searched, path-here, path-above}
 use Rattle.iddqd_order.proofs.btree_table.node.Node.descend.Goals as goal
 use Rattle.iddqd_order.proofs.btree_table.node.Node.descend.Goals.{then-len-lt-CAPACITY, else-len-lt-CAPACITY}
 
@@ -14,14 +13,13 @@ loop-full-init g c = record {
   path = c.requires.path;
   can_search = c.requires.can_search;
   above = c.requires.above;
-  most = c.requires.most;
   rest = λ p end new same d. d;
   below = omega arith;
   kept = λ m up. refl;
 }
 
-pub search_within-end-requires-clause-can_search : goal.search_within-end-requires-clause-can_search
-search_within-end-requires-clause-can_search g c =
+pub search-requires : goal.search-requires
+search-requires g c =
     subst (λ xs. CanSearch g.F.FnMut xs c.args.tie.now c.loop-full.asking) (sym c.as_slice.ensures)
     (can_ask_row g.F.FnMut (g.H.Reads.reading c.args.how.now) c.args.tie.now c.loop-full.level c.loop-full.node.now c.loop-full.asking c.loop-full.invariant.formed c.loop-full.invariant.can_search)
 
@@ -39,12 +37,12 @@ returns-in-Ok-clause-descends g c =
     let n = c.loop-full.node.now in
     let p = c.set.new.self in
     let a = c.loop-full.asking in
-    let b = c.search_within-end.new.asking in
+    let b = c.search.new.asking in
     let held = c.loop-full.invariant in
-    let s = searched_in g.F.FnMut read tie n c.as_slice.result.now c.search_within-end.result.0 (Ok c.in-Ok.i) a b c.as_slice.ensures c.in-Ok.is c.search_within-end.ensures.searches in
+    let s = row_searched g.F.FnMut read tie l n c.as_slice.result.now (Ok c.in-Ok.i) a b held.formed c.as_slice.ensures c.in-Ok.ensures in
     let here : slice_index p l ≡ c.in-Ok.i = path-here c.loop-full.path p l c.in-Ok.i held.path held.levels c.set.ensures.place in
     held.rest p (Ok l) b (λ m lt. path-above c.loop-full.path p l c.in-Ok.i m c.set.ensures.place lt)
-    (Descends-hit g.F.FnMut read tie c.loop-full.left c.loop-full.full l n p a b (omega (arith, c.search_within-end.ensures.most)) held.formed (subst (λ i. SearchesWithin g.F.FnMut read (row n) c.search_within-end.result.1 tie a (Ok i) b) (sym here) s))
+    (Descends-hit g.F.FnMut read tie (4 * (l + 1)) c.loop-full.full l n p a b (omega arith) held.formed (subst (λ i. SearchesWithin g.F.FnMut read (row n) 4 tie a (Ok i) b) (sym here) s))
 
 pub returns-then-level-eq0-clause-descends : goal.returns-then-level-eq0-clause-descends
 returns-then-level-eq0-clause-descends g c =
@@ -54,9 +52,9 @@ returns-then-level-eq0-clause-descends g c =
     let n = c.loop-full.node.now in
     let p = c.set-in-Err.new.self in
     let a = c.loop-full.asking in
-    let b = c.search_within-end.new.asking in
+    let b = c.search.new.asking in
     let held = c.loop-full.invariant in
-    let s = searched_in g.F.FnMut read tie n c.as_slice.result.now c.search_within-end.result.0 (Err c.in-Err.i) a b c.as_slice.ensures c.in-Err.is c.search_within-end.ensures.searches in
+    let s = row_searched g.F.FnMut read tie l n c.as_slice.result.now (Err c.in-Err.i) a b held.formed c.as_slice.ensures c.in-Err.ensures in
     let here : slice_index p l ≡ c.in-Err.i = path-here c.loop-full.path p l c.in-Err.i held.path held.levels c.set-in-Err.ensures.place in
     let counts : Counts n c.loop-full.full l c.if-len-lt-CAPACITY.full =
     elim c.if-len-lt-CAPACITY.branch [
@@ -64,13 +62,13 @@ returns-then-level-eq0-clause-descends g c =
       | else-len-lt-CAPACITY w ↦ Counts-full n c.loop-full.full l c.if-len-lt-CAPACITY.full c.len.result held.above c.len.ensures.length w.if-len-lt-CAPACITY.false w.full-is
     ] in
     held.rest p (Err c.if-len-lt-CAPACITY.full) b (λ m lt. path-above c.loop-full.path p l c.in-Err.i m c.set-in-Err.ensures.place lt)
-    (Descends-leaf g.F.FnMut read tie c.loop-full.left c.loop-full.full c.if-len-lt-CAPACITY.full l n p a b (omega (arith, c.search_within-end.ensures.most)) c.if-level-eq0.true held.formed (subst (λ i. SearchesWithin g.F.FnMut read (row n) c.search_within-end.result.1 tie a (Err i) b) (sym here) s) counts)
+    (Descends-leaf g.F.FnMut read tie (4 * (l + 1)) c.loop-full.full c.if-len-lt-CAPACITY.full l n p a b (omega arith) c.if-level-eq0.true held.formed (subst (λ i. SearchesWithin g.F.FnMut read (row n) 4 tie a (Err i) b) (sym here) s) counts)
 
 pub index-node-requires : goal.index-node-requires
 index-node-requires g c =
     let n = c.loop-full.node.now in
     let held = c.loop-full.invariant in
-    let s = searched_in g.F.FnMut (g.H.Reads.reading c.args.how.now) c.args.tie.now n c.as_slice.result.now c.search_within-end.result.0 (Err c.in-Err.i) c.loop-full.asking c.search_within-end.new.asking c.as_slice.ensures c.in-Err.is c.search_within-end.ensures.searches in
+    let s = row_searched g.F.FnMut (g.H.Reads.reading c.args.how.now) c.args.tie.now c.loop-full.level n c.as_slice.result.now (Err c.in-Err.i) c.loop-full.asking c.search.new.asking held.formed c.as_slice.ensures c.in-Err.ensures in
     let lt : c.in-Err.i < length (children n) = child-within c.loop-full.level n c.in-Err.i c.if-level-eq0.false held.formed s.missed in
     search (rules, lt)
 
@@ -84,11 +82,11 @@ loop-full-preserved g c =
     let k = c.index-node.result.now in
     let path = c.set-in-Err.new.self in
     let a = c.loop-full.asking in
-    let b = c.search_within-end.new.asking in
+    let b = c.search.new.asking in
     let full = c.if-len-lt-CAPACITY.full in
     let ne = c.if-level-eq0.false in
     let held = c.loop-full.invariant in
-    let s = searched_in g.F.FnMut read tie n c.as_slice.result.now c.search_within-end.result.0 (Err i) a b c.as_slice.ensures c.in-Err.is c.search_within-end.ensures.searches in
+    let s = row_searched g.F.FnMut read tie l n c.as_slice.result.now (Err i) a b held.formed c.as_slice.ensures c.in-Err.ensures in
     let lt : i < length (children n) = child-within l n i ne held.formed s.missed in
     let same : k ≡ child n i = child_is n i k lt c.index-node.ensures in
     let levels = held.levels in
@@ -98,10 +96,6 @@ loop-full-preserved g c =
       | else-len-lt-CAPACITY w ↦ Counts-full n c.loop-full.full l c.if-len-lt-CAPACITY.full c.len.result held.above c.len.ensures.length w.if-len-lt-CAPACITY.false w.full-is
     ] in
     let down = held.below in
-    let left = c.loop-full.left in
-    let asked = c.search_within-end.result.1 in
-    let most = c.search_within-end.ensures.most in
-    let enough = held.most in
     record {
       formed = rw same (child-formed l n i ne held.formed lt);
       below = omega arith;
@@ -110,13 +104,9 @@ loop-full-preserved g c =
       path = c.set-in-Err.ensures.length;
       can_search = subst (λ z. CanSearch g.F.FnMut (flat (l - 1) z) tie b) (sym same) (can_ask_below g.F.FnMut read tie l n i a b ne held.formed s held.can_search);
       above = counts_above n c.loop-full.full l full ne counts;
-      most = omega arith;
       rest = λ p end new on d.
           let here : slice_index p l ≡ i = on l (omega arith) ∙ path-here c.loop-full.path path l i held.path held.levels c.set-in-Err.ensures.place in
           held.rest p end new (λ m up. on m (omega arith) ∙ path-above c.loop-full.path path l i m c.set-in-Err.ensures.place up)
-          (Descends-below g.F.FnMut read tie left c.loop-full.full full l n p end a b new (omega arith) ne held.formed (subst (λ z. SearchesWithin g.F.FnMut read (row n) asked tie a (Err z) b) (sym here) s) counts
-          (subst (λ z. Descends g.F.FnMut read tie (left - asked) full (l - 1) z b p end new) (same ∙ ap (child n) (sym here)) d));
+          (Descends-below g.F.FnMut read tie (4 * (l + 1)) c.loop-full.full full l n p end a b new (omega arith) ne held.formed (subst (λ z. SearchesWithin g.F.FnMut read (row n) 4 tie a (Err z) b) (sym here) s) counts
+          (subst (λ z. Descends g.F.FnMut read tie (4 * (l - 1 + 1)) full (l - 1) z b p end new) (same ∙ ap (child n) (sym here)) d));
     }
-
-pub search_within-end-requires-clause-row : goal.search_within-end-requires-clause-row
-search_within-end-requires-clause-row g c = omega (arith, ap length c.as_slice.ensures, formed-within c.loop-full.level c.loop-full.node.now c.loop-full.invariant.formed)

@@ -1,4 +1,4 @@
-use Rattle.std.proofs.Common.{◌≡◌, ◌-◌, ◌<◌, Err, Contains, length, slice_index, arith, sym, ap, ◌∙◌, subst, rules}
+use Rattle.std.proofs.Common.{◌≡◌, ◌+◌, ◌*◌, ◌-◌, ◌<◌, Err, Contains, length, slice_index, arith, sym, ap, ◌∙◌, subst, rules}
 use Rattle.std.specs.declared.cmp.Ordering.TheVariants.{Less}
 use Rattle.iddqd_order.specs.Asks.{At_once}
 use Rattle.iddqd_order.specs.Descent.{Descends}
@@ -40,9 +40,8 @@ returns-then-level-eq0-clause-descends g c =
       | then-len-lt-CAPACITY w ↦ Counts-not_full n c.loop-full.full l full c.len.result held.above c.len.ensures.length w.if-len-lt-CAPACITY.true w.full-is
       | else-len-lt-CAPACITY w ↦ Counts-full n c.loop-full.full l full c.len.result held.above c.len.ensures.length w.if-len-lt-CAPACITY.false w.full-is
     ] in
-    let enough = held.most in
     held.rest p (Err full) b (λ m lt. path-above c.loop-full.path p l 0 m c.set.ensures.place lt)
-    (Descends-leaf g.F.FnMut read tie c.loop-full.left c.loop-full.full full l n p a b (omega arith) c.if-level-eq0.true held.formed (subst (λ i. SearchesWithin g.F.FnMut read (row n) 1 tie a (Err i) b) (sym here) s) counts)
+    (Descends-leaf g.F.FnMut read tie (4 * (l + 1) + 1) c.loop-full.full full l n p a b (omega arith) c.if-level-eq0.true held.formed (subst (λ i. SearchesWithin g.F.FnMut read (row n) 1 tie a (Err i) b) (sym here) s) counts)
 
 pub index-node-requires : goal.index-node-requires
 index-node-requires g c =
@@ -65,8 +64,6 @@ loop-full-preserved g c =
     let ne = c.if-level-eq0.false in
     let held = c.loop-full.invariant in
     let levels = held.levels in
-    let left = c.loop-full.left in
-    let enough = held.most in
     let less : c.compare.result ≡ Less = search rules in
     let there : Contains (row n) c.get.result = Contains-at (row n) 0 c.get.result held.some c.get.ensures in
     let s : SearchesWithin g.F.FnMut read (row n) 1 tie a (Err 0) b = SearchesWithin-first g.F.FnMut read tie (row n) a b held.some (c.compare.ensures.asks (row n) there) (λ answer steady. ap (with_ties tie answer) (sym c.get.ensures) ∙ sym (c.compare.ensures.steady (row n) answer there steady) ∙ less) in
@@ -84,12 +81,11 @@ loop-full-preserved g c =
       path = c.set.ensures.length;
       can_search = subst (λ z. CanSearch g.F.FnMut (flat (l - 1) z) tie b) (sym same) (can_ask_below g.F.FnMut read tie l n 0 a b ne held.formed s held.can_search);
       above = counts_above n c.loop-full.full l full ne counts;
-      most = omega arith;
       rest = λ p end new on d.
           let here : slice_index p l ≡ 0 = on l (omega arith) ∙ path-here c.loop-full.path path l 0 held.path held.levels c.set.ensures.place in
           held.rest p end new (λ m up. on m (omega arith) ∙ path-above c.loop-full.path path l 0 m c.set.ensures.place up)
-          (Descends-below g.F.FnMut read tie left c.loop-full.full full l n p end a b new (omega arith) ne held.formed (subst (λ z. SearchesWithin g.F.FnMut read (row n) 1 tie a (Err z) b) (sym here) s) counts
-          (subst (λ z. Descends g.F.FnMut read tie (left - 1) full (l - 1) z b p end new) (same ∙ ap (child n) (sym here)) d));
+          (Descends-below g.F.FnMut read tie (4 * (l + 1) + 1) c.loop-full.full full l n p end a b new (omega arith) ne held.formed (subst (λ z. SearchesWithin g.F.FnMut read (row n) 1 tie a (Err z) b) (sym here) s) counts
+          (subst (λ z. Descends g.F.FnMut read tie (4 * (l - 1 + 1) + 1) full (l - 1) z b p end new) (same ∙ ap (child n) (sym here)) d));
     }
 
 pub descend-requires-clause-can_search : goal.descend-requires-clause-can_search
@@ -111,6 +107,5 @@ returns-clause-descends g c =
     let tie = c.args.tie.now in
     let there : Contains (row n) c.get.result = Contains-at (row n) 0 c.get.result held.some c.get.ensures in
     let asked = asks_in_tree g.F.FnMut read tie l n c.loop-full.asking c.compare.new.asking held.formed (c.compare.ensures.asks (row n) there) in
-    let enough = held.most in
     held.rest c.descend.new.path c.descend.result c.descend.new.asking c.descend.ensures.kept
-    (Descends-later g.F.FnMut read tie c.loop-full.left c.loop-full.full l n c.descend.new.path c.descend.result c.loop-full.asking c.compare.new.asking c.descend.new.asking (omega arith) asked c.descend.ensures.descends)
+    (Descends-later g.F.FnMut read tie (4 * (l + 1) + 1) c.loop-full.full l n c.descend.new.path c.descend.result c.loop-full.asking c.compare.new.asking c.descend.new.asking (omega arith) asked c.descend.ensures.descends)

@@ -12,10 +12,9 @@ invariant-loop-full g l = record {
   path : length l.path ≡ 12;
   can_search : CanSearch g.F.FnMut (flat l.level l.node) l.tie l.asking;
   above : l.level < l.full;
-  most : 4 * (l.level + 1) + 1 ≤ l.left;
   rest : (p : _) (end : Result ℕ ℕ) (new : _) → ((m : ℕ) → l.level < m → slice_index p m ≡ slice_index l.path m)
-      → Descends g.F.FnMut (g.H.Reads.reading l.how) l.tie l.left l.full l.level l.node l.asking p end new
-      → Descends g.F.FnMut (g.H.Reads.reading l.how) l.tie l.fn.most (l.fn.height + 1) l.fn.height l.fn.self l.fn.asking p end new;
+      → Descends g.F.FnMut (g.H.Reads.reading l.how) l.tie (4 * (l.level + 1) + 1) l.full l.level l.node l.asking p end new
+      → Descends g.F.FnMut (g.H.Reads.reading l.how) l.tie (4 * (l.fn.height + 1) + 1) (l.fn.height + 1) l.fn.height l.fn.self l.fn.asking p end new;
 }
 
 abbrev pub decreases-loop-full : goal.decreases-loop-full

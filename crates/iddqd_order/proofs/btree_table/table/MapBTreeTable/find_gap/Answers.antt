@@ -5,7 +5,7 @@ use Rattle.iddqd_order.specs.Node.{place}
 use Rattle.iddqd_order.proofs.AskLemmas.{asks_more, asks_none}
 use Rattle.iddqd_order.proofs.IndexListLemmas.{Contains-at}
 use Rattle.iddqd_order.proofs.DescentLemmas.{Searches-from_descends}
-use Rattle.iddqd_order.proofs.TableLemmas.{root_of, most_suffices, most_of_root, place_of_root, few_full, nowhere, IsPlace-none}
+use Rattle.iddqd_order.proofs.TableLemmas.{root_of, place_of_root, few_full, nowhere, IsPlace-none}
 use Rattle.iddqd_order.proofs.btree_table.table.MapBTreeTable.find_gap.Goals as goal
 
 pub returns-in_default : goal.returns-in_default
@@ -28,7 +28,6 @@ descend_to_gap-requires g c =
       some = r.some;
       levels = r.low;
       path = c.new-path.ensures;
-      most = most_suffices _ _ _ _ r c.most_asks-most.ensures;
       can_search = subst (λ xs. CanSearch g.F.FnMut xs (Some c.args.ix) c.args.asking.now) (sym r.list) c.requires.can_ask;
     }
 
@@ -42,7 +41,7 @@ pub returns : goal.returns
 returns g c =
     let r = root_of c.args.self.now _ _ _ _ _ c.in-Some.root c.self.view_is c.self.invariant c.in-Some.is in
     let d = c.in-Err.ensures.descends in
-    let s = Searches-from_descends g.F.FnMut (g.H.Reads.reading c.args.how.now) (Some c.args.ix) _ _ _ _ _ _ (most_of_root _ _ _ _ r c.most_asks-most.ensures) d in
+    let s = Searches-from_descends g.F.FnMut (g.H.Reads.reading c.args.how.now) (Some c.args.ix) _ _ _ _ _ _ (omega arith) r.formed r.some d in
     let t = subst (λ xs. Searches g.F.FnMut (g.H.Reads.reading c.args.how.now) xs (Some c.args.ix) c.args.asking.now (Err (place c.self.inside.height c.in-Some.root c.descend_to_gap.new.path)) c.descend_to_gap.new.asking) r.list s in
     record {
       goes = rw (r.root, r.height) d.goes;

@@ -6,7 +6,7 @@ use Rattle.iddqd_order.proofs.AskLemmas.{asks_more, asks_none}
 use Rattle.iddqd_order.proofs.DescentLemmas.{Searches-from_descends}
 use Rattle.iddqd_order.proofs.IndexListLemmas.{Contains-at}
 use Rattle.iddqd_order.proofs.SearchLemmas.{met_where_stored}
-use Rattle.iddqd_order.proofs.TableLemmas.{root_of, most_suffices, most_of_root, nowhere}
+use Rattle.iddqd_order.proofs.TableLemmas.{root_of, nowhere}
 use Rattle.iddqd_order.proofs.btree_table.table.MapBTreeTable.find_way.Goals as goal
 
 pub returns-then-eq-clause-asked : goal.returns-then-eq-clause-asked
@@ -33,7 +33,6 @@ descend-requires g c =
       levels = r.low;
       above = omega arith;
       path = c.new-path.ensures;
-      most = (let enough = most_suffices _ _ _ _ r c.most_asks.ensures in omega arith);
       can_search = subst (λ xs. CanSearch g.F.FnMut xs (Some c.args.ix) c.args.asking.now) (sym r.list) c.requires;
     }
 
@@ -52,20 +51,20 @@ returns-in-Ok-clause-stored g c is =
 pub returns-in-Ok-clause-asked : goal.returns-in-Ok-clause-asked
 returns-in-Ok-clause-asked g c =
     let r = root_of c.args.self.now _ _ _ _ _ c.in-Some.root c.self.view_is c.self.invariant c.in-Some.is in
-    let s = Searches-from_descends g.F.FnMut (g.H.Reads.reading c.args.how.now) (Some c.args.ix) _ _ _ _ _ _ (most_of_root _ _ _ _ r c.most_asks.ensures) c.in-Ok.ensures.descends in
+    let s = Searches-from_descends g.F.FnMut (g.H.Reads.reading c.args.how.now) (Some c.args.ix) _ _ _ _ _ _ (omega arith) r.formed r.some c.in-Ok.ensures.descends in
     let t = subst (λ xs. Searches g.F.FnMut (g.H.Reads.reading c.args.how.now) xs (Some c.args.ix) c.args.asking.now (Ok (spot c.in-Ok.level c.self.inside.height c.in-Some.root c.descend.new.path)) c.descend.new.asking) r.list s in
     t.asked
 
 pub returns-in-Err-clause-asked : goal.returns-in-Err-clause-asked
 returns-in-Err-clause-asked g c =
     let r = root_of c.args.self.now _ _ _ _ _ c.in-Some.root c.self.view_is c.self.invariant c.in-Some.is in
-    let s = Searches-from_descends g.F.FnMut (g.H.Reads.reading c.args.how.now) (Some c.args.ix) _ _ _ _ _ _ (most_of_root _ _ _ _ r c.most_asks.ensures) c.in-Err.ensures.descends in
+    let s = Searches-from_descends g.F.FnMut (g.H.Reads.reading c.args.how.now) (Some c.args.ix) _ _ _ _ _ _ (omega arith) r.formed r.some c.in-Err.ensures.descends in
     let t = subst (λ xs. Searches g.F.FnMut (g.H.Reads.reading c.args.how.now) xs (Some c.args.ix) c.args.asking.now (Err (place c.self.inside.height c.in-Some.root c.descend.new.path)) c.descend.new.asking) r.list s in
     t.asked
 
 pub returns-in-Err-clause-rising : goal.returns-in-Err-clause-rising
 returns-in-Err-clause-rising g c answer steady held =
     let r = root_of c.args.self.now _ _ _ _ _ c.in-Some.root c.self.view_is c.self.invariant c.in-Some.is in
-    let s = Searches-from_descends g.F.FnMut (g.H.Reads.reading c.args.how.now) (Some c.args.ix) _ _ _ _ _ _ (most_of_root _ _ _ _ r c.most_asks.ensures) c.in-Err.ensures.descends in
+    let s = Searches-from_descends g.F.FnMut (g.H.Reads.reading c.args.how.now) (Some c.args.ix) _ _ _ _ _ _ (omega arith) r.formed r.some c.in-Err.ensures.descends in
     let t = subst (λ xs. Searches g.F.FnMut (g.H.Reads.reading c.args.how.now) xs (Some c.args.ix) c.args.asking.now (Err (place c.self.inside.height c.in-Some.root c.descend.new.path)) c.descend.new.asking) r.list s in
     met_where_stored _ answer t steady held
