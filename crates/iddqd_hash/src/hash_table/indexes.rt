@@ -32,7 +32,7 @@ impl<'a> Model for Indexes<'a> {
 }
 
 impl MapHashTable {
-    /// The indexes, each once. A whole walk costs a step a cell.
+    /// The indexes, each once. A whole walk looks at the tags of sixteen cells at a time.
     pub fn indexes(&self) -> Indexes<'_>
         ensures { IsPermutation (indexes_of (filed self.now)) result }
     {

@@ -38,7 +38,7 @@ impl<'a, T> Model for TableIter<'a, T> {
 }
 
 impl<T> OpenHashTable<T> {
-    /// The values, each once. A whole walk costs a step a cell.
+    /// The values, each once. A whole walk looks at the tags of sixteen cells at a time.
     pub fn iter(&self) -> TableIter<'_, T>
         ensures { IsPermutation (values (entries self.now)) result }
     {

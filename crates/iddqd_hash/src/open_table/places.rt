@@ -1,4 +1,8 @@
 //! A walk over the full places of a table, by the tags of sixteen at a time.
+//!
+//! The walk keeps the bits of sixteen tags, a bit for each full place, the first for the place where
+//! it stands. Who walks knows how many entries are left, so the walk is never asked beyond the last
+//! full place, and needs no test for the end.
 ghost use Rattle.std.specs.Prelude.{◌≡◌, ◌+◌, ◌-◌, ◌≤◌, ◌<◌, length, slice_index};
 ghost use Rattle.iddqd_hash.specs.OpenTable.{NoneFull};
 ghost use Rattle.iddqd_hash.specs.OpenWalk.{IsAhead, IsInSixteens, SomeFull};
