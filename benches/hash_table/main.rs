@@ -12,7 +12,7 @@ struct Record {
 }
 
 #[repr(C)]
-#[derive(Clone, Copy)]
+#[derive(Clone, Copy, Default)]
 struct Round {
     insert: u64,
     hit: u64,
@@ -20,6 +20,7 @@ struct Round {
     churn: u64,
     walk: u64,
     clone: u64,
+    clone_indexes: u64,
     retain: u64,
     sum: u64,
 }
@@ -126,8 +127,20 @@ fn retain_half(table: &mut RawTable<u32>, records: &[Record]) -> u64 {
     table.len() as u64
 }
 
-/// The nanoseconds of a clone of hashbrown's table with each hash beside its index, which has the contents of ours.
-fn clone_pairs(table: &RawTable<u32>, records: &[Record]) -> u64 {
+/// The nanoseconds of a walk over hashbrown's table with each hash beside its index, which has the contents of ours, and of
+/// a clone of it.
+#[derive(Clone, Copy, Default)]
+struct Pairs {
+    walk: u64,
+    clone: u64,
+}
+
+#[inline(never)]
+fn walk_pairs(pairs: &RawTable<(u64, u32)>) -> u64 {
+    unsafe { pairs.iter() }.map(|bucket| u64::from(unsafe { bucket.as_ref() }.1)).sum()
+}
+
+fn time_pairs(table: &RawTable<u32>, records: &[Record]) -> Pairs {
     let mut pairs = RawTable::with_capacity(table.len());
     for bucket in unsafe { table.iter() } {
         let ix = unsafe { *bucket.as_ref() };
@@ -135,12 +148,14 @@ fn clone_pairs(table: &RawTable<u32>, records: &[Record]) -> u64 {
         pairs.insert(hash, (hash, ix), |pair: &(u64, u32)| pair.0);
     }
     let start = bench_now();
+    black_box(walk_pairs(black_box(&pairs)));
+    let walked = bench_now();
     black_box(black_box(&pairs).clone());
-    bench_now() - start
+    Pairs { walk: walked - start, clone: bench_now() - walked }
 }
 
-/// A round, and what a clone of pairs takes.
-fn hashbrown_round(records: &mut [Record], hits: &[u32], misses: &[u32], order: &[u32]) -> (Round, u64) {
+/// A round, and what pairs take.
+fn hashbrown_round(records: &mut [Record], hits: &[u32], misses: &[u32], order: &[u32]) -> (Round, Pairs) {
     let mut table = RawTable::new();
     let start = bench_now();
     insert_all(&mut table, records);
@@ -155,7 +170,7 @@ fn hashbrown_round(records: &mut [Record], hits: &[u32], misses: &[u32], order: 
     let walked = bench_now();
     let copied = copy(black_box(&table));
     let cloned = bench_now();
-    let pairs = clone_pairs(&table, records);
+    let pairs = time_pairs(&table, records);
     let start_of_retain = bench_now();
     let left = retain_half(&mut table, records);
     let retained = bench_now();
@@ -166,8 +181,9 @@ fn hashbrown_round(records: &mut [Record], hits: &[u32], misses: &[u32], order: 
         churn: churned - missed,
         walk: walked - churned,
         clone: cloned - walked,
+        clone_indexes: cloned - walked,
         retain: retained - start_of_retain,
-        sum: found + others + removed + walked_sum + copied + left,
+        sum: found + others + removed + walked_sum + 2 * copied + left,
     };
     (round, pairs)
 }
@@ -190,19 +206,23 @@ impl Random {
     }
 }
 
-const PARTS: usize = 8;
+const PARTS: usize = 10;
+// Those beside a table of pairs come last, and don't count for the average.
+const PARTS_BESIDE_PAIRS: usize = 2;
 
 /// The parts of a round, by name.
-fn parts(round: &Round, clone_of_pairs: u64) -> [(&'static str, u64); PARTS] {
+fn parts(round: &Round, pairs: &Pairs) -> [(&'static str, u64); PARTS] {
     [
         ("insert, growing", round.insert),
         ("find, hit", round.hit),
         ("find, miss", round.miss),
         ("remove and insert", round.churn),
         ("walk", round.walk),
-        ("clone", round.clone),
+        ("clone, value by value", round.clone),
+        ("clone of the table of indexes", round.clone_indexes),
         ("retain half", round.retain),
-        ("clone, beside a table of pairs", clone_of_pairs),
+        ("walk, beside a table of pairs", pairs.walk),
+        ("clone of the table of indexes, beside a table of pairs", pairs.clone),
     ]
 }
 
@@ -225,16 +245,16 @@ fn least(count: usize, rounds: usize) -> [[f64; PARTS]; 2] {
             for (number, record) in records.iter_mut().enumerate() {
                 record.key = key_of(number);
             }
-            let (round, clone_of_pairs) = if which == 0 {
+            let (round, pairs) = if which == 0 {
                 let (count, records) = (records.len(), records.as_mut_ptr());
                 let (hits, misses, order) = (hits.as_ptr(), misses.as_ptr(), order.as_ptr());
                 let round = unsafe { bench_round(records, count, hits, count, misses, count, order, count) };
-                (round, round.clone)
+                (round, Pairs { walk: round.walk, clone: round.clone_indexes })
             } else {
                 hashbrown_round(&mut records, &hits, &misses, &order)
             };
             sums[which] = round.sum;
-            for (least, (_, nanos)) in least.iter_mut().zip(parts(&round, clone_of_pairs)) {
+            for (least, (_, nanos)) in least.iter_mut().zip(parts(&round, &pairs)) {
                 *least = least.min(nanos as f64 / count as f64);
             }
         }
@@ -248,7 +268,7 @@ fn main() {
     let scale: usize = std::env::args().nth(1).map_or(1, |word| word.parse().expect("a number"));
     let sizes = [(1_000, 2_000 * scale), (100_000, 30 * scale), (1_000_000, 6 * scale)];
     let all: Vec<_> = sizes.iter().map(|&(count, rounds)| least(count, rounds)).collect();
-    let names = parts(&Round { insert: 0, hit: 0, miss: 0, churn: 0, walk: 0, clone: 0, retain: 0, sum: 0 }, 0);
+    let names = parts(&Round::default(), &Pairs::default());
     println!("| ns an entry, table / hashbrown's: ratio | 1,000 | 100,000 | 1,000,000 |");
     println!("|---|---|---|---|");
     for (part, (name, _)) in names.iter().enumerate() {
@@ -260,8 +280,9 @@ fn main() {
     }
     print!("| average of the ratios |");
     for [ours, theirs] in &all {
-        let ratios = (0..PARTS - 1).map(|part| ours[part] / theirs[part]);
-        print!(" {:.2} |", ratios.sum::<f64>() / (PARTS - 1) as f64);
+        let counted = PARTS - PARTS_BESIDE_PAIRS;
+        let ratios = (0..counted).map(|part| ours[part] / theirs[part]);
+        print!(" {:.2} |", ratios.sum::<f64>() / counted as f64);
     }
     println!();
 }

@@ -3,6 +3,7 @@ pub mod FiledLemmas
 mod CellLemmas
 mod CopyLemmas
 mod IndexLemmas
+mod LowestBitLemmas
 mod MapHashTableLemmas
 mod OpenAheadLemmas
 mod OpenLaneLemmas

@@ -1,13 +1,15 @@
 -- Walks over the full places of a table, by a mask of those up to the end of sixteen.
-use Rattle.std.proofs.Common.{◌≡◌, ◌∙◌, ℕ, zero, suc, ◌+◌, ◌-◌, ◌*◌, ◌/◌, ◌^◌, ◌<◌, ◌≤◌, ◌⊎◌, inl, inr, Bool, true, false, not, cond, leb, leb-true, ltb, ltb-true, ltb-false, List, [], ◌∷◌, Option, Some, None, map, length, take, drop, slice_index, refl, sym, ap, subst, arith}
+use Rattle.std.proofs.Common.{◌≡◌, ◌∙◌, ℕ, zero, suc, ◌+◌, ◌-◌, ◌*◌, ◌/◌, ◌^◌, ◌<◌, ◌≤◌, ◌⊎◌, inl, inr, Bool, true, false, not, cond, leb, leb-true, ltb, ltb-true, ltb-false, List, [], ◌∷◌, Option, Some, None, map, length, take, drop, slice_index, refl, sym, ap, subst, arith, mul_comm, mul-suc, mul-div_cancel}
+use lib.Bits.{bit_and}
 use lib.Count.{count_trailing_zeros}
 use lib.Lanes.{mask_l}
 use Rattle.std.specs.List.{prefix_len}
 use Rattle.std.proofs.lemmas.List.{drop-map, drop-take, drop-drop, drop_more, drop_all}
-use Rattle.std.proofs.lemmas.Nat.{shr-shr, pow-add}
+use Rattle.std.proofs.lemmas.Nat.{pow_pos, shr-shr, pow-add}
 use Rattle.std.proofs.lemmas.Simd.{trailing_mask_l, run_in_chunk_fails, run_in_chunk_stops, none_from_empty_mask, length-chunk}
 use Rattle.iddqd_hash.specs.OpenTable.{slot_at, pairs, NoneFull, IsPowerOfTwo, IsProbed, IsSound}
 use Rattle.iddqd_hash.specs.OpenWalk.{is_full, full_mask, IsInSixteens, SomeFull, IsAhead, IsWalk}
+use Rattle.iddqd_hash.proofs.LowestBitLemmas.{trailing-shifted, lowest_cleared}
 use Rattle.iddqd_hash.proofs.OpenLaneLemmas.{not_full}
 use Rattle.iddqd_hash.proofs.OpenSlotLemmas.{free_slot}
 
@@ -49,54 +51,118 @@ full_mask-shifted tags at end n within =
     ∙ ap (λ k. mask_l (map is_full (drop n (take k (drop at tags))))) parts
     ∙ ap (λ xs. mask_l (map is_full xs)) (drop-take n m (drop at tags) ∙ ap (take m) (drop-drop n at tags))
 
+some_of_product : (p n : ℕ) → 0 < p * n → 0 < n
+some_of_product p zero some = absurd (omega arith)
+some_of_product p (suc n) some = omega arith
+
+none_of_product : (p n : ℕ) → 0 < p → p * n ≡ 0 → n ≡ 0
+none_of_product p zero some none = refl
+none_of_product p (suc n) some none = absurd (let parts : p * suc n ≡ p * n + p = mul-suc p n in omega arith)
+
 module _ (tags : List ℕ) (at end mask : ℕ) (ahead : IsAhead tags at end mask) where
+  abbrev chunk : List ℕ
+  chunk = take (end - at) (drop at tags)
+
+  -- so many of the sixteen places are before the one where the walk stands
+  abbrev passed : ℕ
+  passed = at + 16 - end
+
   room : at + (end - at) ≤ length tags
   room = let before : at ≤ end = ahead.before_end in let inside : end ≤ length tags = ahead.inside in omega arith
 
   -- no bit is set
   pub gaps-to_end : mask ≡ 0 → NoneFull tags at (end - at)
-  gaps-to_end none = λ k from to. not_full _ (none_from_empty_mask is_full tags at (end - at) 0 room (sym ahead.masked ∙ none) k from to)
+  gaps-to_end none =
+      let clear : full_mask tags at end ≡ 0 = none_of_product (2 ^ passed) (full_mask tags at end) (pow_pos passed) (sym ahead.masked ∙ none) in
+      λ k from to. not_full _ (none_from_empty_mask is_full tags at (end - at) 0 room clear k from to)
 
   module _ (some : 0 < mask) where
     some_set : 0 < full_mask tags at end
-    some_set = subst (λ m. 0 < m) ahead.masked some
+    some_set = some_of_product (2 ^ passed) (full_mask tags at end) (subst (λ m. 0 < m) ahead.masked some)
 
-    counted : count_trailing_zeros 64 mask ≡ prefix_len (λ x. not (is_full x)) (take (end - at) (drop at tags))
+    -- the gaps before the first full place
+    abbrev gaps : ℕ
+    gaps = prefix_len (λ x. not (is_full x)) chunk
+
+    counted : count_trailing_zeros 64 mask ≡ passed + gaps
     counted =
-        let long : length (take (end - at) (drop at tags)) ≡ end - at = length-chunk at (end - at) tags room in
+        let long : length chunk ≡ end - at = length-chunk at (end - at) tags room in
         let near : end ≤ at + 16 = ahead.near in
-        ap (count_trailing_zeros 64) ahead.masked ∙ trailing_mask_l is_full 64 (take (end - at) (drop at tags)) (omega arith) some_set
+        let before : at ≤ end = ahead.before_end in
+        let wide : 64 ≡ passed + (64 - passed) = omega arith in
+        ap (count_trailing_zeros 64) ahead.masked
+        ∙ ap (λ k. count_trailing_zeros k (2 ^ passed * full_mask tags at end)) wide
+        ∙ trailing-shifted passed (64 - passed) (full_mask tags at end)
+        ∙ ap (λ n. passed + n) (trailing_mask_l is_full (64 - passed) chunk (omega arith) some_set)
 
-    below : count_trailing_zeros 64 mask < end - at
+    below : gaps < end - at
     below =
-        let long : length (take (end - at) (drop at tags)) ≡ end - at = length-chunk at (end - at) tags room in
-        let less : prefix_len (λ x. not (is_full x)) (take (end - at) (drop at tags)) < length (take (end - at) (drop at tags)) = first_below is_full (take (end - at) (drop at tags)) some_set in
-        let same : count_trailing_zeros 64 mask ≡ prefix_len (λ x. not (is_full x)) (take (end - at) (drop at tags)) = counted in
+        let long : length chunk ≡ end - at = length-chunk at (end - at) tags room in
+        let less : gaps < length chunk = first_below is_full chunk some_set in
         omega arith
 
-    pub first-inside : at + count_trailing_zeros 64 mask < end
-    first-inside = omega (arith, below)
+    pub sixteen_before : 16 ≤ end
+    sixteen_before =
+        let some_left : gaps < end - at = below in
+        let n : ℕ = ahead.in_sixteens.0 in
+        let is : end ≡ 16 * n = ahead.in_sixteens.1 in
+        omega arith
 
-    pub first-gaps : NoneFull tags at (count_trailing_zeros 64 mask)
-    first-gaps = λ k from to. not_full _ (run_in_chunk_fails is_full tags at (end - at) (count_trailing_zeros 64 mask) 0 room counted k from to)
+    first-is : end - 16 + count_trailing_zeros 64 mask ≡ at + gaps
+    first-is =
+        let near : end ≤ at + 16 = ahead.near in
+        let enough : 16 ≤ end = sixteen_before in
+        let count : count_trailing_zeros 64 mask ≡ passed + gaps = counted in
+        omega arith
 
-    pub first-full : 128 ≤ slice_index tags (at + count_trailing_zeros 64 mask)
-    first-full = leb-true 128 _ (run_in_chunk_stops is_full tags at (end - at) (count_trailing_zeros 64 mask) 0 room counted below)
+    pub first-onward : at ≤ end - 16 + count_trailing_zeros 64 mask
+    first-onward = let is : end - 16 + count_trailing_zeros 64 mask ≡ at + gaps = first-is in omega arith
 
-    pub IsAhead-behind : IsAhead tags (at + count_trailing_zeros 64 mask + 1) end (mask / 2 ^ 1 / 2 ^ count_trailing_zeros 64 mask)
-    IsAhead-behind =
-        let first : ℕ = count_trailing_zeros 64 mask in
-        let more : 1 + first ≡ first + 1 = omega arith in
-        let within : at + first < end = first-inside in
+    pub first-inside : end - 16 + count_trailing_zeros 64 mask < end
+    first-inside =
+        let is : end - 16 + count_trailing_zeros 64 mask ≡ at + gaps = first-is in
+        let less : gaps < end - at = below in
+        omega arith
+
+    pub first-gaps : NoneFull tags at (end - 16 + count_trailing_zeros 64 mask - at)
+    first-gaps =
+        let is : end - 16 + count_trailing_zeros 64 mask ≡ at + gaps = first-is in
+        λ k from to. not_full _ (run_in_chunk_fails is_full tags at (end - at) gaps 0 room refl k from (omega arith))
+
+    pub first-full : 128 ≤ slice_index tags (end - 16 + count_trailing_zeros 64 mask)
+    first-full = subst (λ k. 128 ≤ slice_index tags k) (sym first-is) (leb-true 128 _ (run_in_chunk_stops is_full tags at (end - at) gaps 0 room refl below))
+
+    -- the places behind the first full one
+    mask_behind : mask / 2 ^ (count_trailing_zeros 64 mask + 1) ≡ full_mask tags (end - 16 + count_trailing_zeros 64 mask + 1) end
+    mask_behind =
+        let is : end - 16 + count_trailing_zeros 64 mask ≡ at + gaps = first-is in
+        let less : gaps < end - at = below in
+        let count : count_trailing_zeros 64 mask ≡ passed + gaps = counted in
+        let parts : count_trailing_zeros 64 mask + 1 ≡ passed + (gaps + 1) = omega arith in
+        let place : at + (gaps + 1) ≡ end - 16 + count_trailing_zeros 64 mask + 1 = omega arith in
+        let turned : mask ≡ full_mask tags at end * 2 ^ passed = ahead.masked ∙ mul_comm (2 ^ passed) (full_mask tags at end) in
+        let whole : mask / 2 ^ passed ≡ full_mask tags at end = ap (λ m. m / 2 ^ passed) turned ∙ mul-div_cancel (full_mask tags at end) (pow_pos passed) in
+        ap (λ n. mask / 2 ^ n) parts
+        ∙ sym (shr-shr mask passed (gaps + 1))
+        ∙ ap (λ m. m / 2 ^ (gaps + 1)) whole
+        ∙ full_mask-shifted tags at end (gaps + 1) (omega arith)
+        ∙ ap (λ n. full_mask tags n end) place
+
+    pub IsAhead-behind : mask < 2 ^ 64 → IsAhead tags (end - 16 + count_trailing_zeros 64 mask + 1) end (bit_and mask (mask - 1))
+    IsAhead-behind fits =
+        let onward : at ≤ end - 16 + count_trailing_zeros 64 mask = first-onward in
+        let within : end - 16 + count_trailing_zeros 64 mask < end = first-inside in
+        let enough : 16 ≤ end = sixteen_before in
+        let up : count_trailing_zeros 64 mask + 1 ≡ end - 16 + count_trailing_zeros 64 mask + 1 + 16 - end = omega arith in
         record {
-          before_end = omega (arith, within);
+          before_end = omega arith;
           near = omega (arith, ahead.near);
           inside = ahead.inside;
           in_sixteens = ahead.in_sixteens;
           masked =
-              shr-shr mask 1 first ∙ ap (λ n. mask / 2 ^ n) more ∙ ap (λ m. m / 2 ^ (first + 1)) ahead.masked
-              ∙ full_mask-shifted tags at end (first + 1) (omega (arith, within))
-              ∙ ap (λ n. full_mask tags n end) (let same : at + (first + 1) ≡ at + first + 1 = omega arith in same);
+              lowest_cleared 64 mask some fits
+              ∙ ap (λ m. 2 ^ (count_trailing_zeros 64 mask + 1) * m) mask_behind
+              ∙ ap (λ n. 2 ^ n * full_mask tags (end - 16 + count_trailing_zeros 64 mask + 1) end) up;
         }
 
 -- where a full place is behind the end, so are sixteen
@@ -112,7 +178,7 @@ IsAhead-next tags end mask (n, is) inside read =
       near = omega arith;
       inside = inside;
       in_sixteens = (n + 1, omega arith);
-      masked = read;
+      masked = read ∙ (let one : full_mask tags end (end + 16) ≡ 2 ^ 0 * full_mask tags end (end + 16) = omega arith in one) ∙ ap (λ n. 2 ^ n * full_mask tags end (end + 16)) (let none : 0 ≡ end + 16 - (end + 16) = omega arith in none);
     }
 
 IsAhead-start : (tags : List ℕ) → IsAhead tags 0 0 0
@@ -122,7 +188,7 @@ IsAhead-start tags =
       near = omega arith;
       inside = omega arith;
       in_sixteens = (0, refl);
-      masked = refl;
+      masked = omega arith;
     }
 
 pub IsInSixteens-count : (n : ℕ) → (n ≡ 0) ⊎ IsPowerOfTwo n → IsInSixteens n

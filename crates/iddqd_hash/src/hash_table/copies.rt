@@ -10,7 +10,7 @@ impl Clone for MapHashTable {
 
     fn clone(&self) -> Result<MapHashTable, AllocError> {
         Ok(MapHashTable {
-            table: self.table.clone()?,
+            table: self.table.copied()?,
         })
     }
 }

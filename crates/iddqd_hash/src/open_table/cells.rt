@@ -21,6 +21,8 @@ pub struct Cell<T> {
     pub value: Option<T>,
 }
 
+impl<T: Copy> Copy for Cell<T> {}
+
 /// So many empty cells.
 pub fn empty_cells<T>(alloc: Global, count: usize) -> Result<Vec<Cell<T>>, AllocError>
     ensures { IfOk result (λ cells. slots_of cells.items ≡ replicate count None) }

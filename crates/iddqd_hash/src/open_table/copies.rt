@@ -1,4 +1,6 @@
 //! Copies of a table with open addressing.
+ghost use Rattle.std.specs.Prelude.{◌≡◌, IfOk};
+
 use super::OpenHashTable;
 use super::cells::Cell;
 use std::alloc::AllocError;
@@ -20,6 +22,25 @@ impl<T: Clone> Clone for Cell<T> {
                 value: None,
             }),
         }
+    }
+}
+
+impl<T: Copy> OpenHashTable<T> {
+    /// A table with the same value: its memory, copied as it is, with no look at a cell.
+    ///
+    /// An `AllocError` means that memory was refused.
+    pub(crate) fn copied(&self) -> Result<OpenHashTable<T>, AllocError>
+        ensures { IfOk result (λ copy. copy ≡ self.now) }
+    {
+        let alloc = *self.tags.allocator();
+        let tags = Vec::from_slice(alloc, self.tags.as_slice())?;
+        let cells = Vec::from_slice(alloc, self.cells.as_slice())?;
+        Ok(OpenHashTable {
+            tags,
+            cells,
+            len: self.len,
+            used: self.used,
+        })
     }
 }
 

@@ -1,15 +1,16 @@
 //! A walk over the full places of a table, by the tags of sixteen at a time.
 //!
-//! The walk keeps the bits of sixteen tags, a bit for each full place, the first for the place where
-//! it stands. Who walks knows how many entries are left, so the walk is never asked beyond the last
-//! full place, and needs no test for the end.
+//! The walk keeps a bit for each of sixteen places that is full and that it hasn't come to yet, and
+//! clears the lowest one at each step. Who walks knows how many entries are left, so the walk is never
+//! asked beyond the last full place, and needs no test for the end.
 ghost use Rattle.std.specs.Prelude.{◌≡◌, ◌+◌, ◌-◌, ◌≤◌, ◌<◌, length, slice_index};
 ghost use Rattle.iddqd_hash.specs.OpenTable.{NoneFull};
 ghost use Rattle.iddqd_hash.specs.OpenWalk.{IsAhead, IsInSixteens, SomeFull};
 
 use super::lanes::full_places;
 
-/// Where a walk stands, and which of the places from there up to the end of its sixteen are full.
+/// Where a walk stands, and which of the places from there up to the end of its sixteen are full: bits
+/// of a mask whose lowest one is for the first of the sixteen.
 #[derive(Drop)]
 pub struct FullPlaces {
     pub at: usize,
@@ -49,9 +50,8 @@ impl FullPlaces {
             self.at = self.end;
             self.end += 16;
         }
-        let gaps = self.mask.trailing_zeros();
-        let here = self.at + gaps as usize;
-        self.mask = self.mask >> 1 >> gaps;
+        let here = self.end - 16 + self.mask.trailing_zeros() as usize;
+        self.mask &= self.mask - 1;
         self.at = here + 1;
         here
     }
