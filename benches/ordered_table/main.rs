@@ -1,9 +1,12 @@
-//! The ordered table beside std's `BTreeSet` of indexes whose comparison reads the same records: the least nanoseconds
-//! an entry over some rounds, the ratio of the two, and how many comparisons each makes an entry.
-use std::borrow::Borrow;
-use std::cmp::Ordering;
-use std::collections::BTreeSet;
+//! The ordered table beside two trees of std's whose comparison reads the same records: the least nanoseconds an entry
+//! over some rounds, and how many comparisons each makes an entry.
+//!
+//! `map` is the tree that the original crate stands on, and `set` one that is told where the records are by a static
+//! pointer, the fastest that std's can be.
 use std::hint::black_box;
+
+mod map;
+mod set;
 
 #[repr(C)]
 #[derive(Clone, Copy)]
@@ -60,67 +63,23 @@ extern "C" fn bench_now() -> u64 {
     time.seconds as u64 * 1_000_000_000 + time.nanos as u64
 }
 
-// The records that the comparisons read, and how many were made. One thread runs.
-static mut RECORDS: *const Record = std::ptr::null();
+/// A tree of std's over indexes, with the records that they stand for.
+trait Tree: Clone + Default {
+    /// Says where the records are, before a round.
+    fn begin(records: &[Record]);
+    fn insert(&mut self, records: &[Record], number: u32);
+    fn find(&self, records: &[Record], key: u32) -> Option<u32>;
+    fn remove(&mut self, records: &[Record], number: u32) -> bool;
+    fn walk(&self) -> u64;
+    fn take(self) -> u64;
+}
+
+// How many comparisons were made. One thread runs.
 static mut ASKS: u64 = 0;
 
-/// A key that is sought.
-#[repr(transparent)]
-struct Key(u32);
-
-impl PartialEq for Key {
-    fn eq(&self, other: &Key) -> bool {
-        self.0 == other.0
-    }
-}
-
-impl Eq for Key {}
-
-impl PartialOrd for Key {
-    fn partial_cmp(&self, other: &Key) -> Option<Ordering> {
-        Some(self.cmp(other))
-    }
-}
-
-impl Ord for Key {
-    #[inline(always)]
-    fn cmp(&self, other: &Key) -> Ordering {
-        unsafe { ASKS += 1 };
-        self.0.cmp(&other.0)
-    }
-}
-
-/// An index, by the key of its record and then by itself.
-#[derive(Clone)]
-struct Index(u32);
-
-impl Borrow<Key> for Index {
-    #[inline(always)]
-    fn borrow(&self) -> &Key {
-        unsafe { &*(&raw const (*RECORDS.add(self.0 as usize)).key as *const Key) }
-    }
-}
-
-impl PartialEq for Index {
-    fn eq(&self, other: &Index) -> bool {
-        self.cmp(other) == Ordering::Equal
-    }
-}
-
-impl Eq for Index {}
-
-impl PartialOrd for Index {
-    fn partial_cmp(&self, other: &Index) -> Option<Ordering> {
-        Some(self.cmp(other))
-    }
-}
-
-impl Ord for Index {
-    #[inline(always)]
-    fn cmp(&self, other: &Index) -> Ordering {
-        let key: &Key = self.borrow();
-        key.cmp(other.borrow()).then_with(|| self.0.cmp(&other.0))
-    }
+#[inline(always)]
+fn count_ask() {
+    unsafe { ASKS += 1 };
 }
 
 fn asked() -> u64 {
@@ -128,58 +87,42 @@ fn asked() -> u64 {
 }
 
 #[inline(never)]
-fn insert_all(set: &mut BTreeSet<Index>, count: usize) {
-    for number in 0..count {
-        set.insert(Index(number as u32));
+fn insert_all<T: Tree>(tree: &mut T, records: &[Record]) {
+    for number in 0..records.len() {
+        tree.insert(records, number as u32);
     }
 }
 
 #[inline(never)]
-fn find_all(set: &BTreeSet<Index>, keys: &[u32]) -> u64 {
-    let mut sum = 0u64;
-    for &key in keys {
-        if let Some(index) = set.get(&Key(key)) {
-            sum += index.0 as u64;
-        }
-    }
-    sum
+fn find_all<T: Tree>(tree: &T, records: &[Record], keys: &[u32]) -> u64 {
+    keys.iter().filter_map(|&key| tree.find(records, key)).map(u64::from).sum()
 }
 
 #[inline(never)]
-fn walk_all(set: &BTreeSet<Index>) -> u64 {
-    set.iter().fold(0u64, |sum, index| sum.wrapping_mul(3).wrapping_add(index.0 as u64))
+fn copy<T: Tree>(tree: &T) -> T {
+    tree.clone()
 }
 
 #[inline(never)]
-fn copy(set: &BTreeSet<Index>) -> BTreeSet<Index> {
-    set.clone()
-}
-
-#[inline(never)]
-fn take_all(set: BTreeSet<Index>) -> u64 {
-    set.into_iter().fold(0u64, |sum, index| sum.wrapping_mul(3).wrapping_add(index.0 as u64))
-}
-
-#[inline(never)]
-fn churn(set: &mut BTreeSet<Index>, records: &mut [Record], order: &[u32], fresh: &[u32]) -> u64 {
+fn churn<T: Tree>(tree: &mut T, records: &mut [Record], order: &[u32], fresh: &[u32]) -> u64 {
     let mut found = 0;
     for (&number, &key) in order.iter().zip(fresh) {
-        found += set.remove(&Index(number)) as u64;
+        found += tree.remove(records, number) as u64;
         records[number as usize].key = key;
-        set.insert(Index(number));
+        tree.insert(records, number);
     }
     found
 }
 
 #[inline(never)]
-fn remove_all(set: &mut BTreeSet<Index>, order: &[u32]) -> u64 {
-    order.iter().map(|&number| set.remove(&Index(number)) as u64).sum()
+fn remove_all<T: Tree>(tree: &mut T, records: &[Record], order: &[u32]) -> u64 {
+    order.iter().map(|&number| tree.remove(records, number) as u64).sum()
 }
 
-fn set_round(records: &mut [Record], hits: &[u32], misses: &[u32], order: &[u32], fresh: &[u32]) -> Round {
-    unsafe { RECORDS = records.as_ptr() };
-    let mut set = BTreeSet::new();
-    let mut copied = BTreeSet::new();
+fn round_of<T: Tree>(records: &mut [Record], hits: &[u32], misses: &[u32], order: &[u32], fresh: &[u32]) -> Round {
+    T::begin(records);
+    let mut tree = T::default();
+    let mut copied = T::default();
     let mut round = Round::default();
     asked();
     let mut last = bench_now();
@@ -187,19 +130,19 @@ fn set_round(records: &mut [Record], hits: &[u32], misses: &[u32], order: &[u32]
     for part in 0..PARTS {
         let told = match part {
             0 => {
-                insert_all(&mut set, records.len());
+                insert_all(&mut tree, records);
                 0
             }
-            1 => find_all(black_box(&set), hits),
-            2 => find_all(black_box(&set), misses),
-            3 => walk_all(black_box(&set)),
+            1 => find_all(black_box(&tree), records, hits),
+            2 => find_all(black_box(&tree), records, misses),
+            3 => black_box(&tree).walk(),
             4 => {
-                copied = copy(black_box(&set));
+                copied = copy(black_box(&tree));
                 0
             }
-            5 => take_all(std::mem::take(&mut copied)),
-            6 => churn(&mut set, records, order, fresh),
-            _ => remove_all(&mut set, order),
+            5 => std::mem::take(&mut copied).take(),
+            6 => churn(&mut tree, records, order, fresh),
+            _ => remove_all(&mut tree, records, order),
         };
         let now = bench_now();
         round.nanos[part] = now - last;
@@ -232,11 +175,14 @@ impl Random {
     }
 }
 
-/// The least nanoseconds and the asks an entry, of the table and of std's set.
+// The table, std's map, and std's set.
+const TREES: usize = 3;
+
+/// The least nanoseconds and the asks an entry, of each tree.
 #[derive(Clone, Copy)]
 struct Told {
-    nanos: [[f64; PARTS]; 2],
-    asks: [[f64; ASKING.len()]; 2],
+    nanos: [[f64; PARTS]; TREES],
+    asks: [[f64; ASKING.len()]; TREES],
 }
 
 /// The order in which keys are inserted.
@@ -255,7 +201,7 @@ fn least(count: usize, rounds: usize, keys: Keys) -> Told {
     let mut first = hits.clone();
     let mut order: Vec<u32> = (0..count as u32).collect();
     let mut records = vec![Record { key: 0, second: 0, value: 0 }; count];
-    let mut told = Told { nanos: [[f64::MAX; PARTS]; 2], asks: [[0.0; ASKING.len()]; 2] };
+    let mut told = Told { nanos: [[f64::MAX; PARTS]; TREES], asks: [[0.0; ASKING.len()]; TREES] };
     match keys {
         Keys::Random => random.shuffle(&mut first),
         Keys::Rising => (),
@@ -265,17 +211,19 @@ fn least(count: usize, rounds: usize, keys: Keys) -> Told {
         for list in [&mut hits, &mut misses, &mut fresh, &mut order] {
             random.shuffle(list);
         }
-        let mut sums = [0; 2];
-        for which in 0..2 {
+        let mut sums = [0; TREES];
+        for which in 0..TREES {
             for (record, &key) in records.iter_mut().zip(&first) {
                 record.key = key;
             }
-            let round = if which == 0 {
-                let (records, hits, misses) = (records.as_mut_ptr(), hits.as_ptr(), misses.as_ptr());
-                let (order, fresh) = (order.as_ptr(), fresh.as_ptr());
-                unsafe { bench_round(records, count, hits, count, misses, count, order, count, fresh, count) }
-            } else {
-                set_round(&mut records, &hits, &misses, &order, &fresh)
+            let round = match which {
+                0 => {
+                    let (records, hits, misses) = (records.as_mut_ptr(), hits.as_ptr(), misses.as_ptr());
+                    let (order, fresh) = (order.as_ptr(), fresh.as_ptr());
+                    unsafe { bench_round(records, count, hits, count, misses, count, order, count, fresh, count) }
+                }
+                1 => round_of::<map::Map>(&mut records, &hits, &misses, &order, &fresh),
+                _ => round_of::<set::Set>(&mut records, &hits, &misses, &order, &fresh),
             };
             sums[which] = round.sum;
             for (least, nanos) in told.nanos[which].iter_mut().zip(round.nanos) {
@@ -283,7 +231,7 @@ fn least(count: usize, rounds: usize, keys: Keys) -> Told {
             }
             told.asks[which] = round.asks.map(|asks| asks as f64 / count as f64);
         }
-        assert_eq!(sums[0], sums[1], "the answers differ");
+        assert!(sums.iter().all(|&sum| sum == sums[0]), "the answers differ");
     }
     told
 }
@@ -296,7 +244,7 @@ fn main() {
     // So many rounds; twice as many on a busy machine do no harm.
     let scale: usize = std::env::args().nth(1).map_or(1, |word| word.parse().expect("a number"));
     let sizes = [(1_000, 1_000 * scale), (100_000, 10 * scale), (1_000_000, 2 * scale)];
-    println!("| ns an entry, table / std's set: ratio; comparisons | 1,000 | 100,000 | 1,000,000 |");
+    println!("| ns an entry; ratio to std's map, to its set; comparisons, ours and std's | 1,000 | 100,000 | 1,000,000 |");
     println!("|---|---|---|---|");
     let mut ratios = vec![Vec::new(); sizes.len()];
     for (keys, order) in [(Keys::Random, "random"), (Keys::Rising, "rising"), (Keys::Falling, "falling")] {
@@ -307,19 +255,17 @@ fn main() {
                 continue;
             }
             let cells = all.iter().enumerate().map(|(size, told)| {
-                let [ours, theirs] = told.nanos.map(|nanos| nanos[part]);
-                ratios[size].push(ours / theirs);
+                let [ours, map, set] = told.nanos.map(|nanos| nanos[part]);
+                ratios[size].push([ours / map, ours / set]);
                 let asks = match ASKING.iter().position(|&asking| asking == part) {
                     None => String::new(),
-                    Some(place) => {
-                        let [ours, theirs] = told.asks.map(|asks| asks[place]);
-                        format!("; {ours:.1} / {theirs:.1}")
-                    }
+                    Some(place) => format!("; {:.1} / {:.1}", told.asks[0][place], told.asks[1][place]),
                 };
-                format!("{ours:.1} / {theirs:.1}: {:.2}{asks}", ours / theirs)
+                format!("{ours:.1}; {:.2}, {:.2}{asks}", ours / map, ours / set)
             });
             row(&format!("{name}, {order}"), cells.collect::<Vec<_>>().into_iter());
         }
     }
-    row("average of the ratios", ratios.iter().map(|all| format!("{:.2}", all.iter().sum::<f64>() / all.len() as f64)));
+    let average = |all: &Vec<[f64; 2]>, which: usize| all.iter().map(|ratios| ratios[which]).sum::<f64>() / all.len() as f64;
+    row("average of the ratios", ratios.iter().map(|all| format!("{:.2}, {:.2}", average(all, 0), average(all, 1))));
 }

@@ -12,7 +12,7 @@ use Rattle.iddqd_order.specs.declared.btree_table.node.Node.{Node}
 use Rattle.iddqd_order.specs.Node.{row, children, child, weave, before, after, flat, IsFormed, Holds, spot, FullBelow, IsFullBelow}
 use Rattle.iddqd_order.specs.Search.{Askable, CanSearch, with_ties, IsRising, IsPlace, IsSteadyRising, SearchesWithin, Searches, Finds}
 use Rattle.iddqd_order.specs.Descent.{end_of, index_at, Descends, FindsIn}
-use Rattle.iddqd_order.specs.Digits.{digits, bound}
+use Rattle.iddqd_order.specs.Digits.{digits}
 use Rattle.iddqd_order.proofs.DigitLemmas.{digits-row}
 use Rattle.iddqd_order.proofs.AskLemmas.{asks_wider, CanAsk-fewer, CanAsk-later, Steady-fewer}
 use Rattle.iddqd_order.proofs.NodeLemmas.{lists, formed-inner, formed-within, flat-leaf, flat-inner, inner-goes, leaf-goes, place-inner, place-leaf, any_default}
@@ -282,10 +282,6 @@ module _ {F R : Type 0} (g : Mut F (ℕ × Unit {0}) R) (read : R → Ordering) 
   row_searched l n xs end a b f e s =
       subst (λ zs. SearchesWithin g read zs 4 tie a end b) e (SearchesWithin-more g read tie (digits-row (length xs) (rw e (formed-within l n f))) s)
 
-  -- the search of a row, as its end is told
-  pub searched_in : {k : ℕ} (n : Node) (xs : List ℕ) (told end : Result ℕ ℕ) (a b : Asking F) → xs ≡ row n → told ≡ end → SearchesWithin g read xs k tie a told b → SearchesWithin g read (row n) k tie a end b
-  searched_in {k = k} n xs told end a b e is s = subst (λ zs. SearchesWithin g read zs k tie a end b) e (subst (λ r. SearchesWithin g read xs k tie a r b) is s)
-
   -- and after a miss in the row, the child at that place
   pub can_ask_below : {k : ℕ} (l : ℕ) (n : Node) (i : ℕ) (a b : Asking F) → l ≢ 0 → IsFormed l n → SearchesWithin g read (row n) k tie a (Err i) b → CanSearch g (flat l n) tie a → CanSearch g (flat (l - 1) (child n i)) tie b
   can_ask_below l n i a b ne f s c =
@@ -400,25 +396,25 @@ module _ {F R : Type 0} (g : Mut F (ℕ × Unit {0}) R) (read : R → Ordering) 
       (asks_wider g (Askable xs tie) (Askable (weave xs ks) tie) (Askable-wider xs (weave xs ks) tie (row_held xs ks (lists-one_more (suc h) n ne f))) asked)
 
   -- a find ends at an index of the node
-  pub FindsIn-hit : {k : ℕ} (limit l : ℕ) (n : Node) (i ix : ℕ) (a b : Asking F) → k ≤ limit → IsFormed l n → SearchesWithin g read (row n) k tie a (Ok i) b → ix ≡ slice_index (row n) i → FindsIn g read tie limit l n a (Some ix) b
-  FindsIn-hit limit zero n i ix a b le f s e = record {
+  pub FindsIn-hit : (l : ℕ) (n : Node) (i ix : ℕ) (a b : Asking F) → IsFormed l n → SearchesWithin g read (row n) 4 tie a (Ok i) b → ix ≡ slice_index (row n) i → FindsIn g read tie l n a (Some ix) b
+  FindsIn-hit zero n i ix a b f s e = record {
     end = Ok i;
-    searches = rw (flat-leaf zero n refl) (SearchesWithin-more g read tie le s);
+    searches = rw (flat-leaf zero n refl) s;
     index = rw (flat-leaf zero n refl) (ap Some e);
   }
-  FindsIn-hit limit (suc h) n i ix a b le f s e =
+  FindsIn-hit (suc h) n i ix a b f s e =
       let ne : suc h ≢ 0 = λ e. absurd (omega arith) in
       let ks : List (List ℕ) = lists (suc h - 1) (children n) in
       record {
         end = Ok (index_place i (row n) ks);
-        searches = SearchesWithin-more g read tie le (Searches-row (suc h) n i a b ne f s);
+        searches = SearchesWithin-more g read tie (omega arith) (Searches-row (suc h) n i a b ne f s);
         index = ap Some (e ∙ sym (get_or-index_place (row n) ks (lists-one_more (suc h) n ne f) i 0 s.found) ∙ ap (λ xs. slice_index xs (index_place i (row n) ks)) (sym (flat-inner (suc h) n ne)));
       }
 
   -- or at none in a leaf
-  pub FindsIn-leaf : {k : ℕ} (limit l : ℕ) (n : Node) (i : ℕ) (a b : Asking F) → k ≤ limit → l ≡ 0 → IsFormed l n → SearchesWithin g read (row n) k tie a (Err i) b → FindsIn g read tie limit l n a None b
-  FindsIn-leaf limit (suc h) n i a b le e f s = absurd (omega arith)
-  FindsIn-leaf limit zero n i a b le e f s = record { end = Err i; searches = rw (flat-leaf zero n refl) (SearchesWithin-more g read tie le s); index = refl }
+  pub FindsIn-leaf : (l : ℕ) (n : Node) (i : ℕ) (a b : Asking F) → l ≡ 0 → IsFormed l n → SearchesWithin g read (row n) 4 tie a (Err i) b → FindsIn g read tie l n a None b
+  FindsIn-leaf (suc h) n i a b e f s = absurd (omega arith)
+  FindsIn-leaf zero n i a b e f s = record { end = Err i; searches = rw (flat-leaf zero n refl) s; index = refl }
 
   read-below : (l : ℕ) (n : Node) (i : ℕ) (end : Result ℕ ℕ) → l ≢ 0 → IsFormed l n → i < length (children n) → IfOk end (λ j. j < length (flat (l - 1) (child n i)))
       → index_at (flat (l - 1) (child n i)) end ≡ index_at (flat l n) (shifted (length (before i (row n) (lists (l - 1) (children n)))) end)
@@ -432,13 +428,13 @@ module _ {F R : Type 0} (g : Mut F (ℕ × Unit {0}) R) (read : R → Ordering) 
       ap Some (sym (ap (λ zs. slice_index zs (length (before i xs ks) + j)) whole ∙ in_middle (before i xs ks) (get_or ks i []) (after i xs ks) j inside ∙ ap (λ zs. slice_index zs j) at))
 
   -- or below the node
-  pub FindsIn-below : {k m : ℕ} (limit l : ℕ) (n : Node) (i : ℕ) (found : Option ℕ) (a b c : Asking F) → k + m ≤ limit → l ≢ 0 → IsFormed l n → SearchesWithin g read (row n) k tie a (Err i) b
-      → FindsIn g read tie m (l - 1) (child n i) b found c → FindsIn g read tie limit l n a found c
-  FindsIn-below limit l n i found a b c le ne f s t =
+  pub FindsIn-below : (l : ℕ) (n : Node) (i : ℕ) (found : Option ℕ) (a b c : Asking F) → l ≢ 0 → IsFormed l n → SearchesWithin g read (row n) 4 tie a (Err i) b
+      → FindsIn g read tie (l - 1) (child n i) b found c → FindsIn g read tie l n a found c
+  FindsIn-below l n i found a b c ne f s t =
       let lt : i < length (children n) = child-within l n i ne f s.missed in
       record {
         end = shifted (length (before i (row n) (lists (l - 1) (children n)))) t.end;
-        searches = SearchesWithin-more g read tie le (Searches-child l n i t.end a b c ne f s t.searches);
+        searches = SearchesWithin-more g read tie (omega arith) (Searches-child l n i t.end a b c ne f s t.searches);
         index = t.index ∙ read-below l n i t.end ne f lt t.searches.found;
       }
 
@@ -447,10 +443,10 @@ module _ {F R : Type 0} (g : Mut F (ℕ × Unit {0}) R) (read : R → Ordering) 
       → Searches g read (flat h n) tie a (end_of h n p end) b
   Searches-from_descends h n p end a b le f one d = let few = reckoning h n f one in SearchesWithin-more g read tie (omega arith) d.searches
 
--- and so is a find within the bound
-pub Finds-from_findsin : {F R : Type 0} (g : Mut F (ℕ × Unit {0}) R) (read : R → Ordering) (h : ℕ) (n : Node) (found : Option ℕ) (a b : Asking F) → FindsIn g read None (bound (length (flat h n))) h n a found b
+-- and so is a find
+pub Finds-from_findsin : {F R : Type 0} (g : Mut F (ℕ × Unit {0}) R) (read : R → Ordering) (h : ℕ) (n : Node) (found : Option ℕ) (a b : Asking F) → IsFormed h n → 1 ≤ length (row n) → FindsIn g read None h n a found b
     → Finds g read (flat h n) a found b
-Finds-from_findsin g read h n found a b d = finds d.end d.searches d.index
+Finds-from_findsin g read h n found a b f one d = finds d.end (let few = reckoning h n f one in SearchesWithin-more g read None (omega arith) d.searches) d.index
   where
     finds : (end : Result ℕ ℕ) → Searches g read (flat h n) None a end b → found ≡ index_at (flat h n) end → Finds g read (flat h n) a found b
     finds (Ok i) s e = subst (λ r. Finds g read (flat h n) a r b) (sym e) (record {

@@ -1,7 +1,5 @@
 -- The number of binary digits.
-use Rattle.std.proofs.Common.{◌≡◌, ℕ, zero, suc, ◌+◌, ◌*◌, ◌/◌, ◌^◌, ◌<◌, ◌≤◌, refl, sym, ap, arith}
-use Rattle.std.proofs.Math.Nat.{pow-suc}
-use Rattle.std.specs.Int.Count.{count_leading_zeros}
+use Rattle.std.proofs.Common.{◌≡◌, ℕ, zero, suc, ◌+◌, ◌/◌, ◌<◌, ◌≤◌, refl, ap, arith}
 use Rattle.iddqd_order.specs.Digits.{digits, digits_within}
 
 pub digits_within-zero : (k : ℕ) → digits_within k 0 ≡ 0
@@ -49,23 +47,3 @@ digits-eleven = omega arith
 -- a row is searched by four asks
 pub digits-row : (n : ℕ) → n ≤ 11 → digits n ≤ 4
 digits-row n le = let four : digits 11 ≤ 4 = digits-eleven in omega (arith, digits-mono n 11 le)
-
--- as many digits as are counted in a number below a power of two
-pub digits_within-fits : (k m n : ℕ) → n < 2 ^ k → n ≤ m → digits_within k n ≡ digits_within m n
-digits_within-fits zero m n lt le = (let none : n ≡ 0 = omega arith in rw none (sym (digits_within-zero m)))
-digits_within-fits (suc k) m zero lt le = sym (digits_within-zero m)
-digits_within-fits (suc k) zero (suc n) lt le = absurd (omega arith)
-digits_within-fits (suc k) (suc m) (suc n) lt le =
-    let power : 2 ^ suc k ≡ 2 ^ k * 2 = pow-suc 2 k in
-    ap (λ x. 1 + x) (digits_within-fits k m (suc n / 2) (omega arith) (omega arith))
-
-leading-digits : (k n : ℕ) → count_leading_zeros k n + digits_within k n ≡ k
-unfolding count_leading_zeros
-leading-digits zero n = refl
-leading-digits (suc k) zero = omega arith
-leading-digits (suc k) (suc n) = let rest = leading-digits k (suc n / 2) in omega arith
-
--- the digits of a number of 64 bits are those behind its leading zeros
-pub digits-leading : (n : ℕ) → n < 2 ^ 64 → count_leading_zeros 64 n + digits n ≡ 64
-unfolding digits
-digits-leading n lt = let same = digits_within-fits 64 n n lt (omega arith) in let all = leading-digits 64 n in omega arith

@@ -1,5 +1,5 @@
 -- What a walk down a tree ends in.
-use Rattle.std.specs.Prelude.{◌≡◌, ℕ, ◌<◌, List, Option, Some, None, Result, Ok, Err, IfOk, IfErr, slice_index}
+use Rattle.std.specs.Prelude.{◌≡◌, ℕ, ◌+◌, ◌*◌, ◌<◌, List, Option, Some, None, Result, Ok, Err, IfOk, IfErr, slice_index}
 use Rattle.std.specs.declared.cmp.Ordering.{Ordering}
 use Rattle.std.specs.Fn.{Mut}
 use Rattle.iddqd_order.specs.declared.btree_table.asking.Asking.{Asking}
@@ -27,8 +27,8 @@ module _ {F R : Type 0} (g : Mut F (ℕ × Unit {0}) R) (read : R → Ordering) 
     pub full_below : IfErr end (λ k. IsFullBelow k h n p)
     pub level : IfErr end (λ k. h < k → k ≡ full)
 
-  -- the walk asks at most `limit` times, and ends at an index that answers Equal, or else at none
-  pub record FindsIn (limit h : ℕ) (n : Node) (old : Asking F) (found : Option ℕ) (new : Asking F) : Type 0 where
+  -- the walk asks four times a level, and ends at an index that answers Equal, or else at none
+  pub record FindsIn (h : ℕ) (n : Node) (old : Asking F) (found : Option ℕ) (new : Asking F) : Type 0 where
     pub end : Result ℕ ℕ
-    pub searches : SearchesWithin g read (flat h n) limit sought old end new
+    pub searches : SearchesWithin g read (flat h n) (4 * (h + 1)) sought old end new
     pub index : found ≡ index_at (flat h n) end

@@ -1,5 +1,5 @@
 -- How a search asks, and what its answers mean.
-use Rattle.std.specs.Prelude.{◌≡◌, ◌≢◌, ℕ, ◌<◌, ◌≤◌, ◌==◌, List, All, Contains, Option, Some, None, IfSome, IsNone, Result, Ok, Err, IfOk, IfErr, if◌then◌else◌, slice_index, length}
+use Rattle.std.specs.Prelude.{◌≡◌, ◌≢◌, ℕ, ◌<◌, ◌≤◌, ◌==◌, List, All, Contains, Option, Some, None, IfSome, IsNone, Result, IfOk, IfErr, if◌then◌else◌, slice_index, length}
 use Rattle.std.specs.declared.cmp.Ordering.{Ordering}
 use Rattle.std.specs.declared.cmp.Ordering.TheVariants.{Less, Equal, Greater}
 use Rattle.std.specs.Ordering.{nat_cmp, ordering_then}
@@ -29,11 +29,6 @@ pub record IsPlace (answer : ℕ → Ordering) (xs : List ℕ) (place : ℕ) : T
   pub within : place ≤ length xs
   pub greater_before : (k : ℕ) → k < place → answer (slice_index xs k) ≡ Greater
   pub less_from : (k : ℕ) → place ≤ k → k < length xs → answer (slice_index xs k) ≡ Less
-
--- the place at which a search ends
-abbrev pub end_place : Result ℕ ℕ → ℕ
-end_place (Ok i) = i
-end_place (Err i) = i
 
 -- a search in the indexes xs, for the index `sought` or else by the answers alone
 module _ {F R : Type 0} (g : Mut F (ℕ × Unit {0}) R) (xs : List ℕ) (sought : Option ℕ) where

@@ -10,44 +10,36 @@ use crate::btree_table::node::Node;
 use crate::btree_table::path::Path;
 use crate::btree_table::reading::Reads;
 use crate::btree_table::row::CAPACITY;
-use crate::btree_table::search::{search, search_within};
+use crate::btree_table::search::search;
 use iddqd::item_index::ItemIndex;
 
 impl Node {
-    // The index at which a search ends, if it ends at one. It asks at most so often, and writes the way of
-    // the search to the path.
+    // The index at which a search ends, if it ends at one. It writes the way of the search to the path.
     pub fn find<R, F: FnMut(ItemIndex) -> R, H: Reads<R>>(
         &self,
         height: usize,
         asking: &mut Asking<F>,
         how: &H,
-        most: usize,
         path: &mut Path,
     ) -> Option<ItemIndex>
         requires formed { IsFormed height self.now }
-        requires most { 4 * (height + 1) ≤ most }
         requires levels { height ≤ 11 }
         requires path { length path.old ≡ 12 }
         requires can_search { CanSearch F.FnMut (flat height self.now) None asking.old }
         ensures path { length path.new ≡ 12 }
-        ensures finds { FindsIn F.FnMut (H.reading how.now) None most height self.now asking.old result asking.new }
+        ensures finds { FindsIn F.FnMut (H.reading how.now) None height self.now asking.old result asking.new }
     {
         let tie = None;
         let mut node = self;
         let mut level = height;
-        let mut left = most;
         loop {
-            // Four asks a level are kept for the levels below.
-            let here = left - 4 * level;
-            let (end, asked) = search_within(node.row.as_slice(), asking, how, &tie, here);
-            match end {
+            match search(node.row.as_slice(), asking, how, &tie) {
                 Ok(i) => return Some(node.row.get(i)),
                 Err(i) => {
                     path.set(level, i);
                     if level == 0 {
                         return None;
                     }
-                    left -= asked;
                     level -= 1;
                     node = &node.children[i];
                 }

@@ -1,10 +1,10 @@
-//! The search of a row, on which all searching calls stand.
-ghost use Rattle.std.specs.Prelude.{◌≡◌, ◌≢◌, ℕ, ◌+◌, ◌≤◌, List, Contains, Some, length};
+//! The search of a row by halves, on which all searching calls stand.
+ghost use Rattle.std.specs.Prelude.{◌≡◌, ◌≢◌, ℕ, List, Contains, Some, length};
 ghost use Rattle.std.specs.declared.cmp.Ordering.{Ordering};
 ghost use Rattle.iddqd_order.specs.Asking.{closure_of};
 ghost use Rattle.iddqd_order.specs.Asks.{AsksWithin, Steady};
 ghost use Rattle.iddqd_order.specs.Digits.{digits};
-ghost use Rattle.iddqd_order.specs.Search.{Askable, CanSearch, SearchesWithin, end_place, with_ties};
+ghost use Rattle.iddqd_order.specs.Search.{Askable, CanSearch, SearchesWithin, with_ties};
 
 use crate::btree_table::asking::Asking;
 use crate::btree_table::reading::Reads;
@@ -42,54 +42,7 @@ pub(super) fn compare<R, F: FnMut(ItemIndex) -> R, H: Reads<R>>(
     }
 }
 
-// The place of what is sought, or where it would go, by at most so many asks, and how many it may
-// have made. It goes along the row from the left where they suffice for that, and else by halves: the
-// processor guesses the answers of a walk, and those of a search by halves it can't.
-pub(super) fn search_within<R, F: FnMut(ItemIndex) -> R, H: Reads<R>>(
-    items: &[ItemIndex],
-    asking: &mut Asking<F>,
-    how: &H,
-    tie: &Option<ItemIndex>,
-    most: usize,
-) -> (Result<usize, usize>, usize)
-    requires can_search { CanSearch F.FnMut items.now tie.now asking.old }
-    requires row { length items.now ≤ 11 }
-    requires most { 4 ≤ most }
-    ensures most { result.1 ≤ most }
-    ensures searches { SearchesWithin F.FnMut (H.reading how.now) items.now result.1 tie.now asking.old result.0 asking.new }
-{
-    if items.len() < most {
-        match scan(items, asking, how, tie) {
-            Ok(i) => (Ok(i), i + 1),
-            Err(i) => (Err(i), i + 1),
-        }
-    } else {
-        (search(items, asking, how, tie), 4)
-    }
-}
-
-// The same from the left on: it asks about the indexes before the place where it ends, and one more.
-fn scan<R, F: FnMut(ItemIndex) -> R, H: Reads<R>>(
-    items: &[ItemIndex],
-    asking: &mut Asking<F>,
-    how: &H,
-    tie: &Option<ItemIndex>,
-) -> Result<usize, usize>
-    requires { CanSearch F.FnMut items.now tie.now asking.old }
-    ensures { SearchesWithin F.FnMut (H.reading how.now) items.now (end_place result + 1) tie.now asking.old result asking.new }
-{
-    let mut at = 0;
-    while at < items.len() {
-        match compare(asking, how, tie, items[at]) {
-            Ordering::Less => return Err(at),
-            Ordering::Equal => return Ok(at),
-            Ordering::Greater => at += 1,
-        }
-    }
-    Err(at)
-}
-
-// The place of what is sought, or where it would go, by halves.
+// The place of what is sought, or where it would go.
 pub(super) fn search<R, F: FnMut(ItemIndex) -> R, H: Reads<R>>(
     items: &[ItemIndex],
     asking: &mut Asking<F>,

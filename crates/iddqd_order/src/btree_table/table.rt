@@ -3,7 +3,6 @@ ghost use Rattle.std.specs.Prelude.{◌≡◌, ◌≢◌, ◌↔◌, ℕ, ◌+�
 ghost use Rattle.std.specs.declared.cmp.Ordering.{Ordering};
 ghost use Rattle.iddqd.specs.Compaction.{CanRemap, remapped};
 ghost use Rattle.iddqd_order.specs.MapBTreeTable.{order_of, without, sentinel, IsIndexList, LeadsTo};
-ghost use Rattle.iddqd_order.specs.Digits.{bound};
 ghost use Rattle.iddqd_order.specs.Tree.{GoesIn, place_in, FullIn, HoldsIn, spot_in, AreEnough};
 ghost use Rattle.iddqd_order.specs.Search.{CanSearch, SearchAsks, IsSteadyRising, IsPlace, Finds, with_ties};
 
@@ -245,16 +244,8 @@ impl MapBTreeTable {
         let Some(root) = &self.root else {
             return (None, Hint { path });
         };
-        let found = root.find(self.height, asking, how, self.most_asks(), &mut path);
+        let found = root.find(self.height, asking, how, &mut path);
         (found, Hint { path })
-    }
-
-    // The most asks of a search.
-    fn most_asks(&self) -> usize
-        ensures { result ≡ bound (length (order_of self.now)) }
-    {
-        let digits = usize::BITS - self.len.leading_zeros();
-        4 + 2 * digits as usize
     }
 
     /// Takes the memory of an insert and finds its place by the answers. Equal ones are ordered by

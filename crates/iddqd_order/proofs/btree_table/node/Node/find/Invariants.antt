@@ -1,4 +1,4 @@
-use Rattle.std.proofs.Common.{◌≡◌, ◌+◌, ◌*◌, ◌≤◌, length, ℕ, Option, None}
+use Rattle.std.proofs.Common.{◌≡◌, ◌≤◌, length, ℕ, Option, None}
 use Rattle.iddqd_order.specs.Descent.{FindsIn}
 use Rattle.iddqd_order.specs.Node.{flat, IsFormed}
 use Rattle.iddqd_order.specs.Search.{CanSearch}
@@ -10,8 +10,7 @@ invariant-loop-i g l = record {
   levels : l.level ≤ 11;
   path : length l.path ≡ 12;
   can_search : CanSearch g.F.FnMut (flat l.level l.node) None l.asking;
-  most : 4 * (l.level + 1) ≤ l.left;
-  rest : (found : Option ℕ) (new : _) → FindsIn g.F.FnMut (g.H.Reads.reading l.how) None l.left l.level l.node l.asking found new → FindsIn g.F.FnMut (g.H.Reads.reading l.how) None l.fn.most l.fn.height l.fn.self l.fn.asking found new;
+  rest : (found : Option ℕ) (new : _) → FindsIn g.F.FnMut (g.H.Reads.reading l.how) None l.level l.node l.asking found new → FindsIn g.F.FnMut (g.H.Reads.reading l.how) None l.fn.height l.fn.self l.fn.asking found new;
 }
 
 abbrev pub decreases-loop-i : goal.decreases-loop-i

@@ -1,14 +1,10 @@
-use Rattle.std.proofs.Common.{ℕ, List, [], None, ap, sym, subst, ◌∙◌, ◌≡◌, ◌≢◌, ◌+◌, ◌*◌, ◌≤◌, All, length, arith}
+use Rattle.std.proofs.Common.{ℕ, List, [], Some, None, Option, ap, sym, subst, ◌∙◌, ◌≡◌, ◌≢◌, All, arith}
 use Rattle.std.specs.declared.cmp.Ordering.TheVariants.{Equal}
 use Rattle.std.proofs.lemmas.List.Elements.{All-nil}
-use Rattle.iddqd_order.specs.Descent.{FindsIn}
-use Rattle.iddqd_order.specs.Digits.{bound}
 use Rattle.iddqd_order.specs.MapBTreeTable.{order_of}
-use Rattle.iddqd_order.specs.Node.{flat}
 use Rattle.iddqd_order.specs.Search.{Askable, CanSearch, Finds}
 use Rattle.iddqd_order.proofs.AskLemmas.{asks_more, asks_none}
 use Rattle.iddqd_order.proofs.DescentLemmas.{Finds-from_findsin}
-use Rattle.iddqd_order.proofs.ReckoningLemmas.{reckoning}
 use Rattle.iddqd_order.proofs.TableLemmas.{root_of, nowhere}
 use Rattle.iddqd_order.proofs.btree_table.table.MapBTreeTable.find.Goals as goal
 
@@ -27,21 +23,8 @@ returns-in_default g c =
       miss = λ answer s e. subst (All (λ ix. answer ix ≢ Equal)) (sym none.list) (All-nil (λ ix. answer ix ≢ Equal));
     }
 
-pub find-found-requires-clause-most : goal.find-found-requires-clause-most
-find-found-requires-clause-most g c =
-    let h = c.self.inside.height in
-    let r = root_of c.args.self.now _ _ _ _ _ c.in-Some.root c.self.view_is c.self.invariant c.in-Some.is in
-    let few : 4 * (h + 1) + 2 ≤ bound (length (order_of c.args.self.now)) = subst (λ (xs : List ℕ). 4 * (h + 1) + 2 ≤ bound (length xs)) r.list (reckoning h c.in-Some.root r.formed r.some) in
-    let most = c.most_asks.ensures in
-    omega arith
-
 pub returns : goal.returns
 returns g c =
-    let h = c.self.inside.height in
-    let n = c.in-Some.root in
-    let read = g.H.Reads.reading c.args.how.now in
-    let r = root_of c.args.self.now _ _ _ _ _ n c.self.view_is c.self.invariant c.in-Some.is in
-    let most : c.most_asks.result ≡ bound (length (flat h n)) = c.most_asks.ensures ∙ ap (λ (xs : List ℕ). bound (length xs)) (sym r.list) in
-    subst (λ xs. Finds g.F.FnMut read xs c.args.asking.now c.find-found.result c.find-found.new.asking) r.list
-    (Finds-from_findsin g.F.FnMut read h n c.find-found.result c.args.asking.now c.find-found.new.asking
-    (subst (λ m. FindsIn g.F.FnMut read None m h n c.args.asking.now c.find-found.result c.find-found.new.asking) most c.find-found.ensures.finds))
+    let r = root_of c.args.self.now _ _ _ _ _ c.in-Some.root c.self.view_is c.self.invariant c.in-Some.is in
+    subst (λ xs. Finds g.F.FnMut (g.H.Reads.reading c.args.how.now) xs c.args.asking.now c.find-found.result c.find-found.new.asking) r.list
+    (Finds-from_findsin g.F.FnMut (g.H.Reads.reading c.args.how.now) _ _ _ _ _ r.formed r.some c.find-found.ensures.finds)
