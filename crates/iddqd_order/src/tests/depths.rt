@@ -1,5 +1,5 @@
 //! Walks and searches of tables of one to four levels, beside plain lists.
-use super::{bound, filled, find_told, insert_by};
+use super::{bound, filled, find_told, insert_by, remove_told};
 use crate::btree_table::{Asking, MapBTreeTable};
 use iddqd::item_index::ItemIndex;
 use std::alloc::{AllocError, Global};
@@ -110,12 +110,15 @@ fn a_walk_may_be_cloned_at_each_place(rt: HostRuntime) -> Result<(), Fail> {
 #[test]
 fn a_search_asks_four_times_a_level(rt: HostRuntime) -> Result<(), Fail> {
     for (len, levels) in &LEVELS {
-        let table = filled(&rt, rt.alloc(), *len, Ordering::Greater)?;
+        let mut table = filled(&rt, rt.alloc(), *len, Ordering::Greater)?;
         for odd in [Ordering::Less, Ordering::Greater] {
             for even in [Ordering::Less, Ordering::Greater] {
                 let (found, asks) = find_told(&table, odd, even);
                 assert!(rt; found.is_none());
                 assert!(rt; asks <= levels.wrapping_mul(4) && asks <= bound(*len as usize));
+                let (is_removed, asks) = remove_told(&mut table, *len, odd, even);
+                assert!(rt; !is_removed);
+                assert!(rt; asks <= levels.wrapping_mul(4));
             }
         }
     }
