@@ -1,15 +1,11 @@
 //! The table with open addressing beside hashbrown's raw table, under equal hashes: the least nanoseconds an entry
 //! over some rounds, and the ratio of the two.
 use hashbrown012::raw::RawTable;
+use shared::{Random, Record, bench_now};
 use std::hint::black_box;
 
-#[repr(C)]
-#[derive(Clone, Copy)]
-struct Record {
-    key: u32,
-    second: u32,
-    value: u32,
-}
+#[path = "../shared.rs"]
+mod shared;
 
 #[repr(C)]
 #[derive(Clone, Copy, Default)]
@@ -25,15 +21,7 @@ struct Round {
     sum: u64,
 }
 
-#[repr(C)]
-struct Timespec {
-    seconds: i64,
-    nanos: i64,
-}
-
 unsafe extern "C" {
-    fn clock_gettime(clock: i32, time: *mut Timespec) -> i32;
-
     // A slice is a pointer and a length.
     #[allow(clippy::too_many_arguments)]
     fn bench_round(
@@ -46,14 +34,6 @@ unsafe extern "C" {
         order: *const u32,
         order_count: usize,
     ) -> Round;
-}
-
-/// The nanoseconds that this thread has run.
-#[unsafe(no_mangle)]
-extern "C" fn bench_now() -> u64 {
-    let mut time = Timespec { seconds: 0, nanos: 0 };
-    unsafe { clock_gettime(3, &mut time) };
-    time.seconds as u64 * 1_000_000_000 + time.nanos as u64
 }
 
 #[inline(always)]
@@ -186,24 +166,6 @@ fn hashbrown_round(records: &mut [Record], hits: &[u32], misses: &[u32], order: 
         sum: found + others + removed + walked_sum + 2 * copied + left,
     };
     (round, pairs)
-}
-
-struct Random(u64);
-
-impl Random {
-    fn next(&mut self) -> u64 {
-        self.0 = self.0.wrapping_add(0x9e37_79b9_7f4a_7c15);
-        let mut z = self.0;
-        z = (z ^ (z >> 30)).wrapping_mul(0xbf58_476d_1ce4_e5b9);
-        z = (z ^ (z >> 27)).wrapping_mul(0x94d0_49bb_1331_11eb);
-        z ^ (z >> 31)
-    }
-
-    fn shuffle(&mut self, xs: &mut [u32]) {
-        for i in (1..xs.len()).rev() {
-            xs.swap(i, (self.next() % (i as u64 + 1)) as usize);
-        }
-    }
 }
 
 const PARTS: usize = 10;

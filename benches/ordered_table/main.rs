@@ -3,18 +3,13 @@
 //!
 //! `map` is the tree that the original crate stands on, and `set` one that is told where the records are by a static
 //! pointer, the fastest that std's can be.
+use shared::{Random, Record, bench_now};
 use std::hint::black_box;
 
 mod map;
 mod set;
-
-#[repr(C)]
-#[derive(Clone, Copy)]
-struct Record {
-    key: u32,
-    second: u32,
-    value: u32,
-}
+#[path = "../shared.rs"]
+mod shared;
 
 const PARTS: usize = 8;
 const NAMES: [&str; PARTS] =
@@ -30,15 +25,7 @@ struct Round {
     sum: u64,
 }
 
-#[repr(C)]
-struct Timespec {
-    seconds: i64,
-    nanos: i64,
-}
-
 unsafe extern "C" {
-    fn clock_gettime(clock: i32, time: *mut Timespec) -> i32;
-
     // A slice is a pointer and a length.
     #[allow(clippy::too_many_arguments)]
     fn bench_round(
@@ -53,14 +40,6 @@ unsafe extern "C" {
         fresh: *const u32,
         fresh_count: usize,
     ) -> Round;
-}
-
-/// The nanoseconds that this thread has run.
-#[unsafe(no_mangle)]
-extern "C" fn bench_now() -> u64 {
-    let mut time = Timespec { seconds: 0, nanos: 0 };
-    unsafe { clock_gettime(3, &mut time) };
-    time.seconds as u64 * 1_000_000_000 + time.nanos as u64
 }
 
 /// A tree of std's over indexes, with the records that they stand for.
@@ -155,24 +134,6 @@ fn round_of<T: Tree>(records: &mut [Record], hits: &[u32], misses: &[u32], order
     }
     round.sum = sum;
     round
-}
-
-struct Random(u64);
-
-impl Random {
-    fn next(&mut self) -> u64 {
-        self.0 = self.0.wrapping_add(0x9e37_79b9_7f4a_7c15);
-        let mut z = self.0;
-        z = (z ^ (z >> 30)).wrapping_mul(0xbf58_476d_1ce4_e5b9);
-        z = (z ^ (z >> 27)).wrapping_mul(0x94d0_49bb_1331_11eb);
-        z ^ (z >> 31)
-    }
-
-    fn shuffle(&mut self, xs: &mut [u32]) {
-        for i in (1..xs.len()).rev() {
-            xs.swap(i, (self.next() % (i as u64 + 1)) as usize);
-        }
-    }
 }
 
 // The table, std's map, and std's set.
