@@ -1,10 +1,10 @@
 -- Walks over the full places of a table, by a mask of those up to the end of sixteen.
-use Rattle.std.proofs.Common.{◌≡◌, ◌∙◌, ℕ, zero, suc, ◌+◌, ◌-◌, ◌*◌, ◌/◌, ◌^◌, ◌<◌, ◌≤◌, ◌⊎◌, inl, inr, Bool, true, false, not, cond, leb, leb-true, ltb, ltb-true, ltb-false, List, [], ◌∷◌, Option, Some, None, map, length, take, drop, slice_index, refl, sym, ap, subst, arith, mul_comm, mul-suc, mul-div_cancel}
+use Rattle.std.proofs.Common.{◌≡◌, ◌∙◌, ℕ, zero, suc, ◌+◌, ◌-◌, ◌*◌, ◌/◌, ◌^◌, ◌<◌, ◌≤◌, ◌⊎◌, inl, inr, Bool, true, false, not, cond, leb, leb-true, ltb, ltb-true, ltb-false, List, [], ◌∷◌, Option, Some, None, map, length, take, drop, set, slice_index, refl, sym, ap, subst, arith, mul_comm, mul-suc, mul-div_cancel}
 use lib.Bits.{bit_and}
 use lib.Count.{count_trailing_zeros}
 use lib.Lanes.{mask_l}
 use Rattle.std.specs.List.{prefix_len}
-use Rattle.std.proofs.lemmas.List.{drop-map, drop-take, drop-drop, drop_more, drop_all}
+use Rattle.std.proofs.lemmas.List.{drop-map, drop-take, drop-drop, drop_more, drop_all, drop-set-lt, length-set}
 use Rattle.std.proofs.lemmas.Nat.{pow_pos, shr-shr, pow-add}
 use Rattle.std.proofs.lemmas.Simd.{trailing_mask_l, run_in_chunk_fails, run_in_chunk_stops, none_from_empty_mask, length-chunk}
 use Rattle.iddqd_hash.specs.OpenTable.{slot_at, pairs, NoneFull, IsPowerOfTwo, IsProbed, IsSound}
@@ -191,6 +191,20 @@ IsAhead-start tags =
       masked = omega arith;
     }
 
+pub IsAhead-none : (tags : List ℕ) (at end mask : ℕ) → at ≡ 0 → end ≡ 0 → mask ≡ 0 → IsAhead tags at end mask
+IsAhead-none tags at end mask no_at no_end no_mask = rw (no_at, no_end, no_mask) (IsAhead-start tags)
+
+-- a tag that the walk has passed may change
+pub IsAhead-set : (tags : List ℕ) (at end mask place tag : ℕ) → place < at → IsAhead tags at end mask → IsAhead (set tags place tag) at end mask
+IsAhead-set tags at end mask place tag before ahead =
+    record {
+      before_end = ahead.before_end;
+      near = ahead.near;
+      inside = omega (arith, length-set tags place tag, ahead.inside);
+      in_sixteens = ahead.in_sixteens;
+      masked = ahead.masked ∙ ap (λ xs. 2 ^ (at + 16 - end) * mask_l (map is_full (take (end - at) xs))) (sym (drop-set-lt at tags place tag before));
+    }
+
 pub IsInSixteens-count : (n : ℕ) → (n ≡ 0) ⊎ IsPowerOfTwo n → IsInSixteens n
 IsInSixteens-count n (inl none) = (0, none)
 IsInSixteens-count n (inr (k, is)) =
@@ -276,4 +290,4 @@ module _ (tags : List ℕ) (from at end mask : ℕ) (ahead : IsAhead tags at end
 
 pub IsWalk-start : {T : Type 0} (tags : List ℕ) (slots : List (Option (ℕ × T))) (at end mask len used : ℕ) → IsSound tags slots len used → at ≡ 0 → end ≡ 0 → mask ≡ 0 → IsWalk tags slots at end mask len
 IsWalk-start tags slots at end mask len used sound no_at no_end no_mask =
-    rw (no_at, no_end, no_mask) (record { count = sound.count; probed = sound.probed; ahead = IsAhead-start tags; counted = sound.counted })
+    record { count = sound.count; probed = sound.probed; ahead = IsAhead-none tags at end mask no_at no_end no_mask; counted = rw no_at sound.counted }

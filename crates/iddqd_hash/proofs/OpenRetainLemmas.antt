@@ -34,6 +34,21 @@ module _ {T : Type 0} where
       ∙ filter_map-append (λ (slot : Option (ℕ × T)). slot) (take at slots) (Some pair ∷ drop (at + 1) slots) in
       Contains-values (pairs slots) pair (subst (λ es. Contains es pair) (sym split) (Contains-append_right (pairs (take at slots)) (pair ∷ pairs (drop (at + 1) slots)) pair (0, omega arith, refl)))
 
+  none_of_length : (es : List (ℕ × T)) → length es ≡ 0 → es ≡ []
+  none_of_length [] none = refl
+  none_of_length (e ∷ es) none = absurd (omega arith)
+
+  -- where no pair stands from a place on, all stand before it
+  all_taken : (slots : List (Option (ℕ × T))) (at : ℕ) → pairs (drop at slots) ≡ [] → pairs (take at slots) ≡ pairs slots
+  all_taken slots at none =
+      sym (append-nil _) ∙ ap (λ es. pairs (take at slots) ++ es) (sym none)
+      ∙ sym (filter_map-append (λ (slot : Option (ℕ × T)). slot) (take at slots) (drop at slots))
+      ∙ ap pairs (take-append-drop at slots)
+
+  -- the pairs behind one that was taken out
+  pub drop-taken : (slots : List (Option (ℕ × T))) (at : ℕ) → pairs (drop (at + 1) (set slots at None)) ≡ pairs (drop (at + 1) slots)
+  drop-taken slots at = ap pairs (drop-set-lt (at + 1) slots at None (omega arith))
+
 module _ {F T : Type 0} (ask : F → T → Bool → F → Type 0) (f : F) (old : List (Option (ℕ × T))) where
   -- the pairs before a place were asked in turn, and the refused ones were taken out
   pub record Keeping (now_f : F) (now : List (Option (ℕ × T))) (at : ℕ) : Type 0 where
@@ -110,14 +125,17 @@ module _ {F T : Type 0} (ask : F → T → Bool → F → Type 0) (f : F) (old :
       subst (Keeping before now) (let same : at + (to - at) ≡ to = omega arith in same)
       (Keeping-skip before now at (to - at) (omega (arith, state.same_length, probed.same_length)) (λ k from below. free_slot _ _ (probed.suited k (omega arith)) (gaps k from below)) state)
 
-  pub Keeps-from_keeping : (last : F) (now : List (Option (ℕ × T))) (at : ℕ) → length old ≤ at → Keeping last now at → Keeps ask f (pairs old) (pairs now)
-  Keeps-from_keeping last now at past state =
+  -- where no pair is left, all were asked
+  pub Keeps-at_end : (last : F) (now : List (Option (ℕ × T))) (at : ℕ) → length (pairs (drop at now)) ≡ 0 → Keeping last now at → Keeps ask f (pairs old) (pairs now)
+  Keeps-at_end last now at ended state =
+      let none_now : pairs (drop at now) ≡ [] = none_of_length (pairs (drop at now)) ended in
+      let none_old : pairs (drop at old) ≡ [] = ap pairs (sym state.behind) ∙ none_now in
       record {
         asks = state.asks;
-        each_once = rw (state.asked ∙ ap pairs (take_all at old past)) (IsPermutation-refl (pairs old));
+        each_once = rw (state.asked ∙ all_taken old at none_old) (IsPermutation-refl (pairs old));
         last = last;
         were_asked = state.were_asked;
-        kept = rw (state.kept ∙ ap pairs (take_all at now (omega (arith, state.same_length)))) (IsPermutation-refl (pairs now));
+        kept = rw (state.kept ∙ all_taken now at none_now) (IsPermutation-refl (pairs now));
       }
 
 module _ {T : Type 0} (gives : T → T → Type 0) (old : List (Option (ℕ × T))) where

@@ -175,7 +175,12 @@ impl<T> OpenHashTable<T> {
         ensures kept { Keeps (CalledAt F.FnMut) f (entries self.old) (entries self.new) }
         ensures memory { KeepsMemory self.old self.new }
     {
-        let removed = retain_cells(self.tags.as_mut_slice(), self.cells.as_mut_slice(), f);
+        let removed = retain_cells(
+            self.tags.as_mut_slice(),
+            self.cells.as_mut_slice(),
+            self.len,
+            f,
+        );
         self.len -= removed;
     }
 

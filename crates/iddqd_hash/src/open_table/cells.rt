@@ -6,11 +6,11 @@ ghost use Rattle.std.specs.Option.{option_map};
 ghost use Rattle.std.specs.List.Sorted.{IsPermutation};
 ghost use Rattle.iddqd_hash.specs.Asks.{CanAsk, FindsPlace, Keeps};
 ghost use Rattle.iddqd_hash.specs.HashTable.{under, value_of, values, Rewrites};
+ghost use Rattle.iddqd_hash.specs.OpenWalk.{IsInSixteens};
 ghost use Rattle.iddqd_hash.specs.OpenTable.{tag_of, limit_of, is_used, hashes_of, pair_in, slots_of, slot_at, pairs, IsPowerOfTwo, HasEmpty, IsProbed, FindsNext};
 
-use crate::open_table::tags::{
-    LARGE, free_near_home, home_of, next, past_gaps, past_others, tag_of,
-};
+use crate::open_table::places::FullPlaces;
+use crate::open_table::tags::{LARGE, free_near_home, home_of, next, past_others, tag_of};
 use std::alloc::{AllocError, Global};
 use std::mem::{self, ManuallyDrop};
 
@@ -184,27 +184,28 @@ pub fn move_cells<T>(old: &mut Vec<Cell<T>>, tags: &mut [u8], cells: &mut [Cell<
     }
 }
 
-/// Asks once of each value, and takes out those that are refused. Returns how many it took.
+/// Asks once of each value, of which there are `len`, and takes out those that are refused. Returns how many it took.
 pub fn retain_cells<T: Drop, F: FnMut(&T) -> bool>(
     tags: &mut [u8],
     cells: &mut [Cell<T>],
+    len: usize,
     mut f: F,
 ) -> usize
+    requires sixteens { IsInSixteens (length tags.old) }
     requires probed { IsProbed tags.old (slots_of cells.old) }
+    requires len { len ≡ length (pairs (slots_of cells.old)) }
     requires callable { CanAsk (TakesAt F.FnMut) (CalledAt F.FnMut) f (values (pairs (slots_of cells.old))) }
     ensures kept { Keeps (CalledAt F.FnMut) f (pairs (slots_of cells.old)) (pairs (slots_of cells.new)) }
     ensures probed { IsProbed tags.new (slots_of cells.new) }
     ensures marked { count_by is_used tags.new ≡ count_by is_used tags.old }
     ensures counted { result + length (pairs (slots_of cells.new)) ≡ length (pairs (slots_of cells.old)) }
 {
+    let mut places = FullPlaces::new();
+    let mut left = len;
     let mut removed = 0;
-    let mut at = 0;
-    'asking: while at < tags.len() {
-        let here = past_gaps(tags, at);
-        at = here + 1;
-        if tags[here] < 128 {
-            continue;
-        }
+    'asking: while left > 0 {
+        let here = places.next(tags);
+        left -= 1;
         if f(value_in(&cells[here])) {
             continue;
         }

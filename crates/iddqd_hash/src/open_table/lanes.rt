@@ -52,28 +52,6 @@ fn first_free(tags: &[u8], at: usize) -> usize
     first_set(lanes.simd_lt(u8x16::splat(128)).to_bitmask())
 }
 
-/// How many places from `at` on, up to sixteen, are not full, where that is known at once.
-pub fn run_of_gaps(tags: &[u8], at: usize) -> usize
-    requires { at < length tags.now }
-    ensures inside { at + result ≤ length tags.now }
-    ensures gaps { NoneFull tags.now at result }
-{
-    if tags.len() - at >= 16 {
-        first_full(tags, at)
-    } else {
-        0
-    }
-}
-
-fn first_full(tags: &[u8], at: usize) -> usize
-    requires { at + 16 ≤ length tags.now }
-    ensures inside { at + result ≤ length tags.now }
-    ensures gaps { NoneFull tags.now at result }
-{
-    let lanes = u8x16::from_slice(&tags[at..]);
-    first_set(lanes.simd_ge(u8x16::splat(128)).to_bitmask())
-}
-
 /// Which of the sixteen places from `at` on are full: a bit for each, the lowest for the first.
 pub fn full_places(tags: &[u8], at: usize) -> u64
     requires { at + 16 ≤ length tags.now }

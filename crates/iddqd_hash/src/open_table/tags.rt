@@ -6,7 +6,7 @@
 ghost use Rattle.std.specs.Prelude.{◌≡◌, ◌+◌, ◌-◌, ◌<◌, ◌≤◌, ◌%◌, ◌⊎◌, length, slice_index, IfSome, IsTrue};
 ghost use Rattle.iddqd_hash.specs.OpenTable.{tag_of, limit_of, IsPowerOfTwo, HasEmpty, Skips, IsFree, NoneFull, IsReached, Passed};
 
-use crate::open_table::lanes::{run_of_full, run_of_gaps, run_of_others};
+use crate::open_table::lanes::{run_of_full, run_of_others};
 
 // Up to so many cells a walk begins with sixteen tags, past them with the home alone: there a cell is mostly
 // far off, and the processor fetches that of the home before it has the tag.
@@ -94,16 +94,6 @@ fn past_full(tags: &[u8], at: usize) -> usize
     ensures { IsReached tags.now at result }
 {
     (at + run_of_full(tags, at)) & (tags.len() - 1)
-}
-
-/// A place from `at` on with no full one before it.
-pub fn past_gaps(tags: &[u8], at: usize) -> usize
-    requires { at < length tags.now }
-    ensures onward { at ≤ result }
-    ensures inside { result < length tags.now }
-    ensures gaps { NoneFull tags.now at (result - at) }
-{
-    (at + run_of_gaps(tags, at)).min(tags.len() - 1)
 }
 
 /// A place from `at` on, the first after the last, before which none is empty or has the tag.

@@ -1,11 +1,18 @@
 use Rattle.std.proofs.Common.{◌≡◌, ◌∙◌, length, ap, sym, arith}
 use Rattle.std.proofs.lemmas.List.{with_items_is}
 use Rattle.iddqd_hash.specs.OpenTable.{slots_of}
+use Rattle.iddqd_hash.proofs.OpenAheadLemmas.{IsInSixteens-count}
 use Rattle.iddqd_hash.proofs.OpenTableLemmas.{entries-opened, cells_long, IsSound-retained, KeepsMemory-opened}
 use Rattle.iddqd_hash.proofs.open_table.OpenHashTable.retain.Goals as goal
 
 pub retain_cells-removed-requires-clause-probed : goal.retain_cells-removed-requires-clause-probed
 retain_cells-removed-requires-clause-probed g c = rw (c.as_mut_slice.ensures.value, c.as_mut_slice-2.ensures.value) c.self.invariant.probed
+
+pub retain_cells-removed-requires-clause-sixteens : goal.retain_cells-removed-requires-clause-sixteens
+retain_cells-removed-requires-clause-sixteens g c = rw c.as_mut_slice.ensures.value (IsInSixteens-count _ c.self.invariant.count)
+
+pub retain_cells-removed-requires-clause-len : goal.retain_cells-removed-requires-clause-len
+retain_cells-removed-requires-clause-len g c = rw c.as_mut_slice-2.ensures.value c.self.invariant.counted
 
 pub retain_cells-removed-requires-clause-callable : goal.retain_cells-removed-requires-clause-callable
 retain_cells-removed-requires-clause-callable g c = rw c.as_mut_slice-2.ensures.value (rw (← c.self.view_is, entries-opened) at c.requires)
