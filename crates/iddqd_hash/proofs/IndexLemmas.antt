@@ -2,7 +2,7 @@
 -- leave, and what a look-up finds.
 use Rattle.std.proofs.Common.{eqb-true, eq-eqb, ◌≡◌, ◌==◌, ℕ, Bool, true, false, cond, List, [], ◌∷◌, map, filter, Option, Some, None, is_some, refl, sym, ap, subst, ◌∙◌}
 use mathlib.Core.Bool.{◌||◌}
-use Rattle.std.specs.List.{AllByRecursion, AllZip, FoldsTo, list_any}
+use Rattle.std.specs.List.{AllByRecursion, FoldsTo, list_any}
 use Rattle.std.specs.List.Sorted.{IsPermutation}
 use Rattle.std.specs.Ordering.{nat_cmp, eq_by_cmp}
 use Rattle.std.specs.FinMap as finite
@@ -11,7 +11,7 @@ use Rattle.std.specs.Cmp.{nat_cmp_total, eq_by_cmp_equiv}
 use Rattle.std.proofs.lemmas.List.Sorted.{IsPermutation-trans, IsPermutation-sym, IsPermutation-map, list_any-IsPermutation}
 use Rattle.std.proofs.lemmas.Map.Keys.{IsDistinct-head, IsDistinct-tail, IsDistinct-cons}
 use Rattle.iddqd_hash.specs.Asks.{FindsPlace, Keeps}
-use Rattle.iddqd_hash.specs.HashTable.{values, Rewrites}
+use Rattle.iddqd_hash.specs.HashTable.{values}
 use Rattle.iddqd_hash.specs.MapHashTable.{turned, filed_from, indexes_of, pairs_of, IsDistinctlyFiled}
 use Rattle.iddqd_hash.proofs.MapHashTableLemmas.{filed_entries, turned_keys, untied, distinct_moved, LooksUp-follows}
 

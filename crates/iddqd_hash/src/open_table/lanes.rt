@@ -1,7 +1,7 @@
 //! Sixteen tags at a time.
 ghost use Rattle.std.specs.Int.{w64, trailing_zeros};
 ghost use Rattle.std.specs.Prelude.{if◌then◌else◌, ◌==◌, ◌≡◌, ◌+◌, ◌<◌, ◌≤◌, length};
-ghost use Rattle.iddqd_hash.specs.OpenTable.{NoStops, AllFull, NoneFull};
+ghost use Rattle.iddqd_hash.specs.OpenTable.{NoStops, AllFull};
 ghost use Rattle.iddqd_hash.specs.OpenWalk.{full_mask};
 
 use std::simd::prelude::*;

@@ -1,13 +1,13 @@
-use Rattle.std.proofs.Common.{◌≡◌, ◌∙◌, ◌∷◌, ◌+◌, ◌<◌, IsSome, Some, true, false, length, drop, slice_index, refl, sym, ap, subst, arith}
+use Rattle.std.proofs.Common.{◌≡◌, ◌∙◌, ◌<◌, IsSome, true, false, length, slice_index, refl, sym, ap, subst, arith}
 use Rattle.std.specs.Fn.{TakesAt, CalledAt}
-use Rattle.iddqd_hash.specs.OpenTable.{slots_of, slot_at, pair_in, pairs}
+use Rattle.iddqd_hash.specs.OpenTable.{slots_of, slot_at, pair_in}
 use Rattle.iddqd_hash.specs.OpenWalk.{IsInSixteens}
 use Rattle.iddqd_hash.proofs.AskLemmas.{CanAsk-takes, CanAsk-asked}
 use Rattle.iddqd_hash.proofs.OpenAheadLemmas.{IsAhead-none, IsAhead-set, SomeFull-pairs, pairs-full}
 use Rattle.iddqd_hash.proofs.OpenLookupLemmas.{slot_read}
 use Rattle.iddqd_hash.proofs.OpenSlotLemmas.{full_slot, length_pairs, length-taken, used-set, used_one, used_count, IsProbed-taken}
 use Rattle.iddqd_hash.proofs.OpenTableLemmas.{cells_long}
-use Rattle.iddqd_hash.proofs.OpenRetainLemmas.{Keeping, Keeping-start, Keeping-gaps, Keeping-keep, Keeping-drop, Contains-asked, Keeps-at_end, drop-taken}
+use Rattle.iddqd_hash.proofs.OpenRetainLemmas.{Keeping-start, Keeping-gaps, Keeping-keep, Keeping-drop, Contains-asked, Keeps-at_end, drop-taken}
 use Rattle.iddqd_hash.proofs.open_table.cells.retain_cells.Goals as goal
 
 pub asking-init : goal.asking-init
