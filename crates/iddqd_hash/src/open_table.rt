@@ -5,7 +5,7 @@
 //! a byte for each cell has seven bits of it, so that a walk reads few cells. A removed pair leaves a
 //! mark, which a walk passes and an insert takes. At least one cell of eight is empty. The contracts
 //! are those of [`HashTable`](crate::hash_table_reference::HashTable).
-ghost use Rattle.std.specs.Prelude.{◌≡◌, ◌∷◌, ◌≤◌, ◌<◌, ◌-◌, ◌⊎◌, [], Some, IsSome, length, option_copied, IfOk, IfSome, OnOk, OnErr, vec_len};
+ghost use Rattle.std.specs.Prelude.{◌≡◌, ◌∷◌, ◌≤◌, ◌<◌, ◌-◌, [], Some, IsSome, length, option_copied, IfOk, IfSome, OnOk, OnErr};
 ghost use Rattle.std.specs.List.Sorted.{IsPermutation};
 ghost use Rattle.std.specs.List.{Contains};
 ghost use Rattle.std.specs.Option.{option_map};

@@ -3,8 +3,8 @@
 //! A tag is 0 where its cell is empty and 1 where a pair was removed from it. From 128 on the cell is
 //! full, and the tag has the top seven bits of the hash. A walk goes from the home of a hash by steps of
 //! one, the first place after the last, up to an empty cell.
-ghost use Rattle.std.specs.Prelude.{◌≡◌, ◌+◌, ◌-◌, ◌<◌, ◌≤◌, ◌%◌, ◌⊎◌, length, slice_index, IfSome, IsTrue};
-ghost use Rattle.iddqd_hash.specs.OpenTable.{tag_of, limit_of, IsPowerOfTwo, HasEmpty, Skips, IsFree, IsReached, Passed};
+ghost use Rattle.std.specs.Prelude.{◌≡◌, ◌+◌, ◌<◌, ◌≤◌, ◌%◌, ◌⊎◌, length, IfSome};
+ghost use Rattle.iddqd_hash.specs.OpenTable.{tag_of, limit_of, IsPowerOfTwo, HasEmpty, Skips, IsFree, IsReached};
 
 use crate::open_table::lanes::{run_of_full, run_of_others};
 
