@@ -16,6 +16,18 @@ struct Timespec {
 
 unsafe extern "C" {
     fn clock_gettime(clock: i32, time: *mut Timespec) -> i32;
+    fn mallopt(parameter: i32, value: i32) -> i32;
+}
+
+/// Memory that was given back stays with the allocator: else a part of a round takes the time of the pages that it is the
+/// first to touch, which is the system's.
+pub fn keep_memory() {
+    const M_TRIM_THRESHOLD: i32 = -1;
+    const M_MMAP_MAX: i32 = -4;
+    unsafe {
+        mallopt(M_TRIM_THRESHOLD, i32::MAX);
+        mallopt(M_MMAP_MAX, 0);
+    }
 }
 
 /// The nanoseconds that this thread has run.

@@ -121,7 +121,7 @@ fn walk_pairs(pairs: &RawTable<(u64, u32)>) -> u64 {
 }
 
 fn time_pairs(table: &RawTable<u32>, records: &[Record]) -> Pairs {
-    let mut pairs = RawTable::with_capacity(table.len());
+    let mut pairs = RawTable::with_capacity(table.buckets() / 8 * 7);
     for bucket in unsafe { table.iter() } {
         let ix = unsafe { *bucket.as_ref() };
         let hash = hash_of(records[ix as usize].key);
@@ -228,6 +228,7 @@ fn least(count: usize, rounds: usize) -> [[f64; PARTS]; 2] {
 fn main() {
     // So many rounds; twice as many on a busy machine do no harm.
     let scale: usize = std::env::args().nth(1).map_or(1, |word| word.parse().expect("a number"));
+    shared::keep_memory();
     let sizes = [(1_000, 2_000 * scale), (100_000, 30 * scale), (1_000_000, 6 * scale)];
     let all: Vec<_> = sizes.iter().map(|&(count, rounds)| least(count, rounds)).collect();
     let names = parts(&Round::default(), &Pairs::default());

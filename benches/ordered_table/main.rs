@@ -204,6 +204,7 @@ fn row(name: &str, cells: impl Iterator<Item = String>) {
 fn main() {
     // So many rounds; twice as many on a busy machine do no harm.
     let scale: usize = std::env::args().nth(1).map_or(1, |word| word.parse().expect("a number"));
+    shared::keep_memory();
     let sizes = [(1_000, 1_000 * scale), (100_000, 10 * scale), (1_000_000, 2 * scale)];
     println!("| ns an entry; ratio to std's map, to its set; comparisons, ours and std's | 1,000 | 100,000 | 1,000,000 |");
     println!("|---|---|---|---|");
