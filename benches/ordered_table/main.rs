@@ -4,7 +4,9 @@
 //! `map` is the tree that the original crate stands on, and `set` one that is told where the records are by a static
 //! pointer, the fastest that std's can be.
 use shared::{Random, Record, bench_now};
+use std::cmp::Ordering;
 use std::hint::black_box;
+use std::marker::PhantomData;
 
 mod map;
 mod set;
@@ -51,6 +53,46 @@ trait Tree: Clone + Default {
     fn remove(&mut self, records: &[Record], number: u32) -> bool;
     fn walk(&self) -> u64;
     fn take(self) -> u64;
+}
+
+/// How a tree of std's comes to compare two indexes.
+trait Compare {
+    fn compare(a: u32, b: u32) -> Ordering;
+}
+
+/// An index in a tree of std's.
+#[derive(Clone)]
+struct Index<C>(u32, PhantomData<C>);
+
+impl<C> Index<C> {
+    fn new(number: u32) -> Self {
+        Index(number, PhantomData)
+    }
+
+    fn number(&self) -> u32 {
+        self.0
+    }
+}
+
+impl<C: Compare> Ord for Index<C> {
+    #[inline(always)]
+    fn cmp(&self, other: &Self) -> Ordering {
+        C::compare(self.0, other.0)
+    }
+}
+
+impl<C: Compare> PartialOrd for Index<C> {
+    fn partial_cmp(&self, other: &Self) -> Option<Ordering> {
+        Some(self.cmp(other))
+    }
+}
+
+impl<C: Compare> Eq for Index<C> {}
+
+impl<C: Compare> PartialEq for Index<C> {
+    fn eq(&self, other: &Self) -> bool {
+        self.cmp(other) == Ordering::Equal
+    }
 }
 
 // How many comparisons were made. One thread runs.

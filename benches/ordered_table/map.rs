@@ -1,49 +1,35 @@
 //! std's map of indexes, whose comparison is a closure behind a thread-local variable: so the original crate has it, since
 //! std's map hands its keys nothing.
-use super::{Record, Tree, count_ask};
+use super::{Compare, Index, Record, Tree, count_ask};
 use std::cell::Cell;
 use std::cmp::Ordering;
 use std::collections::BTreeMap;
 
-type Compare<'a> = dyn Fn(u32, u32) -> Ordering + 'a;
+type Closure<'a> = dyn Fn(u32, u32) -> Ordering + 'a;
 
 thread_local! {
-    static COMPARE: Cell<Option<&'static Compare<'static>>> = const { Cell::new(None) };
+    static COMPARE: Cell<Option<&'static Closure<'static>>> = const { Cell::new(None) };
 }
 
 // Stands for a key that is sought.
 const SOUGHT: u32 = u32::MAX;
 
-/// An index, by the comparison that is set.
+/// Compares as the closure does that is set.
 #[derive(Clone)]
-struct Index(u32);
+struct ByClosure;
 
-impl PartialEq for Index {
-    fn eq(&self, other: &Index) -> bool {
-        self.cmp(other) == Ordering::Equal
-    }
-}
-
-impl Eq for Index {}
-
-impl PartialOrd for Index {
-    fn partial_cmp(&self, other: &Index) -> Option<Ordering> {
-        Some(self.cmp(other))
-    }
-}
-
-impl Ord for Index {
+impl Compare for ByClosure {
     #[inline]
-    fn cmp(&self, other: &Index) -> Ordering {
+    fn compare(a: u32, b: u32) -> Ordering {
         let compare = COMPARE.get().expect("a comparison is set");
-        compare(self.0, other.0)
+        compare(a, b)
     }
 }
 
 /// Makes a call under a comparison.
-fn under<R>(compare: &Compare<'_>, call: impl FnOnce() -> R) -> R {
+fn under<R>(compare: &Closure<'_>, call: impl FnOnce() -> R) -> R {
     // It is unset before the closure goes.
-    COMPARE.set(Some(unsafe { std::mem::transmute::<&Compare<'_>, &'static Compare<'static>>(compare) }));
+    COMPARE.set(Some(unsafe { std::mem::transmute::<&Closure<'_>, &'static Closure<'static>>(compare) }));
     let result = call();
     COMPARE.set(None);
     result
@@ -73,33 +59,33 @@ fn by_key(records: &[Record], key: u32) -> impl Fn(u32, u32) -> Ordering {
 }
 
 #[derive(Clone, Default)]
-pub struct Map(BTreeMap<Index, ()>);
+pub struct Map(BTreeMap<Index<ByClosure>, ()>);
 
 impl Tree for Map {
     fn begin(_: &[Record]) {}
 
     fn insert(&mut self, records: &[Record], number: u32) {
         let compare = by_records(records, number);
-        under(&compare, || self.0.insert(Index(number), ()));
+        under(&compare, || self.0.insert(Index::new(number), ()));
     }
 
     fn find(&self, records: &[Record], key: u32) -> Option<u32> {
         let compare = by_key(records, key);
-        under(&compare, || self.0.get_key_value(&Index(SOUGHT)).map(|(index, ())| index.0))
+        under(&compare, || self.0.get_key_value(&Index::new(SOUGHT)).map(|(index, ())| index.number()))
     }
 
     fn remove(&mut self, records: &[Record], number: u32) -> bool {
         let compare = by_records(records, number);
-        under(&compare, || self.0.remove(&Index(number)).is_some())
+        under(&compare, || self.0.remove(&Index::new(number)).is_some())
     }
 
     #[inline(never)]
     fn walk(&self) -> u64 {
-        self.0.keys().fold(0u64, |sum, index| sum.wrapping_mul(3).wrapping_add(index.0 as u64))
+        self.0.keys().fold(0u64, |sum, index| sum.wrapping_mul(3).wrapping_add(index.number() as u64))
     }
 
     #[inline(never)]
     fn take(self) -> u64 {
-        self.0.into_keys().fold(0u64, |sum, index| sum.wrapping_mul(3).wrapping_add(index.0 as u64))
+        self.0.into_keys().fold(0u64, |sum, index| sum.wrapping_mul(3).wrapping_add(index.number() as u64))
     }
 }

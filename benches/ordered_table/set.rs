@@ -1,5 +1,5 @@
 //! std's set of indexes, which comes by the records by a static pointer: no tree of std's can do so faster.
-use super::{Record, Tree, count_ask};
+use super::{Compare, Index, Record, Tree, count_ask};
 use std::borrow::Borrow;
 use std::cmp::Ordering;
 use std::collections::BTreeSet;
@@ -20,41 +20,31 @@ impl Ord for Key {
     }
 }
 
-/// An index, by the key of its record and then by itself.
+/// Compares by the keys of the records, and then by the indexes.
 #[derive(Clone)]
-struct Index(u32);
+struct ByPointer;
 
-impl Borrow<Key> for Index {
+#[inline(always)]
+fn key_at(number: u32) -> &'static Key {
+    unsafe { &*(&raw const (*RECORDS.add(number as usize)).key as *const Key) }
+}
+
+impl Borrow<Key> for Index<ByPointer> {
     #[inline(always)]
     fn borrow(&self) -> &Key {
-        unsafe { &*(&raw const (*RECORDS.add(self.0 as usize)).key as *const Key) }
+        key_at(self.number())
     }
 }
 
-impl PartialEq for Index {
-    fn eq(&self, other: &Index) -> bool {
-        self.cmp(other) == Ordering::Equal
-    }
-}
-
-impl Eq for Index {}
-
-impl PartialOrd for Index {
-    fn partial_cmp(&self, other: &Index) -> Option<Ordering> {
-        Some(self.cmp(other))
-    }
-}
-
-impl Ord for Index {
+impl Compare for ByPointer {
     #[inline(always)]
-    fn cmp(&self, other: &Index) -> Ordering {
-        let key: &Key = self.borrow();
-        key.cmp(other.borrow()).then_with(|| self.0.cmp(&other.0))
+    fn compare(a: u32, b: u32) -> Ordering {
+        key_at(a).cmp(key_at(b)).then_with(|| a.cmp(&b))
     }
 }
 
 #[derive(Clone, Default)]
-pub struct Set(BTreeSet<Index>);
+pub struct Set(BTreeSet<Index<ByPointer>>);
 
 impl Tree for Set {
     fn begin(records: &[Record]) {
@@ -62,24 +52,24 @@ impl Tree for Set {
     }
 
     fn insert(&mut self, _: &[Record], number: u32) {
-        self.0.insert(Index(number));
+        self.0.insert(Index::new(number));
     }
 
     fn find(&self, _: &[Record], key: u32) -> Option<u32> {
-        self.0.get(&Key(key)).map(|index| index.0)
+        self.0.get(&Key(key)).map(Index::number)
     }
 
     fn remove(&mut self, _: &[Record], number: u32) -> bool {
-        self.0.remove(&Index(number))
+        self.0.remove(&Index::new(number))
     }
 
     #[inline(never)]
     fn walk(&self) -> u64 {
-        self.0.iter().fold(0u64, |sum, index| sum.wrapping_mul(3).wrapping_add(index.0 as u64))
+        self.0.iter().fold(0u64, |sum, index| sum.wrapping_mul(3).wrapping_add(index.number() as u64))
     }
 
     #[inline(never)]
     fn take(self) -> u64 {
-        self.0.into_iter().fold(0u64, |sum, index| sum.wrapping_mul(3).wrapping_add(index.0 as u64))
+        self.0.into_iter().fold(0u64, |sum, index| sum.wrapping_mul(3).wrapping_add(index.number() as u64))
     }
 }

@@ -13,6 +13,7 @@ use super::lanes::full_places;
 /// of a mask whose lowest one is for the first of the sixteen.
 #[derive(Drop)]
 pub struct FullPlaces {
+    // For the contracts alone: nothing reads it.
     pub at: usize,
     pub end: usize,
     pub mask: u64,
