@@ -13,9 +13,9 @@ use Rattle.iddqd_order.specs.Node.{row, children, child, weave, before, after, f
 use Rattle.iddqd_order.specs.Search.{Askable, CanSearch, with_ties, IsRising, IsPlace, IsSteadyRising, SearchesWithin, Searches, Finds}
 use Rattle.iddqd_order.specs.Descent.{end_of, index_at, Descends, FindsIn}
 use Rattle.iddqd_order.specs.Digits.{digits}
-use Rattle.iddqd_order.proofs.DigitLemmas.{digits-row}
+use Rattle.iddqd_order.proofs.DigitLemmas.{four_digits}
 use Rattle.iddqd_order.proofs.AskLemmas.{asks_wider, CanAsk-fewer, CanAsk-later, Steady-fewer}
-use Rattle.iddqd_order.proofs.NodeLemmas.{lists, formed-inner, formed-within, flat-leaf, flat-inner, inner-goes, leaf-goes, place-inner, place-leaf, any_default}
+use Rattle.iddqd_order.proofs.NodeLemmas.{lists, formed-inner, flat-leaf, flat-inner, inner-goes, leaf-goes, place-inner, place-leaf, any_default}
 use Rattle.iddqd_order.proofs.PartLemmas.{Askable-wider, greater_up_to, less_from_on, shifted, in_middle, middle_held, SearchesWithin-more, SearchesWithin-later, LeadsTo, Searches-part}
 use Rattle.iddqd_order.proofs.RemovalLemmas.{holds-level, spot-leaf, spot-at, spot-below, spot-within}
 use Rattle.iddqd_order.proofs.IndexListLemmas.{Contains-at}
@@ -278,9 +278,8 @@ module _ {F R : Type 0} (g : Mut F (ℕ × Unit {0}) R) (read : R → Ordering) 
       CanSearch-row (row n) (lists (suc h - 1) (children n)) (lists-one_more (suc h) n ne f) g read tie a (subst (λ xs. CanSearch g xs tie a) (flat-inner (suc h) n ne) c)
 
   -- four asks search a row
-  pub row_searched : (l : ℕ) (n : Node) (xs : List ℕ) (end : Result ℕ ℕ) (a b : Asking F) → IsFormed l n → xs ≡ row n → SearchesWithin g read xs (digits (length xs)) tie a end b → SearchesWithin g read (row n) 4 tie a end b
-  row_searched l n xs end a b f e s =
-      subst (λ zs. SearchesWithin g read zs 4 tie a end b) e (SearchesWithin-more g read tie (digits-row (length xs) (rw e (formed-within l n f))) s)
+  pub row_searched : (n : Node) (xs : List ℕ) (reach : ℕ) (end : Result ℕ ℕ) (a b : Asking F) → xs ≡ row n → reach ≤ 15 → SearchesWithin g read xs (digits reach) tie a end b → SearchesWithin g read (row n) 4 tie a end b
+  row_searched n xs reach end a b e four s = subst (λ zs. SearchesWithin g read zs 4 tie a end b) e (SearchesWithin-more g read tie (four_digits reach four) s)
 
   -- and after a miss in the row, the child at that place
   pub can_ask_below : {k : ℕ} (l : ℕ) (n : Node) (i : ℕ) (a b : Asking F) → l ≢ 0 → IsFormed l n → SearchesWithin g read (row n) k tie a (Err i) b → CanSearch g (flat l n) tie a → CanSearch g (flat (l - 1) (child n i)) tie b

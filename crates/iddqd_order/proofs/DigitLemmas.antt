@@ -37,13 +37,10 @@ digits-mono a b h =
     let l : digits_within b a ≤ digits_within b b = digits_within-mono b a b h in
     omega arith
 
-pub halved : (n m : ℕ) → 0 < n → m ≤ n / 2 → 1 + digits m ≤ digits n
-halved n m h le = let half = digits-half n h in let mono = digits-mono m (n / 2) le in omega arith
-
-digits-eleven : digits 11 ≤ 4
+digits-fifteen : digits 15 ≤ 4
 unfolding digits
-digits-eleven = omega arith
+digits-fifteen = omega arith
 
--- a row is searched by four asks
-pub digits-row : (n : ℕ) → n ≤ 11 → digits n ≤ 4
-digits-row n le = let four : digits 11 ≤ 4 = digits-eleven in omega (arith, digits-mono n 11 le)
+-- four asks tell fifteen places apart
+pub four_digits : (n : ℕ) → n ≤ 15 → digits n ≤ 4
+four_digits n le = let four : digits 15 ≤ 4 = digits-fifteen in omega (arith, digits-mono n 15 le)

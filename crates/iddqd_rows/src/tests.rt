@@ -1,7 +1,9 @@
+mod answers;
 mod calls;
 mod collisions;
 mod commands;
 mod compaction;
+mod comparisons;
 mod counted;
 mod driver;
 mod faults;

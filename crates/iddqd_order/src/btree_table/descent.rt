@@ -1,4 +1,4 @@
-//! Searches of a tree: one walk down from the root, four asks a level.
+//! Searches of a tree: one walk down from the root, at most four asks a level.
 ghost use Rattle.std.specs.Prelude.{◌≡◌, ℕ, ◌+◌, ◌*◌, ◌<◌, ◌≤◌, Some, None, IfSome, IsNone, Contains, length, slice_index};
 ghost use Rattle.iddqd_order.specs.Descent.{Descends, FindsIn};
 ghost use Rattle.iddqd_order.specs.MapBTreeTable.{StandsAt};
@@ -9,7 +9,7 @@ use crate::btree_table::asking::Asking;
 use crate::btree_table::node::Node;
 use crate::btree_table::path::Path;
 use crate::btree_table::reading::Reads;
-use crate::btree_table::row::CAPACITY;
+use crate::btree_table::row::{CAPACITY, Row};
 use crate::btree_table::search::search;
 use iddqd::item_index::ItemIndex;
 
@@ -33,7 +33,7 @@ impl Node {
         let mut node = self;
         let mut level = height;
         loop {
-            match search(node.row.as_slice(), asking, how, &tie) {
+            match search(node.row.as_slice(), node.row.len(), asking, how, &tie) {
                 Ok(i) => return Some(node.row.get(i)),
                 Err(i) => {
                     path.set(level, i);
@@ -47,12 +47,12 @@ impl Node {
         }
     }
 
-    // Writes the way of a search to the path. It answers the level at which the search ends, or, where
-    // it ends in a leaf, how many nodes at the lower end of the way are full: `above` where all are.
+    // Writes the way of a search to a path of first places. It answers the level at which the search
+    // ends, or, where it ends in a leaf, how many nodes at the lower end of the way are full. As long as
+    // the way is the leftmost, the search leans to the left.
     pub fn descend<R, F: FnMut(ItemIndex) -> R, H: Reads<R>>(
         &self,
         height: usize,
-        above: usize,
         asking: &mut Asking<F>,
         how: &H,
         tie: &Option<ItemIndex>,
@@ -60,27 +60,29 @@ impl Node {
     ) -> Result<usize, usize>
         requires formed { IsFormed height self.now }
         requires levels { height ≤ 11 }
-        requires above { height < above }
         requires path { length path.old ≡ 12 }
+        requires first { (l : ℕ) → l ≤ height → slice_index path.old l ≡ 0 }
         requires can_search { CanSearch F.FnMut (flat height self.now) tie.now asking.old }
         ensures path { length path.new ≡ 12 }
-        ensures kept { (l : ℕ) → height < l → slice_index path.new l ≡ slice_index path.old l }
-        ensures descends { Descends F.FnMut (H.reading how.now) tie.now (4 * (height + 1)) above height self.now asking.old path.new result asking.new }
+        ensures descends { Descends F.FnMut (H.reading how.now) tie.now (4 * (height + 1)) (height + 1) height self.now asking.old path.new result asking.new }
     {
         let mut node = self;
         let mut level = height;
-        let mut full = above;
+        let mut full = height + 1;
+        let mut is_leftmost = true;
         loop {
             if node.row.len() < CAPACITY {
                 full = level;
             }
-            match search(node.row.as_slice(), asking, how, tie) {
+            let reach = reach_of(&node.row, is_leftmost);
+            match search(node.row.as_slice(), reach, asking, how, tie) {
                 Ok(i) => {
                     path.set(level, i);
                     return Ok(level);
                 }
                 Err(i) => {
-                    path.set(level, i);
+                    is_leftmost = is_leftmost && i == 0;
+                    path.keep_or_set(is_leftmost, level, i);
                     if level == 0 {
                         return Err(full);
                     }
@@ -118,6 +120,16 @@ impl Node {
         }
         None
     }
+}
+
+// How many places the search of a row is to tell apart: by four asks at the left edge, and else by as
+// few as the row needs.
+fn reach_of(row: &Row, is_leftmost: bool) -> usize
+    ensures within { length row.now ≤ result }
+    ensures four_asks { result ≤ 15 }
+{
+    let len = row.len();
+    if is_leftmost { 15 } else { len }
 }
 
 // Where the index stands in a row.

@@ -148,45 +148,11 @@ impl Node {
         if sides.are_around(asking, how, tie) {
             return Err(full);
         }
-        self.descend(height, height + 1, asking, how, tie, path)
+        *path = Path::first();
+        self.descend(height, asking, how, tie, path)
     }
 
-    // The descent for an index that may go before all others: while the way is the leftmost, it asks
-    // about the first index of a node, and where that is answered Less about no other one.
-    pub fn descend_left<R, F: FnMut(ItemIndex) -> R, H: Reads<R>>(
-        &self,
-        height: usize,
-        asking: &mut Asking<F>,
-        how: &H,
-        tie: &Option<ItemIndex>,
-        path: &mut Path,
-    ) -> Result<usize, usize>
-        requires formed { IsFormed height self.now }
-        requires some { 1 ≤ length (row self.now) }
-        requires levels { height ≤ 11 }
-        requires path { length path.old ≡ 12 }
-        requires can_search { CanSearch F.FnMut (flat height self.now) tie.now asking.old }
-        ensures path { length path.new ≡ 12 }
-        ensures descends { Descends F.FnMut (H.reading how.now) tie.now (4 * (height + 1) + 1) (height + 1) height self.now asking.old path.new result asking.new }
-    {
-        let mut node = self;
-        let mut level = height;
-        let mut full = height + 1;
-        while compare(asking, how, tie, node.row.get(0)) == Ordering::Less {
-            if node.row.len() < CAPACITY {
-                full = level;
-            }
-            path.set(level, 0);
-            if level == 0 {
-                return Err(full);
-            }
-            level -= 1;
-            node = &node.children[0];
-        }
-        node.descend(level, full, asking, how, tie, path)
-    }
-
-    // Writes the way to a place to the path, by the hint where there is one.
+    // Writes the way to a place to a path of first places, by the hint where there is one.
     pub fn descend_to_gap<R, F: FnMut(ItemIndex) -> R, H: Reads<R>>(
         &self,
         height: usize,
@@ -197,15 +163,15 @@ impl Node {
         path: &mut Path,
     ) -> Result<usize, usize>
         requires formed { IsFormed height self.now }
-        requires some { 1 ≤ length (row self.now) }
         requires levels { height ≤ 11 }
         requires path { length path.old ≡ 12 }
+        requires first { (l : ℕ) → l ≤ height → slice_index path.old l ≡ 0 }
         requires can_search { CanSearch F.FnMut (flat height self.now) tie.now asking.old }
         ensures path { length path.new ≡ 12 }
         ensures descends { Descends F.FnMut (H.reading how.now) tie.now (4 * (height + 1) + 2) (height + 1) height self.now asking.old path.new result asking.new }
     {
         match hint {
-            None => self.descend_left(height, asking, how, tie, path),
+            None => self.descend(height, asking, how, tie, path),
             Some(hint) => {
                 *path = hint.path;
                 self.descend_near(height, asking, how, tie, path)

@@ -1,5 +1,5 @@
 //! A way down the tree.
-ghost use Rattle.std.specs.Prelude.{◌≡◌, ℕ, ◌<◌, ◌≤◌, List, length, slice_index, slice_set};
+ghost use Rattle.std.specs.Prelude.{◌≡◌, ℕ, ◌<◌, ◌≤◌, List, IsTrue, length, slice_index, slice_set};
 
 use std::marker::Model;
 
@@ -53,6 +53,21 @@ impl Path {
         ensures length { length self.new ≡ 12 }
     {
         self.places[level] = place as u8;
+    }
+
+    // Sets the place at a level, where the path hasn't got it. A path that is read soon after a write
+    // waits for it.
+    pub fn keep_or_set(&mut self, has_it: bool, level: usize, place: usize)
+        requires path { length self.old ≡ 12 }
+        requires level { level < 12 }
+        requires place { place ≤ 12 }
+        requires has_it { IsTrue has_it → slice_index self.old level ≡ place }
+        ensures place { self.new ≡ slice_set self.old level place }
+        ensures length { length self.new ≡ 12 }
+    {
+        if !has_it {
+            self.set(level, place);
+        }
     }
 
     // Sets the place at a level, and the first place at each level below.

@@ -1,5 +1,5 @@
 //! The search of a row by halves, on which all searching calls stand.
-ghost use Rattle.std.specs.Prelude.{◌≡◌, ◌≢◌, ℕ, List, Contains, Some, length};
+ghost use Rattle.std.specs.Prelude.{◌≡◌, ◌≢◌, ℕ, ◌≤◌, List, Contains, Some, length};
 ghost use Rattle.std.specs.declared.cmp.Ordering.{Ordering};
 ghost use Rattle.iddqd_order.specs.Asking.{closure_of};
 ghost use Rattle.iddqd_order.specs.Asks.{AsksWithin, Steady};
@@ -42,20 +42,25 @@ pub(super) fn compare<R, F: FnMut(ItemIndex) -> R, H: Reads<R>>(
     }
 }
 
-// The place of what is sought, or where it would go.
+// The place of what is sought, or where it would go. It asks as often as tells `reach` places apart.
+// Where there are fewer, it asks the further to the left: the first places are then reached sooner.
 pub(super) fn search<R, F: FnMut(ItemIndex) -> R, H: Reads<R>>(
     items: &[ItemIndex],
+    reach: usize,
     asking: &mut Asking<F>,
     how: &H,
     tie: &Option<ItemIndex>,
 ) -> Result<usize, usize>
-    requires { CanSearch F.FnMut items.now tie.now asking.old }
-    ensures { SearchesWithin F.FnMut (H.reading how.now) items.now (digits (length items.now)) tie.now asking.old result asking.new }
+    requires can_search { CanSearch F.FnMut items.now tie.now asking.old }
+    requires reach { length items.now ≤ reach }
+    ensures { SearchesWithin F.FnMut (H.reading how.now) items.now (digits reach) tie.now asking.old result asking.new }
 {
     let mut low = 0;
     let mut high = items.len();
+    let mut reach = reach;
     while low < high {
-        let middle = low + (high - low) / 2;
+        reach /= 2;
+        let middle = low + (high - low).saturating_sub(reach + 1);
         match compare(asking, how, tie, items[middle]) {
             Ordering::Less => high = middle,
             Ordering::Equal => return Ok(middle),

@@ -361,7 +361,7 @@ impl MapBTreeTable {
             IsSteadyRising F.FnMut (order_of self.now) (Some ix) (H.reading how.now) answer asking.old →
             IsPlace (with_ties (Some ix) answer) (order_of self.now) (place_in self.now.root self.now.height result.0) }
     {
-        let mut path = Path::new();
+        let mut path = Path::first();
         let Some(root) = &self.root else {
             return (path, 0);
         };
@@ -470,15 +470,8 @@ impl MapBTreeTable {
         let Some(root) = &self.root else {
             return None;
         };
-        let mut path = Path::new();
-        match root.descend(
-            self.height,
-            self.height + 1,
-            asking,
-            how,
-            &Some(ix),
-            &mut path,
-        ) {
+        let mut path = Path::first();
+        match root.descend(self.height, asking, how, &Some(ix), &mut path) {
             Ok(level) => Some((path, level)),
             Err(_) => None,
         }

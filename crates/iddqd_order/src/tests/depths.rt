@@ -1,5 +1,5 @@
 //! Walks and searches of tables of one to four levels, beside plain lists.
-use super::{bound, filled, find_told, insert_by, remove_told};
+use super::{bound, filled, find_told, insert_by, insert_told, remove_told};
 use crate::btree_table::{Asking, MapBTreeTable};
 use iddqd::item_index::ItemIndex;
 use std::alloc::{AllocError, Global};
@@ -118,6 +118,9 @@ fn a_search_asks_four_times_a_level(rt: HostRuntime) -> Result<(), Fail> {
                 assert!(rt; asks <= levels.wrapping_mul(4) && asks <= bound(*len as usize));
                 let (is_removed, asks) = remove_told(&mut table, *len, odd, even);
                 assert!(rt; !is_removed);
+                assert!(rt; asks <= levels.wrapping_mul(4));
+                let mut copy = table.clone()?;
+                let asks = insert_told(&rt, &mut copy, *len, odd, even)?;
                 assert!(rt; asks <= levels.wrapping_mul(4));
             }
         }

@@ -1,5 +1,6 @@
 //! The driver's calls by examples.
-use super::calls::{assert_answers, printed, run};
+use super::answers::assert_answers;
+use super::calls::{printed, run};
 use iddqd::hash_builder::DefaultHashBuilder;
 use iddqd::item_index::ItemIndex;
 use iddqd_keyed::command::{InsertRefusal, Reply};

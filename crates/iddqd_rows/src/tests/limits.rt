@@ -1,5 +1,6 @@
 //! The driver where there are no more slots than a limit.
-use super::calls::{assert_answers_within, find1, insert};
+use super::answers::assert_answers_within;
+use super::calls::{find1, insert};
 use super::collisions::Constant;
 use super::driver::{Items, items_within, ix, record};
 use iddqd::hash_builder::DefaultHashBuilder;

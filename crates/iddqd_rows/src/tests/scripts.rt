@@ -121,6 +121,18 @@ fn has_overwritten(replies: &[Reply<Record>]) -> bool {
     false
 }
 
+// The replies are there, and they are the wanted ones.
+fn is_as(replies: &Option<Vec<Reply<Record>>>, want: &Vec<Reply<Record>>) -> bool {
+    match replies {
+        Some(replies) => replies == want,
+        None => false,
+    }
+}
+
+fn walk_alike(items: &mut Items, others: &mut Items) -> bool {
+    step(items, Command::Walk) == step(others, Command::Walk)
+}
+
 // A run of the script with that seed replies as single steps, and leaves what they leave.
 fn assert_runs(rt: &impl Abort, alloc: Global, seed: u32) -> Result<(), AllocError> {
     let mut stepped = no_items(alloc);
@@ -128,10 +140,8 @@ fn assert_runs(rt: &impl Abort, alloc: Global, seed: u32) -> Result<(), AllocErr
     assert!(rt; has_overwritten(want.as_slice()), "of seed {seed}");
     let mut items = no_items(alloc);
     let replies = run(&mut items, commands(alloc, seed)?);
-    let is_alike = replies == Some(want);
-    assert!(rt; is_alike, "of seed {seed}");
-    let is_alike = step(&mut items, Command::Walk) == step(&mut stepped, Command::Walk);
-    assert!(rt; is_alike, "walk of seed {seed}");
+    assert!(rt; is_as(&replies, &want), "of seed {seed}");
+    assert!(rt; walk_alike(&mut items, &mut stepped), "walk of seed {seed}");
     Ok(())
 }
 

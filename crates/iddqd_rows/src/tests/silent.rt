@@ -1,5 +1,5 @@
 //! Items that were given other keys without a word to the tables.
-use super::calls::assert_answers;
+use super::answers::assert_answers;
 use super::collisions::Constant;
 use super::driver::assert_script;
 use std::test::Fail;

@@ -3,7 +3,7 @@ use Rattle.std.proofs.lemmas.List.{get_or_default}
 use Rattle.iddqd_order.specs.Search.{Askable, with_ties}
 use Rattle.iddqd_order.specs.Digits.{digits}
 use Rattle.iddqd_order.proofs.AskLemmas.{asks_none, asks_then, asks_more, Steady-later}
-use Rattle.iddqd_order.proofs.DigitLemmas.{halved}
+use Rattle.iddqd_order.proofs.DigitLemmas.{digits-half}
 use Rattle.iddqd_order.proofs.SearchLemmas.{Askable-other, IsPlace-from_split, split-init, split-less, split-greater}
 use Rattle.iddqd_order.proofs.IndexListLemmas.{Contains-at}
 use Rattle.iddqd_order.proofs.btree_table.search.search.Goals as goal
@@ -12,22 +12,24 @@ pub loop-low-init : goal.loop-low-init
 loop-low-init g c = record {
   ordered = omega arith;
   within = omega arith;
-  asked = (0, (let n = length c.args.items.now in let same : n - 0 ≡ n = omega arith in omega (arith, ap digits same)), asks_none g.F.FnMut (Askable c.args.items.now c.args.tie.now) _);
+  reached = (let fits = c.requires.reach in omega arith);
+  asked = (0, omega arith, asks_none g.F.FnMut (Askable c.args.items.now c.args.tie.now) _);
   split = λ answer s. split-init (with_ties c.args.tie.now answer) c.args.items.now;
 }
 
 pub loop-low-preserved-in-Less : goal.loop-low-preserved-in-Less
 loop-low-preserved-in-Less g c =
-    let xs = c.args.items.now in let low = c.loop-low.low in let high = c.loop-low.high in let middle = low + (high - low) / 2 in
+    let xs = c.args.items.now in let low = c.loop-low.low in let high = c.loop-low.high in let middle = low + c.saturating_sub.result in
     let lt : middle < length xs = omega arith in
     let read : c.index-items-middle.result ≡ get_or xs middle 0 = c.index-items-middle.is ∙ get_or_default xs middle _ 0 lt in
     let held : Contains xs c.index-items-middle.result = Contains-at xs middle _ lt read in
     record {
       ordered = omega arith;
       within = omega arith;
+      reached = omega arith;
       asked = (
         c.loop-low.invariant.asked.0 + 1,
-        (let left = c.loop-low.invariant.asked.1 in omega (arith, left, halved (high - low) (middle - low) (omega arith) (omega arith))),
+        (let left = c.loop-low.invariant.asked.1 in omega (arith, left, digits-half c.loop-low.reach (omega arith))),
         asks_then g.F.FnMut (Askable xs c.args.tie.now) c.loop-low.invariant.asked.2 (c.in-Less.ensures.asks xs held),
       );
       split = λ answer s.
@@ -37,16 +39,17 @@ loop-low-preserved-in-Less g c =
 
 pub loop-low-preserved : goal.loop-low-preserved
 loop-low-preserved g c =
-    let xs = c.args.items.now in let low = c.loop-low.low in let high = c.loop-low.high in let middle = low + (high - low) / 2 in
+    let xs = c.args.items.now in let low = c.loop-low.low in let high = c.loop-low.high in let middle = low + c.saturating_sub.result in
     let lt : middle < length xs = omega arith in
     let read : c.index-items-middle.result ≡ get_or xs middle 0 = c.index-items-middle.is ∙ get_or_default xs middle _ 0 lt in
     let held : Contains xs c.index-items-middle.result = Contains-at xs middle _ lt read in
     record {
       ordered = omega arith;
       within = omega arith;
+      reached = omega arith;
       asked = (
         c.loop-low.invariant.asked.0 + 1,
-        (let left = c.loop-low.invariant.asked.1 in omega (arith, left, halved (high - low) (high - (middle + 1)) (omega arith) (omega arith))),
+        (let left = c.loop-low.invariant.asked.1 in omega (arith, left, digits-half c.loop-low.reach (omega arith))),
         asks_then g.F.FnMut (Askable xs c.args.tie.now) c.loop-low.invariant.asked.2 (c.in-Greater.ensures.asks xs held),
       );
       split = λ answer s.
@@ -56,14 +59,14 @@ loop-low-preserved g c =
 
 pub returns-in-Equal : goal.returns-in-Equal
 returns-in-Equal g c =
-    let xs = c.args.items.now in let low = c.loop-low.low in let high = c.loop-low.high in let middle = low + (high - low) / 2 in
+    let xs = c.args.items.now in let low = c.loop-low.low in let high = c.loop-low.high in let middle = low + c.saturating_sub.result in
     let lt : middle < length xs = omega arith in
     let read : c.index-items-middle.result ≡ get_or xs middle 0 = c.index-items-middle.is ∙ get_or_default xs middle _ 0 lt in
     let held : Contains xs c.index-items-middle.result = Contains-at xs middle _ lt read in
     let left = c.loop-low.invariant.asked.1 in
     record {
       asked =
-          asks_more g.F.FnMut (Askable xs c.args.tie.now) (omega (arith, left, halved (high - low) 0 (omega arith) (omega arith)))
+          asks_more g.F.FnMut (Askable xs c.args.tie.now) (omega (arith, left, digits-half c.loop-low.reach (omega arith)))
           (asks_then g.F.FnMut (Askable xs c.args.tie.now) c.loop-low.invariant.asked.2 (c.in-Equal.ensures.asks xs held));
       found = lt;
       missed = tt;
@@ -90,7 +93,7 @@ returns g c =
 
 pub compare-requires : goal.compare-requires
 compare-requires g c other =
-    let xs = c.args.items.now in let low = c.loop-low.low in let high = c.loop-low.high in let middle = low + (high - low) / 2 in
+    let xs = c.args.items.now in let low = c.loop-low.low in let high = c.loop-low.high in let middle = low + c.saturating_sub.result in
     let lt : middle < length xs = omega arith in
     let read : c.index-items-middle.result ≡ get_or xs middle 0 = c.index-items-middle.is ∙ get_or_default xs middle _ 0 lt in
-    c.requires.at _ _ c.loop-low.invariant.asked.2.after _ (Askable-other xs c.args.tie.now _ other (Contains-at xs middle _ lt read))
+    c.requires.can_search.at _ _ c.loop-low.invariant.asked.2.after _ (Askable-other xs c.args.tie.now _ other (Contains-at xs middle _ lt read))

@@ -9,7 +9,8 @@ abbrev pub invariant-loop-low : goal.invariant-loop-low
 invariant-loop-low g l = record {
   ordered : l.low ≤ l.high;
   within : l.high ≤ length l.items;
-  asked : (k : ℕ) × (k + digits (l.high - l.low) ≤ digits (length l.items)) × AsksWithin g.F.FnMut (Askable l.items l.tie) k l.fn.asking l.asking;
+  reached : l.high - l.low ≤ l.reach;
+  asked : (k : ℕ) × (k + digits l.reach ≤ digits l.fn.reach) × AsksWithin g.F.FnMut (Askable l.items l.tie) k l.fn.asking l.asking;
   split : (answer : ℕ → Ordering) → IsSteadyRising g.F.FnMut l.items l.tie (g.H.Reads.reading l.how) answer l.fn.asking → AreSplit (with_ties l.tie answer) l.items l.low l.high;
 }
 

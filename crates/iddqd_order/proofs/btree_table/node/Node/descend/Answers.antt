@@ -12,22 +12,21 @@ loop-full-init g c = record {
   levels = c.requires.levels;
   path = c.requires.path;
   can_search = c.requires.can_search;
-  above = c.requires.above;
+  above = omega arith;
   rest = λ p end new same d. d;
-  below = omega arith;
-  kept = λ m up. refl;
+  first = λ is. c.requires.first;
 }
 
-pub search-requires : goal.search-requires
-search-requires g c =
+pub search-requires-clause-can_search : goal.search-requires-clause-can_search
+search-requires-clause-can_search g c =
     subst (λ xs. CanSearch g.F.FnMut xs c.args.tie.now c.loop-full.asking) (sym c.as_slice.ensures)
     (can_ask_row g.F.FnMut (g.H.Reads.reading c.args.how.now) c.args.tie.now c.loop-full.level c.loop-full.node.now c.loop-full.asking c.loop-full.invariant.formed c.loop-full.invariant.can_search)
 
 pub set-requires-clause-level : goal.set-requires-clause-level
 set-requires-clause-level g c = let le = c.loop-full.invariant.levels in omega arith
 
-pub set-requires-in-Err-clause-level : goal.set-requires-in-Err-clause-level
-set-requires-in-Err-clause-level g c = let le = c.loop-full.invariant.levels in omega arith
+pub keep_or_set-requires-clause-level : goal.keep_or_set-requires-clause-level
+keep_or_set-requires-clause-level g c = let le = c.loop-full.invariant.levels in omega arith
 
 pub returns-in-Ok-clause-descends : goal.returns-in-Ok-clause-descends
 returns-in-Ok-clause-descends g c =
@@ -39,7 +38,7 @@ returns-in-Ok-clause-descends g c =
     let a = c.loop-full.asking in
     let b = c.search.new.asking in
     let held = c.loop-full.invariant in
-    let s = row_searched g.F.FnMut read tie l n c.as_slice.result.now (Ok c.in-Ok.i) a b held.formed c.as_slice.ensures c.in-Ok.ensures in
+    let s = row_searched g.F.FnMut read tie n c.as_slice.result.now c.reach_of-reach.result (Ok c.in-Ok.i) a b c.as_slice.ensures c.reach_of-reach.ensures.four_asks c.in-Ok.ensures in
     let here : slice_index p l ≡ c.in-Ok.i = path-here c.loop-full.path p l c.in-Ok.i held.path held.levels c.set.ensures.place in
     held.rest p (Ok l) b (λ m lt. path-above c.loop-full.path p l c.in-Ok.i m c.set.ensures.place lt)
     (Descends-hit g.F.FnMut read tie (4 * (l + 1)) c.loop-full.full l n p a b (omega arith) held.formed (subst (λ i. SearchesWithin g.F.FnMut read (row n) 4 tie a (Ok i) b) (sym here) s))
@@ -50,25 +49,25 @@ returns-then-level-eq0-clause-descends g c =
     let tie = c.args.tie.now in
     let l = c.loop-full.level in
     let n = c.loop-full.node.now in
-    let p = c.set-in-Err.new.self in
+    let p = c.keep_or_set.new.self in
     let a = c.loop-full.asking in
     let b = c.search.new.asking in
     let held = c.loop-full.invariant in
-    let s = row_searched g.F.FnMut read tie l n c.as_slice.result.now (Err c.in-Err.i) a b held.formed c.as_slice.ensures c.in-Err.ensures in
-    let here : slice_index p l ≡ c.in-Err.i = path-here c.loop-full.path p l c.in-Err.i held.path held.levels c.set-in-Err.ensures.place in
+    let s = row_searched g.F.FnMut read tie n c.as_slice.result.now c.reach_of-reach.result (Err c.in-Err.i) a b c.as_slice.ensures c.reach_of-reach.ensures.four_asks c.in-Err.ensures in
+    let here : slice_index p l ≡ c.in-Err.i = path-here c.loop-full.path p l c.in-Err.i held.path held.levels c.keep_or_set.ensures.place in
     let counts : Counts n c.loop-full.full l c.if-len-lt-CAPACITY.full =
     elim c.if-len-lt-CAPACITY.branch [
       | then-len-lt-CAPACITY w ↦ Counts-not_full n c.loop-full.full l c.if-len-lt-CAPACITY.full c.len.result held.above c.len.ensures.length w.if-len-lt-CAPACITY.true w.full-is
       | else-len-lt-CAPACITY w ↦ Counts-full n c.loop-full.full l c.if-len-lt-CAPACITY.full c.len.result held.above c.len.ensures.length w.if-len-lt-CAPACITY.false w.full-is
     ] in
-    held.rest p (Err c.if-len-lt-CAPACITY.full) b (λ m lt. path-above c.loop-full.path p l c.in-Err.i m c.set-in-Err.ensures.place lt)
+    held.rest p (Err c.if-len-lt-CAPACITY.full) b (λ m lt. path-above c.loop-full.path p l c.in-Err.i m c.keep_or_set.ensures.place lt)
     (Descends-leaf g.F.FnMut read tie (4 * (l + 1)) c.loop-full.full c.if-len-lt-CAPACITY.full l n p a b (omega arith) c.if-level-eq0.true held.formed (subst (λ i. SearchesWithin g.F.FnMut read (row n) 4 tie a (Err i) b) (sym here) s) counts)
 
 pub index-node-requires : goal.index-node-requires
 index-node-requires g c =
     let n = c.loop-full.node.now in
     let held = c.loop-full.invariant in
-    let s = row_searched g.F.FnMut (g.H.Reads.reading c.args.how.now) c.args.tie.now c.loop-full.level n c.as_slice.result.now (Err c.in-Err.i) c.loop-full.asking c.search.new.asking held.formed c.as_slice.ensures c.in-Err.ensures in
+    let s = row_searched g.F.FnMut (g.H.Reads.reading c.args.how.now) c.args.tie.now n c.as_slice.result.now c.reach_of-reach.result (Err c.in-Err.i) c.loop-full.asking c.search.new.asking c.as_slice.ensures c.reach_of-reach.ensures.four_asks c.in-Err.ensures in
     let lt : c.in-Err.i < length (children n) = child-within c.loop-full.level n c.in-Err.i c.if-level-eq0.false held.formed s.missed in
     search (rules, lt)
 
@@ -80,13 +79,13 @@ loop-full-preserved g c =
     let n = c.loop-full.node.now in
     let i = c.in-Err.i in
     let k = c.index-node.result.now in
-    let path = c.set-in-Err.new.self in
+    let path = c.keep_or_set.new.self in
     let a = c.loop-full.asking in
     let b = c.search.new.asking in
     let full = c.if-len-lt-CAPACITY.full in
     let ne = c.if-level-eq0.false in
     let held = c.loop-full.invariant in
-    let s = row_searched g.F.FnMut read tie l n c.as_slice.result.now (Err i) a b held.formed c.as_slice.ensures c.in-Err.ensures in
+    let s = row_searched g.F.FnMut read tie n c.as_slice.result.now c.reach_of-reach.result (Err i) a b c.as_slice.ensures c.reach_of-reach.ensures.four_asks c.in-Err.ensures in
     let lt : i < length (children n) = child-within l n i ne held.formed s.missed in
     let same : k ≡ child n i = child_is n i k lt c.index-node.ensures in
     let levels = held.levels in
@@ -95,18 +94,16 @@ loop-full-preserved g c =
       | then-len-lt-CAPACITY w ↦ Counts-not_full n c.loop-full.full l c.if-len-lt-CAPACITY.full c.len.result held.above c.len.ensures.length w.if-len-lt-CAPACITY.true w.full-is
       | else-len-lt-CAPACITY w ↦ Counts-full n c.loop-full.full l c.if-len-lt-CAPACITY.full c.len.result held.above c.len.ensures.length w.if-len-lt-CAPACITY.false w.full-is
     ] in
-    let down = held.below in
     record {
       formed = rw same (child-formed l n i ne held.formed lt);
-      below = omega arith;
-      kept = λ m up. path-above c.loop-full.path path l i m c.set-in-Err.ensures.place (omega arith) ∙ held.kept m up;
+      first = λ is m le. search rules;
       levels = omega arith;
-      path = c.set-in-Err.ensures.length;
+      path = c.keep_or_set.ensures.length;
       can_search = subst (λ z. CanSearch g.F.FnMut (flat (l - 1) z) tie b) (sym same) (can_ask_below g.F.FnMut read tie l n i a b ne held.formed s held.can_search);
       above = counts_above n c.loop-full.full l full ne counts;
       rest = λ p end new on d.
-          let here : slice_index p l ≡ i = on l (omega arith) ∙ path-here c.loop-full.path path l i held.path held.levels c.set-in-Err.ensures.place in
-          held.rest p end new (λ m up. on m (omega arith) ∙ path-above c.loop-full.path path l i m c.set-in-Err.ensures.place up)
+          let here : slice_index p l ≡ i = on l (omega arith) ∙ path-here c.loop-full.path path l i held.path held.levels c.keep_or_set.ensures.place in
+          held.rest p end new (λ m up. on m (omega arith) ∙ path-above c.loop-full.path path l i m c.keep_or_set.ensures.place up)
           (Descends-below g.F.FnMut read tie (4 * (l + 1)) c.loop-full.full full l n p end a b new (omega arith) ne held.formed (subst (λ z. SearchesWithin g.F.FnMut read (row n) 4 tie a (Err z) b) (sym here) s) counts
           (subst (λ z. Descends g.F.FnMut read tie (4 * (l - 1 + 1)) full (l - 1) z b p end new) (same ∙ ap (child n) (sym here)) d));
     }

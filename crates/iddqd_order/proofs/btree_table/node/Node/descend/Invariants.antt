@@ -1,4 +1,4 @@
-use Rattle.std.proofs.Common.{◌≡◌, ◌<◌, ◌≤◌, ℕ, ◌+◌, ◌*◌, Result, length, slice_index}
+use Rattle.std.proofs.Common.{◌≡◌, ◌<◌, ◌≤◌, ℕ, ◌+◌, ◌*◌, IsTrue, Result, length, slice_index}
 use Rattle.iddqd_order.specs.Descent.{Descends}
 use Rattle.iddqd_order.specs.Node.{flat, IsFormed}
 use Rattle.iddqd_order.specs.Search.{CanSearch}
@@ -13,9 +13,8 @@ invariant-loop-full g l = record {
   above : l.level < l.full;
   rest : (p : _) (end : Result ℕ ℕ) (new : _) → ((m : ℕ) → l.level < m → slice_index p m ≡ slice_index l.path m)
       → Descends g.F.FnMut (g.H.Reads.reading l.how) l.tie (4 * (l.level + 1)) l.full l.level l.node l.asking p end new
-      → Descends g.F.FnMut (g.H.Reads.reading l.how) l.tie (4 * (l.fn.height + 1)) l.fn.above l.fn.height l.fn.self l.fn.asking p end new;
-  below : l.level ≤ l.fn.height;
-  kept : (m : ℕ) → l.fn.height < m → slice_index l.path m ≡ slice_index l.fn.path m;
+      → Descends g.F.FnMut (g.H.Reads.reading l.how) l.tie (4 * (l.fn.height + 1)) (l.fn.height + 1) l.fn.height l.fn.self l.fn.asking p end new;
+  first : IsTrue l.is_leftmost → (m : ℕ) → m ≤ l.level → slice_index l.path m ≡ 0;
 }
 
 abbrev pub decreases-loop-full : goal.decreases-loop-full

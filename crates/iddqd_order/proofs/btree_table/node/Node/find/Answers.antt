@@ -9,8 +9,8 @@ use Rattle.iddqd_order.proofs.btree_table.node.Node.find.Goals as goal
 pub loop-i-init : goal.loop-i-init
 loop-i-init g c = record { formed = c.requires.formed; levels = c.requires.levels; path = c.requires.path; can_search = c.requires.can_search; rest = λ found new f. f }
 
-pub search-requires : goal.search-requires
-search-requires g c =
+pub search-requires-clause-can_search : goal.search-requires-clause-can_search
+search-requires-clause-can_search g c =
     let n = c.loop-i.node.now in
     subst (λ xs. CanSearch g.F.FnMut xs None c.loop-i.asking) (sym c.as_slice.ensures) (can_ask_row g.F.FnMut (g.H.Reads.reading c.args.how.now) None c.loop-i.level n c.loop-i.asking c.loop-i.invariant.formed c.loop-i.invariant.can_search)
 
@@ -18,7 +18,7 @@ pub returns-in-Ok-clause-finds : goal.returns-in-Ok-clause-finds
 returns-in-Ok-clause-finds g c =
     let n = c.loop-i.node.now in
     let f = c.loop-i.invariant.formed in
-    let s = row_searched g.F.FnMut (g.H.Reads.reading c.args.how.now) None c.loop-i.level n c.as_slice.result.now (Ok c.in-Ok.i) c.loop-i.asking c.search.new.asking f c.as_slice.ensures c.in-Ok.ensures in
+    let s = row_searched g.F.FnMut (g.H.Reads.reading c.args.how.now) None n c.as_slice.result.now c.len.result (Ok c.in-Ok.i) c.loop-i.asking c.search.new.asking c.as_slice.ensures (omega (arith, c.len.ensures.within)) c.in-Ok.ensures in
     c.loop-i.invariant.rest (Some c.get.result) c.search.new.asking
     (FindsIn-hit g.F.FnMut (g.H.Reads.reading c.args.how.now) None c.loop-i.level n c.in-Ok.i c.get.result c.loop-i.asking c.search.new.asking f s c.get.ensures)
 
@@ -26,14 +26,14 @@ pub returns-then-level-eq0-clause-finds : goal.returns-then-level-eq0-clause-fin
 returns-then-level-eq0-clause-finds g c =
     let n = c.loop-i.node.now in
     let f = c.loop-i.invariant.formed in
-    let s = row_searched g.F.FnMut (g.H.Reads.reading c.args.how.now) None c.loop-i.level n c.as_slice.result.now (Err c.in-Err.i) c.loop-i.asking c.search.new.asking f c.as_slice.ensures c.in-Err.ensures in
+    let s = row_searched g.F.FnMut (g.H.Reads.reading c.args.how.now) None n c.as_slice.result.now c.len.result (Err c.in-Err.i) c.loop-i.asking c.search.new.asking c.as_slice.ensures (omega (arith, c.len.ensures.within)) c.in-Err.ensures in
     c.loop-i.invariant.rest None c.search.new.asking
     (FindsIn-leaf g.F.FnMut (g.H.Reads.reading c.args.how.now) None c.loop-i.level n c.in-Err.i c.loop-i.asking c.search.new.asking c.if-level-eq0.true f s)
 
 pub index-node-requires : goal.index-node-requires
 index-node-requires g c =
     let n = c.loop-i.node.now in
-    let s = row_searched g.F.FnMut (g.H.Reads.reading c.args.how.now) None c.loop-i.level n c.as_slice.result.now (Err c.in-Err.i) c.loop-i.asking c.search.new.asking c.loop-i.invariant.formed c.as_slice.ensures c.in-Err.ensures in
+    let s = row_searched g.F.FnMut (g.H.Reads.reading c.args.how.now) None n c.as_slice.result.now c.len.result (Err c.in-Err.i) c.loop-i.asking c.search.new.asking c.as_slice.ensures (omega (arith, c.len.ensures.within)) c.in-Err.ensures in
     let lt : c.in-Err.i < length (children n) = child-within c.loop-i.level n c.in-Err.i c.if-level-eq0.false c.loop-i.invariant.formed s.missed in
     search (rules, lt)
 
@@ -46,7 +46,7 @@ loop-i-preserved g c =
     let k = c.index-node.result.now in
     let ne = c.if-level-eq0.false in
     let f = c.loop-i.invariant.formed in
-    let s = row_searched g.F.FnMut read None l n c.as_slice.result.now (Err i) c.loop-i.asking c.search.new.asking f c.as_slice.ensures c.in-Err.ensures in
+    let s = row_searched g.F.FnMut read None n c.as_slice.result.now c.len.result (Err i) c.loop-i.asking c.search.new.asking c.as_slice.ensures (omega (arith, c.len.ensures.within)) c.in-Err.ensures in
     let lt : i < length (children n) = child-within l n i ne f s.missed in
     let same : k ≡ child n i = child_is n i k lt c.index-node.ensures in
     record {

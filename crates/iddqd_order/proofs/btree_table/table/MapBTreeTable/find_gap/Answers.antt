@@ -10,7 +10,7 @@ use Rattle.iddqd_order.proofs.btree_table.table.MapBTreeTable.find_gap.Goals as 
 
 pub returns-in_default : goal.returns-in_default
 returns-in_default g c =
-    let none = nowhere c.args.self.now _ _ _ c.new-path.result c.self.view_is c.in_default.is in
+    let none = nowhere c.args.self.now _ _ _ c.first-path.result c.self.view_is c.in_default.is in
     record {
       goes = none.goes;
       full = none.full;
@@ -25,9 +25,9 @@ descend_to_gap-requires g c =
     let r = root_of c.args.self.now _ _ _ _ _ c.in-Some.root c.self.view_is c.self.invariant c.in-Some.is in
     record {
       formed = r.formed;
-      some = r.some;
       levels = r.low;
-      path = c.new-path.ensures;
+      path = c.first-path.ensures.length;
+      first = λ l le. c.first-path.ensures.places l;
       can_search = subst (λ xs. CanSearch g.F.FnMut xs (Some c.args.ix) c.args.asking.now) (sym r.list) c.requires.can_ask;
     }
 

@@ -31,8 +31,8 @@ descend-requires g c =
     record {
       formed = r.formed;
       levels = r.low;
-      above = omega arith;
-      path = c.new-path.ensures;
+      path = c.first-path.ensures.length;
+      first = λ l le. c.first-path.ensures.places l;
       can_search = subst (λ xs. CanSearch g.F.FnMut xs (Some c.args.ix) c.args.asking.now) (sym r.list) c.requires;
     }
 
