@@ -204,9 +204,6 @@ child-within l n i ne f le = let one = (formed-inner l n ne f).inner.one_more in
 pub child-formed : (l : ℕ) (n : Node) (i : ℕ) → l ≢ 0 → IsFormed l n → i < length (children n) → IsFormed (l - 1) (child n i)
 child-formed l n i ne f lt = ((formed-inner l n ne f).below i n lt).1
 
-pub child-some : (l : ℕ) (n : Node) (i : ℕ) → l ≢ 0 → IsFormed l n → i < length (children n) → 1 ≤ length (row (child n i))
-child-some l n i ne f lt = let five = ((formed-inner l n ne f).below i n lt).0 in omega arith
-
 pub child_is : (n : Node) (i : ℕ) (k : Node) → i < length (children n) → k ≡ get_or (children n) i k → k ≡ child n i
 child_is n i k lt e = e ∙ any_default (children n) i k n lt
 
@@ -278,8 +275,8 @@ module _ {F R : Type 0} (g : Mut F (ℕ × Unit {0}) R) (read : R → Ordering) 
       CanSearch-row (row n) (lists (suc h - 1) (children n)) (lists-one_more (suc h) n ne f) g read tie a (subst (λ xs. CanSearch g xs tie a) (flat-inner (suc h) n ne) c)
 
   -- four asks search a row
-  pub row_searched : (n : Node) (xs : List ℕ) (reach : ℕ) (end : Result ℕ ℕ) (a b : Asking F) → xs ≡ row n → reach ≤ 15 → SearchesWithin g read xs (digits reach) tie a end b → SearchesWithin g read (row n) 4 tie a end b
-  row_searched n xs reach end a b e four s = subst (λ zs. SearchesWithin g read zs 4 tie a end b) e (SearchesWithin-more g read tie (four_digits reach four) s)
+  pub row_searched : (row xs : List ℕ) (reach : ℕ) (end : Result ℕ ℕ) (a b : Asking F) → xs ≡ row → reach ≤ 15 → SearchesWithin g read xs (digits reach) tie a end b → SearchesWithin g read row 4 tie a end b
+  row_searched row xs reach end a b e four s = subst (λ zs. SearchesWithin g read zs 4 tie a end b) e (SearchesWithin-more g read tie (four_digits reach four) s)
 
   -- and after a miss in the row, the child at that place
   pub can_ask_below : {k : ℕ} (l : ℕ) (n : Node) (i : ℕ) (a b : Asking F) → l ≢ 0 → IsFormed l n → SearchesWithin g read (row n) k tie a (Err i) b → CanSearch g (flat l n) tie a → CanSearch g (flat (l - 1) (child n i)) tie b

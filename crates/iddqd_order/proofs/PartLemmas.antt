@@ -120,25 +120,6 @@ module _ {F R : Type 0} (g : Mut F (ℕ × Unit {0}) R) (read : R → Ordering) 
     place = λ answer sr. s.place answer (record { steady = Steady-later g (Askable xs tie) p.after sr.steady; rising = sr.rising });
   }
 
-  -- the first of a list, where it is answered Less, is the place
-  pub SearchesWithin-first : (xs : List ℕ) (a b : Asking F) → 1 ≤ length xs → AsksWithin g (Askable xs tie) 1 a b
-      → ((answer : ℕ → Ordering) → Steady g (Askable xs tie) read answer (closure_of a) → with_ties tie answer (get_or xs 0 0) ≡ Less) → SearchesWithin g read xs 1 tie a (Err 0) b
-  SearchesWithin-first xs a b some p less = record {
-    asked = p;
-    found = tt;
-    missed = omega arith;
-    itself = tt;
-    hit = λ answer steady. tt;
-    place = λ answer sr. record {
-      within = omega arith;
-      greater_before = λ k lt. absurd (omega arith);
-      less_from = λ k from lt. elim (cases_lt 0 k) [
-        | inl up ↦ sr.rising.less_after 0 k up lt (less answer sr.steady)
-        | inr le ↦ (let same : 0 ≡ k = omega arith in subst (λ m. with_ties tie answer (get_or xs m 0) ≡ Less) same (less answer sr.steady))
-      ];
-    };
-  }
-
   -- asks about the whole lead to a part before which all is Greater and after which all is Less, if the answers rise
   pub record LeadsTo (limit : ℕ) (b c d : List ℕ) (old mid : Asking F) : Type 0 where
     pub asked : AsksWithin g (Askable (b ++ (c ++ d)) tie) limit old mid

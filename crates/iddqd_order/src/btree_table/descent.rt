@@ -3,7 +3,7 @@ ghost use Rattle.std.specs.Prelude.{◌≡◌, ℕ, ◌+◌, ◌*◌, ◌<◌, �
 ghost use Rattle.iddqd_order.specs.Descent.{Descends, FindsIn};
 ghost use Rattle.iddqd_order.specs.MapBTreeTable.{StandsAt};
 ghost use Rattle.iddqd_order.specs.Node.{flat, IsFormed, Holds, spot};
-ghost use Rattle.iddqd_order.specs.Search.{CanSearch};
+ghost use Rattle.iddqd_order.specs.Search.{CanSearch, SearchesWithin};
 
 use crate::btree_table::asking::Asking;
 use crate::btree_table::node::Node;
@@ -33,7 +33,7 @@ impl Node {
         let mut node = self;
         let mut level = height;
         loop {
-            match search(node.row.as_slice(), node.row.len(), asking, how, &tie) {
+            match search_row(&node.row, false, asking, how, &tie) {
                 Ok(i) => return Some(node.row.get(i)),
                 Err(i) => {
                     path.set(level, i);
@@ -74,8 +74,7 @@ impl Node {
             if node.row.len() < CAPACITY {
                 full = level;
             }
-            let reach = reach_of(&node.row, is_leftmost);
-            match search(node.row.as_slice(), reach, asking, how, tie) {
+            match search_row(&node.row, is_leftmost, asking, how, tie) {
                 Ok(i) => {
                     path.set(level, i);
                     return Ok(level);
@@ -122,14 +121,25 @@ impl Node {
     }
 }
 
-// How many places the search of a row is to tell apart: by four asks at the left edge, and else by as
-// few as the row needs.
-fn reach_of(row: &Row, is_leftmost: bool) -> usize
-    ensures within { length row.now ≤ result }
-    ensures four_asks { result ≤ 15 }
+// The place in a row of what is sought, or where it would go. A search that leans to the left asks as
+// often as may be: four asks tell fifteen places apart.
+fn search_row<R, F: FnMut(ItemIndex) -> R, H: Reads<R>>(
+    row: &Row,
+    leans: bool,
+    asking: &mut Asking<F>,
+    how: &H,
+    tie: &Option<ItemIndex>,
+) -> Result<usize, usize>
+    requires { CanSearch F.FnMut row.now tie.now asking.old }
+    ensures { SearchesWithin F.FnMut (H.reading how.now) row.now 4 tie.now asking.old result asking.new }
 {
     let len = row.len();
-    if is_leftmost { 15 } else { len }
+    let items = row.as_slice();
+    if leans {
+        search(items, 15, true, asking, how, tie)
+    } else {
+        search(items, len, false, asking, how, tie)
+    }
 }
 
 // Where the index stands in a row.

@@ -1,5 +1,5 @@
 //! The search of a row by halves, on which all searching calls stand.
-ghost use Rattle.std.specs.Prelude.{◌≡◌, ◌≢◌, ℕ, ◌≤◌, List, Contains, Some, length};
+ghost use Rattle.std.specs.Prelude.{◌≡◌, ◌≢◌, ℕ, ◌+◌, ◌*◌, ◌<◌, ◌≤◌, List, Contains, Some, length};
 ghost use Rattle.std.specs.declared.cmp.Ordering.{Ordering};
 ghost use Rattle.iddqd_order.specs.Asking.{closure_of};
 ghost use Rattle.iddqd_order.specs.Asks.{AsksWithin, Steady};
@@ -42,11 +42,29 @@ pub(super) fn compare<R, F: FnMut(ItemIndex) -> R, H: Reads<R>>(
     }
 }
 
+// How many of so many indexes stand before the one that is asked about: half of them, or as few as
+// leave no more than `reach` behind it.
+fn count_before(leans: bool, count: usize, reach: usize) -> usize
+    requires some { 0 < count }
+    requires few { count ≤ 2 * reach + 1 }
+    ensures within { result < count }
+    ensures in_front { result ≤ reach }
+    ensures behind { count ≤ result + reach + 1 }
+{
+    if leans {
+        (count - 1).saturating_sub(reach)
+    } else {
+        count / 2
+    }
+}
+
 // The place of what is sought, or where it would go. It asks as often as tells `reach` places apart.
-// Where there are fewer, it asks the further to the left: the first places are then reached sooner.
+// A search that leans reaches the first places the sooner, the fewer there are.
+#[inline(always)]
 pub(super) fn search<R, F: FnMut(ItemIndex) -> R, H: Reads<R>>(
     items: &[ItemIndex],
     reach: usize,
+    leans: bool,
     asking: &mut Asking<F>,
     how: &H,
     tie: &Option<ItemIndex>,
@@ -60,7 +78,7 @@ pub(super) fn search<R, F: FnMut(ItemIndex) -> R, H: Reads<R>>(
     let mut reach = reach;
     while low < high {
         reach /= 2;
-        let middle = low + (high - low).saturating_sub(reach + 1);
+        let middle = low + count_before(leans, high - low, reach);
         match compare(asking, how, tie, items[middle]) {
             Ordering::Less => high = middle,
             Ordering::Equal => return Ok(middle),

@@ -1,7 +1,6 @@
-use Rattle.std.proofs.Common.{arith, ◌≡◌, ◌+◌, ◌-◌, ◌/◌, ◌<◌, length, get_or, Contains, refl, sym, ◌∙◌, ap}
+use Rattle.std.proofs.Common.{arith, ◌≡◌, ◌+◌, ◌<◌, length, get_or, Contains, refl, sym, ◌∙◌, ap}
 use Rattle.std.proofs.lemmas.List.{get_or_default}
 use Rattle.iddqd_order.specs.Search.{Askable, with_ties}
-use Rattle.iddqd_order.specs.Digits.{digits}
 use Rattle.iddqd_order.proofs.AskLemmas.{asks_none, asks_then, asks_more, Steady-later}
 use Rattle.iddqd_order.proofs.DigitLemmas.{digits-half}
 use Rattle.iddqd_order.proofs.SearchLemmas.{Askable-other, IsPlace-from_split, split-init, split-less, split-greater}
@@ -19,7 +18,7 @@ loop-low-init g c = record {
 
 pub loop-low-preserved-in-Less : goal.loop-low-preserved-in-Less
 loop-low-preserved-in-Less g c =
-    let xs = c.args.items.now in let low = c.loop-low.low in let high = c.loop-low.high in let middle = low + c.saturating_sub.result in
+    let xs = c.args.items.now in let low = c.loop-low.low in let high = c.loop-low.high in let middle = low + c.count_before.result in
     let lt : middle < length xs = omega arith in
     let read : c.index-items-middle.result ≡ get_or xs middle 0 = c.index-items-middle.is ∙ get_or_default xs middle _ 0 lt in
     let held : Contains xs c.index-items-middle.result = Contains-at xs middle _ lt read in
@@ -39,7 +38,7 @@ loop-low-preserved-in-Less g c =
 
 pub loop-low-preserved : goal.loop-low-preserved
 loop-low-preserved g c =
-    let xs = c.args.items.now in let low = c.loop-low.low in let high = c.loop-low.high in let middle = low + c.saturating_sub.result in
+    let xs = c.args.items.now in let low = c.loop-low.low in let high = c.loop-low.high in let middle = low + c.count_before.result in
     let lt : middle < length xs = omega arith in
     let read : c.index-items-middle.result ≡ get_or xs middle 0 = c.index-items-middle.is ∙ get_or_default xs middle _ 0 lt in
     let held : Contains xs c.index-items-middle.result = Contains-at xs middle _ lt read in
@@ -59,7 +58,7 @@ loop-low-preserved g c =
 
 pub returns-in-Equal : goal.returns-in-Equal
 returns-in-Equal g c =
-    let xs = c.args.items.now in let low = c.loop-low.low in let high = c.loop-low.high in let middle = low + c.saturating_sub.result in
+    let xs = c.args.items.now in let low = c.loop-low.low in let high = c.loop-low.high in let middle = low + c.count_before.result in
     let lt : middle < length xs = omega arith in
     let read : c.index-items-middle.result ≡ get_or xs middle 0 = c.index-items-middle.is ∙ get_or_default xs middle _ 0 lt in
     let held : Contains xs c.index-items-middle.result = Contains-at xs middle _ lt read in
@@ -93,7 +92,7 @@ returns g c =
 
 pub compare-requires : goal.compare-requires
 compare-requires g c other =
-    let xs = c.args.items.now in let low = c.loop-low.low in let high = c.loop-low.high in let middle = low + c.saturating_sub.result in
+    let xs = c.args.items.now in let low = c.loop-low.low in let high = c.loop-low.high in let middle = low + c.count_before.result in
     let lt : middle < length xs = omega arith in
     let read : c.index-items-middle.result ≡ get_or xs middle 0 = c.index-items-middle.is ∙ get_or_default xs middle _ 0 lt in
     c.requires.can_search.at _ _ c.loop-low.invariant.asked.2.after _ (Askable-other xs c.args.tie.now _ other (Contains-at xs middle _ lt read))

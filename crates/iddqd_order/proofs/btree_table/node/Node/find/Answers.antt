@@ -1,39 +1,39 @@
-use Rattle.std.proofs.Common.{ap, ◌≡◌, ◌-◌, ◌<◌, Some, None, Ok, Err, length, arith, sym, subst, rules}
+use Rattle.std.proofs.Common.{◌≡◌, ◌-◌, ◌<◌, Some, None, length, arith, sym, subst, rules}
 use Rattle.iddqd_order.specs.Descent.{FindsIn}
 use Rattle.iddqd_order.specs.Node.{children, child, flat}
 use Rattle.iddqd_order.specs.Search.{CanSearch}
-use Rattle.iddqd_order.proofs.DescentLemmas.{FindsIn-hit, FindsIn-leaf, FindsIn-below, can_ask_row, can_ask_below, child-within, child-formed, child_is, row_searched}
+use Rattle.iddqd_order.proofs.DescentLemmas.{FindsIn-hit, FindsIn-leaf, FindsIn-below, can_ask_row, can_ask_below, child-within, child-formed, child_is}
 use Rattle.iddqd_order.proofs.NodeLemmas.{formed-within}
 use Rattle.iddqd_order.proofs.btree_table.node.Node.find.Goals as goal
 
 pub loop-i-init : goal.loop-i-init
 loop-i-init g c = record { formed = c.requires.formed; levels = c.requires.levels; path = c.requires.path; can_search = c.requires.can_search; rest = λ found new f. f }
 
-pub search-requires-clause-can_search : goal.search-requires-clause-can_search
-search-requires-clause-can_search g c =
+pub search_row-requires : goal.search_row-requires
+search_row-requires g c =
     let n = c.loop-i.node.now in
-    subst (λ xs. CanSearch g.F.FnMut xs None c.loop-i.asking) (sym c.as_slice.ensures) (can_ask_row g.F.FnMut (g.H.Reads.reading c.args.how.now) None c.loop-i.level n c.loop-i.asking c.loop-i.invariant.formed c.loop-i.invariant.can_search)
+    can_ask_row g.F.FnMut (g.H.Reads.reading c.args.how.now) None c.loop-i.level n c.loop-i.asking c.loop-i.invariant.formed c.loop-i.invariant.can_search
 
 pub returns-in-Ok-clause-finds : goal.returns-in-Ok-clause-finds
 returns-in-Ok-clause-finds g c =
     let n = c.loop-i.node.now in
     let f = c.loop-i.invariant.formed in
-    let s = row_searched g.F.FnMut (g.H.Reads.reading c.args.how.now) None n c.as_slice.result.now c.len.result (Ok c.in-Ok.i) c.loop-i.asking c.search.new.asking c.as_slice.ensures (omega (arith, c.len.ensures.within)) c.in-Ok.ensures in
-    c.loop-i.invariant.rest (Some c.get.result) c.search.new.asking
-    (FindsIn-hit g.F.FnMut (g.H.Reads.reading c.args.how.now) None c.loop-i.level n c.in-Ok.i c.get.result c.loop-i.asking c.search.new.asking f s c.get.ensures)
+    let s = c.in-Ok.ensures in
+    c.loop-i.invariant.rest (Some c.get.result) c.search_row.new.asking
+    (FindsIn-hit g.F.FnMut (g.H.Reads.reading c.args.how.now) None c.loop-i.level n c.in-Ok.i c.get.result c.loop-i.asking c.search_row.new.asking f s c.get.ensures)
 
 pub returns-then-level-eq0-clause-finds : goal.returns-then-level-eq0-clause-finds
 returns-then-level-eq0-clause-finds g c =
     let n = c.loop-i.node.now in
     let f = c.loop-i.invariant.formed in
-    let s = row_searched g.F.FnMut (g.H.Reads.reading c.args.how.now) None n c.as_slice.result.now c.len.result (Err c.in-Err.i) c.loop-i.asking c.search.new.asking c.as_slice.ensures (omega (arith, c.len.ensures.within)) c.in-Err.ensures in
-    c.loop-i.invariant.rest None c.search.new.asking
-    (FindsIn-leaf g.F.FnMut (g.H.Reads.reading c.args.how.now) None c.loop-i.level n c.in-Err.i c.loop-i.asking c.search.new.asking c.if-level-eq0.true f s)
+    let s = c.in-Err.ensures in
+    c.loop-i.invariant.rest None c.search_row.new.asking
+    (FindsIn-leaf g.F.FnMut (g.H.Reads.reading c.args.how.now) None c.loop-i.level n c.in-Err.i c.loop-i.asking c.search_row.new.asking c.if-level-eq0.true f s)
 
 pub index-node-requires : goal.index-node-requires
 index-node-requires g c =
     let n = c.loop-i.node.now in
-    let s = row_searched g.F.FnMut (g.H.Reads.reading c.args.how.now) None n c.as_slice.result.now c.len.result (Err c.in-Err.i) c.loop-i.asking c.search.new.asking c.as_slice.ensures (omega (arith, c.len.ensures.within)) c.in-Err.ensures in
+    let s = c.in-Err.ensures in
     let lt : c.in-Err.i < length (children n) = child-within c.loop-i.level n c.in-Err.i c.if-level-eq0.false c.loop-i.invariant.formed s.missed in
     search (rules, lt)
 
@@ -46,19 +46,19 @@ loop-i-preserved g c =
     let k = c.index-node.result.now in
     let ne = c.if-level-eq0.false in
     let f = c.loop-i.invariant.formed in
-    let s = row_searched g.F.FnMut read None n c.as_slice.result.now c.len.result (Err i) c.loop-i.asking c.search.new.asking c.as_slice.ensures (omega (arith, c.len.ensures.within)) c.in-Err.ensures in
+    let s = c.in-Err.ensures in
     let lt : i < length (children n) = child-within l n i ne f s.missed in
     let same : k ≡ child n i = child_is n i k lt c.index-node.ensures in
     record {
       formed = rw same (child-formed l n i ne f lt);
       levels = (let le = c.loop-i.invariant.levels in omega arith);
       path = c.set.ensures.length;
-      can_search = subst (λ z. CanSearch g.F.FnMut (flat (l - 1) z) None c.search.new.asking) (sym same) (can_ask_below g.F.FnMut read None l n i c.loop-i.asking c.search.new.asking ne f s c.loop-i.invariant.can_search);
+      can_search = subst (λ z. CanSearch g.F.FnMut (flat (l - 1) z) None c.search_row.new.asking) (sym same) (can_ask_below g.F.FnMut read None l n i c.loop-i.asking c.search_row.new.asking ne f s c.loop-i.invariant.can_search);
       rest = λ found new t.
-          c.loop-i.invariant.rest found new (FindsIn-below g.F.FnMut read None l n i found c.loop-i.asking c.search.new.asking new ne f s
-          (subst (λ z. FindsIn g.F.FnMut read None (l - 1) z c.search.new.asking found new) same t));
+          c.loop-i.invariant.rest found new (FindsIn-below g.F.FnMut read None l n i found c.loop-i.asking c.search_row.new.asking new ne f s
+          (subst (λ z. FindsIn g.F.FnMut read None (l - 1) z c.search_row.new.asking found new) same t));
     }
 
 pub set-requires-clause-place : goal.set-requires-clause-place
 set-requires-clause-place g c =
-    omega (arith, c.in-Err.ensures.missed, ap length c.as_slice.ensures, formed-within c.loop-i.level c.loop-i.node.now c.loop-i.invariant.formed)
+    omega (arith, c.in-Err.ensures.missed, formed-within c.loop-i.level c.loop-i.node.now c.loop-i.invariant.formed)

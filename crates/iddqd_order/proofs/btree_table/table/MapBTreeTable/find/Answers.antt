@@ -1,4 +1,4 @@
-use Rattle.std.proofs.Common.{ℕ, List, [], Some, None, Option, ap, sym, subst, ◌∙◌, ◌≡◌, ◌≢◌, All, arith}
+use Rattle.std.proofs.Common.{[], None, sym, subst, ◌≢◌, All, arith}
 use Rattle.std.specs.declared.cmp.Ordering.TheVariants.{Equal}
 use Rattle.std.proofs.lemmas.List.Elements.{All-nil}
 use Rattle.iddqd_order.specs.MapBTreeTable.{order_of}
