@@ -1,4 +1,5 @@
 mod answers;
+mod call_lines;
 mod calls;
 mod collisions;
 mod commands;

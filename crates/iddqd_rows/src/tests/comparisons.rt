@@ -101,6 +101,40 @@ fn assert_find2(
     Ok(())
 }
 
+// A removal by first key hashes the given one.
+fn assert_remove1(
+    rt: &impl Abort,
+    items: &mut Items,
+    counts: &Rc<Counts>,
+    number: u32,
+) -> Result<(), AllocError> {
+    let key = first_of(counts, number)?;
+    assert!(rt; is_removed(remove1(items, &key), number));
+    assert_few(rt, counts, 1, (1, 24), "remove1");
+    Ok(())
+}
+
+// A removal by second key hashes the first one of the item which it found.
+fn assert_remove2(
+    rt: &impl Abort,
+    items: &mut Items,
+    counts: &Rc<Counts>,
+    number: u32,
+) -> Result<(), AllocError> {
+    let key = second_of(counts, number)?;
+    assert!(rt; is_removed(remove2(items, &key), number));
+    assert_few(rt, counts, 1, (0, 48), "remove2");
+    Ok(())
+}
+
+// A removal that walks the ordered table asks nothing. One that only walks the hash table need not hash.
+fn assert_remove(rt: &impl Abort, items: &mut Items, counts: &Counts, number: u32) {
+    assert!(rt; remove(items, number), "at {number}");
+    let order = counts.second_order.get();
+    assert!(rt; order > 0, "a removal of {number} asks nothing");
+    assert_few(rt, counts, 1, (0, 24), "a removal");
+}
+
 // Inserts the numbers below 1000.
 fn insert_thousand(
     rt: &impl Abort,
@@ -113,66 +147,65 @@ fn insert_thousand(
     Ok(())
 }
 
-fn no_items(alloc: Global) -> Items {
-    KeyedItems::new(alloc, Own(0))
+fn find_thousand(rt: &impl Abort, items: &Items, counts: &Rc<Counts>) -> Result<(), AllocError> {
+    for number in 0..1000 {
+        assert_find1(rt, items, counts, number, Some(number), 1)?;
+        assert_find2(rt, items, counts, number, Some(number))?;
+    }
+    Ok(())
 }
 
-fn new_counts(alloc: Global) -> Result<Rc<Counts>, Fail> {
-    let counts = Rc::new(alloc, Counts::new())?;
-    Ok(counts)
+// Finds of what is there and of what isn't, and a late insert.
+fn find_and_insert(
+    rt: &impl Abort,
+    items: &mut Items,
+    counts: &Rc<Counts>,
+) -> Result<(), AllocError> {
+    assert_find1(rt, items, counts, 500, Some(500), 1)?;
+    assert_find1(rt, items, counts, 1000, None, 0)?;
+    assert_find2(rt, items, counts, 500, Some(500))?;
+    assert_find2(rt, items, counts, 1000, None)?;
+    assert_insert(rt, items, counts, 1000)
+}
+
+// A thousand items.
+fn thousand(rt: &impl Abort, alloc: Global, counts: &Rc<Counts>) -> Result<Items, AllocError> {
+    let mut items = KeyedItems::new(alloc, Own(0));
+    insert_thousand(rt, &mut items, counts)?;
+    Ok(items)
 }
 
 #[test]
 fn each_find_compares_few_keys(rt: HostRuntime) -> Result<(), Fail> {
-    let counts = new_counts(rt.alloc())?;
-    let mut items = no_items(rt.alloc());
-    insert_thousand(&rt, &mut items, &counts)?;
-    for number in 0..1000 {
-        assert_find1(&rt, &items, &counts, number, Some(number), 1)?;
-        assert_find2(&rt, &items, &counts, number, Some(number))?;
-    }
+    let counts = Rc::new(rt.alloc(), Counts::new())?;
+    let items = thousand(&rt, rt.alloc(), &counts)?;
+    find_thousand(&rt, &items, &counts)?;
     Ok(())
 }
 
 #[test]
 fn calls_compare_few_keys(rt: HostRuntime) -> Result<(), Fail> {
-    let counts = new_counts(rt.alloc())?;
-    let mut items = no_items(rt.alloc());
-    insert_thousand(&rt, &mut items, &counts)?;
-    assert_find1(&rt, &items, &counts, 500, Some(500), 1)?;
-    assert_find1(&rt, &items, &counts, 1000, None, 0)?;
-    assert_find2(&rt, &items, &counts, 500, Some(500))?;
-    assert_find2(&rt, &items, &counts, 1000, None)?;
-    assert_insert(&rt, &mut items, &counts, 1000)?;
+    let counts = Rc::new(rt.alloc(), Counts::new())?;
+    let mut items = thousand(&rt, rt.alloc(), &counts)?;
+    find_and_insert(&rt, &mut items, &counts)?;
     Ok(())
 }
 
-// Either hashes one key: that of the item which it found, or the given one.
 #[test]
 fn removals_by_a_key_compare_few_keys(rt: HostRuntime) -> Result<(), Fail> {
-    let counts = new_counts(rt.alloc())?;
-    let mut items = no_items(rt.alloc());
-    insert_thousand(&rt, &mut items, &counts)?;
-    let key = second_of(&counts, 500)?;
-    assert!(rt; is_removed(remove2(&mut items, &key), 500));
-    assert_few(&rt, &counts, 1, (0, 48), "remove2 of 500");
-    let key = first_of(&counts, 501)?;
-    assert!(rt; is_removed(remove1(&mut items, &key), 501));
-    assert_few(&rt, &counts, 1, (1, 24), "remove1 of 501");
+    let counts = Rc::new(rt.alloc(), Counts::new())?;
+    let mut items = thousand(&rt, rt.alloc(), &counts)?;
+    assert_remove2(&rt, &mut items, &counts, 500)?;
+    assert_remove1(&rt, &mut items, &counts, 501)?;
     Ok(())
 }
 
-// A removal that walks the ordered table asks nothing. One that only walks the hash table need not hash.
 #[test]
 fn a_removal_searches_both_tables_for_the_index(rt: HostRuntime) -> Result<(), Fail> {
-    let counts = new_counts(rt.alloc())?;
-    let mut items = no_items(rt.alloc());
-    insert_thousand(&rt, &mut items, &counts)?;
+    let counts = Rc::new(rt.alloc(), Counts::new())?;
+    let mut items = thousand(&rt, rt.alloc(), &counts)?;
     for number in [0, 1, 500, 998, 999] {
-        assert!(rt; remove(&mut items, number), "at {number}");
-        let order = counts.second_order.get();
-        assert!(rt; order > 0, "a removal of {number} asks nothing");
-        assert_few(&rt, &counts, 1, (0, 24), "a removal");
+        assert_remove(&rt, &mut items, &counts, number);
     }
     Ok(())
 }

@@ -1,7 +1,7 @@
 //! Scripts with silent overwrites from a fixed generator.
 use super::calls::{run, step};
 use super::commands::Numbers;
-use super::driver::{Items, ix, no_items};
+use super::driver::{ix, no_items};
 use super::watched::Watched;
 use iddqd_keyed::command::{Command, Reply};
 use iddqd_lines::record::Record;
@@ -88,27 +88,34 @@ fn each_command_of_a_script_within_a_limit_is_allowed(rt: HostRuntime) -> Result
     Ok(())
 }
 
-// The first hundred commands of the script with that seed.
+// The first hundred commands of the script with that seed, and a walk.
 fn commands(alloc: Global, seed: u32) -> Result<Vec<Command<Record>>, AllocError> {
     let mut script = Script::new(seed);
     let mut commands = Vec::new(alloc);
     for _ in 0..100 {
         commands.push(script.command())?;
     }
+    commands.push(Command::Walk)?;
     Ok(commands)
 }
 
 // The replies of single steps.
 fn step_all(
     alloc: Global,
-    items: &mut Items,
     commands: Vec<Command<Record>>,
 ) -> Result<Vec<Reply<Record>>, AllocError> {
+    let mut items = no_items(alloc);
     let mut replies = Vec::new(alloc);
     for command in commands {
-        replies.push(step(items, command))?;
+        replies.push(step(&mut items, command))?;
     }
     Ok(replies)
+}
+
+// The replies of one run.
+fn run_all(alloc: Global, commands: Vec<Command<Record>>) -> Option<Vec<Reply<Record>>> {
+    let mut items = no_items(alloc);
+    run(&mut items, commands)
 }
 
 // Whether an item was overwritten.
@@ -121,27 +128,13 @@ fn has_overwritten(replies: &[Reply<Record>]) -> bool {
     false
 }
 
-// The replies are there, and they are the wanted ones.
-fn is_as(replies: &Option<Vec<Reply<Record>>>, want: &Vec<Reply<Record>>) -> bool {
-    match replies {
-        Some(replies) => replies == want,
-        None => false,
-    }
-}
-
-fn walk_alike(items: &mut Items, others: &mut Items) -> bool {
-    step(items, Command::Walk) == step(others, Command::Walk)
-}
-
-// A run of the script with that seed replies as single steps, and leaves what they leave.
+// A run of the script with that seed replies as single steps.
 fn assert_runs(rt: &impl Abort, alloc: Global, seed: u32) -> Result<(), AllocError> {
-    let mut stepped = no_items(alloc);
-    let want = step_all(alloc, &mut stepped, commands(alloc, seed)?)?;
+    let want = step_all(alloc, commands(alloc, seed)?)?;
     assert!(rt; has_overwritten(want.as_slice()), "of seed {seed}");
-    let mut items = no_items(alloc);
-    let replies = run(&mut items, commands(alloc, seed)?);
-    assert!(rt; is_as(&replies, &want), "of seed {seed}");
-    assert!(rt; walk_alike(&mut items, &mut stepped), "walk of seed {seed}");
+    let replies = run_all(alloc, commands(alloc, seed)?);
+    let is_alike = replies == Some(want);
+    assert!(rt; is_alike, "of seed {seed}");
     Ok(())
 }
 
