@@ -1,55 +1,13 @@
 //! Scripts of calls, and what the driver answers to them: by its calls, by single steps and by a run.
-use super::call_lines::{Call, Verb, command, halves, item, parse};
-use super::calls::{
-    clear, compact, find1, find2, get, insert, overwrite, printed, remove, remove1, remove2, run,
-    step, walk,
-};
-use super::driver::ix;
+use super::call_lines::{command, halves, parse};
+use super::calls::{printed, run, step};
+use super::told::{assert_calls, assert_told};
 use iddqd_keyed::command::{Command, Reply};
 use iddqd_keyed::keyed_items::KeyedItems;
 use iddqd_lines::record::Record;
 use std::alloc::{AllocError, Global};
 use std::hash::BuildHasher;
 use std::process::Abort;
-
-// What the call itself answers, printed as the reply to its command, if it has one.
-fn told<S: BuildHasher>(
-    alloc: Global,
-    items: &mut KeyedItems<Record, S>,
-    call: Call,
-) -> Result<String, AllocError> {
-    let [a, b, c, d] = call.numbers;
-    let reply = match call.verb {
-        Verb::Insert => insert(items, item(a, b, c)),
-        Verb::Find1 => Reply::Found(find1(items, a)),
-        Verb::Find2 => Reply::Found(find2(items, a)),
-        Verb::Remove => Reply::Removed(remove(items, ix(a))),
-        Verb::Remove1 => Reply::Removed(remove1(items, a)),
-        Verb::Remove2 => Reply::Removed(remove2(items, a)),
-        Verb::Overwrite => Reply::Overwritten(overwrite(items, ix(a), item(b, c, d))),
-        Verb::Compact => compact(items),
-        Verb::Clear => clear(items),
-        Verb::Walk => Reply::Walked(walk(alloc, items)?),
-        Verb::Get => return printed(alloc, &get(items, ix(a))),
-        Verb::Len => return printed(alloc, &items.len()),
-    };
-    printed(alloc, &reply)
-}
-
-// Each call of the script has its answer.
-fn assert_calls<S: BuildHasher>(
-    rt: &impl Abort,
-    alloc: Global,
-    items: &mut KeyedItems<Record, S>,
-    script: &str,
-) -> Result<(), AllocError> {
-    for line in script.lines() {
-        let (call, want) = halves(rt, line);
-        let told = told(alloc, items, parse(rt, call))?;
-        assert!(rt; told.as_str() == want, "{told} to {line}");
-    }
-    Ok(())
-}
 
 // The commands of the script.
 fn commands(
@@ -68,25 +26,25 @@ fn commands(
 }
 
 // The replies of single steps.
-fn step_all<S: BuildHasher + Copy>(
+fn step_all<S: BuildHasher>(
     alloc: Global,
-    mut items: KeyedItems<Record, S>,
+    items: &mut KeyedItems<Record, S>,
     commands: Vec<Command<Record>>,
 ) -> Result<Vec<Reply<Record>>, AllocError> {
     let mut replies = Vec::new(alloc);
     for command in commands {
-        replies.push(step(&mut items, command))?;
+        replies.push(step(items, command))?;
     }
     Ok(replies)
 }
 
 // The replies of one run.
-fn run_all<S: BuildHasher + Copy>(
+fn run_all<S: BuildHasher>(
     rt: &impl Abort,
-    mut items: KeyedItems<Record, S>,
+    items: &mut KeyedItems<Record, S>,
     commands: Vec<Command<Record>>,
 ) -> Vec<Reply<Record>> {
-    match run(&mut items, commands) {
+    match run(items, commands) {
         Some(replies) => replies,
         None => panic!(rt; "memory was refused"),
     }
@@ -109,7 +67,7 @@ fn assert_replies(
             panic!(rt; "no reply to {line}");
         };
         let told = printed(alloc, reply)?;
-        assert!(rt; told.as_str() == want, "{told} to {line}");
+        assert_told(rt, &told, want, line);
     }
     assert!(rt; replies.next().is_none(), "too many replies");
     Ok(())
@@ -157,8 +115,8 @@ fn assert_steps_within<S: BuildHasher + Copy>(
     script: &str,
 ) -> Result<(), AllocError> {
     let commands = commands(rt, alloc, script)?;
-    let items = KeyedItems::with_limit(alloc, hasher, limit);
-    let replies = step_all(alloc, items, commands)?;
+    let mut items = KeyedItems::with_limit(alloc, hasher, limit);
+    let replies = step_all(alloc, &mut items, commands)?;
     assert_replies(rt, alloc, replies.as_slice(), script)
 }
 
@@ -170,7 +128,7 @@ fn assert_run_within<S: BuildHasher + Copy>(
     script: &str,
 ) -> Result<(), AllocError> {
     let commands = commands(rt, alloc, script)?;
-    let items = KeyedItems::with_limit(alloc, hasher, limit);
-    let replies = run_all(rt, items, commands);
+    let mut items = KeyedItems::with_limit(alloc, hasher, limit);
+    let replies = run_all(rt, &mut items, commands);
     assert_replies(rt, alloc, replies.as_slice(), script)
 }

@@ -57,155 +57,121 @@ fn assert_few(rt: &impl Abort, counts: &Counts, hashes: u32, most: (u32, u32), c
     assert!(rt; is_within, "{call}: {taken:?}");
 }
 
-// An insert of an item whose keys are both the number, to which that index is given.
-fn assert_insert(
-    rt: &impl Abort,
-    items: &mut Items,
-    counts: &Rc<Counts>,
-    number: u32,
-) -> Result<(), AllocError> {
-    let item = item_of(counts, number)?;
-    let is_inserted = number_of(insert(items, item)) == Some(number);
-    assert!(rt; is_inserted, "at {number}");
-    assert_few(rt, counts, 1, (0, 48), "an insert");
-    Ok(())
+// Items, each at the index that is its number, and the counts of their keys.
+#[derive(Drop)]
+struct Numbered {
+    items: Items,
+    counts: Rc<Counts>,
 }
 
-// A find by first key, which compares so many at most.
-fn assert_find1(
-    rt: &impl Abort,
-    items: &Items,
-    counts: &Rc<Counts>,
-    number: u32,
-    want: Option<u32>,
-    most: u32,
-) -> Result<(), AllocError> {
-    let key = first_of(counts, number)?;
-    let is_so = number_of(find1(items, &key)) == want;
-    assert!(rt; is_so, "{number} by its first key");
-    assert_few(rt, counts, 1, (most, 0), "find1");
-    Ok(())
-}
-
-fn assert_find2(
-    rt: &impl Abort,
-    items: &Items,
-    counts: &Rc<Counts>,
-    number: u32,
-    want: Option<u32>,
-) -> Result<(), AllocError> {
-    let key = second_of(counts, number)?;
-    let is_so = number_of(find2(items, &key)) == want;
-    assert!(rt; is_so, "{number} by its second key");
-    assert_few(rt, counts, 0, (0, 24), "find2");
-    Ok(())
-}
-
-// A removal by first key hashes the given one.
-fn assert_remove1(
-    rt: &impl Abort,
-    items: &mut Items,
-    counts: &Rc<Counts>,
-    number: u32,
-) -> Result<(), AllocError> {
-    let key = first_of(counts, number)?;
-    assert!(rt; is_removed(remove1(items, &key), number));
-    assert_few(rt, counts, 1, (1, 24), "remove1");
-    Ok(())
-}
-
-// A removal by second key hashes the first one of the item which it found.
-fn assert_remove2(
-    rt: &impl Abort,
-    items: &mut Items,
-    counts: &Rc<Counts>,
-    number: u32,
-) -> Result<(), AllocError> {
-    let key = second_of(counts, number)?;
-    assert!(rt; is_removed(remove2(items, &key), number));
-    assert_few(rt, counts, 1, (0, 48), "remove2");
-    Ok(())
-}
-
-// A removal that walks the ordered table asks nothing. One that only walks the hash table need not hash.
-fn assert_remove(rt: &impl Abort, items: &mut Items, counts: &Counts, number: u32) {
-    assert!(rt; remove(items, number), "at {number}");
-    let order = counts.second_order.get();
-    assert!(rt; order > 0, "a removal of {number} asks nothing");
-    assert_few(rt, counts, 1, (0, 24), "a removal");
-}
-
-// Inserts the numbers below 1000.
-fn insert_thousand(
-    rt: &impl Abort,
-    items: &mut Items,
-    counts: &Rc<Counts>,
-) -> Result<(), AllocError> {
-    for number in 0..1000 {
-        assert_insert(rt, items, counts, number)?;
+impl Numbered {
+    // The numbers below 1000.
+    fn thousand(rt: &impl Abort, alloc: Global) -> Result<Numbered, AllocError> {
+        let counts = Rc::new(alloc, Counts::new())?;
+        let items = KeyedItems::new(alloc, Own(0));
+        let mut thousand = Numbered { items, counts };
+        for number in 0..1000 {
+            thousand.assert_insert(rt, number)?;
+        }
+        Ok(thousand)
     }
-    Ok(())
-}
 
-fn find_thousand(rt: &impl Abort, items: &Items, counts: &Rc<Counts>) -> Result<(), AllocError> {
-    for number in 0..1000 {
-        assert_find1(rt, items, counts, number, Some(number), 1)?;
-        assert_find2(rt, items, counts, number, Some(number))?;
+    fn assert_insert(&mut self, rt: &impl Abort, number: u32) -> Result<(), AllocError> {
+        let item = item_of(&self.counts, number)?;
+        let is_inserted = number_of(insert(&mut self.items, item)) == Some(number);
+        assert!(rt; is_inserted, "at {number}");
+        assert_few(rt, &self.counts, 1, (0, 48), "an insert");
+        Ok(())
     }
-    Ok(())
-}
 
-// Finds of what is there and of what isn't, and a late insert.
-fn find_and_insert(
-    rt: &impl Abort,
-    items: &mut Items,
-    counts: &Rc<Counts>,
-) -> Result<(), AllocError> {
-    assert_find1(rt, items, counts, 500, Some(500), 1)?;
-    assert_find1(rt, items, counts, 1000, None, 0)?;
-    assert_find2(rt, items, counts, 500, Some(500))?;
-    assert_find2(rt, items, counts, 1000, None)?;
-    assert_insert(rt, items, counts, 1000)
-}
+    // A find by first key, which compares so many at most.
+    fn assert_find1(
+        &self,
+        rt: &impl Abort,
+        number: u32,
+        want: Option<u32>,
+        most: u32,
+    ) -> Result<(), AllocError> {
+        let key = first_of(&self.counts, number)?;
+        let is_so = number_of(find1(&self.items, &key)) == want;
+        assert!(rt; is_so, "{number} by its first key");
+        assert_few(rt, &self.counts, 1, (most, 0), "find1");
+        Ok(())
+    }
 
-// A thousand items.
-fn thousand(rt: &impl Abort, alloc: Global, counts: &Rc<Counts>) -> Result<Items, AllocError> {
-    let mut items = KeyedItems::new(alloc, Own(0));
-    insert_thousand(rt, &mut items, counts)?;
-    Ok(items)
+    fn assert_find2(
+        &self,
+        rt: &impl Abort,
+        number: u32,
+        want: Option<u32>,
+    ) -> Result<(), AllocError> {
+        let key = second_of(&self.counts, number)?;
+        let is_so = number_of(find2(&self.items, &key)) == want;
+        assert!(rt; is_so, "{number} by its second key");
+        assert_few(rt, &self.counts, 0, (0, 24), "find2");
+        Ok(())
+    }
+
+    // A removal by first key hashes the given one.
+    fn assert_remove1(&mut self, rt: &impl Abort, number: u32) -> Result<(), AllocError> {
+        let key = first_of(&self.counts, number)?;
+        let is_so = is_removed(remove1(&mut self.items, &key), number);
+        assert!(rt; is_so, "{number} by its first key");
+        assert_few(rt, &self.counts, 1, (1, 24), "remove1");
+        Ok(())
+    }
+
+    // A removal by second key hashes the first one of the item which it found.
+    fn assert_remove2(&mut self, rt: &impl Abort, number: u32) -> Result<(), AllocError> {
+        let key = second_of(&self.counts, number)?;
+        let is_so = is_removed(remove2(&mut self.items, &key), number);
+        assert!(rt; is_so, "{number} by its second key");
+        assert_few(rt, &self.counts, 1, (0, 48), "remove2");
+        Ok(())
+    }
+
+    // A removal that walks the ordered table asks nothing. One that only walks the hash table need not
+    // hash.
+    fn assert_remove(&mut self, rt: &impl Abort, number: u32) {
+        assert!(rt; remove(&mut self.items, number), "at {number}");
+        let order = self.counts.second_order.get();
+        assert!(rt; order > 0, "a removal of {number} asks nothing");
+        assert_few(rt, &self.counts, 1, (0, 24), "a removal");
+    }
 }
 
 #[test]
 fn each_find_compares_few_keys(rt: HostRuntime) -> Result<(), Fail> {
-    let counts = Rc::new(rt.alloc(), Counts::new())?;
-    let items = thousand(&rt, rt.alloc(), &counts)?;
-    find_thousand(&rt, &items, &counts)?;
+    let thousand = Numbered::thousand(&rt, rt.alloc())?;
+    for number in 0..1000 {
+        thousand.assert_find1(&rt, number, Some(number), 1)?;
+        thousand.assert_find2(&rt, number, Some(number))?;
+    }
     Ok(())
 }
 
 #[test]
 fn calls_compare_few_keys(rt: HostRuntime) -> Result<(), Fail> {
-    let counts = Rc::new(rt.alloc(), Counts::new())?;
-    let mut items = thousand(&rt, rt.alloc(), &counts)?;
-    find_and_insert(&rt, &mut items, &counts)?;
+    let mut thousand = Numbered::thousand(&rt, rt.alloc())?;
+    thousand.assert_find1(&rt, 1000, None, 0)?;
+    thousand.assert_find2(&rt, 1000, None)?;
+    thousand.assert_insert(&rt, 1000)?;
     Ok(())
 }
 
 #[test]
 fn removals_by_a_key_compare_few_keys(rt: HostRuntime) -> Result<(), Fail> {
-    let counts = Rc::new(rt.alloc(), Counts::new())?;
-    let mut items = thousand(&rt, rt.alloc(), &counts)?;
-    assert_remove2(&rt, &mut items, &counts, 500)?;
-    assert_remove1(&rt, &mut items, &counts, 501)?;
+    let mut thousand = Numbered::thousand(&rt, rt.alloc())?;
+    thousand.assert_remove2(&rt, 500)?;
+    thousand.assert_remove1(&rt, 501)?;
     Ok(())
 }
 
 #[test]
 fn a_removal_searches_both_tables_for_the_index(rt: HostRuntime) -> Result<(), Fail> {
-    let counts = Rc::new(rt.alloc(), Counts::new())?;
-    let mut items = thousand(&rt, rt.alloc(), &counts)?;
+    let mut thousand = Numbered::thousand(&rt, rt.alloc())?;
     for number in [0, 1, 500, 998, 999] {
-        assert_remove(&rt, &mut items, &counts, number);
+        thousand.assert_remove(&rt, number);
     }
     Ok(())
 }

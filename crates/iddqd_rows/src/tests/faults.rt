@@ -1,5 +1,5 @@
 //! Sources and sinks that fail.
-use super::lines::{long_walk, repeated};
+use super::long_lines::{long_walk, repeated};
 use super::streams::{Served, Streams, serve_in_steps};
 use iddqd_lines::serve::ServeFault;
 use iddqd_lines::sink::{Sink, WriteSink};

@@ -1,4 +1,5 @@
 //! Lines of the program and their replies.
+use super::long_lines::repeated;
 use super::streams::{Streams, serve_in_steps};
 use iddqd_lines::serve::{ServeFault, serve};
 use iddqd_lines::sink::WriteSink;
@@ -16,8 +17,8 @@ pub(super) fn serve_whole(alloc: Global, input: &str) -> (Result<(), ServeFault>
     (told, replies)
 }
 
-// The replies to the input, the same in whole blocks as a byte at a time.
-fn assert_replies(rt: &impl Abort, alloc: Global, input: &str, want: &str) {
+/// The replies to the input, the same in whole blocks as a byte at a time.
+pub(super) fn assert_replies(rt: &impl Abort, alloc: Global, input: &str, want: &str) {
     let (told, replies) = serve_whole(alloc, input);
     let is_right = told == Ok(()) && replies.as_slice() == want.as_bytes();
     assert!(rt; is_right, "{replies:?} at {input:.40}");
@@ -144,15 +145,6 @@ fn what_is_no_command_is_a_bad_line(rt: HostRuntime) {
     assert_replies(&rt, rt.alloc(), "insert 1 2 3\r", "bad line\n");
 }
 
-/// The text so often.
-pub(super) fn repeated(alloc: Global, text: &str, times: u32) -> Result<String, AllocError> {
-    let mut whole = String::new(alloc);
-    for _ in 0..times {
-        whole.push_str(text)?;
-    }
-    Ok(whole)
-}
-
 // A look-up of the first key 1, written with so many zeros before it.
 fn find_with_zeros(alloc: Global, zeros: u32) -> Result<String, AllocError> {
     let mut line = repeated(alloc, "0", zeros)?;
@@ -171,98 +163,5 @@ fn a_line_of_more_than_128_bytes_is_a_bad_line(rt: HostRuntime) -> Result<(), Fa
     let longer = find_with_zeros(rt.alloc(), 123)?;
     let want = "inserted 0\nbad line\n";
     assert_replies(&rt, rt.alloc(), longer.as_str(), want);
-    Ok(())
-}
-
-#[test]
-fn a_bad_line_may_go_on_over_many_blocks(rt: HostRuntime) -> Result<(), Fail> {
-    let mut input = repeated(rt.alloc(), "x", 20000)?;
-    input.push_str("\ninsert 1 2 3\n")?;
-    assert_replies(&rt, rt.alloc(), input.as_str(), "bad line\ninserted 0\n");
-    Ok(())
-}
-
-// Inserts of `count` records, whose second keys rise with the first or fall to 0, and their replies.
-fn inserts(alloc: Global, count: u32, is_rising: bool) -> Result<(String, String), AllocError> {
-    let mut input = String::new(alloc);
-    let mut want = String::new(alloc);
-    for n in 0..count {
-        let second = if is_rising {
-            n
-        } else {
-            count.wrapping_sub(n).wrapping_sub(1)
-        };
-        writeln!(input, "insert {n} {second} 7")?;
-        writeln!(want, "inserted {n}")?;
-    }
-    Ok((input, want))
-}
-
-// The numbers below `count` as they fall.
-fn put_falling(text: &mut String, count: u32) -> Result<(), AllocError> {
-    for n in 1..count {
-        write!(text, "{} ", count.wrapping_sub(n))?;
-    }
-    text.push_str("0\n")
-}
-
-/// An input that inserts 2000 records and walks them, and the replies, the last of which is longer than
-/// a block. The second keys go down as the indexes go up.
-pub(super) fn long_walk(alloc: Global) -> Result<(String, String), AllocError> {
-    let (mut input, mut want) = inserts(alloc, 2000, false)?;
-    input.push_str("walk\n")?;
-    put_falling(&mut want, 2000)?;
-    Ok((input, want))
-}
-
-#[test]
-fn a_walk_goes_on_over_many_blocks(rt: HostRuntime) -> Result<(), Fail> {
-    let (input, want) = long_walk(rt.alloc())?;
-    assert_replies(&rt, rt.alloc(), input.as_str(), want.as_str());
-    Ok(())
-}
-
-// Removals of every other one of the records, by its index, and their replies.
-fn put_removals(input: &mut String, want: &mut String, count: u32) -> Result<(), AllocError> {
-    for half in 0..count / 2 {
-        let n = half.wrapping_mul(2);
-        writeln!(input, "remove {n}")?;
-        writeln!(want, "{n} {n} {n} 7")?;
-    }
-    Ok(())
-}
-
-// The reply to a compaction where every other one of so many indexes is vacant.
-fn put_halved(text: &mut String, count: u32) -> Result<(), AllocError> {
-    text.push_str("permuted")?;
-    for n in 0..count / 2 {
-        write!(text, " - {n}")?;
-    }
-    text.push_str("\n")
-}
-
-// Inserts 3000 records, removes every other one by its index, and compacts twice. The first compaction's
-// reply is longer than a block.
-fn long_compaction(alloc: Global) -> Result<(String, String), AllocError> {
-    let (mut input, mut want) = inserts(alloc, 3000, true)?;
-    put_removals(&mut input, &mut want, 3000)?;
-    put_halved(&mut want, 3000)?;
-    input.push_str("compact\nget1 2999\ncompact\n")?;
-    want.push_str("1499 2999 2999 7\nidentity\n")?;
-    Ok((input, want))
-}
-
-#[test]
-fn a_compaction_goes_on_over_many_blocks(rt: HostRuntime) -> Result<(), Fail> {
-    let (input, want) = long_compaction(rt.alloc())?;
-    assert_replies(&rt, rt.alloc(), input.as_str(), want.as_str());
-    Ok(())
-}
-
-#[test]
-fn input_and_replies_go_on_over_many_blocks(rt: HostRuntime) -> Result<(), Fail> {
-    let (input, want) = inserts(rt.alloc(), 2000, true)?;
-    assert!(rt; input.len() > 8192 && want.len() > 8192);
-    assert_replies(&rt, rt.alloc(), input.as_str(), want.as_str());
     Ok(())
 }
