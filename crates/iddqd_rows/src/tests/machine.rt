@@ -3,7 +3,6 @@
 //! It keeps lists and goes over them from end to end. To it the hash of a first key is the key, so the
 //! driver beside it has the hasher `Own`.
 use super::model::index;
-use iddqd::index_remap::IndexRemap;
 use iddqd::item_index::ItemIndex;
 use iddqd_keyed::command::{Command, InsertRefusal, Reply};
 use iddqd_lines::record::Record;
@@ -12,14 +11,14 @@ use std::alloc::{AllocError, Global};
 /// The items, and what both tables hold.
 #[derive(Drop)]
 pub(super) struct Machine {
-    alloc: Global,
-    slots: Vec<Option<Record>>,
+    pub(super) alloc: Global,
+    pub(super) slots: Vec<Option<Record>>,
     // The vacant indexes, the one that was freed last at the end.
-    free: Vec<ItemIndex>,
+    pub(super) free: Vec<ItemIndex>,
     // Each live index and the hash that it is filed under.
-    filed: Vec<(ItemIndex, u32)>,
+    pub(super) filed: Vec<(ItemIndex, u32)>,
     // Each live index, as the ordered table has them.
-    order: Vec<ItemIndex>,
+    pub(super) order: Vec<ItemIndex>,
     // The most slots that there can be.
     limit: usize,
 }
@@ -276,61 +275,6 @@ impl Machine {
             self.set(ix, Some(item));
         }
         *told == was.ok_or(item)
-    }
-
-    // The number of live indexes below this one.
-    fn rank(&self, ix: ItemIndex) -> ItemIndex {
-        let mut rank = 0u32;
-        for slot in self.slots.iter().take(ix.as_u32() as usize) {
-            if slot.is_some() {
-                rank = rank.saturating_add(1);
-            }
-        }
-        ItemIndex::new(rank)
-    }
-
-    // What a compaction tells.
-    fn remap(&self) -> Result<IndexRemap, AllocError> {
-        if self.free.is_empty() {
-            return Ok(IndexRemap::Identity);
-        }
-        let mut names = Vec::new(self.alloc);
-        for (number, slot) in self.slots.iter().enumerate() {
-            let name = match slot {
-                Some(_) => self.rank(index(number)),
-                None => ItemIndex::SENTINEL,
-            };
-            names.push(name)?;
-        }
-        Ok(IndexRemap::Permuted(names))
-    }
-
-    // A compaction.
-    fn compacts(&mut self, remap: &IndexRemap) -> Result<bool, AllocError> {
-        if *remap != self.remap()? {
-            return Ok(false);
-        }
-        self.filed = self.renamed_filed()?;
-        self.order = self.renamed_order()?;
-        self.slots.retain(|slot| slot.is_some());
-        self.free.clear();
-        Ok(true)
-    }
-
-    fn renamed_filed(&self) -> Result<Vec<(ItemIndex, u32)>, AllocError> {
-        let mut filed = Vec::new(self.alloc);
-        for (ix, hash) in self.filed.iter() {
-            filed.push((self.rank(*ix), *hash))?;
-        }
-        Ok(filed)
-    }
-
-    fn renamed_order(&self) -> Result<Vec<ItemIndex>, AllocError> {
-        let mut order = Vec::new(self.alloc);
-        for ix in self.order.iter() {
-            order.push(self.rank(*ix))?;
-        }
-        Ok(order)
     }
 
     fn clear(&mut self) {

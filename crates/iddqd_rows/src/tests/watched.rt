@@ -52,6 +52,16 @@ impl Watched {
         }
     }
 
+    // The driver's reply to the command, and its walk behind it.
+    fn obey(
+        &mut self,
+        command: &Command<Record>,
+    ) -> Result<(Reply<Record>, Vec<ItemIndex>), AllocError> {
+        let reply = step(&mut self.items, copy_of(command));
+        let walk = walk(self.alloc, &self.items)?;
+        Ok((reply, walk))
+    }
+
     // Whether the machine allows that reply to the command and that walk behind it, and has that order then.
     fn allows(
         &mut self,
@@ -72,8 +82,7 @@ impl Watched {
     ) -> Result<(), AllocError> {
         let want = self.scanned(command)?;
         let changes_a_key = changes_a_key(&self.machine, command);
-        let reply = step(&mut self.items, copy_of(command));
-        let walk = walk(self.alloc, &self.items)?;
+        let (reply, walk) = self.obey(command)?;
         let is_allowed = self.allows(command, &reply, walk.as_slice())?;
         assert_allowed(rt, is_allowed, &reply, &walk, at);
         assert_wanted(rt, &want, &reply, at);
