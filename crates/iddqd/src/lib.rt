@@ -10,5 +10,3 @@ pub mod index_remap;
 pub mod item_index;
 pub mod item_set;
 pub mod map_hash;
-#[cfg(test)]
-mod tests;

@@ -1,5 +1,7 @@
 pub mod AskLemmas
 pub mod FiledLemmas
+pub mod RetainLemmas
+pub mod RewriteLemmas
 mod CellLemmas
 mod CopyLemmas
 mod IndexLemmas
@@ -16,7 +18,5 @@ mod OpenTableLemmas
 mod OpenWalkLemmas
 mod PermutationLemmas
 mod RenameLemmas
-mod RetainLemmas
-mod RewriteLemmas
 mod SizeLemmas
 mod UnderLemmas

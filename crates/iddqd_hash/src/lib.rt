@@ -10,5 +10,3 @@
 pub mod hash_table;
 pub mod hash_table_reference;
 pub mod open_table;
-#[cfg(test)]
-mod tests;

@@ -5,5 +5,3 @@
 #![tactic(auto)]
 
 pub mod btree_table;
-#[cfg(test)]
-mod tests;

@@ -1,7 +1,0 @@
-use Rattle.std.proofs.Common.{ℕ, ◌<◌, IsSome}
-use Rattle.std.specs.FinMap as finite
-use Rattle.iddqd_hash.specs.MapHashTable.{filed}
-use Rattle.iddqd_hash.proofs.tests.many.file_rising.Given as goal
-
-abbrev pub invariant-loop-number : goal.invariant-loop-number
-invariant-loop-number l = (ix : ℕ) → IsSome (finite.get (filed l.table) ix) → ix < l.number

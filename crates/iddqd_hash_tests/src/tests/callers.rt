@@ -1,0 +1,55 @@
+//! What the contract of a table gives to callers with pure closures.
+ghost use Rattle.std.specs.Prelude.{◌≡◌, ◌==◌, ◌/◌, not, filter, map};
+ghost use Rattle.std.specs.List.Sorted.{IsPermutation};
+ghost use Rattle.std.specs.List.{list_any};
+ghost use Rattle.iddqd_hash.specs.HashTable.{entries, under};
+
+use iddqd_hash::hash_table_reference::HashTable;
+use std::alloc::AllocError;
+use std::cell::Cell;
+use std::test::Fail;
+
+fn add<T: Drop>(table: &mut HashTable<T>, hash: u64, value: T) -> Result<(), AllocError> {
+    table.try_reserve(1)?;
+    table.insert_unique(hash, value);
+    Ok(())
+}
+
+// Whether a look-up for the value hits: exactly where it stands under the hash.
+fn has<T: Eq>(table: &HashTable<T>, hash: u64, value: &T) -> bool
+    ensures { result ≡ list_any (λ x. T.eq x value.now) (under hash (entries table.now)) }
+{
+    table.find(hash, |x| *x == *value).is_some()
+}
+
+// Keeps all values but one: what is left is what passes that test.
+fn keep_others(table: &mut HashTable<u32>, value: u32)
+    ensures { IsPermutation (filter (λ e. not (e.1 == value)) (entries table.old)) (entries table.new) }
+{
+    table.retain(|x| *x != value);
+}
+
+// Halves each value under its hash, and counts the calls.
+fn halve(table: &mut HashTable<u32>) -> u32
+    ensures { IsPermutation (map (λ e. (e.0, e.1 / 2)) (entries table.old)) (entries table.new) }
+{
+    let calls = Cell::new(0u32);
+    table.rewrite(|x| {
+        calls.set(calls.get().saturating_add(1));
+        *x / 2
+    });
+    calls.get()
+}
+
+#[test]
+fn pure_closures_tell_what_is_there(rt: HostRuntime) -> Result<(), Fail> {
+    let mut table = HashTable::new(rt.alloc());
+    add(&mut table, 7, 10)?;
+    add(&mut table, 9, 11)?;
+    assert!(rt; has(&table, 7, &10) && !has(&table, 9, &10));
+    keep_others(&mut table, 11);
+    assert!(rt; !has(&table, 9, &11));
+    assert!(rt; halve(&mut table) == 1);
+    assert!(rt; has(&table, 7, &5));
+    Ok(())
+}

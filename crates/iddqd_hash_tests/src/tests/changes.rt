@@ -1,0 +1,71 @@
+//! Inserts, removals and changes of all values, of either table.
+use super::asked::Asked;
+use iddqd_hash::hash_table_reference::HashTable;
+use iddqd_hash::open_table::OpenHashTable;
+use std::cell::Cell;
+
+pub(crate) fn insert_linear(table: &mut HashTable<u32>, hash: u64, value: u32) -> bool {
+    if table.room() == 0 {
+        return false;
+    }
+    table.insert_unique(hash, value);
+    true
+}
+
+pub(crate) fn insert_open(table: &mut OpenHashTable<u32>, hash: u64, value: u32) -> bool {
+    if table.room() == 0 {
+        return false;
+    }
+    table.insert_unique(hash, value);
+    true
+}
+
+pub(crate) fn remove_linear(table: &mut HashTable<u32>, hash: u64, value: u32) -> bool {
+    match table.find_entry(hash, |x| *x == value) {
+        Ok(entry) => entry.remove() == value,
+        Err(()) => false,
+    }
+}
+
+pub(crate) fn remove_open(table: &mut OpenHashTable<u32>, hash: u64, value: u32) -> bool {
+    match table.find_entry(hash, |x| *x == value) {
+        Ok(entry) => entry.remove() == value,
+        Err(()) => false,
+    }
+}
+
+pub(crate) fn drop_with_linear(table: &mut HashTable<u32>, bits: u32) -> Asked {
+    let mut asked = Asked::new();
+    table.retain(|x| {
+        asked.note(*x);
+        *x & bits == 0
+    });
+    asked
+}
+
+pub(crate) fn drop_with_open(table: &mut OpenHashTable<u32>, bits: u32) -> Asked {
+    let mut asked = Asked::new();
+    table.retain(|x| {
+        asked.note(*x);
+        *x & bits == 0
+    });
+    asked
+}
+
+pub(crate) fn halve_linear(table: &mut HashTable<u32>) -> u32 {
+    let calls = Cell::new(0u32);
+    table.rewrite(|x| {
+        calls.set(calls.get().saturating_add(1));
+        *x / 2
+    });
+    calls.get()
+}
+
+pub(crate) fn halve_open(table: &mut OpenHashTable<u32>) -> u32 {
+    let calls = Cell::new(0u32);
+    table.rewrite(|x| {
+        calls.set(calls.get().saturating_add(1));
+        *x / 2
+    });
+    calls.get()
+}

@@ -1,0 +1,103 @@
+//! Indexes found by their keys.
+ghost use Rattle.std.specs.Prelude.{◌≡◌, ◌==◌, ◌<◌, ◌^◌, ℕ, IfOk, IsSome, length, slice_index};
+ghost use Rattle.std.specs.Hash as fed;
+ghost use Rattle.std.specs.FinMap as finite;
+ghost use Rattle.iddqd.specs.MapHash.{hash_one};
+ghost use Rattle.iddqd_hash.specs.MapHashTable.{filed, FindsWhere};
+
+use super::indexes::{answer_each, remove_filed};
+use super::keys::{Constant, Held};
+use iddqd_hash::hash_table::MapHashTable;
+use iddqd::hash_builder::DefaultHashBuilder;
+use iddqd::item_index::ItemIndex;
+use iddqd::map_hash::Same;
+use std::alloc::{AllocError, Global};
+use std::hash::BuildHasher;
+use std::test::Fail;
+
+// An index for each key, under the hash of the key.
+pub(crate) fn file_all<S: BuildHasher>(
+    alloc: Global,
+    state: &S,
+    keys: &[u32],
+) -> Result<MapHashTable, AllocError>
+    requires { length keys.now < 2 ^ 32 }
+    ensures { IfOk result (λ table. (ix : ℕ) → IsSome (finite.get (filed table) ix) → ix < length keys.now) }
+{
+    let mut table = MapHashTable::new(alloc);
+    for place in 0..keys.len() {
+        table.try_reserve(1)?;
+        let hash = table.compute_hash(state, &keys[place]);
+        table.insert_prehashed_unchecked(hash, ItemIndex::new(place as u32));
+    }
+    Ok(table)
+}
+
+// An index whose key is the number: one under its hash, and none exactly where none has it.
+fn find_number<S: BuildHasher>(
+    table: &MapHashTable,
+    state: &S,
+    keys: &[u32],
+    number: u32,
+) -> Option<ItemIndex>
+    requires { (ix : ℕ) → IsSome (finite.get (filed table.now) ix) → ix < length keys.now }
+    ensures { FindsWhere (λ ix. number == slice_index keys.now ix) (hash_one S.BuildHasher S.Hasher.Hasher state.now (fed.u32 number)) (filed table.now) result }
+{
+    table.find_index(
+        state,
+        &Same(&number),
+        |ix: ItemIndex|
+            requires { ix < length keys.now }
+            ensures { result.now ≡ slice_index keys.entry.now ix }
+        { &keys[ix.as_u32() as usize] },
+    )
+}
+
+// The same by a query that isn't a key.
+fn find_held<S: BuildHasher>(
+    table: &MapHashTable,
+    state: &S,
+    keys: &[u32],
+    number: u32,
+) -> Option<ItemIndex>
+    requires { (ix : ℕ) → IsSome (finite.get (filed table.now) ix) → ix < length keys.now }
+    ensures { FindsWhere (λ ix. number == slice_index keys.now ix) (hash_one S.BuildHasher S.Hasher.Hasher state.now (fed.u32 number)) (filed table.now) result }
+{
+    table.find_index(
+        state,
+        &Held(number),
+        |ix: ItemIndex|
+            requires { ix < length keys.now }
+            ensures { result.now ≡ slice_index keys.entry.now ix }
+        { &keys[ix.as_u32() as usize] },
+    )
+}
+
+#[test]
+fn finds_indexes_under_a_constant_hasher(rt: HostRuntime) -> Result<(), Fail> {
+    let keys = [10, 20, 30];
+    let mut table = file_all(rt.alloc(), &Constant, &keys)?;
+    assert!(rt; table.len() == 3);
+    assert!(rt; table.compute_hash(&Constant, 99u32).hash() == 7);
+    assert!(rt; find_number(&table, &Constant, &keys, 20) == Some(ItemIndex::new(1)));
+    assert!(rt; find_number(&table, &Constant, &keys, 40).is_none());
+    assert!(rt; answer_each(&mut table, 7, false) == (false, 3));
+    assert!(rt; answer_each(&mut table, 7, true) == (true, 1));
+    assert!(rt; answer_each(&mut table, 8, true) == (false, 0));
+    assert!(rt; remove_filed(&mut table, 7, ItemIndex::new(1)));
+    assert!(rt; !remove_filed(&mut table, 7, ItemIndex::new(1)));
+    assert!(rt; table.len() == 2);
+    assert!(rt; answer_each(&mut table, 7, false) == (false, 2));
+    Ok(())
+}
+
+#[test]
+fn finds_by_a_query_of_another_type(rt: HostRuntime) -> Result<(), Fail> {
+    let keys = [10, 20, 30];
+    let state = DefaultHashBuilder::default();
+    let table = file_all(rt.alloc(), &state, &keys)?;
+    let held = find_held(&table, &state, &keys, 30);
+    assert!(rt; held.is_some() && held == find_number(&table, &state, &keys, 30));
+    assert!(rt; find_held(&table, &state, &keys, 40).is_none());
+    Ok(())
+}

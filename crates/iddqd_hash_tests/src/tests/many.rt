@@ -1,0 +1,41 @@
+//! Many indexes, each found at once.
+use iddqd_hash::hash_table::MapHashTable;
+use iddqd::item_index::ItemIndex;
+use iddqd::map_hash::MapHash;
+use std::alloc::{AllocError, Global};
+use std::test::Fail;
+
+// Files each index below a number under the hash of that number.
+fn file_rising(alloc: Global, count: u32) -> Result<MapHashTable, AllocError> {
+    let mut table = MapHashTable::new(alloc);
+    table.try_reserve(count as usize)?;
+    for number in 0..count {
+        table.try_reserve(1)?;
+        table.insert_prehashed_unchecked(MapHash::new(number as u64), ItemIndex::new(number));
+    }
+    Ok(table)
+}
+
+// Whether the index is found under the hash of its number, at the first ask.
+fn is_found_at_once(table: &mut MapHashTable, number: u32) -> bool {
+    let mut asks = 0u32;
+    let found = table.find_entry_by_hash(number as u64, |ix| {
+        asks = asks.saturating_add(1);
+        ix.as_u32() == number
+    });
+    match found {
+        Ok(entry) => entry.get().as_u32() == number && asks == 1,
+        Err(()) => false,
+    }
+}
+
+// A table that walks over all indexes doesn't end in a test's time.
+#[test]
+fn each_of_many_indexes_is_found_at_once(rt: HostRuntime) -> Result<(), Fail> {
+    let mut table = file_rising(rt.alloc(), 300000)?;
+    for number in 0..300000u32 {
+        assert!(rt; is_found_at_once(&mut table, number), "at {number}");
+    }
+    assert!(rt; !is_found_at_once(&mut table, 300000));
+    Ok(())
+}

@@ -1,0 +1,101 @@
+//! Entries of the table of indexes. The first functions are callers, proved from the contracts alone.
+ghost use Rattle.std.specs.Prelude.{◌≡◌, ◌<◌, ◌≤◌, ◌^◌, ℕ, IsSome, OnErr, length};
+ghost use Rattle.std.specs.FinMap as finite;
+ghost use Rattle.iddqd_hash.specs.MapHashTable.{filed};
+
+use super::filed::file_all;
+use super::keys::Constant;
+use iddqd_hash::hash_table::{Entry, MapHashTable};
+use iddqd::item_index::ItemIndex;
+use std::alloc::{AllocError, Global};
+use std::hash::BuildHasher;
+use std::test::Fail;
+
+// Files an index under the hash of its key, where neither it nor one with that key is filed, and tells whether it did.
+fn file_if_new<S: BuildHasher>(
+    table: &mut MapHashTable,
+    state: &S,
+    keys: &[u32],
+    ix: ItemIndex,
+) -> Result<bool, AllocError>
+    requires key { ix < length keys.now }
+    requires keyed { (i : ℕ) → IsSome (finite.get (filed table.old) i) → i < length keys.now }
+    ensures refused { OnErr result (table.new ≡ table.old) }
+{
+    if table.contains_index(ix) {
+        return Ok(false);
+    }
+    match table.entry(
+        state,
+        &keys[ix.as_u32() as usize],
+        |at: ItemIndex|
+            requires { at < length keys.now }
+        { &keys[at.as_u32() as usize] },
+    ) {
+        Ok(Entry::Occupied(_entry)) => Ok(false),
+        Ok(Entry::Vacant(entry)) => {
+            entry.insert(ix);
+            Ok(true)
+        }
+        Err(error) => Err(error),
+    }
+}
+
+// The key of an index, which one other has too.
+fn half_of(ix: ItemIndex) -> u32 {
+    ix.as_u32() / 2
+}
+
+// Files an index where neither it nor the other one with its key is filed, and tells whether it did.
+pub(crate) fn file_by_half(table: &mut MapHashTable, ix: ItemIndex) -> Result<bool, AllocError>
+    ensures refused { OnErr result (table.new ≡ table.old) }
+{
+    if table.contains_index(ix) {
+        return Ok(false);
+    }
+    match table.entry(&Constant, half_of(ix), |at: ItemIndex| half_of(at)) {
+        Ok(Entry::Occupied(_entry)) => Ok(false),
+        Ok(Entry::Vacant(entry)) => {
+            entry.insert(ix);
+            Ok(true)
+        }
+        Err(error) => Err(error),
+    }
+}
+
+// Files one more index beside the first ones, and tells whether it was new, and how many there are.
+fn file_one_more(
+    alloc: Global,
+    keys: &[u32],
+    first: usize,
+    more: u32,
+) -> Result<(bool, usize), AllocError>
+    requires few { length keys.now < 2 ^ 32 }
+    requires first { first ≤ length keys.now }
+    requires more { more < length keys.now }
+{
+    let mut table = file_all(alloc, &Constant, &keys[..first])?;
+    let is_new = file_if_new(&mut table, &Constant, keys, ItemIndex::new(more))?;
+    Ok((is_new, table.len()))
+}
+
+#[test]
+fn an_index_is_filed_where_its_key_is_new(rt: HostRuntime) -> Result<(), Fail> {
+    let keys = [10, 20, 10, 30];
+    assert!(rt; file_one_more(rt.alloc(), &keys, 0, 0)? == (true, 1));
+    assert!(rt; file_one_more(rt.alloc(), &keys, 2, 1)? == (false, 2));
+    assert!(rt; file_one_more(rt.alloc(), &keys, 2, 2)? == (false, 2));
+    assert!(rt; file_one_more(rt.alloc(), &keys, 2, 3)? == (true, 3));
+    Ok(())
+}
+
+#[test]
+fn entries_fill_a_table_of_indexes(rt: HostRuntime) -> Result<(), Fail> {
+    let mut table = MapHashTable::new(rt.alloc());
+    for number in 0..120u32 {
+        let is_new = file_by_half(&mut table, ItemIndex::new(number))?;
+        assert!(rt; is_new == (number % 2 == 0), "at {number}");
+    }
+    assert!(rt; table.len() == 60);
+    Ok(())
+}

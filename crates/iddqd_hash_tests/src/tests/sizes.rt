@@ -1,0 +1,86 @@
+//! Memory that either table takes ahead, and gives back.
+use super::table::Table;
+use iddqd_hash::hash_table_reference::HashTable;
+use iddqd_hash::open_table::OpenHashTable;
+use std::alloc::{AllocError, Global};
+use std::process::Abort;
+use std::test::Fail;
+
+impl Table {
+    pub(crate) fn linear_for(alloc: Global, capacity: usize) -> Result<Table, AllocError> {
+        Ok(Table::Linear(HashTable::with_capacity(alloc, capacity)?))
+    }
+
+    pub(crate) fn open_for(alloc: Global, capacity: usize) -> Result<Table, AllocError> {
+        Ok(Table::Open(OpenHashTable::with_capacity(alloc, capacity)?))
+    }
+
+    // The call that is named `reserve`.
+    pub(crate) fn reserve_all(&mut self, additional: usize) -> Result<(), AllocError> {
+        match self {
+            Table::Linear(table) => table.reserve(additional),
+            Table::Open(table) => table.reserve(additional),
+        }
+    }
+
+    pub(crate) fn shrink_to(&mut self, least: usize) -> Result<(), AllocError> {
+        match self {
+            Table::Linear(table) => table.shrink_to(least),
+            Table::Open(table) => table.shrink_to(least),
+        }
+    }
+
+    pub(crate) fn shrink_to_fit(&mut self) -> Result<(), AllocError> {
+        match self {
+            Table::Linear(table) => table.shrink_to_fit(),
+            Table::Open(table) => table.shrink_to_fit(),
+        }
+    }
+}
+
+// Room for sixteen, of which three are used and eight are kept.
+fn shrinks(rt: &impl Abort, alloc: Global, mut table: Table) -> Result<(), AllocError> {
+    assert!(rt; table.len() == 0 && table.room() >= 16);
+    for value in 0..3 {
+        assert!(rt; table.insert(1, value));
+    }
+    table.shrink_to(8)?;
+    assert!(rt; table.room() >= 5 && table.len() == 3);
+    table.shrink_to_fit()?;
+    assert!(rt; table.values(rt, alloc)?.as_slice() == [0, 1, 2].as_slice());
+    let room = table.room();
+    table.shrink_to(18446744073709551615)?;
+    assert!(rt; table.room() == room && table.find(1, 2).0);
+    table.reserve_all(100)?;
+    assert!(rt; table.room() >= 100);
+    for value in 3..103 {
+        assert!(rt; table.insert(value as u64 % 9, value));
+    }
+    for value in 0..100 {
+        assert!(rt; table.remove(if value < 3 { 1 } else { value as u64 % 9 }, value));
+    }
+    table.shrink_to_fit()?;
+    assert!(rt; table.room() < 16);
+    assert!(rt; table.values(rt, alloc)?.as_slice() == [100, 101, 102].as_slice());
+    table.clear();
+    table.shrink_to_fit()?;
+    assert!(rt; table.room() == 0 && table.len() == 0);
+    assert!(rt; table.add(5, 5)? && table.find(5, 5).0);
+    Ok(())
+}
+
+#[test]
+fn a_table_shrinks_to_what_it_needs(rt: HostRuntime) -> Result<(), Fail> {
+    shrinks(&rt, rt.alloc(), Table::linear_for(rt.alloc(), 16)?)?;
+    shrinks(&rt, rt.alloc(), Table::open_for(rt.alloc(), 16)?)?;
+    Ok(())
+}
+
+#[test]
+fn a_table_for_none_takes_no_memory(rt: HostRuntime) -> Result<(), Fail> {
+    assert!(rt; Table::linear_for(rt.alloc(), 0)?.room() == 0);
+    assert!(rt; Table::open_for(rt.alloc(), 0)?.room() == 0);
+    assert!(rt; Table::linear_for(rt.alloc(), 18446744073709551615).is_err());
+    assert!(rt; Table::open_for(rt.alloc(), 18446744073709551615).is_err());
+    Ok(())
+}

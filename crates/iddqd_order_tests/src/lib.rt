@@ -1,0 +1,5 @@
+//! Tests of the ordered table.
+#![tactic(auto)]
+
+#[cfg(test)]
+mod tests;

@@ -1,0 +1,80 @@
+//! How often a search asks, as its closure counts it.
+use super::{bound, filled, find_told, insert_told};
+use iddqd_order::btree_table::{Asking, MapBTreeTable};
+use iddqd::item_index::ItemIndex;
+use std::cmp::Ordering;
+use std::test::Fail;
+
+#[test]
+fn a_find_in_nothing_asks_nothing(rt: HostRuntime) {
+    let table = MapBTreeTable::new(rt.alloc());
+    let (found, asks) = find_told(&table, Ordering::Equal, Ordering::Equal);
+    assert!(rt; found.is_none());
+    assert_eq!(rt; asks, 0);
+}
+
+#[test]
+fn a_find_in_a_thousand_asks_at_most_24_times(rt: HostRuntime) -> Result<(), Fail> {
+    let table = filled(&rt, rt.alloc(), 1000, Ordering::Greater)?;
+    assert_eq!(rt; bound(1000), 24);
+    for odd in [Ordering::Less, Ordering::Greater] {
+        for even in [Ordering::Less, Ordering::Greater] {
+            let (found, asks) = find_told(&table, odd, even);
+            assert!(rt; found.is_none());
+            assert!(rt; 0 < asks && asks <= 24);
+        }
+    }
+    Ok(())
+}
+
+// What a find asked: all its asks, and those after an answer that was Equal.
+#[derive(Clone, Copy)]
+pub(super) struct Asked {
+    pub(super) asks: u32,
+    is_hit: bool,
+    pub(super) after_hit: u32,
+}
+
+impl Asked {
+    pub(super) fn new() -> Asked {
+        Asked {
+            asks: 0,
+            is_hit: false,
+            after_hit: 0,
+        }
+    }
+
+    pub(super) fn count(&mut self, is_equal: bool) {
+        self.asks = self.asks.wrapping_add(1);
+        if self.is_hit {
+            self.after_hit = self.after_hit.wrapping_add(1);
+        }
+        self.is_hit = self.is_hit || is_equal;
+    }
+}
+
+#[test]
+fn a_find_asks_nothing_after_its_hit(rt: HostRuntime) -> Result<(), Fail> {
+    let table = filled(&rt, rt.alloc(), 100, Ordering::Greater)?;
+    for sought in 0..100 {
+        let mut asked = Asked::new();
+        let mut asking = Asking::new(|ix: ItemIndex| {
+            let answer = sought.cmp(&ix.as_u32());
+            asked.count(answer == Ordering::Equal);
+            answer
+        });
+        assert_eq!(rt; table.find_by(&mut asking), Some(ItemIndex::new(sought)));
+        assert_eq!(rt; asked.after_hit, 0);
+        assert!(rt; asked.asks <= 18);
+    }
+    Ok(())
+}
+
+#[test]
+fn a_falling_insert_asks_twice_a_level(rt: HostRuntime) -> Result<(), Fail> {
+    let mut table = filled(&rt, rt.alloc(), 1000, Ordering::Less)?;
+    // A tree of five levels has 2591 indexes at least.
+    let asks = insert_told(&rt, &mut table, 1000, Ordering::Less, Ordering::Less)?;
+    assert!(rt; 0 < asks && asks <= 8);
+    Ok(())
+}

@@ -1,0 +1,139 @@
+use super::{expect_item, expect_items, expect_room, gapped, insert_at, is_gap, ix, with_gaps};
+use iddqd::item_index::ItemIndex;
+use iddqd::item_set::{IndexRemap, ItemSet};
+use std::process::Abort;
+use std::test::Fail;
+
+const S: ItemIndex = ItemIndex::SENTINEL;
+
+fn expect_names(rt: &impl Abort, remap: &IndexRemap, want: &[ItemIndex]) {
+    let IndexRemap::Permuted(names) = remap else {
+        panic!(rt; "no list of names");
+    };
+    assert_eq!(rt; names.as_slice(), want);
+}
+
+fn new_name(remap: &IndexRemap, old: u32) -> Option<ItemIndex> {
+    let old = ix(old);
+    if remap.can_remap(old) {
+        Some(remap.remap(old))
+    } else {
+        None
+    }
+}
+
+#[test]
+fn items_move_down_in_their_order(rt: HostRuntime) -> Result<(), Fail> {
+    let mut set = with_gaps(&rt, rt.alloc(), 5, &[1, 3])?;
+    let remap = set.compact()?;
+    assert!(rt; !remap.is_identity());
+    expect_names(&rt, &remap, &[ix(0), S, ix(1), S, ix(2)]);
+    expect_items(&rt, &set, &[Some(0), Some(20), Some(40)]);
+    insert_at(&rt, &mut set, 50, 3)?;
+    Ok(())
+}
+
+#[test]
+fn without_gaps_every_index_keeps_its_name(rt: HostRuntime) -> Result<(), Fail> {
+    let mut none = ItemSet::<u32>::new(rt.alloc());
+    assert!(rt; none.compact()?.is_identity());
+    let mut set = with_gaps(&rt, rt.alloc(), 4, &[])?;
+    let remap = set.compact()?;
+    assert!(rt; remap.is_identity());
+    expect_name(&rt, &remap, 0, Some(0));
+    expect_name(&rt, &remap, 3, Some(3));
+    expect_items(&rt, &set, &[Some(0), Some(10), Some(20), Some(30)]);
+    Ok(())
+}
+
+fn expect_name(rt: &impl Abort, remap: &IndexRemap, old: u32, want: Option<u32>) {
+    assert_eq!(rt; new_name(remap, old), want.map(ix), "at {old}");
+}
+
+#[test]
+fn an_index_that_was_not_live_has_no_new_name(rt: HostRuntime) -> Result<(), Fail> {
+    let mut set = with_gaps(&rt, rt.alloc(), 5, &[1, 3, 4])?;
+    let remap = set.compact()?;
+    expect_names(&rt, &remap, &[ix(0), S, ix(1), S, S]);
+    expect_name(&rt, &remap, 0, Some(0));
+    expect_name(&rt, &remap, 1, None);
+    expect_name(&rt, &remap, 2, Some(1));
+    expect_name(&rt, &remap, 4, None);
+    expect_name(&rt, &remap, 9, None);
+    expect_name(&rt, &remap, 4294967295, None);
+    Ok(())
+}
+
+#[test]
+fn a_set_of_gaps_becomes_empty(rt: HostRuntime) -> Result<(), Fail> {
+    let mut set = with_gaps(&rt, rt.alloc(), 2, &[0, 1])?;
+    let remap = set.compact()?;
+    expect_names(&rt, &remap, &[S, S]);
+    expect_items(&rt, &set, &[]);
+    insert_at(&rt, &mut set, 9, 0)?;
+    let again = set.compact()?;
+    assert!(rt; again.is_identity());
+    Ok(())
+}
+
+// Each item that was left stands at its rank, which is its new name. The number of these.
+fn expect_ranks(rt: &impl Abort, set: &ItemSet<u32>, remap: &IndexRemap, gaps: u32) -> u32 {
+    let mut rank = 0u32;
+    for at in 0..6u32 {
+        if is_gap(gaps, at) {
+            expect_name(rt, remap, at, None);
+        } else {
+            expect_name(rt, remap, at, Some(rank));
+            expect_item(rt, set, rank, Some(at.saturating_mul(10)));
+            rank = rank.saturating_add(1);
+        }
+    }
+    rank
+}
+
+#[test]
+fn every_choice_of_gaps_gives_the_ranks(rt: HostRuntime) -> Result<(), Fail> {
+    for gaps in 0..64u32 {
+        let mut set = gapped(&rt, rt.alloc(), 6, gaps)?;
+        let room = set.room();
+        let remap = set.compact()?;
+        assert_eq!(rt; remap.is_identity(), gaps == 0);
+        expect_room(&rt, &set, room);
+        let live = expect_ranks(&rt, &set, &remap, gaps);
+        assert_eq!(rt;
+            (set.len(), set.slot_count()),
+            (live as usize, live as usize)
+        );
+    }
+    Ok(())
+}
+
+#[test]
+fn a_refused_compact_changes_nothing(rt: HostRuntime) {
+    let Ok(mut set) = with_gaps(&rt, rt.alloc(), 6, &[1, 4]) else {
+        return;
+    };
+    let room = set.room();
+    let mut answer = set.compact();
+    if answer.is_err() {
+        let before = [Some(0), None, Some(20), Some(30), None, Some(50)];
+        expect_items(&rt, &set, &before);
+        assert_eq!(rt; set.room(), room);
+        answer = set.compact();
+    }
+    let Ok(remap) = answer else {
+        return;
+    };
+    expect_names(&rt, &remap, &[ix(0), S, ix(1), ix(2), S, ix(3)]);
+    expect_items(&rt, &set, &[Some(0), Some(20), Some(30), Some(50)]);
+    assert_eq!(rt; set.room(), room, "the memory stays");
+}
+
+#[test]
+fn a_remap_prints_for_debugging(rt: HostRuntime) -> Result<(), Fail> {
+    let names = vec![in rt.alloc(); ix(0), S, ix(1)]?;
+    let (same, moved) = (IndexRemap::Identity, IndexRemap::Permuted(names));
+    let text = format!(in rt.alloc(); "{same:?} {moved:?}")?;
+    assert_eq!(rt; text.as_str(), "Identity Permuted([0, 4294967295, 1])");
+    Ok(())
+}
