@@ -20,8 +20,6 @@ mod renaming;
 mod retain;
 mod row;
 mod search;
-#[cfg(test)]
-mod shape;
 mod state;
 pub mod table;
 mod tree;

@@ -28,6 +28,11 @@ fn is_stored(table: &MapBTreeTable, ix: ItemIndex) -> bool
     table.iter().any(|stored| stored == ix)
 }
 
+// Whether a walk gives as many indexes as are counted.
+fn is_whole(table: &MapBTreeTable) -> bool {
+    table.iter().count() == table.len()
+}
+
 // Adds an index where the answers lead. It is not stored yet.
 fn insert_by<F: FnMut(ItemIndex) -> Ordering>(
     rt: &impl Abort,

@@ -20,8 +20,6 @@ use crate::btree_table::reading::{AsOrdering, ByKey, ByQuery, Reads};
 use crate::btree_table::removal::take_out;
 use crate::btree_table::renaming::rename_in;
 use crate::btree_table::retain::retain_in;
-#[cfg(test)]
-use crate::btree_table::shape::count_in;
 use crate::btree_table::state::State;
 use crate::btree_table::tree::{put_in, take_blocks};
 use iddqd::hash_builder::DefaultHashBuilder;
@@ -570,12 +568,6 @@ impl MapBTreeTable {
     {
         self.height = take_out(&mut self.root, self.height, path, level);
         self.len -= 1;
-    }
-
-    // Whether a plain walk finds the tree in its shape, and as many indexes as are counted.
-    #[cfg(test)]
-    pub fn is_formed(&self) -> bool {
-        count_in(&self.root, self.height) == Some(self.len)
     }
 }
 

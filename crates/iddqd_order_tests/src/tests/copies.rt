@@ -1,5 +1,5 @@
 //! Copies of a table, and tables that are given up.
-use super::{filled, has_order, insert_told, table_of};
+use super::{filled, has_order, insert_told, is_whole, table_of};
 use iddqd_order::btree_table::{IntoIter, MapBTreeTable};
 use iddqd::item_index::ItemIndex;
 use std::cmp::Ordering;
@@ -39,9 +39,9 @@ fn a_refused_copy_leaves_the_source(rt: HostRuntime) {
         };
         for _ in 0..2 {
             if let Ok(copy) = table.clone() {
-                assert!(rt; copy.is_formed() && counts_up(&copy, len));
+                assert!(rt; is_whole(&copy) && counts_up(&copy, len));
             }
-            assert!(rt; table.is_formed() && counts_up(&table, len));
+            assert!(rt; is_whole(&table) && counts_up(&table, len));
         }
     }
 }

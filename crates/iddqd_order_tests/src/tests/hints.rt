@@ -1,5 +1,5 @@
 //! Inserts by the hint of a find, in small tables each of which meets each hint.
-use super::{bound, is_stored, table_of};
+use super::{bound, is_stored, is_whole, table_of};
 use iddqd_order::btree_table::{Asking, Hint, MapBTreeTable};
 use iddqd::item_index::ItemIndex;
 use iddqd::map_hash::Same;
@@ -122,7 +122,7 @@ fn any_hint_leads_to_the_place(rt: HostRuntime) -> Result<(), Fail> {
                 let asks = insert_near(&rt, &keys, &mut table, ix, &hint)?;
                 assert!(rt; asks <= bound(len as usize));
                 assert!(rt; rises(&table, len as usize + 1));
-                assert!(rt; table.is_formed());
+                assert!(rt; is_whole(&table));
             }
         }
     }
@@ -167,7 +167,7 @@ fn lies_keep_each_index_once(rt: HostRuntime) -> Result<(), Fail> {
         assert!(rt; asks <= bound(60 + number as usize).wrapping_mul(2));
         assert!(rt; is_stored(&table, ix));
         assert_eq!(rt; table.len(), 61 + number as usize);
-        assert!(rt; table.is_formed());
+        assert!(rt; is_whole(&table));
     }
     Ok(())
 }
@@ -189,5 +189,5 @@ fn a_refused_insert_by_a_hint_changes_nothing(rt: HostRuntime) {
         };
         assert_eq!(rt; table.len(), after);
     }
-    assert!(rt; table.is_formed());
+    assert!(rt; is_whole(&table));
 }

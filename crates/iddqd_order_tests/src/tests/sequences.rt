@@ -1,5 +1,5 @@
 //! Random sequences of all calls, beside a plain sorted list.
-use super::has_order;
+use super::{has_order, is_whole};
 use super::trees::Pair;
 use iddqd_order::btree_table::Asking;
 use iddqd::index_remap::IndexRemap;
@@ -97,7 +97,7 @@ fn a_thousand_random_sequences(rt: HostRuntime) -> Result<(), Fail> {
         for _ in 0..200 {
             random = random.wrapping_mul(1_664_525).wrapping_add(1_013_904_223);
             call(&rt, &mut pair, random)?;
-            assert!(rt; pair.table.is_formed());
+            assert!(rt; is_whole(&pair.table));
         }
         assert!(rt; has_order(&pair.table, &pair.list));
     }

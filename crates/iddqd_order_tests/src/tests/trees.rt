@@ -10,7 +10,7 @@
 //! | `removal_from_the_middle` | indexes of inner nodes and of the root |
 //! | `each_sequence_of_seven_steps` | each sequence of up to seven inserts and removals, from no index, from a full root, and from two leaves |
 //! | `a_hundred_thousand_random_steps` | all of them in any order, at up to three levels |
-use super::{has_order, insert_by};
+use super::{has_order, insert_by, is_whole};
 use iddqd_order::btree_table::{Asking, MapBTreeTable};
 use iddqd::item_index::ItemIndex;
 use std::alloc::{AllocError, Global};
@@ -55,9 +55,9 @@ impl Pair {
         Ok(())
     }
 
-    // Looks at the shape of the tree, and at every sixteenth step at the order.
+    // Looks at how many indexes a walk gives, and at every sixteenth step at the order.
     fn look(&self, rt: &impl Abort, step: u32) {
-        assert!(rt; self.table.is_formed());
+        assert!(rt; is_whole(&self.table));
         if step % 16 == 0 {
             assert!(rt; has_order(&self.table, &self.list));
         }

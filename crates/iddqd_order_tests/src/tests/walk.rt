@@ -1,5 +1,5 @@
 //! The calls that ask nothing.
-use super::{has_order, insert_told, table_of};
+use super::{has_order, insert_told, is_whole, table_of};
 use iddqd_order::btree_table::{Asking, MapBTreeTable};
 use iddqd::item_index::ItemIndex;
 use std::cmp::Ordering;
@@ -131,7 +131,7 @@ fn a_refused_insert_over_full_nodes_changes_nothing(rt: HostRuntime) {
             expected = expected.wrapping_add(1);
         }
         assert_eq!(rt; table.len(), expected as usize);
-        assert!(rt; table.is_formed());
+        assert!(rt; is_whole(&table));
     }
     assert!(rt; counts_up(&table));
     assert!(rt; 699 <= expected);
