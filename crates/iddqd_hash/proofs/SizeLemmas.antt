@@ -2,7 +2,7 @@
 use Rattle.std.proofs.Common.{arith, ◌≡◌, ◌∙◌, ◌+◌, ◌-◌, ◌*◌, ◌^◌, ◌<◌, ◌≤◌, ◌/◌, inr, ℕ, zero, suc, List, [], ◌∷◌, ◌++◌, Option, Some, None, length, replicate, min, max, Result, Ok, Err, OnOk, OnErr, refl, sym, ap, subst}
 use Rattle.std.proofs.lemmas.List.{length-replicate, length-append, map_push, nil_from_length}
 use Rattle.std.proofs.lemmas.Nat.{pow-add}
-use Rattle.std.specs.Option.{option_map}
+use Rattle.std.specs.Option.{option_map, unwrap_or}
 use Rattle.iddqd_hash.specs.declared.open_table.cells.Cell.{Cell}
 use Rattle.iddqd_hash.specs.HashTable.{Table, room, capacity, listed}
 use Rattle.iddqd_hash.specs.OpenTable.{limit_of, opened, pair_in, pairs, slots_of, IsPowerOfTwo, IsSound}
@@ -69,6 +69,14 @@ module _ {T : Type 0} where
         shrunk = tt;
         refused = subst (λ t. max least len < capacity t) (sym refused) (omega arith);
       }
+
+-- a table whose pairs were placed in as many cells as it had, or that is as it was
+pub capacity-placed : {T A E : Type 0} (old new : Table T) (r : Result A E) (count : ℕ) → count ≡ capacity old → OnErr r (new ≡ old) → OnOk r (capacity new ≡ count) → capacity new ≡ capacity old
+capacity-placed old new (Ok x) count same refused cells = cells ∙ same
+capacity-placed old new (Err e) count same refused cells = ap capacity refused
+
+pub same_count : (a b : ℕ) → Some a ≡ Some b → a ≡ b
+same_count a b same = ap (λ o. unwrap_or o a) same
 
 pub half_power : (count : ℕ) → IsPowerOfTwo count → 16 < count → IsPowerOfTwo (count / 2)
 half_power count (zero, is) more = absurd (omega arith)

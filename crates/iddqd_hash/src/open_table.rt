@@ -5,7 +5,7 @@
 //! a byte for each cell has seven bits of it, so that a walk reads few cells. A removed pair leaves a
 //! mark, which a walk passes and an insert takes. At least one cell of eight is empty. The contracts
 //! are those of [`HashTable`](crate::hash_table_reference::HashTable).
-ghost use Rattle.std.specs.Prelude.{◌≡◌, ◌∷◌, ◌≤◌, ◌<◌, ◌-◌, [], Some, IsSome, length, option_copied, IfOk, IfSome, OnOk, OnErr};
+ghost use Rattle.std.specs.Prelude.{◌≡◌, ◌∷◌, ◌≤◌, ◌<◌, ◌+◌, ◌-◌, [], Some, IsSome, length, option_copied, IfOk, IfSome, OnOk, OnErr};
 ghost use Rattle.std.specs.List.Sorted.{IsPermutation};
 ghost use Rattle.std.specs.List.{Contains};
 ghost use Rattle.std.specs.Option.{option_map};
@@ -13,6 +13,7 @@ ghost use Rattle.std.specs.Fn.{TakesAt, CalledAt, FnReturnsAt};
 ghost use Rattle.iddqd_hash.specs.Asks.{CanAsk, LooksUp, HitsPair, FindsPlace, Misses, Keeps};
 ghost use Rattle.iddqd_hash.specs.HashTable.{entries, room, capacity, pair_at, under, values, Rewrites, TakesOut, HasNoMemory, KeepsMemory, UsesRoom, Reserves};
 ghost use Rattle.iddqd_hash.specs.OpenTable.{limit_of, IsPowerOfTwo};
+ghost use Rattle.iddqd_hash.specs.OpenTableSizes.{KeepsCells};
 
 use crate::open_table::cells::{
     Cell, clear_cells, clear_tags, empty_cells, find_cell, move_cells, put, retain_cells,
@@ -106,10 +107,12 @@ impl<T> OpenHashTable<T> {
     /// Makes room for `additional` more pairs.
     ///
     /// An `AllocError` means that memory was refused, or that no vector can hold so many; the table
-    /// stays as it was. It stays so too, and takes no memory, where there is room for so many.
+    /// stays as it was. It stays so too, and takes no memory, where there is room for so many. It has as many cells
+    /// as before where all the pairs are three quarters of what these may hold, or fewer.
     pub fn try_reserve(&mut self, additional: usize) -> Result<(), AllocError>
         ensures contents { IsPermutation (entries self.old) (entries self.new) }
         ensures memory { Reserves additional self.old result self.new }
+        ensures same_cells { KeepsCells (length (entries self.old) + additional) self.old self.new }
     {
         if additional <= self.room() {
             return Ok(());
@@ -278,6 +281,7 @@ impl<T> OpenHashTable<T> {
         requires { room self.old < additional }
         ensures contents { IsPermutation (entries self.old) (entries self.new) }
         ensures memory { Reserves additional self.old result self.new }
+        ensures same_cells { KeepsCells (length (entries self.old) + additional) self.old self.new }
     {
         let needed = self.len.checked_add(additional).ok_or(AllocError)?;
         let count = count_for(self.tags.len(), needed).ok_or(AllocError)?;

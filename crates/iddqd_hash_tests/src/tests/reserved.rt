@@ -30,3 +30,24 @@ fn keeps_room_for_what_was_reserved(rt: HostRuntime) -> Result<(), Fail> {
     keeps_reserved_room(&rt, Table::open(rt.alloc()))?;
     Ok(())
 }
+
+// One pair that is put in and taken out again never makes the table larger, whatever room it began with.
+fn churns(rt: &impl Abort, mut table: Table) -> Result<(), AllocError> {
+    table.reserve(1)?;
+    let room = table.room();
+    for call in 0..10000u32 {
+        assert!(rt; table.add(call as u64, call)?, "at {call}");
+        assert!(rt; table.remove(call as u64, call), "at {call}");
+        assert!(rt; table.room() <= room, "at {call}");
+    }
+    assert!(rt; table.len() == 0);
+    Ok(())
+}
+
+#[test]
+fn one_pair_in_and_out_takes_no_more_cells(rt: HostRuntime) -> Result<(), Fail> {
+    churns(&rt, Table::open_for(rt.alloc(), 14)?)?;
+    churns(&rt, Table::open_for(rt.alloc(), 28)?)?;
+    churns(&rt, Table::open_for(rt.alloc(), 56)?)?;
+    Ok(())
+}

@@ -1,7 +1,8 @@
-use Rattle.std.proofs.Common.{◌≤◌, ◌<◌, ◌-◌, length, arith}
+use Rattle.std.proofs.Common.{◌≡◌, ◌∙◌, ◌≤◌, ◌<◌, ◌-◌, length, arith}
 use Rattle.iddqd_hash.specs.HashTable.{entries, room, capacity}
 use Rattle.iddqd_hash.specs.OpenTable.{limit_of}
 use Rattle.iddqd_hash.proofs.OpenTableLemmas.{entries-opened, capacity-opened, Reserves-placed}
+use Rattle.iddqd_hash.proofs.SizeLemmas.{capacity-placed, same_count}
 use Rattle.iddqd_hash.proofs.open_table.OpenHashTable.grow.Goals as goal
 
 pub place_anew-requires-clause-fits : goal.place_anew-requires-clause-fits
@@ -23,3 +24,12 @@ returns-clause-memory g c =
     let more : capacity c.args.self.now ≤ c.in_ok-count.count = rw (← c.self.view_is, capacity-opened) (omega (arith, no_fewer, c.len.ensures, c.self.invariant.probed.same_length)) in
     let short : room c.args.self.now < c.args.additional = omega (arith, c.requires) in
     Reserves-placed _ _ _ c.place_anew.result _ _ short enough more c.place_anew.ensures.refused c.place_anew.ensures.room c.place_anew.ensures.capacity
+
+pub returns-clause-same_cells : goal.returns-clause-same_cells
+returns-clause-same_cells g c quarters =
+    let same = rw c.in_ok-count.ensures.ok_part at c.count_for.ensures.same in
+    let needed = rw c.in_ok-needed.ensures.ok_part at c.checked_add.ensures in
+    let held : capacity c.args.self.now ≡ length c.self.inside.tags.items = rw (← c.self.view_is, capacity-opened) c.self.invariant.probed.same_length in
+    let counted : c.self.inside.len ≡ length (entries c.args.self.now) = rw (← c.self.view_is, entries-opened) c.self.invariant.counted in
+    let kept : c.in_ok-count.count ≡ capacity c.args.self.now = same_count _ _ (same (omega (arith, quarters, held, counted, needed.1, c.len.ensures))) ∙ omega (arith, held, c.len.ensures) in
+    capacity-placed _ _ c.place_anew.result _ kept c.place_anew.ensures.refused c.place_anew.ensures.capacity
