@@ -1,5 +1,5 @@
 -- Memory that is taken ahead and given back, of both tables.
-use Rattle.std.proofs.Common.{arith, ◌≡◌, ◌∙◌, ◌+◌, ◌-◌, ◌*◌, ◌^◌, ◌<◌, ◌≤◌, ◌/◌, inr, ℕ, zero, suc, List, [], ◌∷◌, ◌++◌, Option, Some, None, length, replicate, min, max, Result, Ok, Err, OnOk, OnErr, refl, sym, ap, subst}
+use Rattle.std.proofs.Common.{arith, ◌≡◌, ◌∙◌, ◌+◌, ◌-◌, ◌*◌, ◌^◌, ◌<◌, ◌≤◌, ◌/◌, inr, ℕ, zero, suc, List, [], ◌∷◌, ◌++◌, Option, Some, None, length, replicate, min, max, Result, Ok, Err, IsOk, OnOk, OnErr, refl, sym, ap, subst}
 use Rattle.std.proofs.lemmas.List.{length-replicate, length-append, map_push, nil_from_length}
 use Rattle.std.proofs.lemmas.Nat.{pow-add}
 use Rattle.std.specs.Option.{option_map, unwrap_or}
@@ -22,18 +22,23 @@ module _ {T : Type 0} where
       }
 
   module _ (least len : ℕ) (es now_es : List (ℕ × T)) (counted now held holds : ℕ) (was : counted ≡ len) (same : now ≡ counted) (less : holds ≤ held) (enough : min (max least len) held ≤ holds) where
-    pub Shrinks-listed : {A E : Type 0} (r : Result A E) → OnOk r (holds ≤ max least len) → OnErr r (max least len < holds) → Shrinks least len (listed es (held - counted) held) r (listed now_es (holds - now) holds)
-    Shrinks-listed r shrunk refused =
+    pub Shrinks-listed : {A E : Type 0} (r : Result A E) → OnOk r (holds ≤ max least len) → OnErr r (max least len < holds) → (max least len ≡ 0 → holds ≡ 0) → Shrinks least len (listed es (held - counted) held) r (listed now_es (holds - now) holds)
+    Shrinks-listed r shrunk refused frees =
         record {
           never_more = rw (capacity-listed now_es, capacity-listed es) less;
           room_stays = rw (room-listed es, room-listed now_es) (omega arith);
           shrunk = rw (capacity-listed now_es) (few r shrunk);
           refused = rw (capacity-listed now_es) refused;
+          succeeds = λ none. served r refused (frees none);
         }
       where
         few : {A E : Type 0} (r : Result A E) → OnOk r (holds ≤ max least len) → OnOk r (holds ≤ most_cells (max least len))
         few (Ok x) is = omega arith
         few (Err e) is = tt
+
+        served : {A E : Type 0} (r : Result A E) → OnErr r (max least len < holds) → holds ≡ 0 → IsOk r
+        served (Ok x) more none = refl
+        served (Err e) more none = absurd (omega arith)
 
   -- cells that are all empty, for so many pairs
   pub IsSound-empty : (tags : List ℕ) (slots : List (Option (ℕ × T))) (n : ℕ) → tags ≡ replicate n 0 → slots ≡ replicate n None → IsPowerOfTwo n → IsSound tags slots 0 0
@@ -57,17 +62,18 @@ module _ {T : Type 0} where
 
   -- a table that is as it was, and one whose pairs were placed in fewer cells
   pub Shrinks-same : {A E : Type 0} (least len : ℕ) (t : Table T) (x : A) → capacity t ≤ most_cells (max least len) → Shrinks {E = E} least len t (Ok x) t
-  Shrinks-same least len t x few = record { never_more = omega arith; room_stays = omega arith; shrunk = few; refused = tt }
+  Shrinks-same least len t x few = record { never_more = omega arith; room_stays = omega arith; shrunk = few; refused = tt; succeeds = λ none. refl }
 
-  pub Shrinks-placed : {A E : Type 0} (least len : ℕ) (old new : Table T) (r : Result A E) (count : ℕ) → max least len ≤ limit_of count → count < capacity old → count ≤ most_cells (max least len) → OnErr r (new ≡ old) → OnOk r (room new ≡ limit_of count - len) → OnOk r (capacity new ≡ count) → Shrinks least len old r new
-  Shrinks-placed least len old new (Ok x) count fits fewer few refused roomy cells =
-      record { never_more = omega arith; room_stays = omega arith; shrunk = omega arith; refused = tt }
-  Shrinks-placed least len old new (Err e) count fits fewer few refused roomy cells =
+  pub Shrinks-placed : {A E : Type 0} (least len : ℕ) (old new : Table T) (r : Result A E) (count : ℕ) → 0 < max least len → max least len ≤ limit_of count → count < capacity old → count ≤ most_cells (max least len) → OnErr r (new ≡ old) → OnOk r (room new ≡ limit_of count - len) → OnOk r (capacity new ≡ count) → Shrinks least len old r new
+  Shrinks-placed least len old new (Ok x) count some fits fewer few refused roomy cells =
+      record { never_more = omega arith; room_stays = omega arith; shrunk = omega arith; refused = tt; succeeds = λ none. refl }
+  Shrinks-placed least len old new (Err e) count some fits fewer few refused roomy cells =
       record {
         never_more = subst (λ t. capacity t ≤ capacity old) (sym refused) (omega arith);
         room_stays = subst (λ t. min (room old) (least - len) ≤ room t) (sym refused) (omega arith);
         shrunk = tt;
         refused = subst (λ t. max least len < capacity t) (sym refused) (omega arith);
+        succeeds = λ none. absurd (omega arith);
       }
 
 -- a table whose pairs were placed in as many cells as it had, or that is as it was

@@ -30,7 +30,7 @@ impl MapHashTable {
 
     /// Gives back the memory that the indexes don't need.
     ///
-    /// Where the smaller memory is refused, the table stays as it was.
+    /// Where the smaller memory is refused, the indexes stay. Where none is needed, nothing can be refused.
     pub fn shrink_to_fit(&mut self) -> Result<(), AllocError>
         ensures contents { filed self.new ≡ filed self.old }
         ensures memory { Shrinks 0 (finite.len (filed self.old)) self.old result self.new }
@@ -40,7 +40,7 @@ impl MapHashTable {
 
     /// Gives back the memory that so many indexes don't need, or those that there are where these are more.
     ///
-    /// Where the smaller memory is refused, the table stays as it was.
+    /// Where the smaller memory is refused, the indexes stay. Where none is needed, nothing can be refused.
     pub fn shrink_to(&mut self, least: usize) -> Result<(), AllocError>
         ensures contents { filed self.new ≡ filed self.old }
         ensures memory { Shrinks least (finite.len (filed self.old)) self.old result self.new }

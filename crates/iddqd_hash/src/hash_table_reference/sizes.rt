@@ -28,7 +28,7 @@ impl<T> HashTable<T> {
 
     /// Gives back the memory that the pairs don't need.
     ///
-    /// Where the smaller block is refused, the pairs stay where they are.
+    /// Where the smaller memory is refused, the pairs stay. Where none is needed, nothing can be refused.
     pub fn shrink_to_fit(&mut self) -> Result<(), AllocError>
         ensures contents { IsPermutation (entries self.old) (entries self.new) }
         ensures memory { Shrinks 0 (length (entries self.old)) self.old result self.new }
@@ -38,7 +38,7 @@ impl<T> HashTable<T> {
 
     /// Gives back the memory that so many pairs don't need, or those that there are where these are more.
     ///
-    /// Where the smaller block is refused, the pairs stay where they are.
+    /// Where the smaller memory is refused, the pairs stay. Where none is needed, nothing can be refused.
     pub fn shrink_to(&mut self, least: usize) -> Result<(), AllocError>
         ensures contents { IsPermutation (entries self.old) (entries self.new) }
         ensures memory { Shrinks least (length (entries self.old)) self.old result self.new }

@@ -42,7 +42,7 @@ impl<T> OpenHashTable<T> {
 
     /// Gives back the memory that the pairs don't need.
     ///
-    /// Where the fewer cells are refused, the table stays as it was.
+    /// Where the smaller memory is refused, the pairs stay. Where none is needed, nothing can be refused.
     pub fn shrink_to_fit(&mut self) -> Result<(), AllocError>
         ensures contents { IsPermutation (entries self.old) (entries self.new) }
         ensures memory { Shrinks 0 (length (entries self.old)) self.old result self.new }
@@ -52,7 +52,8 @@ impl<T> OpenHashTable<T> {
 
     /// Gives back the memory that so many pairs don't need, or those that there are where these are more.
     ///
-    /// Every pair is placed anew in fewer cells. Where these are refused, the table stays as it was.
+    /// Every pair is placed anew in fewer cells. Where these are refused, the pairs stay. Where none is needed, nothing
+    /// can be refused.
     pub fn shrink_to(&mut self, least: usize) -> Result<(), AllocError>
         ensures contents { IsPermutation (entries self.old) (entries self.new) }
         ensures memory { Shrinks least (length (entries self.old)) self.old result self.new }

@@ -10,7 +10,7 @@ returns-then-wanted-capacity-clause-contents g c =
 
 pub returns-then-wanted-capacity-clause-memory : goal.returns-then-wanted-capacity-clause-memory
 returns-then-wanted-capacity-clause-memory g c =
-    rw (← c.self.view_is, entries-listed) (Shrinks-listed c.args.least (length c.self.inside.pairs.items) _ _ _ _ _ _ (omega arith) c.shrink_to.ensures.len (omega arith) (omega arith) _ tt (omega arith))
+    rw (← c.self.view_is, entries-listed) (Shrinks-listed c.args.least (length c.self.inside.pairs.items) _ _ _ _ _ _ (omega arith) c.shrink_to.ensures.len (omega arith) (omega arith) _ tt (omega arith) (λ none. c.shrink_to.ensures.frees (omega arith) (omega arith)))
 
 pub returns-clause-contents : goal.returns-clause-contents
 returns-clause-contents g c =
@@ -18,4 +18,4 @@ returns-clause-contents g c =
 
 pub returns-clause-memory : goal.returns-clause-memory
 returns-clause-memory g c =
-    rw (← c.self.view_is, entries-listed) (Shrinks-listed c.args.least (length c.self.inside.pairs.items) _ _ _ _ _ _ (omega arith) c.shrink_to.ensures.len (omega arith) (omega arith) _ (omega arith) tt)
+    rw (← c.self.view_is, entries-listed) (Shrinks-listed c.args.least (length c.self.inside.pairs.items) _ _ _ _ _ _ (omega arith) c.shrink_to.ensures.len (omega arith) (omega arith) _ (omega arith) tt (λ none. c.shrink_to.ensures.frees (omega arith) (omega arith)))

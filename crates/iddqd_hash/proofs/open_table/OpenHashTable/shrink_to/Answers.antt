@@ -35,5 +35,5 @@ returns-clause-memory g c =
     let held : capacity c.args.self.now ≡ length c.self.inside.tags.items = rw (← c.self.view_is, capacity-opened) c.self.invariant.probed.same_length in
     let fits : c.max-needed.result ≤ limit_of c.fewer_cells-count.result = elim c.fewer_cells-count.ensures.halved [ inl same ↦ absurd (omega arith) | inr fewer ↦ fewer.fits ] in
     let fewer : c.fewer_cells-count.result < length c.self.inside.tags.items = elim c.fewer_cells-count.ensures.halved [ inl same ↦ absurd (omega arith) | inr fewer ↦ omega (arith, fewer.fewer) ] in
-    Shrinks-placed c.args.least (length (entries c.args.self.now)) c.args.self.now _ c.place_anew.result c.fewer_cells-count.result (omega arith) (omega arith) (omega (arith, c.fewer_cells-count.ensures.few))
+    Shrinks-placed c.args.least (length (entries c.args.self.now)) c.args.self.now _ c.place_anew.result c.fewer_cells-count.result (omega arith) (omega arith) (omega arith) (omega (arith, c.fewer_cells-count.ensures.few))
     c.place_anew.ensures.refused c.place_anew.ensures.room c.place_anew.ensures.capacity
