@@ -190,7 +190,7 @@ impl<T> OpenHashTable<T> {
     /// Puts what `f` answers at each value in its place, under the hash that the value had.
     ///
     /// `f` is called once on each value, and on no other. No memory is taken or given back. It costs
-    /// a walk over the pairs.
+    /// a walk over the cells, and nothing without a pair.
     pub fn rewrite<F: Fn(&T) -> T>(&mut self, f: F)
     where
         T: Drop,
@@ -198,16 +198,22 @@ impl<T> OpenHashTable<T> {
         ensures rewritten { Rewrites (FnReturnsAt F.Fn f) (entries self.old) (entries self.new) }
         ensures memory { KeepsMemory self.old self.new }
     {
+        if self.len == 0 {
+            return;
+        }
         rewrite_cells(self.cells.as_mut_slice(), f);
     }
 
-    /// Removes every pair, and keeps the memory.
+    /// Removes every pair, and keeps the memory. Without a pair it looks at no cell.
     pub fn clear(&mut self)
     where
         T: Drop,
         ensures empty { entries self.new ≡ [] }
         ensures memory { KeepsMemory self.old self.new }
     {
+        if self.len == 0 {
+            return;
+        }
         clear_tags(self.tags.as_mut_slice());
         clear_cells(self.cells.as_mut_slice());
         self.len = 0;

@@ -1,5 +1,6 @@
 use Rattle.std.proofs.Common.{◌≡◌, ◌∙◌, None, length, replicate, ap, sym, arith}
-use Rattle.std.proofs.lemmas.List.{with_items_is}
+use Rattle.std.proofs.lemmas.List.{with_items_is, nil_from_length}
+use Rattle.iddqd_hash.specs.HashTable.{entries}
 use Rattle.iddqd_hash.specs.OpenTable.{slots_of}
 use Rattle.iddqd_hash.proofs.OpenSlotLemmas.{pairs-empty}
 use Rattle.iddqd_hash.proofs.OpenTableLemmas.{entries-opened, cells_long, IsSound-cleared, KeepsMemory-opened}
@@ -25,3 +26,8 @@ returns-clause-memory g c =
     let long : length (slots_of c.clear_cells.new.cells) ≡ length (slots_of c.self.inside.cells.items) =
     cells_long c.clear_cells.new.cells ∙ c.clear_cells.auto.cells ∙ ap length c.as_mut_slice-2.ensures.value ∙ sym (cells_long c.self.inside.cells.items) in
     rw (← c.self.view_is) (KeepsMemory-opened _ _ _ _ (rw cells-is long) (omega arith))
+
+pub returns-then-self-eq0-clause-empty : goal.returns-then-self-eq0-clause-empty
+returns-then-self-eq0-clause-empty g c =
+    let counted : c.self.inside.len ≡ length (entries c.args.self.now) = rw (← c.self.view_is, entries-opened) c.self.invariant.counted in
+    nil_from_length _ (omega arith)

@@ -1,5 +1,7 @@
-use Rattle.std.proofs.Common.{◌≡◌, ◌∙◌, length, ap, sym, arith}
-use Rattle.std.proofs.lemmas.List.{with_items_is}
+use Rattle.std.proofs.Common.{◌≡◌, ◌∙◌, [], length, ap, sym, arith}
+use Rattle.std.proofs.lemmas.List.{with_items_is, nil_from_length}
+use Rattle.iddqd_hash.specs.HashTable.{entries}
+use Rattle.iddqd_hash.proofs.CopyLemmas.{Rewrites-cloned}
 use Rattle.iddqd_hash.specs.OpenTable.{slots_of, hashes_of}
 use Rattle.iddqd_hash.proofs.OpenTableLemmas.{entries-opened, cells_long, IsSound-rewritten, KeepsMemory-opened}
 use Rattle.iddqd_hash.proofs.open_table.OpenHashTable.rewrite.Goals as goal
@@ -23,3 +25,9 @@ returns-clause-memory g c =
     let long : length (slots_of c.rewrite_cells.new.cells) ≡ length (slots_of c.self.inside.cells.items) =
     cells_long c.rewrite_cells.new.cells ∙ c.rewrite_cells.auto.cells ∙ ap length c.as_mut_slice.ensures.value ∙ sym (cells_long c.self.inside.cells.items) in
     rw (← c.self.view_is) (KeepsMemory-opened _ _ _ _ (rw cells-is long) (omega arith))
+
+pub returns-then-self-eq0-clause-rewritten : goal.returns-then-self-eq0-clause-rewritten
+returns-then-self-eq0-clause-rewritten g c =
+    let counted : c.self.inside.len ≡ length (entries c.args.self.now) = rw (← c.self.view_is, entries-opened) c.self.invariant.counted in
+    let none : entries c.args.self.now ≡ [] = nil_from_length _ (omega arith) in
+    rw none (Rewrites-cloned _ [] [] tt)
