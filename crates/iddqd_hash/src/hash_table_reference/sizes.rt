@@ -50,4 +50,11 @@ impl<T> HashTable<T> {
         }
         Ok(())
     }
+
+    /// Lets go of a table without a pair, and gives back its memory, also where a value can't be let go.
+    pub fn destroy_empty(self)
+        requires { entries self ≡ [] }
+    {
+        self.pairs.destroy_empty();
+    }
 }

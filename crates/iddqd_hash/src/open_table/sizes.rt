@@ -70,6 +70,15 @@ impl<T> OpenHashTable<T> {
         self.place_anew(count)
     }
 
+    /// Lets go of a table without a pair, and gives back its memory, also where a value can't be let go.
+    pub fn destroy_empty(self)
+        requires { entries self ≡ [] }
+    {
+        let mut cells = self.cells;
+        let_go(&mut cells);
+        cells.destroy_empty();
+    }
+
     // Gives back the memory of a table with no pair.
     fn give_back(&mut self)
         requires { entries self.old ≡ [] }

@@ -84,3 +84,17 @@ fn a_table_for_none_takes_no_memory(rt: HostRuntime) -> Result<(), Fail> {
     assert!(rt; Table::open_for(rt.alloc(), 18446744073709551615).is_err());
     Ok(())
 }
+
+// A value that can't be let go.
+struct Kept {
+    number: u32,
+}
+
+#[test]
+fn tables_of_values_that_stay_are_consumed_empty(rt: HostRuntime) -> Result<(), Fail> {
+    let linear: HashTable<Kept> = HashTable::new(rt.alloc());
+    linear.destroy_empty();
+    let open: OpenHashTable<Kept> = OpenHashTable::new(rt.alloc());
+    open.destroy_empty();
+    Ok(())
+}
