@@ -1,5 +1,6 @@
 mod answers;
 mod call_lines;
+mod caller;
 mod calls;
 mod collisions;
 mod commands;
