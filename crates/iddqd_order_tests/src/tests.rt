@@ -30,7 +30,11 @@ fn is_stored(table: &MapBTreeTable, ix: ItemIndex) -> bool
 
 // Whether a walk gives as many indexes as are counted.
 fn is_whole(table: &MapBTreeTable) -> bool {
-    table.iter().count() == table.len()
+    let mut count = 0usize;
+    for _ in table.iter() {
+        count = count.wrapping_add(1);
+    }
+    count == table.len()
 }
 
 // Adds an index where the answers lead. It is not stored yet.

@@ -1,5 +1,5 @@
 //! What `retain` asks and keeps.
-use super::{filled, has_order, is_whole, table_of};
+use super::{filled, has_order, table_of};
 use iddqd_order::btree_table::MapBTreeTable;
 use iddqd::item_index::ItemIndex;
 use std::alloc::{AllocError, Global};
@@ -31,7 +31,6 @@ fn keep_sevenths(rt: &impl Abort, table: &mut MapBTreeTable) {
     });
     assert!(rt; is_in_order);
     assert_eq!(rt; asks, 1000);
-    assert!(rt; is_whole(&table));
     assert_eq!(rt; table.len(), 143);
     let mut expected = 0u32;
     for ix in table.iter() {
@@ -72,7 +71,6 @@ fn keep_by_bit(rt: &impl Abort, alloc: Global, len: u32, bit: u32) -> Result<(),
         }
     }
     assert_eq!(rt; asks, len);
-    assert!(rt; is_whole(&table));
     assert_eq!(rt; table.len(), expected.len());
     assert!(rt; has_order(&table, &expected));
     Ok(())
