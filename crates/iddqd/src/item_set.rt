@@ -3,6 +3,17 @@
 //! A slot is occupied by an item or vacant. The vacant slots are linked into a chain, that freed
 //! last first, so an insert finds its slot without a search and a removal needs no memory: the set
 //! has one block of memory and two numbers beside it.
+//!
+//! What a full set refuses comes before memory is asked for, so `Full` is told whatever memory is
+//! there. The limit is a number of the store, so that a clearing, a compaction and a clone keep it by
+//! definition. A handle keeps the index that it found, and derives `Drop`: with a written one its
+//! insert would owe the room again after the write. `with_capacity` takes exactly what was asked, and
+//! `clear` gives none back.
+//!
+//! A shrink tells a refusal, though std's tells none: it looks at the capacity afterwards, so the block
+//! may shrink in place. `reserve` looks before it asks the vector, which promises no unchanged
+//! capacity. A compaction takes the memory of its list first and lets std's `retain` close the gaps,
+//! which keeps the order and takes none. `Debug` prints no item, so that it asks nothing of their type.
 ghost use Rattle.std.specs.Prelude.{◌≡◌, ℕ, [], ◌+◌, ◌<◌, ◌≤◌, ◌↔◌, length, map, Some, None, IsSome, IsTrue, IsOk, IfOk, OnOk, OnErr, IfNone, OnSome, option_copied, slice_get};
 ghost use Rattle.std.specs.Option.{option_copied_mut};
 ghost use Rattle.std.specs.Borrow.{sem, Lends, RestsIfErr};

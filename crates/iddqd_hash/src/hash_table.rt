@@ -8,6 +8,10 @@
 //! entry that the table lends can't be followed: `place_of`, the cell that a look-up hits, and
 //! `pair_at` and `take_at`, the pair in a cell. Any table with cells can have them with the same
 //! contract.
+//!
+//! An insert hashes its key once: it looks up under the hash that it files the index under.
+//! `remove_by_index` is a `retain` over all, in the place of a walk of its own. A clone copies cells as
+//! memory, since an index is `Copy`.
 ghost use Rattle.std.specs.Prelude.{◌≡◌, ◌≤◌, ℕ, Contains, Some, None, IsTrue, IsSome, IfOk, OnErr};
 ghost use Rattle.std.specs.FinMap as finite;
 ghost use Rattle.iddqd.specs.Compaction.{CanRemap, remapped};

@@ -4,6 +4,9 @@
 //! closure of the values under that hash alone, so it costs a walk over the hashes and one ask for
 //! each value under the hash, up to the first that is answered `true`. Which of several matches
 //! comes is open, and so is the order of the values.
+//!
+//! It stays beside the other so that both run the same tests. `try_reserve` looks at `room` first,
+//! since std's vector promises no unchanged capacity.
 ghost use Rattle.std.specs.Prelude.{◌≡◌, ◌∷◌, ◌≤◌, [], Some, IsSome, length, slice_get, option_copied, IfOk, OnErr, vec_len, vec_capacity};
 ghost use Rattle.std.specs.List.Sorted.{IsPermutation};
 ghost use Rattle.std.specs.List.{Contains};

@@ -1,10 +1,22 @@
 //! A table of values under hashes with open addressing: cells in a ring, each beside a tag.
 //!
 //! A pair stands in a cell that a walk by steps of one from cell `hash % cells` comes to before any
-//! empty cell, so a look-up ends at the first empty one. The full hash is kept beside each value, and
-//! a byte for each cell has seven bits of it, so that a walk reads few cells. A removed pair leaves a
+//! empty cell, so a look-up ends at the first empty one. The full hash is kept beside each value, and a
+//! byte for each cell has seven bits of it, so that a walk reads few cells. A removed pair leaves a
 //! mark, which a walk passes and an insert takes. At least one cell of eight is empty. The contracts
 //! are those of [`HashTable`](crate::hash_table_reference::HashTable).
+//!
+//! Marks go when the table is placed anew: at the same size where at most three quarters of the limit
+//! are needed, else at twice the size, so that a table near its limit isn't placed anew again and
+//! again. Tags stand apart from cells, since at 1,000 entries a miss took 1.4 times hashbrown's time
+//! so, and 7.7 times in one vector of cells. Up to 65536 cells a walk begins with sixteen tags, which
+//! spares a branch guessed wrong; past them with the home's tag alone, since then the processor fetches
+//! the home's cell before it has the tag.
+//!
+//! An insert writes its cell unread, since safe code would load the cell to drop what stood there: the
+//! one `unsafe` line. `grow` and `later_match` stand apart, so that what runs mostly is short enough
+//! for the caller's loop. A walk keeps the full ones of its sixteen places as bits. A clone copies tags
+//! and cells in place, marks too, so that no hash is looked at.
 ghost use Rattle.std.specs.Prelude.{◌≡◌, ◌∷◌, ◌≤◌, ◌<◌, ◌+◌, ◌-◌, [], Some, IsSome, length, option_copied, IfOk, IfSome, OnOk, OnErr};
 ghost use Rattle.std.specs.List.Sorted.{IsPermutation};
 ghost use Rattle.std.specs.List.{Contains};

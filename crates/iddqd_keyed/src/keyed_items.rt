@@ -6,6 +6,11 @@
 //! and `remove2`, by `compact` and by `clear`. Every index of an item stands in both
 //! tables once, and no other does, whatever becomes of the keys: an insert takes all memory before it
 //! writes anything, and a removal takes the index out of both tables before its slot is freed.
+//!
+//! A removal searches both tables, by the keys that the item has now, and walks only where that misses.
+//! An insert is one search of the ordered table: that for a duplicate leaves a hint. Each call says
+//! that its states are paired, though the type does, so that `step` and `run` are proved from the
+//! calls' clauses alone. `walk` lends the indexes and takes no memory.
 ghost use Rattle.std.specs.Prelude.{◌≡◌, ◌↔◌, [], IsSome, IsOk, IfOk, IfErr, OnErr, option_copied};
 ghost use Rattle.iddqd.specs.Store.{get, live_count};
 ghost use Rattle.iddqd.specs.Compaction.{IsRemapOf};

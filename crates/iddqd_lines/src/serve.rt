@@ -3,6 +3,10 @@
 //! The input is read and the replies are written in blocks of fixed size, so the loop takes no memory
 //! of its own. A line that ends in the block that it began in is read where it stands; of one that
 //! goes on in the next block, a beginning is kept.
+//!
+//! Replies are written where the block has no room for one more, before each read, and at the end: so a
+//! person who types sees each answer at once, and a pipe gets large writes. Of a line that goes on 129
+//! bytes are kept, one more than a line may have, so that a longer one is seen to be longer.
 ghost use Rattle.std.specs.Prelude.{◌≡◌, ◌++◌, [], List, ℕ, take, OnOk, IfSome, false};
 ghost use Rattle.std.specs.Io.{ReadsAtMost};
 ghost use Rattle.std.specs.Io.KnownBytes.{ReadConsumes};

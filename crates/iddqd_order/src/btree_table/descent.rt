@@ -1,4 +1,8 @@
 //! Searches of a tree: one walk down from the root, at most four asks a level.
+//!
+//! A tree of h levels has at least `2 * 6^(h-1) - 1` indexes, so four asks a level are within the
+//! bound, and two are left over, which a hint uses. A path is written only where it leaves the left
+//! edge: before, it is what it began as.
 ghost use Rattle.std.specs.Prelude.{◌≡◌, ℕ, ◌+◌, ◌*◌, ◌<◌, ◌≤◌, Some, None, IfSome, IsNone, Contains, length, slice_index};
 ghost use Rattle.iddqd_order.specs.Descent.{Descends, FindsIn};
 ghost use Rattle.iddqd_order.specs.MapBTreeTable.{StandsAt};

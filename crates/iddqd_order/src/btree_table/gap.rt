@@ -1,4 +1,7 @@
 //! The descent to a place for an index that isn't stored, also by a guess.
+//!
+//! A hint is a guess with no promise: the insert follows it unasked, and asks about the index before
+//! the place and the one behind it. So its contract is that of a search from the root.
 ghost use Rattle.std.specs.Prelude.{◌≡◌, ◌≢◌, ℕ, ◌+◌, ◌*◌, ◌<◌, ◌≤◌, List, Some, None, IfSome, IsTrue, Contains, length, slice_index};
 ghost use Rattle.std.specs.declared.cmp.Ordering.{Ordering};
 ghost use Rattle.iddqd_order.specs.Asking.{closure_of};

@@ -2,6 +2,9 @@
 //!
 //! The functions are laws for proofs: a proof calls them for what they ensure, and they do nothing
 //! when they run.
+//!
+//! The law of an insert has the premise that the answers compare the new index's key: a query alone may
+//! equal several keys.
 ghost use Rattle.std.specs.Prelude.{◌≡◌, ℕ, List, Some, None, IsTrue, insert};
 ghost use Rattle.std.specs.declared.cmp.Ordering.{Ordering};
 ghost use Rattle.iddqd_order.specs.KeyOrder.{IsInKeyOrder, ComparesKeys};

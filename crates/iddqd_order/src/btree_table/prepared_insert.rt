@@ -1,4 +1,8 @@
 //! An insert whose place is found and whose memory is taken.
+//!
+//! It walks down first, since only the walk's end tells how many blocks are wanted: one for each inner
+//! node that will be cut, and one for a new root. They wait in the table; a refusal gives all back, an
+//! insert that is let go leaves them to the next.
 ghost use Rattle.std.specs.Prelude.{◌≡◌, ◌≢◌, insert, Contains};
 ghost use Rattle.iddqd_order.specs.MapBTreeTable.{order_of, sentinel};
 ghost use Rattle.iddqd_order.specs.Tree.{GoesIn, FullIn, AreEnough, GoesIn-prop, FullIn-prop};

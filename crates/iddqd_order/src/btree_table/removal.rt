@@ -1,4 +1,7 @@
 //! Removal from a node, which takes no memory.
+//!
+//! A removal from a leaf that keeps five is one walk down; else a second walk mends on the way back: a
+//! child left with four takes an index from a neighbour, or becomes one with it.
 ghost use Rattle.std.specs.Prelude.{◌≡◌, ◌↔◌, ℕ, ◌+◌, ◌<◌, ◌≤◌, [], ◌∷◌, ◌++◌, length, slice_index_or, option_to_list, vec_capacity, IsSome, IsTrue, false};
 ghost use Rattle.std.specs.List.{remove};
 ghost use Rattle.iddqd_order.specs.declared.btree_table.node.Node.{Node};

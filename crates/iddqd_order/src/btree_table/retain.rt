@@ -1,4 +1,7 @@
 //! The indexes that a closure keeps, gathered in place.
+//!
+//! It asks about an index before anything is put in its place, moves each at most once, and none before
+//! the first refusal; then it takes the last indexes out, one by one.
 ghost use Rattle.std.specs.Prelude.{◌≡◌, ℕ, ◌+◌, ◌-◌, ◌≤◌, length, take, Contains};
 ghost use Rattle.iddqd_order.specs.Asks.{CanAsk};
 ghost use Rattle.iddqd_order.specs.Node.{row, flat, IsFormed};

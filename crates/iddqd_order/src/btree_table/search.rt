@@ -1,4 +1,9 @@
 //! The search of a row by halves, on which all searching calls stand.
+//!
+//! To go along a row from the left was faster for the comparison of two numbers, but asked up to eleven
+//! times. The order of two indexes is looked at only at Equal, by a `match`: `Ordering::then` looked at
+//! each ask. At the left edge four asks search fifteen places, and a row has at most twelve, so the
+//! search leans to the left: an insert before all others asks once or twice a level.
 ghost use Rattle.std.specs.Prelude.{◌≡◌, ◌≢◌, ℕ, ◌+◌, ◌*◌, ◌<◌, ◌≤◌, List, Contains, Some, length};
 ghost use Rattle.std.specs.declared.cmp.Ordering.{Ordering};
 ghost use Rattle.iddqd_order.specs.Asking.{closure_of};
