@@ -2,8 +2,8 @@
 //!
 //! To go along a row from the left was faster for the comparison of two numbers, but asked up to eleven
 //! times. The order of two indexes is looked at only at Equal, by a `match`: `Ordering::then` looked at
-//! each ask. At the left edge four asks search fifteen places, and a row has at most twelve, so the
-//! search leans to the left: an insert before all others asks once or twice a level.
+//! each ask. Four asks search fifteen indexes, and a row has at most eleven: at the left edge what is
+//! left over goes to the first place, so an insert before all others asks once or twice a level.
 ghost use Rattle.std.specs.Prelude.{◌≡◌, ◌≢◌, ℕ, ◌+◌, ◌*◌, ◌<◌, ◌≤◌, List, Contains, Some, length};
 ghost use Rattle.std.specs.declared.cmp.Ordering.{Ordering};
 ghost use Rattle.iddqd_order.specs.Asking.{closure_of};
