@@ -8,6 +8,7 @@ pub record SizedStore (T : Type 0) : Type 0 where
   pub store : Store T
   pub capacity : ℕ
 
+-- a store with its capacity is coded where its items are
 abbrev pub sized_store_code : {T : Type 0} → Coded T → Coded (SizedStore T)
 sized_store_code {T} code =
     code_by (Store T × ℕ) (coded× (store_code code) coded_ℕ) (λ h. (h.store, h.capacity)) (λ p. record { store = p.0; capacity = p.1 }) (λ _. refl)
@@ -26,5 +27,6 @@ module _ {T : Type 0} where
     pub dense : live_count old ≡ slot_count old → slot_count new ≡ slot_count old + 1
     pub vacant : live_count old < slot_count old → slot_count new ≡ slot_count old
 
+  -- the same with another item at an index, in the same memory
   abbrev pub with_item : SizedStore T → ℕ → T → SizedStore T
   with_item h ix item = record h { store = rebound h.store ix item }

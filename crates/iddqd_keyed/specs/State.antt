@@ -23,6 +23,7 @@ pub record State (T S : Type 0) : Type 0 where
   pub filed : FinMap nat_cmp ℕ
   pub order : List ℕ
 
+-- a state is coded where its items and its hasher are
 abbrev pub state_code : {T S : Type 0} → Coded T → Coded S → Coded (State T S)
 state_code {T} {S} item hasher =
     code_by
