@@ -48,6 +48,19 @@ fn remove(rt: &impl Abort, set: &mut ItemSet<u32>, at: u32, want: u32) {
     assert_eq!(rt; set.remove(ix(at)), Some(want), "removing {at}");
 }
 
+// A set of these items, in turn from the first index on.
+fn with_items(
+    rt: &impl Abort,
+    alloc: Global,
+    items: &[u32],
+) -> Result<ItemSet<u32>, GrowError> {
+    let mut set = ItemSet::new(alloc);
+    for (at, item) in (0..u32::MAX).zip(items) {
+        insert_at(rt, &mut set, *item, at)?;
+    }
+    Ok(set)
+}
+
 // A set of so many slots, from which the items at some were removed in turn. Each item is ten times its index.
 fn with_gaps(
     rt: &impl Abort,

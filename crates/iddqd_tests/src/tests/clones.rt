@@ -1,7 +1,7 @@
 //! Copies, and what a refused one leaves.
 ghost use Rattle.std.specs.Prelude.{◌≡◌, IfOk};
 
-use super::{expect_items, insert_at, ix, with_gaps};
+use super::{expect_items, insert_at, ix, remove, with_gaps, with_items};
 use iddqd::item_set::{GrowError, IndexRemap, ItemSet, ItemSlot};
 use std::alloc::{AllocError, Global};
 use std::process::Abort;
@@ -17,15 +17,17 @@ fn copy_of(set: &ItemSet<u32>) -> Result<ItemSet<u32>, AllocError>
 
 #[test]
 fn a_copy_has_the_items_and_the_chain(rt: HostRuntime) -> Result<(), Fail> {
-    let set = with_gaps(&rt, rt.alloc(), 4, &[1, 2])?;
+    let mut set = with_items(&rt, rt.alloc(), &[0, 1, 2, 3])?;
+    remove(&rt, &mut set, 1, 1);
+    remove(&rt, &mut set, 2, 2);
     let mut copy = copy_of(&set)?;
     assert_eq!(rt; copy.len(), 2);
-    expect_items(&rt, &copy, &[Some(0), None, None, Some(30)]);
+    expect_items(&rt, &copy, &[Some(0), None, None, Some(3)]);
     insert_at(&rt, &mut copy, 5, 2)?;
     insert_at(&rt, &mut copy, 6, 1)?;
     insert_at(&rt, &mut copy, 7, 4)?;
-    expect_items(&rt, &copy, &[Some(0), Some(6), Some(5), Some(30), Some(7)]);
-    expect_items(&rt, &set, &[Some(0), None, None, Some(30)]);
+    expect_items(&rt, &copy, &[Some(0), Some(6), Some(5), Some(3), Some(7)]);
+    expect_items(&rt, &set, &[Some(0), None, None, Some(3)]);
     assert_eq!(rt; ItemSet::<u32>::new(rt.alloc()).clone()?.slot_count(), 0);
     Ok(())
 }

@@ -1,4 +1,7 @@
-use super::{expect_item, expect_items, expect_room, gapped, insert_at, is_gap, ix, with_gaps};
+use super::{
+    expect_item, expect_items, expect_room, gapped, insert_at, is_gap, ix, remove, with_gaps,
+    with_items,
+};
 use iddqd::item_index::ItemIndex;
 use iddqd::item_set::{IndexRemap, ItemSet};
 use std::process::Abort;
@@ -37,12 +40,12 @@ fn items_move_down_in_their_order(rt: HostRuntime) -> Result<(), Fail> {
 fn without_gaps_every_index_keeps_its_name(rt: HostRuntime) -> Result<(), Fail> {
     let mut none = ItemSet::<u32>::new(rt.alloc());
     assert!(rt; none.compact()?.is_identity());
-    let mut set = with_gaps(&rt, rt.alloc(), 4, &[])?;
+    let mut set = with_items(&rt, rt.alloc(), &[0, 1, 2, 3])?;
     let remap = set.compact()?;
     assert!(rt; remap.is_identity());
     expect_name(&rt, &remap, 0, Some(0));
     expect_name(&rt, &remap, 3, Some(3));
-    expect_items(&rt, &set, &[Some(0), Some(10), Some(20), Some(30)]);
+    expect_items(&rt, &set, &[Some(0), Some(1), Some(2), Some(3)]);
     Ok(())
 }
 
@@ -66,7 +69,9 @@ fn an_index_that_was_not_live_has_no_new_name(rt: HostRuntime) -> Result<(), Fai
 
 #[test]
 fn a_set_of_gaps_becomes_empty(rt: HostRuntime) -> Result<(), Fail> {
-    let mut set = with_gaps(&rt, rt.alloc(), 2, &[0, 1])?;
+    let mut set = with_items(&rt, rt.alloc(), &[7, 8])?;
+    remove(&rt, &mut set, 0, 7);
+    remove(&rt, &mut set, 1, 8);
     let remap = set.compact()?;
     expect_names(&rt, &remap, &[S, S]);
     expect_items(&rt, &set, &[]);

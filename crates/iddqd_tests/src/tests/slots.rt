@@ -7,6 +7,7 @@ use std::test::Fail;
 #[test]
 fn freed_slots_come_back_last_freed_first(rt: HostRuntime) -> Result<(), Fail> {
     let mut set = with_gaps(&rt, rt.alloc(), 6, &[1, 3, 5])?;
+    assert!(rt; set.remove(ix(5)).is_none());
     expect_items(&rt, &set, &[Some(0), None, Some(20), None, Some(40), None]);
     insert_at(&rt, &mut set, 100, 5)?;
     insert_at(&rt, &mut set, 200, 3)?;
