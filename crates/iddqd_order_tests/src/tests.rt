@@ -18,6 +18,7 @@ mod lying;
 mod remaps;
 mod retains;
 mod sequences;
+mod thousand;
 mod trees;
 mod walk;
 

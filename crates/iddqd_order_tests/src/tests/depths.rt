@@ -9,7 +9,7 @@ use std::test::Fail;
 
 // Lengths of tables in rising or falling order, and how many levels their trees have: a level comes
 // at 12, 89 and 628.
-static LEVELS: [(u32, u32); 10] = [
+static LEVELS: [(u32, u32); 11] = [
     (0, 0),
     (1, 1),
     (11, 1),
@@ -17,6 +17,7 @@ static LEVELS: [(u32, u32); 10] = [
     (40, 2),
     (88, 2),
     (89, 3),
+    (200, 3),
     (300, 3),
     (627, 3),
     (628, 4),
