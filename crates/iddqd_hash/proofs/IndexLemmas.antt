@@ -1,8 +1,8 @@
--- What a bag of hashes and indexes says of the map: its pairs and indexes, which indexes it has, what a retain and a clone
--- leave, and what a look-up finds.
+-- What a bag of hashes and indexes says of the map: its pairs and indexes, which indexes it has, what a retain leaves,
+-- and what a look-up finds.
 use Rattle.std.proofs.Common.{eqb-true, eq-eqb, ◌≡◌, ◌==◌, ℕ, Bool, true, false, cond, List, [], ◌∷◌, map, filter, Option, Some, None, is_some, refl, sym, ap, subst, ◌∙◌}
 use mathlib.Core.Bool.{◌||◌}
-use Rattle.std.specs.List.{AllByRecursion, AllZip, FoldsTo, list_any}
+use Rattle.std.specs.List.{AllByRecursion, FoldsTo, list_any}
 use Rattle.std.specs.List.Sorted.{IsPermutation}
 use Rattle.std.specs.Ordering.{nat_cmp, eq_by_cmp}
 use Rattle.std.specs.FinMap as finite
@@ -11,7 +11,7 @@ use Rattle.std.specs.Cmp.{nat_cmp_total, eq_by_cmp_equiv}
 use Rattle.std.proofs.lemmas.List.Sorted.{IsPermutation-trans, IsPermutation-sym, IsPermutation-map, list_any-IsPermutation}
 use Rattle.std.proofs.lemmas.Map.Keys.{IsDistinct-head, IsDistinct-tail, IsDistinct-cons}
 use Rattle.iddqd_hash.specs.Asks.{FindsPlace, Keeps}
-use Rattle.iddqd_hash.specs.HashTable.{values, Rewrites}
+use Rattle.iddqd_hash.specs.HashTable.{values}
 use Rattle.iddqd_hash.specs.MapHashTable.{turned, filed_from, indexes_of, pairs_of, IsDistinctlyFiled}
 use Rattle.iddqd_hash.proofs.MapHashTableLemmas.{filed_entries, turned_keys, untied, distinct_moved, LooksUp-follows}
 
@@ -104,18 +104,3 @@ distinct_passed (a ∷ asks) apart =
 pub distinct_retained : {F : Type 0} (ask : F → ℕ → Bool → F → Type 0) (f : F) (old new : List (ℕ × ℕ)) → Keeps ask f old new → IsDistinctlyFiled old → IsDistinctlyFiled new
 distinct_retained ask f old new keeps apart =
     distinct_moved _ _ keeps.kept (distinct_passed keeps.asks (distinct_moved _ _ keeps.each_once apart))
-
--- where clones of values equal them, a clone has the same pairs
-module _ {T : Type 0} (is_clone : T → T → Type 0) (equal : (x y : T) → is_clone x y → y ≡ x) where
-  all_equal : (es copies : List (ℕ × T)) → AllZip (λ e w. (w.0 ≡ e.0) × is_clone e.1 w.1) es copies → es ≡ copies
-  all_equal [] [] all = refl
-  all_equal [] (c ∷ copies) all = absurd all
-  all_equal (e ∷ es) [] all = absurd all
-  all_equal (e ∷ es) (c ∷ copies) all =
-      let hash = sym all.0.0 in
-      let value = sym (equal e.1 c.1 all.0.1) in
-      let rest = all_equal es copies all.1 in
-      λ i. (hash i, value i) ∷ rest i
-
-  pub same_pairs : (es copies : List (ℕ × T)) → Rewrites is_clone es copies → IsPermutation es copies
-  same_pairs es copies cloned = subst (λ xs. IsPermutation xs copies) (sym (all_equal es cloned.rewritten cloned.each)) cloned.moved

@@ -1,5 +1,6 @@
 pub mod AskLemmas
 pub mod FiledLemmas
+pub mod RenameLemmas
 pub mod RetainLemmas
 pub mod RewriteLemmas
 mod CellLemmas
@@ -17,6 +18,5 @@ mod OpenSlotLemmas
 mod OpenTableLemmas
 mod OpenWalkLemmas
 mod PermutationLemmas
-mod RenameLemmas
 mod SizeLemmas
 mod UnderLemmas

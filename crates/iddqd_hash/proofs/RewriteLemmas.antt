@@ -53,3 +53,18 @@ module _ {T : Type 0} (gives : T → T → Type 0) (to : T → T) (says : (v w :
   pub Rewrites-mapped : (old new : List (ℕ × T)) → Rewrites gives old new → IsPermutation (map (λ e. (e.0, to e.1)) old) new
   Rewrites-mapped old new rewrites =
       subst (λ ws. IsPermutation ws new) (pairs_mapped old rewrites.rewritten rewrites.each) rewrites.moved
+
+-- where clones of values equal them, a clone has the same pairs
+module _ {T : Type 0} (is_clone : T → T → Type 0) (equal : (x y : T) → is_clone x y → y ≡ x) where
+  all_equal : (es copies : List (ℕ × T)) → AllZip (λ e w. (w.0 ≡ e.0) × is_clone e.1 w.1) es copies → es ≡ copies
+  all_equal [] [] all = refl
+  all_equal [] (c ∷ copies) all = absurd all
+  all_equal (e ∷ es) [] all = absurd all
+  all_equal (e ∷ es) (c ∷ copies) all =
+      let hash = sym all.0.0 in
+      let value = sym (equal e.1 c.1 all.0.1) in
+      let rest = all_equal es copies all.1 in
+      λ i. (hash i, value i) ∷ rest i
+
+  pub same_pairs : (es copies : List (ℕ × T)) → Rewrites is_clone es copies → IsPermutation es copies
+  same_pairs es copies cloned = subst (λ xs. IsPermutation xs copies) (sym (all_equal es cloned.rewritten cloned.each)) cloned.moved

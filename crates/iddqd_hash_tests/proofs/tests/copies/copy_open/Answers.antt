@@ -1,5 +1,5 @@
 use Rattle.std.proofs.Common.{rules}
-use Rattle.iddqd_hash.proofs.IndexLemmas.{same_pairs}
+use Rattle.iddqd_hash.proofs.RewriteLemmas.{same_pairs}
 use Rattle.iddqd_hash_tests.proofs.tests.copies.copy_open.Goals as goal
 
 pub returns : goal.returns
