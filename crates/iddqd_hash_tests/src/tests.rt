@@ -10,6 +10,7 @@ mod filed;
 mod found;
 mod indexes;
 mod keys;
+mod letters;
 mod look_ups;
 mod many;
 mod map_copies;

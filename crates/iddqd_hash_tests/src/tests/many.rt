@@ -5,12 +5,10 @@ use iddqd::map_hash::MapHash;
 use std::alloc::{AllocError, Global};
 use std::test::Fail;
 
-// Files each index below a number under the hash of that number.
+// Files each index below a number under the hash of that number. The memory is taken ahead.
 fn file_rising(alloc: Global, count: u32) -> Result<MapHashTable, AllocError> {
-    let mut table = MapHashTable::new(alloc);
-    table.try_reserve(count as usize)?;
+    let mut table = MapHashTable::with_capacity(alloc, count as usize)?;
     for number in 0..count {
-        table.try_reserve(1)?;
         table.insert_prehashed_unchecked(MapHash::new(number as u64), ItemIndex::new(number));
     }
     Ok(table)

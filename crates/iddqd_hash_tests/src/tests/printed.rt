@@ -1,6 +1,9 @@
 //! Printed forms.
+use super::filed::file_all;
+use super::keys::Constant;
 use iddqd_hash::hash_table::{HashedIndex, MapHashTable};
 use iddqd_hash::hash_table_reference::HashTable;
+use iddqd_hash::open_table::OpenHashTable;
 use iddqd::item_index::ItemIndex;
 use std::test::Fail;
 
@@ -18,5 +21,39 @@ fn prints(rt: HostRuntime) -> Result<(), Fail> {
         "HashTable {{ pairs: [(7, 'a')] }} {open} HashedIndex {{ ix: 3, hash: 9 }}"
     )?;
     assert!(rt; text.as_str() == all.as_str(), "{text}");
+    Ok(())
+}
+
+#[test]
+fn prints_a_table_with_open_addressing(rt: HostRuntime) -> Result<(), Fail> {
+    let mut table = OpenHashTable::new(rt.alloc());
+    table.try_reserve(1)?;
+    table.insert_unique(7, 'a');
+    let text = format!(in rt.alloc(); "{table:?}")?;
+    assert!(rt; text.as_str() == "OpenHashTable { len: 1, cells: 16, used: 1 }", "{text}");
+    let walk = table.iter();
+    let text = format!(in rt.alloc(); "{walk:?}")?;
+    assert!(rt; text.as_str() == "TableIter { remaining: 1 }", "{text}");
+    Ok(())
+}
+
+#[test]
+fn prints_a_walk_over_a_linear_table(rt: HostRuntime) -> Result<(), Fail> {
+    let mut table = HashTable::new(rt.alloc());
+    table.try_reserve(2)?;
+    table.insert_unique(7, 'a');
+    table.insert_unique(7, 'b');
+    let walk = table.iter();
+    let text = format!(in rt.alloc(); "{walk:?}")?;
+    assert!(rt; text.as_str() == "TableIter { remaining: 2 }", "{text}");
+    Ok(())
+}
+
+#[test]
+fn prints_a_walk_over_indexes(rt: HostRuntime) -> Result<(), Fail> {
+    let table = file_all(rt.alloc(), &Constant, &[10])?;
+    let walk = table.indexes();
+    let text = format!(in rt.alloc(); "{walk:?}")?;
+    assert!(rt; text.as_str() == "Indexes { remaining: 1 }", "{text}");
     Ok(())
 }
