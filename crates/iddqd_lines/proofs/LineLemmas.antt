@@ -10,8 +10,7 @@ use Rattle.std.proofs.lemmas.List.{take-append-drop, length-take-le}
 use Rattle.std.proofs.lemmas.Int.Digits.{digits_value_more}
 use Rattle.std.proofs.lemmas.List.Folds.{list_all_more}
 use Rattle.std.proofs.lemmas.List.Splits.{length-slice_split}
-use Rattle.iddqd_lines.specs.Line.{is_space, number_of, numbers_of, only, command_for, command_of}
-use Rattle.iddqd_lines.specs.declared.line.TheConstants.{MAX_LINE}
+use Rattle.iddqd_lines.specs.Line.{max_line, is_space, number_of, numbers_of, only, command_for, command_of}
 use Rattle.iddqd_lines.specs.declared.line_buffer.TheConstants.{KEPT}
 
 -- three tests and what they choose
@@ -124,4 +123,4 @@ command_of-kept kept whole same = by_length (cases_lt (length kept) KEPT) (cases
     by_length (inr long) (inr also_long) = too_long kept long ∙ sym (too_long whole also_long)
       where
         too_long : (line : List ℕ) → KEPT ≤ length line → command_of line ≡ None
-        too_long line long = let over : nat_le (length line) MAX_LINE ≡ false = grind (arith, nat_tests, long) in rw over
+        too_long line long = let over : nat_le (length line) max_line ≡ false = grind (arith, nat_tests, long) in rw over

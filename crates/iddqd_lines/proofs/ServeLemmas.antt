@@ -9,13 +9,12 @@ use Rattle.std.proofs.lemmas.List.Elements.{All-append, All-head, All-tail, All-
 use Rattle.std.proofs.lemmas.List.Splits.{slice_split_at, slice_split_none}
 use Rattle.iddqd_keyed.specs.State.{State, empty_state}
 use Rattle.iddqd_keyed.specs.Machine.{Step}
-use Rattle.iddqd_lines.specs.Line.{is_line_feed, lines_of, without_empty_last, command_of, index_of, text_of}
+use Rattle.iddqd_lines.specs.Line.{line_feed, is_line_feed, lines_of, without_empty_last, command_of, index_of, text_of}
 use Rattle.iddqd_lines.specs.Split.{HasNo, IsCut}
 use Rattle.iddqd_lines.specs.Replies.{sent_bytes}
 use Rattle.iddqd_lines.specs.Program.{record_keys, AnswersCommand, Line, Serves, default_hash, IsDefaultHasher, ServesAll}
 use Rattle.iddqd_lines.specs.Serve.{ended, IsKept, Obeys, Feeds, Finishes}
 use Rattle.iddqd_lines.specs.Stream.{FailsOnErr}
-use Rattle.iddqd_lines.specs.declared.line.TheConstants.{LINE_FEED}
 use Rattle.iddqd_lines.specs.declared.line_buffer.TheConstants.{KEPT}
 use Rattle.iddqd_lines.specs.declared.record.Record.{Record}
 use Rattle.iddqd_keyed.specs.declared.command.Command.{Command}
@@ -66,25 +65,25 @@ module _ {S : Type 0} (hash : S → ℕ → ℕ) where
   Serves-append old mid new [] more bytes rest p q =
       subst (λ b. Serves hash old more (b ++ rest) new) (sym p.0) (subst (λ s. Serves hash s more rest new) p.1 q)
   Serves-append old mid new (line ∷ lines) more bytes rest p q =
-      (p.0, p.1, p.2 ++ rest, p.3, ap (λ b. b ++ rest) p.4 ∙ append_assoc p.0 (LINE_FEED ∷ p.2) rest, Serves-append p.1 mid new lines more p.2 rest p.5 q)
+      (p.0, p.1, p.2 ++ rest, p.3, ap (λ b. b ++ rest) p.4 ∙ append_assoc p.0 (line_feed ∷ p.2) rest, Serves-append p.1 mid new lines more p.2 rest p.5 q)
 
-HasNo-append : (xs ys : List ℕ) → HasNo LINE_FEED xs → HasNo LINE_FEED ys → HasNo LINE_FEED (xs ++ ys)
-HasNo-append xs ys p q = All-append (λ b. (b == LINE_FEED) ≡ false) xs ys p q
+HasNo-append : (xs ys : List ℕ) → HasNo line_feed xs → HasNo line_feed ys → HasNo line_feed (xs ++ ys)
+HasNo-append xs ys p q = All-append (λ b. (b == line_feed) ≡ false) xs ys p q
 
-HasNo-nil : HasNo LINE_FEED []
-HasNo-nil = All-nil (λ b. (b == LINE_FEED) ≡ false)
+HasNo-nil : HasNo line_feed []
+HasNo-nil = All-nil (λ b. (b == line_feed) ≡ false)
 
 ended-append : (lines more : List (List ℕ)) → ended (lines ++ more) ≡ ended lines ++ ended more
 ended-append [] more = refl
-ended-append (line ∷ lines) more = ap (λ l. line ++ LINE_FEED ∷ l) (ended-append lines more) ∙ sym (append_assoc line (LINE_FEED ∷ ended lines) (ended more))
+ended-append (line ∷ lines) more = ap (λ l. line ++ line_feed ∷ l) (ended-append lines more) ∙ sym (append_assoc line (line_feed ∷ ended lines) (ended more))
 
 -- the parts of some lines, each with its line feed, and the bytes of one that has partial
-split-ended : (lines : List (List ℕ)) (left : List ℕ) → All (HasNo LINE_FEED) lines → HasNo LINE_FEED left → slice_split is_line_feed (ended lines ++ left) ≡ lines ++ left ∷ []
+split-ended : (lines : List (List ℕ)) (left : List ℕ) → All (HasNo line_feed) lines → HasNo line_feed left → slice_split is_line_feed (ended lines ++ left) ≡ lines ++ left ∷ []
 split-ended [] left each last = slice_split_none is_line_feed left last
 split-ended (line ∷ lines) left each last =
-    ap (slice_split is_line_feed) (append_assoc line (LINE_FEED ∷ ended lines) left)
-    ∙ slice_split_at is_line_feed line LINE_FEED (ended lines ++ left) (All-head (HasNo LINE_FEED) line lines each) refl
-    ∙ ap (λ l. line ∷ l) (split-ended lines left (All-tail (HasNo LINE_FEED) line lines each) last)
+    ap (slice_split is_line_feed) (append_assoc line (line_feed ∷ ended lines) left)
+    ∙ slice_split_at is_line_feed line line_feed (ended lines ++ left) (All-head (HasNo line_feed) line lines each) refl
+    ∙ ap (λ l. line ∷ l) (split-ended lines left (All-tail (HasNo line_feed) line lines each) last)
 
 last_dropped : (lines : List (List ℕ)) → without_empty_last (lines ++ [] ∷ []) ≡ lines
 last_dropped [] = refl
@@ -108,7 +107,7 @@ module _ {S : Type 0} (hash : S → ℕ → ℕ) (before mid after : Option (Lis
         bytes_are =
             sym (append_assoc partial bytes more) ∙ ap (λ l. l ++ more) f.bytes_are ∙ append_assoc (ended f.done) f.left more
             ∙ ap (λ l. ended f.done ++ l) g.bytes_are ∙ sym (append_assoc (ended f.done) (ended g.done) g.left) ∙ ap (λ l. l ++ g.left) (sym (ended-append f.done g.done));
-        each_one_line = All-append (HasNo LINE_FEED) f.done g.done f.each_one_line g.each_one_line;
+        each_one_line = All-append (HasNo line_feed) f.done g.done f.each_one_line g.each_one_line;
         keeps = g.keeps;
         out = f.out ++ g.out;
         serves = Serves-append hash old next new f.done g.done f.out g.out f.serves g.serves;
@@ -123,7 +122,7 @@ module _ {S : Type 0} (hash : S → ℕ → ℕ) where
         done = [];
         left = partial;
         bytes_are = append-nil partial;
-        each_one_line = All-nil (HasNo LINE_FEED);
+        each_one_line = All-nil (HasNo line_feed);
         keeps = keeps;
         out = [];
         serves = (refl, refl);
@@ -131,27 +130,27 @@ module _ {S : Type 0} (hash : S → ℕ → ℕ) where
       }
 
   -- a line that ends
-  Feeds-end : (before after : Option (List ℕ)) (old new : State Record S) (partial end : List ℕ) → HasNo LINE_FEED partial → HasNo LINE_FEED end → Obeys hash before after old (partial ++ end) new → Feeds hash before after old partial (end ++ LINE_FEED ∷ []) new []
+  Feeds-end : (before after : Option (List ℕ)) (old new : State Record S) (partial end : List ℕ) → HasNo line_feed partial → HasNo line_feed end → Obeys hash before after old (partial ++ end) new → Feeds hash before after old partial (end ++ line_feed ∷ []) new []
   Feeds-end before after old new partial end one_line more o =
       record {
         done = (partial ++ end) ∷ [];
         left = [];
-        bytes_are = sym (append_assoc partial end (LINE_FEED ∷ [])) ∙ sym (append-nil ((partial ++ end) ++ LINE_FEED ∷ []));
-        each_one_line = All-cons (HasNo LINE_FEED) (partial ++ end) [] (HasNo-append partial end one_line more) (All-nil (HasNo LINE_FEED));
+        bytes_are = sym (append_assoc partial end (line_feed ∷ [])) ∙ sym (append-nil ((partial ++ end) ++ line_feed ∷ []));
+        each_one_line = All-cons (HasNo line_feed) (partial ++ end) [] (HasNo-append partial end one_line more) (All-nil (HasNo line_feed));
         keeps = record { bytes = refl; one_line = HasNo-nil };
-        out = o.out ++ LINE_FEED ∷ [];
+        out = o.out ++ line_feed ∷ [];
         serves = (o.out, new, [], o.answers, refl, (refl, refl));
         sent = o.sent;
       }
 
   -- a line that goes on
-  Feeds-begin : (sent : Option (List ℕ)) (old : State Record S) (partial bytes kept : List ℕ) → HasNo LINE_FEED partial → HasNo LINE_FEED bytes → kept ≡ take KEPT (partial ++ bytes) → Feeds hash sent sent old partial bytes old kept
+  Feeds-begin : (sent : Option (List ℕ)) (old : State Record S) (partial bytes kept : List ℕ) → HasNo line_feed partial → HasNo line_feed bytes → kept ≡ take KEPT (partial ++ bytes) → Feeds hash sent sent old partial bytes old kept
   Feeds-begin sent old partial bytes kept one_line more is =
       record {
         done = [];
         left = partial ++ bytes;
         bytes_are = refl;
-        each_one_line = All-nil (HasNo LINE_FEED);
+        each_one_line = All-nil (HasNo line_feed);
         keeps = record { bytes = is; one_line = HasNo-append partial bytes one_line more };
         out = [];
         serves = (refl, refl);
@@ -159,13 +158,13 @@ module _ {S : Type 0} (hash : S → ℕ → ℕ) where
       }
 
   -- one line more
-  pub Feeds-line : (before mid after : Option (List ℕ)) (old next new : State Record S) (partial seen kept last : List ℕ) (rest end more : List ℕ) → Feeds hash before mid old partial seen next kept → IsCut LINE_FEED rest end more → ((line : List ℕ) → kept ≡ take KEPT line → Obeys hash mid after next (line ++ end) new) → last ≡ [] → Feeds hash before after old partial (seen ++ end ++ LINE_FEED ∷ []) new last
+  pub Feeds-line : (before mid after : Option (List ℕ)) (old next new : State Record S) (partial seen kept last : List ℕ) (rest end more : List ℕ) → Feeds hash before mid old partial seen next kept → IsCut line_feed rest end more → ((line : List ℕ) → kept ≡ take KEPT line → Obeys hash mid after next (line ++ end) new) → last ≡ [] → Feeds hash before after old partial (seen ++ end ++ line_feed ∷ []) new last
   Feeds-line before mid after old next new partial seen kept last rest end more f cut obeys forgets =
       let keeps = f.keeps in
-      rw (forgets, append_assoc) (Feeds-append hash before mid after old next new partial seen (end ++ LINE_FEED ∷ []) kept [] f (Feeds-end mid after next new f.left end keeps.one_line cut.first (obeys f.left keeps.bytes)))
+      rw (forgets, append_assoc) (Feeds-append hash before mid after old next new partial seen (end ++ line_feed ∷ []) kept [] f (Feeds-end mid after next new f.left end keeps.one_line cut.first (obeys f.left keeps.bytes)))
 
   -- the bytes behind the last line feed
-  pub Feeds-rest : (before mid : Option (List ℕ)) (old next : State Record S) (partial seen kept last rest : List ℕ) → Feeds hash before mid old partial seen next kept → HasNo LINE_FEED rest → last ≡ take KEPT (kept ++ rest) → Feeds hash before mid old partial (seen ++ rest) next last
+  pub Feeds-rest : (before mid : Option (List ℕ)) (old next : State Record S) (partial seen kept last rest : List ℕ) → Feeds hash before mid old partial seen next kept → HasNo line_feed rest → last ≡ take KEPT (kept ++ rest) → Feeds hash before mid old partial (seen ++ rest) next last
   Feeds-rest before mid old next partial seen kept last rest f none is =
       let keeps = f.keeps in
       Feeds-append hash before mid mid old next next partial seen rest kept last f (Feeds-begin mid next f.left rest last keeps.one_line none (is ∙ ap (λ k. take KEPT (k ++ rest)) keeps.bytes ∙ take-kept KEPT f.left rest))
@@ -233,7 +232,7 @@ Reads-flush hash (Some bytes) left written now later hasher items kept r flushed
     }
 
 -- the lines of bytes that end some lines and begin another
-lines_of-ended : (lines : List (List ℕ)) (left : List ℕ) → All (HasNo LINE_FEED) lines → HasNo LINE_FEED left → lines_of (ended lines ++ left) ≡ lines ++ lines_of left
+lines_of-ended : (lines : List (List ℕ)) (left : List ℕ) → All (HasNo line_feed) lines → HasNo line_feed left → lines_of (ended lines ++ left) ≡ lines ++ lines_of left
 lines_of-ended lines left each last =
     ap without_empty_last (split-ended lines left each last) ∙ at_last left
     ∙ ap (λ ls. lines ++ without_empty_last ls) (sym (slice_split_none is_line_feed left last))
@@ -258,11 +257,11 @@ module _ {S : Type 0} (hash : S → ℕ → ℕ) where
       let line : List ℕ = b ∷ bs in
       let o = obeys line (ap (take KEPT) keeps.bytes ∙ take-take KEPT line) in
       let whole : lines_of line ≡ line ∷ [] = ap without_empty_last (slice_split_none is_line_feed line keeps.one_line) in
-      let answered : Serves hash old (line ∷ []) (o.out ++ LINE_FEED ∷ []) new = (o.out, new, [], o.answers, refl, (refl, refl)) in
+      let answered : Serves hash old (line ∷ []) (o.out ++ line_feed ∷ []) new = (o.out, new, [], o.answers, refl, (refl, refl)) in
       record {
-        out = o.out ++ LINE_FEED ∷ [];
-        serves = subst (λ ls. Serves hash old ls (o.out ++ LINE_FEED ∷ []) new) (sym whole) answered;
-        sent = subst (λ l. Appends before after l) (append-nil (o.out ++ LINE_FEED ∷ [])) (Appends-trans before mid after (o.out ++ LINE_FEED ∷ []) [] o.sent flushed);
+        out = o.out ++ line_feed ∷ [];
+        serves = subst (λ ls. Serves hash old ls (o.out ++ line_feed ∷ []) new) (sym whole) answered;
+        sent = subst (λ l. Appends before after l) (append-nil (o.out ++ line_feed ∷ [])) (Appends-trans before mid after (o.out ++ line_feed ∷ []) [] o.sent flushed);
       }
 
 -- all lines are answered, once all bytes were fed and the line that had begun is

@@ -10,7 +10,6 @@ use Rattle.iddqd.specs.Store.{Store, get}
 use Rattle.iddqd.specs.Compaction.{sentinel}
 use Rattle.iddqd.specs.declared.index_remap.IndexRemap.{IndexRemap}
 use Rattle.iddqd.specs.declared.index_remap.IndexRemap.TheVariants.{Identity, Permuted}
-use Rattle.iddqd_lines.specs.declared.line.TheConstants.{LINE_FEED, SPACE, MAX_LINE}
 use Rattle.iddqd_lines.specs.declared.record.Record.{Record}
 use Rattle.iddqd_keyed.specs.declared.command.Command.{Command}
 use Rattle.iddqd_keyed.specs.declared.command.Command.TheVariants.{Insert, Find1, Find2, Remove, Remove1, Remove2, Overwrite, Compact, Clear, Walk}
@@ -19,11 +18,23 @@ use Rattle.iddqd_keyed.specs.declared.command.Reply.TheVariants.{Inserted, Refus
 use Rattle.iddqd_keyed.specs.declared.command.InsertRefusal.{InsertRefusal}
 use Rattle.iddqd_keyed.specs.declared.command.InsertRefusal.TheVariants.{Duplicate, Full, Memory}
 
+-- the byte that ends a line
+abbrev pub line_feed : ℕ
+line_feed = 10
+
+-- the byte between two words
+abbrev pub space : ℕ
+space = 32
+
+-- the most bytes of a line that is a command
+abbrev pub max_line : ℕ
+max_line = 128
+
 abbrev pub is_line_feed : ℕ → Bool
-is_line_feed b = b == LINE_FEED
+is_line_feed b = b == line_feed
 
 abbrev pub is_space : ℕ → Bool
-is_space b = b == SPACE
+is_space b = b == space
 
 -- the parts but for the last, where that is empty
 abbrev pub without_empty_last : List (List ℕ) → List (List ℕ)
@@ -101,10 +112,10 @@ abbrev pub command_of_words : List (List ℕ) → Option (Command Record ℕ ℕ
 command_of_words [] = None
 command_of_words (verb ∷ words) = option_and_then (command_for verb) (numbers_of words)
 
--- the command that a line is: of at most MAX_LINE bytes, its words with exactly one space between
+-- the command that a line is: of at most max_line bytes, its words with exactly one space between
 abbrev pub command_of : List ℕ → Option (Command Record ℕ ℕ)
 command_of line =
-    if nat_le (length line) MAX_LINE then command_of_words (slice_split is_space line) else None
+    if nat_le (length line) max_line then command_of_words (slice_split is_space line) else None
 
 abbrev pub index_or_dash : Option ℕ → List ℕ
 index_or_dash None = codes "-"

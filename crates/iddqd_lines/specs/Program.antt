@@ -14,8 +14,7 @@ use Rattle.iddqd.specs.MapHash.{hash_one}
 use Rattle.iddqd_keyed.specs.Keys.{Keys}
 use Rattle.iddqd_keyed.specs.State.{State, empty_state}
 use Rattle.iddqd_keyed.specs.Machine.{Step}
-use Rattle.iddqd_lines.specs.Line.{lines_of, command_of, index_of, text_of}
-use Rattle.iddqd_lines.specs.declared.line.TheConstants.{LINE_FEED}
+use Rattle.iddqd_lines.specs.Line.{line_feed, lines_of, command_of, index_of, text_of}
 use Rattle.iddqd_lines.specs.declared.record.Record.{Record}
 use Rattle.iddqd_lines.specs.declared.serve.ServeFault.{ServeFault}
 use Rattle.iddqd_lines.specs.declared.serve.ServeFault.TheVariants.{Read, Write}
@@ -50,7 +49,7 @@ module _ {S : Type 0} (hash : S → ℕ → ℕ) where
   Serves old [] bytes new = (bytes ≡ []) × (new ≡ old)
   Serves old (line ∷ lines) bytes new =
       (out : List ℕ) × (next : State Record S) × (rest : List ℕ)
-      × Line old line out next × (bytes ≡ out ++ LINE_FEED ∷ rest) × Serves next lines rest new
+      × Line old line out next × (bytes ≡ out ++ line_feed ∷ rest) × Serves next lines rest new
 
 -- how a build hasher hashes a number of 32 bits
 abbrev pub hash_u32 : {S H : Type 0} → builder.Ghosts S H → hasher.Ghosts H → S → ℕ → ℕ

@@ -3,9 +3,8 @@ use Rattle.std.specs.Prelude.{◌≡◌, ◌++◌, ◌∷◌, ℕ, List, Option,
 use Rattle.std.specs.Option.{option_map}
 use Rattle.std.specs.Fmt.{decimal}
 use Rattle.std.specs.Io.KnownBytes.{Appends}
-use Rattle.iddqd_lines.specs.Line.{name_or_dash}
+use Rattle.iddqd_lines.specs.Line.{space, name_or_dash}
 use Rattle.iddqd_lines.specs.Stream.{FailsOnErr}
-use Rattle.iddqd_lines.specs.declared.line.TheConstants.{SPACE}
 use Rattle.iddqd_lines.specs.declared.sink.Sink as sink
 
 -- the bytes written, where they are told, and then those that wait
@@ -25,8 +24,8 @@ module _ {O E : Type 0} (g : sink.Ghosts O) where
 
 -- an index with a space before it
 abbrev pub spaced : ℕ → List ℕ
-spaced ix = SPACE ∷ decimal ix
+spaced ix = space ∷ decimal ix
 
 -- a new name, or a dash, with a space before it
 abbrev pub spaced_name : ℕ → List ℕ
-spaced_name name = SPACE ∷ name_or_dash name
+spaced_name name = space ∷ name_or_dash name

@@ -2,7 +2,7 @@
 ghost use Rattle.std.specs.Prelude.{◌≡◌, ◌++◌, ◌∷◌, ◌+◌, ◌<◌, ◌≤◌, [], length, codes, OnOk};
 ghost use Rattle.std.specs.Fmt.{decimal};
 ghost use Rattle.std.specs.List.{flat_map};
-ghost use Rattle.iddqd_lines.specs.Line.{record_text, index_or_dash, found_text, removed_text, refusal_text, overwritten_text, walk_text, remap_text, text_of};
+ghost use Rattle.iddqd_lines.specs.Line.{line_feed, record_text, index_or_dash, found_text, removed_text, refusal_text, overwritten_text, walk_text, remap_text, text_of};
 ghost use Rattle.iddqd_lines.specs.Replies.{Sends, spaced, spaced_name};
 
 use crate::digits::{Digits, MAX_DIGITS};
@@ -94,7 +94,7 @@ impl Replies {
         output: &mut O,
     ) -> Result<(), ()>
         requires { length self.old + MAX_REPLY ≤ BLOCK }
-        ensures { Sends O.Sink output.old self.old (text_of items.now.store named reply.now ++ LINE_FEED ∷ []) result output.new self.new }
+        ensures { Sends O.Sink output.old self.old (text_of items.now.store named reply.now ++ line_feed ∷ []) result output.new self.new }
     {
         self.put_words(items, named, reply, output)?;
         self.put(LINE_FEED);
@@ -190,7 +190,7 @@ impl Replies {
     /// Appends the line that answers what is no command.
     pub(crate) fn put_bad_line(&mut self)
         requires { length self.old + MAX_REPLY ≤ BLOCK }
-        ensures { self.new ≡ self.old ++ (codes "bad line" ++ LINE_FEED ∷ []) }
+        ensures { self.new ≡ self.old ++ (codes "bad line" ++ line_feed ∷ []) }
     {
         self.put_bytes(b"bad line\n");
     }

@@ -1,5 +1,5 @@
 use Rattle.std.proofs.Common.{◌++◌, ◌∷◌, [], refl, ap, sym, ◌∙◌, append_assoc}
-use Rattle.iddqd_lines.specs.declared.line.TheConstants.{LINE_FEED}
+use Rattle.iddqd_lines.specs.Line.{line_feed}
 use Rattle.iddqd_lines.proofs.ServeLemmas.{Feeds-none, Feeds-line, Feeds-rest}
 use Rattle.iddqd_lines.proofs.serve.feed.Goals as goal
 
@@ -19,8 +19,8 @@ loop-end-preserved g c = record {
       let before = c.loop-end.invariant.feeds line keeps in
       let cut = c.in-Some.ensures in
       record {
-        seen = before.seen ++ c.in-Some.end.now ++ LINE_FEED ∷ [];
-        seen_and_rest = before.seen_and_rest ∙ ap (λ l. before.seen ++ l) cut.whole ∙ sym (append_assoc (before.seen ++ c.in-Some.end.now) (LINE_FEED ∷ []) c.in-Some.after.now ∙ append_assoc before.seen c.in-Some.end.now (LINE_FEED ∷ c.in-Some.after.now));
+        seen = before.seen ++ c.in-Some.end.now ++ line_feed ∷ [];
+        seen_and_rest = before.seen_and_rest ∙ ap (λ l. before.seen ++ l) cut.whole ∙ sym (append_assoc (before.seen ++ c.in-Some.end.now) (line_feed ∷ []) c.in-Some.after.now ∙ append_assoc before.seen c.in-Some.end.now (line_feed ∷ c.in-Some.after.now));
         feeds = Feeds-line _ _ _ _ _ _ _ _ _ _ _ c.loop-end.rest.now c.in-Some.end.now c.in-Some.after.now before.feeds cut c.in_ok-end_line.ensures.obeys c.in_ok-end_line.ensures.forgets;
       };
   writing = c.in_ok-end_line.ensures.failed ∙ c.loop-end.invariant.writing;
