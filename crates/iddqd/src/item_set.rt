@@ -35,6 +35,7 @@ pub use consuming::ConsumingItemSet;
 pub use into_values::IntoValues;
 pub use iter::Iter;
 use std::alloc::{AllocError, Global};
+use std::error::Error;
 use std::marker::Model;
 use std::{fmt, mem};
 pub use values::Values;
@@ -59,6 +60,22 @@ pub enum GrowError {
     /// Memory was refused.
     Memory,
 }
+
+impl fmt::Display for GrowError {
+    ghost use Rattle.std.specs.Prelude.{Some};
+    ghost use Rattle.iddqd.specs.GrowError.{grow_error_text};
+
+    ghost output = { λ error. Some (grow_error_text error) };
+
+    fn fmt<W: fmt::Write>(&self, f: &mut fmt::Formatter<W>) -> fmt::Result {
+        match self {
+            GrowError::Full => write!(f, "full"),
+            GrowError::Memory => write!(f, "no memory"),
+        }
+    }
+}
+
+impl Error for GrowError {}
 
 /// Items under stable indexes.
 ///

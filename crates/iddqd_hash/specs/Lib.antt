@@ -10,3 +10,10 @@ pub mod OpenTableEntry
 pub mod OpenWalk
 pub mod OpenTableSizes
 pub mod Sizes
+-- what a caller's clauses cite, from one place: of the crate below, and of this one
+pub use Rattle.iddqd.specs.Compaction
+pub use Rattle.iddqd.specs.MapHash
+pub use Rattle.iddqd.specs.Compaction.{remapped, CanRemap}
+pub use Rattle.iddqd.specs.MapHash.{hash_one}
+pub use Rattle.iddqd_hash.specs.HashTable.{entries, values, under, capacity, room}
+pub use Rattle.iddqd_hash.specs.MapHashTable.{filed, indexes_of, indexes_under, IsDistinctlyFiled, FindsWhere, Unfiles, Renames}

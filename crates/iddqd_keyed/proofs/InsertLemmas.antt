@@ -6,8 +6,8 @@ use Rattle.iddqd.specs.Store.{Store, IsFull, next_index, inserted}
 use Rattle.iddqd_keyed.specs.Keys.{Keys, has_first, has_second}
 use Rattle.iddqd_keyed.specs.State.{State, IsPaired, IsSorted, IsSortedBy, AddsToOrder, Binds, hash_in, Finds1, Finds2, FirstKeysInOrder, SecondKeysInOrder, Keeps, AnswersScan}
 use Rattle.iddqd_keyed.specs.Machine.{MayMissBoth, HasNoPlace, StoresAt, Inserts, TellsAsScan, finds_told}
-use Rattle.iddqd_keyed.specs.declared.command.InsertRefusal.{InsertRefusal}
-use Rattle.iddqd_keyed.specs.declared.command.InsertRefusal.TheVariants.{Duplicate, Full, Memory}
+use Rattle.iddqd_keyed.specs.declared.keyed_items.InsertRefusal.{InsertRefusal}
+use Rattle.iddqd_keyed.specs.declared.keyed_items.InsertRefusal.TheVariants.{Duplicate, Full, Memory}
 use Rattle.iddqd_keyed.proofs.KeyLemmas.{AreLawful}
 use Rattle.iddqd_keyed.proofs.PairedLemmas.{IsPaired-inserted}
 use Rattle.iddqd_keyed.proofs.KeepsLemmas.{Keeps-same}

@@ -10,8 +10,8 @@ use Rattle.iddqd_keyed.specs.declared.command.Command.{Command}
 use Rattle.iddqd_keyed.specs.declared.command.Command.TheVariants.{Insert, Find1, Find2, Remove, Remove1, Remove2, Overwrite, Compact, Clear, Walk}
 use Rattle.iddqd_keyed.specs.declared.command.Reply.{Reply}
 use Rattle.iddqd_keyed.specs.declared.command.Reply.TheVariants.{Inserted, Refused, Found, Removed, Overwritten, Compacted, Cleared, Walked, NoMemory}
-use Rattle.iddqd_keyed.specs.declared.command.InsertRefusal.{InsertRefusal}
-use Rattle.iddqd_keyed.specs.declared.command.InsertRefusal.TheVariants.{Duplicate, Full, Memory}
+use Rattle.iddqd_keyed.specs.declared.keyed_items.InsertRefusal.{InsertRefusal}
+use Rattle.iddqd_keyed.specs.declared.keyed_items.InsertRefusal.TheVariants.{Duplicate, Full, Memory}
 
 module _ {T : Type 0} where
   -- The item comes back: the store is full, or else memory was refused.
@@ -43,7 +43,8 @@ module _ {T S : Type 0} where
   -- What an overwrite may answer and leave: the item that a live index had is given back, and neither table is touched;
   -- of an index that isn't live the given item comes back.
   abbrev pub Overwrites : State T S → ℕ → T → Result T T → State T S → Type 0
-  Overwrites old ix item (Ok was) new = (get old.store ix ≡ Some was) × (new ≡ record old { store = rebound old.store ix item })
+  Overwrites old ix item (Ok was) new =
+      (get old.store ix ≡ Some was) × (new ≡ record old { store = rebound old.store ix item })
   Overwrites old ix item (Err back) new = (get old.store ix ≡ None) × (back ≡ item) × (new ≡ old)
 
 module _ {T S K1 K2 : Type 0} (keys : Keys T K1 K2 S) where
@@ -64,7 +65,8 @@ module _ {T S K1 K2 : Type 0} (keys : Keys T K1 K2 S) where
     pub stored : StoresAt old item ix new
 
   -- an insert that was refused for a key that is there: both look-ups' answers, not both none
-  pub record RefusesDuplicate (old : State T S) (item back : T) (first second : Option ℕ) (new : State T S) : Type 0 where
+  pub record RefusesDuplicate (old : State T S) (item back : T) (first second : Option ℕ) (new : State T S)
+      : Type 0 where
     pub given_back : back ≡ item
     pub first_found : Finds1 keys old (keys.first item) first
     pub second_found : Finds2 keys old (keys.second item) second
@@ -85,15 +87,19 @@ module _ {T S K1 K2 : Type 0} (keys : Keys T K1 K2 S) where
 
   -- what an insert tells of each look-up is what a scan answers, where the keys of that side are in order
   pub record TellsAsScan (old : State T S) (item : T) (result : Result ℕ (InsertRefusal T)) : Type 0 where
-    pub first : FirstKeysInOrder keys old → AnswersScan old.store (has_first keys (keys.first item)) (finds_told result).0
-    pub second : SecondKeysInOrder keys old → AnswersScan old.store (has_second keys (keys.second item)) (finds_told result).1
+    pub first :
+        FirstKeysInOrder keys old → AnswersScan old.store (has_first keys (keys.first item)) (finds_told result).0
+    pub second :
+        SecondKeysInOrder keys old → AnswersScan old.store (has_second keys (keys.second item)) (finds_told result).1
 
-  -- a removal by a first key: what it may answer and leave, and that it finds what a scan does where the first keys are in order
+  -- a removal by a first key: what it may answer and leave, and that it finds what a scan does where the first keys
+  -- are in order
   pub record Removes1 (old : State T S) (key : K1) (removed : Option (ℕ × T)) (new : State T S) : Type 0 where
     pub removes : RemovesFound (Finds1 keys old key) old removed new
     pub as_scan : FirstKeysInOrder keys old → RemovesAsScan old.store (has_first keys key) removed
 
-  -- a removal by a second key: what it may answer and leave, and that it finds what a scan does where the second keys are in order
+  -- a removal by a second key: what it may answer and leave, and that it finds what a scan does where the second keys
+  -- are in order
   pub record Removes2 (old : State T S) (key : K2) (removed : Option (ℕ × T)) (new : State T S) : Type 0 where
     pub removes : RemovesFound (Finds2 keys old key) old removed new
     pub as_scan : SecondKeysInOrder keys old → RemovesAsScan old.store (has_second keys key) removed
@@ -124,7 +130,8 @@ module _ {T S K1 K2 : Type 0} (keys : Keys T K1 K2 S) where
   -- what a command tells of first keys is what a scan of the live items answers
   abbrev pub FirstKeysAsScan : Store T → Command T K1 K2 → Reply T → Type 0
   FirstKeysAsScan s (Insert item) (Inserted ix) = HasNoHit s (has_first keys (keys.first item))
-  FirstKeysAsScan s (Insert item) (Refused refusal) = AnswersScan s (has_first keys (keys.first item)) (finds_told (Err refusal)).0
+  FirstKeysAsScan s (Insert item) (Refused refusal) =
+      AnswersScan s (has_first keys (keys.first item)) (finds_told (Err refusal)).0
   FirstKeysAsScan s (Find1 key) (Found found) = AnswersScan s (has_first keys key) found
   FirstKeysAsScan s (Remove1 key) (Removed removed) = RemovesAsScan s (has_first keys key) removed
   FirstKeysAsScan s command reply = ⊤
@@ -132,7 +139,8 @@ module _ {T S K1 K2 : Type 0} (keys : Keys T K1 K2 S) where
   -- what a command tells of second keys is what a scan of the live items answers
   abbrev pub SecondKeysAsScan : Store T → Command T K1 K2 → Reply T → Type 0
   SecondKeysAsScan s (Insert item) (Inserted ix) = HasNoHit s (has_second keys (keys.second item))
-  SecondKeysAsScan s (Insert item) (Refused refusal) = AnswersScan s (has_second keys (keys.second item)) (finds_told (Err refusal)).1
+  SecondKeysAsScan s (Insert item) (Refused refusal) =
+      AnswersScan s (has_second keys (keys.second item)) (finds_told (Err refusal)).1
   SecondKeysAsScan s (Find2 key) (Found found) = AnswersScan s (has_second keys key) found
   SecondKeysAsScan s (Remove2 key) (Removed removed) = RemovesAsScan s (has_second keys key) removed
   SecondKeysAsScan s Walk (Walked indexes) = IsSortedScan s indexes.items
@@ -156,8 +164,8 @@ module _ {T S K1 K2 : Type 0} (keys : Keys T K1 K2 S) where
   abbrev pub IsSilentChange : State T S → Command T K1 K2 → Type 0
   IsSilentChange old command = ChangesFirstKey old command ⊎ ChangesSecondKey old command
 
-  -- One step: what it answers and leaves, and what it keeps. Where both sides are in order and no key changes, both stay
-  -- so; and a side that is in order answers as a scan.
+  -- One step: what it answers and leaves, and what it keeps. Where both sides are in order and no key changes, both
+  -- stay so; and a side that is in order answers as a scan.
   pub record Step (old : State T S) (command : Command T K1 K2) (reply : Reply T) (new : State T S) : Type 0 where
     pub answers : Answers old command reply new
     pub paired : IsPaired old × IsPaired new

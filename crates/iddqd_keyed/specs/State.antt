@@ -100,7 +100,8 @@ module _ {T K : Type 0} (key_of : T → K) where
 module _ {T S : Type 0} where
   -- no item and no slot, and nothing in either table; and there can be so many slots
   abbrev pub empty_state_within : ℕ → S → State T S
-  empty_state_within limit hasher = record { hasher = hasher; store = empty_within limit; filed = finite.empty; order = [] }
+  empty_state_within limit hasher =
+      record { hasher = hasher; store = empty_within limit; filed = finite.empty; order = [] }
 
   -- the same where no limit is given
   abbrev pub empty_state : S → State T S
@@ -112,7 +113,8 @@ module _ {T S : Type 0} where
 
   -- the state of a store and two tables
   abbrev pub state_of : S → Store T → Table ℕ → Order → State T S
-  state_of hasher store table order = record { hasher = hasher; store = store; filed = filed table; order = order_of order }
+  state_of hasher store table order =
+      record { hasher = hasher; store = store; filed = filed table; order = order_of order }
 
   -- The live indexes, the filed ones and those of the order are the same, and the order has none twice. The free
   -- indexes are distinct and exactly the vacant ones.
@@ -170,7 +172,9 @@ module _ {T S K1 K2 : Type 0} (keys : Keys T K1 K2 S) where
   -- Each live index is filed under the hash of its item's first key, and the first keys of live items are pairwise
   -- distinct.
   pub record FirstKeysInOrder (s : State T S) : Type 0 where
-    pub filed : (ix : ℕ) (item : T) → get s.store ix ≡ Some item → finite.get s.filed ix ≡ Some (hash_in s (keys.first item))
+    pub filed :
+        (ix : ℕ) (item : T) → get s.store ix ≡ Some item
+        → finite.get s.filed ix ≡ Some (hash_in s (keys.first item))
     pub apart : AreApart (λ x y. has_first keys (keys.first x) y) s.store
 
   -- The order is sorted, and the second keys of live items are pairwise distinct.

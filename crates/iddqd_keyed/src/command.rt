@@ -1,22 +1,8 @@
 //! What can be asked of keyed items, and what is answered.
 use crate::keyed_item::KeyedItem;
+use crate::keyed_items::InsertRefusal;
 use iddqd::index_remap::IndexRemap;
 use iddqd::item_index::ItemIndex;
-
-/// Why an item was not taken. The item comes back.
-#[derive(Debug, PartialEq, Eq, Drop)]
-pub enum InsertRefusal<T> {
-    /// One of its keys was found: what the look-ups of its first and its second key answered.
-    Duplicate {
-        item: T,
-        first: Option<ItemIndex>,
-        second: Option<ItemIndex>,
-    },
-    /// Neither of its keys was found, and there are as many items as the limit allows.
-    Full(T),
-    /// Neither of its keys was found, there is place for it, and memory was refused.
-    Memory(T),
-}
 
 /// A command to keyed items.
 #[derive(Drop)]

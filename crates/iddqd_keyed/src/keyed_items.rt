@@ -12,15 +12,14 @@
 //! that its states are paired, though the type does, so that `step` and `run` are proved from the
 //! calls' clauses alone. `walk` lends the indexes and takes no memory.
 ghost use Rattle.std.specs.Prelude.{◌≡◌, ◌↔◌, [], IsSome, IsOk, IfOk, IfErr, OnErr, option_copied};
-ghost use Rattle.iddqd.specs.Store.{get, live_count};
-ghost use Rattle.iddqd.specs.Compaction.{IsRemapOf};
-ghost use Rattle.iddqd_order.specs.Iter.{indexes_left};
+ghost use Rattle.iddqd.specs.{get, live_count, IsRemapOf};
+ghost use Rattle.iddqd_order.specs.{indexes_left};
 ghost use Rattle.iddqd_keyed.specs.Keys.{keys_of};
 ghost use Rattle.iddqd_keyed.specs.State.{empty_state, empty_state_within, cleared_state, Compacts, hash_in, IsLive, IsPaired, IsSorted, SecondKeysInOrder, Keeps, KeepsUnlessChanged, LooksUp1, LooksUp2};
 ghost use Rattle.iddqd_keyed.specs.Machine.{HasNoPlace, StoresAt, Inserts, TellsAsScan, Removes, Removes1, Removes2, Overwrites, IsSortedScan, Step};
 ghost use Rattle.iddqd_keyed.specs.Run.{Run};
 
-use crate::command::{Command, InsertRefusal, Reply};
+use crate::command::{Command, Reply};
 use crate::keyed_item::KeyedItem;
 use crate::lookup::{
     add_to_order, find_by_first_key, find_by_second_key, remove_from_hash_table, remove_item,
@@ -33,6 +32,8 @@ use iddqd::map_hash::MapHash;
 use iddqd_hash::hash_table::MapHashTable;
 use iddqd_order::btree_table::{Hint, Iter, MapBTreeTable};
 use std::alloc::{AllocError, Global};
+use std::error::Error;
+use std::fmt;
 use std::hash::BuildHasher;
 use std::marker::Model;
 
@@ -63,6 +64,58 @@ impl<T: KeyedItem, S: BuildHasher> Model for KeyedItems<T, S> {
     ghost view = { λ k. state_of k.state k.items.store k.filed k.order };
 
     ghost invariant = { λ k. IsPaired (state_of k.state k.items.store k.filed k.order) };
+}
+
+/// Why an item was not taken. The item comes back.
+#[derive(Debug, PartialEq, Eq, Drop)]
+pub enum InsertRefusal<T> {
+    /// One of its keys was found: what the look-ups of its first and its second key answered.
+    Duplicate {
+        item: T,
+        first: Option<ItemIndex>,
+        second: Option<ItemIndex>,
+    },
+    /// Neither of its keys was found, and there are as many items as the limit allows.
+    Full(T),
+    /// Neither of its keys was found, there is place for it, and memory was refused.
+    Memory(T),
+}
+
+impl<T> fmt::Display for InsertRefusal<T> {
+    ghost use Rattle.std.specs.Prelude.{Some};
+    ghost use Rattle.iddqd_keyed.specs.Refusal.{refusal_text};
+
+    ghost output = { λ refusal. Some (refusal_text refusal) };
+
+    fn fmt<W: fmt::Write>(&self, f: &mut fmt::Formatter<W>) -> fmt::Result {
+        match self {
+            InsertRefusal::Duplicate { first, second, .. } => {
+                write!(f, "duplicate {} {}", OrDash(*first), OrDash(*second))
+            }
+            InsertRefusal::Full(_) => write!(f, "full"),
+            InsertRefusal::Memory(_) => write!(f, "no memory"),
+        }
+    }
+}
+
+impl<T: fmt::Debug + Drop> Error for InsertRefusal<T> {}
+
+// An index, printed as a dash where there is none.
+#[derive(Clone, Copy)]
+struct OrDash(Option<ItemIndex>);
+
+impl fmt::Display for OrDash {
+    ghost use Rattle.std.specs.Prelude.{Some};
+    ghost use Rattle.iddqd_keyed.specs.Refusal.{index_or_dash};
+
+    ghost output = { λ index. Some (index_or_dash index.0) };
+
+    fn fmt<W: fmt::Write>(&self, f: &mut fmt::Formatter<W>) -> fmt::Result {
+        match self.0 {
+            Some(ix) => write!(f, "{ix}"),
+            None => write!(f, "-"),
+        }
+    }
 }
 
 /// The keys of a collection's items, as its clauses speak of them.
@@ -291,7 +344,8 @@ impl<T: KeyedItem, S: BuildHasher> KeyedItems<T, S> {
     /// The memory of all replies is taken first. Where it is refused, or no vector can hold so many,
     /// nothing is done and the commands come back; with no command that never happens.
     pub fn run(&mut self, commands: Vec<Command<T>>) -> Result<Vec<Reply<T>>, Vec<Command<T>>>
-        ensures run { IfOk result (λ replies. Run ⟦<Self as Keyed>⟧.keys self.old commands.items replies.items self.new) }
+        ensures run { let keys = ⟦<Self as Keyed>⟧.keys in
+            IfOk result (λ replies. Run keys self.old commands.items replies.items self.new) }
         ensures refused { IfErr result (λ back. (back.items ≡ commands.items) × (self.new ≡ self.old)) }
         ensures empty { commands.items ≡ [] → IsOk result }
     {
@@ -328,7 +382,8 @@ impl<T: KeyedItem, S: BuildHasher> KeyedItems<T, S> {
     fn store(&mut self, item: T, hash: MapHash, hint: &Hint) -> Result<ItemIndex, InsertRefusal<T>>
         requires { let keys = ⟦<Self as Keyed>⟧.keys in hash ≡ hash_in keys self.old (keys.first item) }
         ensures stored { let keys = ⟦<Self as Keyed>⟧.keys in
-            IfOk result (λ ix. StoresAt keys self.old item ix self.new × (IsSorted keys self.old → IsSorted keys self.new)) }
+            IfOk result (λ ix.
+            StoresAt keys self.old item ix self.new × (IsSorted keys self.old → IsSorted keys self.new)) }
         ensures refused { IfErr result (HasNoPlace self.old.store item) }
         ensures unchanged { OnErr result (self.new ≡ self.old) }
     {

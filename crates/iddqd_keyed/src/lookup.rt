@@ -4,10 +4,9 @@
 ghost use Rattle.std.specs.Prelude.{◌≡◌, ◌↔◌, ℕ, Some, IsSome, IfOk, IfSome, IsNone, OnErr};
 ghost use Rattle.std.specs.List.{Contains};
 ghost use Rattle.std.specs.FinMap as finite;
-ghost use Rattle.iddqd.specs.Store.{get, removed, IsValid};
-ghost use Rattle.iddqd.specs.GrowHandle.{handle_store};
-ghost use Rattle.iddqd_hash.specs.MapHashTable.{filed};
-ghost use Rattle.iddqd_order.specs.MapBTreeTable.{order_of, without};
+ghost use Rattle.iddqd.specs.{get, removed, IsValid, handle_store};
+ghost use Rattle.iddqd_hash.specs.{filed};
+ghost use Rattle.iddqd_order.specs.{order_of, without};
 ghost use Rattle.iddqd_keyed.specs.State.{IsLive, IsKeyAt, FindsFiled, FindsInOrder, AddsToOrder};
 
 use crate::keyed_item::KeyedItem;
@@ -28,7 +27,8 @@ pub(crate) fn find_by_first_key<T: KeyedItem>(
     key: &T::Key1,
 ) -> Option<ItemIndex>
     requires { (ix : ℕ) → IsSome (finite.get (filed table.now) ix) → IsLive items.now.store ix }
-    ensures { FindsFiled items.now.store (filed table.now) hash (λ item. T.Key1.eq key.now (T.KeyedItem.first_key item)) result }
+    ensures { FindsFiled items.now.store (filed table.now) hash
+        (λ item. T.Key1.eq key.now (T.KeyedItem.first_key item)) result }
 {
     table.find_index_prehashed(
         hash,
@@ -68,7 +68,8 @@ pub(crate) fn take_by_first_key<T: KeyedItem>(
     key: &T::Key1,
 ) -> Option<ItemIndex>
     requires { (ix : ℕ) → IsSome (finite.get (filed table.old) ix) → IsLive items.now.store ix }
-    ensures found { FindsFiled items.now.store (filed table.old) hash (λ item. T.Key1.eq key.now (T.KeyedItem.first_key item)) result }
+    ensures found { FindsFiled items.now.store (filed table.old) hash
+        (λ item. T.Key1.eq key.now (T.KeyedItem.first_key item)) result }
     ensures taken { IfSome result (λ ix. filed table.new ≡ finite.remove (filed table.old) ix) }
     ensures missed { IsNone result → filed table.new ≡ filed table.old }
 {
@@ -76,7 +77,8 @@ pub(crate) fn take_by_first_key<T: KeyedItem>(
         hash,
         |at: ItemIndex| -> bool
             requires { IsLive items.now.store at }
-            ensures { (item : T) × (get items.entry.now.store at ≡ Some item) × (result ≡ T.Key1.eq key.entry.now (T.KeyedItem.first_key item)) }
+            ensures { (item : T) × (get items.entry.now.store at ≡ Some item)
+                × (result ≡ T.Key1.eq key.entry.now (T.KeyedItem.first_key item)) }
         { *key == *first_key(items, at) },
     );
     match found {
@@ -101,7 +103,8 @@ pub(crate) fn add_to_order<T: KeyedItem>(
 ) -> Result<ItemIndex, AllocError>
     requires valid { IsValid (handle_store handle.now) }
     requires stored { (ix : ℕ) → Contains (order_of table.old) ix → IsLive (handle_store handle.now) ix }
-    ensures added { IfOk result (λ ix. AddsToOrder T.KeyedItem.second_key T.Key2.cmp (handle_store handle.now) item.now (order_of table.old) ix (order_of table.new)) }
+    ensures added { let adds = AddsToOrder T.KeyedItem.second_key T.Key2.cmp (handle_store handle.now) item.now in
+        IfOk result (λ ix. adds (order_of table.old) ix (order_of table.new)) }
     ensures refused { OnErr result (order_of table.new ≡ order_of table.old) }
 {
     let ix = handle.next_index();

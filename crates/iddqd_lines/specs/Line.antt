@@ -11,12 +11,11 @@ use Rattle.iddqd.specs.Compaction.{sentinel}
 use Rattle.iddqd.specs.declared.index_remap.IndexRemap.{IndexRemap}
 use Rattle.iddqd.specs.declared.index_remap.IndexRemap.TheVariants.{Identity, Permuted}
 use Rattle.iddqd_lines.specs.declared.record.Record.{Record}
+use Rattle.iddqd_keyed.specs.Refusal.{refusal_text}
 use Rattle.iddqd_keyed.specs.declared.command.Command.{Command}
 use Rattle.iddqd_keyed.specs.declared.command.Command.TheVariants.{Insert, Find1, Find2, Remove, Remove1, Remove2, Overwrite, Compact, Clear, Walk}
 use Rattle.iddqd_keyed.specs.declared.command.Reply.{Reply}
 use Rattle.iddqd_keyed.specs.declared.command.Reply.TheVariants.{Inserted, Refused, Found, Removed, Overwritten, Compacted, Cleared, Walked, NoMemory}
-use Rattle.iddqd_keyed.specs.declared.command.InsertRefusal.{InsertRefusal}
-use Rattle.iddqd_keyed.specs.declared.command.InsertRefusal.TheVariants.{Duplicate, Full, Memory}
 
 -- the byte that ends a line
 abbrev pub line_feed : ℕ
@@ -117,10 +116,6 @@ abbrev pub command_of : List ℕ → Option (Command Record ℕ ℕ)
 command_of line =
     if nat_le (length line) max_line then command_of_words (slice_split is_space line) else None
 
-abbrev pub index_or_dash : Option ℕ → List ℕ
-index_or_dash None = codes "-"
-index_or_dash (Some ix) = decimal ix
-
 -- the index that an overwrite names
 abbrev pub index_of : Command Record ℕ ℕ → Option ℕ
 index_of (Overwrite ix item) = Some ix
@@ -143,12 +138,6 @@ found_text s (Some ix) = record_text_at s ix
 abbrev pub removed_text : Option (ℕ × Record) → List ℕ
 removed_text None = codes "none"
 removed_text (Some (ix, item)) = record_text ix item
-
--- why an item was not taken, in words
-abbrev pub refusal_text : InsertRefusal Record → List ℕ
-refusal_text (Duplicate item first second) = codes "duplicate " ++ index_or_dash first ++ codes " " ++ index_or_dash second
-refusal_text (Full item) = codes "full"
-refusal_text (Memory item) = codes "no memory"
 
 -- the index and the record that it had, or that it isn't live
 abbrev pub overwritten_text : Option ℕ → Result Record Record → List ℕ

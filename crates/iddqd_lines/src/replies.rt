@@ -2,7 +2,8 @@
 ghost use Rattle.std.specs.Prelude.{◌≡◌, ◌++◌, ◌∷◌, ◌+◌, ◌<◌, ◌≤◌, [], length, codes, OnOk};
 ghost use Rattle.std.specs.Fmt.{decimal};
 ghost use Rattle.std.specs.List.{flat_map};
-ghost use Rattle.iddqd_lines.specs.Line.{line_feed, record_text, index_or_dash, found_text, removed_text, refusal_text, overwritten_text, walk_text, remap_text, text_of};
+ghost use Rattle.iddqd_lines.specs.Line.{line_feed, record_text, found_text, removed_text, overwritten_text, walk_text, remap_text, text_of};
+ghost use Rattle.iddqd_keyed.specs.{index_or_dash, refusal_text};
 ghost use Rattle.iddqd_lines.specs.Replies.{Sends, spaced, spaced_name};
 
 use crate::digits::{Digits, MAX_DIGITS};
@@ -11,8 +12,8 @@ use crate::record::Record;
 use crate::sink::Sink;
 use iddqd::index_remap::IndexRemap;
 use iddqd::item_index::ItemIndex;
-use iddqd_keyed::command::{InsertRefusal, Reply};
-use iddqd_keyed::keyed_items::KeyedItems;
+use iddqd_keyed::command::Reply;
+use iddqd_keyed::keyed_items::{InsertRefusal, KeyedItems};
 use std::hash::BuildHasher;
 use std::marker::Model;
 

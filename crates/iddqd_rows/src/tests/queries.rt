@@ -33,7 +33,7 @@ impl<'b, K: Eq> Equivalent<&'b K> for Held<K> {
 }
 
 impl<'b, K: Ord> Comparable<&'b K> for Held<K> {
-    ghost use Rattle.iddqd.specs.MapHashLaws.{equal_in, greater_before_in};
+    ghost use Rattle.iddqd.specs.{equal_in, greater_before_in};
     ghost use Rattle.std.proofs.lemmas.Cmp.{alike_right};
 
     ghost compare = { λ q k. K.cmp q.0 k.now };

@@ -5,7 +5,8 @@
 use super::calls::{find1, find2, get, insert, remove, remove1, remove2};
 use super::driver::{Items, ix, no_items, record};
 use iddqd::item_index::ItemIndex;
-use iddqd_keyed::command::{InsertRefusal, Reply};
+use iddqd_keyed::command::Reply;
+use iddqd_keyed::keyed_items::InsertRefusal;
 use iddqd_lines::record::Record;
 use std::process::Abort;
 

@@ -2,7 +2,8 @@
 use super::machine::Machine;
 use super::model::index;
 use iddqd::item_index::ItemIndex;
-use iddqd_keyed::command::{Command, InsertRefusal, Reply};
+use iddqd_keyed::command::{Command, Reply};
+use iddqd_keyed::keyed_items::InsertRefusal;
 use iddqd_lines::record::Record;
 use std::alloc::{AllocError, Global};
 

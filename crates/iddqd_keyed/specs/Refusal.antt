@@ -1,0 +1,16 @@
+-- The words of an `InsertRefusal`.
+use Rattle.std.specs.Prelude.{ℕ, List, ◌++◌, Option, Some, None, codes}
+use Rattle.std.specs.Fmt.{decimal}
+use Rattle.iddqd_keyed.specs.declared.keyed_items.InsertRefusal.{InsertRefusal}
+use Rattle.iddqd_keyed.specs.declared.keyed_items.InsertRefusal.TheVariants.{Duplicate, Full, Memory}
+
+abbrev pub index_or_dash : Option ℕ → List ℕ
+index_or_dash None = codes "-"
+index_or_dash (Some ix) = decimal ix
+
+-- why an item was not taken, in words
+abbrev pub refusal_text : {T : Type 0} → InsertRefusal T → List ℕ
+refusal_text (Duplicate item first second) =
+    codes "duplicate " ++ index_or_dash first ++ codes " " ++ index_or_dash second
+refusal_text (Full item) = codes "full"
+refusal_text (Memory item) = codes "no memory"
