@@ -13,52 +13,27 @@ use Rattle.iddqd_lines.specs.Line.{line_feed, is_line_feed, lines_of, without_em
 use Rattle.iddqd_lines.specs.Split.{HasNo, IsCut}
 use Rattle.iddqd_lines.specs.Replies.{sent_bytes}
 use Rattle.iddqd_lines.specs.Program.{record_keys, AnswersCommand, Line, Serves, default_hash, IsDefaultHasher, ServesAll}
-use Rattle.iddqd_lines.specs.Serve.{ended, IsKept, Obeys, Feeds, Finishes}
+use Rattle.iddqd_lines.specs.Serve.{Moment, moment, flushed_moment, ended, IsKept, Obeys, Feeds, Finishes}
 use Rattle.iddqd_lines.specs.Stream.{FailsOnErr}
 use Rattle.iddqd_lines.specs.declared.line_buffer.TheConstants.{KEPT}
 use Rattle.iddqd_lines.specs.declared.record.Record.{Record}
 use Rattle.iddqd_keyed.specs.declared.command.Command.{Command}
-use Rattle.iddqd_keyed.specs.declared.command.Command.TheVariants.{Insert, Find1, Find2, Remove, Remove1, Remove2, Overwrite, Compact, Clear, Walk}
 use Rattle.iddqd_keyed.specs.declared.command.Reply.{Reply}
-use Rattle.iddqd_keyed.specs.declared.command.Reply.TheVariants.{Inserted, Refused, Found, Removed, Overwritten, Compacted, Cleared, Walked, NoMemory}
 use Rattle.iddqd_lines.proofs.ByteLemmas.{Appends-trans, Appends-nil, sent_bytes-nil, consumed, at_end}
 use Rattle.iddqd_lines.proofs.LineLemmas.{command_of-kept}
 use Rattle.iddqd_lines.proofs.LineBufferLemmas.{take-kept, take-take}
 
 module _ {S : Type 0} (hash : S → ℕ → ℕ) where
-  -- the words of a reply are the same over the store before the step and after it
-  pub text_of-step : (old new : State Record S) (named : Option ℕ) (command : Command Record ℕ ℕ) (reply : Reply Record) → Step (record_keys hash) old command reply new → text_of new.store named reply ≡ text_of old.store named reply
-  text_of-step old new named command (Inserted ix) step = refl
-  text_of-step old new named command (Refused refusal) step = refl
-  text_of-step old new named command (Found None) step = refl
-  text_of-step old new named (Find1 key) (Found (Some ix)) step = ap (λ s. text_of s.store named (Found (Some ix))) step.answers.1
-  text_of-step old new named (Find2 key) (Found (Some ix)) step = ap (λ s. text_of s.store named (Found (Some ix))) step.answers.1
-  text_of-step old new named (Insert item) (Found (Some ix)) step = absurd step.answers
-  text_of-step old new named (Remove at) (Found (Some ix)) step = absurd step.answers
-  text_of-step old new named (Remove1 key) (Found (Some ix)) step = absurd step.answers
-  text_of-step old new named (Remove2 key) (Found (Some ix)) step = absurd step.answers
-  text_of-step old new named (Overwrite at item) (Found (Some ix)) step = absurd step.answers
-  text_of-step old new named Compact (Found (Some ix)) step = absurd step.answers
-  text_of-step old new named Clear (Found (Some ix)) step = absurd step.answers
-  text_of-step old new named Walk (Found (Some ix)) step = absurd step.answers
-  text_of-step old new named command (Removed None) step = refl
-  text_of-step old new named command (Removed (Some (ix, item))) step = refl
-  text_of-step old new named command (Overwritten result) step = refl
-  text_of-step old new named command (Compacted remap) step = refl
-  text_of-step old new named command Cleared step = refl
-  text_of-step old new named command (Walked indexes) step = refl
-  text_of-step old new named command NoMemory step = refl
-
   -- a command's line is answered
   pub Line-command : (old new : State Record S) (kept line out : List ℕ) (command : Command Record ℕ ℕ) (reply : Reply Record) → take KEPT kept ≡ take KEPT line → Some command ≡ command_of kept → Step (record_keys hash) old command reply new → out ≡ text_of new.store (index_of command) reply → Line hash old line out new
   Line-command old new kept line out command reply same is step text =
-      subst (λ o. MatchOption o ((out ≡ codes "bad line") × (new ≡ old)) (AnswersCommand hash old line out new)) (is ∙ command_of-kept kept line same)
-      (record { reply = reply; step = step; text = text ∙ text_of-step old new (index_of command) command reply step })
+      subst (λ o. MatchOption o ((out ≡ codes "bad line") × (new ≡ old)) (AnswersCommand hash old out new)) (is ∙ command_of-kept kept line same)
+      (record { reply = reply; step = step; text = text })
 
   -- and so is any other
   pub Line-other : (old : State Record S) (kept line : List ℕ) → take KEPT kept ≡ take KEPT line → None ≡ command_of kept → Line hash old line (codes "bad line") old
   Line-other old kept line same is =
-      subst (λ o. MatchOption o ((codes "bad line" ≡ codes "bad line") × (old ≡ old)) (AnswersCommand hash old line (codes "bad line") old)) (is ∙ command_of-kept kept line same) (refl, refl)
+      subst (λ o. MatchOption o ((codes "bad line" ≡ codes "bad line") × (old ≡ old)) (AnswersCommand hash old (codes "bad line") old)) (is ∙ command_of-kept kept line same) (refl, refl)
 
   -- some lines, and then others
   Serves-append : (old mid new : State Record S) (lines more : List (List ℕ)) (bytes rest : List ℕ) → Serves hash old lines bytes mid → Serves hash mid more rest new → Serves hash old (lines ++ more) (bytes ++ rest) new
@@ -97,9 +72,9 @@ last_kept ([] ∷ []) b bs = refl
 last_kept ([] ∷ line ∷ lines) b bs = ap (λ l. [] ∷ l) (last_kept (line ∷ lines) b bs)
 last_kept ((c ∷ cs) ∷ lines) b bs = ap (λ l. (c ∷ cs) ∷ l) (last_kept lines b bs)
 
-module _ {S : Type 0} (hash : S → ℕ → ℕ) (before mid after : Option (List ℕ)) (old next new : State Record S) (partial : List ℕ) where
+module _ {S : Type 0} (hash : S → ℕ → ℕ) (old next new : Moment S) (partial : List ℕ) where
   -- some bytes, and then others
-  pub Feeds-append : (bytes more kept last : List ℕ) (f : Feeds hash before mid old partial bytes next kept) → Feeds hash mid after next f.left more new last → Feeds hash before after old partial (bytes ++ more) new last
+  pub Feeds-append : (bytes more kept last : List ℕ) (f : Feeds hash old partial bytes next kept) → Feeds hash next f.left more new last → Feeds hash old partial (bytes ++ more) new last
   Feeds-append bytes more kept last f g =
       record {
         done = f.done ++ g.done;
@@ -110,14 +85,14 @@ module _ {S : Type 0} (hash : S → ℕ → ℕ) (before mid after : Option (Lis
         each_one_line = All-append (HasNo line_feed) f.done g.done f.each_one_line g.each_one_line;
         keeps = g.keeps;
         out = f.out ++ g.out;
-        serves = Serves-append hash old next new f.done g.done f.out g.out f.serves g.serves;
-        sent = Appends-trans before mid after f.out g.out f.sent g.sent;
+        serves = Serves-append hash old.items next.items new.items f.done g.done f.out g.out f.serves g.serves;
+        sent = Appends-trans old.sent next.sent new.sent f.out g.out f.sent g.sent;
       }
 
 module _ {S : Type 0} (hash : S → ℕ → ℕ) where
   -- before the first byte
-  pub Feeds-none : (sent : Option (List ℕ)) (old : State Record S) (partial kept : List ℕ) → IsKept kept partial → Feeds hash sent sent old partial [] old kept
-  Feeds-none sent old partial kept keeps =
+  pub Feeds-none : (old : Moment S) (partial kept : List ℕ) → IsKept kept partial → Feeds hash old partial [] old kept
+  Feeds-none old partial kept keeps =
       record {
         done = [];
         left = partial;
@@ -126,12 +101,12 @@ module _ {S : Type 0} (hash : S → ℕ → ℕ) where
         keeps = keeps;
         out = [];
         serves = (refl, refl);
-        sent = Appends-nil sent;
+        sent = Appends-nil old.sent;
       }
 
   -- a line that ends
-  Feeds-end : (before after : Option (List ℕ)) (old new : State Record S) (partial end : List ℕ) → HasNo line_feed partial → HasNo line_feed end → Obeys hash before after old (partial ++ end) new → Feeds hash before after old partial (end ++ line_feed ∷ []) new []
-  Feeds-end before after old new partial end one_line more o =
+  Feeds-end : (old new : Moment S) (partial end : List ℕ) → HasNo line_feed partial → HasNo line_feed end → Obeys hash old (partial ++ end) new → Feeds hash old partial (end ++ line_feed ∷ []) new []
+  Feeds-end old new partial end one_line more o =
       record {
         done = (partial ++ end) ∷ [];
         left = [];
@@ -139,13 +114,13 @@ module _ {S : Type 0} (hash : S → ℕ → ℕ) where
         each_one_line = All-cons (HasNo line_feed) (partial ++ end) [] (HasNo-append partial end one_line more) (All-nil (HasNo line_feed));
         keeps = record { bytes = refl; one_line = HasNo-nil };
         out = o.out ++ line_feed ∷ [];
-        serves = (o.out, new, [], o.answers, refl, (refl, refl));
+        serves = (o.out, new.items, [], o.answers, refl, (refl, refl));
         sent = o.sent;
       }
 
   -- a line that goes on
-  Feeds-begin : (sent : Option (List ℕ)) (old : State Record S) (partial bytes kept : List ℕ) → HasNo line_feed partial → HasNo line_feed bytes → kept ≡ take KEPT (partial ++ bytes) → Feeds hash sent sent old partial bytes old kept
-  Feeds-begin sent old partial bytes kept one_line more is =
+  Feeds-begin : (old : Moment S) (partial bytes kept : List ℕ) → HasNo line_feed partial → HasNo line_feed bytes → kept ≡ take KEPT (partial ++ bytes) → Feeds hash old partial bytes old kept
+  Feeds-begin old partial bytes kept one_line more is =
       record {
         done = [];
         left = partial ++ bytes;
@@ -154,35 +129,35 @@ module _ {S : Type 0} (hash : S → ℕ → ℕ) where
         keeps = record { bytes = is; one_line = HasNo-append partial bytes one_line more };
         out = [];
         serves = (refl, refl);
-        sent = Appends-nil sent;
+        sent = Appends-nil old.sent;
       }
 
   -- one line more
-  pub Feeds-line : (before mid after : Option (List ℕ)) (old next new : State Record S) (partial seen kept last : List ℕ) (rest end more : List ℕ) → Feeds hash before mid old partial seen next kept → IsCut line_feed rest end more → ((line : List ℕ) → kept ≡ take KEPT line → Obeys hash mid after next (line ++ end) new) → last ≡ [] → Feeds hash before after old partial (seen ++ end ++ line_feed ∷ []) new last
-  Feeds-line before mid after old next new partial seen kept last rest end more f cut obeys forgets =
+  pub Feeds-line : (old next new : Moment S) (partial seen kept last : List ℕ) (rest end more : List ℕ) → Feeds hash old partial seen next kept → IsCut line_feed rest end more → ((line : List ℕ) → kept ≡ take KEPT line → Obeys hash next (line ++ end) new) → last ≡ [] → Feeds hash old partial (seen ++ end ++ line_feed ∷ []) new last
+  Feeds-line old next new partial seen kept last rest end more f cut obeys forgets =
       let keeps = f.keeps in
-      rw (forgets, append_assoc) (Feeds-append hash before mid after old next new partial seen (end ++ line_feed ∷ []) kept [] f (Feeds-end mid after next new f.left end keeps.one_line cut.first (obeys f.left keeps.bytes)))
+      rw (forgets, append_assoc) (Feeds-append hash old next new partial seen (end ++ line_feed ∷ []) kept [] f (Feeds-end next new f.left end keeps.one_line cut.first (obeys f.left keeps.bytes)))
 
   -- the bytes behind the last line feed
-  pub Feeds-rest : (before mid : Option (List ℕ)) (old next : State Record S) (partial seen kept last rest : List ℕ) → Feeds hash before mid old partial seen next kept → HasNo line_feed rest → last ≡ take KEPT (kept ++ rest) → Feeds hash before mid old partial (seen ++ rest) next last
-  Feeds-rest before mid old next partial seen kept last rest f none is =
+  pub Feeds-rest : (old next : Moment S) (partial seen kept last rest : List ℕ) → Feeds hash old partial seen next kept → HasNo line_feed rest → last ≡ take KEPT (kept ++ rest) → Feeds hash old partial (seen ++ rest) next last
+  Feeds-rest old next partial seen kept last rest f none is =
       let keeps = f.keeps in
-      Feeds-append hash before mid mid old next next partial seen rest kept last f (Feeds-begin mid next f.left rest last keeps.one_line none (is ∙ ap (λ k. take KEPT (k ++ rest)) keeps.bytes ∙ take-kept KEPT f.left rest))
+      Feeds-append hash old next next partial seen rest kept last f (Feeds-begin next f.left rest last keeps.one_line none (is ∙ ap (λ k. take KEPT (k ++ rest)) keeps.bytes ∙ take-kept KEPT f.left rest))
 
 -- what the loop over reads keeps, of the bytes that the source told at first
-pub record Reads {S : Type 0} (hash : S → ℕ → ℕ) (bytes : List ℕ) (left written now : Option (List ℕ)) (hasher : S) (items : State Record S) (kept : List ℕ) : Type 0 where
+pub record Reads {S : Type 0} (hash : S → ℕ → ℕ) (old : Moment S) (bytes : List ℕ) (left : Option (List ℕ)) (now : Moment S) (kept : List ℕ) : Type 0 where
   pub seen : List ℕ
   pub rest : List ℕ
   pub seen_and_rest : bytes ≡ seen ++ rest
   pub left_is : left ≡ Some rest
-  pub feeds : Feeds hash written now (empty_state hasher) [] seen items kept
+  pub feeds : Feeds hash old [] seen now kept
 
-module _ {S : Type 0} (hash : S → ℕ → ℕ) (told : Option (List ℕ)) (left after written now : Option (List ℕ)) (hasher : S) (items : State Record S) (kept : List ℕ) where
+module _ {S : Type 0} (hash : S → ℕ → ℕ) (old : Moment S) (told : Option (List ℕ)) (left after : Option (List ℕ)) (now : Moment S) (kept : List ℕ) where
   -- a read, and what it gave is fed
-  pub Reads-more : IfSome told (λ bytes. Reads hash bytes left written now hasher items kept) → (later : Option (List ℕ)) (bytes : List ℕ) (new : State Record S) (last : List ℕ) → Consumes left after bytes → ((line : List ℕ) → IsKept kept line → Feeds hash now later items line bytes new last) → IfSome told (λ all. Reads hash all after written later hasher new last)
-  Reads-more r later bytes new last taken fed = by_told told r
+  pub Reads-more : IfSome told (λ bytes. Reads hash old bytes left now kept) → (bytes : List ℕ) (new : Moment S) (last : List ℕ) → Consumes left after bytes → ((line : List ℕ) → IsKept kept line → Feeds hash now line bytes new last) → IfSome told (λ all. Reads hash old all after new last)
+  Reads-more r bytes new last taken fed = by_told told r
     where
-      by_told : (told : Option (List ℕ)) → IfSome told (λ all. Reads hash all left written now hasher items kept) → IfSome told (λ all. Reads hash all after written later hasher new last)
+      by_told : (told : Option (List ℕ)) → IfSome told (λ all. Reads hash old all left now kept) → IfSome told (λ all. Reads hash old all after new last)
       by_told None r = tt
       by_told (Some all) r =
           let c = consumed left after r.rest bytes r.left_is taken in
@@ -192,37 +167,37 @@ module _ {S : Type 0} (hash : S → ℕ → ℕ) (told : Option (List ℕ)) (lef
             rest = c.0;
             seen_and_rest = r.seen_and_rest ∙ ap (λ l. r.seen ++ l) c.2 ∙ sym (append_assoc r.seen bytes c.0);
             left_is = c.1;
-            feeds = Feeds-append hash written now later (empty_state hasher) items new [] r.seen bytes kept last f (fed f.left f.keeps);
+            feeds = Feeds-append hash old now new [] r.seen bytes kept last f (fed f.left f.keeps);
           }
 
   -- at the end, all bytes were fed
-  pub Reads-end : IfSome told (λ bytes. Reads hash bytes left written now hasher items kept) → Consumes left after [] → IsAtEnd after → IfSome told (λ bytes. Feeds hash written now (empty_state hasher) [] bytes items kept)
+  pub Reads-end : IfSome told (λ bytes. Reads hash old bytes left now kept) → Consumes left after [] → IsAtEnd after → IfSome told (λ bytes. Feeds hash old [] bytes now kept)
   Reads-end r taken ends = by_told told r
     where
-      by_told : (told : Option (List ℕ)) → IfSome told (λ bytes. Reads hash bytes left written now hasher items kept) → IfSome told (λ bytes. Feeds hash written now (empty_state hasher) [] bytes items kept)
+      by_told : (told : Option (List ℕ)) → IfSome told (λ bytes. Reads hash old bytes left now kept) → IfSome told (λ bytes. Feeds hash old [] bytes now kept)
       by_told None r = tt
       by_told (Some all) r =
-          subst (λ l. Feeds hash written now (empty_state hasher) [] l items kept) (sym (r.seen_and_rest ∙ ap (λ l. r.seen ++ l) (at_end left after r.rest r.left_is taken ends) ∙ append-nil r.seen)) r.feeds
+          subst (λ l. Feeds hash old [] l now kept) (sym (r.seen_and_rest ∙ ap (λ l. r.seen ++ l) (at_end left after r.rest r.left_is taken ends) ∙ append-nil r.seen)) r.feeds
 
 -- before the first read
-pub Reads-none : {S : Type 0} (hash : S → ℕ → ℕ) (left written : Option (List ℕ)) (hasher : S) (items : State Record S) (kept waiting : List ℕ) → items ≡ empty_state hasher → kept ≡ [] → waiting ≡ [] → IfSome left (λ bytes. Reads hash bytes left written (sent_bytes written waiting) items.hasher items kept)
+pub Reads-none : {S : Type 0} (hash : S → ℕ → ℕ) (left written : Option (List ℕ)) (hasher : S) (items : State Record S) (kept waiting : List ℕ) → items ≡ empty_state hasher → kept ≡ [] → waiting ≡ [] → IfSome left (λ bytes. Reads hash (flushed_moment (empty_state items.hasher) written) bytes left (moment items written waiting) kept)
 Reads-none {S = S} hash left written hasher items kept waiting none no_line no_reply = by_left left
   where
-    feeds : Feeds hash written (sent_bytes written waiting) (empty_state items.hasher) [] [] items kept
+    feeds : Feeds hash (flushed_moment (empty_state items.hasher) written) [] [] (moment items written waiting) kept
     feeds =
-        subst (λ i. Feeds hash written (sent_bytes written waiting) (empty_state i.hasher) [] [] i kept) (sym none)
-        (rw (no_line, no_reply, sent_bytes-nil) (Feeds-none hash written (empty_state hasher) [] [] (record { bytes = refl; one_line = HasNo-nil })))
+        subst (λ i. Feeds hash (flushed_moment (empty_state i.hasher) written) [] [] (moment i written waiting) kept) (sym none)
+        (rw (no_line, no_reply, sent_bytes-nil) (Feeds-none hash (flushed_moment (empty_state hasher) written) [] [] (record { bytes = refl; one_line = HasNo-nil })))
 
-    by_left : (left : Option (List ℕ)) → IfSome left (λ bytes. Reads hash bytes left written (sent_bytes written waiting) items.hasher items kept)
+    by_left : (left : Option (List ℕ)) → IfSome left (λ bytes. Reads hash (flushed_moment (empty_state items.hasher) written) bytes left (moment items written waiting) kept)
     by_left None = tt
     by_left (Some bytes) = record { seen = []; rest = bytes; seen_and_rest = refl; left_is = refl; feeds = feeds }
 
 -- a write of what waits sends nothing new
-pub Reads-flush : {S : Type 0} (hash : S → ℕ → ℕ) (told left written now later : Option (List ℕ)) (hasher : S) (items : State Record S) (kept : List ℕ) → IfSome told (λ bytes. Reads hash bytes left written now hasher items kept) → Appends now later [] → IfSome told (λ bytes. Reads hash bytes left written later hasher items kept)
-Reads-flush hash None left written now later hasher items kept r flushed = tt
-Reads-flush hash (Some bytes) left written now later hasher items kept r flushed =
+pub Reads-flush : {S : Type 0} (hash : S → ℕ → ℕ) (old : Moment S) (told left : Option (List ℕ)) (now : Moment S) (later : Option (List ℕ)) (kept : List ℕ) → IfSome told (λ bytes. Reads hash old bytes left now kept) → Appends now.sent later [] → IfSome told (λ bytes. Reads hash old bytes left (flushed_moment now.items later) kept)
+Reads-flush hash old None left now later kept r flushed = tt
+Reads-flush hash old (Some bytes) left now later kept r flushed =
     let f = r.feeds in
-    let sent = subst (λ l. Appends written later l) (append-nil f.out) (Appends-trans written now later f.out [] f.sent flushed) in
+    let sent = subst (λ l. Appends old.sent later l) (append-nil f.out) (Appends-trans old.sent now.sent later f.out [] f.sent flushed) in
     record {
       seen = r.seen;
       rest = r.rest;
@@ -243,31 +218,31 @@ lines_of-ended lines left each last =
 
 module _ {S : Type 0} (hash : S → ℕ → ℕ) where
   -- where no line has begun, what waits is written
-  pub Finishes-none : (before after : Option (List ℕ)) (old : State Record S) (kept line : List ℕ) → (length kept == 0) ≡ true → Appends before after [] → IsKept kept line → Finishes hash before after old line old
-  Finishes-none before after old kept [] none flushed keeps = record { out = []; serves = (refl, refl); sent = flushed }
-  Finishes-none before after old [] (b ∷ bs) none flushed keeps = let no : [] ≡ take KEPT (b ∷ bs) = keeps.bytes in absurd (cc)
-  Finishes-none before after old (x ∷ xs) (b ∷ bs) none flushed keeps = absurd (omega (arith, eqb-true (length (x ∷ xs)) 0 none))
+  pub Finishes-none : (old : Moment S) (after : Option (List ℕ)) (kept line : List ℕ) → (length kept == 0) ≡ true → Appends old.sent after [] → IsKept kept line → Finishes hash old line (flushed_moment old.items after)
+  Finishes-none old after kept [] none flushed keeps = record { out = []; serves = (refl, refl); sent = flushed }
+  Finishes-none old after [] (b ∷ bs) none flushed keeps = let no : [] ≡ take KEPT (b ∷ bs) = keeps.bytes in absurd (cc)
+  Finishes-none old after (x ∷ xs) (b ∷ bs) none flushed keeps = absurd (omega (arith, eqb-true (length (x ∷ xs)) 0 none))
 
   -- and where one has, it is answered
-  pub Finishes-some : (before mid after : Option (List ℕ)) (old new : State Record S) (kept line : List ℕ) → (length kept == 0) ≡ false → ((whole : List ℕ) → take KEPT kept ≡ take KEPT whole → Obeys hash before mid old whole new) → Appends mid after [] → IsKept kept line → Finishes hash before after old line new
-  Finishes-some before mid after old new kept [] some obeys flushed keeps =
+  pub Finishes-some : (old new : Moment S) (after : Option (List ℕ)) (kept line : List ℕ) → (length kept == 0) ≡ false → ((whole : List ℕ) → take KEPT kept ≡ take KEPT whole → Obeys hash old whole new) → Appends new.sent after [] → IsKept kept line → Finishes hash old line (flushed_moment new.items after)
+  Finishes-some old new after kept [] some obeys flushed keeps =
       let none : length kept ≡ 0 = ap length keeps.bytes in
       absurd (true≢false (ap (λ n. n == 0) (sym none) ∙ some))
-  Finishes-some before mid after old new kept (b ∷ bs) some obeys flushed keeps =
+  Finishes-some old new after kept (b ∷ bs) some obeys flushed keeps =
       let line : List ℕ = b ∷ bs in
       let o = obeys line (ap (take KEPT) keeps.bytes ∙ take-take KEPT line) in
       let whole : lines_of line ≡ line ∷ [] = ap without_empty_last (slice_split_none is_line_feed line keeps.one_line) in
-      let answered : Serves hash old (line ∷ []) (o.out ++ line_feed ∷ []) new = (o.out, new, [], o.answers, refl, (refl, refl)) in
+      let answered : Serves hash old.items (line ∷ []) (o.out ++ line_feed ∷ []) new.items = (o.out, new.items, [], o.answers, refl, (refl, refl)) in
       record {
         out = o.out ++ line_feed ∷ [];
-        serves = subst (λ ls. Serves hash old ls (o.out ++ line_feed ∷ []) new) (sym whole) answered;
-        sent = subst (λ l. Appends before after l) (append-nil (o.out ++ line_feed ∷ [])) (Appends-trans before mid after (o.out ++ line_feed ∷ []) [] o.sent flushed);
+        serves = subst (λ ls. Serves hash old.items ls (o.out ++ line_feed ∷ []) new.items) (sym whole) answered;
+        sent = subst (λ l. Appends old.sent after l) (append-nil (o.out ++ line_feed ∷ [])) (Appends-trans old.sent new.sent after (o.out ++ line_feed ∷ []) [] o.sent flushed);
       }
 
 -- all lines are answered, once all bytes were fed and the line that had begun is
-pub ServesAll-end : (told written now after : Option (List ℕ)) (hasher : BuildHasherDefault FoldHasher) (items new : State Record (BuildHasherDefault FoldHasher)) (kept : List ℕ) → IsDefaultHasher hasher → IfSome told (λ bytes. Feeds default_hash written now (empty_state hasher) [] bytes items kept) → ((line : List ℕ) → IsKept kept line → Finishes default_hash now after items line new) → IfSome told (λ bytes. ServesAll bytes written after)
-ServesAll-end None written now after hasher items new kept is_default f finishes = tt
-ServesAll-end (Some bytes) written now after hasher items new kept is_default f finishes =
+pub ServesAll-end : (told written : Option (List ℕ)) (hasher : BuildHasherDefault FoldHasher) (now new : Moment (BuildHasherDefault FoldHasher)) (kept : List ℕ) → IsDefaultHasher hasher → IfSome told (λ bytes. Feeds default_hash (flushed_moment (empty_state hasher) written) [] bytes now kept) → ((line : List ℕ) → IsKept kept line → Finishes default_hash now line new) → IfSome told (λ bytes. ServesAll bytes written new.sent)
+ServesAll-end None written hasher now new kept is_default f finishes = tt
+ServesAll-end (Some bytes) written hasher now new kept is_default f finishes =
     let keeps = f.keeps in
     let last = finishes f.left keeps in
     let lines : lines_of bytes ≡ f.done ++ lines_of f.left = ap lines_of f.bytes_are ∙ lines_of-ended f.done f.left f.each_one_line keeps.one_line in
@@ -275,9 +250,9 @@ ServesAll-end (Some bytes) written now after hasher items new kept is_default f 
       hasher = hasher;
       is_default = is_default;
       bytes = f.out ++ last.out;
-      last = new;
-      serves = subst (λ ls. Serves default_hash (empty_state hasher) ls (f.out ++ last.out) new) (sym lines) (Serves-append default_hash (empty_state hasher) items new f.done (lines_of f.left) f.out last.out f.serves last.serves);
-      written = Appends-trans written now after f.out last.out f.sent last.sent;
+      last = new.items;
+      serves = subst (λ ls. Serves default_hash (empty_state hasher) ls (f.out ++ last.out) new.items) (sym lines) (Serves-append default_hash (empty_state hasher) now.items new.items f.done (lines_of f.left) f.out last.out f.serves last.serves);
+      written = Appends-trans written now.sent new.sent f.out last.out f.sent last.sent;
     }
 
 -- where all went well, a source that has not failed and a sink that had not have not

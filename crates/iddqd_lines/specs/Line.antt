@@ -158,7 +158,7 @@ abbrev pub remap_text : IndexRemap → List ℕ
 remap_text Identity = codes "identity"
 remap_text (Permuted names) = codes "permuted" ++ flat_map (λ name. codes " " ++ name_or_dash name) names.items
 
--- the words of a reply, over the store that it was given in; `named` is the index that an overwrite named
+-- the words of a reply, over the store as the command left it; `named` is the index that an overwrite named
 abbrev pub text_of : Store Record → Option ℕ → Reply Record → List ℕ
 text_of s named (Inserted ix) = codes "inserted " ++ decimal ix
 text_of s named (Refused refusal) = refusal_text refusal

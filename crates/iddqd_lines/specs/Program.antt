@@ -33,16 +33,17 @@ record_keys hash =
     }
 
 module _ {S : Type 0} (hash : S → ℕ → ℕ) where
-  -- a line that is a command takes a step, and its out is the reply in words
-  pub record AnswersCommand (old : State Record S) (line out : List ℕ) (new : State Record S) (command : Command Record ℕ ℕ) : Type 0 where
+  -- a line that is a command takes a step, and its out is the reply in words, over the store as the step left it
+  pub record AnswersCommand (old : State Record S) (out : List ℕ) (new : State Record S) (command : Command Record ℕ ℕ)
+      : Type 0 where
     pub reply : Reply Record
     pub step : Step (record_keys hash) old command reply new
-    pub text : out ≡ text_of old.store (index_of command) reply
+    pub text : out ≡ text_of new.store (index_of command) reply
 
   -- from old, the line may be answered by this out, and leave new
   abbrev pub Line : State Record S → List ℕ → List ℕ → State Record S → Type 0
   Line old line out new =
-      MatchOption (command_of line) ((out ≡ codes "bad line") × (new ≡ old)) (AnswersCommand old line out new)
+      MatchOption (command_of line) ((out ≡ codes "bad line") × (new ≡ old)) (AnswersCommand old out new)
 
   -- from old, the lines may be answered by these bytes in turn, each out with a line feed, and leave new
   abbrev pub Serves : State Record S → List (List ℕ) → List ℕ → State Record S → Type 0

@@ -11,8 +11,8 @@ ghost use Rattle.std.specs.Prelude.{◌≡◌, ◌++◌, [], List, ℕ, take, On
 ghost use Rattle.std.specs.Io.{ReadsAtMost};
 ghost use Rattle.std.specs.Io.KnownBytes.{ReadConsumes};
 ghost use Rattle.iddqd_lines.specs.Program.{hash_u32, ServesAll};
-ghost use Rattle.iddqd_lines.specs.Replies.{sent_bytes, Sends};
-ghost use Rattle.iddqd_lines.specs.Serve.{IsKept, Obeys, Feeds, Finishes};
+ghost use Rattle.iddqd_lines.specs.Replies.{Sends};
+ghost use Rattle.iddqd_lines.specs.Serve.{moment, flushed_moment, IsKept, Obeys, Feeds, Finishes};
 ghost use Rattle.iddqd_lines.specs.Stream.{FailsOnErr};
 
 use crate::line::{LINE_FEED, named_index, parse};
@@ -83,7 +83,8 @@ pub fn serve<I: Source, O: Sink>(
     requires writes { O.has_failed output.old ≡ false }
 
     // Where source and sink tell their bytes, each line has its reply.
-    ensures serves { OnOk result (IfSome (I.left input.old) (λ bytes. ServesAll bytes (O.written output.old) (O.written output.new))) }
+    ensures serves { OnOk result
+        (IfSome (I.left input.old) (λ bytes. ServesAll bytes (O.written output.old) (O.written output.new))) }
 
     // Neither has failed where all went well.
     ensures unbroken { OnOk result ((I.has_failed input.new ≡ false) × (O.has_failed output.new ≡ false)) }
@@ -141,7 +142,10 @@ fn feed<S: BuildHasher, O: Sink>(
     replies: &mut Replies,
     output: &mut O,
 ) -> Result<(), ServeFault>
-    ensures feeds { OnOk result ((line : List ℕ) → IsKept partial.old line → Feeds (hash_u32 S.BuildHasher S.Hasher.Hasher) (sent_bytes (O.written output.old) replies.old) (sent_bytes (O.written output.new) replies.new) items.old line bytes.now items.new partial.new) }
+    ensures feeds { let hash = hash_u32 S.BuildHasher S.Hasher.Hasher in
+        let old = moment items.old (O.written output.old) replies.old in
+        let new = moment items.new (O.written output.new) replies.new in
+        OnOk result ((line : List ℕ) → IsKept partial.old line → Feeds hash old line bytes.now new partial.new) }
     ensures failed { FailsOnErr (O.has_failed output.old) result (O.has_failed output.new) }
 {
     let mut rest = bytes;
@@ -161,7 +165,10 @@ fn end_line<S: BuildHasher, O: Sink>(
     replies: &mut Replies,
     output: &mut O,
 ) -> Result<(), ServeFault>
-    ensures obeys { OnOk result ((line : List ℕ) → partial.old ≡ take KEPT line → Obeys (hash_u32 S.BuildHasher S.Hasher.Hasher) (sent_bytes (O.written output.old) replies.old) (sent_bytes (O.written output.new) replies.new) items.old (line ++ end.now) items.new) }
+    ensures obeys { let hash = hash_u32 S.BuildHasher S.Hasher.Hasher in
+        let old = moment items.old (O.written output.old) replies.old in
+        let new = moment items.new (O.written output.new) replies.new in
+        OnOk result ((line : List ℕ) → partial.old ≡ take KEPT line → Obeys hash old (line ++ end.now) new) }
     ensures forgets { OnOk result (partial.new ≡ []) }
     ensures failed { FailsOnErr (O.has_failed output.old) result (O.has_failed output.new) }
 {
@@ -181,7 +188,10 @@ fn finish<S: BuildHasher, O: Sink>(
     replies: &mut Replies,
     output: &mut O,
 ) -> Result<(), ServeFault>
-    ensures finishes { OnOk result ((line : List ℕ) → IsKept partial.now line → Finishes (hash_u32 S.BuildHasher S.Hasher.Hasher) (sent_bytes (O.written output.old) replies.old) (O.written output.new) items.old line items.new) }
+    ensures finishes { let hash = hash_u32 S.BuildHasher S.Hasher.Hasher in
+        let old = moment items.old (O.written output.old) replies.old in
+        let new = flushed_moment items.new (O.written output.new) in
+        OnOk result ((line : List ℕ) → IsKept partial.now line → Finishes hash old line new) }
     ensures failed { FailsOnErr (O.has_failed output.old) result (O.has_failed output.new) }
 {
     if partial.is_empty() {
@@ -199,7 +209,10 @@ fn obey<S: BuildHasher, O: Sink>(
     replies: &mut Replies,
     output: &mut O,
 ) -> Result<(), ServeFault>
-    ensures obeys { OnOk result ((whole : List ℕ) → take KEPT line.now ≡ take KEPT whole → Obeys (hash_u32 S.BuildHasher S.Hasher.Hasher) (sent_bytes (O.written output.old) replies.old) (sent_bytes (O.written output.new) replies.new) items.old whole items.new) }
+    ensures obeys { let hash = hash_u32 S.BuildHasher S.Hasher.Hasher in
+        let old = moment items.old (O.written output.old) replies.old in
+        let new = moment items.new (O.written output.new) replies.new in
+        OnOk result ((whole : List ℕ) → take KEPT line.now ≡ take KEPT whole → Obeys hash old whole new) }
     ensures failed { FailsOnErr (O.has_failed output.old) result (O.has_failed output.new) }
 {
     let Ok(()) = replies.make_room(output) else {

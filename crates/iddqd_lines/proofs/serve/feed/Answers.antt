@@ -8,7 +8,7 @@ loop-end-init g c = record {
   feeds = λ line keeps. record {
     seen = [];
     seen_and_rest = refl;
-    feeds = Feeds-none _ _ _ _ _ keeps;
+    feeds = Feeds-none _ _ _ _ keeps;
   };
   writing = refl;
 }
@@ -21,7 +21,7 @@ loop-end-preserved g c = record {
       record {
         seen = before.seen ++ c.in-Some.end.now ++ line_feed ∷ [];
         seen_and_rest = before.seen_and_rest ∙ ap (λ l. before.seen ++ l) cut.whole ∙ sym (append_assoc (before.seen ++ c.in-Some.end.now) (line_feed ∷ []) c.in-Some.after.now ∙ append_assoc before.seen c.in-Some.end.now (line_feed ∷ c.in-Some.after.now));
-        feeds = Feeds-line _ _ _ _ _ _ _ _ _ _ _ c.loop-end.rest.now c.in-Some.end.now c.in-Some.after.now before.feeds cut c.in_ok-end_line.ensures.obeys c.in_ok-end_line.ensures.forgets;
+        feeds = Feeds-line _ _ _ _ _ _ _ _ c.loop-end.rest.now c.in-Some.end.now c.in-Some.after.now before.feeds cut c.in_ok-end_line.ensures.obeys c.in_ok-end_line.ensures.forgets;
       };
   writing = c.in_ok-end_line.ensures.failed ∙ c.loop-end.invariant.writing;
 }
@@ -29,4 +29,4 @@ loop-end-preserved g c = record {
 pub returns-clause-feeds : goal.returns-clause-feeds
 returns-clause-feeds g c = λ line keeps.
     let before = c.loop-end.invariant.feeds line keeps in
-    rw before.seen_and_rest (Feeds-rest _ _ _ _ _ _ _ _ _ _ before.feeds c.in_default.ensures c.extend.ensures)
+    rw before.seen_and_rest (Feeds-rest _ _ _ _ _ _ _ _ before.feeds c.in_default.ensures c.extend.ensures)

@@ -1,7 +1,6 @@
 use Rattle.std.proofs.Common.{◌≡◌, ◌++◌, List, ℕ, length}
 use Rattle.iddqd_lines.specs.Program.{hash_u32}
-use Rattle.iddqd_lines.specs.Replies.{sent_bytes}
-use Rattle.iddqd_lines.specs.Serve.{IsKept, Feeds}
+use Rattle.iddqd_lines.specs.Serve.{moment, IsKept, Feeds}
 use Rattle.iddqd_lines.proofs.serve.feed.Given as goal
 
 -- the bytes so far were fed, and no write has failed
@@ -10,7 +9,10 @@ invariant-loop-end g l = record {
   feeds : (line : List ℕ) → IsKept l.fn.partial line → record {
     seen : List ℕ;
     seen_and_rest : l.fn.bytes ≡ seen ++ l.rest;
-    feeds : Feeds (hash_u32 g.S.BuildHasher g.S.Hasher.Hasher) (sent_bytes (g.O.Sink.written l.fn.output) l.fn.replies) (sent_bytes (g.O.Sink.written l.output) l.replies) l.fn.items line seen l.items l.partial;
+    feeds :
+        let old = moment l.fn.items (g.O.Sink.written l.fn.output) l.fn.replies in
+        let now = moment l.items (g.O.Sink.written l.output) l.replies in
+        Feeds (hash_u32 g.S.BuildHasher g.S.Hasher.Hasher) old line seen now l.partial;
   };
   writing : g.O.Sink.has_failed l.output ≡ g.O.Sink.has_failed l.fn.output;
 }

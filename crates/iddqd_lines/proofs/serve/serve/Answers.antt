@@ -15,8 +15,8 @@ reads-init g c = record {
 pub reads-preserved : goal.reads-preserved
 reads-preserved g c = record {
   reads =
-      Reads-more _ _ _ _ _ _ _ _ _
-      (Reads-flush _ _ _ _ _ _ _ _ _ c.reads.invariant.reads (Sends-sent g.O.Sink _ _ _ _ _ c.in_ok-flush.ensures.sends)) _ _ _ _
+      Reads-more _ _ _ _ _ _ _
+      (Reads-flush _ _ _ _ _ _ _ c.reads.invariant.reads (Sends-sent g.O.Sink _ _ _ _ _ c.in_ok-flush.ensures.sends)) _ _ _
       c.in_ok-count.ensures.bytes.0 c.in_ok-feed.ensures.feeds;
   reading = c.in_ok-count.ensures.failed ∙ c.reads.invariant.reading;
   writing = rw (c.in_ok-feed.ensures.failed, c.in_ok-flush.ensures.sends.failed) c.reads.invariant.writing;
@@ -24,14 +24,14 @@ reads-preserved g c = record {
 
 pub returns-then-count-eq0-clause-serves : goal.returns-then-count-eq0-clause-serves
 returns-then-count-eq0-clause-serves g c =
-    let flushed = Reads-flush _ _ _ _ _ _ _ _ _ c.reads.invariant.reads (Sends-sent g.O.Sink _ _ _ _ _ c.in_ok-flush.ensures.sends) in
+    let flushed = Reads-flush _ _ _ _ _ _ _ c.reads.invariant.reads (Sends-sent g.O.Sink _ _ _ _ _ c.in_ok-flush.ensures.sends) in
     let read = c.in_ok-count.ensures.bytes in
     let zero = c.if-count-eq0.true in
     let nothing = rw zero at read.0 in
-    let all = Reads-end _ _ _ (g.I.Source.left c.read.new.input) _ _ _ _ _ flushed nothing (read.1 zero (omega arith)) in
+    let all = Reads-end _ _ _ _ (g.I.Source.left c.read.new.input) _ _ flushed nothing (read.1 zero (omega arith)) in
     let is_default : IsDefaultHasher c.new-items.result.hasher = rw c.new-items.ensures c.default.ensures in
     on_ok_weaker c.finish.result
-    (λ finishes. ServesAll-end _ _ _ _ _ _ _ c.reads.partial is_default all (λ line keeps. finishes line (rw c.as_slice.ensures keeps)))
+    (λ finishes. ServesAll-end _ _ _ _ _ c.reads.partial is_default all (λ line keeps. finishes line (rw c.as_slice.ensures keeps)))
     c.finish.ensures.finishes
 
 pub returns-then-count-eq0-clause-unbroken : goal.returns-then-count-eq0-clause-unbroken
