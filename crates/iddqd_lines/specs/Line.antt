@@ -123,7 +123,8 @@ index_of command = None
 
 -- an index and its record
 abbrev pub record_text : ℕ → Record → List ℕ
-record_text ix r = decimal ix ++ codes " " ++ decimal r.first ++ codes " " ++ decimal r.second ++ codes " " ++ decimal r.value
+record_text ix r =
+    decimal ix ++ codes " " ++ decimal r.first ++ codes " " ++ decimal r.second ++ codes " " ++ decimal r.value
 
 -- an index and the record that the store has there
 abbrev pub record_text_at : Store Record → ℕ → List ℕ

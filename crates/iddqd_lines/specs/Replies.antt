@@ -14,7 +14,8 @@ sent_bytes written waiting = option_map (λ bytes. bytes ++ waiting) written
 -- A text was put behind the bytes that waited. A beginning of both was written, and the others wait where all
 -- went well.
 module _ {O E : Type 0} (g : sink.Ghosts O) where
-  pub record Sends (old : O) (waited text : List ℕ) (result : Result (Unit {0}) E) (new : O) (waits : List ℕ) : Type 0 where
+  pub record Sends (old : O) (waited text : List ℕ) (result : Result (Unit {0}) E) (new : O) (waits : List ℕ)
+      : Type 0 where
     pub out : List ℕ
     pub others : List ℕ
     pub parts : waited ++ text ≡ out ++ others

@@ -2,7 +2,8 @@
 ghost use Rattle.std.specs.Prelude.{◌≡◌, ◌∷◌, [], MatchOption};
 ghost use Rattle.std.specs.Option.{option_and_then};
 ghost use Rattle.std.specs.List.{slice_split};
-ghost use Rattle.iddqd_lines.specs.Line.{is_space, number_of, numbers_of, only, command_for, command_of, index_of, named, record_commands, index_commands};
+ghost use Rattle.iddqd_lines.specs.Line.{is_space, number_of, numbers_of, only, command_for, command_of, index_of};
+ghost use Rattle.iddqd_lines.specs.Line.{named, record_commands, index_commands};
 
 use crate::record::Record;
 use crate::split::split_at_first;
@@ -68,7 +69,8 @@ fn command(verb: &[u8], words: &[u8]) -> Option<Command<Record>>
 
 // The command of a verb, a number and the words behind it.
 fn long_command(verb: &[u8], first: u32, words: &[u8]) -> Option<Command<Record>>
-    ensures { result ≡ option_and_then (λ ns. command_for verb.now (first ∷ ns)) (numbers_of (slice_split is_space words.now)) }
+    ensures { let numbers = numbers_of (slice_split is_space words.now) in
+        result ≡ option_and_then (λ ns. command_for verb.now (first ∷ ns)) numbers }
 {
     match split_word(words) {
         (word, Some(words)) => longer_command(verb, first, number(word)?, words),
@@ -78,7 +80,8 @@ fn long_command(verb: &[u8], first: u32, words: &[u8]) -> Option<Command<Record>
 
 // The command of a verb, two numbers and the words behind them.
 fn longer_command(verb: &[u8], first: u32, second: u32, words: &[u8]) -> Option<Command<Record>>
-    ensures { result ≡ option_and_then (λ ns. command_for verb.now (first ∷ second ∷ ns)) (numbers_of (slice_split is_space words.now)) }
+    ensures { let numbers = numbers_of (slice_split is_space words.now) in
+        result ≡ option_and_then (λ ns. command_for verb.now (first ∷ second ∷ ns)) numbers }
 {
     match split_word(words) {
         (word, Some(last)) => index_command(
@@ -144,7 +147,8 @@ fn index_command(verb: &[u8], ix: ItemIndex, item: Record) -> Option<Command<Rec
 
 // The first word, and what stands behind the space after it.
 fn split_word(words: &[u8]) -> (&[u8], Option<&[u8]>)
-    ensures { MatchOption result.1 (slice_split is_space words.now ≡ result.0.now ∷ []) (λ rest. slice_split is_space words.now ≡ result.0.now ∷ slice_split is_space rest.now) }
+    ensures { let all = slice_split is_space words.now in
+        MatchOption result.1 (all ≡ result.0.now ∷ []) (λ rest. all ≡ result.0.now ∷ slice_split is_space rest.now) }
 {
     match split_at_first(words, SPACE) {
         Some((word, rest)) => (word, Some(rest)),

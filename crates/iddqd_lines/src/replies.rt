@@ -2,7 +2,8 @@
 ghost use Rattle.std.specs.Prelude.{◌≡◌, ◌++◌, ◌∷◌, ◌+◌, ◌<◌, ◌≤◌, [], length, codes, OnOk};
 ghost use Rattle.std.specs.Fmt.{decimal};
 ghost use Rattle.std.specs.List.{flat_map};
-ghost use Rattle.iddqd_lines.specs.Line.{line_feed, record_text, found_text, removed_text, overwritten_text, walk_text, remap_text, text_of};
+ghost use Rattle.iddqd_lines.specs.Line.{line_feed, record_text, found_text, removed_text, overwritten_text};
+ghost use Rattle.iddqd_lines.specs.Line.{walk_text, remap_text, text_of};
 ghost use Rattle.iddqd_keyed.specs.{index_or_dash, refusal_text};
 ghost use Rattle.iddqd_lines.specs.Replies.{Sends, spaced, spaced_name};
 
@@ -95,7 +96,8 @@ impl Replies {
         output: &mut O,
     ) -> Result<(), ()>
         requires { length self.old + MAX_REPLY ≤ BLOCK }
-        ensures { Sends O.Sink output.old self.old (text_of items.now.store named reply.now ++ line_feed ∷ []) result output.new self.new }
+        ensures { let text = text_of items.now.store named reply.now in
+            Sends O.Sink output.old self.old (text ++ line_feed ∷ []) result output.new self.new }
     {
         self.put_words(items, named, reply, output)?;
         self.put(LINE_FEED);
@@ -112,7 +114,8 @@ impl Replies {
     ) -> Result<(), ()>
         requires { length self.old + MAX_REPLY ≤ BLOCK }
         ensures room { OnOk result (length self.new < BLOCK) }
-        ensures sends { Sends O.Sink output.old self.old (text_of items.now.store named reply.now) result output.new self.new }
+        ensures sends { let text = text_of items.now.store named reply.now in
+            Sends O.Sink output.old self.old text result output.new self.new }
     {
         match reply {
             Reply::Compacted(remap) => return self.put_remap(remap, output),
