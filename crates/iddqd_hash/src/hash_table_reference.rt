@@ -183,7 +183,7 @@ impl<T> HashTable<T> {
     }
 
     // The cell of the pair that a look-up hits.
-    pub(crate) fn place_of<F: FnMut(&T) -> bool>(&self, hash: u64, eq: F) -> Option<usize>
+    fn place_of<F: FnMut(&T) -> bool>(&self, hash: u64, eq: F) -> Option<usize>
         requires { CanAsk (TakesAt F.FnMut) (CalledAt F.FnMut) eq (under hash (entries self.now)) }
         ensures { FindsPlace (CalledAt F.FnMut) eq hash (under hash (entries self.now)) (pair_at self.now) result }
     {
@@ -191,7 +191,7 @@ impl<T> HashTable<T> {
     }
 
     // The pair in a cell.
-    pub(crate) fn pair_at(&self, place: usize) -> (u64, &T)
+    fn pair_at(&self, place: usize) -> (u64, &T)
         requires { IsSome (pair_at self.now place) }
         ensures { pair_at self.now place ≡ Some (result.0, result.1.now) }
     {
@@ -200,7 +200,7 @@ impl<T> HashTable<T> {
     }
 
     // Takes the pair in a cell out of the table.
-    pub(crate) fn take_at(&mut self, place: usize) -> T
+    fn take_at(&mut self, place: usize) -> T
         requires { IsSome (pair_at self.old place) }
         ensures removed { TakesOut self.old (pair_at self.old place) result self.new }
         ensures memory { KeepsMemory self.old self.new }
