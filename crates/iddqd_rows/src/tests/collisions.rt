@@ -118,6 +118,58 @@ fn assert_removes_all(rt: &impl Abort, alloc: Global, order: [u32; 5], call: usi
     assert!(rt; items.len() == 0);
 }
 
+// The record of that index, of 0 to 2, and what is written over it.
+fn original(number: u32) -> Record {
+    let key = number.saturating_add(1);
+    record(key, key.saturating_mul(10))
+}
+
+fn changed(number: u32) -> Record {
+    record(number.saturating_add(11), 99u32.saturating_sub(number))
+}
+
+fn three(rt: &impl Abort, alloc: Global) -> Items {
+    let mut items = KeyedItems::new(alloc, Constant);
+    for number in 0..3 {
+        let reply = insert(&mut items, original(number));
+        assert!(rt; reply == Reply::Inserted(ix(number)), "at {number}");
+    }
+    items
+}
+
+// Writes over the three in that order.
+fn assert_changes(rt: &impl Abort, items: &mut Items, order: [u32; 3]) {
+    for number in order {
+        let was = items.overwrite(ix(number), changed(number));
+        assert!(rt; was == Ok(original(number)), "{number} of {order:?}");
+    }
+}
+
+fn assert_removes_changed(rt: &impl Abort, items: &mut Items, order: [u32; 3]) {
+    for number in 0..3 {
+        let is_removed = remove(items, ix(number)) == Some((ix(number), changed(number)));
+        assert!(rt; is_removed, "{number} of {order:?}");
+    }
+}
+
+#[test]
+fn keys_that_change_in_any_order_let_items_go(rt: HostRuntime) {
+    for order in [
+        [0, 1, 2],
+        [0, 2, 1],
+        [1, 0, 2],
+        [1, 2, 0],
+        [2, 0, 1],
+        [2, 1, 0],
+    ] {
+        let mut items = three(&rt, rt.alloc());
+        assert_changes(&rt, &mut items, order);
+        assert_removes_changed(&rt, &mut items, order);
+        let reply = insert(&mut items, record(9, 90));
+        assert!(rt; reply == Reply::Inserted(ix(2)), "after {order:?}");
+    }
+}
+
 #[test]
 fn keys_of_one_hash_are_found_and_removed(rt: HostRuntime) {
     for order in [

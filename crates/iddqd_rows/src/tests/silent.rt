@@ -21,6 +21,23 @@ fn an_index_with_another_second_key_keeps_its_place(rt: HostRuntime) -> Result<(
     Ok(())
 }
 
+const BOTH_KEYS: &str = "\
+insert 1 10 7: Inserted(0)
+insert 2 20 7: Inserted(1)
+insert 3 30 7: Inserted(2)
+overwrite 0 9 99 7: Overwritten(Ok(Record { first: 1, second: 10, value: 7 }))
+remove 0: Removed(Some((0, Record { first: 9, second: 99, value: 7 })))
+find1 9: Found(None)
+find2 99: Found(None)
+walk: Walked([1, 2])
+";
+
+#[test]
+fn an_item_with_both_keys_changed_is_removed(rt: HostRuntime) -> Result<(), Fail> {
+    assert_script(&rt, rt.alloc(), BOTH_KEYS)?;
+    Ok(())
+}
+
 const SAME_HASH: &str = "\
 insert 1 10 7: Inserted(0)
 overwrite 0 5 10 7: Overwritten(Ok(Record { first: 1, second: 10, value: 7 }))
