@@ -7,10 +7,10 @@ ghost use Rattle.iddqd_hash.specs.MapHashTable.{filed, FindsWhere};
 
 use super::indexes::{answer_each, remove_filed};
 use super::keys::{Constant, Held};
-use iddqd_hash::hash_table::MapHashTable;
 use iddqd::hash_builder::DefaultHashBuilder;
 use iddqd::item_index::ItemIndex;
 use iddqd::map_hash::Same;
+use iddqd_hash::hash_table::MapHashTable;
 use std::alloc::{AllocError, Global};
 use std::hash::BuildHasher;
 use std::test::Fail;

@@ -4,9 +4,9 @@ ghost use Rattle.std.specs.Bool.{OnTrue, OnFalse};
 ghost use Rattle.std.specs.FinMap as finite;
 ghost use Rattle.iddqd_hash.specs.MapHashTable.{filed};
 
-use iddqd_hash::hash_table::MapHashTable;
 use iddqd::item_index::ItemIndex;
 use iddqd::map_hash::MapHash;
+use iddqd_hash::hash_table::MapHashTable;
 use std::test::Fail;
 
 // Removes the index where it is filed under the hash.

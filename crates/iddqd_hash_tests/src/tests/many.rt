@@ -1,7 +1,7 @@
 //! Many indexes, each found at once.
-use iddqd_hash::hash_table::MapHashTable;
 use iddqd::item_index::ItemIndex;
 use iddqd::map_hash::MapHash;
+use iddqd_hash::hash_table::MapHashTable;
 use std::alloc::{AllocError, Global};
 use std::test::Fail;
 

@@ -5,8 +5,8 @@ ghost use Rattle.iddqd_hash.specs.MapHashTable.{filed};
 
 use super::filed::file_all;
 use super::keys::Constant;
-use iddqd_hash::hash_table::{Entry, MapHashTable};
 use iddqd::item_index::ItemIndex;
+use iddqd_hash::hash_table::{Entry, MapHashTable};
 use std::alloc::{AllocError, Global};
 use std::hash::BuildHasher;
 use std::test::Fail;

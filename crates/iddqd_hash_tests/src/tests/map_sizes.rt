@@ -1,8 +1,8 @@
 //! Sizes of the table of indexes.
 use super::filed::file_all;
 use super::keys::Constant;
-use iddqd_hash::hash_table::MapHashTable;
 use iddqd::item_index::ItemIndex;
+use iddqd_hash::hash_table::MapHashTable;
 use std::alloc::{AllocError, Global};
 use std::test::Fail;
 

@@ -1,8 +1,8 @@
 //! Walks over the table of indexes, and `retain`.
 use super::filed::file_all;
-use iddqd_hash::hash_table::MapHashTable;
 use iddqd::hash_builder::DefaultHashBuilder;
 use iddqd::item_index::ItemIndex;
+use iddqd_hash::hash_table::MapHashTable;
 use std::alloc::{AllocError, Global};
 use std::process::Abort;
 use std::test::Fail;

@@ -1,10 +1,10 @@
 //! Printed forms.
 use super::filed::file_all;
 use super::keys::Constant;
+use iddqd::item_index::ItemIndex;
 use iddqd_hash::hash_table::{HashedIndex, MapHashTable};
 use iddqd_hash::hash_table_reference::HashTable;
 use iddqd_hash::open_table::OpenHashTable;
-use iddqd::item_index::ItemIndex;
 use std::test::Fail;
 
 #[test]
@@ -30,7 +30,10 @@ fn prints_a_table_with_open_addressing(rt: HostRuntime) -> Result<(), Fail> {
     table.try_reserve(1)?;
     table.insert_unique(7, 'a');
     let text = format!(in rt.alloc(); "{table:?}")?;
-    assert!(rt; text.as_str() == "OpenHashTable { len: 1, cells: 16, used: 1 }", "{text}");
+    assert!(rt;
+        text.as_str() == "OpenHashTable { len: 1, cells: 16, used: 1 }",
+        "{text}"
+    );
     let walk = table.iter();
     let text = format!(in rt.alloc(); "{walk:?}")?;
     assert!(rt; text.as_str() == "TableIter { remaining: 1 }", "{text}");

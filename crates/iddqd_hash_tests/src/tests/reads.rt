@@ -5,9 +5,9 @@ ghost use Rattle.iddqd_hash.specs.MapHashTable.{filed};
 
 use super::filed::file_all;
 use super::keys::Constant;
-use iddqd_hash::hash_table::MapHashTable;
 use iddqd::item_index::ItemIndex;
 use iddqd::map_hash::{MapHash, Same};
+use iddqd_hash::hash_table::MapHashTable;
 use std::cell::Cell;
 use std::test::Fail;
 

@@ -2,8 +2,8 @@
 //!
 //! Run under `--fail-alloc` they show what a refusal leaves.
 use super::map_entries::file_by_half;
-use iddqd_hash::hash_table::MapHashTable;
 use iddqd::item_index::ItemIndex;
+use iddqd_hash::hash_table::MapHashTable;
 use std::alloc::AllocError;
 use std::process::Abort;
 

@@ -4,10 +4,10 @@ ghost use Rattle.std.specs.FinMap as finite;
 ghost use Rattle.iddqd_hash.specs.MapHashTable.{filed};
 
 use super::indexes::remove_filed;
-use iddqd_hash::hash_table::MapHashTable;
 use iddqd::index_remap::IndexRemap;
 use iddqd::item_index::ItemIndex;
 use iddqd::map_hash::MapHash;
+use iddqd_hash::hash_table::MapHashTable;
 use std::alloc::{AllocError, Global};
 use std::test::Fail;
 
