@@ -98,7 +98,7 @@ fn a_cleared_set_keeps_what_was_reserved(rt: HostRuntime) -> Result<(), Fail> {
 #[test]
 fn a_compacted_set_keeps_what_was_reserved(rt: HostRuntime) -> Result<(), Fail> {
     let mut set = with_gaps(&rt, rt.alloc(), 6, &[1, 3, 5])?;
-    set.reserve(3)?;
+    set.try_reserve(3)?;
     let IndexRemap::Permuted(names) = set.compact()? else {
         panic!(rt; "no list of names");
     };
