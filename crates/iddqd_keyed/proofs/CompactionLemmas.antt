@@ -1,54 +1,21 @@
 -- Compaction keeps store and tables paired and in order.
-use Rattle.std.proofs.Common.{◌≡◌, ◌∙◌, ◌↔◌, ℕ, Bool, List, [], ◌∷◌, map, Option, Some, None, IsSome, option_map, refl, sym, ap, subst}
+use Rattle.std.proofs.Common.{◌≡◌, ◌∙◌, ◌↔◌, ℕ, Bool, map, Some, IsSome, option_map, refl, sym, ap, subst}
 use Rattle.std.specs.List.{Contains}
-use Rattle.std.specs.Ordering.{nat_cmp}
 use Rattle.std.specs.FinMap as finite
-use Rattle.std.specs.FinMap.{FinMap}
 use Rattle.std.specs.Cmp.Lexicographic.{options_total}
 use Rattle.iddqd.specs.Store.{Store, IsValid, get}
-use Rattle.iddqd.specs.Compaction.{IsRemapOf, CanRemap, remapped, compacted, rank}
+use Rattle.iddqd.specs.Compaction.{IsRemapOf, remapped, compacted, rank}
 use Rattle.iddqd.specs.declared.index_remap.IndexRemap.{IndexRemap}
-use Rattle.iddqd.proofs.StoreLemmas.{contains_head, contains_tail}
-use Rattle.iddqd.proofs.CompactionLemmas.{IsValid-compacted, get-compacted, live-compacted, rank_rises, rank_one_to_one, CanRemap-live}
+use Rattle.iddqd.proofs.CompactionLemmas.{IsValid-compacted, get-compacted, live-compacted, rank_rises, rank_one_to_one}
 use Rattle.iddqd_hash.specs.MapHashTable.{Renames}
+use Rattle.iddqd_hash.proofs.MemberLemmas.{filed_hash, filed_at, Renames-alike}
+use Rattle.iddqd_order.proofs.MemberLemmas.{map-alike}
 use Rattle.iddqd_order.proofs.KeyOrderLemmas.{IsInKeyOrder-renamed}
 use Rattle.iddqd_order.proofs.RenameLemmas.{Contains-map, Contains-from_map, IsDistinct-map}
 use Rattle.iddqd_keyed.specs.Keys.{Keys}
 use Rattle.iddqd_keyed.specs.State.{State, IsLive, AreApart, IsPaired, IsSorted, FirstKeysInOrder, SecondKeysInOrder, Keeps, Compacts, key_at}
 use Rattle.iddqd_keyed.proofs.KeyLemmas.{AreLawful}
-use Rattle.iddqd_keyed.proofs.LiveLemmas.{item_at, live_at}
-
--- what is filed has a hash
-filed_hash : (o : Option ℕ) → IsSome o → (hash : ℕ) × (o ≡ Some hash)
-filed_hash (Some hash) here = (hash, refl)
-filed_hash None here = absurd (cc)
-
-pub filed_at : (o : Option ℕ) (hash : ℕ) → o ≡ Some hash → IsSome o
-filed_at o hash is = rw is refl
-
--- names that agree on what is filed rename alike
-pub Renames-alike : (f g : ℕ → ℕ) (old new : FinMap nat_cmp ℕ) → ((ix : ℕ) → IsSome (finite.get old ix) → f ix ≡ g ix) → Renames f old new → Renames g old new
-Renames-alike f g old new same renames = record {
-  each = λ ix hash is. subst (λ at. finite.get new at ≡ Some hash) (same ix (filed_at _ hash is)) (renames.each ix hash is);
-  no_other = λ at hash is.
-      let (ix, named, was) = renames.no_other at hash is in
-      (ix, sym (same ix (filed_at _ hash was)) ∙ named, was);
-}
-
--- and those that agree on the members of a list
-pub map-alike : (f g : ℕ → ℕ) (xs : List ℕ) → ((x : ℕ) → Contains xs x → f x ≡ g x) → map f xs ≡ map g xs
-map-alike f g [] same = refl
-map-alike f g (x ∷ xs) same = λ i. same x (contains_head x xs) i ∷ map-alike f g xs (λ y here. same y (contains_tail x y xs here)) i
-
--- what a store's remap says of a live index
-module _ {T : Type 0} (s : Store T) (remap : IndexRemap) (valid : IsValid s) (is : IsRemapOf s remap) where
-  pub renames : (ix : ℕ) → IsLive s ix → CanRemap remap ix × (remapped remap ix ≡ rank s ix)
-  renames ix live =
-      let (item, here) = item_at s ix live in
-      CanRemap-live s remap valid is ix item here
-
-  pub one_name : (i j : ℕ) → IsLive s i → IsLive s j → remapped remap i ≡ remapped remap j → i ≡ j
-  one_name i j p q same = rank_one_to_one s i j p q (sym (renames i p).1 ∙ same ∙ (renames j q).1)
+use Rattle.iddqd.proofs.LiveLemmas.{item_at, live_at, renames}
 
 -- where the store was compacted, and both tables renamed by its remap, all went by rank
 pub Compacts-from_remap : {T S : Type 0} (old new : State T S) (remap : IndexRemap) → IsPaired old → IsRemapOf old.store remap → new.hasher ≡ old.hasher → new.store ≡ compacted old.store → Renames (remapped remap) old.filed new.filed → new.order ≡ map (remapped remap) old.order → Compacts old new

@@ -15,7 +15,7 @@ use Rattle.iddqd_keyed.specs.Keys.{Keys, has_first, has_second}
 use Rattle.iddqd_keyed.specs.State.{State, IsLive, IsHit, HasNoHit, AnswersScan, IsPaired, compares_equal, FindsFiled, FindsInOrder, hash_in, Finds1, Finds2, LooksUp1, LooksUp2, FirstKeysInOrder, SecondKeysInOrder}
 use Rattle.iddqd_keyed.specs.Machine.{IsSortedScan}
 use Rattle.iddqd_keyed.proofs.KeyLemmas.{AreLawful}
-use Rattle.iddqd_keyed.proofs.LiveLemmas.{item_at, live_at}
+use Rattle.iddqd.proofs.LiveLemmas.{item_at, live_at}
 use Rattle.iddqd_keyed.proofs.SortedLemmas.{compared_at, compared_live, IsRising-find}
 
 pub equal_from_hit : (r : Ordering) → is_eq r ≡ true → r ≡ Equal

@@ -1,5 +1,3 @@
-pub mod LiveLemmas
-pub mod MemberLemmas
 pub mod PairedLemmas
 pub mod KeyLemmas
 pub mod SortedLemmas

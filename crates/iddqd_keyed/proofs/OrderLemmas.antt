@@ -10,8 +10,8 @@ use Rattle.iddqd_keyed.specs.Keys.{Keys}
 use Rattle.iddqd_keyed.specs.State.{State, HasNoHit, AreApart, IsPaired, IsEmpty, IsSorted, IsSortedBy, Binds, Unbinds, Finds1, FirstKeysInOrder, SecondKeysInOrder, InOrder, Keeps}
 use Rattle.iddqd_keyed.specs.Machine.{MayMissBoth, Removes1}
 use Rattle.iddqd_keyed.proofs.KeyLemmas.{AreLawful}
-use Rattle.iddqd_keyed.proofs.LiveLemmas.{item_at, none_live, get-removed_at, get-removed_other, get-inserted_at, get-inserted_other}
-use Rattle.iddqd_keyed.proofs.MemberLemmas.{get-insert_at, get-insert_other, get-remove_other}
+use Rattle.iddqd.proofs.LiveLemmas.{item_at, none_live, get-removed_at, get-removed_other, get-inserted_at, get-inserted_other}
+use Rattle.iddqd_hash.proofs.MemberLemmas.{get-insert_at, get-insert_other, get-remove_other}
 use Rattle.iddqd_keyed.proofs.PairedLemmas.{IsPaired-removed}
 use Rattle.iddqd_keyed.proofs.SortedLemmas.{IsSortedBy-removed}
 use Rattle.iddqd_keyed.proofs.FindLemmas.{AnswersScan-first, AnswersScan-second}

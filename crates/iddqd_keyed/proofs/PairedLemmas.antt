@@ -10,8 +10,9 @@ use Rattle.iddqd_order.specs.MapBTreeTable.{IsIndexList, sentinel, without}
 use Rattle.iddqd_order.proofs.IndexListLemmas.{IsIndexList-insert, IsIndexList-filter}
 use Rattle.iddqd_keyed.specs.Keys.{Keys}
 use Rattle.iddqd_keyed.specs.State.{State, IsLive, IsPaired, Binds, Unbinds, empty_state_within, cleared_state}
-use Rattle.iddqd_keyed.proofs.LiveLemmas.{none_not_live, live_at, next_vacant, get-removed_at, get-removed_other, get-inserted_at, get-inserted_other}
-use Rattle.iddqd_keyed.proofs.MemberLemmas.{contains-inserted_at, contains-inserted_other, contains-inserted_cases, contains-without, contains-from_without, get-insert_at, get-insert_other, get-remove_at, get-remove_other}
+use Rattle.iddqd.proofs.LiveLemmas.{none_not_live, live_at, next_vacant, get-removed_at, get-removed_other, get-inserted_at, get-inserted_other}
+use Rattle.iddqd_hash.proofs.MemberLemmas.{get-insert_at, get-insert_other, get-remove_at, get-remove_other}
+use Rattle.iddqd_order.proofs.MemberLemmas.{contains-inserted_at, contains-inserted_other, contains-inserted_cases, contains-without, contains-from_without}
 
 module _ {T : Type 0} where
   -- an index that is live isn't `SENTINEL`

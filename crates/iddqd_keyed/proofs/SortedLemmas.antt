@@ -20,8 +20,8 @@ use Rattle.iddqd_order.specs.declared.btree_table.asking.Asking.{Asking}
 use Rattle.iddqd_order.specs.declared.btree_table.prepared_insert.PreparedBTreeInsert.{PreparedBTreeInsert}
 use Rattle.iddqd_order.proofs.KeyOrderLemmas.{key_then_index-total, with_ties-key, IsRising-from_key, IsRising-from_sorted, IsStrictlySortedBy-insert}
 use Rattle.iddqd_keyed.specs.State.{IsLive, key_at, IsSortedBy, AddsToOrder}
-use Rattle.iddqd_keyed.proofs.LiveLemmas.{none_not_live, next_vacant, get-removed_other, get-inserted_at, get-inserted_other}
-use Rattle.iddqd_keyed.proofs.MemberLemmas.{contains-from_without}
+use Rattle.iddqd.proofs.LiveLemmas.{none_not_live, next_vacant, get-removed_other, get-inserted_at, get-inserted_other}
+use Rattle.iddqd_order.proofs.MemberLemmas.{contains-from_without}
 
 module _ {T K : Type 0} (key_of : T → K) (compare : K → K → Ordering) where
   -- how a key compares with that of the item at an index

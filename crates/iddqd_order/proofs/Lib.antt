@@ -8,6 +8,7 @@ mod GapLemmas
 pub mod IndexListLemmas
 pub mod InsertLemmas
 pub mod KeyOrderLemmas
+pub mod MemberLemmas
 mod MendLemmas
 pub mod NodeLemmas
 mod NodeRenameLemmas

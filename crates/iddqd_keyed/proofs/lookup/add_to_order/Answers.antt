@@ -4,7 +4,7 @@ use Rattle.iddqd_order.specs.Asking.{closure_of}
 use Rattle.iddqd_order.specs.MapBTreeTable.{order_of}
 use Rattle.iddqd_order.proofs.AskLemmas.{CanAsk-by, Steady-by}
 use Rattle.iddqd_keyed.specs.State.{IsLive, IsKeyAt}
-use Rattle.iddqd_keyed.proofs.LiveLemmas.{none_not_live, next_vacant}
+use Rattle.iddqd.proofs.LiveLemmas.{none_not_live, next_vacant}
 use Rattle.iddqd_keyed.proofs.SortedLemmas.{compared_live, AddsToOrder-prepared}
 use Rattle.iddqd_keyed.proofs.lookup.add_to_order.Goals as goal
 

@@ -1,5 +1,5 @@
 use Rattle.std.proofs.Common.{sym, ap}
-use Rattle.iddqd_keyed.proofs.LiveLemmas.{none_not_live}
+use Rattle.iddqd.proofs.LiveLemmas.{none_not_live}
 use Rattle.iddqd_keyed.proofs.lookup.remove_item.Goals as goal
 
 pub unreachable-requires : goal.unreachable-requires

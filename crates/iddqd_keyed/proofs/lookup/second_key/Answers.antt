@@ -1,5 +1,5 @@
 use Rattle.std.proofs.Common.{sym}
-use Rattle.iddqd_keyed.proofs.LiveLemmas.{none_not_live}
+use Rattle.iddqd.proofs.LiveLemmas.{none_not_live}
 use Rattle.iddqd_keyed.proofs.lookup.second_key.Goals as goal
 
 pub returns : goal.returns

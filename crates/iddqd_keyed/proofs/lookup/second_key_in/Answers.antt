@@ -1,6 +1,6 @@
 use Rattle.std.proofs.Common.{sym}
 use Rattle.iddqd.specs.GrowHandle.{handle_store}
-use Rattle.iddqd_keyed.proofs.LiveLemmas.{none_not_live}
+use Rattle.iddqd.proofs.LiveLemmas.{none_not_live}
 use Rattle.iddqd_keyed.proofs.lookup.second_key_in.Goals as goal
 
 pub returns : goal.returns

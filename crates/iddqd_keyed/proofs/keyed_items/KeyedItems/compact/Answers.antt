@@ -3,7 +3,8 @@ use Rattle.iddqd.specs.Compaction.{IsRemapOf}
 use Rattle.iddqd_keyed.specs.Keys.{Keys, keys_of}
 use Rattle.iddqd_keyed.specs.State.{state_of, Keeps, Compacts}
 use Rattle.iddqd_keyed.proofs.KeyLemmas.{AreLawful-from_bounds}
-use Rattle.iddqd_keyed.proofs.CompactionLemmas.{renames, one_name, Compacts-from_remap, IsPaired-compacted, Keeps-compacted}
+use Rattle.iddqd.proofs.LiveLemmas.{renames, one_name}
+use Rattle.iddqd_keyed.proofs.CompactionLemmas.{Compacts-from_remap, IsPaired-compacted, Keeps-compacted}
 use Rattle.iddqd_keyed.proofs.keyed_items.KeyedItems.compact.Goals.{After-remap_indexes-2}
 use Rattle.iddqd_keyed.proofs.keyed_items.KeyedItems.compact.Goals as goal
 

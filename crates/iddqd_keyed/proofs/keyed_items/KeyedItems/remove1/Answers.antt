@@ -6,7 +6,7 @@ use Rattle.iddqd_keyed.specs.Keys.{Keys, keys_of}
 use Rattle.iddqd_keyed.specs.State.{state_of, IsPaired, Unbinds, hash_in, Keeps}
 use Rattle.iddqd_keyed.specs.Machine.{Removes1}
 use Rattle.iddqd_keyed.proofs.KeyLemmas.{AreLawful-from_bounds}
-use Rattle.iddqd_keyed.proofs.LiveLemmas.{live_at}
+use Rattle.iddqd.proofs.LiveLemmas.{live_at}
 use Rattle.iddqd_keyed.proofs.PairedLemmas.{IsPaired-removed}
 use Rattle.iddqd_keyed.proofs.FindLemmas.{Finds1-seen}
 use Rattle.iddqd_keyed.proofs.KeepsLemmas.{Keeps-same}

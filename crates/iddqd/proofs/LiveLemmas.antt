@@ -1,26 +1,28 @@
--- What the indexes of a store have after an insert and after a removal.
+-- What the indexes of a store have after an insert and after a removal, and how its remap names the live ones.
 use Rattle.std.proofs.Common.{◌≡◌, ◌≢◌, ◌∙◌, inl, inr, ◌<◌, ℕ, List, [], ◌∷◌, ◌++◌, length, get_or, Option, Some, None, is_some, IsSome, cond, refl, sym, arith}
 use Rattle.std.proofs.lemmas.Bool.{cases_lt}
 use Rattle.std.proofs.lemmas.List.{get_or_past, get_or_push, get_or_append_left, get_or-set_same, get_or-set_other, length_push}
 use Rattle.std.proofs.lemmas.List.Sums.{get_or-le-sum_by}
 use Rattle.iddqd.specs.Store.{Store, IsValid, get, live_count, next_index, inserted, removed}
+use Rattle.iddqd.specs.Compaction.{IsRemapOf, CanRemap, remapped, rank}
+use Rattle.iddqd.specs.declared.index_remap.IndexRemap.{IndexRemap}
 use Rattle.iddqd.proofs.StoreLemmas.{contains_head, live_within}
-use Rattle.iddqd_keyed.specs.State.{IsLive}
+use Rattle.iddqd.proofs.CompactionLemmas.{rank_one_to_one, CanRemap-live}
 
 module _ {T : Type 0} where
   -- an index that has no item isn't live
-  pub none_not_live : (s : Store T) (ix : ℕ) → get s ix ≡ None → IsLive s ix → ⊥
+  pub none_not_live : (s : Store T) (ix : ℕ) → get s ix ≡ None → IsSome (get s ix) → ⊥
   none_not_live s ix none live = cc
 
   -- the item of a live index
-  pub item_at : (s : Store T) (ix : ℕ) → IsLive s ix → (item : T) × (get s ix ≡ Some item)
+  pub item_at : (s : Store T) (ix : ℕ) → IsSome (get s ix) → (item : T) × (get s ix ≡ Some item)
   item_at s ix live =
       elim (get s ix) as (λ o. get s ix ≡ o → IsSome o → (item : T) × (get s ix ≡ Some item)) [
         | Some item ↦ λ is _. (item, is)
         | None ↦ λ is live. absurd (cc)
       ] refl live
 
-  pub live_at : (s : Store T) (ix : ℕ) (item : T) → get s ix ≡ Some item → IsLive s ix
+  pub live_at : (s : Store T) (ix : ℕ) (item : T) → get s ix ≡ Some item → IsSome (get s ix)
   live_at s ix item is = rw is refl
 
   pub get-removed_at : (s : Store T) (ix : ℕ) (item : T) → get s ix ≡ Some item → get (removed s ix) ix ≡ None
@@ -63,3 +65,13 @@ module _ {T : Type 0} where
       let inside = live_within s.items ix (live_at s ix item live) in
       let at_least = rw live at (get_or-le-sum_by (λ o. cond (is_some o) 1 0) s.items ix None inside) in
       omega (arith, at_least, none)
+
+-- what a store's remap says of a live index
+module _ {T : Type 0} (s : Store T) (remap : IndexRemap) (valid : IsValid s) (is : IsRemapOf s remap) where
+  pub renames : (ix : ℕ) → IsSome (get s ix) → CanRemap remap ix × (remapped remap ix ≡ rank s ix)
+  renames ix live =
+      let (item, here) = item_at s ix live in
+      CanRemap-live s remap valid is ix item here
+
+  pub one_name : (i j : ℕ) → IsSome (get s i) → IsSome (get s j) → remapped remap i ≡ remapped remap j → i ≡ j
+  one_name i j p q same = rank_one_to_one s i j p q (sym (renames i p).1 ∙ same ∙ (renames j q).1)

@@ -1,16 +1,11 @@
--- What an insert and a removal do to the members of a list of indexes, and to what a map of indexes has.
-use Rattle.std.proofs.Common.{◌≡◌, ◌≢◌, ◌∙◌, ◌⊎◌, inl, inr, ◌==◌, ℕ, true, false, cond, not, List, [], ◌∷◌, ◌++◌, take, drop, insert, Some, None, refl, sym, ap, subst, arith}
+-- What an insert and a removal do to the members of a list of indexes.
+use Rattle.std.proofs.Common.{◌≡◌, ◌≢◌, ◌∙◌, ◌⊎◌, inl, inr, ◌==◌, ℕ, true, false, not, List, [], ◌∷◌, ◌++◌, take, drop, insert, map, refl, sym, subst, arith}
 use Rattle.std.specs.List.{Contains}
-use Rattle.std.specs.Ordering.{nat_cmp, eq_by_cmp, is_eq}
-use Rattle.std.specs.FinMap as finite
-use Rattle.std.specs.FinMap.{FinMap}
 use Rattle.std.proofs.lemmas.Bool.{cases_eq}
 use Rattle.std.proofs.lemmas.Bool.Decides.{nat_tests}
-use Rattle.std.proofs.lemmas.Cmp.{nat_cmp_total, tied_itself}
 use Rattle.std.proofs.lemmas.List.{take-append-drop}
 use Rattle.std.proofs.lemmas.List.Elements.{Contains-append_left, Contains-append_right, Contains-append_cases}
 use Rattle.iddqd.proofs.StoreLemmas.{contains_head, contains_tail, contains_cases, contains_none}
-use Rattle.iddqd_hash.proofs.FiledLemmas.{same_index}
 use Rattle.iddqd_order.specs.MapBTreeTable.{without}
 
 -- what stands in the list after an insert
@@ -80,25 +75,7 @@ contains-from_without (y ∷ ys) ix j here =
           ]
     ]
 
-module _ {X : Type 0} (m : FinMap nat_cmp X) (ix : ℕ) where
-  tied : eq_by_cmp nat_cmp ix ix ≡ true
-  tied = ap is_eq (tied_itself nat_cmp_total ix)
-
-  untied : (j : ℕ) → j ≢ ix → eq_by_cmp nat_cmp j ix ≡ false
-  untied j other =
-      elim (eq_by_cmp nat_cmp j ix) as (λ b. eq_by_cmp nat_cmp j ix ≡ b → b ≡ false) [
-        | true ↦ λ is. absurd (other (same_index j ix is))
-        | false ↦ λ _. refl
-      ] refl
-
-  pub get-insert_at : (x : X) → finite.get (finite.insert m ix x) ix ≡ Some x
-  get-insert_at x = finite.get-insert nat_cmp_total m ix x ix ∙ ap (λ b. cond b (Some x) (finite.get m ix)) tied
-
-  pub get-insert_other : (x : X) (j : ℕ) → j ≢ ix → finite.get (finite.insert m ix x) j ≡ finite.get m j
-  get-insert_other x j other = finite.get-insert nat_cmp_total m ix x j ∙ ap (λ b. cond b (Some x) (finite.get m j)) (untied j other)
-
-  pub get-remove_at : finite.get (finite.remove m ix) ix ≡ None
-  get-remove_at = finite.get-remove nat_cmp_total m ix ix ∙ ap (λ b. cond b None (finite.get m ix)) tied
-
-  pub get-remove_other : (j : ℕ) → j ≢ ix → finite.get (finite.remove m ix) j ≡ finite.get m j
-  get-remove_other j other = finite.get-remove nat_cmp_total m ix j ∙ ap (λ b. cond b None (finite.get m j)) (untied j other)
+-- names that agree on the members of a list give it one list of names
+pub map-alike : (f g : ℕ → ℕ) (xs : List ℕ) → ((x : ℕ) → Contains xs x → f x ≡ g x) → map f xs ≡ map g xs
+map-alike f g [] same = refl
+map-alike f g (x ∷ xs) same = λ i. same x (contains_head x xs) i ∷ map-alike f g xs (λ y here. same y (contains_tail x y xs here)) i
