@@ -49,11 +49,7 @@ fn remove(rt: &impl Abort, set: &mut ItemSet<u32>, at: u32, want: u32) {
 }
 
 // A set of these items, in turn from the first index on.
-fn with_items(
-    rt: &impl Abort,
-    alloc: Global,
-    items: &[u32],
-) -> Result<ItemSet<u32>, GrowError> {
+fn with_items(rt: &impl Abort, alloc: Global, items: &[u32]) -> Result<ItemSet<u32>, GrowError> {
     let mut set = ItemSet::new(alloc);
     for (at, item) in (0..u32::MAX).zip(items) {
         insert_at(rt, &mut set, *item, at)?;

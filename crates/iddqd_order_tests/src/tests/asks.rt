@@ -1,7 +1,7 @@
 //! How often a search asks, as its closure counts it.
 use super::{bound, filled, find_told, insert_told};
-use iddqd_order::btree_table::{Asking, MapBTreeTable};
 use iddqd::item_index::ItemIndex;
+use iddqd_order::btree_table::{Asking, MapBTreeTable};
 use std::cmp::Ordering;
 use std::test::Fail;
 

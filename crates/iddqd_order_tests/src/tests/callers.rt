@@ -8,9 +8,9 @@ ghost use Rattle.iddqd_order.specs.MapBTreeTable.{order_of, without, sentinel};
 ghost use Rattle.iddqd_order.specs.Search.{CanSearch, IsSteadyRising, with_ties, IsPlace};
 
 use super::has_order;
-use iddqd_order::btree_table::{Asking, MapBTreeTable};
 use iddqd::index_remap::IndexRemap;
 use iddqd::item_index::ItemIndex;
+use iddqd_order::btree_table::{Asking, MapBTreeTable};
 use std::alloc::AllocError;
 use std::cmp::Ordering;
 use std::test::Fail;

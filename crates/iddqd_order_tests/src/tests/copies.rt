@@ -1,7 +1,7 @@
 //! Copies of a table, and tables that are given up.
 use super::{filled, has_order, insert_told, is_whole, table_of};
-use iddqd_order::btree_table::{IntoIter, MapBTreeTable};
 use iddqd::item_index::ItemIndex;
+use iddqd_order::btree_table::{IntoIter, MapBTreeTable};
 use std::cmp::Ordering;
 use std::hash::BuildHasher;
 use std::process::Abort;

@@ -1,7 +1,7 @@
 //! Walks and searches of tables of one to four levels, beside plain lists.
 use super::{bound, filled, find_told, insert_by, insert_told, remove_told};
-use iddqd_order::btree_table::{Asking, MapBTreeTable};
 use iddqd::item_index::ItemIndex;
+use iddqd_order::btree_table::{Asking, MapBTreeTable};
 use std::alloc::{AllocError, Global};
 use std::cmp::Ordering;
 use std::process::Abort;

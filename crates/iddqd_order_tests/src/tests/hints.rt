@@ -1,8 +1,8 @@
 //! Inserts by the hint of a find, in small tables each of which meets each hint.
 use super::{bound, is_stored, is_whole, table_of};
-use iddqd_order::btree_table::{Asking, Hint, MapBTreeTable};
 use iddqd::item_index::ItemIndex;
 use iddqd::map_hash::Same;
+use iddqd_order::btree_table::{Asking, Hint, MapBTreeTable};
 use std::alloc::{AllocError, Global};
 use std::process::Abort;
 use std::test::Fail;

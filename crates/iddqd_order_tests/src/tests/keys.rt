@@ -1,9 +1,9 @@
 //! Searches by keys that a lookup lends.
 use super::asks::Asked;
 use super::{bound, has_order, is_stored};
-use iddqd_order::btree_table::{Asking, MapBTreeTable};
 use iddqd::item_index::ItemIndex;
 use iddqd::map_hash::Same;
+use iddqd_order::btree_table::{Asking, MapBTreeTable};
 use std::alloc::AllocError;
 use std::process::Abort;
 use std::test::Fail;

@@ -1,7 +1,7 @@
 //! Answers that fit no order.
 use super::{bound, filled, find_told, has_order, insert_by, insert_told, is_stored, remove_told};
-use iddqd_order::btree_table::{Asking, MapBTreeTable};
 use iddqd::item_index::ItemIndex;
+use iddqd_order::btree_table::{Asking, MapBTreeTable};
 use std::alloc::{AllocError, Global};
 use std::cmp::Ordering;
 use std::process::Abort;

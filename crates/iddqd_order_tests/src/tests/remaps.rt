@@ -4,9 +4,9 @@ ghost use Rattle.iddqd.specs.Compaction.{CanRemap, remapped};
 ghost use Rattle.iddqd_order.specs.MapBTreeTable.{order_of};
 
 use super::{has_order, insert_told, table_of};
-use iddqd_order::btree_table::MapBTreeTable;
 use iddqd::index_remap::IndexRemap;
 use iddqd::item_index::ItemIndex;
+use iddqd_order::btree_table::MapBTreeTable;
 use std::alloc::{AllocError, Global};
 use std::cmp::Ordering;
 use std::process::Abort;

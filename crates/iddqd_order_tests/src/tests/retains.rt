@@ -1,7 +1,7 @@
 //! What `retain` asks and keeps.
 use super::{filled, has_order, table_of};
-use iddqd_order::btree_table::MapBTreeTable;
 use iddqd::item_index::ItemIndex;
+use iddqd_order::btree_table::MapBTreeTable;
 use std::alloc::{AllocError, Global};
 use std::cmp::Ordering;
 use std::process::Abort;

@@ -1,9 +1,9 @@
 //! Random sequences of all calls, beside a plain sorted list.
-use super::{has_order, is_whole};
 use super::trees::Pair;
-use iddqd_order::btree_table::Asking;
+use super::{has_order, is_whole};
 use iddqd::index_remap::IndexRemap;
 use iddqd::item_index::ItemIndex;
+use iddqd_order::btree_table::Asking;
 use std::alloc::AllocError;
 use std::process::Abort;
 use std::test::Fail;

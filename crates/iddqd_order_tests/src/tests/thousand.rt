@@ -1,16 +1,12 @@
 //! A thousand indexes that are their own keys, added from the lowest up and from the highest down.
 use super::insert_by;
-use iddqd_order::btree_table::{Asking, MapBTreeTable};
 use iddqd::item_index::ItemIndex;
+use iddqd_order::btree_table::{Asking, MapBTreeTable};
 use std::alloc::{AllocError, Global};
 use std::process::Abort;
 use std::test::Fail;
 
-fn thousand(
-    rt: &impl Abort,
-    alloc: Global,
-    is_rising: bool,
-) -> Result<MapBTreeTable, AllocError> {
+fn thousand(rt: &impl Abort, alloc: Global, is_rising: bool) -> Result<MapBTreeTable, AllocError> {
     let mut table = MapBTreeTable::new(alloc);
     for step in 0..1000 {
         let ix = if is_rising { step } else { 999 - step };

@@ -11,8 +11,8 @@
 //! | `each_sequence_of_seven_steps` | each sequence of up to seven inserts and removals, from no index, from a full root, and from two leaves |
 //! | `a_hundred_thousand_random_steps` | all of them in any order, at up to three levels |
 use super::{has_order, insert_by, is_whole};
-use iddqd_order::btree_table::{Asking, MapBTreeTable};
 use iddqd::item_index::ItemIndex;
+use iddqd_order::btree_table::{Asking, MapBTreeTable};
 use std::alloc::{AllocError, Global};
 use std::process::Abort;
 use std::test::Fail;

@@ -1,7 +1,7 @@
 //! The calls that ask nothing.
 use super::{has_order, insert_told, is_whole, table_of};
-use iddqd_order::btree_table::{Asking, MapBTreeTable};
 use iddqd::item_index::ItemIndex;
+use iddqd_order::btree_table::{Asking, MapBTreeTable};
 use std::cmp::Ordering;
 use std::test::Fail;
 
