@@ -4,6 +4,7 @@ use Rattle.std.specs.Fmt.{decimal}
 use Rattle.iddqd_keyed.specs.declared.keyed_items.InsertRefusal.{InsertRefusal}
 use Rattle.iddqd_keyed.specs.declared.keyed_items.InsertRefusal.TheVariants.{Duplicate, Full, Memory}
 
+-- an index in digits, or a dash
 abbrev pub index_or_dash : Option ℕ → List ℕ
 index_or_dash None = codes "-"
 index_or_dash (Some ix) = decimal ix

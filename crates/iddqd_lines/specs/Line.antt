@@ -29,9 +29,11 @@ space = 32
 abbrev pub max_line : ℕ
 max_line = 128
 
+-- whether a byte ends a line
 abbrev pub is_line_feed : ℕ → Bool
 is_line_feed b = b == line_feed
 
+-- whether a byte parts two words
 abbrev pub is_space : ℕ → Bool
 is_space b = b == space
 

@@ -5,6 +5,7 @@ mod handles;
 mod indexes;
 mod limits;
 mod printing;
+mod queries;
 mod reads;
 mod sizes;
 mod slots;

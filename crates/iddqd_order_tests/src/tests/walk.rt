@@ -3,6 +3,7 @@ use super::{has_order, insert_told, is_whole, table_of};
 use iddqd::item_index::ItemIndex;
 use iddqd_order::btree_table::{Asking, MapBTreeTable};
 use std::cmp::Ordering;
+use std::process::Abort;
 use std::test::Fail;
 
 #[test]
@@ -90,24 +91,21 @@ fn counts_up(table: &MapBTreeTable) -> bool {
     true
 }
 
+// Adds an index behind all others, if memory is there, and answers how many there are then.
+fn add_behind(rt: &impl Abort, table: &mut MapBTreeTable, ix: u32) -> u32 {
+    let is_added = insert_told(rt, table, ix, Ordering::Greater, Ordering::Greater).is_ok();
+    let len = if is_added { ix.wrapping_add(1) } else { ix };
+    assert_eq!(rt; table.len(), len as usize);
+    len
+}
+
 // Where memory is refused, the table has what it had, in its order.
 #[test]
 fn a_refused_insert_changes_nothing(rt: HostRuntime) {
     let mut table = MapBTreeTable::new(rt.alloc());
     let mut expected = 0u32;
     for _ in 0..40 {
-        if insert_told(
-            &rt,
-            &mut table,
-            expected,
-            Ordering::Greater,
-            Ordering::Greater,
-        )
-        .is_ok()
-        {
-            expected = expected.wrapping_add(1);
-        }
-        assert_eq!(rt; table.len(), expected as usize);
+        expected = add_behind(&rt, &mut table, expected);
         assert!(rt; counts_up(&table));
     }
     assert!(rt; 39 <= expected);
@@ -119,18 +117,7 @@ fn a_refused_insert_over_full_nodes_changes_nothing(rt: HostRuntime) {
     let mut table = MapBTreeTable::new(rt.alloc());
     let mut expected = 0u32;
     for _ in 0..700 {
-        if insert_told(
-            &rt,
-            &mut table,
-            expected,
-            Ordering::Greater,
-            Ordering::Greater,
-        )
-        .is_ok()
-        {
-            expected = expected.wrapping_add(1);
-        }
-        assert_eq!(rt; table.len(), expected as usize);
+        expected = add_behind(&rt, &mut table, expected);
         assert!(rt; is_whole(&table));
     }
     assert!(rt; counts_up(&table));

@@ -1,5 +1,6 @@
 use super::{ix, with_gaps};
 use iddqd::item_set::{GrowError, ItemSet, ItemSlot};
+use iddqd::map_hash::MapHash;
 use std::test::Fail;
 
 #[test]
@@ -53,5 +54,12 @@ fn walks_print(rt: HostRuntime) -> Result<(), Fail> {
     let slots = with_gaps(&rt, rt.alloc(), 3, &[1])?.into_consuming();
     let text = format!(in rt.alloc(); "{slots:?}")?;
     assert_eq!(rt; text.as_str(), "ConsumingItemSet { slots: 3 }");
+    Ok(())
+}
+
+#[test]
+fn a_hash_prints(rt: HostRuntime) -> Result<(), Fail> {
+    let text = format!(in rt.alloc(); "{:?}", MapHash::new(7))?;
+    assert_eq!(rt; text.as_str(), "MapHash { hash: 7 }");
     Ok(())
 }
