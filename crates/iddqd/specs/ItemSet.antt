@@ -11,7 +11,12 @@ pub record SizedStore (T : Type 0) : Type 0 where
 -- a store with its capacity is coded where its items are
 abbrev pub sized_store_code : {T : Type 0} → Coded T → Coded (SizedStore T)
 sized_store_code {T} code =
-    code_by (Store T × ℕ) (coded× (store_code code) coded_ℕ) (λ h. (h.store, h.capacity)) (λ p. record { store = p.0; capacity = p.1 }) (λ _. refl)
+    code_by
+    (Store T × ℕ)
+    (coded× (store_code code) coded_ℕ)
+    (λ h. (h.store, h.capacity))
+    (λ p. record { store = p.0; capacity = p.1 })
+    (λ _. refl)
 
 module _ {T : Type 0} where
   -- how many inserts need no memory

@@ -7,7 +7,8 @@ use Rattle.std.specs.declared.cmp.Ordering.{Ordering}
 use Rattle.std.specs.declared.cmp.Ordering.TheVariants.{Less, Equal, Greater}
 
 -- what stands after a key stands after each key before it
-pub greater_before_in : {K : Type 0} {R : K → K → Ordering} → IsTotalOrder R → (q a b : K) → R a b ≡ Less → R q b ≡ Greater → R q a ≡ Greater
+pub greater_before_in : {K : Type 0} {R : K → K → Ordering} → IsTotalOrder R →
+    (q a b : K) → R a b ≡ Less → R q b ≡ Greater → R q a ≡ Greater
 greater_before_in {R = R} o q a b before greater =
     let after : R b q ≡ Less = o.antisymm b q ∙ ap ordering_reverse greater in
     o.antisymm q a ∙ ap ordering_reverse (o.trans a b q before after)

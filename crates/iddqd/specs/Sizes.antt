@@ -10,7 +10,8 @@ module _ {T : Type 0} where
 
   -- Memory is there for so many slots past those that there are, or else nothing changed. Where it was there before, it
   -- succeeds and nothing changed.
-  pub record ReservesSlots {A E : Type 0} (additional : ℕ) (old : SizedStore T) (result : Result A E) (new : SizedStore T) : Type 0 where
+  pub record ReservesSlots {A E : Type 0} (additional : ℕ)
+      (old : SizedStore T) (result : Result A E) (new : SizedStore T) : Type 0 where
     pub contents : new.store ≡ old.store
     pub capacity_stays : old.capacity ≤ new.capacity
     pub reserved : OnOk result (slot_count old.store + additional ≤ new.capacity)
@@ -19,7 +20,8 @@ module _ {T : Type 0} where
 
   -- The capacity falls to so many slots, or to those that there are where these are more. Else it stays above that. The
   -- contents stay in either case.
-  pub record Shrinks {A E : Type 0} (least : ℕ) (old : SizedStore T) (result : Result A E) (new : SizedStore T) : Type 0 where
+  pub record Shrinks {A E : Type 0} (least : ℕ)
+      (old : SizedStore T) (result : Result A E) (new : SizedStore T) : Type 0 where
     pub contents : new.store ≡ old.store
     pub never_more : new.capacity ≤ old.capacity
     pub never_less : min old.capacity (max least (slot_count old.store)) ≤ new.capacity

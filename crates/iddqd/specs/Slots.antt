@@ -1,4 +1,5 @@
--- How an `ItemSet` lays out its slots: the chain of the vacant ones. Of public clauses those of `ItemSlot` alone cite it.
+-- How an `ItemSet` lays out its slots: the chain of the vacant ones. Of public clauses those of
+-- `ItemSlot` alone cite it.
 use Rattle.std.specs.Prelude.{◌≡◌, ℕ, zero, suc, ◌+◌, ◌≤◌, List, [], ◌∷◌, map, length, Option, Some, None, is_some, count_by, slice_get}
 use Rattle.std.specs.List.{Contains}
 use Rattle.iddqd.specs.Store.{Store, sentinel}
@@ -36,7 +37,8 @@ module _ {T : Type 0} where
 
   -- what a contract sees of these slots, this head and this limit
   abbrev pub store_of : List (ItemSlot T) → ℕ → ℕ → Store T
-  store_of slots head limit = record { items = map item_of slots; free = chain_of (length slots) slots head; limit = limit }
+  store_of slots head limit =
+      record { items = map item_of slots; free = chain_of (length slots) slots head; limit = limit }
 
   -- `len` counts the items, and the chain from `head` has each vacant slot once
   pub record IsSound (slots : List (ItemSlot T)) (head len : ℕ) : Type 0 where

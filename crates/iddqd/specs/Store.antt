@@ -12,8 +12,8 @@ abbrev pub slot_limit : ℕ
 slot_limit = sentinel
 
 -- A finite map from indexes to items, with the number of slots: the list has the item or nothing of
--- each index below that number. The free indexes, that freed last first. And the limit: the most slots that it can have,
--- which no step changes.
+-- each index below that number. The free indexes, that freed last first. And the limit: the most
+-- slots that it can have, which no step changes.
 pub record Store (T : Type 0) : Type 0 where
   pub items : List (Option T)
   pub free : List ℕ

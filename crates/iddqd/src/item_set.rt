@@ -101,7 +101,8 @@ impl<T> Model for ItemSet<T> {
 
     ghost use Rattle.iddqd.specs.Slots.{store_of, IsSoundWithin};
 
-    ghost view = { λ s. record { store = store_of s.slots.items s.free_head s.limit; capacity = vec_capacity s.slots } };
+    ghost view = { λ s. record
+        { store = store_of s.slots.items s.free_head s.limit; capacity = vec_capacity s.slots } };
 
     ghost invariant = { λ s. IsSoundWithin s.limit s.slots.items s.free_head s.len };
 }
@@ -226,7 +227,8 @@ impl<T> ItemSet<T> {
     /// `Full` comes exactly where the set is full, also where no memory is left. `Memory` comes only
     /// where memory was needed. A handle that is let go leaves the items and indexes as they were.
     pub fn assert_can_grow(&mut self) -> Result<GrowHandle<'_, T>, GrowError>
-        ensures* refused { sem 𝓛 (RestsIfErr (the_row T.row) self.entry handle_lender result (λ last. last ≡ self.old)) }
+        ensures* refused { sem 𝓛
+            (RestsIfErr (the_row T.row) self.entry handle_lender result (λ last. last ≡ self.old)) }
         ensures same_reference { IfOk result (λ h. handle_lender h ≡ self.entry.ghost_name) }
         ensures contents { IfOk result (λ h. handle_store h ≡ self.old.store) }
         ensures capacity { IfOk result (λ h. self.old.capacity ≤ (handle_set h).capacity) }
@@ -252,7 +254,8 @@ impl<T> ItemSet<T> {
         ensures capacity { self.new.capacity ≡ self.old.capacity }
         ensures refused { OnErr result (self.new ≡ self.old) }
         ensures dense { self.old.store.free ≡ [] → IsOk result }
-        ensures ranks { (i j : ℕ) → i < j → IsSome (get self.old.store i) → rank self.old.store i < rank self.old.store j }
+        ensures ranks { (i j : ℕ) → i < j → IsSome (get self.old.store i) →
+            rank self.old.store i < rank self.old.store j }
         ensures room { room self.new ≡ room self.old }
     {
         if self.slots.len() == self.len as usize {
@@ -324,7 +327,8 @@ impl<'a, T> GrowHandle<'a, T> {
     pub fn insert(self, item: T) -> ItemIndex
         ensures index { result ≡ next_index (handle_store self.entry) }
         ensures assignable { result < sentinel }
-        ensures inserted { self.exit.0.now ≡ record (handle_set self.entry) { store = inserted (handle_store self.entry) item } }
+        ensures inserted { self.exit.0.now
+            ≡ record (handle_set self.entry) { store = inserted (handle_store self.entry) item } }
         ensures slots { GrowsIfDense (handle_store self.entry) self.exit.0.now.store }
         ensures room { room self.exit.0.now + 1 ≡ room (handle_set self.entry) }
     {
@@ -452,7 +456,8 @@ impl<T> ItemSet<T> {
 
     // The new name of each slot, where every item moves down to its rank.
     fn new_names(&self) -> Result<Vec<ItemIndex>, AllocError>
-        ensures { IfOk result (λ names. names.items ≡ map (new_name self.now.store) (numbers (slot_count self.now.store))) }
+        ensures { IfOk result
+            (λ names. names.items ≡ map (new_name self.now.store) (numbers (slot_count self.now.store))) }
     {
         let mut names = Vec::with_capacity(*self.slots.allocator(), self.slots.len())?;
         let mut next = 0u32;

@@ -86,7 +86,8 @@ impl<'a, 'b, K: Ord> Comparable<&'b K> for Same<'a, K> {
 
     ghost equal_keys = { λ q a b. alike_right K.total a.now b.now q.0.now };
 
-    ghost as_equivalent = { λ q k a same. K.total.congr q.0.now k.now a.now ((equal_in _ _ (K.matches_eq q.0.now k.now)).0 same) };
+    ghost as_equivalent = { λ q k a same.
+        K.total.congr q.0.now k.now a.now ((equal_in _ _ (K.matches_eq q.0.now k.now)).0 same) };
 
     fn compare(&self, key: &&'b K) -> Ordering {
         self.0.cmp(*key)

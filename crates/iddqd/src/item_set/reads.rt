@@ -75,7 +75,8 @@ impl<T> ItemSet<T> {
 // Whether no index before the place is the same as the one there.
 fn is_first(indexes: &[ItemIndex], place: usize) -> bool
     requires { place < length indexes.now }
-    ensures { IsTrue result ↔ ((before : ℕ) → before < place → slice_index indexes.now before ≢ slice_index indexes.now place) }
+    ensures { IsTrue result
+        ↔ ((before : ℕ) → before < place → slice_index indexes.now before ≢ slice_index indexes.now place) }
 {
     for before in 0..place {
         if indexes[before] == indexes[place] {
