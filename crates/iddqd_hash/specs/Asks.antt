@@ -3,7 +3,8 @@ use Rattle.std.specs.Prelude.{◌≡◌, map, filter, ℕ, Bool, true, false, Li
 use Rattle.std.specs.List.{Contains, FoldsTo}
 use Rattle.std.specs.List.Sorted.{IsPermutation}
 
--- `takes p x` says that x may be asked in the state p, and `ask p x b q` that it may be answered b and leave the state q
+-- `takes p x` says that x may be asked in the state p, and `ask p x b q` that it may be answered b and
+-- leave the state q
 module _ {F T : Type 0} (takes : F → T → Type 0) (ask : F → T → Bool → F → Type 0) where
   -- these values may be asked in turn from the state f on, whatever the answers, as far as they are among xs
   abbrev pub CanAskInTurn : F → List T → List T → Type 0

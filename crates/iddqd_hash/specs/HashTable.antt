@@ -85,7 +85,8 @@ module _ {T : Type 0} where
 
   -- Room was made for so many pairs more, or else nothing changed. Where there was room, it succeeds and nothing
   -- changed.
-  pub record Reserves {A E : Type 0} (additional : ℕ) (old : Table T) (result : Result A E) (new : Table T) : Type 0 where
+  pub record Reserves {A E : Type 0} (additional : ℕ) (old : Table T) (result : Result A E) (new : Table T)
+      : Type 0 where
     pub reserved : OnOk result (additional ≤ room new)
     pub refused : OnErr result (new ≡ old)
     pub had_room : additional ≤ room old → IsOk result × (new ≡ old)

@@ -37,7 +37,8 @@ pairs_of m = map turned (finite.entries m)
 
 -- An ask of a look-up by a query: the lookup gives a key for the index, and the answer is whether the query is
 -- equivalent to it. Neither changes, so there is one state.
-pub record AsksKey {F Q K : Type 0} (g : Shared F (ℕ × Unit {0}) K) (equivalent : Q → K → Bool) (lookup : F) (query : Q) (before : Unit {0}) (ix : ℕ) (answer : Bool) (after : Unit {0}) : Type 0 where
+pub record AsksKey {F Q K : Type 0} (g : Shared F (ℕ × Unit {0}) K) (equivalent : Q → K → Bool)
+    (lookup : F) (query : Q) (before : Unit {0}) (ix : ℕ) (answer : Bool) (after : Unit {0}) : Type 0 where
   pub key : K
   pub gives : g.post lookup (ix, tt) key
   pub is : answer ≡ equivalent query key
@@ -50,7 +51,8 @@ FindsWhere test hash m None = (ix : ℕ) → finite.get m ix ≡ Some hash → t
 -- each index was given its new name, under the hash that it had; and there is no other
 pub record Renames (name : ℕ → ℕ) (old new : FinMap nat_cmp ℕ) : Type 0 where
   pub each : (ix hash : ℕ) → finite.get old ix ≡ Some hash → finite.get new (name ix) ≡ Some hash
-  pub no_other : (at hash : ℕ) → finite.get new at ≡ Some hash → (ix : ℕ) × (name ix ≡ at) × (finite.get old ix ≡ Some hash)
+  pub no_other : (at hash : ℕ) → finite.get new at ≡ Some hash →
+      (ix : ℕ) × (name ix ≡ at) × (finite.get old ix ≡ Some hash)
 
 -- the index of this pair was taken out of a table, and no other
 pub record Unfiles (old : Table ℕ) (pair : Option (ℕ × ℕ)) (new : Table ℕ) : Type 0 where

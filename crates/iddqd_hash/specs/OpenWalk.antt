@@ -20,8 +20,8 @@ IsInSixteens count = (n : ℕ) × (count ≡ 16 * n)
 abbrev pub SomeFull : List ℕ → ℕ → Type 0
 SomeFull tags at = (k : ℕ) × (at ≤ k) × (k < length tags) × (128 ≤ slice_index tags k)
 
--- A walk stands at a place, and its mask tells which places up to the end of its sixteen are full. The lowest bit is for
--- the first of the sixteen, and those before the place where it stands are clear.
+-- A walk stands at a place, and its mask tells which places up to the end of its sixteen are full. The
+-- lowest bit is for the first of the sixteen, and those before the place where it stands are clear.
 pub record IsAhead (tags : List ℕ) (at end mask : ℕ) : Type 0 where
   pub before_end : at ≤ end
   pub near : end ≤ at + 16

@@ -13,9 +13,9 @@ module _ {T : Type 0} where
     pub succeeds : pairs ≡ 0 → IsOk result
     pub no_memory : pairs ≡ 0 → IfOk result HasNoMemory
 
-  -- A table of so many pairs gives back memory that isn't needed for at least so many. Room for these stays, as far as it
-  -- was there. Where the smaller memory is refused, the table has more than is needed; where none is needed, all is given
-  -- back, and nothing can be refused.
+  -- A table of so many pairs gives back memory that isn't needed for at least so many. Room for these
+  -- stays, as far as it was there. Where the smaller memory is refused, the table has more than is
+  -- needed; where none is needed, all is given back, and nothing can be refused.
   pub record Shrinks {A E : Type 0} (least len : ℕ) (old : Table T) (result : Result A E) (new : Table T) : Type 0 where
     pub never_more : capacity new ≤ capacity old
     pub room_stays : min (room old) (least - len) ≤ room new

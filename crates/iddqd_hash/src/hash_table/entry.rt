@@ -37,8 +37,9 @@ impl MapHashTable {
 
     /// The entry of an index under the key's hash whose key equals it, else a vacant one, which has its room.
     ///
-    /// `lookup` is called as in `find_index_prehashed`. An `AllocError` comes only at a miss for which there was no room; the
-    /// table stays as it was. Where there is room no memory is taken. The key is let go when the call ends.
+    /// `lookup` is called as in `find_index_prehashed`. An `AllocError` comes only at a miss for which
+    /// there was no room; the table stays as it was. Where there is room no memory is taken. The key is
+    /// let go when the call ends.
     pub fn entry<S: BuildHasher, K: Hash + Eq + Drop, F: Fn(ItemIndex) -> K>(
         &mut self,
         state: &S,
@@ -50,12 +51,14 @@ impl MapHashTable {
 
         // A hit is an index under the hash, in the table as it was, and the asks that led to it.
         ensures found { let hash = hash_one S.BuildHasher S.Hasher.Hasher state.now (K.hash_input key) in
-            IfOccupied result (λ e. HitsPair (AsksKey F.Fn (λ k other. K.eq other k) lookup key) tt hash (indexes_under hash (filed self.old)) (entry_pair e)) }
+            IfOccupied result (λ e. HitsPair (AsksKey F.Fn (λ k other. K.eq other k) lookup key) tt hash
+            (indexes_under hash (filed self.old)) (entry_pair e)) }
         ensures same_table { IfOccupied result (λ e. entry_table e ≡ self.old) }
 
         // Else each key of an index under the hash differed, and the indexes stay.
         ensures missed { let hash = hash_one S.BuildHasher S.Hasher.Hasher state.now (K.hash_input key) in
-            UnlessOccupied result (Misses (AsksKey F.Fn (λ k other. K.eq other k) lookup key) tt (indexes_under hash (filed self.old))) }
+            UnlessOccupied result
+            (Misses (AsksKey F.Fn (λ k other. K.eq other k) lookup key) tt (indexes_under hash (filed self.old))) }
         ensures vacant { let hash = hash_one S.BuildHasher S.Hasher.Hasher state.now (K.hash_input key) in
             IfVacant result (λ e. IsVacancy hash self.old (vacant_hash e) (vacant_table e)) }
         ensures contents { IfVacant result (λ e. filed (vacant_table e) ≡ filed self.old) }
@@ -83,7 +86,8 @@ impl MapHashTable {
         lookup: F,
     ) -> Option<usize>
         requires { (ix : ℕ) → Contains (indexes_under hash (filed self.now)) ix → F.pre lookup ix }
-        ensures { FindsPlace (AsksKey F.Fn (λ k other. K.eq other k) lookup key.now) tt hash (indexes_under hash (filed self.now)) (pair_at self.now) result }
+        ensures { FindsPlace (AsksKey F.Fn (λ k other. K.eq other k) lookup key.now) tt hash
+            (indexes_under hash (filed self.now)) (pair_at self.now) result }
     {
         self.table.place_of(
             hash,
@@ -101,7 +105,8 @@ impl<'a> VacantEntry<'a> {
     /// Adds an index under the hash of the entry, and takes no memory.
     pub fn insert(self, ix: ItemIndex)
         requires { finite.get (filed (vacant_table self)) ix ≡ None }
-        ensures added { filed self.exit.0.now ≡ finite.insert (filed (vacant_table self.entry)) ix (vacant_hash self.entry) }
+        ensures added { filed self.exit.0.now
+            ≡ finite.insert (filed (vacant_table self.entry)) ix (vacant_hash self.entry) }
         ensures memory { UsesRoom (vacant_table self.entry) self.exit.0.now }
     {
         let hash = MapHash::new(self.hash);

@@ -110,7 +110,8 @@ pub fn find_cell<'a, T, F: FnMut(&T) -> bool>(
     requires ends { HasEmpty tags.now }
     requires probed { IsProbed tags.now (slots_of cells.now) }
     requires callable { CanAsk (TakesAt F.FnMut) (CalledAt F.FnMut) eq (under hash (pairs (slots_of cells.now))) }
-    ensures place { FindsPlace (CalledAt F.FnMut) eq hash (under hash (pairs (slots_of cells.now))) (slot_at (slots_of cells.now)) (option_map (λ found. found.0) result) }
+    ensures place { FindsPlace (CalledAt F.FnMut) eq hash (under hash (pairs (slots_of cells.now)))
+        (slot_at (slots_of cells.now)) (option_map (λ found. found.0) result) }
     ensures value { IfSome result (λ found. slot_at (slots_of cells.now) found.0 ≡ Some (hash, found.1.now)) }
 {
     let mut found = first_match(tags, cells, hash);

@@ -34,7 +34,8 @@ impl<'a, T> Model for TableIter<'a, T> {
 
     ghost view = { λ it. values (pairs (drop it.places.at (slots_of it.cells.now))) };
 
-    ghost invariant = { λ it. IsWalk it.tags.now (slots_of it.cells.now) it.places.at it.places.end it.places.mask it.left };
+    ghost invariant = { λ it. IsWalk it.tags.now (slots_of it.cells.now)
+        it.places.at it.places.end it.places.mask it.left };
 }
 
 impl<T> OpenHashTable<T> {
