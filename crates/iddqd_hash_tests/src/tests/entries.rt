@@ -12,7 +12,8 @@ use std::test::Fail;
 
 // Adds a value that isn't there under its hash, and tells whether it did.
 fn enter_linear(table: &mut HashTable<u32>, hash: u64, value: u32) -> Result<bool, AllocError>
-    ensures entered { IfOk result (λ is_new. IsPermutation (if is_new then (hash, value) ∷ entries table.old else entries table.old) (entries table.new)) }
+    ensures entered { IfOk result (λ is_new.
+        IsPermutation (if is_new then (hash, value) ∷ entries table.old else entries table.old) (entries table.new)) }
     ensures refused { OnErr result (table.new ≡ table.old) }
 {
     match table.entry(hash, |x| *x == value) {
@@ -26,7 +27,8 @@ fn enter_linear(table: &mut HashTable<u32>, hash: u64, value: u32) -> Result<boo
 }
 
 fn enter_open(table: &mut OpenHashTable<u32>, hash: u64, value: u32) -> Result<bool, AllocError>
-    ensures entered { IfOk result (λ is_new. IsPermutation (if is_new then (hash, value) ∷ entries table.old else entries table.old) (entries table.new)) }
+    ensures entered { IfOk result (λ is_new.
+        IsPermutation (if is_new then (hash, value) ∷ entries table.old else entries table.old) (entries table.new)) }
     ensures refused { OnErr result (table.new ≡ table.old) }
 {
     match table.entry(hash, |x| *x == value) {

@@ -41,7 +41,8 @@ fn find_number<S: BuildHasher>(
     number: u32,
 ) -> Option<ItemIndex>
     requires { (ix : ℕ) → IsSome (finite.get (filed table.now) ix) → ix < length keys.now }
-    ensures { FindsWhere (λ ix. number == slice_index keys.now ix) (hash_one S.BuildHasher S.Hasher.Hasher state.now (fed.u32 number)) (filed table.now) result }
+    ensures { FindsWhere (λ ix. number == slice_index keys.now ix)
+        (hash_one S.BuildHasher S.Hasher.Hasher state.now (fed.u32 number)) (filed table.now) result }
 {
     table.find_index(
         state,
@@ -61,7 +62,8 @@ fn find_held<S: BuildHasher>(
     number: u32,
 ) -> Option<ItemIndex>
     requires { (ix : ℕ) → IsSome (finite.get (filed table.now) ix) → ix < length keys.now }
-    ensures { FindsWhere (λ ix. number == slice_index keys.now ix) (hash_one S.BuildHasher S.Hasher.Hasher state.now (fed.u32 number)) (filed table.now) result }
+    ensures { FindsWhere (λ ix. number == slice_index keys.now ix)
+        (hash_one S.BuildHasher S.Hasher.Hasher state.now (fed.u32 number)) (filed table.now) result }
 {
     table.find_index(
         state,

@@ -11,7 +11,8 @@ use std::test::Fail;
 
 // Removes the index where it is filed under the hash.
 pub(crate) fn remove_filed(table: &mut MapHashTable, hash: u64, ix: ItemIndex) -> bool
-    ensures removed { OnTrue result ((finite.get (filed table.old) ix ≡ Some hash) × (filed table.new ≡ finite.remove (filed table.old) ix)) }
+    ensures removed { OnTrue result ((finite.get (filed table.old) ix ≡ Some hash)
+        × (filed table.new ≡ finite.remove (filed table.old) ix)) }
     ensures missed { OnFalse result ((finite.get (filed table.old) ix ≢ Some hash) × (table.new ≡ table.old)) }
 {
     match table.find_entry_by_hash(hash, |stored| stored.as_u32() == ix.as_u32()) {

@@ -19,8 +19,8 @@ fn assert_files_even(rt: &impl Abort, table: &MapHashTable, end: u32) {
     }
 }
 
-// Files the next index where memory is left, and tells how many were tried. An odd one has the key of the one before it,
-// so that it's found and takes no memory.
+// Files the next index where memory is left, and tells how many were tried. An odd one has the key of
+// the one before it, so that it's found and takes no memory.
 fn try_next(rt: &impl Abort, table: &mut MapHashTable, tried: u32) -> u32 {
     let room = table.room();
     match file_by_half(table, ItemIndex::new(tried)) {
