@@ -10,7 +10,8 @@ module _ {F R : Type 0} (g : Mut F (ℕ × Unit {0}) R) (P : ℕ → Type 0) whe
   -- n asks lead from one state of the closure to another
   pub data After : ℕ → F → F → Type 0 where
     At_once : {f : F} → After 0 f f
-    One_more : {n : ℕ} {f f' f'' : F} {ix : ℕ} {r : R} → After n f f' → P ix → Called g f' (ix, tt) r f'' → After (suc n) f f''
+    One_more : {n : ℕ} {f f' f'' : F} {ix : ℕ} {r : R} →
+        After n f f' → P ix → Called g f' (ix, tt) r f'' → After (suc n) f f''
 
   -- the closure may be asked about each index with P, in every state that its own asks leave
   pub record CanAsk (f : F) : Type 0 where
@@ -18,7 +19,8 @@ module _ {F R : Type 0} (g : Mut F (ℕ × Unit {0}) R) (P : ℕ → Type 0) whe
 
   -- as they are read, the answers are one function of the index, in every state that the closure's own asks leave
   pub record Steady (read : R → Ordering) (answer : ℕ → Ordering) (f : F) : Type 0 where
-    pub at : (n : ℕ) (f' : F) → After n f f' → (ix : ℕ) → P ix → (r : R) (f'' : F) → Called g f' (ix, tt) r f'' → read r ≡ answer ix
+    pub at : (n : ℕ) (f' : F) → After n f f' → (ix : ℕ) → P ix →
+        (r : R) (f'' : F) → Called g f' (ix, tt) r f'' → read r ≡ answer ix
 
   -- some number of asks within the limit lead from the old asking to the new one, and all of them are counted
   pub record AsksWithin (limit : ℕ) (old new : Asking F) : Type 0 where

@@ -19,8 +19,10 @@ index_at xs (Err i) = None
 
 -- a walk down n, a tree with h levels above the leaves, by answers that are so read
 module _ {F R : Type 0} (g : Mut F (ℕ × Unit {0}) R) (read : R → Ordering) (sought : Option ℕ) where
-  -- the walk asks at most `limit` times, writes the path p and ends at a level, or else in a leaf, with the number of full nodes at the lower end: more than h levels stand for `full`
-  pub record Descends (limit full h : ℕ) (n : Node) (old : Asking F) (p : List ℕ) (end : Result ℕ ℕ) (new : Asking F) : Type 0 where
+  -- the walk asks at most `limit` times, writes the path p and ends at a level, or else in a leaf, with
+  -- the number of full nodes at the lower end: more than h levels stand for `full`
+  pub record Descends (limit full h : ℕ) (n : Node) (old : Asking F) (p : List ℕ) (end : Result ℕ ℕ) (new : Asking F)
+      : Type 0 where
     pub searches : SearchesWithin g read (flat h n) limit sought old (end_of h n p end) new
     pub holds : IfOk end (λ l. Holds l h n p)
     pub goes : IfErr end (λ k. Goes h n p)

@@ -4,7 +4,8 @@ use Rattle.std.specs.declared.cmp.Ordering.{Ordering}
 use Rattle.std.specs.declared.cmp.Ordering.TheVariants.{Less, Greater}
 use Rattle.iddqd_order.specs.declared.btree_table.gap.Sides.{Sides}
 
--- they stand right before and at the place, and where the list has none there they are those at the outer sides of the list
+-- they stand right before and at the place, and where the list has none there they are those at the
+-- outer sides of the list
 pub record AreBeside (outer : Sides) (xs : List ℕ) (place : ℕ) (sides : Sides) : Type 0 where
   pub first : place ≡ 0 → sides.before ≡ outer.before
   pub before : 0 < place → sides.before ≡ Some (slice_index xs (place - 1))

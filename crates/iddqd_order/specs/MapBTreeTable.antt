@@ -34,7 +34,8 @@ StandsAt xs ix place = ForSome place (λ i. (i < length xs) × (slice_index xs i
 -- if there is a way, a path and a level, it goes to the index
 abbrev pub LeadsTo : Order → ℕ → Option (List ℕ × ℕ) → Type 0
 LeadsTo t ix None = ⊤
-LeadsTo t ix (Some way) = HoldsIn way.1 t.root t.height way.0 × (slice_index (in_order t.root t.height) (spot_in way.1 t.root t.height way.0) ≡ ix)
+LeadsTo t ix (Some way) = HoldsIn way.1 t.root t.height way.0
+    × (slice_index (in_order t.root t.height) (spot_in way.1 t.root t.height way.0) ≡ ix)
 
 pub LeadsTo-prop : (t : Order) (ix : ℕ) (way : Option (List ℕ × ℕ)) → IsProp (LeadsTo t ix way)
 LeadsTo-prop t ix None = Unit-prop

@@ -1,4 +1,5 @@
--- What a node of the tree represents, and what holds of it. A tree is read with its height: h levels of inner nodes above the leaves.
+-- What a node of the tree represents, and what holds of it. A tree is read with its height: h levels of
+-- inner nodes above the leaves.
 use Rattle.std.specs.Prelude.{◌≡◌, ℕ, zero, suc, ◌+◌, ◌<◌, ◌≤◌, List, [], ◌∷◌, ◌++◌, All, length, map, slice_index, slice_index_or, vec_capacity, Vec, nat_eq, if◌then◌else◌}
 use Rattle.std.specs.declared.alloc.Global.{Global}
 use Rattle.iddqd_order.specs.declared.btree_table.node.Node.{Node}
@@ -71,7 +72,8 @@ Goes (suc h) n p = (slice_index p (suc h) < length (children n)) × Goes h (chil
 -- the place in the whole list to which a path goes
 unfoldable pub place : ℕ → Node → List ℕ → ℕ
 place zero n p = slice_index p 0
-place (suc h) n p = length (before (slice_index p (suc h)) (row n) (map (λ k. flat h k) (children n))) + place h (child n (slice_index p (suc h))) p
+place (suc h) n p = length (before (slice_index p (suc h)) (row n) (map (λ k. flat h k) (children n)))
+    + place h (child n (slice_index p (suc h))) p
 
 -- a path goes down to level l, and there to an index
 unfoldable pub Holds : ℕ → ℕ → Node → List ℕ → Type 0
@@ -79,17 +81,20 @@ Holds l zero n p = (l ≤ 0) × (slice_index p 0 < length (row n))
 Holds l (suc h) n p = (l ≤ suc h) × (l ≡ suc h → slice_index p (suc h) < length (row n))
     × (l ≤ h → (slice_index p (suc h) < length (children n)) × Holds l h (child n (slice_index p (suc h))) p)
 
--- the place in the whole list of the index to which a path goes at level l: in an inner node it stands after the child of its own place
+-- the place in the whole list of the index to which a path goes at level l: in an inner node it stands
+-- after the child of its own place
 unfoldable pub spot : ℕ → ℕ → Node → List ℕ → ℕ
 spot l zero n p = slice_index p 0
 spot l (suc h) n p = length (before (slice_index p (suc h)) (row n) (map (λ k. flat h k) (children n)))
-    + (if nat_eq l (suc h) then length (flat h (child n (slice_index p (suc h)))) else spot l h (child n (slice_index p (suc h))) p)
+    + (if nat_eq l (suc h) then length (flat h (child n (slice_index p (suc h))))
+    else spot l h (child n (slice_index p (suc h))) p)
 
 -- the node at level l is as it has to be where the nodes at levels below k are full, and the one at level k isn't
 abbrev pub FullBelow : ℕ → ℕ → Node → Type 0
 FullBelow k l n = (l < k → 11 ≤ length (row n)) × (l ≡ k → length (row n) < 11)
 
--- the nodes on a path at levels below k are full, and the one at level k isn't; where k is the number of levels, all are full
+-- the nodes on a path at levels below k are full, and the one at level k isn't; where k is the number
+-- of levels, all are full
 unfoldable pub IsFullBelow : ℕ → ℕ → Node → List ℕ → Type 0
 IsFullBelow k zero n p = FullBelow k 0 n
 IsFullBelow k (suc h) n p = FullBelow k (suc h) n × IsFullBelow k h (child n (slice_index p (suc h))) p

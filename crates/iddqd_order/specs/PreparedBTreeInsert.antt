@@ -26,10 +26,12 @@ place_of p = place_in p.table.now.root p.table.now.height p.path
 abbrev pub rests_if_refused : {E : Type 0} → MutBor Order → Result PreparedBTreeInsert E → Fml
 rests_if_refused t r = RestsIfErr the_row t (λ p. p.table.ghost_name) r (λ n. order_of n ≡ order_of t.now)
 
--- an insert of ix among the indexes xs is prepared, by answers that are so read: nothing is added yet, and if the answers rise ix will stand where Greater ends
+-- an insert of ix among the indexes xs is prepared, by answers that are so read: nothing is added yet,
+-- and if the answers rise ix will stand where Greater ends
 module _ {F R : Type 0} (g : Mut F (ℕ × Unit {0}) R) (read : R → Ordering) (xs : List ℕ) (ix : ℕ) where
   pub record PreparesInsert (old : Asking F) (p : PreparedBTreeInsert) : Type 0 where
     pub table : order_of (table_of p).now ≡ xs
     pub index : index_of p ≡ ix
     pub within : place_of p ≤ length xs
-    pub place : (answer : ℕ → Ordering) → IsSteadyRising g xs (Some ix) read answer old → IsPlace (with_ties (Some ix) answer) xs (place_of p)
+    pub place : (answer : ℕ → Ordering) → IsSteadyRising g xs (Some ix) read answer old →
+        IsPlace (with_ties (Some ix) answer) xs (place_of p)

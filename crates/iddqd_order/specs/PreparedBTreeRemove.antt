@@ -20,7 +20,8 @@ index_of p = p.ix
 unfoldable pub is_found : PreparedBTreeRemove → Bool
 is_found p = is_some p.way
 
--- a removal of ix from the indexes xs is prepared, by answers that are so read: it is found only where it is stored, and then if the answers rise; `SENTINEL` is missing with no ask
+-- a removal of ix from the indexes xs is prepared, by answers that are so read: it is found only where
+-- it is stored, and then if the answers rise; `SENTINEL` is missing with no ask
 module _ {F R : Type 0} (g : Mut F (ℕ × Unit {0}) R) (read : R → Ordering) (xs : List ℕ) (ix : ℕ) where
   pub record PreparesRemoval (old : Asking F) (p : PreparedBTreeRemove) (new : Asking F) : Type 0 where
     pub index : index_of p ≡ ix
@@ -28,4 +29,5 @@ module _ {F R : Type 0} (g : Mut F (ℕ × Unit {0}) R) (read : R → Ordering) 
     pub asked : SearchAsks g xs (Some ix) old new
     pub missing : ix ≡ sentinel → is_found p ≡ false
     pub unasked : ix ≡ sentinel → new ≡ old
-    pub rising : (answer : ℕ → Ordering) → IsSteadyRising g xs (Some ix) read answer old → Contains xs ix → IsTrue (is_found p)
+    pub rising : (answer : ℕ → Ordering) → IsSteadyRising g xs (Some ix) read answer old →
+        Contains xs ix → IsTrue (is_found p)

@@ -5,7 +5,8 @@ use Rattle.std.specs.Fn.{Called, Mut}
 
 -- g has the calls of the closure
 module _ {F : Type 0} (g : Mut F (ℕ × Unit {0}) Bool) where
-  -- f is asked about each of the old indexes once, in their order, each time in the state that the ask before left; the new ones are those answered true, in their order
+  -- f is asked about each of the old indexes once, in their order, each time in the state that the ask
+  -- before left; the new ones are those answered true, in their order
   pub record Retains (f : F) (old new : List ℕ) : Type 0 where
     pub asks : List (ℕ × Bool)
     pub each_once : map (λ a. a.0) asks ≡ old

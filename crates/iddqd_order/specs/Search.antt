@@ -14,15 +14,18 @@ abbrev pub Askable : List ℕ → Option ℕ → ℕ → Type 0
 Askable stored None j = Contains stored j
 Askable stored (Some ix) j = Contains stored j × (j ≢ ix)
 
--- the order with ties: an index that is sought is Equal to itself, and stands to another one, j, by the answer, and where that is Equal by the indexes
+-- the order with ties: an index that is sought is Equal to itself, and stands to another one, j, by the
+-- answer, and where that is Equal by the indexes
 abbrev pub with_ties : Option ℕ → (ℕ → Ordering) → ℕ → Ordering
 with_ties None answer j = answer j
 with_ties (Some ix) answer j = if j == ix then Equal else ordering_then (answer j) (nat_cmp ix j)
 
 -- along the list the answers are first all Greater, then Equal, then all Less
 pub record IsRising (answer : ℕ → Ordering) (xs : List ℕ) : Type 0 where
-  pub greater_before : (i j : ℕ) → i < j → j < length xs → answer (slice_index xs j) ≡ Greater → answer (slice_index xs i) ≡ Greater
-  pub less_after : (i j : ℕ) → i < j → j < length xs → answer (slice_index xs i) ≡ Less → answer (slice_index xs j) ≡ Less
+  pub greater_before : (i j : ℕ) → i < j → j < length xs →
+      answer (slice_index xs j) ≡ Greater → answer (slice_index xs i) ≡ Greater
+  pub less_after : (i j : ℕ) → i < j → j < length xs →
+      answer (slice_index xs i) ≡ Less → answer (slice_index xs j) ≡ Less
 
 -- the place where Greater ends: the answers before it are Greater, and those from it on Less
 pub record IsPlace (answer : ℕ → Ordering) (xs : List ℕ) (place : ℕ) : Type 0 where
@@ -51,14 +54,18 @@ module _ {F R : Type 0} (g : Mut F (ℕ × Unit {0}) R) (xs : List ℕ) (sought 
 
 -- calls that search in the indexes xs and so read the answers
 module _ {F R : Type 0} (g : Mut F (ℕ × Unit {0}) R) (read : R → Ordering) (xs : List ℕ) where
-  -- the search asks at most `limit` times, and ends at the place of what is sought, which steady answers make Equal, or else at the place where it would go, if the answers rise
-  pub record SearchesWithin (limit : ℕ) (sought : Option ℕ) (old : Asking F) (end : Result ℕ ℕ) (new : Asking F) : Type 0 where
+  -- the search asks at most `limit` times, and ends at the place of what is sought, which steady answers
+  -- make Equal, or else at the place where it would go, if the answers rise
+  pub record SearchesWithin (limit : ℕ) (sought : Option ℕ) (old : Asking F) (end : Result ℕ ℕ) (new : Asking F)
+      : Type 0 where
     pub asked : AsksWithin g (Askable xs sought) limit old new
     pub found : IfOk end (λ i. i < length xs)
     pub missed : IfErr end (λ i. i ≤ length xs)
     pub itself : IfOk end (λ i. (ix : ℕ) → sought ≡ Some ix → slice_index xs i ≡ ix)
-    pub hit : (answer : ℕ → Ordering) → IsSteady g xs sought read answer old → IfOk end (λ i. with_ties sought answer (slice_index xs i) ≡ Equal)
-    pub place : (answer : ℕ → Ordering) → IsSteadyRising g xs sought read answer old → IfErr end (IsPlace (with_ties sought answer) xs)
+    pub hit : (answer : ℕ → Ordering) → IsSteady g xs sought read answer old →
+        IfOk end (λ i. with_ties sought answer (slice_index xs i) ≡ Equal)
+    pub place : (answer : ℕ → Ordering) → IsSteadyRising g xs sought read answer old →
+        IfErr end (IsPlace (with_ties sought answer) xs)
 
   -- the same with the most asks of a search in all indexes
   abbrev pub Searches : Option ℕ → Asking F → Result ℕ ℕ → Asking F → Type 0
@@ -69,4 +76,5 @@ module _ {F R : Type 0} (g : Mut F (ℕ × Unit {0}) R) (read : R → Ordering) 
     pub asked : SearchAsks g xs None old new
     pub stored : IfSome found (Contains xs)
     pub hit : (answer : ℕ → Ordering) → IsSteady g xs None read answer old → IfSome found (λ ix. answer ix ≡ Equal)
-    pub miss : (answer : ℕ → Ordering) → IsSteadyRising g xs None read answer old → IsNone found → All (λ ix. answer ix ≢ Equal) xs
+    pub miss : (answer : ℕ → Ordering) → IsSteadyRising g xs None read answer old →
+        IsNone found → All (λ ix. answer ix ≢ Equal) xs

@@ -42,7 +42,8 @@ abbrev pub spot_in : ℕ → Option Node → ℕ → List ℕ → ℕ
 spot_in l None h p = 0
 spot_in l (Some n) h p = spot l h n p
 
--- the blocks of an insert: one for each full inner node that it cuts, and where all nodes on the path are full one more for a new root
+-- the blocks of an insert: one for each full inner node that it cuts, and where all nodes on the path
+-- are full one more for a new root
 pub record AreEnough (full height blocks : ℕ) : Type 0 where
   pub for_nodes : full ≤ height → full ≤ blocks + 1
   pub for_root : height < full → height < blocks

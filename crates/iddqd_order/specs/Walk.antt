@@ -19,13 +19,15 @@ unfoldable pub beyond : ℕ → Node → List ℕ → List ℕ
 beyond zero n p = []
 beyond (suc zero) n p = []
 beyond (suc (suc h)) n p =
-    beyond (suc h) (child n (slice_index p (suc (suc h)))) p ++ after (slice_index p (suc (suc h))) (row n) (map (λ k. flat (suc h) k) (children n))
+    beyond (suc h) (child n (slice_index p (suc (suc h)))) p
+    ++ after (slice_index p (suc (suc h))) (row n) (map (λ k. flat (suc h) k) (children n))
 
 -- the path goes down to level 1
 unfoldable pub Leads : ℕ → Node → List ℕ → Type 0
 Leads zero n p = Unit {0}
 Leads (suc zero) n p = Unit {0}
-Leads (suc (suc h)) n p = (slice_index p (suc (suc h)) < length (children n)) × Leads (suc h) (child n (slice_index p (suc (suc h)))) p
+Leads (suc (suc h)) n p = (slice_index p (suc (suc h)) < length (children n))
+    × Leads (suc h) (child n (slice_index p (suc (suc h)))) p
 
 -- the first index below n, a node above the leaves, is the next one, and the path leads there from n
 pub record Begins (l : ℕ) (n : Node) (w : Walk) : Type 0 where

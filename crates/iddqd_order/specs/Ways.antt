@@ -5,7 +5,8 @@ use Rattle.iddqd_order.specs.declared.btree_table.ways.Reader.{Reader}
 use Rattle.iddqd_order.specs.declared.btree_table.ways.Way.{Way}
 use Rattle.iddqd_order.specs.Node.{flat, Holds, spot}
 
--- from the index to which the path p goes at level l, the path q goes so many on, at the level that is answered, if there are more below n
+-- from the index to which the path p goes at level l, the path q goes so many on, at the level that is
+-- answered, if there are more below n
 abbrev pub StepsOn : ℕ → Node → ℕ → List ℕ → ℕ → Option ℕ → List ℕ → Type 0
 StepsOn h n l p count None q = length (flat h n) ≡ spot l h n p + count
 StepsOn h n l p count (Some m) q = Holds m h n q × (spot m h n q ≡ spot l h n p + count)
@@ -21,7 +22,8 @@ pub record IsWay (h : ℕ) (n : Node) (w : Way) : Type 0 where
 abbrev pub SamePlaces : ℕ → Node → Node → Type 0
 SamePlaces h n m = (l : ℕ) (p : List ℕ) → Holds l h n p → Holds l h m p × (spot l h m p ≡ spot l h n p)
 
--- the reader has a copy of what is left of a leaf, from its place on, and a way to what stands behind the leaf: to the beginning of a leaf, or to an index of an inner node
+-- the reader has a copy of what is left of a leaf, from its place on, and a way to what stands behind
+-- the leaf: to the beginning of a leaf, or to an index of an inner node
 pub record IsReader (h : ℕ) (n : Node) (r : Reader) : Type 0 where
   pub way : IsWay h n r.way
   pub first : slice_index r.way.path 0 ≡ 0

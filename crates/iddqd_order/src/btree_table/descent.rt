@@ -68,7 +68,8 @@ impl Node {
         requires first { (l : ℕ) → l ≤ height → slice_index path.old l ≡ 0 }
         requires can_search { CanSearch F.FnMut (flat height self.now) tie.now asking.old }
         ensures path { length path.new ≡ 12 }
-        ensures descends { Descends F.FnMut (H.reading how.now) tie.now (4 * (height + 1)) (height + 1) height self.now asking.old path.new result asking.new }
+        ensures descends { Descends F.FnMut (H.reading how.now) tie.now (4 * (height + 1)) (height + 1)
+            height self.now asking.old path.new result asking.new }
     {
         let mut node = self;
         let mut level = height;

@@ -27,7 +27,8 @@ impl Model for IntoIter {
 
     ghost view = { λ a. drop a.reader.place (in_order a.root a.height) };
 
-    ghost invariant = { λ a. IsTree a.root a.height × (a.len ≡ length (in_order a.root a.height)) × IsReaderIn a.root a.height a.reader };
+    ghost invariant = { λ a. IsTree a.root a.height × (a.len ≡ length (in_order a.root a.height))
+        × IsReaderIn a.root a.height a.reader };
 }
 
 #[tactic(auto, unfolding(crate::specs::IntoIter::indexes_to_come))]

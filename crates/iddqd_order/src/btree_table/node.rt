@@ -164,7 +164,8 @@ impl Node {
         requires full { IsFullBelow (height + 1) height self.old path.now }
         requires enough { height ≤ vec_len blocks.old }
         requires spare { All IsSpare blocks.old.items }
-        ensures items { flat height self.new ++ result.0 ∷ flat height result.1 ≡ insert (flat height self.old) (place height self.old path.now) ix }
+        ensures items { flat height self.new ++ result.0 ∷ flat height result.1
+            ≡ insert (flat height self.old) (place height self.old path.now) ix }
         ensures low { (5 ≤ length (row self.new)) × IsFormed height self.new }
         ensures high { (5 ≤ length (row result.1)) × IsFormed height result.1 }
         ensures left { vec_len blocks.new + height ≡ vec_len blocks.old }

@@ -33,7 +33,8 @@ impl<'a> PreparedBTreeInsert<'a> {
     /// Adds the index at its place. The others keep their order.
     #[tactic(auto, unfolding(crate::specs::PreparedBTreeInsert::place_of, crate::specs::PreparedBTreeInsert::index_of))]
     pub fn insert(self)
-        ensures { order_of self.exit.0.now ≡ insert (order_of (table_of self.entry).now) (place_of self.entry) (index_of self.entry) }
+        ensures { order_of self.exit.0.now
+            ≡ insert (order_of (table_of self.entry).now) (place_of self.entry) (index_of self.entry) }
     {
         let path = self.path;
         let full = self.full;

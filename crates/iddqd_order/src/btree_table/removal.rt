@@ -20,7 +20,8 @@ pub fn take_out(root: &mut Option<Node>, height: usize, path: &Path, level: usiz
     requires tree { IsTree root.old height }
     requires holds { HoldsIn level root.old height path.now }
     ensures tree { IsTree root.new result }
-    ensures items { in_order root.new result ≡ remove (in_order root.old height) (spot_in level root.old height path.now) }
+    ensures items { in_order root.new result
+        ≡ remove (in_order root.old height) (spot_in level root.old height path.now) }
 {
     if let Some(node) = root {
         if level == 0 && node.take_from_leaf(height, path) {
@@ -53,7 +54,8 @@ impl Node {
         requires low { height ≤ 11 }
         requires formed { IsFormed height self.old }
         requires holds { Holds 0 height self.old path.now }
-        ensures taken { IsTrue result → IsTakenOut height self.old self.new (remove (flat height self.old) (spot 0 height self.old path.now)) }
+        ensures taken { IsTrue result →
+            IsTakenOut height self.old self.new (remove (flat height self.old) (spot 0 height self.old path.now)) }
         ensures kept { result ≡ false → self.new ≡ self.old }
     {
         let i = path.get(height);
@@ -183,7 +185,8 @@ impl Node {
 // Mends the i-th child where it has one index too few.
 fn mend(row: &mut Row, children: &mut Vec<Node>, i: usize)
     requires { (h : ℕ) × MayLackOne h i row.old children.old.items }
-    ensures mended { (h : ℕ) → MayLackOne h i row.old children.old.items → IsMended h row.old children.old.items row.new children.new.items }
+    ensures mended { (h : ℕ) → MayLackOne h i row.old children.old.items →
+        IsMended h row.old children.old.items row.new children.new.items }
     ensures capacity { vec_capacity children.new ≡ vec_capacity children.old }
 {
     if children[i].row.len() < LEAST {
@@ -196,7 +199,8 @@ fn mend(row: &mut Row, children: &mut Vec<Node>, i: usize)
 fn fill_up(row: &mut Row, children: &mut Vec<Node>, i: usize)
     requires lacks { (h : ℕ) × MayLackOne h i row.old children.old.items }
     requires poor { (d : Node) → length (row_of (slice_index_or children.old.items i d)) < 5 }
-    ensures mended { (h : ℕ) → MayLackOne h i row.old children.old.items → IsMended h row.old children.old.items row.new children.new.items }
+    ensures mended { (h : ℕ) → MayLackOne h i row.old children.old.items →
+        IsMended h row.old children.old.items row.new children.new.items }
     ensures capacity { vec_capacity children.new ≡ vec_capacity children.old }
 {
     if i > 0 {
@@ -218,7 +222,8 @@ fn borrow_left(row: &mut Row, children: &mut Vec<Node>, left: usize)
     requires lacks { (h : ℕ) × MayLackOne h (left + 1) row.old children.old.items }
     requires more { (d : Node) → 5 < length (row_of (slice_index_or children.old.items left d)) }
     requires poor { (d : Node) → length (row_of (slice_index_or children.old.items (left + 1) d)) < 5 }
-    ensures mended { (h : ℕ) → MayLackOne h (left + 1) row.old children.old.items → IsMended h row.old children.old.items row.new children.new.items }
+    ensures mended { (h : ℕ) → MayLackOne h (left + 1) row.old children.old.items →
+        IsMended h row.old children.old.items row.new children.new.items }
     ensures capacity { vec_capacity children.new ≡ vec_capacity children.old }
 {
     let (last, moved) = children[left].take_last();
@@ -234,7 +239,8 @@ fn borrow_right(row: &mut Row, children: &mut Vec<Node>, left: usize)
     requires within { left < length row.old }
     requires more { (d : Node) → 5 < length (row_of (slice_index_or children.old.items (left + 1) d)) }
     requires poor { (d : Node) → length (row_of (slice_index_or children.old.items left d)) < 5 }
-    ensures mended { (h : ℕ) → MayLackOne h left row.old children.old.items → IsMended h row.old children.old.items row.new children.new.items }
+    ensures mended { (h : ℕ) → MayLackOne h left row.old children.old.items →
+        IsMended h row.old children.old.items row.new children.new.items }
     ensures capacity { vec_capacity children.new ≡ vec_capacity children.old }
 {
     let (first, moved) = children[left + 1].take_first();
@@ -247,8 +253,10 @@ fn borrow_right(row: &mut Row, children: &mut Vec<Node>, left: usize)
 fn merge(row: &mut Row, children: &mut Vec<Node>, left: usize)
     requires lacks { (h : ℕ) × ((i : ℕ) × ((left ≤ i) × ((i ≤ left + 1) × MayLackOne h i row.old children.old.items))) }
     requires within { left < length row.old }
-    requires few { (d : Node) → length (row_of (slice_index_or children.old.items left d)) + length (row_of (slice_index_or children.old.items (left + 1) d)) ≤ 10 }
-    ensures mended { (h i : ℕ) → left ≤ i → i ≤ left + 1 → MayLackOne h i row.old children.old.items → IsMended h row.old children.old.items row.new children.new.items }
+    requires few { (d : Node) → length (row_of (slice_index_or children.old.items left d))
+        + length (row_of (slice_index_or children.old.items (left + 1) d)) ≤ 10 }
+    ensures mended { (h i : ℕ) → left ≤ i → i ≤ left + 1 → MayLackOne h i row.old children.old.items →
+        IsMended h row.old children.old.items row.new children.new.items }
     ensures capacity { vec_capacity children.new ≡ vec_capacity children.old }
 {
     let middle = row.remove(left);

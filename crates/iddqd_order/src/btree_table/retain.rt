@@ -79,7 +79,8 @@ fn cut_off(root: &mut Option<Node>, height: usize, count: usize) -> usize
     requires tree { IsTree root.old height }
     requires within { count ≤ length (in_order root.old height) }
     ensures tree { IsTree root.new result }
-    ensures items { in_order root.new result ≡ take (length (in_order root.old height) - count) (in_order root.old height) }
+    ensures items { in_order root.new result
+        ≡ take (length (in_order root.old height) - count) (in_order root.old height) }
 {
     let mut new_height = height;
     for _i in 0..count {

@@ -284,7 +284,8 @@ impl MapBTreeTable {
         ensures* unchanged { sem 𝓛 (rests_if_refused self.entry result) }
         ensures same_reference { IfOk result (λ p. (prepared_insert.table_of p).ghost_name ≡ self.entry.ghost_name) }
         ensures asked { SearchAsks F.FnMut (order_of self.old) (Some ix) asking.old asking.new }
-        ensures prepared { IfOk result (PreparesInsert F.FnMut (Q.compare query.now) (order_of self.old) ix asking.old) }
+        ensures prepared { IfOk result
+            (PreparesInsert F.FnMut (Q.compare query.now) (order_of self.old) ix asking.old) }
     {
         self.prepare(ix, asking, &ByQuery(query), None)
     }
@@ -307,7 +308,8 @@ impl MapBTreeTable {
         ensures* unchanged { sem 𝓛 (rests_if_refused self.entry result) }
         ensures same_reference { IfOk result (λ p. (prepared_insert.table_of p).ghost_name ≡ self.entry.ghost_name) }
         ensures asked { SearchAsks F.FnMut (order_of self.old) (Some ix) asking.old asking.new }
-        ensures prepared { IfOk result (PreparesInsert F.FnMut (Q.compare query.now) (order_of self.old) ix asking.old) }
+        ensures prepared { IfOk result
+            (PreparesInsert F.FnMut (Q.compare query.now) (order_of self.old) ix asking.old) }
     {
         self.prepare(ix, asking, &ByQuery(query), Some(hint))
     }
@@ -434,7 +436,8 @@ impl MapBTreeTable {
         requires { CanSearch F.FnMut (order_of self.old) (Some ix) asking.old }
         ensures same_reference { (prepared_remove.table_of result).ghost_name ≡ self.entry.ghost_name }
         ensures table { (prepared_remove.table_of result).now ≡ self.old }
-        ensures prepared { PreparesRemoval F.FnMut (H.reading how.now) (order_of self.old) ix asking.old result asking.new }
+        ensures prepared { PreparesRemoval F.FnMut (H.reading how.now) (order_of self.old) ix
+            asking.old result asking.new }
     {
         let way = self.find_way(ix, asking, how);
         PreparedBTreeRemove {

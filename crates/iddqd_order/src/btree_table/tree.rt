@@ -29,7 +29,8 @@ pub fn put_in(
     requires enough { AreEnough full height (vec_len blocks.old) }
     requires spare { All IsSpare blocks.old.items }
     ensures tree { IsTree root.new result }
-    ensures items { in_order root.new result ≡ insert (in_order root.old height) (place_in root.old height path.now) ix }
+    ensures items { in_order root.new result
+        ≡ insert (in_order root.old height) (place_in root.old height path.now) ix }
     ensures spare { All IsSpare blocks.new.items }
 {
     match root {

@@ -77,7 +77,8 @@ impl Way {
         requires leaf { self.old.level ≡ 0 }
         requires first { slice_index self.old.path 0 ≡ 0 }
         ensures some { 1 ≤ length result }
-        ensures items { (k : ℕ) → k < length result → slice_index result k ≡ slice_index (flat height root.now) (self.old.place + k) }
+        ensures items { (k : ℕ) → k < length result →
+            slice_index result k ≡ slice_index (flat height root.now) (self.old.place + k) }
         ensures way { IsWay height root.now self.new }
         ensures path { self.new.path ≡ self.old.path }
         ensures place { self.new.place ≡ self.old.place + length result }
@@ -186,7 +187,8 @@ impl Node {
         requires holds { Holds 0 height self.now path.now }
         requires first { slice_index path.now 0 ≡ 0 }
         ensures some { 1 ≤ length result.0 }
-        ensures items { (k : ℕ) → k < length result.0 → slice_index result.0 k ≡ slice_index (flat height self.now) (spot 0 height self.now path.now + k) }
+        ensures items { (k : ℕ) → k < length result.0 →
+            slice_index result.0 k ≡ slice_index (flat height self.now) (spot 0 height self.now path.now + k) }
         ensures next { StepsOn height self.now 0 path.now (length result.0) result.1 path.now }
     {
         if height == 0 {
@@ -245,7 +247,8 @@ impl Node {
         requires formed { IsFormed height self.old }
         requires levels { height ≤ 11 }
         requires holds { Holds level height self.old path.now }
-        ensures items { flat height self.new ≡ slice_set (flat height self.old) (spot level height self.old path.now) ix }
+        ensures items { flat height self.new
+            ≡ slice_set (flat height self.old) (spot level height self.old path.now) ix }
         ensures formed { IsFormed height self.new }
         ensures same_length { length (row self.new) ≡ length (row self.old) }
         ensures same_places { SamePlaces height self.old self.new }
