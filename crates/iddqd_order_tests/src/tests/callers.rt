@@ -27,7 +27,8 @@ fn add_by<F: FnMut(ItemIndex) -> Ordering>(
     ensures err { OnErr result (order_of table.new ≡ order_of table.old) }
     ensures place { (answer : ℕ → Ordering) →
         IsSteadyRising F.FnMut (order_of table.old) (Some ix) (λ r. r) answer asking.old →
-        OnOk result ((at : ℕ) × IsPlace (with_ties (Some ix) answer) (order_of table.old) at × (order_of table.new ≡ insert (order_of table.old) at ix)) }
+        OnOk result ((at : ℕ) × IsPlace (with_ties (Some ix) answer) (order_of table.old) at
+        × (order_of table.new ≡ insert (order_of table.old) at ix)) }
 {
     table.prepare_insert_by(ix, asking)?.insert();
     Ok(())
@@ -67,7 +68,8 @@ fn add_both<F: FnMut(ItemIndex) -> Ordering>(
     requires can_ask_second { CanSearch F.FnMut (order_of two.old.second) (Some ix) second.old }
     ensures first { OnOk result ((at : ℕ) × (order_of two.new.first ≡ insert (order_of two.old.first) at ix)) }
     ensures second { OnOk result ((at : ℕ) × (order_of two.new.second ≡ insert (order_of two.old.second) at ix)) }
-    ensures err { OnErr result ((order_of two.new.first ≡ order_of two.old.first) × (order_of two.new.second ≡ order_of two.old.second)) }
+    ensures err { OnErr result ((order_of two.new.first ≡ order_of two.old.first)
+        × (order_of two.new.second ≡ order_of two.old.second)) }
 {
     let prepared_first = two.first.prepare_insert_by(ix, first)?;
     let prepared_second = two.second.prepare_insert_by(ix, second)?;

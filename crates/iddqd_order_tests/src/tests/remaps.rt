@@ -47,7 +47,8 @@ fn has_own_name(table: &MapBTreeTable, remap: &IndexRemap, ix: ItemIndex) -> boo
 fn have_own_names(table: &MapBTreeTable, remap: &IndexRemap) -> bool
     ensures named { IsTrue result → All (CanRemap remap.now) (order_of table.now) }
     ensures own { IsTrue result →
-        All (λ i. All (λ j. remapped remap.now i ≡ remapped remap.now j → i ≡ j) (order_of table.now)) (order_of table.now) }
+        All (λ i. All (λ j. remapped remap.now i ≡ remapped remap.now j → i ≡ j) (order_of table.now))
+        (order_of table.now) }
 {
     for ix in table.iter() {
         if !has_own_name(table, remap, ix) {
