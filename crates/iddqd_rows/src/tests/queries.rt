@@ -46,7 +46,8 @@ impl<'b, K: Ord> Comparable<&'b K> for Held<K> {
 
     ghost equal_keys = { λ q a b. alike_right K.total a.now b.now q.0 };
 
-    ghost as_equivalent = { λ q k a same. K.total.congr q.0 k.now a.now ((equal_in _ _ (K.matches_eq q.0 k.now)).0 same) };
+    ghost as_equivalent = { λ q k a same.
+        K.total.congr q.0 k.now a.now ((equal_in _ _ (K.matches_eq q.0 k.now)).0 same) };
 
     fn compare(&self, key: &&'b K) -> Ordering {
         self.0.cmp(*key)

@@ -36,8 +36,8 @@ fn command(number: u32, value: u32) -> Command<Record> {
     }
 }
 
-// The sequence of that number is allowed where there are no more slots than the limit: its digits to the base of 25 are the commands. A beginning that
-// came before is not looked at again.
+// The sequence of that number is allowed where there are no more slots than the limit: its digits to
+// the base of 25 are the commands. A beginning that came before is not looked at again.
 fn assert_allowed(
     rt: &impl Abort,
     alloc: Global,
