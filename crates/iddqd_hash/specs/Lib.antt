@@ -2,14 +2,13 @@ pub mod Asks
 pub mod Clones
 pub mod Entries
 pub mod HashTable
-pub mod HashTableEntry
 pub mod MapHashTable
 pub mod MapHashTableEntry
 pub mod OpenTable
-pub mod OpenTableEntry
 pub mod OpenWalk
 pub mod OpenTableSizes
 pub mod Sizes
+pub mod TableEntry
 -- what a caller's clauses cite, from one place: of the crate below, and of this one
 pub use Rattle.iddqd.specs.Compaction
 pub use Rattle.iddqd.specs.MapHash

@@ -26,6 +26,7 @@ mod indexes;
 mod sizes;
 
 use crate::open_table::OpenHashTable;
+use crate::table_entry::PairCells;
 pub use entry::{Entry, VacantEntry};
 use iddqd::index_remap::IndexRemap;
 use iddqd::item_index::ItemIndex;

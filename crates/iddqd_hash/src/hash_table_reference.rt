@@ -19,6 +19,7 @@ mod entry;
 mod iter;
 mod sizes;
 
+use crate::table_entry::{self, PairCells};
 pub use entry::{Entry, VacantEntry};
 pub use iter::TableIter;
 use std::alloc::{AllocError, Global};
@@ -45,17 +46,37 @@ impl<T> Model for HashTable<T> {
 }
 
 /// A pair that stands in a table.
-#[derive(Drop)]
-pub struct OccupiedEntry<'a, T> {
-    table: &'a mut HashTable<T>,
-    place: usize,
-    ghost stands: { IsSome (pair_at table.now place) },
+pub type OccupiedEntry<'a, T> = table_entry::OccupiedEntry<'a, HashTable<T>>;
+
+impl<T> PairCells for HashTable<T> {
+    type Value = T;
+
+    ghost seen = { λ t. t };
+
+    fn place_of<F: FnMut(&T) -> bool>(&self, hash: u64, eq: F) -> Option<usize> {
+        find_place(self.pairs.as_slice(), hash, eq)
+    }
+
+    fn pair_at(&self, place: usize) -> (u64, &T) {
+        let (hash, value) = &self.pairs[place];
+        (*hash, value)
+    }
+
+    fn take_at(&mut self, place: usize) -> T {
+        self.pairs.swap_remove(place).1
+    }
+
+    fn add(&mut self, hash: u64, value: T) -> usize {
+        let place = self.pairs.len();
+        self.pairs.push_reserved((hash, value));
+        place
+    }
 }
 
 impl<T> HashTable<T> {
     ghost use Rattle.std.specs.Borrow.{RestsIfErr, sem};
     ghost use Rattle.iddqd_hash.specs.contracts.hash_table_reference.HashTable.{the_row};
-    ghost use Rattle.iddqd_hash.specs.HashTableEntry.{entry_table, entry_pair, entry_lender};
+    ghost use Rattle.iddqd_hash.specs.TableEntry.{entry_table, entry_pair, entry_lender};
 
     /// An empty table, which takes no memory.
     pub fn new(alloc: Global) -> Self
@@ -140,8 +161,7 @@ impl<T> HashTable<T> {
         ensures memory { UsesRoom self.old (entry_table result) }
         ensures same_reference { entry_lender result ≡ self.entry.ghost_name }
     {
-        let place = self.pairs.len();
-        self.pairs.push_reserved((hash, value));
+        let place = self.add(hash, value);
         OccupiedEntry { table: self, place }
     }
 
@@ -180,52 +200,6 @@ impl<T> HashTable<T> {
         ensures memory { KeepsMemory self.old self.new }
     {
         self.pairs.clear();
-    }
-
-    // The cell of the pair that a look-up hits.
-    fn place_of<F: FnMut(&T) -> bool>(&self, hash: u64, eq: F) -> Option<usize>
-        requires { CanAsk (TakesAt F.FnMut) (CalledAt F.FnMut) eq (under hash (entries self.now)) }
-        ensures { FindsPlace (CalledAt F.FnMut) eq hash (under hash (entries self.now)) (pair_at self.now) result }
-    {
-        find_place(self.pairs.as_slice(), hash, eq)
-    }
-
-    // The pair in a cell.
-    fn pair_at(&self, place: usize) -> (u64, &T)
-        requires { IsSome (pair_at self.now place) }
-        ensures { pair_at self.now place ≡ Some (result.0, result.1.now) }
-    {
-        let (hash, value) = &self.pairs[place];
-        (*hash, value)
-    }
-
-    // Takes the pair in a cell out of the table.
-    fn take_at(&mut self, place: usize) -> T
-        requires { IsSome (pair_at self.old place) }
-        ensures removed { TakesOut self.old (pair_at self.old place) result self.new }
-        ensures memory { KeepsMemory self.old self.new }
-    {
-        self.pairs.swap_remove(place).1
-    }
-}
-
-impl<'a, T> OccupiedEntry<'a, T> {
-    ghost use Rattle.iddqd_hash.specs.HashTableEntry.{entry_table, entry_pair, entry_value};
-
-    /// The value.
-    pub fn get(&self) -> &T
-        ensures { entry_value self.now ≡ Some result.now }
-    {
-        self.table.pair_at(self.place).1
-    }
-
-    /// Takes the pair out of the table, and hands back its value. No memory is taken or given back.
-    pub fn remove(self) -> T
-        ensures removed { TakesOut (entry_table self.entry) (entry_pair self.entry) result self.exit.0.now }
-        ensures memory { KeepsMemory (entry_table self.entry) self.exit.0.now }
-    {
-        let place = self.place;
-        self.table.take_at(place)
     }
 }
 

@@ -10,3 +10,4 @@
 pub mod hash_table;
 pub mod hash_table_reference;
 pub mod open_table;
+mod table_entry;

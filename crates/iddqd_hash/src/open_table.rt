@@ -32,6 +32,7 @@ use crate::open_table::cells::{
     rewrite_cells, take, value_in,
 };
 use crate::open_table::tags::{count_for, free_place, limit_of};
+use crate::table_entry::{self, PairCells};
 use std::alloc::{AllocError, Global};
 use std::marker::Model;
 use std::{fmt, mem};
@@ -76,17 +77,47 @@ impl<T> Model for OpenHashTable<T> {
 }
 
 /// A pair that stands in a table.
-#[derive(Drop)]
-pub struct OccupiedEntry<'a, T> {
-    table: &'a mut OpenHashTable<T>,
-    place: usize,
-    ghost stands: { IsSome (pair_at table.now place) },
+pub type OccupiedEntry<'a, T> = table_entry::OccupiedEntry<'a, OpenHashTable<T>>;
+
+impl<T> PairCells for OpenHashTable<T> {
+    type Value = T;
+
+    ghost seen = { λ t. t };
+
+    fn place_of<F: FnMut(&T) -> bool>(&self, hash: u64, eq: F) -> Option<usize> {
+        Some(self.seek(hash, eq)?.0)
+    }
+
+    fn pair_at(&self, place: usize) -> (u64, &T) {
+        let cell = &self.cells[place];
+        (cell.hash, value_in(cell))
+    }
+
+    fn take_at(&mut self, place: usize) -> T {
+        self.len -= 1;
+        take(self.tags.as_mut_slice(), self.cells.as_mut_slice(), place)
+    }
+
+    fn add(&mut self, hash: u64, value: T) -> usize {
+        let place = free_place(self.tags.as_slice(), hash);
+        let was_empty = self.tags[place] == 0;
+        self.used += was_empty as usize;
+        self.len += 1;
+        put(
+            self.tags.as_mut_slice(),
+            self.cells.as_mut_slice(),
+            place,
+            hash,
+            value,
+        );
+        place
+    }
 }
 
 impl<T> OpenHashTable<T> {
     ghost use Rattle.std.specs.Borrow.{RestsIfErr, sem};
     ghost use Rattle.iddqd_hash.specs.contracts.open_table.OpenHashTable.{the_row};
-    ghost use Rattle.iddqd_hash.specs.OpenTableEntry.{entry_table, entry_pair, entry_lender};
+    ghost use Rattle.iddqd_hash.specs.TableEntry.{entry_table, entry_pair, entry_lender};
 
     /// An empty table, which takes no memory.
     pub fn new(alloc: Global) -> Self
@@ -232,14 +263,6 @@ impl<T> OpenHashTable<T> {
         self.used = 0;
     }
 
-    // The cell of the pair that a look-up hits.
-    pub(crate) fn place_of<F: FnMut(&T) -> bool>(&self, hash: u64, eq: F) -> Option<usize>
-        requires { CanAsk (TakesAt F.FnMut) (CalledAt F.FnMut) eq (under hash (entries self.now)) }
-        ensures { FindsPlace (CalledAt F.FnMut) eq hash (under hash (entries self.now)) (pair_at self.now) result }
-    {
-        Some(self.seek(hash, eq)?.0)
-    }
-
     // The cell and the value of the pair that a look-up hits.
     fn seek<F: FnMut(&T) -> bool>(&self, hash: u64, eq: F) -> Option<(usize, &T)>
         requires { CanAsk (TakesAt F.FnMut) (CalledAt F.FnMut) eq (under hash (entries self.now)) }
@@ -251,46 +274,6 @@ impl<T> OpenHashTable<T> {
             return None;
         }
         find_cell(self.tags.as_slice(), self.cells.as_slice(), hash, eq)
-    }
-
-    // The pair in a cell.
-    pub(crate) fn pair_at(&self, place: usize) -> (u64, &T)
-        requires { IsSome (pair_at self.now place) }
-        ensures { pair_at self.now place ≡ Some (result.0, result.1.now) }
-    {
-        let cell = &self.cells[place];
-        (cell.hash, value_in(cell))
-    }
-
-    // Takes the pair in a cell out of the table.
-    pub(crate) fn take_at(&mut self, place: usize) -> T
-        requires { IsSome (pair_at self.old place) }
-        ensures removed { TakesOut self.old (pair_at self.old place) result self.new }
-        ensures memory { KeepsMemory self.old self.new }
-    {
-        self.len -= 1;
-        take(self.tags.as_mut_slice(), self.cells.as_mut_slice(), place)
-    }
-
-    // Adds a pair, and returns its cell.
-    fn add(&mut self, hash: u64, value: T) -> usize
-        requires { 1 ≤ room self.old }
-        ensures pair { pair_at self.new result ≡ Some (hash, value) }
-        ensures added { IsPermutation ((hash, value) ∷ entries self.old) (entries self.new) }
-        ensures memory { UsesRoom self.old self.new }
-    {
-        let place = free_place(self.tags.as_slice(), hash);
-        let was_empty = self.tags[place] == 0;
-        self.used += was_empty as usize;
-        self.len += 1;
-        put(
-            self.tags.as_mut_slice(),
-            self.cells.as_mut_slice(),
-            place,
-            hash,
-            value,
-        );
-        place
     }
 
     // Makes room where there is less. It stands apart so that `try_reserve` is short where nothing is to do.
@@ -335,25 +318,5 @@ impl<T> fmt::Debug for OpenHashTable<T> {
             f,
             "OpenHashTable {{ len: {len}, cells: {cells}, used: {used} }}"
         )
-    }
-}
-
-impl<'a, T> OccupiedEntry<'a, T> {
-    ghost use Rattle.iddqd_hash.specs.OpenTableEntry.{entry_table, entry_pair, entry_value};
-
-    /// The value.
-    pub fn get(&self) -> &T
-        ensures { entry_value self.now ≡ Some result.now }
-    {
-        self.table.pair_at(self.place).1
-    }
-
-    /// Takes the pair out of the table, and hands back its value. No memory is taken or given back.
-    pub fn remove(self) -> T
-        ensures removed { TakesOut (entry_table self.entry) (entry_pair self.entry) result self.exit.0.now }
-        ensures memory { KeepsMemory (entry_table self.entry) self.exit.0.now }
-    {
-        let place = self.place;
-        self.table.take_at(place)
     }
 }

@@ -8,6 +8,7 @@ ghost use Rattle.iddqd_hash.specs.HashTable.{pair_at, room, UsesRoom};
 ghost use Rattle.iddqd_hash.specs.MapHashTable.{filed, indexes_under, AsksKey};
 
 use super::{MapHashTable, OccupiedEntry};
+use crate::table_entry::PairCells;
 use iddqd::item_index::ItemIndex;
 use iddqd::map_hash::MapHash;
 use std::alloc::AllocError;

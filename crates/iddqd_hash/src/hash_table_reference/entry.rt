@@ -7,29 +7,19 @@ ghost use Rattle.iddqd_hash.specs.Entries.{IsVacancy};
 ghost use Rattle.iddqd_hash.specs.HashTable.{entries, room, under, UsesRoom};
 
 use super::{HashTable, OccupiedEntry};
+use crate::table_entry::{self, PairCells};
 use std::alloc::AllocError;
 
 /// Where a value that was looked up stands, or could stand.
-#[derive(Drop)]
-pub enum Entry<'a, T> {
-    /// It stands there.
-    Occupied(OccupiedEntry<'a, T>),
-    /// It doesn't, and there is room for it.
-    Vacant(VacantEntry<'a, T>),
-}
+pub type Entry<'a, T> = table_entry::Entry<'a, HashTable<T>>;
 
 /// Room for one pair under a hash. An entry that is let go leaves the pairs as they were.
-#[derive(Drop)]
-pub struct VacantEntry<'a, T> {
-    table: &'a mut HashTable<T>,
-    hash: u64,
-    ghost roomy: { 1 ≤ room table.now },
-}
+pub type VacantEntry<'a, T> = table_entry::VacantEntry<'a, HashTable<T>>;
 
 impl<T> HashTable<T> {
     ghost use Rattle.std.specs.Borrow.{RestsIfErr, sem};
     ghost use Rattle.iddqd_hash.specs.contracts.hash_table_reference.HashTable.{the_row};
-    ghost use Rattle.iddqd_hash.specs.HashTableEntry.{entry_table, entry_pair, vacant_table, vacant_hash, lender_of, IfOccupied, IfVacant, UnlessOccupied};
+    ghost use Rattle.iddqd_hash.specs.TableEntry.{entry_table, entry_pair, vacant_table, vacant_hash, lender_of, IfOccupied, IfVacant, UnlessOccupied};
 
     /// The entry of a value under `hash` at which `eq` answers `true`, else a vacant one, which has its room.
     ///
@@ -63,20 +53,5 @@ impl<T> HashTable<T> {
             return Err(error);
         }
         Ok(Entry::Vacant(VacantEntry { table: self, hash }))
-    }
-}
-
-impl<'a, T> VacantEntry<'a, T> {
-    ghost use Rattle.iddqd_hash.specs.HashTableEntry.{entry_table, entry_pair, entry_lender, vacant_table, vacant_hash, vacant_lender};
-
-    /// Adds a value under the hash of the entry, and takes no memory.
-    pub fn insert(self, value: T) -> OccupiedEntry<'a, T>
-        ensures pair { entry_pair result ≡ Some (vacant_hash self.entry, value) }
-        ensures added { IsPermutation ((vacant_hash self.entry, value) ∷ entries (vacant_table self.entry)) (entries (entry_table result)) }
-        ensures memory { UsesRoom (vacant_table self.entry) (entry_table result) }
-        ensures same_reference { entry_lender result ≡ vacant_lender self.entry }
-    {
-        let hash = self.hash;
-        self.table.insert_unique(hash, value)
     }
 }

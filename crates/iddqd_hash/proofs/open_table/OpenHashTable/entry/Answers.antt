@@ -1,6 +1,6 @@
 use Rattle.std.proofs.Common.{refl}
 use Rattle.iddqd_hash.specs.Entries.{IsVacancy}
-use Rattle.iddqd_hash.specs.OpenTableEntry.{entry_pair, vacant_hash}
+use Rattle.iddqd_hash.specs.TableEntry.{entry_pair, vacant_hash}
 use Rattle.iddqd_hash.proofs.open_table.OpenHashTable.entry.Goals as goal
 
 pub returns-in-Some : goal.returns-in-Some

@@ -1,5 +1,5 @@
 use Rattle.std.proofs.Common.{refl}
-use Rattle.iddqd_hash.specs.OpenTableEntry.{entry_pair}
+use Rattle.iddqd_hash.specs.TableEntry.{entry_pair}
 use Rattle.iddqd_hash.proofs.open_table.OpenHashTable.find_entry.Goals as goal
 
 pub returns-in-Some : goal.returns-in-Some

@@ -1,5 +1,5 @@
 use Rattle.std.proofs.Common.{refl}
-use Rattle.iddqd_hash.specs.OpenTableEntry.{entry_pair}
+use Rattle.iddqd_hash.specs.TableEntry.{entry_pair}
 use Rattle.iddqd_hash.proofs.open_table.OpenHashTable.insert_unique.Goals as goal
 
 pub invariant_of-result : goal.invariant_of-result

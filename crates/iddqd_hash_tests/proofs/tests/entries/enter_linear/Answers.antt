@@ -2,7 +2,7 @@ use Rattle.std.proofs.Common.{rules, ◌∷◌}
 use Rattle.std.specs.List.Sorted.{IsPermutation}
 use Rattle.std.proofs.lemmas.List.Sorted.{IsPermutation-refl, IsPermutation-trans, IsPermutation-cons}
 use Rattle.iddqd_hash.specs.HashTable.{entries}
-use Rattle.iddqd_hash.specs.HashTableEntry.{entry_table}
+use Rattle.iddqd_hash.specs.TableEntry.{entry_table}
 use Rattle.iddqd_hash.proofs.AskLemmas.{CanAsk-everywhere}
 use Rattle.iddqd_hash_tests.proofs.tests.entries.enter_linear.Goals as goal
 

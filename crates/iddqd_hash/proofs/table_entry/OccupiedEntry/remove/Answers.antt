@@ -1,5 +1,5 @@
-use Rattle.iddqd_hash.specs.OpenTableEntry.{entry_pair}
-use Rattle.iddqd_hash.proofs.open_table.OccupiedEntry.remove.Goals as goal
+use Rattle.iddqd_hash.specs.TableEntry.{entry_pair}
+use Rattle.iddqd_hash.proofs.table_entry.OccupiedEntry.remove.Goals as goal
 
 pub returns-clause-removed : goal.returns-clause-removed
 unfolding entry_pair

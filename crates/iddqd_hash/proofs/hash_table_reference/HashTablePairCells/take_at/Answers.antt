@@ -2,7 +2,7 @@ use Rattle.std.proofs.Common.{◌<◌, length, refl, arith}
 use Rattle.std.proofs.lemmas.Option.{slice_get_read}
 use Rattle.std.proofs.lemmas.List.Sorted.{IsPermutation-swap_remove}
 use Rattle.iddqd_hash.proofs.CellLemmas.{entries-listed, pair_at-listed, within_listed, KeepsMemory-listed}
-use Rattle.iddqd_hash.proofs.hash_table_reference.HashTable.take_at.Goals as goal
+use Rattle.iddqd_hash.proofs.hash_table_reference.HashTablePairCells.take_at.Goals as goal
 
 pub swap_remove-requires : goal.swap_remove-requires
 swap_remove-requires g c =

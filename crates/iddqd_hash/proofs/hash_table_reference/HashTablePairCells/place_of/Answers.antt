@@ -1,5 +1,5 @@
 use Rattle.iddqd_hash.proofs.CellLemmas.{entries-listed, pair_at-listed}
-use Rattle.iddqd_hash.proofs.hash_table_reference.HashTable.place_of.Goals as goal
+use Rattle.iddqd_hash.proofs.hash_table_reference.HashTablePairCells.place_of.Goals as goal
 
 pub find_place-requires : goal.find_place-requires
 find_place-requires g c =

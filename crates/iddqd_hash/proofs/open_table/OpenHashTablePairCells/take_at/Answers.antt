@@ -6,7 +6,7 @@ use Rattle.iddqd_hash.specs.HashTable.{value_of}
 use Rattle.iddqd_hash.specs.OpenTable.{slots_of, slot_at}
 use Rattle.iddqd_hash.proofs.OpenSlotLemmas.{some_inside, some_is, length-taken, pairs-taken}
 use Rattle.iddqd_hash.proofs.OpenTableLemmas.{entries-opened, pair_at-opened, cells_long, IsSound-taken, KeepsMemory-opened}
-use Rattle.iddqd_hash.proofs.open_table.OpenHashTable.take_at.Goals as goal
+use Rattle.iddqd_hash.proofs.open_table.OpenHashTablePairCells.take_at.Goals as goal
 
 pub overflow_sub-self : goal.overflow_sub-self
 overflow_sub-self g c =

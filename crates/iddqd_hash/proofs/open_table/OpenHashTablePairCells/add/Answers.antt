@@ -4,7 +4,7 @@ use Rattle.std.specs.Vec.{with_items}
 use Rattle.iddqd_hash.specs.OpenTable.{tag_of, limit_of, slots_of, slot_at}
 use Rattle.iddqd_hash.proofs.OpenSlotLemmas.{length_pairs, pairs-put, free_slot}
 use Rattle.iddqd_hash.proofs.OpenTableLemmas.{entries-opened, pair_at-opened, room-opened, power_from, empty_from, was_empty_counts, IsSound-put, UsesRoom-opened}
-use Rattle.iddqd_hash.proofs.open_table.OpenHashTable.add.Goals as goal
+use Rattle.iddqd_hash.proofs.open_table.OpenHashTablePairCells.add.Goals as goal
 
 pub free_place-place-requires-clause-power : goal.free_place-place-requires-clause-power
 free_place-place-requires-clause-power g c =

@@ -3,7 +3,7 @@ use Rattle.iddqd_hash.specs.OpenTable.{slots_of, slot_at}
 use Rattle.iddqd_hash.proofs.OpenTableLemmas.{pair_at-opened, cells_long}
 use Rattle.iddqd_hash.proofs.OpenSlotLemmas.{some_inside}
 use Rattle.iddqd_hash.proofs.OpenLookupLemmas.{slot_read}
-use Rattle.iddqd_hash.proofs.open_table.OpenHashTable.pair_at.Goals as goal
+use Rattle.iddqd_hash.proofs.open_table.OpenHashTablePairCells.pair_at.Goals as goal
 
 pub index-cell-requires : goal.index-cell-requires
 index-cell-requires g c =

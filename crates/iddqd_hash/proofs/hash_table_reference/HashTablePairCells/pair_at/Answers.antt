@@ -1,7 +1,7 @@
 use Rattle.std.proofs.Common.{◌<◌, length, refl, arith}
 use Rattle.std.proofs.lemmas.Option.{slice_get_read}
 use Rattle.iddqd_hash.proofs.CellLemmas.{pair_at-listed, within_listed}
-use Rattle.iddqd_hash.proofs.hash_table_reference.HashTable.pair_at.Goals as goal
+use Rattle.iddqd_hash.proofs.hash_table_reference.HashTablePairCells.pair_at.Goals as goal
 
 pub index-requires : goal.index-requires
 index-requires g c =

@@ -1,7 +1,7 @@
 use Rattle.std.proofs.Common.{ap}
 use Rattle.iddqd_hash.specs.HashTable.{value_of}
-use Rattle.iddqd_hash.specs.HashTableEntry.{entry_value, entry_pair}
-use Rattle.iddqd_hash.proofs.hash_table_reference.OccupiedEntry.get.Goals as goal
+use Rattle.iddqd_hash.specs.TableEntry.{entry_value, entry_pair}
+use Rattle.iddqd_hash.proofs.table_entry.OccupiedEntry.get.Goals as goal
 
 pub returns : goal.returns
 unfolding entry_value entry_pair

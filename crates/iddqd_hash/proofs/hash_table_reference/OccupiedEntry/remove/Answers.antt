@@ -1,6 +1,0 @@
-use Rattle.iddqd_hash.specs.HashTableEntry.{entry_pair}
-use Rattle.iddqd_hash.proofs.hash_table_reference.OccupiedEntry.remove.Goals as goal
-
-pub returns-clause-removed : goal.returns-clause-removed
-unfolding entry_pair
-returns-clause-removed g c = c.take_at.ensures.removed

@@ -1,0 +1,99 @@
+//! Entries of a table of cells, whichever table it is: the place of a value, or room for one that isn't there.
+ghost use Rattle.std.specs.Prelude.{◌≡◌, ◌∷◌, ◌≤◌, Some, IsSome};
+ghost use Rattle.std.specs.List.Sorted.{IsPermutation};
+ghost use Rattle.std.specs.Fn.{TakesAt, CalledAt};
+ghost use Rattle.iddqd_hash.specs.Asks.{CanAsk, FindsPlace};
+ghost use Rattle.iddqd_hash.specs.HashTable.{Table, entries, room, pair_at, under, TakesOut, KeepsMemory, UsesRoom};
+
+/// Cells, in some of which a pair of a hash and a value stands: what entries need of a table.
+pub trait PairCells {
+    /// What stands beside a hash.
+    type Value;
+
+    // The table as a contract sees it.
+    ghost seen: { Self → Table Self.Value };
+
+    /// The cell of the pair that a look-up hits.
+    fn place_of<F: FnMut(&Self::Value) -> bool>(&self, hash: u64, eq: F) -> Option<usize>
+        requires { CanAsk (TakesAt F.FnMut) (CalledAt F.FnMut) eq (under hash (entries (seen self.now))) }
+        ensures { FindsPlace (CalledAt F.FnMut) eq hash (under hash (entries (seen self.now))) (pair_at (seen self.now)) result };
+
+    /// The pair in a cell.
+    fn pair_at(&self, place: usize) -> (u64, &Self::Value)
+        requires { IsSome (pair_at (seen self.now) place) }
+        ensures { pair_at (seen self.now) place ≡ Some (result.0, result.1.now) };
+
+    /// Takes the pair in a cell out of the table. No memory is taken or given back.
+    fn take_at(&mut self, place: usize) -> Self::Value
+        requires { IsSome (pair_at (seen self.old) place) }
+        ensures removed { TakesOut (seen self.old) (pair_at (seen self.old) place) result (seen self.new) }
+        ensures memory { KeepsMemory (seen self.old) (seen self.new) };
+
+    /// Adds a pair, and returns its cell. No memory is taken.
+    fn add(&mut self, hash: u64, value: Self::Value) -> usize
+        requires { 1 ≤ room (seen self.old) }
+        ensures pair { pair_at (seen self.new) result ≡ Some (hash, value) }
+        ensures added { IsPermutation ((hash, value) ∷ entries (seen self.old)) (entries (seen self.new)) }
+        ensures memory { UsesRoom (seen self.old) (seen self.new) };
+}
+
+/// Where a value that was looked up stands, or could stand.
+#[derive(Drop)]
+pub enum Entry<'a, C: PairCells> {
+    /// It stands there.
+    Occupied(OccupiedEntry<'a, C>),
+    /// It doesn't, and there is room for it.
+    Vacant(VacantEntry<'a, C>),
+}
+
+/// A pair that stands in a table.
+#[derive(Drop)]
+pub struct OccupiedEntry<'a, C: PairCells> {
+    pub(crate) table: &'a mut C,
+    pub(crate) place: usize,
+    ghost stands: { IsSome (pair_at (C.seen table.now) place) },
+}
+
+/// Room for one pair under a hash. An entry that is let go leaves the pairs as they were.
+#[derive(Drop)]
+pub struct VacantEntry<'a, C: PairCells> {
+    pub(crate) table: &'a mut C,
+    pub(crate) hash: u64,
+    ghost roomy: { 1 ≤ room (C.seen table.now) },
+}
+
+impl<'a, C: PairCells> OccupiedEntry<'a, C> {
+    ghost use Rattle.iddqd_hash.specs.TableEntry.{entry_table, entry_pair, entry_value};
+
+    /// The value.
+    pub fn get(&self) -> &C::Value
+        ensures { entry_value self.now ≡ Some result.now }
+    {
+        self.table.pair_at(self.place).1
+    }
+
+    /// Takes the pair out of the table, and hands back its value. No memory is taken or given back.
+    pub fn remove(self) -> C::Value
+        ensures removed { TakesOut (entry_table self.entry) (entry_pair self.entry) result (C.seen self.exit.0.now) }
+        ensures memory { KeepsMemory (entry_table self.entry) (C.seen self.exit.0.now) }
+    {
+        let place = self.place;
+        self.table.take_at(place)
+    }
+}
+
+impl<'a, C: PairCells> VacantEntry<'a, C> {
+    ghost use Rattle.iddqd_hash.specs.TableEntry.{entry_table, entry_pair, entry_lender, vacant_table, vacant_hash, vacant_lender};
+
+    /// Adds a value under the hash of the entry, and takes no memory.
+    pub fn insert(self, value: C::Value) -> OccupiedEntry<'a, C>
+        ensures pair { entry_pair result ≡ Some (vacant_hash self.entry, value) }
+        ensures added { IsPermutation ((vacant_hash self.entry, value) ∷ entries (vacant_table self.entry)) (entries (entry_table result)) }
+        ensures memory { UsesRoom (vacant_table self.entry) (entry_table result) }
+        ensures same_reference { entry_lender result ≡ vacant_lender self.entry }
+    {
+        let VacantEntry { table, hash } = self;
+        let place = table.add(hash, value);
+        OccupiedEntry { table, place }
+    }
+}
