@@ -21,3 +21,4 @@ mod OpenWalkLemmas
 mod PermutationLemmas
 mod SizeLemmas
 mod UnderLemmas
+mod VacancyLemmas
