@@ -4,10 +4,9 @@
 //! of an index. Each index keeps the hash that it was inserted with, so a key that changes unseen
 //! can hide its index from look-ups by key, and never loses it: `remove_by_index` finds it still.
 //!
-//! It stands on public calls of the table below, and on three of the crate's own where a call on the
-//! entry that the table lends can't be followed: `place_of`, the cell that a look-up hits, and
-//! `pair_at` and `take_at`, the pair in a cell. Any table with cells can have them with the same
-//! contract.
+//! It stands on public calls of the table below, and on three that `PairCells` asks of any table with
+//! cells, where a call on the entry that the table lends can't be followed: `place_of`, the cell that a
+//! look-up hits, and `pair_at` and `take_at`, the pair in a cell.
 //!
 //! An insert hashes its key once: it looks up under the hash that it files the index under.
 //! `remove_by_index` is a `retain` over all, in the place of a walk of its own. A clone copies cells as

@@ -7,12 +7,12 @@
 //!
 //! It stays beside the other so that both run the same tests. `try_reserve` looks at `room` first,
 //! since std's vector promises no unchanged capacity.
-ghost use Rattle.std.specs.Prelude.{◌≡◌, ◌∷◌, ◌≤◌, [], Some, IsSome, length, slice_get, option_copied, IfOk, OnErr, vec_len, vec_capacity};
+ghost use Rattle.std.specs.Prelude.{◌≡◌, ◌∷◌, ◌≤◌, [], Some, length, slice_get, option_copied, IfOk, OnErr, vec_len, vec_capacity};
 ghost use Rattle.std.specs.List.Sorted.{IsPermutation};
 ghost use Rattle.std.specs.List.{Contains};
 ghost use Rattle.std.specs.Fn.{TakesAt, CalledAt, FnReturnsAt};
 ghost use Rattle.iddqd_hash.specs.Asks.{CanAsk, LooksUp, HitsPair, FindsPlace, Misses, Keeps};
-ghost use Rattle.iddqd_hash.specs.HashTable.{entries, room, pair_at, under, values, Rewrites, TakesOut, HasNoMemory, KeepsMemory, UsesRoom, Reserves};
+ghost use Rattle.iddqd_hash.specs.HashTable.{entries, room, under, values, Rewrites, HasNoMemory, KeepsMemory, UsesRoom, Reserves};
 
 mod copies;
 mod entry;

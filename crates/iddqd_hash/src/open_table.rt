@@ -17,13 +17,13 @@
 //! one `unsafe` line. `grow` and `later_match` stand apart, so that what runs mostly is short enough
 //! for the caller's loop. A walk keeps the full ones of its sixteen places as bits. A clone copies tags
 //! and cells in place, marks too, so that no hash is looked at.
-ghost use Rattle.std.specs.Prelude.{◌≡◌, ◌∷◌, ◌≤◌, ◌<◌, ◌+◌, ◌-◌, [], Some, IsSome, length, option_copied, IfOk, IfSome, OnOk, OnErr};
+ghost use Rattle.std.specs.Prelude.{◌≡◌, ◌∷◌, ◌≤◌, ◌<◌, ◌+◌, ◌-◌, [], Some, length, option_copied, IfOk, IfSome, OnOk, OnErr};
 ghost use Rattle.std.specs.List.Sorted.{IsPermutation};
 ghost use Rattle.std.specs.List.{Contains};
 ghost use Rattle.std.specs.Option.{option_map};
 ghost use Rattle.std.specs.Fn.{TakesAt, CalledAt, FnReturnsAt};
 ghost use Rattle.iddqd_hash.specs.Asks.{CanAsk, LooksUp, HitsPair, FindsPlace, Misses, Keeps};
-ghost use Rattle.iddqd_hash.specs.HashTable.{entries, room, capacity, pair_at, under, values, Rewrites, TakesOut, HasNoMemory, KeepsMemory, UsesRoom, Reserves};
+ghost use Rattle.iddqd_hash.specs.HashTable.{entries, room, capacity, pair_at, under, values, Rewrites, HasNoMemory, KeepsMemory, UsesRoom, Reserves};
 ghost use Rattle.iddqd_hash.specs.OpenTable.{limit_of, IsPowerOfTwo};
 ghost use Rattle.iddqd_hash.specs.OpenTableSizes.{KeepsCells};
 

@@ -1,10 +1,10 @@
 //! The place of a value in a table, or room for one that isn't there.
-ghost use Rattle.std.specs.Prelude.{◌≡◌, ◌∷◌, ◌≤◌, Some, IfOk, OnErr};
+ghost use Rattle.std.specs.Prelude.{◌≡◌, IfOk, OnErr};
 ghost use Rattle.std.specs.List.Sorted.{IsPermutation};
 ghost use Rattle.std.specs.Fn.{TakesAt, CalledAt};
 ghost use Rattle.iddqd_hash.specs.Asks.{CanAsk, HitsPair, Misses};
 ghost use Rattle.iddqd_hash.specs.Entries.{IsVacancy};
-ghost use Rattle.iddqd_hash.specs.HashTable.{entries, room, under, UsesRoom};
+ghost use Rattle.iddqd_hash.specs.HashTable.{entries, room, under};
 
 use super::{HashTable, OccupiedEntry};
 use crate::table_entry::{self, PairCells};
