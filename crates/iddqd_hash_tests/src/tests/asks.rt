@@ -5,7 +5,7 @@ use std::process::Abort;
 use std::test::Fail;
 
 // Three hundred values under one hash, of which the odd ones go and the others are halved.
-fn keeps_the_even(rt: &impl Abort, mut table: Table) -> Result<(), AllocError> {
+fn keeps_the_even(rt: &impl Abort, table: &mut Table) -> Result<(), AllocError> {
     for value in 0..300 {
         assert!(rt; table.add(7, value)?);
     }
@@ -27,13 +27,13 @@ fn keeps_the_even(rt: &impl Abort, mut table: Table) -> Result<(), AllocError> {
 
 #[test]
 fn asks_each_once_up_to_the_match(rt: HostRuntime) -> Result<(), Fail> {
-    keeps_the_even(&rt, Table::linear(rt.alloc()))?;
-    keeps_the_even(&rt, Table::open(rt.alloc()))?;
+    keeps_the_even(&rt, &mut Table::linear(rt.alloc()))?;
+    keeps_the_even(&rt, &mut Table::open(rt.alloc()))?;
     Ok(())
 }
 
 // The look-up ends at the ask that is answered true, and hits the value that was asked there.
-fn hits_the_second(rt: &impl Abort, mut table: Table) -> Result<(), AllocError> {
+fn hits_the_second(rt: &impl Abort, table: &mut Table) -> Result<(), AllocError> {
     for value in 1..4 {
         assert!(rt; table.add(7, value)?);
     }
@@ -46,7 +46,7 @@ fn hits_the_second(rt: &impl Abort, mut table: Table) -> Result<(), AllocError> 
 
 #[test]
 fn hits_the_value_that_was_accepted(rt: HostRuntime) -> Result<(), Fail> {
-    hits_the_second(&rt, Table::linear(rt.alloc()))?;
-    hits_the_second(&rt, Table::open(rt.alloc()))?;
+    hits_the_second(&rt, &mut Table::linear(rt.alloc()))?;
+    hits_the_second(&rt, &mut Table::open(rt.alloc()))?;
     Ok(())
 }

@@ -111,7 +111,7 @@ impl Table {
 }
 
 // Of (7, 0), (7, 1) and (9, 0) the values other than 1 stay; then 1 is entered again, and 0 is taken.
-fn enters(rt: &impl Abort, mut table: Table) -> Result<(), AllocError> {
+fn enters(rt: &impl Abort, table: &mut Table) -> Result<(), AllocError> {
     for (hash, value) in [(7, 0), (7, 1), (9, 0)] {
         assert!(rt; table.enter(hash, value)?);
         assert!(rt; !table.enter(hash, value)?);
@@ -129,13 +129,13 @@ fn enters(rt: &impl Abort, mut table: Table) -> Result<(), AllocError> {
 
 #[test]
 fn an_entry_is_filled_taken_or_let_go(rt: HostRuntime) -> Result<(), Fail> {
-    enters(&rt, Table::linear(rt.alloc()))?;
-    enters(&rt, Table::open(rt.alloc()))?;
+    enters(&rt, &mut Table::linear(rt.alloc()))?;
+    enters(&rt, &mut Table::open(rt.alloc()))?;
     Ok(())
 }
 
 // A vacant entry has its room, so that the insert after it takes no memory.
-fn has_room(rt: &impl Abort, mut table: Table) -> Result<(), AllocError> {
+fn has_room(rt: &impl Abort, table: &mut Table) -> Result<(), AllocError> {
     for value in 0..200u32 {
         assert!(rt; !table.look(3, value)? && table.room() > 0, "at {value}");
         let room = table.room();
@@ -150,7 +150,7 @@ fn has_room(rt: &impl Abort, mut table: Table) -> Result<(), AllocError> {
 
 #[test]
 fn a_vacant_entry_has_its_room(rt: HostRuntime) -> Result<(), Fail> {
-    has_room(&rt, Table::linear(rt.alloc()))?;
-    has_room(&rt, Table::open(rt.alloc()))?;
+    has_room(&rt, &mut Table::linear(rt.alloc()))?;
+    has_room(&rt, &mut Table::open(rt.alloc()))?;
     Ok(())
 }

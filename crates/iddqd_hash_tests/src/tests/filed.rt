@@ -13,6 +13,7 @@ use iddqd::map_hash::Same;
 use iddqd_hash::hash_table::MapHashTable;
 use std::alloc::{AllocError, Global};
 use std::hash::BuildHasher;
+use std::process::Abort;
 use std::test::Fail;
 
 // An index for each key, under the hash of the key.
@@ -75,32 +76,42 @@ fn find_held<S: BuildHasher>(
     )
 }
 
+// Indexes under a constant hasher are told apart by their keys alone, and removed one by one.
+fn removes_one(rt: &impl Abort, table: &mut MapHashTable) {
+    assert!(rt; answer_each(table, 7, false) == (false, 3));
+    assert!(rt; answer_each(table, 7, true) == (true, 1));
+    assert!(rt; answer_each(table, 8, true) == (false, 0));
+    assert!(rt; remove_filed(table, 7, ItemIndex::new(1)));
+    assert!(rt; !remove_filed(table, 7, ItemIndex::new(1)));
+    assert!(rt; table.len() == 2);
+    assert!(rt; answer_each(table, 7, false) == (false, 2));
+}
+
 #[test]
-fn finds_indexes_under_a_constant_hasher(rt: HostRuntime) -> Result<(), Fail> {
-    let keys = [10, 20, 30];
-    let mut table = file_all(rt.alloc(), &Constant, &keys)?;
-    assert!(rt; table.len() == 3);
+fn a_constant_hasher_files_all_under_one_hash(rt: HostRuntime) {
+    let table = MapHashTable::new(rt.alloc());
     let hash = table.compute_hash(&Constant, 1u32);
     assert!(rt; hash.hash() == 7 && hash.is_same_hash(&Constant, 2u32));
-    assert!(rt; find_number(&table, &Constant, &keys, 20) == Some(ItemIndex::new(1)));
-    assert!(rt; find_number(&table, &Constant, &keys, 40).is_none());
-    assert!(rt; answer_each(&mut table, 7, false) == (false, 3));
-    assert!(rt; answer_each(&mut table, 7, true) == (true, 1));
-    assert!(rt; answer_each(&mut table, 8, true) == (false, 0));
-    assert!(rt; remove_filed(&mut table, 7, ItemIndex::new(1)));
-    assert!(rt; !remove_filed(&mut table, 7, ItemIndex::new(1)));
-    assert!(rt; table.len() == 2);
-    assert!(rt; answer_each(&mut table, 7, false) == (false, 2));
+}
+
+#[test]
+fn finds_indexes_under_a_constant_hasher(rt: HostRuntime) -> Result<(), Fail> {
+    let keys = [10, 20, 30].as_slice();
+    let mut table = file_all(rt.alloc(), &Constant, keys)?;
+    assert!(rt; table.len() == 3);
+    assert!(rt; find_number(&table, &Constant, keys, 20) == Some(ItemIndex::new(1)));
+    assert!(rt; find_number(&table, &Constant, keys, 40).is_none());
+    removes_one(&rt, &mut table);
     Ok(())
 }
 
 #[test]
 fn finds_by_a_query_of_another_type(rt: HostRuntime) -> Result<(), Fail> {
-    let keys = [10, 20, 30];
+    let keys = [10, 20, 30].as_slice();
     let state = DefaultHashBuilder::default();
-    let table = file_all(rt.alloc(), &state, &keys)?;
-    let held = find_held(&table, &state, &keys, 30);
-    assert!(rt; held.is_some() && held == find_number(&table, &state, &keys, 30));
-    assert!(rt; find_held(&table, &state, &keys, 40).is_none());
+    let table = file_all(rt.alloc(), &state, keys)?;
+    let held = find_held(&table, &state, keys, 30);
+    assert!(rt; held.is_some() && held == find_number(&table, &state, keys, 30));
+    assert!(rt; find_held(&table, &state, keys, 40).is_none());
     Ok(())
 }

@@ -5,7 +5,7 @@ use std::process::Abort;
 use std::test::Fail;
 
 // Hashes that differ in high bits alone, the least and the greatest among them.
-fn finds_the_others(rt: &impl Abort, mut table: Table) -> Result<(), AllocError> {
+fn finds_the_others(rt: &impl Abort, table: &mut Table) -> Result<(), AllocError> {
     let hashes = [0, 1, 17, 33, 4294967297, 18446744073709551615];
     for hash in hashes {
         assert!(rt; table.add(hash, 5)?);
@@ -23,13 +23,13 @@ fn finds_the_others(rt: &impl Abort, mut table: Table) -> Result<(), AllocError>
 
 #[test]
 fn others_are_found_after_a_removal(rt: HostRuntime) -> Result<(), Fail> {
-    finds_the_others(&rt, Table::linear(rt.alloc()))?;
-    finds_the_others(&rt, Table::open(rt.alloc()))?;
+    finds_the_others(&rt, &mut Table::linear(rt.alloc()))?;
+    finds_the_others(&rt, &mut Table::open(rt.alloc()))?;
     Ok(())
 }
 
 // A value is found under its own hash alone.
-fn finds_by_hash(rt: &impl Abort, mut table: Table) -> Result<(), AllocError> {
+fn finds_by_hash(rt: &impl Abort, table: &mut Table) -> Result<(), AllocError> {
     for (hash, value) in [(7, 0), (7, 1), (9, 2)] {
         assert!(rt; table.add(hash, value)?);
     }
@@ -43,7 +43,7 @@ fn finds_by_hash(rt: &impl Abort, mut table: Table) -> Result<(), AllocError> {
 
 #[test]
 fn finds_by_hash_and_value(rt: HostRuntime) -> Result<(), Fail> {
-    finds_by_hash(&rt, Table::linear(rt.alloc()))?;
-    finds_by_hash(&rt, Table::open(rt.alloc()))?;
+    finds_by_hash(&rt, &mut Table::linear(rt.alloc()))?;
+    finds_by_hash(&rt, &mut Table::open(rt.alloc()))?;
     Ok(())
 }

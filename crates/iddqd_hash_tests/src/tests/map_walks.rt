@@ -21,11 +21,7 @@ pub(crate) fn keep_odd(table: &mut MapHashTable) -> (u32, u32) {
 
 // The numbers of the indexes, in rising order. Before each step the walk tells how many are left, and once ended it
 // stays ended.
-pub(crate) fn numbers(
-    rt: &impl Abort,
-    alloc: Global,
-    table: &MapHashTable,
-) -> Result<Vec<u32>, AllocError> {
+fn numbers(rt: &impl Abort, alloc: Global, table: &MapHashTable) -> Result<Vec<u32>, AllocError> {
     let mut walk = table.indexes();
     let count = table.len();
     let mut numbers = Vec::new(alloc);
@@ -41,17 +37,27 @@ pub(crate) fn numbers(
     Ok(numbers)
 }
 
+// Whether exactly these indexes are filed; they are in rising order.
+pub(crate) fn has_numbers(
+    rt: &impl Abort,
+    alloc: Global,
+    table: &MapHashTable,
+    wanted: &[u32],
+) -> Result<bool, AllocError> {
+    Ok(numbers(rt, alloc, table)?.as_slice() == wanted)
+}
+
 #[test]
 fn a_walk_gives_each_index_once(rt: HostRuntime) -> Result<(), Fail> {
-    let keys = [10, 20, 30, 40];
-    let mut table = file_all(rt.alloc(), &DefaultHashBuilder::default(), &keys)?;
-    assert!(rt; numbers(&rt, rt.alloc(), &table)?.as_slice() == [0, 1, 2, 3].as_slice());
+    let state = DefaultHashBuilder::default();
+    let mut table = file_all(rt.alloc(), &state, &[10, 20, 30, 40])?;
+    assert!(rt; has_numbers(&rt, rt.alloc(), &table, &[0, 1, 2, 3])?);
     for number in 0..6 {
         let is_filed = table.contains_index(ItemIndex::new(number));
         assert!(rt; is_filed == (number < 4), "at {number}");
     }
     assert!(rt; keep_odd(&mut table) == (4, 6));
-    assert!(rt; numbers(&rt, rt.alloc(), &table)?.as_slice() == [1, 3].as_slice());
+    assert!(rt; has_numbers(&rt, rt.alloc(), &table, &[1, 3])?);
     assert!(rt; !table.contains_index(ItemIndex::new(0)));
     Ok(())
 }

@@ -39,55 +39,55 @@ pub(crate) fn add_next(rt: &impl Abort, table: &mut Table, taken: u32) -> u32 {
     }
 }
 
-fn goes_on(rt: &impl Abort, mut table: Table) {
+fn goes_on(rt: &impl Abort, table: &mut Table) {
     let mut taken = 0;
     for _ in 0..150 {
-        taken = add_next(rt, &mut table, taken);
-        assert_holds(rt, &table, 0, taken);
+        taken = add_next(rt, table, taken);
+        assert_holds(rt, table, 0, taken);
     }
     for value in 0..taken {
         assert!(rt; table.remove(hash_of(value), value), "at {value}");
-        assert_holds(rt, &table, value.saturating_add(1), taken);
+        assert_holds(rt, table, value.saturating_add(1), taken);
     }
     let removed = taken;
     for _ in 0..20 {
-        taken = add_next(rt, &mut table, taken);
-        assert_holds(rt, &table, removed, taken);
+        taken = add_next(rt, table, taken);
+        assert_holds(rt, table, removed, taken);
     }
 }
 
 #[test]
 fn a_refused_growth_keeps_the_contents(rt: HostRuntime) {
-    goes_on(&rt, Table::linear(rt.alloc()));
-    goes_on(&rt, Table::open(rt.alloc()));
+    goes_on(&rt, &mut Table::linear(rt.alloc()));
+    goes_on(&rt, &mut Table::open(rt.alloc()));
 }
 
 // Whether or not memory is refused, the table has what it had.
-fn reserves(rt: &impl Abort, mut table: Table) {
-    let taken = add_next(rt, &mut table, 0);
+fn reserves(rt: &impl Abort, table: &mut Table) {
+    let taken = add_next(rt, table, 0);
     let reserved = table.reserve(50).is_ok();
     assert!(rt; !reserved || table.room() >= 50);
-    assert_holds(rt, &table, 0, taken);
+    assert_holds(rt, table, 0, taken);
 }
 
 #[test]
 fn a_refused_reserve_keeps_the_contents(rt: HostRuntime) {
-    reserves(&rt, Table::linear(rt.alloc()));
-    reserves(&rt, Table::open(rt.alloc()));
+    reserves(&rt, &mut Table::linear(rt.alloc()));
+    reserves(&rt, &mut Table::open(rt.alloc()));
 }
 
-fn refuses_all(rt: &impl Abort, mut table: Table) {
-    let taken = add_next(rt, &mut table, 0);
+fn refuses_all(rt: &impl Abort, table: &mut Table) {
+    let taken = add_next(rt, table, 0);
     let room = table.room();
     assert!(rt; table.reserve(18446744073709551615) == Err(AllocError));
     assert!(rt; table.room() == room);
-    assert_holds(rt, &table, 0, taken);
+    assert_holds(rt, table, 0, taken);
 }
 
 #[test]
 fn refuses_what_no_vector_can_hold(rt: HostRuntime) {
-    refuses_all(&rt, Table::linear(rt.alloc()));
-    refuses_all(&rt, Table::open(rt.alloc()));
+    refuses_all(&rt, &mut Table::linear(rt.alloc()));
+    refuses_all(&rt, &mut Table::open(rt.alloc()));
 }
 
 #[test]

@@ -9,7 +9,7 @@ use iddqd_hash::hash_table::MapHashTable;
 use std::alloc::AllocError;
 use std::process::Abort;
 
-fn enters(rt: &impl Abort, mut table: Table) {
+fn enters(rt: &impl Abort, table: &mut Table) {
     let mut taken = 0;
     for _ in 0..40 {
         let room = table.room();
@@ -20,41 +20,41 @@ fn enters(rt: &impl Abort, mut table: Table) {
             }
             Err(AllocError) => assert!(rt; room == 0 && table.room() == 0, "at {taken}"),
         }
-        assert_holds(rt, &table, 0, taken);
+        assert_holds(rt, table, 0, taken);
     }
 }
 
 #[test]
 fn a_refused_entry_keeps_the_contents(rt: HostRuntime) {
-    enters(&rt, Table::linear(rt.alloc()));
-    enters(&rt, Table::open(rt.alloc()));
+    enters(&rt, &mut Table::linear(rt.alloc()));
+    enters(&rt, &mut Table::open(rt.alloc()));
 }
 
 // A copy, and then each call that gives back memory, or takes it.
-fn copies_and_shrinks(rt: &impl Abort, mut table: Table) {
+fn copies_and_shrinks(rt: &impl Abort, table: &mut Table) {
     let mut taken = 0;
     for _ in 0..20 {
-        taken = add_next(rt, &mut table, taken);
+        taken = add_next(rt, table, taken);
     }
     if let Ok(copy) = table.copy() {
         assert_holds(rt, &copy, 0, taken);
     }
     let reserved = table.reserve_all(100).is_ok();
     assert!(rt; !reserved || table.room() >= 100);
-    assert_holds(rt, &table, 0, taken);
+    assert_holds(rt, table, 0, taken);
     let room = table.room();
     let shrunk = table.shrink_to(40).is_ok();
     assert!(rt; table.room() >= room.min(20));
     assert!(rt; !shrunk || table.room() < 100);
-    assert_holds(rt, &table, 0, taken);
+    assert_holds(rt, table, 0, taken);
     let _ = table.shrink_to_fit();
-    assert_holds(rt, &table, 0, taken);
+    assert_holds(rt, table, 0, taken);
 }
 
 #[test]
 fn refused_copies_and_sizes_keep_the_contents(rt: HostRuntime) {
-    copies_and_shrinks(&rt, Table::linear(rt.alloc()));
-    copies_and_shrinks(&rt, Table::open(rt.alloc()));
+    copies_and_shrinks(&rt, &mut Table::linear(rt.alloc()));
+    copies_and_shrinks(&rt, &mut Table::open(rt.alloc()));
 }
 
 #[test]

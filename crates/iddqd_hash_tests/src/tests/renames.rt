@@ -9,6 +9,7 @@ use iddqd::item_index::ItemIndex;
 use iddqd::map_hash::MapHash;
 use iddqd_hash::hash_table::MapHashTable;
 use std::alloc::{AllocError, Global};
+use std::process::Abort;
 use std::test::Fail;
 
 // Files the indexes 0, 2 and 4, the first and the last under one hash.
@@ -51,20 +52,32 @@ fn keep_names(table: &mut MapHashTable)
 }
 
 #[test]
-fn gives_each_index_its_new_name(rt: HostRuntime) -> Result<(), Fail> {
+fn keeps_each_name_under_the_identity(rt: HostRuntime) -> Result<(), Fail> {
     let mut table = file_even(rt.alloc())?;
     let room = table.room();
     keep_names(&mut table);
     assert!(rt; table.len() == 3 && table.room() == room);
     assert!(rt; remove_filed(&mut table, 20, ItemIndex::new(2)));
+    Ok(())
+}
+
+// Each index has its new name under its hash, and none its old one.
+fn assert_renamed(rt: &impl Abort, table: &mut MapHashTable) {
+    for (hash, old) in [(10, 4), (20, 2)] {
+        assert!(rt; !remove_filed(table, hash, ItemIndex::new(old)), "at {old}");
+    }
+    for (hash, new) in [(10, 0), (20, 1), (10, 2)] {
+        assert!(rt; remove_filed(table, hash, ItemIndex::new(new)), "at {new}");
+    }
+}
+
+#[test]
+fn gives_each_index_its_new_name(rt: HostRuntime) -> Result<(), Fail> {
     let mut table = file_even(rt.alloc())?;
+    let room = table.room();
     close_gaps(rt.alloc(), &mut table)?;
     assert!(rt; table.len() == 3 && table.room() == room);
-    assert!(rt; !remove_filed(&mut table, 10, ItemIndex::new(4)));
-    assert!(rt; !remove_filed(&mut table, 20, ItemIndex::new(2)));
-    assert!(rt; remove_filed(&mut table, 10, ItemIndex::new(0)));
-    assert!(rt; remove_filed(&mut table, 20, ItemIndex::new(1)));
-    assert!(rt; remove_filed(&mut table, 10, ItemIndex::new(2)));
+    assert_renamed(&rt, &mut table);
     assert!(rt; table.len() == 0);
     Ok(())
 }

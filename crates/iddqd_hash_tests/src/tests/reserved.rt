@@ -5,7 +5,7 @@ use std::process::Abort;
 use std::test::Fail;
 
 // Reserved room serves so many inserts, whatever is removed between them.
-fn keeps_reserved_room(rt: &impl Abort, mut table: Table) -> Result<(), AllocError> {
+fn keeps_reserved_room(rt: &impl Abort, table: &mut Table) -> Result<(), AllocError> {
     assert!(rt; table.room() == 0);
     table.reserve(64)?;
     for value in 0..64u32 {
@@ -26,13 +26,13 @@ fn keeps_reserved_room(rt: &impl Abort, mut table: Table) -> Result<(), AllocErr
 
 #[test]
 fn keeps_room_for_what_was_reserved(rt: HostRuntime) -> Result<(), Fail> {
-    keeps_reserved_room(&rt, Table::linear(rt.alloc()))?;
-    keeps_reserved_room(&rt, Table::open(rt.alloc()))?;
+    keeps_reserved_room(&rt, &mut Table::linear(rt.alloc()))?;
+    keeps_reserved_room(&rt, &mut Table::open(rt.alloc()))?;
     Ok(())
 }
 
 // One pair that is put in and taken out again never makes the table larger, whatever room it began with.
-fn churns(rt: &impl Abort, mut table: Table) -> Result<(), AllocError> {
+fn churns(rt: &impl Abort, table: &mut Table) -> Result<(), AllocError> {
     table.reserve(1)?;
     let room = table.room();
     for call in 0..10000u32 {
@@ -46,8 +46,8 @@ fn churns(rt: &impl Abort, mut table: Table) -> Result<(), AllocError> {
 
 #[test]
 fn one_pair_in_and_out_takes_no_more_cells(rt: HostRuntime) -> Result<(), Fail> {
-    churns(&rt, Table::open_for(rt.alloc(), 14)?)?;
-    churns(&rt, Table::open_for(rt.alloc(), 28)?)?;
-    churns(&rt, Table::open_for(rt.alloc(), 56)?)?;
+    churns(&rt, &mut Table::open_for(rt.alloc(), 14)?)?;
+    churns(&rt, &mut Table::open_for(rt.alloc(), 28)?)?;
+    churns(&rt, &mut Table::open_for(rt.alloc(), 56)?)?;
     Ok(())
 }

@@ -5,7 +5,7 @@ use std::process::Abort;
 use std::test::Fail;
 
 // Each value is rewritten once, and stands afterwards under the hash that it had.
-fn halves_each(rt: &impl Abort, mut table: Table) -> Result<(), AllocError> {
+fn halves_each(rt: &impl Abort, table: &mut Table) -> Result<(), AllocError> {
     assert!(rt; table.halve() == 0);
     assert!(rt; table.len() == 0);
     for value in [10, 11, 40, 41] {
@@ -22,7 +22,7 @@ fn halves_each(rt: &impl Abort, mut table: Table) -> Result<(), AllocError> {
 
 #[test]
 fn rewrites_each_value_under_its_hash(rt: HostRuntime) -> Result<(), Fail> {
-    halves_each(&rt, Table::linear(rt.alloc()))?;
-    halves_each(&rt, Table::open(rt.alloc()))?;
+    halves_each(&rt, &mut Table::linear(rt.alloc()))?;
+    halves_each(&rt, &mut Table::open(rt.alloc()))?;
     Ok(())
 }

@@ -39,7 +39,7 @@ impl Table {
 }
 
 // Room for sixteen, of which three are used and eight are kept.
-fn shrinks(rt: &impl Abort, alloc: Global, mut table: Table) -> Result<(), AllocError> {
+fn keeps_eight(rt: &impl Abort, alloc: Global, table: &mut Table) -> Result<(), AllocError> {
     assert!(rt; table.len() == 0 && table.room() >= 16);
     for value in 0..3 {
         assert!(rt; table.insert(1, value));
@@ -47,21 +47,31 @@ fn shrinks(rt: &impl Abort, alloc: Global, mut table: Table) -> Result<(), Alloc
     table.shrink_to(8)?;
     assert!(rt; table.room() >= 5 && table.len() == 3);
     table.shrink_to_fit()?;
-    assert!(rt; table.values(rt, alloc)?.as_slice() == [0, 1, 2].as_slice());
+    assert!(rt; table.has_values(rt, alloc, &[0, 1, 2])?);
     let room = table.room();
     table.shrink_to(18446744073709551615)?;
     assert!(rt; table.room() == room && table.find(1, 2).0);
+    Ok(())
+}
+
+// Takes room for a hundred more, of which the first hundred go again.
+fn trade_a_hundred(rt: &impl Abort, table: &mut Table) -> Result<(), AllocError> {
     table.reserve_all(100)?;
     assert!(rt; table.room() >= 100);
-    for value in 3..103 {
+    for value in 3..103u32 {
+        let gone = value.wrapping_sub(3);
+        let hash = if gone < 3 { 1 } else { gone as u64 % 9 };
         assert!(rt; table.insert(value as u64 % 9, value));
+        assert!(rt; table.remove(hash, gone));
     }
-    for value in 0..100 {
-        assert!(rt; table.remove(if value < 3 { 1 } else { value as u64 % 9 }, value));
-    }
-    table.shrink_to_fit()?;
+    table.shrink_to_fit()
+}
+
+fn shrinks(rt: &impl Abort, alloc: Global, table: &mut Table) -> Result<(), AllocError> {
+    keeps_eight(rt, alloc, table)?;
+    trade_a_hundred(rt, table)?;
     assert!(rt; table.room() < 16);
-    assert!(rt; table.values(rt, alloc)?.as_slice() == [100, 101, 102].as_slice());
+    assert!(rt; table.has_values(rt, alloc, &[100, 101, 102])?);
     table.clear();
     table.shrink_to_fit()?;
     assert!(rt; table.room() == 0 && table.len() == 0);
@@ -71,8 +81,8 @@ fn shrinks(rt: &impl Abort, alloc: Global, mut table: Table) -> Result<(), Alloc
 
 #[test]
 fn a_table_shrinks_to_what_it_needs(rt: HostRuntime) -> Result<(), Fail> {
-    shrinks(&rt, rt.alloc(), Table::linear_for(rt.alloc(), 16)?)?;
-    shrinks(&rt, rt.alloc(), Table::open_for(rt.alloc(), 16)?)?;
+    shrinks(&rt, rt.alloc(), &mut Table::linear_for(rt.alloc(), 16)?)?;
+    shrinks(&rt, rt.alloc(), &mut Table::open_for(rt.alloc(), 16)?)?;
     Ok(())
 }
 

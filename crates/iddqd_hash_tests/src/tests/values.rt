@@ -56,32 +56,64 @@ impl Table {
             Table::Open(table) => walked_open(rt, alloc, table),
         }
     }
+
+    // Whether exactly these values stand in the table; they are in rising order.
+    pub(crate) fn has_values(
+        &self,
+        rt: &impl Abort,
+        alloc: Global,
+        values: &[u32],
+    ) -> Result<bool, AllocError> {
+        Ok(self.values(rt, alloc)?.as_slice() == values)
+    }
+
+    // Whether another table has the same values.
+    pub(crate) fn has_values_of(
+        &self,
+        rt: &impl Abort,
+        alloc: Global,
+        other: &Table,
+    ) -> Result<bool, AllocError> {
+        let values = other.values(rt, alloc)?;
+        self.has_values(rt, alloc, values.as_slice())
+    }
 }
 
-// Values that are added and removed under few hashes, and others under many.
-fn walks(rt: &impl Abort, alloc: Global, mut table: Table) -> Result<(), AllocError> {
-    assert!(rt; table.values(rt, alloc)?.is_empty());
+// Adds the values below 100, under few hashes, and removes the multiples of five.
+fn fill(rt: &impl Abort, table: &mut Table) -> Result<(), AllocError> {
     for value in 0..100u32 {
         let hash = ((value % 3) as u64).wrapping_mul(0x4000_0000_0000_0005);
         assert!(rt; table.add(hash, value)?);
         assert!(rt; value % 5 > 0 || table.remove(hash, value));
     }
-    let values = table.values(rt, alloc)?;
-    assert!(rt; values.len() == 80);
-    for place in 0..80usize {
-        assert!(rt;
-            values[place] as usize == place / 4 * 5 + place % 4 + 1,
-            "at {place}"
-        );
+    Ok(())
+}
+
+// Whether the values are those below 100 that five doesn't divide.
+fn are_left(values: &[u32]) -> bool {
+    if values.len() != 80 {
+        return false;
     }
+    for place in 0..80usize {
+        if values[place] as usize != place / 4 * 5 + place % 4 + 1 {
+            return false;
+        }
+    }
+    true
+}
+
+fn walks(rt: &impl Abort, alloc: Global, table: &mut Table) -> Result<(), AllocError> {
+    assert!(rt; table.has_values(rt, alloc, &[])?);
+    fill(rt, table)?;
+    assert!(rt; are_left(table.values(rt, alloc)?.as_slice()));
     table.clear();
-    assert!(rt; table.values(rt, alloc)?.is_empty());
+    assert!(rt; table.has_values(rt, alloc, &[])?);
     Ok(())
 }
 
 #[test]
 fn a_walk_gives_each_value_once(rt: HostRuntime) -> Result<(), Fail> {
-    walks(&rt, rt.alloc(), Table::linear(rt.alloc()))?;
-    walks(&rt, rt.alloc(), Table::open(rt.alloc()))?;
+    walks(&rt, rt.alloc(), &mut Table::linear(rt.alloc()))?;
+    walks(&rt, rt.alloc(), &mut Table::open(rt.alloc()))?;
     Ok(())
 }
