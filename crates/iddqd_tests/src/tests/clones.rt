@@ -15,18 +15,23 @@ fn copy_of(set: &ItemSet<u32>) -> Result<ItemSet<u32>, AllocError>
     Ok(copy)
 }
 
+// A copy gives out its vacant slots as its source would.
+fn fill_copy(rt: &impl Abort, copy: &mut ItemSet<u32>) -> Result<(), GrowError> {
+    assert_eq!(rt; copy.len(), 2);
+    expect_items(rt, copy, &[Some(0), None, None, Some(3)]);
+    insert_at(rt, copy, 5, 2)?;
+    insert_at(rt, copy, 6, 1)?;
+    insert_at(rt, copy, 7, 4)?;
+    expect_items(rt, copy, &[Some(0), Some(6), Some(5), Some(3), Some(7)]);
+    Ok(())
+}
+
 #[test]
 fn a_copy_has_the_items_and_the_chain(rt: HostRuntime) -> Result<(), Fail> {
     let mut set = with_items(&rt, rt.alloc(), &[0, 1, 2, 3])?;
     remove(&rt, &mut set, 1, 1);
     remove(&rt, &mut set, 2, 2);
-    let mut copy = copy_of(&set)?;
-    assert_eq!(rt; copy.len(), 2);
-    expect_items(&rt, &copy, &[Some(0), None, None, Some(3)]);
-    insert_at(&rt, &mut copy, 5, 2)?;
-    insert_at(&rt, &mut copy, 6, 1)?;
-    insert_at(&rt, &mut copy, 7, 4)?;
-    expect_items(&rt, &copy, &[Some(0), Some(6), Some(5), Some(3), Some(7)]);
+    fill_copy(&rt, &mut copy_of(&set)?)?;
     expect_items(&rt, &set, &[Some(0), None, None, Some(3)]);
     assert_eq!(rt; ItemSet::<u32>::new(rt.alloc()).clone()?.slot_count(), 0);
     Ok(())

@@ -4,6 +4,7 @@ use super::{
 };
 use iddqd::item_index::ItemIndex;
 use iddqd::item_set::{IndexRemap, ItemSet};
+use std::alloc::AllocError;
 use std::process::Abort;
 use std::test::Fail;
 
@@ -14,6 +15,27 @@ fn expect_names(rt: &impl Abort, remap: &IndexRemap, want: &[ItemIndex]) {
         panic!(rt; "no list of names");
     };
     assert_eq!(rt; names.as_slice(), want);
+}
+
+// Compacts the set, which is to give these names.
+pub(super) fn expect_compact(
+    rt: &impl Abort,
+    set: &mut ItemSet<u32>,
+    want: &[ItemIndex],
+) -> Result<(), AllocError> {
+    let remap = set.compact()?;
+    assert!(rt; !remap.is_identity());
+    expect_names(rt, &remap, want);
+    Ok(())
+}
+
+// Compacts the set, in which no slot is vacant.
+pub(super) fn expect_identity(rt: &impl Abort, set: &mut ItemSet<u32>) -> Result<(), AllocError> {
+    let remap = set.compact()?;
+    assert!(rt; remap.is_identity());
+    expect_name(rt, &remap, 0, Some(0));
+    expect_name(rt, &remap, 3, Some(3));
+    Ok(())
 }
 
 fn new_name(remap: &IndexRemap, old: u32) -> Option<ItemIndex> {
@@ -28,9 +50,7 @@ fn new_name(remap: &IndexRemap, old: u32) -> Option<ItemIndex> {
 #[test]
 fn items_move_down_in_their_order(rt: HostRuntime) -> Result<(), Fail> {
     let mut set = with_gaps(&rt, rt.alloc(), 5, &[1, 3])?;
-    let remap = set.compact()?;
-    assert!(rt; !remap.is_identity());
-    expect_names(&rt, &remap, &[ix(0), S, ix(1), S, ix(2)]);
+    expect_compact(&rt, &mut set, &[ix(0), S, ix(1), S, ix(2)])?;
     expect_items(&rt, &set, &[Some(0), Some(20), Some(40)]);
     insert_at(&rt, &mut set, 50, 3)?;
     Ok(())
@@ -38,13 +58,9 @@ fn items_move_down_in_their_order(rt: HostRuntime) -> Result<(), Fail> {
 
 #[test]
 fn without_gaps_every_index_keeps_its_name(rt: HostRuntime) -> Result<(), Fail> {
-    let mut none = ItemSet::<u32>::new(rt.alloc());
-    assert!(rt; none.compact()?.is_identity());
+    expect_identity(&rt, &mut ItemSet::new(rt.alloc()))?;
     let mut set = with_items(&rt, rt.alloc(), &[0, 1, 2, 3])?;
-    let remap = set.compact()?;
-    assert!(rt; remap.is_identity());
-    expect_name(&rt, &remap, 0, Some(0));
-    expect_name(&rt, &remap, 3, Some(3));
+    expect_identity(&rt, &mut set)?;
     expect_items(&rt, &set, &[Some(0), Some(1), Some(2), Some(3)]);
     Ok(())
 }
@@ -53,17 +69,21 @@ fn expect_name(rt: &impl Abort, remap: &IndexRemap, old: u32, want: Option<u32>)
     assert_eq!(rt; new_name(remap, old), want.map(ix), "at {old}");
 }
 
+// The names after a compaction of five slots, of which 1, 3 and 4 were vacant.
+fn expect_two_names(rt: &impl Abort, remap: &IndexRemap) {
+    expect_names(rt, remap, &[ix(0), S, ix(1), S, S]);
+    expect_name(rt, remap, 0, Some(0));
+    expect_name(rt, remap, 1, None);
+    expect_name(rt, remap, 2, Some(1));
+    expect_name(rt, remap, 4, None);
+    expect_name(rt, remap, 9, None);
+    expect_name(rt, remap, 4294967295, None);
+}
+
 #[test]
 fn an_index_that_was_not_live_has_no_new_name(rt: HostRuntime) -> Result<(), Fail> {
     let mut set = with_gaps(&rt, rt.alloc(), 5, &[1, 3, 4])?;
-    let remap = set.compact()?;
-    expect_names(&rt, &remap, &[ix(0), S, ix(1), S, S]);
-    expect_name(&rt, &remap, 0, Some(0));
-    expect_name(&rt, &remap, 1, None);
-    expect_name(&rt, &remap, 2, Some(1));
-    expect_name(&rt, &remap, 4, None);
-    expect_name(&rt, &remap, 9, None);
-    expect_name(&rt, &remap, 4294967295, None);
+    expect_two_names(&rt, &set.compact()?);
     Ok(())
 }
 
@@ -72,12 +92,10 @@ fn a_set_of_gaps_becomes_empty(rt: HostRuntime) -> Result<(), Fail> {
     let mut set = with_items(&rt, rt.alloc(), &[7, 8])?;
     remove(&rt, &mut set, 0, 7);
     remove(&rt, &mut set, 1, 8);
-    let remap = set.compact()?;
-    expect_names(&rt, &remap, &[S, S]);
+    expect_compact(&rt, &mut set, &[S, S])?;
     expect_items(&rt, &set, &[]);
     insert_at(&rt, &mut set, 9, 0)?;
-    let again = set.compact()?;
-    assert!(rt; again.is_identity());
+    assert!(rt; set.compact()?.is_identity());
     Ok(())
 }
 
@@ -96,21 +114,36 @@ fn expect_ranks(rt: &impl Abort, set: &ItemSet<u32>, remap: &IndexRemap, gaps: u
     rank
 }
 
+fn compact_to_ranks(rt: &impl Abort, set: &mut ItemSet<u32>, gaps: u32) -> Result<(), AllocError> {
+    let room = set.room();
+    let remap = set.compact()?;
+    assert_eq!(rt; remap.is_identity(), gaps == 0);
+    expect_room(rt, set, room);
+    let live = expect_ranks(rt, set, &remap, gaps) as usize;
+    assert_eq!(rt; (set.len(), set.slot_count()), (live, live));
+    Ok(())
+}
+
 #[test]
 fn every_choice_of_gaps_gives_the_ranks(rt: HostRuntime) -> Result<(), Fail> {
     for gaps in 0..64u32 {
-        let mut set = gapped(&rt, rt.alloc(), 6, gaps)?;
-        let room = set.room();
-        let remap = set.compact()?;
-        assert_eq!(rt; remap.is_identity(), gaps == 0);
-        expect_room(&rt, &set, room);
-        let live = expect_ranks(&rt, &set, &remap, gaps);
-        assert_eq!(rt;
-            (set.len(), set.slot_count()),
-            (live as usize, live as usize)
-        );
+        compact_to_ranks(&rt, &mut gapped(&rt, rt.alloc(), 6, gaps)?, gaps)?;
     }
     Ok(())
+}
+
+// Compacts six slots, of which two are vacant, and tells whether memory was there. A refusal changes nothing.
+fn try_compact(rt: &impl Abort, set: &mut ItemSet<u32>) -> bool {
+    let room = set.room();
+    let is_done = expect_compact(rt, set, &[ix(0), S, ix(1), ix(2), S, ix(3)]).is_ok();
+    if is_done {
+        expect_items(rt, set, &[Some(0), Some(20), Some(30), Some(50)]);
+    } else {
+        let before = [Some(0), None, Some(20), Some(30), None, Some(50)];
+        expect_items(rt, set, &before);
+    }
+    assert_eq!(rt; set.room(), room, "the memory stays");
+    is_done
 }
 
 #[test]
@@ -118,20 +151,9 @@ fn a_refused_compact_changes_nothing(rt: HostRuntime) {
     let Ok(mut set) = with_gaps(&rt, rt.alloc(), 6, &[1, 4]) else {
         return;
     };
-    let room = set.room();
-    let mut answer = set.compact();
-    if answer.is_err() {
-        let before = [Some(0), None, Some(20), Some(30), None, Some(50)];
-        expect_items(&rt, &set, &before);
-        assert_eq!(rt; set.room(), room);
-        answer = set.compact();
+    if !try_compact(&rt, &mut set) {
+        try_compact(&rt, &mut set);
     }
-    let Ok(remap) = answer else {
-        return;
-    };
-    expect_names(&rt, &remap, &[ix(0), S, ix(1), ix(2), S, ix(3)]);
-    expect_items(&rt, &set, &[Some(0), Some(20), Some(30), Some(50)]);
-    assert_eq!(rt; set.room(), room, "the memory stays");
 }
 
 #[test]

@@ -2,9 +2,10 @@
 ghost use Rattle.std.specs.Prelude.{◌≡◌, IfOk, OnOk};
 ghost use Rattle.iddqd.specs.Store.{IsFull};
 
+use super::compaction::{expect_compact, expect_identity};
 use super::{expect_items, expect_room, insert_at, ix, remove};
 use iddqd::item_index::ItemIndex;
-use iddqd::item_set::{GrowError, IndexRemap, ItemSet};
+use iddqd::item_set::{GrowError, ItemSet};
 use std::alloc::{AllocError, Global};
 use std::process::Abort;
 use std::test::Fail;
@@ -72,60 +73,86 @@ fn fill_up(rt: &impl Abort, set: &mut ItemSet<u32>, limit: u32) -> Result<(), Gr
     Ok(())
 }
 
+// A set that was filled up is full again after each removal with an insert.
+fn stays_full(rt: &impl Abort, set: &mut ItemSet<u32>, limit: u32) -> Result<(), GrowError> {
+    assert_eq!(rt; (set.capacity(), set.room()), (0, 0));
+    fill_up(rt, set, limit)?;
+    for at in 0..limit {
+        remove(rt, set, at, at.saturating_mul(10));
+        expect_room(rt, set, 1);
+        insert_at(rt, set, at, at)?;
+        expect_refusal(rt, set);
+    }
+    Ok(())
+}
+
 #[test]
 fn a_set_has_no_more_slots_than_its_limit(rt: HostRuntime) -> Result<(), Fail> {
     for limit in 0..5 {
-        let mut set = ItemSet::with_limit(rt.alloc(), limit);
-        assert_eq!(rt; (set.capacity(), set.room()), (0, 0));
-        fill_up(&rt, &mut set, limit)?;
-        for at in 0..limit {
-            remove(&rt, &mut set, at, at.saturating_mul(10));
-            expect_room(&rt, &set, 1);
-            insert_at(&rt, &mut set, at, at)?;
-            expect_refusal(&rt, &mut set);
-        }
+        stays_full(&rt, &mut ItemSet::with_limit(rt.alloc(), limit), limit)?;
     }
+    Ok(())
+}
+
+// Memory for nine items was there, and was taken.
+fn expect_nine(rt: &impl Abort, set: &ItemSet<u32>, is_taken: bool) {
+    assert!(rt; is_taken);
+    assert!(rt; set.capacity() >= 9);
+}
+
+fn reserves_past(rt: &impl Abort, set: &mut ItemSet<u32>, limit: u32) -> Result<(), GrowError> {
+    let is_taken = set.reserve(9).is_ok();
+    expect_nine(rt, set, is_taken);
+    expect_room(rt, set, limit as usize);
+    fill_up(rt, set, limit)?;
+    let is_taken = set.try_reserve(9).is_ok();
+    expect_nine(rt, set, is_taken);
+    expect_refusal(rt, set);
+    assert!(rt; set.shrink_capacity_to_fit().is_ok());
+    expect_refusal(rt, set);
     Ok(())
 }
 
 #[test]
 fn memory_past_the_limit_is_no_room(rt: HostRuntime) -> Result<(), Fail> {
     for limit in 0..4 {
-        let mut set = ItemSet::with_limit(rt.alloc(), limit);
-        set.reserve(9)?;
-        assert!(rt; set.capacity() >= 9);
-        expect_room(&rt, &set, limit as usize);
-        fill_up(&rt, &mut set, limit)?;
-        set.try_reserve(9)?;
-        assert!(rt; set.capacity() >= 9);
-        expect_refusal(&rt, &mut set);
-        set.shrink_capacity_to_fit()?;
-        expect_refusal(&rt, &mut set);
+        reserves_past(&rt, &mut ItemSet::with_limit(rt.alloc(), limit), limit)?;
     }
     Ok(())
 }
 
+fn compacts_at_the_limit(rt: &impl Abort, set: &mut ItemSet<u32>) -> Result<(), AllocError> {
+    remove(rt, set, 0, 0);
+    expect_compact(rt, set, &[ItemIndex::SENTINEL, ix(0)])?;
+    let is_taken = insert_at(rt, set, 30, 1).is_ok();
+    assert!(rt; is_taken, "the memory is there");
+    expect_items(rt, set, &[Some(10), Some(30)]);
+    expect_refusal(rt, set);
+    expect_identity(rt, set)?;
+    expect_refusal(rt, set);
+    Ok(())
+}
+
 #[test]
-fn clear_compact_and_clone_keep_the_limit(rt: HostRuntime) -> Result<(), Fail> {
+fn compact_keeps_the_limit(rt: HostRuntime) -> Result<(), Fail> {
     let mut set = ItemSet::with_limit(rt.alloc(), 2);
     fill_up(&rt, &mut set, 2)?;
-    remove(&rt, &mut set, 0, 0);
-    let IndexRemap::Permuted(names) = set.compact()? else {
-        panic!(rt; "no list of names");
-    };
-    let want = [ItemIndex::SENTINEL, ix(0)];
-    assert_eq!(rt; names.as_slice(), want.as_slice());
-    insert_at(&rt, &mut set, 30, 1)?;
-    expect_items(&rt, &set, &[Some(10), Some(30)]);
-    expect_refusal(&rt, &mut set);
-    assert!(rt; set.compact()?.is_identity());
-    expect_refusal(&rt, &mut set);
-    let mut copy = set.clone()?;
-    expect_refusal(&rt, &mut copy);
+    compacts_at_the_limit(&rt, &mut set)?;
+    Ok(())
+}
+
+fn refill(rt: &impl Abort, set: &mut ItemSet<u32>) -> Result<(), GrowError> {
+    expect_refusal(rt, set);
     set.clear();
+    fill_up(rt, set, 2)
+}
+
+#[test]
+fn clear_and_clone_keep_the_limit(rt: HostRuntime) -> Result<(), Fail> {
+    let mut set = ItemSet::with_limit(rt.alloc(), 2);
     fill_up(&rt, &mut set, 2)?;
-    copy.clear();
-    fill_up(&rt, &mut copy, 2)?;
+    refill(&rt, &mut set.clone()?)?;
+    refill(&rt, &mut set)?;
     Ok(())
 }
 

@@ -12,11 +12,15 @@ fn expect_next(rt: &impl Abort, set: &ItemSet<u32>, from: ItemIndex, want: Optio
 #[test]
 fn the_next_live_index_skips_vacant_slots(rt: HostRuntime) -> Result<(), Fail> {
     let set = with_gaps(&rt, rt.alloc(), 6, &[1, 3, 5])?;
-    expect_next(&rt, &set, ix(0), Some(0));
-    expect_next(&rt, &set, ix(1), Some(2));
-    expect_next(&rt, &set, ix(2), Some(2));
-    expect_next(&rt, &set, ix(5), None);
-    expect_next(&rt, &set, ix(6), None);
+    for (from, want) in [
+        (0, Some(0)),
+        (1, Some(2)),
+        (2, Some(2)),
+        (5, None),
+        (6, None),
+    ] {
+        expect_next(&rt, &set, ix(from), want);
+    }
     expect_next(&rt, &set, ItemIndex::SENTINEL, None);
     expect_next(&rt, &ItemSet::new(rt.alloc()), ix(0), None);
     Ok(())
@@ -45,9 +49,7 @@ fn every_item_is_written_by_the_next_live_index(rt: HostRuntime) -> Result<(), F
     Ok(())
 }
 
-#[test]
-fn the_first_of_equal_live_indexes_is_valid(rt: HostRuntime) -> Result<(), Fail> {
-    let set = with_gaps(&rt, rt.alloc(), 6, &[1, 3, 5])?;
+fn expect_valid(rt: &impl Abort, set: &ItemSet<u32>) {
     let valid = set.disjoint_valid([ix(0), ix(0), ix(1), ix(9), ix(2)]);
     assert_eq!(rt; valid, [true, false, false, false, true]);
     assert_eq!(rt; set.disjoint_valid([ix(4)]), [true]);
@@ -58,6 +60,11 @@ fn the_first_of_equal_live_indexes_is_valid(rt: HostRuntime) -> Result<(), Fail>
     );
     let none: [ItemIndex; 0] = [];
     assert_eq!(rt; set.disjoint_valid(none).len(), 0);
+}
+
+#[test]
+fn the_first_of_equal_live_indexes_is_valid(rt: HostRuntime) -> Result<(), Fail> {
+    expect_valid(&rt, &with_gaps(&rt, rt.alloc(), 6, &[1, 3, 5])?);
     Ok(())
 }
 

@@ -3,10 +3,11 @@ ghost use Rattle.std.specs.Prelude.{◌≡◌, ◌+◌, ◌≤◌, length};
 ghost use Rattle.iddqd.specs.Store.{inserted, live_count, next_index};
 ghost use Rattle.iddqd.specs.ItemSet.{room};
 
-use super::{expect_items, expect_room, ix, with_gaps};
+use super::compaction::expect_compact;
+use super::{expect_items, expect_room, ix, remove, with_gaps};
 use iddqd::item_index::ItemIndex;
-use iddqd::item_set::{GrowError, IndexRemap, ItemSet};
-use std::alloc::AllocError;
+use iddqd::item_set::{GrowError, ItemSet};
+use std::alloc::{AllocError, Global};
 use std::process::Abort;
 use std::test::Fail;
 
@@ -60,25 +61,40 @@ fn insert_without_memory(rt: &impl Abort, set: &mut ItemSet<u32>, want: &[u32]) 
     assert_eq!(rt; set.capacity(), capacity);
 }
 
-#[test]
-fn a_new_set_has_the_room_that_it_was_made_with(rt: HostRuntime) -> Result<(), Fail> {
-    let none = ItemSet::<u32>::new(rt.alloc());
-    assert_eq!(rt; (none.room(), none.capacity()), (0, 0));
-    assert!(rt; none.is_empty());
-    let mut set = ItemSet::with_capacity(rt.alloc(), 4)?;
+fn expect_none_taken(rt: &impl Abort, set: &ItemSet<u32>) {
+    assert_eq!(rt; (set.room(), set.capacity()), (0, 0));
+    assert!(rt; set.is_empty());
+}
+
+// An empty set with room for four.
+fn expect_four_taken(rt: &impl Abort, set: &mut ItemSet<u32>) {
     assert!(rt; set.room() >= 4);
     assert!(rt; set.capacity() >= 4);
     assert!(rt; set.is_empty());
-    insert_without_memory(&rt, &mut set, &[0, 1, 2, 3]);
+    insert_without_memory(rt, set, &[0, 1, 2, 3]);
     assert!(rt; !set.is_empty());
-    assert_eq!(rt; ItemSet::<u32>::with_capacity(rt.alloc(), 0)?.capacity(), 0);
+}
+
+#[test]
+fn a_new_set_has_the_room_that_it_was_made_with(rt: HostRuntime) -> Result<(), Fail> {
+    expect_none_taken(&rt, &ItemSet::new(rt.alloc()));
+    expect_none_taken(&rt, &ItemSet::with_capacity(rt.alloc(), 0)?);
+    expect_four_taken(&rt, &mut ItemSet::with_capacity(rt.alloc(), 4)?);
     Ok(())
+}
+
+// Six slots, of which three are vacant, with room for six items.
+fn with_room_for_six(rt: &impl Abort, alloc: Global) -> Result<ItemSet<u32>, GrowError> {
+    let mut set = with_gaps(rt, alloc, 6, &[1, 3, 5])?;
+    match set.try_reserve(3) {
+        Ok(()) => Ok(set),
+        Err(AllocError) => Err(GrowError::Memory),
+    }
 }
 
 #[test]
 fn as_many_inserts_as_were_reserved_need_no_memory(rt: HostRuntime) -> Result<(), Fail> {
-    let mut set = with_gaps(&rt, rt.alloc(), 6, &[1, 3, 5])?;
-    set.try_reserve(3)?;
+    let mut set = with_room_for_six(&rt, rt.alloc())?;
     assert!(rt; set.capacity() >= 9);
     insert_without_memory(&rt, &mut set, &[5, 3, 1, 6, 7, 8]);
     assert_eq!(rt; set.len(), 9);
@@ -87,8 +103,7 @@ fn as_many_inserts_as_were_reserved_need_no_memory(rt: HostRuntime) -> Result<()
 
 #[test]
 fn a_cleared_set_keeps_what_was_reserved(rt: HostRuntime) -> Result<(), Fail> {
-    let mut set = with_gaps(&rt, rt.alloc(), 6, &[1, 3, 5])?;
-    set.try_reserve(3)?;
+    let mut set = with_room_for_six(&rt, rt.alloc())?;
     set.clear();
     assert!(rt; set.is_empty());
     insert_without_memory(&rt, &mut set, &[0, 1, 2, 3, 4, 5, 6, 7, 8]);
@@ -97,48 +112,65 @@ fn a_cleared_set_keeps_what_was_reserved(rt: HostRuntime) -> Result<(), Fail> {
 
 #[test]
 fn a_compacted_set_keeps_what_was_reserved(rt: HostRuntime) -> Result<(), Fail> {
-    let mut set = with_gaps(&rt, rt.alloc(), 6, &[1, 3, 5])?;
-    set.try_reserve(3)?;
-    let IndexRemap::Permuted(names) = set.compact()? else {
-        panic!(rt; "no list of names");
-    };
+    let mut set = with_room_for_six(&rt, rt.alloc())?;
     let gone = ItemIndex::SENTINEL;
     let want = [ix(0), gone, ix(1), gone, ix(2), gone];
-    assert_eq!(rt; names.as_slice(), want.as_slice());
+    expect_compact(&rt, &mut set, &want)?;
     insert_without_memory(&rt, &mut set, &[3, 4, 5, 6, 7, 8]);
     Ok(())
 }
 
-#[test]
-fn refuses_what_no_vector_can_hold(rt: HostRuntime) -> Result<(), Fail> {
-    let mut set = with_gaps(&rt, rt.alloc(), 2, &[0])?;
+// Sizes past what a vector can have are refused, and change nothing.
+fn expect_no_such_size(rt: &impl Abort, set: &mut ItemSet<u32>) {
     let room = set.room();
     assert!(rt; set.try_reserve(usize::MAX).is_err());
     assert!(rt; set.reserve(usize::MAX).is_err());
     assert!(rt; set.reserve(isize::MAX as usize).is_err());
-    expect_room(&rt, &set, room);
-    expect_items(&rt, &set, &[None, Some(10)]);
+    expect_room(rt, set, room);
+    expect_items(rt, set, &[None, Some(10)]);
+}
+
+#[test]
+fn refuses_what_no_vector_can_hold(rt: HostRuntime) -> Result<(), Fail> {
+    expect_no_such_size(&rt, &mut with_gaps(&rt, rt.alloc(), 2, &[0])?);
     assert!(rt; ItemSet::<u32>::with_capacity(rt.alloc(), usize::MAX).is_err());
     Ok(())
 }
 
+fn shrink_to(
+    rt: &impl Abort,
+    set: &mut ItemSet<u32>,
+    least: usize,
+    want: usize,
+) -> Result<(), AllocError> {
+    set.shrink_capacity_to(least)?;
+    assert_eq!(rt; set.capacity(), want, "shrinking to {least}");
+    Ok(())
+}
+
+fn shrink_to_fit(rt: &impl Abort, set: &mut ItemSet<u32>, want: usize) -> Result<(), AllocError> {
+    set.shrink_capacity_to_fit()?;
+    assert_eq!(rt; set.capacity(), want);
+    Ok(())
+}
+
+// Room for sixteen, of which three are used.
+fn shrinks(rt: &impl Abort, set: &mut ItemSet<u32>) -> Result<(), AllocError> {
+    insert_without_memory(rt, set, &[0, 1, 2]);
+    shrink_to(rt, set, 8, 8)?;
+    expect_items(rt, set, &[Some(0), Some(10), Some(20)]);
+    shrink_to(rt, set, 9, 8)?;
+    remove(rt, set, 1, 10);
+    shrink_to_fit(rt, set, 3)?;
+    expect_items(rt, set, &[Some(0), None, Some(20)]);
+    insert_without_memory(rt, set, &[1]);
+    set.clear();
+    shrink_to_fit(rt, set, 0)
+}
+
 #[test]
 fn shrinking_keeps_the_slots_and_what_is_asked(rt: HostRuntime) -> Result<(), Fail> {
-    let mut set = ItemSet::with_capacity(rt.alloc(), 16)?;
-    insert_without_memory(&rt, &mut set, &[0, 1, 2]);
-    set.shrink_capacity_to(8)?;
-    assert_eq!(rt; set.capacity(), 8);
-    expect_items(&rt, &set, &[Some(0), Some(10), Some(20)]);
-    set.shrink_capacity_to(9)?;
-    assert_eq!(rt; set.capacity(), 8);
-    assert_eq!(rt; set.remove(ix(1)), Some(10));
-    set.shrink_capacity_to_fit()?;
-    assert_eq!(rt; set.capacity(), 3);
-    expect_items(&rt, &set, &[Some(0), None, Some(20)]);
-    insert_without_memory(&rt, &mut set, &[1]);
-    set.clear();
-    set.shrink_capacity_to_fit()?;
-    assert_eq!(rt; set.capacity(), 0);
+    shrinks(&rt, &mut ItemSet::with_capacity(rt.alloc(), 16)?)?;
     Ok(())
 }
 
@@ -148,12 +180,12 @@ fn callers_of_sizes(rt: HostRuntime) -> Result<(), Fail> {
     insert_all(&mut set, &[0, 10, 20])?;
     assert!(rt; set.len() == 3);
     insert_all(&mut set, &[30, 40])?;
+    assert!(rt; set.len() == 5);
     expect_items(
         &rt,
         &set,
         &[Some(0), Some(10), Some(20), Some(30), Some(40)],
     );
-    assert!(rt; set.len() == 5);
     assert_eq!(rt; insert_after_steps(&mut set, ix(4))?, ix(1));
     expect_items(&rt, &set, &[Some(2), Some(3)]);
     Ok(())
@@ -167,25 +199,29 @@ fn expect_step(rt: &impl Abort, set: &ItemSet<u32>, before: usize, is_done: bool
     assert!(rt; is_done || set.capacity() == before);
 }
 
+fn try_sizes(rt: &impl Abort, set: &mut ItemSet<u32>, asked: usize) {
+    let before = set.capacity();
+    let is_done = set.try_reserve(asked).is_ok();
+    expect_step(rt, set, before, is_done, asked.saturating_add(3));
+    let before = set.capacity();
+    let is_done = set.reserve(asked.saturating_mul(2)).is_ok();
+    expect_step(rt, set, before, is_done, asked.saturating_mul(2));
+    let before = set.capacity();
+    let is_done = set.shrink_capacity_to(asked).is_ok();
+    expect_step(rt, set, before, is_done, asked.max(3).min(before));
+    let before = set.capacity();
+    let is_done = set.shrink_capacity_to_fit().is_ok();
+    expect_step(rt, set, before, is_done, 3);
+    assert!(rt; !is_done || set.capacity() == 3);
+}
+
 #[test]
 fn a_refused_size_keeps_the_contents(rt: HostRuntime) {
     let Ok(mut set) = with_gaps(&rt, rt.alloc(), 3, &[1]) else {
         return;
     };
     for asked in [5, 40, 2] {
-        let before = set.capacity();
-        let is_done = set.try_reserve(asked).is_ok();
-        expect_step(&rt, &set, before, is_done, asked.saturating_add(3));
-        let before = set.capacity();
-        let is_done = set.reserve(asked.saturating_mul(2)).is_ok();
-        expect_step(&rt, &set, before, is_done, asked.saturating_mul(2));
-        let before = set.capacity();
-        let is_done = set.shrink_capacity_to(asked).is_ok();
-        expect_step(&rt, &set, before, is_done, asked.max(3).min(before));
-        let before = set.capacity();
-        let is_done = set.shrink_capacity_to_fit().is_ok();
-        expect_step(&rt, &set, before, is_done, 3);
-        assert!(rt; !is_done || set.capacity() == 3);
+        try_sizes(&rt, &mut set, asked);
     }
     if let Ok(other) = ItemSet::<u32>::with_capacity(rt.alloc(), 7) {
         assert_eq!(rt; other.room(), 7);

@@ -1,31 +1,24 @@
 use super::{expect_items, expect_room, insert_at, ix, with_gaps};
 use iddqd::item_index::ItemIndex;
-use iddqd::item_set::ItemSet;
+use iddqd::item_set::{GrowError, ItemSet};
 use std::process::Abort;
 use std::test::Fail;
+
+fn fill_gaps(rt: &impl Abort, set: &mut ItemSet<u32>) -> Result<(), GrowError> {
+    insert_at(rt, set, 100, 5)?;
+    insert_at(rt, set, 200, 3)?;
+    insert_at(rt, set, 300, 1)?;
+    insert_at(rt, set, 400, 6)
+}
 
 #[test]
 fn freed_slots_come_back_last_freed_first(rt: HostRuntime) -> Result<(), Fail> {
     let mut set = with_gaps(&rt, rt.alloc(), 6, &[1, 3, 5])?;
     assert!(rt; set.remove(ix(5)).is_none());
     expect_items(&rt, &set, &[Some(0), None, Some(20), None, Some(40), None]);
-    insert_at(&rt, &mut set, 100, 5)?;
-    insert_at(&rt, &mut set, 200, 3)?;
-    insert_at(&rt, &mut set, 300, 1)?;
-    insert_at(&rt, &mut set, 400, 6)?;
-    expect_items(
-        &rt,
-        &set,
-        &[
-            Some(0),
-            Some(300),
-            Some(20),
-            Some(200),
-            Some(40),
-            Some(100),
-            Some(400),
-        ],
-    );
+    fill_gaps(&rt, &mut set)?;
+    let filled = [0, 300, 20, 200, 40, 100, 400].map(Some);
+    expect_items(&rt, &set, &filled);
     Ok(())
 }
 
@@ -61,18 +54,22 @@ fn replace_gives_one_index_another_item(rt: HostRuntime) -> Result<(), Fail> {
     Ok(())
 }
 
-#[test]
-fn a_cleared_set_begins_anew_in_its_memory(rt: HostRuntime) -> Result<(), Fail> {
-    let mut set = with_gaps(&rt, rt.alloc(), 4, &[2, 0])?;
+fn clear_and_fill(rt: &impl Abort, set: &mut ItemSet<u32>) -> Result<(), GrowError> {
     let capacity = set.room().saturating_add(set.len());
     set.clear();
-    expect_items(&rt, &set, &[]);
-    expect_room(&rt, &set, capacity);
+    expect_items(rt, set, &[]);
+    expect_room(rt, set, capacity);
     for n in 0..4 {
-        insert_at(&rt, &mut set, n, n)?;
+        insert_at(rt, set, n, n)?;
     }
-    expect_items(&rt, &set, &[Some(0), Some(1), Some(2), Some(3)]);
-    expect_room(&rt, &set, capacity.saturating_sub(4));
+    expect_items(rt, set, &[Some(0), Some(1), Some(2), Some(3)]);
+    expect_room(rt, set, capacity.saturating_sub(4));
+    Ok(())
+}
+
+#[test]
+fn a_cleared_set_begins_anew_in_its_memory(rt: HostRuntime) -> Result<(), Fail> {
+    clear_and_fill(&rt, &mut with_gaps(&rt, rt.alloc(), 4, &[2, 0])?)?;
     Ok(())
 }
 
