@@ -1,5 +1,5 @@
 -- What a table's calls leave of its parts.
-use Rattle.std.proofs.Common.{◌≡◌, ◌≢◌, ℕ, ◌+◌, ◌-◌, ◌<◌, ◌≤◌, List, [], length, get_or, map, slice_index, refl, ap, sym, ◌∙◌, subst, arith, Option, Some, None, All, Contains, nat_eq, Vec, not, ◌==◌, Ordering, inl, inr}
+use Rattle.std.proofs.Common.{◌≡◌, ◌≢◌, ℕ, ◌+◌, ◌-◌, ◌*◌, ◌<◌, ◌≤◌, List, [], length, get_or, map, slice_index, refl, ap, sym, ◌∙◌, subst, arith, Option, Some, None, Result, Ok, Err, All, Contains, nat_eq, Vec, not, ◌==◌, Ordering, inl, inr}
 use Rattle.std.proofs.lemmas.Bool.{cases_lt}
 use Rattle.std.specs.List.{insert, remove, IsDistinct}
 use Rattle.std.proofs.lemmas.List.Edits.{length-insert, length-remove}
@@ -8,11 +8,16 @@ use Rattle.std.proofs.lemmas.List.{length-map}
 use Rattle.iddqd.specs.Compaction.{CanRemap, remapped}
 use Rattle.iddqd.specs.declared.index_remap.IndexRemap.{IndexRemap}
 use Rattle.std.specs.declared.alloc.Global.{Global}
+use Rattle.std.specs.Fn.{Mut}
+use Rattle.iddqd_order.specs.declared.btree_table.asking.Asking.{Asking}
 use Rattle.iddqd_order.specs.declared.btree_table.node.Node.{Node}
-use Rattle.iddqd_order.specs.Node.{IsSpare, row, flat, IsFormed, place, spot}
+use Rattle.iddqd_order.specs.Descent.{Descends, EndsIn}
+use Rattle.iddqd_order.specs.Node.{IsSpare, row, flat, IsFormed}
 use Rattle.iddqd_order.specs.Tree.{in_order, IsTree, IsTable, GoesIn, place_in, FullIn, HoldsIn, spot_in}
 use Rattle.iddqd_order.specs.MapBTreeTable.{Order, order_of, IsIndexList, without, sentinel}
-use Rattle.iddqd_order.specs.Search.{IsPlace}
+use Rattle.iddqd_order.specs.Search.{Askable, IsPlace}
+use Rattle.iddqd_order.proofs.AskLemmas.{asks_more, asks_none}
+use Rattle.iddqd_order.proofs.DescentLemmas.{Searches-from_descends}
 use Rattle.iddqd_order.proofs.NodeLemmas.{All-insert}
 use Rattle.iddqd_order.proofs.IndexListLemmas.{IsIndexList-nil, IsIndexList-insert, IsIndexList-filter, remove-distinct}
 use Rattle.iddqd_order.proofs.ReckoningLemmas.{few_indexes}
@@ -102,15 +107,45 @@ root_of o r h len b bs n e t is =
       list = ap (λ (s : Option Node). in_order s h) (sym is) ∙ order_inside o r h b e;
     }
 
--- where a path goes from it
-pub place_of_root : (o : Order) (h : ℕ) (n : Node) (p : List ℕ) → IsRootOf o h n → place h n p ≡ place_in o.root o.height p
-place_of_root o h n p r = rw (r.root, r.height) refl
-
-pub spot_of_root : (o : Order) (l h : ℕ) (n : Node) (p : List ℕ) → IsRootOf o h n → spot l h n p ≡ spot_in l o.root o.height p
-spot_of_root o l h n p r = rw (r.root, r.height) refl
-
-pub few_full : (k h : ℕ) → (h < k → k ≡ h + 1) → k ≤ h + 1
+few_full : (k h : ℕ) → (h < k → k ≡ h + 1) → k ≤ h + 1
 few_full k h f = elim (cases_lt h k) [ inl lt ↦ omega (arith, f lt) | inr le ↦ omega arith ]
+
+-- where the search of a table ends
+module _ {F R : Type 0} (g : Mut F (ℕ × Unit {0}) R) (read : R → Ordering) (sought : Option ℕ) where
+  -- without a root it asks nothing
+  pub EndsIn-none : (o : Order) (p : List ℕ) (a : Asking F) → Nowhere o p → EndsIn g read sought o a p (Err 0) a
+  EndsIn-none o p a none = record {
+    searches = record {
+      asked = asks_more g (Askable (order_of o) sought) (omega arith) (asks_none g (Askable (order_of o) sought) a);
+      found = tt;
+      missed = rw none.place (omega arith);
+      itself = tt;
+      hit = λ answer s. tt;
+      place = λ answer s. IsPlace-none _ _ _ none.list none.place;
+    };
+    holds = tt;
+    goes = none.goes;
+    full_below = none.full;
+    level = omega arith;
+  }
+
+  -- and else it is a walk down from the root
+  pub EndsIn-root : {limit : ℕ} (o : Order) (h : ℕ) (n : Node) (p : List ℕ) (end : Result ℕ ℕ) (a b : Asking F) → limit ≤ 4 * (h + 1) + 2 → IsRootOf o h n → Descends g read sought limit (h + 1) h n a p end b
+      → EndsIn g read sought o a p end b
+  EndsIn-root o h n p (Ok l) a b le r d = record {
+    searches = rw (← r.list, r.root, r.height) (Searches-from_descends g read sought h n p (Ok l) a b le r.formed r.some d);
+    holds = rw (r.root, r.height) d.holds;
+    goes = tt;
+    full_below = tt;
+    level = tt;
+  }
+  EndsIn-root o h n p (Err k) a b le r d = record {
+    searches = rw (← r.list, r.root, r.height) (Searches-from_descends g read sought h n p (Err k) a b le r.formed r.some d);
+    holds = tt;
+    goes = rw (r.root, r.height) d.goes;
+    full_below = rw (r.root, r.height) d.full_below;
+    level = rw r.height (few_full k h d.level);
+  }
 
 -- the indexes with one more
 pub record Longer (r : Option Node) (h : ℕ) (p : List ℕ) (ix : ℕ) : Type 0 where

@@ -1,23 +1,30 @@
 -- What a walk down a tree ends in.
-use Rattle.std.specs.Prelude.{◌≡◌, ℕ, ◌+◌, ◌*◌, ◌<◌, List, Option, Some, None, Result, Ok, Err, IfOk, IfErr, slice_index}
+use Rattle.std.specs.Prelude.{◌≡◌, ℕ, ◌+◌, ◌*◌, ◌<◌, ◌≤◌, List, Option, Some, None, Result, Ok, Err, IfOk, IfErr, slice_index}
 use Rattle.std.specs.declared.cmp.Ordering.{Ordering}
 use Rattle.std.specs.Fn.{Mut}
 use Rattle.iddqd_order.specs.declared.btree_table.asking.Asking.{Asking}
 use Rattle.iddqd_order.specs.declared.btree_table.node.Node.{Node}
+use Rattle.iddqd_order.specs.MapBTreeTable.{Order, order_of}
 use Rattle.iddqd_order.specs.Node.{flat, Goes, place, Holds, spot, IsFullBelow}
-use Rattle.iddqd_order.specs.Search.{SearchesWithin}
+use Rattle.iddqd_order.specs.Search.{SearchesWithin, Searches}
+use Rattle.iddqd_order.specs.Tree.{GoesIn, place_in, HoldsIn, spot_in, FullIn}
 
 -- where a path ends in the whole list: at the index at its level, or else in a leaf
 abbrev pub end_of : ℕ → Node → List ℕ → Result ℕ ℕ → Result ℕ ℕ
 end_of h n p (Ok l) = Ok (spot l h n p)
 end_of h n p (Err k) = Err (place h n p)
 
+-- the same in a table
+abbrev pub end_in : Order → List ℕ → Result ℕ ℕ → Result ℕ ℕ
+end_in t p (Ok l) = Ok (spot_in l t.root t.height p)
+end_in t p (Err k) = Err (place_in t.root t.height p)
+
 -- the index at which a search ends
 abbrev pub index_at : List ℕ → Result ℕ ℕ → Option ℕ
 index_at xs (Ok i) = Some (slice_index xs i)
 index_at xs (Err i) = None
 
--- a walk down n, a tree with h levels above the leaves, by answers that are so read
+-- a walk down n, a tree with h levels above the leaves, or down that of a table t, by answers that are so read
 module _ {F R : Type 0} (g : Mut F (ℕ × Unit {0}) R) (read : R → Ordering) (sought : Option ℕ) where
   -- the walk asks at most `limit` times, writes the path p and ends at a level, or else in a leaf, with
   -- the number of full nodes at the lower end: more than h levels stand for `full`
@@ -34,3 +41,12 @@ module _ {F R : Type 0} (g : Mut F (ℕ × Unit {0}) R) (read : R → Ordering) 
     pub end : Result ℕ ℕ
     pub searches : SearchesWithin g read (flat h n) (4 * (h + 1)) sought old end new
     pub index : found ≡ index_at (flat h n) end
+
+  -- the walk is a search of all indexes of t: it goes down the path p to an index at the level where it ends, or else to
+  -- a place in a leaf, or in nothing, with the number of full nodes at the lower end
+  pub record EndsIn (t : Order) (old : Asking F) (p : List ℕ) (end : Result ℕ ℕ) (new : Asking F) : Type 0 where
+    pub searches : Searches g read (order_of t) sought old (end_in t p end) new
+    pub holds : IfOk end (λ l. HoldsIn l t.root t.height p)
+    pub goes : IfErr end (λ k. GoesIn t.root t.height p)
+    pub full_below : IfErr end (λ k. FullIn k t.root t.height p)
+    pub level : IfErr end (λ k. k ≤ t.height + 1)

@@ -2,6 +2,7 @@
 ghost use Rattle.std.specs.Prelude.{◌≡◌, ◌≢◌, ◌↔◌, ℕ, ◌+◌, ◌-◌, ◌<◌, ◌≤◌, [], length, map, slice_get, slice_index, is_some, IfOk, IsOk, IsSome, Contains, insert, IsTrue, false, Some, None};
 ghost use Rattle.std.specs.declared.cmp.Ordering.{Ordering};
 ghost use Rattle.iddqd.specs.Compaction.{CanRemap, remapped};
+ghost use Rattle.iddqd_order.specs.Descent.{EndsIn};
 ghost use Rattle.iddqd_order.specs.MapBTreeTable.{order_of, without, sentinel, IsIndexList, LeadsTo};
 ghost use Rattle.iddqd_order.specs.Tree.{GoesIn, place_in, FullIn, HoldsIn, spot_in, AreEnough};
 ghost use Rattle.iddqd_order.specs.Search.{CanSearch, SearchAsks, IsSteadyRising, IsPlace, Finds, with_ties};
@@ -361,14 +362,31 @@ impl MapBTreeTable {
             IsSteadyRising F.FnMut (order_of self.now) (Some ix) (H.reading how.now) answer asking.old →
             IsPlace (with_ties (Some ix) answer) (order_of self.now) (place_in self.now.root self.now.height result.0) }
     {
-        let mut path = Path::first();
-        let Some(root) = &self.root else {
-            return (path, 0);
-        };
-        match root.descend_to_gap(self.height, asking, how, &Some(ix), hint, &mut path) {
+        let (path, end) = self.descend(asking, how, &Some(ix), hint);
+        match end {
             Ok(_) => unreachable!(),
             Err(full) => (path, full),
         }
+    }
+
+    // The search from the root down, by the hint where there is one: the way, and the level at which it
+    // ends, or else how many nodes at its lower end are full.
+    fn descend<R, F: FnMut(ItemIndex) -> R, H: Reads<R>>(
+        &self,
+        asking: &mut Asking<F>,
+        how: &H,
+        tie: &Option<ItemIndex>,
+        hint: Option<&Hint>,
+    ) -> (Path, Result<usize, usize>)
+        requires { CanSearch F.FnMut (order_of self.now) tie.now asking.old }
+        ensures { EndsIn F.FnMut (H.reading how.now) tie.now self.now asking.old result.0 result.1 asking.new }
+    {
+        let mut path = Path::first();
+        let Some(root) = &self.root else {
+            return (path, Err(0));
+        };
+        let end = root.descend_to_gap(self.height, asking, how, tie, hint, &mut path);
+        (path, end)
     }
 
     // Takes the memory of an insert through so many full nodes.
@@ -468,11 +486,8 @@ impl MapBTreeTable {
         if ix == ItemIndex::SENTINEL {
             return None;
         }
-        let Some(root) = &self.root else {
-            return None;
-        };
-        let mut path = Path::first();
-        match root.descend(self.height, asking, how, &Some(ix), &mut path) {
+        let (path, end) = self.descend(asking, how, &Some(ix), None);
+        match end {
             Ok(level) => Some((path, level)),
             Err(_) => None,
         }
