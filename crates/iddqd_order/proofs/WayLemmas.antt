@@ -159,6 +159,10 @@ goes-below h l i n p lt ei f w =
       holds = rw ei down.on;
     }
 
+-- from here on it ends at the node
+pub level_is : (h l : ℕ) (n : Node) (p : List ℕ) → h ≤ l → Holds l h n p → h ≡ l
+level_is h l n p le w = let down = holds-level l h n p w in omega arith
+
 -- what a step below the i-th child answers, if anything
 pub steps-below_any : (c : ℕ) (h l i : ℕ) (r : Option ℕ) (n : Node) (p q : List ℕ) → h ≢ 0 → h ≢ l → i ≡ slice_index p h → Holds l h n p → slice_index q h ≡ slice_index p h → is_some r ≡ true → StepsOn (h - 1) (child n i) l p c r q
     → StepsOn h n l p c r q

@@ -3,6 +3,7 @@ pub mod Asks
 pub mod Copies
 pub mod Descent
 pub mod Digits
+pub mod Entry
 pub mod Gap
 pub mod IntoIter
 pub mod Iter

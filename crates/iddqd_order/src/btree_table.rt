@@ -11,6 +11,7 @@ pub mod asking;
 mod copies;
 mod descent;
 mod ends;
+pub mod entry;
 pub mod gap;
 pub mod into_iter;
 pub mod iter;
@@ -32,6 +33,7 @@ mod walk;
 mod ways;
 
 pub use asking::Asking;
+pub use entry::{Entry, OccupiedEntry, VacantEntry};
 pub use gap::Hint;
 pub use into_iter::IntoIter;
 pub use iter::Iter;

@@ -371,7 +371,7 @@ impl MapBTreeTable {
 
     // The search from the root down, by the hint where there is one: the way, and the level at which it
     // ends, or else how many nodes at its lower end are full.
-    fn descend<R, F: FnMut(ItemIndex) -> R, H: Reads<R>>(
+    pub(super) fn descend<R, F: FnMut(ItemIndex) -> R, H: Reads<R>>(
         &self,
         asking: &mut Asking<F>,
         how: &H,
@@ -390,7 +390,7 @@ impl MapBTreeTable {
     }
 
     // Takes the memory of an insert through so many full nodes.
-    fn reserve(&mut self, full: usize) -> Result<(), AllocError>
+    pub(super) fn reserve(&mut self, full: usize) -> Result<(), AllocError>
         requires { full ≤ self.old.height + 1 }
         ensures root { self.new.root ≡ self.old.root }
         ensures height { self.new.height ≡ self.old.height }
@@ -538,6 +538,17 @@ impl MapBTreeTable {
         }
     }
 
+    // The index to which the path goes at the level.
+    pub(super) fn index_at(&self, path: &Path, level: usize) -> ItemIndex
+        requires { HoldsIn level self.now.root self.now.height path.now }
+        ensures { result ≡ slice_index (order_of self.now) (spot_in level self.now.root self.now.height path.now) }
+    {
+        let Some(root) = &self.root else {
+            unreachable!()
+        };
+        root.index_on(self.height, path, level)
+    }
+
     // Adds `ix` where the path goes, through so many full nodes at its lower end.
     pub(super) fn insert_at(&mut self, path: &Path, full: usize, ix: ItemIndex)
         requires goes { GoesIn self.old.root self.old.height path.now }
@@ -579,7 +590,7 @@ impl MapBTreeTable {
     }
 
     // Removes `ix`, to which the path goes at the level.
-    fn remove_at(&mut self, ix: ItemIndex, path: &Path, level: usize)
+    pub(super) fn remove_at(&mut self, ix: ItemIndex, path: &Path, level: usize)
         requires holds { HoldsIn level self.old.root self.old.height path.now }
         requires there { slice_index (order_of self.old) (spot_in level self.old.root self.old.height path.now) ≡ ix }
         ensures { order_of self.new ≡ without (order_of self.old) ix }

@@ -242,6 +242,20 @@ impl Node {
         (ix, None)
     }
 
+    // The index to which a path goes at a level.
+    pub fn index_on(&self, height: usize, path: &Path, level: usize) -> ItemIndex
+        requires formed { IsFormed height self.now }
+        requires levels { height ≤ 11 }
+        requires holds { Holds level height self.now path.now }
+        ensures { result ≡ slice_index (flat height self.now) (spot level height self.now path.now) }
+    {
+        let i = path.get(height);
+        if height > level {
+            return self.children[i].index_on(height - 1, path, level);
+        }
+        self.row.get(i)
+    }
+
     // Puts an index in the place of that to which a path goes at a level.
     pub fn put(&mut self, height: usize, path: &Path, level: usize, ix: ItemIndex)
         requires formed { IsFormed height self.old }

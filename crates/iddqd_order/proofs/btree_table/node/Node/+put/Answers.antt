@@ -4,8 +4,8 @@ use Rattle.iddqd_order.specs.declared.btree_table.node.Node.TheViews.{roll-Node}
 use Rattle.iddqd_order.specs.Node.{child, Holds}
 use Rattle.iddqd_order.proofs.NodeLemmas.{row-roll, children-roll}
 use Rattle.iddqd_order.proofs.DescentLemmas.{child_is}
-use Rattle.iddqd_order.proofs.RemovalLemmas.{holds-level, room-kept}
-use Rattle.iddqd_order.proofs.WayLemmas.{goes-below, holds-row, put-here, put-below}
+use Rattle.iddqd_order.proofs.RemovalLemmas.{room-kept}
+use Rattle.iddqd_order.proofs.WayLemmas.{goes-below, level_is, holds-row, put-here, put-below}
 use Rattle.iddqd_order.proofs.btree_table.node.Node.+put.Goals as goal
 
 pub index_mut-requires : goal.index_mut-requires
@@ -28,9 +28,6 @@ returns-then-height-level t c =
     let k = put-below c.args.height c.args.level c.get-i.result c.args.ix c.args.self.now c.index_mut.result.now c.put.new.self (roll-Node _) c.args.path.now c.if-height-level.true c.get-i.ensures c.requires.formed c.requires.holds same
     (record { items = d.items; formed = d.formed; same_length = d.same_length; same_places = d.same_places }) (row-roll _) (children-roll _) (room-kept c.args.self.now _ refl) in
     record { items = k.items; formed = k.formed; same_length = k.same_length; same_places = k.same_places }
-
-level_is : (h l : ℕ) (n : Node) (p : List ℕ) → h ≤ l → Holds l h n p → h ≡ l
-level_is h l n p le w = let down = holds-level l h n p w in omega arith
 
 pub set-requires : goal.set-requires
 set-requires t c =

@@ -4,8 +4,7 @@ use Rattle.iddqd_order.specs.Node.{child, flat, Holds, spot}
 use Rattle.iddqd_order.specs.Ways.{StepsOn}
 use Rattle.iddqd_order.proofs.NodeLemmas.{formed-within}
 use Rattle.iddqd_order.proofs.DescentLemmas.{path-here, child_is}
-use Rattle.iddqd_order.proofs.RemovalLemmas.{holds-level}
-use Rattle.iddqd_order.proofs.WayLemmas.{goes-below, holds-row, steps-leaf, ends-leaf, steps-here, steps-below_any, none-is, steps-out, ends-below, read-here, read-below}
+use Rattle.iddqd_order.proofs.WayLemmas.{goes-below, level_is, holds-row, steps-leaf, ends-leaf, steps-here, steps-below_any, none-is, steps-out, ends-below, read-here, read-below}
 use Rattle.iddqd_order.proofs.btree_table.node.Node.+step.Goals as goal
 
 pub index-requires : goal.index-requires
@@ -66,10 +65,6 @@ returns-then-height-level-clause-next t c =
     ends-below 1 c.args.height c.args.level c.get-i.result c.args.self.now c.args.path.now c.step-ix.new.path b.inner b.other c.get-i.ensures c.requires.formed c.requires.holds (search rules)
     (subst (λ r. StepsOn (c.args.height - 1) (child c.args.self.now c.get-i.result) c.args.level c.args.path.now 1 r c.step-ix.new.path) none
     (subst (λ z. StepsOn (c.args.height - 1) z c.args.level c.args.path.now 1 c.step-ix.result.1 c.step-ix.new.path) same c.step-ix.ensures.next))
-
--- from here on the path ends at this node
-level_is : (h l : ℕ) (n : Node) (p : List ℕ) → h ≤ l → Holds l h n p → h ≡ l
-level_is h l n p le w = let down = holds-level l h n p w in omega arith
 
 pub get-ix-requires : goal.get-ix-requires
 get-ix-requires t c =

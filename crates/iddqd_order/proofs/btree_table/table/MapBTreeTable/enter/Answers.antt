@@ -1,0 +1,31 @@
+use Rattle.std.proofs.Common.{refl}
+use Rattle.iddqd_order.specs.Entry.{entry_index, vacant_place}
+use Rattle.iddqd_order.proofs.IndexListLemmas.{Contains-at}
+use Rattle.iddqd_order.proofs.SearchLemmas.{none_at_place}
+use Rattle.iddqd_order.proofs.btree_table.table.MapBTreeTable.enter.Goals as goal
+
+pub returns-in-Ok-clause-entered : goal.returns-in-Ok-clause-entered
+unfolding entry_index
+returns-in-Ok-clause-entered g c =
+    let s = (rw c.in-Ok.is at c.descend-path.ensures).searches in
+    record {
+      asked = s.asked;
+      stored = Contains-at _ _ _ s.found refl;
+      hit = s.hit;
+      within = tt;
+      place = λ answer rises. tt;
+      miss = λ answer rises. tt;
+    }
+
+pub returns-in-Err-clause-entered : goal.returns-in-Err-clause-entered
+unfolding vacant_place
+returns-in-Err-clause-entered g c =
+    let s = (rw c.in-Err.is at c.descend-path.ensures).searches in
+    record {
+      asked = s.asked;
+      stored = tt;
+      hit = λ answer steady. tt;
+      within = s.missed;
+      place = s.place;
+      miss = λ answer rises. none_at_place answer _ _ (s.place answer rises);
+    }

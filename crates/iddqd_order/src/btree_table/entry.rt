@@ -1,0 +1,169 @@
+//! The place of what is sought by answers alone: an index that stands there, or none.
+//!
+//! An entry keeps the way that its search went, so a removal, or an insert at the place, asks nothing.
+//! Equal answers are a hit, so no order of two indexes is needed to find a vacant place.
+ghost use Rattle.std.specs.Prelude.{◌≡◌, ◌≢◌, ◌+◌, ◌≤◌, None, IfOk, Contains};
+ghost use Rattle.std.specs.declared.cmp.Ordering.{Ordering};
+ghost use Rattle.iddqd_order.specs.MapBTreeTable.{order_of, without, sentinel};
+ghost use Rattle.iddqd_order.specs.Search.{CanSearch};
+ghost use Rattle.iddqd_order.specs.Tree.{GoesIn, FullIn, HoldsIn, GoesIn-prop, FullIn-prop, HoldsIn-prop};
+
+use crate::btree_table::asking::Asking;
+use crate::btree_table::path::Path;
+use crate::btree_table::prepared_insert::PreparedBTreeInsert;
+use crate::btree_table::reading::{AsOrdering, ByQuery, Reads};
+use crate::btree_table::table::MapBTreeTable;
+use iddqd::item_index::ItemIndex;
+use iddqd::map_hash::Comparable;
+use std::alloc::AllocError;
+use std::cmp::Ordering;
+
+/// Where what is sought stands, or could stand. Let go, it leaves the table as it was.
+#[derive(Drop)]
+pub enum Entry<'a> {
+    /// It stands there.
+    Occupied(OccupiedEntry<'a>),
+    /// It doesn't.
+    Vacant(VacantEntry<'a>),
+}
+
+/// An index that stands in a table. Let go, it leaves the table as it was.
+#[derive(Drop)]
+pub struct OccupiedEntry<'a> {
+    table: &'a mut MapBTreeTable,
+    path: Path,
+    level: usize,
+    ghost holds: { HoldsIn level table.now.root table.now.height path } by { HoldsIn-prop level table.now.root table.now.height path },
+}
+
+/// A place for an index among those of a table. Let go, it leaves the table as it was.
+#[derive(Drop)]
+pub struct VacantEntry<'a> {
+    pub(super) table: &'a mut MapBTreeTable,
+    pub(super) path: Path,
+    // How many nodes at the lower end of the path are full.
+    pub(super) full: usize,
+    ghost goes: { GoesIn table.now.root table.now.height path } by { GoesIn-prop table.now.root table.now.height path },
+    ghost full_nodes: { FullIn full table.now.root table.now.height path } by { FullIn-prop full table.now.root table.now.height path },
+    ghost levels: { full ≤ table.now.height + 1 },
+}
+
+impl MapBTreeTable {
+    ghost use Rattle.iddqd_order.specs.Entry.{entry_table, Enters};
+
+    /// The entry of a stored index at which the asking answers Equal, else that of the place where
+    /// what is sought could stand. Less says that it stands before the stored index.
+    ///
+    /// Under answers that change, it has some stored index or some place. It asks at most
+    /// `4 + 2 * digits(len)` times, and takes no memory.
+    pub fn entry_by<F: FnMut(ItemIndex) -> Ordering>(&mut self, asking: &mut Asking<F>) -> Entry<'_>
+        requires { CanSearch F.FnMut (order_of self.old) None asking.old }
+        ensures same_reference { (entry_table result).ghost_name ≡ self.entry.ghost_name }
+        ensures table { (entry_table result).now ≡ self.old }
+        ensures entered { Enters F.FnMut (λ r. r) (order_of self.old) asking.old result asking.new }
+    {
+        self.enter(asking, &AsOrdering)
+    }
+
+    /// The entry of a stored index at which the query compares Equal with the key that the asking
+    /// answers, else that of the place where an index with such a key could stand.
+    ///
+    /// Under keys that change, it has some stored index or some place. It asks at most
+    /// `4 + 2 * digits(len)` times, and takes no memory.
+    pub fn entry<K: Ord + Drop, Q: Comparable<K>, F: FnMut(ItemIndex) -> K>(
+        &mut self,
+        query: &Q,
+        asking: &mut Asking<F>,
+    ) -> Entry<'_>
+        requires { CanSearch F.FnMut (order_of self.old) None asking.old }
+        ensures same_reference { (entry_table result).ghost_name ≡ self.entry.ghost_name }
+        ensures table { (entry_table result).now ≡ self.old }
+        ensures entered { Enters F.FnMut (Q.compare query.now) (order_of self.old) asking.old result asking.new }
+    {
+        self.enter(asking, &ByQuery(query))
+    }
+
+    // The entry, by any reading of the answers.
+    fn enter<R, F: FnMut(ItemIndex) -> R, H: Reads<R>>(
+        &mut self,
+        asking: &mut Asking<F>,
+        how: &H,
+    ) -> Entry<'_>
+        requires { CanSearch F.FnMut (order_of self.old) None asking.old }
+        ensures same_reference { (entry_table result).ghost_name ≡ self.entry.ghost_name }
+        ensures table { (entry_table result).now ≡ self.old }
+        ensures entered { Enters F.FnMut (H.reading how.now) (order_of self.old) asking.old result asking.new }
+    {
+        let (path, end) = self.descend(asking, how, &None, None);
+        match end {
+            Ok(level) => Entry::Occupied(OccupiedEntry {
+                table: self,
+                path,
+                level,
+            }),
+            Err(full) => Entry::Vacant(VacantEntry {
+                table: self,
+                path,
+                full,
+            }),
+        }
+    }
+}
+
+impl<'a> OccupiedEntry<'a> {
+    ghost use Rattle.iddqd_order.specs.Entry.{occupied_table, entry_index};
+
+    /// The index, by one walk down. It asks nothing.
+    #[tactic(auto, unfolding(crate::specs::Entry::entry_index))]
+    pub fn get(&self) -> ItemIndex
+        ensures { result ≡ entry_index self.now }
+    {
+        self.table.index_at(&self.path, self.level)
+    }
+
+    /// Removes the index, and hands it back. It asks nothing and takes no memory. The others keep
+    /// their order.
+    #[tactic(auto, unfolding(crate::specs::Entry::entry_index))]
+    pub fn remove(self) -> ItemIndex
+        ensures index { result ≡ entry_index self.entry }
+        ensures removed { order_of self.exit.0.now
+            ≡ without (order_of (occupied_table self.entry).now) (entry_index self.entry) }
+    {
+        let path = self.path;
+        let level = self.level;
+        let ix = self.table.index_at(&path, level);
+        self.table.remove_at(ix, &path, level);
+        ix
+    }
+}
+
+impl<'a> VacantEntry<'a> {
+    ghost use Rattle.std.specs.Borrow.{sem};
+    ghost use Rattle.iddqd_order.specs.Entry.{vacant_table, FillsEntry};
+    ghost use Rattle.iddqd_order.specs.PreparedBTreeInsert as prepared_insert;
+
+    /// Takes the memory of an insert of `ix` at the place. It asks nothing.
+    ///
+    /// It answers `AllocError` where memory was refused; the contents then stay. Where the index
+    /// doesn't belong at the place, later searches may walk past it.
+    #[tactic(auto, unfolding(crate::specs::MapBTreeTable::order_of))]
+    pub fn prepare(self, ix: ItemIndex) -> Result<PreparedBTreeInsert<'a>, AllocError>
+        requires assigned { ix ≢ sentinel }
+        requires absent { Contains (order_of (vacant_table self).now) ix → ⊥ }
+        ensures* unchanged { sem 𝓛 (prepared_insert.rests_if_refused (vacant_table self.entry) result) }
+        ensures same_reference { IfOk result
+            (λ p. (prepared_insert.table_of p).ghost_name ≡ (vacant_table self.entry).ghost_name) }
+        ensures prepared { IfOk result (FillsEntry self.entry ix) }
+    {
+        let VacantEntry { table, path, full } = self;
+        if let Err(error) = table.reserve(full) {
+            return Err(error);
+        }
+        Ok(PreparedBTreeInsert {
+            table,
+            path,
+            full,
+            ix,
+        })
+    }
+}
