@@ -66,6 +66,14 @@ pub order_inside : (o : Order) (r : Option Node) (h b : ℕ) → record { root =
 unfolding order_of
 order_inside o r h b e = ap (λ (t : Order). in_order t.root t.height) e
 
+-- other blocks alone, as a table is seen from outside
+pub same_order : (o p : Order) → p.root ≡ o.root → p.height ≡ o.height → order_of p ≡ order_of o
+unfolding order_of
+same_order o p r h = rw (r, h) refl
+
+pub same_place : (o p : Order) (path : List ℕ) → p.root ≡ o.root → p.height ≡ o.height → place_in p.root p.height path ≡ place_in o.root o.height path
+same_place o p path r h = rw (r, h) refl
+
 -- where there is no root
 pub record Nowhere (o : Order) (p : List ℕ) : Type 0 where
   pub goes : GoesIn o.root o.height p

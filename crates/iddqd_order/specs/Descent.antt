@@ -42,8 +42,8 @@ module _ {F R : Type 0} (g : Mut F (ℕ × Unit {0}) R) (read : R → Ordering) 
     pub searches : SearchesWithin g read (flat h n) (4 * (h + 1)) sought old end new
     pub index : found ≡ index_at (flat h n) end
 
-  -- the walk is a search of all indexes of t: it goes down the path p to an index at the level where it ends, or else to
-  -- a place in a leaf, or in nothing, with the number of full nodes at the lower end
+  -- the walk is a search of all indexes of t: it ends at a level, to whose index the path p goes, or else in a
+  -- leaf or in no node, with the number of full nodes at the lower end
   pub record EndsIn (t : Order) (old : Asking F) (p : List ℕ) (end : Result ℕ ℕ) (new : Asking F) : Type 0 where
     pub searches : Searches g read (order_of t) sought old (end_in t p end) new
     pub holds : IfOk end (λ l. HoldsIn l t.root t.height p)

@@ -28,3 +28,4 @@ pub use Rattle.iddqd_order.specs.KeyOrder.{IsInKeyOrder}
 pub use Rattle.iddqd_order.specs.Search.{CanSearch, IsSteadyRising, with_ties, IsPlace}
 pub use Rattle.iddqd_order.specs.Iter.{indexes_left}
 pub use Rattle.iddqd_order.specs.IntoIter.{indexes_to_come}
+pub use Rattle.iddqd_order.specs.Entry.{entry_table, entry_index, vacant_table, vacant_place, Enters}

@@ -3,7 +3,6 @@
 //! An entry keeps the way that its search went, so a removal, or an insert at the place, asks nothing.
 //! Equal answers are a hit, so no order of two indexes is needed to find a vacant place.
 ghost use Rattle.std.specs.Prelude.{◌≡◌, ◌≢◌, ◌+◌, ◌≤◌, None, IfOk, Contains};
-ghost use Rattle.std.specs.declared.cmp.Ordering.{Ordering};
 ghost use Rattle.iddqd_order.specs.MapBTreeTable.{order_of, without, sentinel};
 ghost use Rattle.iddqd_order.specs.Search.{CanSearch};
 ghost use Rattle.iddqd_order.specs.Tree.{GoesIn, FullIn, HoldsIn, GoesIn-prop, FullIn-prop, HoldsIn-prop};

@@ -1,7 +1,6 @@
-use Rattle.std.proofs.Common.{◌≡◌, ◌∙◌, ℕ, List, ◌≤◌, refl, arith, rules}
-use Rattle.iddqd_order.specs.declared.btree_table.node.Node.{Node}
+use Rattle.std.proofs.Common.{◌≡◌, ◌∙◌, refl, arith, rules}
 use Rattle.iddqd_order.specs.declared.btree_table.node.Node.TheViews.{roll-Node}
-use Rattle.iddqd_order.specs.Node.{child, Holds}
+use Rattle.iddqd_order.specs.Node.{child}
 use Rattle.iddqd_order.proofs.NodeLemmas.{row-roll, children-roll}
 use Rattle.iddqd_order.proofs.DescentLemmas.{child_is}
 use Rattle.iddqd_order.proofs.RemovalLemmas.{room-kept}

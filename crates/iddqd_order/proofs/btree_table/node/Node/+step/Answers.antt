@@ -1,6 +1,5 @@
-use Rattle.std.proofs.Common.{◌≡◌, ℕ, List, ◌+◌, ◌-◌, ◌≤◌, slice_index, arith, subst, rules, None}
-use Rattle.iddqd_order.specs.declared.btree_table.node.Node.{Node}
-use Rattle.iddqd_order.specs.Node.{child, flat, Holds, spot}
+use Rattle.std.proofs.Common.{◌≡◌, ◌+◌, ◌-◌, slice_index, arith, subst, rules, None}
+use Rattle.iddqd_order.specs.Node.{child, flat, spot}
 use Rattle.iddqd_order.specs.Ways.{StepsOn}
 use Rattle.iddqd_order.proofs.NodeLemmas.{formed-within}
 use Rattle.iddqd_order.proofs.DescentLemmas.{path-here, child_is}
