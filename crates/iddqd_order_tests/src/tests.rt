@@ -12,6 +12,7 @@ mod asks;
 mod callers;
 mod copies;
 mod depths;
+mod entries;
 mod hints;
 mod keys;
 mod lying;
