@@ -1,4 +1,6 @@
 //! Both tables of values under the same calls, and the table of indexes.
+ghost use Rattle.std.specs.Prelude.{IsTrue};
+
 mod agreement;
 mod asked;
 mod asks;
@@ -31,3 +33,12 @@ mod sizes;
 mod table;
 mod values;
 mod walks;
+
+use std::process::Abort;
+
+// What is claimed of a number holds. What it prints stands here alone, since it is dear to prove.
+fn holds(rt: &impl Abort, is_so: bool, at: u32)
+    ensures { IsTrue is_so }
+{
+    assert!(rt; is_so, "at {at}");
+}

@@ -28,8 +28,8 @@ fn insert(rt: &impl Abort, set: &mut ItemSet<u32>, item: u32) -> Result<ItemInde
     let is_vacant = handle.get(next).is_none();
     let at = handle.insert(item);
     assert!(rt; is_vacant, "no item is at the next index");
-    assert_eq!(rt; at, next);
-    assert_eq!(rt; set.get(next).copied(), Some(item));
+    assert!(rt; at == next);
+    assert!(rt; set.get(next).copied() == Some(item));
     Ok(next)
 }
 
@@ -41,12 +41,12 @@ fn insert_at(
     want: u32,
 ) -> Result<(), GrowError> {
     let at = insert(rt, set, item)?;
-    assert_eq!(rt; at, ix(want), "inserting {item}");
+    assert!(rt; at == ix(want), "inserting {item}");
     Ok(())
 }
 
 fn remove(rt: &impl Abort, set: &mut ItemSet<u32>, at: u32, want: u32) {
-    assert_eq!(rt; set.remove(ix(at)), Some(want), "removing {at}");
+    assert!(rt; set.remove(ix(at)) == Some(want), "removing {at}");
 }
 
 // A set of these items, in turn from the first index on.
@@ -101,17 +101,17 @@ fn gapped(
 }
 
 fn expect_item(rt: &impl Abort, set: &ItemSet<u32>, at: u32, want: Option<u32>) {
-    assert_eq!(rt; set.get(ix(at)).copied(), want, "at {at}");
+    assert!(rt; set.get(ix(at)).copied() == want, "at {at}");
 }
 
 fn expect_room(rt: &impl Abort, set: &ItemSet<u32>, want: usize) {
-    assert_eq!(rt; set.room(), want);
+    assert!(rt; set.room() == want);
 }
 
 // Holds the set against the items of all slots.
 fn expect_items(rt: &impl Abort, set: &ItemSet<u32>, want: &[Option<u32>]) {
-    assert_eq!(rt; set.slot_count(), want.len());
-    assert_eq!(rt; set.len(), want.iter().flatten().count());
+    assert!(rt; set.slot_count() == want.len());
+    assert!(rt; set.len() == want.iter().flatten().count());
     for (at, item) in (0..u32::MAX).zip(want) {
         expect_item(rt, set, at, *item);
     }

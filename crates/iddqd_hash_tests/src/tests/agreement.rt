@@ -1,4 +1,5 @@
 //! Both tables give the same answers.
+use super::holds;
 use super::table::Table;
 use std::alloc::AllocError;
 use std::process::Abort;
@@ -19,11 +20,11 @@ fn run_both(rt: &impl Abort, plain: &mut Table, open: &mut Table) -> Result<(), 
         let (hash, value) = ((i * 5 % 8) as u64, i * 7 % 31);
         if i % 3 == 0 {
             let removed = plain.remove(hash, value);
-            assert!(rt; removed == open.remove(hash, value), "at {i}");
+            holds(rt, removed == open.remove(hash, value), i);
         } else {
-            assert!(rt; plain.add(hash, value)? && open.add(hash, value)?, "at {i}");
+            holds(rt, plain.add(hash, value)? && open.add(hash, value)?, i);
         }
-        assert!(rt; plain.len() == open.len(), "at {i}");
+        holds(rt, plain.len() == open.len(), i);
         assert_same_hits(rt, plain, open, i);
     }
     Ok(())

@@ -3,6 +3,7 @@ ghost use Rattle.std.specs.Prelude.{◌≡◌, IfOk};
 ghost use Rattle.std.specs.List.Sorted.{IsPermutation};
 ghost use Rattle.iddqd_hash.specs.HashTable.{entries};
 
+use super::holds;
 use super::refused::hash_of;
 use super::table::Table;
 use iddqd_hash::hash_table_reference::HashTable;
@@ -47,7 +48,7 @@ fn fill(rt: &impl Abort, table: &mut Table) -> Result<(), AllocError> {
 fn assert_same_hits(rt: &impl Abort, table: &Table, copy: &Table) {
     for value in 0..60 {
         let hit = table.find(hash_of(value), value).0;
-        assert!(rt; hit == copy.find(hash_of(value), value).0, "at {value}");
+        holds(rt, hit == copy.find(hash_of(value), value).0, value);
     }
 }
 
@@ -64,9 +65,9 @@ fn change_apart(rt: &impl Abort, table: &mut Table, copy: &mut Table) -> Result<
 fn assert_apart(rt: &impl Abort, table: &Table, copy: &Table) {
     for value in 1..41u32 {
         let hit = copy.find(hash_of(value), value).0;
-        assert!(rt; hit == (value % 5 > 0), "at {value}");
+        holds(rt, hit == (value % 5 > 0), value);
         let added = value + 49;
-        assert!(rt; !table.find(hash_of(added), added).0, "at {value}");
+        holds(rt, !table.find(hash_of(added), added).0, value);
     }
 }
 

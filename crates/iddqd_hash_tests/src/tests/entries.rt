@@ -3,6 +3,7 @@ ghost use Rattle.std.specs.Prelude.{◌≡◌, ◌∷◌, if◌then◌else◌, I
 ghost use Rattle.std.specs.List.Sorted.{IsPermutation};
 ghost use Rattle.iddqd_hash.specs.HashTable.{entries};
 
+use super::holds;
 use super::table::Table;
 use iddqd_hash::hash_table_reference::{Entry, HashTable};
 use iddqd_hash::open_table::{Entry as OpenEntry, OpenHashTable};
@@ -137,11 +138,12 @@ fn an_entry_is_filled_taken_or_let_go(rt: HostRuntime) -> Result<(), Fail> {
 // A vacant entry has its room, so that the insert after it takes no memory.
 fn has_room(rt: &impl Abort, table: &mut Table) -> Result<(), AllocError> {
     for value in 0..200u32 {
-        assert!(rt; !table.look(3, value)? && table.room() > 0, "at {value}");
+        holds(rt, !table.look(3, value)? && table.room() > 0, value);
         let room = table.room();
-        assert!(rt;
+        holds(
+            rt,
             table.enter(3, value)? && table.room() >= room.saturating_sub(1),
-            "at {value}"
+            value,
         );
     }
     assert!(rt; table.len() == 200);

@@ -1,4 +1,5 @@
 //! Many indexes, each found at once.
+use super::holds;
 use iddqd::item_index::ItemIndex;
 use iddqd::map_hash::MapHash;
 use iddqd_hash::hash_table::MapHashTable;
@@ -32,7 +33,7 @@ fn is_found_at_once(table: &mut MapHashTable, number: u32) -> bool {
 fn each_of_many_indexes_is_found_at_once(rt: HostRuntime) -> Result<(), Fail> {
     let mut table = file_rising(rt.alloc(), 300000)?;
     for number in 0..300000u32 {
-        assert!(rt; is_found_at_once(&mut table, number), "at {number}");
+        holds(&rt, is_found_at_once(&mut table, number), number);
     }
     assert!(rt; !is_found_at_once(&mut table, 300000));
     Ok(())

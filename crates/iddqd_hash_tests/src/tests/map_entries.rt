@@ -4,6 +4,7 @@ ghost use Rattle.std.specs.FinMap as finite;
 ghost use Rattle.iddqd_hash.specs.MapHashTable.{filed};
 
 use super::filed::file_all;
+use super::holds;
 use super::keys::Constant;
 use iddqd::item_index::ItemIndex;
 use iddqd_hash::hash_table::{Entry, MapHashTable};
@@ -94,7 +95,7 @@ fn entries_fill_a_table_of_indexes(rt: HostRuntime) -> Result<(), Fail> {
     let mut table = MapHashTable::new(rt.alloc());
     for number in 0..120u32 {
         let is_new = file_by_half(&mut table, ItemIndex::new(number))?;
-        assert!(rt; is_new == (number % 2 == 0), "at {number}");
+        holds(&rt, is_new == (number % 2 == 0), number);
     }
     assert!(rt; table.len() == 60);
     Ok(())

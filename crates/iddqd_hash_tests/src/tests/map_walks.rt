@@ -1,5 +1,6 @@
 //! Walks over the table of indexes, and `retain`.
 use super::filed::file_all;
+use super::holds;
 use iddqd::hash_builder::DefaultHashBuilder;
 use iddqd::item_index::ItemIndex;
 use iddqd_hash::hash_table::MapHashTable;
@@ -54,7 +55,7 @@ fn a_walk_gives_each_index_once(rt: HostRuntime) -> Result<(), Fail> {
     assert!(rt; has_numbers(&rt, rt.alloc(), &table, &[0, 1, 2, 3])?);
     for number in 0..6 {
         let is_filed = table.contains_index(ItemIndex::new(number));
-        assert!(rt; is_filed == (number < 4), "at {number}");
+        holds(&rt, is_filed == (number < 4), number);
     }
     assert!(rt; keep_odd(&mut table) == (4, 6));
     assert!(rt; has_numbers(&rt, rt.alloc(), &table, &[1, 3])?);

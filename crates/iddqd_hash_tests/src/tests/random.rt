@@ -1,4 +1,5 @@
 //! Random sequences of all calls, on both tables side by side.
+use super::holds;
 use super::table::Table;
 use std::alloc::{AllocError, Global};
 use std::process::Abort;
@@ -72,12 +73,13 @@ fn run(
         assert!(rt; plain.len() == open.len(), "{number} in {sequence}");
     }
     let (left, right) = (plain.values(rt, alloc)?, open.values(rt, alloc)?);
-    assert!(rt; left.as_slice() == right.as_slice(), "in {sequence}");
+    holds(rt, left.as_slice() == right.as_slice(), sequence);
     for value in 0..40 {
         let hash = ((value % 11) as u64).wrapping_mul(0x1000_0000_0000_0003);
-        assert!(rt;
+        holds(
+            rt,
             plain.find(hash, value).0 == open.find(hash, value).0,
-            "in {sequence}"
+            sequence,
         );
     }
     Ok(())

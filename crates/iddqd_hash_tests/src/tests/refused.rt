@@ -1,6 +1,7 @@
 //! Calls of which some are refused memory, on both tables and on that of indexes.
 //!
 //! With ample memory each insert is done. Run under `--fail-alloc` they show what a refusal leaves.
+use super::holds;
 use super::indexes::answer_each;
 use super::renames::file_even;
 use super::table::Table;
@@ -14,10 +15,7 @@ pub(crate) fn hash_of(value: u32) -> u64 {
 
 // The table has the values from `start` to before `end`, and no other.
 pub(crate) fn assert_holds(rt: &impl Abort, table: &Table, start: u32, end: u32) {
-    assert!(rt;
-        table.len() == end.saturating_sub(start) as usize,
-        "of {end}"
-    );
+    holds(rt, table.len() == end.saturating_sub(start) as usize, end);
     for value in 0..end.saturating_add(7) {
         let hit = table.find(hash_of(value), value).0;
         assert!(rt; hit == (start <= value && value < end), "{value} of {end}");
@@ -29,11 +27,11 @@ pub(crate) fn add_next(rt: &impl Abort, table: &mut Table, taken: u32) -> u32 {
     let room = table.room();
     match table.add(hash_of(taken), taken) {
         Ok(is_added) => {
-            assert!(rt; is_added, "at {taken}");
+            holds(rt, is_added, taken);
             taken.saturating_add(1)
         }
         Err(AllocError) => {
-            assert!(rt; table.room() == room, "at {taken}");
+            holds(rt, table.room() == room, taken);
             taken
         }
     }
@@ -46,7 +44,7 @@ fn goes_on(rt: &impl Abort, table: &mut Table) {
         assert_holds(rt, table, 0, taken);
     }
     for value in 0..taken {
-        assert!(rt; table.remove(hash_of(value), value), "at {value}");
+        holds(rt, table.remove(hash_of(value), value), value);
         assert_holds(rt, table, value.saturating_add(1), taken);
     }
     let removed = taken;

@@ -2,6 +2,7 @@
 //!
 //! Run under `--fail-alloc` they show what a refusal leaves.
 use super::filed::file_all;
+use super::holds;
 use super::keys::Constant;
 use super::refused::{add_next, assert_holds, hash_of};
 use super::table::Table;
@@ -15,10 +16,10 @@ fn enters(rt: &impl Abort, table: &mut Table) {
         let room = table.room();
         match table.enter(hash_of(taken), taken) {
             Ok(is_new) => {
-                assert!(rt; is_new, "at {taken}");
+                holds(rt, is_new, taken);
                 taken = taken.saturating_add(1);
             }
-            Err(AllocError) => assert!(rt; room == 0 && table.room() == 0, "at {taken}"),
+            Err(AllocError) => holds(rt, room == 0 && table.room() == 0, taken),
         }
         assert_holds(rt, table, 0, taken);
     }

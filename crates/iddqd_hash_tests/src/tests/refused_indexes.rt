@@ -1,6 +1,7 @@
 //! Entries of the table of indexes, of which some are refused memory.
 //!
 //! Run under `--fail-alloc` they show what a refusal leaves.
+use super::holds;
 use super::map_entries::file_by_half;
 use iddqd::item_index::ItemIndex;
 use iddqd_hash::hash_table::MapHashTable;
@@ -9,7 +10,7 @@ use std::process::Abort;
 
 // Of the indexes before `end` those that are even are filed, and no other.
 fn assert_files_even(rt: &impl Abort, table: &MapHashTable, end: u32) {
-    assert!(rt; table.len() == end.div_ceil(2) as usize, "of {end}");
+    holds(rt, table.len() == end.div_ceil(2) as usize, end);
     for number in 0..end.saturating_add(4) {
         let is_filed = table.contains_index(ItemIndex::new(number));
         assert!(rt;
@@ -25,12 +26,12 @@ fn try_next(rt: &impl Abort, table: &mut MapHashTable, tried: u32) -> u32 {
     let room = table.room();
     match file_by_half(table, ItemIndex::new(tried)) {
         Ok(is_new) => {
-            assert!(rt; is_new == (tried % 2 == 0), "at {tried}");
+            holds(rt, is_new == (tried % 2 == 0), tried);
             tried.saturating_add(1)
         }
         Err(AllocError) => {
-            assert!(rt; tried % 2 == 0 && room == 0, "at {tried}");
-            assert!(rt; table.room() == 0, "at {tried}");
+            holds(rt, tried % 2 == 0 && room == 0, tried);
+            holds(rt, table.room() == 0, tried);
             tried
         }
     }

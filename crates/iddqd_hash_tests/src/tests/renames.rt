@@ -3,6 +3,7 @@ ghost use Rattle.std.specs.Prelude.{◌≡◌, ◌⊎◌, ℕ, IfOk, IsSome};
 ghost use Rattle.std.specs.FinMap as finite;
 ghost use Rattle.iddqd_hash.specs.MapHashTable.{filed};
 
+use super::holds;
 use super::indexes::remove_filed;
 use iddqd::index_remap::IndexRemap;
 use iddqd::item_index::ItemIndex;
@@ -64,10 +65,10 @@ fn keeps_each_name_under_the_identity(rt: HostRuntime) -> Result<(), Fail> {
 // Each index has its new name under its hash, and none its old one.
 fn assert_renamed(rt: &impl Abort, table: &mut MapHashTable) {
     for (hash, old) in [(10, 4), (20, 2)] {
-        assert!(rt; !remove_filed(table, hash, ItemIndex::new(old)), "at {old}");
+        holds(rt, !remove_filed(table, hash, ItemIndex::new(old)), old);
     }
     for (hash, new) in [(10, 0), (20, 1), (10, 2)] {
-        assert!(rt; remove_filed(table, hash, ItemIndex::new(new)), "at {new}");
+        holds(rt, remove_filed(table, hash, ItemIndex::new(new)), new);
     }
 }
 

@@ -1,4 +1,5 @@
 //! Room that was reserved.
+use super::holds;
 use super::table::Table;
 use std::alloc::AllocError;
 use std::process::Abort;
@@ -10,13 +11,13 @@ fn keeps_reserved_room(rt: &impl Abort, table: &mut Table) -> Result<(), AllocEr
     table.reserve(64)?;
     for value in 0..64u32 {
         let hash = (value % 5) as u64;
-        assert!(rt; table.insert(hash, value), "at {value}");
-        assert!(rt; value % 3 > 0 || table.remove(hash, value), "at {value}");
+        holds(rt, table.insert(hash, value), value);
+        holds(rt, value % 3 > 0 || table.remove(hash, value), value);
     }
     assert!(rt; table.len() == 42);
     for value in 0..64u32 {
         let hit = table.find((value % 5) as u64, value).0;
-        assert!(rt; hit == (value % 3 > 0), "at {value}");
+        holds(rt, hit == (value % 3 > 0), value);
     }
     table.clear();
     assert!(rt; table.len() == 0 && table.room() >= 64);
@@ -36,9 +37,9 @@ fn churns(rt: &impl Abort, table: &mut Table) -> Result<(), AllocError> {
     table.reserve(1)?;
     let room = table.room();
     for call in 0..10000u32 {
-        assert!(rt; table.add(call as u64, call)?, "at {call}");
-        assert!(rt; table.remove(call as u64, call), "at {call}");
-        assert!(rt; table.room() <= room, "at {call}");
+        holds(rt, table.add(call as u64, call)?, call);
+        holds(rt, table.remove(call as u64, call), call);
+        holds(rt, table.room() <= room, call);
     }
     assert!(rt; table.len() == 0);
     Ok(())

@@ -5,6 +5,7 @@
 //! high bits differ. Pairs whose hashes have the low bits in common stand in one row behind one home, and each insert
 //! walks over all of it: n of them cost n * n / 2 steps. Ten thousand are at once there, and a million would take
 //! minutes.
+use super::holds;
 use super::table::Table;
 use std::alloc::AllocError;
 use std::process::Abort;
@@ -22,11 +23,11 @@ fn finds_each(
     }
     for value in 0..count {
         let (hit, asked) = table.find((value as u64).wrapping_mul(factor), value);
-        assert!(rt; hit && asked.asks == 1, "at {value}");
+        holds(rt, hit && asked.asks == 1, value);
     }
     for value in 0..count {
         let is_removed = table.remove((value as u64).wrapping_mul(factor), value);
-        assert!(rt; is_removed, "at {value}");
+        holds(rt, is_removed, value);
     }
     assert!(rt; table.len() == 0);
     Ok(())

@@ -50,13 +50,13 @@ fn a_refused_copy_leaves_the_source(rt: HostRuntime) {
 fn gives_all(rt: &impl Abort, mut walk: IntoIter, len: u32) {
     for number in 0..len {
         let left = (len - number) as usize;
-        assert_eq!(rt; walk.len(), left);
-        assert_eq!(rt; walk.size_hint(), (left, Some(left)));
-        assert_eq!(rt; walk.next(), Some(ItemIndex::new(number)));
+        assert!(rt; walk.len() == left);
+        assert!(rt; walk.size_hint() == (left, Some(left)));
+        assert!(rt; walk.next() == Some(ItemIndex::new(number)));
     }
     for _ in 0..3 {
-        assert_eq!(rt; walk.size_hint(), (0, Some(0)));
-        assert_eq!(rt; walk.next(), None);
+        assert!(rt; walk.size_hint() == (0, Some(0)));
+        assert!(rt; walk.next().is_none());
     }
 }
 
@@ -72,9 +72,9 @@ fn a_table_that_is_given_up_gives_its_order(rt: HostRuntime) -> Result<(), Fail>
 #[test]
 fn a_walk_may_be_let_go(rt: HostRuntime) -> Result<(), Fail> {
     let mut walk = table_of(&rt, rt.alloc(), &[2, 0, 1])?.into_iter();
-    assert_eq!(rt; walk.next(), Some(ItemIndex::new(2)));
+    assert!(rt; walk.next() == Some(ItemIndex::new(2)));
     let text = format!(in rt.alloc(); "{walk:?}")?;
-    assert_eq!(rt; text.as_str(), "IntoIter { left: 2 }");
+    assert!(rt; text.as_str() == "IntoIter { left: 2 }");
     Ok(())
 }
 
@@ -83,7 +83,7 @@ fn a_table_knows_its_indexes(rt: HostRuntime) -> Result<(), Fail> {
     for len in [0u32, 11, 89] {
         let table = filled(&rt, rt.alloc(), len, Ordering::Less)?;
         for number in 0..100 {
-            assert_eq!(rt; table.contains_index(ItemIndex::new(number)), number < len);
+            assert!(rt; table.contains_index(ItemIndex::new(number)) == (number < len));
         }
         assert!(rt; !table.contains_index(ItemIndex::SENTINEL));
     }
@@ -95,8 +95,8 @@ fn all_tables_hash_alike(rt: HostRuntime) -> Result<(), Fail> {
     let table = table_of(&rt, rt.alloc(), &[2, 0, 1])?;
     let other = MapBTreeTable::new(rt.alloc());
     let hash = table.compute_hash(7u64);
-    assert_eq!(rt; hash.hash(), other.compute_hash(7u64).hash());
-    assert_eq!(rt; hash.hash(), other.state().hash_one(7u64));
+    assert!(rt; hash.hash() == other.compute_hash(7u64).hash());
+    assert!(rt; hash.hash() == other.state().hash_one(7u64));
     assert!(rt; hash.is_same_hash(table.state(), 7u64));
     assert!(rt; !hash.is_same_hash(table.state(), 8u64));
     Ok(())

@@ -100,10 +100,10 @@ fn a_walk_may_be_cloned_at_each_place(rt: HostRuntime) -> Result<(), Fail> {
     for left in 0..701u32 {
         let mut again = walk.clone()?;
         let next = Some(ItemIndex::new(left));
-        assert_eq!(rt; again.next(), next);
-        assert_eq!(rt; again.len(), 700 - left as usize);
-        assert_eq!(rt; walk.next(), next);
-        assert_eq!(rt; again.next(), walk.clone()?.next());
+        assert!(rt; again.next() == next);
+        assert!(rt; again.len() == 700 - left as usize);
+        assert!(rt; walk.next() == next);
+        assert!(rt; again.next() == walk.clone()?.next());
     }
     Ok(())
 }

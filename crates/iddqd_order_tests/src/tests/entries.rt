@@ -178,12 +178,12 @@ fn is_evens(table: &MapBTreeTable) -> bool {
 #[test]
 fn an_entry_in_nothing_is_vacant(rt: HostRuntime) -> Result<(), Fail> {
     let mut table = MapBTreeTable::new(rt.alloc());
-    assert_eq!(rt; look(&mut table, 5), (None, 0));
-    assert_eq!(rt; take(&mut table, 5), (None, 0));
+    assert!(rt; look(&mut table, 5) == (None, 0));
+    assert!(rt; take(&mut table, 5) == (None, 0));
     only_prepare(&rt, &mut table, 5)?;
-    assert_eq!(rt; table.len(), 0);
-    assert_eq!(rt; add(&rt, &mut table, 5)?, (true, 0));
-    assert_eq!(rt; look(&mut table, 5), (Some(ItemIndex::new(5)), 1));
+    assert!(rt; table.len() == 0);
+    assert!(rt; add(&rt, &mut table, 5)? == (true, 0));
+    assert!(rt; look(&mut table, 5) == (Some(ItemIndex::new(5)), 1));
     Ok(())
 }
 
@@ -192,7 +192,7 @@ fn an_entry_that_is_let_go_changes_nothing(rt: HostRuntime) -> Result<(), Fail> 
     let mut table = evens(&rt, rt.alloc())?;
     for number in 0..300 {
         let (found, asks) = look(&mut table, number * 2);
-        assert_eq!(rt; found, Some(ItemIndex::new(number * 2)));
+        assert!(rt; found == Some(ItemIndex::new(number * 2)));
         assert!(rt; asks <= 12);
         let (found, asks) = look(&mut table, number * 2 + 1);
         assert!(rt; found.is_none());
@@ -209,10 +209,10 @@ fn an_entry_is_taken_and_added_again(rt: HostRuntime) -> Result<(), Fail> {
     for step in 0..300u32 {
         let number = step * 11 % 300 * 2;
         let (taken, asks) = take(&mut table, number);
-        assert_eq!(rt; taken, Some(ItemIndex::new(number)));
+        assert!(rt; taken == Some(ItemIndex::new(number)));
         assert!(rt; asks <= 12);
         assert!(rt; take(&mut table, number).0.is_none());
-        assert_eq!(rt; table.len(), 299);
+        assert!(rt; table.len() == 299);
         let (is_new, asks) = add(&rt, &mut table, number)?;
         assert!(rt; is_new && asks <= 12);
         assert!(rt; is_evens(&table));
@@ -230,9 +230,9 @@ fn entries_of_equal_keys_are_taken_one_by_one(rt: HostRuntime) -> Result<(), Fai
         let key = step % 20;
         let mut asking = Asking::new(|at: ItemIndex| key.cmp(&(at.as_u32() / 3)));
         let taken = take_by(&mut table, &mut asking).expect(&rt, "an index with the key");
-        assert_eq!(rt; taken.as_u32() / 3, key);
+        assert!(rt; taken.as_u32() / 3 == key);
         assert!(rt; !is_stored(&table, taken));
-        assert_eq!(rt; table.len(), 59 - step as usize);
+        assert!(rt; table.len() == 59 - step as usize);
     }
     Ok(())
 }
@@ -271,7 +271,7 @@ fn an_entry_goes_by_the_keys(rt: HostRuntime) -> Result<(), Fail> {
         assert!(rt; turn(&rt, &mut table, ix, *key_of(ItemIndex::new(ix)))?.is_none());
     }
     assert!(rt; has_order(&table, &[0, 1, 2, 3]));
-    assert_eq!(rt; turn(&rt, &mut table, 4, 20)?, Some(ItemIndex::new(1)));
+    assert!(rt; turn(&rt, &mut table, 4, 20)? == Some(ItemIndex::new(1)));
     assert!(rt; turn(&rt, &mut table, 5, 20)?.is_none());
     assert!(rt; has_order(&table, &[0, 5, 2, 3]));
     assert!(rt; turn(&rt, &mut table, 6, 25)?.is_none());
@@ -286,12 +286,12 @@ fn an_equal_answer_is_an_entry(rt: HostRuntime) -> Result<(), Fail> {
     let found = look_by(&mut table, &mut asking);
     assert!(rt; found.is_some());
     let (taken, asks) = take_told(&mut table, Ordering::Equal, Ordering::Equal);
-    assert_eq!(rt; taken, found);
-    assert_eq!(rt; asks, 1);
+    assert!(rt; taken == found);
+    assert!(rt; asks == 1);
     let (is_new, asks) = add_told(&rt, &mut table, 100, Ordering::Equal, Ordering::Equal)?;
     assert!(rt; !is_new);
-    assert_eq!(rt; asks, 1);
-    assert_eq!(rt; table.len(), 99);
+    assert!(rt; asks == 1);
+    assert!(rt; table.len() == 99);
     Ok(())
 }
 
@@ -303,7 +303,7 @@ fn entries_by_changing_answers_keep_each_index_once(rt: HostRuntime) -> Result<(
         let (is_new, asks) = add_told(&rt, &mut table, ix, Ordering::Less, Ordering::Greater)?;
         assert!(rt; is_new && asks <= most);
         assert!(rt; is_stored(&table, ItemIndex::new(ix)));
-        assert_eq!(rt; table.len(), 1 + ix as usize);
+        assert!(rt; table.len() == 1 + ix as usize);
     }
     for step in 0..200u32 {
         let most = bound(table.len());
@@ -312,7 +312,7 @@ fn entries_by_changing_answers_keep_each_index_once(rt: HostRuntime) -> Result<(
         let gone = taken.or(table.last()).expect(&rt, "an index that is left");
         assert!(rt; taken.is_none() || !is_stored(&table, gone));
         table.remove_exact(gone);
-        assert_eq!(rt; table.len(), 199 - step as usize);
+        assert!(rt; table.len() == 199 - step as usize);
     }
     Ok(())
 }
@@ -328,7 +328,7 @@ fn a_refused_entry_changes_nothing(rt: HostRuntime) {
         } else {
             before
         };
-        assert_eq!(rt; table.len(), after);
+        assert!(rt; table.len() == after);
     }
     assert!(rt; is_whole(&table));
 }

@@ -76,13 +76,13 @@ fn all_orders_of_six_keys(rt: HostRuntime) -> Result<(), Fail> {
             let ix = digit(code, place);
             let (found, asked) = find(&table, *key_of(ix));
             assert!(rt; found.is_some());
-            assert_eq!(rt; asked.after_hit, 0);
+            assert!(rt; asked.after_hit == 0);
             assert!(rt; asked.asks <= bound(table.len()));
             assert!(rt; remove(&mut table, ix));
         }
-        assert_eq!(rt; table.len(), 0);
+        assert!(rt; table.len() == 0);
     }
-    assert_eq!(rt; orders, 720);
+    assert!(rt; orders == 720);
     Ok(())
 }
 
@@ -92,7 +92,7 @@ fn a_find_misses_a_key_that_no_index_has(rt: HostRuntime) -> Result<(), Fail> {
     for ix in [3, 0, 5, 4] {
         insert(&rt, &mut table, ix)?;
     }
-    assert_eq!(rt; find(&table, 30).0, Some(ItemIndex::new(3)));
+    assert!(rt; find(&table, 30).0 == Some(ItemIndex::new(3)));
     for key in [0, 20, 35, 99] {
         assert!(rt; find(&table, key).0.is_none());
     }

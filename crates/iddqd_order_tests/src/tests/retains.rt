@@ -16,7 +16,7 @@ fn each_index_is_asked_about_once_in_order(rt: HostRuntime) -> Result<(), Fail> 
         asked = asked.wrapping_mul(10).wrapping_add(ix.as_u32());
         ix != ItemIndex::new(2)
     });
-    assert_eq!(rt; asked, 1021);
+    assert!(rt; asked == 1021);
     assert!(rt; has_order(&table, &[0, 1]));
     Ok(())
 }
@@ -31,14 +31,14 @@ fn keep_sevenths(rt: &impl Abort, table: &mut MapBTreeTable) {
         ix.as_u32() % 7 == 0
     });
     assert!(rt; is_in_order);
-    assert_eq!(rt; asks, 1000);
-    assert_eq!(rt; table.len(), 143);
+    assert!(rt; asks == 1000);
+    assert!(rt; table.len() == 143);
     let mut expected = 0u32;
     for ix in table.iter() {
-        assert_eq!(rt; ix.as_u32(), expected);
+        assert!(rt; ix.as_u32() == expected);
         expected = expected.wrapping_add(7);
     }
-    assert_eq!(rt; expected, 1001);
+    assert!(rt; expected == 1001);
 }
 
 // The indexes below 1000 in order, added from the highest down.
@@ -71,8 +71,8 @@ fn keep_by_bit(rt: &impl Abort, alloc: Global, len: u32, bit: u32) -> Result<(),
             expected.push(ix)?;
         }
     }
-    assert_eq!(rt; asks, len);
-    assert_eq!(rt; table.len(), expected.len());
+    assert!(rt; asks == len);
+    assert!(rt; table.len() == expected.len());
     assert!(rt; has_order(&table, &expected));
     Ok(())
 }

@@ -12,18 +12,12 @@ use std::test::Fail;
 fn read(rt: &impl Abort, pair: &Pair, ix: u32) {
     let sought = ItemIndex::new(ix);
     let is_stored = pair.list.binary_search(&ix).is_ok();
-    assert_eq!(rt; pair.table.contains_index(sought), is_stored);
+    assert!(rt; pair.table.contains_index(sought) == is_stored);
     let mut asking = Asking::new(|stored: ItemIndex| sought.cmp(&stored));
-    assert_eq!(rt; pair.table.find_by(&mut asking).is_some(), is_stored);
-    assert_eq!(rt; pair.table.len(), pair.list.len());
-    assert_eq!(rt;
-        pair.table.first().map(|first| first.as_u32()),
-        pair.list.first().copied()
-    );
-    assert_eq!(rt;
-        pair.table.last().map(|last| last.as_u32()),
-        pair.list.last().copied()
-    );
+    assert!(rt; pair.table.find_by(&mut asking).is_some() == is_stored);
+    assert!(rt; pair.table.len() == pair.list.len());
+    assert!(rt; pair.table.first().map(|first| first.as_u32()) == pair.list.first().copied());
+    assert!(rt; pair.table.last().map(|last| last.as_u32()) == pair.list.last().copied());
 }
 
 // Keeps the indexes that have one of these bits, and looks at the answers' number.
@@ -34,7 +28,7 @@ fn retain(rt: &impl Abort, pair: &mut Pair, bits: u32) {
         asks = asks.wrapping_add(1);
         ix.as_u32() & bits != 0
     });
-    assert_eq!(rt; asks, len);
+    assert!(rt; asks == len);
     pair.list.retain(|ix| *ix & bits != 0);
 }
 
@@ -49,9 +43,9 @@ fn copy(rt: &impl Abort, pair: &mut Pair) -> Result<(), AllocError> {
     let old = std::mem::replace(&mut pair.table, copy);
     let mut walk = old.into_iter();
     for ix in &pair.list {
-        assert_eq!(rt; walk.next(), Some(ItemIndex::new(*ix)));
+        assert!(rt; walk.next() == Some(ItemIndex::new(*ix)));
     }
-    assert_eq!(rt; walk.next(), None);
+    assert!(rt; walk.next().is_none());
     Ok(())
 }
 

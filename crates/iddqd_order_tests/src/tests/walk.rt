@@ -11,8 +11,8 @@ fn a_table_shows_its_order(rt: HostRuntime) -> Result<(), Fail> {
     let empty = MapBTreeTable::new(rt.alloc());
     assert!(rt; empty.first().is_none() && empty.last().is_none());
     let table = table_of(&rt, rt.alloc(), &[2, 0, 1])?;
-    assert_eq!(rt; table.first(), Some(ItemIndex::new(2)));
-    assert_eq!(rt; table.last(), Some(ItemIndex::new(1)));
+    assert!(rt; table.first() == Some(ItemIndex::new(2)));
+    assert!(rt; table.last() == Some(ItemIndex::new(1)));
     Ok(())
 }
 
@@ -20,10 +20,10 @@ fn a_table_shows_its_order(rt: HostRuntime) -> Result<(), Fail> {
 fn a_table_prints_its_order(rt: HostRuntime) -> Result<(), Fail> {
     let table = table_of(&rt, rt.alloc(), &[2, 0, 1])?;
     let text = format!(in rt.alloc(); "{table:?}")?;
-    assert_eq!(rt; text.as_str(), "MapBTreeTable { items: [2, 0, 1] }");
+    assert!(rt; text.as_str() == "MapBTreeTable { items: [2, 0, 1] }");
     let walk = table.iter();
     let text = format!(in rt.alloc(); "{walk:?}")?;
-    assert_eq!(rt; text.as_str(), "Iter { rest: [2, 0, 1] }");
+    assert!(rt; text.as_str() == "Iter { rest: [2, 0, 1] }");
     Ok(())
 }
 
@@ -33,7 +33,7 @@ fn the_walk_removes_its_index_alone(rt: HostRuntime) -> Result<(), Fail> {
     table.remove_exact(ItemIndex::new(0));
     assert!(rt; has_order(&table, &[2, 1]));
     table.remove_exact(ItemIndex::new(7));
-    assert_eq!(rt; table.len(), 2);
+    assert!(rt; table.len() == 2);
     Ok(())
 }
 
@@ -41,7 +41,7 @@ fn the_walk_removes_its_index_alone(rt: HostRuntime) -> Result<(), Fail> {
 fn a_cleared_table_is_empty(rt: HostRuntime) -> Result<(), Fail> {
     let mut table = table_of(&rt, rt.alloc(), &[2, 0, 1])?;
     table.clear();
-    assert_eq!(rt; table.len(), 0);
+    assert!(rt; table.len() == 0);
     assert!(rt; table.first().is_none());
     Ok(())
 }
@@ -50,15 +50,15 @@ fn a_cleared_table_is_empty(rt: HostRuntime) -> Result<(), Fail> {
 fn a_walk_counts_down_and_stays_ended(rt: HostRuntime) -> Result<(), Fail> {
     let table = table_of(&rt, rt.alloc(), &[2, 0, 1])?;
     let mut walk = table.iter();
-    assert_eq!(rt; walk.next(), Some(ItemIndex::new(2)));
+    assert!(rt; walk.next() == Some(ItemIndex::new(2)));
     let mut again = walk.clone()?;
     for (left, expected) in [(2, Some(0)), (1, Some(1)), (0, None), (0, None)] {
-        assert_eq!(rt; walk.len(), left);
-        assert_eq!(rt; walk.size_hint(), (left, Some(left)));
-        assert_eq!(rt; walk.next(), expected.map(ItemIndex::new));
+        assert!(rt; walk.len() == left);
+        assert!(rt; walk.size_hint() == (left, Some(left)));
+        assert!(rt; walk.next() == expected.map(ItemIndex::new));
     }
-    assert_eq!(rt; again.len(), 2);
-    assert_eq!(rt; again.next(), Some(ItemIndex::new(0)));
+    assert!(rt; again.len() == 2);
+    assert!(rt; again.next() == Some(ItemIndex::new(0)));
     Ok(())
 }
 
@@ -69,14 +69,14 @@ fn a_prepared_insert_that_is_let_go_changes_nothing(rt: HostRuntime) -> Result<(
     {
         let _prepared = table.prepare_insert_by(ItemIndex::new(3), &mut equal)?;
     }
-    assert_eq!(rt; table.len(), 0);
+    assert!(rt; table.len() == 0);
     table
         .prepare_insert_by(ItemIndex::new(3), &mut equal)?
         .insert();
     {
         let _prepared = table.prepare_remove_by(ItemIndex::new(3), &mut equal);
     }
-    assert_eq!(rt; table.len(), 1);
+    assert!(rt; table.len() == 1);
     Ok(())
 }
 
@@ -95,7 +95,7 @@ fn counts_up(table: &MapBTreeTable) -> bool {
 fn add_behind(rt: &impl Abort, table: &mut MapBTreeTable, ix: u32) -> u32 {
     let is_added = insert_told(rt, table, ix, Ordering::Greater, Ordering::Greater).is_ok();
     let len = if is_added { ix.wrapping_add(1) } else { ix };
-    assert_eq!(rt; table.len(), len as usize);
+    assert!(rt; table.len() == len as usize);
     len
 }
 

@@ -17,7 +17,7 @@ fn copy_of(set: &ItemSet<u32>) -> Result<ItemSet<u32>, AllocError>
 
 // A copy gives out its vacant slots as its source would.
 fn fill_copy(rt: &impl Abort, copy: &mut ItemSet<u32>) -> Result<(), GrowError> {
-    assert_eq!(rt; copy.len(), 2);
+    assert!(rt; copy.len() == 2);
     expect_items(rt, copy, &[Some(0), None, None, Some(3)]);
     insert_at(rt, copy, 5, 2)?;
     insert_at(rt, copy, 6, 1)?;
@@ -33,7 +33,7 @@ fn a_copy_has_the_items_and_the_chain(rt: HostRuntime) -> Result<(), Fail> {
     remove(&rt, &mut set, 2, 2);
     fill_copy(&rt, &mut copy_of(&set)?)?;
     expect_items(&rt, &set, &[Some(0), None, None, Some(3)]);
-    assert_eq!(rt; ItemSet::<u32>::new(rt.alloc()).clone()?.slot_count(), 0);
+    assert!(rt; ItemSet::<u32>::new(rt.alloc()).clone()?.slot_count() == 0);
     Ok(())
 }
 
@@ -69,7 +69,7 @@ fn items_with_one_refused(alloc: Global, refused: u32) -> Result<ItemSet<Item>, 
 fn an_item_that_gives_no_copy_ends_the_copy(rt: HostRuntime) -> Result<(), Fail> {
     for refused in 0..5u32 {
         let set = items_with_one_refused(rt.alloc(), refused)?;
-        assert_eq!(rt; set.clone().is_ok(), refused == 4);
+        assert!(rt; set.clone().is_ok() == (refused == 4));
         for number in 0..4 {
             assert!(rt;
                 set.get(ix(number))
@@ -97,11 +97,11 @@ fn lists(alloc: Global) -> Result<ItemSet<Vec<u32>>, AllocError> {
 }
 
 fn expect_lists(rt: &impl Abort, set: &ItemSet<Vec<u32>>) {
-    assert_eq!(rt; (set.len(), set.slot_count()), (3, 4));
+    assert!(rt; (set.len(), set.slot_count()) == (3, 4));
     assert!(rt; set.get(ix(1)).is_none());
     for number in [0, 2, 3] {
         match set.get(ix(number)) {
-            Some(list) => assert_eq!(rt; list.as_slice(), [number, number, number].as_slice()),
+            Some(list) => assert!(rt; list.as_slice() == [number, number, number].as_slice()),
             None => panic!(rt; "no list at {number}"),
         }
     }
@@ -142,13 +142,10 @@ fn a_refused_copy_of_a_remap_leaves_it(rt: HostRuntime) {
 
 #[test]
 fn a_copy_of_a_slot(rt: HostRuntime) -> Result<(), Fail> {
-    assert_eq!(rt;
-        ItemSlot::Occupied(7u32).clone()?.as_ref().copied(),
-        Some(7)
-    );
+    assert!(rt; ItemSlot::Occupied(7u32).clone()?.as_ref().copied() == Some(7));
     let vacant = ItemSlot::<u32>::Vacant { next: ix(3) };
     match vacant.clone()? {
-        ItemSlot::Vacant { next } => assert_eq!(rt; next, ix(3)),
+        ItemSlot::Vacant { next } => assert!(rt; next == ix(3)),
         ItemSlot::Occupied(_) => panic!(rt; "an item"),
     }
     Ok(())

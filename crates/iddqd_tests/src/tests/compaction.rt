@@ -14,7 +14,7 @@ fn expect_names(rt: &impl Abort, remap: &IndexRemap, want: &[ItemIndex]) {
     let IndexRemap::Permuted(names) = remap else {
         panic!(rt; "no list of names");
     };
-    assert_eq!(rt; names.as_slice(), want);
+    assert!(rt; names.as_slice() == want);
 }
 
 // Compacts the set, which is to give these names.
@@ -66,7 +66,7 @@ fn without_gaps_every_index_keeps_its_name(rt: HostRuntime) -> Result<(), Fail> 
 }
 
 fn expect_name(rt: &impl Abort, remap: &IndexRemap, old: u32, want: Option<u32>) {
-    assert_eq!(rt; new_name(remap, old), want.map(ix), "at {old}");
+    assert!(rt; new_name(remap, old) == want.map(ix), "at {old}");
 }
 
 // The names after a compaction of five slots, of which 1, 3 and 4 were vacant.
@@ -117,10 +117,10 @@ fn expect_ranks(rt: &impl Abort, set: &ItemSet<u32>, remap: &IndexRemap, gaps: u
 fn compact_to_ranks(rt: &impl Abort, set: &mut ItemSet<u32>, gaps: u32) -> Result<(), AllocError> {
     let room = set.room();
     let remap = set.compact()?;
-    assert_eq!(rt; remap.is_identity(), gaps == 0);
+    assert!(rt; remap.is_identity() == (gaps == 0));
     expect_room(rt, set, room);
     let live = expect_ranks(rt, set, &remap, gaps) as usize;
-    assert_eq!(rt; (set.len(), set.slot_count()), (live, live));
+    assert!(rt; (set.len(), set.slot_count()) == (live, live));
     Ok(())
 }
 
@@ -142,7 +142,7 @@ fn try_compact(rt: &impl Abort, set: &mut ItemSet<u32>) -> bool {
         let before = [Some(0), None, Some(20), Some(30), None, Some(50)];
         expect_items(rt, set, &before);
     }
-    assert_eq!(rt; set.room(), room, "the memory stays");
+    assert!(rt; set.room() == room, "the memory stays");
     is_done
 }
 
@@ -161,6 +161,6 @@ fn a_remap_prints_for_debugging(rt: HostRuntime) -> Result<(), Fail> {
     let names = vec![in rt.alloc(); ix(0), S, ix(1)]?;
     let (same, moved) = (IndexRemap::Identity, IndexRemap::Permuted(names));
     let text = format!(in rt.alloc(); "{same:?} {moved:?}")?;
-    assert_eq!(rt; text.as_str(), "Identity Permuted([0, 4294967295, 1])");
+    assert!(rt; text.as_str() == "Identity Permuted([0, 4294967295, 1])");
     Ok(())
 }

@@ -14,7 +14,7 @@ fn let_go(set: &mut ItemSet<u32>) -> Result<(ItemIndex, Option<u32>), GrowError>
 fn a_handle_takes_the_room_for_an_item(rt: HostRuntime) -> Result<(), Fail> {
     let mut set = ItemSet::new(rt.alloc());
     expect_room(&rt, &set, 0);
-    assert_eq!(rt; let_go(&mut set)?, (ix(0), None));
+    assert!(rt; let_go(&mut set)? == (ix(0), None));
     assert!(rt; set.room() >= 1);
     expect_items(&rt, &set, &[]);
     Ok(())
@@ -24,7 +24,7 @@ fn a_handle_takes_the_room_for_an_item(rt: HostRuntime) -> Result<(), Fail> {
 fn a_handle_that_is_let_go_leaves_the_contents(rt: HostRuntime) -> Result<(), Fail> {
     let mut set = with_gaps(&rt, rt.alloc(), 4, &[1])?;
     let room = set.room();
-    assert_eq!(rt; let_go(&mut set)?, (ix(1), Some(0)));
+    assert!(rt; let_go(&mut set)? == (ix(1), Some(0)));
     expect_items(&rt, &set, &[Some(0), None, Some(20), Some(30)]);
     expect_room(&rt, &set, room);
     insert_at(&rt, &mut set, 9, 1)?;
@@ -36,12 +36,12 @@ fn grow(rt: &impl Abort, set: &mut ItemSet<u32>, item: u32) -> bool {
     let (slots, room) = (set.slot_count(), set.room());
     match insert(rt, set, item) {
         Ok(at) => {
-            assert_eq!(rt; at, ix(item));
+            assert!(rt; at == ix(item));
             true
         }
         Err(refused) => {
-            assert_eq!(rt; refused, GrowError::Memory);
-            assert_eq!(rt; (room, set.room(), set.slot_count()), (0, 0, slots));
+            assert!(rt; refused == GrowError::Memory);
+            assert!(rt; (room, set.room(), set.slot_count()) == (0, 0, slots));
             false
         }
     }
@@ -55,7 +55,7 @@ fn a_refused_request_changes_nothing(rt: HostRuntime) {
         if grow(&rt, &mut set, taken) {
             taken = taken.saturating_add(1);
         }
-        assert_eq!(rt; set.len(), taken as usize);
+        assert!(rt; set.len() == taken as usize);
         for n in 0..taken {
             expect_item(&rt, &set, n, Some(n));
         }

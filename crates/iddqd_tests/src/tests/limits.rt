@@ -59,23 +59,23 @@ fn refusal(set: &mut ItemSet<u32>) -> Option<GrowError> {
 
 fn expect_refusal(rt: &impl Abort, set: &mut ItemSet<u32>) {
     expect_room(rt, set, 0);
-    assert_eq!(rt; refusal(set), Some(GrowError::Full));
+    assert!(rt; refusal(set) == Some(GrowError::Full));
 }
 
 // Inserts items under the indexes from the first on, until the set is full.
 fn fill_up(rt: &impl Abort, set: &mut ItemSet<u32>, limit: u32) -> Result<(), GrowError> {
     for n in 0..limit {
-        assert_eq!(rt; refusal(set), None);
+        assert!(rt; refusal(set).is_none());
         insert_at(rt, set, n.saturating_mul(10), n)?;
     }
     expect_refusal(rt, set);
-    assert_eq!(rt; set.slot_count(), limit as usize);
+    assert!(rt; set.slot_count() == limit as usize);
     Ok(())
 }
 
 // A set that was filled up is full again after each removal with an insert.
 fn stays_full(rt: &impl Abort, set: &mut ItemSet<u32>, limit: u32) -> Result<(), GrowError> {
-    assert_eq!(rt; (set.capacity(), set.room()), (0, 0));
+    assert!(rt; (set.capacity(), set.room()) == (0, 0));
     fill_up(rt, set, limit)?;
     for at in 0..limit {
         remove(rt, set, at, at.saturating_mul(10));
@@ -159,7 +159,7 @@ fn clear_and_clone_keep_the_limit(rt: HostRuntime) -> Result<(), Fail> {
 #[test]
 fn a_copy_of_a_full_set_is_full(rt: HostRuntime) -> Result<(), Fail> {
     let mut set = one_item(rt.alloc())?;
-    assert_eq!(rt; set.get(ix(0)).copied(), Some(7));
+    assert!(rt; set.get(ix(0)).copied() == Some(7));
     copy_and_expect_full(&set)?;
     reserve_and_expect_full(&mut set, 9)?;
     expect_items(&rt, &set, &[Some(7)]);

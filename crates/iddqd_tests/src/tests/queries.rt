@@ -49,7 +49,7 @@ fn stands_where_its_key_stands(rt: HostRuntime) {
     ] {
         let is_equal = key == 5;
         let held = Held(5);
-        assert_eq!(rt; answers(&held, &key), (is_equal, want));
-        assert_eq!(rt; answers(&Same(&5), &&key), (is_equal, want));
+        assert!(rt; answers(&held, &key) == (is_equal, want));
+        assert!(rt; answers(&Same(&5), &&key) == (is_equal, want));
     }
 }

@@ -6,7 +6,7 @@ use std::process::Abort;
 use std::test::Fail;
 
 fn expect_next(rt: &impl Abort, set: &ItemSet<u32>, from: ItemIndex, want: Option<u32>) {
-    assert_eq!(rt; set.next_occupied(from), want.map(ix), "from {from}");
+    assert!(rt; set.next_occupied(from) == want.map(ix), "from {from}");
 }
 
 #[test]
@@ -51,15 +51,12 @@ fn every_item_is_written_by_the_next_live_index(rt: HostRuntime) -> Result<(), F
 
 fn expect_valid(rt: &impl Abort, set: &ItemSet<u32>) {
     let valid = set.disjoint_valid([ix(0), ix(0), ix(1), ix(9), ix(2)]);
-    assert_eq!(rt; valid, [true, false, false, false, true]);
-    assert_eq!(rt; set.disjoint_valid([ix(4)]), [true]);
-    assert_eq!(rt; set.disjoint_valid([ix(1), ix(1)]), [false, false]);
-    assert_eq!(rt;
-        set.disjoint_valid([ItemIndex::SENTINEL, ix(2)]),
-        [false, true]
-    );
+    assert!(rt; valid == [true, false, false, false, true]);
+    assert!(rt; set.disjoint_valid([ix(4)]) == [true]);
+    assert!(rt; set.disjoint_valid([ix(1), ix(1)]) == [false, false]);
+    assert!(rt; set.disjoint_valid([ItemIndex::SENTINEL, ix(2)]) == [false, true]);
     let none: [ItemIndex; 0] = [];
-    assert_eq!(rt; set.disjoint_valid(none).len(), 0);
+    assert!(rt; set.disjoint_valid(none).len() == 0);
 }
 
 #[test]
@@ -79,8 +76,8 @@ fn double_next(set: &mut ItemSet<u32>, from: ItemIndex) -> Option<u32> {
 #[test]
 fn brackets_read_and_write_a_live_index(rt: HostRuntime) -> Result<(), Fail> {
     let mut set = with_gaps(&rt, rt.alloc(), 4, &[1])?;
-    assert_eq!(rt; double_next(&mut set, ix(1)), Some(40));
-    assert_eq!(rt; double_next(&mut set, ix(4)), None);
+    assert!(rt; double_next(&mut set, ix(1)) == Some(40));
+    assert!(rt; double_next(&mut set, ix(4)).is_none());
     expect_items(&rt, &set, &[Some(0), None, Some(40), Some(30)]);
     expect_item(&rt, &set, 4, None);
     Ok(())
@@ -90,12 +87,12 @@ fn brackets_read_and_write_a_live_index(rt: HostRuntime) -> Result<(), Fail> {
 fn a_slot_gives_its_item(rt: HostRuntime) {
     let mut slot = ItemSlot::Occupied(7u32);
     assert!(rt; slot.is_occupied());
-    assert_eq!(rt; slot.as_ref().copied(), Some(7));
+    assert!(rt; slot.as_ref().copied() == Some(7));
     match slot.as_mut() {
         Some(item) => *item = 8,
         None => panic!(rt; "no item"),
     }
-    assert_eq!(rt; slot.as_ref().copied(), Some(8));
+    assert!(rt; slot.as_ref().copied() == Some(8));
     let mut vacant = ItemSlot::<u32>::Vacant { next: ix(3) };
     assert!(rt; !vacant.is_occupied());
     assert!(rt; vacant.as_ref().is_none());

@@ -56,13 +56,13 @@ fn insert_without_memory(rt: &impl Abort, set: &mut ItemSet<u32>, want: &[u32]) 
     for at in want {
         assert!(rt; set.room() > 0, "inserting at {at}");
         let got = insert_in_room(set, at.saturating_mul(10));
-        assert_eq!(rt; got, ix(*at));
+        assert!(rt; got == ix(*at));
     }
-    assert_eq!(rt; set.capacity(), capacity);
+    assert!(rt; set.capacity() == capacity);
 }
 
 fn expect_none_taken(rt: &impl Abort, set: &ItemSet<u32>) {
-    assert_eq!(rt; (set.room(), set.capacity()), (0, 0));
+    assert!(rt; (set.room(), set.capacity()) == (0, 0));
     assert!(rt; set.is_empty());
 }
 
@@ -97,7 +97,7 @@ fn as_many_inserts_as_were_reserved_need_no_memory(rt: HostRuntime) -> Result<()
     let mut set = with_room_for_six(&rt, rt.alloc())?;
     assert!(rt; set.capacity() >= 9);
     insert_without_memory(&rt, &mut set, &[5, 3, 1, 6, 7, 8]);
-    assert_eq!(rt; set.len(), 9);
+    assert!(rt; set.len() == 9);
     Ok(())
 }
 
@@ -144,13 +144,13 @@ fn shrink_to(
     want: usize,
 ) -> Result<(), AllocError> {
     set.shrink_capacity_to(least)?;
-    assert_eq!(rt; set.capacity(), want, "shrinking to {least}");
+    assert!(rt; set.capacity() == want, "shrinking to {least}");
     Ok(())
 }
 
 fn shrink_to_fit(rt: &impl Abort, set: &mut ItemSet<u32>, want: usize) -> Result<(), AllocError> {
     set.shrink_capacity_to_fit()?;
-    assert_eq!(rt; set.capacity(), want);
+    assert!(rt; set.capacity() == want);
     Ok(())
 }
 
@@ -186,7 +186,7 @@ fn callers_of_sizes(rt: HostRuntime) -> Result<(), Fail> {
         &set,
         &[Some(0), Some(10), Some(20), Some(30), Some(40)],
     );
-    assert_eq!(rt; insert_after_steps(&mut set, ix(4))?, ix(1));
+    assert!(rt; insert_after_steps(&mut set, ix(4))? == ix(1));
     expect_items(&rt, &set, &[Some(2), Some(3)]);
     Ok(())
 }
@@ -224,6 +224,6 @@ fn a_refused_size_keeps_the_contents(rt: HostRuntime) {
         try_sizes(&rt, &mut set, asked);
     }
     if let Ok(other) = ItemSet::<u32>::with_capacity(rt.alloc(), 7) {
-        assert_eq!(rt; other.room(), 7);
+        assert!(rt; other.room() == 7);
     }
 }

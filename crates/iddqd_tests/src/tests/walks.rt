@@ -110,7 +110,7 @@ fn values_pass_over_the_gaps(rt: HostRuntime) -> Result<(), Fail> {
         (0, None),
         (0, None),
     ] {
-        assert_eq!(rt; (values.len(), values.next().copied()), (left, item));
+        assert!(rt; (values.len(), values.next().copied()) == (left, item));
     }
     Ok(())
 }
