@@ -1,9 +1,9 @@
 -- Compaction keeps store and tables paired and in order.
-use Rattle.std.proofs.Common.{◌≡◌, ◌∙◌, ◌↔◌, ℕ, Bool, map, Some, IsSome, option_map, refl, sym, ap, subst}
+use Rattle.std.proofs.Common.{◌≡◌, ◌∙◌, ◌↔◌, ℕ, Bool, map, Some, IsSome, option_map, sym, ap, subst}
 use Rattle.std.specs.List.{Contains}
 use Rattle.std.specs.FinMap as finite
 use Rattle.std.specs.Cmp.Lexicographic.{options_total}
-use Rattle.iddqd.specs.Store.{Store, IsValid, get}
+use Rattle.iddqd.specs.Store.{IsValid, get}
 use Rattle.iddqd.specs.Compaction.{IsRemapOf, remapped, compacted, rank}
 use Rattle.iddqd.specs.declared.index_remap.IndexRemap.{IndexRemap}
 use Rattle.iddqd.proofs.CompactionLemmas.{IsValid-compacted, get-compacted, live-compacted, rank_rises, rank_one_to_one}

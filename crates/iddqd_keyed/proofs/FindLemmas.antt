@@ -10,9 +10,12 @@ use Rattle.std.proofs.lemmas.List.Elements.{All-contains}
 use Rattle.iddqd.specs.Store.{Store, get}
 use Rattle.iddqd_hash.specs.MapHashTable.{FindsWhere}
 use Rattle.iddqd_order.specs.declared.btree_table.asking.Asking.{Asking}
-use Rattle.iddqd_order.specs.Search.{IsSteady, Finds}
+use Rattle.iddqd_order.specs.declared.btree_table.entry.Entry.{Entry}
+use Rattle.iddqd_order.specs.declared.btree_table.entry.Entry.TheVariants.{Occupied, Vacant}
+use Rattle.iddqd_order.specs.Entry.{entry_index, Enters}
+use Rattle.iddqd_order.specs.Search.{IsSteady, IsSteadyRising, Finds}
 use Rattle.iddqd_keyed.specs.Keys.{Keys, has_first, has_second}
-use Rattle.iddqd_keyed.specs.State.{State, IsLive, IsHit, HasNoHit, AnswersScan, IsPaired, compares_equal, FindsFiled, FindsInOrder, hash_in, Finds1, Finds2, LooksUp1, LooksUp2, FirstKeysInOrder, SecondKeysInOrder}
+use Rattle.iddqd_keyed.specs.State.{State, IsLive, IsHit, HasNoHit, AnswersScan, IsPaired, compares_equal, IsSortedBy, FindsFiled, FindsInOrder, EntersOrder, hash_in, Finds1, Finds2, LooksUp1, LooksUp2, FirstKeysInOrder, SecondKeysInOrder}
 use Rattle.iddqd_keyed.specs.Machine.{IsSortedScan}
 use Rattle.iddqd_keyed.proofs.KeyLemmas.{AreLawful}
 use Rattle.iddqd.proofs.LiveLemmas.{item_at, live_at}
@@ -58,11 +61,25 @@ module _ {T K : Type 0} (key_of : T → K) (compare : K → K → Ordering) (s :
       All-contains (λ j. compared_at key_of compare s key j ≢ Equal) order ix none ((stored ix).1 (live_at s ix item is))
       (compared_live key_of compare s key ix item is ∙ equal_from_hit _ passed)
 
-  -- what a find in the order tells, where each answer reads as the comparison of the key with that of the index
+  -- what a find or an entry in the order tells, where each answer reads as the comparison of the key with that of the index
   module _ {F R : Type 0} (g : Mut F (ℕ × Unit {0}) R) (read : R → Ordering) (old new : Asking F) (total : IsTotalOrder compare) (steady : IsSteady g order None read (compared_at key_of compare s key) old) where
+    abbrev answer : ℕ → Ordering
+    answer = compared_at key_of compare s key
+
+    rises : IsSortedBy key_of compare s order → IsSteadyRising g order None read answer old
+    rises sorted = record { steady = steady; rising = IsRising-find key_of compare total s order key sorted }
+
     pub FindsInOrder-from_finds : (r : Option ℕ) → Finds g read order old r new → FindsInOrder key_of compare s order key r
-    FindsInOrder-from_finds None finds = λ sorted. equal_miss (finds.miss (compared_at key_of compare s key) (record { steady = steady; rising = IsRising-find key_of compare total s order key sorted }) refl)
-    FindsInOrder-from_finds (Some ix) finds = equal_hit ix finds.stored (finds.hit (compared_at key_of compare s key) steady)
+    FindsInOrder-from_finds None finds = λ sorted. equal_miss (finds.miss answer (rises sorted) refl)
+    FindsInOrder-from_finds (Some ix) finds = equal_hit ix finds.stored (finds.hit answer steady)
+
+    pub EntersOrder-from_enters : (e : Entry) → Enters g read order old e new → EntersOrder key_of compare s order key e
+    EntersOrder-from_enters (Occupied entry) enters = equal_hit (entry_index entry) enters.stored (enters.hit answer steady)
+    EntersOrder-from_enters (Vacant entry) enters = record {
+      within = enters.within;
+      misses = λ sorted. equal_miss (enters.miss answer (rises sorted));
+      is_place = λ sorted. enters.place answer (rises sorted);
+    }
 
 module _ {T S K1 K2 : Type 0} (keys : Keys T K1 K2 S) where
   -- where each live index is filed under the hash of its first key, that is a scan

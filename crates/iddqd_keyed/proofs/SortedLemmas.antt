@@ -1,12 +1,12 @@
 -- Orders that are sorted by key: how searches are answered there, and that they stay sorted.
-use Rattle.std.proofs.Common.{◌≡◌, ◌∙◌, ◌+◌, ℕ, List, get_or, insert, Some, None, refl, sym, ap, subst, Ordering, arith}
+use Rattle.std.proofs.Common.{◌≡◌, ◌∙◌, ◌+◌, ◌<◌, ℕ, List, length, get_or, insert, inl, inr, Some, None, refl, sym, ap, subst, Ordering, arith}
 use Rattle.std.specs.List.{Contains}
 use Rattle.std.specs.Option.{option_map, option_cmp}
 use Rattle.std.specs.Ordering.{nat_cmp, ordering_then}
-use Rattle.std.specs.Fn.{Mut}
 use Rattle.std.specs.Cmp.{IsTotalOrder}
 use Rattle.std.specs.Cmp.Lexicographic.{options_total}
 use Rattle.std.specs.declared.cmp.Ordering.TheVariants.{Equal}
+use Rattle.std.proofs.lemmas.Bool.{cases_lt}
 use Rattle.std.proofs.lemmas.Cmp.{alike_right, tied_itself}
 use Rattle.std.proofs.lemmas.List.Elements.{Contains-get_or}
 use Rattle.std.proofs.lemmas.List.Kept.{IsStrictlySortedBy-filter}
@@ -14,12 +14,9 @@ use Rattle.std.proofs.lemmas.Map.Keys.{Less-from_sorted, sorted_from_all_adjacen
 use Rattle.iddqd.specs.Store.{Store, IsValid, get, next_index, inserted, removed}
 use Rattle.iddqd_order.specs.KeyOrder.{key_then_index, ComparesKeys}
 use Rattle.iddqd_order.specs.MapBTreeTable.{without}
-use Rattle.iddqd_order.specs.PreparedBTreeInsert.{place_of, PreparesInsert}
-use Rattle.iddqd_order.specs.Search.{with_ties, IsRising, IsPlace, IsSteady}
-use Rattle.iddqd_order.specs.declared.btree_table.asking.Asking.{Asking}
-use Rattle.iddqd_order.specs.declared.btree_table.prepared_insert.PreparedBTreeInsert.{PreparedBTreeInsert}
-use Rattle.iddqd_order.proofs.KeyOrderLemmas.{key_then_index-total, with_ties-key, IsRising-from_key, IsRising-from_sorted, IsStrictlySortedBy-insert}
-use Rattle.iddqd_keyed.specs.State.{IsLive, key_at, IsSortedBy, AddsToOrder}
+use Rattle.iddqd_order.specs.Search.{with_ties, IsRising, IsPlace}
+use Rattle.iddqd_order.proofs.KeyOrderLemmas.{key_then_index-total, IsRising-from_key, IsStrictlySortedBy-insert}
+use Rattle.iddqd_keyed.specs.State.{IsLive, key_at, IsSortedBy, IsVacantFor, AddsToOrder}
 use Rattle.iddqd.proofs.LiveLemmas.{none_not_live, next_vacant, get-removed_other, get-inserted_at, get-inserted_other}
 use Rattle.iddqd_order.proofs.MemberLemmas.{contains-from_without}
 
@@ -72,7 +69,7 @@ module _ {T K : Type 0} (key_of : T → K) (compare : K → K → Ordering) (tot
     next = next_index s
 
     abbrev answer : ℕ → Ordering
-    answer = with_ties (Some next) (compared_at key_of compare s (key_of item))
+    answer = compared_at key_of compare s (key_of item)
 
     others : (j : ℕ) → Contains xs j → get after j ≡ get s j
     others j here =
@@ -81,33 +78,34 @@ module _ {T K : Type 0} (key_of : T → K) (compare : K → K → Ordering) (tot
     sorted_after : IsSortedBy key_of compare after xs
     sorted_after = IsSortedBy-alike s after xs others sorted
 
-    compares : ComparesKeys (option_cmp compare (key_at key_of after next)) (key_at key_of after) (compared_at key_of compare s (key_of item)) xs
+    compares : ComparesKeys (option_cmp compare (key_at key_of after next)) (key_at key_of after) answer xs
     compares k d within =
         let j = get_or xs k d in
         let own : key_at key_of after next ≡ Some (key_of item) = ap (λ o. option_map key_of o) (get-inserted_at s item valid) in
         let other : key_at key_of after j ≡ key_at key_of s j = ap (λ o. option_map key_of o) (others j (Contains-get_or xs k d within)) in
         ap (λ a. option_cmp compare a (key_at key_of s j)) (sym own) ∙ ap (λ b. option_cmp compare (key_at key_of after next) b) (sym other)
 
-    pub IsRising-insert : IsRising answer xs
-    IsRising-insert =
-        IsRising-from_sorted (totals after) xs sorted_after next answer (with_ties-key (options_total total) (key_at key_of after) next (compared_at key_of compare s (key_of item)) xs compares)
+    -- beside its place no index ties with the new one
+    untied : (place : ℕ) → IsPlace answer xs place → (k : ℕ) → k < length xs → answer (get_or xs k 0) ≡ key_then_index (option_cmp compare) (key_at key_of after) next (get_or xs k 0)
+    untied place is_place k within =
+        let tie = nat_cmp next (get_or xs k 0) in
+        let same = ap (λ r. ordering_then r tie) (compares k 0 within) in
+        elim (cases_lt k place) [
+          | inl before ↦ let greater = is_place.greater_before k before in greater ∙ ap (λ r. ordering_then r tie) (sym greater) ∙ same
+          | inr from ↦ let less = is_place.less_from k from within in less ∙ ap (λ r. ordering_then r tie) (sym less) ∙ same
+        ]
 
     pub IsSortedBy-inserted : (place : ℕ) → IsPlace answer xs place → IsSortedBy key_of compare after (insert xs place next)
     IsSortedBy-inserted place is_place =
-        IsStrictlySortedBy-insert (totals after) xs sorted_after next answer (with_ties-key (options_total total) (key_at key_of after) next (compared_at key_of compare s (key_of item)) xs compares) place is_place
+        IsStrictlySortedBy-insert (totals after) xs sorted_after next answer (untied place is_place) place is_place
 
-  -- an insert of the next index that was prepared by steady answers and done
-  module _ {F R : Type 0} (g : Mut F (ℕ × Unit {0}) R) (read : R → Ordering) (asking : Asking F) (p : PreparedBTreeInsert) (s : Store T) (item : T) (xs new : List ℕ) (valid : IsValid s) (stored : (ix : ℕ) → Contains xs ix → IsLive s ix) where
-    stays_sorted : PreparesInsert g read xs (next_index s) asking p → IsSteady g xs (Some (next_index s)) read (compared_at key_of compare s (key_of item)) asking → new ≡ insert xs (place_of p) (next_index s) → IsSortedBy key_of compare s xs → IsSortedBy key_of compare (inserted s item) new
-    stays_sorted prepares steady added sorted =
-        let place = prepares.place (compared_at key_of compare s (key_of item)) (record { steady = steady; rising = IsRising-insert s item xs valid stored sorted }) in
-        subst (IsSortedBy key_of compare (inserted s item)) (sym added) (IsSortedBy-inserted s item xs valid stored sorted (place_of p) place)
-
-    pub AddsToOrder-prepared : (ix : ℕ) → ix ≡ next_index s → PreparesInsert g read xs ix asking p → IsSteady g xs (Some ix) read (compared_at key_of compare s (key_of item)) asking → new ≡ insert xs (place_of p) ix → AddsToOrder key_of compare s item xs ix new
-    AddsToOrder-prepared ix index prepares steady added = record {
-      index = index;
-      place = place_of p;
-      within = prepares.within;
-      added = added;
-      sorted = subst (λ i. PreparesInsert g read xs i asking p → IsSteady g xs (Some i) read (compared_at key_of compare s (key_of item)) asking → new ≡ insert xs (place_of p) i → IsSortedBy key_of compare s xs → IsSortedBy key_of compare (inserted s item) new) (sym index) stays_sorted prepares steady added;
-    }
+  -- the next index, put at a vacant place for its item; `xs`, `at` and `ix` are as a prepared insert tells them
+  pub AddsToOrder-placed : (s : Store T) (item : T) (old new xs : List ℕ) (place at ix : ℕ) → IsValid s → ((ix : ℕ) → Contains old ix → IsLive s ix) → IsVacantFor key_of compare s old (key_of item) place → xs ≡ old → at ≡ place → ix ≡ next_index s → new ≡ insert xs at ix → AddsToOrder key_of compare s item old new
+  AddsToOrder-placed s item old new xs place at ix valid stored vacant same_list same_place same_index is =
+      let added : new ≡ insert old place (next_index s) = rw (← same_list, ← same_place, ← same_index) is in
+      record {
+        place = place;
+        within = vacant.within;
+        added = added;
+        sorted = λ sorted. rw added (IsSortedBy-inserted s item old valid stored sorted place (vacant.is_place sorted));
+      }

@@ -20,6 +20,11 @@ module _ {T : Type 0} where
   HasNoPlace s item (Memory back) = (back ≡ item) × (IsFull s → ⊥)
   HasNoPlace s item (Duplicate back first second) = ⊥
 
+  -- The item comes back: as a duplicate where one of its look-ups hit, or else since it has no place.
+  abbrev pub Refuses : Store T → T → InsertRefusal T → Type 0
+  Refuses s item (Duplicate back first second) = (back ≡ item) × (IsSome first ⊎ IsSome second)
+  Refuses s item refusal = HasNoPlace s item refusal
+
   -- what an insert tells of its look-ups: of a duplicate both answers, else that both answered none
   abbrev pub finds_told : Result ℕ (InsertRefusal T) → Option ℕ × Option ℕ
   finds_told (Err (Duplicate back first second)) = (first, second)

@@ -11,8 +11,12 @@ use Rattle.iddqd.specs.Store.{Store, store_code, IsValid, get, live_count, next_
 use Rattle.iddqd_hash.specs.HashTable.{Table}
 use Rattle.iddqd.specs.Compaction.{compacted, rank}
 use Rattle.iddqd_hash.specs.MapHashTable.{filed, Renames}
+use Rattle.iddqd_order.specs.Entry.{entry_index, vacant_place}
 use Rattle.iddqd_order.specs.KeyOrder.{IsInKeyOrder}
 use Rattle.iddqd_order.specs.MapBTreeTable.{Order, order_of, without}
+use Rattle.iddqd_order.specs.Search.{IsPlace}
+use Rattle.iddqd_order.specs.declared.btree_table.entry.Entry.{Entry}
+use Rattle.iddqd_order.specs.declared.btree_table.entry.Entry.TheVariants.{Occupied, Vacant}
 use Rattle.iddqd_keyed.specs.Keys.{Keys, has_first, has_second}
 
 -- The hash under which each index is filed, and the indexes in the ordered table's order, beside the store. No step
@@ -89,12 +93,22 @@ module _ {T K : Type 0} (key_of : T → K) where
     FindsInOrder s order key None = IsSortedBy s order → HasNoHit s (compares_equal key)
     FindsInOrder s order key (Some ix) = IsHit s (compares_equal key) ix
 
+    -- No item has the key, and this is the place for an index with it: both where the order is sorted.
+    pub record IsVacantFor (s : Store T) (order : List ℕ) (key : K) (place : ℕ) : Type 0 where
+      pub within : place ≤ length order
+      pub misses : FindsInOrder s order key None
+      pub is_place : IsSortedBy s order → IsPlace (λ ix. option_cmp compare (Some key) (key_at s ix)) order place
+
+    -- what an entry in an order may be: of an index whose item has the key, or of the place for such an index
+    abbrev pub EntersOrder : Store T → List ℕ → K → Entry → Type 0
+    EntersOrder s order key (Occupied entry) = FindsInOrder s order key (Some (entry_index entry))
+    EntersOrder s order key (Vacant entry) = IsVacantFor s order key (vacant_place entry)
+
     -- The next index was put into the order, at some place; a sorted order stays so once the index has the item.
-    pub record AddsToOrder (s : Store T) (item : T) (old : List ℕ) (ix : ℕ) (new : List ℕ) : Type 0 where
-      pub index : ix ≡ next_index s
+    pub record AddsToOrder (s : Store T) (item : T) (old new : List ℕ) : Type 0 where
       pub place : ℕ
       pub within : place ≤ length old
-      pub added : new ≡ insert old place ix
+      pub added : new ≡ insert old place (next_index s)
       pub sorted : IsSortedBy s old → IsSortedBy (inserted s item) new
 
 module _ {T S : Type 0} where

@@ -8,29 +8,32 @@
 //! writes anything, and a removal takes the index out of both tables before its slot is freed.
 //!
 //! A removal searches both tables, by the keys that the item has now, and walks only where that misses.
-//! An insert is one search of the ordered table: that for a duplicate leaves a hint. Each call says
-//! that its states are paired, though the type does, so that `step` and `run` are proved from the
+//! An insert is one search of the ordered table, which tells a duplicate, or else the place. Each call
+//! says that its states are paired, though the type does, so that `step` and `run` are proved from the
 //! calls' clauses alone. `walk` lends the indexes and takes no memory.
-ghost use Rattle.std.specs.Prelude.{◌≡◌, ◌↔◌, [], IsSome, IsOk, IfOk, IfErr, OnErr, option_copied};
-ghost use Rattle.iddqd.specs.{get, live_count, IsRemapOf};
-ghost use Rattle.iddqd_order.specs.{indexes_left};
+ghost use Rattle.std.specs.Prelude.{◌≡◌, ◌↔◌, ℕ, [], None, IsSome, IsOk, IfOk, OnOk, IfErr, OnErr, option_copied};
+ghost use Rattle.std.specs.List.{Contains};
+ghost use Rattle.std.specs.FinMap as finite;
+ghost use Rattle.iddqd.specs.{get, live_count, next_index, inserted, IsFull, IsValid, IsRemapOf};
+ghost use Rattle.iddqd_hash.specs.{filed};
+ghost use Rattle.iddqd_order.specs.{indexes_left, order_of};
 ghost use Rattle.iddqd_keyed.specs.Keys.{keys_of};
-ghost use Rattle.iddqd_keyed.specs.State.{empty_state, empty_state_within, cleared_state, Compacts, hash_in, IsLive, IsPaired, IsSorted, SecondKeysInOrder, Keeps, KeepsUnlessChanged, LooksUp1, LooksUp2};
-ghost use Rattle.iddqd_keyed.specs.Machine.{HasNoPlace, StoresAt, Inserts, TellsAsScan, Removes, Removes1, Removes2, Overwrites, IsSortedScan, Step};
+ghost use Rattle.iddqd_keyed.specs.State.{empty_state, empty_state_within, cleared_state, Compacts, hash_in, IsLive, IsPaired, AddsToOrder, FindsInOrder, SecondKeysInOrder, Keeps, KeepsUnlessChanged, LooksUp1, LooksUp2};
+ghost use Rattle.iddqd_keyed.specs.Machine.{Refuses, finds_told, Inserts, TellsAsScan, Removes, Removes1, Removes2, Overwrites, IsSortedScan, Step};
 ghost use Rattle.iddqd_keyed.specs.Run.{Run};
 
 use crate::command::{Command, Reply};
 use crate::keyed_item::KeyedItem;
 use crate::lookup::{
-    add_to_order, find_by_first_key, find_by_second_key, remove_from_hash_table, remove_item,
-    take_by_first_key,
+    enter_by_second_key, find_by_first_key, find_by_second_key, remove_from_hash_table,
+    remove_item, take_by_first_key, take_by_second_key, take_item,
 };
 use iddqd::index_remap::IndexRemap;
 use iddqd::item_index::ItemIndex;
 use iddqd::item_set::{GrowError, ItemSet};
 use iddqd::map_hash::MapHash;
 use iddqd_hash::hash_table::MapHashTable;
-use iddqd_order::btree_table::{Hint, Iter, MapBTreeTable};
+use iddqd_order::btree_table::{Entry, Iter, MapBTreeTable};
 use std::alloc::{AllocError, Global};
 use std::error::Error;
 use std::fmt;
@@ -195,7 +198,7 @@ impl<T: KeyedItem, S: BuildHasher> KeyedItems<T, S> {
         ensures paired { IsPaired self.now }
         ensures found { LooksUp2 ⟦<Self as Keyed>⟧.keys self.now key.now result }
     {
-        self.find2_with_hint(key).0
+        find_by_second_key(&self.order, &self.items, key)
     }
 
     /// The indexes in the order of the ordered table: by second key, where none was changed silently.
@@ -221,15 +224,14 @@ impl<T: KeyedItem, S: BuildHasher> KeyedItems<T, S> {
         let key = item.key1();
         let hash = self.filed.compute_hash(&self.state, key);
         let first = self.find_hashed(hash, key);
-        let (second, hint) = self.find2_with_hint(item.key2());
-        if first.is_some() || second.is_some() {
-            return Err(InsertRefusal::Duplicate {
-                item,
-                first,
-                second,
-            });
-        }
-        self.store(item, hash, &hint)
+        store(
+            &mut self.items,
+            &mut self.filed,
+            &mut self.order,
+            item,
+            hash,
+            first,
+        )
     }
 
     /// Removes the item at an index, if it is live, whatever its keys are now. It takes no memory.
@@ -259,8 +261,11 @@ impl<T: KeyedItem, S: BuildHasher> KeyedItems<T, S> {
         ensures removes { Removes2 ⟦<Self as Keyed>⟧.keys self.old key.now result self.new }
         ensures keeps { Keeps ⟦<Self as Keyed>⟧.keys self.old self.new }
     {
-        let ix = self.find2(key)?;
-        Some((ix, self.remove(ix)?))
+        let ix = take_by_second_key(&mut self.order, &self.items, key)?;
+        let item = take_item(&mut self.items, ix);
+        let hash = self.filed.compute_hash(&self.state, item.key1()).hash();
+        remove_from_hash_table(&mut self.filed, hash, ix);
+        Some((ix, item))
     }
 
     /// Gives a live index another item, and hands back the one that it had; of an index that isn't
@@ -369,40 +374,6 @@ impl<T: KeyedItem, S: BuildHasher> KeyedItems<T, S> {
         find_by_first_key(&self.filed, &self.items, hash, key)
     }
 
-    // The index of the item with this second key, and where the search ended.
-    fn find2_with_hint(&self, key: &T::Key2) -> (Option<ItemIndex>, Hint)
-        ensures paired { IsPaired self.now }
-        ensures found { LooksUp2 ⟦<Self as Keyed>⟧.keys self.now key.now result.0 }
-    {
-        find_by_second_key(&self.order, &self.items, key)
-    }
-
-    // Stores an item under the hash of its first key, or hands it back. All memory is taken before
-    // anything is written. The hint is of a search for its second key.
-    fn store(&mut self, item: T, hash: MapHash, hint: &Hint) -> Result<ItemIndex, InsertRefusal<T>>
-        requires { let keys = ⟦<Self as Keyed>⟧.keys in hash ≡ hash_in keys self.old (keys.first item) }
-        ensures stored { let keys = ⟦<Self as Keyed>⟧.keys in
-            IfOk result (λ ix.
-            StoresAt keys self.old item ix self.new × (IsSorted keys self.old → IsSorted keys self.new)) }
-        ensures refused { IfErr result (HasNoPlace self.old.store item) }
-        ensures unchanged { OnErr result (self.new ≡ self.old) }
-    {
-        let handle = match self.items.assert_can_grow() {
-            Ok(handle) => handle,
-            Err(GrowError::Full) => return Err(InsertRefusal::Full(item)),
-            Err(GrowError::Memory) => return Err(InsertRefusal::Memory(item)),
-        };
-        if let Err(AllocError) = self.filed.try_reserve(1) {
-            return Err(InsertRefusal::Memory(item));
-        }
-        let ix = match add_to_order(&mut self.order, &handle, &item, hint) {
-            Ok(ix) => ix,
-            Err(AllocError) => return Err(InsertRefusal::Memory(item)),
-        };
-        self.filed.insert_prehashed_unchecked(hash, ix);
-        Ok(handle.insert(item))
-    }
-
     // The indexes in the order of the ordered table, in memory of their own.
     fn indexes(&self) -> Result<Vec<ItemIndex>, AllocError>
         ensures paired { IsPaired self.now }
@@ -416,4 +387,69 @@ impl<T: KeyedItem, S: BuildHasher> KeyedItems<T, S> {
         }
         Ok(indexes)
     }
+}
+
+// Stores an item, whose first key's look-up is done, where neither of its keys is found, and files it
+// under the hash; or hands it back. One search of the ordered table tells a duplicate, or else the
+// place. All memory is taken before anything is written.
+fn store<T: KeyedItem>(
+    items: &mut ItemSet<T>,
+    table: &mut MapHashTable,
+    order: &mut MapBTreeTable,
+    item: T,
+    hash: MapHash,
+    first: Option<ItemIndex>,
+) -> Result<ItemIndex, InsertRefusal<T>>
+    requires valid { IsValid items.old.store }
+    requires unfiled { finite.get (filed table.old) (next_index items.old.store) ≡ None }
+    requires ordered { (ix : ℕ) → Contains (order_of order.old) ix ↔ IsLive items.old.store ix }
+    ensures first { (finds_told result).0 ≡ first }
+    ensures second { let finds = FindsInOrder T.KeyedItem.second_key T.Key2.cmp items.old.store (order_of order.old) in
+        finds (T.KeyedItem.second_key item) (finds_told result).1 }
+    ensures not_full { IsOk result → IsFull items.old.store → ⊥ }
+    ensures index { IfOk result (λ ix. ix ≡ next_index items.old.store) }
+    ensures stored { OnOk result (items.new.store ≡ inserted items.old.store item) }
+    ensures filed { OnOk result (filed table.new
+        ≡ finite.insert (filed table.old) (next_index items.old.store) hash) }
+    ensures placed { let adds = AddsToOrder T.KeyedItem.second_key T.Key2.cmp items.old.store item in
+        OnOk result (adds (order_of order.old) (order_of order.new)) }
+    ensures refused { IfErr result (Refuses items.old.store item) }
+    ensures items_stay { OnErr result (items.new.store ≡ items.old.store) }
+    ensures hashes_stay { OnErr result (filed table.new ≡ filed table.old) }
+    ensures order_stays { OnErr result (order_of order.new ≡ order_of order.old) }
+{
+    let vacant = match enter_by_second_key(order, items, item.key2()) {
+        Entry::Vacant(vacant) => vacant,
+        Entry::Occupied(entry) => {
+            let second = Some(entry.get());
+            return Err(InsertRefusal::Duplicate {
+                item,
+                first,
+                second,
+            });
+        }
+    };
+    if first.is_some() {
+        return Err(InsertRefusal::Duplicate {
+            item,
+            first,
+            second: None,
+        });
+    }
+    let handle = match items.assert_can_grow() {
+        Ok(handle) => handle,
+        Err(GrowError::Full) => return Err(InsertRefusal::Full(item)),
+        Err(GrowError::Memory) => return Err(InsertRefusal::Memory(item)),
+    };
+    if let Err(AllocError) = table.try_reserve(1) {
+        return Err(InsertRefusal::Memory(item));
+    }
+    let prepared = match vacant.prepare(handle.next_index()) {
+        Ok(prepared) => prepared,
+        Err(AllocError) => return Err(InsertRefusal::Memory(item)),
+    };
+    let ix = handle.insert(item);
+    table.insert_prehashed_unchecked(hash, ix);
+    prepared.insert();
+    Ok(ix)
 }

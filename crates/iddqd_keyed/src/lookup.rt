@@ -1,21 +1,20 @@
 //! The steps of the tables that have to know the items' keys.
 //!
 //! Neither table has keys, so each step hands it a closure that reads a key from the store.
-ghost use Rattle.std.specs.Prelude.{◌≡◌, ◌↔◌, ℕ, Some, IsSome, IfOk, IfSome, IsNone, OnErr};
+ghost use Rattle.std.specs.Prelude.{◌≡◌, ◌↔◌, ℕ, Some, IsSome, IfSome, IsNone};
 ghost use Rattle.std.specs.List.{Contains};
 ghost use Rattle.std.specs.FinMap as finite;
-ghost use Rattle.iddqd.specs.{get, removed, IsValid, handle_store};
+ghost use Rattle.iddqd.specs.{get, removed};
 ghost use Rattle.iddqd_hash.specs.{filed};
-ghost use Rattle.iddqd_order.specs.{order_of, without};
-ghost use Rattle.iddqd_keyed.specs.State.{IsLive, IsKeyAt, FindsFiled, FindsInOrder, AddsToOrder};
+ghost use Rattle.iddqd_order.specs.{order_of, without, entry_table};
+ghost use Rattle.iddqd_keyed.specs.State.{IsLive, IsKeyAt, FindsFiled, FindsInOrder, EntersOrder};
 
 use crate::keyed_item::KeyedItem;
 use iddqd::item_index::ItemIndex;
-use iddqd::item_set::{GrowHandle, ItemSet};
+use iddqd::item_set::ItemSet;
 use iddqd::map_hash::{MapHash, Same};
 use iddqd_hash::hash_table::MapHashTable;
-use iddqd_order::btree_table::{Asking, Hint, MapBTreeTable};
-use std::alloc::AllocError;
+use iddqd_order::btree_table::{Asking, Entry, MapBTreeTable};
 
 /// The index under a hash whose item has this first key.
 ///
@@ -40,15 +39,14 @@ pub(crate) fn find_by_first_key<T: KeyedItem>(
     )
 }
 
-/// The index whose item has this second key, by a search of the ordered table, and where the search
-/// ended.
+/// The index whose item has this second key, by a search of the ordered table.
 pub(crate) fn find_by_second_key<T: KeyedItem>(
     table: &MapBTreeTable,
     items: &ItemSet<T>,
     key: &T::Key2,
-) -> (Option<ItemIndex>, Hint)
+) -> Option<ItemIndex>
     requires { (ix : ℕ) → Contains (order_of table.now) ix ↔ IsLive items.now.store ix }
-    ensures { FindsInOrder T.KeyedItem.second_key T.Key2.cmp items.now.store (order_of table.now) key.now result.0 }
+    ensures { FindsInOrder T.KeyedItem.second_key T.Key2.cmp items.now.store (order_of table.now) key.now result }
 {
     let mut asking = Asking::new(
         |at: ItemIndex|
@@ -56,7 +54,28 @@ pub(crate) fn find_by_second_key<T: KeyedItem>(
             ensures { IsKeyAt T.KeyedItem.second_key items.entry.now.store at result.now }
         { second_key(items, at) },
     );
-    table.find_index_with_hint(&Same(key), &mut asking)
+    table.find_index(&Same(key), &mut asking)
+}
+
+/// The entry of the index whose item has this second key, or else of the place for such an index, by
+/// a search of the ordered table.
+pub(crate) fn enter_by_second_key<'a, T: KeyedItem>(
+    table: &'a mut MapBTreeTable,
+    items: &ItemSet<T>,
+    key: &T::Key2,
+) -> Entry<'a>
+    requires { (ix : ℕ) → Contains (order_of table.old) ix ↔ IsLive items.now.store ix }
+    ensures same_reference { (entry_table result).ghost_name ≡ table.entry.ghost_name }
+    ensures table { (entry_table result).now ≡ table.old }
+    ensures entered { EntersOrder T.KeyedItem.second_key T.Key2.cmp items.now.store (order_of table.old) key.now result }
+{
+    let mut asking = Asking::new(
+        |at: ItemIndex|
+            requires { IsLive items.now.store at }
+            ensures { IsKeyAt T.KeyedItem.second_key items.entry.now.store at result.now }
+        { second_key(items, at) },
+    );
+    table.entry(&Same(key), &mut asking)
 }
 
 /// Takes the index under a hash whose item has this first key out of the hash table, by one look-up.
@@ -91,35 +110,22 @@ pub(crate) fn take_by_first_key<T: KeyedItem>(
     }
 }
 
-/// Adds the next index to the ordered table, at the place that its item will have, and tells it. The
-/// hint is of a search for the item's second key.
-///
-/// Its memory is taken before the table changes; where that is refused, the indexes stay.
-pub(crate) fn add_to_order<T: KeyedItem>(
+/// Takes the index whose item has this second key out of the ordered table, by one search. It takes
+/// no memory.
+pub(crate) fn take_by_second_key<T: KeyedItem>(
     table: &mut MapBTreeTable,
-    handle: &GrowHandle<'_, T>,
-    item: &T,
-    hint: &Hint,
-) -> Result<ItemIndex, AllocError>
-    requires valid { IsValid (handle_store handle.now) }
-    requires stored { (ix : ℕ) → Contains (order_of table.old) ix → IsLive (handle_store handle.now) ix }
-    ensures added { let adds = AddsToOrder T.KeyedItem.second_key T.Key2.cmp (handle_store handle.now) item.now in
-        IfOk result (λ ix. adds (order_of table.old) ix (order_of table.new)) }
-    ensures refused { OnErr result (order_of table.new ≡ order_of table.old) }
+    items: &ItemSet<T>,
+    key: &T::Key2,
+) -> Option<ItemIndex>
+    requires { (ix : ℕ) → Contains (order_of table.old) ix ↔ IsLive items.now.store ix }
+    ensures found { FindsInOrder T.KeyedItem.second_key T.Key2.cmp items.now.store (order_of table.old) key.now result }
+    ensures taken { IfSome result (λ ix. order_of table.new ≡ without (order_of table.old) ix) }
+    ensures missed { IsNone result → order_of table.new ≡ order_of table.old }
 {
-    let ix = handle.next_index();
-    let key = item.key2();
-    let mut asking = Asking::new(
-        |at: ItemIndex|
-            requires { IsLive (handle_store handle.now) at }
-            ensures { IsKeyAt T.KeyedItem.second_key (handle_store handle.entry.now) at result.now }
-        { second_key_in(handle, at) },
-    );
-    match table.prepare_insert_near(ix, &Same(key), &mut asking, hint) {
-        Ok(prepared) => prepared.insert(),
-        Err(AllocError) => return Err(AllocError),
+    match enter_by_second_key(table, items, key) {
+        Entry::Occupied(entry) => Some(entry.remove()),
+        Entry::Vacant(_) => None,
     }
-    Ok(ix)
 }
 
 /// Takes a live index out of the ordered table, and its item out of the store. It takes no memory.
@@ -135,6 +141,15 @@ pub(crate) fn remove_item<T: KeyedItem>(
     ensures order { order_of table.new ≡ without (order_of table.old) ix }
 {
     remove_from_order(table, items, ix);
+    take_item(items, ix)
+}
+
+/// Takes the item at a live index out of the store.
+pub(crate) fn take_item<T>(items: &mut ItemSet<T>, ix: ItemIndex) -> T
+    requires { IsLive items.old.store ix }
+    ensures item { get items.old.store ix ≡ Some result }
+    ensures store { items.new.store ≡ removed items.old.store ix }
+{
     match items.remove(ix) {
         Some(item) => item,
         None => unreachable!(),
@@ -190,17 +205,6 @@ fn second_key<T: KeyedItem>(items: &ItemSet<T>, ix: ItemIndex) -> &T::Key2
     ensures { IsKeyAt T.KeyedItem.second_key items.now.store ix result.now }
 {
     match items.get(ix) {
-        Some(item) => item.key2(),
-        None => unreachable!(),
-    }
-}
-
-// The same, where the store is lent to an insert.
-fn second_key_in<'h, 's, T: KeyedItem>(handle: &'h GrowHandle<'s, T>, ix: ItemIndex) -> &'h T::Key2
-    requires { IsLive (handle_store handle.now) ix }
-    ensures { IsKeyAt T.KeyedItem.second_key (handle_store handle.now) ix result.now }
-{
-    match handle.get(ix) {
         Some(item) => item.key2(),
         None => unreachable!(),
     }

@@ -7,8 +7,8 @@ use Rattle.iddqd_keyed.proofs.SortedLemmas.{compared_live}
 use Rattle.iddqd_keyed.proofs.FindLemmas.{FindsInOrder-from_finds}
 use Rattle.iddqd_keyed.proofs.lookup.find_by_second_key.Goals as goal
 
-pub find_index_with_hint-requires : goal.find_index_with_hint-requires
-find_index_with_hint-requires g c =
+pub find_index-requires : goal.find_index-requires
+find_index-requires g c =
     CanAsk-by _ _ (λ f. f ≡ closure_of c.new-asking.result) (λ f f' ix r i h e. search rules)
     (λ f ix i h.
     let live : IsLive c.args.items.now.store ix = (c.requires ix).0 h in
@@ -21,10 +21,10 @@ returns g c =
     let compare = g.T.Key2.Ord.cmp in
     let s = c.args.items.now.store in
     let key = c.args.key.now in
-    FindsInOrder-from_finds second compare s (order_of c.args.table.now) key c.requires _ _ c.new-asking.result c.find_index_with_hint.new.asking g.met.T.Key2.Ord.total
+    FindsInOrder-from_finds second compare s (order_of c.args.table.now) key c.requires _ _ c.new-asking.result c.find_index.new.asking g.met.T.Key2.Ord.total
     (Steady-by _ _ (λ f. f ≡ closure_of c.new-asking.result) (λ f f' ix r i h e. search rules) _ _
     (λ f f' ix r i h e.
     let read : IsKeyAt second s ix r.now = search (rules, i, e) in
     ap (compare key) read.2 ∙ sym (compared_live second compare s key ix read.0 read.1))
     _ refl)
-    c.find_index_with_hint.result.0 c.find_index_with_hint.ensures
+    c.find_index.result c.find_index.ensures
