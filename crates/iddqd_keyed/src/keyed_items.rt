@@ -5,7 +5,7 @@
 //! good until its item is removed, or all items are moved down or forgotten: by `remove`, `remove1`
 //! and `remove2`, by `compact` and by `clear`. Every index of an item stands in both
 //! tables once, and no other does, whatever becomes of the keys: an insert takes all memory before it
-//! writes anything, and a removal takes the index out of both tables before its slot is freed.
+//! writes anything, and a removal that frees a slot takes its index out of both tables.
 //!
 //! A removal searches both tables, by the keys that the item has now, and walks only where that misses.
 //! An insert is one search of the ordered table, which tells a duplicate, or else the place. Each call
