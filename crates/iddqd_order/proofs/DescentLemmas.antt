@@ -16,7 +16,7 @@ use Rattle.iddqd_order.specs.Digits.{digits}
 use Rattle.iddqd_order.proofs.DigitLemmas.{four_digits}
 use Rattle.iddqd_order.proofs.AskLemmas.{asks_wider, CanAsk-fewer, CanAsk-later, Steady-fewer}
 use Rattle.iddqd_order.proofs.NodeLemmas.{lists, formed-inner, flat-leaf, flat-inner, inner-goes, leaf-goes, place-inner, place-leaf, any_default}
-use Rattle.iddqd_order.proofs.PartLemmas.{Askable-wider, greater_up_to, less_from_on, shifted, in_middle, middle_held, SearchesWithin-more, SearchesWithin-later, LeadsTo, Searches-part}
+use Rattle.iddqd_order.proofs.PartLemmas.{Askable-wider, greater_up_to, less_from_on, shifted, in_middle, middle_held, SearchesWithin-more, LeadsTo, Searches-part}
 use Rattle.iddqd_order.proofs.RemovalLemmas.{holds-level, spot-leaf, spot-at, spot-below, spot-within}
 use Rattle.iddqd_order.proofs.IndexListLemmas.{Contains-at}
 use Rattle.iddqd_order.proofs.ReckoningLemmas.{reckoning}
@@ -371,16 +371,6 @@ module _ {F R : Type 0} (g : Mut F (ℕ × Unit {0}) R) (read : R → Ordering) 
         full_below = full-below at l n p ne here.0 d.full_below;
         level = here.1;
       }
-
-  -- an ask about the node before the walk
-  pub Descends-later : {k m : ℕ} (limit full l : ℕ) (n : Node) (p : List ℕ) (end : Result ℕ ℕ) (a b c : Asking F) → k + m ≤ limit → AsksWithin g (Askable (flat l n) tie) k a b → Descends g read tie m full l n b p end c → Descends g read tie limit full l n a p end c
-  Descends-later limit full l n p end a b c le asked d = record {
-    searches = SearchesWithin-more g read tie le (SearchesWithin-later g read tie asked d.searches);
-    holds = d.holds;
-    goes = d.goes;
-    full_below = d.full_below;
-    level = d.level;
-  }
 
   -- what may be asked in the row may be asked in the tree
   pub asks_in_tree : {k : ℕ} (l : ℕ) (n : Node) (a b : Asking F) → IsFormed l n → AsksWithin g (Askable (row n) tie) k a b → AsksWithin g (Askable (flat l n) tie) k a b

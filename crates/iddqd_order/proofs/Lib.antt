@@ -4,7 +4,6 @@ mod CountSteps
 mod DescentLemmas
 mod DigitLemmas
 mod EndLemmas
-mod GapLemmas
 pub mod IndexListLemmas
 pub mod InsertLemmas
 pub mod KeyOrderLemmas

@@ -109,17 +109,6 @@ module _ {F R : Type 0} (g : Mut F (ℕ × Unit {0}) R) (read : R → Ordering) 
     place = s.place;
   }
 
-  -- a search after some asks
-  pub SearchesWithin-later : {xs : List ℕ} {k l : ℕ} {a b c : Asking F} {end : Result ℕ ℕ} → AsksWithin g (Askable xs tie) k a b → SearchesWithin g read xs l tie b end c → SearchesWithin g read xs (k + l) tie a end c
-  SearchesWithin-later {xs = xs} p s = record {
-    asked = asks_then g (Askable xs tie) p s.asked;
-    found = s.found;
-    missed = s.missed;
-    itself = s.itself;
-    hit = λ answer steady. s.hit answer (Steady-later g (Askable xs tie) p.after steady);
-    place = λ answer sr. s.place answer (record { steady = Steady-later g (Askable xs tie) p.after sr.steady; rising = sr.rising });
-  }
-
   -- asks about the whole lead to a part before which all is Greater and after which all is Less, if the answers rise
   pub record LeadsTo (limit : ℕ) (b c d : List ℕ) (old mid : Asking F) : Type 0 where
     pub asked : AsksWithin g (Askable (b ++ (c ++ d)) tie) limit old mid

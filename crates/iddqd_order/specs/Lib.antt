@@ -4,7 +4,6 @@ pub mod Copies
 pub mod Descent
 pub mod Digits
 pub mod Entry
-pub mod Gap
 pub mod IntoIter
 pub mod Iter
 pub mod KeyOrder

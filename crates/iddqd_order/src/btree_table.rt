@@ -12,7 +12,6 @@ mod copies;
 mod descent;
 mod ends;
 pub mod entry;
-pub mod gap;
 pub mod into_iter;
 pub mod iter;
 pub mod key_order;
@@ -34,7 +33,6 @@ mod ways;
 
 pub use asking::Asking;
 pub use entry::{Entry, OccupiedEntry, VacantEntry};
-pub use gap::Hint;
 pub use into_iter::IntoIter;
 pub use iter::Iter;
 pub use prepared_insert::PreparedBTreeInsert;

@@ -13,7 +13,6 @@ mod callers;
 mod copies;
 mod depths;
 mod entries;
-mod hints;
 mod keys;
 mod lying;
 mod remaps;

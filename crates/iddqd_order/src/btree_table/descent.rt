@@ -1,8 +1,7 @@
 //! Searches of a tree: one walk down from the root, at most four asks a level.
 //!
 //! A tree of h levels has at least `2 * 6^(h-1) - 1` indexes, so four asks a level are within the
-//! bound, and two are left over, which a hint uses. A path is written only where it leaves the left
-//! edge: before, it is what it began as.
+//! bound. A path is written only where it leaves the left edge: before, it is what it began as.
 ghost use Rattle.std.specs.Prelude.{◌≡◌, ℕ, ◌+◌, ◌*◌, ◌<◌, ◌≤◌, Some, None, IfSome, IsNone, Contains, length, slice_index};
 ghost use Rattle.iddqd_order.specs.Descent.{Descends, FindsIn};
 ghost use Rattle.iddqd_order.specs.MapBTreeTable.{StandsAt};
@@ -18,20 +17,16 @@ use crate::btree_table::search::search;
 use iddqd::item_index::ItemIndex;
 
 impl Node {
-    // The index at which a search ends, if it ends at one. It writes the way of the search to the path.
+    // The index at which a search ends, if it ends at one.
     pub fn find<R, F: FnMut(ItemIndex) -> R, H: Reads<R>>(
         &self,
         height: usize,
         asking: &mut Asking<F>,
         how: &H,
-        path: &mut Path,
     ) -> Option<ItemIndex>
         requires formed { IsFormed height self.now }
-        requires levels { height ≤ 11 }
-        requires path { length path.old ≡ 12 }
         requires can_search { CanSearch F.FnMut (flat height self.now) None asking.old }
-        ensures path { length path.new ≡ 12 }
-        ensures finds { FindsIn F.FnMut (H.reading how.now) None height self.now asking.old result asking.new }
+        ensures { FindsIn F.FnMut (H.reading how.now) None height self.now asking.old result asking.new }
     {
         let tie = None;
         let mut node = self;
@@ -40,7 +35,6 @@ impl Node {
             match search_row(&node.row, false, asking, how, &tie) {
                 Ok(i) => return Some(node.row.get(i)),
                 Err(i) => {
-                    path.set(level, i);
                     if level == 0 {
                         return None;
                     }

@@ -93,7 +93,7 @@ impl MapBTreeTable {
         ensures table { (entry_table result).now ≡ self.old }
         ensures entered { Enters F.FnMut (H.reading how.now) (order_of self.old) asking.old result asking.new }
     {
-        let (path, end) = self.descend(asking, how, &None, None);
+        let (path, end) = self.descend(asking, how, &None);
         match end {
             Ok(level) => Entry::Occupied(OccupiedEntry {
                 table: self,

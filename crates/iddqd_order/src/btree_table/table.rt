@@ -10,7 +10,6 @@ ghost use Rattle.iddqd_order.specs.Search.{CanSearch, SearchAsks, IsSteadyRising
 use crate::btree_table::asking::Asking;
 use crate::btree_table::copies::copy_of;
 use crate::btree_table::ends::{first_in, last_in};
-use crate::btree_table::gap::Hint;
 use crate::btree_table::into_iter::IntoIter;
 use crate::btree_table::iter::{Iter, Rest};
 use crate::btree_table::node::Node;
@@ -199,7 +198,7 @@ impl MapBTreeTable {
         requires { CanSearch F.FnMut (order_of self.now) None asking.old }
         ensures { Finds F.FnMut (λ r. r) (order_of self.now) asking.old result asking.new }
     {
-        self.find(asking, &AsOrdering).0
+        self.find(asking, &AsOrdering)
     }
 
     /// A stored index at which the query compares Equal with the key that the asking answers.
@@ -214,37 +213,22 @@ impl MapBTreeTable {
         requires { CanSearch F.FnMut (order_of self.now) None asking.old }
         ensures { Finds F.FnMut (Q.compare query.now) (order_of self.now) asking.old result asking.new }
     {
-        self.find(asking, &ByQuery(query)).0
+        self.find(asking, &ByQuery(query))
     }
 
-    /// The same find, with a hint for an insert that follows it: see [`Self::prepare_insert_near`].
-    pub fn find_index_with_hint<K: Ord + Drop, Q: Comparable<K>, F: FnMut(ItemIndex) -> K>(
-        &self,
-        query: &Q,
-        asking: &mut Asking<F>,
-    ) -> (Option<ItemIndex>, Hint)
-        requires { CanSearch F.FnMut (order_of self.now) None asking.old }
-        ensures { Finds F.FnMut (Q.compare query.now) (order_of self.now) asking.old result.0 asking.new }
-    {
-        let by = ByQuery(query);
-        self.find(asking, &by)
-    }
-
-    // The find, by any reading of the answers, and where it ended.
+    // The find, by any reading of the answers.
     fn find<R, F: FnMut(ItemIndex) -> R, H: Reads<R>>(
         &self,
         asking: &mut Asking<F>,
         how: &H,
-    ) -> (Option<ItemIndex>, Hint)
+    ) -> Option<ItemIndex>
         requires { CanSearch F.FnMut (order_of self.now) None asking.old }
-        ensures { Finds F.FnMut (H.reading how.now) (order_of self.now) asking.old result.0 asking.new }
+        ensures { Finds F.FnMut (H.reading how.now) (order_of self.now) asking.old result asking.new }
     {
-        let mut path = Path::new();
         let Some(root) = &self.root else {
-            return (None, Hint { path });
+            return None;
         };
-        let found = root.find(self.height, asking, how, &mut path);
-        (found, Hint { path })
+        root.find(self.height, asking, how)
     }
 
     /// Takes the memory of an insert and finds its place by the answers. Equal ones are ordered by
@@ -265,7 +249,7 @@ impl MapBTreeTable {
         ensures asked { SearchAsks F.FnMut (order_of self.old) (Some ix) asking.old asking.new }
         ensures prepared { IfOk result (PreparesInsert F.FnMut (λ r. r) (order_of self.old) ix asking.old) }
     {
-        self.prepare(ix, asking, &AsOrdering, None)
+        self.prepare(ix, asking, &AsOrdering)
     }
 
     /// Takes the memory of an insert and finds its place by comparing the query with the keys that
@@ -288,40 +272,15 @@ impl MapBTreeTable {
         ensures prepared { IfOk result
             (PreparesInsert F.FnMut (Q.compare query.now) (order_of self.old) ix asking.old) }
     {
-        self.prepare(ix, asking, &ByQuery(query), None)
+        self.prepare(ix, asking, &ByQuery(query))
     }
 
-    /// The same insert, by the hint of a find with this query. Where it fits, it asks twice at most,
-    /// and else it searches: any hint will do, of an earlier state or of another table.
-    ///
-    /// It asks at most `4 + 2 * digits(len)` times in all, and answers `AllocError` where memory was
-    /// refused; the contents then stay.
-    pub fn prepare_insert_near<K: Ord + Drop, Q: Comparable<K>, F: FnMut(ItemIndex) -> K>(
-        &mut self,
-        ix: ItemIndex,
-        query: &Q,
-        asking: &mut Asking<F>,
-        hint: &Hint,
-    ) -> Result<PreparedBTreeInsert<'_>, AllocError>
-        requires assigned { ix ≢ sentinel }
-        requires absent { Contains (order_of self.old) ix → ⊥ }
-        requires can_ask { CanSearch F.FnMut (order_of self.old) (Some ix) asking.old }
-        ensures* unchanged { sem 𝓛 (rests_if_refused self.entry result) }
-        ensures same_reference { IfOk result (λ p. (prepared_insert.table_of p).ghost_name ≡ self.entry.ghost_name) }
-        ensures asked { SearchAsks F.FnMut (order_of self.old) (Some ix) asking.old asking.new }
-        ensures prepared { IfOk result
-            (PreparesInsert F.FnMut (Q.compare query.now) (order_of self.old) ix asking.old) }
-    {
-        self.prepare(ix, asking, &ByQuery(query), Some(hint))
-    }
-
-    // The insert, by any reading of the answers, and by the hint where there is one.
+    // The insert, by any reading of the answers.
     fn prepare<R, F: FnMut(ItemIndex) -> R, H: Reads<R>>(
         &mut self,
         ix: ItemIndex,
         asking: &mut Asking<F>,
         how: &H,
-        hint: Option<&Hint>,
     ) -> Result<PreparedBTreeInsert<'_>, AllocError>
         requires assigned { ix ≢ sentinel }
         requires absent { Contains (order_of self.old) ix → ⊥ }
@@ -331,7 +290,7 @@ impl MapBTreeTable {
         ensures asked { SearchAsks F.FnMut (order_of self.old) (Some ix) asking.old asking.new }
         ensures prepared { IfOk result (PreparesInsert F.FnMut (H.reading how.now) (order_of self.old) ix asking.old) }
     {
-        let (path, full) = self.find_gap(ix, asking, how, hint);
+        let (path, full) = self.find_gap(ix, asking, how);
         if let Err(error) = self.reserve(full) {
             return Err(error);
         }
@@ -349,7 +308,6 @@ impl MapBTreeTable {
         ix: ItemIndex,
         asking: &mut Asking<F>,
         how: &H,
-        hint: Option<&Hint>,
     ) -> (Path, usize)
         requires absent { Contains (order_of self.now) ix → ⊥ }
         requires can_ask { CanSearch F.FnMut (order_of self.now) (Some ix) asking.old }
@@ -362,21 +320,20 @@ impl MapBTreeTable {
             IsSteadyRising F.FnMut (order_of self.now) (Some ix) (H.reading how.now) answer asking.old →
             IsPlace (with_ties (Some ix) answer) (order_of self.now) (place_in self.now.root self.now.height result.0) }
     {
-        let (path, end) = self.descend(asking, how, &Some(ix), hint);
+        let (path, end) = self.descend(asking, how, &Some(ix));
         match end {
             Ok(_) => unreachable!(),
             Err(full) => (path, full),
         }
     }
 
-    // The search from the root down, by the hint where there is one: the way, and the level at which it
-    // ends, or else how many nodes at its lower end are full.
+    // The search from the root down: the way, and the level at which it ends, or else how many nodes at
+    // its lower end are full.
     pub(super) fn descend<R, F: FnMut(ItemIndex) -> R, H: Reads<R>>(
         &self,
         asking: &mut Asking<F>,
         how: &H,
         tie: &Option<ItemIndex>,
-        hint: Option<&Hint>,
     ) -> (Path, Result<usize, usize>)
         requires { CanSearch F.FnMut (order_of self.now) tie.now asking.old }
         ensures { EndsIn F.FnMut (H.reading how.now) tie.now self.now asking.old result.0 result.1 asking.new }
@@ -385,7 +342,7 @@ impl MapBTreeTable {
         let Some(root) = &self.root else {
             return (path, Err(0));
         };
-        let end = root.descend_to_gap(self.height, asking, how, tie, hint, &mut path);
+        let end = root.descend(self.height, asking, how, tie, &mut path);
         (path, end)
     }
 
@@ -486,7 +443,7 @@ impl MapBTreeTable {
         if ix == ItemIndex::SENTINEL {
             return None;
         }
-        let (path, end) = self.descend(asking, how, &Some(ix), None);
+        let (path, end) = self.descend(asking, how, &Some(ix));
         match end {
             Ok(level) => Some((path, level)),
             Err(_) => None,

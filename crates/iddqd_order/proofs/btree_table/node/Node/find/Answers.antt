@@ -1,29 +1,28 @@
-use Rattle.std.proofs.Common.{◌≡◌, ◌-◌, ◌<◌, Some, None, length, arith, sym, subst, rules}
+use Rattle.std.proofs.Common.{◌≡◌, ◌-◌, ◌<◌, Some, None, length, sym, subst, rules}
 use Rattle.iddqd_order.specs.Descent.{FindsIn}
 use Rattle.iddqd_order.specs.Node.{children, child, flat}
 use Rattle.iddqd_order.specs.Search.{CanSearch}
 use Rattle.iddqd_order.proofs.DescentLemmas.{FindsIn-hit, FindsIn-leaf, FindsIn-below, can_ask_row, can_ask_below, child-within, child-formed, child_is}
-use Rattle.iddqd_order.proofs.NodeLemmas.{formed-within}
 use Rattle.iddqd_order.proofs.btree_table.node.Node.find.Goals as goal
 
 pub loop-i-init : goal.loop-i-init
-loop-i-init g c = record { formed = c.requires.formed; levels = c.requires.levels; path = c.requires.path; can_search = c.requires.can_search; rest = λ found new f. f }
+loop-i-init g c = record { formed = c.requires.formed; can_search = c.requires.can_search; rest = λ found new f. f }
 
 pub search_row-requires : goal.search_row-requires
 search_row-requires g c =
     let n = c.loop-i.node.now in
     can_ask_row g.F.FnMut (g.H.Reads.reading c.args.how.now) None c.loop-i.level n c.loop-i.asking c.loop-i.invariant.formed c.loop-i.invariant.can_search
 
-pub returns-in-Ok-clause-finds : goal.returns-in-Ok-clause-finds
-returns-in-Ok-clause-finds g c =
+pub returns-in-Ok : goal.returns-in-Ok
+returns-in-Ok g c =
     let n = c.loop-i.node.now in
     let f = c.loop-i.invariant.formed in
     let s = c.in-Ok.ensures in
     c.loop-i.invariant.rest (Some c.get.result) c.search_row.new.asking
     (FindsIn-hit g.F.FnMut (g.H.Reads.reading c.args.how.now) None c.loop-i.level n c.in-Ok.i c.get.result c.loop-i.asking c.search_row.new.asking f s c.get.ensures)
 
-pub returns-then-level-eq0-clause-finds : goal.returns-then-level-eq0-clause-finds
-returns-then-level-eq0-clause-finds g c =
+pub returns-then-level-eq0 : goal.returns-then-level-eq0
+returns-then-level-eq0 g c =
     let n = c.loop-i.node.now in
     let f = c.loop-i.invariant.formed in
     let s = c.in-Err.ensures in
@@ -51,14 +50,8 @@ loop-i-preserved g c =
     let same : k ≡ child n i = child_is n i k lt c.index-node.ensures in
     record {
       formed = rw same (child-formed l n i ne f lt);
-      levels = (let le = c.loop-i.invariant.levels in omega arith);
-      path = c.set.ensures.length;
       can_search = subst (λ z. CanSearch g.F.FnMut (flat (l - 1) z) None c.search_row.new.asking) (sym same) (can_ask_below g.F.FnMut read None l n i c.loop-i.asking c.search_row.new.asking ne f s c.loop-i.invariant.can_search);
       rest = λ found new t.
           c.loop-i.invariant.rest found new (FindsIn-below g.F.FnMut read None l n i found c.loop-i.asking c.search_row.new.asking new ne f s
           (subst (λ z. FindsIn g.F.FnMut read None (l - 1) z c.search_row.new.asking found new) same t));
     }
-
-pub set-requires-clause-place : goal.set-requires-clause-place
-set-requires-clause-place g c =
-    omega (arith, c.in-Err.ensures.missed, formed-within c.loop-i.level c.loop-i.node.now c.loop-i.invariant.formed)

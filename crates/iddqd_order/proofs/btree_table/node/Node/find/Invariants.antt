@@ -1,4 +1,4 @@
-use Rattle.std.proofs.Common.{◌≡◌, ◌≤◌, length, ℕ, Option, None}
+use Rattle.std.proofs.Common.{ℕ, Option, None}
 use Rattle.iddqd_order.specs.Descent.{FindsIn}
 use Rattle.iddqd_order.specs.Node.{flat, IsFormed}
 use Rattle.iddqd_order.specs.Search.{CanSearch}
@@ -7,8 +7,6 @@ use Rattle.iddqd_order.proofs.btree_table.node.Node.find.Given as goal
 abbrev pub invariant-loop-i : goal.invariant-loop-i
 invariant-loop-i g l = record {
   formed : IsFormed l.level l.node;
-  levels : l.level ≤ 11;
-  path : length l.path ≡ 12;
   can_search : CanSearch g.F.FnMut (flat l.level l.node) None l.asking;
   rest : (found : Option ℕ) (new : _) → FindsIn g.F.FnMut (g.H.Reads.reading l.how) None l.level l.node l.asking found new → FindsIn g.F.FnMut (g.H.Reads.reading l.how) None l.fn.height l.fn.self l.fn.asking found new;
 }

@@ -8,8 +8,8 @@ use Rattle.iddqd_order.proofs.DescentLemmas.{Finds-from_findsin}
 use Rattle.iddqd_order.proofs.TableLemmas.{root_of, nowhere}
 use Rattle.iddqd_order.proofs.btree_table.table.MapBTreeTable.find.Goals as goal
 
-pub find-found-requires-clause-can_search : goal.find-found-requires-clause-can_search
-find-found-requires-clause-can_search g c =
+pub find-requires-clause-can_search : goal.find-requires-clause-can_search
+find-requires-clause-can_search g c =
     let r = root_of c.args.self.now _ _ _ _ _ c.in-Some.root c.self.view_is c.self.invariant c.in-Some.is in
     subst (λ xs. CanSearch g.F.FnMut xs None c.args.asking.now) (sym r.list) c.requires
 
@@ -26,5 +26,5 @@ returns-in_default g c =
 pub returns : goal.returns
 returns g c =
     let r = root_of c.args.self.now _ _ _ _ _ c.in-Some.root c.self.view_is c.self.invariant c.in-Some.is in
-    subst (λ xs. Finds g.F.FnMut (g.H.Reads.reading c.args.how.now) xs c.args.asking.now c.find-found.result c.find-found.new.asking) r.list
-    (Finds-from_findsin g.F.FnMut (g.H.Reads.reading c.args.how.now) _ _ _ _ _ r.formed r.some c.find-found.ensures.finds)
+    subst (λ xs. Finds g.F.FnMut (g.H.Reads.reading c.args.how.now) xs c.args.asking.now c.find.result c.find.new.asking) r.list
+    (Finds-from_findsin g.F.FnMut (g.H.Reads.reading c.args.how.now) _ _ _ _ _ r.formed r.some c.find.ensures)
