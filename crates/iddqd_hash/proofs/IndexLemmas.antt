@@ -62,14 +62,17 @@ module _ {F G : Type 0} (ask : F → ℕ → Bool → F → Type 0) (asks : G �
       (rest.0, (one.0, one.1, rest.1))
 
   pub Keeps-follows : (f : F) (k : G) (old new olds news : List (ℕ × ℕ)) → R f k → IsPermutation old olds → IsPermutation new news → Keeps ask f old new → Keeps asks k olds news
-  Keeps-follows f k old new olds news r moved left keeps =
-      let asked = asked_follows f k keeps.asks keeps.last r keeps.were_asked in
+  Keeps-follows f k old new olds news r moved left told =
+      let keeps = told.kept in
+      let asked = asked_follows f k keeps.asks told.last r keeps.were_asked in
       record {
-        asks = keeps.asks;
-        each_once = IsPermutation-trans _ _ _ (IsPermutation-sym _ _ moved) keeps.each_once;
         last = asked.0;
-        were_asked = asked.1;
-        kept = IsPermutation-trans _ _ _ keeps.kept left;
+        kept = record {
+          asks = keeps.asks;
+          each_once = IsPermutation-trans _ _ _ (IsPermutation-sym _ _ moved) keeps.each_once;
+          were_asked = asked.1;
+          kept = IsPermutation-trans _ _ _ keeps.kept left;
+        };
       }
 
   pub FindsPlace-follows : (f : F) (k : G) (hash : ℕ) (xs ys : List ℕ) (pair_in : ℕ → Option (ℕ × ℕ)) (r : Option ℕ) → R f k → IsPermutation xs ys → FindsPlace ask f hash xs pair_in r → FindsPlace asks k hash ys pair_in r
@@ -102,5 +105,6 @@ distinct_passed (a ∷ asks) apart =
     ]
 
 pub distinct_retained : {F : Type 0} (ask : F → ℕ → Bool → F → Type 0) (f : F) (old new : List (ℕ × ℕ)) → Keeps ask f old new → IsDistinctlyFiled old → IsDistinctlyFiled new
-distinct_retained ask f old new keeps apart =
+distinct_retained ask f old new told apart =
+    let keeps = told.kept in
     distinct_moved _ _ keeps.kept (distinct_passed keeps.asks (distinct_moved _ _ keeps.each_once apart))

@@ -8,7 +8,7 @@ use Rattle.std.proofs.lemmas.List.{take_all, take_more, take_more_set, drop_more
 use Rattle.std.proofs.lemmas.List.Elements.{filter-append, filter_map-append, Contains-append_right, AllZip-push}
 use Rattle.std.proofs.lemmas.List.Sorted.{IsPermutation-refl}
 use Rattle.std.proofs.lemmas.Fn.{FoldsTo-push}
-use Rattle.iddqd_hash.specs.Asks.{Keeps}
+use Rattle.iddqd_hash.specs.Asks.{KeepsTo}
 use Rattle.iddqd_hash.specs.HashTable.{values, Rewrites}
 use Rattle.iddqd_hash.specs.OpenTable.{slot_at, pairs, hashes_of, NoneFull, IsProbed}
 use Rattle.iddqd_hash.proofs.OpenSlotLemmas.{pairs-push, free_slot}
@@ -126,14 +126,13 @@ module _ {F T : Type 0} (ask : F → T → Bool → F → Type 0) (f : F) (old :
       (Keeping-skip before now at (to - at) (omega (arith, state.same_length, probed.same_length)) (λ k from below. free_slot _ _ (probed.suited k (omega arith)) (gaps k from below)) state)
 
   -- where no pair is left, all were asked
-  pub Keeps-at_end : (last : F) (now : List (Option (ℕ × T))) (at : ℕ) → length (pairs (drop at now)) ≡ 0 → Keeping last now at → Keeps ask f (pairs old) (pairs now)
+  pub Keeps-at_end : (last : F) (now : List (Option (ℕ × T))) (at : ℕ) → length (pairs (drop at now)) ≡ 0 → Keeping last now at → KeepsTo ask f (pairs old) (pairs now) last
   Keeps-at_end last now at ended state =
       let none_now : pairs (drop at now) ≡ [] = none_of_length (pairs (drop at now)) ended in
       let none_old : pairs (drop at old) ≡ [] = ap pairs (sym state.behind) ∙ none_now in
       record {
         asks = state.asks;
         each_once = rw (state.asked ∙ all_taken old at none_old) (IsPermutation-refl (pairs old));
-        last = last;
         were_asked = state.were_asked;
         kept = rw (state.kept ∙ all_taken now at none_now) (IsPermutation-refl (pairs now));
       }

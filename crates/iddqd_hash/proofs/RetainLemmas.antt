@@ -7,7 +7,7 @@ use Rattle.std.proofs.lemmas.List.Elements.{filter-append, Contains-append_right
 use Rattle.std.proofs.lemmas.List.Sorted.{IsPermutation-refl, IsPermutation-trans, IsPermutation-sym, IsPermutation-swap_remove, IsPermutation-append_right, IsPermutation-append_left, IsPermutation-append_comm, IsPermutation-middle, IsPermutation-to_front, Contains-permutation}
 use Rattle.std.proofs.lemmas.Fn.{FoldsTo-push}
 use Rattle.std.proofs.lemmas.Option.{slice_get_read, get_or_from_slice_get}
-use Rattle.iddqd_hash.specs.Asks.{Keeps}
+use Rattle.iddqd_hash.specs.Asks.{Keeps, KeepsTo}
 use Rattle.iddqd_hash.proofs.PermutationLemmas.{IsPermutation-filter}
 use Rattle.iddqd_hash.specs.HashTable.{values}
 
@@ -82,7 +82,7 @@ module _ {F T : Type 0} (ask : F → T → Bool → F → Type 0) where
           kept = same ∙ state.kept ∙ sym (ap (map (λ a. a.0)) (filter-append (λ a. a.1) state.asks ((e, false) ∷ [])) ∙ map-append (λ a. a.0) _ _ ∙ append-nil _);
         }
 
-  pub Keeps-from_retaining : (f : F) (old : List (ℕ × T)) (last : F) (now : List (ℕ × T)) (place : ℕ) → length now ≤ place → Retaining f old last now place → Keeps ask f old now
+  pub Keeps-from_retaining : (f : F) (old : List (ℕ × T)) (last : F) (now : List (ℕ × T)) (place : ℕ) → length now ≤ place → Retaining f old last now place → KeepsTo ask f old now last
   Keeps-from_retaining f old last now place past state =
       let all : take place now ≡ now = take_all place now past in
       let both : IsPermutation old (take place now ++ state.refused) =
@@ -90,7 +90,6 @@ module _ {F T : Type 0} (ask : F → T → Bool → F → Type 0) where
       record {
         asks = state.asks;
         each_once = IsPermutation-trans _ _ _ both state.asked;
-        last = last;
         were_asked = state.were_asked;
         kept = rw (← state.kept, all) (IsPermutation-refl now);
       }
@@ -112,6 +111,7 @@ module _ {F T : Type 0} (ask : F → T → Bool → F → Type 0) (I : F → Typ
       as_answered ∙ ap (λ b. cond b (a.0 ∷ passing) passing) one.0
 
   pub Keeps-tested : (f : F) (old new : List (ℕ × T)) → I f → Keeps ask f old new → IsPermutation (filter (λ e. test e.1) old) new
-  Keeps-tested f old new i keeps =
+  Keeps-tested f old new i told =
+      let keeps = told.kept in
       let passed = IsPermutation-filter (λ e. test e.1) _ _ keeps.each_once in
-      IsPermutation-trans _ _ _ passed (subst (λ es. IsPermutation es new) (kept_passes f keeps.asks keeps.last i keeps.were_asked) keeps.kept)
+      IsPermutation-trans _ _ _ passed (subst (λ es. IsPermutation es new) (kept_passes f keeps.asks told.last i keeps.were_asked) keeps.kept)

@@ -55,11 +55,15 @@ module _ {F T : Type 0} (ask : F → T → Bool → F → Type 0) where
   LooksUp f xs (Some v) = Hits f xs v
   LooksUp f xs None = Misses f xs
 
-  -- f was asked once of each of the old pairs' values, each from the state that the ask before left, and the new
-  -- pairs are those where it answered true
-  pub record Keeps (f : F) (old new : List (ℕ × T)) : Type 0 where
+  -- f was asked once of each of the old pairs' values, each from the state that the ask before left, and is left in
+  -- the last state; the new pairs are those where it answered true
+  pub record KeepsTo (f : F) (old new : List (ℕ × T)) (last : F) : Type 0 where
     pub asks : List ((ℕ × T) × Bool)
     pub each_once : IsPermutation old (map (λ a. a.0) asks)
-    pub last : F
     pub were_asked : FoldsTo (λ p a q. ask p a.0.1 a.1 q) f asks last
     pub kept : IsPermutation (map (λ a. a.0) (filter (λ a. a.1) asks)) new
+
+  -- the same, where f isn't handed back
+  pub record Keeps (f : F) (old new : List (ℕ × T)) : Type 0 where
+    pub last : F
+    pub kept : KeepsTo f old new last

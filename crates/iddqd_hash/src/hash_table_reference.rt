@@ -11,7 +11,7 @@ ghost use Rattle.std.specs.Prelude.{◌≡◌, ◌∷◌, ◌≤◌, [], Some, l
 ghost use Rattle.std.specs.List.Sorted.{IsPermutation};
 ghost use Rattle.std.specs.List.{Contains};
 ghost use Rattle.std.specs.Fn.{TakesAt, CalledAt, FnReturnsAt};
-ghost use Rattle.iddqd_hash.specs.Asks.{CanAsk, LooksUp, HitsPair, FindsPlace, Misses, Keeps};
+ghost use Rattle.iddqd_hash.specs.Asks.{CanAsk, LooksUp, HitsPair, FindsPlace, Misses, Keeps, KeepsTo};
 ghost use Rattle.iddqd_hash.specs.HashTable.{entries, room, under, values, Rewrites, HasNoMemory, KeepsMemory, UsesRoom, Reserves};
 
 mod copies;
@@ -168,14 +168,14 @@ impl<T> HashTable<T> {
     /// Keeps exactly the values at which `f` answers `true`.
     ///
     /// `f` is asked once of each value. No memory is taken or given back.
-    pub fn retain<F: FnMut(&T) -> bool>(&mut self, f: F)
+    pub fn retain<F: FnMut(&T) -> bool>(&mut self, mut f: F)
     where
         T: Drop,
         requires { CanAsk (TakesAt F.FnMut) (CalledAt F.FnMut) f (values (entries self.old)) }
         ensures kept { Keeps (CalledAt F.FnMut) f (entries self.old) (entries self.new) }
         ensures memory { KeepsMemory self.old self.new }
     {
-        retain_pairs(&mut self.pairs, f);
+        retain_pairs(&mut self.pairs, &mut f);
     }
 
     /// Puts what `f` answers at each value in its place, under the hash that the value had.
@@ -218,9 +218,9 @@ fn find_place<T, F: FnMut(&T) -> bool>(pairs: &[(u64, T)], hash: u64, mut eq: F)
 }
 
 // Swaps each pair whose value is refused with the last one, which is asked next.
-fn retain_pairs<T: Drop, F: FnMut(&T) -> bool>(pairs: &mut Vec<(u64, T)>, mut f: F)
-    requires { CanAsk (TakesAt F.FnMut) (CalledAt F.FnMut) f (values pairs.old.items) }
-    ensures kept { Keeps (CalledAt F.FnMut) f pairs.old.items pairs.new.items }
+fn retain_pairs<T: Drop, F: FnMut(&T) -> bool>(pairs: &mut Vec<(u64, T)>, f: &mut F)
+    requires { CanAsk (TakesAt F.FnMut) (CalledAt F.FnMut) f.old (values pairs.old.items) }
+    ensures kept { KeepsTo (CalledAt F.FnMut) f.old pairs.old.items pairs.new.items f.new }
     ensures len { vec_len pairs.new ≤ vec_len pairs.old }
     ensures capacity { vec_capacity pairs.new ≡ vec_capacity pairs.old }
 {

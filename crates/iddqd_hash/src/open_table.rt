@@ -214,7 +214,7 @@ impl<T> OpenHashTable<T> {
     /// Keeps exactly the values at which `f` answers `true`.
     ///
     /// `f` is asked once of each value. No memory is taken or given back.
-    pub fn retain<F: FnMut(&T) -> bool>(&mut self, f: F)
+    pub fn retain<F: FnMut(&T) -> bool>(&mut self, mut f: F)
     where
         T: Drop,
         requires { CanAsk (TakesAt F.FnMut) (CalledAt F.FnMut) f (values (entries self.old)) }
@@ -225,7 +225,7 @@ impl<T> OpenHashTable<T> {
             self.tags.as_mut_slice(),
             self.cells.as_mut_slice(),
             self.len,
-            f,
+            &mut f,
         );
         self.len -= removed;
     }

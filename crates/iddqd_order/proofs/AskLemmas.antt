@@ -1,10 +1,5 @@
 -- For callers too. Asks one after another.
-use Rattle.std.proofs.Common.{◌≡◌, ◌+◌, ◌≤◌, suc, sym, subst, zero-add, ℕ, arith}
-use Rattle.std.specs.declared.cmp.Ordering.{Ordering}
-use Rattle.std.specs.Fn.{Called, Mut}
-use Rattle.iddqd_order.specs.declared.btree_table.asking.Asking.{Asking}
-use Rattle.iddqd_order.specs.Asking.{closure_of, ask_count}
-use Rattle.iddqd_order.specs.Asks.{After, At_once, One_more, CanAsk, Steady, AsksWithin}
+use Rattle.iddqd_order.proofs.Names.{◌≡◌, ◌+◌, ◌≤◌, suc, sym, subst, zero-add, ℕ, arith, Ordering, Called, Mut, Asking, closure_of, ask_count, After, At_once, One_more, CanAsk, Steady, AsksWithin}
 
 module _ {F R : Type 0} (g : Mut F (ℕ × Unit {0}) R) (P : ℕ → Type 0) where
   pub After-trans : {n m : ℕ} {a b c : F} → After g P n a b → After g P m b c → After g P (m + n) a c

@@ -1,10 +1,5 @@
 -- Copies: a node whose children are copies is one.
-use Rattle.std.proofs.Common.{◌≡◌, ◌≢◌, ◌∙◌, ℕ, ◌+◌, ◌-◌, ◌<◌, ◌≤◌, List, [], ◌∷◌, ◌++◌, length, get_or, sym, ap, subst, arith, inl, inr}
-use Rattle.std.proofs.lemmas.Bool.{cases_lt}
-use Rattle.std.proofs.lemmas.List.{length-map, get_or-map, same_lists, get_or_append_left, get_or_push}
-use Rattle.iddqd_order.specs.declared.btree_table.node.Node.{Node}
-use Rattle.iddqd_order.specs.Copies.{IsCopy}
-use Rattle.iddqd_order.specs.Node.{row, children, child, room, weave, flat, IsFormed}
+use Rattle.iddqd_order.proofs.Names.{◌≡◌, ◌≢◌, ◌∙◌, ℕ, ◌+◌, ◌-◌, ◌<◌, ◌≤◌, List, [], ◌∷◌, ◌++◌, length, get_or, sym, ap, subst, arith, inl, inr, cases_lt, length-map, get_or-map, same_lists, get_or_append_left, get_or_push, Node, IsCopy, row, children, child, room, weave, flat, IsFormed}
 use Rattle.iddqd_order.proofs.NodeLemmas.{lists, formed-leaf, leaf-formed, flat-leaf, formed-inner, inner-formed, flat-inner}
 
 pub copy-leaf : (h : ℕ) (n m : Node) → h ≡ 0 → IsFormed h n → row m ≡ row n → children m ≡ children n → IsCopy h n m
@@ -22,8 +17,7 @@ pub copy-inner : (h : ℕ) (n m : Node) → h ≢ 0 → IsFormed h n → row m �
     → ((j : ℕ) (d : Node) → j < length (children n) → IsCopy (h - 1) (child n j) (get_or (children m) j d)) → IsCopy h n m
 copy-inner h n m ne f er count has_room each =
     let fs = formed-inner h n ne f in
-    let within = fs.inner.within in
-    let one = fs.inner.one_more in
+    let within = fs.inner.within in let one = fs.inner.one_more in
     let rows : length (row m) ≡ length (row n) = ap length er in
     let ln = length-map (children n) (λ k. flat (h - 1) k) in
     let lm = length-map (children m) (λ k. flat (h - 1) k) in

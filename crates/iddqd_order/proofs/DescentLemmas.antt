@@ -1,31 +1,16 @@
 -- A walk down a tree: what the search of a row says of the search of the tree.
-use Rattle.std.proofs.Common.{◌≡◌, ◌≢◌, ◌∙◌, ℕ, zero, suc, ◌+◌, ◌-◌, ◌*◌, ◌<◌, ◌≤◌, List, [], ◌∷◌, ◌++◌, length, get_or, drop, slice_index, slice_set, get_or-set_same, get_or-set_other, Contains, refl, sym, ap, subst, All, arith, ◌⊎◌, inl, inr, Option, Some, None, Result, Ok, Err, IfOk, length-append, append_assoc, sub-one}
-use Rattle.std.proofs.lemmas.Bool.{cases_lt, true≢false}
-use Rattle.std.proofs.lemmas.List.{get_or-append-add, length-map, get_or-map}
-use Rattle.std.proofs.lemmas.List.Elements.{All-nil, Contains-append_cases}
-use Rattle.std.specs.declared.cmp.Ordering.{Ordering}
-use Rattle.std.specs.declared.cmp.Ordering.TheVariants.{Less, Greater}
-use Rattle.std.specs.Fn.{Mut}
-use Rattle.iddqd_order.specs.Asks.{AsksWithin, Steady}
-use Rattle.iddqd_order.specs.declared.btree_table.asking.Asking.{Asking}
-use Rattle.iddqd_order.specs.declared.btree_table.node.Node.{Node}
-use Rattle.iddqd_order.specs.Node.{row, children, child, weave, before, after, flat, IsFormed, Holds, spot, FullBelow, IsFullBelow}
-use Rattle.iddqd_order.specs.Search.{Askable, CanSearch, with_ties, IsRising, IsPlace, IsSteadyRising, SearchesWithin, Searches, Finds}
-use Rattle.iddqd_order.specs.Descent.{end_of, index_at, Descends, FindsIn}
-use Rattle.iddqd_order.specs.Digits.{digits}
+use Rattle.iddqd_order.proofs.Names.{◌≡◌, ◌≢◌, ◌∙◌, ℕ, zero, suc, ◌+◌, ◌-◌, ◌*◌, ◌<◌, ◌≤◌, List, [], ◌∷◌, ◌++◌, length, get_or, drop, slice_index, slice_set, get_or-set_same, get_or-set_other, Contains, refl, sym, ap, subst, All, arith, ◌⊎◌, inl, inr, Option, Some, None, Result, Ok, Err, IfOk, length-append, append_assoc, sub-one, add-one, cases_lt, true≢false, get_or-append-add, length-map, All-nil, Contains-append_cases, Ordering, Less, Greater, Mut, AsksWithin, Steady, Asking, Node, row, children, child, weave, before, after, flat, IsFormed, Holds, spot, FullBelow, IsFullBelow, Askable, CanSearch, with_ties, IsRising, IsPlace, IsSteadyRising, SearchesWithin, Searches, Finds, end_of, index_at, Descends, FindsIn, digits}
 use Rattle.iddqd_order.proofs.DigitLemmas.{four_digits}
 use Rattle.iddqd_order.proofs.AskLemmas.{asks_wider, CanAsk-fewer, CanAsk-later, Steady-fewer}
-use Rattle.iddqd_order.proofs.NodeLemmas.{lists, formed-inner, flat-leaf, flat-inner, inner-goes, leaf-goes, place-inner, place-leaf, any_default}
+pub use Rattle.iddqd_order.proofs.NodeLemmas.{lists-one_more, lists-at, child-within, child-formed}
+use Rattle.iddqd_order.proofs.NodeLemmas.{lists, flat-leaf, flat-inner, inner-goes, leaf-goes, place-inner, place-leaf, any_default}
 use Rattle.iddqd_order.proofs.PartLemmas.{Askable-wider, greater_up_to, less_from_on, shifted, in_middle, middle_held, SearchesWithin-more, LeadsTo, Searches-part}
 use Rattle.iddqd_order.proofs.RemovalLemmas.{holds-level, spot-leaf, spot-at, spot-below, spot-within}
 use Rattle.iddqd_order.proofs.IndexListLemmas.{Contains-at}
 use Rattle.iddqd_order.proofs.ReckoningLemmas.{reckoning}
 use Rattle.iddqd_order.proofs.SearchLemmas.{none_at_place}
-use Rattle.iddqd_order.proofs.WeaveLemmas.{apart}
-
--- the place of the i-th index in a woven list
-abbrev pub index_place : ℕ → List ℕ → List (List ℕ) → ℕ
-index_place i xs ks = length (before i xs ks) + length (get_or ks i [])
+use Rattle.iddqd_order.proofs.WeaveLemmas.{apart, index_place}
+use Rattle.iddqd_order.proofs.WeaveRemovalLemmas.{weave-within_at}
 
 -- after the i-th list the i-th index begins
 pub after-begins : (i : ℕ) (xs : List ℕ) (ks : List (List ℕ)) (d : ℕ) → i < length xs → length ks ≡ length xs + 1
@@ -61,6 +46,13 @@ before-mono (suc i) (suc j) (x ∷ xs) (k ∷ ks) le within e =
     let less = before-mono i j xs ks (omega arith) (omega arith) (omega arith) in
     omega (arith, length-append k (x ∷ before i xs ks), length-append k (x ∷ before j xs ks))
 
+pub before-next : (i : ℕ) (xs : List ℕ) (ks : List (List ℕ)) → i < length xs → length ks ≡ length xs + 1 → length (before (i + 1) xs ks) ≡ index_place i xs ks + 1
+before-next i xs ks lt e =
+    let k : List ℕ = get_or ks i [] in
+    let more = ap length (before-more i xs ks 0 lt e) in
+    let next : length (before (i + 1) xs ks) ≡ length (before (suc i) xs ks) = ap (λ z. length (before z xs ks)) (add-one i) in
+    omega (arith, more, next, length-append (before i xs ks) (k ++ get_or xs i 0 ∷ []), length-append k (get_or xs i 0 ∷ []))
+
 module _ (xs : List ℕ) (ks : List (List ℕ)) (one_more : length ks ≡ length xs + 1) where
   -- a woven list, apart at its i-th index
   pub apart_at : (i d : ℕ) → i < length xs
@@ -74,9 +66,7 @@ module _ (xs : List ℕ) (ks : List (List ℕ)) (one_more : length ks ≡ length
   apart_behind i d lt = apart_at i d lt ∙ sym (append_assoc (before i xs ks) (get_or ks i []) (get_or xs i d ∷ weave (drop (suc i) xs) (drop (suc i) ks)))
 
   pub index_place-within : (i : ℕ) → i < length xs → index_place i xs ks < length (weave xs ks)
-  index_place-within i lt =
-      let tail : List ℕ = weave (drop (suc i) xs) (drop (suc i) ks) in
-      rw (apart_at i 0 lt) (omega (arith, length-append (before i xs ks) (get_or ks i [] ++ get_or xs i 0 ∷ tail), length-append (get_or ks i []) (get_or xs i 0 ∷ tail)))
+  index_place-within i lt = weave-within_at i xs ks [] lt one_more
 
   pub get_or-index_place : (i d : ℕ) → i < length xs → get_or (weave xs ks) (index_place i xs ks) d ≡ get_or xs i d
   get_or-index_place i d lt =
@@ -92,9 +82,7 @@ module _ (xs : List ℕ) (ks : List (List ℕ)) (one_more : length ks ≡ length
   -- the indexes of the row stand in their order
   pub index_place-mono : (i j : ℕ) → i < j → j < length xs → index_place i xs ks < index_place j xs ks
   index_place-mono i j lt within =
-      let more = ap length (before-more i xs ks 0 (omega arith) one_more) in
-      let up = before-mono (suc i) j xs ks (omega arith) (omega arith) one_more in
-      omega (arith, more, up, length-append (before i xs ks) (get_or ks i [] ++ get_or xs i 0 ∷ []), length-append (get_or ks i []) (get_or xs i 0 ∷ []))
+      omega (arith, before-next i xs ks (omega arith) one_more, before-mono (i + 1) j xs ks (omega arith) (omega arith) one_more)
 
   pub row_held : (ix : ℕ) → Contains xs ix → Contains (weave xs ks) ix
   row_held ix h = (index_place h.0 xs ks, index_place-within h.0 h.1, get_or-index_place h.0 ix h.1 ∙ h.2)
@@ -191,19 +179,6 @@ path-here p q l i len le e = ap (λ z. slice_index z l) e ∙ get_or-set_same p 
 pub path-above : (p q : List ℕ) (l i m : ℕ) → q ≡ slice_set p l i → l < m → slice_index q m ≡ slice_index p m
 path-above p q l i m e lt = ap (λ z. slice_index z m) e ∙ get_or-set_other p l m i 0 (λ same. absurd (omega arith))
 
--- what a node below the leaves' level has: one list more than indexes, each the list of a child
-pub lists-one_more : (l : ℕ) (n : Node) → l ≢ 0 → IsFormed l n → length (lists (l - 1) (children n)) ≡ length (row n) + 1
-lists-one_more l n ne f = let one = (formed-inner l n ne f).inner.one_more in omega (arith, length-map (children n) (λ k. flat (l - 1) k))
-
-pub lists-at : (h : ℕ) (n : Node) (i : ℕ) → i < length (children n) → get_or (lists h (children n)) i [] ≡ flat h (child n i)
-lists-at h n i lt = get_or-map (λ k. flat h k) (children n) i n [] lt
-
-pub child-within : (l : ℕ) (n : Node) (i : ℕ) → l ≢ 0 → IsFormed l n → i ≤ length (row n) → i < length (children n)
-child-within l n i ne f le = let one = (formed-inner l n ne f).inner.one_more in omega arith
-
-pub child-formed : (l : ℕ) (n : Node) (i : ℕ) → l ≢ 0 → IsFormed l n → i < length (children n) → IsFormed (l - 1) (child n i)
-child-formed l n i ne f lt = ((formed-inner l n ne f).below i n lt).1
-
 pub child_is : (n : Node) (i : ℕ) (k : Node) → i < length (children n) → k ≡ get_or (children n) i k → k ≡ child n i
 child_is n i k lt e = e ∙ any_default (children n) i k n lt
 
@@ -265,6 +240,16 @@ counts_here n full l full_below k c on =
       | inl lt ↦ (let is = c.not_full lt in ((λ up. absurd (omega arith), λ e. lt), λ up. absurd (omega arith)))
       | inr ge ↦ (let is = c.is_full ge in let up = c.above in ((λ _. ge, λ e. absurd (omega arith)), λ up. omega arith))
     ]
+
+-- the list of the i-th child stands in the whole
+pub child-read : (l : ℕ) (n : Node) (i j : ℕ) → l ≢ 0 → IsFormed l n → i < length (children n) → j < length (flat (l - 1) (child n i))
+    → slice_index (flat l n) (length (before i (row n) (lists (l - 1) (children n))) + j) ≡ slice_index (flat (l - 1) (child n i)) j
+child-read l n i j ne f lt within =
+    let xs : List ℕ = row n in let ks : List (List ℕ) = lists (l - 1) (children n) in
+    let at = lists-at (l - 1) n i lt in
+    let whole : flat l n ≡ before i xs ks ++ (get_or ks i [] ++ after i xs ks) = flat-inner l n ne ∙ apart i xs ks [] (omega (arith, length-map (children n) (λ k. flat (l - 1) k))) (lists-one_more l n ne f) in
+    let inside : j < length (get_or ks i []) = rw at within in
+    ap (λ zs. slice_index zs (length (before i xs ks) + j)) whole ∙ in_middle (before i xs ks) (get_or ks i []) (after i xs ks) j inside ∙ ap (λ zs. slice_index zs j) at
 
 module _ {F R : Type 0} (g : Mut F (ℕ × Unit {0}) R) (read : R → Ordering) (tie : Option ℕ) where
   -- the row may be asked where the tree may be
@@ -372,15 +357,6 @@ module _ {F R : Type 0} (g : Mut F (ℕ × Unit {0}) R) (read : R → Ordering) 
         level = here.1;
       }
 
-  -- what may be asked in the row may be asked in the tree
-  pub asks_in_tree : {k : ℕ} (l : ℕ) (n : Node) (a b : Asking F) → IsFormed l n → AsksWithin g (Askable (row n) tie) k a b → AsksWithin g (Askable (flat l n) tie) k a b
-  asks_in_tree {k = k} zero n a b f asked = subst (λ xs. AsksWithin g (Askable xs tie) k a b) (sym (flat-leaf zero n refl)) asked
-  asks_in_tree {k = k} (suc h) n a b f asked =
-      let ne : suc h ≢ 0 = λ e. absurd (omega arith) in
-      let xs : List ℕ = row n in let ks : List (List ℕ) = lists (suc h - 1) (children n) in
-      subst (λ zs. AsksWithin g (Askable zs tie) k a b) (sym (flat-inner (suc h) n ne))
-      (asks_wider g (Askable xs tie) (Askable (weave xs ks) tie) (Askable-wider xs (weave xs ks) tie (row_held xs ks (lists-one_more (suc h) n ne f))) asked)
-
   -- a find ends at an index of the node
   pub FindsIn-hit : (l : ℕ) (n : Node) (i ix : ℕ) (a b : Asking F) → IsFormed l n → SearchesWithin g read (row n) 4 tie a (Ok i) b → ix ≡ slice_index (row n) i → FindsIn g read tie l n a (Some ix) b
   FindsIn-hit zero n i ix a b f s e = record {
@@ -405,13 +381,7 @@ module _ {F R : Type 0} (g : Mut F (ℕ × Unit {0}) R) (read : R → Ordering) 
   read-below : (l : ℕ) (n : Node) (i : ℕ) (end : Result ℕ ℕ) → l ≢ 0 → IsFormed l n → i < length (children n) → IfOk end (λ j. j < length (flat (l - 1) (child n i)))
       → index_at (flat (l - 1) (child n i)) end ≡ index_at (flat l n) (shifted (length (before i (row n) (lists (l - 1) (children n)))) end)
   read-below l n i (Err j) ne f lt found = refl
-  read-below l n i (Ok j) ne f lt found =
-      let xs : List ℕ = row n in let ks : List (List ℕ) = lists (l - 1) (children n) in
-      let one = lists-one_more l n ne f in
-      let at = lists-at (l - 1) n i lt in
-      let whole : flat l n ≡ before i xs ks ++ (get_or ks i [] ++ after i xs ks) = flat-inner l n ne ∙ apart i xs ks [] (omega (arith, length-map (children n) (λ k. flat (l - 1) k))) one in
-      let inside : j < length (get_or ks i []) = rw at found in
-      ap Some (sym (ap (λ zs. slice_index zs (length (before i xs ks) + j)) whole ∙ in_middle (before i xs ks) (get_or ks i []) (after i xs ks) j inside ∙ ap (λ zs. slice_index zs j) at))
+  read-below l n i (Ok j) ne f lt found = ap Some (sym (child-read l n i j ne f lt found))
 
   -- or below the node
   pub FindsIn-below : (l : ℕ) (n : Node) (i : ℕ) (found : Option ℕ) (a b c : Asking F) → l ≢ 0 → IsFormed l n → SearchesWithin g read (row n) 4 tie a (Err i) b
@@ -493,15 +463,7 @@ spot-row (suc h) n p f lt =
 pub spot-child : (m l : ℕ) (n : Node) (p : List ℕ) → l ≢ 0 → IsFormed l n → slice_index p l < length (children n) → Holds m (l - 1) (child n (slice_index p l)) p
     → slice_index (flat l n) (spot m l n p) ≡ slice_index (flat (l - 1) (child n (slice_index p l))) (spot m (l - 1) (child n (slice_index p l)) p)
 spot-child m l n p ne f lt holds =
-    let i : ℕ = slice_index p l in
-    let xs : List ℕ = row n in let ks : List (List ℕ) = lists (l - 1) (children n) in
-    let j : ℕ = spot m (l - 1) (child n i) p in
-    let le = holds-level m (l - 1) (child n i) p holds in
-    let at = lists-at (l - 1) n i lt in
-    let within : j < length (flat (l - 1) (child n i)) = spot-within m (l - 1) (child n i) p (child-formed l n i ne f lt) holds in
-    let inside : j < length (get_or ks i []) = rw at within in
-    let whole : flat l n ≡ before i xs ks ++ (get_or ks i [] ++ after i xs ks) = flat-inner l n ne ∙ apart i xs ks [] (omega (arith, length-map (children n) (λ k. flat (l - 1) k))) (lists-one_more l n ne f) in
+    let k : Node = child n (slice_index p l) in
+    let le = holds-level m (l - 1) k p holds in
     ap (λ s. slice_index (flat l n) s) (spot-below m l n p ne (λ e. absurd (omega arith)))
-    ∙ ap (λ zs. slice_index zs (length (before i xs ks) + j)) whole
-    ∙ in_middle (before i xs ks) (get_or ks i []) (after i xs ks) j inside
-    ∙ ap (λ zs. slice_index zs j) at
+    ∙ child-read l n (slice_index p l) (spot m (l - 1) k p) ne f lt (spot-within m (l - 1) k p (child-formed l n (slice_index p l) ne f lt) holds)

@@ -1,6 +1,5 @@
 -- The number of binary digits.
-use Rattle.std.proofs.Common.{◌≡◌, ℕ, zero, suc, ◌+◌, ◌/◌, ◌<◌, ◌≤◌, refl, ap, arith}
-use Rattle.iddqd_order.specs.Digits.{digits, digits_within}
+use Rattle.iddqd_order.proofs.Names.{◌≡◌, ℕ, zero, suc, ◌+◌, ◌/◌, ◌<◌, ◌≤◌, refl, ap, arith, digits, digits_within}
 
 pub digits_within-zero : (k : ℕ) → digits_within k 0 ≡ 0
 digits_within-zero zero = refl

@@ -1,14 +1,5 @@
 -- For callers too. What an insert and a removal keep of a list.
-use Rattle.std.proofs.Common.{◌≡◌, ◌≢◌, ◌∙◌, ℕ, zero, suc, ◌+◌, ◌-◌, ◌<◌, ◌≤◌, ◌==◌, List, [], ◌∷◌, length, get_or, Contains, refl, sym, ap, subst, arith, inl, inr, nat_eq, not, Bool, true, false, insert, remove, filter, ne_eqb}
-use Rattle.std.proofs.lemmas.Bool.Decides.{nat_tests}
-use Rattle.std.specs.List.{IsDistinct, AllByRecursion, AllPairs}
-use Rattle.std.proofs.lemmas.Map.Keys.{apart_from_distinct, IsDistinct-from_apart, IsDistinct-head, IsDistinct-tail}
-use Rattle.std.proofs.lemmas.List.Kept.{AllPairs-filter}
-use Rattle.std.proofs.lemmas.List.Elements.{All-append, All-cons, All-contains, All-take, All-drop, All-filter, All-nil, All-get_or, All-from_recursion, recursion_from_All, Contains-get_or}
-use Rattle.std.proofs.lemmas.List.Edits.{length-insert, get_or-insert_below, get_or-insert_at, get_or-insert_above}
-use Rattle.std.proofs.lemmas.List.{get_or_default}
-use Rattle.std.proofs.lemmas.Bool.{cases_lt}
-use Rattle.iddqd_order.specs.MapBTreeTable.{IsIndexList, sentinel, without}
+use Rattle.iddqd_order.proofs.Names.{◌≡◌, ◌≢◌, ◌∙◌, ℕ, zero, suc, ◌+◌, ◌-◌, ◌<◌, ◌≤◌, ◌==◌, List, [], ◌∷◌, length, get_or, Contains, refl, sym, ap, subst, arith, inl, inr, nat_eq, not, Bool, true, false, insert, remove, filter, ne_eqb, nat_tests, IsDistinct, AllByRecursion, AllPairs, apart_from_distinct, IsDistinct-from_apart, IsDistinct-head, IsDistinct-tail, AllPairs-filter, All-append, All-cons, All-contains, All-take, All-drop, All-filter, All-nil, All-get_or, All-from_recursion, recursion_from_All, Contains-get_or, length-insert, get_or-insert_below, get_or-insert_at, get_or-insert_above, get_or_default, cases_lt, IsIndexList, sentinel, without}
 
 pub Contains-at : (xs : List ℕ) (i x : ℕ) → i < length xs → x ≡ get_or xs i 0 → Contains xs x
 Contains-at xs i x h e = (i, h, sym (e ∙ get_or_default xs i 0 x h))

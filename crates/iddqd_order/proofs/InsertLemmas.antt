@@ -4,7 +4,7 @@ use Rattle.std.proofs.lemmas.Bool.{cases_lt}
 use Rattle.std.specs.List.{insert}
 use Rattle.std.proofs.lemmas.List.{length-map, get_or-map, map-set, map-append}
 use Rattle.std.proofs.lemmas.List.Edits.{length-insert}
-use Rattle.std.proofs.lemmas.List.Elements.{All-set, All-take, All-drop, All-head}
+use Rattle.std.proofs.lemmas.List.Elements.{All-set, All-take, All-drop}
 use Rattle.std.proofs.Math.Seq.{drop-append_seam, take-append_seam}
 use Rattle.iddqd_order.specs.declared.btree_table.node.Node.{Node}
 use Rattle.iddqd_order.specs.Node.{row, children, child, room, weave, before, flat, IsInner, IsFormed, Goes, place, IsFullBelow}
@@ -221,10 +221,3 @@ pub all_full : (k l h : ℕ) (n : Node) (p : List ℕ) → h < l → l ≤ k →
 unfolding IsFullBelow
 all_full k l zero n p lt le f = ((λ q. f.0 (omega arith)), (λ q. absurd (omega arith)))
 all_full k l (suc h) n p lt le f = (((λ q. f.0.0 (omega arith)), (λ q. absurd (omega arith))), all_full k l h (child n (slice_index p (suc h))) p (omega arith) le f.1)
-
--- the last of a list, and the others
-pub All-last : {X : Type 0} → (P : X → Type 0) (xs ys : List X) (x : X) → All P xs → xs ≡ ys ++ x ∷ [] → P x
-All-last P xs ys x a e = All-head P x [] (All-back P ys (x ∷ []) (subst (All P) e a))
-
-pub All-others : {X : Type 0} → (P : X → Type 0) (xs ys : List X) (x : X) → All P xs → xs ≡ ys ++ x ∷ [] → All P ys
-All-others P xs ys x a e = All-front P ys (x ∷ []) (subst (All P) e a)

@@ -1,16 +1,5 @@
 -- For callers too. What lawful keys give a table in order by key, ties by index.
-use Rattle.std.proofs.Common.{◌≡◌, ◌∙◌, ℕ, ◌+◌, ◌<◌, ◌==◌, ◌⊎◌, inl, inr, if◌then◌else◌, List, None, Some, length, map, get_or, insert, Contains, refl, sym, ap, Bool, true, false, eqb-true, Ordering, arith}
-use Rattle.std.specs.Cmp.{IsTotalOrder, nat_cmp_is}
-use Rattle.std.specs.List.Sorted.{IsStrictlySortedBy}
-use Rattle.std.specs.Ordering.{nat_cmp, ordering_then, ordering_reverse, MatchOrdering}
-use Rattle.std.specs.declared.cmp.Ordering.TheVariants.{Less, Equal, Greater}
-use Rattle.std.proofs.lemmas.Cmp.{nat_cmp_total, on_total, then_total, tied_itself, alike_right, ranked}
-use Rattle.std.proofs.lemmas.List.{get_or_default, get_or-map, length-map}
-use Rattle.std.proofs.lemmas.List.Elements.{Contains-get_or}
-use Rattle.std.proofs.lemmas.Map.Keys.{Less-from_sorted, sorted_from_all_adjacent}
-use Rattle.iddqd.specs.MapHashLaws.{greater_before_in}
-use Rattle.iddqd_order.specs.KeyOrder.{key_then_index, IsInKeyOrder, ComparesKeys}
-use Rattle.iddqd_order.specs.Search.{with_ties, IsRising, IsPlace}
+use Rattle.iddqd_order.proofs.Names.{◌≡◌, ◌∙◌, ℕ, ◌+◌, ◌<◌, ◌==◌, ◌⊎◌, inl, inr, if◌then◌else◌, List, None, Some, length, map, get_or, insert, Contains, refl, sym, ap, Bool, true, false, eqb-true, Ordering, arith, IsTotalOrder, nat_cmp_is, IsStrictlySortedBy, nat_cmp, ordering_then, ordering_reverse, MatchOrdering, Less, Equal, Greater, nat_cmp_total, on_total, then_total, tied_itself, alike_right, ranked, get_or_default, get_or-map, length-map, Contains-get_or, Less-from_sorted, sorted_from_all_adjacent, greater_before_in, key_then_index, IsInKeyOrder, ComparesKeys, with_ties, IsRising, IsPlace}
 use Rattle.iddqd_order.proofs.IndexListLemmas.{AllPairs-insert}
 
 -- two that stand the other way round

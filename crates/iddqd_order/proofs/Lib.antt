@@ -1,4 +1,5 @@
 pub mod AskLemmas
+mod BackLemmas
 mod CopyLemmas
 mod CountSteps
 mod DescentLemmas
@@ -9,9 +10,11 @@ pub mod InsertLemmas
 pub mod KeyOrderLemmas
 pub mod MemberLemmas
 mod MendLemmas
+mod Names
 pub mod NodeLemmas
 mod NodeRenameLemmas
 mod PartLemmas
+mod RangeLemmas
 mod ReckoningLemmas
 mod RemovalLemmas
 pub mod RenameLemmas

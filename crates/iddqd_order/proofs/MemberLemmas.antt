@@ -1,12 +1,6 @@
 -- What an insert and a removal do to the members of a list of indexes.
-use Rattle.std.proofs.Common.{◌≡◌, ◌≢◌, ◌∙◌, ◌⊎◌, inl, inr, ◌==◌, ℕ, true, false, not, List, [], ◌∷◌, ◌++◌, take, drop, insert, map, refl, sym, subst, arith}
-use Rattle.std.specs.List.{Contains}
-use Rattle.std.proofs.lemmas.Bool.{cases_eq}
-use Rattle.std.proofs.lemmas.Bool.Decides.{nat_tests}
-use Rattle.std.proofs.lemmas.List.{take-append-drop}
-use Rattle.std.proofs.lemmas.List.Elements.{Contains-append_left, Contains-append_right, Contains-append_cases}
+use Rattle.iddqd_order.proofs.Names.{◌≡◌, ◌≢◌, ◌∙◌, ◌⊎◌, inl, inr, ◌==◌, ℕ, true, false, not, List, [], ◌∷◌, ◌++◌, take, drop, insert, map, refl, sym, subst, arith, Contains, cases_eq, nat_tests, take-append-drop, Contains-append_left, Contains-append_right, Contains-append_cases, without}
 use Rattle.iddqd.proofs.StoreLemmas.{contains_head, contains_tail, contains_cases, contains_none}
-use Rattle.iddqd_order.specs.MapBTreeTable.{without}
 
 -- what stands in the list after an insert
 module _ (xs : List ℕ) (place ix : ℕ) where

@@ -1,12 +1,5 @@
 -- What mending leaves of nodes.
-use Rattle.std.proofs.Common.{◌≡◌, ◌≢◌, ℕ, zero, suc, ◌+◌, ◌<◌, ◌≤◌, List, [], ◌∷◌, ◌++◌, length, set, get_or, map, remove, Option, Some, None, option_to_list, IsSome, ◌↔◌, append_assoc, subst, refl, ap, sym, ◌∙◌, arith, add-one, length-append, length-set, get_or-set_other, All, inl, inr}
-use Rattle.std.proofs.lemmas.Bool.{cases_eq}
-use Rattle.std.proofs.lemmas.List.{get_or_append_left, get_or-append-add, length-map, get_or-map, map-append, map-set, nil_from_length, set_comm, get_or_default}
-use Rattle.std.proofs.lemmas.List.Edits.{length-remove, get_or-remove_below}
-use Rattle.std.proofs.lemmas.List.Elements.{All-append}
-use Rattle.iddqd_order.specs.declared.btree_table.node.Node.{Node}
-use Rattle.iddqd_order.specs.Node.{row, children, room, weave, flat, IsFormed}
-use Rattle.iddqd_order.specs.Removal.{IsChild, MayLackOne, IsMended}
+use Rattle.iddqd_order.proofs.Names.{◌≡◌, ◌≢◌, ℕ, zero, suc, ◌+◌, ◌<◌, ◌≤◌, List, [], ◌∷◌, ◌++◌, length, set, get_or, map, remove, Option, Some, None, option_to_list, IsSome, ◌↔◌, append_assoc, subst, refl, ap, sym, ◌∙◌, arith, add-one, length-append, length-set, get_or-set_other, All, inl, inr, cases_eq, get_or_append_left, get_or-append-add, length-map, get_or-map, map-append, map-set, nil_from_length, set_comm, get_or_default, length-remove, get_or-remove_below, All-append, Node, row, children, room, weave, flat, IsFormed, IsChild, MayLackOne, IsMended}
 use Rattle.iddqd_order.proofs.WeaveLemmas.{weave-append}
 use Rattle.iddqd_order.proofs.NodeLemmas.{lists, formed-within}
 use Rattle.iddqd_order.proofs.WeaveRemovalLemmas.{weave-shared, weave-joined, map-remove, All-shared, All-joined}
@@ -28,7 +21,7 @@ pub record IsShared (l : Node) (x : ℕ) (r : Node) (new_l : Node) (m : ℕ) (ne
   pub high : 5 ≤ length (row new_r)
   pub low_within : length (row new_l) ≤ 11
   pub high_within : length (row new_r) ≤ 11
-  pub balanced : 0 < length (children l) → length (children new_l) ≡ length (row new_l) + 1
+  pub balanced : length (children l) ≡ length (row l) + 1 → length (children r) ≡ length (row r) + 1 → length (children new_l) ≡ length (row new_l) + 1
 
 -- they are formed, and hold what they held
 pub record HoldsBoth (h : ℕ) (l : Node) (x : ℕ) (r : Node) (new_l : Node) (m : ℕ) (new_r : Node) : Type 0 where
@@ -42,8 +35,7 @@ shared-holds zero l x r new_l m new_r fl fr s =
     let el : length (children l) ≡ 0 = ap length fl.childless in
     let er : length (children r) ≡ 0 = ap length fr.childless in
     let e : length (children new_l) + length (children new_r) ≡ length (children l) + length (children r) = simp length-append at (ap length s.below) in
-    let a = s.low_within in
-    let b = s.high_within in
+    let a = s.low_within in let b = s.high_within in
     record {
       left = (s.low, record { within = a; childless = nil_from_length (children new_l) (omega arith) });
       right = (s.high, record { within = b; childless = nil_from_length (children new_r) (omega arith) });
@@ -54,13 +46,9 @@ shared-holds (suc h) l x r new_l m new_r fl fr s =
     let f : Node → List ℕ = λ k. flat h k in
     let e : length (children new_l) + length (children new_r) ≡ length (children l) + length (children r) = simp length-append at (ap length s.below) in
     let n : length (row new_l) + suc (length (row new_r)) ≡ length (row l) + suc (length (row r)) = simp length-append at (ap length s.rows) in
-    let ol = fl.0.one_more in
-    let or = fr.0.one_more in
-    let hl = fl.0.has_room in
-    let hr = fr.0.has_room in
-    let ra = s.room_left in
-    let rb = s.room_right in
-    let nl : length (children new_l) ≡ length (row new_l) + 1 = s.balanced (omega arith) in
+    let ol = fl.0.one_more in let or = fr.0.one_more in let hl = fl.0.has_room in let hr = fr.0.has_room in
+    let ra = s.room_left in let rb = s.room_right in
+    let nl : length (children new_l) ≡ length (row new_l) + 1 = s.balanced ol or in
     let nr : length (children new_r) ≡ length (row new_r) + 1 = omega arith in
     let every : All P (children new_l ++ children new_r) = rw s.below (All-append P (children l) (children r) fl.1 fr.1) in
     let both : map f (children new_l) ++ map f (children new_r) ≡ map f (children l) ++ map f (children r) = sym (map-append f (children new_l) (children new_r)) ∙ ap (λ z. map f z) s.below ∙ map-append f (children l) (children r) in
@@ -92,8 +80,7 @@ pub joined-holds : (h : ℕ) (l : Node) (x : ℕ) (r one : Node) → IsFormed h 
 unfolding IsFormed flat
 joined-holds zero l x r one fl fr s =
     let n : length (row one) ≡ length (row l) + suc (length (row r)) = simp length-append at (ap length s.rows) in
-    let a = s.few in
-    let b = s.many in
+    let a = s.few in let b = s.many in
     record {
       child = (omega arith, record { within = omega arith; childless = s.below ∙ ap (λ z. z ++ children r) fl.childless ∙ fr.childless });
       items = s.rows;
@@ -103,12 +90,8 @@ joined-holds (suc h) l x r one fl fr s =
     let f : Node → List ℕ = λ k. flat h k in
     let n : length (row one) ≡ length (row l) + suc (length (row r)) = simp length-append at (ap length s.rows) in
     let e : length (children one) ≡ length (children l) + length (children r) = simp length-append at (ap length s.below) in
-    let a = s.few in
-    let b = s.many in
-    let ol = fl.0.one_more in
-    let or = fr.0.one_more in
-    let hl = fl.0.has_room in
-    let ro = s.room_one in
+    let a = s.few in let b = s.many in let ol = fl.0.one_more in let or = fr.0.one_more in
+    let hl = fl.0.has_room in let ro = s.room_one in
     let ml = length-map (children l) f in
     record {
       child = (omega arith, (record { within = omega arith; one_more = omega arith; has_room = omega arith }, rw s.below (All-append P (children l) (children r) fl.1 fr.1)));
@@ -133,8 +116,7 @@ weaker h k c = (omega (arith, c.0), c.1)
 
 pub neighbours-before : (h i j : ℕ) (xs : List ℕ) (ks : List Node) → j ≡ i + 1 → MayLackOne h j xs ks → AreNeighbours h i xs ks
 neighbours-before h i j xs ks e f =
-    let o = f.one_more in
-    let at = f.here in
+    let o = f.one_more in let at = f.here in
     record {
       within = f.within;
       one_more = o;
@@ -156,84 +138,73 @@ neighbours-behind h i xs ks lt f =
       others = λ k d w ne1 ne2. f.others k d w ne1;
     }
 
--- the list of the i-th child
-pub lists-at : (h i : ℕ) (ks : List Node) (d : Node) → i < length ks → get_or (lists h ks) i [] ≡ flat h (get_or ks i d)
-lists-at h i ks d lt = get_or-map (λ k. flat h k) ks i d [] lt
+-- two neighbours, and how their lists stand among those of all
+pub record Both (h i : ℕ) (xs : List ℕ) (ks : List Node) (l r : Node) : Type 0 where
+  pub neighbours : AreNeighbours h i xs ks
+  pub left : l ≡ get_or ks i l
+  pub right : r ≡ get_or ks (i + 1) r
+  pub left_is : (4 ≤ length (row l)) × IsFormed h l
+  pub right_is : (4 ≤ length (row r)) × IsFormed h r
+  pub among : (x : ℕ) → flat h l ++ x ∷ flat h r ≡ get_or (lists h ks) i [] ++ x ∷ get_or (lists h ks) (suc i) []
+
+both : (h i : ℕ) (xs : List ℕ) (ks : List Node) (l r : Node) → AreNeighbours h i xs ks → l ≡ get_or ks i l → r ≡ get_or ks (i + 1) r → Both h i xs ks l r
+both h i xs ks l r n el er =
+    let one = n.one_more in let here = n.here in
+    let g : Node → List ℕ = λ k. flat h k in
+    let l_is : get_or (lists h ks) i [] ≡ flat h l = get_or-map g ks i l [] (omega arith) ∙ ap g (sym el) in
+    let r_is : get_or (lists h ks) (suc i) [] ≡ flat h r = ap (λ z. get_or (lists h ks) z []) (sym (add-one i)) ∙ get_or-map g ks (i + 1) r [] (omega arith) ∙ ap g (sym er) in
+    record {
+      neighbours = n;
+      left = el;
+      right = er;
+      left_is = rw el (n.left l);
+      right_is = rw er (n.right r);
+      among = λ x. ap (λ z. z ++ x ∷ flat h r) (sym l_is) ∙ ap (λ z. get_or (lists h ks) i [] ++ x ∷ z) (sym r_is);
+    }
 
 -- the two with the index between them, shared out anew
-pub mended-shared : (h i : ℕ) (xs : List ℕ) (ks : List Node) (l r new_l : Node) (m : ℕ) (new_r : Node) → AreNeighbours h i xs ks → l ≡ get_or ks i l → r ≡ get_or ks (i + 1) r
-    → IsShared l (get_or xs i 0) r new_l m new_r → IsMended h xs ks (set xs i m) (set (set ks i new_l) (i + 1) new_r)
-mended-shared h i xs ks l r new_l m new_r f el er s =
-    let o = f.one_more in
-    let at = f.here in
-    let fl : IsFormed h l = rw el (f.left l).1 in
-    let fr : IsFormed h r = rw er (f.right r).1 in
-    let both = shared-holds h l (get_or xs i 0) r new_l m new_r fl fr s in
+mended-shared : (h i : ℕ) (xs : List ℕ) (ks : List Node) (l r new_l : Node) (m : ℕ) (new_r : Node) → Both h i xs ks l r → IsShared l (get_or xs i 0) r new_l m new_r
+    → IsMended h xs ks (set xs i m) (set (set ks i new_l) (i + 1) new_r)
+mended-shared h i xs ks l r new_l m new_r b s =
+    let f = b.neighbours in
+    let o = f.one_more in let at = f.here in let w = f.within in
+    let new = shared-holds h l (get_or xs i 0) r new_l m new_r b.left_is.1 b.right_is.1 s in
     let g : Node → List ℕ = λ k. flat h k in
-    let j : i + 1 ≡ suc i = add-one i in
     let lm = length-map ks g in
-    let l_is : get_or (lists h ks) i [] ≡ flat h l = lists-at h i ks l (omega arith) ∙ ap g (sym el) in
-    let r_is : get_or (lists h ks) (suc i) [] ≡ flat h r = ap (λ z. get_or (lists h ks) z []) (sym j) ∙ lists-at h (i + 1) ks r (omega arith) ∙ ap g (sym er) in
-    let same : flat h new_l ++ m ∷ flat h new_r ≡ get_or (lists h ks) i [] ++ get_or xs i 0 ∷ get_or (lists h ks) (suc i) [] =
-    both.items ∙ ap (λ z. z ++ get_or xs i 0 ∷ flat h r) (sym l_is) ∙ ap (λ z. get_or (lists h ks) i [] ++ get_or xs i 0 ∷ z) (sym r_is) in
     let new_lists : lists h (set (set ks i new_l) (suc i) new_r) ≡ set (set (lists h ks) i (flat h new_l)) (suc i) (flat h new_r) =
     map-set g (set ks i new_l) (suc i) new_r ∙ ap (λ z. set z (suc i) (flat h new_r)) (map-set g ks i new_l) in
     let n1 = length-set xs i m in
     let n2 = length-set ks i new_l in
     let n3 = length-set (set ks i new_l) (suc i) new_r in
-    let w = f.within in
-    rw j (record {
+    rw (add-one i) (record {
       within = omega arith;
       fewer = omega arith;
       one_more = omega arith;
-      below = All-shared (IsChild h) ks i new_l new_r (omega arith) f.others both.left both.right;
-      items = ap (λ z. weave (set xs i m) z) new_lists ∙ weave-shared i xs (lists h ks) (flat h new_l) m (flat h new_r) at (omega arith) same;
+      below = All-shared (IsChild h) ks i new_l new_r (omega arith) f.others new.left new.right;
+      items = ap (λ z. weave (set xs i m) z) new_lists ∙ weave-shared i xs (lists h ks) (flat h new_l) m (flat h new_r) at (omega arith) (new.items ∙ b.among (get_or xs i 0));
     })
 
 -- the two with the index between them, made one
-pub mended-joined : (h i : ℕ) (xs : List ℕ) (ks : List Node) (l r one : Node) → AreNeighbours h i xs ks → l ≡ get_or ks i l → r ≡ get_or ks (i + 1) r
-    → IsJoined l (get_or xs i 0) r one → IsMended h xs ks (remove xs i) (set (remove ks (i + 1)) i one)
-mended-joined h i xs ks l r one f el er s =
-    let o = f.one_more in
-    let at = f.here in
-    let fl : IsFormed h l = rw el (f.left l).1 in
-    let fr : IsFormed h r = rw er (f.right r).1 in
-    let all = joined-holds h l (get_or xs i 0) r one fl fr s in
+mended-joined : (h i : ℕ) (xs : List ℕ) (ks : List Node) (l r one : Node) → Both h i xs ks l r → IsJoined l (get_or xs i 0) r one
+    → IsMended h xs ks (remove xs i) (set (remove ks (i + 1)) i one)
+mended-joined h i xs ks l r one b s =
+    let f = b.neighbours in
+    let o = f.one_more in let at = f.here in let w = f.within in
+    let all = joined-holds h l (get_or xs i 0) r one b.left_is.1 b.right_is.1 s in
     let g : Node → List ℕ = λ k. flat h k in
-    let j : i + 1 ≡ suc i = add-one i in
     let lm = length-map ks g in
-    let l_is : get_or (lists h ks) i [] ≡ flat h l = lists-at h i ks l (omega arith) ∙ ap g (sym el) in
-    let r_is : get_or (lists h ks) (suc i) [] ≡ flat h r = ap (λ z. get_or (lists h ks) z []) (sym j) ∙ lists-at h (i + 1) ks r (omega arith) ∙ ap g (sym er) in
-    let same : flat h one ≡ get_or (lists h ks) i [] ++ get_or xs i 0 ∷ get_or (lists h ks) (suc i) [] =
-    all.items ∙ ap (λ z. z ++ get_or xs i 0 ∷ flat h r) (sym l_is) ∙ ap (λ z. get_or (lists h ks) i [] ++ get_or xs i 0 ∷ z) (sym r_is) in
     let new_lists : lists h (set (remove ks (suc i)) i one) ≡ set (remove (lists h ks) (suc i)) i (flat h one) =
     map-set g (remove ks (suc i)) i one ∙ ap (λ z. set z i (flat h one)) (map-remove g ks (suc i)) in
     let n1 = length-remove xs i at in
     let n2 : length (remove ks (suc i)) + 1 ≡ length ks = length-remove ks (suc i) (omega arith) in
     let n3 = length-set (remove ks (suc i)) i one in
-    let w = f.within in
-    rw j (record {
+    rw (add-one i) (record {
       within = omega arith;
       fewer = omega arith;
       one_more = omega arith;
       below = All-joined (IsChild h) ks i one (omega arith) f.others all.child;
-      items = ap (λ z. weave (remove xs i) z) new_lists ∙ weave-joined i xs (lists h ks) (flat h one) at (omega arith) same;
+      items = ap (λ z. weave (remove xs i) z) new_lists ∙ weave-joined i xs (lists h ks) (flat h one) at (omega arith) (all.items ∙ b.among (get_or xs i 0));
     })
-
--- nothing is to mend
-pub mended-already : (h i : ℕ) (xs : List ℕ) (ks : List Node) → MayLackOne h i xs ks → ((d : Node) → 5 ≤ length (row (get_or ks i d))) → IsMended h xs ks xs ks
-mended-already h i xs ks f enough =
-    let w = f.within in
-    record {
-      within = w;
-      fewer = omega arith;
-      one_more = f.one_more;
-      below = λ j d lt. elim (cases_eq j i) [
-        | inl e ↦ rw e (enough d, (f.at d).1)
-        | inr ne ↦ f.others j d lt ne
-      ];
-      items = refl;
-    }
 
 -- a node that has fewer than five indexes has room for a child that its neighbour has given up
 pub room-for-one : (h : ℕ) (from to : Node) (moved : Option Node) → IsFormed h from → IsFormed h to → length (row to) < 5 → length (option_to_list moved) ≤ length (children from)
@@ -244,139 +215,105 @@ room-for-one zero from to moved ff ft few le =
     let b : length (children to) ≡ 0 = ap length ft.childless in
     omega arith
 room-for-one (suc h) from to None ff ft few le =
-    let o = ft.0.one_more in
-    let r = ft.0.has_room in
+    let o = ft.0.one_more in let r = ft.0.has_room in
     omega arith
 room-for-one (suc h) from to (Some k) ff ft few le =
-    let o = ft.0.one_more in
-    let r = ft.0.has_room in
+    let o = ft.0.one_more in let r = ft.0.has_room in
     omega arith
 
 one-if : (n : ℕ) (moved : Option Node) → IsSome moved ↔ (0 < n) → 0 < n → length (option_to_list moved) ≡ 1
 one-if n None iff p = cc (iff.1 p)
 one-if n (Some k) iff p = refl
 
-balanced-inner : (h : ℕ) (n : Node) → IsFormed h n → 0 < length (children n) → length (children n) ≡ length (row n) + 1
-unfolding IsFormed
-balanced-inner zero n f p = let a : length (children n) ≡ 0 = ap length f.childless in absurd (omega arith)
-balanced-inner (suc h) n f p = f.0.one_more
+-- an index, and a child if there is one, went from the end of the one to the beginning of the other, by the index between
+pub record IsPassed (l : Node) (x : ℕ) (r new_l : Node) (m : ℕ) (new_r : Node) (moved : Option Node) : Type 0 where
+  pub left : row l ≡ row new_l ++ m ∷ []
+  pub right : row new_r ≡ x ∷ row r
+  pub left_children : children l ≡ children new_l ++ option_to_list moved
+  pub right_children : children new_r ≡ option_to_list moved ++ children r
 
--- the left one gave its last index and its last child
-pub record GaveLast (l new_l : Node) (last : ℕ) (moved : Option Node) : Type 0 where
-  pub rows : row l ≡ row new_l ++ last ∷ []
-  pub below : children l ≡ children new_l ++ option_to_list moved
-  pub some : IsSome moved ↔ (0 < length (children l))
-  pub room_is : room new_l ≡ room l
+record KeepsAll (l : Node) (x : ℕ) (r new_l : Node) (m : ℕ) (new_r : Node) (moved : Option Node) : Type 0 where
+  pub rows : row new_l ++ m ∷ row new_r ≡ row l ++ x ∷ row r
+  pub below : children new_l ++ children new_r ≡ children l ++ children r
+  pub left : length (row l) ≡ length (row new_l) + 1
+  pub right : length (row new_r) ≡ suc (length (row r))
+  pub count : length (children l) ≡ length (children new_l) + length (option_to_list moved)
 
--- the right one gave its first index and its first child
-pub record GaveFirst (r new_r : Node) (first : ℕ) (moved : Option Node) : Type 0 where
-  pub rows : row r ≡ first ∷ row new_r
-  pub below : children r ≡ option_to_list moved ++ children new_r
-  pub some : IsSome moved ↔ (0 < length (children r))
-  pub room_is : room new_r ≡ room r
+keeps-all : (l : Node) (x : ℕ) (r new_l : Node) (m : ℕ) (new_r : Node) (moved : Option Node) → IsPassed l x r new_l m new_r moved → KeepsAll l x r new_l m new_r moved
+keeps-all l x r new_l m new_r moved p = record {
+  rows = ap (λ z. row new_l ++ m ∷ z) p.right ∙ sym (append_assoc (row new_l) (m ∷ []) (x ∷ row r)) ∙ ap (λ z. z ++ x ∷ row r) (sym p.left);
+  below = ap (λ z. children new_l ++ z) p.right_children ∙ sym (append_assoc (children new_l) (option_to_list moved) (children r)) ∙ ap (λ z. z ++ children r) (sym p.left_children);
+  left = simp length-append at (ap length p.left);
+  right = ap length p.right;
+  count = simp length-append at (ap length p.left_children);
+}
 
-pub record GotFirst (r new_r : Node) (x : ℕ) (moved : Option Node) : Type 0 where
-  pub rows : row new_r ≡ x ∷ row r
-  pub below : children new_r ≡ option_to_list moved ++ children r
-  pub room_is : room r ≤ room new_r
+both-before : (h i : ℕ) (xs : List ℕ) (ks : List Node) (l r new_l : Node) → MayLackOne h (i + 1) xs ks → l ≡ get_or ks i l → r ≡ get_or (set ks i new_l) (i + 1) r → Both h i xs ks l r
+both-before h i xs ks l r new_l f el er = both h i xs ks l r (neighbours-before h i (i + 1) xs ks refl f) el (er ∙ get_or-set_other ks i (i + 1) new_l r (λ e. absurd (omega arith)))
 
-pub record GotLast (l new_l : Node) (x : ℕ) (moved : Option Node) : Type 0 where
-  pub rows : row new_l ≡ row l ++ x ∷ []
-  pub below : children new_l ≡ children l ++ option_to_list moved
-  pub room_is : room l ≤ room new_l
+both-behind : (h i : ℕ) (xs : List ℕ) (ks : List Node) (l r new_r : Node) → MayLackOne h i xs ks → i < length xs → l ≡ get_or (set ks (i + 1) new_r) i l → r ≡ get_or ks (i + 1) r → Both h i xs ks l r
+both-behind h i xs ks l r new_r f lt el er = both h i xs ks l r (neighbours-behind h i xs ks lt f) (el ∙ get_or-set_other ks (i + 1) i new_r l (λ e. absurd (omega arith))) er
 
-both-inner : (h : ℕ) (l r : Node) → IsFormed h l → IsFormed h r → 0 < length (children l) → 0 < length (children r)
-unfolding IsFormed
-both-inner zero l r fl fr p = let a : length (children l) ≡ 0 = ap length fl.childless in absurd (omega arith)
-both-inner (suc h) l r fl fr p = let o = fr.0.one_more in omega arith
-
-gave-left : (h : ℕ) (l r new_l new_r : Node) (x last : ℕ) (moved : Option Node) → IsFormed h l → IsFormed h r → 5 < length (row l) → 4 ≤ length (row r) → length (row r) < 5
-    → GaveLast l new_l last moved → GotFirst r new_r x moved → IsShared l x r new_l last new_r
-gave-left h l r new_l new_r x last moved fl fr more enough few a b =
-    let la : length (row l) ≡ length (row new_l) + 1 = simp length-append at (ap length a.rows) in
-    let lb : length (row new_r) ≡ suc (length (row r)) = ap length b.rows in
-    let lc : length (children l) ≡ length (children new_l) + length (option_to_list moved) = simp length-append at (ap length a.below) in
-    let wl = formed-within h l fl in
-    let ra = a.room_is in
-    record {
-      rows = ap (λ z. row new_l ++ last ∷ z) b.rows ∙ sym (append_assoc (row new_l) (last ∷ []) (x ∷ row r)) ∙ ap (λ z. z ++ x ∷ row r) (sym a.rows);
-      below = ap (λ z. children new_l ++ z) b.below ∙ sym (append_assoc (children new_l) (option_to_list moved) (children r)) ∙ ap (λ z. z ++ children r) (sym a.below);
+-- an index and a child were moved from the left one to the right one
+pub moved-right : (h i : ℕ) (xs : List ℕ) (ks : List Node) (l r new_l new_r : Node) (x last : ℕ) (moved : Option Node) → MayLackOne h (i + 1) xs ks → ((d : Node) → 5 < length (row (get_or ks i d))) → ((d : Node) → length (row (get_or ks (i + 1) d)) < 5)
+    → l ≡ get_or ks i l → r ≡ get_or (set ks i new_l) (i + 1) r → x ≡ get_or xs i 0 → IsPassed l x r new_l last new_r moved → IsSome moved ↔ (0 < length (children l)) → room new_l ≡ room l → room r ≤ room new_r
+    → IsMended h xs ks (set xs i last) (set (set ks i new_l) (i + 1) new_r)
+moved-right h i xs ks l r new_l new_r x last moved f more few el er ex p some same_room rr =
+    let b = both-before h i xs ks l r new_l f el er in
+    let k = keeps-all l x r new_l last new_r moved p in
+    let ml : 5 < length (row l) = rw b.left (more l) in
+    let mr : length (row r) < 5 = rw b.right (few r) in
+    let wl = formed-within h l b.left_is.1 in
+    let nl = k.left in let nr = k.right in let four = b.right_is.0 in
+    mended-shared h i xs ks l r new_l last new_r b (subst (λ z. IsShared l z r new_l last new_r) ex (record {
+      rows = k.rows;
+      below = k.below;
       room_left = omega arith;
-      room_right = b.room_is;
+      room_right = rr;
       low = omega arith;
       high = omega arith;
       low_within = omega arith;
       high_within = omega arith;
-      balanced = λ p. let o = one-if (length (children l)) moved a.some p in let q = balanced-inner h l fl p in omega arith;
-    }
+      balanced = λ ol or. let o = one-if (length (children l)) moved some (omega arith) in let c = k.count in omega arith;
+    }))
 
-gave-right : (h : ℕ) (l r new_l new_r : Node) (x first : ℕ) (moved : Option Node) → IsFormed h l → IsFormed h r → 5 < length (row r) → 4 ≤ length (row l) → length (row l) < 5
-    → GaveFirst r new_r first moved → GotLast l new_l x moved → IsShared l x r new_l first new_r
-gave-right h l r new_l new_r x first moved fl fr more enough few a b =
-    let la : length (row r) ≡ suc (length (row new_r)) = ap length a.rows in
-    let lb : length (row new_l) ≡ length (row l) + 1 = simp length-append at (ap length b.rows) in
-    let lc : length (children new_l) ≡ length (children l) + length (option_to_list moved) = simp length-append at (ap length b.below) in
-    let wr = formed-within h r fr in
-    let ra = a.room_is in
-    record {
-      rows = ap (λ z. z ++ first ∷ row new_r) b.rows ∙ append_assoc (row l) (x ∷ []) (first ∷ row new_r) ∙ ap (λ z. row l ++ x ∷ z) (sym a.rows);
-      below = ap (λ z. z ++ children new_r) b.below ∙ append_assoc (children l) (option_to_list moved) (children new_r) ∙ ap (λ z. children l ++ z) (sym a.below);
-      room_left = b.room_is;
+-- an index and a child were moved from the right one to the left one
+pub moved-left : (h i : ℕ) (xs : List ℕ) (ks : List Node) (l r new_l new_r : Node) (x first : ℕ) (moved : Option Node) → MayLackOne h i xs ks → i < length xs → ((d : Node) → 5 < length (row (get_or ks (i + 1) d))) → ((d : Node) → length (row (get_or ks i d)) < 5)
+    → l ≡ get_or (set ks (i + 1) new_r) i l → r ≡ get_or ks (i + 1) r → x ≡ get_or xs i 0 → IsPassed new_l first new_r l x r moved → IsSome moved ↔ (0 < length (children r)) → room new_r ≡ room r → room l ≤ room new_l
+    → IsMended h xs ks (set xs i first) (set (set ks (i + 1) new_r) i new_l)
+moved-left h i xs ks l r new_l new_r x first moved f lt more few el er ex p some same_room rl =
+    let b = both-behind h i xs ks l r new_r f lt el er in
+    let k = keeps-all new_l first new_r l x r moved p in
+    let mr : 5 < length (row r) = rw b.right (more r) in
+    let ml : length (row l) < 5 = rw b.left (few l) in
+    let wr = formed-within h r b.right_is.1 in
+    let nl = k.left in let nr = k.right in let four = b.left_is.0 in
+    subst (λ z. IsMended h xs ks (set xs i first) z) (set_comm ks i (i + 1) new_l new_r (λ e. absurd (omega arith)))
+    (mended-shared h i xs ks l r new_l first new_r b (subst (λ z. IsShared l z r new_l first new_r) ex (record {
+      rows = sym k.rows;
+      below = sym k.below;
+      room_left = rl;
       room_right = omega arith;
       low = omega arith;
       high = omega arith;
       low_within = omega arith;
       high_within = omega arith;
-      balanced = λ p. let q = balanced-inner h l fl p in let s = both-inner h l r fl fr p in let o = one-if (length (children r)) moved a.some s in omega arith;
-    }
-
--- an index and a child were moved from the left one to the right one
-pub moved-right : (h i : ℕ) (xs : List ℕ) (ks : List Node) (l r new_l new_r : Node) (x last : ℕ) (moved : Option Node) → MayLackOne h (i + 1) xs ks → ((d : Node) → 5 < length (row (get_or ks i d))) → ((d : Node) → length (row (get_or ks (i + 1) d)) < 5)
-    → l ≡ get_or ks i l → r ≡ get_or (set ks i new_l) (i + 1) r → x ≡ get_or xs i 0 → GaveLast l new_l last moved → GotFirst r new_r x moved → IsMended h xs ks (set xs i last) (set (set ks i new_l) (i + 1) new_r)
-moved-right h i xs ks l r new_l new_r x last moved f more few el er ex a b =
-    let n = neighbours-before h i (i + 1) xs ks refl f in
-    let er2 : r ≡ get_or ks (i + 1) r = er ∙ get_or-set_other ks i (i + 1) new_l r (λ e. absurd (omega arith)) in
-    let fl : (4 ≤ length (row l)) × IsFormed h l = rw el (n.left l) in
-    let fr : (4 ≤ length (row r)) × IsFormed h r = rw er2 (n.right r) in
-    let ml : 5 < length (row l) = rw el (more l) in
-    let mr : length (row r) < 5 = rw er2 (few r) in
-    mended-shared h i xs ks l r new_l last new_r n el er2 (subst (λ z. IsShared l z r new_l last new_r) ex (gave-left h l r new_l new_r x last moved fl.1 fr.1 ml fr.0 mr a b))
-
--- an index and a child were moved from the right one to the left one
-pub moved-left : (h i : ℕ) (xs : List ℕ) (ks : List Node) (l r new_l new_r : Node) (x first : ℕ) (moved : Option Node) → MayLackOne h i xs ks → i < length xs → ((d : Node) → 5 < length (row (get_or ks (i + 1) d))) → ((d : Node) → length (row (get_or ks i d)) < 5)
-    → l ≡ get_or (set ks (i + 1) new_r) i l → r ≡ get_or ks (i + 1) r → x ≡ get_or xs i 0 → GaveFirst r new_r first moved → GotLast l new_l x moved → IsMended h xs ks (set xs i first) (set (set ks (i + 1) new_r) i new_l)
-moved-left h i xs ks l r new_l new_r x first moved f lt more few el er ex a b =
-    let n = neighbours-behind h i xs ks lt f in
-    let ne : i ≡ i + 1 → ⊥ = λ e. absurd (omega arith) in
-    let el2 : l ≡ get_or ks i l = el ∙ get_or-set_other ks (i + 1) i new_r l ne in
-    let fl : (4 ≤ length (row l)) × IsFormed h l = rw el2 (n.left l) in
-    let fr : (4 ≤ length (row r)) × IsFormed h r = rw er (n.right r) in
-    let mr : 5 < length (row r) = rw er (more r) in
-    let ml : length (row l) < 5 = rw el2 (few l) in
-    subst (λ z. IsMended h xs ks (set xs i first) z) (set_comm ks i (i + 1) new_l new_r ne)
-    (mended-shared h i xs ks l r new_l first new_r n el2 er (subst (λ z. IsShared l z r new_l first new_r) ex (gave-right h l r new_l new_r x first moved fl.1 fr.1 mr fl.0 ml a b)))
+      balanced = λ ol or. let o = one-if (length (children r)) moved some (omega arith) in let c = k.count in omega arith;
+    })))
 
 pub room-for-moved_right : (h i : ℕ) (xs : List ℕ) (ks : List Node) (l r new_l : Node) (moved : Option Node) → MayLackOne h (i + 1) xs ks → ((d : Node) → length (row (get_or ks (i + 1) d)) < 5)
     → l ≡ get_or ks i l → r ≡ get_or (set ks i new_l) (i + 1) r → children l ≡ children new_l ++ option_to_list moved → length (option_to_list moved) + length (children r) ≤ room r
 room-for-moved_right h i xs ks l r new_l moved f few el er below =
-    let n = neighbours-before h i (i + 1) xs ks refl f in
-    let er2 : r ≡ get_or ks (i + 1) r = er ∙ get_or-set_other ks i (i + 1) new_l r (λ e. absurd (omega arith)) in
-    let fl : IsFormed h l = rw el (n.left l).1 in
-    let fr : IsFormed h r = rw er2 (n.right r).1 in
-    let mr : length (row r) < 5 = rw er2 (few r) in
+    let b = both-before h i xs ks l r new_l f el er in
     let lc : length (children l) ≡ length (children new_l) + length (option_to_list moved) = simp length-append at (ap length below) in
-    room-for-one h l r moved fl fr mr (omega arith)
+    room-for-one h l r moved b.left_is.1 b.right_is.1 (rw b.right (few r)) (omega arith)
 
 pub room-for-moved_left : (h i : ℕ) (xs : List ℕ) (ks : List Node) (l r new_r : Node) (moved : Option Node) → MayLackOne h i xs ks → i < length xs → ((d : Node) → length (row (get_or ks i d)) < 5)
     → l ≡ get_or (set ks (i + 1) new_r) i l → r ≡ get_or ks (i + 1) r → children r ≡ option_to_list moved ++ children new_r → length (option_to_list moved) + length (children l) ≤ room l
 room-for-moved_left h i xs ks l r new_r moved f lt few el er below =
-    let n = neighbours-behind h i xs ks lt f in
-    let el2 : l ≡ get_or ks i l = el ∙ get_or-set_other ks (i + 1) i new_r l (λ e. absurd (omega arith)) in
-    let fl : IsFormed h l = rw el2 (n.left l).1 in
-    let fr : IsFormed h r = rw er (n.right r).1 in
-    let ml : length (row l) < 5 = rw el2 (few l) in
+    let b = both-behind h i xs ks l r new_r f lt el er in
     let lc : length (children r) ≡ length (option_to_list moved) + length (children new_r) = simp length-append at (ap length below) in
-    room-for-one h r l moved fr fl ml (omega arith)
+    room-for-one h r l moved b.right_is.1 b.left_is.1 (rw b.left (few l)) (omega arith)
 
 -- the two with the index between them, whichever of them may lack one
 neighbours : (h i left : ℕ) (xs : List ℕ) (ks : List Node) → left ≤ i → i ≤ left + 1 → left < length xs → MayLackOne h i xs ks → AreNeighbours h left xs ks
@@ -386,20 +323,6 @@ neighbours h i left xs ks low high lt f =
       | inr ne ↦ neighbours-before h left i xs ks (omega arith) f
     ]
 
--- the right one was joined to the left one
-pub merged : (h i left : ℕ) (xs : List ℕ) (ks : List Node) (l r one : Node) (x : ℕ) → left ≤ i → i ≤ left + 1 → left < length xs → MayLackOne h i xs ks
-    → ((d : Node) → length (row (get_or ks left d)) + length (row (get_or ks (left + 1) d)) ≤ 10) → l ≡ get_or (remove ks (left + 1)) left l → r ≡ get_or ks (left + 1) r → x ≡ get_or xs left 0
-    → row one ≡ row l ++ x ∷ row r → children one ≡ children l ++ children r → room l ≤ room one → IsMended h xs ks (remove xs left) (set (remove ks (left + 1)) left one)
-merged h i left xs ks l r one x low high lt f few el er ex rows below rm =
-    let n = neighbours h i left xs ks low high lt f in
-    let o = n.one_more in
-    let el2 : l ≡ get_or ks left l = el ∙ get_or-remove_below ks (left + 1) l left (omega arith) (omega arith) in
-    let fl : (4 ≤ length (row l)) × IsFormed h l = rw el2 (n.left l) in
-    let er2 : get_or ks (left + 1) l ≡ r = get_or_default ks (left + 1) l r (omega arith) ∙ sym er in
-    let sum : length (row l) + length (row r) ≤ 10 = subst (λ z. length (row l) + length (row z) ≤ 10) er2 (subst (λ z. length (row z) + length (row (get_or ks (left + 1) l)) ≤ 10) (sym el2) (few l)) in
-    let four = fl.0 in
-    mended-joined h left xs ks l r one n el2 er (record { rows = subst (λ z. row one ≡ row l ++ z ∷ row r) ex rows; below = below; room_one = rm; few = sum; many = omega arith })
-
 room-for-all : (h : ℕ) (l r : Node) → IsFormed h l → IsFormed h r → length (row l) + length (row r) ≤ 10 → length (children l) + length (children r) ≤ room l
 unfolding IsFormed
 room-for-all zero l r fl fr few =
@@ -407,23 +330,28 @@ room-for-all zero l r fl fr few =
     let b : length (children r) ≡ 0 = ap length fr.childless in
     omega arith
 room-for-all (suc h) l r fl fr few =
-    let a = fl.0.one_more in
-    let b = fr.0.one_more in
-    let c = fl.0.has_room in
+    let a = fl.0.one_more in let b = fr.0.one_more in let c = fl.0.has_room in
     omega arith
 
-pub record JoinFits (l r : Node) : Type 0 where
+-- two neighbours that fit into one
+pub record JoinFits (h left : ℕ) (xs : List ℕ) (ks : List Node) (l r : Node) : Type 0 where
+  pub pair : Both h left xs ks l r
   pub fits : length (row l) + length (row r) ≤ 10
   pub room_is : length (children l) + length (children r) ≤ room l
 
 pub join-fits : (h i left : ℕ) (xs : List ℕ) (ks : List Node) (l r : Node) → left ≤ i → i ≤ left + 1 → left < length xs → MayLackOne h i xs ks
-    → ((d : Node) → length (row (get_or ks left d)) + length (row (get_or ks (left + 1) d)) ≤ 10) → l ≡ get_or (remove ks (left + 1)) left l → r ≡ get_or ks (left + 1) r → JoinFits l r
+    → ((d : Node) → length (row (get_or ks left d)) + length (row (get_or ks (left + 1) d)) ≤ 10) → l ≡ get_or (remove ks (left + 1)) left l → r ≡ get_or ks (left + 1) r → JoinFits h left xs ks l r
 join-fits h i left xs ks l r low high lt f few el er =
     let n = neighbours h i left xs ks low high lt f in
     let o = n.one_more in
-    let el2 : l ≡ get_or ks left l = el ∙ get_or-remove_below ks (left + 1) l left (omega arith) (omega arith) in
-    let fl : IsFormed h l = rw el2 (n.left l).1 in
-    let fr : IsFormed h r = rw er (n.right r).1 in
+    let b = both h left xs ks l r n (el ∙ get_or-remove_below ks (left + 1) l left (omega arith) (omega arith)) er in
     let er2 : get_or ks (left + 1) l ≡ r = get_or_default ks (left + 1) l r (omega arith) ∙ sym er in
-    let sum : length (row l) + length (row r) ≤ 10 = subst (λ z. length (row l) + length (row z) ≤ 10) er2 (subst (λ z. length (row z) + length (row (get_or ks (left + 1) l)) ≤ 10) (sym el2) (few l)) in
-    record { fits = sum; room_is = room-for-all h l r fl fr sum }
+    let sum : length (row l) + length (row r) ≤ 10 = subst (λ z. length (row l) + length (row z) ≤ 10) er2 (subst (λ z. length (row z) + length (row (get_or ks (left + 1) l)) ≤ 10) (sym b.left) (few l)) in
+    record { pair = b; fits = sum; room_is = room-for-all h l r b.left_is.1 b.right_is.1 sum }
+
+-- the right one was joined to the left one
+pub merged : (h left : ℕ) (xs : List ℕ) (ks : List Node) (l r one : Node) (x : ℕ) → JoinFits h left xs ks l r → x ≡ get_or xs left 0
+    → row one ≡ row l ++ x ∷ row r → children one ≡ children l ++ children r → room l ≤ room one → IsMended h xs ks (remove xs left) (set (remove ks (left + 1)) left one)
+merged h left xs ks l r one x j ex rows below rm =
+    let four = j.pair.left_is.0 in
+    mended-joined h left xs ks l r one j.pair (record { rows = subst (λ z. row one ≡ row l ++ z ∷ row r) ex rows; below = below; room_one = rm; few = j.fits; many = omega arith })

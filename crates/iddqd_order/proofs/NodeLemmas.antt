@@ -1,12 +1,5 @@
 -- One level of a tree at a time.
-use Rattle.std.proofs.Common.{◌≡◌, ℕ, zero, suc, ◌+◌, ◌-◌, ◌<◌, ◌≤◌, ◌≢◌, List, [], ◌∷◌, length, get_or, map, slice_index, refl, ap, arith, sub-one, All, vec_capacity}
-use Rattle.std.specs.List.{insert}
-use Rattle.std.proofs.lemmas.List.{length-map, get_or-map}
-use Rattle.std.proofs.lemmas.List.Elements.{All-append, All-take, All-drop, All-cons}
-use Rattle.iddqd_order.specs.declared.btree_table.node.Node.{Node}
-use Rattle.iddqd_order.specs.declared.btree_table.node.Node.TheOpen.{Node-F}
-use Rattle.iddqd_order.specs.declared.btree_table.node.Node.TheViews.{roll-Node, out-roll-Node}
-use Rattle.iddqd_order.specs.Node.{row, children, child, room, weave, before, flat, IsInner, IsLeaf, IsFormed, Goes, place, FullBelow, IsFullBelow}
+use Rattle.iddqd_order.proofs.Names.{◌≡◌, ℕ, zero, suc, ◌+◌, ◌-◌, ◌<◌, ◌≤◌, ◌≢◌, List, [], ◌∷◌, length, get_or, map, slice_index, refl, ap, arith, sub-one, All, vec_capacity, insert, length-map, get_or-map, All-append, All-take, All-drop, All-cons, Node, Node-F, roll-Node, out-roll-Node, row, children, child, room, weave, before, flat, IsInner, IsLeaf, IsFormed, Goes, place, FullBelow, IsFullBelow}
 use Rattle.iddqd_order.proofs.WeaveLemmas.{within}
 
 -- what the children of a node at level h + 1 are
@@ -72,6 +65,20 @@ pub flat-inner : (h : ℕ) (n : Node) → h ≢ 0 → flat h n ≡ weave (row n)
 unfolding flat
 flat-inner zero n e = absurd (e refl)
 flat-inner (suc h) n e = rw sub-one
+
+-- one list more than indexes, each that of a child
+pub lists-one_more : (h : ℕ) (n : Node) → h ≢ 0 → IsFormed h n → length (lists (h - 1) (children n)) ≡ length (row n) + 1
+lists-one_more h n ne f = let one = (formed-inner h n ne f).inner.one_more in omega (arith, length-map (children n) (λ k. flat (h - 1) k))
+
+pub lists-at : (h : ℕ) (n : Node) (i : ℕ) → i < length (children n) → get_or (lists h (children n)) i [] ≡ flat h (child n i)
+lists-at h n i lt = get_or-map (λ k. flat h k) (children n) i n [] lt
+
+-- a node above the leaves has a child at each place of its row, and one behind it
+pub child-within : (l : ℕ) (n : Node) (i : ℕ) → l ≢ 0 → IsFormed l n → i ≤ length (row n) → i < length (children n)
+child-within l n i ne f le = let one = (formed-inner l n ne f).inner.one_more in omega arith
+
+pub child-formed : (h : ℕ) (n : Node) (i : ℕ) → h ≢ 0 → IsFormed h n → i < length (children n) → IsFormed (h - 1) (child n i)
+child-formed h n i ne f lt = ((formed-inner h n ne f).below i n lt).1
 
 pub record GoesAt (h : ℕ) (n : Node) (p : List ℕ) : Type 0 where
   pub here : slice_index p h < length (children n)
@@ -143,13 +150,9 @@ place-within (suc h) n p f g =
     let at = goes-inner (suc h) n p ne g in
     let i : ℕ = slice_index p (suc h) in
     let here : i < length (children n) = at.here in
-    let fs = formed-inner (suc h) n ne f in
-    let one = fs.inner.one_more in
-    let below : (5 ≤ length (row (child n i))) × IsFormed h (child n i) = rw sub-one at (fs.below i n here) in
+    let formed : IsFormed h (child n i) = rw sub-one at (child-formed (suc h) n i ne f here) in
     let on : Goes h (child n i) p = rw sub-one at at.on in
-    let ih = place-within h (child n i) p below.1 on in
-    let len : length (lists h (children n)) ≡ length (children n) = length-map (children n) (λ k. flat h k) in
-    let g_is : get_or (lists h (children n)) i [] ≡ flat h (child n i) = get_or-map (λ k. flat h k) (children n) i n [] here in
-    let le : place h (child n i) p ≤ length (get_or (lists h (children n)) i []) = rw g_is ih in
+    let one : length (lists h (children n)) ≡ length (row n) + 1 = rw sub-one at (lists-one_more (suc h) n ne f) in
+    let le : place h (child n i) p ≤ length (get_or (lists h (children n)) i []) = rw (lists-at h n i here) (place-within h (child n i) p formed on) in
     rw (place-inner (suc h) n p ne, flat-inner (suc h) n ne, sub-one)
-    (within i (row n) (lists h (children n)) [] (place h (child n i) p) (omega arith) (omega arith) le)
+    (within i (row n) (lists h (children n)) [] (place h (child n i) p) (omega (arith, length-map (children n) (λ k. flat h k))) one le)

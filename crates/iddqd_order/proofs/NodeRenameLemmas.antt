@@ -1,11 +1,7 @@
 -- New names for the indexes of a node and of all below it.
-use Rattle.std.proofs.Common.{◌≡◌, ◌≢◌, ℕ, zero, suc, ◌+◌, ◌-◌, ◌<◌, ◌≤◌, List, [], ◌∷◌, ◌++◌, length, set, get_or, map, refl, ap, sym, ◌∙◌, subst, arith, length-set, get_or-set_same, get_or-set_other, All, inl, inr}
-use Rattle.std.proofs.lemmas.Bool.{cases_eq}
-use Rattle.std.proofs.lemmas.List.{length-map, get_or-map, map-append, same_lists}
-use Rattle.std.proofs.lemmas.List.Elements.{All-cons, All-head, All-tail}
-use Rattle.iddqd_order.specs.declared.btree_table.node.Node.{Node}
-use Rattle.iddqd_order.specs.Node.{row, children, room, weave, flat, IsFormed}
-use Rattle.iddqd_order.proofs.NodeLemmas.{lists, formed-leaf, leaf-formed, flat-leaf, formed-inner, inner-formed, flat-inner, any_default}
+use Rattle.iddqd_order.proofs.Names.{◌≡◌, ◌≢◌, ℕ, zero, suc, ◌+◌, ◌-◌, ◌<◌, ◌≤◌, List, [], ◌∷◌, ◌++◌, length, get_or, map, refl, ap, sym, ◌∙◌, subst, arith, All, length-map, get_or-map, map-append, same_lists, All-cons, All-head, All-tail, Node, row, children, room, weave, flat, IsFormed, before, after}
+use Rattle.iddqd_order.proofs.WeaveLemmas.{apart}
+use Rattle.iddqd_order.proofs.NodeLemmas.{lists, formed-leaf, leaf-formed, flat-leaf, formed-inner, inner-formed, flat-inner}
 use Rattle.iddqd_order.proofs.MendLemmas.{All-left, All-right}
 
 -- what holds of all woven together holds of the indexes and of each list
@@ -17,11 +13,8 @@ weave-own P (x ∷ xs) (k ∷ ks) e a =
     All-cons P x xs (All-head P x (weave xs ks) r) (weave-own P xs ks (omega arith) (All-tail P x (weave xs ks) r))
 
 weave-each : (P : ℕ → Type 0) (xs : List ℕ) (ks : List (List ℕ)) (i : ℕ) (d : List ℕ) → length ks ≡ length xs + 1 → i < length ks → All P (weave xs ks) → All P (get_or ks i d)
-weave-each P xs [] i d e lt a = absurd (omega arith)
-weave-each P [] (k ∷ ks) zero d e lt a = a
-weave-each P [] (k ∷ ks) (suc i) d e lt a = absurd (omega arith)
-weave-each P (x ∷ xs) (k ∷ ks) zero d e lt a = All-left P k (x ∷ weave xs ks) a
-weave-each P (x ∷ xs) (k ∷ ks) (suc i) d e lt a = weave-each P xs ks i d (omega arith) (omega arith) (All-tail P x (weave xs ks) (All-right P k (x ∷ weave xs ks) a))
+weave-each P xs ks i d e lt a =
+    All-left P (get_or ks i d) (after i xs ks) (All-right P (before i xs ks) (get_or ks i d ++ after i xs ks) (subst (λ z. All P z) (apart i xs ks d lt e) a))
 
 -- the new names of all woven together
 weave-map : (f : ℕ → ℕ) (xs : List ℕ) (ks : List (List ℕ)) → map f (weave xs ks) ≡ weave (map f xs) (map (λ k. map f k) ks)
@@ -57,36 +50,11 @@ pub record AreRenamed (f : ℕ → ℕ) (h i : ℕ) (old now : Node) : Type 0 wh
   pub done : (j : ℕ) (d : Node) → j < i → j < length (children old) → IsRenamed f h (get_or (children old) j d) (get_or (children now) j d)
   pub rest : (j : ℕ) (d : Node) → i ≤ j → get_or (children now) j d ≡ get_or (children old) j d
 
-pub renamed-none : (f : ℕ → ℕ) (h : ℕ) (n : Node) → AreRenamed f h 0 n n
-renamed-none f h n = record { row_is = refl; room_is = refl; length_is = refl; done = λ j d lt w. absurd (omega arith); rest = λ j d le. refl }
-
-pub renamed-more : (f : ℕ → ℕ) (h i : ℕ) (old now new g k : Node) → AreRenamed f h i old now → i < length (children now) → g ≡ get_or (children now) i g → IsRenamed f h g k
-    → row new ≡ row now → children new ≡ set (children now) i k → room new ≡ room now → AreRenamed f h (i + 1) old new
-renamed-more f h i old now new g k a lt is one er ek rm =
-    let same : length (children now) ≡ length (children old) = a.length_is in
-    record {
-      row_is = er ∙ a.row_is;
-      room_is = rm ∙ a.room_is;
-      length_is = ap length ek ∙ length-set (children now) i k ∙ same;
-      done = λ j d low w. elim (cases_eq j i) [
-        | inl e ↦
-            (let at : get_or (children new) j d ≡ k = ap (λ z. get_or z j d) ek ∙ ap (λ z. get_or (set (children now) i k) z d) e ∙ get_or-set_same (children now) i k d lt in
-            let was : g ≡ get_or (children old) j d = is ∙ any_default (children now) i g d lt ∙ a.rest i d (omega arith) ∙ ap (λ z. get_or (children old) z d) (sym e) in
-            subst (λ z. IsRenamed f h (get_or (children old) j d) z) (sym at) (subst (λ z. IsRenamed f h z k) was one))
-        | inr ne ↦
-            (let at : get_or (children new) j d ≡ get_or (children now) j d = ap (λ z. get_or z j d) ek ∙ get_or-set_other (children now) i j k d ne in
-            subst (λ z. IsRenamed f h (get_or (children old) j d) z) (sym at) (a.done j d (omega arith) w))
-      ];
-      rest = λ j d le. ap (λ z. get_or z j d) ek ∙ get_or-set_other (children now) i j k d (λ e. absurd (omega arith)) ∙ a.rest j d (omega arith);
-    }
-
 -- old with new names in its own row is `first`, and with new names below it `now`
 pub renamed-all : (f : ℕ → ℕ) (h i : ℕ) (old first now : Node) → h ≢ 0 → IsFormed h old → row first ≡ map f (row old) → children first ≡ children old → room first ≡ room old → AreRenamed f (h - 1) i first now → length (children first) ≤ i → IsRenamed f h old now
 renamed-all f h i old first now ne fo er ek rm a le =
     let fs = formed-inner h old ne fo in
-    let om = fs.inner.one_more in
-    let wi = fs.inner.within in
-    let hr = fs.inner.has_room in
+    let om = fs.inner.one_more in let wi = fs.inner.within in let hr = fs.inner.has_room in
     let same : length (children now) ≡ length (children old) = a.length_is ∙ ap length ek in
     let rows : row now ≡ map f (row old) = a.row_is ∙ er in
     let rl : length (row now) ≡ length (row old) = ap length rows ∙ length-map (row old) f in
@@ -108,8 +76,7 @@ renamed-all f h i old first now ne fo er ek rm a le =
           (λ j d lt.
           let e = each j d (omega arith) in
           let was = fs.below j d (omega arith) in
-          let five = was.0 in
-          let sl = e.same_length in
+          let five = was.0 in let sl = e.same_length in
           (omega arith, e.formed));
       same_length = rl;
       items =

@@ -1,15 +1,5 @@
 -- How many indexes a tree has at least, and so how many levels it has and how many asks a search takes at most.
-use Rattle.std.proofs.Common.{◌≡◌, ◌≢◌, ℕ, zero, suc, ◌+◌, ◌*◌, ◌/◌, ◌^◌, ◌<◌, ◌≤◌, List, [], ◌∷◌, length, All, arith, inl, inr, length-append, sub-one, false, eqb, ne_eqb, nat_eq, refl, sym, ◌∙◌}
-use Rattle.std.proofs.Math.Nat.{mul-le-mul_right, pow-suc, one-le-pow, pow-le-pow_right}
-use Rattle.std.specs.List.{IsDistinct, list_any}
-use Rattle.std.proofs.lemmas.Bool.{cases_lt, true≢false}
-use Rattle.std.proofs.lemmas.List.{length-map}
-use Rattle.std.proofs.lemmas.List.Elements.{All-head, All-tail, All-map}
-use Rattle.std.proofs.lemmas.List.Folds.{list_any_none}
-use Rattle.std.proofs.lemmas.Map.Steps.{length-le_from_distinct_below}
-use Rattle.iddqd_order.specs.declared.btree_table.node.Node.{Node}
-use Rattle.iddqd_order.specs.Digits.{digits, bound}
-use Rattle.iddqd_order.specs.Node.{row, children, weave, flat, IsFormed}
+use Rattle.iddqd_order.proofs.Names.{◌≡◌, ◌≢◌, ℕ, zero, suc, ◌+◌, ◌*◌, ◌/◌, ◌^◌, ◌<◌, ◌≤◌, List, [], ◌∷◌, length, All, arith, inl, inr, length-append, sub-one, false, eqb, ne_eqb, nat_eq, refl, sym, ◌∙◌, mul-le-mul_right, pow-suc, one-le-pow, pow-le-pow_right, IsDistinct, list_any, cases_lt, true≢false, length-map, All-head, All-tail, All-map, list_any_none, length-le_from_distinct_below, Node, digits, bound, row, children, weave, flat, IsFormed}
 use Rattle.iddqd_order.proofs.DigitLemmas.{digits-half}
 use Rattle.iddqd_order.proofs.NodeLemmas.{lists, flat-leaf, formed-inner, flat-inner}
 

@@ -1,14 +1,5 @@
 -- For callers too. What a list of indexes keeps where each of them gets a new name.
-use Rattle.std.proofs.Common.{◌≡◌, ◌≢◌, ◌∙◌, ℕ, ◌<◌, List, length, map, get_or, Contains, nat_eq, ne_eqb, inl, inr, sym, ap, arith}
-use Rattle.std.proofs.lemmas.Bool.{cases_lt, eqb-false}
-use Rattle.std.specs.List.{IsDistinct}
-use Rattle.std.proofs.lemmas.List.{get_or-map, length-map}
-use Rattle.std.proofs.lemmas.List.Elements.{All-map, Contains-get_or}
-use Rattle.std.proofs.lemmas.Map.Keys.{apart_from_distinct, IsDistinct-from_apart}
-use Rattle.iddqd.specs.Compaction.{CanRemap, remapped}
-use Rattle.iddqd.specs.declared.index_remap.IndexRemap.{IndexRemap}
-use Rattle.iddqd.specs.declared.index_remap.IndexRemap.TheVariants.{Identity, Permuted}
-use Rattle.iddqd_order.specs.MapBTreeTable.{IsIndexList, sentinel}
+use Rattle.iddqd_order.proofs.Names.{◌≡◌, ◌≢◌, ◌∙◌, ℕ, ◌<◌, List, length, map, get_or, Contains, nat_eq, ne_eqb, inl, inr, sym, ap, arith, cases_lt, eqb-false, IsDistinct, get_or-map, length-map, All-map, Contains-get_or, apart_from_distinct, IsDistinct-from_apart, CanRemap, remapped, IndexRemap, Identity, Permuted, IsIndexList, sentinel}
 
 module _ (name : ℕ → ℕ) (xs : List ℕ) where
   -- the new name of a member is a member

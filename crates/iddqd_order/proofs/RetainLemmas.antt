@@ -1,5 +1,5 @@
 -- The indexes that a closure keeps: what the asks up to a place leave.
-use Rattle.std.proofs.Common.{◌≡◌, ◌∙◌, ℕ, zero, suc, ◌+◌, ◌-◌, ◌<◌, ◌≤◌, List, [], ◌∷◌, ◌++◌, length, get_or, set, take, drop, slice_index, map, filter, Bool, true, false, refl, sym, ap, subst, arith, All, Contains, Option, Vec, nat_eq, take_all, drop-set-lt, length-set, length-take-le, take-take, drop-drop, get_or-drop}
+use Rattle.std.proofs.Common.{◌≡◌, ◌∙◌, ℕ, zero, suc, ◌+◌, ◌-◌, ◌<◌, ◌≤◌, List, [], ◌∷◌, ◌++◌, length, get_or, set, take, drop, slice_index, map, filter, Bool, true, false, refl, sym, ap, subst, arith, All, Contains, Option, nat_eq, take_all, drop-set-lt, length-set, length-take-le, take-take, drop-drop, get_or-drop}
 use Rattle.std.proofs.lemmas.List.{append-nil, map-append, length-map, get_or-map}
 use Rattle.std.proofs.lemmas.List.Elements.{filter-append, All-map, All-filter}
 use Rattle.std.proofs.lemmas.List.Kept.{AllPairs-filter}
@@ -7,12 +7,11 @@ use Rattle.std.proofs.lemmas.Map.Keys.{apart_from_distinct, IsDistinct-from_apar
 use Rattle.std.proofs.lemmas.Grind.{take-set_at}
 use Rattle.std.proofs.lemmas.Fn.{FoldsTo-push}
 use Rattle.std.specs.List.{FoldsTo, IsDistinct, AllPairs}
-use Rattle.std.specs.declared.alloc.Global.{Global}
 use Rattle.std.specs.Fn.{Called, Mut}
 use Rattle.iddqd_order.specs.Asks.{After, At_once, One_more, CanAsk}
 use Rattle.iddqd_order.specs.declared.btree_table.node.Node.{Node}
 use Rattle.iddqd_order.specs.MapBTreeTable.{sentinel}
-use Rattle.iddqd_order.specs.Retain.{Retains}
+use Rattle.iddqd_order.specs.Retain.{RetainsTo}
 use Rattle.iddqd_order.specs.Tree.{in_order, IsTree, IsTable}
 use Rattle.iddqd_order.proofs.IndexListLemmas.{Contains-at}
 
@@ -112,12 +111,11 @@ module _ {F : Type 0} (g : Mut F (ℕ × Unit {0}) Bool) where
       }
 
   -- all were asked about
-  pub gathers-all : {f now : F} {xs ys : List ℕ} {p t : ℕ} → Gathers f xs ys p t now → length xs ≤ p → Retains g f xs (take t ys)
-  gathers-all {now = now} {xs = xs} {p = p} w over =
+  pub gathers-all : {f now : F} {xs ys : List ℕ} {p t : ℕ} → Gathers f xs ys p t now → length xs ≤ p → RetainsTo g f xs (take t ys) now
+  gathers-all {xs = xs} {p = p} w over =
       record {
         asks = w.asks;
         each_once = w.asked ∙ take_all p xs (omega arith);
-        last = now;
         were_asked = w.were_asked;
         kept = w.kept;
       }
@@ -147,13 +145,12 @@ distinct_kept asks distinct =
     rw (get_or-map (λ (a : ℕ × Bool). a.0) kept i (d, false) d (omega arith), get_or-map (λ (a : ℕ × Bool). a.0) kept j (d, false) d (omega arith))
     (AllPairs-filter (λ (a b : ℕ × Bool). nat_eq a.0 b.0 ≡ false) (λ (a : ℕ × Bool). a.1) asks apart i j (d, false) lt (omega arith)))
 
-pub IsTable-retained : {F : Type 0} (g : Mut F (ℕ × Unit {0}) Bool) (f : F) (r : Option Node) (h n : ℕ) (bs : List (Vec Node Global)) (s : Option Node) (k m : ℕ) → IsTable r h n bs → IsTree s k → m ≡ length (in_order s k)
-    → Retains g f (in_order r h) (in_order s k) → IsTable s k m bs
-IsTable-retained g f r h n bs s k m t tree counted kept =
+pub IsTable-retained : {F : Type 0} (g : Mut F (ℕ × Unit {0}) Bool) (f last : F) (r : Option Node) (h n : ℕ) (s : Option Node) (k m : ℕ) → IsTable r h n → IsTree s k → m ≡ length (in_order s k)
+    → RetainsTo g f (in_order r h) (in_order s k) last → IsTable s k m
+IsTable-retained g f last r h n s k m t tree counted kept =
     record {
       tree = tree;
       counted = counted;
       distinct = subst (IsDistinct nat_eq) (sym kept.kept) (distinct_kept kept.asks (subst (IsDistinct nat_eq) (sym kept.each_once) t.distinct));
       assigned = subst (All (λ ix. ix < sentinel)) (sym kept.kept) (all_kept (λ ix. ix < sentinel) kept.asks (subst (All (λ ix. ix < sentinel)) (sym kept.each_once) t.assigned));
-      spare = t.spare;
     }

@@ -1,9 +1,5 @@
 -- What the edits of a row leave.
-use Rattle.std.proofs.Common.{◌≡◌, ℕ, zero, suc, ◌+◌, ◌-◌, ◌<◌, ◌≤◌, List, [], ◌∷◌, ◌++◌, length, take, drop, set, get_or, refl, ap, sym, ◌∙◌, append_assoc, arith, length-drop}
-use Rattle.std.specs.List.{insert, remove, copy_within}
-use Rattle.std.proofs.lemmas.List.{length-take-le, take-take, drop-take, take_more, set-append_right}
-use Rattle.std.proofs.lemmas.List.Edits.{take-paste, insert-append_left, insert-append_right, length-insert, length-remove}
-use Rattle.iddqd_order.specs.Row.{IsCut}
+use Rattle.iddqd_order.proofs.Names.{◌≡◌, ℕ, zero, suc, ◌+◌, ◌-◌, ◌<◌, ◌≤◌, List, [], ◌∷◌, ◌++◌, length, take, drop, set, get_or, refl, ap, sym, ◌∙◌, append_assoc, arith, length-drop, insert, remove, copy_within, length-take-le, take-take, drop-take, take_more, set-append_right, take-paste, insert-append_left, insert-append_right, length-insert, length-remove, IsCut}
 
 take_set : (n : ℕ) (xs : List ℕ) (i x : ℕ) → take n (set xs i x) ≡ set (take n xs) i x
 take_set zero xs i x = refl

@@ -1,14 +1,5 @@
 -- A search by halves through answers that rise.
-use Rattle.std.proofs.Common.{◌≡◌, ◌≢◌, ◌∙◌, ℕ, ◌+◌, ◌<◌, ◌≤◌, List, Option, Some, None, length, get_or, Contains, refl, sym, ap, subst, All, arith, below_more, inl, inr, Result, Ok, Err, is_ok, true}
-use Rattle.std.proofs.lemmas.Bool.Decides.{nat_tests}
-use Rattle.std.proofs.lemmas.List.{get_or_default}
-use Rattle.std.proofs.lemmas.Bool.{cases_lt}
-use Rattle.std.specs.declared.cmp.Ordering.{Ordering}
-use Rattle.std.specs.declared.cmp.Ordering.TheVariants.{Less, Equal, Greater}
-use Rattle.std.specs.Ordering.{nat_cmp, ordering_then}
-use Rattle.std.specs.Fn.{Mut}
-use Rattle.iddqd_order.specs.declared.btree_table.asking.Asking.{Asking}
-use Rattle.iddqd_order.specs.Search.{Askable, with_ties, IsRising, IsPlace, IsSteadyRising, Searches}
+use Rattle.iddqd_order.proofs.Names.{◌≡◌, ◌≢◌, ◌∙◌, ℕ, ◌+◌, ◌<◌, ◌≤◌, List, Option, Some, None, length, get_or, Contains, refl, sym, ap, subst, All, arith, below_more, inl, inr, Result, Ok, Err, is_ok, true, nat_tests, get_or_default, cases_lt, Ordering, Less, Equal, Greater, nat_cmp, ordering_then, Mut, Asking, Askable, with_ties, IsRising, IsPlace, IsSteadyRising, Searches}
 
 pub Askable-from_none : (xs : List ℕ) (tie : Option ℕ) (at : ℕ) → tie ≡ None → Contains xs at → Askable xs tie at
 Askable-from_none xs None at e h = h

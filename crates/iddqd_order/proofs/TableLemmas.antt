@@ -1,5 +1,5 @@
 -- What a table's calls leave of its parts.
-use Rattle.std.proofs.Common.{◌≡◌, ◌≢◌, ℕ, ◌+◌, ◌-◌, ◌*◌, ◌<◌, ◌≤◌, List, [], length, get_or, map, slice_index, refl, ap, sym, ◌∙◌, subst, arith, Option, Some, None, Result, Ok, Err, All, Contains, nat_eq, Vec, not, ◌==◌, Ordering, inl, inr}
+use Rattle.std.proofs.Common.{◌≡◌, ◌≢◌, ℕ, ◌+◌, ◌-◌, ◌*◌, ◌<◌, ◌≤◌, List, [], length, get_or, map, slice_index, refl, ap, sym, ◌∙◌, subst, arith, Option, Some, None, Result, Ok, Err, Bool, true, false, nat_lt, if◌then◌else◌, All, Contains, nat_eq, not, ◌==◌, Ordering, inl, inr}
 use Rattle.std.proofs.lemmas.Bool.{cases_lt}
 use Rattle.std.specs.List.{insert, remove, IsDistinct}
 use Rattle.std.proofs.lemmas.List.Edits.{length-insert, length-remove}
@@ -7,13 +7,12 @@ use Rattle.std.proofs.lemmas.List.Elements.{All-nil, All-weaker, All-filter, All
 use Rattle.std.proofs.lemmas.List.{length-map}
 use Rattle.iddqd.specs.Compaction.{CanRemap, remapped}
 use Rattle.iddqd.specs.declared.index_remap.IndexRemap.{IndexRemap}
-use Rattle.std.specs.declared.alloc.Global.{Global}
 use Rattle.std.specs.Fn.{Mut}
 use Rattle.iddqd_order.specs.declared.btree_table.asking.Asking.{Asking}
 use Rattle.iddqd_order.specs.declared.btree_table.node.Node.{Node}
 use Rattle.iddqd_order.specs.Descent.{Descends, EndsIn}
-use Rattle.iddqd_order.specs.Node.{IsSpare, row, flat, IsFormed}
-use Rattle.iddqd_order.specs.Tree.{in_order, IsTree, IsTable, GoesIn, place_in, FullIn, HoldsIn, spot_in}
+use Rattle.iddqd_order.specs.Node.{row, flat, IsFormed}
+use Rattle.iddqd_order.specs.Tree.{in_order, IsTree, IsTable, GoesIn, place_in, FullIn, HoldsIn, spot_in, blocks_for}
 use Rattle.iddqd_order.specs.MapBTreeTable.{Order, order_of, IsIndexList, without, sentinel}
 use Rattle.iddqd_order.specs.Search.{Askable, IsPlace}
 use Rattle.iddqd_order.proofs.AskLemmas.{asks_more, asks_none}
@@ -26,15 +25,11 @@ use Rattle.iddqd_order.proofs.RemovalLemmas.{spot-within}
 use Rattle.iddqd_order.proofs.TreeLemmas.{place_in-within}
 
 -- no index at all
-pub IsTable-none : (bs : List (Vec Node Global)) → All IsSpare bs → IsTable None 0 0 bs
-IsTable-none bs spare = record { tree = refl; counted = refl; distinct = IsIndexList-nil.distinct; assigned = All-nil (λ ix. ix < sentinel); spare = spare }
+pub IsTable-none : IsTable None 0 0
+IsTable-none = record { tree = refl; counted = refl; distinct = IsIndexList-nil.distinct; assigned = All-nil (λ ix. ix < sentinel) }
 
--- other blocks
-pub IsTable-blocks : (r : Option Node) (h n : ℕ) (bs cs : List (Vec Node Global)) → IsTable r h n bs → All IsSpare cs → IsTable r h n cs
-IsTable-blocks r h n bs cs t spare = record { tree = t.tree; counted = t.counted; distinct = t.distinct; assigned = t.assigned; spare = spare }
-
-pub index_list : (r : Option Node) (h n : ℕ) (bs : List (Vec Node Global)) → IsTable r h n bs → IsIndexList (in_order r h)
-index_list r h n bs t = record { distinct = t.distinct; assigned = All-weaker (λ ix. ix < sentinel) (λ ix. ix ≢ sentinel) (λ ix lt e. absurd (omega arith)) (in_order r h) t.assigned }
+pub index_list : (r : Option Node) (h n : ℕ) → IsTable r h n → IsIndexList (in_order r h)
+index_list r h n t = record { distinct = t.distinct; assigned = All-weaker (λ ix. ix < sentinel) (λ ix. ix ≢ sentinel) (λ ix lt e. absurd (omega arith)) (in_order r h) t.assigned }
 
 -- an index that can be put in
 pub record CanPut (r : Option Node) (h : ℕ) (p : List ℕ) (ix : ℕ) : Type 0 where
@@ -43,10 +38,10 @@ pub record CanPut (r : Option Node) (h : ℕ) (p : List ℕ) (ix : ℕ) : Type 0
   pub assigned : ix < sentinel
 
 -- as the table is seen from outside
-pub can_put : (o : Order) (r : Option Node) (h b : ℕ) (p : List ℕ) (ix : ℕ) → record { root = r; height = h; blocks = b } ≡ o
+pub can_put : (o : Order) (r : Option Node) (h : ℕ) (p : List ℕ) (ix : ℕ) → record { root = r; height = h } ≡ o
     → GoesIn o.root o.height p → (Contains (order_of o) ix → ⊥) → ix ≢ sentinel → ix < 4294967296 → CanPut r h p ix
 unfolding order_of
-can_put o r h b p ix e g absent ne lt =
+can_put o r h p ix e g absent ne lt =
     record {
       goes = subst (λ (t : Order). GoesIn t.root t.height p) (sym e) g;
       absent = subst (λ (t : Order). Contains (in_order t.root t.height) ix → ⊥) (sym e) absent;
@@ -54,25 +49,17 @@ can_put o r h b p ix e g absent ne lt =
     }
 
 -- a way to an index, from inside
-pub way_inside : (o : Order) (r : Option Node) (h b l : ℕ) (p : List ℕ) → record { root = r; height = h; blocks = b } ≡ o → HoldsIn l o.root o.height p → HoldsIn l r h p
-way_inside o r h b l p e held = subst (λ (t : Order). HoldsIn l t.root t.height p) (sym e) held
+pub way_inside : (o : Order) (r : Option Node) (h l : ℕ) (p : List ℕ) → record { root = r; height = h } ≡ o → HoldsIn l o.root o.height p → HoldsIn l r h p
+way_inside o r h l p e held = subst (λ (t : Order). HoldsIn l t.root t.height p) (sym e) held
 
-pub there_inside : (o : Order) (r : Option Node) (h b l : ℕ) (p : List ℕ) (ix : ℕ) → record { root = r; height = h; blocks = b } ≡ o
+pub there_inside : (o : Order) (r : Option Node) (h l : ℕ) (p : List ℕ) (ix : ℕ) → record { root = r; height = h } ≡ o
     → slice_index (order_of o) (spot_in l o.root o.height p) ≡ ix → slice_index (in_order r h) (spot_in l r h p) ≡ ix
 unfolding order_of
-there_inside o r h b l p ix e there = subst (λ (t : Order). slice_index (in_order t.root t.height) (spot_in l t.root t.height p) ≡ ix) (sym e) there
+there_inside o r h l p ix e there = subst (λ (t : Order). slice_index (in_order t.root t.height) (spot_in l t.root t.height p) ≡ ix) (sym e) there
 
-pub order_inside : (o : Order) (r : Option Node) (h b : ℕ) → record { root = r; height = h; blocks = b } ≡ o → in_order r h ≡ order_of o
+pub order_inside : (o : Order) (r : Option Node) (h : ℕ) → record { root = r; height = h } ≡ o → in_order r h ≡ order_of o
 unfolding order_of
-order_inside o r h b e = ap (λ (t : Order). in_order t.root t.height) e
-
--- other blocks alone, as a table is seen from outside
-pub same_order : (o p : Order) → p.root ≡ o.root → p.height ≡ o.height → order_of p ≡ order_of o
-unfolding order_of
-same_order o p r h = rw (r, h) refl
-
-pub same_place : (o p : Order) (path : List ℕ) → p.root ≡ o.root → p.height ≡ o.height → place_in p.root p.height path ≡ place_in o.root o.height path
-same_place o p path r h = rw (r, h) refl
+order_inside o r h e = ap (λ (t : Order). in_order t.root t.height) e
 
 -- where there is no root
 pub record Nowhere (o : Order) (p : List ℕ) : Type 0 where
@@ -85,9 +72,9 @@ in_none : (r : Option Node) (h : ℕ) (p : List ℕ) → r ≡ None → GoesIn r
 in_none None h p e = (tt, tt, refl, refl)
 in_none (Some n) h p e = absurd (cc)
 
-pub nowhere : (o : Order) (r : Option Node) (h b : ℕ) (p : List ℕ) → record { root = r; height = h; blocks = b } ≡ o → r ≡ None → Nowhere o p
+pub nowhere : (o : Order) (r : Option Node) (h : ℕ) (p : List ℕ) → record { root = r; height = h } ≡ o → r ≡ None → Nowhere o p
 unfolding order_of
-nowhere o r h b p e is =
+nowhere o r h p e is =
     let none = in_none o.root o.height p (ap (λ (t : Order). t.root) (sym e) ∙ is) in
     record { goes = none.0; full = none.1; place = none.2; list = none.3 }
 
@@ -103,8 +90,8 @@ pub record IsRootOf (o : Order) (h : ℕ) (n : Node) : Type 0 where
   pub low : h ≤ 11
   pub list : flat h n ≡ order_of o
 
-pub root_of : (o : Order) (r : Option Node) (h len b : ℕ) (bs : List (Vec Node Global)) (n : Node) → record { root = r; height = h; blocks = b } ≡ o → IsTable r h len bs → r ≡ Some n → IsRootOf o h n
-root_of o r h len b bs n e t is =
+pub root_of : (o : Order) (r : Option Node) (h len : ℕ) (n : Node) → record { root = r; height = h } ≡ o → IsTable r h len → r ≡ Some n → IsRootOf o h n
+root_of o r h len n e t is =
     let tree : IsTree (Some n) h = subst (λ (s : Option Node). IsTree s h) is t.tree in
     record {
       root = ap (λ (t : Order). t.root) (sym e) ∙ is;
@@ -112,11 +99,19 @@ root_of o r h len b bs n e t is =
       formed = tree.0;
       some = tree.1;
       low = tree.2;
-      list = ap (λ (s : Option Node). in_order s h) (sym is) ∙ order_inside o r h b e;
+      list = ap (λ (s : Option Node). in_order s h) (sym is) ∙ order_inside o r h e;
     }
 
-few_full : (k h : ℕ) → (h < k → k ≡ h + 1) → k ≤ h + 1
-few_full k h f = elim (cases_lt h k) [ inl lt ↦ omega (arith, f lt) | inr le ↦ omega arith ]
+-- at most one block for each of twelve levels
+at_most : (b : Bool) (k : ℕ) → k ≤ 12 → (if b then k else k - 1) ≤ 12
+at_most true k le = le
+at_most false k le = omega arith
+
+pub few_blocks : (h k : ℕ) → k ≤ 12 → blocks_for h k ≤ 12
+few_blocks h k le = at_most (nat_lt h k) k le
+
+few_full : (k h : ℕ) → h ≤ 11 → (h < k → k ≡ h + 1) → k ≤ 12
+few_full k h low f = elim (cases_lt h k) [ inl lt ↦ omega (arith, f lt) | inr le ↦ omega arith ]
 
 -- where the search of a table ends
 module _ {F R : Type 0} (g : Mut F (ℕ × Unit {0}) R) (read : R → Ordering) (sought : Option ℕ) where
@@ -152,7 +147,7 @@ module _ {F R : Type 0} (g : Mut F (ℕ × Unit {0}) R) (read : R → Ordering) 
     holds = tt;
     goes = rw (r.root, r.height) d.goes;
     full_below = rw (r.root, r.height) d.full_below;
-    level = rw r.height (few_full k h d.level);
+    level = few_full k h r.low d.level;
   }
 
 -- the indexes with one more
@@ -162,39 +157,39 @@ pub record Longer (r : Option Node) (h : ℕ) (p : List ℕ) (ix : ℕ) : Type 0
   pub more : length (insert (in_order r h) (place_in r h p) ix) ≡ length (in_order r h) + 1
   pub fits : length (in_order r h) < 4294967296
 
-pub longer : (r : Option Node) (h n : ℕ) (bs : List (Vec Node Global)) (p : List ℕ) (ix : ℕ) → IsTable r h n bs → CanPut r h p ix → Longer r h p ix
-longer r h n bs p ix t c =
+pub longer : (r : Option Node) (h n : ℕ) (p : List ℕ) (ix : ℕ) → IsTable r h n → CanPut r h p ix → Longer r h p ix
+longer r h n p ix t c =
     let xs : List ℕ = in_order r h in
     let at : ℕ = place_in r h p in
     let within : at ≤ length xs = place_in-within r h p t.tree c.goes in
-    let distinct : IsDistinct nat_eq (insert xs at ix) = (IsIndexList-insert xs at ix within c.absent (λ e. let lt = c.assigned in absurd (omega arith)) (index_list r h n bs t)).distinct in
+    let distinct : IsDistinct nat_eq (insert xs at ix) = (IsIndexList-insert xs at ix within c.absent (λ e. let lt = c.assigned in absurd (omega arith)) (index_list r h n t)).distinct in
     let assigned : All (λ ix. ix < sentinel) (insert xs at ix) = All-insert (λ ix. ix < sentinel) xs at ix t.assigned c.assigned in
     let more : length (insert xs at ix) ≡ length xs + 1 = length-insert xs at ix within in
     let few : length (insert xs at ix) ≤ 4294967296 = few_indexes (insert xs at ix) distinct (All-weaker (λ ix. ix < sentinel) (λ ix. ix < 4294967296) (λ ix lt. omega arith) (insert xs at ix) assigned) in
     record { distinct = distinct; assigned = assigned; more = more; fits = omega arith }
 
-pub IsTable-put : (r : Option Node) (h n : ℕ) (bs : List (Vec Node Global)) (p : List ℕ) (ix : ℕ) (s : Option Node) (k : ℕ) (cs : List (Vec Node Global)) → IsTable r h n bs → CanPut r h p ix
-    → IsTree s k → in_order s k ≡ insert (in_order r h) (place_in r h p) ix → All IsSpare cs → IsTable s k (n + 1) cs
-IsTable-put r h n bs p ix s k cs t c tree items spare =
-    let l = longer r h n bs p ix t c in
+pub IsTable-put : (r : Option Node) (h n : ℕ) (p : List ℕ) (ix : ℕ) (s : Option Node) (k : ℕ) → IsTable r h n → CanPut r h p ix
+    → IsTree s k → in_order s k ≡ insert (in_order r h) (place_in r h p) ix → IsTable s k (n + 1)
+IsTable-put r h n p ix s k t c tree items =
+    let l = longer r h n p ix t c in
     let more = l.more in
     let counted = t.counted in
     let len = ap length items in
-    record { tree = tree; counted = omega arith; distinct = rw items l.distinct; assigned = rw items l.assigned; spare = spare }
+    record { tree = tree; counted = omega arith; distinct = rw items l.distinct; assigned = rw items l.assigned }
 
 pub spot_in-within : (l : ℕ) (r : Option Node) (h : ℕ) (p : List ℕ) → IsTree r h → HoldsIn l r h p → spot_in l r h p < length (in_order r h)
 spot_in-within l None h p t held = absurd held
 spot_in-within l (Some n) h p t held = spot-within l h n p t.0 held
 
 -- the indexes without one
-pub record Shorter (r : Option Node) (h n : ℕ) (ix : ℕ) (s : Option Node) (k : ℕ) (bs : List (Vec Node Global)) : Type 0 where
+pub record Shorter (r : Option Node) (h n : ℕ) (ix : ℕ) (s : Option Node) (k : ℕ) : Type 0 where
   pub items : in_order s k ≡ without (in_order r h) ix
   pub some : 1 ≤ n
-  pub table : IsTable s k (n - 1) bs
+  pub table : IsTable s k (n - 1)
 
-pub shorter : (r : Option Node) (h n : ℕ) (bs : List (Vec Node Global)) (l : ℕ) (p : List ℕ) (ix : ℕ) (s : Option Node) (k : ℕ) → IsTable r h n bs → HoldsIn l r h p → slice_index (in_order r h) (spot_in l r h p) ≡ ix
-    → IsTree s k → in_order s k ≡ remove (in_order r h) (spot_in l r h p) → Shorter r h n ix s k bs
-shorter r h n bs l p ix s k t held there tree items =
+pub shorter : (r : Option Node) (h n : ℕ) (l : ℕ) (p : List ℕ) (ix : ℕ) (s : Option Node) (k : ℕ) → IsTable r h n → HoldsIn l r h p → slice_index (in_order r h) (spot_in l r h p) ≡ ix
+    → IsTree s k → in_order s k ≡ remove (in_order r h) (spot_in l r h p) → Shorter r h n ix s k
+shorter r h n l p ix s k t held there tree items =
     let xs : List ℕ = in_order r h in
     let at : ℕ = spot_in l r h p in
     let within : at < length xs = spot_in-within l r h p t.tree held in
@@ -208,36 +203,35 @@ shorter r h n bs l p ix s k t held there tree items =
       table = record {
         tree = tree;
         counted = omega arith;
-        distinct = rw same (IsIndexList-filter (λ j. not (j == ix)) xs (index_list r h n bs t)).distinct;
+        distinct = rw same (IsIndexList-filter (λ j. not (j == ix)) xs (index_list r h n t)).distinct;
         assigned = rw same (All-filter (λ j. not (j == ix)) (λ j. j < sentinel) xs t.assigned);
-        spare = t.spare;
       };
     }
 
 -- what a caller says of the indexes, from inside
-pub can_remap_inside : (o : Order) (r : Option Node) (h b : ℕ) (remap : IndexRemap) → record { root = r; height = h; blocks = b } ≡ o
+pub can_remap_inside : (o : Order) (r : Option Node) (h : ℕ) (remap : IndexRemap) → record { root = r; height = h } ≡ o
     → ((ix : ℕ) → Contains (order_of o) ix → CanRemap remap ix) → (ix : ℕ) → Contains (in_order r h) ix → CanRemap remap ix
-can_remap_inside o r h b remap e can ix held = can ix (subst (λ (xs : List ℕ). Contains xs ix) (order_inside o r h b e) held)
+can_remap_inside o r h remap e can ix held = can ix (subst (λ (xs : List ℕ). Contains xs ix) (order_inside o r h e) held)
 
-pub unshared_inside : (o : Order) (r : Option Node) (h b : ℕ) (remap : IndexRemap) → record { root = r; height = h; blocks = b } ≡ o
+pub unshared_inside : (o : Order) (r : Option Node) (h : ℕ) (remap : IndexRemap) → record { root = r; height = h } ≡ o
     → ((i j : ℕ) → Contains (order_of o) i → Contains (order_of o) j → remapped remap i ≡ remapped remap j → i ≡ j)
     → (i j : ℕ) → Contains (in_order r h) i → Contains (in_order r h) j → remapped remap i ≡ remapped remap j → i ≡ j
-unshared_inside o r h b remap e one i j p q same =
-    one i j (subst (λ (xs : List ℕ). Contains xs i) (order_inside o r h b e) p) (subst (λ (xs : List ℕ). Contains xs j) (order_inside o r h b e) q) same
+unshared_inside o r h remap e one i j p q same =
+    one i j (subst (λ (xs : List ℕ). Contains xs i) (order_inside o r h e) p) (subst (λ (xs : List ℕ). Contains xs j) (order_inside o r h e) q) same
 
 -- the indexes with new names
-pub IsTable-renamed : (r : Option Node) (h n : ℕ) (bs : List (Vec Node Global)) (s : Option Node) (remap : IndexRemap) → IsTable r h n bs
+pub IsTable-renamed : (r : Option Node) (h n : ℕ) (s : Option Node) (remap : IndexRemap) → IsTable r h n
     → ((ix : ℕ) → Contains (in_order r h) ix → CanRemap remap ix)
     → ((i j : ℕ) → Contains (in_order r h) i → Contains (in_order r h) j → remapped remap i ≡ remapped remap j → i ≡ j)
     → ((ix : ℕ) → ix < 4294967296 → CanRemap remap ix → remapped remap ix < 4294967296)
-    → IsTree s h → in_order s h ≡ map (remapped remap) (in_order r h) → IsTable s h n bs
-IsTable-renamed r h n bs s remap t can unshared fits tree items =
+    → IsTree s h → in_order s h ≡ map (remapped remap) (in_order r h) → IsTable s h n
+IsTable-renamed r h n s remap t can unshared fits tree items =
     let xs : List ℕ = in_order r h in
-    let named : IsIndexList (map (remapped remap) xs) = IsIndexList-remapped remap xs can unshared (index_list r h n bs t) in
+    let named : IsIndexList (map (remapped remap) xs) = IsIndexList-remapped remap xs can unshared (index_list r h n t) in
     let small : All (λ ix. ix < 4294967296) (map (remapped remap) xs) =
     All-map (λ ix. ix < 4294967296) (remapped remap) xs (λ k d lt. let below = t.assigned k d lt in fits (get_or xs k d) (omega arith) (can (get_or xs k d) (Contains-get_or xs k d lt))) in
     let assigned : All (λ ix. ix < sentinel) (map (remapped remap) xs) = λ k d lt. let ne = named.assigned k d lt in let below = small k d lt in omega arith in
     let counted = t.counted in
     let len = ap length items in
     let same = length-map xs (remapped remap) in
-    record { tree = tree; counted = omega arith; distinct = rw items named.distinct; assigned = rw items assigned; spare = t.spare }
+    record { tree = tree; counted = omega arith; distinct = rw items named.distinct; assigned = rw items assigned }

@@ -1,11 +1,5 @@
 -- What an insert leaves of a tree.
-use Rattle.std.proofs.Common.{◌≡◌, ℕ, ◌+◌, ◌-◌, ◌<◌, ◌≤◌, ◌≢◌, List, [], ◌∷◌, length, refl, ap, sym, ◌∙◌, arith, Option, Some, None}
-use Rattle.std.specs.List.{insert}
-use Rattle.std.proofs.lemmas.List.Edits.{length-insert}
-use Rattle.std.proofs.lemmas.List.Elements.{All-cons, All-nil}
-use Rattle.iddqd_order.specs.declared.btree_table.node.Node.{Node}
-use Rattle.iddqd_order.specs.Node.{row, children, room, flat, IsFormed, Goes, place}
-use Rattle.iddqd_order.specs.Tree.{in_order, IsTree, GoesIn, place_in}
+use Rattle.iddqd_order.proofs.Names.{◌≡◌, ℕ, ◌+◌, ◌-◌, ◌<◌, ◌≤◌, ◌≢◌, List, [], ◌∷◌, length, refl, ap, sym, ◌∙◌, arith, Option, Some, None, insert, length-insert, All-cons, All-nil, Node, row, children, room, flat, IsFormed, Goes, place, in_order, IsTree, GoesIn, place_in}
 use Rattle.iddqd_order.proofs.NodeLemmas.{AreChildren, leaf-formed, flat-leaf, inner-formed, flat-inner, place-within}
 use Rattle.iddqd_order.proofs.InsertLemmas.{Cut}
 use Rattle.iddqd_order.proofs.ReckoningLemmas.{twelve_levels}

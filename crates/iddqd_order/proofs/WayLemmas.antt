@@ -1,20 +1,10 @@
 -- Ways: what a step along one leaves, and what stays of them where an index is put in the place of another.
-use Rattle.std.proofs.Common.{◌≡◌, ◌≢◌, ◌∙◌, ℕ, zero, suc, ◌+◌, ◌-◌, ◌<◌, ◌≤◌, List, [], ◌∷◌, ◌++◌, length, get_or, set, slice_index, slice_set, refl, sym, ap, subst, arith, Option, Some, None, IsNone, IfSome, IsTrue, ◌↔◌, Contains, Bool, is_some, true, false, sub-one, length-append, length-set, get_or-set_same, get_or-set_other, inl, inr}
-use Rattle.std.proofs.lemmas.Bool.{cases_eq}
-use Rattle.std.proofs.lemmas.List.{append-nil, length-map, map-set, set-append_left, set-append_right}
-use Rattle.std.proofs.lemmas.List.Elements.{All-set}
-use Rattle.iddqd_order.specs.declared.btree_table.node.Node.{Node}
-use Rattle.iddqd_order.specs.declared.btree_table.ways.Reader.{Reader}
-use Rattle.iddqd_order.specs.declared.btree_table.ways.Way.{Way}
-use Rattle.iddqd_order.specs.Node.{row, children, child, room, weave, before, after, flat, IsFormed, Holds, spot}
-use Rattle.iddqd_order.specs.Tree.{IsTree}
-use Rattle.iddqd_order.specs.Ways.{StepsOn, SamePlaces, IsWay, IsReader, IsReaderIn}
-use Rattle.iddqd_order.proofs.NodeLemmas.{lists, AreChildren, formed-leaf, leaf-formed, flat-leaf, formed-inner, inner-formed, flat-inner, any_default}
-use Rattle.iddqd_order.proofs.PartLemmas.{in_middle}
-use Rattle.iddqd_order.proofs.RemovalLemmas.{holds-leaf, holds-at, holds-level, holds-below, spot-leaf, spot-at, spot-below, spot-within}
-use Rattle.iddqd_order.proofs.DescentLemmas.{index_place, after-last, before-more, lists-one_more, lists-at, child-formed, holds-here, below-holds, spot-row, spot-child}
+use Rattle.iddqd_order.proofs.Names.{◌≡◌, ◌≢◌, ◌∙◌, ℕ, zero, suc, ◌+◌, ◌-◌, ◌<◌, ◌≤◌, List, [], ◌∷◌, ◌++◌, length, get_or, set, slice_index, slice_set, refl, sym, ap, subst, arith, Option, Some, None, IsNone, IfSome, IsTrue, ◌↔◌, Contains, Bool, is_some, true, false, sub-one, length-append, length-set, get_or-set_same, get_or-set_other, inl, inr, cases_eq, append-nil, length-map, map-set, set-append_left, set-append_right, All-set, Node, Reader, Way, row, children, child, room, weave, before, after, flat, IsFormed, Holds, spot, IsTree, StepsOn, SamePlaces, IsWay, IsReader, IsReaderIn}
+use Rattle.iddqd_order.proofs.NodeLemmas.{lists, AreChildren, formed-within, formed-leaf, leaf-formed, flat-leaf, formed-inner, inner-formed, flat-inner, any_default}
+use Rattle.iddqd_order.proofs.RemovalLemmas.{GoesBelow, goes-below, ends-inner, holds-leaf, holds-at, holds-level, holds-below, spot-leaf, spot-at, spot-below, spot-within}
+use Rattle.iddqd_order.proofs.DescentLemmas.{after-last, before-next, lists-one_more, lists-at, child-formed, child-read, child_is, holds-here, below-holds, spot-row}
 use Rattle.iddqd_order.proofs.IndexListLemmas.{Contains-at}
-use Rattle.iddqd_order.proofs.WeaveLemmas.{apart, before-set, after-set}
+use Rattle.iddqd_order.proofs.WeaveLemmas.{apart, index_place, before-set, after-set}
 
 -- the first way goes to the first index
 pub record IsFirst (h : ℕ) (n : Node) (p : List ℕ) : Type 0 where
@@ -58,116 +48,107 @@ ends-leaf zero l i n p q e ei w le =
 pub steps-here : (h l i : ℕ) (n : Node) (p q : List ℕ) → h ≢ 0 → h ≡ l → i ≡ slice_index p h → IsFormed h n → Holds l h n p → slice_index q h ≡ i + 1 → ((m : ℕ) → m < h → slice_index q m ≡ 0)
     → StepsOn h n l p 1 (Some 0) q
 steps-here h l i n p q ne e ei f w next zeros =
-    let at : slice_index p h < length (row n) = holds-at l h n p ne e w in
+    let s = ends-inner h l i n p ne e ei f w in
+    let at = s.within in
     let one = (formed-inner h n ne f).inner.one_more in
     let lt : i + 1 < length (children n) = omega arith in
     let five = ((formed-inner h n ne f).below (i + 1) n lt).0 in
     let first = first-way (h - 1) (child n (i + 1)) q (child-formed h n (i + 1) ne f lt) (omega arith) (λ m le. zeros m (omega arith)) in
     let xs : List ℕ = row n in let ks : List (List ℕ) = lists (h - 1) (children n) in
-    let more = before-more i xs ks 0 (omega arith) (lists-one_more h n ne f) in
-    let here = lists-at (h - 1) n i (omega arith) in
-    let was : spot l h n p ≡ length (before i xs ks) + length (flat (h - 1) (child n i)) =
-    spot-at l h n p ne e ∙ ap (λ z. length (before z xs ks) + length (flat (h - 1) (child n z))) (sym ei) in
-    let up : suc i ≡ i + 1 = omega arith in
     let is : spot 0 h n q ≡ length (before (i + 1) xs ks) + spot 0 (h - 1) (child n (i + 1)) q =
     spot-below 0 h n q ne ne ∙ ap (λ z. length (before z xs ks) + spot 0 (h - 1) (child n z) q) next in
-    let len : length (before (i + 1) xs ks) ≡ length (before i xs ks) + (length (get_or ks i []) + 1) =
-    ap (λ z. length (before z xs ks)) (sym up) ∙ ap length more ∙ length-append (before i xs ks) (get_or ks i [] ++ get_or xs i 0 ∷ []) ∙ ap (λ z. length (before i xs ks) + z) (length-append (get_or ks i []) (get_or xs i 0 ∷ [])) in
-    let same : length (get_or ks i []) ≡ length (flat (h - 1) (child n i)) = ap length here in
-    let none = first.place in
+    let len : length (before (i + 1) xs ks) ≡ index_place i xs ks + 1 = before-next i xs ks at (lists-one_more h n ne f) in
+    let was = s.place in let none = first.place in
     (below-holds 0 h n q ne (rw next lt) (rw next first.holds), omega arith)
 
 -- a step below the i-th child
-pub steps-below : (c : ℕ) (h l i m : ℕ) (n : Node) (p q : List ℕ) → h ≢ 0 → h ≢ l → i ≡ slice_index p h → Holds l h n p → slice_index q h ≡ slice_index p h → StepsOn (h - 1) (child n i) l p c (Some m) q
+pub steps-below : (c : ℕ) (h l i m : ℕ) (n : Node) (p q : List ℕ) → GoesBelow h l i n p → slice_index q h ≡ i → StepsOn (h - 1) (child n i) l p c (Some m) q
     → StepsOn h n l p c (Some m) q
-steps-below c h l i m n p q ne e ei w same s =
-    let down = holds-below l h n p ne e w in
-    let here : slice_index q h ≡ i = same ∙ sym ei in
-    let xs : List ℕ = row n in let ks : List (List ℕ) = lists (h - 1) (children n) in
+steps-below c h l i m n p q b here s =
     let le = holds-level m (h - 1) (child n i) q s.0 in
-    let was : spot l h n p ≡ length (before i xs ks) + spot l (h - 1) (child n i) p =
-    spot-below l h n p ne e ∙ ap (λ z. length (before z xs ks) + spot l (h - 1) (child n z) p) (sym ei) in
-    let is : spot m h n q ≡ length (before i xs ks) + spot m (h - 1) (child n i) q =
-    spot-below m h n q ne (λ z. absurd (omega arith)) ∙ ap (λ z. length (before z xs ks) + spot m (h - 1) (child n z) q) here in
+    let was = b.place in
+    let is : spot m h n q ≡ length (before i (row n) (lists (h - 1) (children n))) + spot m (h - 1) (child n i) q =
+    spot-below m h n q b.inner (λ z. absurd (omega arith)) ∙ ap (λ z. length (before z (row n) (lists (h - 1) (children n))) + spot m (h - 1) (child n z) q) here in
     let next = s.1 in
-    (below-holds m h n q ne (rw (here, ei) down.here) (rw here s.0), omega arith)
+    (below-holds m h n q b.inner (rw here b.here) (rw here s.0), omega arith)
 
 -- from the last one below the i-th child to the i-th index
-pub steps-out : (c : ℕ) (h l i : ℕ) (n : Node) (p q : List ℕ) → h ≢ 0 → h ≢ l → i ≡ slice_index p h → IsFormed h n → Holds l h n p → q ≡ p → i < length (row n) → StepsOn (h - 1) (child n i) l p c None q
+pub steps-out : (c : ℕ) (h l i : ℕ) (r : Option ℕ) (n : Node) (p q : List ℕ) → GoesBelow h l i n p → i ≡ slice_index p h → IsFormed h n → q ≡ p → i < length (row n) → is_some r ≡ false → StepsOn (h - 1) (child n i) l p c r q
     → StepsOn h n l p c (Some h) q
-steps-out c h l i n p q ne e ei f w same lt s =
-    let here : slice_index q h ≡ i = ap (λ z. slice_index z h) same ∙ sym ei in
-    let xs : List ℕ = row n in let ks : List (List ℕ) = lists (h - 1) (children n) in
-    let was : spot l h n p ≡ length (before i xs ks) + spot l (h - 1) (child n i) p =
-    spot-below l h n p ne e ∙ ap (λ z. length (before z xs ks) + spot l (h - 1) (child n z) p) (sym ei) in
-    let is : spot h h n q ≡ length (before i xs ks) + length (flat (h - 1) (child n i)) =
-    spot-at h h n q ne refl ∙ ap (λ z. length (before z xs ks) + length (flat (h - 1) (child n z))) here in
-    (holds-here h n q (rw here lt), omega arith)
+steps-out c h l i (Some m) n p q b ei f same lt none s = absurd (cc)
+steps-out c h l i None n p q b ei f same lt none s =
+    let here : i ≡ slice_index q h = ei ∙ ap (λ z. slice_index z h) (sym same) in
+    let holds = holds-here h n q (rw (sym here) lt) in
+    let is = (ends-inner h h i n q b.inner refl here f holds).place in
+    let list = ap length (lists-at (h - 1) n i b.here) in
+    let was = b.place in
+    (holds, omega arith)
 
 -- or to the end of the node
-pub ends-below : (c : ℕ) (h l i : ℕ) (n : Node) (p q : List ℕ) → h ≢ 0 → h ≢ l → i ≡ slice_index p h → IsFormed h n → Holds l h n p → length (row n) ≤ i → StepsOn (h - 1) (child n i) l p c None q
+pub ends-below : (c : ℕ) (h l i : ℕ) (r : Option ℕ) (n : Node) (p q : List ℕ) → GoesBelow h l i n p → IsFormed h n → length (row n) ≤ i → is_some r ≡ false → StepsOn (h - 1) (child n i) l p c r q
     → StepsOn h n l p c None q
-ends-below c h l i n p q ne e ei f w le s =
-    let down = holds-below l h n p ne e w in
+ends-below c h l i (Some m) n p q b f le none s = absurd (cc)
+ends-below c h l i None n p q b f le none s =
     let xs : List ℕ = row n in let ks : List (List ℕ) = lists (h - 1) (children n) in
-    let one = lists-one_more h n ne f in
-    let in_children : i < length (children n) = rw ei down.here in
-    let len : length ks ≡ length (children n) = length-map (children n) (λ k. flat (h - 1) k) in
-    let was : spot l h n p ≡ length (before i xs ks) + spot l (h - 1) (child n i) p =
-    spot-below l h n p ne e ∙ ap (λ z. length (before z xs ks) + spot l (h - 1) (child n z) p) (sym ei) in
+    let here = b.here in
+    let one = lists-one_more h n b.inner f in
     let whole : flat h n ≡ before i xs ks ++ (get_or ks i [] ++ []) =
-    flat-inner h n ne ∙ apart i xs ks [] (omega arith) one ∙ ap (λ z. before i xs ks ++ (get_or ks i [] ++ z)) (after-last i xs ks le one) in
+    flat-inner h n b.inner ∙ apart i xs ks [] (omega (arith, length-map (children n) (λ k. flat (h - 1) k))) one ∙ ap (λ z. before i xs ks ++ (get_or ks i [] ++ z)) (after-last i xs ks le one) in
     let all : length (flat h n) ≡ length (before i xs ks) + length (flat (h - 1) (child n i)) =
-    ap length whole ∙ length-append (before i xs ks) (get_or ks i [] ++ []) ∙ ap (λ z. length (before i xs ks) + length z) (append-nil (get_or ks i []) ∙ lists-at (h - 1) n i in_children) in
+    ap length whole ∙ length-append (before i xs ks) (get_or ks i [] ++ []) ∙ ap (λ z. length (before i xs ks) + length z) (append-nil (get_or ks i []) ∙ lists-at (h - 1) n i here) in
+    let was = b.place in
     omega arith
 
--- the index to which a path goes, in the node itself
-pub read-here : (h l i ix : ℕ) (n : Node) (p : List ℕ) → h ≡ l → i ≡ slice_index p h → IsFormed h n → Holds l h n p → i < length (row n) → ix ≡ slice_index (row n) i → ix ≡ slice_index (flat h n) (spot l h n p)
-read-here h l i ix n p e ei f w lt is =
-    is ∙ ap (slice_index (row n)) ei ∙ sym (spot-row h n p f (rw (sym ei) lt)) ∙ ap (λ z. slice_index (flat h n) (spot z h n p)) e
-
--- and below its i-th child
-pub read-below : (h l i ix : ℕ) (n : Node) (p : List ℕ) → h ≢ 0 → h ≢ l → i ≡ slice_index p h → IsFormed h n → Holds l h n p → ix ≡ slice_index (flat (h - 1) (child n i)) (spot l (h - 1) (child n i) p)
+-- the index to which a path goes below the i-th child
+pub read-below : (h l i ix : ℕ) (n : Node) (p : List ℕ) → GoesBelow h l i n p → IsFormed h n → ix ≡ slice_index (flat (h - 1) (child n i)) (spot l (h - 1) (child n i) p)
     → ix ≡ slice_index (flat h n) (spot l h n p)
-read-below h l i ix n p ne e ei f w is =
-    let down = holds-below l h n p ne e w in
-    is ∙ ap (λ z. slice_index (flat (h - 1) (child n z)) (spot l (h - 1) (child n z) p)) ei ∙ sym (spot-child l h n p ne f down.here down.on)
+read-below h l i ix n p b f is = is ∙ sym (ap (slice_index (flat h n)) b.place ∙ child-read h n i (spot l (h - 1) (child n i) p) b.inner f b.here b.within)
 
 -- where a path goes in a node
 pub holds-row : (h l i : ℕ) (n : Node) (p : List ℕ) → h ≡ l → i ≡ slice_index p h → Holds l h n p → i < length (row n)
 holds-row zero l i n p e ei w = rw ei (holds-leaf l 0 n p refl w)
 holds-row (suc h) l i n p e ei w = rw ei (holds-at l (suc h) n p (λ z. absurd (omega arith)) e w)
 
-pub record GoesBelow (h l i : ℕ) (n : Node) (p : List ℕ) : Type 0 where
-  pub inner : h ≢ 0
-  pub other : h ≢ l
-  pub here : i < length (children n)
-  pub formed : IsFormed (h - 1) (child n i)
-  pub holds : Holds l (h - 1) (child n i) p
+-- a path ends at the node itself, at its i-th index
+pub record EndsHere (h l i : ℕ) (n : Node) (p : List ℕ) : Type 0 where
+  pub level : h ≡ l
+  pub within : i < length (row n)
+  pub few : length (row n) ≤ 11
+  pub spot_is : slice_index (flat h n) (spot l h n p) ≡ slice_index (row n) i
 
-pub goes-below : (h l i : ℕ) (n : Node) (p : List ℕ) → l < h → i ≡ slice_index p h → IsFormed h n → Holds l h n p → GoesBelow h l i n p
-goes-below h l i n p lt ei f w =
-    let ne : h ≢ 0 = λ e. absurd (omega arith) in
-    let other : h ≢ l = λ e. absurd (omega arith) in
-    let down = holds-below l h n p ne other w in
-    let in_children : i < length (children n) = rw ei down.here in
+pub ends-here : (h l i : ℕ) (n : Node) (p : List ℕ) → h ≤ l → i ≡ slice_index p h → IsFormed h n → Holds l h n p → EndsHere h l i n p
+ends-here h l i n p le ei f w =
+    let e : h ≡ l = omega (arith, holds-level l h n p w) in
+    let lt = holds-row h l i n p e ei w in
     record {
-      inner = ne;
-      other = other;
-      here = in_children;
-      formed = child-formed h n i ne f in_children;
-      holds = rw ei down.on;
+      level = e;
+      within = lt;
+      few = formed-within h n f;
+      spot_is = ap (λ z. slice_index (flat h n) (spot z h n p)) (sym e) ∙ spot-row h n p f (rw (sym ei) lt) ∙ ap (slice_index (row n)) (sym ei);
     }
 
--- from here on it ends at the node
-pub level_is : (h l : ℕ) (n : Node) (p : List ℕ) → h ≤ l → Holds l h n p → h ≡ l
-level_is h l n p le w = let down = holds-level l h n p w in omega arith
-
 -- what a step below the i-th child answers, if anything
-pub steps-below_any : (c : ℕ) (h l i : ℕ) (r : Option ℕ) (n : Node) (p q : List ℕ) → h ≢ 0 → h ≢ l → i ≡ slice_index p h → Holds l h n p → slice_index q h ≡ slice_index p h → is_some r ≡ true → StepsOn (h - 1) (child n i) l p c r q
+pub steps-below_any : (c : ℕ) (h l i : ℕ) (r : Option ℕ) (n : Node) (p q : List ℕ) → GoesBelow h l i n p → slice_index q h ≡ i → is_some r ≡ true → StepsOn (h - 1) (child n i) l p c r q
     → StepsOn h n l p c r q
-steps-below_any c h l i None n p q ne e ei w same some s = absurd (cc)
-steps-below_any c h l i (Some m) n p q ne e ei w same some s = steps-below c h l i m n p q ne e ei w same s
+steps-below_any c h l i None n p q b same some s = absurd (cc)
+steps-below_any c h l i (Some m) n p q b same some s = steps-below c h l i m n p q b same s
+
+-- what a step below the i-th child leaves
+pub record SteppedBelow (h l i ix : ℕ) (r : Option ℕ) (n : Node) (p q : List ℕ) : Type 0 where
+  pub below : GoesBelow h l i n p
+  pub index : ix ≡ slice_index (flat h n) (spot l h n p)
+  pub next : StepsOn (h - 1) (child n i) l p 1 r q
+
+pub stepped-below : (h l i ix : ℕ) (r : Option ℕ) (n k : Node) (p q : List ℕ) → l < h → i ≡ slice_index p h → IsFormed h n → Holds l h n p → k ≡ get_or (children n) i k
+    → ix ≡ slice_index (flat (h - 1) k) (spot l (h - 1) k p) → StepsOn (h - 1) k l p 1 r q → SteppedBelow h l i ix r n p q
+stepped-below h l i ix r n k p q lt ei f w is index next =
+    let b = goes-below h l i n p lt ei f w in
+    let same : k ≡ child n i = child_is n i k b.here is in
+    record {
+      below = b;
+      index = read-below h l i ix n p b f (subst (λ z. ix ≡ slice_index (flat (h - 1) z) (spot l (h - 1) z p)) same index);
+      next = subst (λ z. StepsOn (h - 1) z l p 1 r q) same next;
+    }
 
 pub none-is : (r : Option ℕ) → is_some r ≡ false → r ≡ None
 none-is None e = refl
@@ -277,25 +258,19 @@ put-leaf l x n m p f w er ek =
       same_places = same-places-leaf n m rows;
     }
 
-put-own : (h l x : ℕ) (n m : Node) (p : List ℕ) → h ≢ 0 → h ≡ l → IsFormed h n → Holds l h n p → row m ≡ set (row n) (slice_index p h) x → children m ≡ children n → room n ≤ room m → IsPut h l n m p x
-put-own h l x n m p ne e f w er ek rm =
-    let i : ℕ = slice_index p h in
-    let at : i < length (row n) = holds-at l h n p ne e w in
+put-own : (h l i x : ℕ) (n m : Node) (p : List ℕ) → h ≢ 0 → h ≡ l → i ≡ slice_index p h → IsFormed h n → Holds l h n p → row m ≡ set (row n) i x → children m ≡ children n → room n ≤ room m → IsPut h l n m p x
+put-own h l i x n m p ne e ei f w er ek rm =
+    let s = ends-inner h l i n p ne e ei f w in
     let fs = formed-inner h n ne f in
-    let one = fs.inner.one_more in
-    let within = fs.inner.within in
-    let has_room = fs.inner.has_room in
+    let one = fs.inner.one_more in let within = fs.inner.within in let has_room = fs.inner.has_room in
     let count = ap length ek in
     let rows : length (row m) ≡ length (row n) = ap length er ∙ length-set (row n) i x in
     let same : (j : ℕ) → j < length (children n) → child m j ≡ child n j = λ j lt. ap (λ z. get_or z j m) ek ∙ any_default (children n) j m n lt in
-    let in_children : i < length (children n) = omega arith in
-    let place : index_place i (row n) (lists (h - 1) (children n)) ≡ spot l h n p =
-    sym (spot-at l h n p ne e ∙ ap (λ z. length (before i (row n) (lists (h - 1) (children n))) + length z) (sym (lists-at (h - 1) n i in_children))) in
     record {
       items =
           flat-inner h m ne ∙ ap (λ z. weave z (lists (h - 1) (children m))) er ∙ ap (λ z. weave (set (row n) i x) (lists (h - 1) z)) ek
-          ∙ weave-set_own i (row n) (lists (h - 1) (children n)) x at (lists-one_more h n ne f)
-          ∙ ap (λ z. set (weave (row n) (lists (h - 1) (children n))) z x) place ∙ ap (λ z. set z (spot l h n p) x) (sym (flat-inner h n ne));
+          ∙ weave-set_own i (row n) (lists (h - 1) (children n)) x s.within (lists-one_more h n ne f)
+          ∙ ap (λ z. set (weave (row n) (lists (h - 1) (children n))) z x) (sym s.place) ∙ ap (λ z. set z (spot l h n p) x) (sym (flat-inner h n ne));
       formed = inner-formed h m ne (record { within = omega arith; one_more = omega arith; has_room = omega arith }) (subst (AreChildren (h - 1)) (sym ek) fs.below);
       same_length = rows;
       same_places = same-places-inner h n m ne one (record {
@@ -308,7 +283,7 @@ put-own h l x n m p ne e f w er ek rm =
 
 pub put-here : (h l i x : ℕ) (n m : Node) (p : List ℕ) → h ≡ l → i ≡ slice_index p h → IsFormed h n → Holds l h n p → row m ≡ set (row n) i x → children m ≡ children n → room n ≤ room m → IsPut h l n m p x
 put-here zero l i x n m p e ei f w er ek rm = put-leaf l x n m p f w (er ∙ ap (λ z. set (row n) z x) ei) ek
-put-here (suc h) l i x n m p e ei f w er ek rm = put-own (suc h) l x n m p (λ z. absurd (omega arith)) e f w (er ∙ ap (λ z. set (row n) z x) ei) ek rm
+put-here (suc h) l i x n m p e ei f w er ek rm = put-own (suc h) l i x n m p (λ z. absurd (omega arith)) e ei f w er ek rm
 
 -- the same where it goes on below the i-th child g, which k is put in the place of
 pub put-below : (h l i x : ℕ) (n g k m : Node) (p : List ℕ) → l < h → i ≡ slice_index p h → IsFormed h n → Holds l h n p → g ≡ child n i → IsPut (h - 1) l g k p x
@@ -317,9 +292,7 @@ put-below h l i x n g k m p low ei f w is_g put er ek rm =
     let b = goes-below h l i n p low ei f w in
     let ne = b.inner in
     let fs = formed-inner h n ne f in
-    let one = fs.inner.one_more in
-    let within = fs.inner.within in
-    let has_room = fs.inner.has_room in
+    let one = fs.inner.one_more in let within = fs.inner.within in let has_room = fs.inner.has_room in
     let here : i < length (children n) = b.here in
     let five = (fs.below i n here).0 in
     let rows : length (row m) ≡ length (row n) = ap length er in
@@ -330,19 +303,16 @@ put-below h l i x n g k m p low ei f w is_g put er ek rm =
     let was : IsPut (h - 1) l (child n i) k p x = subst (λ z. IsPut (h - 1) l z k p x) is_g put in
     let len : length (flat (h - 1) k) ≡ length (flat (h - 1) (child n i)) = ap length was.items ∙ length-set (flat (h - 1) (child n i)) (spot l (h - 1) (child n i) p) x in
     let row_len = was.same_length in
-    let inside = spot-within l (h - 1) (child n i) p b.formed b.holds in
-    let list : get_or (lists (h - 1) (children n)) i [] ≡ flat (h - 1) (child n i) = lists-at (h - 1) n i here in
+    let list = lists-at (h - 1) n i here in
     let in_lists : i < length (lists (h - 1) (children n)) = omega (arith, length-map (children n) (λ k. flat (h - 1) k)) in
-    let lt : spot l (h - 1) (child n i) p < length (get_or (lists (h - 1) (children n)) i []) = rw list inside in
+    let lt : spot l (h - 1) (child n i) p < length (get_or (lists (h - 1) (children n)) i []) = rw list b.within in
     let new : flat (h - 1) k ≡ set (get_or (lists (h - 1) (children n)) i []) (spot l (h - 1) (child n i) p) x = rw list was.items in
-    let place : length (before i (row n) (lists (h - 1) (children n))) + spot l (h - 1) (child n i) p ≡ spot l h n p =
-    sym (spot-below l h n p ne b.other ∙ ap (λ z. length (before z (row n) (lists (h - 1) (children n))) + spot l (h - 1) (child n z) p) (sym ei)) in
     record {
       items =
           flat-inner h m ne ∙ ap (λ z. weave z (lists (h - 1) (children m))) er ∙ ap (λ z. weave (row n) (lists (h - 1) z)) ek
           ∙ ap (λ z. weave (row n) z) (map-set (λ k. flat (h - 1) k) (children n) i k)
           ∙ weave-set_below i (row n) (lists (h - 1) (children n)) (flat (h - 1) k) (spot l (h - 1) (child n i) p) x in_lists (lists-one_more h n ne f) lt new
-          ∙ ap (λ z. set (weave (row n) (lists (h - 1) (children n))) z x) place ∙ ap (λ z. set z (spot l h n p) x) (sym (flat-inner h n ne));
+          ∙ ap (λ z. set (weave (row n) (lists (h - 1) (children n))) z x) (sym b.place) ∙ ap (λ z. set z (spot l h n p) x) (sym (flat-inner h n ne));
       formed = inner-formed h m ne (record { within = omega arith; one_more = omega arith; has_room = omega arith })
           (subst (AreChildren (h - 1)) (sym ek) (All-set (λ z. (5 ≤ length (row z)) × IsFormed (h - 1) z) (children n) i k (omega arith, was.formed) fs.below));
       same_length = rows;
@@ -436,44 +406,34 @@ reads-leaf zero n p xs e w first is =
       some = omega arith;
     }
 
--- the list of a child stands in the whole
-child_read : (h i k s : ℕ) (n : Node) → h ≢ 0 → IsFormed h n → i < length (children n) → k < length (flat (h - 1) (child n i)) → s ≡ length (before i (row n) (lists (h - 1) (children n))) + k
-    → slice_index (flat (h - 1) (child n i)) k ≡ slice_index (flat h n) s
-child_read h i k s n ne f lt low es =
-    let xs : List ℕ = row n in let ks : List (List ℕ) = lists (h - 1) (children n) in
-    let at = lists-at (h - 1) n i lt in
-    let inside : k < length (get_or ks i []) = rw at low in
-    let whole : flat h n ≡ before i xs ks ++ (get_or ks i [] ++ after i xs ks) = flat-inner h n ne ∙ apart i xs ks [] (omega (arith, length-map (children n) (λ k. flat (h - 1) k))) (lists-one_more h n ne f) in
-    sym (ap (slice_index (flat h n)) es ∙ ap (λ zs. slice_index zs (length (before i xs ks) + k)) whole ∙ in_middle (before i xs ks) (get_or ks i []) (after i xs ks) k inside ∙ ap (λ zs. slice_index zs k) at)
-
 -- how far a leaf goes
 pub leaf_within : (h : ℕ) (n : Node) (p xs : List ℕ) (r : Option ℕ) → IsFormed h n → StepsOn h n 0 p (length xs) r p → spot 0 h n p + length xs ≤ length (flat h n)
 leaf_within h n p xs None f s = omega (arith, s)
 leaf_within h n p xs (Some m) f s = let inside = spot-within m h n p f s.0 in let next = s.1 in omega arith
 
-below_items : (h i : ℕ) (r : Option ℕ) (n : Node) (p xs : List ℕ) → h ≢ 0 → i ≡ slice_index p h → IsFormed h n → Holds 0 h n p → ReadsLeaf (h - 1) (child n i) p xs r
+below_items : (h i : ℕ) (r : Option ℕ) (n : Node) (p xs : List ℕ) → GoesBelow h 0 i n p → IsFormed h n → ReadsLeaf (h - 1) (child n i) p xs r
     → (k : ℕ) → k < length xs → slice_index xs k ≡ slice_index (flat h n) (spot 0 h n p + k)
-below_items h i r n p xs ne ei f w l k low =
-    let down = holds-below 0 h n p ne ne w in
-    let in_children : i < length (children n) = rw ei down.here in
-    let formed = child-formed h n i ne f in_children in
-    let end = leaf_within (h - 1) (child n i) p xs r formed l.next in
-    let was : spot 0 h n p ≡ length (before i (row n) (lists (h - 1) (children n))) + spot 0 (h - 1) (child n i) p =
-    spot-below 0 h n p ne ne ∙ ap (λ z. length (before z (row n) (lists (h - 1) (children n))) + spot 0 (h - 1) (child n z) p) (sym ei) in
-    l.items k low ∙ child_read h i (spot 0 (h - 1) (child n i) p + k) (spot 0 h n p + k) n ne f in_children (omega arith) (omega arith)
+below_items h i r n p xs b f l k low =
+    let end = leaf_within (h - 1) (child n i) p xs r b.formed l.next in
+    let was = b.place in
+    let at : spot 0 h n p + k ≡ length (before i (row n) (lists (h - 1) (children n))) + (spot 0 (h - 1) (child n i) p + k) = omega arith in
+    l.items k low ∙ sym (ap (slice_index (flat h n)) at ∙ child-read h n i (spot 0 (h - 1) (child n i) p + k) b.inner f b.here (omega arith))
+
+pub read-down : (h i : ℕ) (r : Option ℕ) (n k : Node) (p xs : List ℕ) → 0 < h → i ≡ slice_index p h → IsFormed h n → Holds 0 h n p → k ≡ get_or (children n) i k → ReadsLeaf (h - 1) k p xs r
+    → GoesBelow h 0 i n p × ReadsLeaf (h - 1) (child n i) p xs r
+read-down h i r n k p xs lt ei f w is l =
+    let b = goes-below h 0 i n p lt ei f w in
+    (b, subst (λ z. ReadsLeaf (h - 1) z p xs r) (child_is n i k b.here is) l)
 
 -- the leaf lies below the i-th child
-pub reads-below : (h i : ℕ) (r : Option ℕ) (n : Node) (p xs : List ℕ) → h ≢ 0 → i ≡ slice_index p h → IsFormed h n → Holds 0 h n p → is_some r ≡ true → ReadsLeaf (h - 1) (child n i) p xs r → ReadsLeaf h n p xs r
-reads-below h i r n p xs ne ei f w some l =
-    record { items = below_items h i r n p xs ne ei f w l; next = steps-below_any (length xs) h 0 i r n p p ne ne ei w refl some l.next; some = l.some }
+pub reads-below : (h i : ℕ) (r : Option ℕ) (n : Node) (p xs : List ℕ) → GoesBelow h 0 i n p → i ≡ slice_index p h → IsFormed h n → is_some r ≡ true → ReadsLeaf (h - 1) (child n i) p xs r → ReadsLeaf h n p xs r
+reads-below h i r n p xs b ei f some l = record { items = below_items h i r n p xs b f l; next = steps-below_any (length xs) h 0 i r n p p b (sym ei) some l.next; some = l.some }
 
-pub reads-out : (h i : ℕ) (n : Node) (p xs : List ℕ) → h ≢ 0 → i ≡ slice_index p h → IsFormed h n → Holds 0 h n p → i < length (row n) → ReadsLeaf (h - 1) (child n i) p xs None → ReadsLeaf h n p xs (Some h)
-reads-out h i n p xs ne ei f w lt l =
-    record { items = below_items h i None n p xs ne ei f w l; next = steps-out (length xs) h 0 i n p p ne ne ei f w refl lt l.next; some = l.some }
+pub reads-out : (h i : ℕ) (r : Option ℕ) (n : Node) (p xs : List ℕ) → GoesBelow h 0 i n p → i ≡ slice_index p h → IsFormed h n → i < length (row n) → is_some r ≡ false → ReadsLeaf (h - 1) (child n i) p xs r → ReadsLeaf h n p xs (Some h)
+reads-out h i r n p xs b ei f lt none l = record { items = below_items h i r n p xs b f l; next = steps-out (length xs) h 0 i r n p p b ei f refl lt none l.next; some = l.some }
 
-pub reads-end : (h i : ℕ) (n : Node) (p xs : List ℕ) → h ≢ 0 → i ≡ slice_index p h → IsFormed h n → Holds 0 h n p → length (row n) ≤ i → ReadsLeaf (h - 1) (child n i) p xs None → ReadsLeaf h n p xs None
-reads-end h i n p xs ne ei f w le l =
-    record { items = below_items h i None n p xs ne ei f w l; next = ends-below (length xs) h 0 i n p p ne ne ei f w le l.next; some = l.some }
+pub reads-end : (h i : ℕ) (r : Option ℕ) (n : Node) (p xs : List ℕ) → GoesBelow h 0 i n p → IsFormed h n → length (row n) ≤ i → is_some r ≡ false → ReadsLeaf (h - 1) (child n i) p xs r → ReadsLeaf h n p xs None
+reads-end h i r n p xs b f le none l = record { items = below_items h i r n p xs b f l; next = ends-below (length xs) h 0 i r n p p b f le none l.next; some = l.some }
 
 -- where a walk along all indexes ends
 pub found_where : (r : Option ℕ) (h : ℕ) (n : Node) (ix : ℕ) (p : List ℕ) → IsFormed h n → IfSome r (λ l. Holds l h n p) → IfSome r (λ l. slice_index (flat h n) (spot l h n p) ≡ ix) → (IsNone r → Contains (flat h n) ix → ⊥)
@@ -502,16 +462,4 @@ reader-taken h n old new r lt way leaf at place =
           let from : new.at + k ≡ old.at + suc k = omega arith in
           let to : old.place + suc k ≡ new.place + k = omega arith in
           ap (λ z. slice_index z (new.at + k)) leaf ∙ ap (slice_index old.leaf) from ∙ next ∙ ap (slice_index (flat h n)) to;
-    }
-
--- a reader stays one where another index is put in a place that it has passed
-pub IsReader-same : (h : ℕ) (n m : Node) (r : Reader) (t x : ℕ) → SamePlaces h n m → flat h m ≡ slice_set (flat h n) t x → t < r.place → IsReader h n r → IsReader h m r
-IsReader-same h n m r t x same is passed reader =
-    let len : length (flat h m) ≡ length (flat h n) = ap length is ∙ length-set (flat h n) t x in
-    record {
-      way = IsWay-same h n m r.way same len reader.way;
-      first = reader.first;
-      within = reader.within;
-      ahead = reader.ahead;
-      read = λ k low. reader.read k low ∙ sym (ap (λ z. slice_index z (r.place + k)) is ∙ get_or-set_other (flat h n) t (r.place + k) x 0 (λ e. absurd (omega arith)));
     }

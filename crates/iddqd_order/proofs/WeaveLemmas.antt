@@ -1,9 +1,5 @@
 -- Facts on lists that are woven together.
-use Rattle.std.proofs.Common.{◌≡◌, ℕ, zero, suc, ◌+◌, ◌-◌, ◌<◌, ◌≤◌, List, [], ◌∷◌, ◌++◌, length, take, drop, set, get_or, refl, ap, sym, ◌∙◌, append_assoc, arith, length-append, add-one, length-set, get_or-set_same}
-use Rattle.std.proofs.lemmas.List.{append-nil}
-use Rattle.std.specs.List.{insert}
-use Rattle.std.proofs.lemmas.List.Edits.{insert-append_left, insert-append_right}
-use Rattle.iddqd_order.specs.Node.{weave, before, after}
+use Rattle.iddqd_order.proofs.Names.{◌≡◌, ℕ, zero, suc, ◌+◌, ◌-◌, ◌<◌, ◌≤◌, List, [], ◌∷◌, ◌++◌, length, take, drop, set, get_or, refl, ap, sym, ◌∙◌, append_assoc, arith, length-append, add-one, length-set, get_or-set_same, append-nil, insert, insert-append_left, insert-append_right, weave, before, after}
 
 -- a woven list, apart at its i-th list
 pub apart : (i : ℕ) (xs : List ℕ) (ks : List (List ℕ)) (d : List ℕ) → i < length ks → length ks ≡ length xs + 1
@@ -16,6 +12,10 @@ apart (suc i) [] [] d p e = absurd (omega arith)
 apart (suc i) [] (k ∷ ks) d p e = absurd (omega arith)
 apart (suc i) (x ∷ xs) [] d p e = absurd (omega arith)
 apart (suc i) (x ∷ xs) (k ∷ ks) d p e = let ih = apart i xs ks d (omega arith) (omega arith) in grind (arith, ih, append_assoc)
+
+-- the place of the i-th index in a woven list
+abbrev pub index_place : ℕ → List ℕ → List (List ℕ) → ℕ
+index_place i xs ks = length (before i xs ks) + length (get_or ks i [])
 
 -- an edit of the i-th list
 pub before-set : (i : ℕ) (xs : List ℕ) (ks : List (List ℕ)) (k : List ℕ) → before i xs (set ks i k) ≡ before i xs ks

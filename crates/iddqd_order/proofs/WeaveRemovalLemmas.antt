@@ -1,9 +1,6 @@
 -- What a removal, and the mending after it, leave of woven lists.
-use Rattle.std.proofs.Common.{◌≡◌, ◌≢◌, ℕ, zero, suc, ◌+◌, ◌-◌, ◌<◌, List, [], ◌∷◌, ◌++◌, length, take, drop, set, get_or, map, remove, refl, ap, sym, ◌∙◌, append_assoc, arith, zero-add, length-append, length-set, get_or-set_same, get_or-set_other, All, inl, inr}
-use Rattle.std.proofs.lemmas.List.{append-nil, map-append, take-map, drop-map}
-use Rattle.std.proofs.lemmas.List.Edits.{remove-append_left, remove-append_right, length-remove, get_or-remove_below, get_or-remove_above}
-use Rattle.std.proofs.lemmas.Bool.{cases_lt, cases_eq}
-use Rattle.iddqd_order.specs.Node.{weave, before}
+use Rattle.iddqd_order.proofs.Names.{◌≡◌, ◌≢◌, ℕ, zero, suc, ◌+◌, ◌-◌, ◌<◌, List, [], ◌∷◌, ◌++◌, length, take, drop, set, get_or, map, remove, refl, ap, sym, ◌∙◌, append_assoc, arith, zero-add, length-append, length-set, get_or-set_same, get_or-set_other, All, inl, inr, append-nil, map-append, take-map, drop-map, remove-append_left, remove-append_right, length-remove, get_or-remove_below, get_or-remove_above, cases_lt, cases_eq, weave, before, after}
+use Rattle.iddqd_order.proofs.WeaveLemmas.{apart}
 
 remove_past : (k ys : List ℕ) (y n : ℕ) → remove (k ++ y ∷ ys) (length (k ++ y ∷ []) + n) ≡ k ++ y ∷ remove ys n
 remove_past k ys y n =
@@ -121,14 +118,8 @@ All-joined P xs i w within others p j d lt =
 -- an index of the i-th list stands among all, and so does the index after that list
 pub weave-within : (i : ℕ) (xs : List ℕ) (ks : List (List ℕ)) (d : List ℕ) (q : ℕ) → i < length ks → length ks ≡ length xs + 1 → q < length (get_or ks i d)
     → length (before i xs ks) + q < length (weave xs ks)
-weave-within i xs [] d q p e w = absurd (omega arith)
-weave-within zero [] (k ∷ []) d q p e w = omega arith
-weave-within zero [] (k ∷ (k2 ∷ ks)) d q p e w = absurd (omega arith)
-weave-within zero (x ∷ xs) (k ∷ ks) d q p e w = omega (arith, length-append k (x ∷ weave xs ks))
-weave-within (suc i) [] (k ∷ ks) d q p e w = absurd (omega arith)
-weave-within (suc i) (x ∷ xs) (k ∷ ks) d q p e w =
-    let ih = weave-within i xs ks d q (omega arith) (omega arith) w in
-    omega (arith, length-append k (x ∷ weave xs ks), length-append k (x ∷ before i xs ks))
+weave-within i xs ks d q p e w =
+    rw (apart i xs ks d p e) (omega (arith, length-append (before i xs ks) (get_or ks i d ++ after i xs ks), length-append (get_or ks i d) (after i xs ks)))
 
 pub weave-within_at : (i : ℕ) (xs : List ℕ) (ks : List (List ℕ)) (d : List ℕ) → i < length xs → length ks ≡ length xs + 1
     → length (before i xs ks) + length (get_or ks i d) < length (weave xs ks)

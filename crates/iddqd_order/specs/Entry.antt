@@ -5,7 +5,7 @@ use Rattle.std.specs.Fn.{Mut}
 use Rattle.std.specs.declared.cmp.Ordering.{Ordering}
 use Rattle.std.specs.declared.cmp.Ordering.TheVariants.{Equal}
 use Rattle.iddqd_order.specs.MapBTreeTable.{Order, order_of}
-use Rattle.iddqd_order.specs.PreparedBTreeInsert.{table_of, index_of, place_of}
+use Rattle.iddqd_order.specs.PreparedBTreeInsert.{Prepared, table_of, index_of, place_of, blocks_of}
 use Rattle.iddqd_order.specs.Search.{SearchAsks, IsSteady, IsSteadyRising, IsPlace}
 use Rattle.iddqd_order.specs.Tree.{place_in, spot_in}
 use Rattle.iddqd_order.specs.declared.btree_table.asking.Asking.{Asking}
@@ -13,7 +13,6 @@ use Rattle.iddqd_order.specs.declared.btree_table.entry.Entry.{Entry}
 use Rattle.iddqd_order.specs.declared.btree_table.entry.Entry.TheVariants.{Occupied, Vacant}
 use Rattle.iddqd_order.specs.declared.btree_table.entry.OccupiedEntry.{OccupiedEntry}
 use Rattle.iddqd_order.specs.declared.btree_table.entry.VacantEntry.{VacantEntry}
-use Rattle.iddqd_order.specs.declared.btree_table.prepared_insert.PreparedBTreeInsert.{PreparedBTreeInsert}
 
 -- the table that an occupied entry borrows
 abbrev pub occupied_table : OccupiedEntry → MutBor Order
@@ -61,7 +60,8 @@ module _ {F R : Type 0} (g : Mut F (ℕ × Unit {0}) R) (read : R → Ordering) 
         IfVacant e (λ v. All (λ ix. answer ix ≢ Equal) xs)
 
 -- the insert of ix at a vacant place is prepared, and nothing is added yet
-pub record FillsEntry (v : VacantEntry) (ix : ℕ) (p : PreparedBTreeInsert) : Type 0 where
+pub record FillsEntry (v : VacantEntry) (ix : ℕ) (p : Prepared) : Type 0 where
   pub table : order_of (table_of p).now ≡ order_of (vacant_table v).now
   pub index : index_of p ≡ ix
   pub place : place_of p ≡ vacant_place v
+  pub few_blocks : blocks_of p ≤ 12

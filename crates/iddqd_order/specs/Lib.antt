@@ -11,6 +11,7 @@ pub mod MapBTreeTable
 pub mod Node
 pub mod PreparedBTreeInsert
 pub mod PreparedBTreeRemove
+pub mod Range
 pub mod Removal
 pub mod Retain
 pub mod Row
@@ -18,6 +19,7 @@ pub mod Search
 pub mod State
 pub mod Tree
 pub mod Walk
+pub mod WalkBack
 pub mod Ways
 -- what a caller's clauses cite, from one place: of the crate below, and of this one
 pub use Rattle.iddqd.specs.Compaction
@@ -27,4 +29,5 @@ pub use Rattle.iddqd_order.specs.KeyOrder.{IsInKeyOrder}
 pub use Rattle.iddqd_order.specs.Search.{CanSearch, IsSteadyRising, with_ties, IsPlace}
 pub use Rattle.iddqd_order.specs.Iter.{indexes_left}
 pub use Rattle.iddqd_order.specs.IntoIter.{indexes_to_come}
+pub use Rattle.iddqd_order.specs.Range.{indexes_ahead, IsBoundAt, WalksFrom}
 pub use Rattle.iddqd_order.specs.Entry.{entry_table, entry_index, vacant_table, vacant_place, Enters}

@@ -8,11 +8,10 @@ use Rattle.iddqd_order.specs.declared.btree_table.node.Node.{Node}
 use Rattle.iddqd_order.specs.Tree.{in_order, HoldsIn, spot_in, HoldsIn-prop}
 pub use Rattle.iddqd.specs.Compaction.{sentinel}
 
--- the tree, and how many blocks wait for later inserts
+-- the tree: its root, and the levels above its leaves
 pub record Order : Type 0 where
   pub root : Option Node
   pub height : ℕ
-  pub blocks : ℕ
 
 -- the indexes in their order
 unfoldable pub order_of : Order → List ℕ

@@ -6,32 +6,42 @@ use Rattle.std.specs.declared.cmp.Ordering.{Ordering}
 use Rattle.iddqd_order.specs.MapBTreeTable.{Order, order_of}
 use Rattle.iddqd_order.specs.Search.{IsSteadyRising, IsPlace, with_ties}
 use Rattle.iddqd_order.specs.Tree.{place_in}
+use Rattle.iddqd_order.specs.contracts.btree_table.blocks.BlocksHoldsBlocks.TheImpl.{ghosts}
 use Rattle.iddqd_order.specs.contracts.btree_table.table.MapBTreeTable.{the_row}
 use Rattle.iddqd_order.specs.declared.btree_table.asking.Asking.{Asking}
 use Rattle.iddqd_order.specs.declared.btree_table.prepared_insert.PreparedBTreeInsert.{PreparedBTreeInsert}
 
+-- a prepared insert with its blocks, which a contract sees as their number
+abbrev pub Prepared : Type 0
+Prepared = PreparedBTreeInsert ℕ ghosts
+
 -- the table that it adds to
-abbrev pub table_of : PreparedBTreeInsert → MutBor Order
+abbrev pub table_of : Prepared → MutBor Order
 table_of p = p.table
 
 -- the index that it adds
-unfoldable pub index_of : PreparedBTreeInsert → ℕ
+unfoldable pub index_of : Prepared → ℕ
 index_of p = p.ix
 
 -- how many indexes will stand before it
-unfoldable pub place_of : PreparedBTreeInsert → ℕ
+unfoldable pub place_of : Prepared → ℕ
 place_of p = place_in p.table.now.root p.table.now.height p.path
 
+-- how many blocks of memory it holds, each for the children of one node
+unfoldable pub blocks_of : Prepared → ℕ
+blocks_of p = p.blocks
+
 -- where memory was refused, the table has the indexes that it had
-abbrev pub rests_if_refused : {E : Type 0} → MutBor Order → Result PreparedBTreeInsert E → Fml
+abbrev pub rests_if_refused : {E : Type 0} → MutBor Order → Result Prepared E → Fml
 rests_if_refused t r = RestsIfErr the_row t (λ p. p.table.ghost_name) r (λ n. order_of n ≡ order_of t.now)
 
 -- an insert of ix among the indexes xs is prepared, by answers that are so read: nothing is added yet,
 -- and if the answers rise ix will stand where Greater ends
 module _ {F R : Type 0} (g : Mut F (ℕ × Unit {0}) R) (read : R → Ordering) (xs : List ℕ) (ix : ℕ) where
-  pub record PreparesInsert (old : Asking F) (p : PreparedBTreeInsert) : Type 0 where
+  pub record PreparesInsert (old : Asking F) (p : Prepared) : Type 0 where
     pub table : order_of (table_of p).now ≡ xs
     pub index : index_of p ≡ ix
     pub within : place_of p ≤ length xs
+    pub few_blocks : blocks_of p ≤ 12
     pub place : (answer : ℕ → Ordering) → IsSteadyRising g xs (Some ix) read answer old →
         IsPlace (with_ties (Some ix) answer) xs (place_of p)

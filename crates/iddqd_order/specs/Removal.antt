@@ -1,5 +1,5 @@
 -- What the removal of an index leaves of a node.
-use Rattle.std.specs.Prelude.{◌≡◌, ◌≢◌, ℕ, ◌+◌, ◌<◌, ◌≤◌, List, [], All, Option, Some, None, min, length, map, slice_index_or}
+use Rattle.std.specs.Prelude.{◌≡◌, ◌≢◌, ℕ, ◌+◌, ◌<◌, ◌≤◌, List, [], All, Option, Some, None, length, map, slice_index_or}
 use Rattle.iddqd_order.specs.declared.btree_table.node.Node.{Node}
 use Rattle.iddqd_order.specs.Node.{row, weave, flat, IsFormed}
 
@@ -23,12 +23,6 @@ pub record IsMended (h : ℕ) (xs : List ℕ) (ks : List Node) (new_xs : List �
   pub one_more : length new_ks ≡ length new_xs + 1
   pub below : All (IsChild h) new_ks
   pub items : weave new_xs (map (λ k. flat h k) new_ks) ≡ weave xs (map (λ k. flat h k) ks)
-
--- a node out of which an index was taken without mending: it holds what is left, and has five indexes as before
-pub record IsTakenOut (h : ℕ) (old new : Node) (left : List ℕ) : Type 0 where
-  pub items : flat h new ≡ left
-  pub formed : IsFormed h new
-  pub enough : min 5 (length (row old)) ≤ length (row new)
 
 -- a root without indexes
 abbrev pub IsEmptied : Option Node → ℕ → Type 0

@@ -6,10 +6,14 @@ use Rattle.std.specs.Fn.{Called, Mut}
 -- g has the calls of the closure
 module _ {F : Type 0} (g : Mut F (ℕ × Unit {0}) Bool) where
   -- f is asked about each of the old indexes once, in their order, each time in the state that the ask
-  -- before left; the new ones are those answered true, in their order
-  pub record Retains (f : F) (old new : List ℕ) : Type 0 where
+  -- before left, and is then left in the last state; the new indexes are those answered true, in their order
+  pub record RetainsTo (f : F) (old new : List ℕ) (last : F) : Type 0 where
     pub asks : List (ℕ × Bool)
     pub each_once : map (λ a. a.0) asks ≡ old
-    pub last : F
     pub were_asked : FoldsTo (λ p a q. Called g p (a.0, tt) a.1 q) f asks last
     pub kept : new ≡ map (λ a. a.0) (filter (λ a. a.1) asks)
+
+  -- the same, where f isn't handed back
+  pub record Retains (f : F) (old new : List ℕ) : Type 0 where
+    pub last : F
+    pub kept : RetainsTo f old new last

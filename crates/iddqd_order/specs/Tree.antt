@@ -1,11 +1,10 @@
 -- What a table's tree holds: the tree below a root, or nothing.
-use Rattle.std.specs.Prelude.{◌≡◌, ℕ, zero, suc, ◌+◌, ◌<◌, ◌≤◌, List, [], All, length, slice_index, Option, Some, None, Vec, nat_eq, ⊤}
+use Rattle.std.specs.Prelude.{◌≡◌, ℕ, zero, suc, ◌<◌, ◌≤◌, List, [], All, length, slice_index, Option, Some, None, nat_eq, nat_lt, if◌then◌else◌, ◌-◌, ⊤}
 use Rattle.std.specs.List.{IsDistinct}
 use Rattle.std.specs.Coded.{×_prop, →_prop, Unit-prop, le_prop}
-use Rattle.std.specs.declared.alloc.Global.{Global}
 use Rattle.iddqd.specs.Compaction.{sentinel}
 use Rattle.iddqd_order.specs.declared.btree_table.node.Node.{Node}
-use Rattle.iddqd_order.specs.Node.{row, child, flat, IsFormed, Goes, place, Holds, spot, FullBelow, IsFullBelow, IsSpare}
+use Rattle.iddqd_order.specs.Node.{row, child, flat, IsFormed, Goes, place, Holds, spot, FullBelow, IsFullBelow}
 
 -- its indexes, in order
 abbrev pub in_order : Option Node → ℕ → List ℕ
@@ -42,19 +41,17 @@ abbrev pub spot_in : ℕ → Option Node → ℕ → List ℕ → ℕ
 spot_in l None h p = 0
 spot_in l (Some n) h p = spot l h n p
 
--- the blocks of an insert: one for each full inner node that it cuts, and where all nodes on the path
--- are full one more for a new root
-pub record AreEnough (full height blocks : ℕ) : Type 0 where
-  pub for_nodes : full ≤ height → full ≤ blocks + 1
-  pub for_root : height < full → height < blocks
+-- how many blocks an insert takes that goes through so many full nodes: one for each full inner node, which it
+-- cuts in two, and where all nodes on the path are full one more for a new root
+abbrev pub blocks_for : ℕ → ℕ → ℕ
+blocks_for height full = if nat_lt height full then full else full - 1
 
--- a table's parts: a tree of distinct indexes below `SENTINEL`, their number, and blocks for later inserts
-pub record IsTable (root : Option Node) (height len : ℕ) (blocks : List (Vec Node Global)) : Type 0 where
+-- a table's parts: a tree of distinct indexes below `SENTINEL`, and their number
+pub record IsTable (root : Option Node) (height len : ℕ) : Type 0 where
   pub tree : IsTree root height
   pub counted : len ≡ length (in_order root height)
   pub distinct : IsDistinct nat_eq (in_order root height)
   pub assigned : All (λ ix. ix < sentinel) (in_order root height)
-  pub spare : All IsSpare blocks
 
 Goes-prop : (h : ℕ) (n : Node) (p : List ℕ) → IsProp (Goes h n p)
 unfolding Goes

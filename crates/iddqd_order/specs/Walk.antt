@@ -1,9 +1,9 @@
 -- What a walk along a tree has left.
-use Rattle.std.specs.Prelude.{◌≡◌, ℕ, zero, suc, ◌<◌, ◌≤◌, List, [], ◌∷◌, ◌++◌, Option, Some, None, length, map, slice_index}
+use Rattle.std.specs.Prelude.{◌≡◌, ℕ, zero, suc, ◌<◌, ◌≤◌, List, [], ◌∷◌, ◌++◌, Option, Some, None, length, drop, map, slice_index}
 use Rattle.std.specs.Borrow.{Bor}
 use Rattle.iddqd_order.specs.declared.btree_table.node.Node.{Node}
 use Rattle.iddqd_order.specs.declared.btree_table.walk.Walk.{Walk}
-use Rattle.iddqd_order.specs.Node.{row, child, children, after, flat, IsFormed}
+use Rattle.iddqd_order.specs.Node.{row, child, children, after, flat, place, IsFormed}
 
 -- the walk is in the child at place 1 of a node right above the leaves: what stands after that child
 abbrev pub low_rest : Option (Bor Node) → List ℕ → List ℕ
@@ -34,6 +34,12 @@ pub record Begins (l : ℕ) (n : Node) (w : Walk) : Type 0 where
   pub leads : Leads l n w.path
   pub low : IsLow w.low w.path
   pub items : flat l n ≡ w.row.now ++ (low_rest w.low w.path ++ beyond l n w.path)
+
+-- the index at the place below n to which q goes is the next one, if there is one, and the path leads there
+pub record BeginsAt (l : ℕ) (n : Node) (q : List ℕ) (w : Walk) : Type 0 where
+  pub leads : Leads l n w.path
+  pub low : IsLow w.low w.path
+  pub items : drop (place l n q) (flat l n) ≡ w.row.now ++ (low_rest w.low w.path ++ beyond l n w.path)
 
 -- the index is the next one below n beyond the node at level 1, and the walk stands after it
 pub record Follows (l : ℕ) (n : Node) (p : List ℕ) (ix : ℕ) (w : Walk) : Type 0 where

@@ -8,6 +8,7 @@
 //! list at each change. Searches go by halves, since an ask costs what the caller's comparison costs.
 //! The count of asks is ghost data, which two proofs by hand make and no other may touch.
 pub mod asking;
+mod blocks;
 mod copies;
 mod descent;
 mod ends;
@@ -19,6 +20,7 @@ mod node;
 mod path;
 pub mod prepared_insert;
 pub mod prepared_remove;
+pub mod range;
 mod reading;
 mod removal;
 mod renaming;
@@ -29,6 +31,7 @@ mod state;
 pub mod table;
 mod tree;
 mod walk;
+mod walk_back;
 mod ways;
 
 pub use asking::Asking;
@@ -37,4 +40,5 @@ pub use into_iter::IntoIter;
 pub use iter::Iter;
 pub use prepared_insert::PreparedBTreeInsert;
 pub use prepared_remove::PreparedBTreeRemove;
+pub use range::Range;
 pub use table::MapBTreeTable;

@@ -1,3 +1,5 @@
+ghost use Rattle.std.specs.Prelude.{IsTrue};
+
 mod answers;
 mod call_lines;
 mod caller;
@@ -27,3 +29,13 @@ mod silent;
 mod streams;
 mod told;
 mod watched;
+
+use std::fmt;
+use std::process::Abort;
+
+// What is claimed of a place holds. What it prints stands here alone, since it is dear to prove.
+fn holds<A: fmt::Debug>(rt: &impl Abort, is_so: bool, at: &A)
+    ensures { IsTrue is_so }
+{
+    assert!(rt; is_so, "at {at:?}");
+}

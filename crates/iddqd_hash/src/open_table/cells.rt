@@ -4,7 +4,7 @@ ghost use Rattle.std.specs.Fn.{TakesAt, CalledAt, FnReturnsAt};
 ghost use Rattle.std.specs.List.{Contains};
 ghost use Rattle.std.specs.Option.{option_map};
 ghost use Rattle.std.specs.List.Sorted.{IsPermutation};
-ghost use Rattle.iddqd_hash.specs.Asks.{CanAsk, FindsPlace, Keeps};
+ghost use Rattle.iddqd_hash.specs.Asks.{CanAsk, FindsPlace, KeepsTo};
 ghost use Rattle.iddqd_hash.specs.HashTable.{under, value_of, values, Rewrites};
 ghost use Rattle.iddqd_hash.specs.OpenWalk.{IsInSixteens};
 ghost use Rattle.iddqd_hash.specs.OpenTable.{tag_of, limit_of, is_used, hashes_of, pair_in, slots_of, slot_at, pairs, IsPowerOfTwo, HasEmpty, IsProbed, FindsNext};
@@ -190,13 +190,13 @@ pub fn retain_cells<T: Drop, F: FnMut(&T) -> bool>(
     tags: &mut [u8],
     cells: &mut [Cell<T>],
     len: usize,
-    mut f: F,
+    f: &mut F,
 ) -> usize
     requires sixteens { IsInSixteens (length tags.old) }
     requires probed { IsProbed tags.old (slots_of cells.old) }
     requires len { len ≡ length (pairs (slots_of cells.old)) }
-    requires callable { CanAsk (TakesAt F.FnMut) (CalledAt F.FnMut) f (values (pairs (slots_of cells.old))) }
-    ensures kept { Keeps (CalledAt F.FnMut) f (pairs (slots_of cells.old)) (pairs (slots_of cells.new)) }
+    requires callable { CanAsk (TakesAt F.FnMut) (CalledAt F.FnMut) f.old (values (pairs (slots_of cells.old))) }
+    ensures kept { KeepsTo (CalledAt F.FnMut) f.old (pairs (slots_of cells.old)) (pairs (slots_of cells.new)) f.new }
     ensures probed { IsProbed tags.new (slots_of cells.new) }
     ensures marked { count_by is_used tags.new ≡ count_by is_used tags.old }
     ensures counted { result + length (pairs (slots_of cells.new)) ≡ length (pairs (slots_of cells.old)) }

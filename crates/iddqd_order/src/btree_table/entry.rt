@@ -44,7 +44,7 @@ pub struct VacantEntry<'a> {
     pub(super) full: usize,
     ghost goes: { GoesIn table.now.root table.now.height path } by { GoesIn-prop table.now.root table.now.height path },
     ghost full_nodes: { FullIn full table.now.root table.now.height path } by { FullIn-prop full table.now.root table.now.height path },
-    ghost levels: { full ≤ table.now.height + 1 },
+    ghost levels: { full ≤ 12 },
 }
 
 impl MapBTreeTable {
@@ -155,14 +155,13 @@ impl<'a> VacantEntry<'a> {
         ensures prepared { IfOk result (FillsEntry self.entry ix) }
     {
         let VacantEntry { table, path, full } = self;
-        if let Err(error) = table.reserve(full) {
-            return Err(error);
-        }
+        let blocks = table.take_blocks(full)?;
         Ok(PreparedBTreeInsert {
             table,
             path,
             full,
             ix,
+            blocks,
         })
     }
 }

@@ -1,29 +1,33 @@
 //! The walk along a table.
 use crate::btree_table::node::Node;
 use crate::btree_table::walk::Walk;
+use crate::btree_table::walk_back::WalkBack;
 use iddqd::item_index::ItemIndex;
 use std::fmt::{self, Debug, Formatter, Write};
-use std::iter::{ExactSizeIterator, FusedIterator};
+use std::iter::{DoubleEndedIterator, ExactSizeIterator, FusedIterator};
 use std::marker::Model;
 
-/// The indexes of a table, in its order. Once it has ended it stays ended.
+/// The indexes of a table, in its order, from both ends. Once it has ended it stays ended.
 ///
 /// It takes no memory. A step costs a constant time on the average, and at most as much as a search.
 #[derive(Clone, Drop)]
 pub struct Iter<'a> {
-    walk: Walk<'a>,
+    front: Walk<'a>,
+    back: WalkBack<'a>,
     left: usize,
 }
 
 impl<'a> Model for Iter<'a> {
-    ghost use Rattle.std.specs.Prelude.{◌≡◌, ℕ, List, length};
+    ghost use Rattle.std.specs.Prelude.{ℕ, List, take};
     ghost use Rattle.iddqd_order.specs.Walk.{IsWalk, walk_left};
+    ghost use Rattle.iddqd_order.specs.WalkBack.{IsWalkBack, IsBetween, back_left};
 
     ghost Value = { List ℕ };
 
-    ghost view = { λ a. walk_left a.walk };
+    ghost view = { λ a. take a.left (walk_left a.front) };
 
-    ghost invariant = { λ a. IsWalk a.walk × (a.left ≡ length (walk_left a.walk)) };
+    ghost invariant = { λ a. IsWalk a.front × IsWalkBack a.back
+        × IsBetween a.left (walk_left a.front) (back_left a.back) };
 }
 
 #[tactic(auto, unfolding(crate::specs::Iter::indexes_left))]
@@ -39,7 +43,8 @@ impl<'a> Iter<'a> {
         ensures { indexes_left result ≡ in_order root.now height }
     {
         Iter {
-            walk: Walk::new(root, height),
+            front: Walk::new(root, height),
+            back: WalkBack::new(root, height),
             left: len,
         }
     }
@@ -59,9 +64,11 @@ impl<'a> Iterator for Iter<'a> {
     ghost remaining = { item_count indexes_left };
 
     fn next(&mut self) -> Option<ItemIndex> {
-        let ix = self.walk.next()?;
+        if self.left == 0 {
+            return None;
+        }
         self.left -= 1;
-        Some(ix)
+        self.front.next()
     }
 
     fn size_hint(&self) -> (usize, Option<usize>)
@@ -71,6 +78,22 @@ impl<'a> Iterator for Iter<'a> {
     {
         let left = self.len();
         (left, Some(left))
+    }
+}
+
+#[tactic(auto, unfolding(crate::specs::Iter::indexes_left))]
+impl<'a> DoubleEndedIterator for Iter<'a> {
+    ghost use Rattle.std.specs.Iterator.{YieldsLast};
+    ghost use Rattle.iddqd_order.specs.Iter.{indexes_left};
+
+    ghost next_back_gives = { YieldsLast indexes_left };
+
+    fn next_back(&mut self) -> Option<ItemIndex> {
+        if self.left == 0 {
+            return None;
+        }
+        self.left -= 1;
+        self.back.next()
     }
 }
 

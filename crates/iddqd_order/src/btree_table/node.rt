@@ -1,9 +1,10 @@
 //! A node of the tree, and the insert into one.
-ghost use Rattle.std.specs.Prelude.{◌≡◌, ℕ, ◌+◌, ◌<◌, ◌≤◌, List, [], ◌∷◌, ◌++◌, length, take, drop, slice_index, vec_len, vec_capacity, All};
+ghost use Rattle.std.specs.Prelude.{◌≡◌, ℕ, ◌+◌, ◌<◌, ◌≤◌, List, [], ◌∷◌, ◌++◌, length, take, drop, slice_index, vec_len, vec_capacity};
 ghost use Rattle.std.specs.List.{insert};
 ghost use Rattle.iddqd_order.specs.Node.{row, flat, IsFormed, Goes, place, IsFullBelow, IsSpare};
 ghost use Rattle.iddqd_order.specs.Row.{IsCut};
 
+use crate::btree_table::blocks::Blocks;
 use crate::btree_table::path::Path;
 use crate::btree_table::row::Row;
 use iddqd::item_index::ItemIndex;
@@ -123,7 +124,7 @@ impl Node {
         full: usize,
         path: &Path,
         ix: ItemIndex,
-        blocks: &mut Vec<Vec<Node>>,
+        blocks: &mut Blocks,
         alloc: Global,
     )
         requires low { height ≤ 11 }
@@ -132,12 +133,10 @@ impl Node {
         requires formed { IsFormed height self.old }
         requires goes { Goes height self.old path.now }
         requires full { IsFullBelow full height self.old path.now }
-        requires enough { full ≤ vec_len blocks.old + 1 }
-        requires spare { All IsSpare blocks.old.items }
+        requires enough { full ≤ blocks.old + 1 }
         ensures items { flat height self.new ≡ insert (flat height self.old) (place height self.old path.now) ix }
         ensures formed { IsFormed height self.new }
         ensures longer { length (row self.old) ≤ length (row self.new) }
-        ensures spare { All IsSpare blocks.new.items }
     {
         let i = path.get(height);
         if height > full {
@@ -155,21 +154,19 @@ impl Node {
         height: usize,
         path: &Path,
         ix: ItemIndex,
-        blocks: &mut Vec<Vec<Node>>,
+        blocks: &mut Blocks,
         alloc: Global,
     ) -> (ItemIndex, Node)
         requires low { height ≤ 11 }
         requires formed { IsFormed height self.old }
         requires goes { Goes height self.old path.now }
         requires full { IsFullBelow (height + 1) height self.old path.now }
-        requires enough { height ≤ vec_len blocks.old }
-        requires spare { All IsSpare blocks.old.items }
+        requires enough { height ≤ blocks.old }
         ensures items { flat height self.new ++ result.0 ∷ flat height result.1
             ≡ insert (flat height self.old) (place height self.old path.now) ix }
         ensures low { (5 ≤ length (row self.new)) × IsFormed height self.new }
         ensures high { (5 ≤ length (row result.1)) × IsFormed height result.1 }
-        ensures left { vec_len blocks.new + height ≡ vec_len blocks.old }
-        ensures spare { All IsSpare blocks.new.items }
+        ensures left { blocks.new + height ≡ blocks.old }
     {
         let i = path.get(height);
         if height == 0 {
@@ -183,7 +180,7 @@ impl Node {
             );
         }
         let (middle, after) = self.children[i].cut(height - 1, path, ix, blocks, alloc);
-        let mut children = blocks.take_last();
+        let mut children = blocks.take();
         let (middle, row) = cut_inner(
             &mut self.row,
             &mut self.children,

@@ -1,28 +1,31 @@
 //! An insert whose place is found and whose memory is taken.
 //!
 //! It walks down first, since only the walk's end tells how many blocks are wanted: one for each inner
-//! node that will be cut, and one for a new root. They wait in the table; a refusal gives all back, an
-//! insert that is let go leaves them to the next.
+//! node that will be cut, and one for a new root. A refusal gives all back, and so does an insert that
+//! is let go. The blocks are of a type parameter, since a check follows no loan in a struct that owns
+//! memory by itself.
 ghost use Rattle.std.specs.Prelude.{◌≡◌, ◌≢◌, insert, Contains};
 ghost use Rattle.iddqd_order.specs.MapBTreeTable.{order_of, sentinel};
-ghost use Rattle.iddqd_order.specs.Tree.{GoesIn, FullIn, AreEnough, GoesIn-prop, FullIn-prop};
+ghost use Rattle.iddqd_order.specs.Tree.{GoesIn, FullIn, blocks_for, GoesIn-prop, FullIn-prop};
 
+use crate::btree_table::blocks::{Blocks, HoldsBlocks};
 use crate::btree_table::path::Path;
 use crate::btree_table::table::MapBTreeTable;
 use iddqd::item_index::ItemIndex;
 
-/// An insert that cannot fail and takes no memory. Let go, it leaves the table as it was.
+/// An insert that cannot fail and takes no memory. Let go, it leaves the table as it was, and gives
+/// back its memory.
 #[must_use]
-#[derive(Drop)]
-pub struct PreparedBTreeInsert<'a> {
+pub struct PreparedBTreeInsert<'a, B: HoldsBlocks = Blocks> {
     pub(super) table: &'a mut MapBTreeTable,
     pub(super) path: Path,
     // How many nodes at the lower end of the path are full.
     pub(super) full: usize,
     pub(super) ix: ItemIndex,
+    pub(super) blocks: B,
     ghost goes: { GoesIn table.now.root table.now.height path } by { GoesIn-prop table.now.root table.now.height path },
     ghost full_nodes: { FullIn full table.now.root table.now.height path } by { FullIn-prop full table.now.root table.now.height path },
-    ghost enough: { AreEnough full table.now.height table.now.blocks },
+    ghost as_many: { B.count blocks ≡ blocks_for table.now.height full },
     ghost absent: { Contains (order_of table.now) ix → ⊥ },
     ghost assigned: { ix ≢ sentinel },
 }
@@ -30,15 +33,35 @@ pub struct PreparedBTreeInsert<'a> {
 impl<'a> PreparedBTreeInsert<'a> {
     ghost use Rattle.iddqd_order.specs.PreparedBTreeInsert.{table_of, place_of, index_of};
 
-    /// Adds the index at its place. The others keep their order.
+    /// Adds the index at its place, and hands the table back. The others keep their order.
     #[tactic(auto, unfolding(crate::specs::PreparedBTreeInsert::place_of, crate::specs::PreparedBTreeInsert::index_of))]
-    pub fn insert(self)
-        ensures { order_of self.exit.0.now
+    pub fn insert(self) -> &'a mut MapBTreeTable
+        ensures same_reference { result.ghost_name ≡ (table_of self.entry).ghost_name }
+        ensures inserted { order_of result.now
             ≡ insert (order_of (table_of self.entry).now) (place_of self.entry) (index_of self.entry) }
     {
-        let path = self.path;
-        let full = self.full;
-        let ix = self.ix;
-        self.table.insert_at(&path, full, ix)
+        let PreparedBTreeInsert {
+            table,
+            path,
+            full,
+            ix,
+            blocks,
+        } = self;
+        table.insert_at(&path, full, ix, blocks);
+        table
+    }
+}
+
+impl<B: HoldsBlocks> Drop for PreparedBTreeInsert<'_, B> {
+    fn drop(self)
+        ensures { self.exit.0.now ≡ self.entry.table.now }
+    {
+        let PreparedBTreeInsert {
+            table: _,
+            path: _,
+            full: _,
+            ix: _,
+            blocks: _,
+        } = self;
     }
 }

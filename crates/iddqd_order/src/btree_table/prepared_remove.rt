@@ -20,6 +20,14 @@ pub struct PreparedBTreeRemove<'a> {
 impl<'a> PreparedBTreeRemove<'a> {
     ghost use Rattle.iddqd_order.specs.PreparedBTreeRemove.{table_of, is_found, index_of};
 
+    /// Whether the search found the index, so that the removal would remove it.
+    #[tactic(auto, unfolding(crate::specs::PreparedBTreeRemove::is_found))]
+    pub fn is_found(&self) -> bool
+        ensures { result ≡ is_found self.now }
+    {
+        self.way.is_some()
+    }
+
     /// Removes the index, if the search found it, and says whether it did. The others keep their
     /// order.
     #[tactic(auto, unfolding(crate::specs::PreparedBTreeRemove::is_found, crate::specs::PreparedBTreeRemove::index_of))]

@@ -1,6 +1,7 @@
 //! How the answer of an asking is read.
 ghost use Rattle.std.specs.Prelude.{◌≡◌};
 ghost use Rattle.std.specs.declared.cmp.Ordering.{Ordering};
+ghost use Rattle.std.specs.Ordering.{ordering_then};
 
 use iddqd::map_hash::Comparable;
 use std::cmp::Ordering;
@@ -46,5 +47,23 @@ impl<'a, K: Ord + Drop> Reads<K> for ByKey<'a, K> {
 
     fn read(&self, answer: K) -> Ordering {
         self.0.cmp(&answer)
+    }
+}
+
+// The answer is read so, but Equal counts as another one.
+#[derive(Drop)]
+pub struct Unequal<'a, H> {
+    pub how: &'a H,
+    pub at_equal: Ordering,
+}
+
+impl<'a, R, H: Reads<R>> Reads<R> for Unequal<'a, H> {
+    ghost reading = { λ u r. ordering_then (H.reading u.how.now r) u.at_equal };
+
+    fn read(&self, answer: R) -> Ordering {
+        match self.how.read(answer) {
+            Ordering::Equal => self.at_equal,
+            other => other,
+        }
     }
 }

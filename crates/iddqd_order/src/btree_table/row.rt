@@ -50,6 +50,14 @@ impl Row {
         &self.items[..self.len as usize]
     }
 
+    pub fn slice_from(&self, at: usize) -> &[ItemIndex]
+        requires { at ≤ length self.now }
+        ensures { result.now ≡ drop at self.now }
+    {
+        let items = self.as_slice();
+        &items[at..]
+    }
+
     pub fn get(&self, at: usize) -> ItemIndex
         requires { at < length self.now }
         ensures { result ≡ slice_index self.now at }

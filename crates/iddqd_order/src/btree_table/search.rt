@@ -3,7 +3,8 @@
 //! To go along a row from the left was faster for the comparison of two numbers, but asked up to eleven
 //! times. The order of two indexes is looked at only at Equal, by a `match`: `Ordering::then` looked at
 //! each ask. Four asks search fifteen indexes, and a row has at most eleven: at the left edge what is
-//! left over goes to the first place, so an insert before all others asks once or twice a level.
+//! left over goes to the first place, so an insert before all others asks once or twice a level: without
+//! that, falling inserts take 1.3 to 1.45 times as long, and others as long as before.
 ghost use Rattle.std.specs.Prelude.{◌≡◌, ◌≢◌, ℕ, ◌+◌, ◌*◌, ◌<◌, ◌≤◌, List, Contains, Some, length};
 ghost use Rattle.std.specs.declared.cmp.Ordering.{Ordering};
 ghost use Rattle.iddqd_order.specs.Asking.{closure_of};

@@ -1,13 +1,14 @@
 //! The table: a tree of distinct indexes, searched from the root down.
-ghost use Rattle.std.specs.Prelude.{◌≡◌, ◌≢◌, ◌↔◌, ℕ, ◌+◌, ◌-◌, ◌<◌, ◌≤◌, [], length, map, slice_get, slice_index, is_some, IfOk, IsOk, IsSome, Contains, insert, IsTrue, false, Some, None};
+ghost use Rattle.std.specs.Prelude.{◌≡◌, ◌≢◌, ◌↔◌, ℕ, ◌+◌, ◌-◌, ◌<◌, ◌≤◌, [], length, drop, map, slice_get, slice_index, is_some, IfOk, IsOk, IsSome, Contains, insert, IsTrue, false, Some, None};
 ghost use Rattle.std.specs.declared.cmp.Ordering.{Ordering};
 ghost use Rattle.iddqd.specs.Compaction.{CanRemap, remapped};
 ghost use Rattle.iddqd_order.specs.Descent.{EndsIn};
 ghost use Rattle.iddqd_order.specs.MapBTreeTable.{order_of, without, sentinel, IsIndexList, LeadsTo};
-ghost use Rattle.iddqd_order.specs.Tree.{GoesIn, place_in, FullIn, HoldsIn, spot_in, AreEnough};
+ghost use Rattle.iddqd_order.specs.Tree.{GoesIn, place_in, FullIn, HoldsIn, spot_in, blocks_for};
 ghost use Rattle.iddqd_order.specs.Search.{CanSearch, SearchAsks, IsSteadyRising, IsPlace, Finds, with_ties};
 
 use crate::btree_table::asking::Asking;
+use crate::btree_table::blocks::Blocks;
 use crate::btree_table::copies::copy_of;
 use crate::btree_table::ends::{first_in, last_in};
 use crate::btree_table::into_iter::IntoIter;
@@ -16,12 +17,13 @@ use crate::btree_table::node::Node;
 use crate::btree_table::path::Path;
 use crate::btree_table::prepared_insert::PreparedBTreeInsert;
 use crate::btree_table::prepared_remove::PreparedBTreeRemove;
+use crate::btree_table::range::Range;
 use crate::btree_table::reading::{AsOrdering, ByKey, ByQuery, Reads};
 use crate::btree_table::removal::take_out;
 use crate::btree_table::renaming::rename_in;
 use crate::btree_table::retain::retain_in;
 use crate::btree_table::state::State;
-use crate::btree_table::tree::{put_in, take_blocks};
+use crate::btree_table::tree::put_in;
 use iddqd::hash_builder::DefaultHashBuilder;
 use iddqd::index_remap::IndexRemap;
 use iddqd::item_index::ItemIndex;
@@ -44,14 +46,11 @@ pub struct MapBTreeTable {
     // The levels above the leaves.
     height: usize,
     len: usize,
-    // Empty blocks, which prepared inserts took and have not used.
-    blocks: Vec<Vec<Node>>,
     state: State,
     alloc: Global,
 }
 
 impl Model for MapBTreeTable {
-    ghost use Rattle.std.specs.Prelude.{vec_len};
     ghost use Rattle.iddqd_order.specs.MapBTreeTable.{Order};
     ghost use Rattle.iddqd_order.specs.Tree.{IsTable};
     ghost use Rattle.std.specs.Coded.{codes};
@@ -61,9 +60,9 @@ impl Model for MapBTreeTable {
 
     ghost coded = { Prim.hlevel (codes, node.the_row.coded) };
 
-    ghost view = { λ t. record { root = t.root; height = t.height; blocks = vec_len t.blocks } };
+    ghost view = { λ t. record { root = t.root; height = t.height } };
 
-    ghost invariant = { λ t. IsTable t.root t.height t.len t.blocks.items };
+    ghost invariant = { λ t. IsTable t.root t.height t.len };
 }
 
 #[tactic(auto, unfolding(crate::specs::MapBTreeTable::order_of))]
@@ -76,6 +75,7 @@ impl MapBTreeTable {
     ghost use Rattle.iddqd_order.specs.PreparedBTreeInsert as prepared_insert;
     ghost use Rattle.iddqd_order.specs.PreparedBTreeRemove.{PreparesRemoval};
     ghost use Rattle.iddqd_order.specs.PreparedBTreeRemove as prepared_remove;
+    ghost use Rattle.iddqd_order.specs.Range.{indexes_ahead};
     ghost use Rattle.iddqd_order.specs.Retain.{Retains};
     ghost use Rattle.iddqd_order.specs.State.{default_hash};
     ghost use Rattle.std.specs.Hash.BuildHasherDefault.{initial_hasher};
@@ -89,7 +89,6 @@ impl MapBTreeTable {
             root: None,
             height: 0,
             len: 0,
-            blocks: Vec::new(alloc),
             state: State::new(),
             alloc,
         }
@@ -101,6 +100,13 @@ impl MapBTreeTable {
         ensures indexes { IsIndexList (order_of self.now) }
     {
         self.len
+    }
+
+    /// Whether no index is stored.
+    pub fn is_empty(&self) -> bool
+        ensures { IsTrue result ↔ (order_of self.now ≡ []) }
+    {
+        self.len == 0
     }
 
     /// The first index in the table's order.
@@ -154,11 +160,11 @@ impl MapBTreeTable {
     ///
     /// `f` is asked about each index once, in the table's order. No memory is taken. Each index that
     /// is kept is moved at most once, and each step costs at most as much as a search.
-    pub fn retain<F: FnMut(ItemIndex) -> bool>(&mut self, f: F)
+    pub fn retain<F: FnMut(ItemIndex) -> bool>(&mut self, mut f: F)
         requires { CanAsk F.FnMut (Contains (order_of self.old)) f }
         ensures { Retains F.FnMut f (order_of self.old) (order_of self.new) }
     {
-        let (height, len) = retain_in(&mut self.root, self.height, self.len, f);
+        let (height, len) = retain_in(&mut self.root, self.height, self.len, &mut f);
         self.height = height;
         self.len = len;
     }
@@ -291,14 +297,13 @@ impl MapBTreeTable {
         ensures prepared { IfOk result (PreparesInsert F.FnMut (H.reading how.now) (order_of self.old) ix asking.old) }
     {
         let (path, full) = self.find_gap(ix, asking, how);
-        if let Err(error) = self.reserve(full) {
-            return Err(error);
-        }
+        let blocks = self.take_blocks(full)?;
         Ok(PreparedBTreeInsert {
             table: self,
             path,
             full,
             ix,
+            blocks,
         })
     }
 
@@ -313,7 +318,7 @@ impl MapBTreeTable {
         requires can_ask { CanSearch F.FnMut (order_of self.now) (Some ix) asking.old }
         ensures goes { GoesIn self.now.root self.now.height result.0 }
         ensures full { FullIn result.1 self.now.root self.now.height result.0 }
-        ensures levels { result.1 ≤ self.now.height + 1 }
+        ensures levels { result.1 ≤ 12 }
         ensures within { place_in self.now.root self.now.height result.0 ≤ length (order_of self.now) }
         ensures asked { SearchAsks F.FnMut (order_of self.now) (Some ix) asking.old asking.new }
         ensures place { (answer : ℕ → Ordering) →
@@ -346,22 +351,16 @@ impl MapBTreeTable {
         (path, end)
     }
 
-    // Takes the memory of an insert through so many full nodes.
-    pub(super) fn reserve(&mut self, full: usize) -> Result<(), AllocError>
-        requires { full ≤ self.old.height + 1 }
-        ensures root { self.new.root ≡ self.old.root }
-        ensures height { self.new.height ≡ self.old.height }
-        ensures enough { IsOk result → AreEnough full self.new.height self.new.blocks }
+    // The memory of an insert through so many full nodes.
+    pub(super) fn take_blocks(&self, full: usize) -> Result<Blocks, AllocError>
+        ensures { IfOk result (λ blocks. blocks ≡ blocks_for self.now.height full) }
     {
-        let wanted = if full > self.height {
+        let count = if full > self.height {
             full
         } else {
             full.saturating_sub(1)
         };
-        if self.blocks.len() >= wanted {
-            return Ok(());
-        }
-        take_blocks(&mut self.blocks, wanted, self.alloc)
+        Blocks::new(count, self.alloc)
     }
 
     /// Searches for a stored index by the answers, to remove it. Equal ones are ordered by the
@@ -506,11 +505,19 @@ impl MapBTreeTable {
         root.index_on(self.height, path, level)
     }
 
+    // The indexes from the place on to which the path goes.
+    pub(super) fn range_at(&self, path: &Path) -> Range<'_>
+        requires { GoesIn self.now.root self.now.height path.now }
+        ensures { indexes_ahead result ≡ drop (place_in self.now.root self.now.height path.now) (order_of self.now) }
+    {
+        Range::new(&self.root, self.height, path)
+    }
+
     // Adds `ix` where the path goes, through so many full nodes at its lower end.
-    pub(super) fn insert_at(&mut self, path: &Path, full: usize, ix: ItemIndex)
+    pub(super) fn insert_at(&mut self, path: &Path, full: usize, ix: ItemIndex, blocks: Blocks)
         requires goes { GoesIn self.old.root self.old.height path.now }
         requires full { FullIn full self.old.root self.old.height path.now }
-        requires enough { AreEnough full self.old.height self.old.blocks }
+        requires as_many { blocks ≡ blocks_for self.old.height full }
         requires absent { Contains (order_of self.old) ix → ⊥ }
         requires assigned { ix ≢ sentinel }
         ensures { order_of self.new ≡ insert (order_of self.old) (place_in self.old.root self.old.height path.now) ix }
@@ -518,15 +525,7 @@ impl MapBTreeTable {
         let _number = ix.as_u32();
         let height = self.height;
         let alloc = self.alloc;
-        self.height = put_in(
-            &mut self.root,
-            height,
-            path,
-            full,
-            ix,
-            &mut self.blocks,
-            alloc,
-        );
+        self.height = put_in(&mut self.root, height, path, full, ix, blocks, alloc);
         self.len += 1;
     }
 
@@ -567,7 +566,6 @@ impl Clone for MapBTreeTable {
             root: copy_of(&self.root, self.height, self.alloc)?,
             height: self.height,
             len: self.len,
-            blocks: Vec::new(self.alloc),
             state: self.state,
             alloc: self.alloc,
         })

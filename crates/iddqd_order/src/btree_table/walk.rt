@@ -1,9 +1,9 @@
 //! The walk along a tree, in order.
-ghost use Rattle.std.specs.Prelude.{◌≡◌, ◌≢◌, ℕ, ◌+◌, ◌<◌, ◌≤◌, [], length, slice_index, IfSome, IsNone};
+ghost use Rattle.std.specs.Prelude.{◌≡◌, ◌≢◌, ℕ, ◌+◌, ◌<◌, ◌≤◌, [], length, drop, slice_index, None, IfSome, IsNone};
 ghost use Rattle.std.specs.Iterator.{YieldsFirst};
-ghost use Rattle.iddqd_order.specs.Node.{IsFormed};
-ghost use Rattle.iddqd_order.specs.Tree.{IsTree, in_order};
-ghost use Rattle.iddqd_order.specs.Walk.{Begins, Follows, KeepsAbove, Leads, IsWalk, beyond, walk_left};
+ghost use Rattle.iddqd_order.specs.Node.{IsFormed, Goes};
+ghost use Rattle.iddqd_order.specs.Tree.{IsTree, in_order, GoesIn, place_in};
+ghost use Rattle.iddqd_order.specs.Walk.{Begins, BeginsAt, Follows, KeepsAbove, Leads, IsWalk, beyond, walk_left};
 
 use crate::btree_table::node::Node;
 use crate::btree_table::path::Path;
@@ -42,6 +42,62 @@ impl<'a> Walk<'a> {
             }
         }
         walk
+    }
+
+    // The walk along no tree.
+    pub fn none() -> Walk<'a>
+        ensures walk { IsWalk result }
+        ensures low { result.low ≡ None }
+        ensures left { walk_left result ≡ [] }
+    {
+        Walk {
+            row: &[],
+            low: None,
+            root: None,
+            path: Path::new(),
+            height: 0,
+        }
+    }
+
+    // The walk along a tree from the place on to which a path goes.
+    pub fn from_place(root: &'a Option<Node>, height: usize, place: &Path) -> Walk<'a>
+        requires tree { IsTree root.now height }
+        requires goes { GoesIn root.now height place.now }
+        ensures walk { IsWalk result }
+        ensures left { walk_left result ≡ drop (place_in root.now height place.now) (in_order root.now height) }
+    {
+        let mut walk = Walk::none();
+        if let Some(node) = root {
+            walk.root = Some(node);
+            walk.height = height;
+            if height == 0 {
+                walk.row = node.row.slice_from(place.get(0));
+            } else {
+                walk.go_to(node, height, place);
+            }
+        }
+        walk
+    }
+
+    // Goes to the place below a node to which a path goes.
+    fn go_to(&mut self, node: &'a Node, level: usize, place: &Path)
+        requires formed { IsFormed level node.now }
+        requires low { 0 < level }
+        requires levels { level ≤ 11 }
+        requires path { length self.old.path ≡ 12 }
+        requires goes { Goes level node.now place.now }
+        ensures begins { BeginsAt level node.now place.now self.new }
+        ensures kept { KeepsAbove level self.old self.new }
+    {
+        let i = place.get(level);
+        self.path.set(level, i);
+        let child = &node.children[i];
+        if level > 1 {
+            self.go_to(child, level - 1, place);
+        } else {
+            self.low = Some(node);
+            self.row = child.row.slice_from(place.get(0));
+        }
     }
 
     // Goes to the first leaf below a node.

@@ -51,22 +51,6 @@ impl Way {
         ix
     }
 
-    // Goes on to the index at a place.
-    pub fn go_on(&mut self, root: &Node, height: usize, place: usize)
-        requires formed { IsFormed height root.now }
-        requires levels { height ≤ 11 }
-        requires way { IsWay height root.now self.old }
-        requires ahead { self.old.place ≤ place }
-        requires more { place < length (flat height root.now) }
-        requires few { length (flat height root.now) ≤ usize.MAX }
-        ensures way { IsWay height root.now self.new }
-        ensures place { self.new.place ≡ place }
-    {
-        while self.place < place {
-            self.step(root, height);
-        }
-    }
-
     // A copy of the leaf to whose beginning the way goes. The way then goes to what stands behind it.
     fn read_leaf(&mut self, root: &Node, height: usize) -> Row
         requires formed { IsFormed height root.now }

@@ -55,6 +55,30 @@ struct Two {
 }
 
 // Both inserts are prepared before either commits, so both tables gain the index or neither.
+fn add_to_each<F: FnMut(ItemIndex) -> Ordering>(
+    one: &mut MapBTreeTable,
+    other: &mut MapBTreeTable,
+    ix: ItemIndex,
+    first: &mut Asking<F>,
+    second: &mut Asking<F>,
+) -> Result<(), AllocError>
+    requires assigned { ix ≢ sentinel }
+    requires absent_first { Contains (order_of one.old) ix → ⊥ }
+    requires absent_second { Contains (order_of other.old) ix → ⊥ }
+    requires can_ask_first { CanSearch F.FnMut (order_of one.old) (Some ix) first.old }
+    requires can_ask_second { CanSearch F.FnMut (order_of other.old) (Some ix) second.old }
+    ensures first { OnOk result ((at : ℕ) × (order_of one.new ≡ insert (order_of one.old) at ix)) }
+    ensures second { OnOk result ((at : ℕ) × (order_of other.new ≡ insert (order_of other.old) at ix)) }
+    ensures err { OnErr result ((order_of one.new ≡ order_of one.old) × (order_of other.new ≡ order_of other.old)) }
+{
+    let prepared_first = one.prepare_insert_by(ix, first)?;
+    let prepared_second = other.prepare_insert_by(ix, second)?;
+    prepared_first.insert();
+    prepared_second.insert();
+    Ok(())
+}
+
+// The same of two tables in one place.
 fn add_both<F: FnMut(ItemIndex) -> Ordering>(
     two: &mut Two,
     ix: ItemIndex,
@@ -71,11 +95,7 @@ fn add_both<F: FnMut(ItemIndex) -> Ordering>(
     ensures err { OnErr result ((order_of two.new.first ≡ order_of two.old.first)
         × (order_of two.new.second ≡ order_of two.old.second)) }
 {
-    let prepared_first = two.first.prepare_insert_by(ix, first)?;
-    let prepared_second = two.second.prepare_insert_by(ix, second)?;
-    prepared_first.insert();
-    prepared_second.insert();
-    Ok(())
+    add_to_each(&mut two.first, &mut two.second, ix, first, second)
 }
 
 fn take_by<F: FnMut(ItemIndex) -> Ordering>(

@@ -16,6 +16,7 @@ fn read(rt: &impl Abort, pair: &Pair, ix: u32) {
     let mut asking = Asking::new(|stored: ItemIndex| sought.cmp(&stored));
     assert!(rt; pair.table.find_by(&mut asking).is_some() == is_stored);
     assert!(rt; pair.table.len() == pair.list.len());
+    assert!(rt; pair.table.is_empty() == pair.list.is_empty());
     assert!(rt; pair.table.first().map(|first| first.as_u32()) == pair.list.first().copied());
     assert!(rt; pair.table.last().map(|last| last.as_u32()) == pair.list.last().copied());
 }
@@ -62,7 +63,8 @@ fn let_go(rt: &impl Abort, pair: &mut Pair, ix: u32) -> Result<(), AllocError> {
         assert!(rt; sought != ItemIndex::SENTINEL);
         let _insert = pair.table.prepare_insert_by(sought, &mut asking)?;
     } else {
-        let _removal = pair.table.prepare_remove_by(sought, &mut asking);
+        let removal = pair.table.prepare_remove_by(sought, &mut asking);
+        assert!(rt; removal.is_found());
     }
     Ok(())
 }

@@ -10,7 +10,9 @@ use std::test::Fail;
 fn a_table_shows_its_order(rt: HostRuntime) -> Result<(), Fail> {
     let empty = MapBTreeTable::new(rt.alloc());
     assert!(rt; empty.first().is_none() && empty.last().is_none());
+    assert!(rt; empty.is_empty());
     let table = table_of(&rt, rt.alloc(), &[2, 0, 1])?;
+    assert!(rt; !table.is_empty());
     assert!(rt; table.first() == Some(ItemIndex::new(2)));
     assert!(rt; table.last() == Some(ItemIndex::new(1)));
     Ok(())
@@ -74,7 +76,12 @@ fn a_prepared_insert_that_is_let_go_changes_nothing(rt: HostRuntime) -> Result<(
         .prepare_insert_by(ItemIndex::new(3), &mut equal)?
         .insert();
     {
-        let _prepared = table.prepare_remove_by(ItemIndex::new(3), &mut equal);
+        let prepared = table.prepare_remove_by(ItemIndex::new(3), &mut equal);
+        assert!(rt; prepared.is_found());
+    }
+    {
+        let prepared = table.prepare_remove_by(ItemIndex::new(4), &mut equal);
+        assert!(rt; !prepared.is_found());
     }
     assert!(rt; table.len() == 1);
     Ok(())

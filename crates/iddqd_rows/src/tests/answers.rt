@@ -69,7 +69,7 @@ fn assert_replies(
         let told = printed(alloc, reply)?;
         assert_told(rt, &told, want, line);
     }
-    assert!(rt; replies.next().is_none(), "too many replies");
+    assert!(rt; replies.next().is_none());
     Ok(())
 }
 

@@ -1,6 +1,7 @@
 //! First keys that all have one hash.
 use super::calls::{find1, find2, insert, remove, remove1, remove2};
 use super::driver::{ix, record};
+use super::holds;
 use iddqd_keyed::command::Reply;
 use iddqd_keyed::keyed_items::KeyedItems;
 use iddqd_lines::record::Record;
@@ -44,7 +45,7 @@ type Items = KeyedItems<Record, Constant>;
 fn insert_five(rt: &impl Abort, items: &mut Items) {
     for number in 0..5 {
         let reply = insert(items, nth(number));
-        assert!(rt; reply == Reply::Inserted(ix(number)), "at {number}");
+        holds(rt, reply == Reply::Inserted(ix(number)), &number);
     }
 }
 
@@ -107,12 +108,12 @@ fn assert_removes_all(rt: &impl Abort, alloc: Global, order: [u32; 5], call: usi
     for (place, number) in order.iter().enumerate() {
         let (gone, _) = order.split_at(place);
         let is_left = walks(&items, gone) && finds(&items, gone);
-        assert!(rt; is_left, "without {gone:?}");
+        holds(rt, is_left, &gone);
         let call = call.wrapping_add(place);
         let is_removed = removes(&mut items, *number, call);
-        assert!(rt; is_removed, "{number} of {order:?}");
+        holds(rt, is_removed, &(number, order));
         let is_removed_again = removes(&mut items, *number, call);
-        assert!(rt; !is_removed_again, "{number} of {order:?}");
+        holds(rt, !is_removed_again, &(number, order));
     }
     assert!(rt; walks(&items, &order) && finds(&items, &order));
     assert!(rt; items.len() == 0);
@@ -132,7 +133,7 @@ fn three(rt: &impl Abort, alloc: Global) -> Items {
     let mut items = KeyedItems::new(alloc, Constant);
     for number in 0..3 {
         let reply = insert(&mut items, original(number));
-        assert!(rt; reply == Reply::Inserted(ix(number)), "at {number}");
+        holds(rt, reply == Reply::Inserted(ix(number)), &number);
     }
     items
 }
@@ -141,14 +142,14 @@ fn three(rt: &impl Abort, alloc: Global) -> Items {
 fn assert_changes(rt: &impl Abort, items: &mut Items, order: [u32; 3]) {
     for number in order {
         let was = items.overwrite(ix(number), changed(number));
-        assert!(rt; was == Ok(original(number)), "{number} of {order:?}");
+        holds(rt, was == Ok(original(number)), &(number, order));
     }
 }
 
 fn assert_removes_changed(rt: &impl Abort, items: &mut Items, order: [u32; 3]) {
     for number in 0..3 {
         let is_removed = remove(items, ix(number)) == Some((ix(number), changed(number)));
-        assert!(rt; is_removed, "{number} of {order:?}");
+        holds(rt, is_removed, &(number, order));
     }
 }
 
@@ -166,7 +167,7 @@ fn keys_that_change_in_any_order_let_items_go(rt: HostRuntime) {
         assert_changes(&rt, &mut items, order);
         assert_removes_changed(&rt, &mut items, order);
         let reply = insert(&mut items, record(9, 90));
-        assert!(rt; reply == Reply::Inserted(ix(2)), "after {order:?}");
+        holds(&rt, reply == Reply::Inserted(ix(2)), &order);
     }
 }
 

@@ -1,6 +1,7 @@
 //! Compaction of the store and both tables.
 use super::calls::{compact, find1, find2, insert, remove, step};
 use super::driver::{Items, assert_script, ix, no_items, record};
+use super::holds;
 use iddqd::index_remap::IndexRemap;
 use iddqd_keyed::command::{Command, Reply};
 use iddqd_lines::record::Record;
@@ -70,11 +71,11 @@ fn inserts(items: &mut Items, number: u32) -> bool {
 // Inserts the records of the numbers below 40, and removes those of the odd ones.
 fn insert_even(rt: &impl Abort, items: &mut Items) {
     for number in 0..40 {
-        assert!(rt; inserts(items, number), "at {number}");
+        holds(rt, inserts(items, number), &number);
     }
     for number in 0..40 {
         let is_removed = number % 2 == 1 && remove(items, ix(number)).is_some();
-        assert!(rt; is_removed == (number % 2 == 1), "at {number}");
+        holds(rt, is_removed == (number % 2 == 1), &number);
     }
 }
 

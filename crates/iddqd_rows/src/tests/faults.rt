@@ -1,4 +1,5 @@
 //! Sources and sinks that fail.
+use super::holds;
 use super::long_lines::{long_walk, repeated};
 use super::streams::{Served, Streams, serve_in_steps};
 use iddqd_lines::serve::ServeFault;
@@ -20,7 +21,7 @@ fn nothing_is_read_or_written_after_a_failed_read(rt: HostRuntime) {
             streams.input_later = Some(later.as_bytes());
             let served = serve_in_steps(rt.alloc(), streams);
             let is_right = served.is(Err(ServeFault::Read), b"inserted 0\n");
-            assert!(rt; is_right, "step {step}, then {later}");
+            holds(&rt, is_right, &(step, later));
         }
     }
 }
@@ -35,7 +36,7 @@ fn assert_stops(rt: &impl Abort, alloc: Global, input: &str, room: usize, want: 
             streams.room_later = room_later;
             let Served { told, replies, .. } = serve_in_steps(alloc, streams);
             let is_right = told == Err(ServeFault::Write) && replies.as_slice() == want.as_bytes();
-            assert!(rt; is_right, "room {room}, then {room_later}, step {step}");
+            holds(rt, is_right, &(room, room_later, step));
         }
     }
 }
@@ -75,8 +76,8 @@ fn all_replies_are_out_before_it_reads_on(rt: HostRuntime) -> Result<(), Fail> {
     let input = many_walks(rt.alloc())?;
     for step in [1, 7, 100, 8191, 8192] {
         let served = serve_in_steps(rt.alloc(), Streams::whole(input.as_bytes(), step));
-        assert!(rt; served.told == Ok(()), "step {step}");
-        assert!(rt; served.replies.len() > 8192, "step {step}");
+        holds(&rt, served.told == Ok(()), &step);
+        holds(&rt, served.replies.len() > 8192, &step);
         assert!(rt;
             served.early == 0,
             "{} early reads, step {step}",
@@ -118,7 +119,7 @@ fn a_source_that_has_failed_says_so(rt: HostRuntime) {
 fn a_sink_that_has_failed_says_so(rt: HostRuntime) {
     let mut sink = WriteSink::new(Broken);
     assert!(rt; sink.write(b"") == Ok(0));
-    assert!(rt; !sink.failed(), "no byte was to be taken");
+    assert!(rt; !sink.failed());
     assert!(rt; sink.write(b"none").is_err());
     assert!(rt; sink.failed());
 }

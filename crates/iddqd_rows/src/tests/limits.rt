@@ -3,6 +3,7 @@ use super::answers::assert_answers_within;
 use super::calls::{find1, insert};
 use super::collisions::Constant;
 use super::driver::{Items, items_within, ix, record};
+use super::holds;
 use iddqd::hash_builder::DefaultHashBuilder;
 use iddqd_keyed::command::Reply;
 use iddqd_keyed::keyed_items::InsertRefusal;
@@ -78,8 +79,8 @@ fn insert_next(rt: &impl Abort, items: &mut Items, taken: u32, limit: u32) -> u3
         InsertRefusal::Memory(item)
     };
     let is_refused = reply == Reply::Refused(refusal);
-    assert!(rt; is_refused, "at {taken} of {limit}");
-    assert!(rt; find1(items, taken).is_none(), "at {taken} of {limit}");
+    holds(rt, is_refused, &(taken, limit));
+    holds(rt, find1(items, taken).is_none(), &(taken, limit));
     taken
 }
 

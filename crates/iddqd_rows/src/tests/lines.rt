@@ -1,4 +1,5 @@
 //! Lines of the program and their replies.
+use super::holds;
 use super::long_lines::repeated;
 use super::streams::{Streams, serve_in_steps};
 use iddqd_lines::serve::{ServeFault, serve};
@@ -24,7 +25,7 @@ pub(super) fn assert_replies(rt: &impl Abort, alloc: Global, input: &str, want: 
     assert!(rt; is_right, "{replies:?} at {input:.40}");
     let served = serve_in_steps(alloc, Streams::whole(input.as_bytes(), 1));
     let is_right = served.is(Ok(()), want.as_bytes());
-    assert!(rt; is_right, "a byte at a time, at {input:.40}");
+    holds(rt, is_right, &input);
 }
 
 #[test]

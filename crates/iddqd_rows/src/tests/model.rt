@@ -2,6 +2,7 @@
 use super::calls::step;
 use super::commands::{COMMANDS, Generator};
 use super::driver::{Items, items_within, no_items};
+use super::holds;
 use iddqd::index_remap::IndexRemap;
 use iddqd::item_index::ItemIndex;
 use iddqd_keyed::command::{Command, Reply};
@@ -172,7 +173,7 @@ fn assert_alike(
         let command = generator.command();
         let want = model.step(alloc, &command)?;
         let is_alike = step(&mut items, command) == want;
-        assert!(rt; is_alike, "command {number} below {range} within {limit}");
+        holds(rt, is_alike, &(number, range, limit));
     }
     Ok(())
 }

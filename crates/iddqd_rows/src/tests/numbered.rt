@@ -1,5 +1,6 @@
 //! The driver's calls, each with how many keys it compares and hashes.
 use super::counted::{Counts, First, Item, Own, Second, first_of, item_of, second_of};
+use super::holds;
 use iddqd::item_index::ItemIndex;
 use iddqd_keyed::keyed_items::KeyedItems;
 use std::alloc::{AllocError, Global};
@@ -53,7 +54,7 @@ fn remove2(items: &mut Items, key: &Second) -> Option<(ItemIndex, Item)> {
 fn assert_few(rt: &impl Abort, counts: &Counts, hashes: u32, most: (u32, u32), call: &str) {
     let taken = counts.take();
     let is_within = taken.is_within(hashes, most.0, most.1);
-    assert!(rt; is_within, "{call}: {taken:?}");
+    holds(rt, is_within, &(call, taken));
 }
 
 /// Items, each at the index that is its number, and the counts of their keys.
@@ -78,7 +79,7 @@ impl Numbered {
     pub(super) fn assert_insert(&mut self, rt: &impl Abort, number: u32) -> Result<(), AllocError> {
         let item = item_of(&self.counts, number)?;
         let is_inserted = number_of(insert(&mut self.items, item)) == Some(number);
-        assert!(rt; is_inserted, "at {number}");
+        holds(rt, is_inserted, &number);
         assert_few(rt, &self.counts, 1, (0, 48), "an insert");
         Ok(())
     }
@@ -93,7 +94,7 @@ impl Numbered {
     ) -> Result<(), AllocError> {
         let key = first_of(&self.counts, number)?;
         let is_so = number_of(find1(&self.items, &key)) == want;
-        assert!(rt; is_so, "{number} by its first key");
+        holds(rt, is_so, &number);
         assert_few(rt, &self.counts, 1, (most, 0), "find1");
         Ok(())
     }
@@ -106,7 +107,7 @@ impl Numbered {
     ) -> Result<(), AllocError> {
         let key = second_of(&self.counts, number)?;
         let is_so = number_of(find2(&self.items, &key)) == want;
-        assert!(rt; is_so, "{number} by its second key");
+        holds(rt, is_so, &number);
         assert_few(rt, &self.counts, 0, (0, 24), "find2");
         Ok(())
     }
@@ -119,7 +120,7 @@ impl Numbered {
     ) -> Result<(), AllocError> {
         let key = first_of(&self.counts, number)?;
         let is_so = is_removed(remove1(&mut self.items, &key), number);
-        assert!(rt; is_so, "{number} by its first key");
+        holds(rt, is_so, &number);
         assert_few(rt, &self.counts, 1, (1, 24), "remove1");
         Ok(())
     }
@@ -132,7 +133,7 @@ impl Numbered {
     ) -> Result<(), AllocError> {
         let key = second_of(&self.counts, number)?;
         let is_so = is_removed(remove2(&mut self.items, &key), number);
-        assert!(rt; is_so, "{number} by its second key");
+        holds(rt, is_so, &number);
         assert_few(rt, &self.counts, 1, (0, 48), "remove2");
         Ok(())
     }
@@ -140,9 +141,9 @@ impl Numbered {
     /// A removal that walks the ordered table asks nothing. One that only walks the hash table need not
     /// hash.
     pub(super) fn assert_remove(&mut self, rt: &impl Abort, number: u32) {
-        assert!(rt; remove(&mut self.items, number), "at {number}");
+        holds(rt, remove(&mut self.items, number), &number);
         let order = self.counts.second_order.get();
-        assert!(rt; order > 0, "a removal of {number} asks nothing");
+        holds(rt, order > 0, &number);
         assert_few(rt, &self.counts, 1, (0, 24), "a removal");
     }
 }

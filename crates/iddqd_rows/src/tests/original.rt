@@ -10,6 +10,7 @@
 //!     wc -c < replies
 //!     fnv1a64 < replies
 use super::commands::{COMMANDS, Generator, put_line};
+use super::holds;
 use super::lines::serve_whole;
 use std::alloc::{AllocError, Global};
 use std::process::Abort;
@@ -43,15 +44,15 @@ fn replies(alloc: Global, range: u32) -> Result<Vec<u8>, Fail> {
 
 // The replies to the lines of that range have that length and that hash.
 fn assert_hash(rt: &impl Abort, replies: &[u8], len: usize, hash: u64) {
-    assert!(rt; replies.len() == len, "{} bytes for {len}", replies.len());
-    assert!(rt; fnv1a64(replies) == hash, "of {len} bytes");
+    holds(rt, replies.len() == len, &(replies.len(), len));
+    holds(rt, fnv1a64(replies) == hash, &len);
 }
 
 #[test]
 fn replies_as_the_original(rt: HostRuntime) -> Result<(), Fail> {
     let few = replies(rt.alloc(), 40)?;
     let first = FIRST_OF_FEW.as_bytes();
-    assert!(rt; few.starts_with(first), "the first replies differ");
+    assert!(rt; few.starts_with(first));
     assert_hash(&rt, few.as_slice(), 139614, 9866343828587905839);
     let many = replies(rt.alloc(), 400)?;
     assert_hash(&rt, many.as_slice(), 674969, 14333180309502089719);

@@ -4,6 +4,7 @@
 //! refusal leaves. What they do between the calls takes no memory.
 use super::calls::{find1, find2, get, insert, remove, remove1, remove2};
 use super::driver::{Items, ix, no_items, record};
+use super::holds;
 use iddqd::item_index::ItemIndex;
 use iddqd_keyed::command::Reply;
 use iddqd_keyed::keyed_items::InsertRefusal;
@@ -36,14 +37,14 @@ fn walks_down(items: &Items, start: u32, end: u32) -> bool {
 
 /// The records from `start` to before `end` are there, by each call, and neither of their neighbours.
 pub(super) fn assert_holds(rt: &impl Abort, items: &Items, start: u32, end: u32) {
-    assert!(rt; walks_down(items, start, end), "walk from {start} to {end}");
+    holds(rt, walks_down(items, start, end), &(start, end));
     assert!(rt; items.len() == end.saturating_sub(start) as usize);
     for number in start..end {
-        assert!(rt; is_found(items, number, Some(ix(number))), "at {number}");
+        holds(rt, is_found(items, number, Some(ix(number))), &number);
     }
-    assert!(rt; is_found(items, end, None), "at {end}");
+    holds(rt, is_found(items, end, None), &end);
     if let Some(before) = start.checked_sub(1) {
-        assert!(rt; is_found(items, before, None), "at {before}");
+        holds(rt, is_found(items, before, None), &before);
     }
 }
 
@@ -55,7 +56,7 @@ pub(super) fn insert_next(rt: &impl Abort, items: &mut Items, taken: u32) -> u32
         return taken.saturating_add(1);
     }
     let is_refused = reply == Reply::Refused(InsertRefusal::Memory(item));
-    assert!(rt; is_refused, "at {taken}");
+    holds(rt, is_refused, &taken);
     taken
 }
 
@@ -69,7 +70,7 @@ fn assert_duplicates(rt: &impl Abort, items: &mut Items, taken: u32) {
             first: Some(ix(number)),
             second: Some(ix(number)),
         });
-        assert!(rt; reply == want, "at {number}");
+        holds(rt, reply == want, &number);
     }
 }
 
@@ -105,8 +106,8 @@ fn a_removal_needs_no_memory(rt: HostRuntime) {
     }
     for number in 0..taken {
         assert_holds(&rt, &items, number, taken);
-        assert!(rt; removes(&mut items, number), "at {number}");
-        assert!(rt; !removes(&mut items, number), "at {number}");
+        holds(&rt, removes(&mut items, number), &number);
+        holds(&rt, !removes(&mut items, number), &number);
     }
     assert_holds(&rt, &items, taken, taken);
 }

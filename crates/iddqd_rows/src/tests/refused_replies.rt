@@ -3,6 +3,7 @@
 //! They are run as the calls of `refused` are.
 use super::calls::step;
 use super::driver::{Items, ix, no_items};
+use super::holds;
 use super::refused::{assert_holds, insert_next, nth};
 use iddqd::item_index::ItemIndex;
 use iddqd_keyed::command::{Command, Reply};
@@ -38,7 +39,7 @@ fn a_walk_that_memory_refuses_changes_nothing(rt: HostRuntime) {
     let mut taken = 0;
     for _ in 0..50 {
         let reply = step(&mut items, Command::Walk);
-        assert!(rt; is_walked(&reply, taken), "of {taken}");
+        holds(&rt, is_walked(&reply, taken), &taken);
         assert_holds(&rt, &items, 0, taken);
         taken = insert_next(&rt, &mut items, taken);
     }
@@ -84,11 +85,11 @@ fn run_next(rt: &impl Abort, items: &mut Items, commands: Vec<Command<Record>>, 
         Ok(replies) => {
             let is_inserted = items.len() == taken.saturating_add(1) as usize;
             let is_right = is_replied(replies.as_slice(), taken, is_inserted);
-            assert!(rt; is_right, "of {taken}");
+            holds(rt, is_right, &taken);
         }
         Err(back) => {
             let is_right = is_two_commands(back.as_slice(), taken);
-            assert!(rt; is_right, "of {taken}");
+            holds(rt, is_right, &taken);
         }
     }
 }

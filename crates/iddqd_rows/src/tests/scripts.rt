@@ -2,6 +2,7 @@
 use super::calls::{run, step};
 use super::commands::Numbers;
 use super::driver::{ix, no_items};
+use super::holds;
 use super::watched::Watched;
 use iddqd_keyed::command::{Command, Reply};
 use iddqd_lines::record::Record;
@@ -131,10 +132,10 @@ fn has_overwritten(replies: &[Reply<Record>]) -> bool {
 // A run of the script with that seed replies as single steps.
 fn assert_runs(rt: &impl Abort, alloc: Global, seed: u32) -> Result<(), AllocError> {
     let want = step_all(alloc, commands(alloc, seed)?)?;
-    assert!(rt; has_overwritten(want.as_slice()), "of seed {seed}");
+    holds(rt, has_overwritten(want.as_slice()), &seed);
     let replies = run_all(alloc, commands(alloc, seed)?);
     let is_alike = replies == Some(want);
-    assert!(rt; is_alike, "of seed {seed}");
+    holds(rt, is_alike, &seed);
     Ok(())
 }
 

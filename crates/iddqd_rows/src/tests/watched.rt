@@ -2,6 +2,7 @@
 use super::calls::{find1, find2, get, step, walk};
 use super::commands::copy_of;
 use super::counted::Own;
+use super::holds;
 use super::machine::Machine;
 use super::model::index;
 use super::scans::{is_in_order, scan1, scan2, scanned, sorted_scan};
@@ -101,14 +102,14 @@ impl Watched {
         at: (u32, u32),
     ) -> Result<(), AllocError> {
         let is_in_order = is_in_order(&self.machine);
-        assert!(rt; is_in_order || self.is_changed, "at {at:?}");
-        assert!(rt; self.holds_the_same(), "other items at {at:?}");
+        holds(rt, is_in_order || self.is_changed, &at);
+        holds(rt, self.holds_the_same(), &at);
         for key in 0..keys {
             let is_allowed = self.finds1(key, is_in_order) && self.finds2(key, is_in_order);
-            assert!(rt; is_allowed, "{key} at {at:?}");
+            holds(rt, is_allowed, &(key, at));
         }
         let is_sorted = !is_in_order || self.walks_as_scan()?;
-        assert!(rt; is_sorted, "walk at {at:?}");
+        holds(rt, is_sorted, &at);
         Ok(())
     }
 

@@ -35,7 +35,7 @@ invariant_of-self g c =
 pub returns-clause-kept : goal.returns-clause-kept
 returns-clause-kept g c =
     let cells-is = with_items_is c.self.inside.cells c.retain_cells-removed.new.cells (c.retain_cells-removed.auto.cells ∙ c.as_mut_slice-2.ensures.len) in
-    rw (← c.self.view_is, entries-opened, entries-opened, cells-is, ← c.as_mut_slice-2.ensures.value) c.retain_cells-removed.ensures.kept
+    rw (← c.self.view_is, entries-opened, entries-opened, cells-is, ← c.as_mut_slice-2.ensures.value) (record { last = _; kept = c.retain_cells-removed.ensures.kept })
 
 pub returns-clause-memory : goal.returns-clause-memory
 returns-clause-memory g c =

@@ -1,5 +1,4 @@
-use Rattle.std.proofs.Common.{arith, sym, subst}
-use Rattle.iddqd_order.specs.Search.{CanSearch}
+use Rattle.iddqd_order.proofs.Names.{arith, sym, subst, CanSearch}
 use Rattle.iddqd_order.proofs.DescentLemmas.{row_searched}
 use Rattle.iddqd_order.proofs.btree_table.descent.search_row.Goals as goal
 

@@ -1,6 +1,4 @@
-use Rattle.std.proofs.lemmas.List.Kept.{IsStrictlySortedBy-filter}
-use Rattle.std.proofs.Common.{Some}
-use Rattle.iddqd_order.specs.Search.{with_ties}
+use Rattle.iddqd_order.proofs.Names.{IsStrictlySortedBy-filter, Some, with_ties}
 use Rattle.iddqd_order.proofs.KeyOrderLemmas.{key_then_index-total, with_ties-key, IsRising-from_key, IsRising-from_sorted, IsStrictlySortedBy-insert}
 use Rattle.iddqd_order.proofs.btree_table.key_order.key_answers_rise.Goals as goal
 

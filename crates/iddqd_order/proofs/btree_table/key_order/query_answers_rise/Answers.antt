@@ -1,12 +1,10 @@
-use Rattle.std.proofs.Common.{◌∙◌}
-use Rattle.iddqd_order.specs.KeyOrder.{ComparesKeys}
+use Rattle.iddqd_order.proofs.Names.{◌∙◌, ComparesKeys}
 use Rattle.iddqd_order.proofs.KeyOrderLemmas.{key_then_index-total, with_ties-key, IsRising-from_query, IsRising-from_sorted, IsStrictlySortedBy-insert}
 use Rattle.iddqd_order.proofs.btree_table.key_order.query_answers_rise.Goals as goal
 
 pub returns-clause-find : goal.returns-clause-find
 returns-clause-find g c key xs answer =
-    let query = c.args.query.now in
-    let laws = g.met.Q.Comparable in
+    let query = c.args.query.now in let laws = g.met.Q.Comparable in
     IsRising-from_query g.met.K.Ord.total key (g.Q.Comparable.compare query) (laws.less_after query) (laws.greater_before query) (laws.equal_keys query) xs answer
 
 pub returns-clause-insert : goal.returns-clause-insert

@@ -8,7 +8,6 @@ put_first-requires-clause-room c =
 
 pub returns-clause-mended : goal.returns-clause-mended
 returns-clause-mended c h f =
-    let last = c.take_last-last.ensures in
-    let first = c.put_first.ensures in
+    let last = c.take_last-last.ensures in let first = c.put_first.ensures in
     rw c.set.ensures (moved-right h c.args.left c.args.row.now c.args.children.now.items c.index_mut.result.now c.index_mut-2.result.now c.take_last-last.new.self c.put_first.new.self c.get-middle.result c.take_last-last.result.0 c.take_last-last.result.1 f c.requires.more c.requires.poor (search rules) (search rules) (search rules)
-    (record { rows = last.row; below = last.children; some = last.child; room_is = last.room }) (record { rows = first.row; below = first.children; room_is = first.room }))
+    (record { left = last.row; right = first.row; left_children = last.children; right_children = first.children }) last.child last.room first.room)

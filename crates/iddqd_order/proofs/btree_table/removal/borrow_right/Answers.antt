@@ -8,7 +8,6 @@ put_last-requires-clause-room c =
 
 pub returns-clause-mended : goal.returns-clause-mended
 returns-clause-mended c h f =
-    let first = c.take_first-first.ensures in
-    let last = c.put_last.ensures in
+    let first = c.take_first-first.ensures in let last = c.put_last.ensures in
     rw c.set.ensures (moved-left h c.args.left c.args.row.now c.args.children.now.items c.index_mut-2.result.now c.index_mut.result.now c.put_last.new.self c.take_first-first.new.self c.get-middle.result c.take_first-first.result.0 c.take_first-first.result.1 f c.requires.within c.requires.more c.requires.poor (search rules) (search rules) (search rules)
-    (record { rows = first.row; below = first.children; some = first.child; room_is = first.room }) (record { rows = last.row; below = last.children; room_is = last.room }))
+    (record { left = last.row; right = first.row; left_children = last.children; right_children = first.children }) first.child first.room last.room)

@@ -1,5 +1,4 @@
-use Rattle.std.proofs.Common.{◌≡◌, ◌+◌, ◌-◌, arith, subst}
-use Rattle.iddqd_order.specs.Removal.{MayLackOne}
+use Rattle.iddqd_order.proofs.Names.{◌≡◌, ◌+◌, ◌-◌, arith, subst, MayLackOne}
 use Rattle.iddqd_order.proofs.btree_table.removal.fill_up.Goals as goal
 
 pub returns-then-len-gt-LEAST-clause-mended : goal.returns-then-len-gt-LEAST-clause-mended

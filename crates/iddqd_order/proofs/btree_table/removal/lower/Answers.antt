@@ -1,7 +1,4 @@
-use Rattle.std.proofs.Common.{◌<◌, ◌∙◌, IsSome, ◌↔◌, length, ap, sym, subst, rules}
-use Rattle.iddqd_order.specs.Node.{children}
-use Rattle.iddqd_order.specs.Removal.{IsEmptied}
-use Rattle.iddqd_order.specs.Tree.{in_order}
+use Rattle.iddqd_order.proofs.Names.{◌<◌, ◌∙◌, IsSome, ◌↔◌, length, ap, sym, subst, rules, children, IsEmptied, in_order}
 use Rattle.iddqd_order.proofs.RemovalLemmas.{IsLowered, lowered}
 use Rattle.iddqd_order.proofs.btree_table.removal.lower.Goals as goal
 

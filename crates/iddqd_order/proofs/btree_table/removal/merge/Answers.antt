@@ -4,12 +4,12 @@ use Rattle.iddqd_order.proofs.btree_table.removal.merge.Goals as goal
 
 pub join-requires-clause-room : goal.join-requires-clause-room
 join-requires-clause-room c =
-    let k = c.requires.lacks.1 in
-    let f = k.1 in
+    let k = c.requires.lacks.1 in let f = k.1 in
     let j = join-fits c.requires.lacks.0 k.0 c.args.left c.args.row.now c.args.children.now.items c.index_mut.result.now c.remove-other.result f.0 f.1.0 c.requires.within f.1.1 c.requires.few (search rules) (search rules) in
     j.room_is
 
 pub returns-clause-mended : goal.returns-clause-mended
 returns-clause-mended c h i low high f =
+    let k = join-fits h i c.args.left c.args.row.now c.args.children.now.items c.index_mut.result.now c.remove-other.result low high c.requires.within f c.requires.few (search rules) (search rules) in
     let j = c.join.ensures in
-    rw (c.remove-middle.ensures.items, c.remove-other.ensures.items) (merged h i c.args.left c.args.row.now c.args.children.now.items c.index_mut.result.now c.remove-other.result c.join.new.self c.remove-middle.result low high c.requires.within f c.requires.few (search rules) (search rules) (search rules) j.row j.children j.room)
+    rw (c.remove-middle.ensures.items, c.remove-other.ensures.items) (merged h c.args.left c.args.row.now c.args.children.now.items c.index_mut.result.now c.remove-other.result c.join.new.self c.remove-middle.result k (search rules) j.row j.children j.room)

@@ -1,6 +1,4 @@
-use Rattle.std.proofs.Common.{rules}
-use Rattle.std.proofs.lemmas.List.Edits.{map_over_more}
-use Rattle.iddqd.specs.Compaction.{remapped}
+use Rattle.iddqd_order.proofs.Names.{rules, map_over_more, remapped}
 use Rattle.iddqd_order.proofs.btree_table.renaming.rename_row.Goals as goal
 
 pub loop-i-preserved : goal.loop-i-preserved

@@ -1,5 +1,4 @@
-use Rattle.std.proofs.Common.{◌≡◌, ◌++◌, map, take, drop}
-use Rattle.iddqd.specs.Compaction.{remapped}
+use Rattle.iddqd_order.proofs.Names.{◌≡◌, ◌++◌, map, take, drop, remapped}
 use Rattle.iddqd_order.proofs.btree_table.renaming.rename_row.Given as goal
 
 abbrev pub invariant-loop-i : goal.invariant-loop-i

@@ -1,6 +1,6 @@
 use Rattle.std.proofs.Common.{◌-◌, ◌≤◌, length}
 use Rattle.iddqd_order.specs.Node.{row, flat, IsFormed}
-use Rattle.iddqd_order.specs.Ways.{IsWay, IsReader}
+use Rattle.iddqd_order.specs.Ways.{IsWay}
 use Rattle.iddqd_order.proofs.RetainLemmas.{Gathers}
 use Rattle.iddqd_order.proofs.btree_table.retain.gather.Given as goal
 
@@ -8,10 +8,9 @@ abbrev pub invariant-loop-from : goal.invariant-loop-from
 invariant-loop-from g l = record {
   formed : IsFormed l.height l.root;
   some : 1 ≤ length (row l.root);
-  from : IsReader l.height l.root l.from;
+  from : IsWay l.height l.root l.from;
   to : IsWay l.height l.root l.to;
-  below : l.to.place ≤ l.kept;
-  gathers : Gathers g.F.FnMut l.fn.f (flat l.height l.fn.root) (flat l.height l.root) l.from.place l.kept l.f;
+  gathers : Gathers g.F.FnMut l.fn.f (flat l.height l.fn.root) (flat l.height l.root) l.from.place l.to.place l.f;
 }
 
 abbrev pub decreases-loop-from : goal.decreases-loop-from

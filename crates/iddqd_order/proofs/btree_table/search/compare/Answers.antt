@@ -1,10 +1,4 @@
-use Rattle.std.proofs.Common.{arith, ◌≡◌, ◌≢◌, refl, sym, ◌∙◌, ap}
-use Rattle.std.specs.declared.cmp.Ordering.{Ordering}
-use Rattle.std.specs.declared.cmp.Ordering.TheVariants.{Less, Equal, Greater}
-use Rattle.std.proofs.lemmas.Bool.{eqb-false}
-use Rattle.iddqd_order.specs.Asks.{At_once}
-use Rattle.std.specs.Ordering.{nat_cmp, ordering_then}
-use Rattle.iddqd_order.specs.Search.{Askable}
+use Rattle.iddqd_order.proofs.Names.{arith, ◌≡◌, ◌≢◌, refl, sym, ◌∙◌, ap, Ordering, Less, Equal, Greater, eqb-false, At_once, nat_cmp, ordering_then, Askable}
 use Rattle.iddqd_order.proofs.AskLemmas.{asks_one, asks_none, asks_more}
 use Rattle.iddqd_order.proofs.SearchLemmas.{Askable-from_none, Askable-from_some, with_ties-none, with_ties-some}
 use Rattle.iddqd_order.proofs.btree_table.search.compare.Goals as goal

@@ -1,6 +1,4 @@
-use Rattle.std.proofs.Common.{arith, ◌≡◌, ◌+◌, ◌<◌, length, get_or, Contains, refl, sym, ◌∙◌, ap}
-use Rattle.std.proofs.lemmas.List.{get_or_default}
-use Rattle.iddqd_order.specs.Search.{Askable, with_ties}
+use Rattle.iddqd_order.proofs.Names.{arith, ◌≡◌, ◌+◌, ◌<◌, length, get_or, Contains, refl, sym, ◌∙◌, ap, get_or_default, Askable, with_ties}
 use Rattle.iddqd_order.proofs.AskLemmas.{asks_none, asks_then, asks_more, Steady-later}
 use Rattle.iddqd_order.proofs.DigitLemmas.{digits-half}
 use Rattle.iddqd_order.proofs.SearchLemmas.{Askable-other, IsPlace-from_split, split-init, split-less, split-greater}
@@ -78,8 +76,7 @@ returns-in-Equal g c =
 
 pub returns : goal.returns
 returns g c =
-    let xs = c.args.items.now in
-    let left = c.loop-low.invariant.asked.1 in
+    let xs = c.args.items.now in let left = c.loop-low.invariant.asked.1 in
     record {
       asked = asks_more g.F.FnMut (Askable xs c.args.tie.now) (omega (arith, left)) c.loop-low.invariant.asked.2;
       found = tt;

@@ -1,8 +1,5 @@
-use Rattle.std.proofs.Common.{Ordering, ◌-◌, ℕ, ◌+◌, ◌≤◌, length}
-use Rattle.iddqd_order.specs.Asks.{AsksWithin}
-use Rattle.iddqd_order.specs.Search.{Askable, IsSteadyRising, with_ties}
+use Rattle.iddqd_order.proofs.Names.{Ordering, ◌-◌, ℕ, ◌+◌, ◌≤◌, length, AsksWithin, Askable, IsSteadyRising, with_ties, digits}
 use Rattle.iddqd_order.proofs.SearchLemmas.{AreSplit}
-use Rattle.iddqd_order.specs.Digits.{digits}
 use Rattle.iddqd_order.proofs.btree_table.search.search.Given as goal
 
 abbrev pub invariant-loop-low : goal.invariant-loop-low

@@ -1,7 +1,4 @@
-use Rattle.std.proofs.Common.{rules, ◌≡◌, ◌∙◌, ◌-◌, ◌<◌, ◌≤◌, length, vec_len, sym, ap, arith}
-use Rattle.iddqd_order.specs.declared.btree_table.node.Node.TheViews.{roll-Node}
-use Rattle.iddqd_order.specs.Copies.{IsCopy}
-use Rattle.iddqd_order.specs.Node.{children, child}
+use Rattle.iddqd_order.proofs.Names.{rules, ◌≡◌, ◌∙◌, ◌-◌, ◌<◌, ◌≤◌, length, vec_len, sym, ap, arith, roll-Node, IsCopy, children, child}
 use Rattle.iddqd_order.proofs.CopyLemmas.{copy-leaf, copy-inner, pushed}
 use Rattle.iddqd_order.proofs.DescentLemmas.{child_is, child-formed}
 use Rattle.iddqd_order.proofs.NodeLemmas.{formed-inner, formed-leaf, row-roll, children-roll, room-from}
@@ -22,8 +19,7 @@ copy-requires-in-loop-i t c =
 pub push_reserved-requires : goal.push_reserved-requires
 push_reserved-requires t c =
     let inner = (formed-inner c.args.height c.args.self.now c.if-height-eq0.false c.requires).inner in
-    let few = inner.within in
-    let one = inner.one_more in
+    let few = inner.within in let one = inner.one_more in
     let lt : c.loop-i.i < length (children c.args.self.now) = search rules in
     let room = c.loop-i.invariant.room in
     let count : vec_len c.loop-i.children ≡ c.loop-i.i = search (rules, c.loop-i.invariant.count) in
@@ -31,12 +27,10 @@ push_reserved-requires t c =
 
 pub loop-i-preserved : goal.loop-i-preserved
 loop-i-preserved t c =
-    let n = c.args.self.now in
-    let i = c.loop-i.i in
+    let n = c.args.self.now in let i = c.loop-i.i in
     let lt : i < length (children n) = search rules in
     let same : c.index.result.now ≡ child n i = child_is n i c.index.result.now lt (search rules) in
-    let items = c.push_reserved.ensures.items in
-    let count = c.loop-i.invariant.count in
+    let items = c.push_reserved.ensures.items in let count = c.loop-i.invariant.count in
     record {
       room = rw c.push_reserved.ensures.capacity c.loop-i.invariant.room;
       count = search rules;

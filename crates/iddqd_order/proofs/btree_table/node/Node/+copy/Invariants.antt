@@ -1,7 +1,4 @@
-use Rattle.std.proofs.Common.{◌≡◌, ℕ, ◌-◌, ◌<◌, ◌≤◌, get_or, length, vec_capacity}
-use Rattle.iddqd_order.specs.declared.btree_table.node.Node.{Node}
-use Rattle.iddqd_order.specs.Copies.{IsCopy}
-use Rattle.iddqd_order.specs.Node.{child}
+use Rattle.iddqd_order.proofs.Names.{◌≡◌, ℕ, ◌-◌, ◌<◌, ◌≤◌, get_or, length, vec_capacity, Node, IsCopy, child}
 use Rattle.iddqd_order.proofs.btree_table.node.Node.+copy.Given as goal
 
 abbrev pub decreases-copy : goal.decreases-copy

@@ -1,8 +1,7 @@
 use Rattle.std.proofs.Common.{rules, ◌≡◌, ◌+◌, ◌-◌, arith, ◌∙◌, vec_len}
 use Rattle.iddqd_order.specs.declared.btree_table.node.Node.TheViews.{out-Node, roll-Node, out-roll-Node}
-use Rattle.iddqd_order.specs.Node.{IsSpare}
 use Rattle.iddqd_order.proofs.NodeLemmas.{goes-inner, row-roll, children-roll, room-from}
-use Rattle.iddqd_order.proofs.InsertLemmas.{IsTaken, taken, Cut, cut_leaf, cut_here, leaf_place, full_row, full_child, all_full, All-last, All-others}
+use Rattle.iddqd_order.proofs.InsertLemmas.{IsTaken, taken, Cut, cut_leaf, cut_here, leaf_place, full_row, full_child, all_full}
 use Rattle.iddqd_order.proofs.btree_table.node.Node.+cut.Goals as goal
 
 pub cut-middle-requires-clause-full : goal.cut-middle-requires-clause-full
@@ -16,7 +15,7 @@ returns-then-height-eq0 t c =
     let zero = c.if-height-eq0.true in
     let k = cut_leaf c.args.height c.args.self.now (roll-Node (record { row = c.cut-middle.new.self; children = (out-Node c.args.self.now).children })) c.cut-middle.result.0 (roll-Node (record { row = c.cut-middle.result.1; children = c.new.result })) c.args.path.now c.get-i.result c.args.ix
     zero c.requires.formed c.requires.goes c.get-i.ensures (simp row-roll c.cut-middle.ensures) (children-roll _) (children-roll _ ∙ c.new.ensures.items) in
-    record { items = k.items; low = k.low; high = k.high; left = omega arith; spare = c.requires.spare }
+    record { items = k.items; low = k.low; high = k.high; left = omega arith }
 
 pub index_mut-requires : goal.index_mut-requires
 index_mut-requires t c = let g = goes-inner _ _ _ c.if-height-eq0.false c.requires.goes in rw c.get-i.ensures (search (rules, g.here))
@@ -27,7 +26,7 @@ cut-middle-requires-2 t c =
     record { inner = c.if-height-eq0.false; formed = c.requires.formed; goes = c.requires.goes; at = c.get-i.ensures; is = c.index_mut.ensures.value } in
     let b = taken _ _ _ _ _ k in
     let full = all_full _ (c.args.height - 1 + 1) _ _ _ (omega arith) (omega arith) (full_child _ _ _ _ _ _ k c.requires.full) in
-    (omega arith, (omega arith, (b.formed, (b.goes, (full, (omega (arith, c.requires.enough), c.requires.spare))))))
+    (omega arith, (omega arith, (b.formed, (b.goes, (full, omega (arith, c.requires.enough))))))
 
 pub cut_inner-middle-requires : goal.cut_inner-middle-requires
 cut_inner-middle-requires t c =
@@ -43,7 +42,7 @@ cut_inner-middle-requires t c =
       full = rw out-roll-Node full;
       one_more = simp out-roll-Node count;
       has_room = simp out-roll-Node b.node.has_room;
-      spare = All-last IsSpare _ _ _ c.cut-middle-2.ensures.spare c.take_last-children.ensures.items;
+      spare = c.take-children.ensures.spare;
     }
 
 pub returns : goal.returns
@@ -59,6 +58,5 @@ returns t c =
       items = r.items;
       low = r.low;
       high = r.high;
-      left = omega (arith, c.cut-middle-2.ensures.left, c.take_last-children.ensures.len);
-      spare = All-others IsSpare _ _ _ c.cut-middle-2.ensures.spare c.take_last-children.ensures.items;
+      left = omega (arith, c.cut-middle-2.ensures.left, c.take-children.ensures.left);
     }

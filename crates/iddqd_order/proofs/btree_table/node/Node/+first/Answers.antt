@@ -1,12 +1,12 @@
 use Rattle.std.proofs.Common.{◌∙◌, slice_index, arith, ap, sym, rules}
-use Rattle.iddqd_order.proofs.NodeLemmas.{flat-leaf}
+use Rattle.iddqd_order.proofs.NodeLemmas.{child-within, flat-leaf}
 use Rattle.iddqd_order.proofs.EndLemmas.{first-below}
-use Rattle.iddqd_order.proofs.RemovalLemmas.{child-before, within-children}
+use Rattle.iddqd_order.proofs.RemovalLemmas.{child-before}
 use Rattle.iddqd_order.proofs.btree_table.node.Node.+first.Goals as goal
 
 pub index-requires : goal.index-requires
 index-requires t c =
-    let w = within-children c.args.height 0 c.args.self.now c.if-height-eq0.false (omega arith) c.requires.formed in
+    let w = child-within c.args.height c.args.self.now 0 c.if-height-eq0.false c.requires.formed (omega arith) in
     search (rules, w)
 
 pub first-requires : goal.first-requires

@@ -1,7 +1,7 @@
-use Rattle.std.proofs.Common.{◌≡◌, ◌-◌, slice_index, arith, rules, subst}
-use Rattle.iddqd_order.specs.Node.{child, flat, spot}
+use Rattle.iddqd_order.proofs.Names.{◌≡◌, ◌-◌, slice_index, arith, rules, subst, sym, ◌∙◌, child, flat, spot}
+use Rattle.iddqd_order.proofs.RemovalLemmas.{goes-below}
 use Rattle.iddqd_order.proofs.DescentLemmas.{child_is}
-use Rattle.iddqd_order.proofs.WayLemmas.{goes-below, level_is, holds-row, read-here, read-below}
+use Rattle.iddqd_order.proofs.WayLemmas.{ends-here, read-below}
 use Rattle.iddqd_order.proofs.btree_table.node.Node.+index_on.Goals as goal
 
 pub index-requires : goal.index-requires
@@ -20,16 +20,14 @@ pub returns-then-height-level : goal.returns-then-height-level
 returns-then-height-level t c =
     let b = goes-below c.args.height c.args.level c.get-i.result c.args.self.now c.args.path.now c.if-height-level.true c.get-i.ensures c.requires.formed c.requires.holds in
     let same : c.index.result.now ≡ child c.args.self.now c.get-i.result = child_is c.args.self.now c.get-i.result c.index.result.now b.here c.index.ensures in
-    read-below c.args.height c.args.level c.get-i.result c.index_on.result c.args.self.now c.args.path.now b.inner b.other c.get-i.ensures c.requires.formed c.requires.holds
+    read-below c.args.height c.args.level c.get-i.result c.index_on.result c.args.self.now c.args.path.now b c.requires.formed
     (subst (λ z. c.index_on.result ≡ slice_index (flat (c.args.height - 1) z) (spot c.args.level (c.args.height - 1) z c.args.path.now)) same c.index_on.ensures)
 
 pub get-requires : goal.get-requires
 get-requires t c =
-    let e = level_is c.args.height c.args.level c.args.self.now c.args.path.now c.if-height-level.false c.requires.holds in
-    holds-row c.args.height c.args.level c.get-i.result c.args.self.now c.args.path.now e c.get-i.ensures c.requires.holds
+    (ends-here c.args.height c.args.level c.get-i.result c.args.self.now c.args.path.now c.if-height-level.false c.get-i.ensures c.requires.formed c.requires.holds).within
 
 pub returns : goal.returns
 returns t c =
-    let e = level_is c.args.height c.args.level c.args.self.now c.args.path.now c.if-height-level.false c.requires.holds in
-    let lt = holds-row c.args.height c.args.level c.get-i.result c.args.self.now c.args.path.now e c.get-i.ensures c.requires.holds in
-    read-here c.args.height c.args.level c.get-i.result c.get.result c.args.self.now c.args.path.now e c.get-i.ensures c.requires.formed c.requires.holds lt c.get.ensures
+    let e = ends-here c.args.height c.args.level c.get-i.result c.args.self.now c.args.path.now c.if-height-level.false c.get-i.ensures c.requires.formed c.requires.holds in
+    c.get.ensures ∙ sym e.spot_is

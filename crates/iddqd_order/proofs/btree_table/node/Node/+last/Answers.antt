@@ -1,13 +1,12 @@
-use Rattle.std.proofs.Common.{◌-◌, ◌∙◌, length, slice_index, arith, ap, sym, rules}
-use Rattle.iddqd_order.specs.Node.{row}
-use Rattle.iddqd_order.proofs.NodeLemmas.{flat-leaf}
+use Rattle.iddqd_order.proofs.Names.{◌-◌, ◌∙◌, length, slice_index, arith, ap, sym, rules, row}
+use Rattle.iddqd_order.proofs.NodeLemmas.{child-within, flat-leaf}
 use Rattle.iddqd_order.proofs.EndLemmas.{last-below}
-use Rattle.iddqd_order.proofs.RemovalLemmas.{child-before, within-children}
+use Rattle.iddqd_order.proofs.RemovalLemmas.{child-before}
 use Rattle.iddqd_order.proofs.btree_table.node.Node.+last.Goals as goal
 
 pub index-requires : goal.index-requires
 index-requires t c =
-    let w = within-children c.args.height c.len-count.result c.args.self.now c.if-height-eq0.false (omega arith) c.requires.formed in
+    let w = child-within c.args.height c.args.self.now c.len-count.result c.if-height-eq0.false c.requires.formed (omega arith) in
     search (rules, w)
 
 pub last-requires : goal.last-requires

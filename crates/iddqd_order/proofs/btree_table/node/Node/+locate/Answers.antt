@@ -1,7 +1,6 @@
-use Rattle.std.proofs.Common.{◌≡◌, ◌-◌, ◌<◌, length, slice_index, arith, refl, sym, ap, ◌∙◌, subst, below_more, rules}
-use Rattle.iddqd_order.specs.Node.{row, children, child, flat, Holds, spot}
-use Rattle.iddqd_order.proofs.NodeLemmas.{formed-within, formed-inner}
-use Rattle.iddqd_order.proofs.DescentLemmas.{path-here, path-above, holds-here, below-holds, child-formed, child_is, spot-row, spot-child, absent_leaf, absent_inner}
+use Rattle.iddqd_order.proofs.Names.{◌≡◌, ◌-◌, ◌<◌, length, slice_index, arith, refl, sym, ap, ◌∙◌, subst, below_more, rules, row, children, child, flat, Holds, spot}
+use Rattle.iddqd_order.proofs.NodeLemmas.{formed-within, formed-inner, child-formed}
+use Rattle.iddqd_order.proofs.DescentLemmas.{path-here, path-above, holds-here, below-holds, child_is, spot-row, spot-child, absent_leaf, absent_inner}
 use Rattle.iddqd_order.proofs.btree_table.node.Node.+locate.Goals as goal
 
 pub set-requires-clause-place : goal.set-requires-clause-place
@@ -33,15 +32,13 @@ loop-i-init t c = record { path = c.requires.path; above = λ m lt. refl; missin
 pub set-requires-in-loop-i-clause-place : goal.set-requires-in-loop-i-clause-place
 set-requires-in-loop-i-clause-place t c =
     let inner = (formed-inner c.args.height c.args.self.now c.if-height-eq0.false c.requires.formed).inner in
-    let few = inner.within in
-    let one = inner.one_more in
+    let few = inner.within in let one = inner.one_more in
     let lt : c.loop-i.i < length (children c.args.self.now) = search rules in
     omega arith
 
 pub locate-requires : goal.locate-requires
 locate-requires t c =
-    let n = c.args.self.now in
-    let k = c.index.result.now in
+    let n = c.args.self.now in let k = c.index.result.now in
     let lt : c.loop-i.i < length (children n) = search rules in
     let same : k ≡ child n c.loop-i.i = child_is n c.loop-i.i k lt c.index.ensures in
     let levels = c.requires.levels in
@@ -49,10 +46,7 @@ locate-requires t c =
 
 pub returns-in-Some-locate-clause-found : goal.returns-in-Some-locate-clause-found
 returns-in-Some-locate-clause-found t c =
-    let n = c.args.self.now in
-    let k = c.index.result.now in
-    let h = c.args.height in
-    let i = c.loop-i.i in
+    let n = c.args.self.now in let k = c.index.result.now in let h = c.args.height in let i = c.loop-i.i in
     let p = c.locate.new.path in
     let lt : i < length (children n) = search rules in
     let same : k ≡ child n i = child_is n i k lt c.index.ensures in
@@ -62,12 +56,8 @@ returns-in-Some-locate-clause-found t c =
 
 pub returns-in-Some-locate-clause-there : goal.returns-in-Some-locate-clause-there
 returns-in-Some-locate-clause-there t c =
-    let n = c.args.self.now in
-    let k = c.index.result.now in
-    let h = c.args.height in
-    let i = c.loop-i.i in
-    let p = c.locate.new.path in
-    let m = c.in-Some-locate.level in
+    let n = c.args.self.now in let k = c.index.result.now in let h = c.args.height in let i = c.loop-i.i in
+    let p = c.locate.new.path in let m = c.in-Some-locate.level in
     let lt : i < length (children n) = search rules in
     let same : k ≡ child n i = child_is n i k lt c.index.ensures in
     let here : slice_index p h ≡ i = c.in-Some-locate.ensures.above h (omega arith) ∙ path-here c.loop-i.path c.set-in-loop-i.new.self h i c.loop-i.invariant.path c.requires.levels c.set-in-loop-i.ensures.place in
@@ -81,10 +71,7 @@ returns-in-Some-locate-clause-above t c l lt =
 
 pub loop-i-preserved : goal.loop-i-preserved
 loop-i-preserved t c =
-    let n = c.args.self.now in
-    let k = c.index.result.now in
-    let h = c.args.height in
-    let i = c.loop-i.i in
+    let n = c.args.self.now in let k = c.index.result.now in let h = c.args.height in let i = c.loop-i.i in
     let lt : i < length (children n) = search rules in
     let same : k ≡ child n i = child_is n i k lt c.index.ensures in
     record {
@@ -95,7 +82,6 @@ loop-i-preserved t c =
 
 pub returns-clause-missing : goal.returns-clause-missing
 returns-clause-missing t c none =
-    let n = c.args.self.now in
-    let over = c.loop-i-test.false in
+    let n = c.args.self.now in let over = c.loop-i-test.false in
     absent_inner c.args.height n c.args.ix c.if-height-eq0.false c.requires.formed (rw c.as_slice.ensures at (c.in_default.ensures.missing refl))
     (λ k lt. c.loop-i.invariant.missing k (let all : k < c.len-i-end.result = search (rules, lt) in omega arith))

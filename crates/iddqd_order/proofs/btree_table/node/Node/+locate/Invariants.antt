@@ -1,5 +1,4 @@
-use Rattle.std.proofs.Common.{◌≡◌, ℕ, ◌-◌, ◌<◌, Contains, length, slice_index}
-use Rattle.iddqd_order.specs.Node.{child, flat}
+use Rattle.iddqd_order.proofs.Names.{◌≡◌, ℕ, ◌-◌, ◌<◌, Contains, length, slice_index, child, flat}
 use Rattle.iddqd_order.proofs.btree_table.node.Node.+locate.Given as goal
 
 abbrev pub decreases-locate : goal.decreases-locate

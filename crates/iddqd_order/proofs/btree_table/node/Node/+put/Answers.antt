@@ -1,10 +1,8 @@
-use Rattle.std.proofs.Common.{◌≡◌, ◌∙◌, refl, arith, rules}
-use Rattle.iddqd_order.specs.declared.btree_table.node.Node.TheViews.{roll-Node}
-use Rattle.iddqd_order.specs.Node.{child}
+use Rattle.iddqd_order.proofs.Names.{◌≡◌, ◌∙◌, refl, arith, rules, roll-Node, child}
 use Rattle.iddqd_order.proofs.NodeLemmas.{row-roll, children-roll}
 use Rattle.iddqd_order.proofs.DescentLemmas.{child_is}
-use Rattle.iddqd_order.proofs.RemovalLemmas.{room-kept}
-use Rattle.iddqd_order.proofs.WayLemmas.{goes-below, level_is, holds-row, put-here, put-below}
+use Rattle.iddqd_order.proofs.RemovalLemmas.{goes-below, room-kept}
+use Rattle.iddqd_order.proofs.WayLemmas.{ends-here, put-here, put-below}
 use Rattle.iddqd_order.proofs.btree_table.node.Node.+put.Goals as goal
 
 pub index_mut-requires : goal.index_mut-requires
@@ -30,11 +28,10 @@ returns-then-height-level t c =
 
 pub set-requires : goal.set-requires
 set-requires t c =
-    let e = level_is c.args.height c.args.level c.args.self.now c.args.path.now c.if-height-level.false c.requires.holds in
-    holds-row c.args.height c.args.level c.get-i.result c.args.self.now c.args.path.now e c.get-i.ensures c.requires.holds
+    (ends-here c.args.height c.args.level c.get-i.result c.args.self.now c.args.path.now c.if-height-level.false c.get-i.ensures c.requires.formed c.requires.holds).within
 
 pub returns : goal.returns
 returns t c =
-    let e = level_is c.args.height c.args.level c.args.self.now c.args.path.now c.if-height-level.false c.requires.holds in
-    let k = put-here c.args.height c.args.level c.get-i.result c.args.ix c.args.self.now (roll-Node _) c.args.path.now e c.get-i.ensures c.requires.formed c.requires.holds (row-roll _ ∙ c.set.ensures) (children-roll _) (room-kept c.args.self.now _ refl) in
+    let e = ends-here c.args.height c.args.level c.get-i.result c.args.self.now c.args.path.now c.if-height-level.false c.get-i.ensures c.requires.formed c.requires.holds in
+    let k = put-here c.args.height c.args.level c.get-i.result c.args.ix c.args.self.now (roll-Node _) c.args.path.now e.level c.get-i.ensures c.requires.formed c.requires.holds (row-roll _ ∙ c.set.ensures) (children-roll _) (room-kept c.args.self.now _ refl) in
     record { items = k.items; formed = k.formed; same_length = k.same_length; same_places = k.same_places }

@@ -14,7 +14,7 @@ put_above-requires t c =
     record { inner = λ e. absurd (omega arith); formed = c.requires.formed; goes = c.requires.goes; at = c.get-i.ensures; is = c.index_mut.ensures.value } in
     let b = taken _ _ _ _ _ k in
     let more = c.if-height-full.true in
-    (omega arith, (omega arith, (c.requires.some, (omega arith, (b.formed, (b.goes, (full_child _ _ _ _ _ _ k c.requires.full, (c.requires.enough, c.requires.spare))))))))
+    (omega arith, (omega arith, (c.requires.some, (omega arith, (b.formed, (b.goes, (full_child _ _ _ _ _ _ k c.requires.full, c.requires.enough)))))))
 
 pub index_mut-requires-else-height-full : goal.index_mut-requires-else-height-full
 index_mut-requires-else-height-full t c =
@@ -37,7 +37,6 @@ cut-middle-requires t c =
       goes = b.goes;
       full = all_full _ (c.args.height - 1 + 1) _ _ _ (omega arith) (omega arith) (full_child _ _ _ _ _ _ k c.requires.full);
       enough = omega arith;
-      spare = c.requires.spare;
     }
 
 pub put_between-requires : goal.put_between-requires
@@ -62,7 +61,7 @@ returns-then-height-full t c =
     let p = put_below c.args.height c.args.self.now (roll-Node _) c.args.path.now c.args.ix c.get-i.result c.index_mut.result.now c.put_above.new.self k
     (record { items = c.put_above.ensures.items; formed = c.put_above.ensures.formed; longer = c.put_above.ensures.longer })
     (row-roll _) (children-roll _) (room-from _ b.node.has_room) in
-    record { items = p.items; formed = p.formed; longer = p.longer; spare = c.put_above.ensures.spare }
+    record { items = p.items; formed = p.formed; longer = p.longer }
 
 pub returns-else-height-full : goal.returns-else-height-full
 returns-else-height-full t c =
@@ -77,4 +76,4 @@ returns-else-height-full t c =
     let e = simp out-roll-Node at c.put_between.ensures in
     let p = put_here c.args.height c.args.self.now (roll-Node _) c.args.path.now c.args.ix c.get-i.result c.index_mut-else-height-full.result.now c.cut-middle.new.self c.cut-middle.result.0 c.cut-middle.result.1 k d
     room (row-roll _ ∙ e.row) (children-roll _ ∙ e.children) (room-from _ e.has_room) in
-    record { items = p.items; formed = p.formed; longer = p.longer; spare = c.cut-middle.ensures.spare }
+    record { items = p.items; formed = p.formed; longer = p.longer }

@@ -1,8 +1,6 @@
-use Rattle.std.proofs.Common.{rules, ℕ, ◌-◌, remove, slice_index, arith, ap, ◌∙◌}
-use Rattle.iddqd_order.specs.declared.btree_table.node.Node.TheViews.{roll-Node, out-roll-Node}
-use Rattle.iddqd_order.specs.Node.{row, children, room, flat, spot}
-use Rattle.iddqd_order.proofs.NodeLemmas.{row-roll, children-roll, room-roll}
-use Rattle.iddqd_order.proofs.RemovalLemmas.{holds-leaf, within-below, within-at, child-below, child-before, within-children, remade-leaf, TookNow, took-now, took-below, took-here, IsRemade, remade, room-kept}
+use Rattle.iddqd_order.proofs.Names.{rules, ◌<◌, ◌-◌, remove, slice_index, arith, ap, ◌∙◌, roll-Node, out-roll-Node, row, children, room, flat, spot}
+use Rattle.iddqd_order.proofs.NodeLemmas.{child-within, row-roll, children-roll, room-roll}
+use Rattle.iddqd_order.proofs.RemovalLemmas.{holds-leaf, holds-level, goes-below, ends-inner, child-below, child-before, remade-leaf, TookNow, took-now, took-below, took-here, remade, room-kept}
 use Rattle.iddqd_order.proofs.btree_table.node.Node.+remove.Goals as goal
 use Rattle.iddqd_order.proofs.btree_table.node.Node.+remove.Goals.{then-height-level, else-height-level}
 
@@ -11,49 +9,34 @@ remove-requires t c =
     let e = c.get-i.ensures ∙ ap (λ z. slice_index c.args.path.now z) c.if-height-eq0.true in
     rw e (holds-leaf c.args.level c.args.height c.args.self.now c.args.path.now c.if-height-eq0.true c.requires.holds)
 
-pub returns-then-height-eq0-clause-items : goal.returns-then-height-eq0-clause-items
-returns-then-height-eq0-clause-items t c =
+pub returns-then-height-eq0 : goal.returns-then-height-eq0
+returns-then-height-eq0 t c =
     let k = remade-leaf c.args.level c.args.height c.get-i.result c.args.self.now (roll-Node _) c.args.path.now c.if-height-eq0.true c.get-i.ensures c.requires.formed c.requires.holds (row-roll _ ∙ c.remove.ensures.items) (children-roll _) in
-    k.items
-
-pub returns-then-height-eq0-clause-formed : goal.returns-then-height-eq0-clause-formed
-returns-then-height-eq0-clause-formed t c =
-    let k = remade-leaf c.args.level c.args.height c.get-i.result c.args.self.now (roll-Node _) c.args.path.now c.if-height-eq0.true c.get-i.ensures c.requires.formed c.requires.holds (row-roll _ ∙ c.remove.ensures.items) (children-roll _) in
-    k.formed
-
-pub returns-then-height-eq0-clause-fewer : goal.returns-then-height-eq0-clause-fewer
-returns-then-height-eq0-clause-fewer t c =
-    let k = remade-leaf c.args.level c.args.height c.get-i.result c.args.self.now (roll-Node _) c.args.path.now c.if-height-eq0.true c.get-i.ensures c.requires.formed c.requires.holds (row-roll _ ∙ c.remove.ensures.items) (children-roll _) in
-    k.fewer
+    record { items = k.items; formed = k.formed; fewer = k.fewer }
 
 pub index_mut-requires : goal.index_mut-requires
 index_mut-requires t c =
-    let at = within-at c.args.level c.args.height c.get-i.result c.args.self.now c.args.path.now c.if-height-eq0.false c.if-height-level.true c.get-i.ensures c.requires.holds in
-    let w = within-children c.args.height c.get-i.result c.args.self.now c.if-height-eq0.false (omega arith) c.requires.formed in
+    let at = (ends-inner c.args.height c.args.level c.get-i.result c.args.self.now c.args.path.now c.if-height-eq0.false c.if-height-level.true c.get-i.ensures c.requires.formed c.requires.holds).within in
+    let w = child-within c.args.height c.args.self.now c.get-i.result c.if-height-eq0.false c.requires.formed (omega arith) in
     search (rules, w)
 
-pub remove_last-last-requires-clause-some : goal.remove_last-last-requires-clause-some
-remove_last-last-requires-clause-some t c =
-    let at = within-at c.args.level c.args.height c.get-i.result c.args.self.now c.args.path.now c.if-height-eq0.false c.if-height-level.true c.get-i.ensures c.requires.holds in
+pub remove_last-last-requires : goal.remove_last-last-requires
+remove_last-last-requires t c =
+    let at = (ends-inner c.args.height c.args.level c.get-i.result c.args.self.now c.args.path.now c.if-height-eq0.false c.if-height-level.true c.get-i.ensures c.requires.formed c.requires.holds).within in
     let b = child-before c.args.height c.get-i.result c.args.self.now c.index_mut.result.now c.if-height-eq0.false (omega arith) c.requires.formed (search rules) in
     let five = b.1.0 in
-    omega arith
-
-pub remove_last-last-requires-clause-formed : goal.remove_last-last-requires-clause-formed
-remove_last-last-requires-clause-formed t c =
-    let at = within-at c.args.level c.args.height c.get-i.result c.args.self.now c.args.path.now c.if-height-eq0.false c.if-height-level.true c.get-i.ensures c.requires.holds in
-    let b = child-before c.args.height c.get-i.result c.args.self.now c.index_mut.result.now c.if-height-eq0.false (omega arith) c.requires.formed (search rules) in
-    b.1.1
+    record { some = omega arith; formed = b.1.1 }
 
 pub set-requires : goal.set-requires
 set-requires t c =
-    let at = within-at c.args.level c.args.height c.get-i.result c.args.self.now c.args.path.now c.if-height-eq0.false c.if-height-level.true c.get-i.ensures c.requires.holds in
+    let at = (ends-inner c.args.height c.args.level c.get-i.result c.args.self.now c.args.path.now c.if-height-eq0.false c.if-height-level.true c.get-i.ensures c.requires.formed c.requires.holds).within in
     simp out-roll-Node at
 
 pub index_mut-requires-else-height-level : goal.index_mut-requires-else-height-level
 index_mut-requires-else-height-level t c =
-    let w = within-below c.args.level c.args.height c.get-i.result c.args.self.now c.args.path.now c.if-height-eq0.false c.if-height-level.false c.get-i.ensures c.requires.holds in
-    search (rules, w)
+    let lt : c.args.level < c.args.height = omega (arith, holds-level c.args.level c.args.height c.args.self.now c.args.path.now c.requires.holds) in
+    let b = goes-below c.args.height c.args.level c.get-i.result c.args.self.now c.args.path.now lt c.get-i.ensures c.requires.formed c.requires.holds in
+    search (rules, b.here)
 
 pub remove-requires-else-height-level : goal.remove-requires-else-height-level
 remove-requires-else-height-level t c =
@@ -77,9 +60,8 @@ mend-requires t c =
     ] in
     (c.args.height - 1, k.took.may_lack)
 
--- what is left of the node
-made : (t : ℕ) (c : goal.After-mend t) → IsRemade c.args.height c.args.self.now (roll-Node (record { row = c.mend.new.row; children = c.mend.new.children })) (remove (flat c.args.height c.args.self.now) (spot c.args.level c.args.height c.args.self.now c.args.path.now))
-made t c =
+pub returns : goal.returns
+returns t c =
     let k : TookNow c.args.height c.get-i.result c.args.self.now c.if-height-level.self (remove (flat c.args.height c.args.self.now) (spot c.args.level c.args.height c.args.self.now c.args.path.now)) =
     elim c.if-height-level.branch [
       | then-height-level w ↦
@@ -92,13 +74,5 @@ made t c =
           let k = took-below c.args.level c.args.height c.get-i.result c.args.self.now w.index_mut-else-height-level.result.now w.remove-else-height-level.new.self c.args.path.now c.if-height-eq0.false w.if-height-level.false c.get-i.ensures c.requires.formed c.requires.some c.requires.holds (search rules) d.items d.formed d.fewer in
           took-now c.args.height c.get-i.result c.args.self.now c.if-height-level.self _ _ _ k (ap row w.self-is ∙ row-roll _) (ap children w.self-is ∙ children-roll _) (ap room w.self-is ∙ room-roll _))
     ] in
-    remade c.args.height c.get-i.result c.args.self.now (roll-Node _) _ _ _ _ _ k.took (c.mend.ensures.mended (c.args.height - 1) k.took.may_lack) (row-roll _) (children-roll _) (room-kept c.args.self.now _ (c.mend.ensures.capacity ∙ k.room_is))
-
-pub returns-clause-items : goal.returns-clause-items
-returns-clause-items t c = (made t c).items
-
-pub returns-clause-formed : goal.returns-clause-formed
-returns-clause-formed t c = (made t c).formed
-
-pub returns-clause-fewer : goal.returns-clause-fewer
-returns-clause-fewer t c = (made t c).fewer
+    let m = remade c.args.height c.get-i.result c.args.self.now (roll-Node _) _ _ _ _ _ k.took (c.mend.ensures.mended (c.args.height - 1) k.took.may_lack) (row-roll _) (children-roll _) (room-kept c.args.self.now _ (c.mend.ensures.capacity ∙ k.room_is)) in
+    record { items = m.items; formed = m.formed; fewer = m.fewer }

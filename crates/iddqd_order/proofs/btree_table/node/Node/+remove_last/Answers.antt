@@ -1,22 +1,16 @@
-use Rattle.std.proofs.Common.{rules, ◌-◌, [], ◌∷◌, ◌++◌, arith, ap, ◌∙◌, sym}
-use Rattle.iddqd_order.specs.declared.btree_table.node.Node.TheViews.{roll-Node, out-roll-Node}
-use Rattle.iddqd_order.proofs.NodeLemmas.{row-roll, children-roll}
-use Rattle.iddqd_order.proofs.RemovalLemmas.{last-of-leaf, child-before, within-children, took-last, remade, room-kept}
+use Rattle.iddqd_order.proofs.Names.{rules, ◌-◌, [], ◌∷◌, ◌++◌, arith, ap, ◌∙◌, sym, roll-Node, out-roll-Node}
+use Rattle.iddqd_order.proofs.NodeLemmas.{child-within, row-roll, children-roll}
+use Rattle.iddqd_order.proofs.RemovalLemmas.{last-of-leaf, child-before, took-last, remade, room-kept}
 use Rattle.iddqd_order.proofs.btree_table.node.Node.+remove_last.Goals as goal
 
-pub returns-then-height-eq0-clause-items : goal.returns-then-height-eq0-clause-items
-returns-then-height-eq0-clause-items t c =
+pub returns-then-height-eq0 : goal.returns-then-height-eq0
+returns-then-height-eq0 t c =
     let k = last-of-leaf c.args.height c.len-count.result c.args.self.now (roll-Node _) c.remove.result c.if-height-eq0.true c.len-count.ensures.length c.requires.formed c.requires.some (row-roll _ ∙ c.remove.ensures.items) c.remove.ensures.value (children-roll _) in
-    k.items
-
-pub returns-then-height-eq0-clause-formed : goal.returns-then-height-eq0-clause-formed
-returns-then-height-eq0-clause-formed t c =
-    let k = last-of-leaf c.args.height c.len-count.result c.args.self.now (roll-Node _) c.remove.result c.if-height-eq0.true c.len-count.ensures.length c.requires.formed c.requires.some (row-roll _ ∙ c.remove.ensures.items) c.remove.ensures.value (children-roll _) in
-    k.formed
+    record { items = k.items; formed = k.formed; fewer = k.fewer }
 
 pub index_mut-requires : goal.index_mut-requires
 index_mut-requires t c =
-    let w = within-children c.args.height c.len-count.result c.args.self.now c.if-height-eq0.false (omega arith) c.requires.formed in
+    let w = child-within c.args.height c.args.self.now c.len-count.result c.if-height-eq0.false c.requires.formed (omega arith) in
     search (rules, w)
 
 pub remove_last-last-requires : goal.remove_last-last-requires
@@ -31,29 +25,11 @@ mend-requires t c =
     let k = took-last c.args.height c.len-count.result c.args.self.now c.index_mut.result.now c.remove_last-last.new.self c.remove_last-last.result c.if-height-eq0.false c.len-count.ensures.length c.requires.formed c.requires.some (search rules) d.items d.formed d.fewer in
     (c.args.height - 1, simp out-roll-Node k.took.may_lack)
 
-pub returns-clause-items : goal.returns-clause-items
-returns-clause-items t c =
+pub returns : goal.returns
+returns t c =
     let d = c.remove_last-last.ensures in
     let k = took-last c.args.height c.len-count.result c.args.self.now c.index_mut.result.now c.remove_last-last.new.self c.remove_last-last.result c.if-height-eq0.false c.len-count.ensures.length c.requires.formed c.requires.some (search rules) d.items d.formed d.fewer in
     let m = simp out-roll-Node at c.mend.ensures.mended in
     let room_is = simp out-roll-Node at c.mend.ensures.capacity in
     let r = remade c.args.height c.len-count.result c.args.self.now (roll-Node _) _ _ _ _ _ k.took (m (c.args.height - 1) k.took.may_lack) (row-roll _) (children-roll _) (room-kept c.args.self.now _ room_is) in
-    k.items ∙ ap (λ z. z ++ c.remove_last-last.result ∷ []) (sym r.items)
-
-pub returns-clause-formed : goal.returns-clause-formed
-returns-clause-formed t c =
-    let d = c.remove_last-last.ensures in
-    let k = took-last c.args.height c.len-count.result c.args.self.now c.index_mut.result.now c.remove_last-last.new.self c.remove_last-last.result c.if-height-eq0.false c.len-count.ensures.length c.requires.formed c.requires.some (search rules) d.items d.formed d.fewer in
-    let m = simp out-roll-Node at c.mend.ensures.mended in
-    let room_is = simp out-roll-Node at c.mend.ensures.capacity in
-    let r = remade c.args.height c.len-count.result c.args.self.now (roll-Node _) _ _ _ _ _ k.took (m (c.args.height - 1) k.took.may_lack) (row-roll _) (children-roll _) (room-kept c.args.self.now _ room_is) in
-    r.formed
-
-pub returns-clause-fewer : goal.returns-clause-fewer
-returns-clause-fewer t c =
-    let d = c.remove_last-last.ensures in
-    let k = took-last c.args.height c.len-count.result c.args.self.now c.index_mut.result.now c.remove_last-last.new.self c.remove_last-last.result c.if-height-eq0.false c.len-count.ensures.length c.requires.formed c.requires.some (search rules) d.items d.formed d.fewer in
-    let m = simp out-roll-Node at c.mend.ensures.mended in
-    let room_is = simp out-roll-Node at c.mend.ensures.capacity in
-    let r = remade c.args.height c.len-count.result c.args.self.now (roll-Node _) _ _ _ _ _ k.took (m (c.args.height - 1) k.took.may_lack) (row-roll _) (children-roll _) (room-kept c.args.self.now _ room_is) in
-    r.fewer
+    record { items = k.items ∙ ap (λ z. z ++ c.remove_last-last.result ∷ []) (sym r.items); formed = r.formed; fewer = r.fewer }

@@ -1,8 +1,4 @@
-use Rattle.std.proofs.Common.{◌<◌, ◌≤◌, ◌∙◌, ℕ, length, arith, rules}
-use Rattle.iddqd.specs.Compaction.{CanRemap, remapped}
-use Rattle.iddqd_order.specs.declared.btree_table.node.Node.{Node}
-use Rattle.iddqd_order.specs.declared.btree_table.node.Node.TheViews.{out-Node, roll-Node}
-use Rattle.iddqd_order.specs.Node.{children}
+use Rattle.iddqd_order.proofs.Names.{◌<◌, ◌≤◌, ◌∙◌, ℕ, length, arith, rules, CanRemap, remapped, Node, out-Node, roll-Node, children}
 use Rattle.iddqd_order.proofs.NodeLemmas.{row-roll, children-roll, room-roll}
 use Rattle.iddqd_order.proofs.NodeRenameLemmas.{IsRenamed, own-can, next-can, renamed-leaf, renamed-all}
 use Rattle.iddqd_order.proofs.btree_table.node.Node.+rename.Goals as goal

@@ -1,5 +1,4 @@
-use Rattle.std.proofs.Common.{◌-◌}
-use Rattle.iddqd.specs.Compaction.{remapped}
+use Rattle.iddqd_order.proofs.Names.{◌-◌, remapped}
 use Rattle.iddqd_order.proofs.NodeRenameLemmas.{AreRenamed}
 use Rattle.iddqd_order.proofs.btree_table.node.Node.+rename.Given as goal
 

@@ -1,8 +1,6 @@
-use Rattle.std.proofs.Common.{◌≡◌, ◌+◌, ◌-◌, ◌*◌, ◌<◌, Ok, Err, length, slice_index, arith, sym, ap, ◌∙◌, subst, rules}
-use Rattle.iddqd_order.specs.Descent.{Descends}
-use Rattle.iddqd_order.specs.Node.{row, children, child, flat}
-use Rattle.iddqd_order.specs.Search.{CanSearch, SearchesWithin}
-use Rattle.iddqd_order.proofs.DescentLemmas.{Counts, Counts-not_full, Counts-full, counts_above, Descends-hit, Descends-leaf, Descends-below, can_ask_row, can_ask_below, child-within, child-formed, child_is, path-here, path-above}
+use Rattle.iddqd_order.proofs.Names.{◌≡◌, ◌+◌, ◌-◌, ◌*◌, ◌<◌, Ok, Err, length, slice_index, arith, sym, ap, ◌∙◌, subst, rules, Descends, row, children, child, flat, CanSearch, SearchesWithin}
+use Rattle.iddqd_order.proofs.NodeLemmas.{child-formed}
+use Rattle.iddqd_order.proofs.DescentLemmas.{Counts, Counts-not_full, Counts-full, counts_above, Descends-hit, Descends-leaf, Descends-below, can_ask_row, can_ask_below, child-within, child_is, path-here, path-above}
 use Rattle.iddqd_order.proofs.btree_table.node.Node.descend.Goals as goal
 use Rattle.iddqd_order.proofs.btree_table.node.Node.descend.Goals.{then-len-lt-CAPACITY, else-len-lt-CAPACITY}
 
@@ -30,14 +28,9 @@ keep_or_set-requires-clause-level g c = let le = c.loop-full.invariant.levels in
 pub returns-in-Ok-clause-descends : goal.returns-in-Ok-clause-descends
 returns-in-Ok-clause-descends g c =
     let read = g.H.Reads.reading c.args.how.now in
-    let tie = c.args.tie.now in
-    let l = c.loop-full.level in
-    let n = c.loop-full.node.now in
-    let p = c.set.new.self in
-    let a = c.loop-full.asking in
-    let b = c.search_row.new.asking in
-    let held = c.loop-full.invariant in
-    let s = c.in-Ok.ensures in
+    let tie = c.args.tie.now in let l = c.loop-full.level in let n = c.loop-full.node.now in
+    let p = c.set.new.self in let a = c.loop-full.asking in let b = c.search_row.new.asking in
+    let held = c.loop-full.invariant in let s = c.in-Ok.ensures in
     let here : slice_index p l ≡ c.in-Ok.i = path-here c.loop-full.path p l c.in-Ok.i held.path held.levels c.set.ensures.place in
     held.rest p (Ok l) b (λ m lt. path-above c.loop-full.path p l c.in-Ok.i m c.set.ensures.place lt)
     (Descends-hit g.F.FnMut read tie (4 * (l + 1)) c.loop-full.full l n p a b (omega arith) held.formed (subst (λ i. SearchesWithin g.F.FnMut read (row n) 4 tie a (Ok i) b) (sym here) s))
@@ -45,14 +38,9 @@ returns-in-Ok-clause-descends g c =
 pub returns-then-level-eq0-clause-descends : goal.returns-then-level-eq0-clause-descends
 returns-then-level-eq0-clause-descends g c =
     let read = g.H.Reads.reading c.args.how.now in
-    let tie = c.args.tie.now in
-    let l = c.loop-full.level in
-    let n = c.loop-full.node.now in
-    let p = c.keep_or_set.new.self in
-    let a = c.loop-full.asking in
-    let b = c.search_row.new.asking in
-    let held = c.loop-full.invariant in
-    let s = c.in-Err.ensures in
+    let tie = c.args.tie.now in let l = c.loop-full.level in let n = c.loop-full.node.now in
+    let p = c.keep_or_set.new.self in let a = c.loop-full.asking in let b = c.search_row.new.asking in
+    let held = c.loop-full.invariant in let s = c.in-Err.ensures in
     let here : slice_index p l ≡ c.in-Err.i = path-here c.loop-full.path p l c.in-Err.i held.path held.levels c.keep_or_set.ensures.place in
     let counts : Counts n c.loop-full.full l c.if-len-lt-CAPACITY.full =
     elim c.if-len-lt-CAPACITY.branch [
@@ -64,27 +52,17 @@ returns-then-level-eq0-clause-descends g c =
 
 pub index-node-requires : goal.index-node-requires
 index-node-requires g c =
-    let n = c.loop-full.node.now in
-    let held = c.loop-full.invariant in
-    let s = c.in-Err.ensures in
+    let n = c.loop-full.node.now in let held = c.loop-full.invariant in let s = c.in-Err.ensures in
     let lt : c.in-Err.i < length (children n) = child-within c.loop-full.level n c.in-Err.i c.if-level-eq0.false held.formed s.missed in
     search (rules, lt)
 
 pub loop-full-preserved : goal.loop-full-preserved
 loop-full-preserved g c =
     let read = g.H.Reads.reading c.args.how.now in
-    let tie = c.args.tie.now in
-    let l = c.loop-full.level in
-    let n = c.loop-full.node.now in
-    let i = c.in-Err.i in
-    let k = c.index-node.result.now in
-    let path = c.keep_or_set.new.self in
-    let a = c.loop-full.asking in
-    let b = c.search_row.new.asking in
-    let full = c.if-len-lt-CAPACITY.full in
-    let ne = c.if-level-eq0.false in
-    let held = c.loop-full.invariant in
-    let s = c.in-Err.ensures in
+    let tie = c.args.tie.now in let l = c.loop-full.level in let n = c.loop-full.node.now in
+    let i = c.in-Err.i in let k = c.index-node.result.now in let path = c.keep_or_set.new.self in
+    let a = c.loop-full.asking in let b = c.search_row.new.asking in let full = c.if-len-lt-CAPACITY.full in
+    let ne = c.if-level-eq0.false in let held = c.loop-full.invariant in let s = c.in-Err.ensures in
     let lt : i < length (children n) = child-within l n i ne held.formed s.missed in
     let same : k ≡ child n i = child_is n i k lt c.index-node.ensures in
     let levels = held.levels in

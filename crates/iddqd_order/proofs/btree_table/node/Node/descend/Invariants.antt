@@ -1,7 +1,4 @@
-use Rattle.std.proofs.Common.{◌≡◌, ◌<◌, ◌≤◌, ℕ, ◌+◌, ◌*◌, IsTrue, Result, length, slice_index}
-use Rattle.iddqd_order.specs.Descent.{Descends}
-use Rattle.iddqd_order.specs.Node.{flat, IsFormed}
-use Rattle.iddqd_order.specs.Search.{CanSearch}
+use Rattle.iddqd_order.proofs.Names.{◌≡◌, ◌<◌, ◌≤◌, ℕ, ◌+◌, ◌*◌, IsTrue, Result, length, slice_index, Descends, flat, IsFormed, CanSearch}
 use Rattle.iddqd_order.proofs.btree_table.node.Node.descend.Given as goal
 
 abbrev pub invariant-loop-full : goal.invariant-loop-full

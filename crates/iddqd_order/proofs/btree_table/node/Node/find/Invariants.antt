@@ -1,7 +1,4 @@
-use Rattle.std.proofs.Common.{ℕ, Option, None}
-use Rattle.iddqd_order.specs.Descent.{FindsIn}
-use Rattle.iddqd_order.specs.Node.{flat, IsFormed}
-use Rattle.iddqd_order.specs.Search.{CanSearch}
+use Rattle.iddqd_order.proofs.Names.{ℕ, Option, None, FindsIn, flat, IsFormed, CanSearch}
 use Rattle.iddqd_order.proofs.btree_table.node.Node.find.Given as goal
 
 abbrev pub invariant-loop-i : goal.invariant-loop-i

@@ -5,11 +5,11 @@ use Rattle.iddqd_order.proofs.btree_table.table.MapBTreeTable.descend.Goals as g
 
 pub returns-in_default : goal.returns-in_default
 returns-in_default g c =
-    EndsIn-none g.F.FnMut (g.H.Reads.reading c.args.how.now) c.args.tie.now c.args.self.now _ _ (nowhere c.args.self.now _ _ _ c.first-path.result c.self.view_is c.in_default.is)
+    EndsIn-none g.F.FnMut (g.H.Reads.reading c.args.how.now) c.args.tie.now c.args.self.now _ _ (nowhere c.args.self.now _ _ c.first-path.result c.self.view_is c.in_default.is)
 
 pub descend-end-requires : goal.descend-end-requires
 descend-end-requires g c =
-    let r = root_of c.args.self.now _ _ _ _ _ c.in-Some.root c.self.view_is c.self.invariant c.in-Some.is in
+    let r = root_of c.args.self.now _ _ _ c.in-Some.root c.self.view_is c.self.invariant c.in-Some.is in
     record {
       formed = r.formed;
       levels = r.low;
@@ -20,5 +20,5 @@ descend-end-requires g c =
 
 pub returns : goal.returns
 returns g c =
-    let r = root_of c.args.self.now _ _ _ _ _ c.in-Some.root c.self.view_is c.self.invariant c.in-Some.is in
+    let r = root_of c.args.self.now _ _ _ c.in-Some.root c.self.view_is c.self.invariant c.in-Some.is in
     EndsIn-root g.F.FnMut (g.H.Reads.reading c.args.how.now) c.args.tie.now _ _ _ _ _ _ _ (omega arith) r c.descend-end.ensures.descends

@@ -10,12 +10,12 @@ use Rattle.iddqd_order.proofs.btree_table.table.MapBTreeTable.find.Goals as goal
 
 pub find-requires-clause-can_search : goal.find-requires-clause-can_search
 find-requires-clause-can_search g c =
-    let r = root_of c.args.self.now _ _ _ _ _ c.in-Some.root c.self.view_is c.self.invariant c.in-Some.is in
+    let r = root_of c.args.self.now _ _ _ c.in-Some.root c.self.view_is c.self.invariant c.in-Some.is in
     subst (λ xs. CanSearch g.F.FnMut xs None c.args.asking.now) (sym r.list) c.requires
 
 pub returns-in_default : goal.returns-in_default
 returns-in_default g c =
-    let none = nowhere c.args.self.now _ _ _ [] c.self.view_is c.in_default.is in
+    let none = nowhere c.args.self.now _ _ [] c.self.view_is c.in_default.is in
     record {
       asked = asks_more g.F.FnMut _ (omega arith) (asks_none g.F.FnMut (Askable (order_of c.args.self.now) None) _);
       stored = tt;
@@ -25,6 +25,6 @@ returns-in_default g c =
 
 pub returns : goal.returns
 returns g c =
-    let r = root_of c.args.self.now _ _ _ _ _ c.in-Some.root c.self.view_is c.self.invariant c.in-Some.is in
+    let r = root_of c.args.self.now _ _ _ c.in-Some.root c.self.view_is c.self.invariant c.in-Some.is in
     subst (λ xs. Finds g.F.FnMut (g.H.Reads.reading c.args.how.now) xs c.args.asking.now c.find.result c.find.new.asking) r.list
     (Finds-from_findsin g.F.FnMut (g.H.Reads.reading c.args.how.now) _ _ _ _ _ r.formed r.some c.find.ensures)

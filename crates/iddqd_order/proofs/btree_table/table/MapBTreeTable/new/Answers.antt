@@ -1,7 +1,5 @@
-use Rattle.std.proofs.lemmas.List.Elements.{All-nil}
-use Rattle.iddqd_order.specs.Node.{IsSpare}
 use Rattle.iddqd_order.proofs.TableLemmas.{IsTable-none}
 use Rattle.iddqd_order.proofs.btree_table.table.MapBTreeTable.new.Goals as goal
 
 pub invariant_of-result : goal.invariant_of-result
-invariant_of-result c = IsTable-none _ (rw c.new.ensures.items (All-nil IsSpare))
+invariant_of-result c = IsTable-none

@@ -5,5 +5,5 @@ use Rattle.iddqd_order.proofs.btree_table.table.MapBTreeTable.remove_exact.Goals
 
 pub returns-in_default-locate : goal.returns-in_default-locate
 returns-in_default-locate c =
-    let r = root_of c.args.self.now _ _ _ _ _ c.in-Some.root c.self.view_is c.self.invariant c.in-Some.is in
+    let r = root_of c.args.self.now _ _ _ c.in-Some.root c.self.view_is c.self.invariant c.in-Some.is in
     sym (without-missing _ _ (λ held. c.in_default-locate.ensures.missing refl (subst (λ (xs : List ℕ). Contains xs c.args.ix) (sym r.list) held)))

@@ -1,9 +1,0 @@
-use Rattle.std.proofs.Common.{◌-◌, ◌≤◌, All, vec_len, vec_capacity}
-use Rattle.iddqd_order.specs.Node.{IsSpare}
-use Rattle.iddqd_order.proofs.btree_table.tree.take_each.Given as goal
-
-abbrev pub invariant-loop-alloc : goal.invariant-loop-alloc
-invariant-loop-alloc l = record { spare : All IsSpare l.blocks.items; room : l.wanted ≤ vec_capacity l.blocks }
-
-abbrev pub decreases-loop-alloc : goal.decreases-loop-alloc
-decreases-loop-alloc l = l.wanted - vec_len l.blocks

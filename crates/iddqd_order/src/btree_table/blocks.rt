@@ -1,0 +1,69 @@
+//! Memory for the inner nodes that an insert adds.
+ghost use Rattle.std.specs.Prelude.{◌≡◌, ℕ, ◌+◌, ◌<◌, IfOk};
+ghost use Rattle.iddqd_order.specs.Node.{IsSpare};
+
+use crate::btree_table::node::Node;
+use crate::btree_table::row::CAPACITY;
+use std::alloc::{AllocError, Global};
+use std::marker::Model;
+
+/// What holds a number of blocks.
+pub trait HoldsBlocks: Drop {
+    ghost count: { Self → ℕ };
+}
+
+/// Empty blocks, each with room for the children of one node. A contract sees their number.
+#[derive(Drop)]
+pub struct Blocks {
+    blocks: Vec<Vec<Node>>,
+}
+
+impl Model for Blocks {
+    ghost use Rattle.std.specs.Prelude.{ℕ, vec_len, All};
+    ghost use Rattle.iddqd_order.specs.Node.{IsSpare};
+
+    ghost Value = { ℕ };
+
+    ghost view = { λ b. vec_len b.blocks };
+
+    ghost invariant = { λ b. All IsSpare b.blocks.items };
+}
+
+impl HoldsBlocks for Blocks {
+    ghost count = { λ b. b };
+}
+
+impl Blocks {
+    // So many blocks, and no memory where none is wanted. Refused, it lets go of those that it took.
+    pub fn new(count: usize, alloc: Global) -> Result<Blocks, AllocError>
+        ensures { IfOk result (λ blocks. blocks ≡ count) }
+    {
+        if count == 0 {
+            return Ok(Blocks {
+                blocks: Vec::new(alloc),
+            });
+        }
+        Blocks::some(count, alloc)
+    }
+
+    #[inline(never)]
+    fn some(count: usize, alloc: Global) -> Result<Blocks, AllocError>
+        ensures { IfOk result (λ blocks. blocks ≡ count) }
+    {
+        let mut blocks = Vec::with_capacity(alloc, count)?;
+        while blocks.len() < count {
+            let block = Vec::with_capacity(alloc, CAPACITY + 1)?;
+            blocks.push_reserved(block);
+        }
+        Ok(Blocks { blocks })
+    }
+
+    // One of them.
+    pub fn take(&mut self) -> Vec<Node>
+        requires { 0 < self.old }
+        ensures spare { IsSpare result }
+        ensures left { self.new + 1 ≡ self.old }
+    {
+        self.blocks.take_last()
+    }
+}

@@ -1,0 +1,4 @@
+pub mod ScanLemmas
+pub mod FindLemmas
+pub mod HoldsLemmas
+pub mod PlaceLemmas

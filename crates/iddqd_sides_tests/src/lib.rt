@@ -1,0 +1,5 @@
+//! Tests of sides.
+#![tactic(auto)]
+
+#[cfg(test)]
+mod tests;

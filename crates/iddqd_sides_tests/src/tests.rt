@@ -1,0 +1,2 @@
+//! Sides over a small store.
+mod hashed;
