@@ -27,34 +27,34 @@ module _ {T : Type 0} where
   chain_of-is slots zero head (ix ∷ rest) small enough p = absurd (omega arith)
   chain_of-is slots (suc n) head [] small enough p = rw (slice_get_past slots head (omega arith))
   chain_of-is slots (suc n) head (ix ∷ rest) small enough p =
-      rw p.2 (ap (λ l. head ∷ l) (chain_of-is slots n p.0 rest small (omega arith) p.3) ∙ ap (λ i. i ∷ rest) (sym p.1))
+      rw p.3 (ap (λ l. head ∷ l) (chain_of-is slots n p.0 rest small (omega arith) p.4) ∙ ap (λ i. i ∷ rest) (sym p.1))
 
   -- an index starts one chain at most
-  pub IsChain-unique : (slots : List (ItemSlot T)) (head : ℕ) (a b : List ℕ) → length slots ≤ sentinel → IsChain slots head a → IsChain slots head b → length a ≡ length b
-  IsChain-unique slots head [] [] small p q = refl
-  IsChain-unique slots head [] (ix ∷ rest) small p q = absurd (omega (arith, slice_get_within slots head _ q.2))
-  IsChain-unique slots head (ix ∷ rest) [] small p q = absurd (omega (arith, slice_get_within slots head _ p.2))
-  IsChain-unique slots head (ix ∷ rest) (iy ∷ more) small p q =
-      let first = p.2 in
-      let second = q.2 in
+  pub IsChain-unique : (slots : List (ItemSlot T)) (head : ℕ) (a b : List ℕ) → IsChain slots head a → IsChain slots head b → length a ≡ length b
+  IsChain-unique slots head [] [] p q = refl
+  IsChain-unique slots head [] (ix ∷ rest) p q = absurd (q.2 p)
+  IsChain-unique slots head (ix ∷ rest) [] p q = absurd (p.2 q)
+  IsChain-unique slots head (ix ∷ rest) (iy ∷ more) p q =
+      let first = p.3 in
+      let second = q.3 in
       let same : q.0 ≡ p.0 = cc in
-      ap suc (IsChain-unique slots p.0 rest more small p.3 (subst (λ n. IsChain slots n more) same q.3))
+      ap suc (IsChain-unique slots p.0 rest more p.4 (subst (λ n. IsChain slots n more) same q.4))
 
   -- a longer chain does not come back to where it began
-  pub Off-shorter : (slots : List (ItemSlot T)) (head at : ℕ) (whole list : List ℕ) → length slots ≤ sentinel → IsChain slots head whole → length list < length whole → IsChain slots at list → Off head list
-  Off-shorter slots head at whole [] small p fewer q = tt
-  Off-shorter slots head at whole (ix ∷ rest) small p fewer q = (
-    λ same. let k = IsChain-unique slots head whole (ix ∷ rest) small p (subst (λ n. IsChain slots n (ix ∷ rest)) (sym q.1 ∙ same) q) in omega arith,
-    Off-shorter slots head q.0 whole rest small p (omega arith) q.3,
+  pub Off-shorter : (slots : List (ItemSlot T)) (head at : ℕ) (whole list : List ℕ) → IsChain slots head whole → length list < length whole → IsChain slots at list → Off head list
+  Off-shorter slots head at whole [] p fewer q = tt
+  Off-shorter slots head at whole (ix ∷ rest) p fewer q = (
+    λ same. let k = IsChain-unique slots head whole (ix ∷ rest) p (subst (λ n. IsChain slots n (ix ∷ rest)) (sym q.1 ∙ same) q) in omega arith,
+    Off-shorter slots head q.0 whole rest p (omega arith) q.4,
   )
 
   -- an occupied slot is on no chain
   pub Off-occupied : (slots : List (ItemSlot T)) (at head : ℕ) (item : T) (list : List ℕ) → slice_get slots at ≡ Some (Occupied item) → IsChain slots head list → Off at list
   Off-occupied slots at head item [] found q = tt
   Off-occupied slots at head item (ix ∷ rest) found q =
-      let listed = q.2 in
+      let listed = q.3 in
       let begins = q.1 in
-      (λ same. cc, Off-occupied slots at q.0 item rest found q.3)
+      (λ same. cc, Off-occupied slots at q.0 item rest found q.4)
 
   -- what the other slots are after a write
   pub slice_get-set_other : (slots : List (ItemSlot T)) (at ix : ℕ) (slot old : ItemSlot T) → ix ≢ at → slice_get slots ix ≡ Some old → slice_get (set slots at slot) ix ≡ Some old
@@ -79,21 +79,21 @@ module _ {T : Type 0} where
   IsChain-set slots at head slot [] off p = p
   IsChain-set slots at head slot (ix ∷ rest) off p =
       let other : head ≢ at = λ same. off.0 (p.1 ∙ same) in
-      (p.0, p.1, slice_get-set_other slots at head slot _ other p.2, IsChain-set slots at p.0 slot rest off.1 p.3)
+      (p.0, p.1, p.2, slice_get-set_other slots at head slot _ other p.3, IsChain-set slots at p.0 slot rest off.1 p.4)
 
   -- the chain has no index twice
-  pub IsChain-distinct : (slots : List (ItemSlot T)) (head : ℕ) (list : List ℕ) → length slots ≤ sentinel → IsChain slots head list → IsDistinct nat_eq list
+  pub IsChain-distinct : (slots : List (ItemSlot T)) (head : ℕ) (list : List ℕ) → IsChain slots head list → IsDistinct nat_eq list
   unfolding IsDistinct
-  IsChain-distinct slots head [] small p = tt
-  IsChain-distinct slots head (ix ∷ rest) small p =
-      let off : Off head rest = Off-shorter slots head p.0 (ix ∷ rest) rest small p (omega arith) p.3 in
-      (subst (λ i. AllByRecursion (λ y. nat_eq i y ≡ false) rest) (sym p.1) (Off-differs head rest off), IsChain-distinct slots p.0 rest small p.3)
+  IsChain-distinct slots head [] p = tt
+  IsChain-distinct slots head (ix ∷ rest) p =
+      let off : Off head rest = Off-shorter slots head p.0 (ix ∷ rest) rest p (omega arith) p.4 in
+      (subst (λ i. AllByRecursion (λ y. nat_eq i y ≡ false) rest) (sym p.1) (Off-differs head rest off), IsChain-distinct slots p.0 rest p.4)
 
   -- each index of the chain is that of a vacant slot
   pub IsChain-vacant : (slots : List (ItemSlot T)) (head : ℕ) (list : List ℕ) (ix : ℕ) → IsChain slots head list → Contains list ix → (next : ℕ) × (slice_get slots ix ≡ Some (Vacant next))
   IsChain-vacant slots head [] ix p listed = absurd (contains_none ix listed)
   IsChain-vacant slots head (iy ∷ rest) ix p listed =
       elim (contains_cases iy ix rest listed) [
-        | inl same ↦ (p.0, subst (λ i. slice_get slots i ≡ Some (Vacant p.0)) (sym p.1 ∙ same) p.2)
-        | inr later ↦ IsChain-vacant slots p.0 rest ix p.3 later
+        | inl same ↦ (p.0, subst (λ i. slice_get slots i ≡ Some (Vacant p.0)) (sym p.1 ∙ same) p.3)
+        | inr later ↦ IsChain-vacant slots p.0 rest ix p.4 later
       ]

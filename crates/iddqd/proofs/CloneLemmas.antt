@@ -48,7 +48,7 @@ module _ {T : Type 0} (is_clone : T → T → Type 0) where
   chain_in_clones : (slots copies : List (ItemSlot T)) (head : ℕ) (list : List ℕ) → AllZip (IsSlotClone is_clone) slots copies → IsChain slots head list → IsChain copies head list
   chain_in_clones slots copies head [] all p = p
   chain_in_clones slots copies head (ix ∷ rest) all p =
-      (p.0, p.1, vacant_in_clones slots copies head p.0 all p.2, chain_in_clones slots copies p.0 rest all p.3)
+      (p.0, p.1, p.2, vacant_in_clones slots copies head p.0 all p.3, chain_in_clones slots copies p.0 rest all p.4)
 
   module _ {limit : ℕ} {slots : List (ItemSlot T)} {head len : ℕ} (bounded : IsSoundWithin limit slots head len) (copies : List (ItemSlot T)) (all : AllZip (IsSlotClone is_clone) slots copies) where
     pub IsSoundWithin-clone : IsSoundWithin limit copies head len
@@ -58,9 +58,9 @@ module _ {T : Type 0} (is_clone : T → T → Type 0) where
           sound = record {
             counted = bounded.sound.counted ∙ sym (count_of_clones slots copies all);
             chain = bounded.sound.chain;
+            distinct = bounded.sound.distinct;
             chained = chain_in_clones slots copies head bounded.sound.chain all bounded.sound.chained;
             complete = λ ix next vacant. bounded.sound.complete ix next (vacant_before slots copies ix next all vacant);
-            total = omega (arith, bounded.sound.total, same);
           };
           small = omega (arith, bounded.small, same);
           named = bounded.named;

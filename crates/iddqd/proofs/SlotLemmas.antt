@@ -9,6 +9,7 @@ use Rattle.iddqd.specs.declared.item_set.ItemSlot.{ItemSlot}
 use Rattle.iddqd.specs.declared.item_set.ItemSlot.TheVariants.{Occupied, Vacant}
 use Rattle.iddqd.proofs.StoreLemmas.{contains_head, contains_tail, contains_cases, contains_none}
 use Rattle.iddqd.proofs.ChainLemmas.{Off, Off-occupied, Off-shorter, chain_of-is, slice_get-set_back, slice_get-set_same, IsChain-set, IsChain-distinct, IsChain-vacant}
+use Rattle.iddqd.proofs.VacancyLemmas.{slots_counted}
 use Rattle.iddqd.specs.Slots.{item_of, chain_of, store_of, IsChain, IsSoundWithin}
 use Rattle.iddqd.specs.Store.{Store, sentinel, IsValid, first_or, next_index, inserted, removed, rebound}
 
@@ -52,13 +53,14 @@ module _ {T : Type 0} where
       ∙ ap item_of (get_or_from_slice_get slots ix _ (Occupied item) found)
 
   pub IsSoundWithin-none : (limit : ℕ) → limit ≤ sentinel → IsSoundWithin {T = T} limit [] sentinel 0
+  unfolding IsDistinct
   IsSoundWithin-none limit named = record {
     sound = record {
       counted = refl;
       chain = [];
+      distinct = tt;
       chained = refl;
       complete = λ ix next vacant. absurd (omega (arith, slice_get_within {A = ItemSlot T} [] ix _ vacant));
-      total = omega arith;
     };
     small = omega arith;
     named = named;
@@ -69,9 +71,13 @@ module _ {T : Type 0} where
     all_named : length slots ≤ sentinel
     all_named = omega (arith, bounded.small, bounded.named)
 
+    -- there are as many slots as items and links
+    pub total : len + length bounded.sound.chain ≡ length slots
+    total = slots_counted bounded.sound
+
     -- the walk over the vacant slots meets the chain
     pub free_is : chain_of (length slots) slots head ≡ bounded.sound.chain
-    free_is = chain_of-is slots (length slots) head bounded.sound.chain all_named (omega (arith, bounded.sound.total)) bounded.sound.chained
+    free_is = chain_of-is slots (length slots) head bounded.sound.chain all_named (omega (arith, total)) bounded.sound.chained
 
     -- the chain ends here, or begins with a vacant slot
     pub head_cases : ((head ≡ sentinel) × (bounded.sound.chain ≡ [])) ⊎ ((next : ℕ) × (rest : List ℕ) × (head < length slots) × (bounded.sound.chain ≡ head ∷ rest) × (slice_get slots head ≡ Some (Vacant next)) × IsChain slots next rest)
@@ -79,7 +85,7 @@ module _ {T : Type 0} where
       where
         by_chain : (list : List ℕ) → IsChain slots head list → ((head ≡ sentinel) × (list ≡ [])) ⊎ ((next : ℕ) × (rest : List ℕ) × (head < length slots) × (list ≡ head ∷ rest) × (slice_get slots head ≡ Some (Vacant next)) × IsChain slots next rest)
         by_chain [] p = inl (p, refl)
-        by_chain (ix ∷ rest) p = inr (p.0, rest, slice_get_within slots head _ p.2, ap (λ i. i ∷ rest) p.1, p.2, p.3)
+        by_chain (ix ∷ rest) p = inr (p.0, rest, slice_get_within slots head _ p.3, ap (λ i. i ∷ rest) p.1, p.3, p.4)
 
     -- a chain from the end is empty
     pub chain_at_end : head ≡ sentinel → bounded.sound.chain ≡ []
@@ -121,32 +127,34 @@ module _ {T : Type 0} where
         let within = slice_get_within slots ix _ found in
         let count = count-set slots ix (Occupied item) (Vacant head) found in
         let written = slice_get-set_same slots ix (Vacant head) within in
+        let chained : IsChain (set slots ix (Vacant head)) ix (ix ∷ bounded.sound.chain) =
+        (head, refl, omega (arith, within, all_named), written, IsChain-set slots ix head (Vacant head) bounded.sound.chain (Off-occupied slots ix head item bounded.sound.chain found bounded.sound.chained) bounded.sound.chained) in
         record {
           sound = record {
             counted = omega (arith, bounded.sound.counted);
             chain = ix ∷ bounded.sound.chain;
-            chained = (head, refl, written, IsChain-set slots ix head (Vacant head) bounded.sound.chain (Off-occupied slots ix head item bounded.sound.chain found bounded.sound.chained) bounded.sound.chained);
+            distinct = IsChain-distinct _ _ _ chained;
+            chained = chained;
             complete = λ at next vacant. elim (cases_eq at ix) [
               | inl same ↦ subst (λ i. Contains (ix ∷ bounded.sound.chain) i) (sym same) (contains_head ix bounded.sound.chain)
               | inr other ↦ contains_tail ix at bounded.sound.chain (bounded.sound.complete at next (slice_get-set_back slots ix at _ _ other vacant))
             ];
-            total = omega (arith, bounded.sound.total, bounded.sound.counted, length-set slots ix (Vacant head));
           };
           small = omega (arith, bounded.small, length-set slots ix (Vacant head));
           named = bounded.named;
         }
 
     pub IsSoundWithin-push : (item : T) → head ≡ sentinel → length slots < limit → IsSoundWithin limit (slots ++ Occupied item ∷ []) head (len + 1)
+    unfolding IsDistinct
     IsSoundWithin-push item ends below =
         let longer = length_push slots (Occupied item) in
-        let full : length bounded.sound.chain ≡ 0 = ap length (chain_at_end ends) in
         record {
           sound = record {
             counted = rw (map_push item_of slots (Occupied item), sum_by_push (λ o. cond (is_some o) 1 0) (map item_of slots) (Some item)) (ap (λ n. n + 1) bounded.sound.counted);
             chain = [];
+            distinct = tt;
             chained = ends;
             complete = λ at next vacant. absurd (none_vacant at next vacant (cases_lt at (length slots)));
-            total = omega (arith, bounded.sound.total);
           };
           small = omega arith;
           named = bounded.named;
@@ -167,16 +175,16 @@ module _ {T : Type 0} where
     IsSoundWithin-reuse next item found =
         let within = slice_get_within slots head _ found in
         let p = chain_from_vacant next found in
-        let one : length bounded.sound.chain ≡ suc (length p.0) = ap length p.1 in
-        let whole : IsChain slots head (head ∷ p.0) = (next, refl, found, p.2) in
-        let off : Off head p.0 = Off-shorter slots head next (head ∷ p.0) p.0 all_named whole (omega arith) p.2 in
+        let whole : IsChain slots head (head ∷ p.0) = (next, refl, omega (arith, within, all_named), found, p.2) in
+        let off : Off head p.0 = Off-shorter slots head next (head ∷ p.0) p.0 whole (omega arith) p.2 in
+        let chained = IsChain-set slots head next (Occupied item) p.0 off p.2 in
         record {
           sound = record {
             counted = omega (arith, bounded.sound.counted, count-set slots head (Vacant next) (Occupied item) found);
             chain = p.0;
-            chained = IsChain-set slots head next (Occupied item) p.0 off p.2;
+            distinct = IsChain-distinct _ _ _ chained;
+            chained = chained;
             complete = λ at link vacant. still_chained at link vacant (cases_eq at head);
-            total = omega (arith, bounded.sound.total, length-set slots head (Occupied item));
           };
           small = omega (arith, bounded.small, length-set slots head (Occupied item));
           named = bounded.named;
@@ -205,12 +213,12 @@ module _ {T : Type 0} where
           sound = record {
             counted = omega (arith, bounded.sound.counted, count-set slots ix (Occupied old) (Occupied item) found);
             chain = bounded.sound.chain;
+            distinct = bounded.sound.distinct;
             chained = IsChain-set slots ix head (Occupied item) bounded.sound.chain (Off-occupied slots ix head old bounded.sound.chain found bounded.sound.chained) bounded.sound.chained;
             complete = λ at next vacant. elim (cases_eq at ix) [
               | inl same ↦ absurd (let moved : slice_get (set slots ix (Occupied item)) ix ≡ Some (Vacant next) = subst (λ i. slice_get (set slots ix (Occupied item)) i ≡ Some (Vacant next)) same vacant in cc)
               | inr other ↦ bounded.sound.complete at next (slice_get-set_back slots ix at _ _ other vacant)
             ];
-            total = omega (arith, bounded.sound.total, length-set slots ix (Occupied item));
           };
           small = omega (arith, bounded.small, length-set slots ix (Occupied item));
           named = bounded.named;
@@ -229,14 +237,14 @@ module _ {T : Type 0} where
         let free = free_is in
         let count = length-map slots item_of in
         record {
-          distinct = subst (IsDistinct nat_eq) (sym free) (IsChain-distinct slots head bounded.sound.chain all_named bounded.sound.chained);
+          distinct = subst (IsDistinct nat_eq) (sym free) bounded.sound.distinct;
           vacant = λ ix. (
             λ listed. let v = IsChain-vacant slots head bounded.sound.chain ix bounded.sound.chained (subst (λ l. Contains l ix) free listed) in
                 (omega (arith, slice_get_within slots ix _ v.1, count), without_item slots ix v.0 v.1),
             λ vacant. let v = vacant_at slots ix (omega (arith, vacant.0, count)) vacant.1 in
                 subst (λ l. Contains l ix) (sym free) (bounded.sound.complete ix v.0 v.1),
           );
-          counted = omega (arith, ap length free, bounded.sound.total, bounded.sound.counted, count);
+          counted = omega (arith, ap length free, total, bounded.sound.counted, count);
           small = omega (arith, bounded.small, count);
           named = bounded.named;
         }
@@ -244,7 +252,7 @@ module _ {T : Type 0} where
     -- where there is room, the count of items is below the limit
     pub len_below : (capacity : ℕ) → 1 ≤ length (chain_of (length slots) slots head) + (min capacity limit - length (map item_of slots)) → len < limit
     len_below capacity room =
-        omega (arith, ap length free_is, bounded.sound.total, bounded.small, length-map slots item_of)
+        omega (arith, ap length free_is, total, bounded.small, length-map slots item_of)
 
     -- where there is room and no slot is vacant, one more slot fits
     pub fits_at_end : (capacity : ℕ) → 1 ≤ length (chain_of (length slots) slots head) + (min capacity limit - length (map item_of slots)) → head ≡ sentinel → (length slots < limit) × (length slots < capacity)

@@ -29,10 +29,10 @@ module _ {A : Type 0} where
   contains_none x p = omega (arith, p.1)
 
 -- two numbers that differ, by the test
-differs : (a b : ℕ) → a ≢ b → nat_eq a b ≡ false
+pub differs : (a b : ℕ) → a ≢ b → nat_eq a b ≡ false
 differs a b other = grind (arith, common_steps, other)
 
-same_if : (a b : ℕ) → nat_eq a b ≡ false → a ≢ b
+pub same_if : (a b : ℕ) → nat_eq a b ≡ false → a ≢ b
 same_if a b test same = grind (arith, common_steps, test, same)
 
 module _ {T : Type 0} where

@@ -1,7 +1,7 @@
 -- How an `ItemSet` lays out its slots: the chain of the vacant ones. Of public clauses those of
--- `ItemSlot` alone cite it.
-use Rattle.std.specs.Prelude.{◌≡◌, ℕ, zero, suc, ◌+◌, ◌≤◌, List, [], ◌∷◌, map, length, Option, Some, None, is_some, count_by, slice_get}
-use Rattle.std.specs.List.{Contains}
+-- `ItemSlot` and `validate_slots` alone cite it.
+use Rattle.std.specs.Prelude.{◌≡◌, ◌≢◌, ℕ, zero, suc, ◌+◌, ◌≤◌, List, [], ◌∷◌, map, length, Option, Some, None, is_some, count_by, slice_get, nat_eq}
+use Rattle.std.specs.List.{Contains, IsDistinct}
 use Rattle.iddqd.specs.Store.{Store, sentinel}
 use Rattle.iddqd.specs.LiveItems.{pairs_from}
 use Rattle.iddqd.specs.declared.item_set.ItemSlot.{ItemSlot}
@@ -29,24 +29,28 @@ module _ {T : Type 0} where
   chain_of zero slots head = []
   chain_of (suc n) slots head = linked (link_of (slice_get slots head)) head (λ next. chain_of n slots next)
 
-  -- the list is the chain from head, to its end
+  -- the list is the chain from head to its end: indexes of vacant slots, each the link of the one before
   abbrev pub IsChain : List (ItemSlot T) → ℕ → List ℕ → Type 0
   IsChain slots head [] = head ≡ sentinel
   IsChain slots head (ix ∷ rest) =
-      (next : ℕ) × (ix ≡ head) × (slice_get slots head ≡ Some (Vacant next)) × IsChain slots next rest
+      (next : ℕ) × (ix ≡ head) × (head ≢ sentinel) × (slice_get slots head ≡ Some (Vacant next)) × IsChain slots next rest
+
+  -- some list of so many indexes is the chain from head
+  abbrev pub HasChain : List (ItemSlot T) → ℕ → ℕ → Type 0
+  HasChain slots head len = (list : List ℕ) × IsChain slots head list × (length list ≡ len)
 
   -- what a contract sees of these slots, this head and this limit
   abbrev pub store_of : List (ItemSlot T) → ℕ → ℕ → Store T
   store_of slots head limit =
       record { items = map item_of slots; free = chain_of (length slots) slots head; limit = limit }
 
-  -- `len` counts the items, and the chain from `head` has each vacant slot once
+  -- some list of distinct indexes is the chain from `head` and has each vacant slot, and `len` counts the items
   pub record IsSound (slots : List (ItemSlot T)) (head len : ℕ) : Type 0 where
     pub counted : len ≡ count_by is_some (map item_of slots)
     pub chain : List ℕ
+    pub distinct : IsDistinct nat_eq chain
     pub chained : IsChain slots head chain
     pub complete : (ix next : ℕ) → slice_get slots ix ≡ Some (Vacant next) → Contains chain ix
-    pub total : len + length chain ≡ length slots
 
   -- they are sound, and there are no more slots than a limit that leaves each slot an index
   pub record IsSoundWithin (limit : ℕ) (slots : List (ItemSlot T)) (head len : ℕ) : Type 0 where

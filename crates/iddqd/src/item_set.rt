@@ -27,6 +27,7 @@ mod into_values;
 mod iter;
 mod reads;
 mod sizes;
+mod validation;
 mod values;
 
 pub use crate::index_remap::IndexRemap;

@@ -7,6 +7,7 @@
 
 pub mod hash_builder;
 pub mod index_remap;
+pub mod internal;
 pub mod item_index;
 pub mod item_set;
 pub mod map_hash;

@@ -4,6 +4,9 @@ use Rattle.iddqd.proofs.CompactionLemmas.{rank_rises, compacted_same}
 use Rattle.iddqd.proofs.CompactedSlotLemmas.{free_none, free_some}
 use Rattle.iddqd.proofs.item_set.ItemSet.compact.Goals as goal
 
+pub returns-then-len-self-clause-remap : goal.returns-then-len-self-clause-remap
+returns-then-len-self-clause-remap g c = rw (← c.self.view_is) (free_none c.self.invariant (omega arith))
+
 pub returns-then-len-self-clause-compacted : goal.returns-then-len-self-clause-compacted
 returns-then-len-self-clause-compacted g c =
     let none = free_none c.self.invariant (omega arith) in

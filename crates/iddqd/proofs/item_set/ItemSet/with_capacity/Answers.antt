@@ -1,0 +1,7 @@
+use Rattle.std.proofs.Common.{arith}
+use Rattle.iddqd.specs.Store.{sentinel}
+use Rattle.iddqd.proofs.SlotLemmas.{IsSoundWithin-none}
+use Rattle.iddqd.proofs.item_set.ItemSet.with_capacity.Goals as goal
+
+pub invariant_of-result : goal.invariant_of-result
+invariant_of-result g c = rw c.in_ok-with_capacity.ensures.items (IsSoundWithin-none sentinel (omega arith))
