@@ -2,13 +2,16 @@ mod both_ends;
 mod clones;
 mod compaction;
 mod handles;
+mod index_checks;
 mod indexes;
 mod limits;
 mod printing;
 mod queries;
 mod reads;
 mod sizes;
+mod slot_checks;
 mod slots;
+mod small_slots;
 mod taking;
 mod walks;
 
