@@ -22,7 +22,7 @@ use Rattle.iddqd.proofs.CompactionLemmas.{numbers_more, length-numbers, get_or-n
 use Rattle.iddqd.proofs.StoreLemmas.{differs, same_if}
 use Rattle.iddqd.proofs.ValidationLemmas.{Validates-alike}
 
-nat_eq-flips : (x y : ℕ) → nat_eq x y ≡ nat_eq y x
+pub nat_eq-flips : (x y : ℕ) → nat_eq x y ≡ nat_eq y x
 nat_eq-flips x y = same_from_decides (nat_eq x y) (nat_eq y x) (Decides-eqb x y) (Decides-like (nat_eq y x) sym sym (Decides-eqb y x))
 
 -- numbers that rise differ

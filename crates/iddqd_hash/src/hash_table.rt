@@ -23,6 +23,7 @@ mod copies;
 mod entry;
 mod indexes;
 mod sizes;
+mod validation;
 
 use crate::open_table::OpenHashTable;
 use crate::table_entry::PairCells;

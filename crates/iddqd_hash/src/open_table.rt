@@ -307,6 +307,11 @@ impl<T> OpenHashTable<T> {
         self.used = self.len;
         Ok(())
     }
+
+    // Where the table's memory comes from.
+    pub(crate) fn allocator(&self) -> Global {
+        *self.cells.allocator()
+    }
 }
 
 impl<T> fmt::Debug for OpenHashTable<T> {

@@ -30,6 +30,7 @@ mod search;
 mod state;
 pub mod table;
 mod tree;
+mod validation;
 mod walk;
 mod walk_back;
 mod ways;

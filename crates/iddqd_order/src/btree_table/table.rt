@@ -580,3 +580,10 @@ impl fmt::Debug for MapBTreeTable {
             .finish()
     }
 }
+
+impl MapBTreeTable {
+    // Where the table's memory comes from.
+    pub(super) fn allocator(&self) -> Global {
+        self.alloc
+    }
+}

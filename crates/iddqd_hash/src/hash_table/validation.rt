@@ -1,0 +1,46 @@
+//! The check of a table's indexes, which the invariant makes distinct.
+ghost use Rattle.std.specs.Prelude.{IfOk};
+ghost use Rattle.std.specs.List.Sorted.{IsPermutation};
+ghost use Rattle.iddqd.specs.Validation.{AreAsExpected, Validates};
+ghost use Rattle.iddqd_hash.specs.MapHashTable.{filed, indexes_of};
+
+use super::MapHashTable;
+use iddqd::internal::{
+    TableValidationError, ValidateCompact, ValidateRefusal, validate_hash_indexes,
+};
+use iddqd::item_index::ItemIndex;
+use std::alloc::AllocError;
+
+impl MapHashTable {
+    /// Whether there are as many indexes as expected; in `Compact`, whether they are those from 0 on as well.
+    ///
+    /// It sorts a copy of the indexes, whose memory may be refused.
+    pub fn validate(
+        &self,
+        expected_len: usize,
+        compactness: ValidateCompact,
+    ) -> Result<(), ValidateRefusal<TableValidationError>>
+        ensures { Validates (AreAsExpected compactness expected_len (indexes_of (filed self.now))) result }
+    {
+        match self.list() {
+            Ok(indexes) => validate_hash_indexes(
+                self.table.allocator(),
+                &indexes,
+                expected_len,
+                compactness,
+            ),
+            Err(error) => Err(ValidateRefusal::Memory(error)),
+        }
+    }
+
+    // The indexes, in memory of their own.
+    fn list(&self) -> Result<Vec<ItemIndex>, AllocError>
+        ensures { IfOk result (λ list. IsPermutation (indexes_of (filed self.now)) list.items) }
+    {
+        let mut list = Vec::with_capacity(self.table.allocator(), self.len())?;
+        for ix in self.indexes() {
+            list.push(ix)?;
+        }
+        Ok(list)
+    }
+}
