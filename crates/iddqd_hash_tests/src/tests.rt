@@ -6,6 +6,7 @@ mod asked;
 mod asks;
 mod callers;
 mod changes;
+mod checks;
 mod copies;
 mod entries;
 mod filed;

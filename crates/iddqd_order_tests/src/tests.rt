@@ -10,6 +10,7 @@ use std::process::Abort;
 
 mod asks;
 mod callers;
+mod checks;
 mod copies;
 mod depths;
 mod ends;
