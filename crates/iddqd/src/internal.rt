@@ -49,7 +49,7 @@ impl ValidationError {
     pub fn general(text: String) -> ValidationError
         ensures { result ≡ ValidationError.General text }
     {
-        ValidationError::General(text)
+        Self::General(text)
     }
 }
 
