@@ -1,10 +1,9 @@
 pub mod AskLemmas
-mod BackLemmas
 mod CopyLemmas
 mod CountSteps
+mod CursorLemmas
 mod DescentLemmas
 mod DigitLemmas
-mod EndLemmas
 pub mod IndexListLemmas
 pub mod InsertLemmas
 pub mod KeyOrderLemmas
@@ -23,7 +22,6 @@ pub mod RowLemmas
 mod SearchLemmas
 pub mod TableLemmas
 pub mod TreeLemmas
-mod WalkLemmas
 mod WayLemmas
 pub mod WeaveLemmas
 mod WeaveRemovalLemmas

@@ -6,6 +6,8 @@ pub use Rattle.iddqd.specs.declared.index_remap.IndexRemap.TheVariants.{Identity
 pub use Rattle.iddqd_order.specs.Asking.{ask_count, closure_of}
 pub use Rattle.iddqd_order.specs.Asks.{After, AsksWithin, At_once, CanAsk, One_more, Steady}
 pub use Rattle.iddqd_order.specs.Copies.{IsCopy}
+pub use Rattle.iddqd_order.specs.Cursor.{AreBeside, AtEdge, IsAt, IsBehind, IsGap, IsLow, Over, Stands, Steps, between, edge_of, gap_of, leaf_in, to_gap}
+unfoldable pub use Rattle.iddqd_order.specs.Cursor.{leaf, low}
 pub use Rattle.iddqd_order.specs.Descent.{Descends, FindsIn, end_of, index_at}
 pub use Rattle.iddqd_order.specs.Digits.{bound, digits_within}
 unfoldable pub use Rattle.iddqd_order.specs.Digits.{digits}
@@ -17,12 +19,11 @@ pub use Rattle.iddqd_order.specs.Removal.{IsChild, IsEmptied, IsMended, MayLackO
 pub use Rattle.iddqd_order.specs.Row.{IsCut}
 pub use Rattle.iddqd_order.specs.Search.{Askable, CanSearch, Finds, IsPlace, IsRising, IsSteadyRising, Searches, SearchesWithin, with_ties}
 pub use Rattle.iddqd_order.specs.Tree.{GoesIn, HoldsIn, IsTree, in_order, place_in, spot_in}
-pub use Rattle.iddqd_order.specs.Ways.{IsReader, IsReaderIn, IsWay, SamePlaces, StepsOn}
+pub use Rattle.iddqd_order.specs.Ways.{IsWay, SamePlaces, StepsOn}
 pub use Rattle.iddqd_order.specs.declared.btree_table.asking.Asking.{Asking}
 pub use Rattle.iddqd_order.specs.declared.btree_table.node.Node.{Node}
 pub use Rattle.iddqd_order.specs.declared.btree_table.node.Node.TheOpen.{Node-F}
 pub use Rattle.iddqd_order.specs.declared.btree_table.node.Node.TheViews.{out-Node, out-roll-Node, roll-Node, roll-out-Node}
-pub use Rattle.iddqd_order.specs.declared.btree_table.ways.Reader.{Reader}
 pub use Rattle.iddqd_order.specs.declared.btree_table.ways.Way.{Way}
 pub use Rattle.std.proofs.Common.{All, Bool, Contains, Err, IfOk, IfSome, IsNone, IsSome, IsTrue, List, None, Ok, Option, Ordering, Result, Some, Vec, [], add-one, ap, append_assoc, arith, below_more, drop, eq-eqb, eqb, eqb-true, false, filter, get_or, get_or-set_other, get_or-set_same, if◌then◌else◌, inl, inr, insert, is_ok, is_some, length, length-append, length-drop, length-set, map, min, nat_eq, ne_eqb, not, option_to_list, refl, remove, rules, set, slice_index, slice_set, sub-one, subst, suc, sym, take, true, vec_capacity, vec_len, zero, zero-add, ℕ, ◌*◌, ◌++◌, ◌+◌, ◌-◌, ◌/◌, ◌<◌, ◌==◌, ◌^◌, ◌↔◌, ◌∙◌, ◌∷◌, ◌≡◌, ◌≢◌, ◌≤◌, ◌⊎◌}
 pub use Rattle.std.proofs.Math.Nat.{mul-le-mul_right, one-le-pow, pow-le-pow_right, pow-suc}

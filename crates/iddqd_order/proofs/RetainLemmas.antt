@@ -1,5 +1,6 @@
 -- The indexes that a closure keeps: what the asks up to a place leave.
-use Rattle.std.proofs.Common.{◌≡◌, ◌∙◌, ℕ, zero, suc, ◌+◌, ◌-◌, ◌<◌, ◌≤◌, List, [], ◌∷◌, ◌++◌, length, get_or, set, take, drop, slice_index, map, filter, Bool, true, false, refl, sym, ap, subst, arith, All, Contains, Option, nat_eq, take_all, drop-set-lt, length-set, length-take-le, take-take, drop-drop, get_or-drop}
+use Rattle.std.proofs.Common.{◌≡◌, ◌∙◌, ℕ, zero, suc, ◌+◌, ◌-◌, ◌<◌, ◌≤◌, List, [], ◌∷◌, ◌++◌, length, get_or, set, take, drop, slice_index, map, filter, Bool, true, false, refl, sym, ap, subst, arith, All, Contains, Option, nat_eq, drop-set-lt, length-set, drop-drop, get_or-drop}
+use Rattle.std.proofs.Math.Seq.{take-suc}
 use Rattle.std.proofs.lemmas.List.{append-nil, map-append, length-map, get_or-map}
 use Rattle.std.proofs.lemmas.List.Elements.{filter-append, All-map, All-filter}
 use Rattle.std.proofs.lemmas.List.Kept.{AllPairs-filter}
@@ -14,12 +15,6 @@ use Rattle.iddqd_order.specs.MapBTreeTable.{sentinel}
 use Rattle.iddqd_order.specs.Retain.{RetainsTo}
 use Rattle.iddqd_order.specs.Tree.{in_order, IsTree, IsTable}
 use Rattle.iddqd_order.proofs.IndexListLemmas.{Contains-at}
-
--- one more of a list
-take_next : (xs : List ℕ) (p d : ℕ) → p < length xs → take (suc p) xs ≡ take p xs ++ get_or xs p d ∷ []
-take_next [] p d lt = absurd (omega arith)
-take_next (x ∷ xs) zero d lt = refl
-take_next (x ∷ xs) (suc p) d lt = ap (λ z. x ∷ z) (take_next xs p d (omega arith))
 
 -- two lists that are alike from a place on
 drop_next : (xs ys : List ℕ) (p : ℕ) → drop p ys ≡ drop p xs → drop (p + 1) ys ≡ drop (p + 1) xs
@@ -69,7 +64,7 @@ module _ {F : Type 0} (g : Mut F (ℕ × Unit {0}) Bool) where
   asked_more {xs = xs} {p = p} ix b w lt e =
       let c = w.counted in
       let up : suc p ≡ p + 1 = omega arith in
-      map-append (λ (a : ℕ × Bool). a.0) w.asks ((ix, b) ∷ []) ∙ ap (λ z. z ++ ix ∷ []) w.asked ∙ ap (λ z. take p xs ++ z ∷ []) (next_is ix w lt e) ∙ sym (take_next xs p 0 (omega arith)) ∙ ap (λ z. take z xs) up
+      map-append (λ (a : ℕ × Bool). a.0) w.asks ((ix, b) ∷ []) ∙ ap (λ z. z ++ ix ∷ []) w.asked ∙ ap (λ z. take p xs ++ z ∷ []) (next_is ix w lt e) ∙ sym (take-suc xs p 0 (omega arith)) ∙ ap (λ z. take z xs) up
 
   -- it is refused
   pub gathers-refused : {f now : F} {xs ys : List ℕ} {p t : ℕ} (ix q : ℕ) (next : F) → Gathers f xs ys p t now → p < length ys → ix ≡ slice_index ys p → Called g now (ix, tt) false next → q ≡ p + 1
@@ -109,23 +104,6 @@ module _ {F : Type 0} (g : Mut F (ℕ × Unit {0}) Bool) where
         count = suc w.count;
         after = One_more w.after (next_held ix w lt e) said;
       }
-
-  -- all were asked about
-  pub gathers-all : {f now : F} {xs ys : List ℕ} {p t : ℕ} → Gathers f xs ys p t now → length xs ≤ p → RetainsTo g f xs (take t ys) now
-  gathers-all {xs = xs} {p = p} w over =
-      record {
-        asks = w.asks;
-        each_once = w.asked ∙ take_all p xs (omega arith);
-        were_asked = w.were_asked;
-        kept = w.kept;
-      }
-
--- all but the last of a beginning
-pub take_fewer : {X : Type 0} → (xs : List X) (n i : ℕ) → i < n → n ≤ length xs → take (length (take (n - i) xs) - 1) (take (n - i) xs) ≡ take (n - (i + 1)) xs
-take_fewer xs n i lt le =
-    let len = length-take-le (n - i) xs (omega arith) in
-    let fewer : length (take (n - i) xs) - 1 ≡ n - (i + 1) = omega arith in
-    ap (λ z. take z (take (n - i) xs)) fewer ∙ take-take (n - (i + 1)) (n - i) xs (omega arith)
 
 -- what holds of all indexes holds of those that are kept
 all_kept : (P : ℕ → Type 0) (asks : List (ℕ × Bool)) → All P (map (λ (a : ℕ × Bool). a.0) asks) → All P (map (λ (a : ℕ × Bool). a.0) (filter (λ (a : ℕ × Bool). a.1) asks))

@@ -1,5 +1,5 @@
 -- Ways: what a step along one leaves, and what stays of them where an index is put in the place of another.
-use Rattle.iddqd_order.proofs.Names.{◌≡◌, ◌≢◌, ◌∙◌, ℕ, zero, suc, ◌+◌, ◌-◌, ◌<◌, ◌≤◌, List, [], ◌∷◌, ◌++◌, length, get_or, set, slice_index, slice_set, refl, sym, ap, subst, arith, Option, Some, None, IsNone, IfSome, IsTrue, ◌↔◌, Contains, Bool, is_some, true, false, sub-one, length-append, length-set, get_or-set_same, get_or-set_other, inl, inr, cases_eq, append-nil, length-map, map-set, set-append_left, set-append_right, All-set, Node, Reader, Way, row, children, child, room, weave, before, after, flat, IsFormed, Holds, spot, IsTree, StepsOn, SamePlaces, IsWay, IsReader, IsReaderIn}
+use Rattle.iddqd_order.proofs.Names.{◌≡◌, ◌≢◌, ◌∙◌, ℕ, zero, suc, ◌+◌, ◌-◌, ◌<◌, ◌≤◌, List, [], ◌∷◌, ◌++◌, length, get_or, set, slice_index, slice_set, refl, sym, ap, subst, arith, Option, Some, None, IsNone, IfSome, IsTrue, ◌↔◌, Contains, Bool, is_some, true, false, sub-one, length-append, length-set, get_or-set_same, get_or-set_other, inl, inr, cases_eq, append-nil, length-map, map-set, set-append_left, set-append_right, All-set, Node, Way, row, children, child, room, weave, before, after, flat, IsFormed, Holds, spot, StepsOn, SamePlaces, IsWay}
 use Rattle.iddqd_order.proofs.NodeLemmas.{lists, AreChildren, formed-within, formed-leaf, leaf-formed, flat-leaf, formed-inner, inner-formed, flat-inner, any_default}
 use Rattle.iddqd_order.proofs.RemovalLemmas.{GoesBelow, goes-below, ends-inner, holds-leaf, holds-at, holds-level, holds-below, spot-leaf, spot-at, spot-below, spot-within}
 use Rattle.iddqd_order.proofs.DescentLemmas.{after-last, before-next, lists-one_more, lists-at, child-formed, child-read, child_is, holds-here, below-holds, spot-row}
@@ -341,25 +341,6 @@ IsWay-first h n w f some low path zeros level place =
       leads = λ more. ap (λ l. spot l h n w.path) level ∙ first.place ∙ sym place;
     }
 
--- the way after a step
-pub IsWay-next : (c h : ℕ) (n : Node) (old new : Way) (r : Option ℕ) → IsFormed h n → IsWay h n old → old.place < length (flat h n) → StepsOn h n old.level old.path c r new.path → length new.path ≡ 12
-    → ((m : ℕ) → r ≡ Some m → new.level ≡ m) → new.place ≡ old.place + c → 1 ≤ c → IsWay h n new
-IsWay-next c h n old new None f w more s path level place some =
-    let at = w.leads more in
-    let last : length (flat h n) ≡ spot old.level h n old.path + c = s in
-    record { path = path; within = omega arith; holds = λ again. absurd (omega arith); leads = λ again. absurd (omega arith) }
-IsWay-next c h n old new (Some m) f w more s path level place some =
-    let at = w.leads more in
-    let next = s.1 in
-    let is = level m refl in
-    let inside = spot-within m h n new.path f s.0 in
-    record {
-      path = path;
-      within = omega arith;
-      holds = λ again. subst (λ l. Holds l h n new.path) (sym is) s.0;
-      leads = λ again. ap (λ l. spot l h n new.path) is ∙ next ∙ ap (λ z. z + c) at ∙ sym place;
-    }
-
 -- a way stays one where the tree changes indexes alone
 pub IsWay-same : (h : ℕ) (n m : Node) (w : Way) → SamePlaces h n m → length (flat h m) ≡ length (flat h n) → IsWay h n w → IsWay h m w
 IsWay-same h n m w same len is =
@@ -371,70 +352,6 @@ IsWay-same h n m w same len is =
       leads = λ more. (same w.level w.path (is.holds (omega arith))).1 ∙ is.leads (omega arith);
     }
 
--- a reader before the first index
-pub IsReader-first : (h : ℕ) (n : Node) (r : Reader) → IsFormed h n → 1 ≤ length (row n) → h ≤ 11 → length r.way.path ≡ 12 → ((l : ℕ) → slice_index r.way.path l ≡ 0) → r.way.level ≡ 0 → r.way.place ≡ 0
-    → r.leaf ≡ [] → r.at ≡ 0 → r.place ≡ 0 → IsReader h n r
-IsReader-first h n r f some low path zeros level place none at here =
-    let len : length r.leaf ≡ 0 = ap length none in
-    record {
-      way = IsWay-first h n r.way f some low path zeros level place;
-      first = zeros 0;
-      within = omega arith;
-      ahead = omega arith;
-      read = λ k lt. absurd (omega arith);
-    }
-
-pub IsReaderIn-first : (t : Option Node) (h : ℕ) (r : Reader) → IsTree t h → length r.way.path ≡ 12 → ((l : ℕ) → slice_index r.way.path l ≡ 0) → r.way.level ≡ 0 → r.way.place ≡ 0 → r.leaf ≡ [] → r.at ≡ 0 → r.place ≡ 0 → IsReaderIn t h r
-IsReaderIn-first None h r t path zeros level place none at here = here
-IsReaderIn-first (Some n) h r t path zeros level place none at here = IsReader-first h n r t.0 t.1 t.2 path zeros level place none at here
-
--- a leaf is read whole, from the beginning on
-pub record ReadsLeaf (h : ℕ) (n : Node) (p : List ℕ) (xs : List ℕ) (r : Option ℕ) : Type 0 where
-  pub items : (k : ℕ) → k < length xs → slice_index xs k ≡ slice_index (flat h n) (spot 0 h n p + k)
-  pub next : StepsOn h n 0 p (length xs) r p
-  pub some : 1 ≤ length xs
-
-pub reads-leaf : (h : ℕ) (n : Node) (p xs : List ℕ) → h ≡ 0 → Holds 0 h n p → slice_index p 0 ≡ 0 → xs ≡ row n → ReadsLeaf h n p xs None
-reads-leaf (suc h) n p xs e w first is = absurd (omega arith)
-reads-leaf zero n p xs e w first is =
-    let lt = holds-leaf 0 0 n p refl w in
-    let at : spot 0 0 n p ≡ 0 = spot-leaf 0 0 n p refl ∙ first in
-    let len : length xs ≡ length (row n) = ap length is in
-    record {
-      items = λ k low. (let k_is : k ≡ spot 0 0 n p + k = omega arith in ap (λ z. slice_index z k) (is ∙ sym (flat-leaf 0 n refl)) ∙ ap (slice_index (flat 0 n)) k_is);
-      next = (let all : length (flat 0 n) ≡ length (row n) = ap length (flat-leaf 0 n refl) in omega arith);
-      some = omega arith;
-    }
-
--- how far a leaf goes
-pub leaf_within : (h : ℕ) (n : Node) (p xs : List ℕ) (r : Option ℕ) → IsFormed h n → StepsOn h n 0 p (length xs) r p → spot 0 h n p + length xs ≤ length (flat h n)
-leaf_within h n p xs None f s = omega (arith, s)
-leaf_within h n p xs (Some m) f s = let inside = spot-within m h n p f s.0 in let next = s.1 in omega arith
-
-below_items : (h i : ℕ) (r : Option ℕ) (n : Node) (p xs : List ℕ) → GoesBelow h 0 i n p → IsFormed h n → ReadsLeaf (h - 1) (child n i) p xs r
-    → (k : ℕ) → k < length xs → slice_index xs k ≡ slice_index (flat h n) (spot 0 h n p + k)
-below_items h i r n p xs b f l k low =
-    let end = leaf_within (h - 1) (child n i) p xs r b.formed l.next in
-    let was = b.place in
-    let at : spot 0 h n p + k ≡ length (before i (row n) (lists (h - 1) (children n))) + (spot 0 (h - 1) (child n i) p + k) = omega arith in
-    l.items k low ∙ sym (ap (slice_index (flat h n)) at ∙ child-read h n i (spot 0 (h - 1) (child n i) p + k) b.inner f b.here (omega arith))
-
-pub read-down : (h i : ℕ) (r : Option ℕ) (n k : Node) (p xs : List ℕ) → 0 < h → i ≡ slice_index p h → IsFormed h n → Holds 0 h n p → k ≡ get_or (children n) i k → ReadsLeaf (h - 1) k p xs r
-    → GoesBelow h 0 i n p × ReadsLeaf (h - 1) (child n i) p xs r
-read-down h i r n k p xs lt ei f w is l =
-    let b = goes-below h 0 i n p lt ei f w in
-    (b, subst (λ z. ReadsLeaf (h - 1) z p xs r) (child_is n i k b.here is) l)
-
--- the leaf lies below the i-th child
-pub reads-below : (h i : ℕ) (r : Option ℕ) (n : Node) (p xs : List ℕ) → GoesBelow h 0 i n p → i ≡ slice_index p h → IsFormed h n → is_some r ≡ true → ReadsLeaf (h - 1) (child n i) p xs r → ReadsLeaf h n p xs r
-reads-below h i r n p xs b ei f some l = record { items = below_items h i r n p xs b f l; next = steps-below_any (length xs) h 0 i r n p p b (sym ei) some l.next; some = l.some }
-
-pub reads-out : (h i : ℕ) (r : Option ℕ) (n : Node) (p xs : List ℕ) → GoesBelow h 0 i n p → i ≡ slice_index p h → IsFormed h n → i < length (row n) → is_some r ≡ false → ReadsLeaf (h - 1) (child n i) p xs r → ReadsLeaf h n p xs (Some h)
-reads-out h i r n p xs b ei f lt none l = record { items = below_items h i r n p xs b f l; next = steps-out (length xs) h 0 i r n p p b ei f refl lt none l.next; some = l.some }
-
-pub reads-end : (h i : ℕ) (r : Option ℕ) (n : Node) (p xs : List ℕ) → GoesBelow h 0 i n p → IsFormed h n → length (row n) ≤ i → is_some r ≡ false → ReadsLeaf (h - 1) (child n i) p xs r → ReadsLeaf h n p xs None
-reads-end h i r n p xs b f le none l = record { items = below_items h i r n p xs b f l; next = ends-below (length xs) h 0 i r n p p b f le none l.next; some = l.some }
-
 -- where a walk along all indexes ends
 pub found_where : (r : Option ℕ) (h : ℕ) (n : Node) (ix : ℕ) (p : List ℕ) → IsFormed h n → IfSome r (λ l. Holds l h n p) → IfSome r (λ l. slice_index (flat h n) (spot l h n p) ≡ ix) → (IsNone r → Contains (flat h n) ix → ⊥)
     → IsTrue (is_some r) ↔ Contains (flat h n) ix
@@ -445,21 +362,3 @@ pub is_contained : (b : Bool) (xs : List ℕ) (r : Option ℕ) (h : ℕ) (n : No
     → (IsNone r → Contains (flat h n) ix → ⊥) → IsTrue b ↔ Contains xs ix
 is_contained b xs r h n ix p eb ex f holds there none =
     subst (λ z. IsTrue z ↔ Contains xs ix) (sym eb) (subst (λ zs. IsTrue (is_some r) ↔ Contains zs ix) ex (found_where r h n ix p f holds there none))
-
--- a leaf's next index is taken
-pub reader-taken : (h : ℕ) (n : Node) (old new : Reader) → IsReader h n old → old.at < length old.leaf → new.way ≡ old.way → new.leaf ≡ old.leaf → new.at ≡ old.at + 1 → new.place ≡ old.place + 1 → IsReader h n new
-reader-taken h n old new r lt way leaf at place =
-    let ahead = r.ahead in
-    let len = ap length leaf in
-    let ways = ap (λ w. w.place) way in
-    record {
-      way = subst (IsWay h n) (sym way) r.way;
-      first = ap (λ w. slice_index w.path 0) way ∙ r.first;
-      within = omega arith;
-      ahead = omega arith;
-      read = λ k low.
-          let next = r.read (suc k) (omega arith) in
-          let from : new.at + k ≡ old.at + suc k = omega arith in
-          let to : old.place + suc k ≡ new.place + k = omega arith in
-          ap (λ z. slice_index z (new.at + k)) leaf ∙ ap (slice_index old.leaf) from ∙ next ∙ ap (slice_index (flat h n)) to;
-    }

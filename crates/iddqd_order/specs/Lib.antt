@@ -1,6 +1,7 @@
 pub mod Asking
 pub mod Asks
 pub mod Copies
+pub mod Cursor
 pub mod Descent
 pub mod Digits
 pub mod Entry
@@ -18,8 +19,6 @@ pub mod Row
 pub mod Search
 pub mod State
 pub mod Tree
-pub mod Walk
-pub mod WalkBack
 pub mod Ways
 -- what a caller's clauses cite, from one place: of the crate below, and of this one
 pub use Rattle.iddqd.specs.Compaction

@@ -1,7 +1,6 @@
 -- Ways through a tree, to one index after another.
 use Rattle.std.specs.Prelude.{◌≡◌, ℕ, ◌+◌, ◌<◌, ◌≤◌, List, Option, Some, None, length, slice_index}
 use Rattle.iddqd_order.specs.declared.btree_table.node.Node.{Node}
-use Rattle.iddqd_order.specs.declared.btree_table.ways.Reader.{Reader}
 use Rattle.iddqd_order.specs.declared.btree_table.ways.Way.{Way}
 use Rattle.iddqd_order.specs.Node.{flat, Holds, spot}
 
@@ -21,17 +20,3 @@ pub record IsWay (h : ℕ) (n : Node) (w : Way) : Type 0 where
 -- each path that goes to an index of the one tree goes to the same place in the other
 abbrev pub SamePlaces : ℕ → Node → Node → Type 0
 SamePlaces h n m = (l : ℕ) (p : List ℕ) → Holds l h n p → Holds l h m p × (spot l h m p ≡ spot l h n p)
-
--- the reader has a copy of what is left of a leaf, from its place on, and a way to what stands behind
--- the leaf: to the beginning of a leaf, or to an index of an inner node
-pub record IsReader (h : ℕ) (n : Node) (r : Reader) : Type 0 where
-  pub way : IsWay h n r.way
-  pub first : slice_index r.way.path 0 ≡ 0
-  pub within : r.at ≤ length r.leaf
-  pub ahead : r.place + length r.leaf ≡ r.way.place + r.at
-  pub read : (k : ℕ) → r.at + k < length r.leaf → slice_index r.leaf (r.at + k) ≡ slice_index (flat h n) (r.place + k)
-
--- the same in a tree, or in none
-abbrev pub IsReaderIn : Option Node → ℕ → Reader → Type 0
-IsReaderIn None h r = r.place ≡ 0
-IsReaderIn (Some n) h r = IsReader h n r

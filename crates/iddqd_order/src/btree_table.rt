@@ -10,8 +10,8 @@
 pub mod asking;
 mod blocks;
 mod copies;
+mod cursor;
 mod descent;
-mod ends;
 pub mod entry;
 pub mod into_iter;
 pub mod iter;
@@ -31,8 +31,6 @@ mod state;
 pub mod table;
 mod tree;
 mod validation;
-mod walk;
-mod walk_back;
 mod ways;
 
 pub use asking::Asking;

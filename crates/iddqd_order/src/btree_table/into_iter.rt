@@ -1,12 +1,100 @@
 //! The walk along a table that is given up.
+//!
+//! It owns the tree, so it has no reference into it: each end has a copy of its leaf.
+ghost use Rattle.std.specs.Prelude.{◌≡◌, length, true, false};
+ghost use Rattle.iddqd_order.specs.Cursor.{IsAt, Steps, edge_of, to_gap};
+ghost use Rattle.iddqd_order.specs.Tree.{IsTree, in_order, place_in};
+
+use crate::btree_table::cursor::Cursor;
 use crate::btree_table::node::Node;
-use crate::btree_table::ways::Reader;
+use crate::btree_table::path::Path;
+use crate::btree_table::row::Row;
 use iddqd::item_index::ItemIndex;
 use std::fmt::{self, Debug, Formatter, Write};
-use std::iter::{ExactSizeIterator, FusedIterator};
+use std::iter::{DoubleEndedIterator, ExactSizeIterator, FusedIterator};
 use std::marker::Model;
 
-/// The indexes of a table, in its order. Once it has ended it stays ended.
+// One end of what is left: a copy of a leaf, a place in it, and the way from the root to that leaf. The
+// path's own place in the leaf is another one.
+#[derive(Drop)]
+struct End {
+    path: Path,
+    row: Row,
+    at: usize,
+}
+
+impl End {
+    // The last gap of a tree, or the first.
+    fn new(root: &Option<Node>, height: usize, last: bool) -> End
+        requires { IsTree root.now height }
+        ensures at { IsAt root.now height result.path result.row result.at }
+        ensures gap { place_in root.now height (to_gap result.path result.at)
+            ≡ edge_of last (length (in_order root.now height)) }
+    {
+        let cursor = Cursor::end(root, height, last);
+        End {
+            path: cursor.path,
+            row: Row::of(cursor.row),
+            at: cursor.at,
+        }
+    }
+
+    // The next index.
+    fn next(&mut self, root: &Option<Node>, height: usize) -> Option<ItemIndex>
+        requires tree { IsTree root.now height }
+        requires at { IsAt root.now height self.old.path self.old.row self.old.at }
+        ensures at { IsAt root.now height self.new.path self.new.row self.new.at }
+        ensures next { Steps true (in_order root.now height) (place_in root.now height (to_gap self.old.path self.old.at))
+            result (place_in root.now height (to_gap self.new.path self.new.at)) }
+    {
+        if self.at < self.row.len() {
+            let ix = self.row.get(self.at);
+            self.at += 1;
+            return Some(ix);
+        }
+        self.leave(root, height, true)
+    }
+
+    // The index before.
+    fn next_back(&mut self, root: &Option<Node>, height: usize) -> Option<ItemIndex>
+        requires tree { IsTree root.now height }
+        requires at { IsAt root.now height self.old.path self.old.row self.old.at }
+        ensures at { IsAt root.now height self.new.path self.new.row self.new.at }
+        ensures next { Steps false (in_order root.now height) (place_in root.now height (to_gap self.old.path self.old.at))
+            result (place_in root.now height (to_gap self.new.path self.new.at)) }
+    {
+        if self.at > 0 {
+            self.at -= 1;
+            return Some(self.row.get(self.at));
+        }
+        self.leave(root, height, false)
+    }
+
+    // The index on a side, beyond the leaf.
+    fn leave(&mut self, root: &Option<Node>, height: usize, ahead: bool) -> Option<ItemIndex>
+        requires tree { IsTree root.now height }
+        requires at { IsAt root.now height self.old.path self.old.row self.old.at }
+        ensures at { IsAt root.now height self.new.path self.new.row self.new.at }
+        ensures next { Steps ahead (in_order root.now height) (place_in root.now height (to_gap self.old.path self.old.at))
+            result (place_in root.now height (to_gap self.new.path self.new.at)) }
+    {
+        let mut cursor = Cursor {
+            path: self.path,
+            row: &[],
+            at: self.at,
+            low: None,
+        };
+        let Some(ix) = cursor.leave(root, height, ahead) else {
+            return None;
+        };
+        self.path = cursor.path;
+        self.row = Row::of(cursor.row);
+        self.at = cursor.at;
+        Some(ix)
+    }
+}
+
+/// The indexes of a table, in its order, from both ends. Once it has ended it stays ended.
 ///
 /// It takes no memory. A step costs a constant time on the average, and at most as much as a search.
 /// The table's memory is given back with it.
@@ -14,21 +102,25 @@ use std::marker::Model;
 pub struct IntoIter {
     root: Option<Node>,
     height: usize,
-    len: usize,
-    reader: Reader,
+    front: End,
+    back: End,
+    left: usize,
 }
 
 impl Model for IntoIter {
-    ghost use Rattle.std.specs.Prelude.{◌≡◌, ℕ, List, drop, length};
-    ghost use Rattle.iddqd_order.specs.Tree.{in_order, IsTree};
-    ghost use Rattle.iddqd_order.specs.Ways.{IsReaderIn};
+    ghost use Rattle.std.specs.Prelude.{◌≡◌, ◌+◌, ℕ, List};
+    ghost use Rattle.iddqd_order.specs.Cursor.{IsAt, between, to_gap};
+    ghost use Rattle.iddqd_order.specs.Tree.{IsTree, in_order, place_in};
 
     ghost Value = { List ℕ };
 
-    ghost view = { λ a. drop a.reader.place (in_order a.root a.height) };
+    ghost view = { λ a. between a.left (place_in a.root a.height (to_gap a.front.path a.front.at)) (in_order a.root a.height) };
 
-    ghost invariant = { λ a. IsTree a.root a.height × (a.len ≡ length (in_order a.root a.height))
-        × IsReaderIn a.root a.height a.reader };
+    ghost invariant = { λ a. IsTree a.root a.height
+        × IsAt a.root a.height a.front.path a.front.row a.front.at
+        × IsAt a.root a.height a.back.path a.back.row a.back.at
+        × (place_in a.root a.height (to_gap a.front.path a.front.at) + a.left
+        ≡ place_in a.root a.height (to_gap a.back.path a.back.at)) };
 }
 
 #[tactic(auto, unfolding(crate::specs::IntoIter::indexes_to_come))]
@@ -43,11 +135,14 @@ impl IntoIter {
         requires counted { len ≡ length (in_order root height) }
         ensures { indexes_to_come result ≡ in_order root height }
     {
+        let front = End::new(&root, height, false);
+        let back = End::new(&root, height, true);
         IntoIter {
             root,
             height,
-            len,
-            reader: Reader::first(),
+            front,
+            back,
+            left: len,
         }
     }
 }
@@ -66,13 +161,11 @@ impl Iterator for IntoIter {
     ghost remaining = { item_count indexes_to_come };
 
     fn next(&mut self) -> Option<ItemIndex> {
-        let Some(root) = &self.root else {
-            return None;
-        };
-        if self.reader.place == self.len {
+        if self.left == 0 {
             return None;
         }
-        Some(self.reader.next(root, self.height))
+        self.left -= 1;
+        self.front.next(&self.root, self.height)
     }
 
     fn size_hint(&self) -> (usize, Option<usize>)
@@ -86,9 +179,25 @@ impl Iterator for IntoIter {
 }
 
 #[tactic(auto, unfolding(crate::specs::IntoIter::indexes_to_come))]
+impl DoubleEndedIterator for IntoIter {
+    ghost use Rattle.std.specs.Iterator.{YieldsLast};
+    ghost use Rattle.iddqd_order.specs.IntoIter.{indexes_to_come};
+
+    ghost next_back_gives = { YieldsLast indexes_to_come };
+
+    fn next_back(&mut self) -> Option<ItemIndex> {
+        if self.left == 0 {
+            return None;
+        }
+        self.left -= 1;
+        self.back.next_back(&self.root, self.height)
+    }
+}
+
+#[tactic(auto, unfolding(crate::specs::IntoIter::indexes_to_come))]
 impl ExactSizeIterator for IntoIter {
     fn len(&self) -> usize {
-        self.len - self.reader.place
+        self.left
     }
 }
 

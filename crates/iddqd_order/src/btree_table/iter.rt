@@ -1,7 +1,6 @@
 //! The walk along a table.
+use crate::btree_table::cursor::Cursor;
 use crate::btree_table::node::Node;
-use crate::btree_table::walk::Walk;
-use crate::btree_table::walk_back::WalkBack;
 use iddqd::item_index::ItemIndex;
 use std::fmt::{self, Debug, Formatter, Write};
 use std::iter::{DoubleEndedIterator, ExactSizeIterator, FusedIterator};
@@ -12,22 +11,25 @@ use std::marker::Model;
 /// It takes no memory. A step costs a constant time on the average, and at most as much as a search.
 #[derive(Clone, Drop)]
 pub struct Iter<'a> {
-    front: Walk<'a>,
-    back: WalkBack<'a>,
+    root: &'a Option<Node>,
+    height: usize,
+    front: Cursor<'a>,
+    back: Cursor<'a>,
     left: usize,
 }
 
 impl<'a> Model for Iter<'a> {
-    ghost use Rattle.std.specs.Prelude.{ℕ, List, take};
-    ghost use Rattle.iddqd_order.specs.Walk.{IsWalk, walk_left};
-    ghost use Rattle.iddqd_order.specs.WalkBack.{IsWalkBack, IsBetween, back_left};
+    ghost use Rattle.std.specs.Prelude.{◌≡◌, ◌+◌, ℕ, List};
+    ghost use Rattle.iddqd_order.specs.Cursor.{Stands, between, gap_of};
+    ghost use Rattle.iddqd_order.specs.Tree.{IsTree, in_order};
 
     ghost Value = { List ℕ };
 
-    ghost view = { λ a. take a.left (walk_left a.front) };
+    ghost view = { λ a. between a.left (gap_of a.root.now a.height a.front) (in_order a.root.now a.height) };
 
-    ghost invariant = { λ a. IsWalk a.front × IsWalkBack a.back
-        × IsBetween a.left (walk_left a.front) (back_left a.back) };
+    ghost invariant = { λ a. IsTree a.root.now a.height
+        × Stands a.root.now a.height a.front × Stands a.root.now a.height a.back
+        × (gap_of a.root.now a.height a.front + a.left ≡ gap_of a.root.now a.height a.back) };
 }
 
 #[tactic(auto, unfolding(crate::specs::Iter::indexes_left))]
@@ -43,8 +45,10 @@ impl<'a> Iter<'a> {
         ensures { indexes_left result ≡ in_order root.now height }
     {
         Iter {
-            front: Walk::new(root, height),
-            back: WalkBack::new(root, height),
+            root,
+            height,
+            front: Cursor::end(root, height, false),
+            back: Cursor::end(root, height, true),
             left: len,
         }
     }
@@ -68,7 +72,7 @@ impl<'a> Iterator for Iter<'a> {
             return None;
         }
         self.left -= 1;
-        self.front.next()
+        self.front.next(self.root, self.height)
     }
 
     fn size_hint(&self) -> (usize, Option<usize>)
@@ -93,7 +97,7 @@ impl<'a> DoubleEndedIterator for Iter<'a> {
             return None;
         }
         self.left -= 1;
-        self.back.next()
+        self.back.next_back(self.root, self.height)
     }
 }
 

@@ -11,11 +11,11 @@ ghost use Rattle.iddqd_order.specs.Range.{WalksFrom};
 ghost use Rattle.iddqd_order.specs.Search.{CanSearch};
 
 use crate::btree_table::asking::Asking;
+use crate::btree_table::cursor::Cursor;
 use crate::btree_table::node::Node;
 use crate::btree_table::path::Path;
 use crate::btree_table::reading::{AsOrdering, ByQuery, Reads, Unequal};
 use crate::btree_table::table::MapBTreeTable;
-use crate::btree_table::walk::Walk;
 use iddqd::item_index::ItemIndex;
 use iddqd::map_hash::Comparable;
 use std::cmp::Ordering;
@@ -27,18 +27,21 @@ use std::marker::Model;
 /// It takes no memory. A step costs a constant time on the average, and at most as much as a search.
 #[derive(Clone, Drop)]
 pub struct Range<'a> {
-    walk: Walk<'a>,
+    root: &'a Option<Node>,
+    height: usize,
+    front: Cursor<'a>,
 }
 
 impl<'a> Model for Range<'a> {
-    ghost use Rattle.std.specs.Prelude.{ℕ, List};
-    ghost use Rattle.iddqd_order.specs.Walk.{IsWalk, walk_left};
+    ghost use Rattle.std.specs.Prelude.{ℕ, List, drop};
+    ghost use Rattle.iddqd_order.specs.Cursor.{Stands, gap_of};
+    ghost use Rattle.iddqd_order.specs.Tree.{IsTree, in_order};
 
     ghost Value = { List ℕ };
 
-    ghost view = { λ a. walk_left a.walk };
+    ghost view = { λ a. drop (gap_of a.root.now a.height a.front) (in_order a.root.now a.height) };
 
-    ghost invariant = { λ a. IsWalk a.walk };
+    ghost invariant = { λ a. IsTree a.root.now a.height × Stands a.root.now a.height a.front };
 }
 
 #[tactic(auto, unfolding(crate::specs::Range::indexes_ahead))]
@@ -53,14 +56,22 @@ impl<'a> Range<'a> {
         ensures { indexes_ahead result ≡ drop (place_in root.now height path.now) (in_order root.now height) }
     {
         Range {
-            walk: Walk::from_place(root, height, path),
+            root,
+            height,
+            front: Cursor::new(root, height, path),
         }
     }
 
-    fn none() -> Range<'a>
+    // None of them.
+    pub(super) fn none(root: &'a Option<Node>, height: usize) -> Range<'a>
+        requires { IsTree root.now height }
         ensures { indexes_ahead result ≡ [] }
     {
-        Range { walk: Walk::none() }
+        Range {
+            root,
+            height,
+            front: Cursor::end(root, height, true),
+        }
     }
 }
 
@@ -76,7 +87,7 @@ impl<'a> Iterator for Range<'a> {
     ghost remaining = { item_count indexes_ahead };
 
     fn next(&mut self) -> Option<ItemIndex> {
-        self.walk.next()
+        self.front.next(self.root, self.height)
     }
 }
 
@@ -156,7 +167,7 @@ impl MapBTreeTable {
         let (path, end) = self.descend(asking, &Unequal { how, at_equal }, &None);
         match end {
             // No answer is read as Equal, so it ends at no index.
-            Ok(_) => Range::none(),
+            Ok(_) => self.no_range(),
             Err(_) => self.range_at(&path),
         }
     }

@@ -37,6 +37,16 @@ impl Row {
         }
     }
 
+    pub fn of(from: &[ItemIndex]) -> Row
+        requires { length from.now ≤ 11 }
+        ensures { result ≡ from.now }
+    {
+        let count = from.len() as u8;
+        let mut items = [ItemIndex::new(0); CAPACITY];
+        items[..count as usize].copy_from_slice(from);
+        Row { items, len: count }
+    }
+
     pub fn len(&self) -> usize
         ensures length { result ≡ length self.now }
         ensures within { result ≤ 11 }

@@ -10,7 +10,7 @@ ghost use Rattle.iddqd_order.specs.Search.{CanSearch, SearchAsks, IsSteadyRising
 use crate::btree_table::asking::Asking;
 use crate::btree_table::blocks::Blocks;
 use crate::btree_table::copies::copy_of;
-use crate::btree_table::ends::{first_in, last_in};
+use crate::btree_table::cursor::Cursor;
 use crate::btree_table::into_iter::IntoIter;
 use crate::btree_table::iter::{Iter, Rest};
 use crate::btree_table::node::Node;
@@ -113,14 +113,14 @@ impl MapBTreeTable {
     pub fn first(&self) -> Option<ItemIndex>
         ensures { result ≡ slice_get (order_of self.now) 0 }
     {
-        first_in(&self.root, self.height)
+        Cursor::end(&self.root, self.height, false).next(&self.root, self.height)
     }
 
     /// The last index in the table's order.
     pub fn last(&self) -> Option<ItemIndex>
         ensures { result ≡ slice_get (order_of self.now) (length (order_of self.now) - 1) }
     {
-        last_in(&self.root, self.height)
+        Cursor::end(&self.root, self.height, true).next_back(&self.root, self.height)
     }
 
     /// The indexes in the table's order. It takes no memory.
@@ -511,6 +511,13 @@ impl MapBTreeTable {
         ensures { indexes_ahead result ≡ drop (place_in self.now.root self.now.height path.now) (order_of self.now) }
     {
         Range::new(&self.root, self.height, path)
+    }
+
+    // None of the indexes.
+    pub(super) fn no_range(&self) -> Range<'_>
+        ensures { indexes_ahead result ≡ [] }
+    {
+        Range::none(&self.root, self.height)
     }
 
     // Adds `ix` where the path goes, through so many full nodes at its lower end.

@@ -2,7 +2,7 @@
 use super::filled;
 use super::trees::Pair;
 use iddqd::item_index::ItemIndex;
-use iddqd_order::btree_table::{Iter, MapBTreeTable};
+use iddqd_order::btree_table::{IntoIter, Iter, MapBTreeTable};
 use std::cmp::Ordering;
 use std::process::Abort;
 use std::slice;
@@ -37,6 +37,39 @@ fn the_ends_of_a_walk_meet(rt: HostRuntime) -> Result<(), Fail> {
     let table = filled(&rt, rt.alloc(), 2000, Ordering::Greater)?;
     for front in [0, 700, 2000] {
         walk_apart(&rt, &table, front, 2000);
+    }
+    Ok(())
+}
+
+// Whether the walk along a table that is given up is at its end, and stays there at both ends.
+fn has_all_given(mut walk: IntoIter) -> bool {
+    walk.len() == 0 && walk.next().is_none() && walk.next_back().is_none() && walk.next().is_none()
+}
+
+// The same with a table that is given up.
+fn take_apart(rt: &impl Abort, table: MapBTreeTable, front: u32, len: u32) {
+    let mut walk = table.into_iter();
+    for number in 0..front {
+        assert!(rt; walk.next() == Some(ItemIndex::new(number)));
+    }
+    for number in front..len {
+        assert!(rt; walk.len() == (len - number) as usize);
+        assert!(rt; walk.next_back() == Some(ItemIndex::new(len - 1 - (number - front))));
+    }
+    assert!(rt; has_all_given(walk));
+}
+
+#[test]
+fn the_ends_of_a_table_that_is_given_up_meet(rt: HostRuntime) -> Result<(), Fail> {
+    for len in 0..301 {
+        for front in [0, len / 2, len] {
+            let table = filled(&rt, rt.alloc(), len, Ordering::Greater)?;
+            take_apart(&rt, table, front, len);
+        }
+    }
+    for front in [0, 700, 2000] {
+        let table = filled(&rt, rt.alloc(), 2000, Ordering::Greater)?;
+        take_apart(&rt, table, front, 2000);
     }
     Ok(())
 }

@@ -103,8 +103,3 @@ pub returns-clause-next : goal.returns-clause-next
 returns-clause-next t c =
     let over = c.if-i-len-2.false in let len = c.len-2.ensures.length in
     ends-leaf c.args.height c.args.level c.get-i.result c.args.self.now c.args.path.now c.args.path.now (omega arith) c.get-i.ensures c.requires.holds (search (rules, over))
-
-pub returns-then-i-len-2-clause-first : goal.returns-then-i-len-2-clause-first
-returns-then-i-len-2-clause-first t c above zero =
-    let e = (ends-here c.args.height c.args.level c.get-i.result c.args.self.now c.args.path.now c.if-height-level.false c.get-i.ensures c.requires.formed c.requires.holds).level in
-    absurd (omega arith)

@@ -11,7 +11,7 @@ returns-in-Ok g c =
       asked = s.asked;
       place = length (order_of c.args.self.now);
       within = omega arith;
-      ahead = c.none.ensures ∙ sym (drop-length (order_of c.args.self.now));
+      ahead = c.no_range.ensures ∙ sym (drop-length (order_of c.args.self.now));
       bound = λ answer rises. absurd ((steady-in g.F.FnMut _ _ c.args.at_equal c.requires.unequal answer _ _ _ s rises).1 refl);
     }
 

@@ -1,0 +1,404 @@
+-- A gap of a tree and the gaps beside it, one level at a time, and what a walk has left between two gaps.
+use Rattle.iddqd_order.proofs.Names.{◌≡◌, ◌≢◌, ◌∙◌, ℕ, zero, suc, ◌+◌, ◌-◌, ◌<◌, ◌≤◌, List, [], ◌∷◌, ◌++◌, Bool, true, false, not, Option, Some, None, IfSome, length, take, drop, get_or, length-set, set-get_or, slice_index, slice_set, refl, sym, ap, subst, arith, sub-one, append-nil, drop_all, length-append, length-drop, length-map, length-take-le, slice_get-get_or, Node, row, children, child, before, flat, IsFormed, Goes, place, in_order, IsTree, GoesIn, place_in, AreBeside, AtEdge, Over, IsAt, IsBehind, IsGap, IsLow, Steps, between, edge_of, leaf, leaf_in, low, to_gap}
+use Rattle.std.proofs.Common.{get_or-drop}
+use Rattle.std.proofs.Math.Seq.{drop-cons, take-suc}
+use Rattle.std.proofs.lemmas.Option.{slice_get_past}
+use Rattle.std.specs.Borrow.{Bor}
+use Rattle.std.specs.Iterator.{YieldsFirst, YieldsLast}
+use Rattle.std.specs.List.{slice_get}
+use Rattle.iddqd_order.proofs.DescentLemmas.{after-last, before-next, child-read, child_is, path-above, path-here, get_or-index_place, index_place-within}
+use Rattle.iddqd_order.proofs.NodeLemmas.{lists, lists-one_more, lists-at, child-within, child-formed, formed-inner, formed-within, flat-leaf, flat-inner, place-leaf, goes-leaf, leaf-goes, goes-inner, inner-goes, place-inner, place-within}
+use Rattle.iddqd_order.proofs.WeaveLemmas.{apart, index_place, within}
+
+-- a path goes on below the i-th child, which was read as k
+pub record Below (h i : ℕ) (n k : Node) (p : List ℕ) : Type 0 where
+  pub here : i < length (children n)
+  pub is : k ≡ child n i
+  pub formed : IsFormed (h - 1) k
+  pub goes : Goes (h - 1) k p
+
+pub goes-here : (h i : ℕ) (n : Node) (p : List ℕ) → h ≢ 0 → i ≡ slice_index p h → Goes h n p → i < length (children n)
+goes-here h i n p ne e g = rw e (goes-inner h n p ne g).here
+
+pub goes-in : (h i : ℕ) (n k : Node) (p : List ℕ) → h ≢ 0 → i ≡ slice_index p h → IsFormed h n → Goes h n p → k ≡ get_or (children n) i k → Below h i n k p
+goes-in h i n k p ne e f g is_k =
+    let here = goes-here h i n p ne e g in
+    let is = child_is n i k here is_k in
+    record { here = here; is = is; formed = rw is (child-formed h n i ne f here); goes = rw (is, e) (goes-inner h n p ne g).on }
+
+-- and the other way round
+pub goes-at : (h i : ℕ) (n : Node) (p : List ℕ) → h ≢ 0 → slice_index p h ≡ i → i < length (children n) → Goes (h - 1) (child n i) p → Goes h n p
+goes-at h i n p ne e here on = inner-goes h n p ne (record { here = rw e here; on = rw e on })
+
+pub place-at : (h i : ℕ) (n : Node) (p : List ℕ) → h ≢ 0 → slice_index p h ≡ i → place h n p ≡ length (before i (row n) (lists (h - 1) (children n))) + place (h - 1) (child n i) p
+place-at h i n p ne e = rw (← e) (place-inner h n p ne)
+
+pub leaf-at : (h i : ℕ) (n : Node) (p : List ℕ) → h ≢ 0 → slice_index p h ≡ i → leaf h n p ≡ leaf (h - 1) (child n i) p
+unfolding leaf
+leaf-at zero i n p ne e = absurd (ne refl)
+leaf-at (suc h) i n p ne e = rw (← e, sub-one)
+
+pub leaf-zero : (h : ℕ) (n : Node) (p : List ℕ) → h ≡ 0 → leaf h n p ≡ row n
+unfolding leaf
+leaf-zero zero n p e = refl
+leaf-zero (suc h) n p e = absurd (omega arith)
+
+-- the node above a leaf
+pub low-one : (h : ℕ) (n : Node) (p : List ℕ) → h ≡ 1 → low h n p ≡ n
+unfolding low
+low-one zero n p e = absurd (omega arith)
+low-one (suc zero) n p e = refl
+low-one (suc (suc h)) n p e = absurd (omega arith)
+
+low-at : (h i : ℕ) (n : Node) (p : List ℕ) → 2 ≤ h → slice_index p h ≡ i → low h n p ≡ low (h - 1) (child n i) p
+unfolding low
+low-at zero i n p ge e = absurd (omega arith)
+low-at (suc zero) i n p ge e = absurd (omega arith)
+low-at (suc (suc h)) i n p ge e = rw (← e, sub-one)
+
+pub low-above : (h i : ℕ) (n : Node) (p : List ℕ) (k : Option (Bor Node)) → 2 ≤ h → slice_index p h ≡ i
+    → IfSome k (λ k. (0 < h - 1) × (k.now ≡ low (h - 1) (child n i) p)) → IfSome k (λ k. (0 < h) × (k.now ≡ low h n p))
+low-above h i n p None ge e is = tt
+low-above h i n p (Some k) ge e is = (omega arith, is.1 ∙ sym (low-at h i n p ge e))
+
+pub edge-within : (last : Bool) (count i : ℕ) → i ≡ edge_of last count → i ≤ count
+edge-within true count i e = omega arith
+edge-within false count i e = omega arith
+
+pub beside-within : (ahead : Bool) (count i : ℕ) (r : ℕ × ℕ) → AreBeside ahead count i (Some r) → (r.0 < count) × (r.1 ≤ count)
+beside-within true count i r b = let at = b.0 in let to = b.2 in (at, omega arith)
+beside-within false count i r b = let at = b.0 in let to = b.2 in (at, omega arith)
+
+-- the index at a place of the i-th list
+behind-below : (h i j ix : ℕ) (n : Node) → h ≢ 0 → IsFormed h n → i < length (children n) → IsBehind (flat (h - 1) (child n i)) j ix
+    → IsBehind (flat h n) (length (before i (row n) (lists (h - 1) (children n))) + j) ix
+behind-below h i j ix n ne f here b =
+    let inside = within i (row n) (lists (h - 1) (children n)) [] (suc j) (omega (arith, length-map (children n) (λ k. flat (h - 1) k))) (lists-one_more h n ne f) (rw (lists-at (h - 1) n i here) (omega (arith, b.0))) in
+    (rw (flat-inner h n ne) (omega arith), b.1 ∙ sym (child-read h n i j ne f here b.0))
+
+-- a step below the i-th child is one in the whole
+steps-below : (ahead : Bool) (h i ix : ℕ) (n : Node) (p q : List ℕ) → h ≢ 0 → IsFormed h n → i < length (children n) → slice_index p h ≡ i → slice_index q h ≡ i
+    → Steps ahead (flat (h - 1) (child n i)) (place (h - 1) (child n i) p) (Some ix) (place (h - 1) (child n i) q) → Steps ahead (flat h n) (place h n p) (Some ix) (place h n q)
+steps-below true h i ix n p q ne f here ep eq s =
+    let at = place-at h i n p ne ep in let to = place-at h i n q ne eq in let one = s.1 in
+    (rw at (behind-below h i _ ix n ne f here s.0), omega arith)
+steps-below false h i ix n p q ne f here ep eq s =
+    let at = place-at h i n p ne ep in let to = place-at h i n q ne eq in let one = s.1 in
+    (rw to (behind-below h i _ ix n ne f here s.0), omega arith)
+
+-- the last gap of a node is that of its last child, and the first one that of its first
+pub edge-inner : (last : Bool) (h i : ℕ) (n : Node) (p : List ℕ) → h ≢ 0 → IsFormed h n → i < length (children n) → slice_index p h ≡ i → i ≡ edge_of last (length (row n))
+    → place (h - 1) (child n i) p ≡ edge_of last (length (flat (h - 1) (child n i))) → place h n p ≡ edge_of last (length (flat h n))
+edge-inner true h i n p ne f here ep ei on =
+    let xs : List ℕ = row n in let ks : List (List ℕ) = lists (h - 1) (children n) in
+    let one = lists-one_more h n ne f in
+    let whole : flat h n ≡ before i xs ks ++ (get_or ks i [] ++ []) = flat-inner h n ne ∙ apart i xs ks [] (omega arith) one ∙ ap (λ z. before i xs ks ++ (get_or ks i [] ++ z)) (after-last i xs ks (omega arith) one) in
+    let all : length (flat h n) ≡ length (before i xs ks) + length (flat (h - 1) (child n i)) =
+    ap length whole ∙ length-append (before i xs ks) (get_or ks i [] ++ []) ∙ ap (λ z. length (before i xs ks) + length z) (append-nil (get_or ks i []) ∙ lists-at (h - 1) n i here) in
+    let at = place-at h i n p ne ep in
+    omega arith
+edge-inner false h i n p ne f here ep ei on =
+    let none : length (before i (row n) (lists (h - 1) (children n))) ≡ 0 = rw ei refl in
+    let at = place-at h i n p ne ep in
+    omega arith
+
+edge-leaf : (last : Bool) (h i : ℕ) (n : Node) (p : List ℕ) → h ≡ 0 → slice_index p h ≡ i → i ≡ edge_of last (length (row n)) → place h n p ≡ edge_of last (length (flat h n))
+edge-leaf last h i n p e ep ei = place-leaf h n p e ∙ ap (slice_index p) (sym e) ∙ ep ∙ ei ∙ ap (λ z. edge_of last (length z)) (sym (flat-leaf h n e))
+
+pub at_edge-leaf : (last : Bool) (h i : ℕ) (n : Node) (xs p : List ℕ) → h ≡ 0 → slice_index p h ≡ i → i ≡ edge_of last (length (row n)) → xs ≡ row n → AtEdge last h n xs p
+at_edge-leaf last h i n xs p e ep ei ex =
+    let within = edge-within last (length (row n)) i ei in
+    let here = ap (slice_index p) (sym e) ∙ ep in
+    record { goes = leaf-goes h n p e (omega arith); place_is = edge-leaf last h i n p e ep ei; leaf_is = ex ∙ sym (leaf-zero h n p e) }
+
+pub at_edge-inner : (last : Bool) (h i : ℕ) (n k : Node) (xs p : List ℕ) → h ≢ 0 → IsFormed h n → i < length (children n) → k ≡ child n i → slice_index p h ≡ i → i ≡ edge_of last (length (row n))
+    → AtEdge last (h - 1) k xs p → AtEdge last h n xs p
+at_edge-inner last h i n k xs p ne f here is ep ei on =
+    record {
+      goes = goes-at h i n p ne ep here (rw is at on.goes);
+      place_is = edge-inner last h i n p ne f here ep ei (rw is at on.place_is);
+      leaf_is = rw is at on.leaf_is ∙ sym (leaf-at h i n p ne ep);
+    }
+
+-- from the last gap below the i-th child over the i-th index to the first gap below the next child
+turn-at : (h i : ℕ) (n : Node) (p q : List ℕ) → h ≢ 0 → IsFormed h n → i < length (row n) → slice_index p h ≡ i → slice_index q h ≡ i + 1
+    → place (h - 1) (child n i) p ≡ length (flat (h - 1) (child n i)) → place (h - 1) (child n (i + 1)) q ≡ 0
+    → IsBehind (flat h n) (place h n p) (slice_index (row n) i) × (place h n q ≡ place h n p + 1)
+turn-at h i n p q ne f lt ep eq last first =
+    let xs : List ℕ = row n in let ks : List (List ℕ) = lists (h - 1) (children n) in
+    let one = lists-one_more h n ne f in
+    let list = ap length (lists-at (h - 1) n i (child-within h n i ne f (omega arith))) in
+    let at = place-at h i n p ne ep in let to = place-at h (i + 1) n q ne eq in
+    let is : place h n p ≡ index_place i xs ks = omega arith in
+    let next = before-next i xs ks lt one in
+    let inside = index_place-within xs ks one i lt in
+    ((rw (is, flat-inner h n ne) inside, rw (is, flat-inner h n ne) (sym (get_or-index_place xs ks one i 0 lt))), omega arith)
+
+-- a step over an index of a node itself
+steps-here : (ahead : Bool) (h i : ℕ) (r : ℕ × ℕ) (n : Node) (p q : List ℕ) → h ≢ 0 → IsFormed h n → AreBeside ahead (length (row n)) i (Some r) → slice_index p h ≡ i → slice_index q h ≡ r.1
+    → place (h - 1) (child n i) p ≡ edge_of ahead (length (flat (h - 1) (child n i))) → place (h - 1) (child n r.1) q ≡ edge_of (not ahead) (length (flat (h - 1) (child n r.1)))
+    → Steps ahead (flat h n) (place h n p) (Some (slice_index (row n) r.0)) (place h n q)
+steps-here true h i r n p q ne f b ep eq last first =
+    let from = b.1 in let to = b.2 in turn-at h r.0 n p q ne f b.0 (ep ∙ from) (eq ∙ to) (rw from at last) (rw to at first)
+steps-here false h i r n p q ne f b ep eq last first =
+    let from = b.1 in let to = b.2 in turn-at h r.0 n q p ne f b.0 (eq ∙ to) (ep ∙ from) (rw to at first) (rw from at last)
+
+steps-leaf : (ahead : Bool) (h i : ℕ) (r : ℕ × ℕ) (n : Node) (p q : List ℕ) → h ≡ 0 → AreBeside ahead (length (row n)) i (Some r) → slice_index p h ≡ i → slice_index q h ≡ r.1
+    → Steps ahead (flat h n) (place h n p) (Some (slice_index (row n) r.0)) (place h n q)
+steps-leaf true h i r n p q e b ep eq =
+    let is : place h n p ≡ r.0 = place-leaf h n p e ∙ ap (slice_index p) (sym e) ∙ ep ∙ b.1 in
+    ((rw (is, flat-leaf h n e) b.0, rw (is, flat-leaf h n e)), place-leaf h n q e ∙ ap (slice_index q) (sym e) ∙ eq ∙ b.2 ∙ ap (λ z. z + 1) (sym is))
+steps-leaf false h i r n p q e b ep eq =
+    let is : place h n q ≡ r.0 = place-leaf h n q e ∙ ap (slice_index q) (sym e) ∙ eq ∙ b.2 in
+    ((rw (is, flat-leaf h n e) b.0, rw (is, flat-leaf h n e)), place-leaf h n p e ∙ ap (slice_index p) (sym e) ∙ ep ∙ b.1 ∙ ap (λ z. z + 1) (sym is))
+
+pub over-below : (ahead : Bool) (h i ix : ℕ) (n k : Node) (p xs q : List ℕ) → h ≢ 0 → IsFormed h n → Below h i n k p → i ≡ slice_index p h → slice_index q h ≡ slice_index p h
+    → Over ahead (h - 1) k p ix xs q → Over ahead h n p ix xs q
+over-below ahead h i ix n k p xs q ne f b ei eq o =
+    let to = eq ∙ sym ei in
+    record {
+      goes = goes-at h i n q ne to b.here (rw b.is at o.goes);
+      steps = steps-below ahead h i ix n p q ne f b.here (sym ei) to (rw b.is at o.steps);
+      leaf_is = rw b.is at o.leaf_is ∙ sym (leaf-at h i n q ne to);
+    }
+
+pub over-leaf : (ahead : Bool) (h i : ℕ) (r : ℕ × ℕ) (n : Node) (p xs q : List ℕ) → h ≡ 0 → AreBeside ahead (length (row n)) i (Some r) → i ≡ slice_index p h → slice_index q h ≡ r.1 → xs ≡ row n
+    → Over ahead h n p (slice_index (row n) r.0) xs q
+over-leaf ahead h i r n p xs q e b ei eq ex =
+    let inside = beside-within ahead (length (row n)) i r b in
+    let here = ap (slice_index q) (sym e) ∙ eq in
+    record { goes = leaf-goes h n q e (omega arith); steps = steps-leaf ahead h i r n p q e b (sym ei) eq; leaf_is = ex ∙ sym (leaf-zero h n q e) }
+
+pub over-here : (ahead : Bool) (h i : ℕ) (r : ℕ × ℕ) (n k j : Node) (p xs q : List ℕ) → h ≢ 0 → IsFormed h n → Below h i n k p → i ≡ slice_index p h → AreBeside ahead (length (row n)) i (Some r)
+    → place (h - 1) k p ≡ edge_of ahead (length (flat (h - 1) k)) → r.1 < length (children n) → j ≡ child n r.1 → slice_index q h ≡ r.1 → AtEdge (not ahead) (h - 1) j xs q
+    → Over ahead h n p (slice_index (row n) r.0) xs q
+over-here ahead h i r n k j p xs q ne f b ei beside last here is eq first =
+    record {
+      goes = goes-at h r.1 n q ne eq here (rw is at first.goes);
+      steps = steps-here ahead h i r n p q ne f beside (sym ei) eq (rw b.is at last) (rw is at first.place_is);
+      leaf_is = rw is at first.leaf_is ∙ sym (leaf-at h r.1 n q ne eq);
+    }
+
+-- no index is on that side
+pub ended-leaf : (ahead : Bool) (h i : ℕ) (n : Node) (p : List ℕ) → h ≡ 0 → AreBeside ahead (length (row n)) i None → i ≡ slice_index p h → place h n p ≡ edge_of ahead (length (flat h n))
+ended-leaf ahead h i n p e b ei = edge-leaf ahead h i n p e (sym ei) b
+
+pub ended-here : (ahead : Bool) (h i : ℕ) (n k : Node) (p : List ℕ) → h ≢ 0 → IsFormed h n → Below h i n k p → i ≡ slice_index p h → AreBeside ahead (length (row n)) i None
+    → place (h - 1) k p ≡ edge_of ahead (length (flat (h - 1) k)) → place h n p ≡ edge_of ahead (length (flat h n))
+ended-here ahead h i n k p ne f b ei beside last = edge-inner ahead h i n p ne f b.here (sym ei) beside (rw b.is at last)
+
+-- another gap of the same leaf
+pub record Moved (h : ℕ) (n : Node) (p q : List ℕ) : Type 0 where
+  pub goes : Goes h n q
+  pub same_leaf : leaf h n q ≡ leaf h n p
+  pub place_is : place h n q + slice_index p 0 ≡ place h n p + slice_index q 0
+
+pub moved : (h : ℕ) (n : Node) (p q : List ℕ) → Goes h n p → slice_index q 0 ≤ length (leaf h n p) → ((m : ℕ) → 0 < m → slice_index q m ≡ slice_index p m) → Moved h n p q
+unfolding Goes place leaf
+moved zero n p q g le same = record { goes = le; same_leaf = refl; place_is = omega arith }
+moved (suc h) n p q g le same =
+    let e = same (suc h) (omega arith) in
+    let k : Node = child n (slice_index p (suc h)) in
+    let m = moved h k p q g.1 le same in
+    let is = m.place_is in
+    record {
+      goes = rw e (g.0, m.goes);
+      same_leaf = rw e m.same_leaf;
+      place_is = rw e (omega arith);
+    }
+
+-- a leaf, of which at most eleven indexes are at their places in the whole list
+pub leaf-few : (h : ℕ) (n : Node) (p : List ℕ) → IsFormed h n → Goes h n p → length (leaf h n p) ≤ 11
+leaf-few zero n p f g = rw (leaf-zero 0 n p refl) (formed-within 0 n f)
+leaf-few (suc h) n p f g =
+    let at = goes-inner (suc h) n p (λ e. absurd (omega arith)) g in
+    let below = child-formed (suc h) n (slice_index p (suc h)) (λ e. absurd (omega arith)) f at.here in
+    rw (leaf-at (suc h) _ n p (λ e. absurd (omega arith)) refl, sub-one) (leaf-few h _ p (rw sub-one at below) (rw sub-one at at.on))
+
+pub goes-within : (h : ℕ) (n : Node) (p : List ℕ) → Goes h n p → slice_index p 0 ≤ length (leaf h n p)
+unfolding Goes leaf
+goes-within zero n p g = g
+goes-within (suc h) n p g = goes-within h _ p g.1
+
+pub leaf-read : (h : ℕ) (n : Node) (p : List ℕ) → IsFormed h n → Goes h n p → slice_index p 0 < length (leaf h n p) → IsBehind (flat h n) (place h n p) (slice_index (leaf h n p) (slice_index p 0))
+leaf-read zero n p f g lt = rw (leaf-zero 0 n p refl, flat-leaf 0 n refl, place-leaf 0 n p refl) (rw (leaf-zero 0 n p refl) at lt, refl)
+leaf-read (suc h) n p f g lt =
+    let ne : suc h ≢ 0 = λ e. absurd (omega arith) in
+    let i : ℕ = slice_index p (suc h) in
+    let at = goes-inner (suc h) n p ne g in
+    let is : leaf (suc h) n p ≡ leaf h (child n i) p = rw sub-one at (leaf-at (suc h) i n p ne refl) in
+    let below = leaf-read h (child n i) p (rw sub-one at (child-formed (suc h) n i ne f at.here)) (rw sub-one at at.on) (rw is at lt) in
+    rw (place-at (suc h) i n p ne refl, is) (behind-below (suc h) i _ _ n ne f at.here (rw sub-one below))
+
+-- in a tree or in none
+pub IsAt-whole : (t : Option Node) (h : ℕ) (n : Node) (p row : List ℕ) (at : ℕ) → t ≡ Some n → length p ≡ 12 → Goes h n p → row ≡ leaf h n p → at ≡ slice_index p 0 → (to_gap p at ≡ p) × IsAt t h p row at
+IsAt-whole t h n p row at e whole g is ea =
+    let same : to_gap p at ≡ p = rw ea (set-get_or p 0 0) in (
+      same,
+      record {
+        gap = record { whole = whole; goes = rw (same, e) g };
+        leaf = rw (same, e) is;
+        within = rw (ea, is) (goes-within h n p g);
+      },
+    )
+
+-- another place of the leaf
+pub IsAt-moved : (t : Option Node) (h i : ℕ) (p row : List ℕ) (at : ℕ) → IsTree t h → IsAt t h p row at → i ≤ length row → IsAt t h p row i × (place_in t h (to_gap p i) + at ≡ place_in t h (to_gap p at) + i)
+IsAt-moved None h i p row at t a le = (record { gap = record { whole = a.gap.whole; goes = tt }; leaf = a.leaf; within = le }, (let none = ap length a.leaf in let within = a.within in omega arith))
+IsAt-moved (Some n) h i p row at t a le =
+    let whole = a.gap.whole in
+    let here : slice_index (to_gap p i) 0 ≡ i = path-here p (to_gap p i) 0 i whole (omega arith) refl in
+    let was : slice_index (to_gap p at) 0 ≡ at = path-here p (to_gap p at) 0 at whole (omega arith) refl in
+    let m = moved h n (to_gap p at) (to_gap p i) a.gap.goes (rw (here, ← a.leaf) le) (λ m lt. path-above p (to_gap p i) 0 i m refl lt ∙ sym (path-above p (to_gap p at) 0 at m refl lt)) in
+    let is = m.place_is in
+    (record { gap = record { whole = whole; goes = m.goes }; leaf = a.leaf ∙ sym m.same_leaf; within = le }, omega arith)
+
+pub IsAt-read : (t : Option Node) (h : ℕ) (p row : List ℕ) (at : ℕ) → IsTree t h → IsAt t h p row at → at < length row → IsBehind (in_order t h) (place_in t h (to_gap p at)) (slice_index row at)
+IsAt-read None h p row at t a lt = absurd (let none = ap length a.leaf in omega arith)
+IsAt-read (Some n) h p row at t a lt =
+    let here : slice_index (to_gap p at) 0 ≡ at = path-here p (to_gap p at) 0 at a.gap.whole (omega arith) refl in
+    let b = leaf-read h n (to_gap p at) t.0 a.gap.goes (rw (here, ← a.leaf) lt) in
+    (b.0, rw (here, ← a.leaf) at b.1)
+
+-- a step in the leaf
+pub steps-ahead : (t : Option Node) (h ix : ℕ) (p row : List ℕ) (at : ℕ) → IsTree t h → IsAt t h p row at → at < length row → ix ≡ slice_index row at
+    → IsAt t h p row (at + 1) × Steps true (in_order t h) (place_in t h (to_gap p at)) (Some ix) (place_in t h (to_gap p (at + 1)))
+steps-ahead t h ix p row at tree a lt e =
+    let m = IsAt-moved t h (at + 1) p row at tree a (omega arith) in
+    let b = IsAt-read t h p row at tree a lt in let is = m.1 in
+    (m.0, ((b.0, e ∙ b.1), omega arith))
+
+pub steps-back : (t : Option Node) (h ix : ℕ) (p row : List ℕ) (at : ℕ) → IsTree t h → IsAt t h p row at → 0 < at → ix ≡ slice_index row (at - 1)
+    → IsAt t h p row (at - 1) × Steps false (in_order t h) (place_in t h (to_gap p at)) (Some ix) (place_in t h (to_gap p (at - 1)))
+steps-back t h ix p row at tree a some e =
+    let within = a.within in
+    let m = IsAt-moved t h (at - 1) p row at tree a (omega arith) in
+    let b = IsAt-read t h p row (at - 1) tree m.0 (omega arith) in let is = m.1 in
+    (m.0, ((b.0, e ∙ b.1), omega arith))
+
+pub IsGap-few : (t : Option Node) (h : ℕ) (n : Node) (p : List ℕ) (at : ℕ) → t ≡ Some n → IsTree t h → IsGap t h p at → at ≤ 11
+IsGap-few t h n p at e tree g =
+    let goes : Goes h n (to_gap p at) = rw e at g.goes in
+    let formed : IsTree (Some n) h = subst (λ t. IsTree t h) e tree in
+    let here : slice_index (to_gap p at) 0 ≡ at = path-here p (to_gap p at) 0 at g.whole (omega arith) refl in
+    let within = goes-within h n (to_gap p at) goes in let few = leaf-few h n (to_gap p at) formed.0 goes in
+    omega arith
+
+pub IsAt-few : (t : Option Node) (h : ℕ) (p row : List ℕ) (at : ℕ) → IsTree t h → IsAt t h p row at → length row ≤ 11
+IsAt-few None h p row at t a = let none = ap length a.leaf in omega arith
+IsAt-few (Some n) h p row at t a = let few = leaf-few h n (to_gap p at) t.0 a.gap.goes in let len = ap length a.leaf in omega arith
+
+pub IsLow-from : (t : Option Node) (h : ℕ) (n : Node) (p : List ℕ) (k : Option (Bor Node)) → t ≡ Some n → IfSome k (λ k. (0 < h) × (k.now ≡ low h n p)) → IsLow t h p k
+IsLow-from t h n p None e l = tt
+IsLow-from None h n p (Some k) e l = absurd (cc)
+IsLow-from (Some m) h n p (Some k) e l = (l.0, l.1 ∙ (let same : n ≡ m = cc in ap (λ n. low h n p) same))
+
+-- from the end of a leaf over the next index of the node above it
+low-same : (h : ℕ) (n : Node) (p q : List ℕ) → ((m : ℕ) → 1 < m → slice_index q m ≡ slice_index p m) → low h n q ≡ low h n p
+unfolding low
+low-same zero n p q same = refl
+low-same (suc zero) n p q same = refl
+low-same (suc (suc h)) n p q same = rw (same (suc (suc h)) (omega arith)) (low-same (suc h) _ p q same)
+
+record LowStep (h : ℕ) (n k : Node) (p q : List ℕ) : Type 0 where
+  inside : slice_index p 1 + 1 < length (children k)
+  over : Over true h n p (slice_index (row k) (slice_index p 1)) (row (child k (slice_index p 1 + 1))) q
+
+low-step : (h : ℕ) (n : Node) (p q : List ℕ) → 0 < h → IsFormed h n → Goes h n p → length (leaf h n p) ≤ slice_index p 0 → slice_index q 0 ≡ 0 → slice_index q 1 ≡ slice_index p 1 + 1
+    → ((m : ℕ) → 1 < m → slice_index q m ≡ slice_index p m) → slice_index p 1 < length (row (low h n p)) → LowStep h n (low h n p) p q
+unfolding low
+low-step zero n p q some f g end first next same lt = absurd (omega arith)
+low-step (suc zero) n p q some f g end first next same lt =
+    let ne : suc zero ≢ 0 = λ e. cc in
+    let i : ℕ = slice_index p 1 in
+    let at = goes-inner 1 n p ne g in
+    let inside = child-within 1 n (i + 1) ne f (omega arith) in
+    let k : Node = child n i in
+    let whole : slice_index p 0 ≡ length (row k) = (let le = goes-leaf 0 k p refl at.on in let is = ap length (leaf-at 1 i n p ne refl ∙ leaf-zero 0 k p refl) in omega arith) in
+    record {
+      inside = inside;
+      over = over-here true 1 i (i, i + 1) n k (child n (i + 1)) p (row (child n (i + 1))) q ne f
+          (record { here = at.here; is = refl; formed = child-formed 1 n i ne f at.here; goes = at.on }) refl (lt, refl, refl)
+          (place-leaf 0 k p refl ∙ whole ∙ ap length (sym (flat-leaf 0 k refl))) inside refl next (at_edge-leaf false 0 0 (child n (i + 1)) _ q refl first refl refl);
+    }
+low-step (suc (suc h)) n p q some f g end first next same lt =
+    let ne : suc (suc h) ≢ 0 = λ e. cc in
+    let i : ℕ = slice_index p (suc (suc h)) in
+    let k : Node = child n i in
+    let at = goes-inner (suc (suc h)) n p ne g in
+    let b : Below (suc (suc h)) i n k p = record { here = at.here; is = refl; formed = child-formed (suc (suc h)) n i ne f at.here; goes = at.on } in
+    let is : leaf (suc (suc h)) n p ≡ leaf (suc h) k p = rw sub-one at (leaf-at (suc (suc h)) i n p ne refl) in
+    let ih = low-step (suc h) k p q (omega arith) (rw sub-one at b.formed) (rw sub-one at b.goes) (rw is at end) first next same lt in
+    record { inside = ih.inside; over = over-below true (suc (suc h)) i _ n k p _ q ne f b refl (same (suc (suc h)) (omega arith)) (rw sub-one ih.over) }
+
+pub record NextLow (t : Option Node) (h : ℕ) (k : Node) (p : List ℕ) (at : ℕ) (q : List ℕ) : Type 0 where
+  pub inside : slice_index p 1 + 1 < length (children k)
+  pub at_is : IsAt t h q (row (child k (slice_index p 1 + 1))) 0
+  pub low_is : (b : Bor Node) → b.now ≡ k → IsLow t h q (Some b)
+  pub steps : Steps true (in_order t h) (place_in t h (to_gap p at)) (Some (slice_index (row k) (slice_index p 1))) (place_in t h (to_gap q 0))
+
+pub next-low : (t : Option Node) (h : ℕ) (b : Bor Node) (p row_is : List ℕ) (at : ℕ) (q : List ℕ) → IsTree t h → IsAt t h p row_is at → length row_is ≤ at → IsLow t h p (Some b)
+    → slice_index p 1 < length (row b.now) → q ≡ slice_set p 1 (slice_index p 1 + 1) → NextLow t h b.now p at q
+next-low None h b p row_is at q tree a end l lt eq = absurd l
+next-low (Some n) h b p row_is at q tree a end l lt eq =
+    let whole = a.gap.whole in
+    let len : length q ≡ 12 = ap length eq ∙ length-set p 1 _ ∙ whole in
+    let r : List ℕ = to_gap p at in
+    let s : List ℕ = to_gap q 0 in
+    let was : slice_index r 0 ≡ at = path-here p r 0 at whole (omega arith) refl in
+    let same : (m : ℕ) → 0 < m → slice_index r m ≡ slice_index p m = λ m lt. path-above p r 0 at m refl lt in
+    let kept : (m : ℕ) → 0 < m → slice_index s m ≡ slice_index q m = λ m lt. path-above q s 0 0 m refl lt in
+    let over : (m : ℕ) → 1 < m → slice_index q m ≡ slice_index p m = λ m lt. path-above p q 1 _ m eq lt in
+    let next : slice_index s 1 ≡ slice_index r 1 + 1 = kept 1 (omega arith) ∙ path-here p q 1 _ whole (omega arith) eq ∙ ap (λ z. z + 1) (sym (same 1 (omega arith))) in
+    let is : b.now ≡ low h n r = l.1 ∙ sym (low-same h n p r (λ m lt. same m (omega arith))) in
+    let end_is : length (leaf h n r) ≤ slice_index r 0 = rw (was, ← a.leaf) end in
+    let step : LowStep h n b.now r s = rw is (low-step h n r s l.0 tree.0 a.gap.goes end_is (path-here q s 0 0 len (omega arith) refl) next
+    (λ m lt. kept m (omega arith) ∙ over m lt ∙ sym (same m (omega arith))) (rw (← is, same 1 (omega arith)) lt)) in
+    let there : slice_index r 1 ≡ slice_index p 1 = same 1 (omega arith) in
+    record {
+      inside = rw there at step.inside;
+      at_is = record { gap = record { whole = len; goes = step.over.goes }; leaf = rw there at step.over.leaf_is; within = omega arith };
+      low_is = λ c e. (l.0, e ∙ l.1 ∙ sym (low-same h n p q over));
+      steps = rw there at step.over.steps;
+    }
+
+-- what is left of a list between two gaps, after a step from the one or the other
+pub left-ahead : (count i j k : ℕ) (xs : List ℕ) (r : Option ℕ) → count ≢ 0 → i + count ≡ k → k ≤ length xs → Steps true xs i r j
+    → (j + (count - 1) ≡ k) × YieldsFirst (λ (ys : List ℕ). ys) (between count i xs) r (between (count - 1) j xs)
+left-ahead count i j k xs None some e le s = let end = s.0 in absurd (omega arith)
+left-ahead count i j k xs (Some ix) some e le s =
+    let next : count ≡ suc (count - 1) = omega arith in
+    let up : j ≡ suc i = (let e = s.1 in omega arith) in (
+      omega arith,
+      ap (take count) (drop-cons xs i 0 s.0.0) ∙ ap (λ n. take n (get_or xs i 0 ∷ drop (suc i) xs)) next ∙ ap (λ z. z ∷ take (count - 1) (drop (suc i) xs)) (sym s.0.1)
+          ∙ ap (λ n. ix ∷ between (count - 1) n xs) (sym up),
+    )
+
+pub left-back : (count i j k : ℕ) (xs : List ℕ) (r : Option ℕ) → count ≢ 0 → i + count ≡ k → k ≤ length xs → Steps false xs k r j
+    → (i + (count - 1) ≡ j) × YieldsLast (λ (ys : List ℕ). ys) (between count i xs) r (between (count - 1) i xs)
+left-back count i j k xs None some e le s = let end = s.0 in absurd (omega arith)
+left-back count i j k xs (Some ix) some e le s =
+    let next : count ≡ suc (count - 1) = omega arith in
+    let at : i + (count - 1) ≡ j = (let down = s.1 in omega arith) in
+    let inside : count - 1 < length (drop i xs) = omega (arith, length-drop i xs) in (
+      at,
+      ap (λ n. between n i xs) next ∙ take-suc (drop i xs) (count - 1) 0 inside
+          ∙ ap (λ z. between (count - 1) i xs ++ z ∷ []) (get_or-drop i xs (count - 1) 0 ∙ ap (λ n. get_or xs n 0) at ∙ sym s.0.1),
+    )
+
+-- and what is left behind a gap
+pub rest-ahead : (i j : ℕ) (xs : List ℕ) (r : Option ℕ) → Steps true xs i r j → YieldsFirst (λ (ys : List ℕ). ys) (drop i xs) r (drop j xs)
+rest-ahead i j xs None s = let none = drop_all i xs (omega arith) in (none, ap (λ n. drop n xs) s.1 ∙ none)
+rest-ahead i j xs (Some ix) s = let up : j ≡ suc i = (let e = s.1 in omega arith) in drop-cons xs i 0 s.0.0 ∙ ap (λ z. z ∷ drop (suc i) xs) (sym s.0.1) ∙ ap (λ n. ix ∷ drop n xs) (sym up)
+
+-- the first index, and the last
+pub first-is : (i j : ℕ) (xs : List ℕ) (r : Option ℕ) → i ≡ 0 → Steps true xs i r j → r ≡ slice_get xs 0
+first-is i j xs None e s = sym (slice_get_past xs 0 (omega arith))
+first-is i j xs (Some ix) e s = ap Some s.0.1 ∙ sym (slice_get-get_or xs i 0 s.0.0) ∙ ap (slice_get xs) e
+
+pub last-is : (i j : ℕ) (xs : List ℕ) (r : Option ℕ) → i ≡ length xs → Steps false xs i r j → r ≡ slice_get xs (length xs - 1)
+last-is i j xs None e s = sym (slice_get_past xs (length xs - 1) (omega arith))
+last-is i j xs (Some ix) e s = let last : j ≡ length xs - 1 = (let down = s.1 in omega arith) in ap Some s.0.1 ∙ sym (slice_get-get_or xs j 0 s.0.0) ∙ ap (slice_get xs) last
+
+pub left-length : (count i j : ℕ) (xs : List ℕ) → i + count ≡ j → j ≤ length xs → length (between count i xs) ≡ count
+left-length count i j xs e le = length-take-le count (drop i xs) (omega (arith, length-drop i xs))

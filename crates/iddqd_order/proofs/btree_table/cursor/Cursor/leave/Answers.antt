@@ -1,0 +1,20 @@
+use Rattle.std.proofs.Common.{arith}
+use Rattle.iddqd_order.proofs.CursorLemmas.{IsAt-whole, IsGap-few, IsLow-from}
+use Rattle.iddqd_order.proofs.btree_table.cursor.Cursor.leave.Goals as goal
+
+pub set-requires-clause-place : goal.set-requires-clause-place
+set-requires-clause-place c =
+    let few = IsGap-few _ _ c.in-Some.node _ _ c.in-Some.is c.requires.tree c.requires.gap in omega arith
+
+pub returns-then-not-ahead-clause-stands : goal.returns-then-not-ahead-clause-stands
+returns-then-not-ahead-clause-stands c =
+    let e = c.in-Some-step_over.ensures in
+    record { at = (IsAt-whole _ _ c.in-Some.node _ _ _ c.in-Some.is e.path e.over.goes e.over.leaf_is c.get-self.ensures).1; low = tt }
+
+pub returns-clause-stands : goal.returns-clause-stands
+returns-clause-stands c =
+    let e = c.in-Some-step_over.ensures in
+    record {
+      at = (IsAt-whole _ _ c.in-Some.node _ _ _ c.in-Some.is e.path e.over.goes e.over.leaf_is c.get-self.ensures).1;
+      low = IsLow-from _ _ c.in-Some.node _ _ c.in-Some.is c.low-self.ensures;
+    }

@@ -1,0 +1,15 @@
+use Rattle.iddqd_order.specs.IntoIter.{indexes_to_come}
+use Rattle.iddqd_order.proofs.CursorLemmas.{left-ahead}
+use Rattle.iddqd_order.proofs.TreeLemmas.{place_in-within}
+use Rattle.iddqd_order.proofs.btree_table.into_iter.IntoIterIterator.next.Goals as goal
+
+pub invariant_of-self : goal.invariant_of-self
+invariant_of-self c =
+    let i = c.self.invariant in
+    (i.0, c.next.ensures.at, i.2, (left-ahead _ _ _ _ _ _ c.if-self-eq0.false i.3 (place_in-within _ _ _ i.0 i.2.gap.goes) c.next.ensures.next).0)
+
+pub returns-clause-steps : goal.returns-clause-steps
+unfolding indexes_to_come
+returns-clause-steps c =
+    let i = c.self.invariant in
+    rw (← c.self.view_is) (left-ahead _ _ _ _ _ _ c.if-self-eq0.false i.3 (place_in-within _ _ _ i.0 i.2.gap.goes) c.next.ensures.next).1

@@ -1,0 +1,11 @@
+use Rattle.std.proofs.Common.{sym}
+use Rattle.iddqd_order.specs.Iter.{indexes_left}
+use Rattle.iddqd_order.proofs.CursorLemmas.{left-length}
+use Rattle.iddqd_order.proofs.TreeLemmas.{place_in-within}
+use Rattle.iddqd_order.proofs.btree_table.iter.IterExactSizeIterator.len.Goals as goal
+
+pub returns-clause-value : goal.returns-clause-value
+unfolding indexes_left
+returns-clause-value c =
+    let i = c.self.invariant in
+    rw (← c.self.view_is) (sym (left-length _ _ _ _ i.3 (place_in-within _ _ _ i.0 i.2.at.gap.goes)))

@@ -1,0 +1,89 @@
+-- Where a walk along a tree stands: in a gap before, between or behind the indexes of a leaf.
+use Rattle.std.specs.Prelude.{◌≡◌, ℕ, zero, suc, ◌+◌, ◌<◌, ◌≤◌, List, [], Bool, true, false, Option, Some, None, ⊤, length, take, drop, slice_index, slice_set}
+use Rattle.std.specs.Borrow.{Bor}
+use Rattle.iddqd_order.specs.declared.btree_table.cursor.Cursor.{Cursor}
+use Rattle.iddqd_order.specs.declared.btree_table.node.Node.{Node}
+use Rattle.iddqd_order.specs.Node.{row, child, flat, Goes, place}
+use Rattle.iddqd_order.specs.Tree.{IsTree, in_order, GoesIn, place_in}
+
+-- the index stands behind the i-th gap
+abbrev pub IsBehind : List ℕ → ℕ → ℕ → Type 0
+IsBehind xs i ix = (i < length xs) × (ix ≡ slice_index xs i)
+
+-- the last gap of so many indexes, or the first
+abbrev pub edge_of : Bool → ℕ → ℕ
+edge_of true count = count
+edge_of false count = 0
+
+-- a step from the i-th gap ahead, or back, goes over an index to the j-th, or stays where there is none
+abbrev pub Steps : Bool → List ℕ → ℕ → Option ℕ → ℕ → Type 0
+Steps ahead xs i None j = (i ≡ edge_of ahead (length xs)) × (j ≡ i)
+Steps true xs i (Some ix) j = IsBehind xs i ix × (j ≡ i + 1)
+Steps false xs i (Some ix) j = IsBehind xs j ix × (i ≡ j + 1)
+
+-- of so many indexes in a row, the place of the one beside a gap and the gap behind it, if there is one
+abbrev pub AreBeside : Bool → ℕ → ℕ → Option (ℕ × ℕ) → Type 0
+AreBeside ahead count place None = place ≡ edge_of ahead count
+AreBeside true count place (Some r) = (r.0 < count) × (place ≡ r.0) × (r.1 ≡ r.0 + 1)
+AreBeside false count place (Some r) = (r.0 < count) × (place ≡ r.0 + 1) × (r.1 ≡ r.0)
+
+-- the leaf to which a path goes
+unfoldable pub leaf : ℕ → Node → List ℕ → List ℕ
+leaf zero n p = row n
+leaf (suc h) n p = leaf h (child n (slice_index p (suc h))) p
+
+-- the node right above it
+unfoldable pub low : ℕ → Node → List ℕ → Node
+low zero n p = n
+low (suc zero) n p = n
+low (suc (suc h)) n p = low (suc h) (child n (slice_index p (suc (suc h)))) p
+
+-- the path p goes to the last gap of n, or to the first, in the leaf xs
+pub record AtEdge (last : Bool) (h : ℕ) (n : Node) (xs p : List ℕ) : Type 0 where
+  pub goes : Goes h n p
+  pub place_is : place h n p ≡ edge_of last (length (flat h n))
+  pub leaf_is : xs ≡ leaf h n p
+
+-- from the gap to which p goes, q goes over the index ix to a gap of the leaf xs
+pub record Over (ahead : Bool) (h : ℕ) (n : Node) (p : List ℕ) (ix : ℕ) (xs q : List ℕ) : Type 0 where
+  pub goes : Goes h n q
+  pub steps : Steps ahead (flat h n) (place h n p) (Some ix) (place h n q)
+  pub leaf_is : xs ≡ leaf h n q
+
+-- the same in a tree, or in none
+abbrev pub leaf_in : Option Node → ℕ → List ℕ → List ℕ
+leaf_in None h p = []
+leaf_in (Some n) h p = leaf h n p
+
+abbrev pub IsLow : Option Node → ℕ → List ℕ → Option (Bor Node) → Type 0
+IsLow t h p None = ⊤
+IsLow None h p (Some k) = ⊥
+IsLow (Some n) h p (Some k) = (0 < h) × (k.now ≡ low h n p)
+
+-- the path to the gap at a place of a leaf, to which a path goes
+abbrev pub to_gap : List ℕ → ℕ → List ℕ
+to_gap path at = slice_set path 0 at
+
+-- the path goes to a leaf, which has a gap at the place
+pub record IsGap (t : Option Node) (h : ℕ) (path : List ℕ) (at : ℕ) : Type 0 where
+  pub whole : length path ≡ 12
+  pub goes : GoesIn t h (to_gap path at)
+
+-- and the leaf is `row`
+pub record IsAt (t : Option Node) (h : ℕ) (path row : List ℕ) (at : ℕ) : Type 0 where
+  pub gap : IsGap t h path at
+  pub leaf : row ≡ leaf_in t h (to_gap path at)
+  pub within : at ≤ length row
+
+-- the same of a cursor
+pub record Stands (t : Option Node) (h : ℕ) (c : Cursor) : Type 0 where
+  pub at : IsAt t h c.path c.row.now c.at
+  pub low : IsLow t h c.path c.low
+
+-- the number of its gap
+abbrev pub gap_of : Option Node → ℕ → Cursor → ℕ
+gap_of t h c = place_in t h (to_gap c.path c.at)
+
+-- so many indexes from the i-th gap on
+abbrev pub between : ℕ → ℕ → List ℕ → List ℕ
+between count i xs = take count (drop i xs)
