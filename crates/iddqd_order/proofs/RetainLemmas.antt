@@ -1,5 +1,5 @@
 -- The indexes that a closure keeps: what the asks up to a place leave.
-use Rattle.std.proofs.Common.{◌≡◌, ◌∙◌, ℕ, zero, suc, ◌+◌, ◌-◌, ◌<◌, ◌≤◌, List, [], ◌∷◌, ◌++◌, length, get_or, set, take, drop, slice_index, map, filter, Bool, true, false, refl, sym, ap, subst, arith, All, Contains, Option, nat_eq, drop-set-lt, length-set, drop-drop, get_or-drop}
+use Rattle.std.proofs.Common.{◌≡◌, ◌∙◌, ℕ, suc, ◌+◌, ◌<◌, ◌≤◌, List, [], ◌∷◌, ◌++◌, length, get_or, set, take, drop, slice_index, map, filter, Bool, true, false, refl, sym, ap, subst, arith, All, Contains, Option, nat_eq, drop-set-lt, length-set, drop-drop, get_or-drop}
 use Rattle.std.proofs.Math.Seq.{take-suc}
 use Rattle.std.proofs.lemmas.List.{append-nil, map-append, length-map, get_or-map}
 use Rattle.std.proofs.lemmas.List.Elements.{filter-append, All-map, All-filter}

@@ -4,7 +4,7 @@ use Rattle.std.specs.Borrow.{Bor}
 use Rattle.iddqd_order.specs.declared.btree_table.cursor.Cursor.{Cursor}
 use Rattle.iddqd_order.specs.declared.btree_table.node.Node.{Node}
 use Rattle.iddqd_order.specs.Node.{row, child, flat, Goes, place}
-use Rattle.iddqd_order.specs.Tree.{IsTree, in_order, GoesIn, place_in}
+use Rattle.iddqd_order.specs.Tree.{GoesIn, place_in}
 
 -- the index stands behind the i-th gap
 abbrev pub IsBehind : List ℕ → ℕ → ℕ → Type 0

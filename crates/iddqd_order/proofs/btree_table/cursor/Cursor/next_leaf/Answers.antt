@@ -1,4 +1,4 @@
-use Rattle.iddqd_order.proofs.Names.{◌≡◌, ◌<◌, ◌+◌, ◌∙◌, length, slice_index, arith, rules, refl, row, children, child, IsLow}
+use Rattle.iddqd_order.proofs.Names.{◌≡◌, ◌<◌, ◌+◌, length, slice_index, arith, rules, refl, row, children, child}
 use Rattle.iddqd_order.proofs.DescentLemmas.{child_is}
 use Rattle.iddqd_order.proofs.CursorLemmas.{NextLow, next-low}
 use Rattle.iddqd_order.proofs.btree_table.cursor.Cursor.next_leaf.Goals as goal

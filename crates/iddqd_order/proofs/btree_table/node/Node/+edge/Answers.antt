@@ -1,4 +1,4 @@
-use Rattle.iddqd_order.proofs.Names.{◌≡◌, ◌≢◌, ◌-◌, ◌<◌, ◌≤◌, ◌∙◌, ℕ, Bool, length, get_or, arith, rules, Node, row, children, child, IsFormed, edge_of}
+use Rattle.iddqd_order.proofs.Names.{◌≡◌, ◌≢◌, ◌-◌, ◌<◌, ◌∙◌, ℕ, Bool, length, get_or, arith, rules, Node, row, children, child, IsFormed, edge_of}
 use Rattle.iddqd_order.proofs.DescentLemmas.{path-here, child_is}
 use Rattle.iddqd_order.proofs.NodeLemmas.{child-within, child-formed, formed-within}
 use Rattle.iddqd_order.proofs.CursorLemmas.{at_edge-leaf, at_edge-inner, edge-within}

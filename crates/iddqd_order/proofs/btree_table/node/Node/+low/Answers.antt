@@ -1,4 +1,4 @@
-use Rattle.iddqd_order.proofs.Names.{◌∙◌, Some, None, IfSome, arith, rules, refl, sym, ap}
+use Rattle.iddqd_order.proofs.Names.{arith, rules, sym}
 use Rattle.iddqd_order.proofs.CursorLemmas.{goes-here, goes-in, low-above, low-one}
 use Rattle.iddqd_order.proofs.btree_table.node.Node.+low.Goals as goal
 

@@ -1,7 +1,7 @@
-use Rattle.iddqd_order.proofs.Names.{◌≡◌, ◌-◌, ◌<◌, ◌∙◌, Some, None, length, slice_index, arith, refl, rules, ap, sym, subst, Node, row, children, child, AreBeside, Over}
+use Rattle.iddqd_order.proofs.Names.{◌∙◌, slice_index, arith, refl, rules, ap}
 use Rattle.iddqd_order.proofs.DescentLemmas.{path-here, child_is}
 use Rattle.iddqd_order.proofs.NodeLemmas.{child-within, child-formed, formed-inner, goes-leaf}
-use Rattle.iddqd_order.proofs.CursorLemmas.{Below, goes-here, goes-in, beside-within, over-leaf, over-below, over-here, ended-leaf, ended-here}
+use Rattle.iddqd_order.proofs.CursorLemmas.{goes-here, goes-in, beside-within, over-leaf, over-below, over-here, ended-leaf, ended-here}
 use Rattle.iddqd_order.proofs.btree_table.node.Node.+step_over.Goals as goal
 
 -- in a leaf
