@@ -1,10 +1,11 @@
 -- Ways: what a step along one leaves, and what stays of them where an index is put in the place of another.
-use Rattle.iddqd_order.proofs.Names.{◌≡◌, ◌≢◌, ◌∙◌, ℕ, zero, suc, ◌+◌, ◌-◌, ◌<◌, ◌≤◌, List, [], ◌∷◌, ◌++◌, length, get_or, set, slice_index, slice_set, refl, sym, ap, subst, arith, Option, Some, None, IsNone, IfSome, IsTrue, ◌↔◌, Contains, Bool, is_some, true, false, sub-one, length-append, length-set, get_or-set_same, get_or-set_other, inl, inr, cases_eq, append-nil, length-map, map-set, set-append_left, set-append_right, All-set, Node, Reader, Way, row, children, child, room, weave, before, after, flat, IsFormed, Holds, spot, IsTree, StepsOn, SamePlaces, IsWay, IsReader, IsReaderIn}
+use Rattle.iddqd_order.proofs.Names.{◌≡◌, ◌≢◌, ◌∙◌, ℕ, zero, suc, ◌+◌, ◌-◌, ◌<◌, ◌≤◌, List, [], ◌∷◌, ◌++◌, length, get_or, set, slice_index, slice_set, refl, sym, ap, subst, arith, Option, Some, None, IsNone, IfSome, IsTrue, ◌↔◌, Contains, Bool, is_some, true, false, sub-one, length-append, length-set, get_or-set_same, get_or-set_other, inl, inr, cases_eq, append-nil, length-map, map-set, All-set, Node, Reader, Way, row, children, child, room, weave, before, flat, IsFormed, Holds, spot, IsTree, StepsOn, SamePlaces, IsWay, IsReader, IsReaderIn}
 use Rattle.iddqd_order.proofs.NodeLemmas.{lists, AreChildren, formed-within, formed-leaf, leaf-formed, flat-leaf, formed-inner, inner-formed, flat-inner, any_default}
 use Rattle.iddqd_order.proofs.RemovalLemmas.{GoesBelow, goes-below, ends-inner, holds-leaf, holds-at, holds-level, holds-below, spot-leaf, spot-at, spot-below, spot-within}
 use Rattle.iddqd_order.proofs.DescentLemmas.{after-last, before-next, lists-one_more, lists-at, child-formed, child-read, child_is, holds-here, below-holds, spot-row}
 use Rattle.iddqd_order.proofs.IndexListLemmas.{Contains-at}
-use Rattle.iddqd_order.proofs.WeaveLemmas.{apart, index_place, before-set, after-set}
+use Rattle.iddqd_order.proofs.WeaveLemmas.{apart, index_place}
+use Rattle.iddqd_order.proofs.WeaveRemovalLemmas.{weave-set_own, weave-set_below}
 
 -- the first way goes to the first index
 pub record IsFirst (h : ℕ) (n : Node) (p : List ℕ) : Type 0 where
@@ -153,36 +154,6 @@ stepped-below h l i ix r n k p q lt ei f w is index next =
 pub none-is : (r : Option ℕ) → is_some r ≡ false → r ≡ None
 none-is None e = refl
 none-is (Some m) e = absurd (cc)
-
--- an index is put in the place of another of its row
-weave-set_own : (i : ℕ) (xs : List ℕ) (ks : List (List ℕ)) (x : ℕ) → i < length xs → length ks ≡ length xs + 1 → weave (set xs i x) ks ≡ set (weave xs ks) (index_place i xs ks) x
-weave-set_own i [] ks x lt e = absurd (omega arith)
-weave-set_own i (y ∷ xs) [] x lt e = absurd (omega arith)
-weave-set_own zero (y ∷ xs) (k ∷ ks) x lt e =
-    let none : 0 + length k - length k ≡ 0 = omega arith in
-    sym (set-append_right k (y ∷ weave xs ks) (length k) (0 + length k) x refl (omega arith) ∙ ap (λ z. k ++ set (y ∷ weave xs ks) z x) none)
-weave-set_own (suc i) (y ∷ xs) (k ∷ ks) x lt e =
-    let ih = weave-set_own i xs ks x (omega arith) (omega arith) in
-    let len : length (k ++ y ∷ before i xs ks) ≡ length k + suc (length (before i xs ks)) = length-append k (y ∷ before i xs ks) in
-    let at : length (k ++ y ∷ before i xs ks) + length (get_or ks i []) - length k ≡ suc (index_place i xs ks) = omega arith in
-    ap (λ z. k ++ y ∷ z) ih
-    ∙ sym (set-append_right k (y ∷ weave xs ks) (length k) (length (k ++ y ∷ before i xs ks) + length (get_or ks i [])) x refl (omega arith) ∙ ap (λ z. k ++ set (y ∷ weave xs ks) z x) at)
-
--- or below it
-weave-set_below : (i : ℕ) (xs : List ℕ) (ks : List (List ℕ)) (k : List ℕ) (q x : ℕ) → i < length ks → length ks ≡ length xs + 1 → q < length (get_or ks i []) → k ≡ set (get_or ks i []) q x
-    → weave xs (set ks i k) ≡ set (weave xs ks) (length (before i xs ks) + q) x
-weave-set_below i xs ks k q x p e w is =
-    let b : List ℕ = before i xs ks in
-    let a : List ℕ = after i xs ks in
-    let g : List ℕ = get_or ks i [] in
-    let new : weave xs (set ks i k) ≡ before i xs (set ks i k) ++ (get_or (set ks i k) i [] ++ after i xs (set ks i k)) = apart i xs (set ks i k) [] (omega (arith, length-set ks i k)) (omega (arith, length-set ks i k)) in
-    let here : get_or (set ks i k) i [] ≡ k = get_or-set_same ks i k [] p in
-    let new2 : weave xs (set ks i k) ≡ b ++ (k ++ a) = cc (new, here, before-set i xs ks k, after-set i xs ks k e) in
-    let old : weave xs ks ≡ b ++ (g ++ a) = apart i xs ks [] p e in
-    let c1 : set (b ++ (g ++ a)) (length b + q) x ≡ b ++ set (g ++ a) (length b + q - length b) x = set-append_right b (g ++ a) (length b) (length b + q) x refl (omega arith) in
-    let c2 : length b + q - length b ≡ q = omega arith in
-    let c3 : set (g ++ a) q x ≡ set g q x ++ a = set-append_left g a q x w in
-    new2 ∙ ap (λ z. b ++ (z ++ a)) is ∙ ap (λ z. b ++ z) (sym c3) ∙ ap (λ z. b ++ set (g ++ a) z x) (sym c2) ∙ sym c1 ∙ ap (λ z. set z (length b + q) x) (sym old)
 
 -- what stands before a list is as long where the lists are as long
 before-as_long : (i : ℕ) (xs ys : List ℕ) (ks ls : List (List ℕ)) → length xs ≡ length ys → length ks ≡ length ls → ((j : ℕ) → j < length ks → length (get_or ks j []) ≡ length (get_or ls j []))
