@@ -1,6 +1,5 @@
 pub mod AskLemmas
 mod BackLemmas
-mod CopyLemmas
 mod CountSteps
 mod DescentLemmas
 mod DigitLemmas
@@ -19,7 +18,6 @@ mod ReckoningLemmas
 mod RemovalLemmas
 pub mod RenameLemmas
 mod RetainLemmas
-pub mod RowLemmas
 mod SearchLemmas
 pub mod TableLemmas
 pub mod TreeLemmas

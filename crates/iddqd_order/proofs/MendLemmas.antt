@@ -17,6 +17,10 @@ abbrev pub arity : ℕ → ℕ → ℕ
 arity zero k = 0
 arity (suc h) k = k + 1
 
+pub arity-most : (h k : ℕ) → arity h k ≤ k + 1
+arity-most zero k = omega arith
+arity-most (suc h) k = omega arith
+
 arity-joined : (h a b c : ℕ) → c ≡ a + suc b → arity h c ≡ arity h a + arity h b
 arity-joined zero a b c e = omega arith
 arity-joined (suc h) a b c e = omega arith

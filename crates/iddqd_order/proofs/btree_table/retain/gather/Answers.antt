@@ -1,5 +1,4 @@
-use Rattle.std.proofs.Common.{rules, ◌≡◌, ◌≤◌, length, true, false, ap, subst, arith, ◌∙◌}
-use Rattle.std.proofs.lemmas.List.{length-set}
+use Rattle.std.proofs.Common.{rules, ◌≡◌, ◌≤◌, length, true, false, subst, arith}
 use Rattle.std.specs.Fn.{Called}
 use Rattle.iddqd_order.specs.Node.{row, flat}
 use Rattle.iddqd_order.proofs.RetainLemmas.{gathers-none, may_ask, gathers-refused, gathers-kept}
@@ -54,11 +53,10 @@ loop-from-preserved-then-f g c =
     let rows = put.same_length in
     let some = i.some in
     let one : 1 ≤ length (row c.put.new.root) = omega arith in
-    let same : length (flat c.args.height c.put.new.root) ≡ length (flat c.args.height c.loop-from.root) = ap length put.items ∙ length-set (flat c.args.height c.loop-from.root) c.loop-from.to.place c.step-ix.result in
     record {
       formed = put.formed;
       some = one;
-      from = IsWay-same c.args.height c.loop-from.root c.put.new.root c.step-ix.new.self put.same_places same c.step-ix.ensures.way;
+      from = IsWay-same c.args.height c.loop-from.root c.put.new.root c.step-ix.new.self put.same_places c.step-ix.ensures.way;
       to = put.way;
       gathers = gathers-kept g.F.FnMut c.step-ix.result c.step-ix.new.self.place c.put.new.self.place (flat c.args.height c.put.new.root) c.f.new.self i.gathers (omega arith) c.step-ix.ensures.index said put.items c.step-ix.ensures.place put.place;
     }
