@@ -227,8 +227,8 @@ put-here zero l i x n m p e ei f w er ek more =
       same_places = record {
         long = ap length (flat-leaf 0 m refl) ∙ rows ∙ sym (ap length (flat-leaf 0 n refl));
         at = λ k q v. (
-        let low = holds-leaf k 0 n q refl v in let none = holds-level k 0 n q v in let e : 0 ≡ k = omega arith in
-        (subst (λ z. Holds z 0 m q) e (holds-here 0 m q (omega arith)), spot-leaf k 0 m q refl ∙ sym (spot-leaf k 0 n q refl)));
+            let low = holds-leaf k 0 n q refl v in let none = holds-level k 0 n q v in let e : 0 ≡ k = omega arith in
+            (subst (λ z. Holds z 0 m q) e (holds-here 0 m q (omega arith)), spot-leaf k 0 m q refl ∙ sym (spot-leaf k 0 n q refl)));
       };
     }
 put-here (suc h) l i x n m p e ei f w er ek more =
@@ -240,12 +240,12 @@ put-here (suc h) l i x n m p e ei f w er ek more =
     ((λ j. weave (er j) (lists (suc h - 1) (same j))) ∙ weave-set_own i (row n) ks x s.within (lists-one_more (suc h) n ne f) ∙ ap (λ z. set (weave (row n) ks) z x) (sym s.place))
 
 -- the same where it goes on below the i-th child g, which k is put in the place of
-pub put-below : (h l i x : ℕ) (n g k m : Node) (p : List ℕ) → l < h → i ≡ slice_index p h → IsFormed h n → Holds l h n p → g ≡ child n i → IsPut (h - 1) l g k p x
+pub put-below : (h l i x : ℕ) (n g k m : Node) (p : List ℕ) → l < h → i ≡ slice_index p h → IsFormed h n → Holds l h n p → g ≡ get_or (children n) i g → IsPut (h - 1) l g k p x
     → row m ≡ row n → children m ≡ set (children n) i k → room n ≤ room m → IsPut h l n m p x
 put-below h l i x n g k m p low ei f w is_g put er ek more =
     let b = goes-below h l i n p low ei f w in
     let five = b.five in
-    let was : IsPut (h - 1) l (child n i) k p x = subst (λ z. IsPut (h - 1) l z k p x) is_g put in
+    let was : IsPut (h - 1) l (child n i) k p x = subst (λ z. IsPut (h - 1) l z k p x) (child_is n i g b.here is_g) put in
     let row_len = was.same_length in
     let ks : List (List ℕ) = lists (h - 1) (children n) in
     let list = lists-at (h - 1) n i b.here in

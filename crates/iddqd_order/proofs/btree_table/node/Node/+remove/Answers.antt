@@ -1,4 +1,4 @@
-use Rattle.iddqd_order.proofs.Names.{rules, ◌<◌, ◌-◌, remove, slice_index, arith, ap, ◌∙◌, roll-Node, out-roll-Node, row, children, room, flat, spot}
+use Rattle.iddqd_order.proofs.Names.{rules, ℕ, ◌<◌, ◌-◌, remove, slice_index, arith, ap, ◌∙◌, roll-Node, out-roll-Node, row, children, room, flat, spot}
 use Rattle.iddqd_order.proofs.NodeLemmas.{child-within, row-roll, children-roll, room-roll}
 use Rattle.iddqd_order.proofs.RemovalLemmas.{holds-leaf, holds-level, goes-below, ends-inner, child-below, child-before, remade-leaf, TookNow, took-now, took-below, took-here, remade, room-kept}
 use Rattle.iddqd_order.proofs.btree_table.node.Node.+remove.Goals as goal
@@ -44,9 +44,9 @@ remove-requires-else-height-level t c =
     let five = b.formed.0 in
     (omega arith, (omega arith, (omega arith, (b.formed.1, b.holds))))
 
-pub mend-requires : goal.mend-requires
-mend-requires t c =
-    let k : TookNow c.args.height c.get-i.result c.args.self.now c.if-height-level.self (remove (flat c.args.height c.args.self.now) (spot c.args.level c.args.height c.args.self.now c.args.path.now)) =
+-- what is mended, on both ways
+took : (t : ℕ) (c : goal.After-mend-arg-2-1 t) → TookNow c.args.height c.get-i.result c.args.self.now c.if-height-level.self (remove (flat c.args.height c.args.self.now) (spot c.args.level c.args.height c.args.self.now c.args.path.now))
+took t c =
     elim c.if-height-level.branch [
       | then-height-level w ↦
           (let d = w.remove_last-last.ensures in
@@ -57,22 +57,13 @@ mend-requires t c =
           (let d = w.remove-else-height-level.ensures in
           let k = took-below c.args.level c.args.height c.get-i.result c.args.self.now w.index_mut-else-height-level.result.now w.remove-else-height-level.new.self c.args.path.now c.if-height-eq0.false w.if-height-level.false c.get-i.ensures c.requires.formed c.requires.some c.requires.holds (search rules) d.items d.formed d.fewer in
           took-now c.args.height c.get-i.result c.args.self.now c.if-height-level.self _ _ _ k (ap row w.self-is ∙ row-roll _) (ap children w.self-is ∙ children-roll _) (ap room w.self-is ∙ room-roll _))
-    ] in
-    (c.args.height - 1, k.took.may_lack)
+    ]
+
+pub mend-requires : goal.mend-requires
+mend-requires t c = (c.args.height - 1, (took t c).took.may_lack)
 
 pub returns : goal.returns
 returns t c =
-    let k : TookNow c.args.height c.get-i.result c.args.self.now c.if-height-level.self (remove (flat c.args.height c.args.self.now) (spot c.args.level c.args.height c.args.self.now c.args.path.now)) =
-    elim c.if-height-level.branch [
-      | then-height-level w ↦
-          (let d = w.remove_last-last.ensures in
-          let k = took-here c.args.level c.args.height c.get-i.result c.args.self.now w.index_mut.result.now w.remove_last-last.new.self c.args.path.now w.remove_last-last.result c.if-height-eq0.false w.if-height-level.true c.get-i.ensures c.requires.formed c.requires.some c.requires.holds (search rules) d.items d.formed d.fewer in
-          let set_is = simp out-roll-Node at w.set.ensures in
-          took-now c.args.height c.get-i.result c.args.self.now c.if-height-level.self _ _ _ k (ap row w.self-is ∙ row-roll _ ∙ set_is) (ap children w.self-is ∙ children-roll _ ∙ children-roll _) (ap room w.self-is ∙ room-roll _ ∙ room-roll _))
-      | else-height-level w ↦
-          (let d = w.remove-else-height-level.ensures in
-          let k = took-below c.args.level c.args.height c.get-i.result c.args.self.now w.index_mut-else-height-level.result.now w.remove-else-height-level.new.self c.args.path.now c.if-height-eq0.false w.if-height-level.false c.get-i.ensures c.requires.formed c.requires.some c.requires.holds (search rules) d.items d.formed d.fewer in
-          took-now c.args.height c.get-i.result c.args.self.now c.if-height-level.self _ _ _ k (ap row w.self-is ∙ row-roll _) (ap children w.self-is ∙ children-roll _) (ap room w.self-is ∙ room-roll _))
-    ] in
+    let k = took t c.before in
     let m = remade c.args.height c.get-i.result c.args.self.now (roll-Node _) _ _ _ _ _ k.took (c.mend.ensures.mended (c.args.height - 1) k.took.may_lack) (row-roll _) (children-roll _) (room-kept c.args.self.now _ (c.mend.ensures.capacity ∙ k.room_is)) in
     record { items = m.items; formed = m.formed; fewer = m.fewer }
