@@ -1,7 +1,7 @@
 -- What mending leaves of nodes.
 use Rattle.iddqd_order.proofs.Names.{◌≡◌, ◌∙◌, ℕ, zero, suc, ◌+◌, ◌-◌, ◌<◌, ◌≤◌, List, [], ◌∷◌, ◌++◌, length, take, drop, set, get_or, map, remove, Option, Some, None, option_to_list, IsSome, ◌↔◌, append_assoc, subst, refl, ap, sym, arith, add-one, sub-one, length-append, length-drop, length-take, length-take-le, length-map, get_or-remove_below, get_or_append_left, get_or-append-add, get_or_default, set_comm, All, All-append, All-cons, All-nil, inl, inr, cases_eq, map-append, nil_from_length, Node, row, children, room, weave, flat, IsFormed, IsChild, MayLackOne, IsMended}
-use Rattle.std.proofs.Common.{get_or-take, get_or-drop}
-use Rattle.std.proofs.lemmas.List.{set_split}
+use Rattle.std.proofs.Common.{get_or-take, get_or-drop, take-suc, take-suc-set, drop-set-lt, length-set}
+use Rattle.std.proofs.lemmas.List.{set_split, set_at}
 use Rattle.iddqd_order.proofs.WeaveLemmas.{rest, weave-more}
 use Rattle.iddqd_order.proofs.NodeLemmas.{lists}
 
@@ -121,38 +121,28 @@ mended h i xs ys ks ls l r n one few all items =
     }
 
 set_pair : (ks : List Node) (i : ℕ) (l r : Node) → suc i < length ks → set (set ks i l) (suc i) r ≡ take i ks ++ l ∷ r ∷ drop (suc (suc i)) ks
-set_pair [] i l r lt = absurd (omega arith)
-set_pair (k ∷ []) i l r lt = absurd (omega arith)
-set_pair (k ∷ (k2 ∷ ks)) zero l r lt = refl
-set_pair (k ∷ (k2 ∷ ks)) (suc i) l r lt = ap (λ z. k ∷ z) (set_pair (k2 ∷ ks) i l r (omega arith))
+set_pair ks i l r lt =
+    set_split (set ks i l) (suc i) r (omega (arith, length-set ks i l)) ∙ (λ j. take-suc-set ks i l (omega arith) j ++ r ∷ drop-set-lt (suc (suc i)) ks i l (omega arith) j) ∙ append_assoc (take i ks) (l ∷ []) (r ∷ drop (suc (suc i)) ks)
 
 set_joined : (ks : List Node) (i : ℕ) (one : Node) → suc i < length ks → set (remove ks (suc i)) i one ≡ take i ks ++ one ∷ drop (suc (suc i)) ks
-set_joined [] i one lt = absurd (omega arith)
-set_joined (k ∷ []) i one lt = absurd (omega arith)
-set_joined (k ∷ (k2 ∷ ks)) zero one lt = refl
-set_joined (k ∷ (k2 ∷ ks)) (suc i) one lt = ap (λ z. k ∷ z) (set_joined (k2 ∷ ks) i one (omega arith))
+set_joined ks i one lt =
+    let behind : List Node = drop (suc (suc i)) ks in
+    ap (λ z. set (z ++ behind) i one) (take-suc ks i one (omega arith)) ∙ ap (λ z. set z i one) (append_assoc (take i ks) (get_or ks i one ∷ []) behind) ∙ set_at (take i ks) (get_or ks i one) behind one i (length-take-le i ks (omega arith))
 
--- two nodes and the index between them, shared out anew
-record IsShared (h : ℕ) (l : Node) (x : ℕ) (r new_l : Node) (m : ℕ) (new_r : Node) : Type 0 where
-  pub rows : row new_l ++ m ∷ row new_r ≡ row l ++ x ∷ row r
-  pub below : children new_l ++ children new_r ≡ children l ++ children r
-  pub left : IsSized h new_l
-  pub right : IsSized h new_r
-  pub low : 5 ≤ length (row new_l)
-  pub high : 5 ≤ length (row new_r)
-
-mended-shared : (h i : ℕ) (xs : List ℕ) (ks : List Node) (l r new_l : Node) (m : ℕ) (new_r : Node) → AreNeighbours h i xs ks l r → IsShared h l (get_or xs i 0) r new_l m new_r
+-- the two and the index between them, shared out anew
+mended-shared : (h i : ℕ) (xs : List ℕ) (ks : List Node) (l r new_l : Node) (m : ℕ) (new_r : Node) → AreNeighbours h i xs ks l r
+    → row new_l ++ m ∷ row new_r ≡ row l ++ get_or xs i 0 ∷ row r → children new_l ++ children new_r ≡ children l ++ children r → (5 ≤ length (row new_l)) × IsSized h new_l → (5 ≤ length (row new_r)) × IsSized h new_r
     → IsMended h xs ks (set xs i m) (set (set ks i new_l) (i + 1) new_r)
-mended-shared h i xs ks l r new_l m new_r n s =
+mended-shared h i xs ks l r new_l m new_r n rows below left right =
     let o = n.one_more in let at = n.here in
     let P : Node → Type 0 = IsChild (h - 1) in
     let a = formed-sized h l n.left_is.1 in let b = formed-sized h r n.right_is.1 in
-    let every : All P (children new_l ++ children new_r) = rw s.below (All-append P (children l) (children r) a.1 b.1) in
-    let low : IsChild h new_l = (s.low, sized-formed h new_l s.left (All-left P (children new_l) (children new_r) every)) in
-    let high : IsChild h new_r = (s.high, sized-formed h new_r s.right (All-right P (children new_l) (children new_r) every)) in
+    let every : All P (children new_l ++ children new_r) = rw below (All-append P (children l) (children r) a.1 b.1) in
+    let low : IsChild h new_l = (left.0, sized-formed h new_l left.1 (All-left P (children new_l) (children new_r) every)) in
+    let high : IsChild h new_r = (right.0, sized-formed h new_r right.1 (All-right P (children new_l) (children new_r) every)) in
     rw (add-one i, set_split xs i m at, set_pair ks i new_l new_r (omega arith))
     (mended h i xs (m ∷ []) ks (new_l ∷ new_r ∷ []) l r n refl (omega arith) (All-cons (IsChild h) new_l (new_r ∷ []) low (All-cons (IsChild h) new_r [] high (All-nil (IsChild h))))
-    (flat-pair h new_l m new_r s.left s.right ∙ (λ j. weave (s.rows j) (lists (h - 1) (s.below j))) ∙ sym (flat-pair h l (get_or xs i 0) r a.0 b.0)))
+    (flat-pair h new_l m new_r left.1 right.1 ∙ (λ j. weave (rows j) (lists (h - 1) (below j))) ∙ sym (flat-pair h l (get_or xs i 0) r a.0 b.0)))
 
 -- an index, and a child if there is one, went from the end of the one to the beginning of the other, by the index between
 pub record IsPassed (l : Node) (x : ℕ) (r new_l : Node) (m : ℕ) (new_r : Node) (moved : Option Node) : Type 0 where
@@ -202,14 +192,9 @@ moved-right h i xs ks l r new_l new_r x last moved n more few ex p some same_roo
     let a = (formed-sized h l n.left_is.1).0 in let b = (formed-sized h r n.right_is.1).0 in
     let k = passed h l x r new_l last new_r moved p (moved-one h (length (row l)) moved (rw a.count at some)) in
     let four = n.right_is.0 in let low = k.left in let high = k.right in
-    mended-shared h i xs ks l r new_l last new_r n (subst (λ z. IsShared h l z r new_l last new_r) ex (record {
-      rows = k.rows;
-      below = k.below;
-      left = record { within = omega (arith, a.within); count = omega (arith, a.count, k.left_count); has_room = omega (arith, a.has_room) };
-      right = record { within = omega arith; count = omega (arith, b.count, k.right_count); has_room = omega (arith, b.has_room) };
-      low = omega arith;
-      high = omega arith;
-    }))
+    mended-shared h i xs ks l r new_l last new_r n (k.rows ∙ ap (λ z. row l ++ z ∷ row r) ex) k.below
+    (omega arith, record { within = omega (arith, a.within); count = omega (arith, a.count, k.left_count); has_room = omega (arith, a.has_room) })
+    (omega arith, record { within = omega arith; count = omega (arith, b.count, k.right_count); has_room = omega (arith, b.has_room) })
 
 -- or from the right one to the left one
 pub moved-left : (h i : ℕ) (xs : List ℕ) (ks : List Node) (l r new_l new_r : Node) (x first : ℕ) (moved : Option Node) → AreNeighbours h i xs ks l r → 5 < length (row r) → length (row l) < 5
@@ -219,14 +204,9 @@ moved-left h i xs ks l r new_l new_r x first moved n more few ex p some same_roo
     let a = (formed-sized h l n.left_is.1).0 in let b = (formed-sized h r n.right_is.1).0 in
     let k = passed h new_l first new_r l x r moved p (moved-one h (length (row r)) moved (rw b.count at some)) in
     let four = n.left_is.0 in let low = k.left in let high = k.right in
-    rw (set_comm ks (i + 1) i new_r new_l (λ e. absurd (omega arith))) (mended-shared h i xs ks l r new_l first new_r n (subst (λ z. IsShared h l z r new_l first new_r) ex (record {
-      rows = sym k.rows;
-      below = sym k.below;
-      left = record { within = omega arith; count = omega (arith, a.count, k.left_count); has_room = omega (arith, a.has_room) };
-      right = record { within = omega (arith, b.within); count = omega (arith, b.count, k.right_count); has_room = omega (arith, b.has_room) };
-      low = omega arith;
-      high = omega arith;
-    })))
+    rw (set_comm ks (i + 1) i new_r new_l (λ e. absurd (omega arith))) (mended-shared h i xs ks l r new_l first new_r n (sym k.rows ∙ ap (λ z. row l ++ z ∷ row r) ex) (sym k.below)
+    (omega arith, record { within = omega arith; count = omega (arith, a.count, k.left_count); has_room = omega (arith, a.has_room) })
+    (omega arith, record { within = omega (arith, b.within); count = omega (arith, b.count, k.right_count); has_room = omega (arith, b.has_room) }))
 
 -- a node that has fewer than five indexes has room for a child that its neighbour has given up
 pub room-for-one : (h : ℕ) (from to : Node) (moved : Option Node) → IsFormed h from → IsFormed h to → length (row to) < 5 → IsSome moved ↔ (0 < length (children from)) → length (option_to_list moved) + length (children to) ≤ room to
