@@ -20,6 +20,9 @@ pub record IsTaken (h : ℕ) (old : Node) (p : List ℕ) (i : ℕ) (g : Node) : 
   pub at : i ≡ slice_index p h
   pub is : g ≡ get_or (children old) i g
 
+pub is_taken : (h : ℕ) (old : Node) (p : List ℕ) (i : ℕ) (g : Node) → h ≢ 0 → IsFormed h old → Goes h old p → i ≡ slice_index p h → g ≡ get_or (children old) i g → IsTaken h old p i g
+is_taken h old p i g ne f goes at is = record { inner = ne; formed = f; goes = goes; at = at; is = is }
+
 -- what is known of it
 pub record Taken (h : ℕ) (old : Node) (p : List ℕ) (i : ℕ) (g : Node) : Type 0 where
   pub same : g ≡ child old i

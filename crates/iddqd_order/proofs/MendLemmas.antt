@@ -240,11 +240,7 @@ merged h i xs ks l r one x j ex rows below more =
     let a = formed-sized h l n.left_is.1 in let b = formed-sized h r n.right_is.1 in
     let long : length (row one) ≡ length (row l) + suc (length (row r)) = simp length-append at (ap length rows) in
     let count : length (children one) ≡ length (children l) + length (children r) = simp length-append at (ap length below) in
-    let s : IsSized h one = record {
-      within = omega arith;
-      count = omega (arith, a.0.count, b.0.count, arity-joined h (length (row l)) (length (row r)) (length (row one)) long);
-      has_room = omega (arith, a.0.has_room);
-    } in
+    let s : IsSized h one = record { within = omega arith; count = omega (arith, a.0.count, b.0.count, arity-joined h (length (row l)) (length (row r)) (length (row one)) long); has_room = omega (arith, a.0.has_room) } in
     let child : IsChild h one = (omega arith, sized-formed h one s (rw below (All-append P (children l) (children r) a.1 b.1))) in
     rw (add-one i, set_joined ks i one (omega arith))
     (mended h i xs [] ks (one ∷ []) l r n refl (omega arith) (All-cons (IsChild h) one [] child (All-nil (IsChild h)))

@@ -1,6 +1,6 @@
 -- Ways: what a step along one leaves, and what stays of them where an index is put in the place of another.
-use Rattle.iddqd_order.proofs.Names.{add-one, set-get_or, ◌≡◌, ◌≢◌, ◌∙◌, ℕ, zero, suc, ◌+◌, ◌-◌, ◌<◌, ◌≤◌, List, [], ◌++◌, length, get_or, set, slice_index, slice_set, refl, sym, ap, subst, arith, Option, Some, None, IsNone, IfSome, IsTrue, ◌↔◌, Contains, Bool, is_some, true, false, sub-one, length-append, length-set, get_or-set_same, get_or-set_other, inl, inr, cases_eq, append-nil, length-map, map-set, All-set, Node, Reader, Way, row, children, child, room, weave, before, flat, IsFormed, Holds, spot, IsTree, StepsOn, SamePlaces, IsWay, IsReader, IsReaderIn}
-use Rattle.iddqd_order.proofs.NodeLemmas.{lists, AreChildren, formed-within, formed-leaf, leaf-formed, flat-leaf, formed-inner, inner-formed, flat-inner, any_default}
+use Rattle.iddqd_order.proofs.Names.{get_or_default, add-one, set-get_or, ◌≡◌, ◌≢◌, ◌∙◌, ℕ, zero, suc, ◌+◌, ◌-◌, ◌<◌, ◌≤◌, List, [], ◌++◌, length, get_or, set, slice_index, slice_set, refl, sym, ap, subst, arith, Option, Some, None, IsNone, IfSome, IsTrue, ◌↔◌, Contains, Bool, is_some, true, false, sub-one, length-append, length-set, get_or-set_same, get_or-set_other, inl, inr, cases_eq, append-nil, length-map, map-set, All-set, Node, Reader, Way, row, children, child, room, weave, before, flat, IsFormed, Holds, spot, IsTree, StepsOn, SamePlaces, IsWay, IsReader, IsReaderIn}
+use Rattle.iddqd_order.proofs.NodeLemmas.{lists, AreChildren, formed-within, formed-leaf, leaf-formed, flat-leaf, formed-inner, inner-formed, flat-inner}
 use Rattle.iddqd_order.proofs.RemovalLemmas.{GoesBelow, goes-below, ends-inner, holds-leaf, holds-at, holds-level, holds-below, spot-leaf, spot-at, spot-below, spot-within}
 use Rattle.iddqd_order.proofs.DescentLemmas.{after-last, before-next, lists-one_more, lists-at, child-formed, child-read, child_is, holds-here, below-holds, spot-row}
 use Rattle.iddqd_order.proofs.IndexListLemmas.{Contains-at}
@@ -211,7 +211,7 @@ put-inner h l i x n k m p ne f here rows ek more child_is same woven =
       same_length = rows;
       same_places = same-places-inner h n m ne f formed rows (ap length items ∙ length-set (flat h n) (spot l h n p) x) (λ j lt. elim (cases_eq j i) [
         | inl e ↦ subst (λ z. SamePlaces (h - 1) (child n z) (child m z)) (sym e) (subst (SamePlaces (h - 1) (child n i)) (sym (ap (λ z. get_or z i m) ek ∙ get_or-set_same (children n) i k m here)) same)
-        | inr away ↦ subst (SamePlaces (h - 1) (child n j)) (sym (ap (λ z. get_or z j m) ek ∙ get_or-set_other (children n) i j k m away ∙ any_default (children n) j m n lt)) (SamePlaces-itself (h - 1) (child n j))
+        | inr away ↦ subst (SamePlaces (h - 1) (child n j)) (sym (ap (λ z. get_or z j m) ek ∙ get_or-set_other (children n) i j k m away ∙ get_or_default (children n) j m n lt)) (SamePlaces-itself (h - 1) (child n j))
       ]);
     }
 
