@@ -45,6 +45,3 @@ told r n h p x e = ap (λ z. insert (in_order z h) (place_in z h p) x) (sym e)
 pub place_in-within : (r : Option Node) (h : ℕ) (p : List ℕ) → IsTree r h → GoesIn r h p → place_in r h p ≤ length (in_order r h)
 place_in-within None h p t g = omega arith
 place_in-within (Some n) h p t g = place-within h n p t.0 g
-
-pub length-put : (r : Option Node) (h : ℕ) (p : List ℕ) (x : ℕ) → IsTree r h → GoesIn r h p → length (insert (in_order r h) (place_in r h p) x) ≡ length (in_order r h) + 1
-length-put r h p x t g = length-insert (in_order r h) (place_in r h p) x (place_in-within r h p t g)

@@ -1,5 +1,5 @@
 -- Ways: what a step along one leaves, and what stays of them where an index is put in the place of another.
-use Rattle.iddqd_order.proofs.Names.{get_or_default, add-one, set-get_or, ◌≡◌, ◌≢◌, ◌∙◌, ℕ, zero, suc, ◌+◌, ◌-◌, ◌<◌, ◌≤◌, List, [], ◌++◌, length, get_or, set, slice_index, slice_set, refl, sym, ap, subst, arith, Option, Some, None, IsNone, IfSome, IsTrue, ◌↔◌, Contains, Bool, is_some, true, false, sub-one, length-append, length-set, get_or-set_same, get_or-set_other, inl, inr, cases_eq, append-nil, length-map, map-set, All-set, Node, Reader, Way, row, children, child, room, weave, before, flat, IsFormed, Holds, spot, IsTree, StepsOn, SamePlaces, IsWay, IsReader, IsReaderIn}
+use Rattle.iddqd_order.proofs.Names.{get_or_default, add-one, set-get_or, ◌≡◌, ◌≢◌, ◌∙◌, ℕ, zero, suc, ◌+◌, ◌-◌, ◌<◌, ◌≤◌, List, [], ◌++◌, length, get_or, set, slice_index, slice_set, refl, sym, ap, subst, arith, Option, Some, None, IsNone, IfSome, IsTrue, ◌↔◌, Contains, Bool, is_some, true, false, sub-one, length-append, length-set, get_or-set_same, get_or-set_other, inl, inr, cases_eq, append-nil, length-map, map-set, All-set, Node, Reader, Way, row, children, child, room, weave, before, after, flat, IsFormed, Holds, spot, IsTree, StepsOn, SamePlaces, IsWay, IsReader, IsReaderIn}
 use Rattle.iddqd_order.proofs.NodeLemmas.{lists, AreChildren, formed-within, formed-leaf, leaf-formed, flat-leaf, formed-inner, inner-formed, flat-inner}
 use Rattle.iddqd_order.proofs.RemovalLemmas.{GoesBelow, goes-below, ends-inner, holds-leaf, holds-at, holds-level, holds-below, spot-leaf, spot-at, spot-below, spot-within}
 use Rattle.iddqd_order.proofs.DescentLemmas.{after-last, before-next, lists-one_more, lists-at, child-formed, child-read, child_is, holds-here, below-holds, spot-row}
@@ -91,14 +91,10 @@ pub ends-below : (c : ℕ) (h l i : ℕ) (r : Option ℕ) (n : Node) (p q : List
 ends-below c h l i (Some m) n p q b f le none s = absurd (cc)
 ends-below c h l i None n p q b f le none s =
     let xs : List ℕ = row n in let ks : List (List ℕ) = lists (h - 1) (children n) in
-    let here = b.here in
     let one = lists-one_more h n b.inner f in
-    let whole : flat h n ≡ before i xs ks ++ (get_or ks i [] ++ []) =
-    flat-inner h n b.inner ∙ apart i xs ks [] (omega (arith, length-map (children n) (λ k. flat (h - 1) k))) one ∙ ap (λ z. before i xs ks ++ (get_or ks i [] ++ z)) (after-last i xs ks le one) in
-    let all : length (flat h n) ≡ length (before i xs ks) + length (flat (h - 1) (child n i)) =
-    ap length whole ∙ length-append (before i xs ks) (get_or ks i [] ++ []) ∙ ap (λ z. length (before i xs ks) + length z) (append-nil (get_or ks i []) ∙ lists-at (h - 1) n i here) in
-    let was = b.place in
-    omega arith
+    let whole = ap length (flat-inner h n b.inner ∙ apart i xs ks [] (omega (arith, b.here, length-map (children n) (λ k. flat (h - 1) k))) one) in
+    let list = ap length (lists-at (h - 1) n i b.here) in let last = ap length (after-last i xs ks le one) in
+    omega (arith, b.place, whole, length-append (before i xs ks) (get_or ks i [] ++ after i xs ks), length-append (get_or ks i []) (after i xs ks))
 
 -- the index to which a path goes below the i-th child
 pub read-below : (h l i ix : ℕ) (n : Node) (p : List ℕ) → GoesBelow h l i n p → IsFormed h n → ix ≡ slice_index (flat (h - 1) (child n i)) (spot l (h - 1) (child n i) p)

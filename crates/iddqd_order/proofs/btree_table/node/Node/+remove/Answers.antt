@@ -1,5 +1,5 @@
 use Rattle.iddqd_order.proofs.Names.{rules, ℕ, ◌<◌, ◌-◌, remove, slice_index, arith, ap, ◌∙◌, roll-Node, out-roll-Node, row, children, room, flat, spot}
-use Rattle.iddqd_order.proofs.NodeLemmas.{child-within, row-roll, children-roll, room-roll}
+use Rattle.iddqd_order.proofs.NodeLemmas.{row-roll, children-roll, room-roll}
 use Rattle.iddqd_order.proofs.RemovalLemmas.{holds-leaf, holds-level, goes-below, ends-inner, child-below, child-before, remade-leaf, TookNow, took-now, took-below, took-here, remade, room-kept}
 use Rattle.iddqd_order.proofs.btree_table.node.Node.+remove.Goals as goal
 use Rattle.iddqd_order.proofs.btree_table.node.Node.+remove.Goals.{then-height-level, else-height-level}
@@ -16,9 +16,7 @@ returns-then-height-eq0 t c =
 
 pub index_mut-requires : goal.index_mut-requires
 index_mut-requires t c =
-    let at = (ends-inner c.args.height c.args.level c.get-i.result c.args.self.now c.args.path.now c.if-height-eq0.false c.if-height-level.true c.get-i.ensures c.requires.formed c.requires.holds).within in
-    let w = child-within c.args.height c.args.self.now c.get-i.result c.if-height-eq0.false c.requires.formed (omega arith) in
-    search (rules, w)
+    search (rules, (ends-inner c.args.height c.args.level c.get-i.result c.args.self.now c.args.path.now c.if-height-eq0.false c.if-height-level.true c.get-i.ensures c.requires.formed c.requires.holds).here)
 
 pub remove_last-last-requires : goal.remove_last-last-requires
 remove_last-last-requires t c =
@@ -29,14 +27,12 @@ remove_last-last-requires t c =
 
 pub set-requires : goal.set-requires
 set-requires t c =
-    let at = (ends-inner c.args.height c.args.level c.get-i.result c.args.self.now c.args.path.now c.if-height-eq0.false c.if-height-level.true c.get-i.ensures c.requires.formed c.requires.holds).within in
-    simp out-roll-Node at
+    simp out-roll-Node (ends-inner c.args.height c.args.level c.get-i.result c.args.self.now c.args.path.now c.if-height-eq0.false c.if-height-level.true c.get-i.ensures c.requires.formed c.requires.holds).within
 
 pub index_mut-requires-else-height-level : goal.index_mut-requires-else-height-level
 index_mut-requires-else-height-level t c =
-    let lt : c.args.level < c.args.height = omega (arith, holds-level c.args.level c.args.height c.args.self.now c.args.path.now c.requires.holds) in
-    let b = goes-below c.args.height c.args.level c.get-i.result c.args.self.now c.args.path.now lt c.get-i.ensures c.requires.formed c.requires.holds in
-    search (rules, b.here)
+    let le = holds-level c.args.level c.args.height c.args.self.now c.args.path.now c.requires.holds in
+    search (rules, (goes-below c.args.height c.args.level c.get-i.result c.args.self.now c.args.path.now (omega arith) c.get-i.ensures c.requires.formed c.requires.holds).here)
 
 pub remove-requires-else-height-level : goal.remove-requires-else-height-level
 remove-requires-else-height-level t c =
