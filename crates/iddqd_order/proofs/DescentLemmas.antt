@@ -1,13 +1,12 @@
 -- A walk down a tree: what the search of a row says of the search of the tree.
-use Rattle.iddqd_order.proofs.Names.{◌≡◌, ◌≢◌, ◌∙◌, ℕ, zero, suc, ◌+◌, ◌-◌, ◌*◌, ◌<◌, ◌≤◌, List, [], ◌∷◌, ◌++◌, length, get_or, drop, slice_index, slice_set, get_or-set_same, get_or-set_other, Contains, refl, sym, ap, subst, All, arith, ◌⊎◌, inl, inr, Option, Some, None, Result, Ok, Err, IfOk, length-append, append_assoc, sub-one, add-one, cases_lt, true≢false, get_or-append-add, length-map, All-nil, Contains-append_cases, Ordering, Less, Greater, Mut, AsksWithin, Steady, Asking, Node, row, children, child, weave, before, after, flat, IsFormed, Holds, spot, FullBelow, IsFullBelow, Askable, CanSearch, with_ties, IsRising, IsPlace, IsSteadyRising, SearchesWithin, Searches, Finds, end_of, index_at, Descends, FindsIn, digits}
+use Rattle.iddqd_order.proofs.Names.{get_or_default, ◌≡◌, ◌≢◌, ◌∙◌, ℕ, zero, suc, ◌+◌, ◌-◌, ◌<◌, ◌≤◌, List, [], ◌∷◌, ◌++◌, length, get_or, drop, slice_index, slice_set, get_or-set_same, get_or-set_other, Contains, refl, sym, ap, subst, All, arith, ◌⊎◌, inl, inr, Option, Some, None, Result, Ok, Err, IfOk, length-append, append_assoc, sub-one, add-one, cases_lt, true≢false, get_or-append-add, length-map, All-nil, Contains-append_cases, Ordering, Less, Greater, Mut, AsksWithin, Steady, Asking, Node, row, children, child, weave, before, after, flat, IsFormed, Holds, spot, FullBelow, IsFullBelow, Askable, CanSearch, with_ties, IsRising, IsPlace, IsSteadyRising, SearchesWithin, Searches, Finds, end_in, index_at, Descends, FindsIn, digits}
 use Rattle.iddqd_order.proofs.DigitLemmas.{four_digits}
 use Rattle.iddqd_order.proofs.AskLemmas.{asks_wider, CanAsk-fewer, CanAsk-later, Steady-fewer}
 pub use Rattle.iddqd_order.proofs.NodeLemmas.{lists-one_more, lists-at, child-within, child-formed}
-use Rattle.iddqd_order.proofs.NodeLemmas.{lists, flat-leaf, flat-inner, inner-goes, leaf-goes, place-inner, place-leaf, any_default}
+use Rattle.iddqd_order.proofs.NodeLemmas.{lists, flat-leaf, flat-inner, inner-goes, leaf-goes, place-inner, place-leaf}
 use Rattle.iddqd_order.proofs.PartLemmas.{Askable-wider, greater_up_to, less_from_on, shifted, in_middle, middle_held, SearchesWithin-more, LeadsTo, Searches-part}
 use Rattle.iddqd_order.proofs.RemovalLemmas.{holds-level, spot-leaf, spot-at, spot-below, spot-within}
 use Rattle.iddqd_order.proofs.IndexListLemmas.{Contains-at}
-use Rattle.iddqd_order.proofs.ReckoningLemmas.{reckoning}
 use Rattle.iddqd_order.proofs.SearchLemmas.{none_at_place}
 use Rattle.iddqd_order.proofs.WeaveLemmas.{apart, index_place}
 use Rattle.iddqd_order.proofs.WeaveRemovalLemmas.{weave-within_at}
@@ -180,7 +179,7 @@ pub path-above : (p q : List ℕ) (l i m : ℕ) → q ≡ slice_set p l i → l 
 path-above p q l i m e lt = ap (λ z. slice_index z m) e ∙ get_or-set_other p l m i 0 (λ same. absurd (omega arith))
 
 pub child_is : (n : Node) (i : ℕ) (k : Node) → i < length (children n) → k ≡ get_or (children n) i k → k ≡ child n i
-child_is n i k lt e = e ∙ any_default (children n) i k n lt
+child_is n i k lt e = e ∙ get_or_default (children n) i k n lt
 
 -- a path to an index of the node itself
 pub holds-here : (l : ℕ) (n : Node) (p : List ℕ) → slice_index p l < length (row n) → Holds l l n p
@@ -326,15 +325,15 @@ module _ {F R : Type 0} (g : Mut F (ℕ × Unit {0}) R) (read : R → Ordering) 
 
   -- where the walk below ends in the whole list
   end-below : (l : ℕ) (n : Node) (p : List ℕ) (end : Result ℕ ℕ) → l ≢ 0 → IfOk end (λ m. Holds m (l - 1) (child n (slice_index p l)) p)
-      → end_of l n p end ≡ shifted (length (before (slice_index p l) (row n) (lists (l - 1) (children n)))) (end_of (l - 1) (child n (slice_index p l)) p end)
+      → end_in (Some n) l p end ≡ shifted (length (before (slice_index p l) (row n) (lists (l - 1) (children n)))) (end_in (Some (child n (slice_index p l))) (l - 1) p end)
   end-below l n p (Ok m) ne holds = let le = holds-level m (l - 1) (child n (slice_index p l)) p holds in ap Ok (spot-below m l n p ne (λ e. absurd (omega arith)))
   end-below l n p (Err k) ne holds = ap Err (place-inner l n p ne)
 
   searched_below : {k m : ℕ} (limit full_below l : ℕ) (n : Node) (p : List ℕ) (end : Result ℕ ℕ) (a b c : Asking F) → k + m ≤ limit → l ≢ 0 → IsFormed l n → SearchesWithin g read (row n) k tie a (Err (slice_index p l)) b
-      → Descends g read tie m full_below (l - 1) (child n (slice_index p l)) b p end c → SearchesWithin g read (flat l n) limit tie a (end_of l n p end) c
+      → Descends g read tie m full_below (l - 1) (child n (slice_index p l)) b p end c → SearchesWithin g read (flat l n) limit tie a (end_in (Some n) l p end) c
   searched_below limit full_below l n p end a b c le ne f s d =
       rw (end-below l n p end ne d.holds)
-      (SearchesWithin-more g read tie le (Searches-child l n (slice_index p l) (end_of (l - 1) (child n (slice_index p l)) p end) a b c ne f s d.searches))
+      (SearchesWithin-more g read tie le (Searches-child l n (slice_index p l) (end_in (Some (child n (slice_index p l))) (l - 1) p end) a b c ne f s d.searches))
 
   -- or below the node
   pub Descends-below : {k m : ℕ} (limit full full_below l : ℕ) (n : Node) (p : List ℕ) (end : Result ℕ ℕ) (a b c : Asking F) → k + m ≤ limit → l ≢ 0 → IsFormed l n → SearchesWithin g read (row n) k tie a (Err (slice_index p l)) b → Counts n full l full_below
@@ -394,29 +393,20 @@ module _ {F R : Type 0} (g : Mut F (ℕ × Unit {0}) R) (read : R → Ordering) 
         index = t.index ∙ read-below l n i t.end ne f lt t.searches.found;
       }
 
-  -- a walk down a tree with an index in its root is a search of all indexes
-  pub Searches-from_descends : {limit full : ℕ} (h : ℕ) (n : Node) (p : List ℕ) (end : Result ℕ ℕ) (a b : Asking F) → limit ≤ 4 * (h + 1) + 2 → IsFormed h n → 1 ≤ length (row n) → Descends g read tie limit full h n a p end b
-      → Searches g read (flat h n) tie a (end_of h n p end) b
-  Searches-from_descends h n p end a b le f one d = let few = reckoning h n f one in SearchesWithin-more g read tie (omega arith) d.searches
-
--- and so is a find
-pub Finds-from_findsin : {F R : Type 0} (g : Mut F (ℕ × Unit {0}) R) (read : R → Ordering) (h : ℕ) (n : Node) (found : Option ℕ) (a b : Asking F) → IsFormed h n → 1 ≤ length (row n) → FindsIn g read None h n a found b
-    → Finds g read (flat h n) a found b
-Finds-from_findsin g read h n found a b f one d = finds d.end (let few = reckoning h n f one in SearchesWithin-more g read None (omega arith) d.searches) d.index
-  where
-    finds : (end : Result ℕ ℕ) → Searches g read (flat h n) None a end b → found ≡ index_at (flat h n) end → Finds g read (flat h n) a found b
-    finds (Ok i) s e = subst (λ r. Finds g read (flat h n) a r b) (sym e) (record {
-      asked = s.asked;
-      stored = Contains-at (flat h n) i _ s.found refl;
-      hit = λ answer steady. s.hit answer steady;
-      miss = λ answer steady none. absurd (true≢false none);
-    })
-    finds (Err i) s e = subst (λ r. Finds g read (flat h n) a r b) (sym e) (record {
-      asked = s.asked;
-      stored = tt;
-      hit = λ answer steady. tt;
-      miss = λ answer steady none. none_at_place answer (flat h n) i (s.place answer steady);
-    })
+-- a find is what the search tells that ends at its index, or else at none
+pub Finds-from_searches : {F R : Type 0} (g : Mut F (ℕ × Unit {0}) R) (read : R → Ordering) (xs : List ℕ) (end : Result ℕ ℕ) (found : Option ℕ) (a b : Asking F) → Searches g read xs None a end b → found ≡ index_at xs end → Finds g read xs a found b
+Finds-from_searches g read xs (Ok i) found a b s e = rw e (record {
+  asked = s.asked;
+  stored = Contains-at xs i _ s.found refl;
+  hit = s.hit;
+  miss = λ answer steady none. absurd (true≢false none);
+})
+Finds-from_searches g read xs (Err i) found a b s e = rw e (record {
+  asked = s.asked;
+  stored = tt;
+  hit = s.hit;
+  miss = λ answer steady none. none_at_place answer xs i (s.place answer steady);
+})
 
 -- the first of a list, or one of the others
 cons_cases : (y : ℕ) (ys : List ℕ) (x k : ℕ) → k < length (y ∷ ys) → get_or (y ∷ ys) k x ≡ x → (y ≡ x) ⊎ Contains ys x

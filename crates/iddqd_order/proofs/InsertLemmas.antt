@@ -2,7 +2,7 @@
 use Rattle.std.proofs.Common.{◌≡◌, ℕ, zero, suc, ◌+◌, ◌-◌, ◌<◌, ◌≤◌, ◌≢◌, List, [], ◌∷◌, ◌++◌, length, set, get_or, slice_index, refl, ap, sym, ◌∙◌, arith, length-append, length-set, subst, All, inl, inr}
 use Rattle.std.proofs.lemmas.Bool.{cases_lt}
 use Rattle.std.specs.List.{insert}
-use Rattle.std.proofs.lemmas.List.{length-map, get_or-map, map-set, map-append}
+use Rattle.std.proofs.lemmas.List.{get_or_default, length-map, get_or-map, map-set, map-append}
 use Rattle.std.proofs.lemmas.List.Edits.{length-insert}
 use Rattle.std.proofs.lemmas.List.Elements.{All-set, All-take, All-drop}
 use Rattle.std.proofs.Math.Seq.{drop-append_seam, take-append_seam}
@@ -10,7 +10,7 @@ use Rattle.iddqd_order.specs.declared.btree_table.node.Node.{Node}
 use Rattle.iddqd_order.specs.Node.{row, children, child, room, weave, before, flat, IsInner, IsFormed, Goes, place, IsFullBelow}
 use Rattle.iddqd_order.specs.Row.{IsCut}
 use Rattle.iddqd_order.proofs.WeaveLemmas.{edited, widened, weave-append}
-use Rattle.iddqd_order.proofs.NodeLemmas.{AreChildren, lists, formed-leaf, leaf-formed, flat-leaf, goes-leaf, place-leaf, formed-within, formed-inner, inner-formed, flat-inner, goes-inner, place-inner, full-inner, full-here, any_default, map-insert, All-insert, place-within}
+use Rattle.iddqd_order.proofs.NodeLemmas.{AreChildren, lists, formed-leaf, leaf-formed, flat-leaf, goes-leaf, place-leaf, formed-within, formed-inner, inner-formed, flat-inner, goes-inner, place-inner, full-inner, full-here, map-insert, All-insert, place-within}
 
 -- g is the i-th child, which the path takes
 pub record IsTaken (h : ℕ) (old : Node) (p : List ℕ) (i : ℕ) (g : Node) : Type 0 where
@@ -40,7 +40,7 @@ taken h old p i g t =
     let fs = formed-inner h old t.inner t.formed in
     let at = goes-inner h old p t.inner t.goes in
     let here : i < length (children old) = rw t.at at.here in
-    let same : g ≡ child old i = t.is ∙ any_default (children old) i g old here in
+    let same : g ≡ child old i = t.is ∙ get_or_default (children old) i g old here in
     let on : Goes (h - 1) (child old i) p = rw t.at at.on in
     let len : length (lists (h - 1) (children old)) ≡ length (children old) = length-map (children old) (λ k. flat (h - 1) k) in
     let one = fs.inner.one_more in

@@ -1,5 +1,5 @@
 -- One level of a tree at a time.
-use Rattle.iddqd_order.proofs.Names.{◌≡◌, ℕ, zero, suc, ◌+◌, ◌-◌, ◌<◌, ◌≤◌, ◌≢◌, List, [], ◌∷◌, length, get_or, map, slice_index, refl, ap, arith, sub-one, All, vec_capacity, insert, length-map, get_or-map, All-append, All-take, All-drop, All-cons, Node, Node-F, roll-Node, out-roll-Node, row, children, child, room, weave, before, flat, IsInner, IsLeaf, IsFormed, Goes, place, FullBelow, IsFullBelow}
+use Rattle.iddqd_order.proofs.Names.{◌≡◌, ℕ, zero, suc, ◌+◌, ◌-◌, ◌<◌, ◌≤◌, ◌≢◌, List, [], ◌∷◌, length, get_or, map, slice_index, refl, ap, arith, sub-one, All, vec_capacity, insert, length-map, get_or-map, All-permutation, IsPermutation-insert, All-cons, Node, Node-F, roll-Node, out-roll-Node, row, children, child, room, weave, before, flat, IsInner, IsLeaf, IsFormed, Goes, place, FullBelow, IsFullBelow}
 use Rattle.iddqd_order.proofs.WeaveLemmas.{within}
 
 -- what the children of a node at level h + 1 are
@@ -114,12 +114,6 @@ unfolding IsFullBelow
 full-here k zero n p f = f
 full-here k (suc h) n p f = f.0
 
--- the child at a place, whichever member stands for none
-pub any_default : {X : Type 0} (xs : List X) (i : ℕ) (d e : X) → i < length xs → get_or xs i d ≡ get_or xs i e
-any_default [] i d e p = absurd (omega arith)
-any_default (x ∷ xs) zero d e p = refl
-any_default (x ∷ xs) (suc i) d e p = any_default xs i d e (omega arith)
-
 pub map-insert : {X Y : Type 0} → (f : X → Y) (xs : List X) (i : ℕ) (x : X) → map f (insert xs i x) ≡ insert (map f xs) i (f x)
 map-insert f [] zero x = refl
 map-insert f [] (suc i) x = refl
@@ -127,7 +121,7 @@ map-insert f (y ∷ xs) zero x = refl
 map-insert f (y ∷ xs) (suc i) x = ap (λ z. f y ∷ z) (map-insert f xs i x)
 
 pub All-insert : {X : Type 0} → (P : X → Type 0) (xs : List X) (i : ℕ) (x : X) → All P xs → P x → All P (insert xs i x)
-All-insert P xs i x a p = All-append P _ _ (All-take P i xs a) (All-cons P x _ p (All-drop P i xs a))
+All-insert P xs i x a p = All-permutation P (x ∷ xs) (insert xs i x) (IsPermutation-insert xs i x) (All-cons P x xs p a)
 
 -- a node just made
 pub row-roll : (r : Node-F Node) → row (roll-Node r) ≡ r.row

@@ -1,6 +1,6 @@
 -- What a removal below a node leaves of the node.
-use Rattle.iddqd_order.proofs.Names.{◌≡◌, ◌≢◌, ℕ, zero, suc, ◌+◌, ◌-◌, ◌<◌, ◌≤◌, List, [], ◌∷◌, ◌++◌, length, take, drop, set, get_or, remove, slice_index, refl, ap, sym, ◌∙◌, subst, arith, sub-one, length-set, get_or-set_same, get_or-set_other, All, true, false, nat_eq, eq-eqb, ne_eqb, inl, inr, vec_capacity, Option, Some, None, IsSome, ◌↔◌, option_to_list, map, cases_eq, length-map, map-set, length_push, nil_from_length, append-nil, take_more, take_all, drop_all, length-remove, Node, Node-F, roll-Node, row, children, child, room, weave, before, flat, IsInner, IsFormed, Holds, spot, IsChild, MayLackOne, IsMended, IsEmptied, in_order, IsTree, HoldsIn, spot_in}
-use Rattle.iddqd_order.proofs.NodeLemmas.{lists, lists-one_more, lists-at, child-within, child-formed, formed-leaf, leaf-formed, flat-leaf, formed-inner, inner-formed, flat-inner, any_default, room-roll}
+use Rattle.iddqd_order.proofs.Names.{get_or_default, ◌≡◌, ◌≢◌, ℕ, zero, suc, ◌+◌, ◌-◌, ◌<◌, ◌≤◌, List, [], ◌∷◌, ◌++◌, length, take, drop, set, get_or, remove, slice_index, refl, ap, sym, ◌∙◌, subst, arith, sub-one, length-set, get_or-set_same, get_or-set_other, All, true, false, nat_eq, eq-eqb, ne_eqb, inl, inr, vec_capacity, Option, Some, None, IsSome, ◌↔◌, option_to_list, map, cases_eq, length-map, map-set, length_push, nil_from_length, append-nil, take_more, take_all, drop_all, length-remove, Node, Node-F, roll-Node, row, children, child, room, weave, before, flat, IsInner, IsFormed, Holds, spot, IsChild, MayLackOne, IsMended, IsEmptied, in_order, IsTree, HoldsIn, spot_in}
+use Rattle.iddqd_order.proofs.NodeLemmas.{lists, lists-one_more, lists-at, child-within, child-formed, formed-leaf, leaf-formed, flat-leaf, formed-inner, inner-formed, flat-inner, room-roll}
 use Rattle.iddqd_order.proofs.WeaveLemmas.{index_place}
 use Rattle.iddqd_order.proofs.WeaveRemovalLemmas.{weave-taken, weave-replaced, weave-last, weave-within, weave-within_at}
 
@@ -165,7 +165,7 @@ pub took-below : (l h i : ℕ) (old g k : Node) (p : List ℕ) → h ≢ 0 → h
     → TookBelow h i old (row old) (set (children old) i k) (remove (flat h old) (spot l h old p))
 took-below l h i old g k p ne e ei f some w is_g items fk few =
     let b = goes-below h l i old p (omega (arith, holds-level l h old p w)) ei f w in
-    let same : g ≡ child old i = is_g ∙ any_default (children old) i g old b.here in
+    let same : g ≡ child old i = is_g ∙ get_or_default (children old) i g old b.here in
     let few_c : length (row (child old i)) ≤ length (row k) + 1 = rw (sym same) few in
     record {
       ne = ne;
@@ -181,7 +181,7 @@ pub took-here : (l h i : ℕ) (old g k : Node) (p : List ℕ) (last : ℕ) → h
     → TookBelow h i old (set (row old) i last) (set (children old) i k) (remove (flat h old) (spot l h old p))
 took-here l h i old g k p last ne e ei f some w is_g items fk few =
     let s = ends-inner h l i old p ne e ei f w in
-    let same : g ≡ child old i = is_g ∙ any_default (children old) i g old s.here in
+    let same : g ≡ child old i = is_g ∙ get_or_default (children old) i g old s.here in
     let few_c : length (row (child old i)) ≤ length (row k) + 1 = rw (sym same) few in
     let ks : List (List ℕ) = lists (h - 1) (children old) in
     let is : get_or ks i [] ≡ flat (h - 1) k ++ last ∷ [] = lists-at (h - 1) old i s.here ∙ ap (λ z. flat (h - 1) z) (sym same) ∙ items in
@@ -207,7 +207,7 @@ took-last h count old g k last ne ec f some is_g items fk few =
     let fs = formed-inner h old ne f in
     let om = fs.inner.one_more in
     let here : count < length (children old) = omega arith in
-    let same : g ≡ child old count = is_g ∙ any_default (children old) count g old here in
+    let same : g ≡ child old count = is_g ∙ get_or_default (children old) count g old here in
     let few_c : length (row (child old count)) ≤ length (row k) + 1 = rw (sym same) few in
     let ls : List (List ℕ) = lists (h - 1) (children old) in
     let is : get_or ls (length (row old)) [] ≡ flat (h - 1) k ++ last ∷ [] = ap (λ z. get_or ls z []) (sym ec) ∙ lists-at (h - 1) old count here ∙ ap (λ z. flat (h - 1) z) (sym same) ∙ items in
@@ -300,14 +300,14 @@ pub record ChildAt (l h : ℕ) (n g : Node) (p : List ℕ) : Type 0 where
 pub child-below : (l h i : ℕ) (n g : Node) (p : List ℕ) → h ≢ 0 → h ≢ l → i ≡ slice_index p h → IsFormed h n → Holds l h n p → g ≡ get_or (children n) i g → ChildAt l h n g p
 child-below l h i n g p ne e ei f w is_g =
     let down = holds-below l h n p ne e w in
-    let same : g ≡ child n (slice_index p h) = subst (λ z. g ≡ get_or (children n) z g) ei is_g ∙ any_default (children n) (slice_index p h) g n down.here in
+    let same : g ≡ child n (slice_index p h) = subst (λ z. g ≡ get_or (children n) z g) ei is_g ∙ get_or_default (children n) (slice_index p h) g n down.here in
     record { formed = rw same ((formed-inner h n ne f).below (slice_index p h) n down.here); holds = rw same down.on }
 
 -- the child before an index
 pub child-before : (h i : ℕ) (n g : Node) → h ≢ 0 → i ≤ length (row n) → IsFormed h n → g ≡ get_or (children n) i g → (i < length (children n)) × IsChild (h - 1) g
 child-before h i n g ne le f is_g =
     let here = child-within h n i ne f le in
-    (here, rw (is_g ∙ any_default (children n) i g n here) ((formed-inner h n ne f).below i n here))
+    (here, rw (is_g ∙ get_or_default (children n) i g n here) ((formed-inner h n ne f).below i n here))
 
 -- a node just made has the room of the one before
 pub room-kept : (n : Node) (r : Node-F Node) → vec_capacity r.children ≡ room n → room n ≤ room (roll-Node r)

@@ -1,6 +1,6 @@
 -- Ways: what a step along one leaves, and what stays of them where an index is put in the place of another.
-use Rattle.iddqd_order.proofs.Names.{◌≡◌, ◌≢◌, ◌∙◌, ℕ, zero, suc, ◌+◌, ◌-◌, ◌<◌, ◌≤◌, List, [], ◌∷◌, ◌++◌, length, get_or, set, slice_index, slice_set, refl, sym, ap, subst, arith, Option, Some, None, IsNone, IfSome, IsTrue, ◌↔◌, Contains, Bool, is_some, true, false, sub-one, length-append, length-set, get_or-set_same, get_or-set_other, inl, inr, cases_eq, append-nil, length-map, map-set, set-append_left, set-append_right, All-set, Node, Reader, Way, row, children, child, room, weave, before, after, flat, IsFormed, Holds, spot, IsTree, StepsOn, SamePlaces, IsWay, IsReader, IsReaderIn}
-use Rattle.iddqd_order.proofs.NodeLemmas.{lists, AreChildren, formed-within, formed-leaf, leaf-formed, flat-leaf, formed-inner, inner-formed, flat-inner, any_default}
+use Rattle.iddqd_order.proofs.Names.{get_or_default, ◌≡◌, ◌≢◌, ◌∙◌, ℕ, zero, suc, ◌+◌, ◌-◌, ◌<◌, ◌≤◌, List, [], ◌∷◌, ◌++◌, length, get_or, set, slice_index, slice_set, refl, sym, ap, subst, arith, Option, Some, None, IsNone, IfSome, IsTrue, ◌↔◌, Contains, Bool, is_some, true, false, sub-one, length-append, length-set, get_or-set_same, get_or-set_other, inl, inr, cases_eq, append-nil, length-map, map-set, set-append_left, set-append_right, All-set, Node, Reader, Way, row, children, child, room, weave, before, after, flat, IsFormed, Holds, spot, IsTree, StepsOn, SamePlaces, IsWay, IsReader, IsReaderIn}
+use Rattle.iddqd_order.proofs.NodeLemmas.{lists, AreChildren, formed-within, formed-leaf, leaf-formed, flat-leaf, formed-inner, inner-formed, flat-inner}
 use Rattle.iddqd_order.proofs.RemovalLemmas.{GoesBelow, goes-below, ends-inner, holds-leaf, holds-at, holds-level, holds-below, spot-leaf, spot-at, spot-below, spot-within}
 use Rattle.iddqd_order.proofs.DescentLemmas.{after-last, before-next, lists-one_more, lists-at, child-formed, child-read, child_is, holds-here, below-holds, spot-row}
 use Rattle.iddqd_order.proofs.IndexListLemmas.{Contains-at}
@@ -265,7 +265,7 @@ put-own h l i x n m p ne e ei f w er ek rm =
     let one = fs.inner.one_more in let within = fs.inner.within in let has_room = fs.inner.has_room in
     let count = ap length ek in
     let rows : length (row m) ≡ length (row n) = ap length er ∙ length-set (row n) i x in
-    let same : (j : ℕ) → j < length (children n) → child m j ≡ child n j = λ j lt. ap (λ z. get_or z j m) ek ∙ any_default (children n) j m n lt in
+    let same : (j : ℕ) → j < length (children n) → child m j ≡ child n j = λ j lt. ap (λ z. get_or z j m) ek ∙ get_or_default (children n) j m n lt in
     record {
       items =
           flat-inner h m ne ∙ ap (λ z. weave z (lists (h - 1) (children m))) er ∙ ap (λ z. weave (set (row n) i x) (lists (h - 1) z)) ek
@@ -299,7 +299,7 @@ put-below h l i x n g k m p low ei f w is_g put er ek rm =
     let count : length (children m) ≡ length (children n) = ap length ek ∙ length-set (children n) i k in
     let at : child m i ≡ k = ap (λ z. get_or z i m) ek ∙ get_or-set_same (children n) i k m here in
     let other : (j : ℕ) → j < length (children n) → j ≢ i → child m j ≡ child n j =
-    λ j lt away. ap (λ z. get_or z j m) ek ∙ get_or-set_other (children n) i j k m away ∙ any_default (children n) j m n lt in
+    λ j lt away. ap (λ z. get_or z j m) ek ∙ get_or-set_other (children n) i j k m away ∙ get_or_default (children n) j m n lt in
     let was : IsPut (h - 1) l (child n i) k p x = subst (λ z. IsPut (h - 1) l z k p x) is_g put in
     let len : length (flat (h - 1) k) ≡ length (flat (h - 1) (child n i)) = ap length was.items ∙ length-set (flat (h - 1) (child n i)) (spot l (h - 1) (child n i) p) x in
     let row_len = was.same_length in

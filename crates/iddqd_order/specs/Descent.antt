@@ -5,19 +5,14 @@ use Rattle.std.specs.Fn.{Mut}
 use Rattle.iddqd_order.specs.declared.btree_table.asking.Asking.{Asking}
 use Rattle.iddqd_order.specs.declared.btree_table.node.Node.{Node}
 use Rattle.iddqd_order.specs.MapBTreeTable.{Order, order_of}
-use Rattle.iddqd_order.specs.Node.{flat, Goes, place, Holds, spot, IsFullBelow}
+use Rattle.iddqd_order.specs.Node.{flat, Goes, Holds, IsFullBelow}
 use Rattle.iddqd_order.specs.Search.{SearchesWithin, Searches}
 use Rattle.iddqd_order.specs.Tree.{GoesIn, place_in, HoldsIn, spot_in, FullIn}
 
 -- where a path ends in the whole list: at the index at its level, or else in a leaf
-abbrev pub end_of : ℕ → Node → List ℕ → Result ℕ ℕ → Result ℕ ℕ
-end_of h n p (Ok l) = Ok (spot l h n p)
-end_of h n p (Err k) = Err (place h n p)
-
--- the same in a table
-abbrev pub end_in : Order → List ℕ → Result ℕ ℕ → Result ℕ ℕ
-end_in t p (Ok l) = Ok (spot_in l t.root t.height p)
-end_in t p (Err k) = Err (place_in t.root t.height p)
+abbrev pub end_in : Option Node → ℕ → List ℕ → Result ℕ ℕ → Result ℕ ℕ
+end_in r h p (Ok l) = Ok (spot_in l r h p)
+end_in r h p (Err k) = Err (place_in r h p)
 
 -- the index at which a search ends
 abbrev pub index_at : List ℕ → Result ℕ ℕ → Option ℕ
@@ -30,7 +25,7 @@ module _ {F R : Type 0} (g : Mut F (ℕ × Unit {0}) R) (read : R → Ordering) 
   -- the number of full nodes at the lower end: more than h levels stand for `full`
   pub record Descends (limit full h : ℕ) (n : Node) (old : Asking F) (p : List ℕ) (end : Result ℕ ℕ) (new : Asking F)
       : Type 0 where
-    pub searches : SearchesWithin g read (flat h n) limit sought old (end_of h n p end) new
+    pub searches : SearchesWithin g read (flat h n) limit sought old (end_in (Some n) h p end) new
     pub holds : IfOk end (λ l. Holds l h n p)
     pub goes : IfErr end (λ k. Goes h n p)
     pub full_below : IfErr end (λ k. IsFullBelow k h n p)
@@ -45,7 +40,7 @@ module _ {F R : Type 0} (g : Mut F (ℕ × Unit {0}) R) (read : R → Ordering) 
   -- the walk is a search of all indexes of t: it ends at a level, to whose index the path p goes, or else in a
   -- leaf or in no node, with the number of full nodes at the lower end
   pub record EndsIn (t : Order) (old : Asking F) (p : List ℕ) (end : Result ℕ ℕ) (new : Asking F) : Type 0 where
-    pub searches : Searches g read (order_of t) sought old (end_in t p end) new
+    pub searches : Searches g read (order_of t) sought old (end_in t.root t.height p end) new
     pub holds : IfOk end (λ l. HoldsIn l t.root t.height p)
     pub goes : IfErr end (λ k. GoesIn t.root t.height p)
     pub full_below : IfErr end (λ k. FullIn k t.root t.height p)

@@ -1,10 +1,9 @@
-use Rattle.iddqd_order.specs.MapBTreeTable.{order_of}
-use Rattle.iddqd_order.proofs.TableLemmas.{root_of}
+use Rattle.iddqd_order.proofs.Names.{refl, order_of}
 use Rattle.iddqd_order.proofs.WayLemmas.{is_contained}
 use Rattle.iddqd_order.proofs.btree_table.table.MapBTreeTable.contains_index.Goals as goal
 
 pub returns : goal.returns
+unfolding order_of
 returns c =
-    let r = root_of c.args.self.now _ _ _ c.in-Some.root c.self.view_is c.self.invariant c.in-Some.is in
     let e = c.locate.ensures in
-    is_contained c.is_some.result (order_of c.args.self.now) c.locate.result c.self.inside.height c.in-Some.root c.args.ix c.locate.new.path c.is_some.ensures r.list r.formed e.found e.there e.missing
+    rw (← c.self.view_is, c.in-Some.is) (is_contained _ _ _ _ _ _ _ c.is_some.ensures refl (rw c.in-Some.is at c.self.invariant.tree).0 e.found e.there e.missing)
