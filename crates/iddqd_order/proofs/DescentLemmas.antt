@@ -1,11 +1,10 @@
 -- A walk down a tree: what the search of a row says of the search of the tree.
-use Rattle.iddqd_order.proofs.Names.{get_or_default, ◌≡◌, ◌≢◌, ◌∙◌, ℕ, zero, suc, ◌+◌, ◌-◌, ◌<◌, ◌≤◌, List, [], ◌∷◌, ◌++◌, length, get_or, drop, slice_index, slice_set, get_or-set_same, get_or-set_other, Contains, refl, sym, ap, subst, All, arith, ◌⊎◌, inl, inr, Option, Some, None, Result, Ok, Err, IfOk, length-append, append_assoc, sub-one, add-one, cases_lt, true≢false, get_or-append-add, length-map, All-nil, Contains-append_cases, Ordering, Less, Greater, Mut, AsksWithin, Steady, Asking, Node, row, children, child, weave, before, after, flat, IsFormed, Holds, spot, FullBelow, IsFullBelow, Askable, CanSearch, with_ties, IsRising, IsPlace, IsSteadyRising, SearchesWithin, Searches, Finds, end_in, index_at, Descends, FindsIn, digits}
+use Rattle.iddqd_order.proofs.Names.{get_or_default, true, ◌≡◌, ◌≢◌, ◌∙◌, ℕ, zero, suc, ◌+◌, ◌-◌, ◌<◌, ◌≤◌, List, [], ◌∷◌, ◌++◌, length, get_or, drop, slice_index, Contains, refl, sym, ap, subst, All, arith, ◌⊎◌, inl, inr, Option, Some, None, Result, Ok, Err, IfOk, length-append, append_assoc, sub-one, add-one, cases_lt, true≢false, get_or-append-add, length-map, All-nil, Contains-append_cases, Ordering, Less, Greater, Mut, AsksWithin, Steady, Asking, Node, row, children, child, weave, before, after, flat, IsFormed, Holds, spot, FullBelow, IsFullBelow, Askable, CanSearch, with_ties, IsRising, IsPlace, IsSteadyRising, SearchesWithin, Searches, Finds, end_at, level_of, IfErr-weaker, index_at, Descends, FindsIn, digits}
 use Rattle.iddqd_order.proofs.DigitLemmas.{four_digits}
 use Rattle.iddqd_order.proofs.AskLemmas.{asks_wider, CanAsk-fewer, CanAsk-later, Steady-fewer}
-pub use Rattle.iddqd_order.proofs.NodeLemmas.{lists-one_more, lists-at, child-within, child-formed}
-use Rattle.iddqd_order.proofs.NodeLemmas.{lists, flat-leaf, flat-inner, inner-goes, leaf-goes, place-inner, place-leaf}
+pub use Rattle.iddqd_order.proofs.NodeLemmas.{lists-one_more, lists-at, child-within, child-formed, path-here, path-above, holds-here, below-holds}
+use Rattle.iddqd_order.proofs.NodeLemmas.{lists, flat-leaf, flat-inner, reaches-here, holds-level, spot-leaf, spot-at, spot-below, spot-within}
 use Rattle.iddqd_order.proofs.PartLemmas.{Askable-wider, greater_up_to, less_from_on, shifted, in_middle, middle_held, SearchesWithin-more, LeadsTo, Searches-part}
-use Rattle.iddqd_order.proofs.RemovalLemmas.{holds-level, spot-leaf, spot-at, spot-below, spot-within}
 use Rattle.iddqd_order.proofs.IndexListLemmas.{Contains-at}
 use Rattle.iddqd_order.proofs.SearchLemmas.{none_at_place}
 use Rattle.iddqd_order.proofs.WeaveLemmas.{apart, index_place}
@@ -171,30 +170,8 @@ module _ (xs : List ℕ) (ks : List (List ℕ)) (one_more : length ks ≡ length
         subst (λ zs. SearchesWithin g read zs (n + k) tie old (shifted (length (before i xs ks)) end) new) (sym whole)
         (Searches-part g read tie (before i xs ks) (get_or ks i []) (after i xs ks) leads end t)
 
--- what a write to a path leaves
-pub path-here : (p q : List ℕ) (l i : ℕ) → length p ≡ 12 → l ≤ 11 → q ≡ slice_set p l i → slice_index q l ≡ i
-path-here p q l i len le e = ap (λ z. slice_index z l) e ∙ get_or-set_same p l i 0 (omega arith)
-
-pub path-above : (p q : List ℕ) (l i m : ℕ) → q ≡ slice_set p l i → l < m → slice_index q m ≡ slice_index p m
-path-above p q l i m e lt = ap (λ z. slice_index z m) e ∙ get_or-set_other p l m i 0 (λ same. absurd (omega arith))
-
 pub child_is : (n : Node) (i : ℕ) (k : Node) → i < length (children n) → k ≡ get_or (children n) i k → k ≡ child n i
 child_is n i k lt e = e ∙ get_or_default (children n) i k n lt
-
--- a path to an index of the node itself
-pub holds-here : (l : ℕ) (n : Node) (p : List ℕ) → slice_index p l < length (row n) → Holds l l n p
-unfolding Holds
-holds-here zero n p lt = (omega arith, lt)
-holds-here (suc h) n p lt = (omega arith, λ _. lt, λ le. absurd (omega arith))
-
--- and one to an index below
-pub below-holds : (m l : ℕ) (n : Node) (p : List ℕ) → l ≢ 0 → slice_index p l < length (children n) → Holds m (l - 1) (child n (slice_index p l)) p → Holds m l n p
-unfolding Holds
-below-holds m zero n p ne lt h = absurd (ne refl)
-below-holds m (suc l) n p ne lt h =
-    let below = rw sub-one at h in
-    let le = holds-level m l (child n (slice_index p (suc l))) p below in
-    (omega arith, λ e. absurd (omega arith), λ _. (lt, below))
 
 -- its place
 pub spot-here : (l : ℕ) (n : Node) (p : List ℕ) → l ≢ 0 → slice_index p l < length (children n)
@@ -288,14 +265,16 @@ module _ {F R : Type 0} (g : Mut F (ℕ × Unit {0}) R) (read : R → Ordering) 
       subst (λ zs. SearchesWithin g read zs (k + m) tie a (shifted (length (before i xs ks)) end) c) (sym (flat-inner l n ne))
       (Searches-below xs ks (lists-one_more l n ne f) g read tie i end s (subst (λ zs. SearchesWithin g read zs m tie b end c) (sym (lists-at (l - 1) n i lt)) t))
 
+  shifted-end : (end : Result ℕ ℕ) (b i : ℕ) → shifted b (end_at end i) ≡ end_at end (b + i)
+  shifted-end (Ok l) b i = refl
+  shifted-end (Err k) b i = refl
+
   -- the walk ends at an index of the node
   pub Descends-hit : (limit full l : ℕ) (n : Node) (p : List ℕ) (a b : Asking F) → 4 ≤ limit → IsFormed l n → SearchesWithin g read (row n) 4 tie a (Ok (slice_index p l)) b → Descends g read tie limit full l n a p (Ok l) b
   Descends-hit limit full zero n p a b le f s = record {
     searches = rw (flat-leaf zero n refl, spot-leaf zero zero n p refl) (SearchesWithin-more g read tie le s);
-    holds = holds-here zero n p s.found;
-    goes = tt;
-    full_below = tt;
-    level = tt;
+    reaches = holds-here zero n p s.found;
+    lower_end = tt;
   }
   Descends-hit limit full (suc h) n p a b le f s =
       let ne : suc h ≢ 0 = λ e. absurd (omega arith) in
@@ -303,10 +282,8 @@ module _ {F R : Type 0} (g : Mut F (ℕ × Unit {0}) R) (read : R → Ordering) 
       let in_children = child-within (suc h) n (slice_index p (suc h)) ne f (omega arith) in
       record {
         searches = rw (spot-here (suc h) n p ne in_children) (SearchesWithin-more g read tie le (Searches-row (suc h) n (slice_index p (suc h)) a b ne f s));
-        holds = holds-here (suc h) n p lt;
-        goes = tt;
-        full_below = tt;
-        level = tt;
+        reaches = holds-here (suc h) n p lt;
+        lower_end = tt;
       }
 
   -- or in a leaf
@@ -316,44 +293,23 @@ module _ {F R : Type 0} (g : Mut F (ℕ × Unit {0}) R) (read : R → Ordering) 
   Descends-leaf limit full full_below zero n p a b le e f s c =
       let here = counts_here n full 0 full_below full_below c (λ _. refl) in
       record {
-        searches = rw (flat-leaf zero n refl, place-leaf zero n p refl) (SearchesWithin-more g read tie le s);
-        holds = tt;
-        goes = leaf-goes zero n p refl s.missed;
-        full_below = full-leaf full_below zero n p refl here.0;
-        level = here.1;
+        searches = rw (flat-leaf zero n refl, spot-leaf zero zero n p refl) (SearchesWithin-more g read tie le s);
+        reaches = reaches-here true zero n p s.missed;
+        lower_end = (full-leaf full_below zero n p refl here.0, here.1);
       }
-
-  -- where the walk below ends in the whole list
-  end-below : (l : ℕ) (n : Node) (p : List ℕ) (end : Result ℕ ℕ) → l ≢ 0 → IfOk end (λ m. Holds m (l - 1) (child n (slice_index p l)) p)
-      → end_in (Some n) l p end ≡ shifted (length (before (slice_index p l) (row n) (lists (l - 1) (children n)))) (end_in (Some (child n (slice_index p l))) (l - 1) p end)
-  end-below l n p (Ok m) ne holds = let le = holds-level m (l - 1) (child n (slice_index p l)) p holds in ap Ok (spot-below m l n p ne (λ e. absurd (omega arith)))
-  end-below l n p (Err k) ne holds = ap Err (place-inner l n p ne)
-
-  searched_below : {k m : ℕ} (limit full_below l : ℕ) (n : Node) (p : List ℕ) (end : Result ℕ ℕ) (a b c : Asking F) → k + m ≤ limit → l ≢ 0 → IsFormed l n → SearchesWithin g read (row n) k tie a (Err (slice_index p l)) b
-      → Descends g read tie m full_below (l - 1) (child n (slice_index p l)) b p end c → SearchesWithin g read (flat l n) limit tie a (end_in (Some n) l p end) c
-  searched_below limit full_below l n p end a b c le ne f s d =
-      rw (end-below l n p end ne d.holds)
-      (SearchesWithin-more g read tie le (Searches-child l n (slice_index p l) (end_in (Some (child n (slice_index p l))) (l - 1) p end) a b c ne f s d.searches))
 
   -- or below the node
   pub Descends-below : {k m : ℕ} (limit full full_below l : ℕ) (n : Node) (p : List ℕ) (end : Result ℕ ℕ) (a b c : Asking F) → k + m ≤ limit → l ≢ 0 → IsFormed l n → SearchesWithin g read (row n) k tie a (Err (slice_index p l)) b → Counts n full l full_below
       → Descends g read tie m full_below (l - 1) (child n (slice_index p l)) b p end c → Descends g read tie limit full l n a p end c
-  Descends-below limit full full_below l n p (Ok at) a b c le ne f s counts d = record {
-    searches = searched_below limit full_below l n p (Ok at) a b c le ne f s d;
-    holds = below-holds at l n p ne (child-within l n (slice_index p l) ne f s.missed) d.holds;
-    goes = tt;
-    full_below = tt;
-    level = tt;
-  }
-  Descends-below limit full full_below l n p (Err at) a b c le ne f s counts d =
-      let lt : slice_index p l < length (children n) = child-within l n (slice_index p l) ne f s.missed in
-      let here = counts_here n full l full_below at counts (λ le. d.level (omega arith)) in
+  Descends-below limit full full_below l n p end a b c le ne f s counts d =
+      let i : ℕ = slice_index p l in
+      let low = holds-level (level_of end) (l - 1) (child n i) p d.reaches in
+      let on : spot (level_of end) l n p ≡ length (before i (row n) (lists (l - 1) (children n))) + spot (level_of end) (l - 1) (child n i) p =
+      spot-below (level_of end) l n p ne (λ e. absurd (omega arith)) in
       record {
-        searches = searched_below limit full_below l n p (Err at) a b c le ne f s d;
-        holds = tt;
-        goes = inner-goes l n p ne (record { here = lt; on = d.goes });
-        full_below = full-below at l n p ne here.0 d.full_below;
-        level = here.1;
+        searches = rw (on, ← shifted-end end) (SearchesWithin-more g read tie le (Searches-child l n i (end_at end (spot (level_of end) (l - 1) (child n i) p)) a b c ne f s d.searches));
+        reaches = below-holds (level_of end) l n p ne (child-within l n i ne f s.missed) d.reaches;
+        lower_end = IfErr-weaker end _ _ (λ k q. let here = counts_here n full l full_below k counts (λ up. q.1 (omega arith)) in (full-below k l n p ne here.0 q.0, here.1)) d.lower_end;
       }
 
   -- a find ends at an index of the node

@@ -1,16 +1,7 @@
 -- What an insert leaves of a node.
-use Rattle.std.proofs.Common.{◌≡◌, ℕ, zero, suc, ◌+◌, ◌-◌, ◌<◌, ◌≤◌, ◌≢◌, List, [], ◌∷◌, ◌++◌, length, set, get_or, slice_index, refl, ap, sym, ◌∙◌, arith, length-append, length-set, subst, All, inl, inr}
-use Rattle.std.proofs.lemmas.Bool.{cases_lt}
-use Rattle.std.specs.List.{insert}
-use Rattle.std.proofs.lemmas.List.{get_or_default, length-map, get_or-map, map-set, map-append}
-use Rattle.std.proofs.lemmas.List.Edits.{length-insert}
-use Rattle.std.proofs.lemmas.List.Elements.{All-set, All-take, All-drop}
-use Rattle.std.proofs.Math.Seq.{drop-append_seam, take-append_seam}
-use Rattle.iddqd_order.specs.declared.btree_table.node.Node.{Node}
-use Rattle.iddqd_order.specs.Node.{row, children, child, room, weave, before, flat, IsInner, IsFormed, Goes, place, IsFullBelow}
-use Rattle.iddqd_order.specs.Row.{IsCut}
+use Rattle.iddqd_order.proofs.Names.{◌≡◌, ◌≢◌, ℕ, zero, suc, ◌+◌, ◌-◌, ◌<◌, ◌≤◌, true, List, [], ◌∷◌, ◌++◌, length, set, get_or, slice_index, refl, ap, sym, ◌∙◌, subst, arith, inl, inr, All, cases_lt, insert, length-append, length-set, length-map, length-insert, get_or_default, map-set, map-append, All-set, All-take, All-drop, drop-append_seam, take-append_seam, Node, row, children, child, room, weave, before, flat, IsInner, IsFormed, Goes, place, IsFullBelow, IsCut}
 use Rattle.iddqd_order.proofs.WeaveLemmas.{edited, widened, weave-append}
-use Rattle.iddqd_order.proofs.NodeLemmas.{AreChildren, lists, formed-leaf, leaf-formed, flat-leaf, goes-leaf, place-leaf, formed-within, formed-inner, inner-formed, flat-inner, goes-inner, place-inner, full-inner, full-here, map-insert, All-insert, place-within}
+use Rattle.iddqd_order.proofs.NodeLemmas.{AreChildren, GoesDown, goes-below, lists, lists-at, lists-one_more, formed-leaf, leaf-formed, flat-leaf, goes-leaf, place-leaf, formed-within, formed-inner, inner-formed, flat-inner, full-inner, full-here, map-insert, All-insert}
 
 -- g is the i-th child, which the path takes
 pub record IsTaken (h : ℕ) (old : Node) (p : List ℕ) (i : ℕ) (g : Node) : Type 0 where
@@ -24,8 +15,6 @@ pub record IsTaken (h : ℕ) (old : Node) (p : List ℕ) (i : ℕ) (g : Node) : 
 pub record Taken (h : ℕ) (old : Node) (p : List ℕ) (i : ℕ) (g : Node) : Type 0 where
   pub same : g ≡ child old i
   pub here : i < length (children old)
-  pub in_lists : i < length (lists (h - 1) (children old))
-  pub one_more : length (lists (h - 1) (children old)) ≡ length (row old) + 1
   pub node : IsInner old
   pub below : AreChildren (h - 1) (children old)
   pub least : 5 ≤ length (row g)
@@ -38,30 +27,22 @@ pub record Taken (h : ℕ) (old : Node) (p : List ℕ) (i : ℕ) (g : Node) : Ty
 pub taken : (h : ℕ) (old : Node) (p : List ℕ) (i : ℕ) (g : Node) → IsTaken h old p i g → Taken h old p i g
 taken h old p i g t =
     let fs = formed-inner h old t.inner t.formed in
-    let at = goes-inner h old p t.inner t.goes in
-    let here : i < length (children old) = rw t.at at.here in
-    let same : g ≡ child old i = t.is ∙ get_or_default (children old) i g old here in
-    let on : Goes (h - 1) (child old i) p = rw t.at at.on in
-    let len : length (lists (h - 1) (children old)) ≡ length (children old) = length-map (children old) (λ k. flat (h - 1) k) in
-    let one = fs.inner.one_more in
-    let of : (5 ≤ length (row (child old i))) × IsFormed (h - 1) (child old i) = fs.below i old here in
-    let formed : IsFormed (h - 1) g = rw same of.1 in
-    let goes : Goes (h - 1) g p = rw same on in
-    let list : get_or (lists (h - 1) (children old)) i [] ≡ flat (h - 1) g = get_or-map (λ k. flat (h - 1) k) (children old) i old [] here ∙ ap (λ z. flat (h - 1) z) (sym same) in
-    record {
-      same = same;
-      here = here;
-      in_lists = omega arith;
-      one_more = omega arith;
+    let ne = t.inner in
+    let b : GoesDown true h 0 i old p = goes-below h 0 i old p (omega arith) t.at t.formed t.goes in
+    let same : g ≡ child old i = t.is ∙ get_or_default (children old) i g old b.here in
+    let list = lists-at (h - 1) old i b.here in
+    rw same (record {
+      same = refl;
+      here = b.here;
       node = fs.inner;
       below = fs.below;
-      least = rw same of.0;
-      formed = formed;
-      goes = goes;
+      least = b.five;
+      formed = b.formed;
+      goes = b.holds;
       list = list;
-      within = rw list (place-within (h - 1) g p formed goes);
-      place_is = place-inner h old p t.inner ∙ ap (λ z. length (before z (row old) (lists (h - 1) (children old))) + place (h - 1) (child old z) p) (sym t.at) ∙ ap (λ z. length (before i (row old) (lists (h - 1) (children old))) + place (h - 1) z p) (sym same);
-    }
+      within = rw list b.within;
+      place_is = b.place;
+    })
 
 -- an index was put in, and the node is as it has to be
 pub record Put (h : ℕ) (old new : Node) (p : List ℕ) (x : ℕ) : Type 0 where
@@ -84,9 +65,11 @@ put_below h old new p x i g k t d er ek rm =
     let ls : List (List ℕ) = lists (h - 1) (children old) in
     let one = b.node.one_more in
     let few = b.node.within in
+    let counted = lists-one_more h old t.inner t.formed in
+    let here = b.here in
     let k_least : 5 ≤ length (row k) = let a = b.least in let l = d.longer in omega arith in
     let e1 : lists (h - 1) (children new) ≡ set ls i (f k) = ap (λ z. lists (h - 1) z) ek ∙ map-set f (children old) i k in
-    let e2 = edited i (row old) ls [] (f k) (place (h - 1) g p) x b.in_lists b.one_more b.within (d.items ∙ ap (λ z. insert z (place (h - 1) g p) x) (sym b.list)) in
+    let e2 = edited i (row old) ls [] (f k) (place (h - 1) g p) x (omega arith) counted b.within (d.items ∙ ap (λ z. insert z (place (h - 1) g p) x) (sym b.list)) in
     let ln : length (children new) ≡ length (children old) = ap length ek ∙ length-set (children old) i k in
     let P : Node → Type 0 = λ k. (5 ≤ length (row k)) × IsFormed (h - 1) k in
     record {
@@ -103,10 +86,11 @@ put_here h old new p x i g k m u t d lt er ek rm =
     let f : Node → List ℕ = λ k. flat (h - 1) k in
     let ls : List (List ℕ) = lists (h - 1) (children old) in
     let one = b.node.one_more in
+    let counted = lists-one_more h old t.inner t.formed in
     let here = b.here in
     let e1 : lists (h - 1) (children new) ≡ insert (set ls i (f k)) (i + 1) (f u) =
     ap (λ z. lists (h - 1) z) ek ∙ map-insert f (set (children old) i k) (i + 1) u ∙ ap (λ z. insert z (i + 1) (f u)) (map-set f (children old) i k) in
-    let e2 = widened i (row old) ls [] (f k) (f u) m (place (h - 1) g p) x b.in_lists b.one_more b.within (d.items ∙ ap (λ z. insert z (place (h - 1) g p) x) (sym b.list)) in
+    let e2 = widened i (row old) ls [] (f k) (f u) m (place (h - 1) g p) x (omega arith) counted b.within (d.items ∙ ap (λ z. insert z (place (h - 1) g p) x) (sym b.list)) in
     let same = length-set (children old) i k in
     let ln : length (children new) ≡ length (children old) + 1 = ap length ek ∙ length-insert (set (children old) i k) (i + 1) u (omega arith) ∙ ap (λ z. z + 1) same in
     let lr : length (row new) ≡ length (row old) + 1 = ap length er ∙ length-insert (row old) i m (omega arith) in
@@ -141,10 +125,11 @@ cut_here h old new m2 up p x i g k m u t d c ek lk rm ru =
     let ls : List (List ℕ) = lists (h - 1) (children old) in
     let P : Node → Type 0 = λ k. (5 ≤ length (row k)) × IsFormed (h - 1) k in
     let one = b.node.one_more in
+    let counted = lists-one_more h old t.inner t.formed in
     let here = b.here in
     let e1 : lists (h - 1) (children new) ++ lists (h - 1) (children up) ≡ insert (set ls i (f k)) (i + 1) (f u) =
     sym (map-append f (children new) (children up)) ∙ ap (λ z. lists (h - 1) z) ek ∙ map-insert f (set (children old) i k) (i + 1) u ∙ ap (λ z. insert z (i + 1) (f u)) (map-set f (children old) i k) in
-    let e2 = widened i (row old) ls [] (f k) (f u) m (place (h - 1) g p) x b.in_lists b.one_more b.within (d.items ∙ ap (λ z. insert z (place (h - 1) g p) x) (sym b.list)) in
+    let e2 = widened i (row old) ls [] (f k) (f u) m (place (h - 1) g p) x (omega arith) counted b.within (d.items ∙ ap (λ z. insert z (place (h - 1) g p) x) (sym b.list)) in
     let lm = length-map (children new) f in
     let e3 : weave (row new ++ m2 ∷ row up) (lists (h - 1) (children new) ++ lists (h - 1) (children up)) ≡ weave (row new) (lists (h - 1) (children new)) ++ m2 ∷ weave (row up) (lists (h - 1) (children up)) =
     weave-append (row new) m2 (row up) (lists (h - 1) (children new)) (lists (h - 1) (children up)) (omega arith) in

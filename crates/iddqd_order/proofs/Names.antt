@@ -6,18 +6,18 @@ pub use Rattle.iddqd.specs.declared.index_remap.IndexRemap.TheVariants.{Identity
 pub use Rattle.iddqd_order.specs.Asking.{ask_count, closure_of}
 pub use Rattle.iddqd_order.specs.Asks.{After, AsksWithin, At_once, CanAsk, One_more, Steady}
 pub use Rattle.iddqd_order.specs.Copies.{IsCopy}
-pub use Rattle.iddqd_order.specs.Descent.{Descends, EndsIn, FindsIn, end_in, index_at}
+pub use Rattle.iddqd_order.specs.Descent.{Descends, EndsIn, FindsIn, end_at, index_at, level_of}
 pub use Rattle.iddqd_order.specs.Digits.{bound, digits_within}
 unfoldable pub use Rattle.iddqd_order.specs.Digits.{digits}
 pub use Rattle.iddqd_order.specs.KeyOrder.{ComparesKeys, IsInKeyOrder, key_then_index}
 pub use Rattle.iddqd_order.specs.MapBTreeTable.{IsIndexList, Order, sentinel, without}
 unfoldable pub use Rattle.iddqd_order.specs.MapBTreeTable.{order_of}
-pub use Rattle.iddqd_order.specs.Node.{FullBelow, IsInner, IsLeaf, after, before, child, children, room, row, weave}
-unfoldable pub use Rattle.iddqd_order.specs.Node.{Goes, Holds, IsFormed, IsFullBelow, flat, place, spot}
+pub use Rattle.iddqd_order.specs.Node.{Fits, FullBelow, Goes, Holds, IsInner, IsLeaf, after, before, child, children, place, Reaches, room, row, weave}
+unfoldable pub use Rattle.iddqd_order.specs.Node.{IsFormed, IsFullBelow, Passes, flat, spot}
 pub use Rattle.iddqd_order.specs.Removal.{IsChild, IsEmptied, IsMended, MayLackOne}
 pub use Rattle.iddqd_order.specs.Row.{IsCut}
 pub use Rattle.iddqd_order.specs.Search.{Askable, CanSearch, Finds, IsPlace, IsRising, IsSteadyRising, Searches, SearchesWithin, with_ties}
-pub use Rattle.iddqd_order.specs.Tree.{FullIn, GoesIn, HoldsIn, IsTable, IsTree, blocks_for, in_order, place_in, spot_in}
+pub use Rattle.iddqd_order.specs.Tree.{FullIn, GoesIn, HoldsIn, IsTable, IsTree, ReachesIn, blocks_for, in_order, place_in, spot_in}
 pub use Rattle.iddqd_order.specs.Ways.{IsReader, IsReaderIn, IsWay, SamePlaces, StepsOn}
 pub use Rattle.iddqd_order.specs.declared.btree_table.asking.Asking.{Asking}
 pub use Rattle.iddqd_order.specs.declared.btree_table.node.Node.{Node}
@@ -25,7 +25,8 @@ pub use Rattle.iddqd_order.specs.declared.btree_table.node.Node.TheOpen.{Node-F}
 pub use Rattle.iddqd_order.specs.declared.btree_table.node.Node.TheViews.{out-Node, out-roll-Node, roll-Node, roll-out-Node}
 pub use Rattle.iddqd_order.specs.declared.btree_table.ways.Reader.{Reader}
 pub use Rattle.iddqd_order.specs.declared.btree_table.ways.Way.{Way}
-pub use Rattle.std.proofs.Common.{All, Bool, Contains, Err, IfOk, IfSome, IsNone, IsSome, IsPermutation, IsTrue, List, None, Ok, Option, Ordering, Result, Some, Vec, [], add-one, ap, append_assoc, arith, below_more, drop, eq-eqb, eqb, eqb-true, false, filter, get_or, get_or-set_other, get_or-set_same, if◌then◌else◌, inl, inr, insert, is_ok, is_some, length, length-append, length-drop, length-set, map, min, nat_eq, nat_lt, ne_eqb, not, option_to_list, refl, remove, rules, set, slice_index, slice_set, sub-one, subst, suc, sym, take, true, vec_capacity, vec_len, zero, zero-add, ℕ, ◌*◌, ◌++◌, ◌+◌, ◌-◌, ◌/◌, ◌<◌, ◌==◌, ◌^◌, ◌↔◌, ◌∙◌, ◌∷◌, ◌≡◌, ◌≢◌, ◌≤◌, ◌⊎◌}
+pub use Rattle.std.proofs.Common.{All, Bool, Contains, Err, IfOk, IfSome, IsNone, IsSome, IsPermutation, IsTrue, List, None, Ok, Option, Ordering, Result, Some, Vec, [], add-one, ap, append_assoc, arith, below_more, drop, eq-eqb, eqb, eqb-true, false, filter, get_or, get_or-set_other, get_or-set_same, if◌then◌else◌, inl, inr, insert, is_err, is_ok, is_some, length, length-append, length-drop, length-set, map, min, nat_eq, nat_lt, ne_eqb, not, option_to_list, refl, remove, rules, set, slice_index, slice_set, sub-one, subst, suc, sym, take, true, vec_capacity, vec_len, zero, zero-add, ℕ, ◌*◌, ◌++◌, ◌+◌, ◌-◌, ◌/◌, ◌<◌, ◌==◌, ◌^◌, ◌↔◌, ◌∙◌, ◌∷◌, ◌≡◌, ◌≢◌, ◌≤◌, ◌⊎◌}
+pub use Rattle.std.proofs.Math.Seq.{drop-append_seam, take-append_seam}
 pub use Rattle.std.proofs.Math.Nat.{mul-le-mul_right, one-le-pow, pow-le-pow_right, pow-suc}
 pub use Rattle.std.proofs.lemmas.Bool.{cases_eq, cases_lt, eqb-false, not-true, true≢false}
 pub use Rattle.std.proofs.lemmas.Bool.Decides.{nat_tests}

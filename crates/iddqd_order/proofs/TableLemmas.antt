@@ -1,12 +1,11 @@
 -- What a table's calls leave of its parts.
-use Rattle.iddqd_order.proofs.Names.{◌≡◌, ◌≢◌, ℕ, ◌+◌, ◌-◌, ◌*◌, ◌<◌, ◌≤◌, List, [], length, get_or, map, slice_index, refl, ap, ◌∙◌, arith, Option, Some, None, Result, Err, Bool, true, false, nat_lt, if◌then◌else◌, All, Contains, not, ◌==◌, Ordering, insert, remove, length-insert, length-remove, length-map, All-nil, All-weaker, All-filter, All-map, Contains-get_or, IfErr-weaker, cases_lt, inl, inr, CanRemap, remapped, IndexRemap, Mut, Asking, Node, Descends, EndsIn, in_order, IsTree, IsTable, GoesIn, place_in, HoldsIn, spot_in, blocks_for, order_of, IsIndexList, without, sentinel, Askable, Searches}
+use Rattle.iddqd_order.proofs.Names.{◌≡◌, ◌≢◌, ℕ, ◌+◌, ◌-◌, ◌*◌, ◌<◌, ◌≤◌, List, [], length, get_or, map, slice_index, refl, ap, ◌∙◌, arith, Option, Some, None, Result, Err, Bool, true, false, nat_lt, if◌then◌else◌, All, Contains, not, ◌==◌, Ordering, insert, remove, length-insert, length-remove, length-map, All-nil, All-weaker, All-filter, All-map, Contains-get_or, IfErr-weaker, cases_lt, inl, inr, CanRemap, remapped, IndexRemap, Mut, Asking, Node, Descends, EndsIn, in_order, IsTree, IsTable, IsFullBelow, GoesIn, place_in, HoldsIn, spot_in, blocks_for, order_of, IsIndexList, without, sentinel, Askable, Searches}
 use Rattle.iddqd_order.proofs.AskLemmas.{asks_more, asks_none}
-use Rattle.iddqd_order.proofs.NodeLemmas.{All-insert}
+use Rattle.iddqd_order.proofs.NodeLemmas.{All-insert, spot-within}
 use Rattle.iddqd_order.proofs.IndexListLemmas.{IsIndexList-nil, IsDistinct-insert, IsDistinct-filter, remove-distinct}
 use Rattle.iddqd_order.proofs.PartLemmas.{SearchesWithin-more}
 use Rattle.iddqd_order.proofs.ReckoningLemmas.{reckoning, few_indexes}
 use Rattle.iddqd_order.proofs.RenameLemmas.{IsIndexList-remapped}
-use Rattle.iddqd_order.proofs.RemovalLemmas.{spot-within}
 use Rattle.iddqd_order.proofs.TreeLemmas.{place_in-within}
 
 -- no index at all
@@ -43,7 +42,7 @@ module _ {F R : Type 0} (g : Mut F (ℕ × Unit {0}) R) (read : R → Ordering) 
   -- without a root it asks nothing
   pub EndsIn-none : (h : ℕ) (p : List ℕ) (a : Asking F) → EndsIn g read sought (record { root = None; height = h }) a p (Err 0) a
   unfolding order_of
-  EndsIn-none h p a = record { searches = Searches-nil a; holds = tt; goes = tt; full_below = tt; level = omega arith }
+  EndsIn-none h p a = record { searches = Searches-nil a; reaches = omega arith; full_below = tt; level = omega arith }
 
   -- and else it is a walk down from the root
   pub EndsIn-root : {limit : ℕ} (h : ℕ) (n : Node) (p : List ℕ) (end : Result ℕ ℕ) (a b : Asking F) → limit ≤ 4 * (h + 1) + 2 → IsTree (Some n) h → Descends g read sought limit (h + 1) h n a p end b
@@ -51,10 +50,9 @@ module _ {F R : Type 0} (g : Mut F (ℕ × Unit {0}) R) (read : R → Ordering) 
   unfolding order_of
   EndsIn-root h n p end a b le t d = record {
     searches = SearchesWithin-more g read sought (let asks = reckoning h n t.0 t.1 in omega arith) d.searches;
-    holds = d.holds;
-    goes = d.goes;
-    full_below = d.full_below;
-    level = IfErr-weaker end (λ k. h < k → k ≡ h + 1) (λ k. k ≤ 12) (λ k top. let low = t.2 in elim (cases_lt h k) [ inl lt ↦ omega (arith, top lt) | inr le ↦ omega arith ]) d.level;
+    reaches = d.reaches;
+    full_below = IfErr-weaker end _ (λ k. IsFullBelow k h n p) (λ k q. q.0) d.lower_end;
+    level = IfErr-weaker end _ (λ k. k ≤ 12) (λ k q. let low = t.2 in elim (cases_lt h k) [ inl lt ↦ omega (arith, q.1 lt) | inr le ↦ omega arith ]) d.lower_end;
   }
 
 -- the indexes with one more
@@ -79,7 +77,7 @@ pub record Shorter (r : Option Node) (h n : ℕ) (ix : ℕ) (s : Option Node) (k
   pub table : IsTable s k (n - 1)
 
 spot_in-within : (l : ℕ) (r : Option Node) (h : ℕ) (p : List ℕ) → IsTree r h → HoldsIn l r h p → spot_in l r h p < length (in_order r h)
-spot_in-within l None h p t held = absurd held
+spot_in-within l None h p t held = held
 spot_in-within l (Some n) h p t held = spot-within l h n p t.0 held
 
 pub shorter : (r : Option Node) (h n : ℕ) (l : ℕ) (p : List ℕ) (ix : ℕ) (s : Option Node) (k : ℕ) → IsTable r h n → HoldsIn l r h p → slice_index (in_order r h) (spot_in l r h p) ≡ ix

@@ -17,7 +17,7 @@ pub returns-in-Ok-clause-there : goal.returns-in-Ok-clause-there
 unfolding order_of
 returns-in-Ok-clause-there g c =
     let e = rw c.in-Ok.is at c.descend-path.ensures in
-    (e.holds, e.searches.itself c.args.ix refl)
+    (e.reaches, e.searches.itself c.args.ix refl)
 
 pub returns-in-Ok-clause-stored : goal.returns-in-Ok-clause-stored
 returns-in-Ok-clause-stored g c is =

@@ -1,8 +1,8 @@
-use Rattle.iddqd_order.proofs.Names.{order_of}
+use Rattle.iddqd_order.proofs.Names.{◌<◌, arith, order_of}
 use Rattle.iddqd_order.proofs.btree_table.table.MapBTreeTable.index_at.Goals as goal
 
 pub unreachable-requires : goal.unreachable-requires
-unreachable-requires c = rw (← c.self.view_is, c.in_default.is) at c.requires
+unreachable-requires c = let none : 0 < 0 = rw (← c.self.view_is, c.in_default.is) at c.requires in absurd (omega arith)
 
 pub index_on-requires : goal.index_on-requires
 index_on-requires c =
