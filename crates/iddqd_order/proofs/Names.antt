@@ -31,7 +31,7 @@ pub use Rattle.std.proofs.Math.Nat.{mul-le-mul_right, one-le-pow, pow-le-pow_rig
 pub use Rattle.std.proofs.lemmas.Bool.{cases_eq, cases_lt, eqb-false, not-true, true≢false}
 pub use Rattle.std.proofs.lemmas.Bool.Decides.{nat_tests}
 pub use Rattle.std.proofs.lemmas.Cmp.{alike_right, nat_cmp_total, on_total, ranked, then_total, tied_itself}
-pub use Rattle.std.proofs.lemmas.List.{append-nil, drop-map, drop-take, drop_all, get_or-append-add, get_or-append_right, get_or-map, get_or_append_left, get_or_default, get_or_push, length-map, length-take, length-take-le, length_push, map-append, map-set, nil_from_length, same_lists, set-append_left, set-append_right, set-get_or, set_comm, take-append-drop, take-map, take-take, take_all, take_more}
+pub use Rattle.std.proofs.lemmas.List.{append-nil, drop-map, drop-take, drop_all, get_or-append-add, get_or-append_right, get_or-map, get_or_append_left, get_or_at, get_or_default, get_or_push, length-map, length-take, length-take-le, length_push, map-append, map-set, nil_from_length, same_lists, set-append_left, set-append_right, set-get_or, set_comm, take-append-drop, take-map, take-take, take_all, take_more}
 pub use Rattle.std.proofs.lemmas.List.Edits.{get_or-insert_above, get_or-insert_at, get_or-insert_below, get_or-remove_above, get_or-remove_below, insert-append_left, insert-append_right, length-insert, length-remove, map_over_more, remove-append_left, remove-append_right, take-paste}
 pub use Rattle.std.proofs.lemmas.List.Elements.{All-append, All-cons, All-contains, All-contains_itself, All-drop, All-filter, All-from_recursion, All-get_or, All-head, All-map, All-nil, All-set, All-tail, All-take, All-weaker, Contains-append_cases, Contains-append_left, Contains-append_right, Contains-get_or, filter_passes, recursion_from_All}
 pub use Rattle.std.proofs.lemmas.List.Folds.{Any-from_list_any}
