@@ -1,5 +1,5 @@
 -- A walk down a tree: what the search of a row says of the search of the tree.
-use Rattle.iddqd_order.proofs.Names.{◌*◌, get_or_default, append-nil, cases_lt, get_or_at, get_or_append_left, sub-one, true, ◌≡◌, ◌≢◌, ◌∙◌, ℕ, zero, suc, ◌+◌, ◌-◌, ◌<◌, ◌≤◌, List, [], ◌∷◌, ◌++◌, length, get_or, drop, slice_index, Contains, refl, sym, ap, subst, arith, ◌⊎◌, inl, inr, Option, Some, None, Result, Ok, Err, IfOk, length-append, append_assoc, sub-one, add-one, cases_lt, true≢false, get_or-append-add, length-map, Contains-append_cases, Ordering, Greater, Mut, Asking, Node, row, children, child, weave, before, after, flat, IsFormed, Holds, spot, FullBelow, IsFullBelow, Askable, CanSearch, with_ties, IsRising, IsPlace, SearchesWithin, Searches, Finds, end_at, level_of, IfErr-weaker, index_at, Descends, FindsIn, digits}
+use Rattle.iddqd_order.proofs.Names.{◌*◌, HoldsIndex, get_or_default, append-nil, cases_lt, get_or_at, get_or_append_left, sub-one, true, ◌≡◌, ◌≢◌, ◌∙◌, ℕ, zero, suc, ◌+◌, ◌-◌, ◌<◌, ◌≤◌, List, [], ◌∷◌, ◌++◌, length, get_or, drop, slice_index, Contains, refl, sym, ap, subst, arith, ◌⊎◌, inl, inr, Option, Some, None, Result, Ok, Err, IfOk, length-append, append_assoc, sub-one, add-one, cases_lt, true≢false, get_or-append-add, length-map, Contains-append_cases, Ordering, Greater, Mut, Asking, Node, row, children, child, weave, before, after, flat, IsFormed, spot, FullBelow, IsFullBelow, Askable, CanSearch, with_ties, IsRising, IsPlace, SearchesWithin, Searches, Finds, end_at, level_of, IfErr-weaker, index_at, Descends, FindsIn, digits}
 use Rattle.iddqd_order.proofs.DigitLemmas.{four_digits}
 use Rattle.iddqd_order.proofs.AskLemmas.{asks_none, asks_wider, CanAsk-fewer, CanAsk-later, Steady-fewer}
 pub use Rattle.iddqd_order.proofs.NodeLemmas.{lists-one_more, lists-at, child-within, child-formed, path-here, path-above, holds-here, below-holds}
@@ -77,7 +77,7 @@ module _ (xs : List ℕ) (ks : List (List ℕ)) (one_more : length ks ≡ length
   split-woven : (a : ℕ → Ordering) (i : ℕ) → IsRising a (weave xs ks) → IsPlace a xs i → AreSplit a (weave xs ks) (length (before i xs ks)) (index_place i xs ks)
   split-woven a i r p =
       elim (cases_lt i (length xs)) [
-        | inl lt ↦ split-less a ws (length (before i xs ks)) (length ws) (index_place i xs ks) r (row-woven.within i lt) (below i p.within p.greater_before) (ap a (row-woven.at i lt) ∙ p.less_from i (omega arith) lt)
+        | inl lt ↦ split-less r (row-woven.within i lt) (below i p.within p.greater_before) (ap a (row-woven.at i lt) ∙ p.less_from i (omega arith) lt)
         | inr over ↦
             let end : index_place i xs ks ≡ length ws =
             sym (ap length (apart i xs ks [] (let le = p.within in omega arith) one_more ∙ ap (λ z. before i xs ks ++ (get_or ks i [] ++ z)) (after-last i xs ks over one_more) ∙ ap (λ z. before i xs ks ++ z) (append-nil (get_or ks i []))) ∙ length-append (before i xs ks) (get_or ks i [])) in
@@ -91,7 +91,7 @@ module _ (xs : List ℕ) (ks : List (List ℕ)) (one_more : length ks ≡ length
       below zero le greater = split-init a ws
       below (suc j) le greater =
           let next : length (before (suc j) xs ks) ≡ index_place j xs ks + 1 = rw (← add-one) (before-next j xs ks (omega arith) one_more) in
-          rw next (split-greater a ws 0 (length ws) (index_place j xs ks) r (row-woven.within j (omega arith)) (split-init a ws) (ap a (row-woven.at j (omega arith)) ∙ greater j (omega arith)))
+          rw next (split-greater r (row-woven.within j (omega arith)) (split-init a ws) (ap a (row-woven.at j (omega arith)) ∙ greater j (omega arith)))
 
 pub child_is : (n : Node) (i : ℕ) (k : Node) → i < length (children n) → k ≡ get_or (children n) i k → k ≡ child n i
 child_is n i k lt e = e ∙ get_or_default (children n) i k n lt
@@ -133,12 +133,6 @@ pub record Counts (n : Node) (full l full_below : ℕ) : Type 0 where
   pub above : l < full
   pub not_full : length (row n) < 11 → full_below ≡ l
   pub is_full : 11 ≤ length (row n) → full_below ≡ full
-
-pub Counts-not_full : (n : Node) (full l full_below len : ℕ) → l < full → len ≡ length (row n) → len < 11 → full_below ≡ l → Counts n full l full_below
-Counts-not_full n full l full_below len above e lt is = record { above = above; not_full = λ _. is; is_full = λ ge. absurd (omega arith) }
-
-pub Counts-full : (n : Node) (full l full_below len : ℕ) → l < full → len ≡ length (row n) → 11 ≤ len → full_below ≡ full → Counts n full l full_below
-Counts-full n full l full_below len above e ge is = record { above = above; not_full = λ lt. absurd (omega arith); is_full = λ _. is }
 
 -- so it is above the level below
 pub counts_above : (n : Node) (full l full_below : ℕ) → l ≢ 0 → Counts n full l full_below → l - 1 < full_below
@@ -213,7 +207,7 @@ module _ {F R : Type 0} (g : Mut F (ℕ × Unit {0}) R) (read : R → Ordering) 
       }
 
   -- or in a leaf
-  pub Descends-leaf : {k : ℕ} (limit full full_below l : ℕ) (n : Node) (p : List ℕ) (a b : Asking F) → k ≤ limit → l ≡ 0 → IsFormed l n → SearchesWithin g read (row n) k tie a (Err (slice_index p l)) b → Counts n full l full_below
+  pub Descends-leaf : (limit full full_below l : ℕ) (n : Node) (p : List ℕ) (a b : Asking F) → 4 ≤ limit → l ≡ 0 → IsFormed l n → SearchesWithin g read (row n) 4 tie a (Err (slice_index p l)) b → Counts n full l full_below
       → Descends g read tie limit full l n a p (Err full_below) b
   Descends-leaf limit full full_below (suc h) n p a b le e f s c = absurd (omega arith)
   Descends-leaf limit full full_below zero n p a b le e f s c =
@@ -225,7 +219,7 @@ module _ {F R : Type 0} (g : Mut F (ℕ × Unit {0}) R) (read : R → Ordering) 
       }
 
   -- or below the node
-  pub Descends-below : {k m : ℕ} (limit full full_below l : ℕ) (n : Node) (p : List ℕ) (end : Result ℕ ℕ) (a b c : Asking F) → k + m ≤ limit → l ≢ 0 → IsFormed l n → SearchesWithin g read (row n) k tie a (Err (slice_index p l)) b → Counts n full l full_below
+  pub Descends-below : {m : ℕ} (limit full full_below l : ℕ) (n : Node) (p : List ℕ) (end : Result ℕ ℕ) (a b c : Asking F) → 4 + m ≤ limit → l ≢ 0 → IsFormed l n → SearchesWithin g read (row n) 4 tie a (Err (slice_index p l)) b → Counts n full l full_below
       → Descends g read tie m full_below (l - 1) (child n (slice_index p l)) b p end c → Descends g read tie limit full l n a p end c
   Descends-below limit full full_below l n p end a b c le ne f s counts d =
       let i : ℕ = slice_index p l in
@@ -316,11 +310,17 @@ absent_inner l n x ne f none below =
 pub spot-row : (l : ℕ) (n : Node) (p : List ℕ) → IsFormed l n → slice_index p l < length (row n) → slice_index (flat l n) (spot l l n p) ≡ slice_index (row n) (slice_index p l)
 spot-row l n p f lt = ap (λ i. slice_index (flat l n) i) (spot-here l n p f (omega arith)) ∙ (row-part l n f).at (slice_index p l) lt
 
+pub holds_index-here : (l : ℕ) (n : Node) (p : List ℕ) (ix : ℕ) → IsFormed l n → slice_index p l < length (row n) → slice_index (row n) (slice_index p l) ≡ ix → HoldsIndex l l n p ix
+holds_index-here l n p ix f lt is = (holds-here l n p lt, spot-row l n p f lt ∙ is)
+
 -- and that in a child
-pub spot-child : (m l : ℕ) (n : Node) (p : List ℕ) → l ≢ 0 → IsFormed l n → slice_index p l < length (children n) → Holds m (l - 1) (child n (slice_index p l)) p
-    → slice_index (flat l n) (spot m l n p) ≡ slice_index (flat (l - 1) (child n (slice_index p l))) (spot m (l - 1) (child n (slice_index p l)) p)
-spot-child m l n p ne f lt holds =
-    let k : Node = child n (slice_index p l) in
-    let le = holds-level m (l - 1) k p holds in
-    ap (λ s. slice_index (flat l n) s) (spot-below m l n p ne (λ e. absurd (omega arith)))
-    ∙ child-read l n (slice_index p l) (spot m (l - 1) k p) ne f lt (spot-within m (l - 1) k p (child-formed l n (slice_index p l) ne f lt) holds)
+pub holds_index-below : (m l i : ℕ) (n g : Node) (p : List ℕ) (ix : ℕ) → l ≢ 0 → IsFormed l n → slice_index p l ≡ i → i < length (children n) → g ≡ get_or (children n) i g → HoldsIndex m (l - 1) g p ix → HoldsIndex m l n p ix
+holds_index-below m l i n g p ix ne f at lt is_g held =
+    let here : slice_index p l < length (children n) = rw at lt in
+    let same : g ≡ child n (slice_index p l) = child_is n i g lt is_g ∙ ap (child n) (sym at) in
+    let w : HoldsIndex m (l - 1) (child n (slice_index p l)) p ix = subst (λ z. HoldsIndex m (l - 1) z p ix) same held in
+    let le = holds-level m (l - 1) (child n (slice_index p l)) p w.0 in
+    let on = spot-below m l n p ne (λ e. absurd (omega arith)) in (
+      below-holds m l n p ne here w.0,
+      ap (λ s. slice_index (flat l n) s) on ∙ child-read l n (slice_index p l) _ ne f here (spot-within m (l - 1) (child n (slice_index p l)) p (child-formed l n (slice_index p l) ne f here) w.0) ∙ w.1,
+    )

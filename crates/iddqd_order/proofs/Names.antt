@@ -12,7 +12,7 @@ unfoldable pub use Rattle.iddqd_order.specs.Digits.{digits}
 pub use Rattle.iddqd_order.specs.KeyOrder.{ComparesKeys, IsInKeyOrder, key_then_index}
 pub use Rattle.iddqd_order.specs.MapBTreeTable.{IsIndexList, Order, sentinel, without}
 unfoldable pub use Rattle.iddqd_order.specs.MapBTreeTable.{order_of}
-pub use Rattle.iddqd_order.specs.Node.{Fits, FullBelow, Goes, Holds, IsInner, IsLeaf, after, before, child, children, place, Reaches, room, row, weave}
+pub use Rattle.iddqd_order.specs.Node.{Fits, FullBelow, Goes, Holds, HoldsIndex, IsInner, IsLeaf, after, before, child, children, place, Reaches, room, row, weave}
 unfoldable pub use Rattle.iddqd_order.specs.Node.{IsFormed, IsFullBelow, Passes, flat, spot}
 pub use Rattle.iddqd_order.specs.Removal.{IsChild, IsEmptied, IsMended, MayLackOne}
 pub use Rattle.iddqd_order.specs.Row.{IsCut}

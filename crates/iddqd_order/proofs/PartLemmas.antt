@@ -32,12 +32,12 @@ IsPlace-part {c = c} {ws = ws} {low = low} m a i le s p =
     record {
       within = omega arith;
       greater_before = λ k lt. elim (cases_lt k low) [
-        | inl below ↦ s.0 k below
+        | inl below ↦ s.greater k below
         | inr from ↦ there k from (omega arith) ∙ p.greater_before (k - low) (omega arith)
       ];
       less_from = λ k from lt. elim (cases_lt k (low + length c)) [
         | inl below ↦ there k (omega arith) below ∙ p.less_from (k - low) (omega arith) (omega arith)
-        | inr beyond ↦ s.1 k beyond lt
+        | inr beyond ↦ s.less k beyond lt
       ];
     }
 

@@ -91,6 +91,10 @@ spot l (suc h) n p = length (before (slice_index p (suc h)) (row n) (map (λ k. 
 abbrev pub Holds : ℕ → ℕ → Node → List ℕ → Type 0
 Holds l h n p = Reaches false l h n p
 
+-- to the index ix
+abbrev pub HoldsIndex : ℕ → ℕ → Node → List ℕ → ℕ → Type 0
+HoldsIndex l h n p ix = Holds l h n p × (slice_index (flat h n) (spot l h n p) ≡ ix)
+
 -- to a gap, which is one of a leaf, and its place
 abbrev pub Goes : ℕ → Node → List ℕ → Type 0
 Goes h n p = Reaches true 0 h n p
