@@ -1,6 +1,6 @@
 -- A walk down a tree: what the search of a row says of the search of the tree.
 use Rattle.iddqd_order.proofs.Names.{◌*◌, HoldsIndex, get_or_default, append-nil, cases_lt, get_or_at, get_or_append_left, sub-one, true, ◌≡◌, ◌≢◌, ◌∙◌, ℕ, zero, suc, ◌+◌, ◌-◌, ◌<◌, ◌≤◌, List, [], ◌∷◌, ◌++◌, length, get_or, drop, slice_index, Contains, refl, sym, ap, subst, arith, ◌⊎◌, inl, inr, Option, Some, None, Result, Ok, Err, IfOk, length-append, append_assoc, sub-one, add-one, cases_lt, true≢false, get_or-append-add, length-map, Contains-append_cases, Ordering, Greater, Mut, Asking, Node, row, children, child, weave, before, after, flat, IsFormed, spot, FullBelow, IsFullBelow, Askable, CanSearch, with_ties, IsRising, IsPlace, SearchesWithin, Searches, Finds, end_at, level_of, IfErr-weaker, index_at, Descends, FindsIn, digits}
-use Rattle.iddqd_order.proofs.DigitLemmas.{four_digits}
+use Rattle.iddqd.proofs.StoreLemmas.{contains_cases}
 use Rattle.iddqd_order.proofs.AskLemmas.{asks_none, asks_wider, CanAsk-fewer, CanAsk-later, Steady-fewer}
 pub use Rattle.iddqd_order.proofs.NodeLemmas.{lists-one_more, lists-at, child-within, child-formed, path-here, path-above, holds-here, below-holds}
 use Rattle.iddqd_order.proofs.NodeLemmas.{lists, flat-leaf, flat-inner, reaches-here, holds-level, spot-leaf, spot-at, spot-below, spot-within}
@@ -118,15 +118,10 @@ child-part : (l : ℕ) (n : Node) (i : ℕ) → l ≢ 0 → IsFormed l n → i <
 child-part l n i ne f lt =
     rw (flat-inner l n ne, ← lists-at (l - 1) n i lt) (list-woven (row n) (lists (l - 1) (children n)) (lists-one_more l n ne f) i (omega (arith, length-map (children n) (λ k. flat (l - 1) k))))
 
-pub full-leaf : (k l : ℕ) (n : Node) (p : List ℕ) → l ≡ 0 → FullBelow k l n → IsFullBelow k l n p
+full-at : (k l : ℕ) (n : Node) (p : List ℕ) → FullBelow k l n → (l ≢ 0 → IsFullBelow k (l - 1) (child n (slice_index p l)) p) → IsFullBelow k l n p
 unfolding IsFullBelow
-full-leaf k zero n p e h = h
-full-leaf k (suc l) n p e h = absurd (omega arith)
-
-pub full-below : (k l : ℕ) (n : Node) (p : List ℕ) → l ≢ 0 → FullBelow k l n → IsFullBelow k (l - 1) (child n (slice_index p l)) p → IsFullBelow k l n p
-unfolding IsFullBelow
-full-below k zero n p ne h below = absurd (ne refl)
-full-below k (suc l) n p ne h below = (h, rw sub-one at below)
+full-at k zero n p h below = h
+full-at k (suc l) n p h below = (h, rw sub-one at (below (λ e. absurd (omega arith))))
 
 -- how many full nodes are at the lower end, seen from a node and from the one below it
 pub record Counts (n : Node) (full l full_below : ℕ) : Type 0 where
@@ -159,10 +154,6 @@ module _ {F R : Type 0} (g : Mut F (ℕ × Unit {0}) R) (read : R → Ordering) 
   -- the row may be asked where the tree may be
   pub can_ask_row : (l : ℕ) (n : Node) (a : Asking F) → IsFormed l n → CanSearch g (flat l n) tie a → CanSearch g (row n) tie a
   can_ask_row l n a f c = CanAsk-fewer g (Askable (row n) tie) (Askable (flat l n) tie) (Askable-whole (row-part l n f) tie) c
-
-  -- four asks search a row
-  pub row_searched : (row xs : List ℕ) (reach : ℕ) (end : Result ℕ ℕ) (a b : Asking F) → xs ≡ row → reach ≤ 15 → SearchesWithin g read xs (digits reach) tie a end b → SearchesWithin g read row 4 tie a end b
-  row_searched row xs reach end a b e four s = subst (λ zs. SearchesWithin g read zs 4 tie a end b) e (SearchesWithin-more g read tie (four_digits reach four) s)
 
   -- a miss in the row leads to the child at that place
   leads-below : {k : ℕ} (l : ℕ) (n : Node) (i : ℕ) (a b : Asking F) → l ≢ 0 → IsFormed l n → SearchesWithin g read (row n) k tie a (Err i) b
@@ -215,7 +206,7 @@ module _ {F R : Type 0} (g : Mut F (ℕ × Unit {0}) R) (read : R → Ordering) 
       record {
         searches = rw (flat-leaf zero n refl, spot-leaf zero zero n p refl) (SearchesWithin-more g read tie le s);
         reaches = reaches-here true zero n p s.missed;
-        lower_end = (full-leaf full_below zero n p refl here.0, here.1);
+        lower_end = (full-at full_below zero n p here.0 (λ ne. absurd (ne refl)), here.1);
       }
 
   -- or below the node
@@ -229,7 +220,7 @@ module _ {F R : Type 0} (g : Mut F (ℕ × Unit {0}) R) (read : R → Ordering) 
       record {
         searches = rw (on, ← shifted-end end) (SearchesWithin-more g read tie le (Searches-part g read tie (leads-below l n i a b ne f s) (end_at end (spot (level_of end) (l - 1) (child n i) p)) d.searches));
         reaches = below-holds (level_of end) l n p ne (child-within l n i ne f s.missed) d.reaches;
-        lower_end = IfErr-weaker end _ _ (λ k q. let here = counts_here n full l full_below k counts (λ up. q.1 (omega arith)) in (full-below k l n p ne here.0 q.0, here.1)) d.lower_end;
+        lower_end = IfErr-weaker end _ _ (λ k q. let here = counts_here n full l full_below k counts (λ up. q.1 (omega arith)) in (full-at k l n p here.0 (λ _. q.0), here.1)) d.lower_end;
       }
 
   -- a find ends at an index of the node
@@ -276,11 +267,6 @@ Finds-from_searches g read xs (Err i) found a b s e = rw e (record {
   miss = λ answer steady none. none_at_place answer xs i (s.place answer steady);
 })
 
--- the first of a list, or one of the others
-cons_cases : (y : ℕ) (ys : List ℕ) (x k : ℕ) → k < length (y ∷ ys) → get_or (y ∷ ys) k x ≡ x → (y ≡ x) ⊎ Contains ys x
-cons_cases y ys x zero lt e = inl e
-cons_cases y ys x (suc k) lt e = inr (k, omega arith, e)
-
 -- what is neither in the row nor in a list is nowhere
 absent_woven : (xs : List ℕ) (ks : List (List ℕ)) (x : ℕ) → length ks ≡ length xs + 1 → (Contains xs x → ⊥) → ((k : ℕ) → k < length ks → Contains (get_or ks k []) x → ⊥) → Contains (weave xs ks) x → ⊥
 absent_woven [] [] x one row below h = absurd (omega arith)
@@ -291,7 +277,7 @@ absent_woven (y ∷ xs) (k ∷ ks) x one row below h =
     elim (Contains-append_cases k (y ∷ weave xs ks) x h) [
       | inl left ↦ below 0 (omega arith) left
       | inr right ↦
-          elim (cons_cases y (weave xs ks) x right.0 right.1 right.2) [
+          elim (contains_cases y x (weave xs ks) right) [
             | inl e ↦ row (0, omega arith, e)
             | inr rest ↦ absent_woven xs ks x (omega arith) (λ held. row (suc held.0, omega (arith, held.1), held.2)) (λ j lt. below (suc j) (omega arith)) rest
           ]

@@ -1,7 +1,7 @@
 -- What an insert leaves of a node.
 use Rattle.iddqd_order.proofs.Names.{◌≡◌, ◌≢◌, ℕ, zero, suc, ◌+◌, ◌-◌, ◌<◌, ◌≤◌, true, List, [], ◌∷◌, ◌++◌, length, set, get_or, slice_index, refl, ap, sym, ◌∙◌, subst, arith, inl, inr, All, cases_lt, insert, length-append, length-set, length-map, length-insert, get_or_default, map-set, map-append, All-set, All-take, All-drop, drop-append_seam, take-append_seam, Node, row, children, child, room, weave, before, flat, IsInner, IsFormed, Goes, place, IsFullBelow, IsCut}
 use Rattle.iddqd_order.proofs.WeaveLemmas.{edited, widened, weave-append}
-use Rattle.iddqd_order.proofs.NodeLemmas.{AreChildren, GoesDown, goes-below, lists, lists-at, lists-one_more, formed-leaf, leaf-formed, flat-leaf, goes-leaf, place-leaf, formed-within, formed-inner, inner-formed, flat-inner, full-inner, full-here, map-insert, All-insert}
+use Rattle.iddqd_order.proofs.NodeLemmas.{AreChildren, GoesDown, goes-below, lists, lists-at, lists-one_more, formed-leaf, leaf-formed, flat-leaf, goes-leaf, place-leaf, formed-within, formed-inner, inner-formed, flat-inner, full-on, full-here, map-insert, All-insert}
 
 -- g is the i-th child, which the path takes
 pub record IsTaken (h : ℕ) (old : Node) (p : List ℕ) (i : ℕ) (g : Node) : Type 0 where
@@ -151,46 +151,43 @@ cut_here h old new m2 up p x i g k m u t d c ek lk rm ru =
       high = (omega arith, inner-formed h up t.inner (record { within = omega arith; one_more = omega arith; has_room = ru }) (All-back P (children new) (children up) every));
     }
 
+-- the place of a path in a leaf
+pub leaf_place : (h : ℕ) (n : Node) (p : List ℕ) → h ≡ 0 → Goes h n p → slice_index p h ≤ length (row n)
+leaf_place h n p e g = rw e (goes-leaf h n p e g)
+
 -- at a leaf with room
 pub put_leaf : (h : ℕ) (old new : Node) (p : List ℕ) (i x : ℕ) → h ≡ 0 → IsFormed h old → Goes h old p → i ≡ slice_index p h → length (row old) < 11
     → row new ≡ insert (row old) i x → children new ≡ children old → Put h old new p x
-put_leaf zero old new p i x e f g at lt er ek =
-    let l = formed-leaf 0 old refl f in
-    let le : i ≤ length (row old) = rw at (goes-leaf 0 old p refl g) in
+put_leaf h old new p i x e f g at lt er ek =
+    let l = formed-leaf h old e f in
+    let le : i ≤ length (row old) = rw at (leaf_place h old p e g) in
     let lr : length (row new) ≡ length (row old) + 1 = ap length er ∙ length-insert (row old) i x le in
     record {
-      items = rw (flat-leaf 0 new refl, flat-leaf 0 old refl, place-leaf 0 old p refl, ← at) er;
-      formed = leaf-formed 0 new refl (record { within = omega arith; childless = ek ∙ l.childless });
+      items = rw (flat-leaf h new e, flat-leaf h old e, place-leaf h old p e) (er ∙ ap (λ z. insert (row old) z x) (at ∙ ap (slice_index p) e));
+      formed = leaf-formed h new e (record { within = omega arith; childless = ek ∙ l.childless });
       longer = omega arith;
     }
-put_leaf (suc h) old new p i x e f g at lt er ek = absurd (omega arith)
 
 -- at a full leaf
 pub cut_leaf : (h : ℕ) (old new : Node) (m : ℕ) (up : Node) (p : List ℕ) (i x : ℕ) → h ≡ 0 → IsFormed h old → Goes h old p → i ≡ slice_index p h
     → IsCut (row old) i x (row new) m (row up) → children new ≡ children old → children up ≡ [] → Cut h old new m up p x
-cut_leaf zero old new m up p i x e f g at c ek eu =
-    let l = formed-leaf 0 old refl f in
+cut_leaf h old new m up p i x e f g at c ek eu =
+    let l = formed-leaf h old e f in
     let low = low_within (length (row new)) i c.low_length in
     let low5 : 5 ≤ length (row new) = low.0 in
     let low6 : length (row new) ≤ 6 = low.1 in
     let sum = c.high_length in
     record {
-      items = rw (flat-leaf 0 new refl, flat-leaf 0 up refl, flat-leaf 0 old refl, place-leaf 0 old p refl, ← at) c.is;
-      low = (low5, leaf-formed 0 new refl (record { within = omega arith; childless = ek ∙ l.childless }));
-      high = (omega arith, leaf-formed 0 up refl (record { within = omega arith; childless = eu }));
+      items = rw (flat-leaf h new e, flat-leaf h up e, flat-leaf h old e, place-leaf h old p e) (c.is ∙ ap (λ z. insert (row old) z x) (at ∙ ap (slice_index p) e));
+      low = (low5, leaf-formed h new e (record { within = omega arith; childless = ek ∙ l.childless }));
+      high = (omega arith, leaf-formed h up e (record { within = omega arith; childless = eu }));
     }
-cut_leaf (suc h) old new m up p i x e f g at c ek eu = absurd (omega arith)
-
--- the place of a path in a leaf
-pub leaf_place : (h : ℕ) (n : Node) (p : List ℕ) → h ≡ 0 → Goes h n p → slice_index p h ≤ length (row n)
-leaf_place zero n p e g = goes-leaf 0 n p refl g
-leaf_place (suc h) n p e g = absurd (omega arith)
 
 -- the levels below the node are full as far as they have to be
 pub full_child : (k h : ℕ) (old : Node) (p : List ℕ) (i : ℕ) (g : Node) → IsTaken h old p i g → IsFullBelow k h old p → IsFullBelow k (h - 1) g p
 full_child k h old p i g t f =
     let b = taken h old p i g t in
-    let on = (full-inner k h old p t.inner f).on in
+    let on = full-on k h old p t.inner f in
     let same : g ≡ child old (slice_index p h) = b.same ∙ ap (λ z. child old z) t.at in
     rw same on
 

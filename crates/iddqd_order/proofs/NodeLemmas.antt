@@ -14,18 +14,15 @@ lists h ks = map (λ k. flat h k) ks
 -- at a leaf
 pub formed-leaf : (h : ℕ) (n : Node) → h ≡ 0 → IsFormed h n → IsLeaf n
 unfolding IsFormed
-formed-leaf zero n e f = f
-formed-leaf (suc h) n e f = absurd (omega arith)
+formed-leaf h n e f = rw e at f
 
 pub leaf-formed : (h : ℕ) (n : Node) → h ≡ 0 → IsLeaf n → IsFormed h n
 unfolding IsFormed
-leaf-formed zero n e f = f
-leaf-formed (suc h) n e f = absurd (omega arith)
+leaf-formed h n e f = rw e f
 
 pub flat-leaf : (h : ℕ) (n : Node) → h ≡ 0 → flat h n ≡ row n
 unfolding flat
-flat-leaf zero n e = refl
-flat-leaf (suc h) n e = absurd (omega arith)
+flat-leaf h n e = rw e
 
 -- at an inner node
 pub record InnerAt (h : ℕ) (n : Node) : Type 0 where
@@ -66,14 +63,10 @@ child-within l n i ne f le = let one = (formed-inner l n ne f).inner.one_more in
 pub child-formed : (h : ℕ) (n : Node) (i : ℕ) → h ≢ 0 → IsFormed h n → i < length (children n) → IsFormed (h - 1) (child n i)
 child-formed h n i ne f lt = ((formed-inner h n ne f).below i n lt).1
 
-pub record FullAt (k h : ℕ) (n : Node) (p : List ℕ) : Type 0 where
-  pub here : FullBelow k h n
-  pub on : IsFullBelow k (h - 1) (child n (slice_index p h)) p
-
-pub full-inner : (k h : ℕ) (n : Node) (p : List ℕ) → h ≢ 0 → IsFullBelow k h n p → FullAt k h n p
+pub full-on : (k h : ℕ) (n : Node) (p : List ℕ) → h ≢ 0 → IsFullBelow k h n p → IsFullBelow k (h - 1) (child n (slice_index p h)) p
 unfolding IsFullBelow
-full-inner k zero n p e f = absurd (e refl)
-full-inner k (suc h) n p e f = record { here = f.0; on = rw sub-one f.1 }
+full-on k zero n p e f = absurd (e refl)
+full-on k (suc h) n p e f = rw sub-one f.1
 
 pub full-here : (k h : ℕ) (n : Node) (p : List ℕ) → IsFullBelow k h n p → FullBelow k h n
 unfolding IsFullBelow
@@ -117,8 +110,7 @@ pub record HoldsBelow (gap : Bool) (l h : ℕ) (n : Node) (p : List ℕ) : Type 
 module _ {gap : Bool} where
   pub holds-leaf : (l h : ℕ) (n : Node) (p : List ℕ) → h ≡ 0 → Reaches gap l h n p → Fits gap (slice_index p 0) (length (row n))
   unfolding Passes
-  holds-leaf l zero n p e w = w.passes.1
-  holds-leaf l (suc h) n p e w = absurd (omega arith)
+  holds-leaf l h n p e w = (rw e at w.passes).1
 
   pub holds-at : (l h : ℕ) (n : Node) (p : List ℕ) → h ≢ 0 → h ≡ l → Reaches gap l h n p → Fits gap (slice_index p h) (length (row n))
   unfolding Passes
@@ -158,8 +150,7 @@ holds-here l n p lt = reaches-here false l n p lt
 
 pub spot-leaf : (l h : ℕ) (n : Node) (p : List ℕ) → h ≡ 0 → spot l h n p ≡ slice_index p 0
 unfolding spot
-spot-leaf l zero n p e = refl
-spot-leaf l (suc h) n p e = absurd (omega arith)
+spot-leaf l h n p e = rw e
 
 pub spot-at : (l h : ℕ) (n : Node) (p : List ℕ) → h ≢ 0 → h ≡ l
     → spot l h n p ≡ length (before (slice_index p h) (row n) (lists (h - 1) (children n))) + length (flat (h - 1) (child n (slice_index p h)))

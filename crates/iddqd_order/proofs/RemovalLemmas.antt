@@ -31,21 +31,27 @@ pub record TookBelow (h i : ℕ) (old : Node) (xs : List ℕ) (ks : List Node) (
   pub may_lack : MayLackOne (h - 1) i xs ks
   pub items : weave xs (lists (h - 1) ks) ≡ left
 
-may-lack : (h i : ℕ) (old k : Node) (xs : List ℕ) → h ≢ 0 → IsFormed h old → 1 ≤ length (row old) → i < length (children old) → length xs ≡ length (row old)
-    → IsFormed (h - 1) k → length (row (child old i)) ≤ length (row k) + 1 → MayLackOne (h - 1) i xs (set (children old) i k)
-may-lack h i old k xs ne f some lt same fk few =
+took : (h i : ℕ) (old g k : Node) (xs left : List ℕ) → h ≢ 0 → IsFormed h old → 1 ≤ length (row old) → i < length (children old) → g ≡ child old i → length xs ≡ length (row old)
+    → IsFormed (h - 1) k → length (row g) ≤ length (row k) + 1 → weave xs (lists (h - 1) (set (children old) i k)) ≡ left → TookBelow h i old xs (set (children old) i k) left
+took h i old g k xs left ne f some lt is_g same fk few items =
     let fs = formed-inner h old ne f in
     let w = fs.inner.within in let om = fs.inner.one_more in
     let n = length-set (children old) i k in
-    let five = (fs.below i old lt).0 in
+    let five : 5 ≤ length (row g) = rw is_g (fs.below i old lt).0 in
     let four : 4 ≤ length (row k) = omega arith in
     record {
-      some = omega arith;
-      within = omega arith;
-      one_more = omega arith;
-      here = omega arith;
-      at = λ d. rw (get_or-set_same (children old) i k d lt) (four, fk);
-      others = λ j d q apart_from. rw (get_or-set_other (children old) i j k d apart_from) (fs.below j d (omega arith));
+      ne = ne;
+      inner = fs.inner;
+      same = same;
+      may_lack = record {
+        some = omega arith;
+        within = omega arith;
+        one_more = omega arith;
+        here = omega arith;
+        at = λ d. rw (get_or-set_same (children old) i k d lt) (four, fk);
+        others = λ j d q apart_from. rw (get_or-set_other (children old) i j k d apart_from) (fs.below j d (omega arith));
+      };
+      items = items;
     }
 
 -- all of the node, where an index was taken from the i-th child, of which k is left
@@ -69,14 +75,7 @@ pub took-below : (l h i : ℕ) (old g k : Node) (p : List ℕ) → h ≢ 0 → h
 took-below l h i old g k p ne e ei f some w is_g items fk few =
     let b = goes-below h l i old p (omega (arith, holds-level l h old p w)) ei f w in
     let same : g ≡ child old i = is_g ∙ get_or_default (children old) i g old b.here in
-    let few_c : length (row (child old i)) ≤ length (row k) + 1 = rw (sym same) few in
-    record {
-      ne = ne;
-      inner = (formed-inner h old ne f).inner;
-      same = refl;
-      may_lack = may-lack h i old k (row old) ne f some b.here refl fk few_c;
-      items = woven-taken l h i old k p f b (items ∙ ap (λ z. remove (flat (h - 1) z) (spot l (h - 1) z p)) same);
-    }
+    took h i old g k (row old) _ ne f some b.here same refl fk few (woven-taken l h i old k p f b (items ∙ ap (λ z. remove (flat (h - 1) z) (spot l (h - 1) z p)) same))
 
 -- the path ends at this node, and the last index below its i-th child is put in the place of the i-th index
 pub took-here : (l h i : ℕ) (old g k : Node) (p : List ℕ) (last : ℕ) → h ≢ 0 → h ≡ l → i ≡ slice_index p h → IsFormed h old → 1 ≤ length (row old) → Holds l h old p → g ≡ get_or (children old) i g
@@ -85,19 +84,12 @@ pub took-here : (l h i : ℕ) (old g k : Node) (p : List ℕ) (last : ℕ) → h
 took-here l h i old g k p last ne e ei f some w is_g items fk few =
     let s = ends-inner h l i old p ne e ei f w in
     let same : g ≡ child old i = is_g ∙ get_or_default (children old) i g old s.here in
-    let few_c : length (row (child old i)) ≤ length (row k) + 1 = rw (sym same) few in
     let ks : List (List ℕ) = lists (h - 1) (children old) in
     let is : get_or ks i [] ≡ flat (h - 1) k ++ last ∷ [] = lists-at (h - 1) old i s.here ∙ ap (λ z. flat (h - 1) z) (sym same) ∙ items in
-    record {
-      ne = ne;
-      inner = (formed-inner h old ne f).inner;
-      same = length-set (row old) i last;
-      may_lack = may-lack h i old k (set (row old) i last) ne f some s.here (length-set (row old) i last) fk few_c;
-      items =
-          ap (λ z. weave (set (row old) i last) z) (map-set (λ k. flat (h - 1) k) (children old) i k)
-          ∙ weave-replaced i (row old) ks [] (flat (h - 1) k) last s.within (lists-one_more h old ne f) is
-          ∙ ap (λ z. remove (weave (row old) ks) z) (sym s.place) ∙ ap (λ z. remove z (spot l h old p)) (sym (flat-inner h old ne));
-    }
+    took h i old g k (set (row old) i last) _ ne f some s.here same (length-set (row old) i last) fk few
+    (ap (λ z. weave (set (row old) i last) z) (map-set (λ k. flat (h - 1) k) (children old) i k)
+    ∙ weave-replaced i (row old) ks [] (flat (h - 1) k) last s.within (lists-one_more h old ne f) is
+    ∙ ap (λ z. remove (weave (row old) ks) z) (sym s.place) ∙ ap (λ z. remove z (spot l h old p)) (sym (flat-inner h old ne)))
 
 -- the last index of the last child was taken
 pub record TookLast (h count : ℕ) (old : Node) (ks : List Node) (last : ℕ) : Type 0 where
@@ -107,21 +99,13 @@ pub record TookLast (h count : ℕ) (old : Node) (ks : List Node) (last : ℕ) :
 pub took-last : (h count : ℕ) (old g k : Node) (last : ℕ) → h ≢ 0 → count ≡ length (row old) → IsFormed h old → 1 ≤ length (row old) → g ≡ get_or (children old) count g
     → flat (h - 1) g ≡ flat (h - 1) k ++ last ∷ [] → IsFormed (h - 1) k → length (row g) ≤ length (row k) + 1 → TookLast h count old (set (children old) count k) last
 took-last h count old g k last ne ec f some is_g items fk few =
-    let fs = formed-inner h old ne f in
-    let om = fs.inner.one_more in
+    let om = (formed-inner h old ne f).inner.one_more in
     let here : count < length (children old) = omega arith in
     let same : g ≡ child old count = is_g ∙ get_or_default (children old) count g old here in
-    let few_c : length (row (child old count)) ≤ length (row k) + 1 = rw (sym same) few in
     let ls : List (List ℕ) = lists (h - 1) (children old) in
     let is : get_or ls (length (row old)) [] ≡ flat (h - 1) k ++ last ∷ [] = ap (λ z. get_or ls z []) (sym ec) ∙ lists-at (h - 1) old count here ∙ ap (λ z. flat (h - 1) z) (sym same) ∙ items in
     record {
-      took = record {
-        ne = ne;
-        inner = fs.inner;
-        same = refl;
-        may_lack = may-lack h count old k (row old) ne f some here refl fk few_c;
-        items = refl;
-      };
+      took = took h count old g k (row old) _ ne f some here same refl fk few refl;
       items =
           flat-inner h old ne
           ∙ weave-last (row old) ls [] (flat (h - 1) k) last (lists-one_more h old ne f) is

@@ -6,7 +6,7 @@ use Rattle.iddqd_order.proofs.IndexListLemmas.{IsIndexList-nil, IsDistinct-inser
 use Rattle.iddqd_order.proofs.PartLemmas.{SearchesWithin-more}
 use Rattle.iddqd_order.proofs.ReckoningLemmas.{reckoning, few_indexes}
 use Rattle.iddqd_order.proofs.RenameLemmas.{IsIndexList-remapped}
-use Rattle.iddqd_order.proofs.TreeLemmas.{place_in-within}
+use Rattle.iddqd_order.proofs.TreeLemmas.{spot_in-within}
 
 -- no index at all
 pub IsTable-none : IsTable None 0 0
@@ -60,7 +60,7 @@ pub IsTable-put : (r : Option Node) (h n : ℕ) (p : List ℕ) (ix : ℕ) (s : O
     → IsTree s k → in_order s k ≡ insert (in_order r h) (place_in r h p) ix → IsTable s k (n + 1)
 IsTable-put r h n p ix s k t goes absent small tree items =
     let xs : List ℕ = in_order r h in
-    let more = length-insert xs (place_in r h p) ix (place_in-within r h p t.tree goes) in
+    let more = length-insert xs (place_in r h p) ix (spot_in-within true 0 r h p t.tree goes) in
     let counted = t.counted in
     let len = ap length items in
     record {
@@ -76,16 +76,12 @@ pub record Shorter (r : Option Node) (h n : ℕ) (ix : ℕ) (s : Option Node) (k
   pub some : 1 ≤ n
   pub table : IsTable s k (n - 1)
 
-spot_in-within : (l : ℕ) (r : Option Node) (h : ℕ) (p : List ℕ) → IsTree r h → HoldsIn l r h p → spot_in l r h p < length (in_order r h)
-spot_in-within l None h p t held = held
-spot_in-within l (Some n) h p t held = spot-within l h n p t.0 held
-
 pub shorter : (r : Option Node) (h n : ℕ) (l : ℕ) (p : List ℕ) (ix : ℕ) (s : Option Node) (k : ℕ) → IsTable r h n → HoldsIn l r h p → slice_index (in_order r h) (spot_in l r h p) ≡ ix
     → IsTree s k → in_order s k ≡ remove (in_order r h) (spot_in l r h p) → Shorter r h n ix s k
 shorter r h n l p ix s k t held there tree items =
     let xs : List ℕ = in_order r h in
     let at : ℕ = spot_in l r h p in
-    let within : at < length xs = spot_in-within l r h p t.tree held in
+    let within : at < length xs = spot_in-within false l r h p t.tree held in
     let same : in_order s k ≡ without xs ix = items ∙ remove-distinct xs at t.distinct within ∙ ap (without xs) there in
     let fewer : length (remove xs at) + 1 ≡ length xs = length-remove xs at within in
     let counted = t.counted in
