@@ -1,5 +1,5 @@
 -- What an insert leaves of a node.
-use Rattle.iddqd_order.proofs.Names.{◌≡◌, ◌≢◌, ℕ, zero, suc, ◌+◌, ◌-◌, ◌<◌, ◌≤◌, true, List, [], ◌∷◌, ◌++◌, length, set, get_or, slice_index, refl, ap, sym, ◌∙◌, subst, arith, inl, inr, All, cases_lt, insert, length-append, length-set, length-map, length-insert, get_or_default, map-set, map-append, All-set, All-take, All-drop, drop-append_seam, take-append_seam, Node, row, children, child, room, weave, before, flat, IsInner, IsFormed, Goes, place, IsFullBelow, IsCut}
+use Rattle.iddqd_order.proofs.Names.{IsPut, ◌≡◌, ◌≢◌, ℕ, zero, suc, ◌+◌, ◌-◌, ◌<◌, ◌≤◌, true, List, [], ◌∷◌, ◌++◌, length, set, get_or, slice_index, refl, ap, sym, ◌∙◌, subst, arith, inl, inr, All, cases_lt, insert, length-append, length-set, length-map, length-insert, get_or_default, map-set, map-append, All-set, All-take, All-drop, drop-append_seam, take-append_seam, Node, row, children, child, room, weave, before, flat, IsInner, IsFormed, Goes, place, IsFullBelow, IsCut}
 use Rattle.iddqd_order.proofs.WeaveLemmas.{edited, widened, weave-append}
 use Rattle.iddqd_order.proofs.NodeLemmas.{AreChildren, GoesDown, goes-below, lists, lists-at, lists-one_more, formed-leaf, leaf-formed, flat-leaf, goes-leaf, place-leaf, formed-within, formed-inner, inner-formed, flat-inner, full-on, full-here, map-insert, All-insert}
 
@@ -44,12 +44,6 @@ taken h old p i g t =
       place_is = b.place;
     })
 
--- an index was put in, and the node is as it has to be
-pub record Put (h : ℕ) (old new : Node) (p : List ℕ) (x : ℕ) : Type 0 where
-  pub items : flat h new ≡ insert (flat h old) (place h old p) x
-  pub formed : IsFormed h new
-  pub longer : length (row old) ≤ length (row new)
-
 -- an index was put in, and the node is cut in two about the index m
 pub record Cut (h : ℕ) (old new : Node) (m : ℕ) (up : Node) (p : List ℕ) (x : ℕ) : Type 0 where
   pub items : flat h new ++ m ∷ flat h up ≡ insert (flat h old) (place h old p) x
@@ -57,8 +51,8 @@ pub record Cut (h : ℕ) (old new : Node) (m : ℕ) (up : Node) (p : List ℕ) (
   pub high : (5 ≤ length (row up)) × IsFormed h up
 
 -- the child that the path takes got the index: k stands in its place
-pub put_below : (h : ℕ) (old new : Node) (p : List ℕ) (x : ℕ) (i : ℕ) (g k : Node) → IsTaken h old p i g → Put (h - 1) g k p x
-    → row new ≡ row old → children new ≡ set (children old) i k → 12 ≤ room new → Put h old new p x
+pub put_below : (h : ℕ) (old new : Node) (p : List ℕ) (x : ℕ) (i : ℕ) (g k : Node) → IsTaken h old p i g → IsPut (h - 1) g k p x
+    → row new ≡ row old → children new ≡ set (children old) i k → 12 ≤ room new → IsPut h old new p x
 put_below h old new p x i g k t d er ek rm =
     let b = taken h old p i g t in
     let f : Node → List ℕ = λ k. flat (h - 1) k in
@@ -80,7 +74,7 @@ put_below h old new p x i g k t d er ek rm =
 
 -- the child was cut in two, and the node had room for the upper part
 pub put_here : (h : ℕ) (old new : Node) (p : List ℕ) (x : ℕ) (i : ℕ) (g k : Node) (m : ℕ) (u : Node) → IsTaken h old p i g → Cut (h - 1) g k m u p x
-    → length (row old) < 11 → row new ≡ insert (row old) i m → children new ≡ insert (set (children old) i k) (i + 1) u → 12 ≤ room new → Put h old new p x
+    → length (row old) < 11 → row new ≡ insert (row old) i m → children new ≡ insert (set (children old) i k) (i + 1) u → 12 ≤ room new → IsPut h old new p x
 put_here h old new p x i g k m u t d lt er ek rm =
     let b = taken h old p i g t in
     let f : Node → List ℕ = λ k. flat (h - 1) k in
@@ -157,7 +151,7 @@ leaf_place h n p e g = rw e (goes-leaf h n p e g)
 
 -- at a leaf with room
 pub put_leaf : (h : ℕ) (old new : Node) (p : List ℕ) (i x : ℕ) → h ≡ 0 → IsFormed h old → Goes h old p → i ≡ slice_index p h → length (row old) < 11
-    → row new ≡ insert (row old) i x → children new ≡ children old → Put h old new p x
+    → row new ≡ insert (row old) i x → children new ≡ children old → IsPut h old new p x
 put_leaf h old new p i x e f g at lt er ek =
     let l = formed-leaf h old e f in
     let le : i ≤ length (row old) = rw at (leaf_place h old p e g) in

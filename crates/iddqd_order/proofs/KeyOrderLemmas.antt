@@ -1,5 +1,5 @@
 -- For callers too. What lawful keys give a table in order by key, ties by index.
-use Rattle.iddqd_order.proofs.Names.{◌≡◌, ◌∙◌, ℕ, ◌+◌, ◌<◌, ◌==◌, ◌⊎◌, inl, inr, if◌then◌else◌, List, None, Some, length, map, get_or, insert, Contains, refl, sym, ap, Bool, true, false, eqb-true, zero, suc, [], ◌∷◌, ◌≤◌, Ordering, arith, IsTotalOrder, nat_cmp_is, IsStrictlySortedBy, nat_cmp, ordering_then, ordering_reverse, MatchOrdering, Less, Equal, Greater, nat_cmp_total, on_total, then_total, tied_itself, alike_right, ranked, get_or_default, get_or-map, length-map, Contains-get_or, Less-from_sorted, recursion_from_All, All-from_recursion, sorted_from_all_adjacent, greater_before_in, key_then_index, IsInKeyOrder, ComparesKeys, with_ties, IsRising, IsPlace}
+use Rattle.iddqd_order.proofs.Names.{◌≡◌, ◌∙◌, ℕ, ◌+◌, ◌<◌, ◌==◌, ◌⊎◌, inl, inr, if◌then◌else◌, List, None, Some, length, map, get_or, insert, Contains, refl, sym, ap, Bool, true, false, eqb-true, zero, suc, [], ◌∷◌, ◌≤◌, Ordering, arith, IsTotalOrder, nat_cmp_is, IsStrictlySortedBy, nat_cmp, ordering_then, ordering_reverse, MatchOrdering, Less, Equal, Greater, nat_cmp_total, on_total, then_total, tied_itself, alike_right, by_ranked, cond_both, ranked, get_or_default, get_or-map, length-map, Contains-get_or, Less-from_sorted, recursion_from_All, All-from_recursion, sorted_from_all_adjacent, greater_before_in, key_then_index, IsInKeyOrder, ComparesKeys, with_ties, IsRising, IsPlace}
 use Rattle.iddqd_order.proofs.NodeLemmas.{All-insert}
 
 -- two that stand the other way round
@@ -36,10 +36,6 @@ module _ {c : ℕ → ℕ → Ordering} (o : IsTotalOrder c) (xs : List ℕ) (so
       (λ k lt. Less-from_greater o (sym (is k (omega arith)) ∙ split.greater_before k lt))
       (λ k from lt. sym (is k lt) ∙ split.less_from k from lt)
 
-choice : (b : Bool) (r s : Ordering) → (b ≡ true → Equal ≡ s) → r ≡ s → if b then Equal else r ≡ s
-choice true r s h e = h refl
-choice false r s h e = e
-
 -- of two in order, the first has the smaller key or an equal one
 keys_of : (r s : Ordering) → ordering_then r s ≡ Less → (r ≡ Less) ⊎ (r ≡ Equal)
 keys_of Less s e = inl refl
@@ -54,10 +50,9 @@ module _ {K : Type 0} {cmp : K → K → Ordering} (o : IsTotalOrder cmp) (key :
   pub with_ties-key : (ix : ℕ) (answer : ℕ → Ordering) (xs : List ℕ) → ComparesKeys (cmp (key ix)) key answer xs → (k : ℕ) → k < length xs → with_ties (Some ix) answer (get_or xs k 0) ≡ key_then_index cmp key ix (get_or xs k 0)
   with_ties-key ix answer xs compares k lt =
       let j = get_or xs k 0 in
-      choice (j == ix) _ _ (λ e.
-      let same : j ≡ ix = eqb-true j ix e in
-      sym (ap (key_then_index cmp key ix) same ∙ tied_itself key_then_index-total ix))
-      (ap (λ r. ordering_then r (nat_cmp ix j)) (compares k 0 lt))
+      cond_both (j == ix) Equal (ordering_then (answer j) (nat_cmp ix j)) (λ r. r ≡ key_then_index cmp key ix j)
+      (λ e. sym (ap (key_then_index cmp key ix) (eqb-true j ix e) ∙ tied_itself key_then_index-total ix))
+      (λ e. ap (λ r. ordering_then r (nat_cmp ix j)) (compares k 0 lt))
 
   -- what agrees with the order of the keys
   module _ (compare : K → Ordering)
@@ -91,13 +86,8 @@ module _ {K : Type 0} {cmp : K → K → Ordering} (o : IsTotalOrder cmp) (key :
 -- numbers that rise keep their comparison
 less_again : (a b c d : ℕ) → (a < b → c < d) → nat_cmp a b ≡ Less → nat_cmp c d ≡ Less
 less_again a b c d up less =
-    let lt : a < b = by_answer (nat_cmp a b) (ranked a b _ refl) less in
+    let lt : a < b = by_ranked (a < b) (a ≡ b) (b < a) (nat_cmp a b) (ranked a b _ refl) (λ _ lt. lt) (λ e _. absurd (cc)) (λ e _. absurd (cc)) in
     sym (nat_cmp_is c d Less (up lt))
-  where
-    by_answer : (r : Ordering) → MatchOrdering r (a < b) (a ≡ b) (b < a) → r ≡ Less → a < b
-    by_answer Less h e = h
-    by_answer Equal h e = absurd cc
-    by_answer Greater h e = absurd cc
 
 -- a tie that is broken the same way again
 then_again : (r s t : Ordering) → (s ≡ Less → t ≡ Less) → ordering_then r s ≡ Less → ordering_then r t ≡ Less

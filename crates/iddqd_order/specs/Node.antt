@@ -1,6 +1,7 @@
 -- What a node of the tree represents, and what holds of it. A tree is read with its height: h levels of
 -- inner nodes above the leaves.
 use Rattle.std.specs.Prelude.{◌≡◌, ℕ, zero, suc, ◌+◌, ◌<◌, ◌≤◌, List, [], ◌∷◌, ◌++◌, All, length, map, slice_index, slice_index_or, vec_capacity, Vec, Bool, true, false, nat_eq, if◌then◌else◌}
+use Rattle.std.specs.List.{insert}
 use Rattle.std.specs.declared.alloc.Global.{Global}
 use Rattle.iddqd_order.specs.declared.btree_table.node.Node.{Node}
 use Rattle.iddqd_order.specs.declared.btree_table.node.Node.TheViews.{out-Node}
@@ -115,3 +116,9 @@ IsFullBelow k (suc h) n p = FullBelow k (suc h) n × IsFullBelow k h (child n (s
 -- an empty block with room for twelve children
 abbrev pub IsSpare : Vec Node Global → Type 0
 IsSpare s = (s.items ≡ []) × (12 ≤ vec_capacity s)
+
+-- the index x was put in where the path goes, and the node is as it has to be
+pub record IsPut (h : ℕ) (old new : Node) (p : List ℕ) (x : ℕ) : Type 0 where
+  pub items : flat h new ≡ insert (flat h old) (place h old p) x
+  pub formed : IsFormed h new
+  pub longer : length (row old) ≤ length (row new)

@@ -58,10 +58,8 @@ returns-then-height-full t c =
     let k : IsTaken c.args.height c.args.self.now c.args.path.now c.get-i.result c.index_mut.result.now =
     record { inner = λ e. absurd (omega arith); formed = c.requires.formed; goes = c.requires.goes; at = c.get-i.ensures; is = c.index_mut.ensures.value } in
     let b = taken _ _ _ _ _ k in
-    let p = put_below c.args.height c.args.self.now (roll-Node _) c.args.path.now c.args.ix c.get-i.result c.index_mut.result.now c.put_above.new.self k
-    (record { items = c.put_above.ensures.items; formed = c.put_above.ensures.formed; longer = c.put_above.ensures.longer })
-    (row-roll _) (children-roll _) (room-from _ b.node.has_room) in
-    record { items = p.items; formed = p.formed; longer = p.longer }
+    put_below c.args.height c.args.self.now (roll-Node _) c.args.path.now c.args.ix c.get-i.result c.index_mut.result.now c.put_above.new.self k c.put_above.ensures
+    (row-roll _) (children-roll _) (room-from _ b.node.has_room)
 
 pub returns-else-height-full : goal.returns-else-height-full
 returns-else-height-full t c =
@@ -74,6 +72,5 @@ returns-else-height-full t c =
     record { items = c.cut-middle.ensures.items; low = c.cut-middle.ensures.low; high = c.cut-middle.ensures.high } in
     let room = (full-here _ _ _ _ c.requires.full).1 (omega arith) in
     let e = simp out-roll-Node at c.put_between.ensures in
-    let p = put_here c.args.height c.args.self.now (roll-Node _) c.args.path.now c.args.ix c.get-i.result c.index_mut-else-height-full.result.now c.cut-middle.new.self c.cut-middle.result.0 c.cut-middle.result.1 k d
-    room (row-roll _ ∙ e.row) (children-roll _ ∙ e.children) (room-from _ e.has_room) in
-    record { items = p.items; formed = p.formed; longer = p.longer }
+    put_here c.args.height c.args.self.now (roll-Node _) c.args.path.now c.args.ix c.get-i.result c.index_mut-else-height-full.result.now c.cut-middle.new.self c.cut-middle.result.0 c.cut-middle.result.1 k d
+    room (row-roll _ ∙ e.row) (children-roll _ ∙ e.children) (room-from _ e.has_room)
