@@ -1,9 +1,8 @@
 -- Ways: what a step along one leaves, and what stays of them where an index is put in the place of another.
-use Rattle.iddqd_order.proofs.Names.{get_or_default, add-one, set-get_or, ◌≡◌, ◌≢◌, ◌∙◌, ℕ, zero, suc, ◌+◌, ◌-◌, ◌<◌, ◌≤◌, List, [], ◌++◌, length, get_or, set, slice_index, slice_set, refl, sym, ap, subst, arith, Option, Some, None, IsNone, IfSome, IsTrue, ◌↔◌, Contains, Bool, is_some, true, false, sub-one, length-append, length-set, get_or-set_same, get_or-set_other, inl, inr, cases_eq, append-nil, length-map, map-set, All-set, Node, Reader, Way, row, children, child, room, weave, before, after, flat, IsFormed, Holds, spot, IsTree, StepsOn, SamePlaces, IsWay, IsReader, IsReaderIn}
+use Rattle.iddqd_order.proofs.Names.{get_or_default, add-one, set-get_or, ◌≡◌, ◌≢◌, ◌∙◌, ℕ, zero, suc, ◌+◌, ◌-◌, ◌<◌, ◌≤◌, List, [], ◌++◌, length, get_or, set, slice_index, slice_set, refl, sym, ap, subst, arith, Option, Some, None, is_some, true, false, sub-one, length-append, length-set, get_or-set_same, get_or-set_other, inl, inr, cases_eq, length-map, map-set, All-set, Node, Reader, Way, row, children, child, room, weave, before, after, flat, IsFormed, Holds, spot, IsTree, StepsOn, SamePlaces, IsWay, IsReader, IsReaderIn}
 use Rattle.iddqd_order.proofs.NodeLemmas.{lists, AreChildren, formed-within, formed-leaf, leaf-formed, flat-leaf, formed-inner, inner-formed, flat-inner}
 use Rattle.iddqd_order.proofs.RemovalLemmas.{GoesBelow, goes-below, ends-inner, holds-leaf, holds-at, holds-level, holds-below, spot-leaf, spot-at, spot-below, spot-within}
 use Rattle.iddqd_order.proofs.DescentLemmas.{after-last, before-next, lists-one_more, lists-at, child-formed, child-read, child_is, holds-here, below-holds, spot-row}
-use Rattle.iddqd_order.proofs.IndexListLemmas.{Contains-at}
 use Rattle.iddqd_order.proofs.WeaveLemmas.{apart, index_place}
 use Rattle.iddqd_order.proofs.WeaveRemovalLemmas.{weave-set_own, weave-set_below}
 
@@ -355,17 +354,6 @@ reads-out h i r n p xs b ei f lt none l = record { items = below_items h i r n p
 
 pub reads-end : (h i : ℕ) (r : Option ℕ) (n : Node) (p xs : List ℕ) → GoesBelow h 0 i n p → IsFormed h n → length (row n) ≤ i → is_some r ≡ false → ReadsLeaf (h - 1) (child n i) p xs r → ReadsLeaf h n p xs None
 reads-end h i r n p xs b f le none l = record { items = below_items h i r n p xs b f l; next = ends-below (length xs) h 0 i r n p p b f le none l.next; some = l.some }
-
--- where a walk along all indexes ends
-pub found_where : (r : Option ℕ) (h : ℕ) (n : Node) (ix : ℕ) (p : List ℕ) → IsFormed h n → IfSome r (λ l. Holds l h n p) → IfSome r (λ l. slice_index (flat h n) (spot l h n p) ≡ ix) → (IsNone r → Contains (flat h n) ix → ⊥)
-    → IsTrue (is_some r) ↔ Contains (flat h n) ix
-found_where None h n ix p f holds there none = (λ t. absurd (cc), λ held. absurd (none refl held))
-found_where (Some l) h n ix p f holds there none = (λ _. Contains-at (flat h n) (spot l h n p) ix (spot-within l h n p f holds) (sym there), λ _. refl)
-
-pub is_contained : (b : Bool) (xs : List ℕ) (r : Option ℕ) (h : ℕ) (n : Node) (ix : ℕ) (p : List ℕ) → b ≡ is_some r → flat h n ≡ xs → IsFormed h n → IfSome r (λ l. Holds l h n p) → IfSome r (λ l. slice_index (flat h n) (spot l h n p) ≡ ix)
-    → (IsNone r → Contains (flat h n) ix → ⊥) → IsTrue b ↔ Contains xs ix
-is_contained b xs r h n ix p eb ex f holds there none =
-    subst (λ z. IsTrue z ↔ Contains xs ix) (sym eb) (subst (λ zs. IsTrue (is_some r) ↔ Contains zs ix) ex (found_where r h n ix p f holds there none))
 
 -- a leaf's next index is taken
 pub reader-taken : (h : ℕ) (n : Node) (old new : Reader) → IsReader h n old → old.at < length old.leaf → new.way ≡ old.way → new.leaf ≡ old.leaf → new.at ≡ old.at + 1 → new.place ≡ old.place + 1 → IsReader h n new

@@ -39,17 +39,13 @@ put_between-requires t c =
 pub returns-then-height-full : goal.returns-then-height-full
 returns-then-height-full t c =
     let k = is_taken c.args.height _ _ _ c.index_mut.result.now (λ e. absurd (omega arith)) c.requires.formed c.requires.goes c.get-i.ensures c.index_mut.ensures.value in
-    let p = put_below c.args.height c.args.self.now (roll-Node _) c.args.path.now c.args.ix c.get-i.result c.index_mut.result.now c.put_above.new.self k
-    (record { items = c.put_above.ensures.items; formed = c.put_above.ensures.formed; longer = c.put_above.ensures.longer })
-    (row-roll _) (children-roll _) (room-from _ (taken _ _ _ _ _ k).node.has_room) in
-    record { items = p.items; formed = p.formed; longer = p.longer }
+    put_below c.args.height c.args.self.now (roll-Node _) c.args.path.now c.args.ix c.get-i.result c.index_mut.result.now c.put_above.new.self k c.put_above.ensures
+    (row-roll _) (children-roll _) (room-from _ (taken _ _ _ _ _ k).node.has_room)
 
 pub returns-else-height-full : goal.returns-else-height-full
 returns-else-height-full t c =
     let some = c.requires.some in let not_all = c.requires.not_all in let last = c.if-height-full.false in
     let k = is_taken c.args.height _ _ _ c.index_mut-else-height-full.result.now (λ e. absurd (omega arith)) c.requires.formed c.requires.goes c.get-i.ensures c.index_mut-else-height-full.ensures.value in
     let e = simp out-roll-Node at c.put_between.ensures in
-    let p = put_here c.args.height c.args.self.now (roll-Node _) c.args.path.now c.args.ix c.get-i.result c.index_mut-else-height-full.result.now c.cut-middle.new.self c.cut-middle.result.0 c.cut-middle.result.1 k
-    (record { items = c.cut-middle.ensures.items; low = c.cut-middle.ensures.low; high = c.cut-middle.ensures.high })
-    ((full-here _ _ _ _ c.requires.full).1 (omega arith)) (row-roll _ ∙ e.row) (children-roll _ ∙ e.children) (room-from _ e.has_room) in
-    record { items = p.items; formed = p.formed; longer = p.longer }
+    put_here c.args.height c.args.self.now (roll-Node _) c.args.path.now c.args.ix c.get-i.result c.index_mut-else-height-full.result.now c.cut-middle.new.self c.cut-middle.result.0 c.cut-middle.result.1 k
+    (record { items = c.cut-middle.ensures.items; low = c.cut-middle.ensures.low; high = c.cut-middle.ensures.high }) ((full-here _ _ _ _ c.requires.full).1 (omega arith)) (row-roll _ ∙ e.row) (children-roll _ ∙ e.children) (room-from _ e.has_room)
