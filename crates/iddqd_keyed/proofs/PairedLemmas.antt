@@ -115,5 +115,5 @@ module _ {T S : Type 0} where
         valid = subst IsValid (sym binds.store) valid;
         filed = λ j. rw (binds.filed, binds.store) (filed_gained old item was.valid _ j (was.filed j) (cases_eq j (next_index old.store)));
         ordered = λ j. rw (binds.order, binds.store) (ordered_gained old item was.valid binds.place j (was.ordered j));
-        once = rw binds.order ((IsIndexList-insert old.order binds.place (next_index old.store) binds.within (next_absent old was) (live_assigned (inserted old.store item) _ valid live) (IsIndexList-paired old was)).distinct);
+        once = rw binds.order ((IsIndexList-insert old.order binds.place (next_index old.store) (next_absent old was) (live_assigned (inserted old.store item) _ valid live) (IsIndexList-paired old was)).distinct);
       }

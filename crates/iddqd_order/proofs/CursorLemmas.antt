@@ -6,8 +6,8 @@ use Rattle.std.proofs.lemmas.Option.{slice_get_past}
 use Rattle.std.specs.Borrow.{Bor}
 use Rattle.std.specs.Iterator.{YieldsFirst, YieldsLast}
 use Rattle.std.specs.List.{slice_get}
-use Rattle.iddqd_order.proofs.DescentLemmas.{after-last, before-next, child-read, child_is, path-above, path-here, get_or-index_place, index_place-within}
-use Rattle.iddqd_order.proofs.NodeLemmas.{lists, lists-one_more, lists-at, child-within, child-formed, formed-within, flat-leaf, flat-inner, place-leaf, goes-leaf, leaf-goes, goes-inner, inner-goes, place-inner}
+use Rattle.iddqd_order.proofs.DescentLemmas.{after-last, before-next, child-read, child_is, path-above, path-here, row-woven}
+use Rattle.iddqd_order.proofs.NodeLemmas.{lists, lists-one_more, lists-at, child-within, child-formed, formed-within, flat-leaf, flat-inner, place-leaf, goes-leaf, goes-inner, below-holds, reaches-here, place-inner}
 use Rattle.iddqd_order.proofs.WeaveLemmas.{apart, index_place, within}
 
 -- a path goes on below the i-th child, which was read as k
@@ -28,7 +28,7 @@ goes-in h i n k p ne e f g is_k =
 
 -- and the other way round
 pub goes-at : (h i : ℕ) (n : Node) (p : List ℕ) → h ≢ 0 → slice_index p h ≡ i → i < length (children n) → Goes (h - 1) (child n i) p → Goes h n p
-goes-at h i n p ne e here on = inner-goes h n p ne (record { here = rw e here; on = rw e on })
+goes-at h i n p ne e here on = below-holds 0 h n p ne (rw e here) (rw e on)
 
 pub place-at : (h i : ℕ) (n : Node) (p : List ℕ) → h ≢ 0 → slice_index p h ≡ i → place h n p ≡ length (before i (row n) (lists (h - 1) (children n))) + place (h - 1) (child n i) p
 place-at h i n p ne e = rw (← e) (place-inner h n p ne)
@@ -109,7 +109,7 @@ pub at_edge-leaf : (last : Bool) (h i : ℕ) (n : Node) (xs p : List ℕ) → h 
 at_edge-leaf last h i n xs p e ep ei ex =
     let within = edge-within last (length (row n)) i ei in
     let here = ap (slice_index p) (sym e) ∙ ep in
-    record { goes = leaf-goes h n p e (omega arith); place_is = edge-leaf last h i n p e ep ei; leaf_is = ex ∙ sym (leaf-zero h n p e) }
+    record { goes = rw e (reaches-here true 0 n p (omega arith)); place_is = edge-leaf last h i n p e ep ei; leaf_is = ex ∙ sym (leaf-zero h n p e) }
 
 pub at_edge-inner : (last : Bool) (h i : ℕ) (n k : Node) (xs p : List ℕ) → h ≢ 0 → IsFormed h n → i < length (children n) → k ≡ child n i → slice_index p h ≡ i → i ≡ edge_of last (length (row n))
     → AtEdge last (h - 1) k xs p → AtEdge last h n xs p
@@ -131,8 +131,8 @@ turn-at h i n p q ne f lt ep eq last first =
     let at = place-at h i n p ne ep in let to = place-at h (i + 1) n q ne eq in
     let is : place h n p ≡ index_place i xs ks = omega arith in
     let next = before-next i xs ks lt one in
-    let inside = index_place-within xs ks one i lt in
-    ((rw (is, flat-inner h n ne) inside, rw (is, flat-inner h n ne) (sym (get_or-index_place xs ks one i 0 lt))), omega arith)
+    let held = row-woven xs ks one in
+    ((rw (is, flat-inner h n ne) (held.within i lt), rw (is, flat-inner h n ne) (sym (held.at i lt))), omega arith)
 
 -- a step over an index of a node itself
 steps-here : (ahead : Bool) (h i : ℕ) (r : ℕ × ℕ) (n : Node) (p q : List ℕ) → h ≢ 0 → IsFormed h n → AreBeside ahead (length (row n)) i (Some r) → slice_index p h ≡ i → slice_index q h ≡ r.1
@@ -167,7 +167,7 @@ pub over-leaf : (ahead : Bool) (h i : ℕ) (r : ℕ × ℕ) (n : Node) (p xs q :
 over-leaf ahead h i r n p xs q e b ei eq ex =
     let inside = beside-within ahead (length (row n)) i r b in
     let here = ap (slice_index q) (sym e) ∙ eq in
-    record { goes = leaf-goes h n q e (omega arith); steps = steps-leaf ahead h i r n p q e b (sym ei) eq; leaf_is = ex ∙ sym (leaf-zero h n q e) }
+    record { goes = rw e (reaches-here true 0 n q (omega arith)); steps = steps-leaf ahead h i r n p q e b (sym ei) eq; leaf_is = ex ∙ sym (leaf-zero h n q e) }
 
 pub over-here : (ahead : Bool) (h i : ℕ) (r : ℕ × ℕ) (n k j : Node) (p xs q : List ℕ) → h ≢ 0 → IsFormed h n → Below h i n k p → i ≡ slice_index p h → AreBeside ahead (length (row n)) i (Some r)
     → place (h - 1) k p ≡ edge_of ahead (length (flat (h - 1) k)) → r.1 < length (children n) → j ≡ child n r.1 → slice_index q h ≡ r.1 → AtEdge (not ahead) (h - 1) j xs q
@@ -194,17 +194,27 @@ pub record Moved (h : ℕ) (n : Node) (p q : List ℕ) : Type 0 where
   pub place_is : place h n q + slice_index p 0 ≡ place h n p + slice_index q 0
 
 pub moved : (h : ℕ) (n : Node) (p q : List ℕ) → Goes h n p → slice_index q 0 ≤ length (leaf h n p) → ((m : ℕ) → 0 < m → slice_index q m ≡ slice_index p m) → Moved h n p q
-unfolding Goes place leaf
-moved zero n p q g le same = record { goes = le; same_leaf = refl; place_is = omega arith }
-moved (suc h) n p q g le same =
-    let e = same (suc h) (omega arith) in
-    let k : Node = child n (slice_index p (suc h)) in
-    let m = moved h k p q g.1 le same in
-    let is = m.place_is in
+moved zero n p q g le same =
+    let from = place-leaf 0 n p refl in let to = place-leaf 0 n q refl in
     record {
-      goes = rw e (g.0, m.goes);
-      same_leaf = rw e m.same_leaf;
-      place_is = rw e (omega arith);
+      goes = reaches-here true 0 n q (rw (leaf-zero 0 n p refl) at le);
+      same_leaf = leaf-zero 0 n q refl ∙ sym (leaf-zero 0 n p refl);
+      place_is = omega arith;
+    }
+moved (suc h) n p q g le same =
+    let ne : suc h ≢ 0 = λ e. absurd (omega arith) in
+    let i : ℕ = slice_index p (suc h) in
+    let e : slice_index q (suc h) ≡ i = same (suc h) (omega arith) in
+    let at = goes-inner (suc h) n p ne g in
+    let is : leaf (suc h) n p ≡ leaf h (child n i) p = rw sub-one at (leaf-at (suc h) i n p ne refl) in
+    let m = moved h (child n i) p q (rw sub-one at at.on) (rw is at le) same in
+    let from : place (suc h) n p ≡ length (before i (row n) (lists h (children n))) + place h (child n i) p = rw sub-one at (place-at (suc h) i n p ne refl) in
+    let to : place (suc h) n q ≡ length (before i (row n) (lists h (children n))) + place h (child n i) q = rw sub-one at (place-at (suc h) i n q ne e) in
+    let moved = m.place_is in
+    record {
+      goes = goes-at (suc h) i n q ne e at.here (rw sub-one m.goes);
+      same_leaf = (rw sub-one at (leaf-at (suc h) i n q ne e)) ∙ m.same_leaf ∙ sym is;
+      place_is = omega arith;
     }
 
 -- a leaf, of which at most eleven indexes are at their places in the whole list
@@ -216,9 +226,10 @@ leaf-few (suc h) n p f g =
     rw (leaf-at (suc h) _ n p (λ e. absurd (omega arith)) refl, sub-one) (leaf-few h _ p (rw sub-one at below) (rw sub-one at at.on))
 
 pub goes-within : (h : ℕ) (n : Node) (p : List ℕ) → Goes h n p → slice_index p 0 ≤ length (leaf h n p)
-unfolding Goes leaf
-goes-within zero n p g = g
-goes-within (suc h) n p g = goes-within h _ p g.1
+goes-within zero n p g = rw (leaf-zero 0 n p refl) (goes-leaf 0 n p refl g)
+goes-within (suc h) n p g =
+    let at = goes-inner (suc h) n p (λ e. absurd (omega arith)) g in
+    rw (leaf-at (suc h) _ n p (λ e. absurd (omega arith)) refl, sub-one) (goes-within h _ p (rw sub-one at at.on))
 
 pub leaf-read : (h : ℕ) (n : Node) (p : List ℕ) → IsFormed h n → Goes h n p → slice_index p 0 < length (leaf h n p) → IsBehind (flat h n) (place h n p) (slice_index (leaf h n p) (slice_index p 0))
 leaf-read zero n p f g lt = rw (leaf-zero 0 n p refl, flat-leaf 0 n refl, place-leaf 0 n p refl) (rw (leaf-zero 0 n p refl) at lt, refl)
@@ -244,7 +255,7 @@ IsAt-whole t h n p row at e whole g is ea =
 
 -- another place of the leaf
 pub IsAt-moved : (t : Option Node) (h i : ℕ) (p row : List ℕ) (at : ℕ) → IsTree t h → IsAt t h p row at → i ≤ length row → IsAt t h p row i × (place_in t h (to_gap p i) + at ≡ place_in t h (to_gap p at) + i)
-IsAt-moved None h i p row at t a le = (record { gap = record { whole = a.gap.whole; goes = tt }; leaf = a.leaf; within = le }, (let none = ap length a.leaf in let within = a.within in omega arith))
+IsAt-moved None h i p row at t a le = (record { gap = record { whole = a.gap.whole; goes = omega arith }; leaf = a.leaf; within = le }, (let none = ap length a.leaf in let within = a.within in omega arith))
 IsAt-moved (Some n) h i p row at t a le =
     let whole = a.gap.whole in
     let here : slice_index (to_gap p i) 0 ≡ i = path-here p (to_gap p i) 0 i whole (omega arith) refl in

@@ -1,17 +1,14 @@
 -- The number of binary digits.
-use Rattle.iddqd_order.proofs.Names.{◌≡◌, ℕ, zero, suc, ◌+◌, ◌/◌, ◌<◌, ◌≤◌, refl, ap, arith, digits, digits_within}
+use Rattle.iddqd_order.proofs.Names.{◌≡◌, ℕ, zero, suc, ◌+◌, ◌/◌, ◌<◌, ◌≤◌, refl, ap, sym, ◌∙◌, arith, digits, digits_within}
 
 pub digits_within-zero : (k : ℕ) → digits_within k 0 ≡ 0
 digits_within-zero zero = refl
 digits_within-zero (suc k) = refl
 
 pub digits_within-enough : (k m n : ℕ) → n ≤ k → n ≤ m → digits_within k n ≡ digits_within m n
-digits_within-enough zero zero zero h h' = refl
-digits_within-enough zero (suc m) zero h h' = refl
+digits_within-enough k m zero h h' = digits_within-zero k ∙ sym (digits_within-zero m)
 digits_within-enough zero m (suc n) h h' = absurd (omega arith)
-digits_within-enough (suc k) zero zero h h' = refl
 digits_within-enough (suc k) zero (suc n) h h' = absurd (omega arith)
-digits_within-enough (suc k) (suc m) zero h h' = refl
 digits_within-enough (suc k) (suc m) (suc n) h h' = ap (λ x. 1 + x) (digits_within-enough k m (suc n / 2) (omega arith) (omega arith))
 
 pub digits_within-mono : (k a b : ℕ) → a ≤ b → digits_within k a ≤ digits_within k b
@@ -19,8 +16,7 @@ digits_within-mono zero a b h = omega arith
 digits_within-mono (suc k) zero b h = omega (arith, digits_within-zero (suc k))
 digits_within-mono (suc k) (suc a) zero h = absurd (omega arith)
 digits_within-mono (suc k) (suc a) (suc b) h =
-    let half : suc a / 2 ≤ suc b / 2 = omega arith in
-    let less : digits_within k (suc a / 2) ≤ digits_within k (suc b / 2) = digits_within-mono k (suc a / 2) (suc b / 2) half in
+    let less = digits_within-mono k (suc a / 2) (suc b / 2) (omega arith) in
     let goal : 1 + digits_within k (suc a / 2) ≤ 1 + digits_within k (suc b / 2) = omega arith in
     goal
 

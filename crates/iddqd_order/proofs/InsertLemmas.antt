@@ -1,16 +1,7 @@
 -- What an insert leaves of a node.
-use Rattle.std.proofs.Common.{◌≡◌, ℕ, zero, suc, ◌+◌, ◌-◌, ◌<◌, ◌≤◌, ◌≢◌, List, [], ◌∷◌, ◌++◌, length, set, get_or, slice_index, refl, ap, sym, ◌∙◌, arith, length-append, length-set, subst, All, inl, inr}
-use Rattle.std.proofs.lemmas.Bool.{cases_lt}
-use Rattle.std.specs.List.{insert}
-use Rattle.std.proofs.lemmas.List.{length-map, get_or-map, map-set, map-append}
-use Rattle.std.proofs.lemmas.List.Edits.{length-insert}
-use Rattle.std.proofs.lemmas.List.Elements.{All-set, All-take, All-drop}
-use Rattle.std.proofs.Math.Seq.{drop-append_seam, take-append_seam}
-use Rattle.iddqd_order.specs.declared.btree_table.node.Node.{Node}
-use Rattle.iddqd_order.specs.Node.{row, children, child, room, weave, before, flat, IsInner, IsFormed, Goes, place, IsFullBelow}
-use Rattle.iddqd_order.specs.Row.{IsCut}
+use Rattle.iddqd_order.proofs.Names.{IsPut, ◌≡◌, ◌≢◌, ℕ, zero, suc, ◌+◌, ◌-◌, ◌<◌, ◌≤◌, true, List, [], ◌∷◌, ◌++◌, length, set, get_or, slice_index, refl, ap, sym, ◌∙◌, subst, arith, inl, inr, All, cases_lt, insert, length-append, length-set, length-map, length-insert, get_or_default, map-set, map-append, All-set, All-take, All-drop, drop-append_seam, take-append_seam, Node, row, children, child, room, weave, before, flat, IsInner, IsFormed, Goes, place, IsFullBelow, IsCut}
 use Rattle.iddqd_order.proofs.WeaveLemmas.{edited, widened, weave-append}
-use Rattle.iddqd_order.proofs.NodeLemmas.{AreChildren, lists, formed-leaf, leaf-formed, flat-leaf, goes-leaf, place-leaf, formed-within, formed-inner, inner-formed, flat-inner, goes-inner, place-inner, full-inner, full-here, any_default, map-insert, All-insert, place-within}
+use Rattle.iddqd_order.proofs.NodeLemmas.{AreChildren, GoesDown, goes-below, lists, lists-at, lists-one_more, formed-leaf, leaf-formed, flat-leaf, goes-leaf, place-leaf, formed-within, formed-inner, inner-formed, flat-inner, full-on, full-here, map-insert, All-insert}
 
 -- g is the i-th child, which the path takes
 pub record IsTaken (h : ℕ) (old : Node) (p : List ℕ) (i : ℕ) (g : Node) : Type 0 where
@@ -20,12 +11,13 @@ pub record IsTaken (h : ℕ) (old : Node) (p : List ℕ) (i : ℕ) (g : Node) : 
   pub at : i ≡ slice_index p h
   pub is : g ≡ get_or (children old) i g
 
+pub is_taken : (h : ℕ) (old : Node) (p : List ℕ) (i : ℕ) (g : Node) → h ≢ 0 → IsFormed h old → Goes h old p → i ≡ slice_index p h → g ≡ get_or (children old) i g → IsTaken h old p i g
+is_taken h old p i g ne f goes at is = record { inner = ne; formed = f; goes = goes; at = at; is = is }
+
 -- what is known of it
 pub record Taken (h : ℕ) (old : Node) (p : List ℕ) (i : ℕ) (g : Node) : Type 0 where
   pub same : g ≡ child old i
   pub here : i < length (children old)
-  pub in_lists : i < length (lists (h - 1) (children old))
-  pub one_more : length (lists (h - 1) (children old)) ≡ length (row old) + 1
   pub node : IsInner old
   pub below : AreChildren (h - 1) (children old)
   pub least : 5 ≤ length (row g)
@@ -38,36 +30,22 @@ pub record Taken (h : ℕ) (old : Node) (p : List ℕ) (i : ℕ) (g : Node) : Ty
 pub taken : (h : ℕ) (old : Node) (p : List ℕ) (i : ℕ) (g : Node) → IsTaken h old p i g → Taken h old p i g
 taken h old p i g t =
     let fs = formed-inner h old t.inner t.formed in
-    let at = goes-inner h old p t.inner t.goes in
-    let here : i < length (children old) = rw t.at at.here in
-    let same : g ≡ child old i = t.is ∙ any_default (children old) i g old here in
-    let on : Goes (h - 1) (child old i) p = rw t.at at.on in
-    let len : length (lists (h - 1) (children old)) ≡ length (children old) = length-map (children old) (λ k. flat (h - 1) k) in
-    let one = fs.inner.one_more in
-    let of : (5 ≤ length (row (child old i))) × IsFormed (h - 1) (child old i) = fs.below i old here in
-    let formed : IsFormed (h - 1) g = rw same of.1 in
-    let goes : Goes (h - 1) g p = rw same on in
-    let list : get_or (lists (h - 1) (children old)) i [] ≡ flat (h - 1) g = get_or-map (λ k. flat (h - 1) k) (children old) i old [] here ∙ ap (λ z. flat (h - 1) z) (sym same) in
-    record {
-      same = same;
-      here = here;
-      in_lists = omega arith;
-      one_more = omega arith;
+    let ne = t.inner in
+    let b : GoesDown true h 0 i old p = goes-below h 0 i old p (omega arith) t.at t.formed t.goes in
+    let same : g ≡ child old i = t.is ∙ get_or_default (children old) i g old b.here in
+    let list = lists-at (h - 1) old i b.here in
+    rw same (record {
+      same = refl;
+      here = b.here;
       node = fs.inner;
       below = fs.below;
-      least = rw same of.0;
-      formed = formed;
-      goes = goes;
+      least = b.five;
+      formed = b.formed;
+      goes = b.holds;
       list = list;
-      within = rw list (place-within (h - 1) g p formed goes);
-      place_is = place-inner h old p t.inner ∙ ap (λ z. length (before z (row old) (lists (h - 1) (children old))) + place (h - 1) (child old z) p) (sym t.at) ∙ ap (λ z. length (before i (row old) (lists (h - 1) (children old))) + place (h - 1) z p) (sym same);
-    }
-
--- an index was put in, and the node is as it has to be
-pub record Put (h : ℕ) (old new : Node) (p : List ℕ) (x : ℕ) : Type 0 where
-  pub items : flat h new ≡ insert (flat h old) (place h old p) x
-  pub formed : IsFormed h new
-  pub longer : length (row old) ≤ length (row new)
+      within = rw list b.within;
+      place_is = b.place;
+    })
 
 -- an index was put in, and the node is cut in two about the index m
 pub record Cut (h : ℕ) (old new : Node) (m : ℕ) (up : Node) (p : List ℕ) (x : ℕ) : Type 0 where
@@ -76,17 +54,19 @@ pub record Cut (h : ℕ) (old new : Node) (m : ℕ) (up : Node) (p : List ℕ) (
   pub high : (5 ≤ length (row up)) × IsFormed h up
 
 -- the child that the path takes got the index: k stands in its place
-pub put_below : (h : ℕ) (old new : Node) (p : List ℕ) (x : ℕ) (i : ℕ) (g k : Node) → IsTaken h old p i g → Put (h - 1) g k p x
-    → row new ≡ row old → children new ≡ set (children old) i k → 12 ≤ room new → Put h old new p x
+pub put_below : (h : ℕ) (old new : Node) (p : List ℕ) (x : ℕ) (i : ℕ) (g k : Node) → IsTaken h old p i g → IsPut (h - 1) g k p x
+    → row new ≡ row old → children new ≡ set (children old) i k → 12 ≤ room new → IsPut h old new p x
 put_below h old new p x i g k t d er ek rm =
     let b = taken h old p i g t in
     let f : Node → List ℕ = λ k. flat (h - 1) k in
     let ls : List (List ℕ) = lists (h - 1) (children old) in
     let one = b.node.one_more in
     let few = b.node.within in
+    let counted = lists-one_more h old t.inner t.formed in
+    let here = b.here in
     let k_least : 5 ≤ length (row k) = let a = b.least in let l = d.longer in omega arith in
     let e1 : lists (h - 1) (children new) ≡ set ls i (f k) = ap (λ z. lists (h - 1) z) ek ∙ map-set f (children old) i k in
-    let e2 = edited i (row old) ls [] (f k) (place (h - 1) g p) x b.in_lists b.one_more b.within (d.items ∙ ap (λ z. insert z (place (h - 1) g p) x) (sym b.list)) in
+    let e2 = edited i (row old) ls [] (f k) (place (h - 1) g p) x (omega arith) counted b.within (d.items ∙ ap (λ z. insert z (place (h - 1) g p) x) (sym b.list)) in
     let ln : length (children new) ≡ length (children old) = ap length ek ∙ length-set (children old) i k in
     let P : Node → Type 0 = λ k. (5 ≤ length (row k)) × IsFormed (h - 1) k in
     record {
@@ -97,16 +77,17 @@ put_below h old new p x i g k t d er ek rm =
 
 -- the child was cut in two, and the node had room for the upper part
 pub put_here : (h : ℕ) (old new : Node) (p : List ℕ) (x : ℕ) (i : ℕ) (g k : Node) (m : ℕ) (u : Node) → IsTaken h old p i g → Cut (h - 1) g k m u p x
-    → length (row old) < 11 → row new ≡ insert (row old) i m → children new ≡ insert (set (children old) i k) (i + 1) u → 12 ≤ room new → Put h old new p x
+    → length (row old) < 11 → row new ≡ insert (row old) i m → children new ≡ insert (set (children old) i k) (i + 1) u → 12 ≤ room new → IsPut h old new p x
 put_here h old new p x i g k m u t d lt er ek rm =
     let b = taken h old p i g t in
     let f : Node → List ℕ = λ k. flat (h - 1) k in
     let ls : List (List ℕ) = lists (h - 1) (children old) in
     let one = b.node.one_more in
+    let counted = lists-one_more h old t.inner t.formed in
     let here = b.here in
     let e1 : lists (h - 1) (children new) ≡ insert (set ls i (f k)) (i + 1) (f u) =
     ap (λ z. lists (h - 1) z) ek ∙ map-insert f (set (children old) i k) (i + 1) u ∙ ap (λ z. insert z (i + 1) (f u)) (map-set f (children old) i k) in
-    let e2 = widened i (row old) ls [] (f k) (f u) m (place (h - 1) g p) x b.in_lists b.one_more b.within (d.items ∙ ap (λ z. insert z (place (h - 1) g p) x) (sym b.list)) in
+    let e2 = widened i (row old) ls [] (f k) (f u) m (place (h - 1) g p) x (omega arith) counted b.within (d.items ∙ ap (λ z. insert z (place (h - 1) g p) x) (sym b.list)) in
     let same = length-set (children old) i k in
     let ln : length (children new) ≡ length (children old) + 1 = ap length ek ∙ length-insert (set (children old) i k) (i + 1) u (omega arith) ∙ ap (λ z. z + 1) same in
     let lr : length (row new) ≡ length (row old) + 1 = ap length er ∙ length-insert (row old) i m (omega arith) in
@@ -141,10 +122,11 @@ cut_here h old new m2 up p x i g k m u t d c ek lk rm ru =
     let ls : List (List ℕ) = lists (h - 1) (children old) in
     let P : Node → Type 0 = λ k. (5 ≤ length (row k)) × IsFormed (h - 1) k in
     let one = b.node.one_more in
+    let counted = lists-one_more h old t.inner t.formed in
     let here = b.here in
     let e1 : lists (h - 1) (children new) ++ lists (h - 1) (children up) ≡ insert (set ls i (f k)) (i + 1) (f u) =
     sym (map-append f (children new) (children up)) ∙ ap (λ z. lists (h - 1) z) ek ∙ map-insert f (set (children old) i k) (i + 1) u ∙ ap (λ z. insert z (i + 1) (f u)) (map-set f (children old) i k) in
-    let e2 = widened i (row old) ls [] (f k) (f u) m (place (h - 1) g p) x b.in_lists b.one_more b.within (d.items ∙ ap (λ z. insert z (place (h - 1) g p) x) (sym b.list)) in
+    let e2 = widened i (row old) ls [] (f k) (f u) m (place (h - 1) g p) x (omega arith) counted b.within (d.items ∙ ap (λ z. insert z (place (h - 1) g p) x) (sym b.list)) in
     let lm = length-map (children new) f in
     let e3 : weave (row new ++ m2 ∷ row up) (lists (h - 1) (children new) ++ lists (h - 1) (children up)) ≡ weave (row new) (lists (h - 1) (children new)) ++ m2 ∷ weave (row up) (lists (h - 1) (children up)) =
     weave-append (row new) m2 (row up) (lists (h - 1) (children new)) (lists (h - 1) (children up)) (omega arith) in
@@ -166,46 +148,43 @@ cut_here h old new m2 up p x i g k m u t d c ek lk rm ru =
       high = (omega arith, inner-formed h up t.inner (record { within = omega arith; one_more = omega arith; has_room = ru }) (All-back P (children new) (children up) every));
     }
 
+-- the place of a path in a leaf
+pub leaf_place : (h : ℕ) (n : Node) (p : List ℕ) → h ≡ 0 → Goes h n p → slice_index p h ≤ length (row n)
+leaf_place h n p e g = rw e (goes-leaf h n p e g)
+
 -- at a leaf with room
 pub put_leaf : (h : ℕ) (old new : Node) (p : List ℕ) (i x : ℕ) → h ≡ 0 → IsFormed h old → Goes h old p → i ≡ slice_index p h → length (row old) < 11
-    → row new ≡ insert (row old) i x → children new ≡ children old → Put h old new p x
-put_leaf zero old new p i x e f g at lt er ek =
-    let l = formed-leaf 0 old refl f in
-    let le : i ≤ length (row old) = rw at (goes-leaf 0 old p refl g) in
+    → row new ≡ insert (row old) i x → children new ≡ children old → IsPut h old new p x
+put_leaf h old new p i x e f g at lt er ek =
+    let l = formed-leaf h old e f in
+    let le : i ≤ length (row old) = rw at (leaf_place h old p e g) in
     let lr : length (row new) ≡ length (row old) + 1 = ap length er ∙ length-insert (row old) i x le in
     record {
-      items = rw (flat-leaf 0 new refl, flat-leaf 0 old refl, place-leaf 0 old p refl, ← at) er;
-      formed = leaf-formed 0 new refl (record { within = omega arith; childless = ek ∙ l.childless });
+      items = rw (flat-leaf h new e, flat-leaf h old e, place-leaf h old p e) (er ∙ ap (λ z. insert (row old) z x) (at ∙ ap (slice_index p) e));
+      formed = leaf-formed h new e (record { within = omega arith; childless = ek ∙ l.childless });
       longer = omega arith;
     }
-put_leaf (suc h) old new p i x e f g at lt er ek = absurd (omega arith)
 
 -- at a full leaf
 pub cut_leaf : (h : ℕ) (old new : Node) (m : ℕ) (up : Node) (p : List ℕ) (i x : ℕ) → h ≡ 0 → IsFormed h old → Goes h old p → i ≡ slice_index p h
     → IsCut (row old) i x (row new) m (row up) → children new ≡ children old → children up ≡ [] → Cut h old new m up p x
-cut_leaf zero old new m up p i x e f g at c ek eu =
-    let l = formed-leaf 0 old refl f in
+cut_leaf h old new m up p i x e f g at c ek eu =
+    let l = formed-leaf h old e f in
     let low = low_within (length (row new)) i c.low_length in
     let low5 : 5 ≤ length (row new) = low.0 in
     let low6 : length (row new) ≤ 6 = low.1 in
     let sum = c.high_length in
     record {
-      items = rw (flat-leaf 0 new refl, flat-leaf 0 up refl, flat-leaf 0 old refl, place-leaf 0 old p refl, ← at) c.is;
-      low = (low5, leaf-formed 0 new refl (record { within = omega arith; childless = ek ∙ l.childless }));
-      high = (omega arith, leaf-formed 0 up refl (record { within = omega arith; childless = eu }));
+      items = rw (flat-leaf h new e, flat-leaf h up e, flat-leaf h old e, place-leaf h old p e) (c.is ∙ ap (λ z. insert (row old) z x) (at ∙ ap (slice_index p) e));
+      low = (low5, leaf-formed h new e (record { within = omega arith; childless = ek ∙ l.childless }));
+      high = (omega arith, leaf-formed h up e (record { within = omega arith; childless = eu }));
     }
-cut_leaf (suc h) old new m up p i x e f g at c ek eu = absurd (omega arith)
-
--- the place of a path in a leaf
-pub leaf_place : (h : ℕ) (n : Node) (p : List ℕ) → h ≡ 0 → Goes h n p → slice_index p h ≤ length (row n)
-leaf_place zero n p e g = goes-leaf 0 n p refl g
-leaf_place (suc h) n p e g = absurd (omega arith)
 
 -- the levels below the node are full as far as they have to be
 pub full_child : (k h : ℕ) (old : Node) (p : List ℕ) (i : ℕ) (g : Node) → IsTaken h old p i g → IsFullBelow k h old p → IsFullBelow k (h - 1) g p
 full_child k h old p i g t f =
     let b = taken h old p i g t in
-    let on = (full-inner k h old p t.inner f).on in
+    let on = full-on k h old p t.inner f in
     let same : g ≡ child old (slice_index p h) = b.same ∙ ap (λ z. child old z) t.at in
     rw same on
 

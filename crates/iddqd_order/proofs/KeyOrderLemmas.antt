@@ -1,10 +1,22 @@
 -- For callers too. What lawful keys give a table in order by key, ties by index.
-use Rattle.iddqd_order.proofs.Names.{◌≡◌, ◌∙◌, ℕ, ◌+◌, ◌<◌, ◌==◌, ◌⊎◌, inl, inr, if◌then◌else◌, List, None, Some, length, map, get_or, insert, Contains, refl, sym, ap, Bool, true, false, eqb-true, Ordering, arith, IsTotalOrder, nat_cmp_is, IsStrictlySortedBy, nat_cmp, ordering_then, ordering_reverse, MatchOrdering, Less, Equal, Greater, nat_cmp_total, on_total, then_total, tied_itself, alike_right, ranked, get_or_default, get_or-map, length-map, Contains-get_or, Less-from_sorted, sorted_from_all_adjacent, greater_before_in, key_then_index, IsInKeyOrder, ComparesKeys, with_ties, IsRising, IsPlace}
-use Rattle.iddqd_order.proofs.IndexListLemmas.{AllPairs-insert}
+use Rattle.iddqd_order.proofs.Names.{◌≡◌, ◌∙◌, ℕ, ◌+◌, ◌<◌, ◌==◌, ◌⊎◌, inl, inr, List, None, Some, length, map, get_or, insert, Contains, refl, sym, ap, eqb-true, zero, suc, [], ◌∷◌, ◌≤◌, Ordering, arith, IsTotalOrder, nat_cmp_is, IsStrictlySortedBy, nat_cmp, ordering_then, ordering_reverse, Less, Equal, Greater, nat_cmp_total, on_total, then_total, tied_itself, alike_right, by_ranked, cond_both, ranked, get_or_default, get_or-map, length-map, Contains-get_or, Less-from_sorted, recursion_from_All, All-from_recursion, sorted_from_all_adjacent, greater_before_in, key_then_index, IsInKeyOrder, ComparesKeys, with_ties, IsRising, IsPlace}
+use Rattle.iddqd_order.proofs.NodeLemmas.{All-insert}
 
 -- two that stand the other way round
 Less-from_greater : {K : Type 0} {c : K → K → Ordering} → IsTotalOrder c → {a b : K} → c a b ≡ Greater → c b a ≡ Less
 Less-from_greater o {a} {b} e = o.antisymm b a ∙ ap ordering_reverse e
+
+-- a sorted list stays so where x goes between what is less and what is greater
+sorted-insert : (c : ℕ → ℕ → Ordering) (xs : List ℕ) (p x : ℕ) → IsStrictlySortedBy c xs → p ≤ length xs → ((k : ℕ) → k < p → c (get_or xs k 0) x ≡ Less)
+    → ((k : ℕ) → p ≤ k → k < length xs → c x (get_or xs k 0) ≡ Less) → IsStrictlySortedBy c (insert xs p x)
+unfolding IsStrictlySortedBy
+sorted-insert c xs zero x s le below above =
+    (recursion_from_All (λ y. c x y ≡ Less) xs (λ k d lt. ap (c x) (get_or_default xs k d 0 lt) ∙ above k (omega arith) lt), s)
+sorted-insert c [] (suc p) x s le below above = absurd (omega arith)
+sorted-insert c (y ∷ ys) (suc p) x s le below above = (
+  recursion_from_All (λ z. c y z ≡ Less) (insert ys p x) (All-insert (λ z. c y z ≡ Less) ys p x (All-from_recursion (λ z. c y z ≡ Less) ys s.0) (below 0 (omega arith))),
+  sorted-insert c ys p x s.1 (omega arith) (λ k lt. below (suc k) (omega arith)) (λ k from lt. above (suc k) (omega arith) (omega arith)),
+)
 
 -- a list of indexes that a total order sorts, and answers that place ix in that order
 module _ {c : ℕ → ℕ → Ordering} (o : IsTotalOrder c) (xs : List ℕ) (sorted : IsStrictlySortedBy c xs)
@@ -20,16 +32,9 @@ module _ {c : ℕ → ℕ → Ordering} (o : IsTotalOrder c) (xs : List ℕ) (so
   pub IsStrictlySortedBy-insert : (place : ℕ) → IsPlace answer xs place → IsStrictlySortedBy c (insert xs place ix)
   IsStrictlySortedBy-insert place split =
       let within = split.within in
-      sorted_from_all_adjacent o (insert xs place ix) 0 (λ k lt.
-      AllPairs-insert (λ a b. c a b ≡ Less) xs place ix within
-      (λ i j d less in_list. Less-from_sorted c xs i j d sorted less in_list)
-      (λ i d low. ap (λ y. c y ix) (get_or_default xs i d 0 (omega arith)) ∙ Less-from_greater o (sym (is i (omega arith)) ∙ split.greater_before i low))
-      (λ i d high in_list. ap (c ix) (get_or_default xs i d 0 in_list) ∙ sym (is i in_list) ∙ split.less_from i high in_list)
-      k (k + 1) 0 (omega arith) lt)
-
-choice : (b : Bool) (r s : Ordering) → (b ≡ true → Equal ≡ s) → r ≡ s → if b then Equal else r ≡ s
-choice true r s h e = h refl
-choice false r s h e = e
+      sorted-insert c xs place ix sorted within
+      (λ k lt. Less-from_greater o (sym (is k (omega arith)) ∙ split.greater_before k lt))
+      (λ k from lt. sym (is k lt) ∙ split.less_from k from lt)
 
 -- of two in order, the first has the smaller key or an equal one
 keys_of : (r s : Ordering) → ordering_then r s ≡ Less → (r ≡ Less) ⊎ (r ≡ Equal)
@@ -45,10 +50,9 @@ module _ {K : Type 0} {cmp : K → K → Ordering} (o : IsTotalOrder cmp) (key :
   pub with_ties-key : (ix : ℕ) (answer : ℕ → Ordering) (xs : List ℕ) → ComparesKeys (cmp (key ix)) key answer xs → (k : ℕ) → k < length xs → with_ties (Some ix) answer (get_or xs k 0) ≡ key_then_index cmp key ix (get_or xs k 0)
   with_ties-key ix answer xs compares k lt =
       let j = get_or xs k 0 in
-      choice (j == ix) _ _ (λ e.
-      let same : j ≡ ix = eqb-true j ix e in
-      sym (ap (key_then_index cmp key ix) same ∙ tied_itself key_then_index-total ix))
-      (ap (λ r. ordering_then r (nat_cmp ix j)) (compares k 0 lt))
+      cond_both (j == ix) Equal (ordering_then (answer j) (nat_cmp ix j)) (λ r. r ≡ key_then_index cmp key ix j)
+      (λ e. sym (ap (key_then_index cmp key ix) (eqb-true j ix e) ∙ tied_itself key_then_index-total ix))
+      (λ e. ap (λ r. ordering_then r (nat_cmp ix j)) (compares k 0 lt))
 
   -- what agrees with the order of the keys
   module _ (compare : K → Ordering)
@@ -82,13 +86,8 @@ module _ {K : Type 0} {cmp : K → K → Ordering} (o : IsTotalOrder cmp) (key :
 -- numbers that rise keep their comparison
 less_again : (a b c d : ℕ) → (a < b → c < d) → nat_cmp a b ≡ Less → nat_cmp c d ≡ Less
 less_again a b c d up less =
-    let lt : a < b = by_answer (nat_cmp a b) (ranked a b _ refl) less in
+    let lt : a < b = by_ranked (a < b) (a ≡ b) (b < a) (nat_cmp a b) (ranked a b _ refl) (λ _ lt. lt) (λ e _. absurd (cc)) (λ e _. absurd (cc)) in
     sym (nat_cmp_is c d Less (up lt))
-  where
-    by_answer : (r : Ordering) → MatchOrdering r (a < b) (a ≡ b) (b < a) → r ≡ Less → a < b
-    by_answer Less h e = h
-    by_answer Equal h e = absurd cc
-    by_answer Greater h e = absurd cc
 
 -- a tie that is broken the same way again
 then_again : (r s t : Ordering) → (s ≡ Less → t ≡ Less) → ordering_then r s ≡ Less → ordering_then r t ≡ Less

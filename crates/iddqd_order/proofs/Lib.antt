@@ -1,5 +1,4 @@
 pub mod AskLemmas
-mod CopyLemmas
 mod CountSteps
 mod CursorLemmas
 mod DescentLemmas
@@ -18,7 +17,6 @@ mod ReckoningLemmas
 mod RemovalLemmas
 pub mod RenameLemmas
 mod RetainLemmas
-pub mod RowLemmas
 mod SearchLemmas
 pub mod TableLemmas
 pub mod TreeLemmas

@@ -1,73 +1,44 @@
 -- What an insert and a removal do to the members of a list of indexes.
-use Rattle.iddqd_order.proofs.Names.{◌≡◌, ◌≢◌, ◌∙◌, ◌⊎◌, inl, inr, ◌==◌, ℕ, true, false, not, List, [], ◌∷◌, ◌++◌, take, drop, insert, map, refl, sym, subst, arith, Contains, cases_eq, nat_tests, take-append-drop, Contains-append_left, Contains-append_right, Contains-append_cases, without}
-use Rattle.iddqd.proofs.StoreLemmas.{contains_head, contains_tail, contains_cases, contains_none}
+use Rattle.iddqd_order.proofs.Names.{◌≡◌, ◌≢◌, ◌⊎◌, inl, inr, ◌==◌, ℕ, Bool, true, false, not, List, [], ◌∷◌, insert, ◌++◌, filter, map, refl, sym, Contains, eqb-true, eqb-false, not-true, All-contains, All-contains_itself, All-filter, filter_passes, Contains-append_cases, Contains-permutation, IsPermutation, IsPermutation-insert, IsPermutation-sym, IsPermutation-filter_both, without}
+use Rattle.iddqd.proofs.StoreLemmas.{contains_head, contains_tail, contains_cases}
 
 -- what stands in the list after an insert
 module _ (xs : List ℕ) (place ix : ℕ) where
+  moved : IsPermutation (ix ∷ xs) (insert xs place ix)
+  moved = IsPermutation-insert xs place ix
+
   pub contains-inserted_at : Contains (insert xs place ix) ix
-  contains-inserted_at = Contains-append_right (take place xs) _ ix (contains_head ix (drop place xs))
+  contains-inserted_at = Contains-permutation (ix ∷ xs) (insert xs place ix) ix moved (contains_head ix xs)
 
   pub contains-inserted_other : (j : ℕ) → Contains xs j → Contains (insert xs place ix) j
-  contains-inserted_other j here =
-      elim (Contains-append_cases (take place xs) (drop place xs) j (subst (λ l. Contains l j) (sym (take-append-drop place xs)) here)) [
-        | inl front ↦ Contains-append_left (take place xs) _ j front
-        | inr back ↦ Contains-append_right (take place xs) _ j (contains_tail ix j (drop place xs) back)
-      ]
+  contains-inserted_other j here = Contains-permutation (ix ∷ xs) (insert xs place ix) j moved (contains_tail ix j xs here)
 
   pub contains-inserted_cases : (j : ℕ) → Contains (insert xs place ix) j → (j ≡ ix) ⊎ Contains xs j
   contains-inserted_cases j here =
-      let whole : Contains (take place xs ++ drop place xs) j → Contains xs j = subst (λ l. Contains l j) (take-append-drop place xs) in
-      elim (Contains-append_cases (take place xs) (ix ∷ drop place xs) j here) [
-        | inl front ↦ inr (whole (Contains-append_left (take place xs) (drop place xs) j front))
-        | inr back ↦ elim (contains_cases ix j (drop place xs) back) [
-          | inl same ↦ inl (sym same)
-          | inr later ↦ inr (whole (Contains-append_right (take place xs) (drop place xs) j later))
-        ]
+      elim (contains_cases ix j xs (Contains-permutation (insert xs place ix) (ix ∷ xs) j (IsPermutation-sym (ix ∷ xs) (insert xs place ix) moved) here)) [
+        | inl same ↦ inl (sym same)
+        | inr other ↦ inr other
       ]
 
--- a test that keeps all numbers but one
-kept_or_not : (y ix : ℕ) → ((y ≡ ix) × (not (y == ix) ≡ false)) ⊎ ((y ≢ ix) × (not (y == ix) ≡ true))
-kept_or_not y ix =
-    elim (cases_eq y ix) [
-      | inl same ↦ inl (same, grind (arith, nat_tests, same))
-      | inr other ↦ inr (other, grind (arith, nat_tests, other))
-    ]
+twice : (b : Bool) → b ≡ not (not b)
+twice true = refl
+twice false = refl
 
 -- the members but for one
-pub contains-without : (xs : List ℕ) (ix j : ℕ) → Contains xs j → j ≢ ix → Contains (without xs ix) j
-contains-without [] ix j here other = here
-contains-without (y ∷ ys) ix j here other =
-    let first : (y ≡ j) ⊎ Contains ys j = contains_cases y j ys here in
-    elim (kept_or_not y ix) [
-      | inl same ↦
-          rw same.1 (elim first [
-            | inl is ↦ absurd (other (sym is ∙ same.0))
-            | inr later ↦ contains-without ys ix j later other
-          ])
-      | inr apart ↦
-          rw apart.1 (elim first [
-            | inl is ↦ subst (λ x. Contains (y ∷ without ys ix) x) is (contains_head y (without ys ix))
-            | inr later ↦ contains_tail y j (without ys ix) (contains-without ys ix j later other)
-          ])
-    ]
+module _ (xs : List ℕ) (ix j : ℕ) where
+  pub contains-without : Contains xs j → j ≢ ix → Contains (without xs ix) j
+  contains-without here other =
+      let parts = IsPermutation-filter_both (λ (k : ℕ). not (k == ix)) (λ k. k == ix) (λ k. twice (k == ix)) xs in
+      elim (Contains-append_cases (without xs ix) (filter (λ k. k == ix) xs) j (Contains-permutation xs (without xs ix ++ filter (λ k. k == ix) xs) j parts here)) [
+        | inl kept ↦ kept
+        | inr left ↦ absurd (other (eqb-true j ix (All-contains (λ k. (k == ix) ≡ true) (filter (λ k. k == ix) xs) j (filter_passes (λ k. k == ix) xs) left)))
+      ]
 
-pub contains-from_without : (xs : List ℕ) (ix j : ℕ) → Contains (without xs ix) j → Contains xs j × (j ≢ ix)
-contains-from_without [] ix j here = absurd (contains_none j here)
-contains-from_without (y ∷ ys) ix j here =
-    elim (kept_or_not y ix) [
-      | inl same ↦
-          let rest : Contains (without ys ix) j = rw same.1 at here in
-          let back = contains-from_without ys ix j rest in
-          (contains_tail y j ys back.0, back.1)
-      | inr apart ↦
-          let kept : Contains (y ∷ without ys ix) j = rw apart.1 at here in
-          elim (contains_cases y j (without ys ix) kept) [
-            | inl is ↦ (subst (λ x. Contains (y ∷ ys) x) is (contains_head y ys), λ same. apart.0 (is ∙ same))
-            | inr later ↦
-                let back = contains-from_without ys ix j later in
-                (contains_tail y j ys back.0, back.1)
-          ]
-    ]
+  pub contains-from_without : Contains (without xs ix) j → Contains xs j × (j ≢ ix)
+  contains-from_without here = (
+    All-contains (Contains xs) (without xs ix) j (All-filter (λ k. not (k == ix)) (Contains xs) xs (All-contains_itself xs)) here,
+    eqb-false j ix (not-true (j == ix) (All-contains (λ k. not (k == ix) ≡ true) (without xs ix) j (filter_passes (λ k. not (k == ix)) xs) here)),
+  )
 
 -- names that agree on the members of a list give it one list of names
 pub map-alike : (f g : ℕ → ℕ) (xs : List ℕ) → ((x : ℕ) → Contains xs x → f x ≡ g x) → map f xs ≡ map g xs

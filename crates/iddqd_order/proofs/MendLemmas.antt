@@ -1,8 +1,9 @@
 -- What mending leaves of nodes.
-use Rattle.iddqd_order.proofs.Names.{◌≡◌, ◌≢◌, ℕ, zero, suc, ◌+◌, ◌<◌, ◌≤◌, List, [], ◌∷◌, ◌++◌, length, set, get_or, map, remove, Option, Some, None, option_to_list, IsSome, ◌↔◌, append_assoc, subst, refl, ap, sym, ◌∙◌, arith, add-one, length-append, length-set, get_or-set_other, All, inl, inr, cases_eq, get_or_append_left, get_or-append-add, length-map, get_or-map, map-append, map-set, nil_from_length, set_comm, get_or_default, length-remove, get_or-remove_below, All-append, Node, row, children, room, weave, flat, IsFormed, IsChild, MayLackOne, IsMended}
-use Rattle.iddqd_order.proofs.WeaveLemmas.{weave-append}
-use Rattle.iddqd_order.proofs.NodeLemmas.{lists, formed-within}
-use Rattle.iddqd_order.proofs.WeaveRemovalLemmas.{weave-shared, weave-joined, map-remove, All-shared, All-joined}
+use Rattle.iddqd_order.proofs.Names.{◌≡◌, ◌∙◌, ℕ, zero, suc, ◌+◌, ◌-◌, ◌<◌, ◌≤◌, List, [], ◌∷◌, ◌++◌, length, take, drop, set, get_or, map, remove, Option, Some, None, option_to_list, IsSome, ◌↔◌, append_assoc, subst, refl, ap, sym, arith, add-one, sub-one, length-append, length-drop, length-take, length-take-le, length-map, get_or-remove_below, get_or_append_left, get_or-append-add, get_or_default, set_comm, All, All-append, All-cons, All-nil, inl, inr, cases_eq, map-append, nil_from_length, Node, row, children, room, weave, flat, IsFormed, IsChild, MayLackOne, IsMended}
+use Rattle.std.proofs.Common.{get_or-take, get_or-drop, take-suc, take-suc-set, drop-set-lt, length-set}
+use Rattle.std.proofs.lemmas.List.{set_split, set_at}
+use Rattle.iddqd_order.proofs.WeaveLemmas.{rest, weave-more}
+use Rattle.iddqd_order.proofs.NodeLemmas.{lists}
 
 -- all members of a list that is put together of two
 pub All-left : {X : Type 0} → (P : X → Type 0) (xs ys : List X) → All P (xs ++ ys) → All P xs
@@ -11,219 +12,137 @@ All-left P xs ys a k d lt = rw (sym (get_or_append_left xs ys d k lt)) (a k d (o
 pub All-right : {X : Type 0} → (P : X → Type 0) (xs ys : List X) → All P (xs ++ ys) → All P ys
 All-right P xs ys a k d lt = rw (sym (get_or-append-add xs ys k d)) (a (length xs + k) d (omega (arith, length-append xs ys)))
 
--- two nodes and the index between them, shared out anew
-pub record IsShared (l : Node) (x : ℕ) (r : Node) (new_l : Node) (m : ℕ) (new_r : Node) : Type 0 where
-  pub rows : row new_l ++ m ∷ row new_r ≡ row l ++ x ∷ row r
-  pub below : children new_l ++ children new_r ≡ children l ++ children r
-  pub room_left : room l ≤ room new_l
-  pub room_right : room r ≤ room new_r
-  pub low : 5 ≤ length (row new_l)
-  pub high : 5 ≤ length (row new_r)
-  pub low_within : length (row new_l) ≤ 11
-  pub high_within : length (row new_r) ≤ 11
-  pub balanced : length (children l) ≡ length (row l) + 1 → length (children r) ≡ length (row r) + 1 → length (children new_l) ≡ length (row new_l) + 1
+-- how many children a node of k indexes has, h levels above the leaves
+abbrev pub arity : ℕ → ℕ → ℕ
+arity zero k = 0
+arity (suc h) k = k + 1
 
--- they are formed, and hold what they held
-pub record HoldsBoth (h : ℕ) (l : Node) (x : ℕ) (r : Node) (new_l : Node) (m : ℕ) (new_r : Node) : Type 0 where
-  pub left : IsChild h new_l
-  pub right : IsChild h new_r
-  pub items : flat h new_l ++ m ∷ flat h new_r ≡ flat h l ++ x ∷ flat h r
+pub arity-most : (h k : ℕ) → arity h k ≤ k + 1
+arity-most zero k = omega arith
+arity-most (suc h) k = omega arith
 
-pub shared-holds : (h : ℕ) (l : Node) (x : ℕ) (r : Node) (new_l : Node) (m : ℕ) (new_r : Node) → IsFormed h l → IsFormed h r → IsShared l x r new_l m new_r → HoldsBoth h l x r new_l m new_r
-unfolding IsFormed flat
-shared-holds zero l x r new_l m new_r fl fr s =
-    let el : length (children l) ≡ 0 = ap length fl.childless in
-    let er : length (children r) ≡ 0 = ap length fr.childless in
-    let e : length (children new_l) + length (children new_r) ≡ length (children l) + length (children r) = simp length-append at (ap length s.below) in
-    let a = s.low_within in let b = s.high_within in
-    record {
-      left = (s.low, record { within = a; childless = nil_from_length (children new_l) (omega arith) });
-      right = (s.high, record { within = b; childless = nil_from_length (children new_r) (omega arith) });
-      items = s.rows;
-    }
-shared-holds (suc h) l x r new_l m new_r fl fr s =
-    let P : Node → Type 0 = IsChild h in
+arity-joined : (h a b c : ℕ) → c ≡ a + suc b → arity h c ≡ arity h a + arity h b
+arity-joined zero a b c e = omega arith
+arity-joined (suc h) a b c e = omega arith
+
+arity-fits : (h a b : ℕ) → a + b ≤ 10 → arity h a + arity h b ≤ arity h 11
+arity-fits zero a b few = omega arith
+arity-fits (suc h) a b few = omega arith
+
+-- the counts of a node, a leaf or not
+pub record IsSized (h : ℕ) (n : Node) : Type 0 where
+  pub within : length (row n) ≤ 11
+  pub count : length (children n) ≡ arity h (length (row n))
+  pub has_room : arity h 11 ≤ room n
+
+pub formed-sized : (h : ℕ) (n : Node) → IsFormed h n → IsSized h n × All (IsChild (h - 1)) (children n)
+unfolding IsFormed
+formed-sized zero n f = (record { within = f.within; count = ap length f.childless; has_room = omega arith }, rw f.childless (All-nil (IsChild 0)))
+formed-sized (suc h) n f = (record { within = f.0.within; count = f.0.one_more; has_room = f.0.has_room }, rw sub-one f.1)
+
+pub sized-formed : (h : ℕ) (n : Node) → IsSized h n → All (IsChild (h - 1)) (children n) → IsFormed h n
+unfolding IsFormed
+sized-formed zero n s below = record { within = s.within; childless = nil_from_length (children n) s.count }
+sized-formed (suc h) n s below = (record { within = s.within; one_more = s.count; has_room = s.has_room }, rw sub-one at below)
+
+-- its list
+pub flat-sized : (h : ℕ) (n : Node) → IsSized h n → flat h n ≡ weave (row n) (lists (h - 1) (children n))
+unfolding flat
+flat-sized zero n s = rw (nil_from_length (children n) s.count)
+flat-sized (suc h) n s = rw sub-one
+
+-- and the lists of two with an index between them
+flat-pair : (h : ℕ) (l : Node) (x : ℕ) (r : Node) → IsSized h l → IsSized h r → flat h l ++ x ∷ flat h r ≡ weave (row l ++ x ∷ row r) (lists (h - 1) (children l ++ children r))
+unfolding flat
+flat-pair zero l x r sl sr = rw (nil_from_length (children l) sl.count, nil_from_length (children r) sr.count)
+flat-pair (suc h) l x r sl sr =
     let f : Node → List ℕ = λ k. flat h k in
-    let e : length (children new_l) + length (children new_r) ≡ length (children l) + length (children r) = simp length-append at (ap length s.below) in
-    let n : length (row new_l) + suc (length (row new_r)) ≡ length (row l) + suc (length (row r)) = simp length-append at (ap length s.rows) in
-    let ol = fl.0.one_more in let or = fr.0.one_more in let hl = fl.0.has_room in let hr = fr.0.has_room in
-    let ra = s.room_left in let rb = s.room_right in
-    let nl : length (children new_l) ≡ length (row new_l) + 1 = s.balanced ol or in
-    let nr : length (children new_r) ≡ length (row new_r) + 1 = omega arith in
-    let every : All P (children new_l ++ children new_r) = rw s.below (All-append P (children l) (children r) fl.1 fr.1) in
-    let both : map f (children new_l) ++ map f (children new_r) ≡ map f (children l) ++ map f (children r) = sym (map-append f (children new_l) (children new_r)) ∙ ap (λ z. map f z) s.below ∙ map-append f (children l) (children r) in
-    let ml = length-map (children l) f in
-    let mn = length-map (children new_l) f in
-    record {
-      left = (s.low, (record { within = s.low_within; one_more = nl; has_room = omega arith }, All-left P (children new_l) (children new_r) every));
-      right = (s.high, (record { within = s.high_within; one_more = nr; has_room = omega arith }, All-right P (children new_l) (children new_r) every));
-      items =
-          sym (weave-append (row new_l) m (row new_r) (map f (children new_l)) (map f (children new_r)) (omega arith))
-          ∙ ap (λ z. weave z (map f (children new_l) ++ map f (children new_r))) s.rows
-          ∙ ap (λ z. weave (row l ++ x ∷ row r) z) both
-          ∙ weave-append (row l) x (row r) (map f (children l)) (map f (children r)) (omega arith);
-    }
+    rw sub-one (sym (ap (weave (row l ++ x ∷ row r)) (map-append f (children l) (children r)) ∙ weave-more (row l) (x ∷ row r) (map f (children l)) (map f (children r)) (omega (arith, sl.count, length-map (children l) f))))
 
--- two nodes and the index between them, made one
-pub record IsJoined (l : Node) (x : ℕ) (r one : Node) : Type 0 where
-  pub rows : row one ≡ row l ++ x ∷ row r
-  pub below : children one ≡ children l ++ children r
-  pub room_one : room l ≤ room one
-  pub few : length (row l) + length (row r) ≤ 10
-  pub many : 4 ≤ length (row l) + length (row r)
-
-pub record HoldsAll (h : ℕ) (l : Node) (x : ℕ) (r one : Node) : Type 0 where
-  pub child : IsChild h one
-  pub items : flat h one ≡ flat h l ++ x ∷ flat h r
-
-pub joined-holds : (h : ℕ) (l : Node) (x : ℕ) (r one : Node) → IsFormed h l → IsFormed h r → IsJoined l x r one → HoldsAll h l x r one
-unfolding IsFormed flat
-joined-holds zero l x r one fl fr s =
-    let n : length (row one) ≡ length (row l) + suc (length (row r)) = simp length-append at (ap length s.rows) in
-    let a = s.few in let b = s.many in
-    record {
-      child = (omega arith, record { within = omega arith; childless = s.below ∙ ap (λ z. z ++ children r) fl.childless ∙ fr.childless });
-      items = s.rows;
-    }
-joined-holds (suc h) l x r one fl fr s =
-    let P : Node → Type 0 = IsChild h in
-    let f : Node → List ℕ = λ k. flat h k in
-    let n : length (row one) ≡ length (row l) + suc (length (row r)) = simp length-append at (ap length s.rows) in
-    let e : length (children one) ≡ length (children l) + length (children r) = simp length-append at (ap length s.below) in
-    let a = s.few in let b = s.many in let ol = fl.0.one_more in let or = fr.0.one_more in
-    let hl = fl.0.has_room in let ro = s.room_one in
-    let ml = length-map (children l) f in
-    record {
-      child = (omega arith, (record { within = omega arith; one_more = omega arith; has_room = omega arith }, rw s.below (All-append P (children l) (children r) fl.1 fr.1)));
-      items =
-          ap (λ z. weave z (map f (children one))) s.rows
-          ∙ ap (λ z. weave (row l ++ x ∷ row r) (map f z)) s.below
-          ∙ ap (λ z. weave (row l ++ x ∷ row r) z) (map-append f (children l) (children r))
-          ∙ weave-append (row l) x (row r) (map f (children l)) (map f (children r)) (omega arith);
-    }
-
--- two neighbours, one of which may lack an index
-pub record AreNeighbours (h i : ℕ) (xs : List ℕ) (ks : List Node) : Type 0 where
+-- the i-th child and the next one, one of which may lack an index
+pub record AreNeighbours (h i : ℕ) (xs : List ℕ) (ks : List Node) (l r : Node) : Type 0 where
   pub within : length xs ≤ 11
   pub one_more : length ks ≡ length xs + 1
   pub here : i < length xs
-  pub left : (d : Node) → (4 ≤ length (row (get_or ks i d))) × IsFormed h (get_or ks i d)
-  pub right : (d : Node) → (4 ≤ length (row (get_or ks (i + 1) d))) × IsFormed h (get_or ks (i + 1) d)
-  pub others : (j : ℕ) (d : Node) → j < length ks → j ≢ i → j ≢ suc i → IsChild h (get_or ks j d)
+  pub left : l ≡ get_or ks i l
+  pub right : r ≡ get_or ks (suc i) r
+  pub left_is : (4 ≤ length (row l)) × IsFormed h l
+  pub right_is : (4 ≤ length (row r)) × IsFormed h r
+  pub before : All (IsChild h) (take i ks)
+  pub behind : All (IsChild h) (drop (suc (suc i)) ks)
 
-weaker : (h : ℕ) (k : Node) → IsChild h k → (4 ≤ length (row k)) × IsFormed h k
-weaker h k c = (omega (arith, c.0), c.1)
-
-pub neighbours-before : (h i j : ℕ) (xs : List ℕ) (ks : List Node) → j ≡ i + 1 → MayLackOne h j xs ks → AreNeighbours h i xs ks
-neighbours-before h i j xs ks e f =
-    let o = f.one_more in let at = f.here in
-    record {
-      within = f.within;
-      one_more = o;
-      here = omega arith;
-      left = λ d. weaker h (get_or ks i d) (f.others i d (omega arith) (λ z. absurd (omega arith)));
-      right = λ d. rw (sym e) (f.at d);
-      others = λ k d lt ne1 ne2. f.others k d lt (λ z. ne2 (omega arith));
-    }
-
-pub neighbours-behind : (h i : ℕ) (xs : List ℕ) (ks : List Node) → i < length xs → MayLackOne h i xs ks → AreNeighbours h i xs ks
-neighbours-behind h i xs ks lt f =
-    let o = f.one_more in
+pub neighbours : (h i j : ℕ) (xs : List ℕ) (ks : List Node) (l r : Node) → i ≤ j → j ≤ i + 1 → i < length xs → MayLackOne h j xs ks → l ≡ get_or ks i l → r ≡ get_or ks (i + 1) r → AreNeighbours h i xs ks l r
+neighbours h i j xs ks l r low high lt f el er =
+    let o = f.one_more in let before = length-take i ks in let behind = length-drop (suc (suc i)) ks in
+    let right : r ≡ get_or ks (suc i) r = er ∙ ap (λ z. get_or ks z r) (add-one i) in
+    let each : (k : ℕ) (d : Node) → k < length ks → (4 ≤ length (row (get_or ks k d))) × IsFormed h (get_or ks k d) = λ k d w. elim (cases_eq k j) [
+      | inl e ↦ rw e (f.at d)
+      | inr ne ↦ (let c = f.others k d w ne in let five = c.0 in (omega arith, c.1))
+    ] in
     record {
       within = f.within;
       one_more = o;
       here = lt;
-      left = f.at;
-      right = λ d. weaker h (get_or ks (i + 1) d) (f.others (i + 1) d (omega arith) (λ z. absurd (omega arith)));
-      others = λ k d w ne1 ne2. f.others k d w ne1;
-    }
-
--- two neighbours, and how their lists stand among those of all
-pub record Both (h i : ℕ) (xs : List ℕ) (ks : List Node) (l r : Node) : Type 0 where
-  pub neighbours : AreNeighbours h i xs ks
-  pub left : l ≡ get_or ks i l
-  pub right : r ≡ get_or ks (i + 1) r
-  pub left_is : (4 ≤ length (row l)) × IsFormed h l
-  pub right_is : (4 ≤ length (row r)) × IsFormed h r
-  pub among : (x : ℕ) → flat h l ++ x ∷ flat h r ≡ get_or (lists h ks) i [] ++ x ∷ get_or (lists h ks) (suc i) []
-
-both : (h i : ℕ) (xs : List ℕ) (ks : List Node) (l r : Node) → AreNeighbours h i xs ks → l ≡ get_or ks i l → r ≡ get_or ks (i + 1) r → Both h i xs ks l r
-both h i xs ks l r n el er =
-    let one = n.one_more in let here = n.here in
-    let g : Node → List ℕ = λ k. flat h k in
-    let l_is : get_or (lists h ks) i [] ≡ flat h l = get_or-map g ks i l [] (omega arith) ∙ ap g (sym el) in
-    let r_is : get_or (lists h ks) (suc i) [] ≡ flat h r = ap (λ z. get_or (lists h ks) z []) (sym (add-one i)) ∙ get_or-map g ks (i + 1) r [] (omega arith) ∙ ap g (sym er) in
-    record {
-      neighbours = n;
       left = el;
-      right = er;
-      left_is = rw el (n.left l);
-      right_is = rw er (n.right r);
-      among = λ x. ap (λ z. z ++ x ∷ flat h r) (sym l_is) ∙ ap (λ z. get_or (lists h ks) i [] ++ x ∷ z) (sym r_is);
+      right = right;
+      left_is = rw el (each i l (omega arith));
+      right_is = rw right (each (suc i) r (omega arith));
+      before = λ k d w. rw (get_or-take i ks k d (omega arith)) (f.others k d (omega arith) (λ e. absurd (omega arith)));
+      behind = λ k d w. rw (get_or-drop (suc (suc i)) ks k d) (f.others (suc (suc i) + k) d (omega arith) (λ e. absurd (omega arith)));
     }
 
--- the two with the index between them, shared out anew
-mended-shared : (h i : ℕ) (xs : List ℕ) (ks : List Node) (l r new_l : Node) (m : ℕ) (new_r : Node) → Both h i xs ks l r → IsShared l (get_or xs i 0) r new_l m new_r
+-- with others in their place the order is as before
+woven : (h i : ℕ) (xs ys : List ℕ) (ks ls : List Node) (l r : Node) → i < length xs → length ks ≡ length xs + 1 → l ≡ get_or ks i l → r ≡ get_or ks (suc i) r → length ls ≡ length ys + 1 → weave ys (lists h ls) ≡ flat h l ++ get_or xs i 0 ∷ flat h r
+    → weave (take i xs ++ (ys ++ drop (suc i) xs)) (lists h (take i ks ++ (ls ++ drop (suc (suc i)) ks))) ≡ weave xs (lists h ks)
+woven h i [] ys ks ls l r lt e el er n s = absurd (omega arith)
+woven h i (x ∷ xs) ys [] ls l r lt e el er n s = absurd (omega arith)
+woven h i (x ∷ xs) ys (k ∷ []) ls l r lt e el er n s = absurd (omega arith)
+woven h zero (x ∷ xs) ys (k ∷ (k2 ∷ ks)) ls l r lt e el er n s =
+    let f : Node → List ℕ = λ k. flat h k in
+    let b : List ℕ = rest xs (lists h ks) in
+    ap (weave (ys ++ xs)) (map-append f ls ks) ∙ weave-more ys xs (lists h ls) (lists h ks) (omega (arith, n, length-map ls f))
+    ∙ ap (λ z. z ++ b) (s ∙ (λ j. f (el j) ++ x ∷ f (er j))) ∙ append_assoc (f k) (x ∷ f k2) b ∙ ap (λ z. f k ++ x ∷ z) (sym (weave-more [] xs (f k2 ∷ []) (lists h ks) refl))
+woven h (suc i) (x ∷ xs) ys (k ∷ (k2 ∷ ks)) ls l r lt e el er n s = ap (λ z. flat h k ++ x ∷ z) (woven h i xs ys (k2 ∷ ks) ls l r (omega arith) (omega arith) el er n s)
+
+mended : (h i : ℕ) (xs ys : List ℕ) (ks ls : List Node) (l r : Node) → AreNeighbours h i xs ks l r → length ls ≡ length ys + 1 → length ys ≤ 1 → All (IsChild h) ls → weave ys (lists h ls) ≡ flat h l ++ get_or xs i 0 ∷ flat h r
+    → IsMended h xs ks (take i xs ++ (ys ++ drop (suc i) xs)) (take i ks ++ (ls ++ drop (suc (suc i)) ks))
+mended h i xs ys ks ls l r n one few all items =
+    let o = n.one_more in let at = n.here in let w = n.within in
+    let rows : length (take i xs ++ (ys ++ drop (suc i) xs)) + 1 ≡ length xs + length ys =
+    omega (arith, length-append (take i xs) (ys ++ drop (suc i) xs), length-append ys (drop (suc i) xs), length-take-le i xs (omega arith), length-drop (suc i) xs) in
+    let count : length (take i ks ++ (ls ++ drop (suc (suc i)) ks)) + 2 ≡ length ks + length ls =
+    omega (arith, length-append (take i ks) (ls ++ drop (suc (suc i)) ks), length-append ls (drop (suc (suc i)) ks), length-take-le i ks (omega arith), length-drop (suc (suc i)) ks) in
+    record {
+      within = omega arith;
+      fewer = omega arith;
+      one_more = omega arith;
+      below = All-append (IsChild h) (take i ks) (ls ++ drop (suc (suc i)) ks) n.before (All-append (IsChild h) ls (drop (suc (suc i)) ks) all n.behind);
+      items = woven h i xs ys ks ls l r at o n.left n.right one items;
+    }
+
+set_pair : (ks : List Node) (i : ℕ) (l r : Node) → suc i < length ks → set (set ks i l) (suc i) r ≡ take i ks ++ l ∷ r ∷ drop (suc (suc i)) ks
+set_pair ks i l r lt =
+    set_split (set ks i l) (suc i) r (omega (arith, length-set ks i l)) ∙ (λ j. take-suc-set ks i l (omega arith) j ++ r ∷ drop-set-lt (suc (suc i)) ks i l (omega arith) j) ∙ append_assoc (take i ks) (l ∷ []) (r ∷ drop (suc (suc i)) ks)
+
+set_joined : (ks : List Node) (i : ℕ) (one : Node) → suc i < length ks → set (remove ks (suc i)) i one ≡ take i ks ++ one ∷ drop (suc (suc i)) ks
+set_joined ks i one lt =
+    let behind : List Node = drop (suc (suc i)) ks in
+    ap (λ z. set (z ++ behind) i one) (take-suc ks i one (omega arith)) ∙ ap (λ z. set z i one) (append_assoc (take i ks) (get_or ks i one ∷ []) behind) ∙ set_at (take i ks) (get_or ks i one) behind one i (length-take-le i ks (omega arith))
+
+-- the two and the index between them, shared out anew
+mended-shared : (h i : ℕ) (xs : List ℕ) (ks : List Node) (l r new_l : Node) (m : ℕ) (new_r : Node) → AreNeighbours h i xs ks l r
+    → row new_l ++ m ∷ row new_r ≡ row l ++ get_or xs i 0 ∷ row r → children new_l ++ children new_r ≡ children l ++ children r → (5 ≤ length (row new_l)) × IsSized h new_l → (5 ≤ length (row new_r)) × IsSized h new_r
     → IsMended h xs ks (set xs i m) (set (set ks i new_l) (i + 1) new_r)
-mended-shared h i xs ks l r new_l m new_r b s =
-    let f = b.neighbours in
-    let o = f.one_more in let at = f.here in let w = f.within in
-    let new = shared-holds h l (get_or xs i 0) r new_l m new_r b.left_is.1 b.right_is.1 s in
-    let g : Node → List ℕ = λ k. flat h k in
-    let lm = length-map ks g in
-    let new_lists : lists h (set (set ks i new_l) (suc i) new_r) ≡ set (set (lists h ks) i (flat h new_l)) (suc i) (flat h new_r) =
-    map-set g (set ks i new_l) (suc i) new_r ∙ ap (λ z. set z (suc i) (flat h new_r)) (map-set g ks i new_l) in
-    let n1 = length-set xs i m in
-    let n2 = length-set ks i new_l in
-    let n3 = length-set (set ks i new_l) (suc i) new_r in
-    rw (add-one i) (record {
-      within = omega arith;
-      fewer = omega arith;
-      one_more = omega arith;
-      below = All-shared (IsChild h) ks i new_l new_r (omega arith) f.others new.left new.right;
-      items = ap (λ z. weave (set xs i m) z) new_lists ∙ weave-shared i xs (lists h ks) (flat h new_l) m (flat h new_r) at (omega arith) (new.items ∙ b.among (get_or xs i 0));
-    })
-
--- the two with the index between them, made one
-mended-joined : (h i : ℕ) (xs : List ℕ) (ks : List Node) (l r one : Node) → Both h i xs ks l r → IsJoined l (get_or xs i 0) r one
-    → IsMended h xs ks (remove xs i) (set (remove ks (i + 1)) i one)
-mended-joined h i xs ks l r one b s =
-    let f = b.neighbours in
-    let o = f.one_more in let at = f.here in let w = f.within in
-    let all = joined-holds h l (get_or xs i 0) r one b.left_is.1 b.right_is.1 s in
-    let g : Node → List ℕ = λ k. flat h k in
-    let lm = length-map ks g in
-    let new_lists : lists h (set (remove ks (suc i)) i one) ≡ set (remove (lists h ks) (suc i)) i (flat h one) =
-    map-set g (remove ks (suc i)) i one ∙ ap (λ z. set z i (flat h one)) (map-remove g ks (suc i)) in
-    let n1 = length-remove xs i at in
-    let n2 : length (remove ks (suc i)) + 1 ≡ length ks = length-remove ks (suc i) (omega arith) in
-    let n3 = length-set (remove ks (suc i)) i one in
-    rw (add-one i) (record {
-      within = omega arith;
-      fewer = omega arith;
-      one_more = omega arith;
-      below = All-joined (IsChild h) ks i one (omega arith) f.others all.child;
-      items = ap (λ z. weave (remove xs i) z) new_lists ∙ weave-joined i xs (lists h ks) (flat h one) at (omega arith) (all.items ∙ b.among (get_or xs i 0));
-    })
-
--- a node that has fewer than five indexes has room for a child that its neighbour has given up
-pub room-for-one : (h : ℕ) (from to : Node) (moved : Option Node) → IsFormed h from → IsFormed h to → length (row to) < 5 → length (option_to_list moved) ≤ length (children from)
-    → length (option_to_list moved) + length (children to) ≤ room to
-unfolding IsFormed
-room-for-one zero from to moved ff ft few le =
-    let a : length (children from) ≡ 0 = ap length ff.childless in
-    let b : length (children to) ≡ 0 = ap length ft.childless in
-    omega arith
-room-for-one (suc h) from to None ff ft few le =
-    let o = ft.0.one_more in let r = ft.0.has_room in
-    omega arith
-room-for-one (suc h) from to (Some k) ff ft few le =
-    let o = ft.0.one_more in let r = ft.0.has_room in
-    omega arith
-
-one-if : (n : ℕ) (moved : Option Node) → IsSome moved ↔ (0 < n) → 0 < n → length (option_to_list moved) ≡ 1
-one-if n None iff p = cc (iff.1 p)
-one-if n (Some k) iff p = refl
+mended-shared h i xs ks l r new_l m new_r n rows below left right =
+    let o = n.one_more in let at = n.here in
+    let P : Node → Type 0 = IsChild (h - 1) in
+    let a = formed-sized h l n.left_is.1 in let b = formed-sized h r n.right_is.1 in
+    let every : All P (children new_l ++ children new_r) = rw below (All-append P (children l) (children r) a.1 b.1) in
+    let low : IsChild h new_l = (left.0, sized-formed h new_l left.1 (All-left P (children new_l) (children new_r) every)) in
+    let high : IsChild h new_r = (right.0, sized-formed h new_r right.1 (All-right P (children new_l) (children new_r) every)) in
+    rw (add-one i, set_split xs i m at, set_pair ks i new_l new_r (omega arith))
+    (mended h i xs (m ∷ []) ks (new_l ∷ new_r ∷ []) l r n refl (omega arith) (All-cons (IsChild h) new_l (new_r ∷ []) low (All-cons (IsChild h) new_r [] high (All-nil (IsChild h))))
+    (flat-pair h new_l m new_r left.1 right.1 ∙ (λ j. weave (rows j) (lists (h - 1) (below j))) ∙ sym (flat-pair h l (get_or xs i 0) r a.0 b.0)))
 
 -- an index, and a child if there is one, went from the end of the one to the beginning of the other, by the index between
 pub record IsPassed (l : Node) (x : ℕ) (r new_l : Node) (m : ℕ) (new_r : Node) (moved : Option Node) : Type 0 where
@@ -232,126 +151,97 @@ pub record IsPassed (l : Node) (x : ℕ) (r new_l : Node) (m : ℕ) (new_r : Nod
   pub left_children : children l ≡ children new_l ++ option_to_list moved
   pub right_children : children new_r ≡ option_to_list moved ++ children r
 
-record KeepsAll (l : Node) (x : ℕ) (r new_l : Node) (m : ℕ) (new_r : Node) (moved : Option Node) : Type 0 where
+-- all is kept, and where the one has as many children as it is to have, so has the other
+record Passed (h : ℕ) (l : Node) (x : ℕ) (r new_l : Node) (m : ℕ) (new_r : Node) : Type 0 where
   pub rows : row new_l ++ m ∷ row new_r ≡ row l ++ x ∷ row r
   pub below : children new_l ++ children new_r ≡ children l ++ children r
   pub left : length (row l) ≡ length (row new_l) + 1
-  pub right : length (row new_r) ≡ suc (length (row r))
-  pub count : length (children l) ≡ length (children new_l) + length (option_to_list moved)
+  pub right : length (row new_r) ≡ length (row r) + 1
+  pub left_count : length (children l) + arity h (length (row new_l)) ≡ length (children new_l) + arity h (length (row l))
+  pub right_count : length (children new_r) + arity h (length (row r)) ≡ length (children r) + arity h (length (row new_r))
 
-keeps-all : (l : Node) (x : ℕ) (r new_l : Node) (m : ℕ) (new_r : Node) (moved : Option Node) → IsPassed l x r new_l m new_r moved → KeepsAll l x r new_l m new_r moved
-keeps-all l x r new_l m new_r moved p = record {
-  rows = ap (λ z. row new_l ++ m ∷ z) p.right ∙ sym (append_assoc (row new_l) (m ∷ []) (x ∷ row r)) ∙ ap (λ z. z ++ x ∷ row r) (sym p.left);
-  below = ap (λ z. children new_l ++ z) p.right_children ∙ sym (append_assoc (children new_l) (option_to_list moved) (children r)) ∙ ap (λ z. z ++ children r) (sym p.left_children);
-  left = simp length-append at (ap length p.left);
-  right = ap length p.right;
-  count = simp length-append at (ap length p.left_children);
-}
+-- as many children go as one index more or less asks for
+moved-one : (h k : ℕ) (moved : Option Node) → IsSome moved ↔ (0 < arity h k) → length (option_to_list moved) ≡ arity h 0
+moved-one zero k None iff = refl
+moved-one zero k (Some c) iff = absurd (omega (arith, iff.0 refl))
+moved-one (suc h) k None iff = cc (iff.1 (omega arith))
+moved-one (suc h) k (Some c) iff = refl
 
-both-before : (h i : ℕ) (xs : List ℕ) (ks : List Node) (l r new_l : Node) → MayLackOne h (i + 1) xs ks → l ≡ get_or ks i l → r ≡ get_or (set ks i new_l) (i + 1) r → Both h i xs ks l r
-both-before h i xs ks l r new_l f el er = both h i xs ks l r (neighbours-before h i (i + 1) xs ks refl f) el (er ∙ get_or-set_other ks i (i + 1) new_l r (λ e. absurd (omega arith)))
-
-both-behind : (h i : ℕ) (xs : List ℕ) (ks : List Node) (l r new_r : Node) → MayLackOne h i xs ks → i < length xs → l ≡ get_or (set ks (i + 1) new_r) i l → r ≡ get_or ks (i + 1) r → Both h i xs ks l r
-both-behind h i xs ks l r new_r f lt el er = both h i xs ks l r (neighbours-behind h i xs ks lt f) (el ∙ get_or-set_other ks (i + 1) i new_r l (λ e. absurd (omega arith))) er
+passed : (h : ℕ) (l : Node) (x : ℕ) (r new_l : Node) (m : ℕ) (new_r : Node) (moved : Option Node) → IsPassed l x r new_l m new_r moved → length (option_to_list moved) ≡ arity h 0 → Passed h l x r new_l m new_r
+passed h l x r new_l m new_r moved p one =
+    let left : length (row l) ≡ length (row new_l) + 1 = simp length-append at (ap length p.left) in
+    let right : length (row new_r) ≡ suc (length (row r)) = ap length p.right in
+    let left_count : length (children l) ≡ length (children new_l) + length (option_to_list moved) = simp length-append at (ap length p.left_children) in
+    let right_count : length (children new_r) ≡ length (option_to_list moved) + length (children r) = simp length-append at (ap length p.right_children) in
+    let shrinks = arity-joined h (length (row new_l)) 0 (length (row l)) left in
+    let grows = arity-joined h 0 (length (row r)) (length (row new_r)) (omega arith) in
+    record {
+      rows = ap (λ z. row new_l ++ m ∷ z) p.right ∙ sym (append_assoc (row new_l) (m ∷ []) (x ∷ row r)) ∙ ap (λ z. z ++ x ∷ row r) (sym p.left);
+      below = ap (λ z. children new_l ++ z) p.right_children ∙ sym (append_assoc (children new_l) (option_to_list moved) (children r)) ∙ ap (λ z. z ++ children r) (sym p.left_children);
+      left = left;
+      right = omega arith;
+      left_count = omega arith;
+      right_count = omega arith;
+    }
 
 -- an index and a child were moved from the left one to the right one
-pub moved-right : (h i : ℕ) (xs : List ℕ) (ks : List Node) (l r new_l new_r : Node) (x last : ℕ) (moved : Option Node) → MayLackOne h (i + 1) xs ks → ((d : Node) → 5 < length (row (get_or ks i d))) → ((d : Node) → length (row (get_or ks (i + 1) d)) < 5)
-    → l ≡ get_or ks i l → r ≡ get_or (set ks i new_l) (i + 1) r → x ≡ get_or xs i 0 → IsPassed l x r new_l last new_r moved → IsSome moved ↔ (0 < length (children l)) → room new_l ≡ room l → room r ≤ room new_r
+pub moved-right : (h i : ℕ) (xs : List ℕ) (ks : List Node) (l r new_l new_r : Node) (x last : ℕ) (moved : Option Node) → AreNeighbours h i xs ks l r → 5 < length (row l) → length (row r) < 5
+    → x ≡ get_or xs i 0 → IsPassed l x r new_l last new_r moved → IsSome moved ↔ (0 < length (children l)) → room new_l ≡ room l → room r ≤ room new_r
     → IsMended h xs ks (set xs i last) (set (set ks i new_l) (i + 1) new_r)
-moved-right h i xs ks l r new_l new_r x last moved f more few el er ex p some same_room rr =
-    let b = both-before h i xs ks l r new_l f el er in
-    let k = keeps-all l x r new_l last new_r moved p in
-    let ml : 5 < length (row l) = rw b.left (more l) in
-    let mr : length (row r) < 5 = rw b.right (few r) in
-    let wl = formed-within h l b.left_is.1 in
-    let nl = k.left in let nr = k.right in let four = b.right_is.0 in
-    mended-shared h i xs ks l r new_l last new_r b (subst (λ z. IsShared l z r new_l last new_r) ex (record {
-      rows = k.rows;
-      below = k.below;
-      room_left = omega arith;
-      room_right = rr;
-      low = omega arith;
-      high = omega arith;
-      low_within = omega arith;
-      high_within = omega arith;
-      balanced = λ ol or. let o = one-if (length (children l)) moved some (omega arith) in let c = k.count in omega arith;
-    }))
+moved-right h i xs ks l r new_l new_r x last moved n more few ex p some same_room room_more =
+    let a = (formed-sized h l n.left_is.1).0 in let b = (formed-sized h r n.right_is.1).0 in
+    let k = passed h l x r new_l last new_r moved p (moved-one h (length (row l)) moved (rw a.count at some)) in
+    let four = n.right_is.0 in let low = k.left in let high = k.right in
+    mended-shared h i xs ks l r new_l last new_r n (k.rows ∙ ap (λ z. row l ++ z ∷ row r) ex) k.below
+    (omega arith, record { within = omega (arith, a.within); count = omega (arith, a.count, k.left_count); has_room = omega (arith, a.has_room) })
+    (omega arith, record { within = omega arith; count = omega (arith, b.count, k.right_count); has_room = omega (arith, b.has_room) })
 
--- an index and a child were moved from the right one to the left one
-pub moved-left : (h i : ℕ) (xs : List ℕ) (ks : List Node) (l r new_l new_r : Node) (x first : ℕ) (moved : Option Node) → MayLackOne h i xs ks → i < length xs → ((d : Node) → 5 < length (row (get_or ks (i + 1) d))) → ((d : Node) → length (row (get_or ks i d)) < 5)
-    → l ≡ get_or (set ks (i + 1) new_r) i l → r ≡ get_or ks (i + 1) r → x ≡ get_or xs i 0 → IsPassed new_l first new_r l x r moved → IsSome moved ↔ (0 < length (children r)) → room new_r ≡ room r → room l ≤ room new_l
+-- or from the right one to the left one
+pub moved-left : (h i : ℕ) (xs : List ℕ) (ks : List Node) (l r new_l new_r : Node) (x first : ℕ) (moved : Option Node) → AreNeighbours h i xs ks l r → 5 < length (row r) → length (row l) < 5
+    → x ≡ get_or xs i 0 → IsPassed new_l first new_r l x r moved → IsSome moved ↔ (0 < length (children r)) → room new_r ≡ room r → room l ≤ room new_l
     → IsMended h xs ks (set xs i first) (set (set ks (i + 1) new_r) i new_l)
-moved-left h i xs ks l r new_l new_r x first moved f lt more few el er ex p some same_room rl =
-    let b = both-behind h i xs ks l r new_r f lt el er in
-    let k = keeps-all new_l first new_r l x r moved p in
-    let mr : 5 < length (row r) = rw b.right (more r) in
-    let ml : length (row l) < 5 = rw b.left (few l) in
-    let wr = formed-within h r b.right_is.1 in
-    let nl = k.left in let nr = k.right in let four = b.left_is.0 in
-    subst (λ z. IsMended h xs ks (set xs i first) z) (set_comm ks i (i + 1) new_l new_r (λ e. absurd (omega arith)))
-    (mended-shared h i xs ks l r new_l first new_r b (subst (λ z. IsShared l z r new_l first new_r) ex (record {
-      rows = sym k.rows;
-      below = sym k.below;
-      room_left = rl;
-      room_right = omega arith;
-      low = omega arith;
-      high = omega arith;
-      low_within = omega arith;
-      high_within = omega arith;
-      balanced = λ ol or. let o = one-if (length (children r)) moved some (omega arith) in let c = k.count in omega arith;
-    })))
+moved-left h i xs ks l r new_l new_r x first moved n more few ex p some same_room room_more =
+    let a = (formed-sized h l n.left_is.1).0 in let b = (formed-sized h r n.right_is.1).0 in
+    let k = passed h new_l first new_r l x r moved p (moved-one h (length (row r)) moved (rw b.count at some)) in
+    let four = n.left_is.0 in let low = k.left in let high = k.right in
+    rw (set_comm ks (i + 1) i new_r new_l (λ e. absurd (omega arith))) (mended-shared h i xs ks l r new_l first new_r n (sym k.rows ∙ ap (λ z. row l ++ z ∷ row r) ex) (sym k.below)
+    (omega arith, record { within = omega arith; count = omega (arith, a.count, k.left_count); has_room = omega (arith, a.has_room) })
+    (omega arith, record { within = omega (arith, b.within); count = omega (arith, b.count, k.right_count); has_room = omega (arith, b.has_room) }))
 
-pub room-for-moved_right : (h i : ℕ) (xs : List ℕ) (ks : List Node) (l r new_l : Node) (moved : Option Node) → MayLackOne h (i + 1) xs ks → ((d : Node) → length (row (get_or ks (i + 1) d)) < 5)
-    → l ≡ get_or ks i l → r ≡ get_or (set ks i new_l) (i + 1) r → children l ≡ children new_l ++ option_to_list moved → length (option_to_list moved) + length (children r) ≤ room r
-room-for-moved_right h i xs ks l r new_l moved f few el er below =
-    let b = both-before h i xs ks l r new_l f el er in
-    let lc : length (children l) ≡ length (children new_l) + length (option_to_list moved) = simp length-append at (ap length below) in
-    room-for-one h l r moved b.left_is.1 b.right_is.1 (rw b.right (few r)) (omega arith)
-
-pub room-for-moved_left : (h i : ℕ) (xs : List ℕ) (ks : List Node) (l r new_r : Node) (moved : Option Node) → MayLackOne h i xs ks → i < length xs → ((d : Node) → length (row (get_or ks i d)) < 5)
-    → l ≡ get_or (set ks (i + 1) new_r) i l → r ≡ get_or ks (i + 1) r → children r ≡ option_to_list moved ++ children new_r → length (option_to_list moved) + length (children l) ≤ room l
-room-for-moved_left h i xs ks l r new_r moved f lt few el er below =
-    let b = both-behind h i xs ks l r new_r f lt el er in
-    let lc : length (children r) ≡ length (option_to_list moved) + length (children new_r) = simp length-append at (ap length below) in
-    room-for-one h r l moved b.right_is.1 b.left_is.1 (rw b.left (few l)) (omega arith)
-
--- the two with the index between them, whichever of them may lack one
-neighbours : (h i left : ℕ) (xs : List ℕ) (ks : List Node) → left ≤ i → i ≤ left + 1 → left < length xs → MayLackOne h i xs ks → AreNeighbours h left xs ks
-neighbours h i left xs ks low high lt f =
-    elim (cases_eq i left) [
-      | inl e ↦ neighbours-behind h left xs ks lt (subst (λ z. MayLackOne h z xs ks) e f)
-      | inr ne ↦ neighbours-before h left i xs ks (omega arith) f
-    ]
-
-room-for-all : (h : ℕ) (l r : Node) → IsFormed h l → IsFormed h r → length (row l) + length (row r) ≤ 10 → length (children l) + length (children r) ≤ room l
-unfolding IsFormed
-room-for-all zero l r fl fr few =
-    let a : length (children l) ≡ 0 = ap length fl.childless in
-    let b : length (children r) ≡ 0 = ap length fr.childless in
-    omega arith
-room-for-all (suc h) l r fl fr few =
-    let a = fl.0.one_more in let b = fr.0.one_more in let c = fl.0.has_room in
-    omega arith
+-- a node that has fewer than five indexes has room for a child that its neighbour has given up
+pub room-for-one : (h : ℕ) (from to : Node) (moved : Option Node) → IsFormed h from → IsFormed h to → length (row to) < 5 → IsSome moved ↔ (0 < length (children from)) → length (option_to_list moved) + length (children to) ≤ room to
+room-for-one h from to moved ff ft few some =
+    let a = (formed-sized h from ff).0 in let b = (formed-sized h to ft).0 in
+    omega (arith, moved-one h (length (row from)) moved (rw a.count at some), b.count, b.has_room, arity-fits h 0 (length (row to)) (omega arith))
 
 -- two neighbours that fit into one
-pub record JoinFits (h left : ℕ) (xs : List ℕ) (ks : List Node) (l r : Node) : Type 0 where
-  pub pair : Both h left xs ks l r
+pub record JoinFits (h i : ℕ) (xs : List ℕ) (ks : List Node) (l r : Node) : Type 0 where
+  pub pair : AreNeighbours h i xs ks l r
   pub fits : length (row l) + length (row r) ≤ 10
   pub room_is : length (children l) + length (children r) ≤ room l
 
-pub join-fits : (h i left : ℕ) (xs : List ℕ) (ks : List Node) (l r : Node) → left ≤ i → i ≤ left + 1 → left < length xs → MayLackOne h i xs ks
-    → ((d : Node) → length (row (get_or ks left d)) + length (row (get_or ks (left + 1) d)) ≤ 10) → l ≡ get_or (remove ks (left + 1)) left l → r ≡ get_or ks (left + 1) r → JoinFits h left xs ks l r
-join-fits h i left xs ks l r low high lt f few el er =
-    let n = neighbours h i left xs ks low high lt f in
-    let o = n.one_more in
-    let b = both h left xs ks l r n (el ∙ get_or-remove_below ks (left + 1) l left (omega arith) (omega arith)) er in
-    let er2 : get_or ks (left + 1) l ≡ r = get_or_default ks (left + 1) l r (omega arith) ∙ sym er in
-    let sum : length (row l) + length (row r) ≤ 10 = subst (λ z. length (row l) + length (row z) ≤ 10) er2 (subst (λ z. length (row z) + length (row (get_or ks (left + 1) l)) ≤ 10) (sym b.left) (few l)) in
-    record { pair = b; fits = sum; room_is = room-for-all h l r b.left_is.1 b.right_is.1 sum }
+pub join-fits : (h j i : ℕ) (xs : List ℕ) (ks : List Node) (l r : Node) → i ≤ j → j ≤ i + 1 → i < length xs → MayLackOne h j xs ks
+    → ((d : Node) → length (row (get_or ks i d)) + length (row (get_or ks (i + 1) d)) ≤ 10) → l ≡ get_or (remove ks (i + 1)) i l → r ≡ get_or ks (i + 1) r → JoinFits h i xs ks l r
+join-fits h j i xs ks l r low high lt f few el er =
+    let o = f.one_more in
+    let el2 : l ≡ get_or ks i l = el ∙ get_or-remove_below ks (i + 1) l i (omega arith) (omega arith) in
+    let er2 : get_or ks (i + 1) l ≡ r = get_or_default ks (i + 1) l r (omega arith) ∙ sym er in
+    let n = neighbours h i j xs ks l r low high lt f el2 er in
+    let a = (formed-sized h l n.left_is.1).0 in let b = (formed-sized h r n.right_is.1).0 in
+    let sum : length (row l) + length (row r) ≤ 10 = subst (λ z. length (row l) + length (row z) ≤ 10) er2 (subst (λ z. length (row z) + length (row (get_or ks (i + 1) l)) ≤ 10) (sym el2) (few l)) in
+    record { pair = n; fits = sum; room_is = omega (arith, a.count, b.count, a.has_room, arity-fits h (length (row l)) (length (row r)) sum) }
 
 -- the right one was joined to the left one
-pub merged : (h left : ℕ) (xs : List ℕ) (ks : List Node) (l r one : Node) (x : ℕ) → JoinFits h left xs ks l r → x ≡ get_or xs left 0
-    → row one ≡ row l ++ x ∷ row r → children one ≡ children l ++ children r → room l ≤ room one → IsMended h xs ks (remove xs left) (set (remove ks (left + 1)) left one)
-merged h left xs ks l r one x j ex rows below rm =
-    let four = j.pair.left_is.0 in
-    mended-joined h left xs ks l r one j.pair (record { rows = subst (λ z. row one ≡ row l ++ z ∷ row r) ex rows; below = below; room_one = rm; few = j.fits; many = omega arith })
+pub merged : (h i : ℕ) (xs : List ℕ) (ks : List Node) (l r one : Node) (x : ℕ) → JoinFits h i xs ks l r → x ≡ get_or xs i 0
+    → row one ≡ row l ++ x ∷ row r → children one ≡ children l ++ children r → room l ≤ room one → IsMended h xs ks (remove xs i) (set (remove ks (i + 1)) i one)
+merged h i xs ks l r one x j ex rows below more =
+    let n = j.pair in let fits = j.fits in let o = n.one_more in let at = n.here in let four = n.left_is.0 in
+    let P : Node → Type 0 = IsChild (h - 1) in
+    let a = formed-sized h l n.left_is.1 in let b = formed-sized h r n.right_is.1 in
+    let long : length (row one) ≡ length (row l) + suc (length (row r)) = simp length-append at (ap length rows) in
+    let count : length (children one) ≡ length (children l) + length (children r) = simp length-append at (ap length below) in
+    let s : IsSized h one = record { within = omega arith; count = omega (arith, a.0.count, b.0.count, arity-joined h (length (row l)) (length (row r)) (length (row one)) long); has_room = omega (arith, a.0.has_room) } in
+    let child : IsChild h one = (omega arith, sized-formed h one s (rw below (All-append P (children l) (children r) a.1 b.1))) in
+    rw (add-one i, set_joined ks i one (omega arith))
+    (mended h i xs [] ks (one ∷ []) l r n refl (omega arith) (All-cons (IsChild h) one [] child (All-nil (IsChild h)))
+    (flat-sized h one s ∙ (λ k. weave (rows k) (lists (h - 1) (below k))) ∙ sym (flat-pair h l x r a.0 b.0) ∙ ap (λ z. flat h l ++ z ∷ flat h r) ex))

@@ -1,6 +1,7 @@
--- One level of a tree at a time.
-use Rattle.iddqd_order.proofs.Names.{◌≡◌, ℕ, zero, suc, ◌+◌, ◌-◌, ◌<◌, ◌≤◌, ◌≢◌, List, [], ◌∷◌, length, get_or, map, slice_index, refl, ap, arith, sub-one, All, vec_capacity, insert, length-map, get_or-map, All-append, All-take, All-drop, All-cons, Node, Node-F, roll-Node, out-roll-Node, row, children, child, room, weave, before, flat, IsInner, IsLeaf, IsFormed, Goes, place, FullBelow, IsFullBelow}
-use Rattle.iddqd_order.proofs.WeaveLemmas.{within}
+-- One level of a tree at a time, and of a path down it.
+use Rattle.iddqd_order.proofs.Names.{Bool, true, false, ◌∙◌, sym, slice_set, get_or-set_same, get_or-set_other, nat_eq, eq-eqb, ne_eqb, cases_eq, inl, inr, Fits, Passes, Reaches, Holds, spot, ◌≡◌, ℕ, zero, suc, ◌+◌, ◌-◌, ◌<◌, ◌≤◌, ◌≢◌, List, [], ◌∷◌, length, get_or, map, slice_index, refl, ap, arith, sub-one, All, vec_capacity, insert, length-map, get_or-map, All-permutation, IsPermutation-insert, All-cons, Node, Node-F, roll-Node, out-roll-Node, row, children, child, room, weave, before, flat, IsInner, IsLeaf, IsFormed, Goes, place, FullBelow, IsFullBelow}
+use Rattle.iddqd_order.proofs.WeaveLemmas.{within, index_place}
+use Rattle.iddqd_order.proofs.WeaveRemovalLemmas.{weave-within, weave-within_at}
 
 -- what the children of a node at level h + 1 are
 abbrev pub AreChildren : ℕ → List Node → Type 0
@@ -13,33 +14,15 @@ lists h ks = map (λ k. flat h k) ks
 -- at a leaf
 pub formed-leaf : (h : ℕ) (n : Node) → h ≡ 0 → IsFormed h n → IsLeaf n
 unfolding IsFormed
-formed-leaf zero n e f = f
-formed-leaf (suc h) n e f = absurd (omega arith)
+formed-leaf h n e f = rw e at f
 
 pub leaf-formed : (h : ℕ) (n : Node) → h ≡ 0 → IsLeaf n → IsFormed h n
 unfolding IsFormed
-leaf-formed zero n e f = f
-leaf-formed (suc h) n e f = absurd (omega arith)
+leaf-formed h n e f = rw e f
 
 pub flat-leaf : (h : ℕ) (n : Node) → h ≡ 0 → flat h n ≡ row n
 unfolding flat
-flat-leaf zero n e = refl
-flat-leaf (suc h) n e = absurd (omega arith)
-
-pub goes-leaf : (h : ℕ) (n : Node) (p : List ℕ) → h ≡ 0 → Goes h n p → slice_index p 0 ≤ length (row n)
-unfolding Goes
-goes-leaf zero n p e g = g
-goes-leaf (suc h) n p e g = absurd (omega arith)
-
-pub leaf-goes : (h : ℕ) (n : Node) (p : List ℕ) → h ≡ 0 → slice_index p 0 ≤ length (row n) → Goes h n p
-unfolding Goes
-leaf-goes zero n p e a = a
-leaf-goes (suc h) n p e a = absurd (omega arith)
-
-pub place-leaf : (h : ℕ) (n : Node) (p : List ℕ) → h ≡ 0 → place h n p ≡ slice_index p 0
-unfolding place
-place-leaf zero n p e = refl
-place-leaf (suc h) n p e = absurd (omega arith)
+flat-leaf h n e = rw e
 
 -- at an inner node
 pub record InnerAt (h : ℕ) (n : Node) : Type 0 where
@@ -80,45 +63,15 @@ child-within l n i ne f le = let one = (formed-inner l n ne f).inner.one_more in
 pub child-formed : (h : ℕ) (n : Node) (i : ℕ) → h ≢ 0 → IsFormed h n → i < length (children n) → IsFormed (h - 1) (child n i)
 child-formed h n i ne f lt = ((formed-inner h n ne f).below i n lt).1
 
-pub record GoesAt (h : ℕ) (n : Node) (p : List ℕ) : Type 0 where
-  pub here : slice_index p h < length (children n)
-  pub on : Goes (h - 1) (child n (slice_index p h)) p
-
-pub goes-inner : (h : ℕ) (n : Node) (p : List ℕ) → h ≢ 0 → Goes h n p → GoesAt h n p
-unfolding Goes
-goes-inner zero n p e g = absurd (e refl)
-goes-inner (suc h) n p e g = record { here = g.0; on = rw sub-one g.1 }
-
-pub inner-goes : (h : ℕ) (n : Node) (p : List ℕ) → h ≢ 0 → GoesAt h n p → Goes h n p
-unfolding Goes
-inner-goes zero n p e g = absurd (e refl)
-inner-goes (suc h) n p e g = (g.here, rw sub-one at g.on)
-
-pub place-inner : (h : ℕ) (n : Node) (p : List ℕ) → h ≢ 0
-    → place h n p ≡ length (before (slice_index p h) (row n) (lists (h - 1) (children n))) + place (h - 1) (child n (slice_index p h)) p
-unfolding place
-place-inner zero n p e = absurd (e refl)
-place-inner (suc h) n p e = rw sub-one
-
-pub record FullAt (k h : ℕ) (n : Node) (p : List ℕ) : Type 0 where
-  pub here : FullBelow k h n
-  pub on : IsFullBelow k (h - 1) (child n (slice_index p h)) p
-
-pub full-inner : (k h : ℕ) (n : Node) (p : List ℕ) → h ≢ 0 → IsFullBelow k h n p → FullAt k h n p
+pub full-on : (k h : ℕ) (n : Node) (p : List ℕ) → h ≢ 0 → IsFullBelow k h n p → IsFullBelow k (h - 1) (child n (slice_index p h)) p
 unfolding IsFullBelow
-full-inner k zero n p e f = absurd (e refl)
-full-inner k (suc h) n p e f = record { here = f.0; on = rw sub-one f.1 }
+full-on k zero n p e f = absurd (e refl)
+full-on k (suc h) n p e f = rw sub-one f.1
 
 pub full-here : (k h : ℕ) (n : Node) (p : List ℕ) → IsFullBelow k h n p → FullBelow k h n
 unfolding IsFullBelow
 full-here k zero n p f = f
 full-here k (suc h) n p f = f.0
-
--- the child at a place, whichever member stands for none
-pub any_default : {X : Type 0} (xs : List X) (i : ℕ) (d e : X) → i < length xs → get_or xs i d ≡ get_or xs i e
-any_default [] i d e p = absurd (omega arith)
-any_default (x ∷ xs) zero d e p = refl
-any_default (x ∷ xs) (suc i) d e p = any_default xs i d e (omega arith)
 
 pub map-insert : {X Y : Type 0} → (f : X → Y) (xs : List X) (i : ℕ) (x : X) → map f (insert xs i x) ≡ insert (map f xs) i (f x)
 map-insert f [] zero x = refl
@@ -127,7 +80,7 @@ map-insert f (y ∷ xs) zero x = refl
 map-insert f (y ∷ xs) (suc i) x = ap (λ z. f y ∷ z) (map-insert f xs i x)
 
 pub All-insert : {X : Type 0} → (P : X → Type 0) (xs : List X) (i : ℕ) (x : X) → All P xs → P x → All P (insert xs i x)
-All-insert P xs i x a p = All-append P _ _ (All-take P i xs a) (All-cons P x _ p (All-drop P i xs a))
+All-insert P xs i x a p = All-permutation P (x ∷ xs) (insert xs i x) (IsPermutation-insert xs i x) (All-cons P x xs p a)
 
 -- a node just made
 pub row-roll : (r : Node-F Node) → row (roll-Node r) ≡ r.row
@@ -142,17 +95,154 @@ room-roll r = ap (λ z. vec_capacity z.children) (out-roll-Node r)
 pub room-from : (r : Node-F Node) → 12 ≤ vec_capacity r.children → 12 ≤ room (roll-Node r)
 room-from r h = rw room-roll h
 
--- a path leads to a place in the list
-pub place-within : (h : ℕ) (n : Node) (p : List ℕ) → IsFormed h n → Goes h n p → place h n p ≤ length (flat h n)
-place-within zero n p f g = rw (place-leaf zero n p refl, flat-leaf zero n refl) (goes-leaf zero n p refl g)
-place-within (suc h) n p f g =
-    let ne : suc h ≢ 0 = λ e. absurd (omega arith) in
-    let at = goes-inner (suc h) n p ne g in
+-- what a write to a path leaves
+pub path-here : (p q : List ℕ) (l i : ℕ) → length p ≡ 12 → l ≤ 11 → q ≡ slice_set p l i → slice_index q l ≡ i
+path-here p q l i len le e = ap (λ z. slice_index z l) e ∙ get_or-set_same p l i 0 (omega arith)
+
+pub path-above : (p q : List ℕ) (l i m : ℕ) → q ≡ slice_set p l i → l < m → slice_index q m ≡ slice_index p m
+path-above p q l i m e lt = ap (λ z. slice_index z m) e ∙ get_or-set_other p l m i 0 (λ same. absurd (omega arith))
+
+-- a path that goes down to a level, one level at a time
+pub record HoldsBelow (gap : Bool) (l h : ℕ) (n : Node) (p : List ℕ) : Type 0 where
+  pub here : slice_index p h < length (children n)
+  pub on : Reaches gap l (h - 1) (child n (slice_index p h)) p
+
+module _ {gap : Bool} where
+  pub holds-leaf : (l h : ℕ) (n : Node) (p : List ℕ) → h ≡ 0 → Reaches gap l h n p → Fits gap (slice_index p 0) (length (row n))
+  unfolding Passes
+  holds-leaf l h n p e w = (rw e at w.passes).1
+
+  pub holds-at : (l h : ℕ) (n : Node) (p : List ℕ) → h ≢ 0 → h ≡ l → Reaches gap l h n p → Fits gap (slice_index p h) (length (row n))
+  unfolding Passes
+  holds-at l zero n p ne e w = absurd (ne refl)
+  holds-at l (suc h) n p ne e w = w.passes.1 (sym e)
+
+  pub holds-level : (l h : ℕ) (n : Node) (p : List ℕ) → Reaches gap l h n p → l ≤ h
+  unfolding Passes
+  holds-level l zero n p w = w.passes.0
+  holds-level l (suc h) n p w = w.passes.0
+
+  pub holds-below : (l h : ℕ) (n : Node) (p : List ℕ) → h ≢ 0 → h ≢ l → Reaches gap l h n p → HoldsBelow gap l h n p
+  unfolding Passes
+  holds-below l zero n p ne e w = absurd (ne refl)
+  holds-below l (suc h) n p ne e w =
+      let le : l ≤ suc h = w.passes.0 in
+      let q = w.passes.2 (omega arith) in
+      record { here = q.0; on = rw sub-one (record { passes = q.1 }) }
+
+  -- a path to an index below the node
+  pub below-holds : (m l : ℕ) (n : Node) (p : List ℕ) → l ≢ 0 → slice_index p l < length (children n) → Reaches gap m (l - 1) (child n (slice_index p l)) p → Reaches gap m l n p
+  unfolding Passes
+  below-holds m zero n p ne lt h = absurd (ne refl)
+  below-holds m (suc l) n p ne lt h =
+      let below = rw sub-one at h in
+      let le = holds-level m l (child n (slice_index p (suc l))) p below in
+      record { passes = (omega arith, λ e. absurd (omega arith), λ _. (lt, below.passes)) }
+
+-- and one that ends at the node itself
+pub reaches-here : (gap : Bool) (l : ℕ) (n : Node) (p : List ℕ) → Fits gap (slice_index p l) (length (row n)) → Reaches gap l l n p
+unfolding Passes
+reaches-here gap zero n p fits = record { passes = (omega arith, fits) }
+reaches-here gap (suc h) n p fits = record { passes = (omega arith, λ _. fits, λ le. absurd (omega arith)) }
+
+pub holds-here : (l : ℕ) (n : Node) (p : List ℕ) → slice_index p l < length (row n) → Holds l l n p
+holds-here l n p lt = reaches-here false l n p lt
+
+pub spot-leaf : (l h : ℕ) (n : Node) (p : List ℕ) → h ≡ 0 → spot l h n p ≡ slice_index p 0
+unfolding spot
+spot-leaf l h n p e = rw e
+
+pub spot-at : (l h : ℕ) (n : Node) (p : List ℕ) → h ≢ 0 → h ≡ l
+    → spot l h n p ≡ length (before (slice_index p h) (row n) (lists (h - 1) (children n))) + length (flat (h - 1) (child n (slice_index p h)))
+unfolding spot
+spot-at l zero n p ne e = absurd (ne refl)
+spot-at l (suc h) n p ne e = let t : nat_eq l (suc h) ≡ true = eq-eqb l (suc h) (sym e) in rw (t, sub-one)
+
+pub spot-below : (l h : ℕ) (n : Node) (p : List ℕ) → h ≢ 0 → h ≢ l
+    → spot l h n p ≡ length (before (slice_index p h) (row n) (lists (h - 1) (children n))) + spot l (h - 1) (child n (slice_index p h)) p
+unfolding spot
+spot-below l zero n p ne e = absurd (ne refl)
+spot-below l (suc h) n p ne e = let t : nat_eq l (suc h) ≡ false = ne_eqb l (suc h) (λ z. e (sym z)) in rw (t, sub-one)
+
+-- a place of a row, and one of a list between its indexes, is one of the whole list
+Fits-le : (gap : Bool) (i count : ℕ) → Fits gap i count → i ≤ count
+Fits-le false i count lt = omega arith
+Fits-le true i count le = le
+
+Fits-row : (gap : Bool) (i : ℕ) (xs : List ℕ) (ks : List (List ℕ)) → length ks ≡ length xs + 1 → Fits gap i (length xs) → Fits gap (index_place i xs ks) (length (weave xs ks))
+Fits-row false i xs ks one lt = weave-within_at i xs ks [] lt one
+Fits-row true i xs ks one le = within i xs ks [] (length (get_or ks i [])) (omega arith) one (omega arith)
+
+Fits-list : (gap : Bool) (i : ℕ) (xs : List ℕ) (ks : List (List ℕ)) (q : ℕ) → length ks ≡ length xs + 1 → i < length ks → Fits gap q (length (get_or ks i [])) → Fits gap (length (before i xs ks) + q) (length (weave xs ks))
+Fits-list false i xs ks q one lt low = weave-within i xs ks [] q lt one low
+Fits-list true i xs ks q one lt low = within i xs ks [] q lt one low
+
+-- an index or gap to which a path goes is a place in the list
+pub spot-within : {gap : Bool} (l h : ℕ) (n : Node) (p : List ℕ) → IsFormed h n → Reaches gap l h n p → Fits gap (spot l h n p) (length (flat h n))
+unfolding Passes spot flat IsFormed
+spot-within l zero n p f w = w.passes.1
+spot-within {gap = gap} l (suc h) n p f w =
     let i : ℕ = slice_index p (suc h) in
-    let here : i < length (children n) = at.here in
-    let formed : IsFormed h (child n i) = rw sub-one at (child-formed (suc h) n i ne f here) in
-    let on : Goes h (child n i) p = rw sub-one at at.on in
-    let one : length (lists h (children n)) ≡ length (row n) + 1 = rw sub-one at (lists-one_more (suc h) n ne f) in
-    let le : place h (child n i) p ≤ length (get_or (lists h (children n)) i []) = rw (lists-at h n i here) (place-within h (child n i) p formed on) in
-    rw (place-inner (suc h) n p ne, flat-inner (suc h) n ne, sub-one)
-    (within i (row n) (lists h (children n)) [] (place h (child n i) p) (omega (arith, length-map (children n) (λ k. flat h k))) one le)
+    let ks : List (List ℕ) = lists h (children n) in
+    let len = length-map (children n) (λ k. flat h k) in
+    let om = f.0.one_more in
+    elim (cases_eq l (suc h)) [
+      | inl e ↦
+          (let t : nat_eq l (suc h) ≡ true = eq-eqb l (suc h) e in
+          let le = Fits-le gap i (length (row n)) (w.passes.1 e) in
+          rw t (rw (lists-at h n i (omega arith)) at (Fits-row gap i (row n) ks (omega arith) (w.passes.1 e))))
+      | inr e ↦
+          (let t : nat_eq l (suc h) ≡ false = ne_eqb l (suc h) e in
+          let le = w.passes.0 in
+          let down = w.passes.2 (omega arith) in
+          let below = spot-within {gap = gap} l h (child n i) p (f.1 i n down.0).1 (record { passes = down.1 }) in
+          rw t (Fits-list gap i (row n) ks (spot l h (child n i) p) (omega arith) (omega arith) (rw (lists-at h n i down.0) below)))
+    ]
+
+-- a path goes on into the i-th child
+pub record GoesDown (gap : Bool) (h l i : ℕ) (n : Node) (p : List ℕ) : Type 0 where
+  pub inner : h ≢ 0
+  pub here : i < length (children n)
+  pub five : 5 ≤ length (row (child n i))
+  pub formed : IsFormed (h - 1) (child n i)
+  pub holds : Reaches gap l (h - 1) (child n i) p
+  pub within : Fits gap (spot l (h - 1) (child n i) p) (length (flat (h - 1) (child n i)))
+  pub place : spot l h n p ≡ length (before i (row n) (lists (h - 1) (children n))) + spot l (h - 1) (child n i) p
+
+abbrev pub GoesBelow : ℕ → ℕ → ℕ → Node → List ℕ → Type 0
+GoesBelow h l i n p = GoesDown false h l i n p
+
+pub goes-below : {gap : Bool} (h l i : ℕ) (n : Node) (p : List ℕ) → l < h → i ≡ slice_index p h → IsFormed h n → Reaches gap l h n p → GoesDown gap h l i n p
+goes-below {gap = gap} h l i n p lt ei f w =
+    let ne : h ≢ 0 = λ e. absurd (omega arith) in
+    let other : h ≢ l = λ e. absurd (omega arith) in
+    let down = holds-below l h n p ne other w in
+    let here : i < length (children n) = rw ei down.here in
+    let on : Reaches gap l (h - 1) (child n i) p = rw ei down.on in
+    let below = (formed-inner h n ne f).below i n here in
+    record {
+      inner = ne;
+      here = here;
+      five = below.0;
+      formed = below.1;
+      holds = on;
+      within = spot-within l (h - 1) (child n i) p below.1 on;
+      place = rw ei (spot-below l h n p ne other);
+    }
+
+-- the same of a gap
+pub goes-leaf : (h : ℕ) (n : Node) (p : List ℕ) → h ≡ 0 → Goes h n p → slice_index p 0 ≤ length (row n)
+goes-leaf h n p e g = holds-leaf 0 h n p e g
+
+pub goes-inner : (h : ℕ) (n : Node) (p : List ℕ) → h ≢ 0 → Goes h n p → HoldsBelow true 0 h n p
+goes-inner h n p ne g = holds-below 0 h n p ne ne g
+
+pub place-leaf : (h : ℕ) (n : Node) (p : List ℕ) → h ≡ 0 → place h n p ≡ slice_index p 0
+place-leaf h n p e = spot-leaf 0 h n p e
+
+pub place-inner : (h : ℕ) (n : Node) (p : List ℕ) → h ≢ 0
+    → place h n p ≡ length (before (slice_index p h) (row n) (lists (h - 1) (children n))) + place (h - 1) (child n (slice_index p h)) p
+place-inner h n p ne = spot-below 0 h n p ne ne
+
+pub place-within : (h : ℕ) (n : Node) (p : List ℕ) → IsFormed h n → Goes h n p → place h n p ≤ length (flat h n)
+place-within h n p f g = spot-within 0 h n p f g

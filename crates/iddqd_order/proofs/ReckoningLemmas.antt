@@ -1,5 +1,5 @@
 -- How many indexes a tree has at least, and so how many levels it has and how many asks a search takes at most.
-use Rattle.iddqd_order.proofs.Names.{◌≡◌, ◌≢◌, ℕ, zero, suc, ◌+◌, ◌*◌, ◌/◌, ◌^◌, ◌<◌, ◌≤◌, List, [], ◌∷◌, length, All, arith, inl, inr, length-append, sub-one, false, eqb, ne_eqb, nat_eq, refl, sym, ◌∙◌, mul-le-mul_right, pow-suc, one-le-pow, pow-le-pow_right, IsDistinct, list_any, cases_lt, true≢false, length-map, All-head, All-tail, All-map, list_any_none, length-le_from_distinct_below, Node, digits, bound, row, children, weave, flat, IsFormed}
+use Rattle.iddqd_order.proofs.Names.{◌≡◌, ◌≢◌, ℕ, zero, suc, ◌+◌, ◌*◌, ◌/◌, ◌^◌, ◌<◌, ◌≤◌, List, [], ◌∷◌, length, All, arith, inl, inr, length-append, sub-one, eqb, nat_eq, refl, mul-le-mul_right, pow-suc, one-le-pow, pow-le-pow_right, IsDistinct, cases_lt, length-map, All-head, All-tail, All-map, Any-from_list_any, eqb-true, length-le_from_distinct_below, Node, digits, bound, row, children, weave, flat, IsFormed}
 use Rattle.iddqd_order.proofs.DigitLemmas.{digits-half}
 use Rattle.iddqd_order.proofs.NodeLemmas.{lists, flat-leaf, formed-inner, flat-inner}
 
@@ -63,12 +63,9 @@ twelve_levels h n f one few =
           absurd (omega arith))
     ]
 
--- distinct numbers of 32 bits are no more than there are
-pub few_indexes : (xs : List ℕ) → IsDistinct nat_eq xs → All (λ ix. ix < 4294967296) xs → length xs ≤ 4294967296
-few_indexes xs distinct small = length-le_from_distinct_below xs 4294967296 distinct (λ q held.
-    elim (cases_lt q 4294967296) [
-      | inl lt ↦ lt
-      | inr ge ↦
-          (let none : list_any (eqb q) xs ≡ false = list_any_none (eqb q) xs (λ k d lt. ne_eqb _ _ (λ e. let below = small k d lt in absurd (omega arith))) in
-          absurd (true≢false (sym held ∙ none)))
-    ])
+-- distinct numbers below n are no more than n
+pub few_indexes : (n : ℕ) (xs : List ℕ) → IsDistinct nat_eq xs → All (λ ix. ix < n) xs → length xs ≤ n
+few_indexes n xs distinct small = length-le_from_distinct_below xs n distinct (λ q held.
+    let at = Any-from_list_any (eqb q) xs held in
+    let lt = small at.0 at.1 at.2 in
+    omega (arith, at.3, eqb-true q at.1 at.4))

@@ -1,106 +1,9 @@
 -- What a removal below a node leaves of the node.
-use Rattle.iddqd_order.proofs.Names.{◌≡◌, ◌≢◌, ℕ, zero, suc, ◌+◌, ◌-◌, ◌<◌, ◌≤◌, List, [], ◌∷◌, ◌++◌, length, take, drop, set, get_or, remove, slice_index, refl, ap, sym, ◌∙◌, subst, arith, sub-one, length-set, get_or-set_same, get_or-set_other, All, true, false, nat_eq, eq-eqb, ne_eqb, inl, inr, vec_capacity, Option, Some, None, IsSome, ◌↔◌, option_to_list, map, cases_eq, length-map, map-set, length_push, nil_from_length, append-nil, take_more, take_all, drop_all, length-remove, Node, Node-F, roll-Node, row, children, child, room, weave, before, flat, IsInner, IsFormed, Holds, spot, IsChild, MayLackOne, IsMended, IsEmptied, in_order, IsTree, HoldsIn, spot_in}
-use Rattle.iddqd_order.proofs.NodeLemmas.{lists, lists-one_more, lists-at, child-within, child-formed, formed-leaf, leaf-formed, flat-leaf, formed-inner, inner-formed, flat-inner, any_default, room-roll}
+use Rattle.iddqd_order.proofs.Names.{get_or_default, ◌≡◌, ◌≢◌, ℕ, zero, suc, ◌+◌, ◌-◌, ◌<◌, ◌≤◌, List, [], ◌∷◌, ◌++◌, length, take, drop, set, get_or, remove, slice_index, refl, ap, sym, ◌∙◌, subst, arith, sub-one, length-set, get_or-set_same, get_or-set_other, All, vec_capacity, Option, Some, None, IsSome, ◌↔◌, option_to_list, map, length-map, map-set, length_push, nil_from_length, append-nil, take_more, take_all, drop_all, length-remove, Node, Node-F, roll-Node, row, children, child, room, weave, before, flat, IsInner, IsFormed, Holds, spot, IsChild, MayLackOne, IsMended, IsEmptied, in_order, IsTree}
+pub use Rattle.iddqd_order.proofs.NodeLemmas.{GoesBelow, goes-below, holds-leaf, holds-at, holds-level, holds-below, spot-leaf, spot-at, spot-below, spot-within}
+use Rattle.iddqd_order.proofs.NodeLemmas.{lists, lists-one_more, lists-at, child-within, formed-leaf, leaf-formed, flat-leaf, formed-inner, inner-formed, flat-inner, room-roll}
 use Rattle.iddqd_order.proofs.WeaveLemmas.{index_place}
-use Rattle.iddqd_order.proofs.WeaveRemovalLemmas.{weave-taken, weave-replaced, weave-last, weave-within, weave-within_at}
-
--- a path that goes down to a level, one level at a time
-pub record HoldsBelow (l h : ℕ) (n : Node) (p : List ℕ) : Type 0 where
-  pub here : slice_index p h < length (children n)
-  pub on : Holds l (h - 1) (child n (slice_index p h)) p
-
-pub holds-leaf : (l h : ℕ) (n : Node) (p : List ℕ) → h ≡ 0 → Holds l h n p → slice_index p 0 < length (row n)
-unfolding Holds
-holds-leaf l zero n p e w = w.1
-holds-leaf l (suc h) n p e w = absurd (omega arith)
-
-pub holds-at : (l h : ℕ) (n : Node) (p : List ℕ) → h ≢ 0 → h ≡ l → Holds l h n p → slice_index p h < length (row n)
-unfolding Holds
-holds-at l zero n p ne e w = absurd (ne refl)
-holds-at l (suc h) n p ne e w = w.1 (sym e)
-
-pub holds-level : (l h : ℕ) (n : Node) (p : List ℕ) → Holds l h n p → l ≤ h
-unfolding Holds
-holds-level l zero n p w = w.0
-holds-level l (suc h) n p w = w.0
-
-pub holds-below : (l h : ℕ) (n : Node) (p : List ℕ) → h ≢ 0 → h ≢ l → Holds l h n p → HoldsBelow l h n p
-unfolding Holds
-holds-below l zero n p ne e w = absurd (ne refl)
-holds-below l (suc h) n p ne e w =
-    let le : l ≤ suc h = w.0 in
-    let q = w.2 (omega arith) in
-    record { here = q.0; on = rw sub-one q.1 }
-
-pub spot-leaf : (l h : ℕ) (n : Node) (p : List ℕ) → h ≡ 0 → spot l h n p ≡ slice_index p 0
-unfolding spot
-spot-leaf l zero n p e = refl
-spot-leaf l (suc h) n p e = absurd (omega arith)
-
-pub spot-at : (l h : ℕ) (n : Node) (p : List ℕ) → h ≢ 0 → h ≡ l
-    → spot l h n p ≡ length (before (slice_index p h) (row n) (lists (h - 1) (children n))) + length (flat (h - 1) (child n (slice_index p h)))
-unfolding spot
-spot-at l zero n p ne e = absurd (ne refl)
-spot-at l (suc h) n p ne e = let t : nat_eq l (suc h) ≡ true = eq-eqb l (suc h) (sym e) in rw (t, sub-one)
-
-pub spot-below : (l h : ℕ) (n : Node) (p : List ℕ) → h ≢ 0 → h ≢ l
-    → spot l h n p ≡ length (before (slice_index p h) (row n) (lists (h - 1) (children n))) + spot l (h - 1) (child n (slice_index p h)) p
-unfolding spot
-spot-below l zero n p ne e = absurd (ne refl)
-spot-below l (suc h) n p ne e = let t : nat_eq l (suc h) ≡ false = ne_eqb l (suc h) (λ z. e (sym z)) in rw (t, sub-one)
-
--- an index to which a path goes is a place in the list
-pub spot-within : (l h : ℕ) (n : Node) (p : List ℕ) → IsFormed h n → Holds l h n p → spot l h n p < length (flat h n)
-spot-within l zero n p f w = rw (spot-leaf l zero n p refl, flat-leaf zero n refl) (holds-leaf l zero n p refl w)
-spot-within l (suc h) n p f w =
-    let ne : suc h ≢ 0 = λ e. absurd (omega arith) in
-    let i : ℕ = slice_index p (suc h) in
-    let b : List ℕ = before i (row n) (lists h (children n)) in
-    let one : length (lists h (children n)) ≡ length (row n) + 1 = rw sub-one at (lists-one_more (suc h) n ne f) in
-    let len = length-map (children n) (λ k. flat h k) in
-    elim (cases_eq (suc h) l) [
-      | inl e ↦
-          (let at : i < length (row n) = holds-at l (suc h) n p ne e w in
-          let s : spot l (suc h) n p ≡ length b + length (flat h (child n i)) = rw sub-one at (spot-at l (suc h) n p ne e) in
-          let q : index_place i (row n) (lists h (children n)) < length (weave (row n) (lists h (children n))) = weave-within_at i (row n) (lists h (children n)) [] at one in
-          rw (s, flat-inner (suc h) n ne, sub-one) (rw (lists-at h n i (omega arith)) at q))
-      | inr e ↦
-          (let down = holds-below l (suc h) n p ne e w in
-          let here : i < length (children n) = down.here in
-          let on : Holds l h (child n i) p = rw sub-one at down.on in
-          let formed : IsFormed h (child n i) = rw sub-one at (child-formed (suc h) n i ne f here) in
-          let s : spot l (suc h) n p ≡ length b + spot l h (child n i) p = rw sub-one at (spot-below l (suc h) n p ne e) in
-          let q : spot l h (child n i) p < length (get_or (lists h (children n)) i []) = rw (lists-at h n i here) (spot-within l h (child n i) p formed on) in
-          rw (s, flat-inner (suc h) n ne, sub-one) (weave-within i (row n) (lists h (children n)) [] (spot l h (child n i) p) (omega arith) one q))
-    ]
-
--- a path goes on into the i-th child
-pub record GoesBelow (h l i : ℕ) (n : Node) (p : List ℕ) : Type 0 where
-  pub inner : h ≢ 0
-  pub here : i < length (children n)
-  pub five : 5 ≤ length (row (child n i))
-  pub formed : IsFormed (h - 1) (child n i)
-  pub holds : Holds l (h - 1) (child n i) p
-  pub within : spot l (h - 1) (child n i) p < length (flat (h - 1) (child n i))
-  pub place : spot l h n p ≡ length (before i (row n) (lists (h - 1) (children n))) + spot l (h - 1) (child n i) p
-
-pub goes-below : (h l i : ℕ) (n : Node) (p : List ℕ) → l < h → i ≡ slice_index p h → IsFormed h n → Holds l h n p → GoesBelow h l i n p
-goes-below h l i n p lt ei f w =
-    let ne : h ≢ 0 = λ e. absurd (omega arith) in
-    let other : h ≢ l = λ e. absurd (omega arith) in
-    let down = holds-below l h n p ne other w in
-    let here : i < length (children n) = rw ei down.here in
-    let on : Holds l (h - 1) (child n i) p = rw ei down.on in
-    let below = (formed-inner h n ne f).below i n here in
-    record {
-      inner = ne;
-      here = here;
-      five = below.0;
-      formed = below.1;
-      holds = on;
-      within = spot-within l (h - 1) (child n i) p below.1 on;
-      place = rw ei (spot-below l h n p ne other);
-    }
+use Rattle.iddqd_order.proofs.WeaveRemovalLemmas.{weave-taken, weave-replaced, weave-last}
 
 -- a path goes to the i-th index of an inner node
 pub record EndsInner (h l i : ℕ) (n : Node) (p : List ℕ) : Type 0 where
@@ -128,21 +31,27 @@ pub record TookBelow (h i : ℕ) (old : Node) (xs : List ℕ) (ks : List Node) (
   pub may_lack : MayLackOne (h - 1) i xs ks
   pub items : weave xs (lists (h - 1) ks) ≡ left
 
-may-lack : (h i : ℕ) (old k : Node) (xs : List ℕ) → h ≢ 0 → IsFormed h old → 1 ≤ length (row old) → i < length (children old) → length xs ≡ length (row old)
-    → IsFormed (h - 1) k → length (row (child old i)) ≤ length (row k) + 1 → MayLackOne (h - 1) i xs (set (children old) i k)
-may-lack h i old k xs ne f some lt same fk few =
+took : (h i : ℕ) (old g k : Node) (xs left : List ℕ) → h ≢ 0 → IsFormed h old → 1 ≤ length (row old) → i < length (children old) → g ≡ child old i → length xs ≡ length (row old)
+    → IsFormed (h - 1) k → length (row g) ≤ length (row k) + 1 → weave xs (lists (h - 1) (set (children old) i k)) ≡ left → TookBelow h i old xs (set (children old) i k) left
+took h i old g k xs left ne f some lt is_g same fk few items =
     let fs = formed-inner h old ne f in
     let w = fs.inner.within in let om = fs.inner.one_more in
     let n = length-set (children old) i k in
-    let five = (fs.below i old lt).0 in
+    let five : 5 ≤ length (row g) = rw is_g (fs.below i old lt).0 in
     let four : 4 ≤ length (row k) = omega arith in
     record {
-      some = omega arith;
-      within = omega arith;
-      one_more = omega arith;
-      here = omega arith;
-      at = λ d. rw (get_or-set_same (children old) i k d lt) (four, fk);
-      others = λ j d q apart_from. rw (get_or-set_other (children old) i j k d apart_from) (fs.below j d (omega arith));
+      ne = ne;
+      inner = fs.inner;
+      same = same;
+      may_lack = record {
+        some = omega arith;
+        within = omega arith;
+        one_more = omega arith;
+        here = omega arith;
+        at = λ d. rw (get_or-set_same (children old) i k d lt) (four, fk);
+        others = λ j d q apart_from. rw (get_or-set_other (children old) i j k d apart_from) (fs.below j d (omega arith));
+      };
+      items = items;
     }
 
 -- all of the node, where an index was taken from the i-th child, of which k is left
@@ -165,15 +74,8 @@ pub took-below : (l h i : ℕ) (old g k : Node) (p : List ℕ) → h ≢ 0 → h
     → TookBelow h i old (row old) (set (children old) i k) (remove (flat h old) (spot l h old p))
 took-below l h i old g k p ne e ei f some w is_g items fk few =
     let b = goes-below h l i old p (omega (arith, holds-level l h old p w)) ei f w in
-    let same : g ≡ child old i = is_g ∙ any_default (children old) i g old b.here in
-    let few_c : length (row (child old i)) ≤ length (row k) + 1 = rw (sym same) few in
-    record {
-      ne = ne;
-      inner = (formed-inner h old ne f).inner;
-      same = refl;
-      may_lack = may-lack h i old k (row old) ne f some b.here refl fk few_c;
-      items = woven-taken l h i old k p f b (items ∙ ap (λ z. remove (flat (h - 1) z) (spot l (h - 1) z p)) same);
-    }
+    let same : g ≡ child old i = is_g ∙ get_or_default (children old) i g old b.here in
+    took h i old g k (row old) _ ne f some b.here same refl fk few (woven-taken l h i old k p f b (items ∙ ap (λ z. remove (flat (h - 1) z) (spot l (h - 1) z p)) same))
 
 -- the path ends at this node, and the last index below its i-th child is put in the place of the i-th index
 pub took-here : (l h i : ℕ) (old g k : Node) (p : List ℕ) (last : ℕ) → h ≢ 0 → h ≡ l → i ≡ slice_index p h → IsFormed h old → 1 ≤ length (row old) → Holds l h old p → g ≡ get_or (children old) i g
@@ -181,20 +83,13 @@ pub took-here : (l h i : ℕ) (old g k : Node) (p : List ℕ) (last : ℕ) → h
     → TookBelow h i old (set (row old) i last) (set (children old) i k) (remove (flat h old) (spot l h old p))
 took-here l h i old g k p last ne e ei f some w is_g items fk few =
     let s = ends-inner h l i old p ne e ei f w in
-    let same : g ≡ child old i = is_g ∙ any_default (children old) i g old s.here in
-    let few_c : length (row (child old i)) ≤ length (row k) + 1 = rw (sym same) few in
+    let same : g ≡ child old i = is_g ∙ get_or_default (children old) i g old s.here in
     let ks : List (List ℕ) = lists (h - 1) (children old) in
     let is : get_or ks i [] ≡ flat (h - 1) k ++ last ∷ [] = lists-at (h - 1) old i s.here ∙ ap (λ z. flat (h - 1) z) (sym same) ∙ items in
-    record {
-      ne = ne;
-      inner = (formed-inner h old ne f).inner;
-      same = length-set (row old) i last;
-      may_lack = may-lack h i old k (set (row old) i last) ne f some s.here (length-set (row old) i last) fk few_c;
-      items =
-          ap (λ z. weave (set (row old) i last) z) (map-set (λ k. flat (h - 1) k) (children old) i k)
-          ∙ weave-replaced i (row old) ks [] (flat (h - 1) k) last s.within (lists-one_more h old ne f) is
-          ∙ ap (λ z. remove (weave (row old) ks) z) (sym s.place) ∙ ap (λ z. remove z (spot l h old p)) (sym (flat-inner h old ne));
-    }
+    took h i old g k (set (row old) i last) _ ne f some s.here same (length-set (row old) i last) fk few
+    (ap (λ z. weave (set (row old) i last) z) (map-set (λ k. flat (h - 1) k) (children old) i k)
+    ∙ weave-replaced i (row old) ks [] (flat (h - 1) k) last s.within (lists-one_more h old ne f) is
+    ∙ ap (λ z. remove (weave (row old) ks) z) (sym s.place) ∙ ap (λ z. remove z (spot l h old p)) (sym (flat-inner h old ne)))
 
 -- the last index of the last child was taken
 pub record TookLast (h count : ℕ) (old : Node) (ks : List Node) (last : ℕ) : Type 0 where
@@ -204,21 +99,13 @@ pub record TookLast (h count : ℕ) (old : Node) (ks : List Node) (last : ℕ) :
 pub took-last : (h count : ℕ) (old g k : Node) (last : ℕ) → h ≢ 0 → count ≡ length (row old) → IsFormed h old → 1 ≤ length (row old) → g ≡ get_or (children old) count g
     → flat (h - 1) g ≡ flat (h - 1) k ++ last ∷ [] → IsFormed (h - 1) k → length (row g) ≤ length (row k) + 1 → TookLast h count old (set (children old) count k) last
 took-last h count old g k last ne ec f some is_g items fk few =
-    let fs = formed-inner h old ne f in
-    let om = fs.inner.one_more in
+    let om = (formed-inner h old ne f).inner.one_more in
     let here : count < length (children old) = omega arith in
-    let same : g ≡ child old count = is_g ∙ any_default (children old) count g old here in
-    let few_c : length (row (child old count)) ≤ length (row k) + 1 = rw (sym same) few in
+    let same : g ≡ child old count = is_g ∙ get_or_default (children old) count g old here in
     let ls : List (List ℕ) = lists (h - 1) (children old) in
     let is : get_or ls (length (row old)) [] ≡ flat (h - 1) k ++ last ∷ [] = ap (λ z. get_or ls z []) (sym ec) ∙ lists-at (h - 1) old count here ∙ ap (λ z. flat (h - 1) z) (sym same) ∙ items in
     record {
-      took = record {
-        ne = ne;
-        inner = fs.inner;
-        same = refl;
-        may_lack = may-lack h count old k (row old) ne f some here refl fk few_c;
-        items = refl;
-      };
+      took = took h count old g k (row old) _ ne f some here same refl fk few refl;
       items =
           flat-inner h old ne
           ∙ weave-last (row old) ls [] (flat (h - 1) k) last (lists-one_more h old ne f) is
@@ -300,14 +187,14 @@ pub record ChildAt (l h : ℕ) (n g : Node) (p : List ℕ) : Type 0 where
 pub child-below : (l h i : ℕ) (n g : Node) (p : List ℕ) → h ≢ 0 → h ≢ l → i ≡ slice_index p h → IsFormed h n → Holds l h n p → g ≡ get_or (children n) i g → ChildAt l h n g p
 child-below l h i n g p ne e ei f w is_g =
     let down = holds-below l h n p ne e w in
-    let same : g ≡ child n (slice_index p h) = subst (λ z. g ≡ get_or (children n) z g) ei is_g ∙ any_default (children n) (slice_index p h) g n down.here in
+    let same : g ≡ child n (slice_index p h) = subst (λ z. g ≡ get_or (children n) z g) ei is_g ∙ get_or_default (children n) (slice_index p h) g n down.here in
     record { formed = rw same ((formed-inner h n ne f).below (slice_index p h) n down.here); holds = rw same down.on }
 
 -- the child before an index
 pub child-before : (h i : ℕ) (n g : Node) → h ≢ 0 → i ≤ length (row n) → IsFormed h n → g ≡ get_or (children n) i g → (i < length (children n)) × IsChild (h - 1) g
 child-before h i n g ne le f is_g =
     let here = child-within h n i ne f le in
-    (here, rw (is_g ∙ any_default (children n) i g n here) ((formed-inner h n ne f).below i n here))
+    (here, rw (is_g ∙ get_or_default (children n) i g n here) ((formed-inner h n ne f).below i n here))
 
 -- a node just made has the room of the one before
 pub room-kept : (n : Node) (r : Node-F Node) → vec_capacity r.children ≡ room n → room n ≤ room (roll-Node r)
@@ -340,8 +227,3 @@ lowered (suc h) n left (Some k) e is some =
       tree = rw sub-one (c.1, omega arith, omega arith);
       items = rw sub-one (sym (ap (λ z. weave z (map (λ k. flat h k) (children n))) e.1 ∙ ap (λ z. weave [] (map (λ k. flat h k) z)) one));
     }
-
--- an index that a path holds in a tree is a place in its list
-pub spot_in-within : (l : ℕ) (r : Option Node) (h : ℕ) (p : List ℕ) → IsTree r h → HoldsIn l r h p → spot_in l r h p < length (in_order r h)
-spot_in-within l None h p t w = absurd w
-spot_in-within l (Some n) h p t w = spot-within l h n p t.0 w

@@ -1,6 +1,6 @@
 -- What an insert leaves of a tree.
-use Rattle.iddqd_order.proofs.Names.{◌≡◌, ℕ, ◌+◌, ◌-◌, ◌<◌, ◌≤◌, ◌≢◌, List, [], ◌∷◌, length, refl, ap, sym, ◌∙◌, arith, Option, Some, None, insert, length-insert, All-cons, All-nil, Node, row, children, room, flat, IsFormed, Goes, place, in_order, IsTree, GoesIn, place_in}
-use Rattle.iddqd_order.proofs.NodeLemmas.{AreChildren, leaf-formed, flat-leaf, inner-formed, flat-inner, place-within}
+use Rattle.iddqd_order.proofs.Names.{Bool, true, GoesIn, place_in, Fits, ReachesIn, spot_in, ◌≡◌, ℕ, ◌+◌, ◌-◌, ◌<◌, ◌≤◌, ◌≢◌, List, [], ◌∷◌, length, refl, ap, ◌∙◌, arith, Option, Some, None, insert, length-insert, All-cons, All-nil, Node, row, children, room, flat, IsFormed, Goes, place, in_order, IsTree}
+use Rattle.iddqd_order.proofs.NodeLemmas.{AreChildren, leaf-formed, flat-leaf, inner-formed, flat-inner, place-within, spot-within}
 use Rattle.iddqd_order.proofs.InsertLemmas.{Cut}
 use Rattle.iddqd_order.proofs.ReckoningLemmas.{twelve_levels}
 
@@ -38,13 +38,10 @@ new_root h old lower new m upper p x f g c er ek rm small =
     let len : length (flat (h + 1) new) ≤ 4294967296 = rw items (omega (arith, length-insert (flat h old) (place h old p) x (place-within h old p f g))) in
     record { low = twelve_levels (h + 1) new formed one len; formed = formed; root = one; items = items }
 
--- the list as the clause and as the call below write it
-pub told : (r : Option Node) (n : Node) (h : ℕ) (p : List ℕ) (x : ℕ) → r ≡ Some n → insert (flat h n) (place h n p) x ≡ insert (in_order r h) (place_in r h p) x
-told r n h p x e = ap (λ z. insert (in_order z h) (place_in z h p) x) (sym e)
+-- a path leads to a place in the list
+pub spot_in-within : (gap : Bool) (l : ℕ) (r : Option Node) (h : ℕ) (p : List ℕ) → IsTree r h → ReachesIn gap l r h p → Fits gap (spot_in l r h p) (length (in_order r h))
+spot_in-within gap l None h p t w = w
+spot_in-within gap l (Some n) h p t w = spot-within l h n p t.0 w
 
 pub place_in-within : (r : Option Node) (h : ℕ) (p : List ℕ) → IsTree r h → GoesIn r h p → place_in r h p ≤ length (in_order r h)
-place_in-within None h p t g = omega arith
-place_in-within (Some n) h p t g = place-within h n p t.0 g
-
-pub length-put : (r : Option Node) (h : ℕ) (p : List ℕ) (x : ℕ) → IsTree r h → GoesIn r h p → length (insert (in_order r h) (place_in r h p) x) ≡ length (in_order r h) + 1
-length-put r h p x t g = length-insert (in_order r h) (place_in r h p) x (place_in-within r h p t g)
+place_in-within r h p t g = spot_in-within true 0 r h p t g

@@ -1,10 +1,10 @@
 -- Ways: what a step along one leaves, and what stays of them where an index is put in the place of another.
-use Rattle.iddqd_order.proofs.Names.{◌≡◌, ◌≢◌, ◌∙◌, ℕ, zero, suc, ◌+◌, ◌-◌, ◌<◌, ◌≤◌, List, [], ◌∷◌, ◌++◌, length, get_or, set, slice_index, slice_set, refl, sym, ap, subst, arith, Option, Some, None, IsNone, IfSome, IsTrue, ◌↔◌, Contains, Bool, is_some, true, false, sub-one, length-append, length-set, get_or-set_same, get_or-set_other, inl, inr, cases_eq, append-nil, length-map, map-set, set-append_left, set-append_right, All-set, Node, Way, row, children, child, room, weave, before, after, flat, IsFormed, Holds, spot, StepsOn, SamePlaces, IsWay}
-use Rattle.iddqd_order.proofs.NodeLemmas.{lists, AreChildren, formed-within, formed-leaf, leaf-formed, flat-leaf, formed-inner, inner-formed, flat-inner, any_default}
+use Rattle.iddqd_order.proofs.Names.{◌≡◌, ◌≢◌, ◌∙◌, ℕ, zero, suc, ◌+◌, ◌-◌, ◌<◌, ◌≤◌, List, [], ◌++◌, length, get_or, set, slice_index, slice_set, refl, sym, ap, subst, arith, Option, Some, None, is_some, true, false, sub-one, length-append, length-set, get_or-set_same, get_or-set_other, inl, inr, cases_eq, length-map, map-set, All-set, Node, Way, row, children, child, room, weave, before, after, flat, IsFormed, Holds, spot, StepsOn, SamePlaces, IsWay, get_or_default, add-one, set-get_or}
+use Rattle.iddqd_order.proofs.NodeLemmas.{lists, AreChildren, formed-within, formed-leaf, leaf-formed, flat-leaf, formed-inner, inner-formed, flat-inner}
 use Rattle.iddqd_order.proofs.RemovalLemmas.{GoesBelow, goes-below, ends-inner, holds-leaf, holds-at, holds-level, holds-below, spot-leaf, spot-at, spot-below, spot-within}
 use Rattle.iddqd_order.proofs.DescentLemmas.{after-last, before-next, lists-one_more, lists-at, child-formed, child-read, child_is, holds-here, below-holds, spot-row}
-use Rattle.iddqd_order.proofs.IndexListLemmas.{Contains-at}
-use Rattle.iddqd_order.proofs.WeaveLemmas.{apart, index_place, before-set, after-set}
+use Rattle.iddqd_order.proofs.WeaveLemmas.{apart, index_place}
+use Rattle.iddqd_order.proofs.WeaveRemovalLemmas.{weave-set_own, weave-set_below}
 
 -- the first way goes to the first index
 pub record IsFirst (h : ℕ) (n : Node) (p : List ℕ) : Type 0 where
@@ -90,14 +90,10 @@ pub ends-below : (c : ℕ) (h l i : ℕ) (r : Option ℕ) (n : Node) (p q : List
 ends-below c h l i (Some m) n p q b f le none s = absurd (cc)
 ends-below c h l i None n p q b f le none s =
     let xs : List ℕ = row n in let ks : List (List ℕ) = lists (h - 1) (children n) in
-    let here = b.here in
     let one = lists-one_more h n b.inner f in
-    let whole : flat h n ≡ before i xs ks ++ (get_or ks i [] ++ []) =
-    flat-inner h n b.inner ∙ apart i xs ks [] (omega (arith, length-map (children n) (λ k. flat (h - 1) k))) one ∙ ap (λ z. before i xs ks ++ (get_or ks i [] ++ z)) (after-last i xs ks le one) in
-    let all : length (flat h n) ≡ length (before i xs ks) + length (flat (h - 1) (child n i)) =
-    ap length whole ∙ length-append (before i xs ks) (get_or ks i [] ++ []) ∙ ap (λ z. length (before i xs ks) + length z) (append-nil (get_or ks i []) ∙ lists-at (h - 1) n i here) in
-    let was = b.place in
-    omega arith
+    let whole = ap length (flat-inner h n b.inner ∙ apart i xs ks [] (omega (arith, b.here, length-map (children n) (λ k. flat (h - 1) k))) one) in
+    let list = ap length (lists-at (h - 1) n i b.here) in let last = ap length (after-last i xs ks le one) in
+    omega (arith, b.place, whole, length-append (before i xs ks) (get_or ks i [] ++ after i xs ks), length-append (get_or ks i []) (after i xs ks))
 
 -- the index to which a path goes below the i-th child
 pub read-below : (h l i ix : ℕ) (n : Node) (p : List ℕ) → GoesBelow h l i n p → IsFormed h n → ix ≡ slice_index (flat (h - 1) (child n i)) (spot l (h - 1) (child n i) p)
@@ -154,90 +150,37 @@ pub none-is : (r : Option ℕ) → is_some r ≡ false → r ≡ None
 none-is None e = refl
 none-is (Some m) e = absurd (cc)
 
--- an index is put in the place of another of its row
-weave-set_own : (i : ℕ) (xs : List ℕ) (ks : List (List ℕ)) (x : ℕ) → i < length xs → length ks ≡ length xs + 1 → weave (set xs i x) ks ≡ set (weave xs ks) (index_place i xs ks) x
-weave-set_own i [] ks x lt e = absurd (omega arith)
-weave-set_own i (y ∷ xs) [] x lt e = absurd (omega arith)
-weave-set_own zero (y ∷ xs) (k ∷ ks) x lt e =
-    let none : 0 + length k - length k ≡ 0 = omega arith in
-    sym (set-append_right k (y ∷ weave xs ks) (length k) (0 + length k) x refl (omega arith) ∙ ap (λ z. k ++ set (y ∷ weave xs ks) z x) none)
-weave-set_own (suc i) (y ∷ xs) (k ∷ ks) x lt e =
-    let ih = weave-set_own i xs ks x (omega arith) (omega arith) in
-    let len : length (k ++ y ∷ before i xs ks) ≡ length k + suc (length (before i xs ks)) = length-append k (y ∷ before i xs ks) in
-    let at : length (k ++ y ∷ before i xs ks) + length (get_or ks i []) - length k ≡ suc (index_place i xs ks) = omega arith in
-    ap (λ z. k ++ y ∷ z) ih
-    ∙ sym (set-append_right k (y ∷ weave xs ks) (length k) (length (k ++ y ∷ before i xs ks) + length (get_or ks i [])) x refl (omega arith) ∙ ap (λ z. k ++ set (y ∷ weave xs ks) z x) at)
-
--- or below it
-weave-set_below : (i : ℕ) (xs : List ℕ) (ks : List (List ℕ)) (k : List ℕ) (q x : ℕ) → i < length ks → length ks ≡ length xs + 1 → q < length (get_or ks i []) → k ≡ set (get_or ks i []) q x
-    → weave xs (set ks i k) ≡ set (weave xs ks) (length (before i xs ks) + q) x
-weave-set_below i xs ks k q x p e w is =
-    let b : List ℕ = before i xs ks in
-    let a : List ℕ = after i xs ks in
-    let g : List ℕ = get_or ks i [] in
-    let new : weave xs (set ks i k) ≡ before i xs (set ks i k) ++ (get_or (set ks i k) i [] ++ after i xs (set ks i k)) = apart i xs (set ks i k) [] (omega (arith, length-set ks i k)) (omega (arith, length-set ks i k)) in
-    let here : get_or (set ks i k) i [] ≡ k = get_or-set_same ks i k [] p in
-    let new2 : weave xs (set ks i k) ≡ b ++ (k ++ a) = cc (new, here, before-set i xs ks k, after-set i xs ks k e) in
-    let old : weave xs ks ≡ b ++ (g ++ a) = apart i xs ks [] p e in
-    let c1 : set (b ++ (g ++ a)) (length b + q) x ≡ b ++ set (g ++ a) (length b + q - length b) x = set-append_right b (g ++ a) (length b) (length b + q) x refl (omega arith) in
-    let c2 : length b + q - length b ≡ q = omega arith in
-    let c3 : set (g ++ a) q x ≡ set g q x ++ a = set-append_left g a q x w in
-    new2 ∙ ap (λ z. b ++ (z ++ a)) is ∙ ap (λ z. b ++ z) (sym c3) ∙ ap (λ z. b ++ set (g ++ a) z x) (sym c2) ∙ sym c1 ∙ ap (λ z. set z (length b + q) x) (sym old)
-
 -- what stands before a list is as long where the lists are as long
-before-as_long : (i : ℕ) (xs ys : List ℕ) (ks ls : List (List ℕ)) → length xs ≡ length ys → length ks ≡ length ls → ((j : ℕ) → j < length ks → length (get_or ks j []) ≡ length (get_or ls j []))
+before-as_long : (i : ℕ) (xs ys : List ℕ) (ks ls : List (List ℕ)) → i ≤ length xs → length ys ≡ length xs → length ks ≡ length xs + 1 → length ls ≡ length ys + 1 → ((j : ℕ) → j < i → length (get_or ks j []) ≡ length (get_or ls j []))
     → length (before i xs ks) ≡ length (before i ys ls)
-before-as_long zero xs ys ks ls ex ek each = refl
-before-as_long (suc i) [] [] ks ls ex ek each = refl
-before-as_long (suc i) [] (y ∷ ys) ks ls ex ek each = absurd (omega arith)
-before-as_long (suc i) (x ∷ xs) [] ks ls ex ek each = absurd (omega arith)
-before-as_long (suc i) (x ∷ xs) (y ∷ ys) [] [] ex ek each = refl
-before-as_long (suc i) (x ∷ xs) (y ∷ ys) [] (l ∷ ls) ex ek each = absurd (omega arith)
-before-as_long (suc i) (x ∷ xs) (y ∷ ys) (k ∷ ks) [] ex ek each = absurd (omega arith)
-before-as_long (suc i) (x ∷ xs) (y ∷ ys) (k ∷ ks) (l ∷ ls) ex ek each =
-    let first = each 0 (omega arith) in
-    let ih = before-as_long i xs ys ks ls (omega arith) (omega arith) (λ j lt. each (suc j) (omega arith)) in
-    omega (arith, length-append k (x ∷ before i xs ks), length-append l (y ∷ before i ys ls))
+before-as_long zero xs ys ks ls le e ek el each = refl
+before-as_long (suc i) xs ys ks ls le e ek el each =
+    let ih = before-as_long i xs ys ks ls (omega arith) e ek el (λ j lt. each j (omega arith)) in
+    omega (arith, simp add-one at (before-next i xs ks (omega arith) ek), simp add-one at (before-next i ys ls (omega arith) el), each i (omega arith))
 
--- two nodes with rows that are as long, and children of which the paths go to the same places
-pub record AreAlike (h : ℕ) (n m : Node) : Type 0 where
-  pub rows : length (row m) ≡ length (row n)
-  pub count : length (children m) ≡ length (children n)
-  pub lengths : (j : ℕ) → j < length (children n) → length (flat h (child m j)) ≡ length (flat h (child n j))
-  pub places : (j : ℕ) → j < length (children n) → SamePlaces h (child n j) (child m j)
+SamePlaces-itself : (h : ℕ) (n : Node) → SamePlaces h n n
+SamePlaces-itself h n = record { long = refl; at = λ l p w. (w, refl) }
 
-same-places-leaf : (n m : Node) → length (row m) ≡ length (row n) → SamePlaces 0 n m
-same-places-leaf n m rows l p w =
-    let at = holds-leaf l 0 n p refl w in
-    let zero_is = holds-level l 0 n p w in
-    let e : l ≡ 0 = omega arith in
-    (subst (λ z. Holds z 0 m p) (sym e) (holds-here 0 m p (omega arith)), spot-leaf l 0 m p refl ∙ sym (spot-leaf l 0 n p refl))
-
-same-places-inner : (h : ℕ) (n m : Node) → h ≢ 0 → length (children n) ≡ length (row n) + 1 → AreAlike (h - 1) n m → SamePlaces h n m
-same-places-inner h n m ne one a l p w =
-    let i : ℕ = slice_index p h in
-    let rows = a.rows in let count = a.count in
-    let ln = length-map (children n) (λ k. flat (h - 1) k) in
-    let lm = length-map (children m) (λ k. flat (h - 1) k) in
-    let befores : length (before i (row m) (lists (h - 1) (children m))) ≡ length (before i (row n) (lists (h - 1) (children n))) =
-    before-as_long i (row m) (row n) (lists (h - 1) (children m)) (lists (h - 1) (children n)) rows (omega arith)
-    (λ j lt. ap length (lists-at (h - 1) m j (omega arith)) ∙ a.lengths j (omega arith) ∙ sym (ap length (lists-at (h - 1) n j (omega arith)))) in
-    elim (cases_eq h l) [
-      | inl e ↦
-          (let at : i < length (row n) = holds-at l h n p ne e w in
-          let same = a.lengths i (omega arith) in
-          let sm = spot-at l h m p ne e in
-          let sn = spot-at l h n p ne e in
-          (subst (λ z. Holds z h m p) e (holds-here h m p (omega arith)), omega arith))
-      | inr other ↦
-          (let down = holds-below l h n p ne other w in
-          let here = down.here in
-          let on = a.places i here l p down.on in
-          let same = on.1 in
-          let sm = spot-below l h m p ne other in
-          let sn = spot-below l h n p ne other in
-          (below-holds l h m p ne (omega arith) on.0, omega arith))
-    ]
+same-places-inner : (h : ℕ) (n m : Node) → h ≢ 0 → IsFormed h n → IsFormed h m → length (row m) ≡ length (row n) → length (flat h m) ≡ length (flat h n) → ((j : ℕ) → j < length (children n) → SamePlaces (h - 1) (child n j) (child m j)) → SamePlaces h n m
+same-places-inner h n m ne fn fm rows long each = record { long = long; at = at }
+  where
+    at : (l : ℕ) (p : List ℕ) → Holds l h n p → Holds l h m p × (spot l h m p ≡ spot l h n p)
+    at l p w =
+        let i : ℕ = slice_index p h in
+        let one = (formed-inner h n ne fn).inner.one_more in let other = (formed-inner h m ne fm).inner.one_more in
+        let befores : i ≤ length (row n) → length (before i (row m) (lists (h - 1) (children m))) ≡ length (before i (row n) (lists (h - 1) (children n))) =
+        λ le. before-as_long i (row m) (row n) (lists (h - 1) (children m)) (lists (h - 1) (children n)) (omega arith) (sym rows) (lists-one_more h m ne fm) (lists-one_more h n ne fn)
+        (λ j lt. ap length (lists-at (h - 1) m j (omega arith)) ∙ (each j (omega arith)).long ∙ sym (ap length (lists-at (h - 1) n j (omega arith)))) in
+        elim (cases_eq h l) [
+          | inl e ↦
+              (let lt : i < length (row n) = holds-at l h n p ne e w in
+              (subst (λ z. Holds z h m p) e (holds-here h m p (omega arith)), omega (arith, befores (omega arith), (each i (omega arith)).long, spot-at l h m p ne e, spot-at l h n p ne e)))
+          | inr below ↦
+              (let down = holds-below l h n p ne below w in
+              let here = down.here in
+              let on = (each i here).at l p down.on in
+              (below-holds l h m p ne (omega arith) on.0, omega (arith, befores (omega arith), on.1, spot-below l h m p ne below, spot-below l h n p ne below)))
+        ]
 
 -- what an index that is put in the place of another leaves of a node
 pub record IsPut (h l : ℕ) (n m : Node) (p : List ℕ) (x : ℕ) : Type 0 where
@@ -246,89 +189,66 @@ pub record IsPut (h l : ℕ) (n m : Node) (p : List ℕ) (x : ℕ) : Type 0 wher
   pub same_length : length (row m) ≡ length (row n)
   pub same_places : SamePlaces h n m
 
-put-leaf : (l x : ℕ) (n m : Node) (p : List ℕ) → IsFormed 0 n → Holds l 0 n p → row m ≡ set (row n) (slice_index p 0) x → children m ≡ children n → IsPut 0 l n m p x
-put-leaf l x n m p f w er ek =
-    let leaf = formed-leaf 0 n refl f in
-    let within = leaf.within in
-    let rows : length (row m) ≡ length (row n) = ap length er ∙ length-set (row n) (slice_index p 0) x in
-    record {
-      items = flat-leaf 0 m refl ∙ er ∙ ap (λ z. set z (slice_index p 0) x) (sym (flat-leaf 0 n refl)) ∙ ap (λ z. set (flat 0 n) z x) (sym (spot-leaf l 0 n p refl));
-      formed = leaf-formed 0 m refl (record { within = omega arith; childless = ek ∙ leaf.childless });
-      same_length = rows;
-      same_places = same-places-leaf n m rows;
-    }
-
-put-own : (h l i x : ℕ) (n m : Node) (p : List ℕ) → h ≢ 0 → h ≡ l → i ≡ slice_index p h → IsFormed h n → Holds l h n p → row m ≡ set (row n) i x → children m ≡ children n → room n ≤ room m → IsPut h l n m p x
-put-own h l i x n m p ne e ei f w er ek rm =
-    let s = ends-inner h l i n p ne e ei f w in
+-- k is put in the place of the i-th child, and goes to the same places
+put-inner : (h l i x : ℕ) (n k m : Node) (p : List ℕ) → h ≢ 0 → IsFormed h n → i < length (children n) → length (row m) ≡ length (row n) → children m ≡ set (children n) i k → room n ≤ room m
+    → (5 ≤ length (row k)) × IsFormed (h - 1) k → SamePlaces (h - 1) (child n i) k → weave (row m) (lists (h - 1) (set (children n) i k)) ≡ set (weave (row n) (lists (h - 1) (children n))) (spot l h n p) x → IsPut h l n m p x
+put-inner h l i x n k m p ne f here rows ek more child_is same woven =
     let fs = formed-inner h n ne f in
     let one = fs.inner.one_more in let within = fs.inner.within in let has_room = fs.inner.has_room in
-    let count = ap length ek in
-    let rows : length (row m) ≡ length (row n) = ap length er ∙ length-set (row n) i x in
-    let same : (j : ℕ) → j < length (children n) → child m j ≡ child n j = λ j lt. ap (λ z. get_or z j m) ek ∙ any_default (children n) j m n lt in
+    let count = ap length ek ∙ length-set (children n) i k in
+    let formed : IsFormed h m = inner-formed h m ne (record { within = omega arith; one_more = omega arith; has_room = omega arith })
+    (subst (AreChildren (h - 1)) (sym ek) (All-set (λ z. (5 ≤ length (row z)) × IsFormed (h - 1) z) (children n) i k child_is fs.below)) in
+    let items : flat h m ≡ set (flat h n) (spot l h n p) x =
+    flat-inner h m ne ∙ ap (λ z. weave (row m) (lists (h - 1) z)) ek ∙ woven ∙ ap (λ z. set z (spot l h n p) x) (sym (flat-inner h n ne)) in
     record {
-      items =
-          flat-inner h m ne ∙ ap (λ z. weave z (lists (h - 1) (children m))) er ∙ ap (λ z. weave (set (row n) i x) (lists (h - 1) z)) ek
-          ∙ weave-set_own i (row n) (lists (h - 1) (children n)) x s.within (lists-one_more h n ne f)
-          ∙ ap (λ z. set (weave (row n) (lists (h - 1) (children n))) z x) (sym s.place) ∙ ap (λ z. set z (spot l h n p) x) (sym (flat-inner h n ne));
-      formed = inner-formed h m ne (record { within = omega arith; one_more = omega arith; has_room = omega arith }) (subst (AreChildren (h - 1)) (sym ek) fs.below);
+      items = items;
+      formed = formed;
       same_length = rows;
-      same_places = same-places-inner h n m ne one (record {
-        rows = rows;
-        count = count;
-        lengths = λ j lt. ap (λ z. length (flat (h - 1) z)) (same j lt);
-        places = λ j lt. subst (λ z. SamePlaces (h - 1) (child n j) z) (sym (same j lt)) (λ l p w. (w, refl));
-      });
+      same_places = same-places-inner h n m ne f formed rows (ap length items ∙ length-set (flat h n) (spot l h n p) x) (λ j lt. elim (cases_eq j i) [
+        | inl e ↦ subst (λ z. SamePlaces (h - 1) (child n z) (child m z)) (sym e) (subst (SamePlaces (h - 1) (child n i)) (sym (ap (λ z. get_or z i m) ek ∙ get_or-set_same (children n) i k m here)) same)
+        | inr away ↦ subst (SamePlaces (h - 1) (child n j)) (sym (ap (λ z. get_or z j m) ek ∙ get_or-set_other (children n) i j k m away ∙ get_or_default (children n) j m n lt)) (SamePlaces-itself (h - 1) (child n j))
+      ]);
     }
 
 pub put-here : (h l i x : ℕ) (n m : Node) (p : List ℕ) → h ≡ l → i ≡ slice_index p h → IsFormed h n → Holds l h n p → row m ≡ set (row n) i x → children m ≡ children n → room n ≤ room m → IsPut h l n m p x
-put-here zero l i x n m p e ei f w er ek rm = put-leaf l x n m p f w (er ∙ ap (λ z. set (row n) z x) ei) ek
-put-here (suc h) l i x n m p e ei f w er ek rm = put-own (suc h) l i x n m p (λ z. absurd (omega arith)) e ei f w er ek rm
+put-here zero l i x n m p e ei f w er ek more =
+    let leaf = formed-leaf 0 n refl f in let within = leaf.within in
+    let rows : length (row m) ≡ length (row n) = ap length er ∙ length-set (row n) i x in
+    let lt = holds-leaf l 0 n p refl w in
+    record {
+      items = flat-leaf 0 m refl ∙ er ∙ sym (λ j. set (flat-leaf 0 n refl j) ((spot-leaf l 0 n p refl ∙ sym ei) j) x);
+      formed = leaf-formed 0 m refl (record { within = omega arith; childless = ek ∙ leaf.childless });
+      same_length = rows;
+      same_places = record {
+        long = ap length (flat-leaf 0 m refl) ∙ rows ∙ sym (ap length (flat-leaf 0 n refl));
+        at = λ k q v. (
+            let low = holds-leaf k 0 n q refl v in let none = holds-level k 0 n q v in let e : 0 ≡ k = omega arith in
+            (subst (λ z. Holds z 0 m q) e (holds-here 0 m q (omega arith)), spot-leaf k 0 m q refl ∙ sym (spot-leaf k 0 n q refl)));
+      };
+    }
+put-here (suc h) l i x n m p e ei f w er ek more =
+    let ne : suc h ≢ 0 = λ z. absurd (omega arith) in
+    let s = ends-inner (suc h) l i n p ne e ei f w in
+    let ks : List (List ℕ) = lists (suc h - 1) (children n) in
+    let same : set (children n) i (child n i) ≡ children n = set-get_or (children n) i n in
+    put-inner (suc h) l i x n (child n i) m p ne f s.here (ap length er ∙ length-set (row n) i x) (ek ∙ sym same) more ((formed-inner (suc h) n ne f).below i n s.here) (SamePlaces-itself (suc h - 1) (child n i))
+    ((λ j. weave (er j) (lists (suc h - 1) (same j))) ∙ weave-set_own i (row n) ks x s.within (lists-one_more (suc h) n ne f) ∙ ap (λ z. set (weave (row n) ks) z x) (sym s.place))
 
 -- the same where it goes on below the i-th child g, which k is put in the place of
-pub put-below : (h l i x : ℕ) (n g k m : Node) (p : List ℕ) → l < h → i ≡ slice_index p h → IsFormed h n → Holds l h n p → g ≡ child n i → IsPut (h - 1) l g k p x
+pub put-below : (h l i x : ℕ) (n g k m : Node) (p : List ℕ) → l < h → i ≡ slice_index p h → IsFormed h n → Holds l h n p → g ≡ get_or (children n) i g → IsPut (h - 1) l g k p x
     → row m ≡ row n → children m ≡ set (children n) i k → room n ≤ room m → IsPut h l n m p x
-put-below h l i x n g k m p low ei f w is_g put er ek rm =
+put-below h l i x n g k m p low ei f w is_g put er ek more =
     let b = goes-below h l i n p low ei f w in
-    let ne = b.inner in
-    let fs = formed-inner h n ne f in
-    let one = fs.inner.one_more in let within = fs.inner.within in let has_room = fs.inner.has_room in
-    let here : i < length (children n) = b.here in
-    let five = (fs.below i n here).0 in
-    let rows : length (row m) ≡ length (row n) = ap length er in
-    let count : length (children m) ≡ length (children n) = ap length ek ∙ length-set (children n) i k in
-    let at : child m i ≡ k = ap (λ z. get_or z i m) ek ∙ get_or-set_same (children n) i k m here in
-    let other : (j : ℕ) → j < length (children n) → j ≢ i → child m j ≡ child n j =
-    λ j lt away. ap (λ z. get_or z j m) ek ∙ get_or-set_other (children n) i j k m away ∙ any_default (children n) j m n lt in
-    let was : IsPut (h - 1) l (child n i) k p x = subst (λ z. IsPut (h - 1) l z k p x) is_g put in
-    let len : length (flat (h - 1) k) ≡ length (flat (h - 1) (child n i)) = ap length was.items ∙ length-set (flat (h - 1) (child n i)) (spot l (h - 1) (child n i) p) x in
+    let five = b.five in
+    let was : IsPut (h - 1) l (child n i) k p x = subst (λ z. IsPut (h - 1) l z k p x) (child_is n i g b.here is_g) put in
     let row_len = was.same_length in
-    let list = lists-at (h - 1) n i here in
-    let in_lists : i < length (lists (h - 1) (children n)) = omega (arith, length-map (children n) (λ k. flat (h - 1) k)) in
-    let lt : spot l (h - 1) (child n i) p < length (get_or (lists (h - 1) (children n)) i []) = rw list b.within in
-    let new : flat (h - 1) k ≡ set (get_or (lists (h - 1) (children n)) i []) (spot l (h - 1) (child n i) p) x = rw list was.items in
-    record {
-      items =
-          flat-inner h m ne ∙ ap (λ z. weave z (lists (h - 1) (children m))) er ∙ ap (λ z. weave (row n) (lists (h - 1) z)) ek
-          ∙ ap (λ z. weave (row n) z) (map-set (λ k. flat (h - 1) k) (children n) i k)
-          ∙ weave-set_below i (row n) (lists (h - 1) (children n)) (flat (h - 1) k) (spot l (h - 1) (child n i) p) x in_lists (lists-one_more h n ne f) lt new
-          ∙ ap (λ z. set (weave (row n) (lists (h - 1) (children n))) z x) (sym b.place) ∙ ap (λ z. set z (spot l h n p) x) (sym (flat-inner h n ne));
-      formed = inner-formed h m ne (record { within = omega arith; one_more = omega arith; has_room = omega arith })
-          (subst (AreChildren (h - 1)) (sym ek) (All-set (λ z. (5 ≤ length (row z)) × IsFormed (h - 1) z) (children n) i k (omega arith, was.formed) fs.below));
-      same_length = rows;
-      same_places = same-places-inner h n m ne one (record {
-        rows = rows;
-        count = count;
-        lengths = λ j lt. elim (cases_eq j i) [
-          | inl e ↦ rw (e, at) len
-          | inr away ↦ ap (λ z. length (flat (h - 1) z)) (other j lt away)
-        ];
-        places = λ j lt. elim (cases_eq j i) [
-          | inl e ↦ subst (λ z. SamePlaces (h - 1) (child n z) (child m z)) (sym e) (subst (λ z. SamePlaces (h - 1) (child n i) z) (sym at) was.same_places)
-          | inr away ↦ subst (λ z. SamePlaces (h - 1) (child n j) z) (sym (other j lt away)) (λ l p w. (w, refl))
-        ];
-      });
-    }
+    let ks : List (List ℕ) = lists (h - 1) (children n) in
+    let list = lists-at (h - 1) n i b.here in
+    let q : ℕ = spot l (h - 1) (child n i) p in
+    put-inner h l i x n k m p b.inner f b.here (ap length er) ek more (omega arith, was.formed) was.same_places
+    ((λ j. weave (er j) (map-set (λ k. flat (h - 1) k) (children n) i k j))
+    ∙ weave-set_below i (row n) ks (flat (h - 1) k) q x (omega (arith, b.here, length-map (children n) (λ k. flat (h - 1) k))) (lists-one_more h n b.inner f) (rw list b.within) (rw list was.items)
+    ∙ ap (λ z. set (weave (row n) ks) z x) (sym b.place))
 
 -- the way to the first index
 pub IsWay-first : (h : ℕ) (n : Node) (w : Way) → IsFormed h n → 1 ≤ length (row n) → h ≤ 11 → length w.path ≡ 12 → ((l : ℕ) → slice_index w.path l ≡ 0) → w.level ≡ 0 → w.place ≡ 0 → IsWay h n w
@@ -342,23 +262,12 @@ IsWay-first h n w f some low path zeros level place =
     }
 
 -- a way stays one where the tree changes indexes alone
-pub IsWay-same : (h : ℕ) (n m : Node) (w : Way) → SamePlaces h n m → length (flat h m) ≡ length (flat h n) → IsWay h n w → IsWay h m w
-IsWay-same h n m w same len is =
-    let within = is.within in
+pub IsWay-same : (h : ℕ) (n m : Node) (w : Way) → SamePlaces h n m → IsWay h n w → IsWay h m w
+IsWay-same h n m w same is =
+    let within = is.within in let long = same.long in
     record {
       path = is.path;
       within = omega arith;
-      holds = λ more. (same w.level w.path (is.holds (omega arith))).0;
-      leads = λ more. (same w.level w.path (is.holds (omega arith))).1 ∙ is.leads (omega arith);
+      holds = λ more. (same.at w.level w.path (is.holds (omega arith))).0;
+      leads = λ more. (same.at w.level w.path (is.holds (omega arith))).1 ∙ is.leads (omega arith);
     }
-
--- where a walk along all indexes ends
-pub found_where : (r : Option ℕ) (h : ℕ) (n : Node) (ix : ℕ) (p : List ℕ) → IsFormed h n → IfSome r (λ l. Holds l h n p) → IfSome r (λ l. slice_index (flat h n) (spot l h n p) ≡ ix) → (IsNone r → Contains (flat h n) ix → ⊥)
-    → IsTrue (is_some r) ↔ Contains (flat h n) ix
-found_where None h n ix p f holds there none = (λ t. absurd (cc), λ held. absurd (none refl held))
-found_where (Some l) h n ix p f holds there none = (λ _. Contains-at (flat h n) (spot l h n p) ix (spot-within l h n p f holds) (sym there), λ _. refl)
-
-pub is_contained : (b : Bool) (xs : List ℕ) (r : Option ℕ) (h : ℕ) (n : Node) (ix : ℕ) (p : List ℕ) → b ≡ is_some r → flat h n ≡ xs → IsFormed h n → IfSome r (λ l. Holds l h n p) → IfSome r (λ l. slice_index (flat h n) (spot l h n p) ≡ ix)
-    → (IsNone r → Contains (flat h n) ix → ⊥) → IsTrue b ↔ Contains xs ix
-is_contained b xs r h n ix p eb ex f holds there none =
-    subst (λ z. IsTrue z ↔ Contains xs ix) (sym eb) (subst (λ zs. IsTrue (is_some r) ↔ Contains zs ix) ex (found_where r h n ix p f holds there none))

@@ -1,119 +1,58 @@
--- What a removal, and the mending after it, leave of woven lists.
-use Rattle.iddqd_order.proofs.Names.{◌≡◌, ◌≢◌, ℕ, zero, suc, ◌+◌, ◌-◌, ◌<◌, List, [], ◌∷◌, ◌++◌, length, take, drop, set, get_or, map, remove, refl, ap, sym, ◌∙◌, append_assoc, arith, zero-add, length-append, length-set, get_or-set_same, get_or-set_other, All, inl, inr, append-nil, map-append, take-map, drop-map, remove-append_left, remove-append_right, length-remove, get_or-remove_below, get_or-remove_above, cases_lt, cases_eq, weave, before, after}
-use Rattle.iddqd_order.proofs.WeaveLemmas.{apart}
-
-remove_past : (k ys : List ℕ) (y n : ℕ) → remove (k ++ y ∷ ys) (length (k ++ y ∷ []) + n) ≡ k ++ y ∷ remove ys n
-remove_past k ys y n =
-    let le : length (k ++ y ∷ []) ≡ suc (length k) = simp length-append (omega arith) in
-    let e : length (k ++ y ∷ []) + n - length k ≡ suc n = omega arith in
-    remove-append_right k (y ∷ ys) (length k) (length (k ++ y ∷ []) + n) refl (omega arith) ∙ ap (λ z. k ++ remove (y ∷ ys) z) e
+-- What a removal, or an index in the place of another, leaves of woven lists.
+use Rattle.iddqd_order.proofs.Names.{◌≡◌, ℕ, zero, suc, ◌+◌, ◌-◌, ◌<◌, List, [], ◌∷◌, ◌++◌, length, drop, set, get_or, remove, refl, ap, sym, ◌∙◌, append_assoc, arith, length-append, set-get_or, set-append_left, set-append_right, remove-append_left, remove-append_right, weave, before, after}
+use Rattle.std.proofs.lemmas.List.{set_at}
+use Rattle.iddqd_order.proofs.WeaveLemmas.{apart, weave-edit, index_place}
 
 -- an index taken out of the i-th list
 pub weave-taken : (i : ℕ) (xs : List ℕ) (ks : List (List ℕ)) (d k : List ℕ) (q : ℕ) → i < length ks → length ks ≡ length xs + 1 → q < length (get_or ks i d) → k ≡ remove (get_or ks i d) q
     → weave xs (set ks i k) ≡ remove (weave xs ks) (length (before i xs ks) + q)
-weave-taken i xs [] d k q p e w is = absurd (omega arith)
-weave-taken zero [] (k0 ∷ []) d k q p e w is = rw zero-add is
-weave-taken zero [] (k0 ∷ (k1 ∷ ks)) d k q p e w is = absurd (omega arith)
-weave-taken zero (x ∷ xs) (k0 ∷ ks) d k q p e w is = rw zero-add (ap (λ z. z ++ x ∷ weave xs ks) is ∙ sym (remove-append_left k0 (x ∷ weave xs ks) q w))
-weave-taken (suc i) [] (k0 ∷ ks) d k q p e w is = absurd (omega arith)
-weave-taken (suc i) (x ∷ xs) (k0 ∷ ks) d k q p e w is =
-    let ih = weave-taken i xs ks d k q (omega arith) (omega arith) w is in
-    let b : List ℕ = before i xs ks in
-    let n : length (k0 ++ x ∷ b) + q ≡ length (k0 ++ x ∷ []) + (length b + q) = simp length-append (omega arith) in
-    ap (λ z. k0 ++ x ∷ z) ih ∙ sym (remove_past k0 (weave xs ks) x (length b + q)) ∙ ap (λ z. remove (k0 ++ x ∷ weave xs ks) z) (sym n)
+weave-taken i xs ks d k q p e w is = weave-edit remove i xs ks d k q p e is remove-append_right (λ a. remove-append_left (get_or ks i d) a q w)
+
+-- or put in the place of another there
+pub weave-set_below : (i : ℕ) (xs : List ℕ) (ks : List (List ℕ)) (k : List ℕ) (q x : ℕ) → i < length ks → length ks ≡ length xs + 1 → q < length (get_or ks i []) → k ≡ set (get_or ks i []) q x
+    → weave xs (set ks i k) ≡ set (weave xs ks) (length (before i xs ks) + q) x
+weave-set_below i xs ks k q x p e w is = weave-edit (λ z j. set z j x) i xs ks [] k q p e is (λ b ys n j. set-append_right b ys n j x) (λ a. set-append_left (get_or ks i []) a q x w)
+
+-- apart at the i-th index, which m is put in the place of, and k in the place of the list before it
+weave-set_at : (i : ℕ) (xs : List ℕ) (ks : List (List ℕ)) (k : List ℕ) (m : ℕ) → i < length xs → length ks ≡ length xs + 1
+    → weave (set xs i m) (set ks i k) ≡ (before i xs ks ++ k) ++ m ∷ weave (drop (suc i) xs) (drop (suc i) ks)
+weave-set_at i [] ks k m p e = absurd (omega arith)
+weave-set_at i (x ∷ xs) [] k m p e = absurd (omega arith)
+weave-set_at zero (x ∷ xs) (l ∷ ks) k m p e = refl
+weave-set_at (suc i) (x ∷ xs) (l ∷ ks) k m p e =
+    let t : List ℕ = m ∷ weave (drop (suc i) xs) (drop (suc i) ks) in
+    ap (λ z. l ++ x ∷ z) (weave-set_at i xs ks k m (omega arith) (omega arith)) ∙ sym (append_assoc l (x ∷ before i xs ks ++ k) t) ∙ ap (λ z. z ++ t) (sym (append_assoc l (x ∷ before i xs ks) k))
+
+apart-index : (i : ℕ) (xs : List ℕ) (ks : List (List ℕ)) (d : List ℕ) → i < length xs → length ks ≡ length xs + 1
+    → weave xs ks ≡ (before i xs ks ++ get_or ks i d) ++ get_or xs i 0 ∷ weave (drop (suc i) xs) (drop (suc i) ks)
+apart-index i xs ks d p e = sym (λ j. weave (set-get_or xs i 0 j) (set-get_or ks i d j)) ∙ weave-set_at i xs ks (get_or ks i d) (get_or xs i 0) p e
 
 -- an index with the last of the list before it in its place
 pub weave-replaced : (i : ℕ) (xs : List ℕ) (ks : List (List ℕ)) (d k : List ℕ) (m : ℕ) → i < length xs → length ks ≡ length xs + 1 → get_or ks i d ≡ k ++ m ∷ []
     → weave (set xs i m) (set ks i k) ≡ remove (weave xs ks) (length (before i xs ks) + length (get_or ks i d))
-weave-replaced i [] ks d k m p e is = absurd (omega arith)
-weave-replaced i (x ∷ xs) [] d k m p e is = absurd (omega arith)
-weave-replaced zero (x ∷ xs) (k0 ∷ ks) d k m p e is =
-    let w : List ℕ = weave xs ks in
-    let n : length k0 - length k0 ≡ 0 = omega arith in
-    rw zero-add (sym (append_assoc k (m ∷ []) w) ∙ ap (λ z. z ++ w) (sym is) ∙ ap (λ z. k0 ++ remove (x ∷ w) z) (sym n) ∙ sym (remove-append_right k0 (x ∷ w) (length k0) (length k0) refl (omega arith)))
-weave-replaced (suc i) (x ∷ xs) (k0 ∷ ks) d k m p e is =
-    let ih = weave-replaced i xs ks d k m (omega arith) (omega arith) is in
+weave-replaced i xs ks d k m p e is =
     let b : List ℕ = before i xs ks in
-    let q : ℕ = length (get_or ks i d) in
-    let n : length (k0 ++ x ∷ b) + q ≡ length (k0 ++ x ∷ []) + (length b + q) = simp length-append (omega arith) in
-    ap (λ z. k0 ++ x ∷ z) ih ∙ sym (remove_past k0 (weave xs ks) x (length b + q)) ∙ ap (λ z. remove (k0 ++ x ∷ weave xs ks) z) (sym n)
+    let g : List ℕ = get_or ks i d in
+    let t : List ℕ = weave (drop (suc i) xs) (drop (suc i) ks) in
+    let n : ℕ = length b + length g in
+    let none : n - n ≡ 0 = omega arith in
+    weave-set_at i xs ks k m p e ∙ append_assoc b k (m ∷ t) ∙ ap (λ z. b ++ z) (sym (append_assoc k (m ∷ []) t) ∙ ap (λ z. z ++ t) (sym is)) ∙ sym (append_assoc b g t)
+    ∙ ap (λ z. (b ++ g) ++ remove (get_or xs i 0 ∷ t) z) (sym none) ∙ sym (remove-append_right (b ++ g) (get_or xs i 0 ∷ t) n n (length-append b g) (omega arith)) ∙ ap (λ z. remove z n) (sym (apart-index i xs ks d p e))
+
+-- or with any other
+pub weave-set_own : (i : ℕ) (xs : List ℕ) (ks : List (List ℕ)) (x : ℕ) → i < length xs → length ks ≡ length xs + 1 → weave (set xs i x) ks ≡ set (weave xs ks) (index_place i xs ks) x
+weave-set_own i xs ks x p e =
+    let b : List ℕ = before i xs ks ++ get_or ks i [] in
+    ap (weave (set xs i x)) (sym (set-get_or ks i [])) ∙ weave-set_at i xs ks (get_or ks i []) x p e
+    ∙ sym (set_at b (get_or xs i 0) (weave (drop (suc i) xs) (drop (suc i) ks)) x (index_place i xs ks) (length-append (before i xs ks) (get_or ks i []))) ∙ ap (λ z. set z (index_place i xs ks) x) (sym (apart-index i xs ks [] p e))
 
 -- the last of the last list
 pub weave-last : (xs : List ℕ) (ks : List (List ℕ)) (d k : List ℕ) (m : ℕ) → length ks ≡ length xs + 1 → get_or ks (length xs) d ≡ k ++ m ∷ []
     → weave xs ks ≡ weave xs (set ks (length xs) k) ++ m ∷ []
 weave-last xs [] d k m e is = absurd (omega arith)
-weave-last [] (k0 ∷ []) d k m e is = is
-weave-last [] (k0 ∷ (k1 ∷ ks)) d k m e is = absurd (omega arith)
+weave-last [] (k0 ∷ ks) d k m e is = is
 weave-last (x ∷ xs) (k0 ∷ ks) d k m e is =
     ap (λ z. k0 ++ x ∷ z) (weave-last xs ks d k m (omega arith) is) ∙ sym (append_assoc k0 (x ∷ weave xs (set ks (length xs) k)) (m ∷ []))
-
--- what comes after the second of two neighbours
-rest : List ℕ → List (List ℕ) → List ℕ
-rest [] ks = []
-rest (y ∷ ys) ks = y ∷ weave ys ks
-
-first_two : (k : List ℕ) (ys : List ℕ) (ks : List (List ℕ)) → length ks ≡ length ys → weave ys (k ∷ ks) ≡ k ++ rest ys ks
-unfolding rest
-first_two k [] ks e = simp append-nil
-first_two k (y ∷ ys) ks e = refl
-
--- two neighbours and the index between them, shared out anew
-pub weave-shared : (i : ℕ) (xs : List ℕ) (ks : List (List ℕ)) (l : List ℕ) (m : ℕ) (r : List ℕ) → i < length xs → length ks ≡ length xs + 1
-    → l ++ m ∷ r ≡ get_or ks i [] ++ get_or xs i 0 ∷ get_or ks (suc i) [] → weave (set xs i m) (set (set ks i l) (suc i) r) ≡ weave xs ks
-weave-shared i [] ks l m r p e s = absurd (omega arith)
-weave-shared i (x ∷ xs) [] l m r p e s = absurd (omega arith)
-weave-shared i (x ∷ xs) (k ∷ []) l m r p e s = absurd (omega arith)
-weave-shared zero (x ∷ xs) (k ∷ (k2 ∷ ks)) l m r p e s =
-    let a : weave xs (r ∷ ks) ≡ r ++ rest xs ks = first_two r xs ks (omega arith) in
-    let b : weave xs (k2 ∷ ks) ≡ k2 ++ rest xs ks = first_two k2 xs ks (omega arith) in
-    ap (λ z. l ++ m ∷ z) a ∙ sym (append_assoc l (m ∷ r) (rest xs ks)) ∙ ap (λ z. z ++ rest xs ks) s ∙ append_assoc k (x ∷ k2) (rest xs ks) ∙ ap (λ z. k ++ x ∷ z) (sym b)
-weave-shared (suc i) (x ∷ xs) (k ∷ (k2 ∷ ks)) l m r p e s = ap (λ z. k ++ x ∷ z) (weave-shared i xs (k2 ∷ ks) l m r (omega arith) (omega arith) s)
-
--- two neighbours and the index between them, made one
-pub weave-joined : (i : ℕ) (xs : List ℕ) (ks : List (List ℕ)) (w : List ℕ) → i < length xs → length ks ≡ length xs + 1
-    → w ≡ get_or ks i [] ++ get_or xs i 0 ∷ get_or ks (suc i) [] → weave (remove xs i) (set (remove ks (suc i)) i w) ≡ weave xs ks
-weave-joined i [] ks w p e s = absurd (omega arith)
-weave-joined i (x ∷ xs) [] w p e s = absurd (omega arith)
-weave-joined i (x ∷ xs) (k ∷ []) w p e s = absurd (omega arith)
-weave-joined zero (x ∷ xs) (k ∷ (k2 ∷ ks)) w p e s =
-    let a : weave xs (w ∷ ks) ≡ w ++ rest xs ks = first_two w xs ks (omega arith) in
-    let b : weave xs (k2 ∷ ks) ≡ k2 ++ rest xs ks = first_two k2 xs ks (omega arith) in
-    a ∙ ap (λ z. z ++ rest xs ks) s ∙ append_assoc k (x ∷ k2) (rest xs ks) ∙ ap (λ z. k ++ x ∷ z) (sym b)
-weave-joined (suc i) (x ∷ xs) (k ∷ (k2 ∷ ks)) w p e s = ap (λ z. k ++ x ∷ z) (weave-joined i xs (k2 ∷ ks) w (omega arith) (omega arith) s)
-
--- where the i-th member is left out, so is the i-th of what a function makes of them
-pub map-remove : {X Y : Type 0} → (f : X → Y) (xs : List X) (i : ℕ) → map f (remove xs i) ≡ remove (map f xs) i
-map-remove f xs i = map-append f (take i xs) (drop (suc i) xs) ∙ ap (λ z. z ++ map f (drop (suc i) xs)) (sym (take-map f i xs)) ∙ ap (λ z. take i (map f xs) ++ z) (sym (drop-map f (suc i) xs))
-
--- two neighbours with two others in their place, where the rest has P
-pub All-shared : {X : Type 0} → (P : X → Type 0) (xs : List X) (i : ℕ) (l r : X) → suc i < length xs → ((j : ℕ) (d : X) → j < length xs → j ≢ i → j ≢ suc i → P (get_or xs j d)) → P l → P r → All P (set (set xs i l) (suc i) r)
-All-shared P xs i l r within others p q j d lt =
-    let n1 = length-set xs i l in
-    let n2 = length-set (set xs i l) (suc i) r in
-    elim (cases_eq j (suc i)) [
-      | inl e ↦ rw (e, get_or-set_same (set xs i l) (suc i) r d (omega arith)) q
-      | inr ne ↦
-          rw (get_or-set_other (set xs i l) (suc i) j r d ne) (
-          elim (cases_eq j i) [
-            | inl e ↦ rw (e, get_or-set_same xs i l d (omega arith)) p
-            | inr ne2 ↦ rw (get_or-set_other xs i j l d ne2) (others j d (omega arith) ne2 ne)
-          ])
-    ]
-
--- two neighbours with one in their place
-pub All-joined : {X : Type 0} → (P : X → Type 0) (xs : List X) (i : ℕ) (w : X) → suc i < length xs → ((j : ℕ) (d : X) → j < length xs → j ≢ i → j ≢ suc i → P (get_or xs j d)) → P w → All P (set (remove xs (suc i)) i w)
-All-joined P xs i w within others p j d lt =
-    let n1 = length-remove xs (suc i) within in
-    let n2 = length-set (remove xs (suc i)) i w in
-    elim (cases_eq j i) [
-      | inl e ↦ rw (e, get_or-set_same (remove xs (suc i)) i w d (omega arith)) p
-      | inr ne ↦
-          rw (get_or-set_other (remove xs (suc i)) i j w d ne) (
-          elim (cases_lt j (suc i)) [
-            | inl low ↦ rw (get_or-remove_below xs (suc i) d j low within) (others j d (omega arith) ne (λ e. absurd (omega arith)))
-            | inr high ↦ rw (get_or-remove_above xs (suc i) d j high within) (others (j + 1) d (omega arith) (λ e. absurd (omega arith)) (λ e. absurd (omega arith)))
-          ])
-    ]
 
 -- an index of the i-th list stands among all, and so does the index after that list
 pub weave-within : (i : ℕ) (xs : List ℕ) (ks : List (List ℕ)) (d : List ℕ) (q : ℕ) → i < length ks → length ks ≡ length xs + 1 → q < length (get_or ks i d)
@@ -123,9 +62,5 @@ weave-within i xs ks d q p e w =
 
 pub weave-within_at : (i : ℕ) (xs : List ℕ) (ks : List (List ℕ)) (d : List ℕ) → i < length xs → length ks ≡ length xs + 1
     → length (before i xs ks) + length (get_or ks i d) < length (weave xs ks)
-weave-within_at i [] ks d p e = absurd (omega arith)
-weave-within_at i (x ∷ xs) [] d p e = absurd (omega arith)
-weave-within_at zero (x ∷ xs) (k ∷ ks) d p e = omega (arith, length-append k (x ∷ weave xs ks))
-weave-within_at (suc i) (x ∷ xs) (k ∷ ks) d p e =
-    let ih = weave-within_at i xs ks d (omega arith) (omega arith) in
-    omega (arith, length-append k (x ∷ weave xs ks), length-append k (x ∷ before i xs ks))
+weave-within_at i xs ks d p e =
+    rw (apart-index i xs ks d p e) (omega (arith, length-append (before i xs ks ++ get_or ks i d) (get_or xs i 0 ∷ weave (drop (suc i) xs) (drop (suc i) ks)), length-append (before i xs ks) (get_or ks i d)))

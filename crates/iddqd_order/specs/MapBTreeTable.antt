@@ -1,11 +1,11 @@
 -- What a contract sees of a `MapBTreeTable`.
-use Rattle.std.specs.Prelude.{◌≡◌, ◌≢◌, ◌<◌, ℕ, List, Option, ◌==◌, nat_eq, not, filter, All, length, slice_index, Some, None, ⊤}
+use Rattle.std.specs.Prelude.{◌≡◌, ◌≢◌, ◌<◌, ℕ, List, Option, ◌==◌, nat_eq, not, filter, All, length, slice_index, Some, None, ⊤, false}
 use Rattle.std.specs.List.{IsDistinct}
 use Rattle.std.specs.Option.{ForSome}
 use Rattle.std.specs.Coded.{×_prop, Unit-prop}
 use native.Mathlib.Nat.{ℕ_set}
 use Rattle.iddqd_order.specs.declared.btree_table.node.Node.{Node}
-use Rattle.iddqd_order.specs.Tree.{in_order, HoldsIn, spot_in, HoldsIn-prop}
+use Rattle.iddqd_order.specs.Tree.{in_order, HoldsIn, spot_in, ReachesIn-prop}
 pub use Rattle.iddqd.specs.Compaction.{sentinel}
 
 -- the tree: its root, and the levels above its leaves
@@ -38,4 +38,4 @@ LeadsTo t ix (Some way) = HoldsIn way.1 t.root t.height way.0
 
 pub LeadsTo-prop : (t : Order) (ix : ℕ) (way : Option (List ℕ × ℕ)) → IsProp (LeadsTo t ix way)
 LeadsTo-prop t ix None = Unit-prop
-LeadsTo-prop t ix (Some way) = ×_prop (HoldsIn-prop way.1 t.root t.height way.0) (ℕ_set _ _)
+LeadsTo-prop t ix (Some way) = ×_prop (ReachesIn-prop false way.1 t.root t.height way.0) (ℕ_set _ _)

@@ -1,6 +1,7 @@
 -- What a node of the tree represents, and what holds of it. A tree is read with its height: h levels of
 -- inner nodes above the leaves.
-use Rattle.std.specs.Prelude.{◌≡◌, ℕ, zero, suc, ◌+◌, ◌<◌, ◌≤◌, List, [], ◌∷◌, ◌++◌, All, length, map, slice_index, slice_index_or, vec_capacity, Vec, nat_eq, if◌then◌else◌}
+use Rattle.std.specs.Prelude.{◌≡◌, ℕ, zero, suc, ◌+◌, ◌<◌, ◌≤◌, List, [], ◌∷◌, ◌++◌, All, length, map, slice_index, slice_index_or, vec_capacity, Vec, Bool, true, false, nat_eq, if◌then◌else◌}
+use Rattle.std.specs.List.{insert}
 use Rattle.std.specs.declared.alloc.Global.{Global}
 use Rattle.iddqd_order.specs.declared.btree_table.node.Node.{Node}
 use Rattle.iddqd_order.specs.declared.btree_table.node.Node.TheViews.{out-Node}
@@ -64,30 +65,43 @@ unfoldable pub IsFormed : ℕ → Node → Type 0
 IsFormed zero n = IsLeaf n
 IsFormed (suc h) n = IsInner n × All (λ k. (5 ≤ length (row k)) × IsFormed h k) (children n)
 
--- a path p has at each level above the leaves the place of the child taken there, and at level 0 a place in the leaf
-unfoldable pub Goes : ℕ → Node → List ℕ → Type 0
-Goes zero n p = slice_index p 0 ≤ length (row n)
-Goes (suc h) n p = (slice_index p (suc h) < length (children n)) × Goes h (child n (slice_index p (suc h))) p
+-- a place of one of so many indexes, or else of one of their gaps, of which there is one more
+abbrev pub Fits : Bool → ℕ → ℕ → Type 0
+Fits false i count = i < count
+Fits true i count = i ≤ count
 
--- the place in the whole list to which a path goes
-unfoldable pub place : ℕ → Node → List ℕ → ℕ
-place zero n p = slice_index p 0
-place (suc h) n p = length (before (slice_index p (suc h)) (row n) (map (λ k. flat h k) (children n)))
-    + place h (child n (slice_index p (suc h))) p
+-- a path p has at each level above l the place of the child taken there, and at level l a place in the row
+unfoldable pub Passes : Bool → ℕ → ℕ → Node → List ℕ → Type 0
+Passes gap l zero n p = (l ≤ 0) × Fits gap (slice_index p 0) (length (row n))
+Passes gap l (suc h) n p = (l ≤ suc h) × (l ≡ suc h → Fits gap (slice_index p (suc h)) (length (row n)))
+    × (l ≤ h → (slice_index p (suc h) < length (children n)) × Passes gap l h (child n (slice_index p (suc h))) p)
 
--- a path goes down to level l, and there to an index
-unfoldable pub Holds : ℕ → ℕ → Node → List ℕ → Type 0
-Holds l zero n p = (l ≤ 0) × (slice_index p 0 < length (row n))
-Holds l (suc h) n p = (l ≤ suc h) × (l ≡ suc h → slice_index p (suc h) < length (row n))
-    × (l ≤ h → (slice_index p (suc h) < length (children n)) × Holds l h (child n (slice_index p (suc h))) p)
+-- it goes down to level l, and there to an index, or else to a gap
+pub record Reaches (gap : Bool) (l h : ℕ) (n : Node) (p : List ℕ) : Type 0 where
+  pub passes : Passes gap l h n p
 
--- the place in the whole list of the index to which a path goes at level l: in an inner node it stands
+-- the place in the whole list of the index or gap to which a path goes at level l: in an inner node it stands
 -- after the child of its own place
 unfoldable pub spot : ℕ → ℕ → Node → List ℕ → ℕ
 spot l zero n p = slice_index p 0
 spot l (suc h) n p = length (before (slice_index p (suc h)) (row n) (map (λ k. flat h k) (children n)))
     + (if nat_eq l (suc h) then length (flat h (child n (slice_index p (suc h))))
     else spot l h (child n (slice_index p (suc h))) p)
+
+-- to an index
+abbrev pub Holds : ℕ → ℕ → Node → List ℕ → Type 0
+Holds l h n p = Reaches false l h n p
+
+-- to the index ix
+abbrev pub HoldsIndex : ℕ → ℕ → Node → List ℕ → ℕ → Type 0
+HoldsIndex l h n p ix = Holds l h n p × (slice_index (flat h n) (spot l h n p) ≡ ix)
+
+-- to a gap, which is one of a leaf, and its place
+abbrev pub Goes : ℕ → Node → List ℕ → Type 0
+Goes h n p = Reaches true 0 h n p
+
+abbrev pub place : ℕ → Node → List ℕ → ℕ
+place h n p = spot 0 h n p
 
 -- the node at level l is as it has to be where the nodes at levels below k are full, and the one at level k isn't
 abbrev pub FullBelow : ℕ → ℕ → Node → Type 0
@@ -102,3 +116,9 @@ IsFullBelow k (suc h) n p = FullBelow k (suc h) n × IsFullBelow k h (child n (s
 -- an empty block with room for twelve children
 abbrev pub IsSpare : Vec Node Global → Type 0
 IsSpare s = (s.items ≡ []) × (12 ≤ vec_capacity s)
+
+-- the index x was put in where the path goes, and the node is as it has to be
+pub record IsPut (h : ℕ) (old new : Node) (p : List ℕ) (x : ℕ) : Type 0 where
+  pub items : flat h new ≡ insert (flat h old) (place h old p) x
+  pub formed : IsFormed h new
+  pub longer : length (row old) ≤ length (row new)

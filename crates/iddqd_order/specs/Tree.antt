@@ -1,10 +1,10 @@
 -- What a table's tree holds: the tree below a root, or nothing.
-use Rattle.std.specs.Prelude.{◌≡◌, ℕ, zero, suc, ◌<◌, ◌≤◌, List, [], All, length, slice_index, Option, Some, None, nat_eq, nat_lt, if◌then◌else◌, ◌-◌, ⊤}
+use Rattle.std.specs.Prelude.{◌≡◌, ℕ, zero, suc, ◌<◌, ◌≤◌, List, [], All, length, slice_index, Option, Some, None, nat_eq, nat_lt, if◌then◌else◌, ◌-◌, ⊤, Bool, true, false}
 use Rattle.std.specs.List.{IsDistinct}
 use Rattle.std.specs.Coded.{×_prop, →_prop, Unit-prop, le_prop}
 use Rattle.iddqd.specs.Compaction.{sentinel}
 use Rattle.iddqd_order.specs.declared.btree_table.node.Node.{Node}
-use Rattle.iddqd_order.specs.Node.{row, child, flat, IsFormed, Goes, place, Holds, spot, FullBelow, IsFullBelow}
+use Rattle.iddqd_order.specs.Node.{row, child, flat, IsFormed, Fits, Passes, Reaches, spot, FullBelow, IsFullBelow}
 
 -- its indexes, in order
 abbrev pub in_order : Option Node → ℕ → List ℕ
@@ -16,30 +16,31 @@ abbrev pub IsTree : Option Node → ℕ → Type 0
 IsTree None h = h ≡ 0
 IsTree (Some n) h = IsFormed h n × (1 ≤ length (row n)) × (h ≤ 11)
 
--- a path goes to a place
-abbrev pub GoesIn : Option Node → ℕ → List ℕ → Type 0
-GoesIn None h p = ⊤
-GoesIn (Some n) h p = Goes h n p
+-- a path goes down to level l, and there to an index, or else to a gap; where there is nothing, to the only gap
+abbrev pub ReachesIn : Bool → ℕ → Option Node → ℕ → List ℕ → Type 0
+ReachesIn gap l None h p = Fits gap 0 0
+ReachesIn gap l (Some n) h p = Reaches gap l h n p
 
--- the place to which it goes
+-- the place of that index or gap
+abbrev pub spot_in : ℕ → Option Node → ℕ → List ℕ → ℕ
+spot_in l None h p = 0
+spot_in l (Some n) h p = spot l h n p
+
+-- to an index
+abbrev pub HoldsIn : ℕ → Option Node → ℕ → List ℕ → Type 0
+HoldsIn l r h p = ReachesIn false l r h p
+
+-- to a gap, and its place
+abbrev pub GoesIn : Option Node → ℕ → List ℕ → Type 0
+GoesIn r h p = ReachesIn true 0 r h p
+
 abbrev pub place_in : Option Node → ℕ → List ℕ → ℕ
-place_in None h p = 0
-place_in (Some n) h p = place h n p
+place_in r h p = spot_in 0 r h p
 
 -- the nodes on a path at levels below k are full, and the one at level k isn't
 abbrev pub FullIn : ℕ → Option Node → ℕ → List ℕ → Type 0
 FullIn k None h p = ⊤
 FullIn k (Some n) h p = IsFullBelow k h n p
-
--- a path goes down to level l, and there to an index
-abbrev pub HoldsIn : ℕ → Option Node → ℕ → List ℕ → Type 0
-HoldsIn l None h p = ⊥
-HoldsIn l (Some n) h p = Holds l h n p
-
--- the place of that index
-abbrev pub spot_in : ℕ → Option Node → ℕ → List ℕ → ℕ
-spot_in l None h p = 0
-spot_in l (Some n) h p = spot l h n p
 
 -- how many blocks an insert takes that goes through so many full nodes: one for each full inner node, which it
 -- cuts in two, and where all nodes on the path are full one more for a new root
@@ -53,15 +54,6 @@ pub record IsTable (root : Option Node) (height len : ℕ) : Type 0 where
   pub distinct : IsDistinct nat_eq (in_order root height)
   pub assigned : All (λ ix. ix < sentinel) (in_order root height)
 
-Goes-prop : (h : ℕ) (n : Node) (p : List ℕ) → IsProp (Goes h n p)
-unfolding Goes
-Goes-prop zero n p = le_prop
-Goes-prop (suc h) n p = ×_prop le_prop (Goes-prop h _ _)
-
-pub GoesIn-prop : (r : Option Node) (h : ℕ) (p : List ℕ) → IsProp (GoesIn r h p)
-GoesIn-prop None h p = Unit-prop
-GoesIn-prop (Some n) h p = Goes-prop h n p
-
 FullBelow-prop : (k l : ℕ) (n : Node) → IsProp (FullBelow k l n)
 FullBelow-prop k l n = ×_prop (→_prop le_prop) (→_prop le_prop)
 
@@ -74,11 +66,19 @@ pub FullIn-prop : (k : ℕ) (r : Option Node) (h : ℕ) (p : List ℕ) → IsPro
 FullIn-prop k None h p = Unit-prop
 FullIn-prop k (Some n) h p = IsFullBelow-prop k h n p
 
-Holds-prop : (l h : ℕ) (n : Node) (p : List ℕ) → IsProp (Holds l h n p)
-unfolding Holds
-Holds-prop l zero n p u v = ×_prop le_prop le_prop u v
-Holds-prop l (suc h) n p u v = λ i. (le_prop u.0 v.0 i, →_prop le_prop u.1 v.1 i, →_prop (×_prop le_prop (Holds-prop l h (child n (slice_index p (suc h))) p)) u.2 v.2 i)
+Fits-prop : (gap : Bool) (i count : ℕ) → IsProp (Fits gap i count)
+Fits-prop false i count = le_prop
+Fits-prop true i count = le_prop
 
-pub HoldsIn-prop : (l : ℕ) (r : Option Node) (h : ℕ) (p : List ℕ) → IsProp (HoldsIn l r h p)
-HoldsIn-prop l None h p = λ x y. absurd x
-HoldsIn-prop l (Some n) h p = Holds-prop l h n p
+Passes-prop : (gap : Bool) (l h : ℕ) (n : Node) (p : List ℕ) → IsProp (Passes gap l h n p)
+unfolding Passes
+Passes-prop gap l zero n p u v = ×_prop le_prop (Fits-prop gap (slice_index p 0) (length (row n))) u v
+Passes-prop gap l (suc h) n p u v = λ i. (
+  le_prop u.0 v.0 i,
+  →_prop (Fits-prop gap (slice_index p (suc h)) (length (row n))) u.1 v.1 i,
+  →_prop (×_prop le_prop (Passes-prop gap l h (child n (slice_index p (suc h))) p)) u.2 v.2 i,
+)
+
+pub ReachesIn-prop : (gap : Bool) (l : ℕ) (r : Option Node) (h : ℕ) (p : List ℕ) → IsProp (ReachesIn gap l r h p)
+ReachesIn-prop gap l None h p u v = Fits-prop gap 0 0 u v
+ReachesIn-prop gap l (Some n) h p u v = λ i. record { passes = Passes-prop gap l h n p u.passes v.passes i }

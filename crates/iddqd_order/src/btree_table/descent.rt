@@ -5,7 +5,7 @@
 ghost use Rattle.std.specs.Prelude.{◌≡◌, ℕ, ◌+◌, ◌*◌, ◌<◌, ◌≤◌, Some, None, IfSome, IsNone, Contains, length, slice_index};
 ghost use Rattle.iddqd_order.specs.Descent.{Descends, FindsIn};
 ghost use Rattle.iddqd_order.specs.MapBTreeTable.{StandsAt};
-ghost use Rattle.iddqd_order.specs.Node.{flat, IsFormed, Holds, spot};
+ghost use Rattle.iddqd_order.specs.Node.{flat, IsFormed, HoldsIndex};
 ghost use Rattle.iddqd_order.specs.Search.{CanSearch, SearchesWithin};
 
 use crate::btree_table::asking::Asking;
@@ -70,9 +70,7 @@ impl Node {
         let mut full = height + 1;
         let mut is_leftmost = true;
         loop {
-            if node.row.len() < CAPACITY {
-                full = level;
-            }
+            full = full_from(&node.row, level, full);
             match search_row(&node.row, is_leftmost, asking, how, tie) {
                 Ok(i) => {
                     path.set(level, i);
@@ -97,8 +95,7 @@ impl Node {
         requires formed { IsFormed height self.now }
         requires levels { height ≤ 11 }
         requires path { length path.old ≡ 12 }
-        ensures found { IfSome result (λ l. Holds l height self.now path.new) }
-        ensures there { IfSome result (λ l. slice_index (flat height self.now) (spot l height self.now path.new) ≡ ix) }
+        ensures there { IfSome result (λ l. HoldsIndex l height self.now path.new ix) }
         ensures missing { IsNone result → Contains (flat height self.now) ix → ⊥ }
         ensures path { length path.new ≡ 12 }
         ensures above { (l : ℕ) → height < l → slice_index path.new l ≡ slice_index path.old l }
@@ -118,6 +115,16 @@ impl Node {
         }
         None
     }
+}
+
+// How many nodes at the lower end of a way are full, where a row is that of its node at the level, and so
+// many of them were known above.
+fn full_from(row: &Row, level: usize, full: usize) -> usize
+    ensures not_full { length row.now < 11 → result ≡ level }
+    ensures is_full { 11 ≤ length row.now → result ≡ full }
+    ensures few { length row.now ≤ 11 }
+{
+    if row.len() < CAPACITY { level } else { full }
 }
 
 // The place in a row of what is sought, or where it would go. A search that leans to the left asks as

@@ -2,10 +2,10 @@
 //!
 //! An entry keeps the way that its search went, so a removal, or an insert at the place, asks nothing.
 //! Equal answers are a hit, so no order of two indexes is needed to find a vacant place.
-ghost use Rattle.std.specs.Prelude.{◌≡◌, ◌≢◌, ◌+◌, ◌≤◌, None, IfOk, Contains};
+ghost use Rattle.std.specs.Prelude.{false, true, ◌≡◌, ◌≢◌, ◌+◌, ◌≤◌, None, IfOk, Contains};
 ghost use Rattle.iddqd_order.specs.MapBTreeTable.{order_of, without, sentinel};
 ghost use Rattle.iddqd_order.specs.Search.{CanSearch};
-ghost use Rattle.iddqd_order.specs.Tree.{GoesIn, FullIn, HoldsIn, GoesIn-prop, FullIn-prop, HoldsIn-prop};
+ghost use Rattle.iddqd_order.specs.Tree.{GoesIn, FullIn, HoldsIn, ReachesIn-prop, FullIn-prop};
 
 use crate::btree_table::asking::Asking;
 use crate::btree_table::path::Path;
@@ -32,7 +32,7 @@ pub struct OccupiedEntry<'a> {
     table: &'a mut MapBTreeTable,
     path: Path,
     level: usize,
-    ghost holds: { HoldsIn level table.now.root table.now.height path } by { HoldsIn-prop level table.now.root table.now.height path },
+    ghost holds: { HoldsIn level table.now.root table.now.height path } by { ReachesIn-prop false level table.now.root table.now.height path },
 }
 
 /// A place for an index among those of a table. Let go, it leaves the table as it was.
@@ -42,7 +42,7 @@ pub struct VacantEntry<'a> {
     pub(super) path: Path,
     // How many nodes at the lower end of the path are full.
     pub(super) full: usize,
-    ghost goes: { GoesIn table.now.root table.now.height path } by { GoesIn-prop table.now.root table.now.height path },
+    ghost goes: { GoesIn table.now.root table.now.height path } by { ReachesIn-prop true 0 table.now.root table.now.height path },
     ghost full_nodes: { FullIn full table.now.root table.now.height path } by { FullIn-prop full table.now.root table.now.height path },
     ghost levels: { full ≤ 12 },
 }
@@ -122,7 +122,7 @@ impl<'a> OccupiedEntry<'a> {
 
     /// Removes the index, and hands it back. It asks nothing and takes no memory. The others keep
     /// their order.
-    #[tactic(auto, unfolding(crate::specs::Entry::entry_index))]
+    #[tactic(auto, unfolding(crate::specs::Entry::entry_index, crate::specs::MapBTreeTable::order_of))]
     pub fn remove(self) -> ItemIndex
         ensures index { result ≡ entry_index self.entry }
         ensures removed { order_of self.exit.0.now

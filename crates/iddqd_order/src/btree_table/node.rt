@@ -1,7 +1,7 @@
 //! A node of the tree, and the insert into one.
 ghost use Rattle.std.specs.Prelude.{◌≡◌, ℕ, ◌+◌, ◌<◌, ◌≤◌, List, [], ◌∷◌, ◌++◌, length, take, drop, slice_index, vec_len, vec_capacity};
 ghost use Rattle.std.specs.List.{insert};
-ghost use Rattle.iddqd_order.specs.Node.{row, flat, IsFormed, Goes, place, IsFullBelow, IsSpare};
+ghost use Rattle.iddqd_order.specs.Node.{row, flat, IsFormed, Goes, place, IsFullBelow, IsPut, IsSpare};
 ghost use Rattle.iddqd_order.specs.Row.{IsCut};
 
 use crate::btree_table::blocks::Blocks;
@@ -104,9 +104,7 @@ impl Node {
         requires formed { IsFormed height self.old }
         requires goes { Goes height self.old path.now }
         requires room { IsFullBelow 0 height self.old path.now }
-        ensures items { flat height self.new ≡ insert (flat height self.old) (place height self.old path.now) ix }
-        ensures formed { IsFormed height self.new }
-        ensures longer { length (row self.old) ≤ length (row self.new) }
+        ensures { IsPut height self.old self.new path.now ix }
     {
         let i = path.get(height);
         if height == 0 {
@@ -134,9 +132,7 @@ impl Node {
         requires goes { Goes height self.old path.now }
         requires full { IsFullBelow full height self.old path.now }
         requires enough { full ≤ blocks.old + 1 }
-        ensures items { flat height self.new ≡ insert (flat height self.old) (place height self.old path.now) ix }
-        ensures formed { IsFormed height self.new }
-        ensures longer { length (row self.old) ≤ length (row self.new) }
+        ensures { IsPut height self.old self.new path.now ix }
     {
         let i = path.get(height);
         if height > full {

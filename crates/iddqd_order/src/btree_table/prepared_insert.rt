@@ -4,9 +4,9 @@
 //! node that will be cut, and one for a new root. A refusal gives all back, and so does an insert that
 //! is let go. The blocks are of a type parameter, since a check follows no loan in a struct that owns
 //! memory by itself.
-ghost use Rattle.std.specs.Prelude.{◌≡◌, ◌≢◌, insert, Contains};
+ghost use Rattle.std.specs.Prelude.{true, ◌≡◌, ◌≢◌, insert, Contains};
 ghost use Rattle.iddqd_order.specs.MapBTreeTable.{order_of, sentinel};
-ghost use Rattle.iddqd_order.specs.Tree.{GoesIn, FullIn, blocks_for, GoesIn-prop, FullIn-prop};
+ghost use Rattle.iddqd_order.specs.Tree.{GoesIn, FullIn, blocks_for, ReachesIn-prop, FullIn-prop};
 
 use crate::btree_table::blocks::{Blocks, HoldsBlocks};
 use crate::btree_table::path::Path;
@@ -23,7 +23,7 @@ pub struct PreparedBTreeInsert<'a, B: HoldsBlocks = Blocks> {
     pub(super) full: usize,
     pub(super) ix: ItemIndex,
     pub(super) blocks: B,
-    ghost goes: { GoesIn table.now.root table.now.height path } by { GoesIn-prop table.now.root table.now.height path },
+    ghost goes: { GoesIn table.now.root table.now.height path } by { ReachesIn-prop true 0 table.now.root table.now.height path },
     ghost full_nodes: { FullIn full table.now.root table.now.height path } by { FullIn-prop full table.now.root table.now.height path },
     ghost as_many: { B.count blocks ≡ blocks_for table.now.height full },
     ghost absent: { Contains (order_of table.now) ix → ⊥ },

@@ -554,8 +554,7 @@ impl MapBTreeTable {
 
     // Removes `ix`, to which the path goes at the level.
     pub(super) fn remove_at(&mut self, ix: ItemIndex, path: &Path, level: usize)
-        requires holds { HoldsIn level self.old.root self.old.height path.now }
-        requires there { slice_index (order_of self.old) (spot_in level self.old.root self.old.height path.now) ≡ ix }
+        requires { LeadsTo self.old ix (Some (path.now, level)) }
         ensures { order_of self.new ≡ without (order_of self.old) ix }
     {
         self.height = take_out(&mut self.root, self.height, path, level);

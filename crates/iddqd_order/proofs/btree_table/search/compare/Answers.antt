@@ -1,15 +1,14 @@
-use Rattle.iddqd_order.proofs.Names.{arith, ◌≡◌, ◌≢◌, refl, sym, ◌∙◌, ap, Ordering, Less, Equal, Greater, eqb-false, At_once, nat_cmp, ordering_then, Askable}
+use Rattle.iddqd_order.proofs.Names.{arith, ◌≡◌, refl, sym, ◌∙◌, ap, Ordering, Less, Equal, Greater, eqb-false, At_once, nat_cmp, ordering_then, None, Some, Askable}
 use Rattle.iddqd_order.proofs.AskLemmas.{asks_one, asks_none, asks_more}
-use Rattle.iddqd_order.proofs.SearchLemmas.{Askable-from_none, Askable-from_some, with_ties-none, with_ties-some}
 use Rattle.iddqd_order.proofs.btree_table.search.compare.Goals as goal
 
 pub returns-in-None-clause-asks : goal.returns-in-None-clause-asks
-returns-in-None-clause-asks g c xs h = asks_one g.F.FnMut _ (Askable-from_none xs _ _ c.in-None.is h) c.ask.ensures.answered c.ask.ensures.count
+returns-in-None-clause-asks g c xs h = rw c.in-None.is (asks_one g.F.FnMut (Askable xs None) h c.ask.ensures.answered c.ask.ensures.count)
 
 pub returns-in-None-clause-steady : goal.returns-in-None-clause-steady
 returns-in-None-clause-steady g c xs answer h s =
-    let told = s.at 0 _ At_once _ (Askable-from_none xs _ _ c.in-None.is h) _ _ c.ask.ensures.answered in
-    c.read.ensures ∙ told ∙ sym (with_ties-none _ answer _ c.in-None.is)
+    let told = (rw c.in-None.is at s).at 0 _ At_once _ h _ _ c.ask.ensures.answered in
+    rw c.in-None.is (c.read.ensures ∙ told)
 
 pub returns-then-eq-clause-asks : goal.returns-then-eq-clause-asks
 returns-then-eq-clause-asks g c xs h = asks_more g.F.FnMut _ (omega arith) (asks_none g.F.FnMut (Askable xs c.args.tie.now) _)
@@ -22,25 +21,23 @@ then-other Greater x n = refl
 
 pub returns-in-Equal-clause-asks : goal.returns-in-Equal-clause-asks
 returns-in-Equal-clause-asks g c xs h =
-    asks_one g.F.FnMut _ (Askable-from_some xs _ _ _ c.in-Some.is (eqb-false _ _ (sym c.eq.ensures ∙ c.if-eq.false)) h) c.ask-else-eq.ensures.answered c.ask-else-eq.ensures.count
+    rw c.in-Some.is (asks_one g.F.FnMut (Askable xs (Some _)) (h, eqb-false _ _ (sym c.eq.ensures ∙ c.if-eq.false)) c.ask-else-eq.ensures.answered c.ask-else-eq.ensures.count)
 
 pub returns-in-Equal-clause-steady : goal.returns-in-Equal-clause-steady
 returns-in-Equal-clause-steady g c xs answer h s =
-    let ne : c.args.at ≢ c.in-Some.ix = eqb-false _ _ (sym c.eq.ensures ∙ c.if-eq.false) in
-    let told = s.at 0 _ At_once _ (Askable-from_some xs _ _ _ c.in-Some.is ne h) _ _ c.ask-else-eq.ensures.answered in
-    c.cmp.ensures
-    ∙ ap (λ r. ordering_then r (nat_cmp c.in-Some.ix c.args.at)) (sym c.in-Equal.is ∙ c.read-else-eq.ensures ∙ told)
-    ∙ sym (with_ties-some _ answer _ _ c.in-Some.is ne)
+    let apart = sym c.eq.ensures ∙ c.if-eq.false in
+    let told = (rw c.in-Some.is at s).at 0 _ At_once _ (h, eqb-false _ _ apart) _ _ c.ask-else-eq.ensures.answered in
+    rw (c.in-Some.is, apart) (c.cmp.ensures ∙ ap (λ r. ordering_then r (nat_cmp c.in-Some.ix c.args.at)) (sym c.in-Equal.is ∙ c.read-else-eq.ensures ∙ told))
 
-pub returns-in_default : goal.returns-in_default
-returns-in_default g c =
-    let ne : c.args.at ≢ c.in-Some.ix = eqb-false _ _ (sym c.eq.ensures ∙ c.if-eq.false) in
-    record {
-      asks = λ xs h. asks_one g.F.FnMut _ (Askable-from_some xs _ _ _ c.in-Some.is ne h) c.ask-else-eq.ensures.answered c.ask-else-eq.ensures.count;
-      steady = λ xs answer h s.
-          let told = s.at 0 _ At_once _ (Askable-from_some xs _ _ _ c.in-Some.is ne h) _ _ c.ask-else-eq.ensures.answered in
-          then-other c.read-else-eq.result (nat_cmp c.in-Some.ix c.args.at) c.in_default.not-Equal
-          ∙ ap (λ r. ordering_then r (nat_cmp c.in-Some.ix c.args.at)) (c.read-else-eq.ensures ∙ told)
-          ∙ sym (with_ties-some _ answer _ _ c.in-Some.is ne);
-      itself = λ e ix s. absurd (c.in_default.not-Equal e);
-    }
+pub returns-in_default-clause-asks : goal.returns-in_default-clause-asks
+returns-in_default-clause-asks g c xs h =
+    rw c.in-Some.is (asks_one g.F.FnMut (Askable xs (Some _)) (h, eqb-false _ _ (sym c.eq.ensures ∙ c.if-eq.false)) c.ask-else-eq.ensures.answered c.ask-else-eq.ensures.count)
+
+pub returns-in_default-clause-steady : goal.returns-in_default-clause-steady
+returns-in_default-clause-steady g c xs answer h s =
+    let apart = sym c.eq.ensures ∙ c.if-eq.false in
+    let told = (rw c.in-Some.is at s).at 0 _ At_once _ (h, eqb-false _ _ apart) _ _ c.ask-else-eq.ensures.answered in
+    rw (c.in-Some.is, apart) (then-other _ (nat_cmp c.in-Some.ix c.args.at) c.in_default.not-Equal ∙ ap (λ r. ordering_then r (nat_cmp c.in-Some.ix c.args.at)) (c.read-else-eq.ensures ∙ told))
+
+pub returns-in_default-clause-itself : goal.returns-in_default-clause-itself
+returns-in_default-clause-itself g c e = absurd (c.in_default.not-Equal e)

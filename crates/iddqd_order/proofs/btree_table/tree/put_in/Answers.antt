@@ -1,5 +1,4 @@
-use Rattle.std.proofs.Common.{rules, ◌∙◌}
-use Rattle.iddqd_order.specs.declared.btree_table.node.Node.TheViews.{roll-Node}
+use Rattle.iddqd_order.proofs.Names.{rules, ◌∙◌, roll-Node}
 use Rattle.iddqd_order.proofs.NodeLemmas.{row-roll, children-roll}
 use Rattle.iddqd_order.proofs.TreeLemmas.{first_root}
 use Rattle.iddqd_order.proofs.btree_table.tree.put_in.Goals as goal

@@ -1,7 +1,7 @@
 use Rattle.std.proofs.Common.{rules, ◌≡◌, ◌+◌, ◌-◌, arith, ◌∙◌, vec_len}
 use Rattle.iddqd_order.specs.declared.btree_table.node.Node.TheViews.{out-Node, roll-Node, out-roll-Node}
 use Rattle.iddqd_order.proofs.NodeLemmas.{goes-inner, row-roll, children-roll, room-from}
-use Rattle.iddqd_order.proofs.InsertLemmas.{IsTaken, taken, Cut, cut_leaf, cut_here, leaf_place, full_row, full_child, all_full}
+use Rattle.iddqd_order.proofs.InsertLemmas.{is_taken, taken, cut_leaf, cut_here, leaf_place, full_row, full_child, all_full}
 use Rattle.iddqd_order.proofs.btree_table.node.Node.+cut.Goals as goal
 
 pub cut-middle-requires-clause-full : goal.cut-middle-requires-clause-full
@@ -22,41 +22,23 @@ index_mut-requires t c = let g = goes-inner _ _ _ c.if-height-eq0.false c.requir
 
 pub cut-middle-requires-2 : goal.cut-middle-requires-2
 cut-middle-requires-2 t c =
-    let k : IsTaken c.args.height c.args.self.now c.args.path.now c.get-i.result c.index_mut.result.now =
-    record { inner = c.if-height-eq0.false; formed = c.requires.formed; goes = c.requires.goes; at = c.get-i.ensures; is = c.index_mut.ensures.value } in
+    let k = is_taken c.args.height _ _ _ c.index_mut.result.now c.if-height-eq0.false c.requires.formed c.requires.goes c.get-i.ensures c.index_mut.ensures.value in
     let b = taken _ _ _ _ _ k in
     let full = all_full _ (c.args.height - 1 + 1) _ _ _ (omega arith) (omega arith) (full_child _ _ _ _ _ _ k c.requires.full) in
     (omega arith, (omega arith, (b.formed, (b.goes, (full, omega (arith, c.requires.enough))))))
 
 pub cut_inner-middle-requires : goal.cut_inner-middle-requires
 cut_inner-middle-requires t c =
-    let k : IsTaken c.args.height c.args.self.now c.args.path.now c.get-i.result c.index_mut.result.now =
-    record { inner = c.if-height-eq0.false; formed = c.requires.formed; goes = c.requires.goes; at = c.get-i.ensures; is = c.index_mut.ensures.value } in
-    let b = taken _ _ _ _ _ k in
-    let full = full_row _ _ _ c.requires.formed c.requires.full in
-    let here = b.here in
-    let one = b.node.one_more in
+    let b = taken _ _ _ _ _ (is_taken c.args.height _ _ _ c.index_mut.result.now c.if-height-eq0.false c.requires.formed c.requires.goes c.get-i.ensures c.index_mut.ensures.value) in
+    let full = full_row _ _ _ c.requires.formed c.requires.full in let here = b.here in let one = b.node.one_more in
     let count : vec_len (out-Node c.args.self.now).children ≡ 12 = search (rules, one, full) in
-    record {
-      within = rw out-roll-Node (omega arith);
-      full = rw out-roll-Node full;
-      one_more = simp out-roll-Node count;
-      has_room = simp out-roll-Node b.node.has_room;
-      spare = c.take-children.ensures.spare;
-    }
+    record { within = rw out-roll-Node (omega arith); full = rw out-roll-Node full; one_more = simp out-roll-Node count; has_room = simp out-roll-Node b.node.has_room; spare = c.take-children.ensures.spare }
 
 pub returns : goal.returns
 returns t c =
-    let k : IsTaken c.args.height c.args.self.now c.args.path.now c.get-i.result c.index_mut.result.now =
-    record { inner = c.if-height-eq0.false; formed = c.requires.formed; goes = c.requires.goes; at = c.get-i.ensures; is = c.index_mut.ensures.value } in
-    let d : Cut (c.args.height - 1) c.index_mut.result.now c.cut-middle-2.new.self c.cut-middle-2.result.0 c.cut-middle-2.result.1 c.args.path.now c.args.ix =
-    record { items = c.cut-middle-2.ensures.items; low = c.cut-middle-2.ensures.low; high = c.cut-middle-2.ensures.high } in
+    let k = is_taken c.args.height _ _ _ c.index_mut.result.now c.if-height-eq0.false c.requires.formed c.requires.goes c.get-i.ensures c.index_mut.ensures.value in
+    let d = c.cut-middle-2.ensures in
     let e = simp out-roll-Node at c.cut_inner-middle.ensures in
-    let r = cut_here c.args.height c.args.self.now (roll-Node (record { row = c.cut_inner-middle.new.row; children = c.cut_inner-middle.new.children })) c.cut_inner-middle.result.0 (roll-Node (record { row = c.cut_inner-middle.result.1; children = c.cut_inner-middle.new.upper })) c.args.path.now c.args.ix c.get-i.result c.index_mut.result.now c.cut-middle-2.new.self c.cut-middle-2.result.0 c.cut-middle-2.result.1 k d
-    (simp row-roll e.cut) (simp children-roll e.parts) (simp (row-roll, children-roll) (search (rules, e.one_more))) (room-from _ e.has_room) (room-from _ e.other_room) in
-    record {
-      items = r.items;
-      low = r.low;
-      high = r.high;
-      left = omega (arith, c.cut-middle-2.ensures.left, c.take-children.ensures.left);
-    }
+    let r = cut_here c.args.height c.args.self.now (roll-Node (record { row = c.cut_inner-middle.new.row; children = c.cut_inner-middle.new.children })) c.cut_inner-middle.result.0 (roll-Node (record { row = c.cut_inner-middle.result.1; children = c.cut_inner-middle.new.upper })) c.args.path.now c.args.ix c.get-i.result c.index_mut.result.now c.cut-middle-2.new.self c.cut-middle-2.result.0 c.cut-middle-2.result.1 k
+    (record { items = d.items; low = d.low; high = d.high }) (simp row-roll e.cut) (simp children-roll e.parts) (simp (row-roll, children-roll) (search (rules, e.one_more))) (room-from _ e.has_room) (room-from _ e.other_room) in
+    record { items = r.items; low = r.low; high = r.high; left = omega (arith, d.left, c.take-children.ensures.left) }

@@ -1,26 +1,18 @@
-use Rattle.iddqd_order.proofs.Names.{◌≡◌, ◌-◌, ◌<◌, length, slice_index, arith, refl, sym, ap, ◌∙◌, subst, below_more, rules, row, children, child, flat, Holds, spot}
-use Rattle.iddqd_order.proofs.NodeLemmas.{formed-within, formed-inner, child-formed}
-use Rattle.iddqd_order.proofs.DescentLemmas.{path-here, path-above, holds-here, below-holds, child_is, spot-row, spot-child, absent_leaf, absent_inner}
+use Rattle.iddqd_order.proofs.Names.{◌≡◌, ◌<◌, length, arith, refl, ◌∙◌, below_more, rules, children, child}
+use Rattle.iddqd_order.proofs.NodeLemmas.{formed-within, formed-inner, child-formed, path-here, path-above}
+use Rattle.iddqd_order.proofs.DescentLemmas.{child_is, holds_index-here, holds_index-below, absent_leaf, absent_inner}
 use Rattle.iddqd_order.proofs.btree_table.node.Node.+locate.Goals as goal
 
 pub set-requires-clause-place : goal.set-requires-clause-place
 set-requires-clause-place t c =
-    let in_row = rw c.as_slice.ensures at (c.in-Some.ensures.there c.in-Some.i refl) in
-    let lt = in_row.0 in
+    let lt = (rw c.as_slice.ensures at (c.in-Some.ensures.there c.in-Some.i refl)).0 in
     omega (arith, formed-within c.args.height c.args.self.now c.requires.formed)
-
-pub returns-in-Some-clause-found : goal.returns-in-Some-clause-found
-returns-in-Some-clause-found t c =
-    let in_row = rw c.as_slice.ensures at (c.in-Some.ensures.there c.in-Some.i refl) in
-    let here = path-here c.args.path.now c.set.new.self c.args.height c.in-Some.i c.requires.path c.requires.levels c.set.ensures.place in
-    holds-here c.args.height c.args.self.now c.set.new.self (rw here in_row.0)
 
 pub returns-in-Some-clause-there : goal.returns-in-Some-clause-there
 returns-in-Some-clause-there t c =
-    let n = c.args.self.now in
-    let in_row = rw c.as_slice.ensures at (c.in-Some.ensures.there c.in-Some.i refl) in
+    let at = rw c.as_slice.ensures at (c.in-Some.ensures.there c.in-Some.i refl) in
     let here = path-here c.args.path.now c.set.new.self c.args.height c.in-Some.i c.requires.path c.requires.levels c.set.ensures.place in
-    spot-row c.args.height n c.set.new.self c.requires.formed (rw here in_row.0) ∙ ap (slice_index (row n)) here ∙ in_row.1
+    holds_index-here c.args.height c.args.self.now c.set.new.self c.args.ix c.requires.formed (rw here at.0) (rw here at.1)
 
 pub returns-then-height-eq0-clause-missing : goal.returns-then-height-eq0-clause-missing
 returns-then-height-eq0-clause-missing t c none =
@@ -38,32 +30,17 @@ set-requires-in-loop-i-clause-place t c =
 
 pub locate-requires : goal.locate-requires
 locate-requires t c =
-    let n = c.args.self.now in let k = c.index.result.now in
-    let lt : c.loop-i.i < length (children n) = search rules in
-    let same : k ≡ child n c.loop-i.i = child_is n c.loop-i.i k lt c.index.ensures in
+    let lt : c.loop-i.i < length (children c.args.self.now) = search rules in
+    let same : c.index.result.now ≡ child c.args.self.now c.loop-i.i = child_is c.args.self.now c.loop-i.i c.index.result.now lt c.index.ensures in
     let levels = c.requires.levels in
-    (omega arith, (rw same (child-formed c.args.height n c.loop-i.i c.if-height-eq0.false c.requires.formed lt), (omega arith, c.set-in-loop-i.ensures.length)))
-
-pub returns-in-Some-locate-clause-found : goal.returns-in-Some-locate-clause-found
-returns-in-Some-locate-clause-found t c =
-    let n = c.args.self.now in let k = c.index.result.now in let h = c.args.height in let i = c.loop-i.i in
-    let p = c.locate.new.path in
-    let lt : i < length (children n) = search rules in
-    let same : k ≡ child n i = child_is n i k lt c.index.ensures in
-    let here : slice_index p h ≡ i = c.in-Some-locate.ensures.above h (omega arith) ∙ path-here c.loop-i.path c.set-in-loop-i.new.self h i c.loop-i.invariant.path c.requires.levels c.set-in-loop-i.ensures.place in
-    below-holds c.in-Some-locate.level h n p c.if-height-eq0.false (rw here lt)
-    (subst (λ z. Holds c.in-Some-locate.level (h - 1) z p) (same ∙ ap (child n) (sym here)) c.in-Some-locate.ensures.found)
+    (omega arith, (rw same (child-formed c.args.height c.args.self.now c.loop-i.i c.if-height-eq0.false c.requires.formed lt), (omega arith, c.set-in-loop-i.ensures.length)))
 
 pub returns-in-Some-locate-clause-there : goal.returns-in-Some-locate-clause-there
 returns-in-Some-locate-clause-there t c =
-    let n = c.args.self.now in let k = c.index.result.now in let h = c.args.height in let i = c.loop-i.i in
-    let p = c.locate.new.path in let m = c.in-Some-locate.level in
-    let lt : i < length (children n) = search rules in
-    let same : k ≡ child n i = child_is n i k lt c.index.ensures in
-    let here : slice_index p h ≡ i = c.in-Some-locate.ensures.above h (omega arith) ∙ path-here c.loop-i.path c.set-in-loop-i.new.self h i c.loop-i.invariant.path c.requires.levels c.set-in-loop-i.ensures.place in
-    let way : k ≡ child n (slice_index p h) = same ∙ ap (child n) (sym here) in
-    spot-child m h n p c.if-height-eq0.false c.requires.formed (rw here lt) (subst (λ z. Holds m (h - 1) z p) way c.in-Some-locate.ensures.found)
-    ∙ ap (λ z. slice_index (flat (h - 1) z) (spot m (h - 1) z p)) (sym way) ∙ c.in-Some-locate.ensures.there
+    let h = c.args.height in let i = c.loop-i.i in
+    let lt : i < length (children c.args.self.now) = search rules in
+    let here = c.in-Some-locate.ensures.above h (omega arith) ∙ path-here c.loop-i.path c.set-in-loop-i.new.self h i c.loop-i.invariant.path c.requires.levels c.set-in-loop-i.ensures.place in
+    holds_index-below c.in-Some-locate.level h i c.args.self.now c.index.result.now c.locate.new.path c.args.ix c.if-height-eq0.false c.requires.formed here lt c.index.ensures c.in-Some-locate.ensures.there
 
 pub returns-in-Some-locate-clause-above : goal.returns-in-Some-locate-clause-above
 returns-in-Some-locate-clause-above t c l lt =
@@ -71,9 +48,9 @@ returns-in-Some-locate-clause-above t c l lt =
 
 pub loop-i-preserved : goal.loop-i-preserved
 loop-i-preserved t c =
-    let n = c.args.self.now in let k = c.index.result.now in let h = c.args.height in let i = c.loop-i.i in
-    let lt : i < length (children n) = search rules in
-    let same : k ≡ child n i = child_is n i k lt c.index.ensures in
+    let h = c.args.height in let i = c.loop-i.i in
+    let lt : i < length (children c.args.self.now) = search rules in
+    let same : c.index.result.now ≡ child c.args.self.now i = child_is c.args.self.now i c.index.result.now lt c.index.ensures in
     record {
       path = c.in_default-locate.ensures.path;
       above = λ m up. c.in_default-locate.ensures.above m (omega arith) ∙ path-above c.loop-i.path c.set-in-loop-i.new.self h i m c.set-in-loop-i.ensures.place up ∙ c.loop-i.invariant.above m up;
@@ -82,6 +59,6 @@ loop-i-preserved t c =
 
 pub returns-clause-missing : goal.returns-clause-missing
 returns-clause-missing t c none =
-    let n = c.args.self.now in let over = c.loop-i-test.false in
-    absent_inner c.args.height n c.args.ix c.if-height-eq0.false c.requires.formed (rw c.as_slice.ensures at (c.in_default.ensures.missing refl))
+    let over = c.loop-i-test.false in
+    absent_inner c.args.height c.args.self.now c.args.ix c.if-height-eq0.false c.requires.formed (rw c.as_slice.ensures at (c.in_default.ensures.missing refl))
     (λ k lt. c.loop-i.invariant.missing k (let all : k < c.len-i-end.result = search (rules, lt) in omega arith))

@@ -1,7 +1,6 @@
-use Rattle.iddqd_order.proofs.Names.{◌≡◌, ◌∙◌, refl, arith, rules, roll-Node, child}
+use Rattle.iddqd_order.proofs.Names.{◌∙◌, refl, arith, rules, roll-Node}
 use Rattle.iddqd_order.proofs.NodeLemmas.{row-roll, children-roll}
-use Rattle.iddqd_order.proofs.DescentLemmas.{child_is}
-use Rattle.iddqd_order.proofs.RemovalLemmas.{goes-below, room-kept}
+use Rattle.iddqd_order.proofs.RemovalLemmas.{goes-below, child-below, room-kept}
 use Rattle.iddqd_order.proofs.WayLemmas.{ends-here, put-here, put-below}
 use Rattle.iddqd_order.proofs.btree_table.node.Node.+put.Goals as goal
 
@@ -12,17 +11,14 @@ index_mut-requires t c =
 
 pub put-requires : goal.put-requires
 put-requires t c =
-    let b = goes-below c.args.height c.args.level c.get-i.result c.args.self.now c.args.path.now c.if-height-level.true c.get-i.ensures c.requires.formed c.requires.holds in
-    let same : c.index_mut.result.now ≡ child c.args.self.now c.get-i.result = child_is c.args.self.now c.get-i.result c.index_mut.result.now b.here (search rules) in
+    let k = child-below c.args.level c.args.height c.get-i.result c.args.self.now c.index_mut.result.now c.args.path.now (λ e. absurd (omega arith)) (λ e. absurd (omega arith)) c.get-i.ensures c.requires.formed c.requires.holds (search rules) in
     let levels = c.requires.levels in
-    (omega arith, (rw same b.formed, (omega arith, rw same b.holds)))
+    (omega arith, (k.formed.1, (omega arith, k.holds)))
 
 pub returns-then-height-level : goal.returns-then-height-level
 returns-then-height-level t c =
-    let b = goes-below c.args.height c.args.level c.get-i.result c.args.self.now c.args.path.now c.if-height-level.true c.get-i.ensures c.requires.formed c.requires.holds in
-    let same : c.index_mut.result.now ≡ child c.args.self.now c.get-i.result = child_is c.args.self.now c.get-i.result c.index_mut.result.now b.here (search rules) in
     let d = c.put.ensures in
-    let k = put-below c.args.height c.args.level c.get-i.result c.args.ix c.args.self.now c.index_mut.result.now c.put.new.self (roll-Node _) c.args.path.now c.if-height-level.true c.get-i.ensures c.requires.formed c.requires.holds same
+    let k = put-below c.args.height c.args.level c.get-i.result c.args.ix c.args.self.now c.index_mut.result.now c.put.new.self (roll-Node _) c.args.path.now c.if-height-level.true c.get-i.ensures c.requires.formed c.requires.holds (search rules)
     (record { items = d.items; formed = d.formed; same_length = d.same_length; same_places = d.same_places }) (row-roll _) (children-roll _) (room-kept c.args.self.now _ refl) in
     record { items = k.items; formed = k.formed; same_length = k.same_length; same_places = k.same_places }
 

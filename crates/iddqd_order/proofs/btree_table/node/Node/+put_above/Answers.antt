@@ -2,7 +2,7 @@ use Rattle.std.proofs.Common.{rules, ◌≡◌, ◌+◌, ◌-◌, length, arith,
 use Rattle.iddqd_order.specs.declared.btree_table.node.Node.TheViews.{out-Node, roll-Node, out-roll-Node}
 use Rattle.iddqd_order.specs.Node.{row}
 use Rattle.iddqd_order.proofs.NodeLemmas.{goes-inner, full-here, row-roll, children-roll, room-from}
-use Rattle.iddqd_order.proofs.InsertLemmas.{IsTaken, taken, Cut, put_below, put_here, full_child, all_full}
+use Rattle.iddqd_order.proofs.InsertLemmas.{is_taken, taken, put_below, put_here, full_child, all_full}
 use Rattle.iddqd_order.proofs.btree_table.node.Node.+put_above.Goals as goal
 
 pub index_mut-requires : goal.index_mut-requires
@@ -10,10 +10,8 @@ index_mut-requires t c = let more = c.if-height-full.true in let g = goes-inner 
 
 pub put_above-requires : goal.put_above-requires
 put_above-requires t c =
-    let k : IsTaken c.args.height c.args.self.now c.args.path.now c.get-i.result c.index_mut.result.now =
-    record { inner = λ e. absurd (omega arith); formed = c.requires.formed; goes = c.requires.goes; at = c.get-i.ensures; is = c.index_mut.ensures.value } in
-    let b = taken _ _ _ _ _ k in
-    let more = c.if-height-full.true in
+    let k = is_taken c.args.height _ _ _ c.index_mut.result.now (λ e. absurd (omega arith)) c.requires.formed c.requires.goes c.get-i.ensures c.index_mut.ensures.value in
+    let b = taken _ _ _ _ _ k in let more = c.if-height-full.true in
     (omega arith, (omega arith, (c.requires.some, (omega arith, (b.formed, (b.goes, (full_child _ _ _ _ _ _ k c.requires.full, c.requires.enough)))))))
 
 pub index_mut-requires-else-height-full : goal.index_mut-requires-else-height-full
@@ -24,56 +22,30 @@ index_mut-requires-else-height-full t c =
 
 pub cut-middle-requires : goal.cut-middle-requires
 cut-middle-requires t c =
-    let some = c.requires.some in
-    let not_all = c.requires.not_all in
-    let here = c.if-height-full.false in
-    let enough = c.requires.enough in
-    let k : IsTaken c.args.height c.args.self.now c.args.path.now c.get-i.result c.index_mut-else-height-full.result.now =
-    record { inner = λ e. absurd (omega arith); formed = c.requires.formed; goes = c.requires.goes; at = c.get-i.ensures; is = c.index_mut-else-height-full.ensures.value } in
+    let some = c.requires.some in let not_all = c.requires.not_all in let here = c.if-height-full.false in let enough = c.requires.enough in
+    let k = is_taken c.args.height _ _ _ c.index_mut-else-height-full.result.now (λ e. absurd (omega arith)) c.requires.formed c.requires.goes c.get-i.ensures c.index_mut-else-height-full.ensures.value in
     let b = taken _ _ _ _ _ k in
-    record {
-      low = omega arith;
-      formed = b.formed;
-      goes = b.goes;
-      full = all_full _ (c.args.height - 1 + 1) _ _ _ (omega arith) (omega arith) (full_child _ _ _ _ _ _ k c.requires.full);
-      enough = omega arith;
-    }
+    record { low = omega arith; formed = b.formed; goes = b.goes; full = all_full _ (c.args.height - 1 + 1) _ _ _ (omega arith) (omega arith) (full_child _ _ _ _ _ _ k c.requires.full); enough = omega arith }
 
 pub put_between-requires : goal.put_between-requires
 put_between-requires t c =
-    let some = c.requires.some in
-    let not_all = c.requires.not_all in
-    let last = c.if-height-full.false in
-    let k : IsTaken c.args.height c.args.self.now c.args.path.now c.get-i.result c.index_mut-else-height-full.result.now =
-    record { inner = λ e. absurd (omega arith); formed = c.requires.formed; goes = c.requires.goes; at = c.get-i.ensures; is = c.index_mut-else-height-full.ensures.value } in
-    let b = taken _ _ _ _ _ k in
-    let here = b.here in
-    let one = b.node.one_more in
+    let some = c.requires.some in let not_all = c.requires.not_all in let last = c.if-height-full.false in
+    let b = taken _ _ _ _ _ (is_taken c.args.height _ _ _ c.index_mut-else-height-full.result.now (λ e. absurd (omega arith)) c.requires.formed c.requires.goes c.get-i.ensures c.index_mut-else-height-full.ensures.value) in
+    let here = b.here in let one = b.node.one_more in
     let room = (full-here _ _ _ _ c.requires.full).1 (omega arith) in
     let count : vec_len (out-Node c.args.self.now).children ≡ length (row c.args.self.now) + 1 = search (rules, one) in
     record { within = rw out-roll-Node (omega arith); room = rw out-roll-Node room; one_more = simp out-roll-Node count; has_room = simp out-roll-Node b.node.has_room }
 
 pub returns-then-height-full : goal.returns-then-height-full
 returns-then-height-full t c =
-    let k : IsTaken c.args.height c.args.self.now c.args.path.now c.get-i.result c.index_mut.result.now =
-    record { inner = λ e. absurd (omega arith); formed = c.requires.formed; goes = c.requires.goes; at = c.get-i.ensures; is = c.index_mut.ensures.value } in
-    let b = taken _ _ _ _ _ k in
-    let p = put_below c.args.height c.args.self.now (roll-Node _) c.args.path.now c.args.ix c.get-i.result c.index_mut.result.now c.put_above.new.self k
-    (record { items = c.put_above.ensures.items; formed = c.put_above.ensures.formed; longer = c.put_above.ensures.longer })
-    (row-roll _) (children-roll _) (room-from _ b.node.has_room) in
-    record { items = p.items; formed = p.formed; longer = p.longer }
+    let k = is_taken c.args.height _ _ _ c.index_mut.result.now (λ e. absurd (omega arith)) c.requires.formed c.requires.goes c.get-i.ensures c.index_mut.ensures.value in
+    put_below c.args.height c.args.self.now (roll-Node _) c.args.path.now c.args.ix c.get-i.result c.index_mut.result.now c.put_above.new.self k c.put_above.ensures
+    (row-roll _) (children-roll _) (room-from _ (taken _ _ _ _ _ k).node.has_room)
 
 pub returns-else-height-full : goal.returns-else-height-full
 returns-else-height-full t c =
-    let some = c.requires.some in
-    let not_all = c.requires.not_all in
-    let last = c.if-height-full.false in
-    let k : IsTaken c.args.height c.args.self.now c.args.path.now c.get-i.result c.index_mut-else-height-full.result.now =
-    record { inner = λ e. absurd (omega arith); formed = c.requires.formed; goes = c.requires.goes; at = c.get-i.ensures; is = c.index_mut-else-height-full.ensures.value } in
-    let d : Cut (c.args.height - 1) c.index_mut-else-height-full.result.now c.cut-middle.new.self c.cut-middle.result.0 c.cut-middle.result.1 c.args.path.now c.args.ix =
-    record { items = c.cut-middle.ensures.items; low = c.cut-middle.ensures.low; high = c.cut-middle.ensures.high } in
-    let room = (full-here _ _ _ _ c.requires.full).1 (omega arith) in
+    let some = c.requires.some in let not_all = c.requires.not_all in let last = c.if-height-full.false in
+    let k = is_taken c.args.height _ _ _ c.index_mut-else-height-full.result.now (λ e. absurd (omega arith)) c.requires.formed c.requires.goes c.get-i.ensures c.index_mut-else-height-full.ensures.value in
     let e = simp out-roll-Node at c.put_between.ensures in
-    let p = put_here c.args.height c.args.self.now (roll-Node _) c.args.path.now c.args.ix c.get-i.result c.index_mut-else-height-full.result.now c.cut-middle.new.self c.cut-middle.result.0 c.cut-middle.result.1 k d
-    room (row-roll _ ∙ e.row) (children-roll _ ∙ e.children) (room-from _ e.has_room) in
-    record { items = p.items; formed = p.formed; longer = p.longer }
+    put_here c.args.height c.args.self.now (roll-Node _) c.args.path.now c.args.ix c.get-i.result c.index_mut-else-height-full.result.now c.cut-middle.new.self c.cut-middle.result.0 c.cut-middle.result.1 k
+    (record { items = c.cut-middle.ensures.items; low = c.cut-middle.ensures.low; high = c.cut-middle.ensures.high }) ((full-here _ _ _ _ c.requires.full).1 (omega arith)) (row-roll _ ∙ e.row) (children-roll _ ∙ e.children) (room-from _ e.has_room)

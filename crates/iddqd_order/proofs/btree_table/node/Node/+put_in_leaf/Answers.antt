@@ -1,7 +1,6 @@
-use Rattle.std.proofs.Common.{rules, arith, ◌∙◌}
-use Rattle.iddqd_order.specs.declared.btree_table.node.Node.TheViews.{roll-Node}
+use Rattle.iddqd_order.proofs.Names.{rules, arith, ◌∙◌, roll-Node}
 use Rattle.iddqd_order.proofs.NodeLemmas.{goes-inner, full-here, row-roll, children-roll, room-from}
-use Rattle.iddqd_order.proofs.InsertLemmas.{IsTaken, taken, put_leaf, put_below, leaf_place, full_child}
+use Rattle.iddqd_order.proofs.InsertLemmas.{is_taken, taken, put_leaf, put_below, leaf_place, full_child}
 use Rattle.iddqd_order.proofs.btree_table.node.Node.+put_in_leaf.Goals as goal
 
 pub insert-requires-clause-in_bounds : goal.insert-requires-clause-in_bounds
@@ -15,23 +14,17 @@ index_mut-requires t c = let g = goes-inner _ _ _ c.if-height-eq0.false c.requir
 
 pub put_in_leaf-requires : goal.put_in_leaf-requires
 put_in_leaf-requires t c =
-    let k : IsTaken c.args.height c.args.self.now c.args.path.now c.get-i.result c.index_mut.result.now =
-    record { inner = c.if-height-eq0.false; formed = c.requires.formed; goes = c.requires.goes; at = c.get-i.ensures; is = c.index_mut.ensures.value } in
+    let k = is_taken c.args.height _ _ _ c.index_mut.result.now c.if-height-eq0.false c.requires.formed c.requires.goes c.get-i.ensures c.index_mut.ensures.value in
     let b = taken _ _ _ _ _ k in
     (omega arith, (omega arith, (b.formed, (b.goes, full_child _ _ _ _ _ _ k c.requires.room))))
 
 pub returns-then-height-eq0 : goal.returns-then-height-eq0
 returns-then-height-eq0 t c =
     let room = (full-here _ _ _ _ c.requires.room).1 c.if-height-eq0.true in
-    let k = put_leaf c.args.height c.args.self.now (roll-Node _) c.args.path.now c.get-i.result c.args.ix c.if-height-eq0.true c.requires.formed c.requires.goes c.get-i.ensures room (row-roll _ ∙ c.insert.ensures) (children-roll _) in
-    record { items = k.items; formed = k.formed; longer = k.longer }
+    put_leaf c.args.height c.args.self.now (roll-Node _) c.args.path.now c.get-i.result c.args.ix c.if-height-eq0.true c.requires.formed c.requires.goes c.get-i.ensures room (row-roll _ ∙ c.insert.ensures) (children-roll _)
 
 pub returns-else-height-eq0 : goal.returns-else-height-eq0
 returns-else-height-eq0 t c =
-    let k : IsTaken c.args.height c.args.self.now c.args.path.now c.get-i.result c.index_mut.result.now =
-    record { inner = c.if-height-eq0.false; formed = c.requires.formed; goes = c.requires.goes; at = c.get-i.ensures; is = c.index_mut.ensures.value } in
-    let b = taken _ _ _ _ _ k in
-    let p = put_below c.args.height c.args.self.now (roll-Node _) c.args.path.now c.args.ix c.get-i.result c.index_mut.result.now c.put_in_leaf.new.self k
-    (record { items = c.put_in_leaf.ensures.items; formed = c.put_in_leaf.ensures.formed; longer = c.put_in_leaf.ensures.longer })
-    (row-roll _) (children-roll _) (room-from _ b.node.has_room) in
-    record { items = p.items; formed = p.formed; longer = p.longer }
+    let k = is_taken c.args.height _ _ _ c.index_mut.result.now c.if-height-eq0.false c.requires.formed c.requires.goes c.get-i.ensures c.index_mut.ensures.value in
+    put_below c.args.height c.args.self.now (roll-Node _) c.args.path.now c.args.ix c.get-i.result c.index_mut.result.now c.put_in_leaf.new.self k c.put_in_leaf.ensures
+    (row-roll _) (children-roll _) (room-from _ (taken _ _ _ _ _ k).node.has_room)

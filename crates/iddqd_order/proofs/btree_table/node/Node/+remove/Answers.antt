@@ -1,5 +1,5 @@
-use Rattle.iddqd_order.proofs.Names.{rules, ◌<◌, ◌-◌, remove, slice_index, arith, ap, ◌∙◌, roll-Node, out-roll-Node, row, children, room, flat, spot}
-use Rattle.iddqd_order.proofs.NodeLemmas.{child-within, row-roll, children-roll, room-roll}
+use Rattle.iddqd_order.proofs.Names.{rules, ℕ, ◌-◌, remove, slice_index, arith, ap, ◌∙◌, roll-Node, out-roll-Node, row, children, room, flat, spot}
+use Rattle.iddqd_order.proofs.NodeLemmas.{row-roll, children-roll, room-roll}
 use Rattle.iddqd_order.proofs.RemovalLemmas.{holds-leaf, holds-level, goes-below, ends-inner, child-below, child-before, remade-leaf, TookNow, took-now, took-below, took-here, remade, room-kept}
 use Rattle.iddqd_order.proofs.btree_table.node.Node.+remove.Goals as goal
 use Rattle.iddqd_order.proofs.btree_table.node.Node.+remove.Goals.{then-height-level, else-height-level}
@@ -16,9 +16,7 @@ returns-then-height-eq0 t c =
 
 pub index_mut-requires : goal.index_mut-requires
 index_mut-requires t c =
-    let at = (ends-inner c.args.height c.args.level c.get-i.result c.args.self.now c.args.path.now c.if-height-eq0.false c.if-height-level.true c.get-i.ensures c.requires.formed c.requires.holds).within in
-    let w = child-within c.args.height c.args.self.now c.get-i.result c.if-height-eq0.false c.requires.formed (omega arith) in
-    search (rules, w)
+    search (rules, (ends-inner c.args.height c.args.level c.get-i.result c.args.self.now c.args.path.now c.if-height-eq0.false c.if-height-level.true c.get-i.ensures c.requires.formed c.requires.holds).here)
 
 pub remove_last-last-requires : goal.remove_last-last-requires
 remove_last-last-requires t c =
@@ -29,14 +27,12 @@ remove_last-last-requires t c =
 
 pub set-requires : goal.set-requires
 set-requires t c =
-    let at = (ends-inner c.args.height c.args.level c.get-i.result c.args.self.now c.args.path.now c.if-height-eq0.false c.if-height-level.true c.get-i.ensures c.requires.formed c.requires.holds).within in
-    simp out-roll-Node at
+    simp out-roll-Node (ends-inner c.args.height c.args.level c.get-i.result c.args.self.now c.args.path.now c.if-height-eq0.false c.if-height-level.true c.get-i.ensures c.requires.formed c.requires.holds).within
 
 pub index_mut-requires-else-height-level : goal.index_mut-requires-else-height-level
 index_mut-requires-else-height-level t c =
-    let lt : c.args.level < c.args.height = omega (arith, holds-level c.args.level c.args.height c.args.self.now c.args.path.now c.requires.holds) in
-    let b = goes-below c.args.height c.args.level c.get-i.result c.args.self.now c.args.path.now lt c.get-i.ensures c.requires.formed c.requires.holds in
-    search (rules, b.here)
+    let le = holds-level c.args.level c.args.height c.args.self.now c.args.path.now c.requires.holds in
+    search (rules, (goes-below c.args.height c.args.level c.get-i.result c.args.self.now c.args.path.now (omega arith) c.get-i.ensures c.requires.formed c.requires.holds).here)
 
 pub remove-requires-else-height-level : goal.remove-requires-else-height-level
 remove-requires-else-height-level t c =
@@ -44,9 +40,9 @@ remove-requires-else-height-level t c =
     let five = b.formed.0 in
     (omega arith, (omega arith, (omega arith, (b.formed.1, b.holds))))
 
-pub mend-requires : goal.mend-requires
-mend-requires t c =
-    let k : TookNow c.args.height c.get-i.result c.args.self.now c.if-height-level.self (remove (flat c.args.height c.args.self.now) (spot c.args.level c.args.height c.args.self.now c.args.path.now)) =
+-- what is mended, on both ways
+took : (t : ℕ) (c : goal.After-mend-arg-2-1 t) → TookNow c.args.height c.get-i.result c.args.self.now c.if-height-level.self (remove (flat c.args.height c.args.self.now) (spot c.args.level c.args.height c.args.self.now c.args.path.now))
+took t c =
     elim c.if-height-level.branch [
       | then-height-level w ↦
           (let d = w.remove_last-last.ensures in
@@ -57,22 +53,13 @@ mend-requires t c =
           (let d = w.remove-else-height-level.ensures in
           let k = took-below c.args.level c.args.height c.get-i.result c.args.self.now w.index_mut-else-height-level.result.now w.remove-else-height-level.new.self c.args.path.now c.if-height-eq0.false w.if-height-level.false c.get-i.ensures c.requires.formed c.requires.some c.requires.holds (search rules) d.items d.formed d.fewer in
           took-now c.args.height c.get-i.result c.args.self.now c.if-height-level.self _ _ _ k (ap row w.self-is ∙ row-roll _) (ap children w.self-is ∙ children-roll _) (ap room w.self-is ∙ room-roll _))
-    ] in
-    (c.args.height - 1, k.took.may_lack)
+    ]
+
+pub mend-requires : goal.mend-requires
+mend-requires t c = (c.args.height - 1, (took t c).took.may_lack)
 
 pub returns : goal.returns
 returns t c =
-    let k : TookNow c.args.height c.get-i.result c.args.self.now c.if-height-level.self (remove (flat c.args.height c.args.self.now) (spot c.args.level c.args.height c.args.self.now c.args.path.now)) =
-    elim c.if-height-level.branch [
-      | then-height-level w ↦
-          (let d = w.remove_last-last.ensures in
-          let k = took-here c.args.level c.args.height c.get-i.result c.args.self.now w.index_mut.result.now w.remove_last-last.new.self c.args.path.now w.remove_last-last.result c.if-height-eq0.false w.if-height-level.true c.get-i.ensures c.requires.formed c.requires.some c.requires.holds (search rules) d.items d.formed d.fewer in
-          let set_is = simp out-roll-Node at w.set.ensures in
-          took-now c.args.height c.get-i.result c.args.self.now c.if-height-level.self _ _ _ k (ap row w.self-is ∙ row-roll _ ∙ set_is) (ap children w.self-is ∙ children-roll _ ∙ children-roll _) (ap room w.self-is ∙ room-roll _ ∙ room-roll _))
-      | else-height-level w ↦
-          (let d = w.remove-else-height-level.ensures in
-          let k = took-below c.args.level c.args.height c.get-i.result c.args.self.now w.index_mut-else-height-level.result.now w.remove-else-height-level.new.self c.args.path.now c.if-height-eq0.false w.if-height-level.false c.get-i.ensures c.requires.formed c.requires.some c.requires.holds (search rules) d.items d.formed d.fewer in
-          took-now c.args.height c.get-i.result c.args.self.now c.if-height-level.self _ _ _ k (ap row w.self-is ∙ row-roll _) (ap children w.self-is ∙ children-roll _) (ap room w.self-is ∙ room-roll _))
-    ] in
+    let k = took t c.before in
     let m = remade c.args.height c.get-i.result c.args.self.now (roll-Node _) _ _ _ _ _ k.took (c.mend.ensures.mended (c.args.height - 1) k.took.may_lack) (row-roll _) (children-roll _) (room-kept c.args.self.now _ (c.mend.ensures.capacity ∙ k.room_is)) in
     record { items = m.items; formed = m.formed; fewer = m.fewer }

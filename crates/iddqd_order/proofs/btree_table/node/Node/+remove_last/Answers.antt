@@ -1,6 +1,6 @@
-use Rattle.iddqd_order.proofs.Names.{rules, ◌-◌, [], ◌∷◌, ◌++◌, arith, ap, ◌∙◌, sym, roll-Node, out-roll-Node}
+use Rattle.iddqd_order.proofs.Names.{rules, ℕ, set, children, ◌-◌, [], ◌∷◌, ◌++◌, arith, ap, ◌∙◌, sym, roll-Node, out-roll-Node}
 use Rattle.iddqd_order.proofs.NodeLemmas.{child-within, row-roll, children-roll}
-use Rattle.iddqd_order.proofs.RemovalLemmas.{last-of-leaf, child-before, took-last, remade, room-kept}
+use Rattle.iddqd_order.proofs.RemovalLemmas.{last-of-leaf, child-before, TookLast, took-last, remade, room-kept}
 use Rattle.iddqd_order.proofs.btree_table.node.Node.+remove_last.Goals as goal
 
 pub returns-then-height-eq0 : goal.returns-then-height-eq0
@@ -19,17 +19,17 @@ remove_last-last-requires t c =
     let five = b.1.0 in
     (omega arith, (omega arith, b.1.1))
 
-pub mend-requires : goal.mend-requires
-mend-requires t c =
+took : (t : ℕ) (c : goal.After-mend-arg-2-1 t) → TookLast c.args.height c.len-count.result c.args.self.now (set (children c.args.self.now) c.len-count.result c.remove_last-last.new.self) c.remove_last-last.result
+took t c =
     let d = c.remove_last-last.ensures in
-    let k = took-last c.args.height c.len-count.result c.args.self.now c.index_mut.result.now c.remove_last-last.new.self c.remove_last-last.result c.if-height-eq0.false c.len-count.ensures.length c.requires.formed c.requires.some (search rules) d.items d.formed d.fewer in
-    (c.args.height - 1, simp out-roll-Node k.took.may_lack)
+    took-last c.args.height c.len-count.result c.args.self.now c.index_mut.result.now c.remove_last-last.new.self c.remove_last-last.result c.if-height-eq0.false c.len-count.ensures.length c.requires.formed c.requires.some (search rules) d.items d.formed d.fewer
+
+pub mend-requires : goal.mend-requires
+mend-requires t c = (c.args.height - 1, simp out-roll-Node (took t c).took.may_lack)
 
 pub returns : goal.returns
 returns t c =
-    let d = c.remove_last-last.ensures in
-    let k = took-last c.args.height c.len-count.result c.args.self.now c.index_mut.result.now c.remove_last-last.new.self c.remove_last-last.result c.if-height-eq0.false c.len-count.ensures.length c.requires.formed c.requires.some (search rules) d.items d.formed d.fewer in
+    let k = took t c.before in
     let m = simp out-roll-Node at c.mend.ensures.mended in
-    let room_is = simp out-roll-Node at c.mend.ensures.capacity in
-    let r = remade c.args.height c.len-count.result c.args.self.now (roll-Node _) _ _ _ _ _ k.took (m (c.args.height - 1) k.took.may_lack) (row-roll _) (children-roll _) (room-kept c.args.self.now _ room_is) in
+    let r = remade c.args.height c.len-count.result c.args.self.now (roll-Node _) _ _ _ _ _ k.took (m (c.args.height - 1) k.took.may_lack) (row-roll _) (children-roll _) (room-kept c.args.self.now _ (simp out-roll-Node at c.mend.ensures.capacity)) in
     record { items = k.items ∙ ap (λ z. z ++ c.remove_last-last.result ∷ []) (sym r.items); formed = r.formed; fewer = r.fewer }

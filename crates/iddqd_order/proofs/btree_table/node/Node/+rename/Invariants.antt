@@ -6,4 +6,4 @@ abbrev pub decreases-rename : goal.decreases-rename
 decreases-rename l = l.height
 
 abbrev pub invariant-loop-i : goal.invariant-loop-i
-invariant-loop-i l = AreRenamed (remapped l.remap) (l.height - 1) l.i l.initial.self l.self
+invariant-loop-i l = AreRenamed (remapped l.remap) (l.height - 1) l.i l.fn.self l.self

@@ -1,8 +1,8 @@
 use Rattle.iddqd_order.proofs.Names.{◌≡◌, ◌<◌, ◌≤◌, ℕ, ◌+◌, ◌*◌, IsTrue, Result, length, slice_index, Descends, flat, IsFormed, CanSearch}
 use Rattle.iddqd_order.proofs.btree_table.node.Node.descend.Given as goal
 
-abbrev pub invariant-loop-full : goal.invariant-loop-full
-invariant-loop-full g l = record {
+abbrev pub invariant-loop-i : goal.invariant-loop-i
+invariant-loop-i g l = record {
   formed : IsFormed l.level l.node;
   levels : l.level ≤ 11;
   path : length l.path ≡ 12;
@@ -14,5 +14,5 @@ invariant-loop-full g l = record {
   first : IsTrue l.is_leftmost → (m : ℕ) → m ≤ l.level → slice_index l.path m ≡ 0;
 }
 
-abbrev pub decreases-loop-full : goal.decreases-loop-full
-decreases-loop-full g l = l.level
+abbrev pub decreases-loop-i : goal.decreases-loop-i
+decreases-loop-i g l = l.level

@@ -1,10 +1,15 @@
-use Rattle.iddqd_order.specs.MapBTreeTable.{order_of}
-use Rattle.iddqd_order.proofs.TableLemmas.{root_of}
-use Rattle.iddqd_order.proofs.WayLemmas.{is_contained}
+use Rattle.iddqd_order.proofs.Names.{◌↔◌, ℕ, List, Option, Some, None, refl, sym, is_some, IsTrue, IsNone, IfSome, Contains, Node, IsFormed, HoldsIndex, flat, spot, order_of}
+use Rattle.iddqd_order.proofs.IndexListLemmas.{Contains-at}
+use Rattle.iddqd_order.proofs.NodeLemmas.{spot-within}
 use Rattle.iddqd_order.proofs.btree_table.table.MapBTreeTable.contains_index.Goals as goal
 
+-- an index is found just where it is stored
+found_where : (r : Option ℕ) (h : ℕ) (n : Node) (ix : ℕ) (p : List ℕ) → IsFormed h n → IfSome r (λ l. HoldsIndex l h n p ix) → (IsNone r → Contains (flat h n) ix → ⊥) → IsTrue (is_some r) ↔ Contains (flat h n) ix
+found_where None h n ix p f there none = (λ t. absurd (cc), λ held. absurd (none refl held))
+found_where (Some l) h n ix p f there none = (λ _. Contains-at (flat h n) (spot l h n p) ix (spot-within l h n p f there.0) (sym there.1), λ _. refl)
+
 pub returns : goal.returns
+unfolding order_of
 returns c =
-    let r = root_of c.args.self.now _ _ _ c.in-Some.root c.self.view_is c.self.invariant c.in-Some.is in
     let e = c.locate.ensures in
-    is_contained c.is_some.result (order_of c.args.self.now) c.locate.result c.self.inside.height c.in-Some.root c.args.ix c.locate.new.path c.is_some.ensures r.list r.formed e.found e.there e.missing
+    rw (← c.self.view_is, c.in-Some.is, c.is_some.ensures) (found_where _ _ _ _ _ (rw c.in-Some.is at c.self.invariant.tree).0 e.there e.missing)

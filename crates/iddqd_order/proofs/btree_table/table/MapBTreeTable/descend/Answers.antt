@@ -1,24 +1,23 @@
-use Rattle.std.proofs.Common.{sym, subst, arith}
-use Rattle.iddqd_order.specs.Search.{CanSearch}
-use Rattle.iddqd_order.proofs.TableLemmas.{root_of, nowhere, EndsIn-none, EndsIn-root}
+use Rattle.iddqd_order.proofs.Names.{arith, order_of}
+use Rattle.iddqd_order.proofs.TableLemmas.{EndsIn-none, EndsIn-root}
 use Rattle.iddqd_order.proofs.btree_table.table.MapBTreeTable.descend.Goals as goal
 
 pub returns-in_default : goal.returns-in_default
-returns-in_default g c =
-    EndsIn-none g.F.FnMut (g.H.Reads.reading c.args.how.now) c.args.tie.now c.args.self.now _ _ (nowhere c.args.self.now _ _ c.first-path.result c.self.view_is c.in_default.is)
+returns-in_default g c = rw (← c.self.view_is, c.in_default.is) (EndsIn-none g.F.FnMut (g.H.Reads.reading c.args.how.now) c.args.tie.now _ _ _)
 
 pub descend-end-requires : goal.descend-end-requires
+unfolding order_of
 descend-end-requires g c =
-    let r = root_of c.args.self.now _ _ _ c.in-Some.root c.self.view_is c.self.invariant c.in-Some.is in
+    let tree = rw c.in-Some.is at c.self.invariant.tree in
     record {
-      formed = r.formed;
-      levels = r.low;
+      formed = tree.0;
+      levels = tree.2;
       path = c.first-path.ensures.length;
       first = λ l le. c.first-path.ensures.places l;
-      can_search = subst (λ xs. CanSearch g.F.FnMut xs c.args.tie.now c.args.asking.now) (sym r.list) c.requires;
+      can_search = rw (← c.self.view_is, c.in-Some.is) at c.requires;
     }
 
 pub returns : goal.returns
 returns g c =
-    let r = root_of c.args.self.now _ _ _ c.in-Some.root c.self.view_is c.self.invariant c.in-Some.is in
-    EndsIn-root g.F.FnMut (g.H.Reads.reading c.args.how.now) c.args.tie.now _ _ _ _ _ _ _ (omega arith) r c.descend-end.ensures.descends
+    rw (← c.self.view_is, c.in-Some.is)
+    (EndsIn-root g.F.FnMut (g.H.Reads.reading c.args.how.now) c.args.tie.now _ _ _ _ _ _ (omega arith) (rw c.in-Some.is at c.self.invariant.tree) c.descend-end.ensures.descends)

@@ -11,7 +11,7 @@ pub returns : goal.returns
 returns g c =
     let e = rw c.in-Err.is at c.descend-path.ensures in
     record {
-      goes = e.goes;
+      goes = e.reaches;
       full = e.full_below;
       levels = e.level;
       within = e.searches.missed;

@@ -1,6 +1,4 @@
-use Rattle.std.proofs.Common.{ℕ, Some, refl, sym, subst, eqb-true, ◌∙◌, arith, Contains}
-use Rattle.iddqd_order.specs.MapBTreeTable.{order_of}
-use Rattle.iddqd_order.specs.Search.{Askable}
+use Rattle.iddqd_order.proofs.Names.{Some, refl, sym, eqb-true, ◌∙◌, arith, Askable, order_of}
 use Rattle.iddqd_order.proofs.AskLemmas.{asks_more, asks_none}
 use Rattle.iddqd_order.proofs.IndexListLemmas.{Contains-at}
 use Rattle.iddqd_order.proofs.SearchLemmas.{met_where_stored}
@@ -11,13 +9,13 @@ returns-then-eq-clause-asked g c = asks_more g.F.FnMut _ (omega arith) (asks_non
 
 pub returns-then-eq-clause-rising : goal.returns-then-eq-clause-rising
 returns-then-eq-clause-rising g c answer s held =
-    absurd (c.stores_no_sentinel.ensures (subst (λ (ix : ℕ). Contains (order_of c.args.self.now) ix) (eqb-true _ _ (sym c.eq.ensures ∙ c.if-eq.true)) held))
+    absurd (c.stores_no_sentinel.ensures (rw (eqb-true _ _ (sym c.eq.ensures ∙ c.if-eq.true)) at held))
 
 pub returns-in-Ok-clause-there : goal.returns-in-Ok-clause-there
 unfolding order_of
 returns-in-Ok-clause-there g c =
     let e = rw c.in-Ok.is at c.descend-path.ensures in
-    (e.holds, e.searches.itself c.args.ix refl)
+    (e.reaches, e.searches.itself c.args.ix refl)
 
 pub returns-in-Ok-clause-stored : goal.returns-in-Ok-clause-stored
 returns-in-Ok-clause-stored g c is =

@@ -1,19 +1,14 @@
-use Rattle.std.proofs.Common.{subst}
-use Rattle.iddqd_order.specs.Tree.{HoldsIn}
-use Rattle.iddqd_order.proofs.TableLemmas.{root_of, way_inside}
+use Rattle.iddqd_order.proofs.Names.{◌<◌, arith, order_of}
 use Rattle.iddqd_order.proofs.btree_table.table.MapBTreeTable.index_at.Goals as goal
 
 pub unreachable-requires : goal.unreachable-requires
-unreachable-requires c =
-    let held = way_inside c.args.self.now c.self.inside.root c.self.inside.height c.args.level c.args.path.now c.self.view_is c.requires in
-    subst (λ r. HoldsIn c.args.level r c.self.inside.height c.args.path.now) c.in_default.is held
+unreachable-requires c = let none : 0 < 0 = rw (← c.self.view_is, c.in_default.is) at c.requires in absurd (omega arith)
 
 pub index_on-requires : goal.index_on-requires
 index_on-requires c =
-    let r = root_of c.args.self.now _ _ _ c.in-Some.root c.self.view_is c.self.invariant c.in-Some.is in
-    record { formed = r.formed; levels = r.low; holds = rw (r.root, r.height) at c.requires }
+    let tree = rw c.in-Some.is at c.self.invariant.tree in
+    record { formed = tree.0; levels = tree.2; holds = rw (← c.self.view_is, c.in-Some.is) at c.requires }
 
 pub returns : goal.returns
-returns c =
-    let r = root_of c.args.self.now _ _ _ c.in-Some.root c.self.view_is c.self.invariant c.in-Some.is in
-    rw (← r.list, r.root, r.height) c.index_on.ensures
+unfolding order_of
+returns c = rw (← c.self.view_is, c.in-Some.is) c.index_on.ensures
