@@ -18,12 +18,6 @@ pub search_row-requires : goal.search_row-requires
 search_row-requires g c =
     can_ask_row g.F.FnMut (g.H.Reads.reading c.args.how.now) c.args.tie.now c.loop-i.level c.loop-i.node.now c.loop-i.asking c.loop-i.invariant.formed c.loop-i.invariant.can_search
 
-pub set-requires-clause-level : goal.set-requires-clause-level
-set-requires-clause-level g c = let le = c.loop-i.invariant.levels in omega arith
-
-pub keep_or_set-requires-clause-level : goal.keep_or_set-requires-clause-level
-keep_or_set-requires-clause-level g c = let le = c.loop-i.invariant.levels in omega arith
-
 pub returns-in-Ok-clause-descends : goal.returns-in-Ok-clause-descends
 returns-in-Ok-clause-descends g c =
     let read = g.H.Reads.reading c.args.how.now in
