@@ -129,15 +129,6 @@ pub record Counts (n : Node) (full l full_below : ℕ) : Type 0 where
   pub not_full : length (row n) < 11 → full_below ≡ l
   pub is_full : 11 ≤ length (row n) → full_below ≡ full
 
--- so it is above the level below
-pub counts_above : (n : Node) (full l full_below : ℕ) → l ≢ 0 → Counts n full l full_below → l - 1 < full_below
-counts_above n full l full_below ne c =
-    let up = c.above in
-    elim (cases_lt (length (row n)) 11) [
-      | inl lt ↦ (let is = c.not_full lt in omega arith)
-      | inr ge ↦ (let is = c.is_full ge in omega arith)
-    ]
-
 -- and what it says of the node
 pub counts_here : (n : Node) (full l full_below k : ℕ) → Counts n full l full_below → (l ≤ k → k ≡ full_below) → FullBelow k l n × (l < k → k ≡ full)
 counts_here n full l full_below k c on =
@@ -233,8 +224,7 @@ module _ {F R : Type 0} (g : Mut F (ℕ × Unit {0}) R) (read : R → Ordering) 
 
   -- or at none in a leaf
   pub FindsIn-leaf : (l : ℕ) (n : Node) (i : ℕ) (a b : Asking F) → l ≡ 0 → IsFormed l n → SearchesWithin g read (row n) 4 tie a (Err i) b → FindsIn g read tie l n a None b
-  FindsIn-leaf (suc h) n i a b e f s = absurd (omega arith)
-  FindsIn-leaf zero n i a b e f s = record { end = Err i; searches = rw (flat-leaf zero n refl) s; index = refl }
+  FindsIn-leaf l n i a b e f s = record { end = Err i; searches = rw (flat-leaf l n e) (SearchesWithin-more g read tie (omega arith) s); index = refl }
 
   read-below : (l : ℕ) (n : Node) (i : ℕ) (end : Result ℕ ℕ) → l ≢ 0 → IsFormed l n → i < length (children n) → IfOk end (λ j. j < length (flat (l - 1) (child n i)))
       → index_at (flat (l - 1) (child n i)) end ≡ index_at (flat l n) (shifted (length (before i (row n) (lists (l - 1) (children n)))) end)

@@ -1,5 +1,5 @@
 -- What an insert leaves of a node.
-use Rattle.iddqd_order.proofs.Names.{IsPut, ◌≡◌, ◌≢◌, ℕ, zero, suc, ◌+◌, ◌-◌, ◌<◌, ◌≤◌, true, List, [], ◌∷◌, ◌++◌, length, set, get_or, slice_index, refl, ap, sym, ◌∙◌, subst, arith, inl, inr, All, cases_lt, insert, length-append, length-set, length-map, length-insert, get_or_default, map-set, map-append, All-set, All-take, All-drop, drop-append_seam, take-append_seam, Node, row, children, child, room, weave, before, flat, IsInner, IsFormed, Goes, place, IsFullBelow, IsCut}
+use Rattle.iddqd_order.proofs.Names.{IsChild, IsPut, ◌≡◌, ◌≢◌, ℕ, zero, suc, ◌+◌, ◌-◌, ◌<◌, ◌≤◌, true, List, [], ◌∷◌, ◌++◌, length, set, get_or, slice_index, refl, ap, sym, ◌∙◌, subst, arith, inl, inr, All, cases_lt, insert, length-append, length-set, length-map, length-insert, get_or_default, map-set, map-append, All-set, All-take, All-drop, drop-append_seam, take-append_seam, Node, row, children, child, room, weave, before, flat, IsInner, IsFormed, Goes, place, IsFullBelow, IsCut}
 use Rattle.iddqd_order.proofs.WeaveLemmas.{edited, widened, weave-append}
 use Rattle.iddqd_order.proofs.NodeLemmas.{AreChildren, GoesDown, goes-below, lists, lists-at, lists-one_more, formed-leaf, leaf-formed, flat-leaf, goes-leaf, place-leaf, formed-within, formed-inner, inner-formed, flat-inner, full-on, full-here, map-insert, All-insert}
 
@@ -68,10 +68,9 @@ put_below h old new p x i g k t d er ek rm =
     let e1 : lists (h - 1) (children new) ≡ set ls i (f k) = ap (λ z. lists (h - 1) z) ek ∙ map-set f (children old) i k in
     let e2 = edited i (row old) ls [] (f k) (place (h - 1) g p) x (omega arith) counted b.within (d.items ∙ ap (λ z. insert z (place (h - 1) g p) x) (sym b.list)) in
     let ln : length (children new) ≡ length (children old) = ap length ek ∙ length-set (children old) i k in
-    let P : Node → Type 0 = λ k. (5 ≤ length (row k)) × IsFormed (h - 1) k in
     record {
       items = rw (flat-inner h new t.inner, er, e1, flat-inner h old t.inner, b.place_is) e2;
-      formed = inner-formed h new t.inner (record { within = rw er few; one_more = rw er (omega arith); has_room = rm }) (rw ek (All-set P (children old) i k (k_least, d.formed) b.below));
+      formed = inner-formed h new t.inner (record { within = rw er few; one_more = rw er (omega arith); has_room = rm }) (rw ek (All-set (IsChild (h - 1)) (children old) i k (k_least, d.formed) b.below));
       longer = rw er (omega arith);
     }
 
@@ -91,18 +90,19 @@ put_here h old new p x i g k m u t d lt er ek rm =
     let same = length-set (children old) i k in
     let ln : length (children new) ≡ length (children old) + 1 = ap length ek ∙ length-insert (set (children old) i k) (i + 1) u (omega arith) ∙ ap (λ z. z + 1) same in
     let lr : length (row new) ≡ length (row old) + 1 = ap length er ∙ length-insert (row old) i m (omega arith) in
-    let P : Node → Type 0 = λ k. (5 ≤ length (row k)) × IsFormed (h - 1) k in
     record {
       items = rw (flat-inner h new t.inner, er, e1, flat-inner h old t.inner, b.place_is) e2;
-      formed = inner-formed h new t.inner (record { within = omega arith; one_more = omega arith; has_room = rm }) (rw ek (All-insert P (set (children old) i k) (i + 1) u (All-set P (children old) i k d.low b.below) d.high));
+      formed = inner-formed h new t.inner (record { within = omega arith; one_more = omega arith; has_room = rm }) (rw ek (All-insert (IsChild (h - 1)) (set (children old) i k) (i + 1) u (All-set (IsChild (h - 1)) (children old) i k d.low b.below) d.high));
       longer = omega arith;
     }
 
-low_within : (n i : ℕ) → (i ≤ 5 → n ≡ 5) × (5 < i → n ≡ 6) → (5 ≤ n) × (n ≤ 6)
-low_within n i f =
+-- both parts of a row that was cut have five indexes or six
+cut_sizes : {xs : List ℕ} {i x : ℕ} {low : List ℕ} {m : ℕ} {high : List ℕ} → IsCut xs i x low m high → (5 ≤ length low) × (length low ≤ 6) × (5 ≤ length high) × (length high ≤ 6)
+cut_sizes {i = i} c =
+    let sum = c.high_length in
     elim (cases_lt 5 i) [
-      | inl q ↦ let e : n ≡ 6 = f.1 q in (omega arith, omega arith)
-      | inr q ↦ let e : n ≡ 5 = f.0 q in (omega arith, omega arith)
+      | inl q ↦ let e = c.low_length.1 q in (omega arith, omega arith, omega arith, omega arith)
+      | inr q ↦ let e = c.low_length.0 q in (omega arith, omega arith, omega arith, omega arith)
     ]
 
 -- the members of a list that is put together
@@ -120,7 +120,6 @@ cut_here h old new m2 up p x i g k m u t d c ek lk rm ru =
     let b = taken h old p i g t in
     let f : Node → List ℕ = λ k. flat (h - 1) k in
     let ls : List (List ℕ) = lists (h - 1) (children old) in
-    let P : Node → Type 0 = λ k. (5 ≤ length (row k)) × IsFormed (h - 1) k in
     let one = b.node.one_more in
     let counted = lists-one_more h old t.inner t.formed in
     let here = b.here in
@@ -132,20 +131,17 @@ cut_here h old new m2 up p x i g k m u t d c ek lk rm ru =
     weave-append (row new) m2 (row up) (lists (h - 1) (children new)) (lists (h - 1) (children up)) (omega arith) in
     let e4 : weave (row new ++ m2 ∷ row up) (lists (h - 1) (children new) ++ lists (h - 1) (children up)) ≡ weave (insert (row old) i m) (insert (set ls i (f k)) (i + 1) (f u)) =
     ap (λ z. weave z (lists (h - 1) (children new) ++ lists (h - 1) (children up))) c.is ∙ ap (λ z. weave (insert (row old) i m) z) e1 in
-    let low = low_within (length (row new)) i c.low_length in
-    let low5 : 5 ≤ length (row new) = low.0 in
-    let low6 : length (row new) ≤ 6 = low.1 in
-    let sum = c.high_length in
+    let sizes = cut_sizes c in
     let same = length-set (children old) i k in
     let la = length-append (children new) (children up) in
     let ln : length (children new ++ children up) ≡ length (children old) + 1 = ap length ek ∙ length-insert (set (children old) i k) (i + 1) u (omega arith) ∙ ap (λ z. z + 1) same in
     let lx = length-append (row new) (m2 ∷ row up) in
     let lr : length (row new ++ m2 ∷ row up) ≡ length (row old) + 1 = ap length c.is ∙ length-insert (row old) i m (omega arith) in
-    let every : All P (children new ++ children up) = rw ek (All-insert P (set (children old) i k) (i + 1) u (All-set P (children old) i k d.low b.below) d.high) in
+    let every : All (IsChild (h - 1)) (children new ++ children up) = rw ek (All-insert (IsChild (h - 1)) (set (children old) i k) (i + 1) u (All-set (IsChild (h - 1)) (children old) i k d.low b.below) d.high) in
     record {
       items = rw (flat-inner h new t.inner, flat-inner h up t.inner, flat-inner h old t.inner, b.place_is) (sym e3 ∙ e4 ∙ e2);
-      low = (low5, inner-formed h new t.inner (record { within = omega arith; one_more = lk; has_room = rm }) (All-front P (children new) (children up) every));
-      high = (omega arith, inner-formed h up t.inner (record { within = omega arith; one_more = omega arith; has_room = ru }) (All-back P (children new) (children up) every));
+      low = (sizes.0, inner-formed h new t.inner (record { within = omega arith; one_more = lk; has_room = rm }) (All-front (IsChild (h - 1)) (children new) (children up) every));
+      high = (sizes.2, inner-formed h up t.inner (record { within = omega arith; one_more = omega arith; has_room = ru }) (All-back (IsChild (h - 1)) (children new) (children up) every));
     }
 
 -- the place of a path in a leaf
@@ -170,14 +166,11 @@ pub cut_leaf : (h : ℕ) (old new : Node) (m : ℕ) (up : Node) (p : List ℕ) (
     → IsCut (row old) i x (row new) m (row up) → children new ≡ children old → children up ≡ [] → Cut h old new m up p x
 cut_leaf h old new m up p i x e f g at c ek eu =
     let l = formed-leaf h old e f in
-    let low = low_within (length (row new)) i c.low_length in
-    let low5 : 5 ≤ length (row new) = low.0 in
-    let low6 : length (row new) ≤ 6 = low.1 in
-    let sum = c.high_length in
+    let sizes = cut_sizes c in
     record {
       items = rw (flat-leaf h new e, flat-leaf h up e, flat-leaf h old e, place-leaf h old p e) (c.is ∙ ap (λ z. insert (row old) z x) (at ∙ ap (slice_index p) e));
-      low = (low5, leaf-formed h new e (record { within = omega arith; childless = ek ∙ l.childless }));
-      high = (omega arith, leaf-formed h up e (record { within = omega arith; childless = eu }));
+      low = (sizes.0, leaf-formed h new e (record { within = omega arith; childless = ek ∙ l.childless }));
+      high = (sizes.2, leaf-formed h up e (record { within = omega arith; childless = eu }));
     }
 
 -- the levels below the node are full as far as they have to be

@@ -16,19 +16,17 @@ wide b (x ∷ xs) (k ∷ ks) e a =
 
 -- a tree whose root has m indexes, and each node below it five
 pub least : (m h : ℕ) (n : Node) → IsFormed h n → m ≤ length (row n) → (m + 1) * 6 ^ h ≤ length (flat h n) + 1
-least m zero n f le = rw (flat-leaf zero n refl) (omega arith)
+unfolding flat IsFormed
+least m zero n f le = omega arith
 least m (suc h) n f le =
-    let ne : suc h ≢ 0 = λ e. absurd (omega arith) in
-    let at = formed-inner (suc h) n ne f in
-    let one = at.inner.one_more in
-    let below = rw sub-one at at.below in
+    let one = f.0.one_more in
     let power : 6 ^ suc h ≡ 6 ^ h * 6 = pow-suc 6 h in
     let every : All (λ k. 6 ^ suc h ≤ length k + 1) (lists h (children n)) =
-    All-map (λ k. 6 ^ suc h ≤ length k + 1) (λ k. flat h k) (children n) (λ i d lt. let e = below i d lt in let l = least 5 h _ e.1 e.0 in omega arith) in
+    All-map (λ k. 6 ^ suc h ≤ length k + 1) (λ k. flat h k) (children n) (λ i d lt. let e = f.1 i d lt in let l = least 5 h _ e.1 e.0 in omega arith) in
     let len = length-map (children n) (λ k. flat h k) in
     let w = wide (6 ^ suc h) (row n) (lists h (children n)) (omega arith) every in
     let more : (m + 1) * 6 ^ suc h ≤ length (lists h (children n)) * 6 ^ suc h = mul-le-mul_right (6 ^ suc h) (omega arith) in
-    rw (flat-inner (suc h) n ne, sub-one) (omega arith)
+    omega arith
 
 power_pos : (h : ℕ) → 1 ≤ 6 ^ h
 power_pos h = one-le-pow h 6 (omega arith)

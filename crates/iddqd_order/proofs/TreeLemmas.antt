@@ -1,5 +1,5 @@
 -- What an insert leaves of a tree.
-use Rattle.iddqd_order.proofs.Names.{Bool, true, GoesIn, place_in, Fits, ReachesIn, spot_in, ◌≡◌, ℕ, ◌+◌, ◌-◌, ◌<◌, ◌≤◌, ◌≢◌, List, [], ◌∷◌, length, refl, ap, ◌∙◌, arith, Option, Some, None, insert, length-insert, All-cons, All-nil, Node, row, children, room, flat, IsFormed, Goes, place, in_order, IsTree}
+use Rattle.iddqd_order.proofs.Names.{Bool, true, GoesIn, place_in, Fits, ReachesIn, spot_in, ◌≡◌, ℕ, ◌+◌, ◌-◌, ◌<◌, ◌≤◌, ◌≢◌, List, [], ◌∷◌, length, refl, ap, ◌∙◌, arith, Option, Some, None, insert, length-insert, All-cons, All-nil, Node, row, children, room, flat, IsFormed, Goes, place, in_order, IsTree, IsChild}
 use Rattle.iddqd_order.proofs.NodeLemmas.{AreChildren, leaf-formed, flat-leaf, inner-formed, flat-inner, place-within, spot-within}
 use Rattle.iddqd_order.proofs.InsertLemmas.{Cut}
 use Rattle.iddqd_order.proofs.ReckoningLemmas.{twelve_levels}
@@ -30,8 +30,7 @@ new_root h old lower new m upper p x f g c er ek rm small =
     let same : h + 1 - 1 ≡ h = omega arith in
     let lr = ap length er in
     let lk = ap length ek in
-    let P : Node → Type 0 = λ k. (5 ≤ length (row k)) × IsFormed h k in
-    let below : AreChildren (h + 1 - 1) (children new) = rw (same, ek) (All-cons P lower (upper ∷ []) c.low (All-cons P upper [] c.high (All-nil P))) in
+    let below : AreChildren (h + 1 - 1) (children new) = rw (same, ek) (All-cons (IsChild h) lower (upper ∷ []) c.low (All-cons (IsChild h) upper [] c.high (All-nil (IsChild h)))) in
     let formed : IsFormed (h + 1) new = inner-formed (h + 1) new ne (record { within = omega arith; one_more = omega arith; has_room = rm }) below in
     let items : flat (h + 1) new ≡ insert (flat h old) (place h old p) x = flat-inner (h + 1) new ne ∙ rw (er, ek, same) c.items in
     let one : 1 ≤ length (row new) = omega arith in

@@ -76,7 +76,7 @@ Passes gap l zero n p = (l ≤ 0) × Fits gap (slice_index p 0) (length (row n))
 Passes gap l (suc h) n p = (l ≤ suc h) × (l ≡ suc h → Fits gap (slice_index p (suc h)) (length (row n)))
     × (l ≤ h → (slice_index p (suc h) < length (children n)) × Passes gap l h (child n (slice_index p (suc h))) p)
 
--- it goes down to level l, and there to an index, or else to a gap
+-- a path goes down to level l, and there to an index, or else to a gap
 pub record Reaches (gap : Bool) (l h : ℕ) (n : Node) (p : List ℕ) : Type 0 where
   pub passes : Passes gap l h n p
 
@@ -88,15 +88,15 @@ spot l (suc h) n p = length (before (slice_index p (suc h)) (row n) (map (λ k. 
     + (if nat_eq l (suc h) then length (flat h (child n (slice_index p (suc h))))
     else spot l h (child n (slice_index p (suc h))) p)
 
--- to an index
+-- a path goes down to level l, and there to an index
 abbrev pub Holds : ℕ → ℕ → Node → List ℕ → Type 0
 Holds l h n p = Reaches false l h n p
 
--- to the index ix
+-- and this index is ix
 abbrev pub HoldsIndex : ℕ → ℕ → Node → List ℕ → ℕ → Type 0
 HoldsIndex l h n p ix = Holds l h n p × (slice_index (flat h n) (spot l h n p) ≡ ix)
 
--- to a gap, which is one of a leaf, and its place
+-- a path goes to a gap, which is one of a leaf; the place of this gap in the whole list
 abbrev pub Goes : ℕ → Node → List ℕ → Type 0
 Goes h n p = Reaches true 0 h n p
 

@@ -26,11 +26,11 @@ abbrev pub spot_in : ℕ → Option Node → ℕ → List ℕ → ℕ
 spot_in l None h p = 0
 spot_in l (Some n) h p = spot l h n p
 
--- to an index
+-- a path goes down to level l, and there to an index
 abbrev pub HoldsIn : ℕ → Option Node → ℕ → List ℕ → Type 0
 HoldsIn l r h p = ReachesIn false l r h p
 
--- to a gap, and its place
+-- a path goes to a gap; the place of this gap
 abbrev pub GoesIn : Option Node → ℕ → List ℕ → Type 0
 GoesIn r h p = ReachesIn true 0 r h p
 

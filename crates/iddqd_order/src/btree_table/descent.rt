@@ -119,7 +119,10 @@ impl Node {
 
 // How many nodes at the lower end of a way are full, where a row is that of its node at the level, and so
 // many of them were known above.
+#[inline(always)]
 fn full_from(row: &Row, level: usize, full: usize) -> usize
+    requires { level < full }
+    ensures above { level ≤ result }
     ensures not_full { length row.now < 11 → result ≡ level }
     ensures is_full { 11 ≤ length row.now → result ≡ full }
     ensures few { length row.now ≤ 11 }

@@ -38,6 +38,3 @@ returns-in_default-clause-steady g c xs answer h s =
     let apart = sym c.eq.ensures ∙ c.if-eq.false in
     let told = (rw c.in-Some.is at s).at 0 _ At_once _ (h, eqb-false _ _ apart) _ _ c.ask-else-eq.ensures.answered in
     rw (c.in-Some.is, apart) (then-other _ (nat_cmp c.in-Some.ix c.args.at) c.in_default.not-Equal ∙ ap (λ r. ordering_then r (nat_cmp c.in-Some.ix c.args.at)) (c.read-else-eq.ensures ∙ told))
-
-pub returns-in_default-clause-itself : goal.returns-in_default-clause-itself
-returns-in_default-clause-itself g c e = absurd (c.in_default.not-Equal e)

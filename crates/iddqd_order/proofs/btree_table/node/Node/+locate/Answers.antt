@@ -18,9 +18,6 @@ pub returns-then-height-eq0-clause-missing : goal.returns-then-height-eq0-clause
 returns-then-height-eq0-clause-missing t c none =
     absent_leaf c.args.height c.args.self.now c.args.ix c.if-height-eq0.true (rw c.as_slice.ensures at (c.in_default.ensures.missing refl))
 
-pub loop-i-init : goal.loop-i-init
-loop-i-init t c = record { path = c.requires.path; above = λ m lt. refl; missing = λ k lt. absurd (omega arith) }
-
 pub set-requires-in-loop-i-clause-place : goal.set-requires-in-loop-i-clause-place
 set-requires-in-loop-i-clause-place t c =
     let inner = (formed-inner c.args.height c.args.self.now c.if-height-eq0.false c.requires.formed).inner in

@@ -1,6 +1,6 @@
 use Rattle.iddqd_order.proofs.Names.{◌≡◌, ◌+◌, ◌-◌, ◌*◌, ◌<◌, Ok, Err, length, slice_index, arith, sym, ap, ◌∙◌, subst, rules, Descends, children, child}
 use Rattle.iddqd_order.proofs.NodeLemmas.{child-formed, child-within, path-here, path-above}
-use Rattle.iddqd_order.proofs.DescentLemmas.{Counts, counts_above, Descends-hit, Descends-leaf, Descends-below, can_ask_row, can_ask_below, child_is}
+use Rattle.iddqd_order.proofs.DescentLemmas.{Counts, Descends-hit, Descends-leaf, Descends-below, can_ask_row, can_ask_below, child_is}
 use Rattle.iddqd_order.proofs.btree_table.node.Node.descend.Goals as goal
 
 pub loop-i-init : goal.loop-i-init
@@ -17,12 +17,6 @@ loop-i-init g c = record {
 pub search_row-requires : goal.search_row-requires
 search_row-requires g c =
     can_ask_row g.F.FnMut (g.H.Reads.reading c.args.how.now) c.args.tie.now c.loop-i.level c.loop-i.node.now c.loop-i.asking c.loop-i.invariant.formed c.loop-i.invariant.can_search
-
-pub set-requires-clause-level : goal.set-requires-clause-level
-set-requires-clause-level g c = let le = c.loop-i.invariant.levels in omega arith
-
-pub keep_or_set-requires-clause-level : goal.keep_or_set-requires-clause-level
-keep_or_set-requires-clause-level g c = let le = c.loop-i.invariant.levels in omega arith
 
 pub returns-in-Ok-clause-descends : goal.returns-in-Ok-clause-descends
 returns-in-Ok-clause-descends g c =
@@ -65,7 +59,7 @@ loop-i-preserved g c =
       levels = omega arith;
       path = c.keep_or_set.ensures.length;
       can_search = rw same (can_ask_below g.F.FnMut read tie l n i a b ne held.formed s held.can_search);
-      above = counts_above n c.loop-i.full l full ne counts;
+      above = (let up = c.full_from-full.ensures.above in omega arith);
       rest = λ p end new on d.
           let here : slice_index p l ≡ i = on l (omega arith) ∙ path-here c.loop-i.path path l i held.path held.levels c.keep_or_set.ensures.place in
           held.rest p end new (λ m up. on m (omega arith) ∙ path-above c.loop-i.path path l i m c.keep_or_set.ensures.place up)

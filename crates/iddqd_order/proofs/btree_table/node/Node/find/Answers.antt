@@ -3,9 +3,6 @@ use Rattle.iddqd_order.proofs.NodeLemmas.{child-formed}
 use Rattle.iddqd_order.proofs.DescentLemmas.{FindsIn-hit, FindsIn-leaf, FindsIn-below, can_ask_row, can_ask_below, child-within, child_is}
 use Rattle.iddqd_order.proofs.btree_table.node.Node.find.Goals as goal
 
-pub loop-i-init : goal.loop-i-init
-loop-i-init g c = record { formed = c.requires.formed; can_search = c.requires.can_search; rest = λ found new f. f }
-
 pub search_row-requires : goal.search_row-requires
 search_row-requires g c =
     let n = c.loop-i.node.now in

@@ -22,12 +22,6 @@ returns-in-Ok-clause-stored g c is =
     let s = (rw c.in-Ok.is at c.descend-path.ensures).searches in
     Contains-at _ _ _ s.found (sym (s.itself c.args.ix refl))
 
-pub returns-in-Ok-clause-asked : goal.returns-in-Ok-clause-asked
-returns-in-Ok-clause-asked g c = c.descend-path.ensures.searches.asked
-
-pub returns-in-Err-clause-asked : goal.returns-in-Err-clause-asked
-returns-in-Err-clause-asked g c = c.descend-path.ensures.searches.asked
-
 pub returns-in-Err-clause-rising : goal.returns-in-Err-clause-rising
 returns-in-Err-clause-rising g c answer steady held =
     let e = rw c.in-Err.is at c.descend-path.ensures in
