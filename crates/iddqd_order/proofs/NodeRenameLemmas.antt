@@ -70,17 +70,13 @@ pub record AreRenamed (f : ℕ → ℕ) (h i : ℕ) (old now : Node) : Type 0 wh
   pub rest : (j : ℕ) (d : Node) → i ≤ j → get_or (children now) j d ≡ get_or (children old) j d
 
 -- the next child is formed, and its indexes may be asked
-pub record CanRename (P : ℕ → Type 0) (h : ℕ) (g : Node) : Type 0 where
-  pub formed : IsFormed (h - 1) g
-  pub can : All P (flat (h - 1) g)
-
-pub next-can : (P : ℕ → Type 0) (f : ℕ → ℕ) (h i : ℕ) (old now g : Node) → h ≢ 0 → IsFormed h old → All P (flat h old) → AreRenamed f (h - 1) i old now → i < length (children now) → g ≡ get_or (children now) i g → CanRename P h g
+pub next-can : (P : ℕ → Type 0) (f : ℕ → ℕ) (h i : ℕ) (old now g : Node) → h ≢ 0 → IsFormed h old → All P (flat h old) → AreRenamed f (h - 1) i old now → i < length (children now) → g ≡ get_or (children now) i g
+    → IsFormed (h - 1) g × All P (flat (h - 1) g)
 next-can P f h i old now g ne fo can a lt is =
     let lists_one = lists-one_more h old ne fo in let one = (formed-inner h old ne fo).inner.one_more in
     let here : i < length (children old) = omega (arith, a.length_is) in
     let was : get_or (children old) i g ≡ g = sym (is ∙ a.rest i g (omega arith)) in
-    let list : get_or (lists (h - 1) (children old)) i [] ≡ flat (h - 1) g = get_or-map (λ k. flat (h - 1) k) (children old) i g [] here ∙ ap (λ z. flat (h - 1) z) was in
-    record {
-      formed = subst (λ z. IsFormed (h - 1) z) was ((formed-inner h old ne fo).below i g here).1;
-      can = subst (All P) list (weave-each P (row old) (lists (h - 1) (children old)) i [] lists_one (omega arith) (subst (All P) (flat-inner h old ne) can));
-    }
+    let list : get_or (lists (h - 1) (children old)) i [] ≡ flat (h - 1) g = get_or-map (λ k. flat (h - 1) k) (children old) i g [] here ∙ ap (λ z. flat (h - 1) z) was in (
+      subst (λ z. IsFormed (h - 1) z) was ((formed-inner h old ne fo).below i g here).1,
+      subst (All P) list (weave-each P (row old) (lists (h - 1) (children old)) i [] lists_one (omega arith) (subst (All P) (flat-inner h old ne) can)),
+    )

@@ -1,8 +1,7 @@
-use Rattle.iddqd_order.proofs.Names.{rules, ◌≡◌, ◌∙◌, ◌-◌, ◌<◌, ◌≤◌, length, vec_len, sym, ap, arith, take_all, roll-Node, IsCopy, children, child}
+use Rattle.iddqd_order.proofs.Names.{rules, ◌≡◌, ◌∙◌, ◌-◌, ◌<◌, ◌≤◌, length, vec_len, sym, ap, arith, take_all, roll-Node, IsCopy, get_or, children}
 use Rattle.std.proofs.lemmas.List.Elements.{all_zip_more, AllZip-get_or, length_all_zip}
 use Rattle.iddqd_order.proofs.MendLemmas.{arity-most}
 use Rattle.iddqd_order.proofs.NodeRenameLemmas.{copied}
-use Rattle.iddqd_order.proofs.DescentLemmas.{child_is, child-formed}
 use Rattle.iddqd_order.proofs.NodeLemmas.{formed-inner, formed-leaf, row-roll, children-roll, room-roll}
 use Rattle.iddqd_order.proofs.btree_table.node.Node.+copy.Goals as goal
 
@@ -14,17 +13,13 @@ returns-then-height-eq0 t c =
 
 pub copy-requires-in-loop-i : goal.copy-requires-in-loop-i
 copy-requires-in-loop-i t c =
-    let n = c.args.self.now in
-    let lt : c.loop-i.i < length (children n) = search rules in
-    let same : c.index.result.now ≡ child n c.loop-i.i = child_is n c.loop-i.i c.index.result.now lt (search rules) in
-    (omega arith, (rw same (child-formed c.args.height n c.loop-i.i c.if-height-eq0.false c.requires lt)))
+    let is : c.index.result.now ≡ get_or (children c.args.self.now) c.loop-i.i c.index.result.now = search rules in
+    (omega arith, rw is ((formed-inner c.args.height c.args.self.now c.if-height-eq0.false c.requires).below c.loop-i.i c.index.result.now (search rules)).1)
 
 pub push_reserved-requires : goal.push_reserved-requires
 push_reserved-requires t c =
-    let inner = (formed-inner c.args.height c.args.self.now c.if-height-eq0.false c.requires).inner in
-    let few = inner.within in let one = inner.one_more in
-    let lt : c.loop-i.i < length (children c.args.self.now) = search rules in
-    let room = c.loop-i.invariant.room in
+    let inner = (formed-inner c.args.height c.args.self.now c.if-height-eq0.false c.requires).inner in let few = inner.within in let one = inner.one_more in
+    let lt : c.loop-i.i < length (children c.args.self.now) = search rules in let room = c.loop-i.invariant.room in
     let count : vec_len c.loop-i.children ≡ c.loop-i.i = search (rules, c.loop-i.invariant.count) in
     omega arith
 

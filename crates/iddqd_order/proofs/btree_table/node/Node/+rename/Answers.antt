@@ -18,7 +18,7 @@ pub rename-requires : goal.rename-requires
 rename-requires t c =
     let lt : c.loop-i.i < length (children c.loop-i.self) = search (rules, out-roll-Node) in
     let k = next-can (CanRemap c.args.remap.now) (remapped c.args.remap.now) c.args.height c.loop-i.i c.args.self.now c.loop-i.self c.index_mut.result.now c.if-height-eq0.false c.requires.formed c.requires.can_remap c.loop-i.invariant lt (search rules) in
-    (omega arith, (k.formed, k.can))
+    (omega arith, k)
 
 pub returns : goal.returns
 returns t c =
