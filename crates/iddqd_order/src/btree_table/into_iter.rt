@@ -44,7 +44,8 @@ impl End {
         requires tree { IsTree root.now height }
         requires at { IsAt root.now height self.old.path self.old.row self.old.at }
         ensures at { IsAt root.now height self.new.path self.new.row self.new.at }
-        ensures next { Steps true (in_order root.now height) (place_in root.now height (to_gap self.old.path self.old.at))
+        ensures next { Steps true (in_order root.now height)
+            (place_in root.now height (to_gap self.old.path self.old.at))
             result (place_in root.now height (to_gap self.new.path self.new.at)) }
     {
         if self.at < self.row.len() {
@@ -60,7 +61,8 @@ impl End {
         requires tree { IsTree root.now height }
         requires at { IsAt root.now height self.old.path self.old.row self.old.at }
         ensures at { IsAt root.now height self.new.path self.new.row self.new.at }
-        ensures next { Steps false (in_order root.now height) (place_in root.now height (to_gap self.old.path self.old.at))
+        ensures next { Steps false (in_order root.now height)
+            (place_in root.now height (to_gap self.old.path self.old.at))
             result (place_in root.now height (to_gap self.new.path self.new.at)) }
     {
         if self.at > 0 {
@@ -75,7 +77,8 @@ impl End {
         requires tree { IsTree root.now height }
         requires at { IsAt root.now height self.old.path self.old.row self.old.at }
         ensures at { IsAt root.now height self.new.path self.new.row self.new.at }
-        ensures next { Steps ahead (in_order root.now height) (place_in root.now height (to_gap self.old.path self.old.at))
+        ensures next { Steps ahead (in_order root.now height)
+            (place_in root.now height (to_gap self.old.path self.old.at))
             result (place_in root.now height (to_gap self.new.path self.new.at)) }
     {
         let mut cursor = Cursor {
@@ -114,7 +117,8 @@ impl Model for IntoIter {
 
     ghost Value = { List ℕ };
 
-    ghost view = { λ a. between a.left (place_in a.root a.height (to_gap a.front.path a.front.at)) (in_order a.root a.height) };
+    ghost view = { λ a. between a.left
+        (place_in a.root a.height (to_gap a.front.path a.front.at)) (in_order a.root a.height) };
 
     ghost invariant = { λ a. IsTree a.root a.height
         × IsAt a.root a.height a.front.path a.front.row a.front.at
