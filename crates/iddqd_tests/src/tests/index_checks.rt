@@ -7,6 +7,7 @@ use iddqd::internal::{
 };
 use iddqd::item_index::ItemIndex;
 use std::alloc::{AllocError, Global};
+use std::fmt::Debug;
 use std::process::Abort;
 use std::test::Fail;
 
@@ -22,119 +23,88 @@ fn indexes_in(alloc: Global, indexes: &str) -> Result<Vec<ItemIndex>, AllocError
     Ok(list)
 }
 
-fn expect_hash(
+// Checks the indexes of one table, which are to be answered by these words.
+fn expect(
     rt: &impl Abort,
     alloc: Global,
-    indexes: &str,
+    table: &str,
+    mode: &str,
     expected: usize,
-    mode: ValidateCompact,
+    indexes: &str,
     want: &str,
 ) -> Result<(), AllocError> {
     let list = indexes_in(alloc, indexes)?;
-    let told = words(alloc, validate_hash_indexes(alloc, &list, expected, mode))?;
+    let compactness = if mode == "compact" {
+        COMPACT
+    } else {
+        NON_COMPACT
+    };
+    let answer = if table == "hash" {
+        validate_hash_indexes(alloc, &list, expected, compactness)
+    } else {
+        validate_ordered_indexes(alloc, &list, expected, compactness)
+    };
+    let told = words(alloc, answer)?;
     assert!(rt; told.as_str() == want, "{told} of {indexes}");
     Ok(())
 }
 
-fn expect_ordered(
-    rt: &impl Abort,
-    alloc: Global,
-    indexes: &str,
-    expected: usize,
-    mode: ValidateCompact,
-    want: &str,
-) -> Result<(), AllocError> {
-    let list = indexes_in(alloc, indexes)?;
-    let told = words(
-        alloc,
-        validate_ordered_indexes(alloc, &list, expected, mode),
-    )?;
-    assert!(rt; told.as_str() == want, "{told} of {indexes}");
-    Ok(())
+// The table and the mode, the expected length, the indexes, and the answer.
+const ROWS: &str = "\
+hash compact, 2, 0, expected length 2, was 1
+hash gaps, 3, 0 0 2, expected 3 values with no duplicates, but only found 2 values (unique values: [0, 2])
+hash gaps, 3, 0 2 0, expected 3 values with no duplicates, but only found 2 values (unique values: [0, 2])
+hash compact, 3, 0 0 2, expected value at index 1 to be 1, was 0
+hash compact, 2, 0 end, expected value at index 1 to be 1, was 4294967295
+hash gaps, 2, 0 end, ok
+hash gaps, 2, end end, expected 2 values with no duplicates, but only found 1 values (unique values: [4294967295])
+hash compact, 1, 1, expected value at index 0 to be 0, was 1
+hash compact, 3, 2 0 1, ok
+hash compact, 0, , ok
+ordered compact, 3, 0 0 2, value at index 1 should be 1, was 0
+ordered gaps, 3, 0 2 0, expected 3 values with no duplicates, but only found 2 values (unique values: [0, 2])
+ordered compact, 2, 0 end, sentinel value should not be stored in map
+ordered gaps, 2, 0 end, sentinel value should not be stored in map
+ordered gaps, 2, end end, expected 2 values with no duplicates, but only found 1 values (unique values: [4294967295])
+ordered compact, 1, 1, value at index 0 should be 0, was 1
+ordered compact, 0, end, expected length 0, was 1
+ordered gaps, 3, 5 9 2, ok
+ordered compact, 3, 2 0 1, ok";
+
+fn check_row(rt: &impl Abort, alloc: Global, row: &str) -> Result<(), AllocError> {
+    let mut parts = row.splitn(4, ", ");
+    let (Some(call), Some(expected), Some(indexes), Some(want)) = (
+        parts.next(),
+        parts.next(),
+        parts.next(),
+        parts.next(),
+    ) else {
+        panic!(rt; "a row of four parts");
+    };
+    let (table, mode) = call.split_once(" ").unwrap_or(("", ""));
+    let expected = expected.parse().unwrap_or(7777777);
+    expect(rt, alloc, table, mode, expected, indexes, want)
 }
 
-const DOUBLE_0: &str =
-    "expected 3 values with no duplicates, but only found 2 values (unique values: [0, 2])";
-
-const DOUBLE_END: &str =
-    "expected 2 values with no duplicates, but only found 1 values (unique values: [4294967295])";
-
-const STORES_SENTINEL: &str = "sentinel value should not be stored in map";
-
-fn hash_lists(rt: &impl Abort, alloc: Global) -> Result<(), AllocError> {
-    expect_hash(rt, alloc, "0", 2, COMPACT, "expected length 2, was 1")?;
-    expect_hash(rt, alloc, "0 0 2", 3, NON_COMPACT, DOUBLE_0)?;
-    expect_hash(rt, alloc, "0 2 0", 3, NON_COMPACT, DOUBLE_0)?;
-    expect_hash(
-        rt,
-        alloc,
-        "0 0 2",
-        3,
-        COMPACT,
-        "expected value at index 1 to be 1, was 0",
-    )?;
-    expect_hash(
-        rt,
-        alloc,
-        "0 end",
-        2,
-        COMPACT,
-        "expected value at index 1 to be 1, was 4294967295",
-    )?;
-    expect_hash(rt, alloc, "0 end", 2, NON_COMPACT, "ok")?;
-    expect_hash(rt, alloc, "end end", 2, NON_COMPACT, DOUBLE_END)?;
-    expect_hash(
-        rt,
-        alloc,
-        "1",
-        1,
-        COMPACT,
-        "expected value at index 0 to be 0, was 1",
-    )?;
-    expect_hash(rt, alloc, "2 0 1", 3, COMPACT, "ok")?;
-    expect_hash(rt, alloc, "", 0, COMPACT, "ok")?;
-    Ok(())
-}
-
-fn ordered_lists(rt: &impl Abort, alloc: Global) -> Result<(), AllocError> {
-    expect_ordered(
-        rt,
-        alloc,
-        "0 0 2",
-        3,
-        COMPACT,
-        "value at index 1 should be 1, was 0",
-    )?;
-    expect_ordered(rt, alloc, "0 2 0", 3, NON_COMPACT, DOUBLE_0)?;
-    expect_ordered(rt, alloc, "0 end", 2, COMPACT, STORES_SENTINEL)?;
-    expect_ordered(rt, alloc, "0 end", 2, NON_COMPACT, STORES_SENTINEL)?;
-    expect_ordered(rt, alloc, "end end", 2, NON_COMPACT, DOUBLE_END)?;
-    expect_ordered(
-        rt,
-        alloc,
-        "1",
-        1,
-        COMPACT,
-        "value at index 0 should be 0, was 1",
-    )?;
-    expect_ordered(rt, alloc, "end", 0, COMPACT, "expected length 0, was 1")?;
-    expect_ordered(rt, alloc, "5 9 2", 3, NON_COMPACT, "ok")?;
-    expect_ordered(rt, alloc, "2 0 1", 3, COMPACT, "ok")?;
+fn check_rows(rt: &impl Abort, alloc: Global) -> Result<(), AllocError> {
+    for row in ROWS.lines() {
+        check_row(rt, alloc, row)?;
+    }
     Ok(())
 }
 
 #[test]
 fn the_first_check_of_a_list_that_fails_is_told(rt: HostRuntime) -> Result<(), Fail> {
-    hash_lists(&rt, rt.alloc())?;
-    ordered_lists(&rt, rt.alloc())?;
+    check_rows(&rt, rt.alloc())?;
     Ok(())
 }
 
 #[test]
 fn a_refused_check_of_a_list_says_nothing_else(rt: HostRuntime) {
-    let _ = hash_lists(&rt, rt.alloc());
-    let _ = ordered_lists(&rt, rt.alloc());
+    let _ = check_rows(&rt, rt.alloc());
 }
+
+const STORES_SENTINEL: &str = "sentinel value should not be stored in map";
 
 // So many indexes, falling, the last of which is this one.
 fn falling(alloc: Global, len: u32, last: u32) -> Result<Vec<ItemIndex>, AllocError> {
@@ -167,6 +137,22 @@ fn a_hundred_thousand_indexes(rt: HostRuntime) -> Result<(), Fail> {
     Ok(())
 }
 
+fn expect_debug<D: Debug>(
+    rt: &impl Abort,
+    alloc: Global,
+    value: &D,
+    want: &str,
+) -> Result<(), AllocError> {
+    let told = format!(in alloc; "{value:?}")?;
+    assert!(rt; told.as_str() == want);
+    Ok(())
+}
+
+const OF_TABLE: &str = "validation error in table first: expected length 2, was 1";
+
+const TABLE_DEBUG: &str =
+    "Table { name: \"first\", error: TableValidationError(\"expected length 2, was 1\") }";
+
 #[test]
 fn errors_print(rt: HostRuntime) -> Result<(), Fail> {
     let alloc = rt.alloc();
@@ -175,13 +161,9 @@ fn errors_print(rt: HostRuntime) -> Result<(), Fail> {
         name: "first",
         error: TableValidationError::new(text),
     };
-    let told = format!(in alloc; "{error}")?;
-    assert!(rt; told.as_str() == "validation error in table first: expected length 2, was 1");
-    let told = format!(in alloc; "{error:?}")?;
-    assert!(rt;
-        told.as_str()
-            == "Table { name: \"first\", error: TableValidationError(\"expected length 2, was 1\") }"
-    );
+    expect_debug(&rt, alloc, &error, TABLE_DEBUG)?;
+    let told = words(alloc, Err(ValidateRefusal::Invalid(error)))?;
+    assert!(rt; told.as_str() == OF_TABLE);
     Ok(())
 }
 
@@ -189,13 +171,22 @@ fn errors_print(rt: HostRuntime) -> Result<(), Fail> {
 fn refusals_and_modes_print(rt: HostRuntime) -> Result<(), Fail> {
     let alloc = rt.alloc();
     let error = ValidationError::general(String::from_str(alloc, "text")?);
-    let told = format!(in alloc; "{:?}", ValidateRefusal::Invalid(error))?;
-    assert!(rt; told.as_str() == "Invalid(General(\"text\"))");
+    expect_debug(&rt, alloc, &error, "General(\"text\")")?;
+    let refusal = ValidateRefusal::Invalid(error);
+    expect_debug(&rt, alloc, &refusal, "Invalid(General(\"text\"))")?;
     let memory: ValidateRefusal<ValidationError> = ValidateRefusal::Memory(AllocError);
-    let (yes, no) = (ValidateChaos::Yes, ValidateChaos::No);
-    let told = format!(in alloc; "{memory:?} {COMPACT:?} {NON_COMPACT:?} {yes:?} {no:?}")?;
-    assert!(rt; told.as_str() == "Memory(AllocError) Compact NonCompact Yes No");
-    assert!(rt; yes != no);
+    expect_debug(&rt, alloc, &memory, "Memory(AllocError)")?;
+    Ok(())
+}
+
+#[test]
+fn modes_print(rt: HostRuntime) -> Result<(), Fail> {
+    let alloc = rt.alloc();
+    expect_debug(&rt, alloc, &COMPACT, "Compact")?;
+    expect_debug(&rt, alloc, &NON_COMPACT, "NonCompact")?;
+    expect_debug(&rt, alloc, &ValidateChaos::Yes, "Yes")?;
+    expect_debug(&rt, alloc, &ValidateChaos::No, "No")?;
+    assert!(rt; ValidateChaos::Yes != ValidateChaos::No);
     assert!(rt; COMPACT != NON_COMPACT);
     Ok(())
 }

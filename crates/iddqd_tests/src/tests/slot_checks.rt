@@ -1,15 +1,13 @@
 //! What raw slots are answered, and what a set answers of itself. Slots are told in words: `item`, or the link of a
 //! vacant one, which is `end` at the end.
 use super::{insert_at, ix, remove, with_gaps, with_items};
-use iddqd::internal::{ValidateCompact, ValidateRefusal, ValidationError, validate_slots};
+use iddqd::internal::{ValidateCompact, ValidateRefusal, validate_slots};
 use iddqd::item_index::ItemIndex;
 use iddqd::item_set::{GrowError, ItemSet, ItemSlot};
 use std::alloc::{AllocError, Global};
 use std::fmt::Display;
 use std::process::Abort;
 use std::test::Fail;
-
-const BOTH: [ValidateCompact; 2] = [ValidateCompact::NonCompact, ValidateCompact::Compact];
 
 // The words of an answer.
 pub(super) fn words<E: Display + Drop>(
@@ -42,128 +40,90 @@ fn slot_in(word: &str) -> ItemSlot<u32> {
 }
 
 // Checks the slots in one mode, which is to be answered by these words.
-fn expect_in(
-    rt: &impl Abort,
-    alloc: Global,
-    slots: &str,
-    head: &str,
-    len: u32,
-    mode: ValidateCompact,
-    want: &str,
-) -> Result<(), AllocError> {
-    let mut list = Vec::new(alloc);
-    for word in slots.split_whitespace() {
-        list.push(slot_in(word))?;
-    }
-    let answer = validate_slots(alloc, &list, index_in(head), len, mode);
-    let told = words(alloc, answer)?;
-    assert!(rt; told.as_str() == want, "{told} of {slots}");
-    Ok(())
-}
-
-// The same in both modes.
 fn expect(
     rt: &impl Abort,
     alloc: Global,
     slots: &str,
     head: &str,
     len: u32,
+    compactness: ValidateCompact,
     want: &str,
 ) -> Result<(), AllocError> {
-    for mode in BOTH {
-        expect_in(rt, alloc, slots, head, len, mode, want)?;
+    let mut list = Vec::new(alloc);
+    for word in slots.split_whitespace() {
+        list.push(slot_in(word))?;
     }
+    let answer = validate_slots(alloc, &list, index_in(head), len, compactness);
+    let told = words(alloc, answer)?;
+    assert!(rt; told.as_str() == want, "{told} of {slots}");
     Ok(())
 }
 
-const POINTS_AT_0: &str = "ItemSet free chain points at occupied slot 0";
+// The slots, the head, the length, and the answer in both modes, or where they differ in each.
+const ROWS: &str = "\
+item, end, 2, ItemSet len (2) disagrees with occupied-slot count (1)
+0 0, 9, 1, ItemSet len (1) disagrees with occupied-slot count (0)
+end, 5, 0, ItemSet free chain has out-of-range index 5
+2 item, 0, 1, ItemSet free chain has out-of-range index 2
+, 0, 0, ItemSet free chain has out-of-range index 0
+item end, 0, 1, ItemSet free chain points at occupied slot 0
+1 item, 0, 1, ItemSet free chain points at occupied slot 1
+0, 0, 0, ItemSet free chain cycles or overshoots: walked 2 vacant slots, expected 1
+1 0, 0, 0, ItemSet free chain cycles or overshoots: walked 3 vacant slots, expected 2
+end 1, 1, 0, ItemSet free chain cycles or overshoots: walked 3 vacant slots, expected 2
+end end, 0, 0, ItemSet free chain length 1 disagrees with vacant-slot count 2
+, end, 0, ok
+item item, end, 2, ok
+end item 0, 2, 1, ok; ItemSet is not compact: 2 vacant slots";
 
-const POINTS_AT_1: &str = "ItemSet free chain points at occupied slot 1";
-
-const OUT_AT_0: &str = "ItemSet free chain has out-of-range index 0";
-
-const OUT_AT_2: &str = "ItemSet free chain has out-of-range index 2";
-
-const OUT_AT_5: &str = "ItemSet free chain has out-of-range index 5";
-
-const PASSED_2: &str = "ItemSet free chain cycles or overshoots: walked 2 vacant slots, expected 1";
-
-const PASSED_3: &str = "ItemSet free chain cycles or overshoots: walked 3 vacant slots, expected 2";
-
-const SHORT: &str = "ItemSet free chain length 1 disagrees with vacant-slot count 2";
-
-// Each check that fails in both modes.
-fn checks(rt: &impl Abort, alloc: Global) -> Result<(), AllocError> {
+fn check_row(rt: &impl Abort, alloc: Global, row: &str) -> Result<(), AllocError> {
+    let mut parts = row.splitn(4, ", ");
+    let (Some(slots), Some(head), Some(len), Some(want)) = (
+        parts.next(),
+        parts.next(),
+        parts.next(),
+        parts.next(),
+    ) else {
+        panic!(rt; "a row of four parts");
+    };
+    let len = len.parse().unwrap_or(7777777);
+    let (gaps, compact) = want.split_once("; ").unwrap_or((want, want));
     expect(
         rt,
         alloc,
-        "item",
-        "end",
-        2,
-        "ItemSet len (2) disagrees with occupied-slot count (1)",
-    )?;
-    expect(
-        rt,
-        alloc,
-        "0 0",
-        "9",
-        1,
-        "ItemSet len (1) disagrees with occupied-slot count (0)",
-    )?;
-    expect(rt, alloc, "end", "5", 0, OUT_AT_5)?;
-    expect(rt, alloc, "2 item", "0", 1, OUT_AT_2)?;
-    expect(rt, alloc, "", "0", 0, OUT_AT_0)?;
-    expect(rt, alloc, "item end", "0", 1, POINTS_AT_0)?;
-    expect(rt, alloc, "1 item", "0", 1, POINTS_AT_1)?;
-    Ok(())
-}
-
-fn walks(rt: &impl Abort, alloc: Global) -> Result<(), AllocError> {
-    expect(rt, alloc, "0", "0", 0, PASSED_2)?;
-    expect(rt, alloc, "1 0", "0", 0, PASSED_3)?;
-    expect(rt, alloc, "end 1", "1", 0, PASSED_3)?;
-    expect(rt, alloc, "end end", "0", 0, SHORT)?;
-    Ok(())
-}
-
-fn modes(rt: &impl Abort, alloc: Global) -> Result<(), AllocError> {
-    let compact = ValidateCompact::Compact;
-    expect(rt, alloc, "", "end", 0, "ok")?;
-    expect(rt, alloc, "item item", "end", 2, "ok")?;
-    expect_in(
-        rt,
-        alloc,
-        "end item 0",
-        "2",
-        1,
+        slots,
+        head,
+        len,
         ValidateCompact::NonCompact,
-        "ok",
+        gaps,
     )?;
-    expect_in(
+    expect(
         rt,
         alloc,
-        "end item 0",
-        "2",
-        1,
+        slots,
+        head,
+        len,
+        ValidateCompact::Compact,
         compact,
-        "ItemSet is not compact: 2 vacant slots",
-    )?;
+    )
+}
+
+fn check_rows(rt: &impl Abort, alloc: Global) -> Result<(), AllocError> {
+    for row in ROWS.lines() {
+        check_row(rt, alloc, row)?;
+    }
     Ok(())
 }
 
 #[test]
 fn the_first_check_that_fails_is_told(rt: HostRuntime) -> Result<(), Fail> {
-    checks(&rt, rt.alloc())?;
-    walks(&rt, rt.alloc())?;
-    modes(&rt, rt.alloc())?;
+    check_rows(&rt, rt.alloc())?;
     Ok(())
 }
 
 #[test]
 fn a_refused_check_of_slots_says_nothing_else(rt: HostRuntime) {
-    let _ = checks(&rt, rt.alloc());
-    let _ = walks(&rt, rt.alloc());
-    let _ = modes(&rt, rt.alloc());
+    let _ = check_rows(&rt, rt.alloc());
 }
 
 // As many slots as this, each linked to the next one, but for this one.
