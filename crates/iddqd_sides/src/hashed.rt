@@ -5,6 +5,7 @@
 //! `insert_prehashed_unchecked`.
 ghost use Rattle.std.specs.Prelude.{◌≡◌, IsSome};
 ghost use Rattle.std.specs.FinMap as finite;
+ghost use Rattle.iddqd.specs.MapHash.{hash_one};
 ghost use Rattle.iddqd_hash.specs.HashTable.{KeepsMemory};
 ghost use Rattle.iddqd_hash.specs.{filed};
 ghost use Rattle.iddqd_sides.specs.Scan.{IsLive, IsKeyAt};
@@ -15,6 +16,18 @@ use iddqd::item_index::ItemIndex;
 use iddqd::item_set::ItemSet;
 use iddqd::map_hash::{Equivalent, MapHash};
 use iddqd_hash::hash_table::MapHashTable;
+use std::hash::{BuildHasher, Hash};
+
+/// The hash of the key of an item under a hasher's state.
+pub fn hash_of<T, E, S>(state: &S, item: &T) -> MapHash
+where
+    E: KeyOf<T>,
+    E::Key: Hash,
+    S: BuildHasher,
+    ensures { result ≡ hash_one S.BuildHasher S.Hasher.Hasher state.now (E.Key.hash_input (E.key_of item.now)) }
+{
+    MapHash::new(state.hash_one(E::key(item)))
+}
 
 /// The index under a hash whose item has a key that the query is equivalent to.
 ///

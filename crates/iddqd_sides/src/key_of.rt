@@ -5,6 +5,7 @@ ghost use Rattle.iddqd_sides.specs.Scan.{IsLive, IsKeyAt};
 use iddqd::item_index::ItemIndex;
 use iddqd::item_set::ItemSet;
 use iddqd::map_hash::Equivalent;
+use std::hash::{Hash, Hasher};
 
 /// A key of an item, named by a type that has no values.
 pub trait KeyOf<T> {
@@ -22,8 +23,18 @@ pub trait KeyOf<T> {
 ///
 /// Queries of sides are [`Equivalent`] to keys, not to references to keys, so that no lifetime stands
 /// in a bound on them.
-#[derive(Clone, Copy, Debug)]
+#[derive(Clone, Copy, Debug, PartialEq, Eq)]
 pub struct ByKey<'a, K>(pub &'a K);
+
+impl<'a, K: Hash> Hash for ByKey<'a, K> {
+    ghost hash_input = { λ q. K.hash_input q.0.now };
+
+    ghost respects_eq = { λ x y equal. K.respects_eq x.0.now y.0.now equal };
+
+    fn hash<H: Hasher>(&self, state: &mut H) {
+        self.0.hash(state);
+    }
+}
 
 impl<'a, K: Eq> Equivalent<K> for ByKey<'a, K> {
     ghost equivalent = { λ q k. K.eq q.0.now k };
