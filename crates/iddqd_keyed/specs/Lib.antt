@@ -3,6 +3,12 @@ pub mod State
 pub mod Refusal
 pub mod Machine
 pub mod Run
+pub mod TriKeys
+pub mod TriState
+pub mod TriRefusal
+pub mod Clashes
+pub mod TriTables
+pub mod TriCalls
 -- what a caller's clauses cite, from one place: of the crates below, and of this one
 pub use Rattle.iddqd.specs.Store
 pub use Rattle.iddqd.specs.Compaction

@@ -1,5 +1,5 @@
 -- For callers of either kind of table: what a store's steps leave apart, and what they do to a scan's answer.
-use Rattle.std.proofs.Common.{◌≡◌, ◌≢◌, ◌∙◌, ◌⊎◌, inl, inr, ℕ, Bool, true, false, not, Some, refl, sym, ap, subst}
+use Rattle.std.proofs.Common.{◌≡◌, ◌≢◌, ◌∙◌, ◌⊎◌, inl, inr, ◌↔◌, ℕ, Bool, true, false, not, Option, Some, None, refl, sym, ap, subst}
 use Rattle.std.proofs.lemmas.Bool.{cases_eq}
 use Rattle.iddqd.specs.Store.{Store, IsValid, get, live_count, next_index, inserted, removed, rebound}
 use Rattle.iddqd.specs.Compaction.{compacted, rank}
@@ -33,6 +33,11 @@ module _ {T : Type 0} where
         | true ↦ λ _. refl
         | false ↦ λ is. absurd (none (was, live, ap not is))
       ] refl
+
+  -- a scan answers the index exactly where it hits
+  pub scan_hits : (s : Store T) (test : T → Bool) (r : Option ℕ) → AnswersScan s test r → (ix : ℕ) → (r ≡ Some ix) ↔ IsHit s test ix
+  scan_hits s test None none ix = (λ is. absurd (cc), λ hit. absurd (none ix hit))
+  scan_hits s test (Some i) scan ix = (λ is. (scan ix).1 (cc), λ hit. ap Some (sym ((scan ix).0 hit)))
 
   -- a removal: what had no hit has none, and what had one alone has none once that is gone, or else the same
   module _ (s : Store T) (test : T → Bool) where
