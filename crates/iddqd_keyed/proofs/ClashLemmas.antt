@@ -1,15 +1,12 @@
--- At most three indexes in order: what is among them, and the removals that they lead to.
-use Rattle.std.proofs.Common.{◌≡◌, ◌≢◌, ◌⊎◌, inl, inr, ◌↔◌, ◌<◌, ◌≤◌, ℕ, List, [], ◌∷◌, length, map, filter_map, Option, Some, None, IsSome, refl, sym, ap, subst, arith}
+-- At most three indexes in order: what is among them, and what their removal leaves of a store.
+use Rattle.std.proofs.Common.{◌≡◌, ◌≢◌, ◌⊎◌, inl, inr, ◌↔◌, ◌<◌, ◌≤◌, ℕ, List, [], ◌∷◌, length, filter_map, Option, Some, None, IsSome, refl, sym, ap, subst, arith}
 use Rattle.std.specs.List.{Contains}
-use Rattle.std.specs.Option.{option_and_then}
-use Rattle.std.specs.Option.{IfSome}
 use Rattle.iddqd.specs.Store.{Store, IsValid, get, removed}
 use Rattle.iddqd.proofs.LiveLemmas.{item_at, get-removed_other}
 use Rattle.iddqd.proofs.StoreLemmas.{contains_head, contains_tail, contains_cases, contains_none, IsValid-removed}
 use Rattle.iddqd_sides.specs.Scan.{IsLive}
 use Rattle.iddqd_keyed.specs.Clashes.{IsBefore, IsOneOf, IsOneOfTwo, AreInOrder}
-use Rattle.iddqd_keyed.specs.TriState.{Maps, IsRising, removed_all, maps_without_all}
-use Rattle.iddqd_keyed.specs.TriCalls.{padded, maps_without_one, removed_one}
+use Rattle.iddqd_keyed.specs.TriState.{IsRising, removed_all}
 
 -- two steps and a third put three in order
 module _ (one two three low high low2 mid mid2 high2 : Option ℕ) (a : IsBefore low high) (a_same : (ix : ℕ) → IsOneOfTwo low high ix ↔ IsOneOfTwo one two ix) (b : IsBefore low2 mid) (b_same : (ix : ℕ) → IsOneOfTwo low2 mid ix ↔ IsOneOfTwo low three ix) (c : IsBefore mid2 high2) (c_same : (ix : ℕ) → IsOneOfTwo mid2 high2 ix ↔ IsOneOfTwo high mid ix) where
@@ -87,12 +84,6 @@ view (Some x) (Some y) None o = two_there (before_less x y o.first_second)
 view (Some x) (Some y) (Some z) o = three_there (before_less x y o.first_second) (before_less y z o.second_third)
 view None (Some y) c o = absurd (none_before y o.first_second)
 view a None (Some z) o = absurd (none_before z o.second_third)
-
-before_after : (a b c : Option ℕ) → AreInOrder a b c → IsBefore a c
-before_after a b c o z is =
-    let (y, b_is, less) = o.second_third z is in
-    let (x, a_is, below) = o.first_second y b_is in
-    (x, a_is, omega (arith, less, below))
 
 module _ (ix : ℕ) where
   contains_option : (o : Option ℕ) (rest : List (Option ℕ)) → Contains (filter_map (λ ix. ix) (o ∷ rest)) ix ↔ ((o ≡ Some ix) ⊎ Contains (filter_map (λ ix. ix) rest) ix)
@@ -194,62 +185,3 @@ module _ {T : Type 0} where
   pub IsValid-removed_all : (s : Store T) (indexes : List ℕ) → AreLiveInTurn s indexes → IsValid s → IsValid (removed_all s indexes)
   IsValid-removed_all s [] live valid = valid
   IsValid-removed_all s (x ∷ rest) live valid = IsValid-removed_all (removed s x) rest live.1 (IsValid-removed s x live.0.0 valid live.0.1)
-
-  -- what is behind an index is live, and has what it had, once that was removed
-  module _ (s : Store T) where
-    live_next : (a b : Option ℕ) → IsBefore a b → IfSome b (IsLive s) → IfSome b (IsLive (removed_one s a))
-    live_next a None before live = tt
-    live_next None (Some y) before live = live
-    live_next (Some x) (Some y) before live =
-        let less = before_less x y before in
-        let other : y ≢ x = λ same. omega (arith, same, less) in
-        rw (get-removed_other s x y other) live
-
-  -- of three in order that are live each is live when its turn comes
-  module _ (s : Store T) (a b c : Option ℕ) (o : AreInOrder a b c) (live : (ix : ℕ) → IsOneOf a b c ix → IsLive s ix) where
-    if_there : (x : Option ℕ) → ((ix : ℕ) → x ≡ Some ix → IsLive s ix) → IfSome x (IsLive s)
-    if_there None here = tt
-    if_there (Some ix) here = here ix refl
-
-    pub first_live : IfSome a (IsLive s)
-    first_live = if_there a (λ ix is. live ix (inl is))
-
-    pub second_live : IfSome b (IsLive (removed_one s a))
-    second_live = live_next s a b o.first_second (if_there b (λ ix is. live ix (inr (inl is))))
-
-    pub third_live : IfSome c (IsLive (removed_one (removed_one s a) b))
-    third_live = live_next (removed_one s a) b c o.second_third (live_next s a c (before_after a b c o) (if_there c (λ ix is. live ix (inr (inr is)))))
-
-  pub removed_all-listed : (s : Store T) (a b c : Option ℕ) → AreInOrder a b c → removed_one (removed_one (removed_one s a) b) c ≡ removed_all s (listed a b c)
-  removed_all-listed s a b c o = by_view (view a b c o)
-    where
-      by_view : {a b c : Option ℕ} → View a b c → removed_one (removed_one (removed_one s a) b) c ≡ removed_all s (listed a b c)
-      by_view none_there = refl
-      by_view one_there = refl
-      by_view (two_there less) = refl
-      by_view (three_there less more) = refl
-
-  -- what each removal gives
-  pub padded-listed : (s : Store T) (a b c : Option ℕ) → AreInOrder a b c → (option_and_then (get s) a ∷ option_and_then (get (removed_one s a)) b ∷ option_and_then (get (removed_one (removed_one s a) b)) c ∷ []) ≡ padded 3 (map (get s) (listed a b c))
-  padded-listed s a b c o = by_view (view a b c o)
-    where
-      by_view : {a b c : Option ℕ} → View a b c → (option_and_then (get s) a ∷ option_and_then (get (removed_one s a)) b ∷ option_and_then (get (removed_one (removed_one s a) b)) c ∷ []) ≡ padded 3 (map (get s) (listed a b c))
-      by_view none_there = refl
-      by_view one_there = refl
-      by_view (two_there {x} {y} less) =
-          let other : y ≢ x = λ same. omega (arith, same, less) in
-          rw (get-removed_other s x y other) refl
-      by_view (three_there {x} {y} {z} less more) =
-          let y_x : y ≢ x = λ same. omega (arith, same, less) in
-          let z_y : z ≢ y = λ same. omega (arith, same, more) in
-          let z_x : z ≢ x = λ same. omega (arith, same, less, more) in
-          rw (get-removed_other (removed s x) y z z_y, get-removed_other s x z z_x, get-removed_other s x y y_x) refl
-
-pub maps_without_all-listed : (maps : Maps) (a b c : Option ℕ) → AreInOrder a b c → maps_without_one (maps_without_one (maps_without_one maps a) b) c ≡ maps_without_all maps (listed a b c)
-maps_without_all-listed maps a b c o = by_view (view a b c o)
-  where
-    by_view : {a b c : Option ℕ} → View a b c → maps_without_one (maps_without_one (maps_without_one maps a) b) c ≡ maps_without_all maps (listed a b c)
-    by_view none_there = refl
-    by_view one_there = refl
-    by_view (two_there less) = refl
-    by_view (three_there less more) = refl

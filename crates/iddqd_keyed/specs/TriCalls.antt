@@ -1,10 +1,10 @@
 -- What each call of items with three unique keys may answer, and what state it leaves.
 use Rattle.std.specs.Prelude.{◌≡◌, ℕ, suc, zero, Bool, List, [], ◌∷◌, map, Option, Some, None, Result, Ok, Err}
-use Rattle.iddqd.specs.Store.{Store, get, next_index, IsFull, removed}
+use Rattle.iddqd.specs.Store.{Store, get, next_index, IsFull}
 use Rattle.iddqd_sides.specs.Scan.{IsHit, AnswersScan, passes_by}
 use Rattle.iddqd_sides.specs.Hashed.{StandsForOne}
 use Rattle.iddqd_keyed.specs.TriKeys.{ItemKey, TriKeys, hashing_in}
-use Rattle.iddqd_keyed.specs.TriState.{Maps, TriState, maps_without, unbound, unbound_all, bound, HasNoClash, AreClashes}
+use Rattle.iddqd_keyed.specs.TriState.{TriState, unbound, unbound_all, bound, HasNoClash, AreClashes}
 use Rattle.iddqd_keyed.specs.declared.tri_refusal.TriRefusal.{TriRefusal}
 use Rattle.iddqd_keyed.specs.declared.tri_refusal.TriRefusal.TheVariants.{Full, Memory}
 
@@ -13,16 +13,6 @@ abbrev pub padded : {T : Type 0} → ℕ → List (Option T) → List (Option T)
 padded zero items = []
 padded (suc n) [] = None ∷ padded n []
 padded (suc n) (item ∷ rest) = item ∷ padded n rest
-
--- the maps without an index, if there is one
-abbrev pub maps_without_one : Maps → Option ℕ → Maps
-maps_without_one maps None = maps
-maps_without_one maps (Some ix) = maps_without maps ix
-
--- the store after the removal of a live index, if there is one
-abbrev pub removed_one : {T : Type 0} → Store T → Option ℕ → Store T
-removed_one s None = s
-removed_one s (Some ix) = removed s ix
 
 -- The item comes back: the store is full, or else memory was refused.
 abbrev pub HasNoPlace : {T : Type 0} → Store T → T → TriRefusal T → Type 0

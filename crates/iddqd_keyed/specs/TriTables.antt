@@ -1,11 +1,11 @@
--- The three tables of items with three keys, and their room.
-use Rattle.std.specs.Prelude.{◌≡◌, ◌≤◌, ℕ, None, IsSome}
+-- The three tables of items with three keys, beside their store: what they hold, their room, and single steps.
+use Rattle.std.specs.Prelude.{◌≡◌, ◌≤◌, ℕ, Option, Some, None, IsSome}
 use Rattle.std.specs.FinMap as finite
-use Rattle.iddqd.specs.Store.{Store}
+use Rattle.iddqd.specs.Store.{Store, removed}
 use Rattle.iddqd_hash.specs.HashTable.{room}
 use Rattle.iddqd_hash.specs.MapHashTable.{filed}
 use Rattle.iddqd_keyed.specs.TriKeys.{Three}
-use Rattle.iddqd_keyed.specs.TriState.{Maps, TriState}
+use Rattle.iddqd_keyed.specs.TriState.{Maps, TriState, maps_without}
 use Rattle.iddqd_keyed.specs.declared.tri_tables.TriTables.{TriTables}
 use Rattle.iddqd_keyed.specs.declared.tri_tables.TriHashes.{TriHashes}
 
@@ -37,3 +37,13 @@ pub record AreUnfiled (maps : Maps) (ix : ℕ) : Type 0 where
   pub first : finite.get maps.first ix ≡ None
   pub second : finite.get maps.second ix ≡ None
   pub third : finite.get maps.third ix ≡ None
+
+-- the maps without an index, if there is one
+abbrev pub maps_without_one : Maps → Option ℕ → Maps
+maps_without_one maps None = maps
+maps_without_one maps (Some ix) = maps_without maps ix
+
+-- the store after the removal of a live index, if there is one
+abbrev pub removed_one : {T : Type 0} → Store T → Option ℕ → Store T
+removed_one s None = s
+removed_one s (Some ix) = removed s ix

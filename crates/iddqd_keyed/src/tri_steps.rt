@@ -9,8 +9,8 @@ ghost use Rattle.iddqd.specs.{get, room, next_index, inserted, removed, IsFull, 
 ghost use Rattle.iddqd_sides.specs.Scan.{IsLive};
 ghost use Rattle.iddqd_keyed.specs.Clashes.{AreInOrder, IsOneOf, clashing};
 ghost use Rattle.iddqd_keyed.specs.TriState.{maps_without, maps_with, maps_without_all, removed_all, HoldLive};
-ghost use Rattle.iddqd_keyed.specs.TriTables.{maps_of, hashes_of, HasRoom};
-ghost use Rattle.iddqd_keyed.specs.TriCalls.{padded, HasNoPlace, maps_without_one, removed_one};
+ghost use Rattle.iddqd_keyed.specs.TriTables.{maps_of, hashes_of, HasRoom, maps_without_one, removed_one};
+ghost use Rattle.iddqd_keyed.specs.TriCalls.{padded, HasNoPlace};
 
 use crate::clashes::Clashes;
 use crate::tri_item::TriItem;

@@ -28,6 +28,8 @@ mod sequences;
 mod silent;
 mod streams;
 mod told;
+mod tri;
+mod tri_model;
 mod watched;
 
 use std::fmt;

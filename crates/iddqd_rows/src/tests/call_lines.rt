@@ -49,8 +49,8 @@ fn verb_of(rt: &impl Abort, word: &str) -> Verb {
     }
 }
 
-// The numbers of a text of digits and spaces.
-fn numbers(rt: &impl Abort, text: &str) -> [u32; 4] {
+/// The numbers of a text of digits and spaces.
+pub(super) fn numbers(rt: &impl Abort, text: &str) -> [u32; 4] {
     let mut numbers = [0u32; 4];
     let mut place = 0usize;
     for byte in text.as_bytes() {
