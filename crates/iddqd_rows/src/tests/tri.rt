@@ -262,16 +262,12 @@ fn assert_holds(rt: &impl Abort, items: &Items, taken: u32) {
 // Inserts the next item, and tells how many there are then.
 fn insert_next(rt: &impl Abort, items: &mut Items, taken: u32) -> u32 {
     let item = nth(taken);
-    match insert(items, item) {
-        Ok((at, removed)) => {
-            holds(rt, at == ix(taken) && removed == [None, None, None], &taken);
-            taken.saturating_add(1)
-        }
-        Err(refusal) => {
-            holds(rt, refusal == TriRefusal::Memory(item), &taken);
-            taken
-        }
+    let answer = insert(items, item);
+    if answer == Ok((ix(taken), [None, None, None])) {
+        return taken.saturating_add(1);
     }
+    holds(rt, answer == Err(TriRefusal::Memory(item)), &taken);
+    taken
 }
 
 // An item over one that shares all keys, which takes its place, or else nothing changes.
