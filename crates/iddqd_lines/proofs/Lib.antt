@@ -4,3 +4,4 @@ mod SplitLemmas
 mod LineLemmas
 mod LineBufferLemmas
 mod ServeLemmas
+mod EndLemmas

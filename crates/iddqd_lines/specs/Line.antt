@@ -43,9 +43,19 @@ without_empty_last [] = []
 without_empty_last ([] ∷ []) = []
 without_empty_last (part ∷ parts) = part ∷ without_empty_last parts
 
+-- the parts but for the last
+abbrev pub without_last : List (List ℕ) → List (List ℕ)
+without_last [] = []
+without_last (part ∷ []) = []
+without_last (part ∷ parts) = part ∷ without_last parts
+
 -- the lines of an input: each ends at a line feed, and what follows the last counts where it isn't empty
 abbrev pub lines_of : List ℕ → List (List ℕ)
 lines_of bytes = without_empty_last (slice_split is_line_feed bytes)
+
+-- those that end at a line feed
+abbrev pub whole_lines_of : List ℕ → List (List ℕ)
+whole_lines_of bytes = without_last (slice_split is_line_feed bytes)
 
 -- the number that a word is: one ASCII digit or more, of a value that fits 32 bits
 abbrev pub number_of : List ℕ → Option ℕ

@@ -1,7 +1,7 @@
 -- What the program answers to a line, and to all lines of an input.
-use Rattle.std.specs.Prelude.{◌≡◌, ℕ, List, [], ◌∷◌, ◌++◌, Option, MatchOption, nat_eq, codes}
+use Rattle.std.specs.Prelude.{◌≡◌, ◌<◌, ℕ, Bool, true, false, List, [], ◌∷◌, ◌++◌, length, Option, Some, MatchOption, IfSome, Result, Ok, Err, nat_eq, codes}
 use Rattle.std.specs.Ordering.{nat_cmp}
-use Rattle.std.specs.Io.KnownBytes.{Appends}
+use Rattle.std.specs.Io.KnownBytes.{Appends, Consumes}
 use Rattle.std.specs.List.{fold}
 use Rattle.std.specs.Hash as fed
 use Rattle.std.specs.Hash.FoldHasher as folding
@@ -14,7 +14,7 @@ use Rattle.iddqd.specs.MapHash.{hash_one}
 use Rattle.iddqd_keyed.specs.Keys.{Keys}
 use Rattle.iddqd_keyed.specs.State.{State, empty_state}
 use Rattle.iddqd_keyed.specs.Machine.{Step}
-use Rattle.iddqd_lines.specs.Line.{line_feed, lines_of, command_of, index_of, text_of}
+use Rattle.iddqd_lines.specs.Line.{line_feed, lines_of, whole_lines_of, command_of, index_of, text_of}
 use Rattle.iddqd_lines.specs.declared.record.Record.{Record}
 use Rattle.iddqd_lines.specs.declared.serve.ServeFault.{ServeFault}
 use Rattle.iddqd_lines.specs.declared.serve.ServeFault.TheVariants.{Read, Write}
@@ -52,6 +52,26 @@ module _ {S : Type 0} (hash : S → ℕ → ℕ) where
       (out : List ℕ) × (next : State Record S) × (rest : List ℕ)
       × Line old line out next × (bytes ≡ out ++ line_feed ∷ rest) × Serves next lines rest new
 
+  -- from old, the line may be answered by an out of which, with its line feed, this part is a beginning, and not all
+  pub record Begins (old : State Record S) (line part : List ℕ) : Type 0 where
+    pub out : List ℕ
+    pub new : State Record S
+    pub answers : Line old line out new
+    pub rest : List ℕ
+    pub parts : out ++ line_feed ∷ [] ≡ part ++ rest
+    pub broken : 0 < length rest
+
+  -- At this end, these lines of an input are answered in whole, and this part of the answer to the next one, from the
+  -- state that they leave. At the end of the input the lines are all; at a failed read, those that ended in the bytes
+  -- that were taken off the input; at a failed write, some first ones.
+  abbrev pub EndsAt
+      : Result (Unit {0}) ServeFault → List ℕ → Option (List ℕ) → List (List ℕ) → State Record S → List ℕ → Type 0
+  EndsAt (Ok u) input left lines state part = (lines ≡ lines_of input) × (part ≡ [])
+  EndsAt (Err Read) input left lines state part =
+      (seen : List ℕ) × Consumes (Some input) left seen × (lines ≡ whole_lines_of seen) × (part ≡ [])
+  EndsAt (Err Write) input left lines state part =
+      (next : List ℕ) × (later : List (List ℕ)) × (lines_of input ≡ lines ++ next ∷ later) × Begins state next part
+
 -- how a build hasher hashes a number of 32 bits
 abbrev pub hash_u32 : {S H : Type 0} → builder.Ghosts S H → hasher.Ghosts H → S → ℕ → ℕ
 hash_u32 b h state key = hash_one b h state (fed.u32 key)
@@ -64,7 +84,22 @@ default_hash state key = folding.finish (fold folding.write (initial_hasher stat
 abbrev pub IsDefaultHasher : BuildHasherDefault FoldHasher → Type 0
 IsDefaultHasher hasher = initial_hasher hasher ≡ folding.initial
 
--- the bytes that were written since `before` are outs of all lines of the input, from the empty state on
+-- Where `serve` ends so, the bytes that were written since `before` are outs of lines of the input, from the empty state
+-- on, and then a part of the next line's: of which lines, and what part, the end tells.
+pub record ServesUntil (end : Result (Unit {0}) ServeFault) (input : List ℕ) (left before after : Option (List ℕ))
+    : Type 0 where
+  pub hasher : BuildHasherDefault FoldHasher
+  pub is_default : IsDefaultHasher hasher
+  pub lines : List (List ℕ)
+  pub bytes : List ℕ
+  pub last : State Record (BuildHasherDefault FoldHasher)
+  pub serves : Serves default_hash (empty_state hasher) lines bytes last
+  pub part : List ℕ
+  pub written : Appends before after (bytes ++ part)
+  pub ends : EndsAt default_hash end input left lines last part
+
+-- At the end of the input this is: the bytes that were written since `before` are outs of all lines of the input, from
+-- the empty state on.
 pub record ServesAll (input : List ℕ) (before after : Option (List ℕ)) : Type 0 where
   pub hasher : BuildHasherDefault FoldHasher
   pub is_default : IsDefaultHasher hasher
@@ -72,6 +107,18 @@ pub record ServesAll (input : List ℕ) (before after : Option (List ℕ)) : Typ
   pub last : State Record (BuildHasherDefault FoldHasher)
   pub serves : Serves default_hash (empty_state hasher) (lines_of input) bytes last
   pub written : Appends before after bytes
+
+-- the most reads of one input
+abbrev pub most_reads : ℕ
+most_reads = 18446744073709551615
+
+-- At the end of the input neither side has failed. At a fault that side alone has, but that a source of as many bytes as
+-- the most reads, or more, need not have failed.
+abbrev pub FailsAt : Result (Unit {0}) ServeFault → Option (List ℕ) → Bool → Bool → Type 0
+FailsAt (Ok u) left reading writing = (reading ≡ false) × (writing ≡ false)
+FailsAt (Err Read) left reading writing =
+    IfSome left (λ input. length input < most_reads → reading ≡ true) × (writing ≡ false)
+FailsAt (Err Write) left reading writing = (reading ≡ false) × (writing ≡ true)
 
 -- the words of a fault
 abbrev pub fault_text : ServeFault → List ℕ

@@ -1,18 +1,13 @@
 -- What the program has written, and what waits in its block of replies.
-use Rattle.std.specs.Prelude.{◌≡◌, ◌++◌, ◌∷◌, ℕ, List, Option, Result, OnOk}
-use Rattle.std.specs.Option.{option_map}
+use Rattle.std.specs.Prelude.{◌≡◌, ◌<◌, ◌++◌, ◌∷◌, ℕ, List, length, Result, OnOk, OnErr}
 use Rattle.std.specs.Fmt.{decimal}
 use Rattle.std.specs.Io.KnownBytes.{Appends}
 use Rattle.iddqd_lines.specs.Line.{space, name_or_dash}
 use Rattle.iddqd_lines.specs.Stream.{FailsOnErr}
 use Rattle.iddqd_lines.specs.declared.sink.Sink as sink
 
--- the bytes written, where they are told, and then those that wait
-abbrev pub sent_bytes : Option (List ℕ) → List ℕ → Option (List ℕ)
-sent_bytes written waiting = option_map (λ bytes. bytes ++ waiting) written
-
--- A text was put behind the bytes that waited. A beginning of both was written, and the others wait where all
--- went well.
+-- A text was put behind the bytes that waited. A beginning of both was written. The others wait where all went well,
+-- and there are some where a write failed.
 module _ {O E : Type 0} (g : sink.Ghosts O) where
   pub record Sends (old : O) (waited text : List ℕ) (result : Result (Unit {0}) E) (new : O) (waits : List ℕ)
       : Type 0 where
@@ -21,6 +16,7 @@ module _ {O E : Type 0} (g : sink.Ghosts O) where
     pub parts : waited ++ text ≡ out ++ others
     pub written : Appends (g.written old) (g.written new) out
     pub rest : OnOk result (waits ≡ others)
+    pub lost : OnErr result (0 < length others)
     pub failed : FailsOnErr (g.has_failed old) result (g.has_failed new)
 
 -- an index with a space before it

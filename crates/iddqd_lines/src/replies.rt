@@ -75,8 +75,8 @@ impl Replies {
         Ok(())
     }
 
-    /// Makes room for one more reply, by writing those that wait where there is none.
-    pub(crate) fn make_room<O: Sink>(&mut self, output: &mut O) -> Result<(), ()>
+    // Makes room for one more reply, by writing those that wait where there is none.
+    fn make_room<O: Sink>(&mut self, output: &mut O) -> Result<(), ()>
         ensures room { OnOk result (length self.new + MAX_REPLY ≤ BLOCK) }
         ensures sends { Sends O.Sink output.old self.old [] result output.new self.new }
     {
@@ -87,7 +87,7 @@ impl Replies {
     }
 
     /// Appends the reply's line, over the items as the command left them; `named` is the index that an
-    /// overwrite named. Of a long list, it writes what waits as often as there is no more room.
+    /// overwrite named. It writes what waits where there is no room, within a long list too.
     pub(crate) fn put_reply<S: BuildHasher, O: Sink>(
         &mut self,
         items: &KeyedItems<Record, S>,
@@ -95,10 +95,10 @@ impl Replies {
         reply: &Reply<Record>,
         output: &mut O,
     ) -> Result<(), ()>
-        requires { length self.old + MAX_REPLY ≤ BLOCK }
         ensures { let text = text_of items.now.store named reply.now in
             Sends O.Sink output.old self.old (text ++ line_feed ∷ []) result output.new self.new }
     {
+        self.make_room(output)?;
         self.put_words(items, named, reply, output)?;
         self.put(LINE_FEED);
         Ok(())
@@ -191,12 +191,13 @@ impl Replies {
         self.make_room(output)
     }
 
-    /// Appends the line that answers what is no command.
-    pub(crate) fn put_bad_line(&mut self)
-        requires { length self.old + MAX_REPLY ≤ BLOCK }
-        ensures { self.new ≡ self.old ++ (codes "bad line" ++ line_feed ∷ []) }
+    /// Appends the line that answers what is no command. It writes what waits where there is no room.
+    pub(crate) fn put_bad_line<O: Sink>(&mut self, output: &mut O) -> Result<(), ()>
+        ensures { Sends O.Sink output.old self.old (codes "bad line" ++ line_feed ∷ []) result output.new self.new }
     {
+        self.make_room(output)?;
         self.put_bytes(b"bad line\n");
+        Ok(())
     }
 
     // The index of a new item.

@@ -7,12 +7,10 @@
 //! Replies are written where the block has no room for one more, before each read, and at the end: so a
 //! person who types sees each answer at once, and a pipe gets large writes. Of a line that goes on 129
 //! bytes are kept, one more than a line may have, so that a longer one is seen to be longer.
-ghost use Rattle.std.specs.Prelude.{◌≡◌, ◌++◌, [], List, ℕ, take, OnOk, IfSome, false};
-ghost use Rattle.std.specs.Io.{ReadsAtMost};
-ghost use Rattle.std.specs.Io.KnownBytes.{ReadConsumes};
-ghost use Rattle.iddqd_lines.specs.Program.{hash_u32, ServesAll};
-ghost use Rattle.iddqd_lines.specs.Replies.{Sends};
-ghost use Rattle.iddqd_lines.specs.Serve.{moment, flushed_moment, IsKept, Obeys, Feeds, Finishes};
+ghost use Rattle.std.specs.Prelude.{◌≡◌, ◌∷◌, ◌++◌, [], List, ℕ, take, OnOk, IfSome, false};
+ghost use Rattle.iddqd_lines.specs.Line.{lines_of};
+ghost use Rattle.iddqd_lines.specs.Program.{hash_u32, ServesUntil, FailsAt};
+ghost use Rattle.iddqd_lines.specs.Serve.{moment, IsKept, Obeys, Feeds};
 ghost use Rattle.iddqd_lines.specs.Stream.{FailsOnErr};
 
 use crate::line::{LINE_FEED, named_index, parse};
@@ -82,70 +80,53 @@ pub fn serve<I: Source, O: Sink>(
     requires reads { I.has_failed input.old ≡ false }
     requires writes { O.has_failed output.old ≡ false }
 
-    // Where source and sink tell their bytes, each line has its reply.
-    ensures serves { OnOk result
-        (IfSome (I.left input.old) (λ bytes. ServesAll bytes (O.written output.old) (O.written output.new))) }
+    // Where source and sink tell their bytes, each line has its reply, up to the end or the fault.
+    ensures serves { IfSome (I.left input.old)
+        (λ bytes. ServesUntil result bytes (I.left input.new) (O.written output.old) (O.written output.new)) }
 
-    // Neither has failed where all went well.
-    ensures unbroken { OnOk result ((I.has_failed input.new ≡ false) × (O.has_failed output.new ≡ false)) }
+    // Neither has failed where all went well, and a fault comes only from the side that has.
+    ensures faults { FailsAt result (I.left input.old) (I.has_failed input.new) (O.has_failed output.new) }
 {
     let mut items = KeyedItems::new(alloc, DefaultHashBuilder::default());
     let mut partial = LineBuffer::new();
     let mut replies = Replies::new();
     let mut block = [0; BLOCK];
     'reads: for _ in 0..u64::MAX {
-        flush(&mut replies, output)?;
-        let count = read(input, &mut block)?;
+        let Ok(()) = replies.flush(output) else {
+            return Err(ServeFault::Write);
+        };
+        let Ok(count) = input.read(&mut block) else {
+            return Err(ServeFault::Read);
+        };
         if count == 0 {
-            return finish(&mut items, partial.as_slice(), &mut replies, output);
+            let Ok(()) = finish(&mut items, partial.as_slice(), &mut replies, output) else {
+                return Err(ServeFault::Write);
+            };
+            return Ok(());
         }
-        feed(
-            &mut items,
-            &mut partial,
-            &block[..count],
-            &mut replies,
-            output,
-        )?;
+        let bytes = &block[..count];
+        let Ok(()) = feed(&mut items, &mut partial, bytes, &mut replies, output) else {
+            return Err(ServeFault::Write);
+        };
     }
-    flush(&mut replies, output)?;
-    Err(ServeFault::Read)
-}
-
-// Takes bytes off the input.
-fn read<I: Source>(input: &mut I, block: &mut [u8]) -> Result<usize, ServeFault>
-    ensures bound { ReadsAtMost result block.new }
-    ensures bytes { ReadConsumes (I.left input.old) (I.left input.new) result block.new }
-    ensures failed { FailsOnErr (I.has_failed input.old) result (I.has_failed input.new) }
-{
-    match input.read(block) {
-        Ok(count) => Ok(count),
-        Err(()) => Err(ServeFault::Read),
-    }
-}
-
-// Writes all replies that wait.
-fn flush<O: Sink>(replies: &mut Replies, output: &mut O) -> Result<(), ServeFault>
-    ensures none_waits { OnOk result (replies.new ≡ []) }
-    ensures sends { Sends O.Sink output.old replies.old [] result output.new replies.new }
-{
     match replies.flush(output) {
-        Ok(()) => Ok(()),
+        Ok(()) => Err(ServeFault::Read),
         Err(()) => Err(ServeFault::Write),
     }
 }
 
-// Obeys the lines that these bytes end, and keeps what they begin.
+// Obeys the lines that these bytes end, and keeps what they begin. Of a failed write `()` tells.
 fn feed<S: BuildHasher, O: Sink>(
     items: &mut KeyedItems<Record, S>,
     partial: &mut LineBuffer,
     bytes: &[u8],
     replies: &mut Replies,
     output: &mut O,
-) -> Result<(), ServeFault>
+) -> Result<(), ()>
     ensures feeds { let hash = hash_u32 S.BuildHasher S.Hasher.Hasher in
-        let old = moment items.old (O.written output.old) replies.old in
-        let new = moment items.new (O.written output.new) replies.new in
-        OnOk result ((line : List ℕ) → IsKept partial.old line → Feeds hash old line bytes.now new partial.new) }
+        let old = moment items.old output.old replies.old in
+        let new = moment items.new output.new replies.new in
+        (line : List ℕ) → IsKept partial.old line → Feeds hash O.Sink old line bytes.now result new partial.new }
     ensures failed { FailsOnErr (O.has_failed output.old) result (O.has_failed output.new) }
 {
     let mut rest = bytes;
@@ -164,11 +145,11 @@ fn end_line<S: BuildHasher, O: Sink>(
     end: &[u8],
     replies: &mut Replies,
     output: &mut O,
-) -> Result<(), ServeFault>
+) -> Result<(), ()>
     ensures obeys { let hash = hash_u32 S.BuildHasher S.Hasher.Hasher in
-        let old = moment items.old (O.written output.old) replies.old in
-        let new = moment items.new (O.written output.new) replies.new in
-        OnOk result ((line : List ℕ) → partial.old ≡ take KEPT line → Obeys hash old (line ++ end.now) new) }
+        let old = moment items.old output.old replies.old in
+        let new = moment items.new output.new replies.new in
+        (line : List ℕ) → partial.old ≡ take KEPT line → Obeys hash O.Sink old ((line ++ end.now) ∷ []) result new }
     ensures forgets { OnOk result (partial.new ≡ []) }
     ensures failed { FailsOnErr (O.has_failed output.old) result (O.has_failed output.new) }
 {
@@ -187,18 +168,19 @@ fn finish<S: BuildHasher, O: Sink>(
     partial: &[u8],
     replies: &mut Replies,
     output: &mut O,
-) -> Result<(), ServeFault>
-    ensures finishes { let hash = hash_u32 S.BuildHasher S.Hasher.Hasher in
-        let old = moment items.old (O.written output.old) replies.old in
-        let new = flushed_moment items.new (O.written output.new) in
-        OnOk result ((line : List ℕ) → IsKept partial.now line → Finishes hash old line new) }
+) -> Result<(), ()>
+    ensures obeys { let hash = hash_u32 S.BuildHasher S.Hasher.Hasher in
+        let old = moment items.old output.old replies.old in
+        let new = moment items.new output.new replies.new in
+        (line : List ℕ) → IsKept partial.now line → Obeys hash O.Sink old (lines_of line) result new }
+    ensures none_waits { OnOk result (replies.new ≡ []) }
     ensures failed { FailsOnErr (O.has_failed output.old) result (O.has_failed output.new) }
 {
     if partial.is_empty() {
-        return flush(replies, output);
+        return replies.flush(output);
     }
     obey(items, partial, replies, output)?;
-    flush(replies, output)
+    replies.flush(output)
 }
 
 // Answers a line. Of a longer line than a command's, what stands behind the bytes that are kept may be
@@ -208,24 +190,17 @@ fn obey<S: BuildHasher, O: Sink>(
     line: &[u8],
     replies: &mut Replies,
     output: &mut O,
-) -> Result<(), ServeFault>
+) -> Result<(), ()>
     ensures obeys { let hash = hash_u32 S.BuildHasher S.Hasher.Hasher in
-        let old = moment items.old (O.written output.old) replies.old in
-        let new = moment items.new (O.written output.new) replies.new in
-        OnOk result ((whole : List ℕ) → take KEPT line.now ≡ take KEPT whole → Obeys hash old whole new) }
+        let old = moment items.old output.old replies.old in
+        let new = moment items.new output.new replies.new in
+        (whole : List ℕ) → take KEPT line.now ≡ take KEPT whole → Obeys hash O.Sink old (whole ∷ []) result new }
     ensures failed { FailsOnErr (O.has_failed output.old) result (O.has_failed output.new) }
 {
-    let Ok(()) = replies.make_room(output) else {
-        return Err(ServeFault::Write);
-    };
     let Some(command) = parse(line) else {
-        replies.put_bad_line();
-        return Ok(());
+        return replies.put_bad_line(output);
     };
     let named = named_index(&command);
     let reply = items.step(command);
-    match replies.put_reply(items, named, &reply, output) {
-        Ok(()) => Ok(()),
-        Err(()) => Err(ServeFault::Write),
-    }
+    replies.put_reply(items, named, &reply, output)
 }

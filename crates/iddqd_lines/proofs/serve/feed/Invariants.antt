@@ -1,4 +1,4 @@
-use Rattle.std.proofs.Common.{◌≡◌, ◌++◌, List, ℕ, length}
+use Rattle.std.proofs.Common.{◌≡◌, ◌++◌, List, ℕ, Ok, length}
 use Rattle.iddqd_lines.specs.Program.{hash_u32}
 use Rattle.iddqd_lines.specs.Serve.{moment, IsKept, Feeds}
 use Rattle.iddqd_lines.proofs.serve.feed.Given as goal
@@ -10,9 +10,9 @@ invariant-loop-end g l = record {
     seen : List ℕ;
     seen_and_rest : l.fn.bytes ≡ seen ++ l.rest;
     feeds :
-        let old = moment l.fn.items (g.O.Sink.written l.fn.output) l.fn.replies in
-        let now = moment l.items (g.O.Sink.written l.output) l.replies in
-        Feeds (hash_u32 g.S.BuildHasher g.S.Hasher.Hasher) old line seen now l.partial;
+        let old = moment l.fn.items l.fn.output l.fn.replies in
+        let now = moment l.items l.output l.replies in
+        Feeds (hash_u32 g.S.BuildHasher g.S.Hasher.Hasher) g.O.Sink old line seen (Ok tt) now l.partial;
   };
   writing : g.O.Sink.has_failed l.output ≡ g.O.Sink.has_failed l.fn.output;
 }

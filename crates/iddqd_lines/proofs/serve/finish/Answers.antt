@@ -1,17 +1,18 @@
 use Rattle.std.proofs.Common.{sym, ◌∙◌}
-use Rattle.std.proofs.lemmas.Result.{on_ok_weaker}
-use Rattle.iddqd_lines.proofs.ByteLemmas.{Sends-flushed}
-use Rattle.iddqd_lines.proofs.ServeLemmas.{Finishes-none, Finishes-some}
+use Rattle.iddqd_lines.proofs.ServeLemmas.{Obeys-flush, Obeys-fails, Obeys-unbegun, Obeys-begun}
 use Rattle.iddqd_lines.proofs.serve.finish.Goals as goal
 
-pub returns-then-is_empty-clause-finishes : goal.returns-then-is_empty-clause-finishes
-returns-then-is_empty-clause-finishes g c =
-    on_ok_weaker c.flush.result
-    (λ flushed line. Finishes-none _ _ _ c.args.partial.now line (sym c.is_empty.ensures ∙ c.if-is_empty.true) flushed)
-    (Sends-flushed g.O.Sink _ _ _ _ _ c.flush.ensures.sends c.flush.ensures.none_waits)
+pub returns-then-is_empty-clause-obeys : goal.returns-then-is_empty-clause-obeys
+returns-then-is_empty-clause-obeys g c = λ line keeps.
+    Obeys-unbegun _ g.O.Sink _ _ _ c.flush.result c.args.partial.now line (sym c.is_empty.ensures ∙ c.if-is_empty.true) c.flush.ensures.sends keeps
 
-pub returns-clause-finishes : goal.returns-clause-finishes
-returns-clause-finishes g c =
-    on_ok_weaker c.flush-2.result
-    (λ flushed line. Finishes-some _ _ _ _ c.args.partial.now line (sym c.is_empty.ensures ∙ c.if-is_empty.false) c.in_ok-obey.ensures.obeys flushed)
-    (Sends-flushed g.O.Sink _ _ _ _ _ c.flush-2.ensures.sends c.flush-2.ensures.none_waits)
+pub returns-in_err-obey-clause-obeys : goal.returns-in_err-obey-clause-obeys
+returns-in_err-obey-clause-obeys g c = λ line keeps.
+    Obeys-fails _ g.O.Sink _ _ _ _ c.from_residual.result c.from_residual.ensures.0
+    (Obeys-begun _ g.O.Sink _ _ _ c.args.partial.now line (sym c.is_empty.ensures ∙ c.if-is_empty.false) c.in_err-obey.ensures.obeys keeps)
+
+pub returns-clause-obeys : goal.returns-clause-obeys
+returns-clause-obeys g c = λ line keeps.
+    Obeys-flush _ g.O.Sink _ _ _ _ _ c.flush-2.result
+    (Obeys-begun _ g.O.Sink _ _ _ c.args.partial.now line (sym c.is_empty.ensures ∙ c.if-is_empty.false) c.in_ok-obey.ensures.obeys keeps)
+    c.flush-2.ensures.sends

@@ -1,7 +1,7 @@
-use Rattle.std.proofs.Common.{◌≡◌, false, IfSome}
+use Rattle.std.proofs.Common.{◌≡◌, [], false, IfSome}
 use Rattle.iddqd_keyed.specs.State.{empty_state}
 use Rattle.iddqd_lines.specs.Program.{default_hash}
-use Rattle.iddqd_lines.specs.Serve.{moment, flushed_moment}
+use Rattle.iddqd_lines.specs.Serve.{moment}
 use Rattle.iddqd_lines.proofs.ServeLemmas.{Reads}
 use Rattle.iddqd_lines.proofs.serve.serve.Given as goal
 
@@ -9,9 +9,10 @@ use Rattle.iddqd_lines.proofs.serve.serve.Given as goal
 abbrev pub invariant-reads : goal.invariant-reads
 invariant-reads g l = record {
   reads :
-      let old = flushed_moment (empty_state l.initial.items.hasher) (g.O.Sink.written l.fn.output) in
-      let now = moment l.items (g.O.Sink.written l.output) l.replies in
-      IfSome (g.I.Source.left l.fn.input) (λ bytes. Reads default_hash old bytes (g.I.Source.left l.input) now l.partial);
+      let old = moment (empty_state l.initial.items.hasher) l.fn.output [] in
+      let now = moment l.items l.output l.replies in
+      let left = g.I.Source.left in
+      IfSome (left l.fn.input) (λ bytes. Reads default_hash g.O.Sink old bytes (left l.input) l.counter now l.partial);
   reading : g.I.Source.has_failed l.input ≡ false;
   writing : g.O.Sink.has_failed l.output ≡ false;
 }
