@@ -10,6 +10,7 @@ mod compaction;
 mod comparisons;
 mod counted;
 mod driver;
+mod each_fault;
 mod faults;
 mod limits;
 mod lines;

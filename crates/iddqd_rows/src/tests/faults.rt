@@ -1,7 +1,7 @@
 //! Sources and sinks that fail.
 use super::holds;
 use super::long_lines::{long_walk, repeated};
-use super::streams::{Served, Streams, serve_in_steps};
+use super::streams::{Streams, serve_in_steps};
 use iddqd_lines::serve::ServeFault;
 use iddqd_lines::sink::{Sink, WriteSink};
 use iddqd_lines::source::{ReadSource, Source};
@@ -34,8 +34,8 @@ fn assert_stops(rt: &impl Abort, alloc: Global, input: &str, room: usize, want: 
             let mut streams = Streams::whole(input.as_bytes(), step);
             streams.room = room;
             streams.room_later = room_later;
-            let Served { told, replies, .. } = serve_in_steps(alloc, streams);
-            let is_right = told == Err(ServeFault::Write) && replies.as_slice() == want.as_bytes();
+            let served = serve_in_steps(alloc, streams);
+            let is_right = served.is(Err(ServeFault::Write), want.as_bytes());
             holds(rt, is_right, &(room, room_later, step));
         }
     }

@@ -7,8 +7,8 @@ use iddqd_lines::source::Source;
 use std::alloc::Global;
 use std::cell::Cell;
 
-// How many bytes end a line.
-fn count_lines(bytes: &[u8]) -> u32 {
+/// How many bytes end a line.
+pub(super) fn count_lines(bytes: &[u8]) -> u32 {
     let mut lines = 0u32;
     for byte in bytes {
         if *byte == b'\n' {
@@ -18,13 +18,14 @@ fn count_lines(bytes: &[u8]) -> u32 {
     lines
 }
 
-// The whole lines that the source has given and the sink has got, and how many reads came too early:
-// when a reply to a line given before was still missing.
+// The whole lines that the source has given and the sink has got. How many reads came too early: when a
+// reply to a line given before was still missing. How many calls came after a call of that side had failed.
 #[derive(Drop)]
 struct Watch {
     given: Cell<u32>,
     got: Cell<u32>,
     early: Cell<u32>,
+    late: Cell<u32>,
 }
 
 impl Watch {
@@ -33,6 +34,13 @@ impl Watch {
             given: Cell::new(0),
             got: Cell::new(0),
             early: Cell::new(0),
+            late: Cell::new(0),
+        }
+    }
+
+    fn call(&self, has_failed: bool) {
+        if has_failed {
+            self.late.set(self.late.get().saturating_add(1));
         }
     }
 
@@ -54,12 +62,13 @@ impl Watch {
 }
 
 // Gives at most `step` bytes a read. At the end of `rest` it fails, where there is something `later`,
-// and then goes on with that.
+// and then goes on with that. It fails after so many reads, too, and goes on.
 #[derive(Drop)]
 struct StepSource<'a> {
     rest: &'a [u8],
     later: Option<&'a [u8]>,
     step: usize,
+    reads: usize,
     failed: bool,
     watch: &'a Watch,
 }
@@ -70,7 +79,14 @@ impl Source for StepSource<'_> {
     ghost has_failed = { λ s. s.failed };
 
     fn read(&mut self, buf: &mut [u8]) -> Result<usize, ()> {
+        self.watch.call(self.failed);
         self.watch.look();
+        let Some(reads) = self.reads.checked_sub(1) else {
+            self.reads = usize::MAX;
+            self.failed = true;
+            return Err(());
+        };
+        self.reads = reads;
         if self.rest.is_empty()
             && let Some(later) = self.later
         {
@@ -93,11 +109,12 @@ impl Source for StepSource<'_> {
 }
 
 // Takes at most `step` bytes a write. Once it has taken as many as it has room for it fails, and then
-// it has room for some `later`.
+// it has room for some `later`. It fails after so many writes, too, and goes on.
 #[derive(Drop)]
 struct StepSink<'a> {
     taken: Vec<u8>,
     step: usize,
+    writes: usize,
     room: usize,
     later: usize,
     failed: bool,
@@ -110,6 +127,13 @@ impl Sink for StepSink<'_> {
     ghost has_failed = { λ s. s.failed };
 
     fn write(&mut self, bytes: &[u8]) -> Result<usize, ()> {
+        self.watch.call(self.failed);
+        let Some(writes) = self.writes.checked_sub(1) else {
+            self.writes = usize::MAX;
+            self.failed = true;
+            return Err(());
+        };
+        self.writes = writes;
         let count = bytes.len().min(self.step).min(self.room);
         let refused = count == 0 && !bytes.is_empty();
         if refused || self.taken.extend_from_slice(&bytes[..count]).is_err() {
@@ -127,13 +151,17 @@ impl Sink for StepSink<'_> {
     }
 }
 
-/// How source and sink go: at most `step` bytes a call. The source fails at the end of `input`, where
-/// there is something later. The sink fails where its room ends, and has some later.
+/// How source and sink go: at most so many bytes a call, and each fails once after so many calls. The source
+/// fails at the end of `input`, too, where there is something later. The sink fails where its room ends, too,
+/// and has some later.
 #[derive(Clone, Copy)]
 pub(super) struct Streams<'a> {
     pub(super) input: &'a [u8],
     pub(super) input_later: Option<&'a [u8]>,
-    pub(super) step: usize,
+    pub(super) read_step: usize,
+    pub(super) write_step: usize,
+    pub(super) reads: usize,
+    pub(super) writes: usize,
     pub(super) room: usize,
     pub(super) room_later: usize,
 }
@@ -144,25 +172,47 @@ impl Streams<'_> {
         Streams {
             input,
             input_later: None,
-            step,
+            read_step: step,
+            write_step: step,
+            reads: usize::MAX,
+            writes: usize::MAX,
             room: usize::MAX,
             room_later: 0,
         }
     }
 }
 
-/// What `serve` answered and wrote, and how many reads came before a reply to a line that was given.
+/// What `serve` answered and wrote, how many whole lines it was given, how many reads came before a reply to
+/// one of them, and how many calls after a failed one.
 #[derive(Drop)]
 pub(super) struct Served {
     pub(super) told: Result<(), ServeFault>,
     pub(super) replies: Vec<u8>,
+    pub(super) given: u32,
     pub(super) early: u32,
+    pub(super) late: u32,
 }
 
 impl Served {
-    /// Whether it answered and wrote so, and no read came too early.
+    /// Whether it answered and wrote so, and no read came too early and no call too late.
     pub(super) fn is(&self, told: Result<(), ServeFault>, replies: &[u8]) -> bool {
-        self.told == told && self.replies.as_slice() == replies && self.early == 0
+        let is_so = self.told == told && self.replies.as_slice() == replies;
+        is_so && self.early == 0 && self.late == 0
+    }
+
+    /// Whether no read came too early and no call too late, and of the replies to all lines it wrote what it
+    /// owes: all; where a read failed, those to the lines that it was given; where a write failed, a beginning.
+    pub(super) fn is_owed(&self, all: &[u8]) -> bool {
+        let replies = self.replies.as_slice();
+        let is_enough = match self.told {
+            Ok(()) => replies.len() == all.len(),
+            Err(ServeFault::Read) => {
+                let is_whole = replies.last().is_none_or(|byte| *byte == b'\n');
+                is_whole && count_lines(replies) == self.given
+            }
+            Err(ServeFault::Write) => replies.len() < all.len(),
+        };
+        is_enough && all.starts_with(replies) && self.early == 0 && self.late == 0
     }
 }
 
@@ -171,13 +221,15 @@ pub(super) fn serve_in_steps(alloc: Global, streams: Streams<'_>) -> Served {
     let mut source = StepSource {
         rest: streams.input,
         later: streams.input_later,
-        step: streams.step,
+        step: streams.read_step,
+        reads: streams.reads,
         failed: false,
         watch: &watch,
     };
     let mut sink = StepSink {
         taken: Vec::new(alloc),
-        step: streams.step,
+        step: streams.write_step,
+        writes: streams.writes,
         room: streams.room,
         later: streams.room_later,
         failed: false,
@@ -188,6 +240,8 @@ pub(super) fn serve_in_steps(alloc: Global, streams: Streams<'_>) -> Served {
     Served {
         told,
         replies: taken,
+        given: watch.given.get(),
         early: watch.early.get(),
+        late: watch.late.get(),
     }
 }
