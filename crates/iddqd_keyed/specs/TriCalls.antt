@@ -25,6 +25,10 @@ module _ {T S : Type 0} where
   RemovesItem old ix (Some item) new = (get old.store ix ≡ Some item) × (new ≡ unbound old ix)
   RemovesItem old ix None new = (get old.store ix ≡ None) × (new ≡ old)
 
+  -- what a look-up of a key answers: the one live index whose item has it, none exactly where there is none
+  abbrev pub FindsKey : {K : Type 0} → ItemKey T K S → TriState T S → K → Option ℕ → Type 0
+  FindsKey key s k result = AnswersScan s.store (passes_by key.key_of (key.equal k)) result
+
   -- What a look-up of a key answers by a query that tests keys so under a hash: an index whose item's key passes; and,
   -- where the query stands for one key, the one such index, none exactly where there is none.
   pub record FindsOne {K : Type 0} (key : ItemKey T K S) (s : TriState T S) (hash : ℕ) (test : K → Bool)

@@ -15,7 +15,7 @@ ghost use Rattle.iddqd_keyed.specs.Clashes.{AreInOrder, IsOneOf};
 ghost use Rattle.iddqd_keyed.specs.TriKeys.{TriKeys, tri_keys_of, hashes_in};
 ghost use Rattle.iddqd_keyed.specs.TriState.{empty_tri_state, IsTriState, ClashesAt};
 ghost use Rattle.iddqd_keyed.specs.TriTables.{hashes_of};
-ghost use Rattle.iddqd_keyed.specs.TriCalls.{FindsOne, RemovesItem, Overwriting};
+ghost use Rattle.iddqd_keyed.specs.TriCalls.{FindsKey, FindsOne, RemovesItem, Overwriting};
 
 use crate::clashes::Clashes;
 use crate::tri_item::{First, Second, Third, TriItem};
@@ -125,25 +125,45 @@ impl<T: TriItem, S: BuildHasher> TriItems<T, S> {
         self.items.get(ix)
     }
 
-    /// The index of the item whose first key the query is equivalent to. It compares it with keys of
-    /// the same hash alone.
-    pub fn find1<Q: Hash + Equivalent<T::Key1>>(&self, query: &Q) -> Option<ItemIndex>
+    /// The index of the item that has this first key. It compares it with keys of the same hash alone.
+    pub fn find1(&self, key: &T::Key1) -> Option<ItemIndex>
+        ensures { FindsKey ⟦<Self as TriKeyed>⟧.keys.first self.now key.now result }
+    {
+        self.find1_by(&ByKey(key))
+    }
+
+    /// The index of the item that has this second key.
+    pub fn find2(&self, key: &T::Key2) -> Option<ItemIndex>
+        ensures { FindsKey ⟦<Self as TriKeyed>⟧.keys.second self.now key.now result }
+    {
+        self.find2_by(&ByKey(key))
+    }
+
+    /// The index of the item that has this third key.
+    pub fn find3(&self, key: &T::Key3) -> Option<ItemIndex>
+        ensures { FindsKey ⟦<Self as TriKeyed>⟧.keys.third self.now key.now result }
+    {
+        self.find3_by(&ByKey(key))
+    }
+
+    /// The index of the item whose first key the query is equivalent to. The query has to hash as that key does.
+    pub fn find1_by<Q: Hash + Equivalent<T::Key1>>(&self, query: &Q) -> Option<ItemIndex>
         ensures { let hash = hash_one S.BuildHasher S.Hasher.Hasher self.now.hasher (Q.hash_input query.now) in
             FindsOne ⟦<Self as TriKeyed>⟧.keys.first self.now hash (Q.equivalent query.now) result }
     {
         find_query::<T, First, S, Q>(&self.tables.first, &self.items, &self.state, query)
     }
 
-    /// The index of the item whose second key the query is equivalent to, as `find1`.
-    pub fn find2<Q: Hash + Equivalent<T::Key2>>(&self, query: &Q) -> Option<ItemIndex>
+    /// The index of the item whose second key the query is equivalent to, as `find1_by`.
+    pub fn find2_by<Q: Hash + Equivalent<T::Key2>>(&self, query: &Q) -> Option<ItemIndex>
         ensures { let hash = hash_one S.BuildHasher S.Hasher.Hasher self.now.hasher (Q.hash_input query.now) in
             FindsOne ⟦<Self as TriKeyed>⟧.keys.second self.now hash (Q.equivalent query.now) result }
     {
         find_query::<T, Second, S, Q>(&self.tables.second, &self.items, &self.state, query)
     }
 
-    /// The index of the item whose third key the query is equivalent to, as `find1`.
-    pub fn find3<Q: Hash + Equivalent<T::Key3>>(&self, query: &Q) -> Option<ItemIndex>
+    /// The index of the item whose third key the query is equivalent to, as `find1_by`.
+    pub fn find3_by<Q: Hash + Equivalent<T::Key3>>(&self, query: &Q) -> Option<ItemIndex>
         ensures { let hash = hash_one S.BuildHasher S.Hasher.Hasher self.now.hasher (Q.hash_input query.now) in
             FindsOne ⟦<Self as TriKeyed>⟧.keys.third self.now hash (Q.equivalent query.now) result }
     {

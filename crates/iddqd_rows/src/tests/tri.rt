@@ -14,7 +14,6 @@ use iddqd::map_hash::Equivalent;
 use iddqd_keyed::tri_item::TriItem;
 use iddqd_keyed::tri_items::TriItems;
 use iddqd_keyed::tri_refusal::TriRefusal;
-use iddqd_sides::key_of::ByKey;
 use std::alloc::{AllocError, Global};
 use std::hash::BuildHasher;
 use std::process::Abort;
@@ -61,15 +60,15 @@ pub(super) fn insert<S: BuildHasher>(items: &mut TriItems<Trio, S>, item: Trio) 
 }
 
 pub(super) fn find1<S: BuildHasher>(items: &TriItems<Trio, S>, key: u32) -> Option<ItemIndex> {
-    items.find1(&ByKey(&key))
+    items.find1(&key)
 }
 
 pub(super) fn find2<S: BuildHasher>(items: &TriItems<Trio, S>, key: u32) -> Option<ItemIndex> {
-    items.find2(&ByKey(&key))
+    items.find2(&key)
 }
 
 pub(super) fn find3<S: BuildHasher>(items: &TriItems<Trio, S>, key: u32) -> Option<ItemIndex> {
-    items.find3(&ByKey(&key))
+    items.find3(&key)
 }
 
 pub(super) fn remove<S: BuildHasher>(items: &mut TriItems<Trio, S>, at: ItemIndex) -> Option<Trio> {
@@ -348,7 +347,7 @@ fn insert_names(
 }
 
 fn find_name(items: &Names, name: &String) -> Option<ItemIndex> {
-    items.find3(&ByKey(name))
+    items.find3(name)
 }
 
 fn assert_names(rt: &impl Abort, alloc: Global, items: &mut Names) -> Result<(), AllocError> {
@@ -465,7 +464,7 @@ impl Equivalent<u32> for Held {
 }
 
 fn find_held(items: &Items, key: u32) -> Option<ItemIndex> {
-    items.find1(&Held(key))
+    items.find1_by(&Held(key))
 }
 
 #[test]
