@@ -1,6 +1,6 @@
 -- What an insert leaves of a node.
-use Rattle.iddqd_order.proofs.Names.{IsChild, IsPut, ◌≡◌, ◌≢◌, ℕ, zero, suc, ◌+◌, ◌-◌, ◌<◌, ◌≤◌, true, List, [], ◌∷◌, ◌++◌, length, set, get_or, slice_index, refl, ap, sym, ◌∙◌, subst, arith, inl, inr, All, cases_lt, insert, length-append, length-set, length-map, length-insert, get_or_default, map-set, map-append, All-set, All-take, All-drop, drop-append_seam, take-append_seam, Node, row, children, child, room, weave, before, flat, IsInner, IsFormed, Goes, place, IsFullBelow, IsCut}
-use Rattle.iddqd_order.proofs.WeaveLemmas.{edited, widened, weave-append}
+use Rattle.iddqd_order.proofs.Names.{IsChild, IsPut, ◌≡◌, ◌≢◌, ℕ, zero, suc, ◌+◌, ◌-◌, ◌<◌, ◌≤◌, true, List, [], ◌∷◌, ◌++◌, length, set, get_or, slice_index, refl, ap, sym, ◌∙◌, arith, inl, inr, All, cases_lt, insert, length-append, length-set, length-map, length-insert, get_or_default, map-set, map-append, All-set, Node, row, children, child, room, weave, before, flat, IsInner, IsFormed, Goes, place, IsFullBelow, IsCut}
+use Rattle.iddqd_order.proofs.WeaveLemmas.{All-front, All-back, edited, widened, weave-append}
 use Rattle.iddqd_order.proofs.NodeLemmas.{AreChildren, GoesDown, goes-below, lists, lists-at, lists-one_more, formed-leaf, leaf-formed, flat-leaf, goes-leaf, place-leaf, formed-within, formed-inner, inner-formed, flat-inner, full-on, full-here, map-insert, All-insert}
 
 -- g is the i-th child, which the path takes
@@ -104,13 +104,6 @@ cut_sizes {i = i} c =
       | inl q ↦ let e = c.low_length.1 q in (omega arith, omega arith, omega arith, omega arith)
       | inr q ↦ let e = c.low_length.0 q in (omega arith, omega arith, omega arith, omega arith)
     ]
-
--- the members of a list that is put together
-pub All-front : {X : Type 0} → (P : X → Type 0) (xs ys : List X) → All P (xs ++ ys) → All P xs
-All-front P xs ys a = subst (All P) (take-append_seam xs ys) (All-take P (length xs) (xs ++ ys) a)
-
-pub All-back : {X : Type 0} → (P : X → Type 0) (xs ys : List X) → All P (xs ++ ys) → All P ys
-All-back P xs ys a = subst (All P) (drop-append_seam xs ys) (All-drop P (length xs) (xs ++ ys) a)
 
 -- the child was cut in two, and so is the node, which was full
 pub cut_here : (h : ℕ) (old new : Node) (m2 : ℕ) (up : Node) (p : List ℕ) (x : ℕ) (i : ℕ) (g k : Node) (m : ℕ) (u : Node) → IsTaken h old p i g → Cut (h - 1) g k m u p x

@@ -1,16 +1,9 @@
 -- What mending leaves of nodes.
-use Rattle.iddqd_order.proofs.Names.{◌≡◌, ◌∙◌, ℕ, zero, suc, ◌+◌, ◌-◌, ◌<◌, ◌≤◌, List, [], ◌∷◌, ◌++◌, length, take, drop, set, get_or, map, remove, Option, Some, None, option_to_list, IsSome, ◌↔◌, append_assoc, subst, refl, ap, sym, arith, add-one, sub-one, length-append, length-drop, length-take, length-take-le, length-map, get_or-remove_below, get_or_append_left, get_or-append-add, get_or_default, set_comm, All, All-append, All-cons, All-nil, inl, inr, cases_eq, map-append, nil_from_length, Node, row, children, room, weave, flat, IsFormed, IsChild, MayLackOne, IsMended}
+use Rattle.iddqd_order.proofs.Names.{◌≡◌, ◌∙◌, ℕ, zero, suc, ◌+◌, ◌-◌, ◌<◌, ◌≤◌, List, [], ◌∷◌, ◌++◌, length, take, drop, set, get_or, map, remove, Option, Some, None, option_to_list, IsSome, ◌↔◌, append_assoc, subst, refl, ap, sym, arith, add-one, sub-one, length-append, length-drop, length-take, length-take-le, length-map, get_or-remove_below, get_or_default, set_comm, All, All-append, All-cons, All-nil, inl, inr, cases_eq, map-append, nil_from_length, Node, row, children, room, weave, flat, IsFormed, IsChild, MayLackOne, IsMended}
 use Rattle.std.proofs.Common.{get_or-take, get_or-drop, take-suc, take-suc-set, drop-set-lt, length-set}
 use Rattle.std.proofs.lemmas.List.{set_split, set_at}
-use Rattle.iddqd_order.proofs.WeaveLemmas.{rest, weave-more}
+use Rattle.iddqd_order.proofs.WeaveLemmas.{All-front, All-back, rest, weave-more}
 use Rattle.iddqd_order.proofs.NodeLemmas.{lists}
-
--- all members of a list that is put together of two
-pub All-left : {X : Type 0} → (P : X → Type 0) (xs ys : List X) → All P (xs ++ ys) → All P xs
-All-left P xs ys a k d lt = rw (sym (get_or_append_left xs ys d k lt)) (a k d (omega (arith, length-append xs ys)))
-
-pub All-right : {X : Type 0} → (P : X → Type 0) (xs ys : List X) → All P (xs ++ ys) → All P ys
-All-right P xs ys a k d lt = rw (sym (get_or-append-add xs ys k d)) (a (length xs + k) d (omega (arith, length-append xs ys)))
 
 -- how many children a node of k indexes has, h levels above the leaves
 abbrev pub arity : ℕ → ℕ → ℕ
@@ -138,8 +131,8 @@ mended-shared h i xs ks l r new_l m new_r n rows below left right =
     let P : Node → Type 0 = IsChild (h - 1) in
     let a = formed-sized h l n.left_is.1 in let b = formed-sized h r n.right_is.1 in
     let every : All P (children new_l ++ children new_r) = rw below (All-append P (children l) (children r) a.1 b.1) in
-    let low : IsChild h new_l = (left.0, sized-formed h new_l left.1 (All-left P (children new_l) (children new_r) every)) in
-    let high : IsChild h new_r = (right.0, sized-formed h new_r right.1 (All-right P (children new_l) (children new_r) every)) in
+    let low : IsChild h new_l = (left.0, sized-formed h new_l left.1 (All-front P (children new_l) (children new_r) every)) in
+    let high : IsChild h new_r = (right.0, sized-formed h new_r right.1 (All-back P (children new_l) (children new_r) every)) in
     rw (add-one i, set_split xs i m at, set_pair ks i new_l new_r (omega arith))
     (mended h i xs (m ∷ []) ks (new_l ∷ new_r ∷ []) l r n refl (omega arith) (All-cons (IsChild h) new_l (new_r ∷ []) low (All-cons (IsChild h) new_r [] high (All-nil (IsChild h))))
     (flat-pair h new_l m new_r left.1 right.1 ∙ (λ j. weave (rows j) (lists (h - 1) (below j))) ∙ sym (flat-pair h l (get_or xs i 0) r a.0 b.0)))

@@ -1,21 +1,21 @@
 -- New names for the indexes of a node and of all below it; a copy has the same names.
 use Rattle.iddqd_order.proofs.Names.{◌≡◌, ◌≢◌, ℕ, ◌+◌, ◌-◌, ◌<◌, ◌≤◌, List, [], ◌∷◌, ◌++◌, length, get_or, map, refl, ap, sym, ◌∙◌, subst, arith, All, length-map, get_or-map, map-append, same_lists, All-nil, All-cons, All-head, All-tail, Node, IsCopy, row, children, room, weave, flat, IsFormed, before, after}
 use Rattle.std.proofs.lemmas.List.{map-id}
-use Rattle.iddqd_order.proofs.WeaveLemmas.{apart}
+use Rattle.iddqd_order.proofs.WeaveLemmas.{All-front, All-back, apart}
 use Rattle.iddqd_order.proofs.NodeLemmas.{lists, lists-one_more, formed-inner, flat-inner}
-use Rattle.iddqd_order.proofs.MendLemmas.{All-left, All-right, arity, IsSized, formed-sized, sized-formed, flat-sized}
+use Rattle.iddqd_order.proofs.MendLemmas.{arity, IsSized, formed-sized, sized-formed, flat-sized}
 
 -- what holds of all woven together holds of the indexes and of each list
 weave-own : (P : ℕ → Type 0) (xs : List ℕ) (ks : List (List ℕ)) → All P (weave xs ks) → All P xs
 weave-own P xs [] a = a
 weave-own P [] (k ∷ ks) a = All-nil P
 weave-own P (x ∷ xs) (k ∷ ks) a =
-    let r : All P (x ∷ weave xs ks) = All-right P k (x ∷ weave xs ks) a in
+    let r : All P (x ∷ weave xs ks) = All-back P k (x ∷ weave xs ks) a in
     All-cons P x xs (All-head P x (weave xs ks) r) (weave-own P xs ks (All-tail P x (weave xs ks) r))
 
 weave-each : (P : ℕ → Type 0) (xs : List ℕ) (ks : List (List ℕ)) (i : ℕ) (d : List ℕ) → length ks ≡ length xs + 1 → i < length ks → All P (weave xs ks) → All P (get_or ks i d)
 weave-each P xs ks i d e lt a =
-    All-left P (get_or ks i d) (after i xs ks) (All-right P (before i xs ks) (get_or ks i d ++ after i xs ks) (subst (λ z. All P z) (apart i xs ks d lt e) a))
+    All-front P (get_or ks i d) (after i xs ks) (All-back P (before i xs ks) (get_or ks i d ++ after i xs ks) (subst (λ z. All P z) (apart i xs ks d lt e) a))
 
 -- the new names of all woven together
 weave-map : (f : ℕ → ℕ) (xs : List ℕ) (ks : List (List ℕ)) → map f (weave xs ks) ≡ weave (map f xs) (map (λ k. map f k) ks)

@@ -1,7 +1,7 @@
 -- How many indexes a tree has at least, and so how many levels it has and how many asks a search takes at most.
-use Rattle.iddqd_order.proofs.Names.{◌≡◌, ◌≢◌, ℕ, zero, suc, ◌+◌, ◌*◌, ◌/◌, ◌^◌, ◌<◌, ◌≤◌, List, [], ◌∷◌, length, All, arith, inl, inr, length-append, sub-one, eqb, nat_eq, refl, mul-le-mul_right, pow-suc, one-le-pow, pow-le-pow_right, IsDistinct, cases_lt, length-map, All-head, All-tail, All-map, Any-from_list_any, eqb-true, length-le_from_distinct_below, Node, digits, bound, row, children, weave, flat, IsFormed}
+use Rattle.iddqd_order.proofs.Names.{◌≡◌, ℕ, zero, suc, ◌+◌, ◌*◌, ◌/◌, ◌^◌, ◌<◌, ◌≤◌, List, [], ◌∷◌, length, All, arith, inl, inr, length-append, eqb, nat_eq, mul-le-mul_right, pow-suc, one-le-pow, pow-le-pow_right, IsDistinct, cases_lt, length-map, All-head, All-tail, All-map, Any-from_list_any, eqb-true, length-le_from_distinct_below, Node, digits, bound, row, children, weave, flat, IsFormed}
 use Rattle.iddqd_order.proofs.DigitLemmas.{digits-half}
-use Rattle.iddqd_order.proofs.NodeLemmas.{lists, flat-leaf, formed-inner, flat-inner}
+use Rattle.iddqd_order.proofs.NodeLemmas.{lists}
 
 -- lists of at least b - 1 indexes each, woven
 wide : (b : ℕ) (xs : List ℕ) (ks : List (List ℕ)) → length ks ≡ length xs + 1 → All (λ k. b ≤ length k + 1) ks → length ks * b ≤ length (weave xs ks) + 1

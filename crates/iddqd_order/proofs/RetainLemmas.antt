@@ -12,7 +12,6 @@ use Rattle.iddqd_order.specs.MapBTreeTable.{sentinel}
 use Rattle.iddqd_order.specs.Retain.{RetainsTo}
 use Rattle.iddqd_order.specs.Tree.{in_order, IsTree, IsTable}
 use Rattle.iddqd_order.proofs.IndexListLemmas.{Contains-at}
-use Rattle.std.proofs.Math.Seq.{take-suc}
 use Rattle.std.proofs.lemmas.Map.Made.{IsDistinct-keys_filter}
 use Rattle.iddqd_order.proofs.AskLemmas.{CanAsk-later}
 

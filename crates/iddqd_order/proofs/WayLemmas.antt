@@ -1,7 +1,7 @@
 -- Ways: what a step along one leaves, and what stays of them where an index is put in the place of another.
 use Rattle.iddqd_order.proofs.Names.{◌≡◌, ◌≢◌, ◌∙◌, ℕ, zero, suc, ◌+◌, ◌-◌, ◌<◌, ◌≤◌, List, [], ◌++◌, length, get_or, set, slice_index, slice_set, refl, sym, ap, subst, arith, Option, Some, None, is_some, true, false, sub-one, length-append, length-set, get_or-set_same, get_or-set_other, inl, inr, cases_eq, length-map, map-set, All-set, Node, Way, row, children, child, room, weave, before, after, flat, IsFormed, Holds, spot, StepsOn, SamePlaces, IsWay, get_or_default, add-one, set-get_or}
 use Rattle.iddqd_order.proofs.NodeLemmas.{lists, AreChildren, formed-within, formed-leaf, leaf-formed, flat-leaf, formed-inner, inner-formed, flat-inner}
-use Rattle.iddqd_order.proofs.RemovalLemmas.{GoesBelow, goes-below, ends-inner, holds-leaf, holds-at, holds-level, holds-below, spot-leaf, spot-at, spot-below, spot-within}
+use Rattle.iddqd_order.proofs.RemovalLemmas.{GoesBelow, goes-below, ends-inner, holds-leaf, holds-at, holds-level, holds-below, spot-leaf, spot-at, spot-below}
 use Rattle.iddqd_order.proofs.DescentLemmas.{after-last, before-next, lists-one_more, lists-at, child-formed, child-read, child_is, holds-here, below-holds, spot-row}
 use Rattle.iddqd_order.proofs.WeaveLemmas.{apart, index_place}
 use Rattle.iddqd_order.proofs.WeaveRemovalLemmas.{weave-set_own, weave-set_below}
@@ -112,8 +112,8 @@ pub record EndsHere (h l i : ℕ) (n : Node) (p : List ℕ) : Type 0 where
   pub few : length (row n) ≤ 11
   pub spot_is : slice_index (flat h n) (spot l h n p) ≡ slice_index (row n) i
 
-pub ends-here : (h l i : ℕ) (n : Node) (p : List ℕ) → h ≤ l → i ≡ slice_index p h → IsFormed h n → Holds l h n p → EndsHere h l i n p
-ends-here h l i n p le ei f w =
+pub ends-here : {h l i : ℕ} {n : Node} {p : List ℕ} → h ≤ l → i ≡ slice_index p h → IsFormed h n → Holds l h n p → EndsHere h l i n p
+ends-here {h = h} {l = l} {i = i} {n = n} {p = p} le ei f w =
     let e : h ≡ l = omega (arith, holds-level l h n p w) in
     let lt = holds-row h l i n p e ei w in
     record {
@@ -135,9 +135,9 @@ pub record SteppedBelow (h l i ix : ℕ) (r : Option ℕ) (n : Node) (p q : List
   pub index : ix ≡ slice_index (flat h n) (spot l h n p)
   pub next : StepsOn (h - 1) (child n i) l p 1 r q
 
-pub stepped-below : (h l i ix : ℕ) (r : Option ℕ) (n k : Node) (p q : List ℕ) → l < h → i ≡ slice_index p h → IsFormed h n → Holds l h n p → k ≡ get_or (children n) i k
+pub stepped-below : {h l i ix : ℕ} {r : Option ℕ} {n k : Node} {p q : List ℕ} → l < h → i ≡ slice_index p h → IsFormed h n → Holds l h n p → k ≡ get_or (children n) i k
     → ix ≡ slice_index (flat (h - 1) k) (spot l (h - 1) k p) → StepsOn (h - 1) k l p 1 r q → SteppedBelow h l i ix r n p q
-stepped-below h l i ix r n k p q lt ei f w is index next =
+stepped-below {h = h} {l = l} {i = i} {ix = ix} {r = r} {n = n} {k = k} {p = p} {q = q} lt ei f w is index next =
     let b = goes-below h l i n p lt ei f w in
     let same : k ≡ child n i = child_is n i k b.here is in
     record {

@@ -1,5 +1,12 @@
 -- Facts on lists that are woven together.
-use Rattle.iddqd_order.proofs.Names.{◌≡◌, ℕ, zero, suc, ◌+◌, ◌-◌, ◌<◌, ◌≤◌, List, [], ◌∷◌, ◌++◌, length, set, set-get_or, get_or, refl, ap, sym, ◌∙◌, append_assoc, arith, length-append, add-one, append-nil, insert, insert-append_left, insert-append_right, weave, before, after}
+use Rattle.iddqd_order.proofs.Names.{subst, All, All-take, All-drop, take-append_seam, drop-append_seam, ◌≡◌, ℕ, zero, suc, ◌+◌, ◌-◌, ◌<◌, ◌≤◌, List, [], ◌∷◌, ◌++◌, length, set, set-get_or, get_or, refl, ap, sym, ◌∙◌, append_assoc, arith, length-append, add-one, append-nil, insert, insert-append_left, insert-append_right, weave, before, after}
+
+-- the members of the parts of a list
+pub All-front : {X : Type 0} → (P : X → Type 0) (xs ys : List X) → All P (xs ++ ys) → All P xs
+All-front P xs ys a = subst (All P) (take-append_seam xs ys) (All-take P (length xs) (xs ++ ys) a)
+
+pub All-back : {X : Type 0} → (P : X → Type 0) (xs ys : List X) → All P (xs ++ ys) → All P ys
+All-back P xs ys a = subst (All P) (drop-append_seam xs ys) (All-drop P (length xs) (xs ++ ys) a)
 
 -- what more indexes and lists add behind
 abbrev pub rest : List ℕ → List (List ℕ) → List ℕ

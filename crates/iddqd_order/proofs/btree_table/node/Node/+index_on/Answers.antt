@@ -25,9 +25,9 @@ returns-then-height-level t c =
 
 pub get-requires : goal.get-requires
 get-requires t c =
-    (ends-here c.args.height c.args.level c.get-i.result c.args.self.now c.args.path.now c.if-height-level.false c.get-i.ensures c.requires.formed c.requires.holds).within
+    (ends-here c.if-height-level.false c.get-i.ensures c.requires.formed c.requires.holds).within
 
 pub returns : goal.returns
 returns t c =
-    let e = ends-here c.args.height c.args.level c.get-i.result c.args.self.now c.args.path.now c.if-height-level.false c.get-i.ensures c.requires.formed c.requires.holds in
+    let e = ends-here c.if-height-level.false c.get-i.ensures c.requires.formed c.requires.holds in
     c.get.ensures ∙ sym e.spot_is

@@ -24,10 +24,10 @@ returns-then-height-level t c =
 
 pub set-requires : goal.set-requires
 set-requires t c =
-    (ends-here c.args.height c.args.level c.get-i.result c.args.self.now c.args.path.now c.if-height-level.false c.get-i.ensures c.requires.formed c.requires.holds).within
+    (ends-here c.if-height-level.false c.get-i.ensures c.requires.formed c.requires.holds).within
 
 pub returns : goal.returns
 returns t c =
-    let e = ends-here c.args.height c.args.level c.get-i.result c.args.self.now c.args.path.now c.if-height-level.false c.get-i.ensures c.requires.formed c.requires.holds in
+    let e = ends-here c.if-height-level.false c.get-i.ensures c.requires.formed c.requires.holds in
     let k = put-here c.args.height c.args.level c.get-i.result c.args.ix c.args.self.now (roll-Node _) c.args.path.now e.level c.get-i.ensures c.requires.formed c.requires.holds (row-roll _ ∙ c.set.ensures) (children-roll _) (room-kept c.args.self.now _ refl) in
     record { items = k.items; formed = k.formed; same_length = k.same_length; same_places = k.same_places }

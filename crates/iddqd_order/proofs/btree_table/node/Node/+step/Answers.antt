@@ -18,75 +18,59 @@ step-ix-requires t c =
     (omega arith, (rw same b.formed, (omega arith, (c.requires.path, rw same b.holds))))
 
 pub returns-then-is_some-clause-index : goal.returns-then-is_some-clause-index
-returns-then-is_some-clause-index t c =
-    let s = stepped-below c.args.height c.args.level c.get-i.result c.step-ix.result.0 c.step-ix.result.1 c.args.self.now c.index.result.now c.args.path.now c.step-ix.new.path
-    c.if-height-level.true c.get-i.ensures c.requires.formed c.requires.holds c.index.ensures c.step-ix.ensures.index c.step-ix.ensures.next in
-    s.index
+returns-then-is_some-clause-index t c = (stepped-below c.if-height-level.true c.get-i.ensures c.requires.formed c.requires.holds c.index.ensures c.step-ix.ensures.index c.step-ix.ensures.next).index
 
 pub returns-then-is_some-clause-next : goal.returns-then-is_some-clause-next
 returns-then-is_some-clause-next t c =
-    let s = stepped-below c.args.height c.args.level c.get-i.result c.step-ix.result.0 c.step-ix.result.1 c.args.self.now c.index.result.now c.args.path.now c.step-ix.new.path
-    c.if-height-level.true c.get-i.ensures c.requires.formed c.requires.holds c.index.ensures c.step-ix.ensures.index c.step-ix.ensures.next in
+    let s = stepped-below c.if-height-level.true c.get-i.ensures c.requires.formed c.requires.holds c.index.ensures c.step-ix.ensures.index c.step-ix.ensures.next in
     steps-below_any 1 c.args.height c.args.level c.get-i.result c.step-ix.result.1 c.args.self.now c.args.path.now c.step-ix.new.path s.below (c.step-ix.ensures.above c.args.height (omega arith) ∙ sym c.get-i.ensures) (search rules) s.next
 
 pub returns-then-i-len-clause-index : goal.returns-then-i-len-clause-index
-returns-then-i-len-clause-index t c =
-    let s = stepped-below c.args.height c.args.level c.get-i.result c.step-ix.result.0 c.step-ix.result.1 c.args.self.now c.index.result.now c.args.path.now c.step-ix.new.path
-    c.if-height-level.true c.get-i.ensures c.requires.formed c.requires.holds c.index.ensures c.step-ix.ensures.index c.step-ix.ensures.next in
-    s.index
+returns-then-i-len-clause-index t c = (stepped-below c.if-height-level.true c.get-i.ensures c.requires.formed c.requires.holds c.index.ensures c.step-ix.ensures.index c.step-ix.ensures.next).index
 
 pub returns-then-i-len-clause-next : goal.returns-then-i-len-clause-next
 returns-then-i-len-clause-next t c =
-    let s = stepped-below c.args.height c.args.level c.get-i.result c.step-ix.result.0 c.step-ix.result.1 c.args.self.now c.index.result.now c.args.path.now c.step-ix.new.path
-    c.if-height-level.true c.get-i.ensures c.requires.formed c.requires.holds c.index.ensures c.step-ix.ensures.index c.step-ix.ensures.next in
+    let s = stepped-below c.if-height-level.true c.get-i.ensures c.requires.formed c.requires.holds c.index.ensures c.step-ix.ensures.index c.step-ix.ensures.next in
     let len = c.len.ensures.length in let lt = c.if-i-len.true in
     steps-out 1 c.args.height c.args.level c.get-i.result c.step-ix.result.1 c.args.self.now c.args.path.now c.step-ix.new.path s.below c.get-i.ensures c.requires.formed (c.step-ix.ensures.ended (none-is c.step-ix.result.1 (search rules))) (search (rules, lt)) (search rules) s.next
 
 pub returns-then-height-level-clause-index : goal.returns-then-height-level-clause-index
-returns-then-height-level-clause-index t c =
-    let s = stepped-below c.args.height c.args.level c.get-i.result c.step-ix.result.0 c.step-ix.result.1 c.args.self.now c.index.result.now c.args.path.now c.step-ix.new.path
-    c.if-height-level.true c.get-i.ensures c.requires.formed c.requires.holds c.index.ensures c.step-ix.ensures.index c.step-ix.ensures.next in
-    s.index
+returns-then-height-level-clause-index t c = (stepped-below c.if-height-level.true c.get-i.ensures c.requires.formed c.requires.holds c.index.ensures c.step-ix.ensures.index c.step-ix.ensures.next).index
 
 pub returns-then-height-level-clause-next : goal.returns-then-height-level-clause-next
 returns-then-height-level-clause-next t c =
-    let s = stepped-below c.args.height c.args.level c.get-i.result c.step-ix.result.0 c.step-ix.result.1 c.args.self.now c.index.result.now c.args.path.now c.step-ix.new.path
-    c.if-height-level.true c.get-i.ensures c.requires.formed c.requires.holds c.index.ensures c.step-ix.ensures.index c.step-ix.ensures.next in
+    let s = stepped-below c.if-height-level.true c.get-i.ensures c.requires.formed c.requires.holds c.index.ensures c.step-ix.ensures.index c.step-ix.ensures.next in
     ends-below 1 c.args.height c.args.level c.get-i.result c.step-ix.result.1 c.args.self.now c.args.path.now c.step-ix.new.path s.below c.requires.formed (search rules) (search rules) s.next
 
 -- here: the path ends at this node
 pub get-ix-requires : goal.get-ix-requires
-get-ix-requires t c = (ends-here c.args.height c.args.level c.get-i.result c.args.self.now c.args.path.now c.if-height-level.false c.get-i.ensures c.requires.formed c.requires.holds).within
+get-ix-requires t c = (ends-here c.if-height-level.false c.get-i.ensures c.requires.formed c.requires.holds).within
 
 pub overflow_add-i : goal.overflow_add-i
 overflow_add-i t c =
-    let e = ends-here c.args.height c.args.level c.get-i.result c.args.self.now c.args.path.now c.if-height-level.false c.get-i.ensures c.requires.formed c.requires.holds in
+    let e = ends-here c.if-height-level.false c.get-i.ensures c.requires.formed c.requires.holds in
     omega (arith, e.within, e.few)
 
 pub turn-requires-clause-place : goal.turn-requires-clause-place
 turn-requires-clause-place t c =
-    let e = ends-here c.args.height c.args.level c.get-i.result c.args.self.now c.args.path.now c.if-height-level.false c.get-i.ensures c.requires.formed c.requires.holds in
+    let e = ends-here c.if-height-level.false c.get-i.ensures c.requires.formed c.requires.holds in
     omega (arith, e.within, e.few)
 
 pub overflow_add-i-2 : goal.overflow_add-i-2
 overflow_add-i-2 t c =
-    let e = ends-here c.args.height c.args.level c.get-i.result c.args.self.now c.args.path.now c.if-height-level.false c.get-i.ensures c.requires.formed c.requires.holds in
+    let e = ends-here c.if-height-level.false c.get-i.ensures c.requires.formed c.requires.holds in
     omega (arith, e.within, e.few)
 
 pub returns-then-height-gt0-clause-index : goal.returns-then-height-gt0-clause-index
-returns-then-height-gt0-clause-index t c =
-    let e = ends-here c.args.height c.args.level c.get-i.result c.args.self.now c.args.path.now c.if-height-level.false c.get-i.ensures c.requires.formed c.requires.holds in
-    c.get-ix.ensures ∙ sym e.spot_is
+returns-then-height-gt0-clause-index t c = c.get-ix.ensures ∙ sym (ends-here c.if-height-level.false c.get-i.ensures c.requires.formed c.requires.holds).spot_is
 
 pub returns-then-height-gt0-clause-next : goal.returns-then-height-gt0-clause-next
 returns-then-height-gt0-clause-next t c =
-    let e = ends-here c.args.height c.args.level c.get-i.result c.args.self.now c.args.path.now c.if-height-level.false c.get-i.ensures c.requires.formed c.requires.holds in
+    let e = ends-here c.if-height-level.false c.get-i.ensures c.requires.formed c.requires.holds in
     steps-here c.args.height c.args.level c.get-i.result c.args.self.now c.args.path.now c.turn.new.self (λ z. absurd (omega arith)) e.level c.get-i.ensures c.requires.formed c.requires.holds c.turn.ensures.here c.turn.ensures.below
 
 pub returns-then-i-len-2-clause-index : goal.returns-then-i-len-2-clause-index
-returns-then-i-len-2-clause-index t c =
-    let e = ends-here c.args.height c.args.level c.get-i.result c.args.self.now c.args.path.now c.if-height-level.false c.get-i.ensures c.requires.formed c.requires.holds in
-    c.get-ix.ensures ∙ sym e.spot_is
+returns-then-i-len-2-clause-index t c = c.get-ix.ensures ∙ sym (ends-here c.if-height-level.false c.get-i.ensures c.requires.formed c.requires.holds).spot_is
 
 pub returns-then-i-len-2-clause-next : goal.returns-then-i-len-2-clause-next
 returns-then-i-len-2-clause-next t c =
@@ -95,9 +79,7 @@ returns-then-i-len-2-clause-next t c =
     (path-here c.args.path.now c.set.new.self 0 (c.get-i.result + 1) c.requires.path (omega arith) c.set.ensures.place)
 
 pub returns-clause-index : goal.returns-clause-index
-returns-clause-index t c =
-    let e = ends-here c.args.height c.args.level c.get-i.result c.args.self.now c.args.path.now c.if-height-level.false c.get-i.ensures c.requires.formed c.requires.holds in
-    c.get-ix.ensures ∙ sym e.spot_is
+returns-clause-index t c = c.get-ix.ensures ∙ sym (ends-here c.if-height-level.false c.get-i.ensures c.requires.formed c.requires.holds).spot_is
 
 pub returns-clause-next : goal.returns-clause-next
 returns-clause-next t c =
