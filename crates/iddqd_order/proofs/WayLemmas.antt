@@ -109,7 +109,7 @@ holds-row (suc h) l i n p e ei w = rw ei (holds-at l (suc h) n p (λ z. absurd (
 pub record EndsHere (h l i : ℕ) (n : Node) (p : List ℕ) : Type 0 where
   pub level : h ≡ l
   pub within : i < length (row n)
-  pub few : length (row n) ≤ 11
+  pub low : i < 11
   pub spot_is : slice_index (flat h n) (spot l h n p) ≡ slice_index (row n) i
 
 pub ends-here : {h l i : ℕ} {n : Node} {p : List ℕ} → h ≤ l → i ≡ slice_index p h → IsFormed h n → Holds l h n p → EndsHere h l i n p
@@ -119,7 +119,7 @@ ends-here {h = h} {l = l} {i = i} {n = n} {p = p} le ei f w =
     record {
       level = e;
       within = lt;
-      few = formed-within h n f;
+      low = omega (arith, lt, formed-within h n f);
       spot_is = ap (λ z. slice_index (flat h n) (spot z h n p)) (sym e) ∙ spot-row h n p f (rw (sym ei) lt) ∙ ap (slice_index (row n)) (sym ei);
     }
 

@@ -24,10 +24,7 @@ returns-then-height-level t c =
     (subst (λ z. c.index_on.result ≡ slice_index (flat (c.args.height - 1) z) (spot c.args.level (c.args.height - 1) z c.args.path.now)) same c.index_on.ensures)
 
 pub get-requires : goal.get-requires
-get-requires t c =
-    (ends-here c.if-height-level.false c.get-i.ensures c.requires.formed c.requires.holds).within
+get-requires t c = (ends-here c.if-height-level.false c.get-i.ensures c.requires.formed c.requires.holds).within
 
 pub returns : goal.returns
-returns t c =
-    let e = ends-here c.if-height-level.false c.get-i.ensures c.requires.formed c.requires.holds in
-    c.get.ensures ∙ sym e.spot_is
+returns t c = c.get.ensures ∙ sym (ends-here c.if-height-level.false c.get-i.ensures c.requires.formed c.requires.holds).spot_is

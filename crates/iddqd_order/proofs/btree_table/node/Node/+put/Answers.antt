@@ -23,8 +23,7 @@ returns-then-height-level t c =
     record { items = k.items; formed = k.formed; same_length = k.same_length; same_places = k.same_places }
 
 pub set-requires : goal.set-requires
-set-requires t c =
-    (ends-here c.if-height-level.false c.get-i.ensures c.requires.formed c.requires.holds).within
+set-requires t c = (ends-here c.if-height-level.false c.get-i.ensures c.requires.formed c.requires.holds).within
 
 pub returns : goal.returns
 returns t c =

@@ -47,19 +47,13 @@ pub get-ix-requires : goal.get-ix-requires
 get-ix-requires t c = (ends-here c.if-height-level.false c.get-i.ensures c.requires.formed c.requires.holds).within
 
 pub overflow_add-i : goal.overflow_add-i
-overflow_add-i t c =
-    let e = ends-here c.if-height-level.false c.get-i.ensures c.requires.formed c.requires.holds in
-    omega (arith, e.within, e.few)
+overflow_add-i t c = omega (arith, (ends-here c.if-height-level.false c.get-i.ensures c.requires.formed c.requires.holds).low)
 
 pub turn-requires-clause-place : goal.turn-requires-clause-place
-turn-requires-clause-place t c =
-    let e = ends-here c.if-height-level.false c.get-i.ensures c.requires.formed c.requires.holds in
-    omega (arith, e.within, e.few)
+turn-requires-clause-place t c = omega (arith, (ends-here c.if-height-level.false c.get-i.ensures c.requires.formed c.requires.holds).low)
 
 pub overflow_add-i-2 : goal.overflow_add-i-2
-overflow_add-i-2 t c =
-    let e = ends-here c.if-height-level.false c.get-i.ensures c.requires.formed c.requires.holds in
-    omega (arith, e.within, e.few)
+overflow_add-i-2 t c = omega (arith, (ends-here c.if-height-level.false c.get-i.ensures c.requires.formed c.requires.holds).low)
 
 pub returns-then-height-gt0-clause-index : goal.returns-then-height-gt0-clause-index
 returns-then-height-gt0-clause-index t c = c.get-ix.ensures ∙ sym (ends-here c.if-height-level.false c.get-i.ensures c.requires.formed c.requires.holds).spot_is
