@@ -9,6 +9,3 @@ pub mod CompactionLemmas
 pub mod OverwriteLemmas
 pub mod StepLemmas
 pub mod RunLemmas
-pub mod ClashLemmas
-pub mod TriLemmas
-pub mod TriCallLemmas

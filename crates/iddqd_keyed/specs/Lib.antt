@@ -3,18 +3,10 @@ pub mod State
 pub mod Refusal
 pub mod Machine
 pub mod Run
-pub mod TriKeys
-pub mod TriState
-pub mod TriRefusal
-pub mod Clashes
-pub mod TriTables
-pub mod TriCalls
 -- what a caller's clauses cite, from one place: of the crates below, and of this one
 pub use Rattle.iddqd.specs.Store
 pub use Rattle.iddqd.specs.Compaction
 pub use Rattle.iddqd_order.specs.Iter
-pub use Rattle.iddqd_sides.specs.Scan
-pub use Rattle.iddqd_sides.specs.Hashed
 pub use Rattle.iddqd.specs.Store.{get, live_count, next_index, IsFull}
 pub use Rattle.iddqd.specs.Compaction.{rank, IsRemapOf}
 pub use Rattle.iddqd_order.specs.Iter.{indexes_left}
@@ -25,7 +17,3 @@ pub use Rattle.iddqd_keyed.specs.State.{AnswersScan, LooksUp1, LooksUp2, Compact
 pub use Rattle.iddqd_keyed.specs.Refusal.{index_or_dash, refusal_text}
 pub use Rattle.iddqd_keyed.specs.Machine.{HasNoPlace, StoresAt, Inserts, TellsAsScan, Removes, Removes1, Removes2}
 pub use Rattle.iddqd_keyed.specs.Machine.{Overwrites, IsSortedScan, Answers, AsScan, IsSilentChange, Step}
-pub use Rattle.iddqd_keyed.specs.TriKeys.{tri_keys_of, hashing_in, shares}
-pub use Rattle.iddqd_keyed.specs.TriState.{empty_tri_state, unbound, unbound_all, bound, IsTriState, HasNoClash, AreClashes}
-pub use Rattle.iddqd_keyed.specs.TriCalls.{padded, FindsOne, RemovesItem, Overwriting}
-pub use Rattle.iddqd_keyed.specs.TriRefusal.{tri_refusal_text}

@@ -1,0 +1,3 @@
+pub mod ClashLemmas
+pub mod TriLemmas
+pub mod TriCallLemmas

@@ -1,0 +1,79 @@
+use Rattle.std.proofs.Common.{rules, ◌≡◌, subst}
+use Rattle.std.specs.Result.{OnOk}
+use Rattle.iddqd.specs.Store.{next_index}
+use Rattle.iddqd_tri.specs.Clashes.{clashing}
+use Rattle.iddqd_tri.specs.TriKeys.{TriKeys, tri_keys_of}
+use Rattle.iddqd_tri.specs.TriState.{IsTriState, removed_all, maps_with, maps_without_all}
+use Rattle.iddqd_tri.specs.TriTables.{maps_of, tri_state_of}
+use Rattle.iddqd_tri.specs.TriCalls.{Overwriting}
+use Rattle.iddqd_tri.proofs.ClashLemmas.{none_listed, some_listed, some_there}
+use Rattle.iddqd_tri.proofs.TriLemmas.{AreLawful-from_bounds}
+use Rattle.iddqd_tri.proofs.TriCallLemmas.{ClashesAt-live, AreClashes-listed, inserted_apart, inserted_over}
+use Rattle.iddqd_tri.proofs.tri_items.TriItems.insert_overwrite.Goals.{After-insert_apart, After-replace_clashes}
+use Rattle.iddqd_tri.proofs.tri_items.TriItems.insert_overwrite.Goals as goal
+
+pub replace_clashes-requires : goal.replace_clashes-requires
+replace_clashes-requires g c =
+    let keys : TriKeys _ _ _ _ _ = tri_keys_of g.T.TriItem g.T.Key1.PartialEq.eq g.T.Key1.Hash.hash_input g.T.Key2.PartialEq.eq g.T.Key2.Hash.hash_input g.T.Key3.PartialEq.eq g.T.Key3.Hash.hash_input g.S.BuildHasher g.S.Hasher.Hasher in
+    let s = c.self.inside.items.store in
+    let found = rw (← c.self.view_is) at c.clashes-clashes.ensures.clashes in
+    let some = some_there _ (λ none. let is = c.is_empty.ensures.1 none in let not = c.if-is_empty.false in cc) in
+    (search rules, (c.self.invariant.valid, (c.self.invariant.held, (c.clashes-clashes.ensures.ordered, ((λ ix here. ClashesAt-live keys s c.args.item ix ((found ix).0 here)), some)))))
+
+-- what the call leaves, and what it answers
+apart : (g : _) (c : After-insert_apart g) → let keys : TriKeys _ _ _ _ _ = tri_keys_of g.T.TriItem g.T.Key1.PartialEq.eq g.T.Key1.Hash.hash_input g.T.Key2.PartialEq.eq g.T.Key2.Hash.hash_input g.T.Key3.PartialEq.eq g.T.Key3.Hash.hash_input g.S.BuildHasher g.S.Hasher.Hasher in let was = tri_state_of c.self.inside.state c.self.inside.items.store c.self.inside.tables in let is = tri_state_of c.self.inside.state c.insert_apart.new.items.store c.insert_apart.new.tables in IsTriState keys is × Overwriting keys was c.args.item c.insert_apart.result is
+apart g c =
+    let keys : TriKeys _ _ _ _ _ = tri_keys_of g.T.TriItem g.T.Key1.PartialEq.eq g.T.Key1.Hash.hash_input g.T.Key2.PartialEq.eq g.T.Key2.Hash.hash_input g.T.Key3.PartialEq.eq g.T.Key3.Hash.hash_input g.S.BuildHasher g.S.Hasher.Hasher in
+    let s = tri_state_of c.self.inside.state c.self.inside.items.store c.self.inside.tables in
+    let item = c.args.item in
+    let a = c.clashes-clashes.result.first in
+    let b = c.clashes-clashes.result.second in
+    let d = c.clashes-clashes.result.third in
+    let found = rw (← c.self.view_is) at c.clashes-clashes.ensures.clashes in
+    let are = AreClashes-listed keys s.store item a b d c.clashes-clashes.ensures.ordered found in
+    let lawful = AreLawful-from_bounds g.T.TriItem _ _ _ _ _ _ g.S.BuildHasher g.S.Hasher.Hasher c.self.inside.state g.met.T.Key1.PartialEq.laws g.met.T.Key1.Hash.respects_eq g.met.T.Key2.PartialEq.laws g.met.T.Key2.Hash.respects_eq g.met.T.Key3.PartialEq.laws g.met.T.Key3.Hash.respects_eq in
+    let did = c.insert_apart.ensures in
+    let r = c.insert_apart.result in
+    let store = c.insert_apart.new.items.store in
+    let maps = maps_of c.insert_apart.new.tables in
+    let entered = subst (λ h. OnOk r (maps ≡ maps_with s.maps (next_index s.store) h)) c.of-hashes.ensures did.entered in
+    let none = none_listed a b d c.clashes-clashes.ensures.ordered (c.is_empty.ensures.0 c.if-is_empty.true) in
+    inserted_apart keys s item lawful c.self.invariant (clashing c.clashes-clashes.result) none are r store maps did.not_full did.index did.values did.stored entered did.refused did.items_stay did.tables_stay
+
+pub invariant_of-self : goal.invariant_of-self
+invariant_of-self g c = (apart g c).0
+
+pub returns-then-is_empty : goal.returns-then-is_empty
+returns-then-is_empty g c =
+    let keys : TriKeys _ _ _ _ _ = tri_keys_of g.T.TriItem g.T.Key1.PartialEq.eq g.T.Key1.Hash.hash_input g.T.Key2.PartialEq.eq g.T.Key2.Hash.hash_input g.T.Key3.PartialEq.eq g.T.Key3.Hash.hash_input g.S.BuildHasher g.S.Hasher.Hasher in
+    subst (λ t. Overwriting keys t c.args.item c.insert_apart.result (tri_state_of c.self.inside.state c.insert_apart.new.items.store c.insert_apart.new.tables)) c.self.view_is (apart g c).1
+
+-- what the call leaves, and what it answers
+over : (g : _) (c : After-replace_clashes g) → let keys : TriKeys _ _ _ _ _ = tri_keys_of g.T.TriItem g.T.Key1.PartialEq.eq g.T.Key1.Hash.hash_input g.T.Key2.PartialEq.eq g.T.Key2.Hash.hash_input g.T.Key3.PartialEq.eq g.T.Key3.Hash.hash_input g.S.BuildHasher g.S.Hasher.Hasher in let was = tri_state_of c.self.inside.state c.self.inside.items.store c.self.inside.tables in let is = tri_state_of c.self.inside.state c.replace_clashes.new.items.store c.replace_clashes.new.tables in IsTriState keys is × Overwriting keys was c.args.item c.replace_clashes.result is
+over g c =
+    let keys : TriKeys _ _ _ _ _ = tri_keys_of g.T.TriItem g.T.Key1.PartialEq.eq g.T.Key1.Hash.hash_input g.T.Key2.PartialEq.eq g.T.Key2.Hash.hash_input g.T.Key3.PartialEq.eq g.T.Key3.Hash.hash_input g.S.BuildHasher g.S.Hasher.Hasher in
+    let s = tri_state_of c.self.inside.state c.self.inside.items.store c.self.inside.tables in
+    let item = c.args.item in
+    let a = c.clashes-clashes.result.first in
+    let b = c.clashes-clashes.result.second in
+    let d = c.clashes-clashes.result.third in
+    let found = rw (← c.self.view_is) at c.clashes-clashes.ensures.clashes in
+    let are = AreClashes-listed keys s.store item a b d c.clashes-clashes.ensures.ordered found in
+    let lawful = AreLawful-from_bounds g.T.TriItem _ _ _ _ _ _ g.S.BuildHasher g.S.Hasher.Hasher c.self.inside.state g.met.T.Key1.PartialEq.laws g.met.T.Key1.Hash.respects_eq g.met.T.Key2.PartialEq.laws g.met.T.Key2.Hash.respects_eq g.met.T.Key3.PartialEq.laws g.met.T.Key3.Hash.respects_eq in
+    let did = c.replace_clashes.ensures in
+    let r = c.replace_clashes.result in
+    let store = c.replace_clashes.new.items.store in
+    let maps = maps_of c.replace_clashes.new.tables in
+    let clashes = clashing c.clashes-clashes.result in
+    let left = removed_all s.store clashes in
+    let entered = subst (λ h. OnOk r (maps ≡ maps_with (maps_without_all s.maps clashes) (next_index left) h)) c.of-hashes.ensures did.entered in
+    let (x, rest, some) = some_listed a b d (λ none. let is = c.is_empty.ensures.1 none in let not = c.if-is_empty.false in cc) in
+    inserted_over keys s item lawful c.self.invariant clashes x rest some are r store maps did.index did.values did.stored entered did.refused did.items_stay did.tables_stay
+
+pub invariant_of-self-2 : goal.invariant_of-self-2
+invariant_of-self-2 g c = (over g c).0
+
+pub returns : goal.returns
+returns g c =
+    let keys : TriKeys _ _ _ _ _ = tri_keys_of g.T.TriItem g.T.Key1.PartialEq.eq g.T.Key1.Hash.hash_input g.T.Key2.PartialEq.eq g.T.Key2.Hash.hash_input g.T.Key3.PartialEq.eq g.T.Key3.Hash.hash_input g.S.BuildHasher g.S.Hasher.Hasher in
+    subst (λ t. Overwriting keys t c.args.item c.replace_clashes.result (tri_state_of c.self.inside.state c.replace_clashes.new.items.store c.replace_clashes.new.tables)) c.self.view_is (over g c).1

@@ -1,0 +1,16 @@
+pub mod TriKeys
+pub mod TriState
+pub mod TriRefusal
+pub mod Clashes
+pub mod TriTables
+pub mod TriCalls
+-- what a caller's clauses cite, from one place: of the crates below, and of this one
+pub use Rattle.iddqd.specs.Store
+pub use Rattle.iddqd_sides.specs.Scan
+pub use Rattle.iddqd_sides.specs.Hashed
+pub use Rattle.iddqd.specs.Store.{get, live_count, next_index, IsFull}
+pub use Rattle.iddqd_tri.specs.TriKeys.{tri_keys_of, hashing_in, shares}
+pub use Rattle.iddqd_tri.specs.TriState.{empty_tri_state, unbound, unbound_all, bound}
+pub use Rattle.iddqd_tri.specs.TriState.{IsTriState, HasNoClash, AreClashes}
+pub use Rattle.iddqd_tri.specs.TriCalls.{padded, FindsOne, RemovesItem, Overwriting}
+pub use Rattle.iddqd_tri.specs.TriRefusal.{tri_refusal_text}

@@ -1,0 +1,28 @@
+//! Why an item with three keys is not taken.
+use std::error::Error;
+use std::fmt;
+
+/// Why an item was not taken. The item comes back.
+#[derive(Debug, PartialEq, Eq, Drop)]
+pub enum TriRefusal<T> {
+    /// None of its keys was found, and there are as many items as the limit allows.
+    Full(T),
+    /// There is place for it, or an item to make place, and memory was refused.
+    Memory(T),
+}
+
+impl<T> fmt::Display for TriRefusal<T> {
+    ghost use Rattle.std.specs.Prelude.{Some};
+    ghost use Rattle.iddqd_tri.specs.TriRefusal.{tri_refusal_text};
+
+    ghost output = { λ refusal. Some (tri_refusal_text refusal) };
+
+    fn fmt<W: fmt::Write>(&self, f: &mut fmt::Formatter<W>) -> fmt::Result {
+        match self {
+            TriRefusal::Full(_) => write!(f, "full"),
+            TriRefusal::Memory(_) => write!(f, "no memory"),
+        }
+    }
+}
+
+impl<T: fmt::Debug + Drop> Error for TriRefusal<T> {}

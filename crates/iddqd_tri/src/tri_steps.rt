@@ -1,0 +1,168 @@
+//! The steps that the store and the three tables of items with three keys take together.
+//!
+//! They are lent apart, since a step has to tell what room it leaves, which is no part of what a
+//! collection tells. Without a clash the store's handle is held while the tables take memory; with one
+//! the first removal makes the room.
+ghost use Rattle.std.specs.Prelude.{◌≡◌, ◌≤◌, ◌+◌, ℕ, [], map, Some, None, IsSome, IsOk, IfOk, OnOk, IfErr, OnErr, OnSome, IfSome, IfNone};
+ghost use Rattle.std.specs.Option.{option_and_then};
+ghost use Rattle.iddqd.specs.{get, room, next_index, inserted, removed, IsFull, IsValid};
+ghost use Rattle.iddqd_sides.specs.Scan.{IsLive};
+ghost use Rattle.iddqd_tri.specs.Clashes.{AreInOrder, IsOneOf, clashing};
+ghost use Rattle.iddqd_tri.specs.TriState.{maps_without, maps_with, maps_without_all, removed_all, HoldLive};
+ghost use Rattle.iddqd_tri.specs.TriTables.{maps_of, hashes_of, HasRoom, maps_without_one, removed_one};
+ghost use Rattle.iddqd_tri.specs.TriCalls.{padded, HasNoPlace};
+
+use crate::clashes::Clashes;
+use crate::tri_item::TriItem;
+use crate::tri_refusal::TriRefusal;
+use crate::tri_tables::{TriHashes, TriTables};
+use iddqd::item_index::ItemIndex;
+use iddqd::item_set::{GrowError, ItemSet};
+use std::alloc::AllocError;
+use std::hash::BuildHasher;
+
+/// Takes the item at an index out of the store, and the index out of each table, if it is live. It
+/// takes no memory.
+pub(crate) fn take_item<T: TriItem, S: BuildHasher>(
+    items: &mut ItemSet<T>,
+    tables: &mut TriTables,
+    state: &S,
+    ix: ItemIndex,
+) -> Option<T>
+    requires { HoldLive items.old.store (maps_of tables.old) }
+    ensures value { result ≡ get items.old.store ix }
+    ensures removed { OnSome result (items.new.store ≡ removed items.old.store ix) }
+    ensures taken { OnSome result (maps_of tables.new ≡ maps_without (maps_of tables.old) ix) }
+    ensures items_stay { IfNone result (items.new ≡ items.old) }
+    ensures tables_stay { IfNone result (tables.new ≡ tables.old) }
+    ensures room { OnSome result (room items.new ≡ room items.old + 1) }
+    ensures tables_room { HasRoom tables.old → HasRoom tables.new }
+{
+    let item = items.get(ix)?;
+    let hashes = TriHashes::of(state, item);
+    tables.take(hashes, ix);
+    items.remove(ix)
+}
+
+// Takes the item at an index that clashes out of the store and the tables, if there is one.
+fn take_clash<T: TriItem, S: BuildHasher>(
+    items: &mut ItemSet<T>,
+    tables: &mut TriTables,
+    state: &S,
+    ix: Option<ItemIndex>,
+) -> Option<T>
+    requires held { HoldLive items.old.store (maps_of tables.old) }
+    requires live { IfSome ix (IsLive items.old.store) }
+    ensures value { result ≡ option_and_then (get items.old.store) ix }
+    ensures removed { items.new.store ≡ removed_one items.old.store ix }
+    ensures taken { maps_of tables.new ≡ maps_without_one (maps_of tables.old) ix }
+    ensures held { HoldLive items.new.store (maps_of tables.new) }
+    ensures room { IsSome ix → 1 ≤ room items.new }
+    ensures room_stays { room items.old ≤ room items.new }
+    ensures tables_room { HasRoom tables.old → HasRoom tables.new }
+{
+    take_item(items, tables, state, ix?)
+}
+
+// Takes the items at these indexes out of the store and the tables, in this order.
+fn take_clashes<T: TriItem, S: BuildHasher>(
+    items: &mut ItemSet<T>,
+    tables: &mut TriTables,
+    state: &S,
+    clashes: Clashes,
+) -> [Option<T>; 3]
+    requires held { HoldLive items.old.store (maps_of tables.old) }
+    requires ordered { AreInOrder clashes.first clashes.second clashes.third }
+    requires live { (ix : ℕ) → IsOneOf clashes.first clashes.second clashes.third ix → IsLive items.old.store ix }
+    ensures values { result ≡ padded 3 (map (get items.old.store) (clashing clashes)) }
+    ensures removed { items.new.store ≡ removed_all items.old.store (clashing clashes) }
+    ensures taken { maps_of tables.new ≡ maps_without_all (maps_of tables.old) (clashing clashes) }
+    ensures held { HoldLive items.new.store (maps_of tables.new) }
+    ensures room { IsSome clashes.first → 1 ≤ room items.new }
+    ensures tables_room { HasRoom tables.old → HasRoom tables.new }
+{
+    let first = take_clash(items, tables, state, clashes.first);
+    let second = take_clash(items, tables, state, clashes.second);
+    let third = take_clash(items, tables, state, clashes.third);
+    [first, second, third]
+}
+
+// Stores an item where there is room for it.
+fn store_in_room<T>(items: &mut ItemSet<T>, item: T) -> ItemIndex
+    requires { 1 ≤ room items.old }
+    ensures index { result ≡ next_index items.old.store }
+    ensures stored { items.new.store ≡ inserted items.old.store item }
+{
+    match items.assert_can_grow() {
+        Ok(handle) => handle.insert(item),
+        Err(_) => unreachable!(),
+    }
+}
+
+/// Stores an item that clashes with none, and enters its index under the hashes. All memory is taken
+/// before anything is written.
+pub(crate) fn insert_apart<T: TriItem>(
+    items: &mut ItemSet<T>,
+    tables: &mut TriTables,
+    item: T,
+    hashes: TriHashes,
+) -> Result<(ItemIndex, [Option<T>; 3]), TriRefusal<T>>
+    requires valid { IsValid items.old.store }
+    requires held { HoldLive items.old.store (maps_of tables.old) }
+    ensures not_full { IsOk result → IsFull items.old.store → ⊥ }
+    ensures index { IfOk result (λ r. r.0 ≡ next_index items.old.store) }
+    ensures values { IfOk result (λ r. r.1 ≡ padded 3 []) }
+    ensures stored { OnOk result (items.new.store ≡ inserted items.old.store item) }
+    ensures entered { OnOk result (maps_of tables.new
+        ≡ maps_with (maps_of tables.old) (next_index items.old.store) (hashes_of hashes)) }
+    ensures refused { IfErr result (HasNoPlace items.old.store item) }
+    ensures items_stay { OnErr result (items.new.store ≡ items.old.store) }
+    ensures tables_stay { OnErr result (maps_of tables.new ≡ maps_of tables.old) }
+{
+    let handle = match items.assert_can_grow() {
+        Ok(handle) => handle,
+        Err(GrowError::Full) => return Err(TriRefusal::Full(item)),
+        Err(GrowError::Memory) => return Err(TriRefusal::Memory(item)),
+    };
+    if let Err(AllocError) = tables.reserve() {
+        return Err(TriRefusal::Memory(item));
+    }
+    let ix = handle.insert(item);
+    tables.enter(hashes, ix);
+    Ok((ix, [None, None, None]))
+}
+
+/// Takes the items that clash with an item, stores it and enters its index under the hashes; or hands
+/// it back where memory is refused, before anything is removed. The store takes none.
+pub(crate) fn replace_clashes<T: TriItem, S: BuildHasher>(
+    items: &mut ItemSet<T>,
+    tables: &mut TriTables,
+    state: &S,
+    item: T,
+    hashes: TriHashes,
+    clashes: Clashes,
+) -> Result<(ItemIndex, [Option<T>; 3]), TriRefusal<T>>
+    requires valid { IsValid items.old.store }
+    requires held { HoldLive items.old.store (maps_of tables.old) }
+    requires ordered { AreInOrder clashes.first clashes.second clashes.third }
+    requires live { (ix : ℕ) → IsOneOf clashes.first clashes.second clashes.third ix → IsLive items.old.store ix }
+    requires some { IsSome clashes.first }
+    ensures index { IfOk result (λ r. r.0 ≡ next_index (removed_all items.old.store (clashing clashes))) }
+    ensures values { IfOk result (λ r. r.1 ≡ padded 3 (map (get items.old.store) (clashing clashes))) }
+    ensures stored { OnOk result (items.new.store
+        ≡ inserted (removed_all items.old.store (clashing clashes)) item) }
+    ensures entered { let left = removed_all items.old.store (clashing clashes) in
+        OnOk result (maps_of tables.new
+        ≡ maps_with (maps_without_all (maps_of tables.old) (clashing clashes)) (next_index left) (hashes_of hashes)) }
+    ensures refused { IfErr result (λ refusal. refusal ≡ TriRefusal.Memory item) }
+    ensures items_stay { OnErr result (items.new.store ≡ items.old.store) }
+    ensures tables_stay { OnErr result (maps_of tables.new ≡ maps_of tables.old) }
+{
+    if let Err(AllocError) = tables.reserve() {
+        return Err(TriRefusal::Memory(item));
+    }
+    let removed = take_clashes(items, tables, state, clashes);
+    let ix = store_in_room(items, item);
+    tables.enter(hashes, ix);
+    Ok((ix, removed))
+}

@@ -1,0 +1,90 @@
+//! The three tables of items with three keys: each step is one of each table.
+ghost use Rattle.std.specs.Prelude.{◌≡◌, OnOk};
+ghost use Rattle.iddqd_tri.specs.TriKeys.{tri_keys_of, hashes_in};
+ghost use Rattle.iddqd_tri.specs.TriState.{no_maps, maps_without, maps_with};
+ghost use Rattle.iddqd_tri.specs.TriTables.{maps_of, hashes_of, HasRoom, AreFiled, AreUnfiled};
+
+use crate::tri_item::{First, Second, Third, TriItem};
+use iddqd::item_index::ItemIndex;
+use iddqd::map_hash::MapHash;
+use iddqd_hash::hash_table::MapHashTable;
+use iddqd_sides::hashed;
+use std::alloc::{AllocError, Global};
+use std::hash::BuildHasher;
+
+/// For each key the table of the live indexes.
+#[derive(Drop)]
+pub(crate) struct TriTables {
+    pub(crate) first: MapHashTable,
+    pub(crate) second: MapHashTable,
+    pub(crate) third: MapHashTable,
+}
+
+/// The hash of each key of an item.
+#[derive(Clone, Copy)]
+pub(crate) struct TriHashes {
+    pub(crate) first: MapHash,
+    pub(crate) second: MapHash,
+    pub(crate) third: MapHash,
+}
+
+impl TriHashes {
+    /// Those of an item under a hasher's state.
+    pub(crate) fn of<T: TriItem, S: BuildHasher>(state: &S, item: &T) -> TriHashes
+        ensures { let keys = tri_keys_of T.TriItem T.Key1.eq T.Key1.hash_input T.Key2.eq T.Key2.hash_input
+            T.Key3.eq T.Key3.hash_input S.BuildHasher S.Hasher.Hasher in
+            hashes_of result ≡ hashes_in keys state.now item.now }
+    {
+        TriHashes {
+            first: hashed::hash_of::<T, First, S>(state, item),
+            second: hashed::hash_of::<T, Second, S>(state, item),
+            third: hashed::hash_of::<T, Third, S>(state, item),
+        }
+    }
+}
+
+impl TriTables {
+    /// Empty tables, which take no memory.
+    pub(crate) fn new(alloc: Global) -> TriTables
+        ensures { maps_of result ≡ no_maps }
+    {
+        TriTables {
+            first: MapHashTable::new(alloc),
+            second: MapHashTable::new(alloc),
+            third: MapHashTable::new(alloc),
+        }
+    }
+
+    /// Makes room for one more index in each table, from the first to the third.
+    pub(crate) fn reserve(&mut self) -> Result<(), AllocError>
+        ensures contents { maps_of self.new ≡ maps_of self.old }
+        ensures room { OnOk result (HasRoom self.new) }
+    {
+        self.first.try_reserve(1)?;
+        self.second.try_reserve(1)?;
+        self.third.try_reserve(1)
+    }
+
+    /// Enters an index under a hash in each table. It takes no memory.
+    pub(crate) fn enter(&mut self, hashes: TriHashes, ix: ItemIndex)
+        requires room { HasRoom self.old }
+        requires new { AreUnfiled (maps_of self.old) ix }
+        ensures { maps_of self.new ≡ maps_with (maps_of self.old) ix (hashes_of hashes) }
+    {
+        self.first.insert_prehashed_unchecked(hashes.first, ix);
+        self.second.insert_prehashed_unchecked(hashes.second, ix);
+        self.third.insert_prehashed_unchecked(hashes.third, ix);
+    }
+
+    /// Takes an index out of each table, by a look-up under its hash, or else by a walk. It takes no
+    /// memory.
+    pub(crate) fn take(&mut self, hashes: TriHashes, ix: ItemIndex)
+        requires { AreFiled (maps_of self.old) ix }
+        ensures taken { maps_of self.new ≡ maps_without (maps_of self.old) ix }
+        ensures room { HasRoom self.old → HasRoom self.new }
+    {
+        hashed::take_index(&mut self.first, hashes.first, ix);
+        hashed::take_index(&mut self.second, hashes.second, ix);
+        hashed::take_index(&mut self.third, hashes.third, ix);
+    }
+}
