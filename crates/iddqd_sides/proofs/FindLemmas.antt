@@ -9,6 +9,7 @@ use Rattle.iddqd.specs.MapHash.{hash_one}
 use Rattle.iddqd.specs.Store.{Store, get}
 use Rattle.iddqd_hash.specs.MapHashTable.{FindsWhere}
 use Rattle.iddqd_sides.specs.Scan.{IsHit, AnswersScan, passes_by}
+use Rattle.iddqd_sides.proofs.ScanLemmas.{AnswersScan-hit}
 use Rattle.iddqd_sides.specs.Hashed.{Hashing, hashing_of, IsLawful, StandsForOne, AsksAt, Finds, IsExact, LooksUp}
 
 -- keys whose bounds keep their laws
@@ -57,11 +58,8 @@ module _ {T K : Type 0} (key_of : T → K) (s : Store T) where
     pub AnswersScan-found : (hashing : Hashing K) (r : Option ℕ) → StandsForOne hashing hash test → IsExact key_of hashing s m → Finds s m hash (passes_by key_of test) r → AnswersScan s (passes_by key_of test) r
     AnswersScan-found hashing None one o misses = λ ix hit.
         misses ix (record { hit = hit; filed = o.placed ix hit.0 hit.1 ∙ ap Some (one.hashed (key_of hit.0) hit.2) })
-    AnswersScan-found hashing (Some ix) one o found = λ j.
-        let (item, is, passed) = found.hit in (
-          λ hit. o.apart j ix hit.0 item hit.1 is (one.one_key (key_of hit.0) (key_of item) hit.2 passed),
-          λ same. subst (IsHit s (passes_by key_of test)) (sym same) found.hit,
-        )
+    AnswersScan-found hashing (Some ix) one o found =
+        AnswersScan-hit _ s _ ix (λ x y. one.one_key (key_of x) (key_of y)) o.apart found.hit
 
     pub LooksUp-found : (r : Option ℕ) → Finds s m hash (passes_by key_of test) r → LooksUp key_of s m hash test r
     LooksUp-found r found = record { found = found; as_scan = λ hashing one o. AnswersScan-found hashing r one o found }

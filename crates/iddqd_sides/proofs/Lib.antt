@@ -2,3 +2,6 @@ pub mod ScanLemmas
 pub mod FindLemmas
 pub mod HoldsLemmas
 pub mod PlaceLemmas
+pub mod OrderedFindLemmas
+pub mod OrderedHoldsLemmas
+pub mod OrderedPlaceLemmas

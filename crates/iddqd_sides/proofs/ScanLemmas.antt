@@ -39,6 +39,13 @@ module _ {T : Type 0} where
   scan_hits s test None none ix = (λ is. absurd (cc), λ hit. absurd (none ix hit))
   scan_hits s test (Some i) scan ix = (λ is. (scan ix).1 (cc), λ hit. ap Some (sym ((scan ix).0 hit)))
 
+  -- where live items that are alike are one, and those that pass are alike, one that passes is a scan's answer
+  pub AnswersScan-hit : (alike : T → T → Bool) (s : Store T) (test : T → Bool) (ix : ℕ) → ((x y : T) → test x ≡ true → test y ≡ true → alike x y ≡ true) → AreApart alike s → IsHit s test ix → AnswersScan s test (Some ix)
+  AnswersScan-hit alike s test ix one apart hit = λ j. (
+    λ other. apart j ix other.0 hit.0 other.1 hit.1 (one other.0 hit.0 other.2 hit.2),
+    λ same. subst (IsHit s test) (sym same) hit,
+  )
+
   -- a removal: what had no hit has none, and what had one alone has none once that is gone, or else the same
   module _ (s : Store T) (test : T → Bool) where
     pub HasNoHit-removed : (ix : ℕ) (item : T) → get s ix ≡ Some item → HasNoHit s test → HasNoHit (removed s ix) test

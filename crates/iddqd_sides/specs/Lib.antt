@@ -1,3 +1,4 @@
 pub mod Scan
 pub mod Side
 pub mod Hashed
+pub mod Ordered

@@ -4,7 +4,8 @@ ghost use Rattle.iddqd_sides.specs.Scan.{IsLive, IsKeyAt};
 
 use iddqd::item_index::ItemIndex;
 use iddqd::item_set::ItemSet;
-use iddqd::map_hash::Equivalent;
+use iddqd::map_hash::{Comparable, Equivalent};
+use std::cmp::Ordering;
 use std::hash::{Hash, Hasher};
 
 /// A key of an item, named by a type that has no values.
@@ -44,6 +45,28 @@ impl<'a, K: Eq> Equivalent<K> for ByKey<'a, K> {
     }
 }
 
+impl<'a, K: Ord> Comparable<K> for ByKey<'a, K> {
+    ghost use Rattle.iddqd.specs.MapHashLaws.{equal_in, greater_before_in};
+    ghost use Rattle.std.proofs.lemmas.Cmp.{alike_right};
+
+    ghost compare = { λ q k. K.cmp q.0.now k };
+
+    ghost equal_where_equivalent = { λ q k. equal_in _ _ (K.matches_eq q.0.now k) };
+
+    ghost less_after = { λ q a b before less. K.total.trans q.0.now a b less before };
+
+    ghost greater_before = { λ q a b. greater_before_in K.total q.0.now a b };
+
+    ghost equal_keys = { λ q a b. alike_right K.total a b q.0.now };
+
+    ghost as_equivalent = { λ q k a same.
+        K.total.congr q.0.now k a ((equal_in _ _ (K.matches_eq q.0.now k)).0 same) };
+
+    fn compare(&self, key: &K) -> Ordering {
+        self.0.cmp(key)
+    }
+}
+
 // A query, for keys that are lent.
 #[derive(Clone, Copy)]
 pub(crate) struct Lent<'a, Q>(pub(crate) &'a Q);
@@ -53,6 +76,24 @@ impl<'a, 'b, K, Q: Equivalent<K>> Equivalent<&'b K> for Lent<'a, Q> {
 
     fn equivalent(&self, key: &&'b K) -> bool {
         self.0.equivalent(*key)
+    }
+}
+
+impl<'a, 'b, K: Ord, Q: Comparable<K>> Comparable<&'b K> for Lent<'a, Q> {
+    ghost compare = { λ q k. Q.compare q.0.now k.now };
+
+    ghost equal_where_equivalent = { λ q k. Q.equal_where_equivalent q.0.now k.now };
+
+    ghost less_after = { λ q a b. Q.less_after q.0.now a.now b.now };
+
+    ghost greater_before = { λ q a b. Q.greater_before q.0.now a.now b.now };
+
+    ghost equal_keys = { λ q a b. Q.equal_keys q.0.now a.now b.now };
+
+    ghost as_equivalent = { λ q k a. Q.as_equivalent q.0.now k.now a.now };
+
+    fn compare(&self, key: &&'b K) -> Ordering {
+        self.0.compare(*key)
     }
 }
 

@@ -6,3 +6,4 @@
 
 pub mod hashed;
 pub mod key_of;
+pub mod ordered;
