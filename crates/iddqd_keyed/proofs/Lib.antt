@@ -1,11 +1,5 @@
-pub mod PairedLemmas
 pub mod KeyLemmas
-pub mod SortedLemmas
-pub mod FindLemmas
-pub mod OrderLemmas
 pub mod KeepsLemmas
 pub mod InsertLemmas
-pub mod CompactionLemmas
-pub mod OverwriteLemmas
 pub mod StepLemmas
 pub mod RunLemmas

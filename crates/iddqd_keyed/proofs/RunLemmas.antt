@@ -4,65 +4,87 @@ use Rattle.std.specs.List.{All}
 use Rattle.std.proofs.lemmas.List.Elements.{All-cons, All-nil}
 use Rattle.iddqd.specs.Store.{Store}
 use Rattle.iddqd_keyed.specs.Keys.{Keys}
-use Rattle.iddqd_keyed.specs.State.{State, IsPaired, IsEmpty, FirstKeysInOrder, SecondKeysInOrder, InOrder}
-use Rattle.iddqd_keyed.specs.Machine.{Step, ChangesFirstKey, ChangesSecondKey, IsSilentChange, FirstKeysAsScan, SecondKeysAsScan, AsScan}
-use Rattle.iddqd_keyed.specs.Run.{Run, IsStepChain, No_step, Next_step, IsQuietAtStart, IsQuietAfter, HoldsWhereQuiet, ExactWhereQuiet, IsExactWhereQuiet}
+use Rattle.iddqd_keyed.specs.State.{State, IsPaired, IsEmpty}
+use Rattle.iddqd_keyed.specs.Sides.{Side, IsExact, InOrder, Changes, AsScan, first_side, second_side}
+use Rattle.iddqd_keyed.specs.Machine.{Step, StepsOn}
+use Rattle.iddqd_keyed.specs.Run.{Run, IsStepChain, No_step, Next_step, IsQuietAfter, IsExactFrom, IsExactWhereQuiet, IsSideExactWhereQuiet, IsSilentChange, AnswersAsScan}
 use Rattle.iddqd_keyed.specs.declared.command.Command.{Command}
 use Rattle.iddqd_keyed.specs.declared.command.Reply.{Reply}
-use Rattle.iddqd_keyed.proofs.OrderLemmas.{FirstKeysInOrder-empty, SecondKeysInOrder-empty, InOrder-empty}
+use Rattle.iddqd_keyed.proofs.KeepsLemmas.{FirstKeysInOrder-bare, SecondKeysInOrder-bare}
 
 module _ {T S K1 K2 : Type 0} (keys : Keys T K1 K2 S) where
   -- a chain goes on by one step
-  pub IsStepChain-push : {old mid new : State T S} {commands : List (Command T K1 K2)} {replies : List (Reply T)} {moments : List (State T S)} {command : Command T K1 K2} {reply : Reply T} → IsStepChain keys old commands replies moments mid → Step keys mid command reply new → IsStepChain keys old (commands ++ command ∷ []) (replies ++ reply ∷ []) (moments ++ new ∷ []) new
+  pub IsStepChain-push :
+      {old mid new : State T S} {commands : List (Command T K1 K2)} {replies : List (Reply T)}
+      {moments : List (State T S)} {command : Command T K1 K2} {reply : Reply T}
+      → IsStepChain keys old commands replies moments mid → Step keys mid command reply new
+      → IsStepChain keys old (commands ++ command ∷ []) (replies ++ reply ∷ []) (moments ++ new ∷ []) new
   IsStepChain-push No_step step = Next_step step No_step
   IsStepChain-push (Next_step first rest) step = Next_step first (IsStepChain-push rest step)
 
   -- along a chain from a paired state, each moment is paired
-  paired_along : {old new : State T S} {commands : List (Command T K1 K2)} {replies : List (Reply T)} {moments : List (State T S)} → IsStepChain keys old commands replies moments new → IsPaired old → All IsPaired (old ∷ moments)
+  paired_along :
+      {old new : State T S} {commands : List (Command T K1 K2)} {replies : List (Reply T)} {moments : List (State T S)}
+      → IsStepChain keys old commands replies moments new → IsPaired old → All IsPaired (old ∷ moments)
   paired_along {old = old} No_step was = All-cons IsPaired old [] was (All-nil IsPaired)
-  paired_along {old = old} {moments = moments} (Next_step step rest) was = All-cons IsPaired old moments was (paired_along rest step.paired.1)
+  paired_along {old = old} {moments = moments} (Next_step step rest) was =
+      All-cons IsPaired old moments was (paired_along rest step.paired.1)
 
-  -- what holds where nothing is live, and is kept by each step that makes no change, holds at each quiet moment
-  module _ (Changes : State T S → Command T K1 K2 → Type 0) (Holds : State T S → Type 0) (Exact : Store T → Command T K1 K2 → Reply T → Type 0) (at_empty : (s : State T S) → IsPaired s → IsEmpty s → Holds s) (kept : (old new : State T S) (command : Command T K1 K2) (reply : Reply T) → Step keys old command reply new → (Changes old command → ⊥) → Holds old → Holds new) (exact : (old new : State T S) (command : Command T K1 K2) (reply : Reply T) → Step keys old command reply new → Holds old → Exact old.store command reply) where
-    holds_at_start : (s : State T S) → IsPaired s → IsQuietAtStart Holds s → Holds s
-    holds_at_start s paired (inl none) = at_empty s paired none
-    holds_at_start s paired (inr holds) = holds
-
-    holds_after : (is_quiet : Type 0) (old new : State T S) (command : Command T K1 K2) (reply : Reply T) → Step keys old command reply new → (is_quiet → Holds old) → IsQuietAfter Changes is_quiet old command new → Holds new
-    holds_after is_quiet old new command reply step was (inl none) = at_empty new step.paired.1 none
-    holds_after is_quiet old new command reply step was (inr quiet) = kept old new command reply step quiet.1 (was quiet.0)
-
-    holds_along : (is_quiet : Type 0) {old new : State T S} {commands : List (Command T K1 K2)} {replies : List (Reply T)} {moments : List (State T S)} → IsStepChain keys old commands replies moments new → (is_quiet → Holds old) → HoldsWhereQuiet Changes Holds is_quiet old commands moments
-    holds_along is_quiet No_step was = was
-    holds_along is_quiet {old = old} (Next_step {next = next} {command = command} {reply = reply} step rest) was =
-        (was, holds_along (IsQuietAfter Changes is_quiet old command next) rest (holds_after is_quiet old next command reply step was))
-
-    exact_along : (is_quiet : Type 0) {old new : State T S} {commands : List (Command T K1 K2)} {replies : List (Reply T)} {moments : List (State T S)} → IsStepChain keys old commands replies moments new → (is_quiet → Holds old) → ExactWhereQuiet Changes Exact is_quiet old commands replies moments
-    exact_along is_quiet No_step was = tt
+  -- what holds where nothing is live, is kept by each step that makes no change, and has exact answers, is exact at each
+  -- quiet moment
+  module _
+      (Changed : State T S → Command T K1 K2 → Type 0) (Holds : State T S → Type 0)
+      (Exact : Store T → Command T K1 K2 → Reply T → Type 0)
+      (bare : (s : State T S) → IsPaired s → IsEmpty s → Holds s)
+      (steps : (old new : State T S) (command : Command T K1 K2) (reply : Reply T) → Step keys old command reply new
+      → Holds old → Exact old.store command reply × ((Changed old command → ⊥) → Holds new)) where
+    exact_along :
+        (is_quiet : Type 0) {old new : State T S} {commands : List (Command T K1 K2)} {replies : List (Reply T)}
+        {moments : List (State T S)} → IsStepChain keys old commands replies moments new → (is_quiet → Holds old)
+        → IsExactFrom Changed Holds Exact is_quiet old commands replies moments
+    exact_along is_quiet No_step was = was
     exact_along is_quiet {old = old} (Next_step {next = next} {command = command} {reply = reply} step rest) was =
-        ((λ quiet. exact old next command reply step (was quiet)), exact_along (IsQuietAfter Changes is_quiet old command next) rest (holds_after is_quiet old next command reply step was))
+        let stepped = steps old next command reply step in (
+          λ quiet. (was quiet, (stepped (was quiet)).0),
+          exact_along (IsQuietAfter Changed Holds Exact is_quiet old command next) rest (λ now. elim now [
+            | inl none ↦ bare next step.paired.1 none
+            | inr quiet ↦ (stepped (was quiet.0)).1 quiet.1
+          ]),
+        )
 
-    quiet_along : {old new : State T S} {commands : List (Command T K1 K2)} {replies : List (Reply T)} {moments : List (State T S)} → IsStepChain keys old commands replies moments new → IsPaired old → IsExactWhereQuiet Changes Holds Exact old commands replies moments
-    quiet_along {old = old} chain paired =
-        let start = holds_at_start old paired in
-        record { holds = holds_along (IsQuietAtStart Holds old) chain start; exact = exact_along (IsQuietAtStart Holds old) chain start }
+    exact_from_start :
+        {old new : State T S} {commands : List (Command T K1 K2)} {replies : List (Reply T)}
+        {moments : List (State T S)} → IsStepChain keys old commands replies moments new → IsPaired old
+        → IsExactWhereQuiet Changed Holds Exact old commands replies moments
+    exact_from_start {old = old} chain paired =
+        exact_along _ chain (λ now. elim now [ inl none ↦ bare old paired none | inr holds ↦ holds ])
 
-  pub Run-from_chain : {old new : State T S} {commands : List (Command T K1 K2)} {replies : List (Reply T)} {moments : List (State T S)} → IsStepChain keys old commands replies moments new → IsPaired old → Run keys old commands replies new
+  pub Run-from_chain :
+      {old new : State T S} {commands : List (Command T K1 K2)} {replies : List (Reply T)} {moments : List (State T S)}
+      → IsStepChain keys old commands replies moments new → IsPaired old → Run keys old commands replies new
   Run-from_chain {moments = moments} chain paired =
+      let first = first_side keys in
+      let second = second_side keys in
       record {
         moments = moments;
         steps = chain;
         paired = paired_along chain paired;
-        quiet = quiet_along (IsSilentChange keys) (InOrder keys) (AsScan keys) (InOrder-empty keys)
-            (λ old new command reply step none o. record { first = step.first_keys (λ change. none (inl change)) o.first; second = (step.second_keys (λ change. none (inr change))).in_order o.second })
-            (λ old new command reply step o. (step.first_as_scan o.first, step.second_as_scan o.second))
+        quiet = exact_from_start (IsSilentChange keys) (InOrder keys) (AnswersAsScan keys)
+            (λ s p none. record { first = FirstKeysInOrder-bare keys s p none; second = SecondKeysInOrder-bare keys s p none })
+            (λ old new command reply step o. (
+              (step.first_keys.as_scan o.first, step.second_keys.as_scan o.second),
+              λ none. record {
+                first = (step.first_keys.keeps (λ change. none (inl change))).exact o.first;
+                second = (step.second_keys.keeps (λ change. none (inr change))).exact o.second;
+              },
+            ))
             chain paired;
-        quiet_first_keys = quiet_along (ChangesFirstKey keys) (FirstKeysInOrder keys) (FirstKeysAsScan keys) (λ s _. FirstKeysInOrder-empty keys s)
-            (λ old new command reply step. step.first_keys)
-            (λ old new command reply step. step.first_as_scan)
+        quiet_first_keys = exact_from_start (Changes first) (IsExact first) (AsScan first) (FirstKeysInOrder-bare keys)
+            (λ old new command reply step o.
+            (step.first_keys.as_scan o, λ none. (step.first_keys.keeps none).exact o))
             chain paired;
-        quiet_second_keys = quiet_along (ChangesSecondKey keys) (SecondKeysInOrder keys) (SecondKeysAsScan keys) (SecondKeysInOrder-empty keys)
-            (λ old new command reply step none. (step.second_keys none).in_order)
-            (λ old new command reply step. step.second_as_scan)
+        quiet_second_keys = exact_from_start (Changes second) (IsExact second) (AsScan second) (SecondKeysInOrder-bare keys)
+            (λ old new command reply step o.
+            (step.second_keys.as_scan o, λ none. (step.second_keys.keeps none).exact o))
             chain paired;
       }

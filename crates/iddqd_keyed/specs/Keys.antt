@@ -1,10 +1,11 @@
 -- The keys that items lend, and how those are compared and hashed.
 use Rattle.std.specs.Prelude.{Bool, ℕ, List}
-use Rattle.std.specs.Ordering.{is_eq}
+use Rattle.std.specs.Ordering.{eq_by_cmp}
 use Rattle.std.specs.declared.cmp.Ordering.{Ordering}
 use Rattle.std.specs.declared.hash.Hasher as hasher
 use Rattle.std.specs.declared.hash.BuildHasher as builder
 use Rattle.iddqd.specs.MapHash.{hash_one}
+use Rattle.iddqd_sides.specs.Hashed.{Hashing}
 use Rattle.iddqd_keyed.specs.declared.keyed_item.KeyedItem.{Ghosts}
 
 -- which keys an item has, when two first keys are equal, how two second keys compare, and the hash of a first key
@@ -30,10 +31,10 @@ keys_of item equal hash_input compare b h =
     }
 
 module _ {T K1 K2 S : Type 0} (keys : Keys T K1 K2 S) where
-  -- the item has this first key
-  abbrev pub has_first : K1 → T → Bool
-  has_first key item = keys.equal_first key (keys.first item)
+  -- how first keys are compared and hashed under a state of the hasher
+  abbrev pub first_hashing : S → Hashing K1
+  first_hashing hasher = record { equal = keys.equal_first; hash_of = keys.hash_first hasher }
 
-  -- the item has this second key
-  abbrev pub has_second : K2 → T → Bool
-  has_second key item = is_eq (keys.compare_second key (keys.second item))
+  -- when two second keys are equal
+  abbrev pub equal_second : K2 → K2 → Bool
+  equal_second = eq_by_cmp keys.compare_second

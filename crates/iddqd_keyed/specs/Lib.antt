@@ -1,19 +1,24 @@
 pub mod Keys
 pub mod State
 pub mod Refusal
+pub mod Sides
 pub mod Machine
 pub mod Run
 -- what a caller's clauses cite, from one place: of the crates below, and of this one
 pub use Rattle.iddqd.specs.Store
 pub use Rattle.iddqd.specs.Compaction
 pub use Rattle.iddqd_order.specs.Iter
+pub use Rattle.iddqd_sides.specs.Scan
+pub use Rattle.iddqd_sides.specs.Side
+pub use Rattle.iddqd_sides.specs.Hashed
 pub use Rattle.iddqd.specs.Store.{get, live_count, next_index, IsFull}
 pub use Rattle.iddqd.specs.Compaction.{rank, IsRemapOf}
 pub use Rattle.iddqd_order.specs.Iter.{indexes_left}
-pub use Rattle.iddqd_keyed.specs.Keys.{keys_of, has_first, has_second}
-pub use Rattle.iddqd_keyed.specs.State.{empty_state, empty_state_within, cleared_state, hash_in, key_at}
-pub use Rattle.iddqd_keyed.specs.State.{IsLive, IsPaired, IsSorted, FirstKeysInOrder, SecondKeysInOrder, InOrder}
-pub use Rattle.iddqd_keyed.specs.State.{AnswersScan, LooksUp1, LooksUp2, Compacts, Keeps, KeepsUnlessChanged}
+pub use Rattle.iddqd_sides.specs.Scan.{IsLive, AnswersScan}
+pub use Rattle.iddqd_keyed.specs.Keys.{keys_of}
+pub use Rattle.iddqd_keyed.specs.State.{empty_state, empty_state_within, cleared_state, unbound, Compacts, IsPaired}
+pub use Rattle.iddqd_keyed.specs.Sides.{hash_in, has, first_side, second_side, IsExact, LooksUp, AsScan}
+pub use Rattle.iddqd_keyed.specs.Sides.{FirstKeysInOrder, SecondKeysInOrder, InOrder, Keeps, KeepsUnlessChanged}
 pub use Rattle.iddqd_keyed.specs.Refusal.{index_or_dash, refusal_text}
-pub use Rattle.iddqd_keyed.specs.Machine.{HasNoPlace, StoresAt, Inserts, TellsAsScan, Removes, Removes1, Removes2}
-pub use Rattle.iddqd_keyed.specs.Machine.{Overwrites, IsSortedScan, Answers, AsScan, IsSilentChange, Step}
+pub use Rattle.iddqd_keyed.specs.Machine.{StoresAt, Inserts, TellsAsScan, Removes, RemovesBy, Overwrites, Answers, Step}
+pub use Rattle.iddqd_keyed.specs.Run.{IsSilentChange}

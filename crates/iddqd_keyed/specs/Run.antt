@@ -1,47 +1,49 @@
 -- Runs of the keyed machine, and their quiet moments.
-use Rattle.std.specs.Prelude.{List, [], ◌∷◌, ◌⊎◌, All, ⊤}
+use Rattle.std.specs.Prelude.{List, [], ◌∷◌, ◌⊎◌, All}
 use Rattle.iddqd.specs.Store.{Store}
 use Rattle.iddqd_keyed.specs.Keys.{Keys}
-use Rattle.iddqd_keyed.specs.State.{State, IsPaired, IsEmpty, FirstKeysInOrder, SecondKeysInOrder, InOrder}
-use Rattle.iddqd_keyed.specs.Machine.{Step, ChangesFirstKey, ChangesSecondKey, IsSilentChange, FirstKeysAsScan, SecondKeysAsScan, AsScan}
+use Rattle.iddqd_keyed.specs.State.{State, IsPaired, IsEmpty}
+use Rattle.iddqd_keyed.specs.Sides.{Side, IsExact, InOrder, Changes, AsScan, first_side, second_side}
+use Rattle.iddqd_keyed.specs.Machine.{Step}
 use Rattle.iddqd_keyed.specs.declared.command.Command.{Command}
 use Rattle.iddqd_keyed.specs.declared.command.Reply.{Reply}
 
--- The first moment of a run is quiet where nothing is live, or where what `Holds` says holds.
-abbrev pub IsQuietAtStart : {T S : Type 0} → (State T S → Type 0) → State T S → Type 0
-IsQuietAtStart Holds first = IsEmpty first ⊎ Holds first
-
--- `Changes` says which commands end quiet moments.
-module _ {T S K1 K2 : Type 0} (Changes : State T S → Command T K1 K2 → Type 0) where
+-- `Changes` says which commands end quiet moments, `Holds` what is then to hold, and `Exact` what an answer is then.
+module _
+    {T S K1 K2 : Type 0} (Changes : State T S → Command T K1 K2 → Type 0) (Holds : State T S → Type 0)
+    (Exact : Store T → Command T K1 K2 → Reply T → Type 0) where
   -- a later moment is quiet where nothing is live, or where the one before is and no change stands between
   abbrev pub IsQuietAfter : Type 0 → State T S → Command T K1 K2 → State T S → Type 0
   IsQuietAfter was_quiet old command new = IsEmpty new ⊎ (was_quiet × (Changes old command → ⊥))
 
-  -- it holds at each quiet moment; `is_quiet` says whether the first is
-  abbrev pub HoldsWhereQuiet :
-      (State T S → Type 0) → Type 0 → State T S → List (Command T K1 K2) → List (State T S) → Type 0
-  HoldsWhereQuiet Holds is_quiet moment (command ∷ commands) (next ∷ moments) =
-      (is_quiet → Holds moment)
-      × HoldsWhereQuiet Holds (IsQuietAfter is_quiet moment command next) next commands moments
-  HoldsWhereQuiet Holds is_quiet moment commands moments = is_quiet → Holds moment
+  -- at each quiet moment it holds, and what is answered there is exact; `is_quiet` says whether the first is
+  abbrev pub IsExactFrom :
+      Type 0 → State T S → List (Command T K1 K2) → List (Reply T) → List (State T S) → Type 0
+  IsExactFrom is_quiet moment (command ∷ commands) (reply ∷ replies) (next ∷ moments) =
+      (is_quiet → Holds moment × Exact moment.store command reply)
+      × IsExactFrom (IsQuietAfter is_quiet moment command next) next commands replies moments
+  IsExactFrom is_quiet moment commands replies moments = is_quiet → Holds moment
 
-  -- each answer that is given in a quiet moment is exact; `is_quiet` says whether the first is
-  abbrev pub ExactWhereQuiet :
-      (Store T → Command T K1 K2 → Reply T → Type 0) → Type 0 → State T S → List (Command T K1 K2) → List (Reply T)
-      → List (State T S) → Type 0
-  ExactWhereQuiet Exact is_quiet moment (command ∷ commands) (reply ∷ replies) (next ∷ moments) =
-      (is_quiet → Exact moment.store command reply)
-      × ExactWhereQuiet Exact (IsQuietAfter is_quiet moment command next) next commands replies moments
-  ExactWhereQuiet Exact is_quiet moment commands replies moments = ⊤
+  -- the first moment of a run is quiet where nothing is live, or where it holds
+  abbrev pub IsExactWhereQuiet :
+      State T S → List (Command T K1 K2) → List (Reply T) → List (State T S) → Type 0
+  IsExactWhereQuiet first = IsExactFrom (IsEmpty first ⊎ Holds first) first
 
-  -- at each quiet moment it holds, and what is answered there is exact
-  pub record IsExactWhereQuiet
-      (Holds : State T S → Type 0) (Exact : Store T → Command T K1 K2 → Reply T → Type 0) (first : State T S)
-      (commands : List (Command T K1 K2)) (replies : List (Reply T)) (moments : List (State T S)) : Type 0 where
-    pub holds : HoldsWhereQuiet Holds (IsQuietAtStart Holds first) first commands moments
-    pub exact : ExactWhereQuiet Exact (IsQuietAtStart Holds first) first commands replies moments
+-- each side of the keys is watched by itself
+abbrev pub IsSideExactWhereQuiet :
+    {T S K1 K2 K : Type 0} → Side T S K1 K2 K → State T S → List (Command T K1 K2) → List (Reply T)
+    → List (State T S) → Type 0
+IsSideExactWhereQuiet side = IsExactWhereQuiet (Changes side) (IsExact side) (AsScan side)
 
 module _ {T S K1 K2 : Type 0} (keys : Keys T K1 K2 S) where
+  -- the command gives a live index an item with another first or another second key
+  abbrev pub IsSilentChange : State T S → Command T K1 K2 → Type 0
+  IsSilentChange old command = Changes (first_side keys) old command ⊎ Changes (second_side keys) old command
+
+  -- the answer is that of a scan of the live items, of either side
+  abbrev pub AnswersAsScan : Store T → Command T K1 K2 → Reply T → Type 0
+  AnswersAsScan s command reply = AsScan (first_side keys) s command reply × AsScan (second_side keys) s command reply
+
   -- from one state through these later moments to the last: a step to each moment, and a reply to each command
   pub data IsStepChain :
       State T S → List (Command T K1 K2) → List (Reply T) → List (State T S) → State T S → Type 0 where
@@ -62,10 +64,6 @@ module _ {T S K1 K2 : Type 0} (keys : Keys T K1 K2 S) where
     pub moments : List (State T S)
     pub steps : IsStepChain old commands replies moments new
     pub paired : All IsPaired (old ∷ moments)
-    pub quiet : IsExactWhereQuiet (IsSilentChange keys) (InOrder keys) (AsScan keys) old commands replies moments
-    pub quiet_first_keys :
-        IsExactWhereQuiet (ChangesFirstKey keys) (FirstKeysInOrder keys) (FirstKeysAsScan keys)
-        old commands replies moments
-    pub quiet_second_keys :
-        IsExactWhereQuiet (ChangesSecondKey keys) (SecondKeysInOrder keys) (SecondKeysAsScan keys)
-        old commands replies moments
+    pub quiet : IsExactWhereQuiet IsSilentChange (InOrder keys) AnswersAsScan old commands replies moments
+    pub quiet_first_keys : IsSideExactWhereQuiet (first_side keys) old commands replies moments
+    pub quiet_second_keys : IsSideExactWhereQuiet (second_side keys) old commands replies moments

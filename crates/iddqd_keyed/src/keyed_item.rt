@@ -1,6 +1,10 @@
 //! What an item lends as its two keys.
+//!
+//! Each key is named by a type without values, by which a table goes by it. Users implement
+//! [`KeyedItem`] alone.
 ghost use Rattle.std.specs.Prelude.{◌≡◌};
 
+use iddqd_sides::key_of::KeyOf;
 use std::hash::Hash;
 
 /// An item with two keys, each a function of the item's value.
@@ -21,4 +25,30 @@ pub trait KeyedItem: Drop {
     /// The second key of the item.
     fn key2(&self) -> &Self::Key2
         ensures { result.now ≡ second_key self.now };
+}
+
+/// Names the first key.
+pub enum First {}
+
+impl<T: KeyedItem> KeyOf<T> for First {
+    type Key = T::Key1;
+
+    ghost key_of = { T.KeyedItem.first_key };
+
+    fn key(item: &T) -> &T::Key1 {
+        item.key1()
+    }
+}
+
+/// Names the second key.
+pub enum Second {}
+
+impl<T: KeyedItem> KeyOf<T> for Second {
+    type Key = T::Key2;
+
+    ghost key_of = { T.KeyedItem.second_key };
+
+    fn key(item: &T) -> &T::Key2 {
+        item.key2()
+    }
 }

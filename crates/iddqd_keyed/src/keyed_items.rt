@@ -11,29 +11,29 @@
 //! An insert is one search of the ordered table, which tells a duplicate, or else the place. Each call
 //! says that its states are paired, though the type does, so that `step` and `run` are proved from the
 //! calls' clauses alone. `walk` lends the indexes and takes no memory.
-ghost use Rattle.std.specs.Prelude.{◌≡◌, ◌↔◌, ℕ, [], None, IsSome, IsOk, IfOk, OnOk, IfErr, OnErr, option_copied};
-ghost use Rattle.std.specs.List.{Contains};
+ghost use Rattle.std.specs.Prelude.{◌≡◌, ◌↔◌, [], None, IsSome, IsOk, IfOk, OnOk, IfErr, OnErr, option_copied};
 ghost use Rattle.std.specs.FinMap as finite;
-ghost use Rattle.iddqd.specs.{get, live_count, next_index, inserted, IsFull, IsValid, IsRemapOf};
+ghost use Rattle.iddqd.specs.{get, live_count, next_index, inserted, removed, IsFull, IsValid, IsRemapOf};
 ghost use Rattle.iddqd_hash.specs.{filed};
-ghost use Rattle.iddqd_order.specs.{indexes_left, order_of};
+ghost use Rattle.iddqd_order.specs.{indexes_left, order_of, without};
+ghost use Rattle.iddqd_sides.specs.Scan.{IsLive};
+ghost use Rattle.iddqd_sides.specs.Ordered as ordered_side;
 ghost use Rattle.iddqd_keyed.specs.Keys.{keys_of};
-ghost use Rattle.iddqd_keyed.specs.State.{empty_state, empty_state_within, cleared_state, Compacts, hash_in, IsLive, IsPaired, AddsToOrder, FindsInOrder, SecondKeysInOrder, Keeps, KeepsUnlessChanged, LooksUp1, LooksUp2};
-ghost use Rattle.iddqd_keyed.specs.Machine.{Refuses, finds_told, Inserts, TellsAsScan, Removes, Removes1, Removes2, Overwrites, IsSortedScan, Step};
+ghost use Rattle.iddqd_keyed.specs.State.{empty_state, empty_state_within, cleared_state, Compacts, IsPaired};
+ghost use Rattle.iddqd_keyed.specs.Sides.{first_side, second_side, finds_told, hash_in, LooksUp, IsExact, Keeps, KeepsUnlessChanged};
+ghost use Rattle.iddqd_keyed.specs.Machine.{Refuses, Inserts, TellsAsScan, Removes, RemovesBy, Overwrites, Step};
 ghost use Rattle.iddqd_keyed.specs.Run.{Run};
 
 use crate::command::{Command, Reply};
-use crate::keyed_item::KeyedItem;
-use crate::lookup::{
-    enter_by_second_key, find_by_first_key, find_by_second_key, remove_from_hash_table,
-    remove_item, take_by_first_key, take_by_second_key, take_item,
-};
+use crate::keyed_item::{First, KeyedItem, Second};
 use iddqd::index_remap::IndexRemap;
 use iddqd::item_index::ItemIndex;
 use iddqd::item_set::{GrowError, ItemSet};
 use iddqd::map_hash::MapHash;
 use iddqd_hash::hash_table::MapHashTable;
 use iddqd_order::btree_table::{Entry, Iter, MapBTreeTable};
+use iddqd_sides::key_of::ByKey;
+use iddqd_sides::{hashed, ordered};
 use std::alloc::{AllocError, Global};
 use std::error::Error;
 use std::fmt;
@@ -186,7 +186,7 @@ impl<T: KeyedItem, S: BuildHasher> KeyedItems<T, S> {
     /// alone.
     pub fn find1(&self, key: &T::Key1) -> Option<ItemIndex>
         ensures paired { IsPaired self.now }
-        ensures found { LooksUp1 ⟦<Self as Keyed>⟧.keys self.now key.now result }
+        ensures found { LooksUp (first_side ⟦<Self as Keyed>⟧.keys) self.now key.now result }
     {
         let hash = self.filed.compute_hash(&self.state, key);
         self.find_hashed(hash, key)
@@ -196,9 +196,9 @@ impl<T: KeyedItem, S: BuildHasher> KeyedItems<T, S> {
     /// the number of items comparisons.
     pub fn find2(&self, key: &T::Key2) -> Option<ItemIndex>
         ensures paired { IsPaired self.now }
-        ensures found { LooksUp2 ⟦<Self as Keyed>⟧.keys self.now key.now result }
+        ensures found { LooksUp (second_side ⟦<Self as Keyed>⟧.keys) self.now key.now result }
     {
-        find_by_second_key(&self.order, &self.items, key)
+        ordered::find::<T, Second, ByKey<T::Key2>>(&self.order, &self.items, &ByKey(key))
     }
 
     /// The indexes in the order of the ordered table: by second key, where none was changed silently.
@@ -206,8 +206,8 @@ impl<T: KeyedItem, S: BuildHasher> KeyedItems<T, S> {
     pub fn walk(&self) -> Iter<'_>
         ensures order { indexes_left result ≡ self.now.order }
         ensures paired { IsPaired self.now }
-        ensures as_scan { let keys = ⟦<Self as Keyed>⟧.keys in
-            SecondKeysInOrder keys self.now → IsSortedScan keys self.now.store (indexes_left result) }
+        ensures as_scan { let side = second_side ⟦<Self as Keyed>⟧.keys in
+            IsExact side self.now → side.Lists self.now.store (indexes_left result) }
     {
         self.order.iter()
     }
@@ -221,17 +221,10 @@ impl<T: KeyedItem, S: BuildHasher> KeyedItems<T, S> {
         ensures tells { TellsAsScan ⟦<Self as Keyed>⟧.keys self.old item result }
         ensures keeps { Keeps ⟦<Self as Keyed>⟧.keys self.old self.new }
     {
-        let key = item.key1();
-        let hash = self.filed.compute_hash(&self.state, key);
-        let first = self.find_hashed(hash, key);
-        store(
-            &mut self.items,
-            &mut self.filed,
-            &mut self.order,
-            item,
-            hash,
-            first,
-        )
+        let hash = hashed::hash_of::<T, First, S>(&self.state, &item);
+        let first = self.find_hashed(hash, item.key1());
+        let (items, filed, order) = (&mut self.items, &mut self.filed, &mut self.order);
+        enter(items, filed, order, item, hash, first)
     }
 
     /// Removes the item at an index, if it is live, whatever its keys are now. It takes no memory.
@@ -241,30 +234,32 @@ impl<T: KeyedItem, S: BuildHasher> KeyedItems<T, S> {
         ensures keeps { Keeps ⟦<Self as Keyed>⟧.keys self.old self.new }
     {
         let item = self.items.get(ix)?;
-        let hash = self.filed.compute_hash(&self.state, item.key1());
-        remove_from_hash_table(&mut self.filed, hash.hash(), ix);
+        let hash = hashed::hash_of::<T, First, S>(&self.state, item);
+        hashed::take_index(&mut self.filed, hash, ix);
         Some(remove_item(&mut self.order, &mut self.items, ix))
     }
 
     /// Removes the item with this first key. It takes no memory.
     pub fn remove1(&mut self, key: &T::Key1) -> Option<(ItemIndex, T)>
-        ensures removes { Removes1 ⟦<Self as Keyed>⟧.keys self.old key.now result self.new }
+        ensures removes { RemovesBy (first_side ⟦<Self as Keyed>⟧.keys) self.old key.now result self.new }
         ensures keeps { Keeps ⟦<Self as Keyed>⟧.keys self.old self.new }
     {
         let hash = self.filed.compute_hash(&self.state, key);
-        let ix = take_by_first_key(&mut self.filed, &self.items, hash.hash(), key)?;
+        let (filed, query) = (&mut self.filed, ByKey(key));
+        let ix = hashed::take::<T, First, ByKey<T::Key1>>(filed, &self.items, hash, &query)?;
         Some((ix, remove_item(&mut self.order, &mut self.items, ix)))
     }
 
     /// Removes the item with this second key. It takes no memory.
     pub fn remove2(&mut self, key: &T::Key2) -> Option<(ItemIndex, T)>
-        ensures removes { Removes2 ⟦<Self as Keyed>⟧.keys self.old key.now result self.new }
+        ensures removes { RemovesBy (second_side ⟦<Self as Keyed>⟧.keys) self.old key.now result self.new }
         ensures keeps { Keeps ⟦<Self as Keyed>⟧.keys self.old self.new }
     {
-        let ix = take_by_second_key(&mut self.order, &self.items, key)?;
+        let (order, query) = (&mut self.order, ByKey(key));
+        let ix = ordered::take::<T, Second, ByKey<T::Key2>>(order, &self.items, &query)?;
         let item = take_item(&mut self.items, ix);
-        let hash = self.filed.compute_hash(&self.state, item.key1()).hash();
-        remove_from_hash_table(&mut self.filed, hash, ix);
+        let hash = hashed::hash_of::<T, First, S>(&self.state, &item);
+        hashed::take_index(&mut self.filed, hash, ix);
         Some((ix, item))
     }
 
@@ -369,9 +364,10 @@ impl<T: KeyedItem, S: BuildHasher> KeyedItems<T, S> {
     // The index of the item with this first key, whose hash was computed before.
     fn find_hashed(&self, hash: MapHash, key: &T::Key1) -> Option<ItemIndex>
         requires { hash ≡ hash_in ⟦<Self as Keyed>⟧.keys self.now key.now }
-        ensures { LooksUp1 ⟦<Self as Keyed>⟧.keys self.now key.now result }
+        ensures { LooksUp (first_side ⟦<Self as Keyed>⟧.keys) self.now key.now result }
     {
-        find_by_first_key(&self.filed, &self.items, hash, key)
+        let query = ByKey(key);
+        hashed::find::<T, First, ByKey<T::Key1>>(&self.filed, &self.items, hash, &query)
     }
 
     // The indexes in the order of the ordered table, in memory of their own.
@@ -389,10 +385,38 @@ impl<T: KeyedItem, S: BuildHasher> KeyedItems<T, S> {
     }
 }
 
-// Stores an item, whose first key's look-up is done, where neither of its keys is found, and files it
-// under the hash; or hands it back. One search of the ordered table tells a duplicate, or else the
-// place. All memory is taken before anything is written.
-fn store<T: KeyedItem>(
+// Takes a live index out of the ordered table, and its item out of the store.
+fn remove_item<T: KeyedItem>(
+    order: &mut MapBTreeTable,
+    items: &mut ItemSet<T>,
+    ix: ItemIndex,
+) -> T
+    requires live { IsLive items.old.store ix }
+    requires stored { ordered_side.AreLive items.old.store (order_of order.old) }
+    ensures item { get items.old.store ix ≡ Some result }
+    ensures removed { items.new.store ≡ removed items.old.store ix }
+    ensures taken { order_of order.new ≡ without (order_of order.old) ix }
+{
+    ordered::take_index::<T, Second>(order, items, ix);
+    take_item(items, ix)
+}
+
+// Takes the item at a live index out of the store.
+fn take_item<T>(items: &mut ItemSet<T>, ix: ItemIndex) -> T
+    requires { IsLive items.old.store ix }
+    ensures item { get items.old.store ix ≡ Some result }
+    ensures removed { items.new.store ≡ removed items.old.store ix }
+{
+    match items.remove(ix) {
+        Some(item) => item,
+        None => unreachable!(),
+    }
+}
+
+// Stores an item, whose first key's look-up is done, where neither of its keys is found, and enters
+// its index in both tables; or hands it back. One search of the ordered table tells a duplicate, or
+// else the place. All memory is taken before anything is written.
+fn enter<T: KeyedItem>(
     items: &mut ItemSet<T>,
     table: &mut MapHashTable,
     order: &mut MapBTreeTable,
@@ -402,23 +426,24 @@ fn store<T: KeyedItem>(
 ) -> Result<ItemIndex, InsertRefusal<T>>
     requires valid { IsValid items.old.store }
     requires unfiled { finite.get (filed table.old) (next_index items.old.store) ≡ None }
-    requires ordered { (ix : ℕ) → Contains (order_of order.old) ix ↔ IsLive items.old.store ix }
+    requires ordered { ordered_side.Holds items.old.store (order_of order.old) }
     ensures first { (finds_told result).0 ≡ first }
-    ensures second { let finds = FindsInOrder T.KeyedItem.second_key T.Key2.cmp items.old.store (order_of order.old) in
-        finds (T.KeyedItem.second_key item) (finds_told result).1 }
+    ensures second { let looks_up = ordered_side.LooksUp T.KeyedItem.second_key T.Key2.cmp items.old.store in
+        looks_up (order_of order.old) (T.Key2.cmp (T.KeyedItem.second_key item)) (finds_told result).1 }
     ensures not_full { IsOk result → IsFull items.old.store → ⊥ }
     ensures index { IfOk result (λ ix. ix ≡ next_index items.old.store) }
     ensures stored { OnOk result (items.new.store ≡ inserted items.old.store item) }
     ensures filed { OnOk result (filed table.new
         ≡ finite.insert (filed table.old) (next_index items.old.store) hash) }
-    ensures placed { let adds = AddsToOrder T.KeyedItem.second_key T.Key2.cmp items.old.store item in
+    ensures placed { let adds = ordered_side.AddsInPlace T.KeyedItem.second_key T.Key2.cmp items.old.store item in
         OnOk result (adds (order_of order.old) (order_of order.new)) }
     ensures refused { IfErr result (Refuses items.old.store item) }
     ensures items_stay { OnErr result (items.new.store ≡ items.old.store) }
     ensures hashes_stay { OnErr result (filed table.new ≡ filed table.old) }
     ensures order_stays { OnErr result (order_of order.new ≡ order_of order.old) }
 {
-    let vacant = match enter_by_second_key(order, items, item.key2()) {
+    let query = ByKey(item.key2());
+    let vacant = match ordered::entry::<T, Second, ByKey<T::Key2>>(order, items, &query) {
         Entry::Vacant(vacant) => vacant,
         Entry::Occupied(entry) => {
             let second = Some(entry.get());

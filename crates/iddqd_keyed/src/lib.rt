@@ -7,4 +7,3 @@
 pub mod command;
 pub mod keyed_item;
 pub mod keyed_items;
-mod lookup;

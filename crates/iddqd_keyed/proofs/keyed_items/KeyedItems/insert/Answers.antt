@@ -1,81 +1,79 @@
-use Rattle.std.proofs.Common.{◌≡◌, ◌∙◌, refl, ap, sym, subst}
-use Rattle.std.specs.FinMap as finite
-use Rattle.std.specs.Result.{IfOk, OnOk, OnErr}
-use Rattle.iddqd.specs.Store.{next_index}
-use Rattle.iddqd_hash.specs.MapHashTable.{filed}
+use Rattle.std.specs.Result.{IfOk, OnErr}
+use Rattle.std.proofs.Common.{◌≡◌}
 use Rattle.iddqd_keyed.specs.Keys.{Keys, keys_of}
-use Rattle.iddqd_keyed.specs.State.{State, state_of, IsSorted, Finds1, Keeps, hash_in}
-use Rattle.iddqd_keyed.specs.Machine.{StoresAt, Inserts, TellsAsScan, finds_told}
+use Rattle.iddqd_keyed.specs.State.{State, state_of}
+use Rattle.iddqd_keyed.specs.Sides.{LooksUp, Keeps, first_side, finds_told}
+use Rattle.iddqd_keyed.specs.Machine.{StoresAt}
 use Rattle.iddqd_keyed.proofs.KeyLemmas.{AreLawful-from_bounds}
-use Rattle.iddqd_keyed.proofs.PairedLemmas.{next_unfiled}
-use Rattle.iddqd_keyed.proofs.InsertLemmas.{StoresAt-from_parts, same-from_parts, Inserts-from_stored, Keeps-from_stored, TellsAsScan-from_stored}
-use Rattle.iddqd_keyed.proofs.keyed_items.KeyedItems.insert.Goals.{After-store}
+use Rattle.iddqd_keyed.proofs.KeepsLemmas.{Holds-order}
+use Rattle.iddqd_keyed.proofs.InsertLemmas.{StoresAt-from_parts, same-from_parts, Keeps-from_stored}
+use Rattle.iddqd_sides.proofs.HoldsLemmas.{next_unfiled}
+use Rattle.iddqd_keyed.proofs.keyed_items.KeyedItems.insert.Goals.{After-enter}
 use Rattle.iddqd_keyed.proofs.keyed_items.KeyedItems.insert.Goals as goal
 
 pub find_hashed-first-requires : goal.find_hashed-first-requires
-find_hashed-first-requires g c =
-    let keys : Keys _ _ _ _ = keys_of g.T.KeyedItem g.T.Key1.PartialEq.eq g.T.Key1.Hash.hash_input g.T.Key2.Ord.cmp g.S.BuildHasher g.S.Hasher.Hasher in
-    c.compute_hash-hash.ensures.hash ∙ ap (λ s. hash_in keys s c.key1-key.result.now) c.self.view_is
+find_hashed-first-requires g c = rw (← c.self.view_is, c.key1.ensures) c.hash_of-hash.ensures
 
-pub store-requires-clause-valid : goal.store-requires-clause-valid
-store-requires-clause-valid g c = c.self.invariant.valid
+pub enter-requires-clause-valid : goal.enter-requires-clause-valid
+enter-requires-clause-valid g c = c.self.invariant.valid
 
-pub store-requires-clause-unfiled : goal.store-requires-clause-unfiled
-store-requires-clause-unfiled g c = next_unfiled (state_of c.self.inside.state c.self.inside.items.store c.self.inside.filed c.self.inside.order) c.self.invariant
+pub enter-requires-clause-unfiled : goal.enter-requires-clause-unfiled
+enter-requires-clause-unfiled g c = next_unfiled _ _ c.self.invariant.filed c.self.invariant.valid
 
-pub store-requires-clause-ordered : goal.store-requires-clause-ordered
-store-requires-clause-ordered g c = c.self.invariant.ordered
+pub enter-requires-clause-ordered : goal.enter-requires-clause-ordered
+enter-requires-clause-ordered g c = Holds-order _ c.self.invariant
 
--- the state before and after the storing
-abbrev was : (g : _) (c : After-store g) → State g.row.T.Denot g.row.S.Denot
+-- the state before and after the item was entered
+abbrev was : (g : _) (c : After-enter g) → State g.row.T.Denot g.row.S.Denot
 was g c = state_of c.self.inside.state c.self.inside.items.store c.self.inside.filed c.self.inside.order
 
-abbrev is : (g : _) (c : After-store g) → State g.row.T.Denot g.row.S.Denot
-is g c = state_of c.self.inside.state c.store.new.items.store c.store.new.table c.store.new.order
+abbrev is : (g : _) (c : After-enter g) → State g.row.T.Denot g.row.S.Denot
+is g c = state_of c.self.inside.state c.enter.new.items.store c.enter.new.table c.enter.new.order
 
--- what the look-up of the first key told
-first_told : (g : _) (c : After-store g) → Finds1 (keys_of g.T.KeyedItem g.T.Key1.PartialEq.eq g.T.Key1.Hash.hash_input g.T.Key2.Ord.cmp g.S.BuildHasher g.S.Hasher.Hasher) (was g c) (g.T.KeyedItem.first_key c.args.item) (finds_told c.store.result).0
-first_told g c =
-    let keys : Keys _ _ _ _ = keys_of g.T.KeyedItem g.T.Key1.PartialEq.eq g.T.Key1.Hash.hash_input g.T.Key2.Ord.cmp g.S.BuildHasher g.S.Hasher.Hasher in
-    subst (λ r. Finds1 keys (was g c) (keys.first c.args.item) r) (sym c.store.ensures.first)
-    (subst (λ k. Finds1 keys (was g c) k c.find_hashed-first.result) c.key1-key.ensures
-    (subst (λ s. Finds1 keys s c.key1-key.result.now c.find_hashed-first.result) (sym c.self.view_is) c.find_hashed-first.ensures.found))
+abbrev keys : (g : _) (c : After-enter g) → Keys g.row.T.Denot g.row.T-Key1.Denot g.row.T-Key2.Denot g.row.S.Denot
+keys g c =
+    keys_of g.T.KeyedItem g.T.Key1.PartialEq.eq g.T.Key1.Hash.hash_input g.T.Key2.Ord.cmp g.S.BuildHasher g.S.Hasher.Hasher
 
--- what the storing did
-stored : (g : _) (c : After-store g) → IfOk c.store.result (λ ix. StoresAt (keys_of g.T.KeyedItem g.T.Key1.PartialEq.eq g.T.Key1.Hash.hash_input g.T.Key2.Ord.cmp g.S.BuildHasher g.S.Hasher.Hasher) (was g c) c.args.item ix (is g c) × (IsSorted (keys_of g.T.KeyedItem g.T.Key1.PartialEq.eq g.T.Key1.Hash.hash_input g.T.Key2.Ord.cmp g.S.BuildHasher g.S.Hasher.Hasher) (was g c) → IsSorted (keys_of g.T.KeyedItem g.T.Key1.PartialEq.eq g.T.Key1.Hash.hash_input g.T.Key2.Ord.cmp g.S.BuildHasher g.S.Hasher.Hasher) (is g c)))
+first : (g : _) (c : After-enter g)
+    → LooksUp (first_side (keys g c)) (was g c) (g.T.KeyedItem.first_key c.args.item) (finds_told c.enter.result).0
+first g c =
+    let found = rw (← c.self.view_is, c.key1.ensures) at c.find_hashed-first.ensures in
+    rw c.enter.ensures.first found
+
+stored : (g : _) (c : After-enter g) → IfOk c.enter.result (λ ix. StoresAt (keys g c) (was g c) c.args.item ix (is g c))
 stored g c =
-    let keys : Keys _ _ _ _ = keys_of g.T.KeyedItem g.T.Key1.PartialEq.eq g.T.Key1.Hash.hash_input g.T.Key2.Ord.cmp g.S.BuildHasher g.S.Hasher.Hasher in
-    let hashed = c.compute_hash-hash.ensures.hash ∙ ap (hash_in keys (was g c)) c.key1-key.ensures in
-    StoresAt-from_parts keys (was g c) (is g c) c.args.item refl c.store.result c.store.ensures.not_full c.store.ensures.index c.store.ensures.stored
-    (subst (λ h. OnOk c.store.result (filed c.store.new.table ≡ finite.insert (was g c).filed (next_index (was g c).store) h)) hashed c.store.ensures.filed)
-    c.store.ensures.placed
+    let out = c.enter.ensures in
+    let filed = rw c.hash_of-hash.ensures at out.filed in
+    StoresAt-from_parts (keys g c) (was g c) c.args.item _ _ _ c.enter.result out.not_full out.index out.stored filed out.placed
 
--- a refusal changed nothing
-unchanged : (g : _) (c : After-store g) → OnErr c.store.result (is g c ≡ was g c)
+unchanged : (g : _) (c : After-enter g) → OnErr c.enter.result (is g c ≡ was g c)
 unchanged g c =
-    let keys : Keys _ _ _ _ = keys_of g.T.KeyedItem g.T.Key1.PartialEq.eq g.T.Key1.Hash.hash_input g.T.Key2.Ord.cmp g.S.BuildHasher g.S.Hasher.Hasher in
-    same-from_parts keys (was g c) (is g c) c.args.item refl c.store.result c.store.ensures.items_stay c.store.ensures.hashes_stay c.store.ensures.order_stays
+    let out = c.enter.ensures in
+    same-from_parts (keys g c) (was g c) c.args.item _ _ _ c.enter.result out.items_stay out.hashes_stay out.order_stays
 
-keeps : (g : _) (c : After-store g) → Keeps (keys_of g.T.KeyedItem g.T.Key1.PartialEq.eq g.T.Key1.Hash.hash_input g.T.Key2.Ord.cmp g.S.BuildHasher g.S.Hasher.Hasher) (was g c) (is g c)
+keeps : (g : _) (c : After-enter g) → Keeps (keys g c) (was g c) (is g c)
 keeps g c =
-    Keeps-from_stored _ _ _ c.args.item (AreLawful-from_bounds _ _ _ _ g.S.BuildHasher g.S.Hasher.Hasher g.met.T.Key1.PartialEq.laws g.met.T.Key1.Hash.respects_eq g.met.T.Key2.Ord.total) c.store.result c.self.invariant (first_told g c) c.store.ensures.second (stored g c) (unchanged g c)
+    let out = c.enter.ensures in
+    Keeps-from_stored _ _ c.args.item _ _ _
+    (AreLawful-from_bounds {item = g.T.KeyedItem} g.S.BuildHasher g.S.Hasher.Hasher g.met.T.Key1.PartialEq.laws
+    g.met.T.Key1.Hash.respects_eq g.met.T.Key2.Ord.total)
+    c.self.invariant c.enter.result (first g c) out.second (stored g c) out.placed (unchanged g c)
 
 pub invariant_of-self : goal.invariant_of-self
 invariant_of-self g c = (keeps g c).paired.1
 
 pub returns-clause-inserts : goal.returns-clause-inserts
-returns-clause-inserts g c =
-    let keys : Keys _ _ _ _ = keys_of g.T.KeyedItem g.T.Key1.PartialEq.eq g.T.Key1.Hash.hash_input g.T.Key2.Ord.cmp g.S.BuildHasher g.S.Hasher.Hasher in
-    subst (λ s. Inserts keys s c.args.item c.store.result (is g c)) c.self.view_is
-    (Inserts-from_stored keys (was g c) (is g c) c.args.item c.store.result (first_told g c) c.store.ensures.second (stored g c) c.store.ensures.refused (unchanged g c))
+returns-clause-inserts g c = rw (← c.self.view_is) (record {
+  first = (first g c).found;
+  second = c.enter.ensures.second.found;
+  stored = stored g c;
+  refused = c.enter.ensures.refused;
+  unchanged = unchanged g c;
+})
 
 pub returns-clause-tells : goal.returns-clause-tells
 returns-clause-tells g c =
-    let keys : Keys _ _ _ _ = keys_of g.T.KeyedItem g.T.Key1.PartialEq.eq g.T.Key1.Hash.hash_input g.T.Key2.Ord.cmp g.S.BuildHasher g.S.Hasher.Hasher in
-    subst (λ s. TellsAsScan keys s c.args.item c.store.result) c.self.view_is
-    (TellsAsScan-from_stored keys (was g c) (is g c) c.args.item (AreLawful-from_bounds _ _ _ _ g.S.BuildHasher g.S.Hasher.Hasher g.met.T.Key1.PartialEq.laws g.met.T.Key1.Hash.respects_eq g.met.T.Key2.Ord.total) c.store.result (first_told g c) c.store.ensures.second)
+    rw (← c.self.view_is) (record { first = (first g c).as_scan; second = c.enter.ensures.second.as_scan })
 
 pub returns-clause-keeps : goal.returns-clause-keeps
-returns-clause-keeps g c =
-    let keys : Keys _ _ _ _ = keys_of g.T.KeyedItem g.T.Key1.PartialEq.eq g.T.Key1.Hash.hash_input g.T.Key2.Ord.cmp g.S.BuildHasher g.S.Hasher.Hasher in
-    subst (λ s. Keeps keys s (is g c)) c.self.view_is (keeps g c)
+returns-clause-keeps g c = rw (← c.self.view_is) (keeps g c)

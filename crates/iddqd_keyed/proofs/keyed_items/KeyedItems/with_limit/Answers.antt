@@ -1,5 +1,5 @@
 use Rattle.std.proofs.Common.{arith}
-use Rattle.iddqd_keyed.proofs.PairedLemmas.{IsPaired-empty}
+use Rattle.iddqd_keyed.proofs.KeepsLemmas.{IsPaired-empty}
 use Rattle.iddqd_keyed.proofs.keyed_items.KeyedItems.with_limit.Goals as goal
 
 pub invariant_of-result : goal.invariant_of-result

@@ -1,0 +1,24 @@
+use Rattle.std.proofs.Common.{rules, ◌∙◌, ap}
+use Rattle.iddqd.specs.Store.{next_index}
+use Rattle.iddqd_order.specs.MapBTreeTable.{order_of}
+use Rattle.iddqd_sides.proofs.OrderedHoldsLemmas.{next_absent}
+use Rattle.iddqd_sides.proofs.OrderedPlaceLemmas.{AddsInPlace-prepared}
+use Rattle.iddqd_keyed.proofs.keyed_items.enter.Goals as goal
+
+pub prepare-requires-clause-absent : goal.prepare-requires-clause-absent
+prepare-requires-clause-absent g c = λ here.
+    let next = c.next_index.ensures.index ∙ ap next_index c.in-Ok.ensures.contents in
+    next_absent c.args.items.now.store _ c.requires.ordered c.requires.valid
+    (rw (← next, ← c.in-Vacant.ensures.table) here)
+
+pub returns-clause-second : goal.returns-clause-second
+returns-clause-second g c = rw (← c.key2.ensures) c.in-Vacant.ensures.entered.missed
+
+pub returns-clause-placed : goal.returns-clause-placed
+returns-clause-placed g c =
+    let compare = g.T.Key2.Ord.cmp in
+    AddsInPlace-prepared g.T.KeyedItem.second_key compare g.met.T.Key2.Ord.total c.args.items.now.store c.args.item
+    (order_of c.args.order.now) (compare c.key2.result.now) c.requires.valid c.requires.ordered
+    (λ k. ap (λ key. compare key k) c.key2.ensures) c.in-Vacant.vacant c.in-Ok-prepare.prepared c.next_index.result _
+    (ap order_of c.in-Vacant.ensures.table) c.in-Vacant.ensures.entered c.in-Ok-prepare.ensures.prepared
+    (c.next_index.ensures.index ∙ ap next_index c.in-Ok.ensures.contents) (search (rules, c.insert.ensures))
