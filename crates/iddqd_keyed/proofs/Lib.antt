@@ -3,3 +3,4 @@ pub mod KeepsLemmas
 pub mod InsertLemmas
 pub mod StepLemmas
 pub mod RunLemmas
+pub mod ValidationLemmas

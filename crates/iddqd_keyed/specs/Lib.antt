@@ -4,6 +4,7 @@ pub mod Refusal
 pub mod Sides
 pub mod Machine
 pub mod Run
+pub mod Validation
 -- what a caller's clauses cite, from one place: of the crates below, and of this one
 pub use Rattle.iddqd.specs.Store
 pub use Rattle.iddqd.specs.Compaction

@@ -24,6 +24,8 @@ ghost use Rattle.iddqd_keyed.specs.Sides.{first_side, second_side, finds_told, h
 ghost use Rattle.iddqd_keyed.specs.Machine.{Refuses, Inserts, TellsAsScan, Removes, RemovesBy, Overwrites, Step};
 ghost use Rattle.iddqd_keyed.specs.Run.{Run};
 
+mod validation;
+
 use crate::command::{Command, Reply};
 use crate::keyed_item::{First, KeyedItem, Second};
 use iddqd::index_remap::IndexRemap;
