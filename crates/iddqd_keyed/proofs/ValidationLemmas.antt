@@ -1,9 +1,9 @@
 -- What a check of keyed items finds, where store and tables are paired.
-use Rattle.std.proofs.Common.{◌≡◌, ◌≢◌, ◌⊎◌, inl, inr, ◌<◌, ◌≤◌, ◌+◌, ◌∙◌, ◌↔◌, ◌&&◌, ℕ, Bool, true, false, nat_eq, List, [], ◌∷◌, map, length, get_or, Option, Some, None, IsSome, is_some, Result, Ok, Err, IsErr, IfErr, not, eq-eqb, refl, sym, ap, subst, arith, Decides, T as Holds}
+use Rattle.std.proofs.Common.{◌≡◌, ◌⊎◌, inl, inr, ◌<◌, ◌+◌, ◌∙◌, ◌↔◌, ◌&&◌, ℕ, Bool, true, false, nat_eq, List, [], ◌∷◌, map, length, get_or, Option, Some, None, IsSome, is_some, Result, Ok, Err, IsErr, IfErr, not, eq-eqb, refl, sym, ap, subst, arith, T as Holds}
 use Rattle.std.specs.Borrow.{Bor}
-use Rattle.std.specs.Cmp.{IsPartialEquivalence, nat_cmp_total, nat_eq_equiv, eq_by_cmp_equiv}
+use Rattle.std.specs.Cmp.{nat_cmp_total, nat_eq_equiv, eq_by_cmp_equiv}
 use Rattle.std.specs.List.{AllByRecursion, Contains, IsDistinct, list_any}
-use Rattle.std.specs.Ordering.{nat_cmp, eq_by_cmp, is_eq, is_lt}
+use Rattle.std.specs.Ordering.{nat_cmp, eq_by_cmp, is_lt}
 use Rattle.std.specs.declared.cmp.Ordering.TheVariants.{Equal}
 use Rattle.std.specs.FinMap as finite
 use Rattle.std.specs.FinMap.{FinMap}

@@ -1,16 +1,21 @@
 -- Numbers and words of a line.
-use Rattle.std.proofs.Common.{◌≡◌, ◌&&◌, ◌+◌, ◌*◌, ◌-◌, ◌<◌, ◌≤◌, ◌⊎◌, ℕ, Bool, true, false, cond, List, [], ◌∷◌, ◌++◌, length, take, drop, get_or, nat_lt, nat_le, Option, Some, None, refl, sym, ap, ◌∙◌, inl, inr, arith, take_all}
+use Rattle.std.proofs.Common.{◌≡◌, ◌&&◌, ◌+◌, ◌*◌, ◌-◌, ◌^◌, ◌<◌, ◌≤◌, ◌⊎◌, ℕ, Bool, true, false, cond, List, [], ◌∷◌, ◌++◌, length, take, drop, get_or, nat_lt, nat_le, Option, Some, None, codes, refl, sym, ap, ◌∙◌, inl, inr, arith, take_all, length-append}
 use Rattle.std.specs.List.{list_all, slice_split}
 use Rattle.std.specs.Option.{option_map, option_and_then}
 use Rattle.std.specs.Char.{is_ascii_digit, digit_value}
+use Rattle.std.specs.Fmt.{decimal}
+use Rattle.std.specs.Str.{bytes_eq}
 use Rattle.std.specs.Str.Parse.{digits_value, digits_value_after}
 use Rattle.std.proofs.lemmas.Bool.{cases_lt}
-use Rattle.std.proofs.lemmas.Bool.Decides.{nat_tests}
+use Rattle.std.proofs.lemmas.Bool.Decides.{nat_tests, same_from_decides}
+use Rattle.std.proofs.lemmas.Slice.Eq.{bytes_eq-Decides}
+use Rattle.std.proofs.lemmas.Fmt.{length-decimal-le}
 use Rattle.std.proofs.lemmas.List.{take-append-drop, length-take-le}
 use Rattle.std.proofs.lemmas.Int.Digits.{digits_value_more}
 use Rattle.std.proofs.lemmas.List.Folds.{list_all_more}
 use Rattle.std.proofs.lemmas.List.Splits.{length-slice_split}
-use Rattle.iddqd_lines.specs.Line.{max_line, is_space, number_of, numbers_of, only, command_for, command_of}
+use Rattle.iddqd.specs.Validation.{not_compact_text}
+use Rattle.iddqd_lines.specs.Line.{max_line, is_space, number_of, numbers_of, only, command_for, request_of}
 use Rattle.iddqd_lines.specs.declared.line_buffer.TheConstants.{KEPT}
 
 -- three tests and what they choose
@@ -109,18 +114,30 @@ not_four_numbers verb a b c word rest is not_one = rw (← is) (by_numbers (numb
     by_numbers (Some (n ∷ [])) some not_one = absurd (cc)
     by_numbers (Some (n ∷ m ∷ ns)) some not_one = refl
 
--- a command goes by the bytes of its line that are kept
-pub command_of-kept : (kept whole : List ℕ) → take KEPT kept ≡ take KEPT whole → command_of kept ≡ command_of whole
-command_of-kept kept whole same = by_length (cases_lt (length kept) KEPT) (cases_lt (length whole) KEPT)
+-- what is too long for a line is no request
+long_line : (line : List ℕ) → KEPT ≤ length line → request_of line ≡ None
+long_line line long =
+    let over : nat_le (length line) max_line ≡ false = grind (arith, nat_tests, long) in
+    let other : bytes_eq line (codes "validate") ≡ false = same_from_decides (bytes_eq line (codes "validate")) false (bytes_eq-Decides line (codes "validate")) ((λ never. absurd (cc)), (λ same. absurd (omega (arith, ap length same)))) in
+    rw (other, over)
+
+-- a request goes by the bytes of its line that are kept
+pub request_of-kept : (kept whole : List ℕ) → take KEPT kept ≡ take KEPT whole → request_of kept ≡ request_of whole
+request_of-kept kept whole same = by_length (cases_lt (length kept) KEPT) (cases_lt (length whole) KEPT)
   where
     kept_length : length (take KEPT kept) ≡ length (take KEPT whole)
     kept_length = ap length same
 
-    by_length : ((length kept < KEPT) ⊎ (KEPT ≤ length kept)) → ((length whole < KEPT) ⊎ (KEPT ≤ length whole)) → command_of kept ≡ command_of whole
-    by_length (inl short) (inl also_short) = ap command_of (sym (take_all KEPT kept (omega arith)) ∙ same ∙ take_all KEPT whole (omega arith))
+    by_length : ((length kept < KEPT) ⊎ (KEPT ≤ length kept)) → ((length whole < KEPT) ⊎ (KEPT ≤ length whole)) → request_of kept ≡ request_of whole
+    by_length (inl short) (inl also_short) = ap request_of (sym (take_all KEPT kept (omega arith)) ∙ same ∙ take_all KEPT whole (omega arith))
     by_length (inl short) (inr long) = absurd (omega (arith, kept_length, length-take-le KEPT whole long, ap length (take_all KEPT kept (omega arith))))
     by_length (inr long) (inl short) = absurd (omega (arith, kept_length, length-take-le KEPT kept long, ap length (take_all KEPT whole (omega arith))))
-    by_length (inr long) (inr also_long) = too_long kept long ∙ sym (too_long whole also_long)
-      where
-        too_long : (line : List ℕ) → KEPT ≤ length line → command_of line ≡ None
-        too_long line long = let over : nat_le (length line) max_line ≡ false = grind (arith, nat_tests, long) in rw over
+    by_length (inr long) (inr also_long) = long_line kept long ∙ sym (long_line whole also_long)
+
+-- what is said of vacant slots is short
+pub short_text : (vacant : ℕ) → vacant < 10 ^ 10 → length (not_compact_text vacant) < 64
+short_text vacant few =
+    let digits = length-decimal-le 10 vacant (omega arith) few (omega (arith, few)) in
+    let all = length-append (codes "ItemSet is not compact: " ++ decimal vacant) (codes " vacant slots") in
+    let front = length-append (codes "ItemSet is not compact: ") (decimal vacant) in
+    omega (arith, digits, all, front)

@@ -5,32 +5,30 @@ use Rattle.std.specs.Io.KnownBytes.{Consumes}
 use Rattle.std.proofs.lemmas.List.Elements.{All-append, All-nil, All-cons}
 use Rattle.std.proofs.lemmas.List.Splits.{slice_split_none}
 use Rattle.iddqd_keyed.specs.State.{State, empty_state}
-use Rattle.iddqd_keyed.specs.Machine.{Step}
-use Rattle.iddqd_lines.specs.Line.{line_feed, is_line_feed, lines_of, without_empty_last, command_of, index_of, text_of}
+use Rattle.iddqd_lines.specs.Line.{line_feed, is_line_feed, lines_of, without_empty_last, request_of}
 use Rattle.iddqd_lines.specs.Split.{HasNo, IsCut}
 use Rattle.iddqd_lines.specs.Replies.{Sends}
-use Rattle.iddqd_lines.specs.Program.{record_keys, AnswersCommand, Line, Serves}
-use Rattle.iddqd_lines.specs.Serve.{Moment, moment, ended, IsKept, Obeys, Feeds}
+use Rattle.iddqd_lines.specs.Program.{AnswersRequest, Line, Serves}
+use Rattle.iddqd_lines.specs.Serve.{Moment, moment, ended, IsKept, Tells, Obeys, Feeds}
+use Rattle.iddqd_keyed.specs.declared.command.Command.{Command}
+use Rattle.iddqd_lines.specs.declared.line.Request.{Request}
 use Rattle.iddqd_lines.specs.declared.line_buffer.TheConstants.{KEPT}
 use Rattle.iddqd_lines.specs.declared.record.Record.{Record}
 use Rattle.iddqd_lines.specs.declared.sink.Sink as sink
-use Rattle.iddqd_keyed.specs.declared.command.Command.{Command}
-use Rattle.iddqd_keyed.specs.declared.command.Reply.{Reply}
 use Rattle.iddqd_lines.proofs.ByteLemmas.{Sends-put, Sends-then, Sends-last, Consumes-trans}
-use Rattle.iddqd_lines.proofs.LineLemmas.{command_of-kept}
+use Rattle.iddqd_lines.proofs.LineLemmas.{request_of-kept}
 use Rattle.iddqd_lines.proofs.LineBufferLemmas.{take-kept, take-take}
 
 module _ {S : Type 0} (hash : S → ℕ → ℕ) where
-  -- a command's line is answered
-  pub Line-command : (old new : State Record S) (kept line out : List ℕ) (command : Command Record ℕ ℕ) (reply : Reply Record) → take KEPT kept ≡ take KEPT line → Some command ≡ command_of kept → Step (record_keys hash) old command reply new → out ≡ text_of new.store (index_of command) reply → Line hash old line out new
-  Line-command old new kept line out command reply same is step text =
-      subst (λ o. MatchOption o ((out ≡ codes "bad line") × (new ≡ old)) (AnswersCommand hash old out new)) (is ∙ command_of-kept kept line same)
-      (record { reply = reply; step = step; text = text })
+  -- a request's line is answered
+  pub Line-request : (old new : State Record S) (kept line out : List ℕ) (request : Request (Command Record ℕ ℕ)) → take KEPT kept ≡ take KEPT line → Some request ≡ request_of kept → AnswersRequest hash old out new request → Line hash old line out new
+  Line-request old new kept line out request same is answers =
+      subst (λ o. MatchOption o ((out ≡ codes "bad line") × (new ≡ old)) (AnswersRequest hash old out new)) (is ∙ request_of-kept kept line same) answers
 
   -- and so is any other
-  pub Line-other : (old : State Record S) (kept line : List ℕ) → take KEPT kept ≡ take KEPT line → None ≡ command_of kept → Line hash old line (codes "bad line") old
+  pub Line-other : (old : State Record S) (kept line : List ℕ) → take KEPT kept ≡ take KEPT line → None ≡ request_of kept → Line hash old line (codes "bad line") old
   Line-other old kept line same is =
-      subst (λ o. MatchOption o ((codes "bad line" ≡ codes "bad line") × (old ≡ old)) (AnswersCommand hash old (codes "bad line") old)) (is ∙ command_of-kept kept line same) (refl, refl)
+      subst (λ o. MatchOption o ((codes "bad line" ≡ codes "bad line") × (old ≡ old)) (AnswersRequest hash old (codes "bad line") old)) (is ∙ request_of-kept kept line same) (refl, refl)
 
   -- some lines, and then others
   pub Serves-append : (old mid new : State Record S) (lines more : List (List ℕ)) (bytes rest : List ℕ) → Serves hash old lines bytes mid → Serves hash mid more rest new → Serves hash old (lines ++ more) (bytes ++ rest) new
@@ -59,6 +57,11 @@ module _ {S O : Type 0} (hash : S → ℕ → ℕ) (g : sink.Ghosts O) where
   pub Obeys-line : (old new : Moment S O) (line out : List ℕ) (r : Result (Unit {0}) (Unit {0})) → Line hash old.items line out new.items → Sends g old.output old.waits (out ++ line_feed ∷ []) r new.output new.waits → Obeys hash g old (line ∷ []) r new
   Obeys-line old new line out r answers sends =
       record { out = out ++ line_feed ∷ []; serves = (out, new.items, [], answers, refl, (refl, refl)); sends = sends }
+
+  -- a line's request is answered
+  pub Obeys-request : (old new : Moment S O) (kept line : List ℕ) (request : Request (Command Record ℕ ℕ)) (r : Result (Unit {0}) (Unit {0})) → take KEPT kept ≡ take KEPT line → Some request ≡ request_of kept → Tells hash g old request r new → Obeys hash g old (line ∷ []) r new
+  Obeys-request old new kept line request r same is tells =
+      Obeys-line old new line tells.out r (Line-request hash old.items new.items kept line tells.out request same is tells.answers) tells.sends
 
   -- some lines, and then others
   pub Obeys-append : (old mid new : Moment S O) (lines more : List (List ℕ)) (r : Result (Unit {0}) (Unit {0})) → Obeys hash g old lines (Ok tt) mid → Obeys hash g mid more r new → Obeys hash g old (lines ++ more) r new

@@ -1,4 +1,4 @@
--- The lines of the program: what a line asks, and the words of each reply.
+-- The lines of the program: what a line asks for, and the words of each reply.
 use Rattle.std.specs.Prelude.{◌==◌, ◌&&◌, ℕ, Bool, List, [], ◌∷◌, ◌++◌, length, Option, Some, None, Result, Ok, nat_le, nat_lt, codes, if◌then◌else◌}
 use Rattle.std.specs.Option.{option_map, option_and_then}
 use Rattle.std.specs.List.{slice_split, list_all, join_by, flat_map}
@@ -10,6 +10,8 @@ use Rattle.iddqd.specs.Store.{Store, get}
 use Rattle.iddqd.specs.Compaction.{sentinel}
 use Rattle.iddqd.specs.declared.index_remap.IndexRemap.{IndexRemap}
 use Rattle.iddqd.specs.declared.index_remap.IndexRemap.TheVariants.{Identity, Permuted}
+use Rattle.iddqd_lines.specs.declared.line.Request.{Request}
+use Rattle.iddqd_lines.specs.declared.line.Request.TheVariants.{Run, Validate}
 use Rattle.iddqd_lines.specs.declared.record.Record.{Record}
 use Rattle.iddqd_keyed.specs.Refusal.{refusal_text}
 use Rattle.iddqd_keyed.specs.declared.command.Command.{Command}
@@ -25,7 +27,7 @@ line_feed = 10
 abbrev pub space : ℕ
 space = 32
 
--- the most bytes of a line that is a command
+-- the most bytes of a line that is a request
 abbrev pub max_line : ℕ
 max_line = 128
 
@@ -127,6 +129,10 @@ command_of_words (verb ∷ words) = option_and_then (command_for verb) (numbers_
 abbrev pub command_of : List ℕ → Option (Command Record ℕ ℕ)
 command_of line =
     if nat_le (length line) max_line then command_of_words (slice_split is_space line) else None
+
+-- the request that a line is: a check where it is this one word, else to obey the command that it is
+abbrev pub request_of : List ℕ → Option (Request (Command Record ℕ ℕ))
+request_of line = if bytes_eq line (codes "validate") then Some Validate else option_map Run (command_of line)
 
 -- the index that an overwrite names
 abbrev pub index_of : Command Record ℕ ℕ → Option ℕ

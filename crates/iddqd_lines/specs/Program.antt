@@ -1,5 +1,5 @@
 -- What the program answers to a line, and to all lines of an input.
-use Rattle.std.specs.Prelude.{◌≡◌, ◌<◌, ℕ, Bool, true, false, List, [], ◌∷◌, ◌++◌, length, Option, Some, MatchOption, IfSome, Result, Ok, Err, nat_eq, codes}
+use Rattle.std.specs.Prelude.{◌≡◌, ◌<◌, ◌⊎◌, ℕ, Bool, true, false, List, [], ◌∷◌, ◌++◌, length, Option, Some, MatchOption, IfSome, Result, Ok, Err, nat_eq, codes}
 use Rattle.std.specs.Ordering.{nat_cmp}
 use Rattle.std.specs.Io.KnownBytes.{Appends, Consumes}
 use Rattle.std.specs.List.{fold}
@@ -11,10 +11,13 @@ use Rattle.std.specs.declared.hash.BuildHasherDefault.{BuildHasherDefault}
 use Rattle.std.specs.declared.hash.Hasher as hasher
 use Rattle.std.specs.declared.hash.BuildHasher as builder
 use Rattle.iddqd.specs.MapHash.{hash_one}
+use Rattle.iddqd.specs.Validation.{not_compact_text}
 use Rattle.iddqd_keyed.specs.Keys.{Keys}
 use Rattle.iddqd_keyed.specs.State.{State, empty_state}
 use Rattle.iddqd_keyed.specs.Machine.{Step}
-use Rattle.iddqd_lines.specs.Line.{line_feed, lines_of, whole_lines_of, command_of, index_of, text_of}
+use Rattle.iddqd_lines.specs.Line.{line_feed, lines_of, whole_lines_of, request_of, index_of, text_of}
+use Rattle.iddqd_lines.specs.declared.line.Request.{Request}
+use Rattle.iddqd_lines.specs.declared.line.Request.TheVariants.{Run, Validate}
 use Rattle.iddqd_lines.specs.declared.record.Record.{Record}
 use Rattle.iddqd_lines.specs.declared.serve.ServeFault.{ServeFault}
 use Rattle.iddqd_lines.specs.declared.serve.ServeFault.TheVariants.{Read, Write}
@@ -32,6 +35,13 @@ record_keys hash =
       hash_first = hash;
     }
 
+-- how a check may be answered where so many slots are vacant, as none should be
+abbrev pub IsCheckText : ℕ → List ℕ → Type 0
+IsCheckText vacant out =
+    ((vacant ≡ 0) × (out ≡ codes "ok"))
+    ⊎ ((0 < vacant) × (out ≡ not_compact_text vacant))
+    ⊎ (out ≡ codes "no memory")
+
 module _ {S : Type 0} (hash : S → ℕ → ℕ) where
   -- a line that is a command takes a step, and its out is the reply in words, over the store as the step left it
   pub record AnswersCommand (old : State Record S) (out : List ℕ) (new : State Record S) (command : Command Record ℕ ℕ)
@@ -40,10 +50,15 @@ module _ {S : Type 0} (hash : S → ℕ → ℕ) where
     pub step : Step (record_keys hash) old command reply new
     pub text : out ≡ text_of new.store (index_of command) reply
 
+  -- a line that asks for a check is answered how that went, and changes nothing
+  abbrev pub AnswersRequest : State Record S → List ℕ → State Record S → Request (Command Record ℕ ℕ) → Type 0
+  AnswersRequest old out new (Run command) = AnswersCommand old out new command
+  AnswersRequest old out new Validate = IsCheckText (length old.store.free) out × (new ≡ old)
+
   -- from old, the line may be answered by this out, and leave new
   abbrev pub Line : State Record S → List ℕ → List ℕ → State Record S → Type 0
   Line old line out new =
-      MatchOption (command_of line) ((out ≡ codes "bad line") × (new ≡ old)) (AnswersCommand old out new)
+      MatchOption (request_of line) ((out ≡ codes "bad line") × (new ≡ old)) (AnswersRequest old out new)
 
   -- from old, the lines may be answered by these bytes in turn, each out with a line feed, and leave new
   abbrev pub Serves : State Record S → List (List ℕ) → List ℕ → State Record S → Type 0

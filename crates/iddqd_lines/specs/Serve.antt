@@ -3,9 +3,11 @@ use Rattle.std.specs.Prelude.{◌≡◌, ℕ, List, [], ◌∷◌, ◌++◌, All
 use Rattle.iddqd_keyed.specs.State.{State}
 use Rattle.iddqd_lines.specs.Line.{line_feed}
 use Rattle.iddqd_lines.specs.Split.{HasNo}
-use Rattle.iddqd_lines.specs.Program.{Serves}
+use Rattle.iddqd_lines.specs.Program.{AnswersRequest, Serves}
 use Rattle.iddqd_lines.specs.Replies.{Sends}
 use Rattle.iddqd_lines.specs.declared.sink.Sink as sink
+use Rattle.iddqd_keyed.specs.declared.command.Command.{Command}
+use Rattle.iddqd_lines.specs.declared.line.Request.{Request}
 use Rattle.iddqd_lines.specs.declared.line_buffer.TheConstants.{KEPT}
 use Rattle.iddqd_lines.specs.declared.record.Record.{Record}
 
@@ -30,6 +32,12 @@ moment items output waits = record { items = items; output = output; waits = wai
 
 -- a write may have failed, and all went well else
 module _ {S O : Type 0} (hash : S → ℕ → ℕ) (g : sink.Ghosts O) (old : Moment S O) where
+  -- this request is answered, and its out is sent with a line feed
+  pub record Tells (request : Request (Command Record ℕ ℕ)) (result : Result (Unit {0}) (Unit {0})) (new : Moment S O) : Type 0 where
+    pub out : List ℕ
+    pub answers : AnswersRequest hash old.items out new.items request
+    pub sends : Sends g old.output old.waits (out ++ line_feed ∷ []) result new.output new.waits
+
   -- these lines are answered, and their outs are sent, each with a line feed
   pub record Obeys (lines : List (List ℕ)) (result : Result (Unit {0}) (Unit {0})) (new : Moment S O) : Type 0 where
     pub out : List ℕ

@@ -1,8 +1,8 @@
-//! Lines, read as commands.
+//! Lines, read as requests.
 ghost use Rattle.std.specs.Prelude.{◌≡◌, ◌∷◌, [], MatchOption};
 ghost use Rattle.std.specs.Option.{option_and_then};
 ghost use Rattle.std.specs.List.{slice_split};
-ghost use Rattle.iddqd_lines.specs.Line.{is_space, number_of, numbers_of, only, command_for, command_of, index_of};
+ghost use Rattle.iddqd_lines.specs.Line.{is_space, number_of, numbers_of, only, command_for, command_of, request_of, index_of};
 ghost use Rattle.iddqd_lines.specs.Line.{named, record_commands, index_commands};
 
 use crate::record::Record;
@@ -16,11 +16,30 @@ pub(crate) const LINE_FEED: u8 = b'\n';
 /// What stands between two words.
 pub(crate) const SPACE: u8 = b' ';
 
-/// The most bytes of a line that is a command.
+/// The most bytes of a line that is a request.
 pub(crate) const MAX_LINE: usize = 128;
 
-/// The command that a line is, if it is one.
-pub(crate) fn parse(line: &[u8]) -> Option<Command<Record>>
+/// What a line asks for.
+#[derive(Drop)]
+pub(crate) enum Request<C> {
+    /// To obey a command.
+    Run(C),
+    /// To check the items, which may have no vacant slot.
+    Validate,
+}
+
+/// The request that a line is, if it is one.
+pub(crate) fn parse(line: &[u8]) -> Option<Request<Command<Record>>>
+    ensures { result ≡ request_of line.now }
+{
+    if line == b"validate".as_slice() {
+        return Some(Request::Validate);
+    }
+    Some(Request::Run(command_in(line)?))
+}
+
+// The command that a line is.
+fn command_in(line: &[u8]) -> Option<Command<Record>>
     ensures { result ≡ command_of line.now }
 {
     if line.len() > MAX_LINE {

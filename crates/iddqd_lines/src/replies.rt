@@ -23,7 +23,7 @@ const BLOCK: usize = 8192;
 
 /// The most bytes that are put between two looks for room: a reply's line without its list, or one
 /// index of a list, with the line feed.
-const MAX_REPLY: usize = 64;
+pub(crate) const MAX_REPLY: usize = 64;
 
 /// The replies that wait to be written.
 #[derive(Drop)]
@@ -191,12 +191,15 @@ impl Replies {
         self.make_room(output)
     }
 
-    /// Appends the line that answers what is no command. It writes what waits where there is no room.
-    pub(crate) fn put_bad_line<O: Sink>(&mut self, output: &mut O) -> Result<(), ()>
-        ensures { Sends O.Sink output.old self.old (codes "bad line" ++ line_feed ∷ []) result output.new self.new }
+    /// Appends a line of this text, which is shorter than a reply may be. It writes what waits where there
+    /// is no room.
+    pub(crate) fn put_line<O: Sink>(&mut self, text: &[u8], output: &mut O) -> Result<(), ()>
+        requires { length text.now < MAX_REPLY }
+        ensures { Sends O.Sink output.old self.old (text.now ++ line_feed ∷ []) result output.new self.new }
     {
         self.make_room(output)?;
-        self.put_bytes(b"bad line\n");
+        self.put_bytes(text);
+        self.put_bytes(b"\n");
         Ok(())
     }
 

@@ -10,10 +10,11 @@
 ghost use Rattle.std.specs.Prelude.{◌≡◌, ◌∷◌, ◌++◌, [], List, ℕ, take, OnOk, IfSome, false};
 ghost use Rattle.iddqd_lines.specs.Line.{lines_of};
 ghost use Rattle.iddqd_lines.specs.Program.{hash_u32, ServesUntil, FailsAt};
-ghost use Rattle.iddqd_lines.specs.Serve.{moment, IsKept, Obeys, Feeds};
+ghost use Rattle.iddqd_lines.specs.Serve.{moment, IsKept, Obeys, Feeds, Tells};
+ghost use Rattle.iddqd_lines.specs.declared.line.Request.TheVariants.{Run, Validate};
 ghost use Rattle.iddqd_lines.specs.Stream.{FailsOnErr};
 
-use crate::line::{LINE_FEED, named_index, parse};
+use crate::line::{LINE_FEED, Request, named_index, parse};
 use crate::line_buffer::{KEPT, LineBuffer};
 use crate::record::Record;
 use crate::replies::Replies;
@@ -21,6 +22,8 @@ use crate::sink::Sink;
 use crate::source::Source;
 use crate::split::split_at_first;
 use iddqd::hash_builder::DefaultHashBuilder;
+use iddqd::internal::{ValidateChaos, ValidateCompact, ValidateRefusal, ValidationError};
+use iddqd_keyed::command::Command;
 use iddqd_keyed::keyed_items::KeyedItems;
 use std::alloc::Global;
 use std::fmt;
@@ -69,6 +72,8 @@ impl fmt::Display for ServeFault {
 /// - `walk` tells the indexes in the order of the second keys: `1 0 2`, `empty` or `no memory`.
 /// - `compact` moves the records, in the order of their indexes, to the indexes from 0 on, and tells the new
 ///   name of each old one: `identity`, `permuted 0 - 1` with a dash where there was none, or `no memory`.
+/// - `validate` checks that the indexes of the records are those from 0 on, and in both tables: `ok`, `ItemSet is not
+///   compact: 1 vacant slots`, or `no memory`. It goes over both tables once for each record.
 ///
 /// Every other line is answered `bad line`. All replies are out before it reads on. It ends at the first
 /// read or write that fails, and, as at a failed read, after 18446744073709551615 reads without an end.
@@ -197,10 +202,47 @@ fn obey<S: BuildHasher, O: Sink>(
         (whole : List ℕ) → take KEPT line.now ≡ take KEPT whole → Obeys hash O.Sink old (whole ∷ []) result new }
     ensures failed { FailsOnErr (O.has_failed output.old) result (O.has_failed output.new) }
 {
-    let Some(command) = parse(line) else {
-        return replies.put_bad_line(output);
+    let Some(request) = parse(line) else {
+        return replies.put_line(b"bad line", output);
     };
+    match request {
+        Request::Run(command) => run(items, command, replies, output),
+        Request::Validate => check(items, replies, output),
+    }
+}
+
+// Obeys a command, and answers with the words of its reply.
+fn run<S: BuildHasher, O: Sink>(
+    items: &mut KeyedItems<Record, S>,
+    command: Command<Record>,
+    replies: &mut Replies,
+    output: &mut O,
+) -> Result<(), ()>
+    ensures { let old = moment items.old output.old replies.old in
+        let new = moment items.new output.new replies.new in
+        Tells (hash_u32 S.BuildHasher S.Hasher.Hasher) O.Sink old (Run command) result new }
+{
     let named = named_index(&command);
     let reply = items.step(command);
     replies.put_reply(items, named, &reply, output)
+}
+
+// Answers how a check went. Store and tables are always sound, so nothing can be wrong but vacant slots.
+fn check<S: BuildHasher, O: Sink>(
+    items: &KeyedItems<Record, S>,
+    replies: &mut Replies,
+    output: &mut O,
+) -> Result<(), ()>
+    ensures { let old = moment items.now output.old replies.old in
+        let new = moment items.now output.new replies.new in
+        Tells (hash_u32 S.BuildHasher S.Hasher.Hasher) O.Sink old Validate result new }
+{
+    match items.validate(ValidateCompact::Compact, ValidateChaos::Yes) {
+        Ok(()) => replies.put_line(b"ok", output),
+        Err(ValidateRefusal::Invalid(ValidationError::General(text))) => {
+            replies.put_line(text.as_bytes(), output)
+        }
+        Err(ValidateRefusal::Invalid(ValidationError::Table { .. })) => unreachable!(),
+        Err(ValidateRefusal::Memory(_)) => replies.put_line(b"no memory", output),
+    }
 }

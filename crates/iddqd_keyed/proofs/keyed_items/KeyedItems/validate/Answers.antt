@@ -1,9 +1,8 @@
-use Rattle.std.proofs.Common.{◌≡◌, ◌∙◌, length, Err, IfErr, refl, sym, subst, ap}
+use Rattle.std.proofs.Common.{◌∙◌, length, IfErr, refl, sym, subst}
 use Rattle.std.proofs.lemmas.Result.{err_from_is_err_and}
-use Rattle.iddqd.specs.Validation.{Allows, AreAsExpected, IsMemory, Validates}
+use Rattle.iddqd.specs.Validation.{Allows, AreAsExpected, IsMemory}
 use Rattle.iddqd_hash.specs.MapHashTable.{indexes_of}
 use Rattle.iddqd_keyed.specs.State.{state_of}
-use Rattle.iddqd_keyed.specs.Validation.{AreStored}
 use Rattle.iddqd_keyed.proofs.ValidationLemmas.{AreAsExpected-filed, AreAsExpected-order, IsMemory-named, Validates-refused}
 use Rattle.iddqd_keyed.proofs.keyed_items.KeyedItems.validate.Goals.{After-from_residual-in_err-of_table, After-from_residual-in_err-of_table-2}
 use Rattle.iddqd_keyed.proofs.keyed_items.KeyedItems.validate.Goals as goal

@@ -1,4 +1,4 @@
-use Rattle.std.proofs.Common.{ℕ, IsSome}
+use Rattle.std.proofs.Common.{IsSome}
 use Rattle.std.specs.List.{Contains}
 use Rattle.std.specs.FinMap as finite
 use Rattle.iddqd_hash.specs.MapHashTable.{filed}
