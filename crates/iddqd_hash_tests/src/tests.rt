@@ -24,8 +24,6 @@ mod printed;
 mod random;
 mod reads;
 mod refused;
-mod refused_calls;
-mod refused_indexes;
 mod renames;
 mod reserved;
 mod rewrites;

@@ -132,30 +132,6 @@ fn every_choice_of_gaps_gives_the_ranks(rt: HostRuntime) -> Result<(), Fail> {
     Ok(())
 }
 
-// Compacts six slots, of which two are vacant, and tells whether memory was there. A refusal changes nothing.
-fn try_compact(rt: &impl Abort, set: &mut ItemSet<u32>) -> bool {
-    let room = set.room();
-    let is_done = expect_compact(rt, set, &[ix(0), S, ix(1), ix(2), S, ix(3)]).is_ok();
-    if is_done {
-        expect_items(rt, set, &[Some(0), Some(20), Some(30), Some(50)]);
-    } else {
-        let before = [Some(0), None, Some(20), Some(30), None, Some(50)];
-        expect_items(rt, set, &before);
-    }
-    assert!(rt; set.room() == room, "the memory stays");
-    is_done
-}
-
-#[test]
-fn a_refused_compact_changes_nothing(rt: HostRuntime) {
-    let Ok(mut set) = with_gaps(&rt, rt.alloc(), 6, &[1, 4]) else {
-        return;
-    };
-    if !try_compact(&rt, &mut set) {
-        try_compact(&rt, &mut set);
-    }
-}
-
 #[test]
 fn a_remap_prints_for_debugging(rt: HostRuntime) -> Result<(), Fail> {
     let names = vec![in rt.alloc(); ix(0), S, ix(1)]?;
