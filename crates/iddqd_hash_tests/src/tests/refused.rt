@@ -1,6 +1,6 @@
 //! Calls of which some are refused memory, on both tables and on that of indexes.
 //!
-//! With ample memory each insert is done. Run under `--fail-alloc` they show what a refusal leaves.
+//! With ample memory each insert is done. Run by `tools/refused-memory` they show what a refusal leaves.
 use super::holds;
 use super::indexes::answer_each;
 use super::renames::file_even;

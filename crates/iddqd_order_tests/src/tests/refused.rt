@@ -1,6 +1,6 @@
 //! Inserts of which some are let go and some are refused memory, at each length up to 300.
 //!
-//! With ample memory each insert is done. Run under `--fail-alloc` they show what a refusal leaves.
+//! With ample memory each insert is done. Run by `tools/refused-memory` they show what a refusal leaves.
 use super::{insert_by, is_stored};
 use iddqd::item_index::ItemIndex;
 use iddqd_order::btree_table::{Asking, MapBTreeTable};

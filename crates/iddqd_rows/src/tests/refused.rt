@@ -1,6 +1,6 @@
 //! Calls of which some are refused memory.
 //!
-//! With ample memory each insert is done. Run under `--fail-alloc` or the like they show what a
+//! With ample memory each insert is done. Run by `tools/refused-memory` they show what a
 //! refusal leaves. What they do between the calls takes no memory.
 use super::calls::{find1, find2, get, insert, remove, remove1, remove2};
 use super::driver::{Items, ix, no_items, record};
