@@ -5,3 +5,4 @@ pub mod PlaceLemmas
 pub mod OrderedFindLemmas
 pub mod OrderedHoldsLemmas
 pub mod OrderedPlaceLemmas
+pub mod IndexingLemmas

@@ -5,5 +5,8 @@
 #![tactic(auto)]
 
 pub mod hashed;
+pub mod hashed_move;
+pub mod hashed_query;
 pub mod key_of;
 pub mod ordered;
+pub mod query;

@@ -1,0 +1,69 @@
+//! Queries by which a key is looked up under its hash.
+//!
+//! A table finds a query only under the hash that the key was filed under, so a query has to hash as
+//! the keys do that it stands for. That is a law of the trait, and so a look-up by any query answers
+//! as a scan would.
+ghost use Rattle.std.specs.Prelude.{◌≡◌, Bool, IsTrue};
+ghost use Rattle.std.proofs.Common.{ap};
+ghost use Rattle.std.specs.Cmp.Lexicographic.{bytes_decides, nat_list_eq_equiv};
+ghost use Rattle.std.specs.Hash as fed;
+ghost use Rattle.std.specs.Str.{bytes_eq};
+ghost use Rattle.std.specs.String.{string_bytes};
+
+use iddqd::map_hash::Equivalent;
+use std::alloc::Allocator;
+use std::hash::Hash;
+
+/// What a key is looked up by: a `&K` at any keys, a `&str` at keys that are a `String`.
+///
+/// Implement it for a small `Copy` type of your own to look up by parts of a key.
+pub trait HashQuery<K: Eq + Hash>: Copy + Hash {
+    // What `stands_for` answers.
+    ghost stands_for: { Self → K → Bool };
+
+    /// Whether the query stands for the key.
+    fn stands_for(&self, key: &K) -> bool
+        ensures { result ≡ stands_for self.now key.now };
+
+    // It is hashed as a key that it stands for.
+    ghost same_hash: { (q : Self) (key : K) → IsTrue (stands_for q key) → Self.hash_input q ≡ K.hash_input key };
+
+    // Beside a key that it stands for it stands for those that are equal to it, and for no other.
+    ghost same_key: { (q : Self) (x y : K) → IsTrue (stands_for q x) → stands_for q y ≡ K.eq x y };
+}
+
+impl<K: Eq + Hash> HashQuery<K> for &K {
+    ghost stands_for = { λ q. K.eq q.now };
+
+    ghost same_hash = { λ q. K.respects_eq q.now };
+
+    ghost same_key = { λ q. K.Eq.laws.congr q.now };
+
+    fn stands_for(&self, key: &K) -> bool {
+        **self == *key
+    }
+}
+
+impl<A: Allocator> HashQuery<String<A>> for &str {
+    ghost stands_for = { λ q k. bytes_eq q.now (string_bytes k) };
+
+    ghost same_hash = { λ q k same. ap fed.str ((bytes_decides q.now (string_bytes k)).0 same) };
+
+    ghost same_key = { λ q x y. nat_list_eq_equiv.congr q.now (string_bytes x) (string_bytes y) };
+
+    fn stands_for(&self, key: &String<A>) -> bool {
+        *self == key.as_str()
+    }
+}
+
+// A query as what tables are asked by.
+#[derive(Clone, Copy)]
+pub(crate) struct Asked<Q>(pub(crate) Q);
+
+impl<K: Eq + Hash, Q: HashQuery<K>> Equivalent<K> for Asked<Q> {
+    ghost equivalent = { λ q k. Q.stands_for q.0 k };
+
+    fn equivalent(&self, key: &K) -> bool {
+        self.0.stands_for(key)
+    }
+}
