@@ -22,9 +22,9 @@ use Rattle.iddqd_hash.proofs.FiledLemmas.{entry_index-value, FindsWhere-by_key}
 use Rattle.iddqd_hash.proofs.MemberLemmas.{get-insert_at, get-insert_other, get-remove_other}
 use Rattle.iddqd_sides.specs.Scan.{IsLive, IsHit, HasNoHit, AnswersScan, AreApart, passes_by}
 use Rattle.iddqd_sides.specs.Hashed.{Hashing, hashing_of, IsLawful, StandsForOne, IsInPlace}
-use Rattle.iddqd_sides.specs.Indexing.{EntersAt, Indexes, shares_key, Plans, MayMove, moved}
+use Rattle.iddqd_sides.specs.Indexing.{EntersAt, Indexes, shares_key, Plans, moved}
 use Rattle.iddqd_sides.specs.declared.hashed_move.Move.{Move}
-use Rattle.iddqd_sides.specs.declared.hashed_move.Move.TheVariants.{Stays, To, Clashes}
+use Rattle.iddqd_sides.specs.declared.hashed_move.Move.TheVariants.{Stays, To}
 use Rattle.iddqd_sides.proofs.FindLemmas.{passes, Finds-from_where, AnswersScan-found, StandsForOne-key}
 use Rattle.iddqd_sides.proofs.HoldsLemmas.{Holds-empty, Holds-cleared, Holds-removed, Holds-inserted, Holds-compacted, Holds-rebound}
 use Rattle.iddqd_sides.proofs.PlaceLemmas.{IsExact-empty, IsExact-inserted, Keeps-cleared, Keeps-removed, Keeps-compacted, Keeps-rebound}
@@ -136,7 +136,6 @@ module _ {T K : Type 0} (key_of : T → K) (hashing : Hashing K) where
         went : Indexes key_of hashing (rebound s ix item) there
         went = record { held = λ j. holds_at j (cases_eq j ix); exact = record { placed = placed_at; apart = apart_at } }
 
-      pub Indexes-rebound : (plan : Move) → Plans key_of hashing s ix item plan → MayMove plan → Indexes key_of hashing (rebound s ix item) (moved m ix plan)
-      Indexes-rebound Stays plan may = kept plan
-      Indexes-rebound (To hash) plan may = went hash plan
-      Indexes-rebound (Clashes at) plan may = absurd may
+      pub Indexes-rebound : (plan : Move) → Plans key_of hashing s ix item plan → Indexes key_of hashing (rebound s ix item) (moved m ix plan)
+      Indexes-rebound Stays plan = kept plan
+      Indexes-rebound (To hash) plan = went hash plan

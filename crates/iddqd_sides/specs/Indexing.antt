@@ -1,5 +1,5 @@
 -- A table of indexes under hashes by which each look-up of a store's items answers as a scan of them does.
-use Rattle.std.specs.Prelude.{◌≡◌, ◌≢◌, ℕ, Bool, Some}
+use Rattle.std.specs.Prelude.{◌≡◌, ◌≢◌, ℕ, Bool, Some, Result, Ok, Err}
 use Rattle.std.specs.Ordering.{nat_cmp}
 use Rattle.std.specs.FinMap as finite
 use Rattle.std.specs.FinMap.{FinMap}
@@ -10,7 +10,7 @@ use Rattle.iddqd_hash.specs.declared.hash_table.OccupiedEntry.{OccupiedEntry}
 use Rattle.iddqd_sides.specs.Scan.{IsHit, HasNoHit, AnswersScan, passes_by}
 use Rattle.iddqd_sides.specs.Hashed.{Hashing, Holds, IsExact}
 use Rattle.iddqd_sides.specs.declared.hashed_move.Move.{Move}
-use Rattle.iddqd_sides.specs.declared.hashed_move.Move.TheVariants.{Stays, To, Clashes}
+use Rattle.iddqd_sides.specs.declared.hashed_move.Move.TheVariants.{Stays, To}
 
 -- an entry of the one index whose item passes the test
 pub record EntersAt {T : Type 0} (s : Store T) (test : T → Bool) (e : OccupiedEntry) : Type 0 where
@@ -22,25 +22,16 @@ pub record EntersAt {T : Type 0} (s : Store T) (test : T → Bool) (e : Occupied
 abbrev pub IfMoves : Move → (ℕ → Type 0) → Type 0
 IfMoves (To hash) P = P hash
 IfMoves Stays P = Unit {0}
-IfMoves (Clashes at) P = Unit {0}
-
--- no other item is in the way
-abbrev pub MayMove : Move → Type 0
-MayMove Stays = Unit {0}
-MayMove (To hash) = Unit {0}
-MayMove (Clashes at) = ⊥
 
 -- the index has to be filed under another hash, and a table has no room for that
 abbrev pub LacksRoom : Move → Table ℕ → Type 0
 LacksRoom (To hash) t = room t ≡ 0
 LacksRoom Stays t = ⊥
-LacksRoom (Clashes at) t = ⊥
 
 -- what is left of a map once an index was moved
 abbrev pub moved : FinMap nat_cmp ℕ → ℕ → Move → FinMap nat_cmp ℕ
 moved m ix (To hash) = finite.insert (finite.remove m ix) ix hash
 moved m ix Stays = m
-moved m ix (Clashes at) = m
 
 module _ {T K : Type 0} (key_of : T → K) (hashing : Hashing K) where
   -- the item has the key of this one
@@ -53,9 +44,13 @@ module _ {T K : Type 0} (key_of : T → K) (hashing : Hashing K) where
     pub held : Holds s m
     pub exact : IsExact key_of hashing s m
 
-  -- What has to become of a live index that is given this item: it stays where the key stays. Else, where no item has
-  -- the key, it is filed under the key's hash, and where another one has, that is in the way.
+  -- What has to become of a live index that is given this item: it stays where the key stays, and else, where no item
+  -- has the key, it is filed under the key's hash.
   abbrev pub Plans : Store T → ℕ → T → Move → Type 0
   Plans s ix item Stays = IsHit s (shares_key item) ix
   Plans s ix item (To hash) = HasNoHit s (shares_key item) × (hash ≡ hashing.hash_of (key_of item))
-  Plans s ix item (Clashes at) = (at ≢ ix) × AnswersScan s (shares_key item) (Some at)
+
+  -- the plan, or the index of another item that has the key
+  abbrev pub PlansOrClashes : Store T → ℕ → T → Result Move ℕ → Type 0
+  PlansOrClashes s ix item (Ok plan) = Plans s ix item plan
+  PlansOrClashes s ix item (Err at) = (at ≢ ix) × AnswersScan s (shares_key item) (Some at)

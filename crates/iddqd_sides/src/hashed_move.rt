@@ -9,7 +9,7 @@ ghost use Rattle.iddqd_hash.specs.{filed, room};
 ghost use Rattle.iddqd_hash.specs.HashTable.{UsesRoom};
 ghost use Rattle.iddqd_sides.specs.Scan.{IsLive};
 ghost use Rattle.iddqd_sides.specs.Hashed.{hashing_of};
-ghost use Rattle.iddqd_sides.specs.Indexing.{Indexes, Plans, IfMoves, LacksRoom, moved};
+ghost use Rattle.iddqd_sides.specs.Indexing.{Indexes, PlansOrClashes, IfMoves, LacksRoom, moved};
 
 use crate::hashed::{self, hash_of};
 use crate::key_of::{ByKey, KeyOf, key_at};
@@ -27,11 +27,10 @@ pub enum Move {
     Stays,
     /// It is filed under this hash, that of the new key.
     To(MapHash),
-    /// The item at this index, another one, has the new key.
-    Clashes(ItemIndex),
 }
 
-/// What has to become of a live index that is given this item.
+/// What has to become of a live index that is given this item; or the index of another item that has
+/// its key.
 ///
 /// It compares the item's key with the one that stands there. Only where they differ is it hashed,
 /// once, and looked up, once.
@@ -41,7 +40,7 @@ pub fn plan_move<T, E, S>(
     state: &S,
     ix: ItemIndex,
     item: &T,
-) -> Move
+) -> Result<Move, ItemIndex>
 where
     E: KeyOf<T>,
     E::Key: Eq + Hash,
@@ -50,16 +49,16 @@ where
     requires indexed { let hashing = hashing_of E.Key.eq E.Key.hash_input S.BuildHasher S.Hasher.Hasher state.now in
         Indexes E.key_of hashing items.now.store (filed table.now) }
     ensures { let hashing = hashing_of E.Key.eq E.Key.hash_input S.BuildHasher S.Hasher.Hasher state.now in
-        Plans E.key_of hashing items.now.store ix item.now result }
+        PlansOrClashes E.key_of hashing items.now.store ix item.now result }
 {
     let key = E::key(item);
     if *key == *key_at::<T, E>(items, ix) {
-        return Move::Stays;
+        return Ok(Move::Stays);
     }
     let hash = hash_of::<T, E, S>(state, item);
     match hashed::find::<T, E, ByKey<E::Key>>(table, items, hash, &ByKey(key)) {
-        Some(at) => Move::Clashes(at),
-        None => Move::To(hash),
+        Some(at) => Err(at),
+        None => Ok(Move::To(hash)),
     }
 }
 
@@ -72,7 +71,7 @@ pub fn reserve_move(table: &mut MapHashTable, plan: Move) -> Result<(), AllocErr
 {
     match plan {
         Move::To(_) => table.try_reserve(1),
-        Move::Stays | Move::Clashes(_) => Ok(()),
+        Move::Stays => Ok(()),
     }
 }
 

@@ -1,0 +1,100 @@
+-- What becomes of a map with one key in each step of its store and its table.
+use Rattle.std.proofs.Common.{◌≡◌, ◌∙◌, ◌↔◌, ◌+◌, ◌≤◌, ℕ, Bool, Option, Some, None, Result, Ok, Err, refl, sym, ap, subst, arith}
+use Rattle.std.specs.Option.{OnSome}
+use Rattle.std.specs.Ordering.{nat_cmp}
+use Rattle.std.specs.FinMap as finite
+use Rattle.std.specs.FinMap.{FinMap}
+use Rattle.iddqd.proofs.StoreLemmas.{IsValid-removed, IsValid-inserted}
+use Rattle.iddqd.specs.Store.{Store, IsValid, IsFull, get, next_index, inserted, removed, rebound}
+use Rattle.iddqd.specs.ItemSet.{SizedStore, room as set_room}
+use Rattle.iddqd.specs.declared.item_set.GrowError.{GrowError}
+use Rattle.iddqd.specs.declared.item_set.GrowError.TheVariants.{Full as NoPlace, Memory as NoRoom}
+use Rattle.iddqd_hash.specs.HashTable.{Table, room as table_room}
+use Rattle.iddqd_hash.specs.MapHashTable.{filed}
+use Rattle.iddqd_sides.specs.Scan.{HasNoHit, AnswersScan}
+use Rattle.iddqd_sides.specs.Hashed.{Hashing, IsLawful}
+use Rattle.iddqd_sides.specs.Indexing.{Indexes, shares_key}
+use Rattle.iddqd_sides.proofs.IndexingLemmas.{Indexes-removed, Indexes-inserted}
+use Rattle.iddqd_maps.specs.Map.{MapState, Stays, IsOnly, FindsItem, Removes, InsertsAt}
+use Rattle.iddqd_maps.specs.Calls.{Inserts, RefusesFull, RefusesMemory}
+use Rattle.iddqd_maps.specs.IdMap.{map_of, ClashesAt, IsIdMap}
+use Rattle.iddqd_maps.specs.Refusal.{refusal_of}
+use Rattle.iddqd_maps.specs.declared.refusal.InsertRefusal.TheVariants.{Duplicate, Full, Memory}
+use Rattle.iddqd_maps.proofs.RoomLemmas.{min_stays, min_falls, not_less}
+
+module _ {T : Type 0} (old new : SizedStore T) (table after : Table ℕ) where
+  pub Stays-parts : new.store ≡ old.store → set_room old ≤ set_room new → table_room table ≤ table_room after → Stays (map_of old table) (map_of new after)
+  Stays-parts same items hashes = record { store = same; room_stays = min_stays _ _ _ _ items hashes }
+
+module _ {T : Type 0} (alike : T → T → Bool) where
+  -- a refusal for fullness or for memory
+  pub Inserts-refused : (old new : MapState T) (item : T) (error : GrowError) → HasNoHit old.store (alike item) → (error ≡ NoPlace) ↔ IsFull old.store → (error ≡ NoRoom → old.room ≡ 0) → Stays old new → Inserts alike (ClashesAt alike) old item (Err (refusal_of error item)) new
+  Inserts-refused old new item NoPlace none full no_room stays =
+      record { given_back = refl; no_clash = none; full = full.0 refl; unchanged = stays }
+  Inserts-refused old new item NoRoom none full no_room stays =
+      record { given_back = refl; no_clash = none; not_full = λ is. (let same = full.1 is in cc); no_room = no_room refl; unchanged = stays }
+
+-- the item that a look-up finds
+pub FindsItem-found : {T : Type 0} (s : Store T) (test : T → Bool) (ix : ℕ) (r : Option T) → AnswersScan s test (Some ix) → r ≡ get s ix → FindsItem s test r
+FindsItem-found s test ix r scan is =
+    let (item, live, passed) = (scan ix).1 refl in
+    rw (is ∙ live) (ix, record { live = live; only = scan })
+
+module _ {T K : Type 0} (key_of : T → K) (hashing : Hashing K) (old new : SizedStore T) (table after : Table ℕ) where
+  -- an index that a table lost, and its item that the store lost
+  pub IsIdMap-removed : (ix : ℕ) (item : T) (r : Option T) → get old.store ix ≡ Some item → r ≡ get old.store ix → OnSome r (new ≡ record old { store = removed old.store ix }) → filed after ≡ finite.remove (filed table) ix → IsIdMap key_of hashing old.store table → IsIdMap key_of hashing new.store after
+  IsIdMap-removed ix item r live value left taken o =
+      let gone = rw (value, live) at left in
+      record {
+        valid = rw gone (IsValid-removed old.store ix item o.valid live);
+        indexed = rw (gone, taken) (Indexes-removed key_of hashing old.store (filed table) o.indexed ix item live);
+      }
+
+module _ {T : Type 0} (old new : SizedStore T) (table after : Table ℕ) (test : T → Bool) where
+  pub Removes-hit : (ix : ℕ) (r : Option T) → AnswersScan old.store test (Some ix) → r ≡ get old.store ix → OnSome r (new ≡ record old { store = removed old.store ix }) → OnSome r (set_room new ≡ set_room old + 1) → table_room table ≤ table_room after → Removes (map_of old table) test r (map_of new after)
+  Removes-hit ix r scan value left freed kept =
+      let (item, live, passed) = (scan ix).1 refl in
+      let gone = rw (value, live) at left in
+      let risen : set_room new ≡ set_room old + 1 = rw (value, live) at freed in
+      rw (value, live)
+      (record {
+        ix = ix;
+        hit = record { live = live; only = scan };
+        left = ap (λ (s : SizedStore T). s.store) gone;
+        room_stays = min_stays _ _ _ _ (omega (arith, risen)) kept;
+      })
+
+  pub Removes-none : (r : Option T) → r ≡ None → HasNoHit old.store test → table_room table ≤ table_room after → Removes (map_of old table) test r (map_of old after)
+  Removes-none r none missed kept = rw none (missed, Stays-parts old old table after refl (omega arith) kept)
+
+-- a table that is as it was has the room that it had
+pub room_same : (was is : Table ℕ) → is ≡ was → table_room was ≤ table_room is
+room_same was is same = rw same (omega arith)
+
+-- and one that is as an entry held it, which lost none
+pub room_held : (was held is : Table ℕ) → is ≡ held → table_room was ≤ table_room held → table_room was ≤ table_room is
+room_held was held is same kept = rw same kept
+
+-- a store that is as it was
+pub Stays-same : {T : Type 0} (items left : SizedStore T) (table after : Table ℕ) → left ≡ items → table_room table ≤ table_room after → Stays (map_of items table) (map_of left after)
+Stays-same items left table after same kept = rw same (Stays-parts items items table after refl (omega arith) kept)
+
+module _ {T K : Type 0} (key_of : T → K) (hashing : Hashing K) (old : SizedStore T) (table : Table ℕ) (item : T) (valid : IsValid old.store) where
+  pub IsValid-stored : (left : Store T) → left ≡ inserted old.store item → (IsFull old.store → ⊥) → IsValid left
+  IsValid-stored left stored not_full = rw stored (IsValid-inserted old.store item valid not_full)
+
+  pub Indexes-stored : (left : Store T) (m mid : FinMap nat_cmp ℕ) → left ≡ inserted old.store item → m ≡ mid → mid ≡ finite.insert (filed table) (next_index old.store) (hashing.hash_of (key_of item)) → Indexes key_of hashing old.store (filed table) → IsLawful hashing → HasNoHit old.store (shares_key key_of hashing item) → Indexes key_of hashing left m
+  Indexes-stored left m mid stored is entered o lawful none =
+      rw (stored, is, entered) (Indexes-inserted key_of hashing old.store (filed table) o item valid lawful none)
+
+-- an insert that was done, through a handle and a vacant entry that were held
+pub InsertsAt-stored : {T : Type 0} (alike : T → T → Bool) (old held left : SizedStore T) (table vacant after : Table ℕ) (item : T) (ix : ℕ) → HasNoHit old.store (alike item) → (IsFull old.store → ⊥) → ix ≡ next_index old.store → left.store ≡ inserted old.store item → (1 ≤ set_room old → held ≡ old) → set_room left + 1 ≡ set_room held → table_room table ≤ table_room vacant → table_room vacant ≤ table_room after + 1 → InsertsAt alike (map_of old table) item ix (map_of left after)
+InsertsAt-stored alike old held left table vacant after item ix none not_full index stored kept used roomy filled =
+    let ahead : set_room old ≤ set_room held = not_less _ _ (λ some. ap set_room (kept some)) in
+    record {
+      no_clash = none;
+      not_full = not_full;
+      index = index;
+      stored = stored;
+      room = min_falls _ _ _ _ (omega (arith, ahead, used)) (omega (arith, roomy, filled));
+    }

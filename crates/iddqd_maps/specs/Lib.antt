@@ -1,0 +1,4 @@
+pub mod Map
+pub mod Calls
+pub mod IdMap
+pub mod Refusal

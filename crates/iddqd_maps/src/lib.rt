@@ -1,0 +1,9 @@
+//! Maps whose keys live inside their values: a store of items, and a table for each key.
+//!
+//! A map is seen as its items in slots under stable indexes, no two of which share a key. No call
+//! gives a stored item another key without telling the tables, so a look-up always answers as a scan
+//! of all items would.
+#![tactic(auto)]
+
+pub mod id_hash_map;
+pub mod refusal;
