@@ -1,20 +1,22 @@
 -- What becomes of a map with one key in each step of its store and its table.
-use Rattle.std.proofs.Common.{◌≡◌, ◌∙◌, ◌↔◌, ◌+◌, ◌≤◌, ℕ, Bool, Option, Some, None, Result, Ok, Err, refl, sym, ap, subst, arith}
+use Rattle.std.proofs.Common.{◌≡◌, ◌∙◌, ◌↔◌, ◌+◌, ◌≤◌, ℕ, min, Bool, Option, Some, None, Result, Ok, Err, refl, sym, ap, subst, arith}
 use Rattle.std.specs.Option.{OnSome}
 use Rattle.std.specs.Ordering.{nat_cmp}
 use Rattle.std.specs.FinMap as finite
 use Rattle.std.specs.FinMap.{FinMap}
-use Rattle.iddqd.proofs.StoreLemmas.{IsValid-removed, IsValid-inserted}
+use Rattle.iddqd.proofs.RoomLemmas.{room-rebound}
+use Rattle.iddqd.proofs.StoreLemmas.{IsValid-removed, IsValid-inserted, IsValid-rebound}
 use Rattle.iddqd.specs.Store.{Store, IsValid, IsFull, get, next_index, inserted, removed, rebound}
-use Rattle.iddqd.specs.ItemSet.{SizedStore, room as set_room}
+use Rattle.iddqd.specs.ItemSet.{SizedStore, with_item, room as set_room}
 use Rattle.iddqd.specs.declared.item_set.GrowError.{GrowError}
 use Rattle.iddqd.specs.declared.item_set.GrowError.TheVariants.{Full as NoPlace, Memory as NoRoom}
 use Rattle.iddqd_hash.specs.HashTable.{Table, room as table_room}
 use Rattle.iddqd_hash.specs.MapHashTable.{filed}
 use Rattle.iddqd_sides.specs.Scan.{HasNoHit, AnswersScan}
 use Rattle.iddqd_sides.specs.Hashed.{Hashing, IsLawful}
-use Rattle.iddqd_sides.specs.Indexing.{Indexes, shares_key}
-use Rattle.iddqd_sides.proofs.IndexingLemmas.{Indexes-removed, Indexes-inserted}
+use Rattle.iddqd_sides.specs.Indexing.{Indexes, Plans, moved, shares_key}
+use Rattle.iddqd_sides.specs.declared.hashed_move.Move.{Move}
+use Rattle.iddqd_sides.proofs.IndexingLemmas.{Indexes-removed, Indexes-inserted, Indexes-rebound}
 use Rattle.iddqd_maps.specs.Map.{MapState, Stays, IsOnly, FindsItem, Removes, InsertsAt}
 use Rattle.iddqd_maps.specs.Calls.{Inserts, RefusesFull, RefusesMemory}
 use Rattle.iddqd_maps.specs.IdMap.{map_of, ClashesAt, IsIdMap}
@@ -98,3 +100,18 @@ InsertsAt-stored alike old held left table vacant after item ix none not_full in
       stored = stored;
       room = min_falls _ _ _ _ (omega (arith, ahead, used)) (omega (arith, roomy, filled));
     }
+
+-- a live index was given another item, as it was planned
+pub IsIdMap-rebound : {T K : Type 0} (key_of : T → K) (hashing : Hashing K) (old new : SizedStore T) (table after : Table ℕ) (ix : ℕ) (item was : T) (plan : Move) → IsValid old.store → Indexes key_of hashing old.store (filed table) → IsLawful hashing → get old.store ix ≡ Some was → Plans key_of hashing old.store ix item plan → new ≡ with_item old ix item → filed after ≡ moved (filed table) ix plan → IsValid new.store × Indexes key_of hashing new.store (filed after)
+IsIdMap-rebound key_of hashing old new table after ix item was plan valid o lawful live planned left filed_so =
+    rw (left, filed_so)
+    (IsValid-rebound old.store ix item was valid live, Indexes-rebound key_of hashing old.store (filed table) o ix item was live lawful plan planned)
+
+-- the one that an item clashes with was given it
+pub Overwrites-hit : {T : Type 0} (alike : T → T → Bool) (old : MapState T) (mid new : SizedStore T) (table : Table ℕ) (item back was : T) (at : ℕ) → back ≡ item → AnswersScan old.store (alike item) (Some at) → Stays old (map_of mid table) → get mid.store at ≡ Some was → new ≡ with_item mid at back → IsOnly old.store (alike item) at was × (new.store ≡ rebound old.store at item) × (old.room ≤ min (set_room new) (table_room table))
+Overwrites-hit alike old mid new table item back was at same scan stays live left =
+    let same_room : set_room new ≡ set_room mid = rw left (room-rebound mid.store mid.capacity at back) in (
+      record { live = rw (← stays.store) live; only = scan },
+      rw (left, same, ← stays.store) refl,
+      rw same_room stays.room_stays,
+    )
