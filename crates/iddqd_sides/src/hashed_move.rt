@@ -63,11 +63,11 @@ where
 }
 
 /// Makes the room for a move. Where none has to be made no memory is taken.
-pub fn reserve_move(table: &mut MapHashTable, plan: Move) -> Result<(), AllocError>
+pub fn reserve_move(table: &mut MapHashTable, plan: &Move) -> Result<(), AllocError>
     ensures contents { filed table.new ≡ filed table.old }
-    ensures roomy { OnOk result (IfMoves plan (λ _. 1 ≤ room table.new)) }
+    ensures roomy { OnOk result (IfMoves plan.now (λ _. 1 ≤ room table.new)) }
     ensures room_stays { room table.old ≤ room table.new }
-    ensures refused { OnErr result (LacksRoom plan table.old) }
+    ensures refused { OnErr result (LacksRoom plan.now table.old) }
 {
     match plan {
         Move::To(_) => table.try_reserve(1),
@@ -78,14 +78,14 @@ pub fn reserve_move(table: &mut MapHashTable, plan: Move) -> Result<(), AllocErr
 /// Files a live index as it was planned. It takes no memory.
 ///
 /// `from` is the hash that it is filed under; under another one the table is walked.
-pub fn commit_move(table: &mut MapHashTable, from: MapHash, plan: Move, ix: ItemIndex)
+pub fn commit_move(table: &mut MapHashTable, from: MapHash, plan: &Move, ix: ItemIndex)
     requires filed { IsSome (finite.get (filed table.old) ix) }
-    requires roomy { IfMoves plan (λ _. 1 ≤ room table.old) }
-    ensures moved { filed table.new ≡ moved (filed table.old) ix plan }
+    requires roomy { IfMoves plan.now (λ _. 1 ≤ room table.old) }
+    ensures moved { filed table.new ≡ moved (filed table.old) ix plan.now }
     ensures memory { UsesRoom table.old table.new }
 {
     if let Move::To(to) = plan {
         hashed::take_index(table, from, ix);
-        table.insert_prehashed_unchecked(to, ix);
+        table.insert_prehashed_unchecked(*to, ix);
     }
 }

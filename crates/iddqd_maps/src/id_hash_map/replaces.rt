@@ -119,9 +119,9 @@ fn replace_at<T: IdHashItem, S: BuildHasher>(
         Ok(plan) => plan,
         Err(at) => return Err(ReplaceRefusal::Duplicate { item, at }),
     };
-    if let Err(AllocError) = reserve_move(table, plan) {
+    if let Err(AllocError) = reserve_move(table, &plan) {
         return Err(ReplaceRefusal::Memory(item));
     }
-    commit_move(table, from, plan, ix);
+    commit_move(table, from, &plan, ix);
     Ok(items.replace(ix, item))
 }
