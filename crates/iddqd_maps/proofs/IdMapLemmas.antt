@@ -1,5 +1,5 @@
 -- What becomes of a map with one key in each step of its store and its table.
-use Rattle.std.proofs.Common.{◌≡◌, ◌∙◌, ◌↔◌, ◌+◌, ◌≤◌, ℕ, min, Bool, Option, Some, None, Result, Ok, Err, refl, sym, ap, subst, arith}
+use Rattle.std.proofs.Common.{◌≡◌, ◌∙◌, ◌↔◌, ◌+◌, ◌≤◌, ℕ, min, Bool, true, false, not, Option, Some, None, Result, Ok, Err, refl, sym, ap, subst, arith}
 use Rattle.std.specs.Option.{OnSome}
 use Rattle.std.specs.Ordering.{nat_cmp}
 use Rattle.std.specs.FinMap as finite
@@ -12,25 +12,27 @@ use Rattle.iddqd.specs.declared.item_set.GrowError.{GrowError}
 use Rattle.iddqd.specs.declared.item_set.GrowError.TheVariants.{Full as NoPlace, Memory as NoRoom}
 use Rattle.iddqd_hash.specs.HashTable.{Table, room as table_room}
 use Rattle.iddqd_hash.specs.MapHashTable.{filed}
-use Rattle.iddqd_sides.specs.Scan.{HasNoHit, AnswersScan}
+use Rattle.iddqd_sides.specs.Scan.{IsHit, HasNoHit, AnswersScan}
 use Rattle.iddqd_sides.specs.Hashed.{Hashing, IsLawful}
-use Rattle.iddqd_sides.specs.Indexing.{Indexes, Plans, moved, shares_key}
+use Rattle.iddqd_sides.specs.Indexing.{Indexes, Plans, IfStays, LacksRoom, moved, shares_key}
 use Rattle.iddqd_sides.specs.declared.hashed_move.Move.{Move}
+use Rattle.iddqd_sides.specs.declared.hashed_move.Move.TheVariants.{Stays, To}
 use Rattle.iddqd_sides.proofs.IndexingLemmas.{Indexes-removed, Indexes-inserted, Indexes-rebound}
-use Rattle.iddqd_maps.specs.Map.{MapState, Stays, IsOnly, FindsItem, Removes, InsertsAt}
-use Rattle.iddqd_maps.specs.Calls.{Inserts, RefusesFull, RefusesMemory}
+use Rattle.iddqd_maps.specs.Map.{MapState, Stays as Rests, shares, IsOnly, FindsItem, Removes, InsertsAt}
+use Rattle.iddqd_maps.specs.Calls.{Inserts, RefusesFull, RefusesMemory, Becomes, LacksRoomAt, ReplacesAt, Replaces}
 use Rattle.iddqd_maps.specs.IdMap.{map_of, ClashesAt, IsIdMap}
 use Rattle.iddqd_maps.specs.Refusal.{refusal_of}
-use Rattle.iddqd_maps.specs.declared.refusal.InsertRefusal.TheVariants.{Duplicate, Full, Memory}
-use Rattle.iddqd_maps.proofs.RoomLemmas.{min_stays, min_falls, not_less}
+use Rattle.iddqd_maps.specs.declared.refusal.ReplaceRefusal.{ReplaceRefusal}
+use Rattle.iddqd_maps.specs.declared.refusal.ReplaceRefusal.TheVariants.{Missing, Duplicate as Taken, Memory as Refused}
+use Rattle.iddqd_maps.proofs.RoomLemmas.{min_stays, min_falls, none_right, not_less}
 
 module _ {T : Type 0} (old new : SizedStore T) (table after : Table ℕ) where
-  pub Stays-parts : new.store ≡ old.store → set_room old ≤ set_room new → table_room table ≤ table_room after → Stays (map_of old table) (map_of new after)
+  pub Stays-parts : new.store ≡ old.store → set_room old ≤ set_room new → table_room table ≤ table_room after → Rests (map_of old table) (map_of new after)
   Stays-parts same items hashes = record { store = same; room_stays = min_stays _ _ _ _ items hashes }
 
 module _ {T : Type 0} (alike : T → T → Bool) where
   -- a refusal for fullness or for memory
-  pub Inserts-refused : (old new : MapState T) (item : T) (error : GrowError) → HasNoHit old.store (alike item) → (error ≡ NoPlace) ↔ IsFull old.store → (error ≡ NoRoom → old.room ≡ 0) → Stays old new → Inserts alike (ClashesAt alike) old item (Err (refusal_of error item)) new
+  pub Inserts-refused : (old new : MapState T) (item : T) (error : GrowError) → HasNoHit old.store (alike item) → (error ≡ NoPlace) ↔ IsFull old.store → (error ≡ NoRoom → old.room ≡ 0) → Rests old new → Inserts alike (ClashesAt alike) old item (Err (refusal_of error item)) new
   Inserts-refused old new item NoPlace none full no_room stays =
       record { given_back = refl; no_clash = none; full = full.0 refl; unchanged = stays }
   Inserts-refused old new item NoRoom none full no_room stays =
@@ -78,7 +80,7 @@ pub room_held : (was held is : Table ℕ) → is ≡ held → table_room was ≤
 room_held was held is same kept = rw same kept
 
 -- a store that is as it was
-pub Stays-same : {T : Type 0} (items left : SizedStore T) (table after : Table ℕ) → left ≡ items → table_room table ≤ table_room after → Stays (map_of items table) (map_of left after)
+pub Stays-same : {T : Type 0} (items left : SizedStore T) (table after : Table ℕ) → left ≡ items → table_room table ≤ table_room after → Rests (map_of items table) (map_of left after)
 Stays-same items left table after same kept = rw same (Stays-parts items items table after refl (omega arith) kept)
 
 module _ {T K : Type 0} (key_of : T → K) (hashing : Hashing K) (old : SizedStore T) (table : Table ℕ) (item : T) (valid : IsValid old.store) where
@@ -108,10 +110,53 @@ IsIdMap-rebound key_of hashing old new table after ix item was plan valid o lawf
     (IsValid-rebound old.store ix item was valid live, Indexes-rebound key_of hashing old.store (filed table) o ix item was live lawful plan planned)
 
 -- the one that an item clashes with was given it
-pub Overwrites-hit : {T : Type 0} (alike : T → T → Bool) (old : MapState T) (mid new : SizedStore T) (table : Table ℕ) (item back was : T) (at : ℕ) → back ≡ item → AnswersScan old.store (alike item) (Some at) → Stays old (map_of mid table) → get mid.store at ≡ Some was → new ≡ with_item mid at back → IsOnly old.store (alike item) at was × (new.store ≡ rebound old.store at item) × (old.room ≤ min (set_room new) (table_room table))
+pub Overwrites-hit : {T : Type 0} (alike : T → T → Bool) (old : MapState T) (mid new : SizedStore T) (table : Table ℕ) (item back was : T) (at : ℕ) → back ≡ item → AnswersScan old.store (alike item) (Some at) → Rests old (map_of mid table) → get mid.store at ≡ Some was → new ≡ with_item mid at back → IsOnly old.store (alike item) at was × (new.store ≡ rebound old.store at item) × (old.room ≤ min (set_room new) (table_room table))
 Overwrites-hit alike old mid new table item back was at same scan stays live left =
     let same_room : set_room new ≡ set_room mid = rw left (room-rebound mid.store mid.capacity at back) in (
       record { live = rw (← stays.store) live; only = scan },
       rw (left, same, ← stays.store) refl,
       rw same_room stays.room_stays,
     )
+
+module _ {T K : Type 0} (key_of : T → K) (hashing : Hashing K) (items : SizedStore T) (table : Table ℕ) (ix : ℕ) (item was : T) (live : get items.store ix ≡ Some was) where
+  -- there is no room for a move that was planned
+  pub LacksRoomAt-planned : (plan : Move) → Plans key_of hashing items.store ix item plan → LacksRoom plan table → LacksRoomAt (shares key_of hashing.equal) (map_of items table) ix item
+  LacksRoomAt-planned Stays planned lacks = absurd lacks
+  LacksRoomAt-planned (To hash) planned lacks = record {
+    changed = (was, live, unlike (shares key_of hashing.equal item was) refl);
+    no_clash = planned.0;
+    no_room = none_right _ _ lacks;
+  }
+    where
+      unlike : (b : Bool) → b ≡ shares key_of hashing.equal item was → not b ≡ true
+      unlike true is = absurd (planned.0 ix (was, live, sym is))
+      unlike false is = refl
+
+  -- who shares a key with the item is the one whose place it takes
+  no_other : (plan : Move) → Plans key_of hashing items.store ix item plan → IsLawful hashing → Indexes key_of hashing items.store (filed table) → (j : ℕ) → IsHit items.store (shares key_of hashing.equal item) j → j ≡ ix
+  no_other (To hash) planned lawful o j hit = absurd (planned.0 j hit)
+  no_other Stays (y, is, same) lawful o j (x, there, alike) =
+      o.exact.apart j ix x y there is (lawful.equivalence.trans (key_of x) (key_of item) (key_of y) (lawful.equivalence.symm (key_of x) (key_of item) ∙ alike) same)
+
+  -- where the keys are alike it was planned that the index stays
+  untouched : (plan : Move) (mid after : Table ℕ) → Plans key_of hashing items.store ix item plan → IfStays plan (mid ≡ table) → IfStays plan (after ≡ mid) → shares key_of hashing.equal item was ≡ true → table_room table ≤ table_room after
+  untouched Stays mid after planned one other same = rw (other, one) (omega arith)
+  untouched (To hash) mid after planned one other same = absurd (planned.0 ix (was, live, same))
+
+  pub Becomes-planned : (plan : Move) (new : SizedStore T) (mid after : Table ℕ) → Plans key_of hashing items.store ix item plan → IsLawful hashing → Indexes key_of hashing items.store (filed table) → new ≡ with_item items ix item → IfStays plan (mid ≡ table) → IfStays plan (after ≡ mid) → table_room table ≤ table_room mid → table_room mid ≤ table_room after + 1 → Becomes (shares key_of hashing.equal) (map_of items table) ix item was (map_of new after)
+  Becomes-planned plan new mid after planned lawful o left one other reserved used =
+      let same_room : set_room new ≡ set_room items = rw left (room-rebound items.store items.capacity ix item) in
+      record {
+        live = live;
+        no_other = no_other plan planned lawful o;
+        left = ap (λ (s : SizedStore T). s.store) left;
+        room = min_falls _ _ _ _ (omega (arith, same_room)) (omega (arith, reserved, used));
+        same_key = λ same. min_stays _ _ _ _ (omega (arith, same_room)) (untouched plan mid after planned one other same);
+      }
+
+-- a replacement of the one item that passes the test is one at its index
+pub Replaces-at : {T : Type 0} (alike : T → T → Bool) (old new : MapState T) (test : T → Bool) (item : T) (ix : ℕ) (r : Result T (ReplaceRefusal T ℕ)) → AnswersScan old.store test (Some ix) → ReplacesAt alike old ix item r new → Replaces alike old test item r new
+Replaces-at alike old new test item ix (Ok was) scan at = (ix, scan, at)
+Replaces-at alike old new test item ix (Err (Missing back)) scan at = absurd at
+Replaces-at alike old new test item ix (Err (Taken back clash)) scan at = (ix, scan, at)
+Replaces-at alike old new test item ix (Err (Refused back)) scan at = (ix, scan, at)

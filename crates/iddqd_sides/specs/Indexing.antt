@@ -23,6 +23,11 @@ abbrev pub IfMoves : Move → (ℕ → Type 0) → Type 0
 IfMoves (To hash) P = P hash
 IfMoves Stays P = Unit {0}
 
+-- what is said where it stays
+abbrev pub IfStays : Move → Type 0 → Type 0
+IfStays Stays P = P
+IfStays (To hash) P = Unit {0}
+
 -- the index has to be filed under another hash, and a table has no room for that
 abbrev pub LacksRoom : Move → Table ℕ → Type 0
 LacksRoom (To hash) t = room t ≡ 0

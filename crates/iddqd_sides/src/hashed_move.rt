@@ -9,7 +9,7 @@ ghost use Rattle.iddqd_hash.specs.{filed, room};
 ghost use Rattle.iddqd_hash.specs.HashTable.{UsesRoom};
 ghost use Rattle.iddqd_sides.specs.Scan.{IsLive};
 ghost use Rattle.iddqd_sides.specs.Hashed.{hashing_of};
-ghost use Rattle.iddqd_sides.specs.Indexing.{Indexes, PlansOrClashes, IfMoves, LacksRoom, moved};
+ghost use Rattle.iddqd_sides.specs.Indexing.{Indexes, PlansOrClashes, IfMoves, IfStays, LacksRoom, moved};
 
 use crate::hashed::{self, hash_of};
 use crate::key_of::{ByKey, KeyOf, key_at};
@@ -68,6 +68,7 @@ pub fn reserve_move(table: &mut MapHashTable, plan: &Move) -> Result<(), AllocEr
     ensures roomy { OnOk result (IfMoves plan.now (λ _. 1 ≤ room table.new)) }
     ensures room_stays { room table.old ≤ room table.new }
     ensures refused { OnErr result (LacksRoom plan.now table.old) }
+    ensures untouched { IfStays plan.now (table.new ≡ table.old) }
 {
     match plan {
         Move::To(_) => table.try_reserve(1),
@@ -83,6 +84,7 @@ pub fn commit_move(table: &mut MapHashTable, from: MapHash, plan: &Move, ix: Ite
     requires roomy { IfMoves plan.now (λ _. 1 ≤ room table.old) }
     ensures moved { filed table.new ≡ moved (filed table.old) ix plan.now }
     ensures memory { UsesRoom table.old table.new }
+    ensures untouched { IfStays plan.now (table.new ≡ table.old) }
 {
     if let Move::To(to) = plan {
         hashed::take_index(table, from, ix);
