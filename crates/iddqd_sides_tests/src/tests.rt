@@ -1,2 +1,3 @@
 //! Sides over a small store.
 mod hashed;
+mod ordered;

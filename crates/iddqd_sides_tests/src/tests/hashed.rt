@@ -17,14 +17,14 @@ use std::hash::{BuildHasher, Hash};
 use std::process::Abort;
 use std::test::Fail;
 
-#[derive(Clone, Copy, PartialEq, Eq)]
-struct Badge {
-    number: u32,
-    seat: u8,
+#[derive(Clone, Copy, Debug, PartialEq, Eq)]
+pub(super) struct Badge {
+    pub(super) number: u32,
+    pub(super) seat: u8,
 }
 
 // Names the number of a badge.
-struct Number;
+pub(super) struct Number;
 
 impl KeyOf<Badge> for Number {
     type Key = u32;
@@ -36,16 +36,14 @@ impl KeyOf<Badge> for Number {
     }
 }
 
-// A query that holds a number.
+// A query that holds a key.
 #[derive(Drop)]
-struct Held(u32);
+pub(super) struct Held<K>(pub(super) K);
 
-impl Equivalent<u32> for Held {
-    ghost use Rattle.std.specs.Prelude.{◌==◌};
+impl<K: Eq> Equivalent<K> for Held<K> {
+    ghost equivalent = { λ q k. K.eq q.0 k };
 
-    ghost equivalent = { λ q k. q.0 == k };
-
-    fn equivalent(&self, key: &u32) -> bool {
+    fn equivalent(&self, key: &K) -> bool {
         self.0 == *key
     }
 }
@@ -108,7 +106,7 @@ fn remove_held(items: &mut ItemSet<Badge>, table: &mut MapHashTable, number: u32
     ensures { Holds items.new.store (filed table.new) }
 {
     let hash = hash_of(table, number);
-    let ix = hashed::take::<Badge, Number, Held>(table, items, hash, &Held(number))?;
+    let ix = hashed::take::<Badge, Number, Held<u32>>(table, items, hash, &Held(number))?;
     items.remove(ix)
 }
 
