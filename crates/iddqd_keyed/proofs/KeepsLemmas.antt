@@ -2,7 +2,7 @@
 use Rattle.std.proofs.Common.{◌≡◌, ◌∙◌, ◌≤◌, ℕ, List, Option, Some, None, sym, ap, subst}
 use Rattle.std.specs.Ordering.{nat_cmp}
 use Rattle.std.specs.FinMap.{FinMap}
-use Rattle.iddqd.specs.Store.{Store, IsValid, IsFull, slot_limit, get, rebound}
+use Rattle.iddqd.specs.Store.{IsValid, IsFull, slot_limit, get, rebound}
 use Rattle.iddqd.specs.Compaction.{rank}
 use Rattle.iddqd.proofs.StoreLemmas.{IsValid-empty, IsValid-cleared, IsValid-inserted, IsValid-removed, IsValid-rebound}
 use Rattle.iddqd.proofs.CompactionLemmas.{IsValid-compacted}
@@ -111,7 +111,8 @@ module _ {T S K1 K2 : Type 0} (keys : Keys T K1 K2 S) where
       Keeps-unbound ix item live = record {
         paired = (paired, IsPaired-unbound s paired ix item live);
         first_keys = filed_place.Keeps-removed keys.first hashing s.store s.filed ix item live;
-        second_keys = order_place.Keeps-removed keys.second keys.compare_second lawful.second s.store s.order ix item live;
+        second_keys =
+            order_place.Keeps-removed keys.second keys.compare_second lawful.second s.store s.order ix item live;
       }
 
       pub Keeps-bound :
@@ -128,8 +129,8 @@ module _ {T S K1 K2 : Type 0} (keys : Keys T K1 K2 S) where
         );
         first_keys = filed_place.Keeps-inserted keys.first hashing s.store s.filed item paired.valid
             (lawful.first s.hasher) first;
-        second_keys = order_place.Keeps-inserted keys.second keys.compare_second lawful.second s.store s.order item order
-            paired.valid second adds;
+        second_keys = order_place.Keeps-inserted keys.second keys.compare_second lawful.second s.store s.order
+            item order paired.valid second adds;
       }
 
       pub Keeps-compacted : (filed : FinMap nat_cmp ℕ) → Renames (rank s.store) s.filed filed
@@ -147,6 +148,6 @@ module _ {T S K1 K2 : Type 0} (keys : Keys T K1 K2 S) where
         paired = (paired, IsPaired-rebound s paired ix item was live);
         first_keys = filed_place.Keeps-rebound keys.first hashing s.store s.filed ix item was live
             (lawful.first s.hasher);
-        second_keys = order_place.Keeps-rebound keys.second keys.compare_second lawful.second s.store s.order ix item was
-            live;
+        second_keys = order_place.Keeps-rebound keys.second keys.compare_second lawful.second s.store s.order
+            ix item was live;
       }

@@ -17,8 +17,8 @@ pub record AreLawful {T K1 K2 S : Type 0} (keys : Keys T K1 K2 S) : Type 0 where
 module _ {T K1 K2 S H : Type 0} {item : Ghosts T K1 K2} {equal : K1 → K1 → Bool} {hash_input : K1 → List (List ℕ)}
     {compare : K2 → K2 → Ordering} (b : builder.Ghosts S H) (h : hasher.Ghosts H) where
   pub AreLawful-from_bounds :
-      IsPartialEquivalence equal → ((x y : K1) → IsTrue (equal x y) → hash_input x ≡ hash_input y) → IsTotalOrder compare
-      → AreLawful (keys_of item equal hash_input compare b h)
+      IsPartialEquivalence equal → ((x y : K1) → IsTrue (equal x y) → hash_input x ≡ hash_input y)
+      → IsTotalOrder compare → AreLawful (keys_of item equal hash_input compare b h)
   AreLawful-from_bounds equivalence respects total = record {
     first = λ state. IsLawful-from_bounds equal hash_input b h state equivalence respects;
     second = total;

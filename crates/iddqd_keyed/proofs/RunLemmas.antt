@@ -5,9 +5,9 @@ use Rattle.std.proofs.lemmas.List.Elements.{All-cons, All-nil}
 use Rattle.iddqd.specs.Store.{Store}
 use Rattle.iddqd_keyed.specs.Keys.{Keys}
 use Rattle.iddqd_keyed.specs.State.{State, IsPaired, IsEmpty}
-use Rattle.iddqd_keyed.specs.Sides.{Side, IsExact, InOrder, Changes, AsScan, first_side, second_side}
-use Rattle.iddqd_keyed.specs.Machine.{Step, StepsOn}
-use Rattle.iddqd_keyed.specs.Run.{Run, IsStepChain, No_step, Next_step, IsQuietAfter, IsExactFrom, IsExactWhereQuiet, IsSideExactWhereQuiet, IsSilentChange, AnswersAsScan}
+use Rattle.iddqd_keyed.specs.Sides.{IsExact, InOrder, Changes, AsScan, first_side, second_side}
+use Rattle.iddqd_keyed.specs.Machine.{Step}
+use Rattle.iddqd_keyed.specs.Run.{Run, IsStepChain, No_step, Next_step, IsQuietAfter, IsExactFrom, IsExactWhereQuiet, IsSilentChange, AnswersAsScan}
 use Rattle.iddqd_keyed.specs.declared.command.Command.{Command}
 use Rattle.iddqd_keyed.specs.declared.command.Reply.{Reply}
 use Rattle.iddqd_keyed.proofs.KeepsLemmas.{FirstKeysInOrder-bare, SecondKeysInOrder-bare}
@@ -30,8 +30,8 @@ module _ {T S K1 K2 : Type 0} (keys : Keys T K1 K2 S) where
   paired_along {old = old} {moments = moments} (Next_step step rest) was =
       All-cons IsPaired old moments was (paired_along rest step.paired.1)
 
-  -- what holds where nothing is live, is kept by each step that makes no change, and has exact answers, is exact at each
-  -- quiet moment
+  -- what holds where nothing is live, has exact answers, and is kept by each step that makes no change, holds at each
+  -- quiet moment, with exact answers
   module _
       (Changed : State T S → Command T K1 K2 → Type 0) (Holds : State T S → Type 0)
       (Exact : Store T → Command T K1 K2 → Reply T → Type 0)
@@ -70,7 +70,8 @@ module _ {T S K1 K2 : Type 0} (keys : Keys T K1 K2 S) where
         steps = chain;
         paired = paired_along chain paired;
         quiet = exact_from_start (IsSilentChange keys) (InOrder keys) (AnswersAsScan keys)
-            (λ s p none. record { first = FirstKeysInOrder-bare keys s p none; second = SecondKeysInOrder-bare keys s p none })
+            (λ s p none.
+            record { first = FirstKeysInOrder-bare keys s p none; second = SecondKeysInOrder-bare keys s p none })
             (λ old new command reply step o. (
               (step.first_keys.as_scan o.first, step.second_keys.as_scan o.second),
               λ none. record {
@@ -83,7 +84,8 @@ module _ {T S K1 K2 : Type 0} (keys : Keys T K1 K2 S) where
             (λ old new command reply step o.
             (step.first_keys.as_scan o, λ none. (step.first_keys.keeps none).exact o))
             chain paired;
-        quiet_second_keys = exact_from_start (Changes second) (IsExact second) (AsScan second) (SecondKeysInOrder-bare keys)
+        quiet_second_keys =
+            exact_from_start (Changes second) (IsExact second) (AsScan second) (SecondKeysInOrder-bare keys)
             (λ old new command reply step o.
             (step.second_keys.as_scan o, λ none. (step.second_keys.keeps none).exact o))
             chain paired;

@@ -1,5 +1,4 @@
 -- One step of the keyed machine, from what the call that it makes answers and leaves.
-use Rattle.std.proofs.Common.{◌≡◌}
 use Rattle.iddqd_keyed.specs.Keys.{Keys}
 use Rattle.iddqd_keyed.specs.State.{State}
 use Rattle.iddqd_keyed.specs.Sides.{first_side, second_side, IsExact, AsScan, Keeps}

@@ -16,7 +16,8 @@ use Rattle.iddqd_keyed.specs.declared.command.Reply.TheVariants.{Inserted, Refus
 use Rattle.iddqd_keyed.specs.declared.keyed_items.InsertRefusal.{InsertRefusal}
 use Rattle.iddqd_keyed.specs.declared.keyed_items.InsertRefusal.TheVariants.{Duplicate, Full, Memory}
 
--- The item comes back: as a duplicate where one of its look-ups hit, else since the store is full, or memory was refused.
+-- The item comes back: as a duplicate where one of its look-ups hit, or else since the store is full or memory was
+-- refused.
 abbrev pub Refuses : {T : Type 0} → Store T → T → InsertRefusal T → Type 0
 Refuses s item (Duplicate back first second) = (back ≡ item) × (IsSome first ⊎ IsSome second)
 Refuses s item (Full back) = (back ≡ item) × IsFull s
@@ -67,8 +68,8 @@ module _ {T S K1 K2 : Type 0} (keys : Keys T K1 K2 S) where
     pub adds : Adds old.order (next_index old.store) new.order
     pub state : new ≡ bound old item new.order
 
-  -- What an insert may answer and leave: both look-ups' answers are told, and where they are none, the item is stored or
-  -- there is no place for it. Where it comes back, nothing changes.
+  -- What an insert may answer and leave: what is told of its look-ups is what they may answer; the item is stored, or it
+  -- comes back and nothing changes.
   pub record Inserts (old : State T S) (item : T) (result : Result ℕ (InsertRefusal T)) (new : State T S)
       : Type 0 where
     pub first : (first_side keys).Finds old (keys.first item) (finds_told result).0

@@ -1,5 +1,5 @@
 -- The two sides of keyed items: the hash table goes by first keys, the ordered table by second keys.
-use Rattle.std.specs.Prelude.{ℕ, Bool, List, Option, Some, None, Result, Ok, Err, ⊤}
+use Rattle.std.specs.Prelude.{ℕ, Bool, List, Option, None, Result, Err, ⊤}
 use Rattle.std.specs.List.{Contains}
 use Rattle.std.specs.Option.{option_map}
 use Rattle.iddqd.specs.Store.{Store}

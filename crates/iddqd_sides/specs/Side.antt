@@ -1,7 +1,7 @@
 -- What a table of a store's indexes promises for one key of the items, whatever kind of table it is.
-use Rattle.std.specs.Prelude.{◌↔◌, ℕ, Bool, not, Option, Some, None, ⊤}
+use Rattle.std.specs.Prelude.{◌↔◌, ℕ, Bool, not, Option}
 use Rattle.iddqd.specs.Store.{Store}
-use Rattle.iddqd_sides.specs.Scan.{IsLive, IsHit, AnswersScan, AreApart, passes_by}
+use Rattle.iddqd_sides.specs.Scan.{IsLive, IsHit, AnswersScan, AreApart}
 
 module _ {T : Type 0} where
   -- a table whose indexes are those with this property has exactly the live ones
@@ -22,11 +22,6 @@ module _ {T K : Type 0} (key_of : T → K) (equal : K → K → Bool) where
   -- the index is live, and its item has another key than this item
   abbrev pub ChangesAt : Store T → ℕ → T → Type 0
   ChangesAt s ix item = IsHit s (λ was. not (equal (key_of item) (key_of was))) ix
-
-  -- what is told of a side, the key that was asked for and the look-up's answer, is what a scan answers
-  abbrev pub TellsAsScan : Store T → Option (K × Option ℕ) → Type 0
-  TellsAsScan s None = ⊤
-  TellsAsScan s (Some (key, answer)) = AnswersScan s (passes_by key_of (equal key)) answer
 
   -- a table that is in place over a store, where its keys are apart
   pub record IsExactOver (in_place : Type 0) (s : Store T) : Type 0 where

@@ -11,13 +11,11 @@ use Rattle.iddqd_keyed.proofs.keyed_items.KeyedItems.compact.Goals as goal
 
 pub remap_indexes-requires-clause-can_remap : goal.remap_indexes-requires-clause-can_remap
 remap_indexes-requires-clause-can_remap g c =
-    let was = c.self.invariant in
-    CanRemap-held _ _ was.filed c.in_ok-remap.remap was.valid c.in_ok-remap.ensures.remap
+    CanRemap-held _ _ c.self.invariant.filed c.in_ok-remap.remap c.self.invariant.valid c.in_ok-remap.ensures.remap
 
 pub remap_indexes-requires-clause-distinct : goal.remap_indexes-requires-clause-distinct
 remap_indexes-requires-clause-distinct g c =
-    let was = c.self.invariant in
-    one_name-held _ _ was.filed c.in_ok-remap.remap was.valid c.in_ok-remap.ensures.remap
+    one_name-held _ _ c.self.invariant.filed c.in_ok-remap.remap c.self.invariant.valid c.in_ok-remap.ensures.remap
 
 pub remap_indexes-requires-2-clause-can_remap : goal.remap_indexes-requires-2-clause-can_remap
 remap_indexes-requires-2-clause-can_remap g c =
@@ -34,7 +32,8 @@ named : (g : _) (c : After-remap_indexes-2 g)
     → Renames (rank c.self.inside.items.store) (filed c.self.inside.filed) (filed c.remap_indexes.new.self)
 named g c =
     let was = c.self.invariant in
-    Renames-by_rank _ _ was.filed c.in_ok-remap.remap was.valid c.in_ok-remap.ensures.remap _ c.remap_indexes.ensures.renamed
+    let out = c.remap_indexes.ensures in
+    Renames-by_rank _ _ was.filed c.in_ok-remap.remap was.valid c.in_ok-remap.ensures.remap _ out.renamed
 
 listed : (g : _) (c : After-remap_indexes-2 g)
     → order_of c.remap_indexes-2.new.self ≡ map (rank c.self.inside.items.store) (order_of c.self.inside.order)

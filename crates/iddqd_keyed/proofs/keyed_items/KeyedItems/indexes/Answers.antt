@@ -20,9 +20,13 @@ pub loop-ix-preserved : goal.loop-ix-preserved
 loop-ix-preserved g c =
     let one = ap length c.in-Some.ensures.steps in
     record {
-      whole = rw c.push_reserved.ensures.items (append_assoc c.loop-ix.indexes.items (c.in-Some.ix ∷ []) _ ∙ ap (λ rest. c.loop-ix.indexes.items ++ rest) (sym c.in-Some.ensures.steps) ∙ c.loop-ix.invariant.whole);
-      room = omega (arith, one, c.loop-ix.invariant.room, c.push_reserved.ensures.len, c.push_reserved.ensures.capacity);
+      whole = rw c.push_reserved.ensures.items (append_assoc c.loop-ix.indexes.items (c.in-Some.ix ∷ []) _
+          ∙ ap (λ rest. c.loop-ix.indexes.items ++ rest) (sym c.in-Some.ensures.steps) ∙ c.loop-ix.invariant.whole);
+      room =
+          omega (arith, one, c.loop-ix.invariant.room, c.push_reserved.ensures.len, c.push_reserved.ensures.capacity);
     }
 
 pub returns-clause-all : goal.returns-clause-all
-returns-clause-all g c = sym (append-nil c.loop-ix.indexes.items) ∙ ap (λ rest. c.loop-ix.indexes.items ++ rest) (sym c.in-None.ensures.steps.0) ∙ c.loop-ix.invariant.whole
+returns-clause-all g c =
+    let left = ap (λ rest. c.loop-ix.indexes.items ++ rest) c.in-None.ensures.steps.0 in
+    sym (append-nil c.loop-ix.indexes.items) ∙ sym left ∙ c.loop-ix.invariant.whole

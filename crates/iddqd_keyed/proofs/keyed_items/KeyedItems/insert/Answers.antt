@@ -32,7 +32,8 @@ is g c = state_of c.self.inside.state c.enter.new.items.store c.enter.new.table 
 
 abbrev keys : (g : _) (c : After-enter g) → Keys g.row.T.Denot g.row.T-Key1.Denot g.row.T-Key2.Denot g.row.S.Denot
 keys g c =
-    keys_of g.T.KeyedItem g.T.Key1.PartialEq.eq g.T.Key1.Hash.hash_input g.T.Key2.Ord.cmp g.S.BuildHasher g.S.Hasher.Hasher
+    keys_of g.T.KeyedItem g.T.Key1.PartialEq.eq g.T.Key1.Hash.hash_input g.T.Key2.Ord.cmp g.S.BuildHasher
+    g.S.Hasher.Hasher
 
 first : (g : _) (c : After-enter g)
     → LooksUp (first_side (keys g c)) (was g c) (g.T.KeyedItem.first_key c.args.item) (finds_told c.enter.result).0
@@ -44,7 +45,8 @@ stored : (g : _) (c : After-enter g) → IfOk c.enter.result (λ ix. StoresAt (k
 stored g c =
     let out = c.enter.ensures in
     let filed = rw c.hash_of-hash.ensures at out.filed in
-    StoresAt-from_parts (keys g c) (was g c) c.args.item _ _ _ c.enter.result out.not_full out.index out.stored filed out.placed
+    StoresAt-from_parts (keys g c) (was g c) c.args.item _ _ _ c.enter.result
+    out.not_full out.index out.stored filed out.placed
 
 unchanged : (g : _) (c : After-enter g) → OnErr c.enter.result (is g c ≡ was g c)
 unchanged g c =

@@ -27,7 +27,8 @@ loop-command-preserved g c =
     record {
       can_next = tt;
       is_finite = tt;
-      yielded = append_assoc c.loop-command.yielded (c.in-Some.command ∷ []) _ ∙ ap (λ rest. c.loop-command.yielded ++ rest) (sym next) ∙ before.yielded;
+      yielded = append_assoc c.loop-command.yielded (c.in-Some.command ∷ []) _
+          ∙ ap (λ rest. c.loop-command.yielded ++ rest) (sym next) ∙ before.yielded;
       moments = before.moments ++ c.step.new.self ∷ [];
       chain = rw c.push_reserved.ensures.items (IsStepChain-push _ before.chain c.step.ensures);
       room = omega (arith, before.room);
@@ -39,6 +40,7 @@ returns-clause-run g c =
     let over = c.in-None.ensures.steps.0 in
     let ok = c.loop-command.command-iterator.rest.ok in
     let none = nil_from_length (into_iter_items c.loop-command.command-iterator) (omega (arith, ok, over)) in
-    let all = sym before.yielded ∙ ap (λ rest. c.loop-command.yielded ++ rest) none ∙ append-nil c.loop-command.yielded in
+    let left = ap (λ rest. c.loop-command.yielded ++ rest) none in
+    let all = sym before.yielded ∙ left ∙ append-nil c.loop-command.yielded in
     let paired : IsPaired c.args.self.now = rw (← c.self.view_is) c.self.invariant in
     Run-from_chain _ {moments = before.moments} (rw all before.chain) paired

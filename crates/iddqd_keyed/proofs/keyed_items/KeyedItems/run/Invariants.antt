@@ -8,11 +8,13 @@ use Rattle.iddqd_keyed.proofs.keyed_items.KeyedItems.run.Given as goal
 
 -- the replies so far answer the commands so far, and there is room for a reply to each command left
 abbrev pub invariant-loop-command : goal.invariant-loop-command
-invariant-loop-command g l = record {
-  can_next : (goal.iterator-loop-command g).can_next l.command-iterator;
-  is_finite : (goal.iterator-loop-command g).is_finite l.command-iterator;
-  yielded : l.yielded ++ into_iter_items l.command-iterator ≡ l.fn.commands.items;
-  moments : List (State g.row.T.Denot g.row.S.Denot);
-  chain : IsStepChain (keys_of g.T.KeyedItem g.T.Key1.PartialEq.eq g.T.Key1.Hash.hash_input g.T.Key2.Ord.cmp g.S.BuildHasher g.S.Hasher.Hasher) l.fn.self l.yielded l.replies.items moments l.self;
-  room : vec_len l.replies + length (into_iter_items l.command-iterator) ≤ vec_capacity l.replies;
-}
+invariant-loop-command g l =
+    let keys = keys_of g.T.KeyedItem g.T.Key1.PartialEq.eq g.T.Key1.Hash.hash_input g.T.Key2.Ord.cmp g.S.BuildHasher
+    g.S.Hasher.Hasher in record {
+      can_next : (goal.iterator-loop-command g).can_next l.command-iterator;
+      is_finite : (goal.iterator-loop-command g).is_finite l.command-iterator;
+      yielded : l.yielded ++ into_iter_items l.command-iterator ≡ l.fn.commands.items;
+      moments : List (State g.row.T.Denot g.row.S.Denot);
+      chain : IsStepChain keys l.fn.self l.yielded l.replies.items moments l.self;
+      room : vec_len l.replies + length (into_iter_items l.command-iterator) ≤ vec_capacity l.replies;
+    }
