@@ -4,6 +4,7 @@ mod answers;
 mod call_lines;
 mod caller;
 mod calls;
+mod checks;
 mod collisions;
 mod commands;
 mod compaction;

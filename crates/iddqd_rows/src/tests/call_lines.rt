@@ -2,8 +2,9 @@
 //!
 //! A line is a call, a colon and the answer as it prints for debugging: `find1 5: Found(Some(0))`.
 //! `insert 1 10 7` gives first key, second key and value, and `overwrite 0 1 10 7` an index before
-//! these.
+//! these. `validate compact no` gives both modes, and `validate gaps yes` the others.
 use super::driver::ix;
+use iddqd::internal::{ValidateChaos, ValidateCompact};
 use iddqd_keyed::command::Command;
 use iddqd_lines::record::Record;
 use std::process::Abort;
@@ -22,6 +23,7 @@ pub(super) enum Verb {
     Walk,
     Get,
     Len,
+    Validate(ValidateCompact, ValidateChaos),
 }
 
 /// A call: its verb and its numbers, with 0 for each that it lacks.
@@ -66,8 +68,23 @@ pub(super) fn numbers(rt: &impl Abort, text: &str) -> [u32; 4] {
     numbers
 }
 
+// The check in these modes.
+fn check_of(rt: &impl Abort, modes: &str) -> Verb {
+    match modes {
+        "compact yes" => Verb::Validate(ValidateCompact::Compact, ValidateChaos::Yes),
+        "compact no" => Verb::Validate(ValidateCompact::Compact, ValidateChaos::No),
+        "gaps yes" => Verb::Validate(ValidateCompact::NonCompact, ValidateChaos::Yes),
+        "gaps no" => Verb::Validate(ValidateCompact::NonCompact, ValidateChaos::No),
+        _ => panic!(rt; "{modes} are no modes"),
+    }
+}
+
 pub(super) fn parse(rt: &impl Abort, text: &str) -> Call {
     match text.split_once(' ') {
+        Some(("validate", modes)) => Call {
+            verb: check_of(rt, modes),
+            numbers: [0; 4],
+        },
         Some((word, rest)) => Call {
             verb: verb_of(rt, word),
             numbers: numbers(rt, rest),
@@ -101,7 +118,7 @@ pub(super) fn command(call: Call) -> Option<Command<Record>> {
         Verb::Compact => Some(Command::Compact),
         Verb::Clear => Some(Command::Clear),
         Verb::Walk => Some(Command::Walk),
-        Verb::Get | Verb::Len => None,
+        Verb::Get | Verb::Len | Verb::Validate(_, _) => None,
     }
 }
 

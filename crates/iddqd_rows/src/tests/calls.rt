@@ -1,4 +1,5 @@
 //! The driver's calls by themselves, so that each is proved once.
+use iddqd::internal::{ValidateChaos, ValidateCompact, ValidateRefusal};
 use iddqd::item_index::ItemIndex;
 use iddqd_keyed::command::{Command, Reply};
 use iddqd_keyed::keyed_items::KeyedItems;
@@ -89,6 +90,20 @@ pub(super) fn walk<S: BuildHasher>(
         indexes.push(ix)?;
     }
     Ok(indexes)
+}
+
+/// The words of a check: `ok`, or those of the error.
+pub(super) fn validate<S: BuildHasher>(
+    alloc: Global,
+    items: &KeyedItems<Record, S>,
+    compactness: ValidateCompact,
+    chaos: ValidateChaos,
+) -> Result<String, AllocError> {
+    match items.validate(compactness, chaos) {
+        Ok(()) => String::from_str(alloc, "ok"),
+        Err(ValidateRefusal::Invalid(error)) => format!(in alloc; "{error}"),
+        Err(ValidateRefusal::Memory(error)) => Err(error),
+    }
 }
 
 pub(super) fn step<S: BuildHasher>(

@@ -2,6 +2,7 @@
 use super::calls::{find1, find2, insert, remove, remove1, remove2};
 use super::driver::{ix, record};
 use super::holds;
+use iddqd::internal::{ValidateChaos, ValidateCompact};
 use iddqd_keyed::command::Reply;
 use iddqd_keyed::keyed_items::KeyedItems;
 use iddqd_lines::record::Record;
@@ -138,11 +139,18 @@ fn three(rt: &impl Abort, alloc: Global) -> Items {
     items
 }
 
+// Store and tables have the same indexes, whatever the keys are.
+fn assert_sound(rt: &impl Abort, items: &Items, order: [u32; 3]) {
+    let answer = items.validate(ValidateCompact::NonCompact, ValidateChaos::Yes);
+    holds(rt, answer.is_ok(), &order);
+}
+
 // Writes over the three in that order.
 fn assert_changes(rt: &impl Abort, items: &mut Items, order: [u32; 3]) {
     for number in order {
         let was = items.overwrite(ix(number), changed(number));
         holds(rt, was == Ok(original(number)), &(number, order));
+        assert_sound(rt, items, order);
     }
 }
 
@@ -150,6 +158,7 @@ fn assert_removes_changed(rt: &impl Abort, items: &mut Items, order: [u32; 3]) {
     for number in 0..3 {
         let is_removed = remove(items, ix(number)) == Some((ix(number), changed(number)));
         holds(rt, is_removed, &(number, order));
+        assert_sound(rt, items, order);
     }
 }
 
@@ -168,6 +177,7 @@ fn keys_that_change_in_any_order_let_items_go(rt: HostRuntime) {
         assert_removes_changed(&rt, &mut items, order);
         let reply = insert(&mut items, record(9, 90));
         holds(&rt, reply == Reply::Inserted(ix(2)), &order);
+        assert_sound(&rt, &items, order);
     }
 }
 

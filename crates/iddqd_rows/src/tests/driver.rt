@@ -53,6 +53,7 @@ find2 9: Found(None)
 insert 1 99 7: Refused(Duplicate { item: Record { first: 1, second: 99, value: 7 }, first: Some(0), second: None })
 insert 99 10 7: Refused(Duplicate { item: Record { first: 99, second: 10, value: 7 }, first: None, second: Some(0) })
 insert 2 10 7: Refused(Duplicate { item: Record { first: 2, second: 10, value: 7 }, first: Some(1), second: Some(0) })
+validate compact no: ok
 len: 2
 get 0: Some(Record { first: 1, second: 10, value: 7 })
 get 2: None

@@ -62,8 +62,12 @@ fn answers_each_line(rt: HostRuntime) {
             "inserted 0\n0 1 10 100\n0 1 10 7\n0 1 10 7\ncleared\nnone\ninserted 0\n",
         ),
         (
-            "insert 1 10 1\ninsert 2 20 2\ninsert 3 30 3\nremove1 2\ncompact\nget1 3\noverwrite 9 1 1 1\nhello\nclear\nwalk\n",
-            "inserted 0\ninserted 1\ninserted 2\n1 2 20 2\npermuted 0 - 1\n1 3 30 3\nnone\nbad line\ncleared\nempty\n",
+            "insert 1 10 1\ninsert 2 20 2\ninsert 3 30 3\nremove1 2\nvalidate\ncompact\nget1 3\noverwrite 9 1 1 1\nhello\nclear\nwalk\n",
+            "inserted 0\ninserted 1\ninserted 2\n1 2 20 2\nItemSet is not compact: 1 vacant slots\npermuted 0 - 1\n1 3 30 3\nnone\nbad line\ncleared\nempty\n",
+        ),
+        (
+            "validate\ninsert 1 10 1\nvalidate\noverwrite 0 5 50 1\nvalidate\nremove 0\nvalidate",
+            "ok\ninserted 0\nok\n0 1 10 1\nok\n0 5 50 1\nItemSet is not compact: 1 vacant slots\n",
         ),
         (
             "insert 1 10 1\noverwrite 0 5 10 1\nget1 1\nget2 10\nremove 0\nremove 0\n",
@@ -136,6 +140,11 @@ overwrite
 clear 1
 clear\x20
 clears
+validate 1
+validate\x20
+\x20validate
+validates
+Validate
 hello";
 
 #[test]

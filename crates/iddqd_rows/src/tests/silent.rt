@@ -11,8 +11,13 @@ insert 3 30 7: Inserted(2)
 overwrite 0 1 99 7: Overwritten(Ok(Record { first: 1, second: 10, value: 7 }))
 walk: Walked([0, 1, 2])
 find2 10: Found(None)
+validate gaps no: KeyedItems index 0 is not found by its second key
+validate compact yes: ok
 remove 0: Removed(Some((0, Record { first: 1, second: 99, value: 7 })))
 walk: Walked([1, 2])
+validate gaps yes: ok
+validate gaps no: ok
+validate compact no: ItemSet is not compact: 1 vacant slots
 ";
 
 #[test]

@@ -1,7 +1,8 @@
 //! What the driver's own calls answer, as scripts of calls tell it.
 use super::call_lines::{Call, Verb, halves, item, parse};
 use super::calls::{
-    clear, compact, find1, find2, get, insert, overwrite, printed, remove, remove1, remove2, walk,
+    clear, compact, find1, find2, get, insert, overwrite, printed, remove, remove1, remove2,
+    validate, walk,
 };
 use super::driver::ix;
 use iddqd_keyed::command::Reply;
@@ -31,6 +32,7 @@ fn told<S: BuildHasher>(
         Verb::Walk => Reply::Walked(walk(alloc, items)?),
         Verb::Get => return printed(alloc, &get(items, ix(a))),
         Verb::Len => return printed(alloc, &items.len()),
+        Verb::Validate(compactness, chaos) => return validate(alloc, items, compactness, chaos),
     };
     printed(alloc, &reply)
 }
