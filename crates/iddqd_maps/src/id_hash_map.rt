@@ -13,7 +13,9 @@ ghost use Rattle.iddqd_maps.specs.Map.{empty_map, shares, IsMap, FindsItem, Remo
 ghost use Rattle.iddqd_maps.specs.Calls.{Inserts, Overwrites};
 ghost use Rattle.iddqd_maps.specs.IdMap.{map_of, ClashesAt};
 
+mod memory;
 mod replaces;
+mod walks;
 
 use crate::refusal::{InsertRefusal, OverwriteRefusal, lack_of_place, refusal};
 use iddqd::hash_builder::DefaultHashBuilder;

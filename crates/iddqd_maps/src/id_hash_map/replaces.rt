@@ -81,17 +81,15 @@ impl<T: IdHashItem, S: BuildHasher> IdHashMap<T, S> {
             return Ok(None);
         };
         let item = f(&self.items[ix]);
-        match replace_at(
+        let was = replace_at(
             &mut self.items,
             &mut self.table,
             &self.state,
             from,
             ix,
             item,
-        ) {
-            Ok(was) => Ok(Some(was)),
-            Err(refusal) => Err(refusal),
-        }
+        )?;
+        Ok(Some(was))
     }
 }
 
