@@ -1,5 +1,5 @@
 -- What becomes of a map with one key in each step of its store and its table.
-use Rattle.std.proofs.Common.{◌≡◌, ◌∙◌, ◌↔◌, ◌+◌, ◌≤◌, ℕ, min, Bool, true, false, not, Option, Some, None, Result, Ok, Err, refl, sym, ap, subst, arith}
+use Rattle.std.proofs.Common.{◌≡◌, ◌∙◌, ◌↔◌, ◌+◌, ◌≤◌, ℕ, min, Bool, true, false, not, is_some, Option, Some, None, Result, Ok, Err, refl, sym, ap, subst, arith}
 use Rattle.std.specs.Option.{OnSome}
 use Rattle.std.specs.Ordering.{nat_cmp}
 use Rattle.std.specs.FinMap as finite
@@ -160,3 +160,8 @@ Replaces-at alike old new test item ix (Ok was) scan at = (ix, scan, at)
 Replaces-at alike old new test item ix (Err (Missing back)) scan at = absurd at
 Replaces-at alike old new test item ix (Err (Taken back clash)) scan at = (ix, scan, at)
 Replaces-at alike old new test item ix (Err (Refused back)) scan at = (ix, scan, at)
+
+-- a scan misses exactly where nothing hits
+pub scan_misses : {T : Type 0} (s : Store T) (test : T → Bool) (r : Option ℕ) → AnswersScan s test r → (is_some r ≡ false) ↔ HasNoHit s test
+scan_misses s test None none = (λ _. none, λ _. refl)
+scan_misses s test (Some ix) scan = (λ is. absurd (cc), λ none. absurd (none ix ((scan ix).1 refl)))

@@ -1,0 +1,5 @@
+//! Tests of the maps.
+#![tactic(auto)]
+
+#[cfg(test)]
+mod tests;

@@ -1,0 +1,5 @@
+//! Maps by their calls, beside a list, and where calls are refused.
+mod badges;
+mod id_calls;
+mod id_model;
+mod names;
