@@ -1,5 +1,5 @@
 -- A gap of a tree and the gaps beside it, one level at a time, and what a walk has left between two gaps.
-use Rattle.iddqd_order.proofs.Names.{◌≡◌, ◌≢◌, ◌∙◌, ℕ, zero, suc, ◌+◌, ◌-◌, ◌<◌, ◌≤◌, List, [], ◌∷◌, ◌++◌, Bool, true, false, not, Option, Some, None, IfSome, length, take, drop, get_or, length-set, set-get_or, slice_index, slice_set, refl, sym, ap, subst, arith, sub-one, append-nil, drop_all, length-append, length-drop, length-map, length-take-le, slice_get-get_or, Node, row, children, child, before, flat, IsFormed, Goes, place, in_order, IsTree, place_in, AreBeside, AtEdge, Over, IsAt, IsBehind, IsGap, IsLow, Steps, between, edge_of, leaf, low, to_gap}
+use Rattle.iddqd_order.proofs.Names.{◌≡◌, ◌≢◌, ◌∙◌, ℕ, zero, suc, ◌+◌, ◌-◌, ◌<◌, ◌≤◌, List, [], ◌∷◌, ◌++◌, Bool, true, false, not, Option, Some, None, IfSome, length, take, drop, get_or, length-set, set-get_or, slice_index, slice_set, refl, sym, ap, subst, arith, sub-one, append-nil, drop_all, length-append, length-drop, length-map, length-take-le, slice_get-get_or, cases_lt, inl, inr, Compares, Ordering, Less, Equal, Greater, Node, row, children, child, before, flat, IsFormed, Goes, place, in_order, IsTree, place_in, AreBeside, AtEdge, Over, IsAt, IsBehind, IsGap, IsLow, Steps, between, edge_of, leaf, low, to_gap}
 use Rattle.std.proofs.Common.{get_or-drop}
 use Rattle.std.proofs.Math.Seq.{drop-cons, take-suc}
 use Rattle.std.proofs.lemmas.Option.{slice_get_past}
@@ -7,7 +7,7 @@ use Rattle.std.specs.Borrow.{Bor}
 use Rattle.std.specs.Iterator.{YieldsFirst, YieldsLast}
 use Rattle.std.specs.List.{slice_get}
 use Rattle.iddqd_order.proofs.DescentLemmas.{after-last, before-next, child-read, child_is, path-above, path-here, row-woven}
-use Rattle.iddqd_order.proofs.NodeLemmas.{lists, lists-one_more, lists-at, child-within, child-formed, formed-within, flat-leaf, flat-inner, place-leaf, goes-leaf, goes-inner, below-holds, reaches-here, place-inner}
+use Rattle.iddqd_order.proofs.NodeLemmas.{lists, lists-one_more, lists-at, child-within, child-formed, formed-within, flat-leaf, flat-inner, place-leaf, place-within, goes-leaf, goes-inner, below-holds, reaches-here, place-inner}
 use Rattle.iddqd_order.proofs.WeaveLemmas.{apart, index_place, within}
 
 -- a path goes on below the i-th child, which was read as k
@@ -413,3 +413,64 @@ last-is i j xs (Some ix) e s = let last : j ≡ length xs - 1 = (let down = s.1 
 
 pub left-length : (count i j : ℕ) (xs : List ℕ) → i + count ≡ j → j ≤ length xs → length (between count i xs) ≡ count
 left-length count i j xs e le = length-take-le count (drop i xs) (omega (arith, length-drop i xs))
+
+-- how two gaps stand to each other goes by the highest level at which their paths part
+pub gaps-less : (h : ℕ) (n : Node) (p q : List ℕ) → IsFormed h n → Goes h n p → Goes h n q → slice_index p h < slice_index q h → place h n p < place h n q
+gaps-less zero n p q f gp gq lt = rw (place-leaf 0 n p refl, place-leaf 0 n q refl) lt
+gaps-less (suc h) n p q f gp gq lt =
+    let ne : suc h ≢ 0 = λ e. absurd (omega arith) in
+    let i : ℕ = slice_index p (suc h) in let j : ℕ = slice_index q (suc h) in
+    let xs : List ℕ = row n in let ks : List (List ℕ) = lists (suc h - 1) (children n) in
+    let one = lists-one_more (suc h) n ne f in
+    let from = goes-inner (suc h) n p ne gp in let to = goes-inner (suc h) n q ne gq in
+    let count = length-map (children n) (λ k. flat (suc h - 1) k) in
+    let here = to.here in
+    let inside = place-within (suc h - 1) (child n i) p (child-formed (suc h) n i ne f from.here) from.on in
+    let list = ap length (lists-at (suc h - 1) n i from.here) in
+    let up : index_place i xs ks ≤ index_place (j - 1) xs ks =
+    elim (cases_lt i (j - 1)) [
+      | inl less ↦ (let rises = (row-woven xs ks one).rises i (j - 1) less (omega arith) in omega arith)
+      | inr le ↦ (let same : j - 1 ≡ i = omega arith in rw same (omega arith))
+    ] in
+    let last : j - 1 + 1 ≡ j = omega arith in
+    let next : length (before j xs ks) ≡ index_place (j - 1) xs ks + 1 = rw last at (before-next (j - 1) xs ks (omega arith) one) in
+    omega (arith, place-inner (suc h) n p ne, place-inner (suc h) n q ne)
+
+pub gaps-part : (r : Ordering) (h : ℕ) (n : Node) (p q : List ℕ) → IsFormed h n → Goes h n p → Goes h n q → Compares r (slice_index p h) (slice_index q h) → (r ≡ Equal → h ≡ 0) → Compares r (place h n p) (place h n q)
+gaps-part Less h n p q f gp gq told leaf = gaps-less h n p q f gp gq told
+gaps-part Equal h n p q f gp gq told leaf =
+    let e = leaf refl in place-leaf h n p e ∙ ap (slice_index p) (sym e) ∙ told ∙ ap (slice_index q) e ∙ sym (place-leaf h n q e)
+gaps-part Greater h n p q f gp gq told leaf = gaps-less h n q p f gq gp told
+
+pub gaps-below : (r : Ordering) (h i : ℕ) (n : Node) (p q : List ℕ) → h ≢ 0 → slice_index p h ≡ i → slice_index q h ≡ i → Compares r (place (h - 1) (child n i) p) (place (h - 1) (child n i) q) → Compares r (place h n p) (place h n q)
+gaps-below Less h i n p q ne ep eq told = omega (arith, place-at h i n p ne ep, place-at h i n q ne eq)
+gaps-below Equal h i n p q ne ep eq told = omega (arith, place-at h i n p ne ep, place-at h i n q ne eq)
+gaps-below Greater h i n p q ne ep eq told = omega (arith, place-at h i n p ne ep, place-at h i n q ne eq)
+
+-- one gap has one place in its leaf
+pub gaps-same : (h : ℕ) (n : Node) (p q : List ℕ) → IsFormed h n → Goes h n p → Goes h n q → place h n p ≡ place h n q → slice_index p 0 ≡ slice_index q 0
+gaps-same zero n p q f gp gq same = sym (place-leaf 0 n p refl) ∙ same ∙ place-leaf 0 n q refl
+gaps-same (suc h) n p q f gp gq same =
+    let ne : suc h ≢ 0 = λ e. absurd (omega arith) in
+    let e : slice_index p (suc h) ≡ slice_index q (suc h) =
+    elim (cases_lt (slice_index p (suc h)) (slice_index q (suc h))) [
+      | inl lt ↦ (let less = gaps-less (suc h) n p q f gp gq lt in absurd (omega arith))
+      | inr le ↦ elim (cases_lt (slice_index q (suc h)) (slice_index p (suc h))) [
+        | inl lt ↦ (let less = gaps-less (suc h) n q p f gq gp lt in absurd (omega arith))
+        | inr ge ↦ omega arith
+      ]
+    ] in
+    let from = goes-inner (suc h) n p ne gp in let to = goes-inner (suc h) n q ne gq in
+    let i : ℕ = slice_index p (suc h) in
+    let a = rw sub-one at (place-at (suc h) i n p ne refl) in let b = rw sub-one at (place-at (suc h) i n q ne (sym e)) in
+    gaps-same h (child n i) p q (rw sub-one at (child-formed (suc h) n i ne f from.here)) (rw sub-one at from.on) (rw (sub-one, ← e) at to.on) (omega arith)
+
+pub at-same : (t : Option Node) (h : ℕ) (p row : List ℕ) (i : ℕ) (q other : List ℕ) (j : ℕ) → IsTree t h → IsAt t h p row i → IsAt t h q other j → place_in t h (to_gap p i) ≡ place_in t h (to_gap q j) → i ≡ j
+at-same None h p row i q other j t a b same =
+    let none = ap length a.leaf in let within = a.within in let empty = ap length b.leaf in let inside = b.within in omega arith
+at-same (Some n) h p row i q other j t a b same =
+    sym (path-here p (to_gap p i) 0 i a.gap.whole (omega arith) refl) ∙ gaps-same h n (to_gap p i) (to_gap q j) t.0 a.gap.goes b.gap.goes same ∙ path-here q (to_gap q j) 0 j b.gap.whole (omega arith) refl
+
+-- a place of a leaf
+pub IsAt-low : (t : Option Node) (h : ℕ) (p row : List ℕ) (at : ℕ) → IsTree t h → IsAt t h p row at → at ≤ 11
+IsAt-low t h p row at tree a = let few = IsAt-few t h p row at tree a in let within = a.within in omega arith

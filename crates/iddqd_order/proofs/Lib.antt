@@ -1,4 +1,5 @@
 pub mod AskLemmas
+pub mod BoundLemmas
 mod CountSteps
 mod CursorLemmas
 mod DescentLemmas
@@ -8,6 +9,7 @@ pub mod InsertLemmas
 pub mod KeyOrderLemmas
 pub mod MemberLemmas
 mod MendLemmas
+mod MoveLemmas
 mod Names
 pub mod NodeLemmas
 mod NodeRenameLemmas

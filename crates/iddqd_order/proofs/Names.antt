@@ -44,7 +44,7 @@ unfoldable pub use Rattle.std.specs.List.{IsDistinct}
 pub use Rattle.std.specs.Ordering.{MatchOrdering, nat_cmp, ordering_reverse, ordering_then}
 pub use Rattle.std.specs.Vec.{with_item}
 pub use Rattle.std.specs.declared.cmp.Ordering.TheVariants.{Equal, Greater, Less}
-pub use Rattle.iddqd_order.specs.Cursor.{AreBeside, AtEdge, IsAt, IsBehind, IsGap, IsLow, Over, Stands, Steps, between, edge_of, gap_of, leaf_in, to_gap}
+pub use Rattle.iddqd_order.specs.Cursor.{AreBeside, AtEdge, Compares, IsAt, IsBehind, IsGap, IsLow, Over, Stands, Steps, between, part, edge_of, gap_of, leaf_in, to_gap}
 unfoldable pub use Rattle.iddqd_order.specs.Cursor.{leaf, low}
 unfoldable pub use Rattle.iddqd_order.specs.MapBTreeTable.{order_of}
 pub use Rattle.std.proofs.Math.Seq.{drop-append_seam, take-append_seam}

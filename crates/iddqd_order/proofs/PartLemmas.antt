@@ -1,5 +1,5 @@
 -- A search in a part of a list, and what it says of a search in the whole.
-use Rattle.iddqd_order.proofs.Names.{◌≡◌, ◌∙◌, ℕ, ◌+◌, ◌-◌, ◌<◌, ◌≤◌, List, length, get_or, Contains, sym, ap, arith, inl, inr, cases_lt, Option, Some, None, Result, Ok, Err, get_or_default, Ordering, Mut, AsksWithin, Steady, Asking, Askable, with_ties, IsRising, IsPlace, IsSteadyRising, SearchesWithin, closure_of}
+use Rattle.iddqd_order.proofs.Names.{◌≡◌, ◌∙◌, ℕ, ◌+◌, ◌-◌, ◌<◌, ◌≤◌, List, length, get_or, Contains, refl, sym, ap, arith, inl, inr, cases_lt, Option, Some, None, Result, Ok, Err, get_or_default, Ordering, Mut, AsksWithin, Steady, Asking, Askable, with_ties, IsRising, IsPlace, IsSteadyRising, SearchesWithin, closure_of}
 use Rattle.iddqd_order.proofs.AskLemmas.{asks_then, asks_more, asks_wider, Steady-fewer, Steady-later}
 use Rattle.iddqd_order.proofs.SearchLemmas.{AreSplit}
 
@@ -55,6 +55,7 @@ module _ {F R : Type 0} (g : Mut F (ℕ × Unit {0}) R) (read : R → Ordering) 
     itself = s.itself;
     hit = s.hit;
     place = s.place;
+    unequal = s.unequal;
   }
 
   module _ {xs ws : List ℕ} {e : ℕ → ℕ} (m : Embeds xs ws e) {n : ℕ} {old mid : Asking F} (led : AsksWithin g (Askable ws tie) n old mid) where
@@ -74,6 +75,7 @@ module _ {F R : Type 0} (g : Mut F (ℕ × Unit {0}) R) (read : R → Ordering) 
       itself = λ ix same. m.at i s.found ∙ s.itself ix same;
       hit = λ answer steady. ap (with_ties tie answer) (m.at i s.found) ∙ s.hit answer (steady-part answer steady);
       place = λ answer rises. tt;
+      unequal = s.unequal;
     }
 
   -- asks lead to the part that begins at low: if the answers rise, all is Greater before it and Less after it
@@ -99,4 +101,5 @@ module _ {F R : Type 0} (g : Mut F (ℕ × Unit {0}) R) (read : R → Ordering) 
         place = λ answer rises.
             IsPlace-part leads.part (with_ties tie answer) i leads.within (leads.split answer rises)
             (s.place answer (record { steady = steady-part leads.part leads.asked answer rises.steady; rising = IsRising-part leads.part (with_ties tie answer) rises.rising }));
+        unequal = λ none never. refl;
       }

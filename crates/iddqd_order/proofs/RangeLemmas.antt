@@ -1,12 +1,12 @@
--- A walk from a place on, by answers of which none is Equal.
-use Rattle.std.proofs.Common.{◌≡◌, ◌≢◌, ℕ, List, slice_index, refl, ap, None, Result, Ok, Err, IfErr, is_ok, true}
-use Rattle.std.specs.Fn.{Mut}
-use Rattle.std.specs.Ordering.{ordering_then}
-use Rattle.std.specs.declared.cmp.Ordering.{Ordering}
-use Rattle.std.specs.declared.cmp.Ordering.TheVariants.{Less, Equal, Greater}
-use Rattle.iddqd_order.specs.declared.btree_table.asking.Asking.{Asking}
-use Rattle.iddqd_order.specs.Range.{IsBoundAt}
-use Rattle.iddqd_order.specs.Search.{IsRising, IsSteadyRising, Searches}
+-- Walks between places, which are found by answers of which none is Equal.
+use Rattle.iddqd_order.proofs.Names.{◌≡◌, ◌≢◌, ◌↔◌, ℕ, ◌-◌, ◌<◌, ◌≤◌, List, [], length, drop, slice_index, refl, sym, ap, Option, Bool, arith, None, Err, length-drop, take_all, Ordering, Less, Equal, Greater, ordering_then, Mut, Asking, AsksWithin, Askable, Some, Node, IsFormed, Goes, place, flat, IsTree, GoesIn, place_in, in_order, IsTrue, Compares, IsRising, IsSteadyRising, Searches, Steps, between, part, true, false}
+use Rattle.std.specs.Iterator.{YieldsFirst, YieldsLast}
+use Rattle.std.specs.Ordering.{is_eq, is_lt}
+use Rattle.std.specs.declared.ops.Bound.{Bound}
+use Rattle.std.specs.declared.ops.Bound.TheVariants.{Included, Excluded, Unbounded}
+use Rattle.iddqd_order.specs.Range.{Ends, IsBoundBy}
+use Rattle.iddqd_order.proofs.AskLemmas.{Steady-later}
+use Rattle.iddqd_order.proofs.CursorLemmas.{left-ahead, left-back, left-length}
 
 -- where Equal counts as another answer
 pub never-equal : (e o : Ordering) → e ≢ Equal → ordering_then o e ≢ Equal
@@ -41,8 +41,65 @@ steady-counted g read xs e ne answer a s = record {
   rising = rises-counted e ne answer xs s.rising;
 }
 
-pub steady-in : {F R : Type 0} (g : Mut F (ℕ × Unit {0}) R) (read : R → Ordering) (xs : List ℕ) (e : Ordering) → e ≢ Equal → (answer : ℕ → Ordering) (a b : Asking F) (end : Result ℕ ℕ)
-    → Searches g (λ r. ordering_then (read r) e) xs None a end b → IsSteadyRising g xs None read answer a → IfErr end (λ i. IsBoundAt e answer xs i) × (is_ok end ≡ true → ⊥)
-steady-in g read xs e ne answer a b (Err i) s rises = (s.place (λ ix. ordering_then (answer ix) e) (steady-counted g read xs e ne answer a rises), λ z. cc)
-steady-in g read xs e ne answer a b (Ok i) s rises =
-    (tt, λ z. never-equal e (answer (slice_index xs i)) ne (s.hit (λ ix. ordering_then (answer ix) e) (steady-counted g read xs e ne answer a rises).steady))
+-- a search for a bound ends there
+pub bound-met : {F R : Type 0} (g : Mut F (ℕ × Unit {0}) R) (read : R → Ordering) (xs : List ℕ) (e : Ordering) → e ≢ Equal → (a b : Asking F) (i : ℕ)
+    → Searches g (λ r. ordering_then (read r) e) xs None a (Err i) b → IsBoundBy g read e xs a i
+bound-met g read xs e ne a b i s answer rises = s.place (λ ix. ordering_then (answer ix) e) (steady-counted g read xs e ne answer a rises)
+
+-- what the answers make the bound after some asks was so before
+pub bound-before : {F R : Type 0} (g : Mut F (ℕ × Unit {0}) R) (read : R → Ordering) (xs : List ℕ) (e : Ordering) {k : ℕ} {a b : Asking F} {i : ℕ} → AsksWithin g (Askable xs None) k a b → IsBoundBy g read e xs b i → IsBoundBy g read e xs a i
+bound-before g read xs e asks bound answer rises = bound answer (record { steady = Steady-later g (Askable xs None) asks.after rises.steady; rising = rises.rising })
+
+pub ends-before : {F R : Type 0} (g : Mut F (ℕ × Unit {0}) R) (xs : List ℕ) (upper : Bound (R → Ordering)) {k : ℕ} {a b : Asking F} (i : ℕ) → AsksWithin g (Askable xs None) k a b → Ends g xs upper b i → Ends g xs upper a i
+ends-before g xs (Included read) i asks ends = bound-before g read xs Greater asks ends
+ends-before g xs (Excluded read) i asks ends = bound-before g read xs Less asks ends
+ends-before g xs Unbounded i asks ends = ends
+
+-- what is left between two gaps
+pub part-empty : (i j : ℕ) (xs : List ℕ) → i ≤ j → j ≤ length xs → (i ≡ j) ↔ (part i j xs ≡ [])
+part-empty i j xs le within = (
+  λ e. (let none : j - i ≡ 0 = omega arith in ap (λ k. between k i xs) none),
+  λ e. (let none = left-length (j - i) i j xs (omega arith) within in let len = ap length e in omega arith),
+)
+
+pub part-none : (i j : ℕ) (xs : List ℕ) → j < i → part i i xs ≡ part i j xs
+part-none i j xs lt = let none : j - i ≡ i - i = omega arith in ap (λ k. between k i xs) (sym none)
+
+pub part-rest : (i : ℕ) (xs : List ℕ) → part i (length xs) xs ≡ drop i xs
+part-rest i xs = take_all (length xs - i) (drop i xs) (omega (arith, length-drop i xs))
+
+-- and whether any is, by how the gaps stand
+pub ended-told : (r : Ordering) (i j : ℕ) (xs : List ℕ) → Compares r i j → i ≤ j → j ≤ length xs → IsTrue (is_eq r) ↔ (part i j xs ≡ [])
+ended-told Less i j xs lt le within = (λ t. absurd (cc), λ e. absurd (let same = (part-empty i j xs le within).1 e in omega arith))
+ended-told Equal i j xs e le within = (λ t. (part-empty i j xs le within).0 e, λ z. refl)
+ended-told Greater i j xs gt le within = absurd (omega arith)
+
+-- two gaps by their paths
+pub gaps-before : (r : Ordering) (t : Option Node) (h : ℕ) (p q : List ℕ) → IsTree t h → GoesIn t h p → GoesIn t h q → ((n : Node) → IsFormed h n → Goes h n q → Goes h n p → Compares r (place h n q) (place h n p)) → is_lt r ≡ true
+    → part (place_in t h p) (place_in t h p) (in_order t h) ≡ part (place_in t h p) (place_in t h q) (in_order t h)
+gaps-before r None h p q tree from to told e = refl
+gaps-before Less (Some n) h p q tree from to told e = part-none (place h n p) (place h n q) (flat h n) (told n tree.0 to from)
+gaps-before Equal (Some n) h p q tree from to told e = absurd (cc)
+gaps-before Greater (Some n) h p q tree from to told e = absurd (cc)
+
+pub gaps-behind : (r : Ordering) (t : Option Node) (h : ℕ) (p q : List ℕ) → IsTree t h → GoesIn t h p → GoesIn t h q → ((n : Node) → IsFormed h n → Goes h n q → Goes h n p → Compares r (place h n q) (place h n p)) → is_lt r ≡ false
+    → place_in t h p ≤ place_in t h q
+gaps-behind r None h p q tree from to told e = omega arith
+gaps-behind Less (Some n) h p q tree from to told e = absurd (cc)
+gaps-behind Equal (Some n) h p q tree from to told e = let same = told n tree.0 to from in omega arith
+gaps-behind Greater (Some n) h p q tree from to told e = let lt = told n tree.0 to from in omega arith
+
+-- after a step from the one end or the other
+pub part-ahead : (i j k : ℕ) (xs : List ℕ) (r : Option ℕ) → (b : Bool) → IsTrue b ↔ (part i k xs ≡ []) → b ≡ false → i ≤ k → k ≤ length xs → Steps true xs i r j → (j ≤ k) × YieldsFirst (λ (ys : List ℕ). ys) (part i k xs) r (part j k xs)
+part-ahead i j k xs r b told some le within s =
+    let ne : k - i ≢ 0 = λ e. (let t = told.1 ((part-empty i k xs le within).0 (omega arith)) in absurd (cc)) in
+    let l = left-ahead (k - i) i j k xs r ne (omega arith) within s in
+    let at = l.0 in let same : k - i - 1 ≡ k - j = omega arith in
+    (omega arith, rw same at l.1)
+
+pub part-back : (i j k : ℕ) (xs : List ℕ) (r : Option ℕ) → (b : Bool) → IsTrue b ↔ (part i k xs ≡ []) → b ≡ false → i ≤ k → k ≤ length xs → Steps false xs k r j → (i ≤ j) × YieldsLast (λ (ys : List ℕ). ys) (part i k xs) r (part i j xs)
+part-back i j k xs r b told some le within s =
+    let ne : k - i ≢ 0 = λ e. (let t = told.1 ((part-empty i k xs le within).0 (omega arith)) in absurd (cc)) in
+    let l = left-back (k - i) i j k xs r ne (omega arith) within s in
+    let at = l.0 in let same : k - i - 1 ≡ j - i = omega arith in
+    (omega arith, rw same at l.1)

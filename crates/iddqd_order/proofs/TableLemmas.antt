@@ -20,12 +20,12 @@ pub few : (r : Option Node) (h n : ℕ) → IsTable r h n → n < 4294967296
 few r h n t = let most = few_indexes sentinel (in_order r h) t.distinct t.assigned in let counted = t.counted in omega arith
 
 -- at most one block for each of twelve levels
-at_most : (b : Bool) (k : ℕ) → k ≤ 12 → (if b then k else k - 1) ≤ 12
-at_most true k le = le
-at_most false k le = omega arith
+at_most : (b : Bool) (k n : ℕ) → k ≤ n → (if b then k else k - 1) ≤ n
+at_most true k n le = le
+at_most false k n le = omega arith
 
-pub few_blocks : (h k : ℕ) → k ≤ 12 → blocks_for h k ≤ 12
-few_blocks h k le = at_most (nat_lt h k) k le
+pub few_blocks : (h k : ℕ) {n : ℕ} → k ≤ n → blocks_for h k ≤ n
+few_blocks h k {n = n} le = at_most (nat_lt h k) k n le
 
 -- where the search of a table ends
 module _ {F R : Type 0} (g : Mut F (ℕ × Unit {0}) R) (read : R → Ordering) (sought : Option ℕ) where
@@ -37,12 +37,13 @@ module _ {F R : Type 0} (g : Mut F (ℕ × Unit {0}) R) (read : R → Ordering) 
     itself = tt;
     hit = λ answer s. tt;
     place = λ answer s. record { within = omega arith; greater_before = λ k q. absurd (omega arith); less_from = λ k q r. absurd (omega arith) };
+    unequal = λ none never. refl;
   }
 
   -- without a root it asks nothing
   pub EndsIn-none : (h : ℕ) (p : List ℕ) (a : Asking F) → EndsIn g read sought (record { root = None; height = h }) a p (Err 0) a
   unfolding order_of
-  EndsIn-none h p a = record { searches = Searches-nil a; reaches = omega arith; full_below = tt; level = omega arith }
+  EndsIn-none h p a = record { searches = Searches-nil a; reaches = omega arith; full_below = tt; level = (omega arith, omega arith) }
 
   -- and else it is a walk down from the root
   pub EndsIn-root : {limit : ℕ} (h : ℕ) (n : Node) (p : List ℕ) (end : Result ℕ ℕ) (a b : Asking F) → limit ≤ 4 * (h + 1) + 2 → IsTree (Some n) h → Descends g read sought limit (h + 1) h n a p end b
@@ -52,7 +53,7 @@ module _ {F R : Type 0} (g : Mut F (ℕ × Unit {0}) R) (read : R → Ordering) 
     searches = SearchesWithin-more g read sought (let asks = reckoning h n t.0 t.1 in omega arith) d.searches;
     reaches = d.reaches;
     full_below = IfErr-weaker end _ (λ k. IsFullBelow k h n p) (λ k q. q.0) d.lower_end;
-    level = IfErr-weaker end _ (λ k. k ≤ 12) (λ k q. let low = t.2 in elim (cases_lt h k) [ inl lt ↦ omega (arith, q.1 lt) | inr le ↦ omega arith ]) d.lower_end;
+    level = IfErr-weaker end _ (λ k. (k ≤ h + 1) × (k ≤ 12)) (λ k q. let low = t.2 in let le : k ≤ h + 1 = elim (cases_lt h k) [ inl lt ↦ omega (arith, q.1 lt) | inr le ↦ omega arith ] in (le, omega arith)) d.lower_end;
   }
 
 -- the indexes with one more

@@ -37,6 +37,11 @@ new_root h old lower new m upper p x f g c er ek rm small =
     let len : length (flat (h + 1) new) ≤ 4294967296 = rw items (omega (arith, length-insert (flat h old) (place h old p) x (place-within h old p f g))) in
     record { low = twelve_levels (h + 1) new formed one len; formed = formed; root = one; items = items }
 
+-- a tree has at most twelve levels
+pub IsTree-low : (r : Option Node) (h : ℕ) → IsTree r h → h ≤ 11
+IsTree-low None h t = omega arith
+IsTree-low (Some n) h t = t.2
+
 -- a path leads to a place in the list
 pub spot_in-within : (gap : Bool) (l : ℕ) (r : Option Node) (h : ℕ) (p : List ℕ) → IsTree r h → ReachesIn gap l r h p → Fits gap (spot_in l r h p) (length (in_order r h))
 spot_in-within gap l None h p t w = w

@@ -1,10 +1,16 @@
 -- Where a walk along a tree stands: in a gap before, between or behind the indexes of a leaf.
-use Rattle.std.specs.Prelude.{◌≡◌, ℕ, zero, suc, ◌+◌, ◌<◌, ◌≤◌, List, [], Bool, true, false, Option, Some, None, ⊤, length, take, drop, slice_index, slice_set}
+use Rattle.std.specs.Prelude.{◌≡◌, ℕ, zero, suc, ◌+◌, ◌-◌, ◌<◌, ◌≤◌, List, [], Bool, true, false, Option, Some, None, ⊤, length, take, drop, slice_index, slice_set}
 use Rattle.std.specs.Borrow.{Bor}
+use Rattle.std.specs.Ordering.{MatchOrdering}
+use Rattle.std.specs.declared.cmp.Ordering.{Ordering}
 use Rattle.iddqd_order.specs.declared.btree_table.cursor.Cursor.{Cursor}
 use Rattle.iddqd_order.specs.declared.btree_table.node.Node.{Node}
 use Rattle.iddqd_order.specs.Node.{row, child, flat, Goes, place}
 use Rattle.iddqd_order.specs.Tree.{GoesIn, place_in}
+
+-- how two gaps stand to each other
+abbrev pub Compares : Ordering → ℕ → ℕ → Type 0
+Compares r i j = MatchOrdering r (i < j) (i ≡ j) (j < i)
 
 -- the index stands behind the i-th gap
 abbrev pub IsBehind : List ℕ → ℕ → ℕ → Type 0
@@ -87,3 +93,7 @@ gap_of t h c = place_in t h (to_gap c.path c.at)
 -- so many indexes from the i-th gap on
 abbrev pub between : ℕ → ℕ → List ℕ → List ℕ
 between count i xs = take count (drop i xs)
+
+-- the indexes from one gap on up to another one, and none where that stands before
+abbrev pub part : ℕ → ℕ → List ℕ → List ℕ
+part from to xs = between (to - from) from xs

@@ -46,4 +46,4 @@ module _ {F R : Type 0} (g : Mut F (ℕ × Unit {0}) R) (read : R → Ordering) 
     pub searches : Searches g read (order_of t) sought old (end_at end (spot_in (level_of end) t.root t.height p)) new
     pub reaches : ReachesIn (is_err end) (level_of end) t.root t.height p
     pub full_below : IfErr end (λ k. FullIn k t.root t.height p)
-    pub level : IfErr end (λ k. k ≤ 12)
+    pub level : IfErr end (λ k. (k ≤ t.height + 1) × (k ≤ 12))

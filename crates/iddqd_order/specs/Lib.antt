@@ -11,6 +11,7 @@ pub mod KeyOrder
 pub mod MapBTreeTable
 pub mod Node
 pub mod PreparedBTreeInsert
+pub mod PreparedBTreeMove
 pub mod PreparedBTreeRemove
 pub mod Range
 pub mod Removal
@@ -28,5 +29,7 @@ pub use Rattle.iddqd_order.specs.KeyOrder.{IsInKeyOrder}
 pub use Rattle.iddqd_order.specs.Search.{CanSearch, IsSteadyRising, with_ties, IsPlace}
 pub use Rattle.iddqd_order.specs.Iter.{indexes_left}
 pub use Rattle.iddqd_order.specs.IntoIter.{indexes_to_come}
-pub use Rattle.iddqd_order.specs.Range.{indexes_ahead, IsBoundAt, WalksFrom}
+pub use Rattle.iddqd_order.specs.Cursor.{part}
+pub use Rattle.iddqd_order.specs.Range.{indexes_ahead, IsBoundAt, IsPart, WalksFrom, WalksBetween, WalksBetweenBy}
+pub use Rattle.iddqd_order.specs.PreparedBTreeMove.{PreparesMove, PutsIn}
 pub use Rattle.iddqd_order.specs.Entry.{entry_table, entry_index, vacant_table, vacant_place, Enters}

@@ -1,9 +1,15 @@
 -- What a contract sees of a `Range`.
-use Rattle.std.specs.Prelude.{◌≡◌, ◌≤◌, ℕ, List, None, drop, length}
+use Rattle.std.specs.Prelude.{◌≡◌, ◌*◌, ◌≤◌, ℕ, List, None, drop, length}
 use Rattle.std.specs.Fn.{Mut}
 use Rattle.std.specs.declared.cmp.Ordering.{Ordering}
+use Rattle.std.specs.declared.cmp.Ordering.TheVariants.{Less, Greater}
+use Rattle.std.specs.declared.ops.Bound.{Bound}
+use Rattle.std.specs.declared.ops.Bound.TheVariants.{Included, Excluded, Unbounded}
 use Rattle.std.specs.Ordering.{ordering_then}
-use Rattle.iddqd_order.specs.Search.{SearchAsks, IsSteadyRising, IsPlace}
+use Rattle.iddqd_order.specs.Asks.{AsksWithin}
+use Rattle.iddqd_order.specs.Cursor.{part}
+use Rattle.iddqd_order.specs.Digits.{bound}
+use Rattle.iddqd_order.specs.Search.{Askable, SearchAsks, IsSteadyRising, IsPlace}
 use Rattle.iddqd_order.specs.declared.btree_table.asking.Asking.{Asking}
 use Rattle.iddqd_order.specs.declared.btree_table.range.Range.{Range}
 
@@ -18,9 +24,53 @@ IsBoundAt at_equal answer xs place = IsPlace (λ ix. ordering_then (answer ix) a
 
 -- a walk along the indexes xs from a place on, by answers that are so read: it is the bound, if the answers rise
 module _ {F R : Type 0} (g : Mut F (ℕ × Unit {0}) R) (read : R → Ordering) (at_equal : Ordering) (xs : List ℕ) where
+  abbrev pub IsBoundBy : Asking F → ℕ → Type 0
+  IsBoundBy old place = (answer : ℕ → Ordering) → IsSteadyRising g xs None read answer old → IsBoundAt at_equal answer xs place
+
   pub record WalksFrom (old : Asking F) (walk : Range) (new : Asking F) : Type 0 where
     pub asked : SearchAsks g xs None old new
     pub place : ℕ
     pub within : place ≤ length xs
     pub ahead : indexes_ahead walk ≡ drop place xs
-    pub bound : (answer : ℕ → Ordering) → IsSteadyRising g xs None read answer old → IsBoundAt at_equal answer xs place
+    pub bound : IsBoundBy old place
+
+-- the walk has the indexes of xs from one place on up to another one
+pub record IsPart (xs : List ℕ) (from to : ℕ) (walk : Range) : Type 0 where
+  pub from_within : from ≤ length xs
+  pub to_within : to ≤ length xs
+  pub ahead : indexes_ahead walk ≡ part from to xs
+
+-- a walk between two bounds by one asking: each is said by how an answer is read
+module _ {F R : Type 0} (g : Mut F (ℕ × Unit {0}) R) (xs : List ℕ) where
+  -- the place where what has the lower bound begins, and that where what has the upper bound ends
+  abbrev pub Begins : Bound (R → Ordering) → Asking F → ℕ → Type 0
+  Begins (Included read) old place = IsBoundBy g read Less xs old place
+  Begins (Excluded read) old place = IsBoundBy g read Greater xs old place
+  Begins Unbounded old place = place ≡ 0
+
+  abbrev pub Ends : Bound (R → Ordering) → Asking F → ℕ → Type 0
+  Ends (Included read) old place = IsBoundBy g read Greater xs old place
+  Ends (Excluded read) old place = IsBoundBy g read Less xs old place
+  Ends Unbounded old place = place ≡ length xs
+
+  pub record WalksBetween (lower upper : Bound (R → Ordering)) (old : Asking F) (walk : Range) (new : Asking F)
+      : Type 0 where
+    pub asked : AsksWithin g (Askable xs None) (2 * bound (length xs)) old new
+    pub from : ℕ
+    pub to : ℕ
+    pub ahead : IsPart xs from to walk
+    pub begins : Begins lower old from
+    pub ends : Ends upper old to
+
+-- a walk from the first index on at which the one asking doesn't answer Greater, up to the first one at which the
+-- other answers Less
+module _ {F G : Type 0} (f : Mut F (ℕ × Unit {0}) Ordering) (g : Mut G (ℕ × Unit {0}) Ordering) (xs : List ℕ) where
+  pub record WalksBetweenBy (old_from : Asking F) (old_to : Asking G) (walk : Range) (new_from : Asking F)
+      (new_to : Asking G) : Type 0 where
+    pub from_asked : SearchAsks f xs None old_from new_from
+    pub to_asked : SearchAsks g xs None old_to new_to
+    pub from : ℕ
+    pub to : ℕ
+    pub ahead : IsPart xs from to walk
+    pub begins : IsBoundBy f (λ r. r) Less xs old_from from
+    pub ends : IsBoundBy g (λ r. r) Greater xs old_to to

@@ -1,5 +1,5 @@
 -- How a search asks, and what its answers mean.
-use Rattle.std.specs.Prelude.{◌≡◌, ◌≢◌, ℕ, ◌<◌, ◌≤◌, ◌==◌, List, All, Contains, Option, Some, None, IfSome, IsNone, Result, IfOk, IfErr, if◌then◌else◌, slice_index, length}
+use Rattle.std.specs.Prelude.{◌≡◌, ◌≢◌, ℕ, ◌<◌, ◌≤◌, ◌==◌, List, All, Contains, Option, Some, None, IfSome, IsNone, Result, IfOk, IfErr, is_err, true, if◌then◌else◌, slice_index, length}
 use Rattle.std.specs.declared.cmp.Ordering.{Ordering}
 use Rattle.std.specs.declared.cmp.Ordering.TheVariants.{Less, Equal, Greater}
 use Rattle.std.specs.Ordering.{nat_cmp, ordering_then}
@@ -55,7 +55,8 @@ module _ {F R : Type 0} (g : Mut F (ℕ × Unit {0}) R) (xs : List ℕ) (sought 
 -- calls that search in the indexes xs and so read the answers
 module _ {F R : Type 0} (g : Mut F (ℕ × Unit {0}) R) (read : R → Ordering) (xs : List ℕ) where
   -- the search asks at most `limit` times, and ends at the place of what is sought, which steady answers
-  -- make Equal, or else at the place where it would go, if the answers rise
+  -- make Equal, or else at the place where it would go, if the answers rise; by answers that are never read
+  -- as Equal it ends at none
   pub record SearchesWithin (limit : ℕ) (sought : Option ℕ) (old : Asking F) (end : Result ℕ ℕ) (new : Asking F)
       : Type 0 where
     pub asked : AsksWithin g (Askable xs sought) limit old new
@@ -66,6 +67,7 @@ module _ {F R : Type 0} (g : Mut F (ℕ × Unit {0}) R) (read : R → Ordering) 
         IfOk end (λ i. with_ties sought answer (slice_index xs i) ≡ Equal)
     pub place : (answer : ℕ → Ordering) → IsSteadyRising g xs sought read answer old →
         IfErr end (IsPlace (with_ties sought answer) xs)
+    pub unequal : sought ≡ None → ((r : R) → read r ≢ Equal) → is_err end ≡ true
 
   -- the same with the most asks of a search in all indexes
   abbrev pub Searches : Option ℕ → Asking F → Result ℕ ℕ → Asking F → Type 0

@@ -9,6 +9,7 @@ use std::cmp::Ordering;
 use std::process::Abort;
 
 mod asks;
+mod bounds;
 mod callers;
 mod checks;
 mod copies;
@@ -17,6 +18,7 @@ mod ends;
 mod entries;
 mod keys;
 mod lying;
+mod moves;
 mod ranges;
 mod refused;
 mod remaps;

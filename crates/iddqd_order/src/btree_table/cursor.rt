@@ -4,7 +4,8 @@
 //! walk ahead keeps the node above the leaf too, and comes down once in some nine leaves: once a leaf, a walk along
 //! 1,000 indexes took twice the time, and one along a million 1.4 times.
 ghost use Rattle.std.specs.Prelude.{◌≡◌, ℕ, ◌<◌, ◌≤◌, length, slice_index, IfSome, IsNone, true, false};
-ghost use Rattle.iddqd_order.specs.Cursor.{AreBeside, AtEdge, Over, Steps, IsGap, Stands, edge_of, gap_of, leaf, low, to_gap};
+ghost use Rattle.iddqd_order.specs.Cursor.{AreBeside, AtEdge, Compares, Over, Steps, IsGap, Stands, edge_of, gap_of, leaf, low, to_gap};
+ghost use Rattle.iddqd_order.specs.declared.btree_table.node.Node.{Node as NodeOf};
 ghost use Rattle.iddqd_order.specs.Node.{flat, Goes, IsFormed, place};
 ghost use Rattle.iddqd_order.specs.Tree.{IsTree, GoesIn, in_order, place_in};
 
@@ -12,6 +13,7 @@ use crate::btree_table::node::Node;
 use crate::btree_table::path::Path;
 use crate::btree_table::row::Row;
 use iddqd::item_index::ItemIndex;
+use std::cmp::Ordering;
 
 // A leaf and a place in it, with the way from the root to the leaf. The path's own place in the leaf is
 // another one.
@@ -140,8 +142,7 @@ impl<'a> Cursor<'a> {
         let Some(node) = root else {
             return None;
         };
-        let mut path = self.path;
-        path.set(0, self.at);
+        let mut path = self.gap();
         let Some(found) = node.step_over(height, &mut path, ahead) else {
             return None;
         };
@@ -154,6 +155,44 @@ impl<'a> Cursor<'a> {
         }
         self.low = node.low(height, &path);
         Some(found.0)
+    }
+
+    // The path to the gap.
+    pub fn gap(&self) -> Path
+        requires { self.now.at ≤ 12 }
+        ensures { result ≡ to_gap self.now.path self.now.at }
+    {
+        let mut path = self.path;
+        path.set(0, self.at);
+        path
+    }
+
+    // How the gap stands to that of another cursor.
+    pub fn compare(&self, other: &Cursor<'_>, root: &Option<Node>, height: usize) -> Ordering
+        requires tree { IsTree root.now height }
+        requires stands { Stands root.now height self.now }
+        requires other_stands { Stands root.now height other.now }
+        ensures { Compares result (gap_of root.now height self.now) (gap_of root.now height other.now) }
+    {
+        match root {
+            None => Ordering::Equal,
+            Some(_) => self.gap().compare(&other.gap(), height),
+        }
+    }
+}
+
+impl Path {
+    // How the gap to which the path goes stands to that of another path, from a level down.
+    pub fn compare(&self, other: &Path, level: usize) -> Ordering
+        requires { level ≤ 11 }
+        ensures { (n : NodeOf) → IsFormed level n → Goes level n self.now → Goes level n other.now →
+            Compares result (place level n self.now) (place level n other.now) }
+    {
+        let here = self.get(level).cmp(&other.get(level));
+        if level == 0 || here.is_ne() {
+            return here;
+        }
+        self.compare(other, level - 1)
     }
 }
 

@@ -1,14 +1,20 @@
-//! The walk from the place of what is sought on.
+//! The walk from the place of what is sought on, or between the places of two.
 //!
 //! A search that never reads an answer as Equal ends between two indexes: where Equal counts as Less,
 //! before the first index that isn't Greater, and where it counts as Greater, before the first that is
 //! Less. So equal keys, of which a find meets any, are all in the walk, or none is.
-ghost use Rattle.std.specs.Prelude.{◌≡◌, ◌≢◌, [], None, drop};
+//!
+//! What is left isn't counted, since a tree doesn't count what is below a node: the walk has ended where
+//! its ends stand at one gap.
+ghost use Rattle.std.specs.Prelude.{◌≡◌, ◌≢◌, None, length};
 ghost use Rattle.std.specs.declared.cmp.Ordering.{Ordering};
 ghost use Rattle.std.specs.declared.cmp.Ordering.TheVariants.{Less, Equal, Greater};
+ghost use Rattle.std.specs.Range.Bound.{bound_map};
+ghost use Rattle.iddqd_order.specs.Cursor.{edge_of};
 ghost use Rattle.iddqd_order.specs.MapBTreeTable.{order_of};
-ghost use Rattle.iddqd_order.specs.Range.{WalksFrom};
-ghost use Rattle.iddqd_order.specs.Search.{CanSearch};
+ghost use Rattle.iddqd_order.specs.Range.{Begins, Ends, IsBoundBy, IsPart, WalksBetween, WalksBetweenBy, WalksFrom};
+ghost use Rattle.iddqd_order.specs.Search.{CanSearch, SearchAsks};
+ghost use Rattle.iddqd_order.specs.Tree.{GoesIn, place_in};
 
 use crate::btree_table::asking::Asking;
 use crate::btree_table::cursor::Cursor;
@@ -19,10 +25,12 @@ use crate::btree_table::table::MapBTreeTable;
 use iddqd::item_index::ItemIndex;
 use iddqd::map_hash::Comparable;
 use std::cmp::Ordering;
-use std::iter::FusedIterator;
+use std::iter::{DoubleEndedIterator, FusedIterator};
 use std::marker::Model;
+use std::ops::Bound;
 
-/// The last indexes of a table, in its order, from some place on. Once it has ended it stays ended.
+/// The indexes of a table from one place on up to another one, in its order, from both ends. Once it has
+/// ended it stays ended.
 ///
 /// It takes no memory. A step costs a constant time on the average, and at most as much as a search.
 #[derive(Clone, Drop)]
@@ -30,48 +38,74 @@ pub struct Range<'a> {
     root: &'a Option<Node>,
     height: usize,
     front: Cursor<'a>,
+    back: Cursor<'a>,
 }
 
 impl<'a> Model for Range<'a> {
-    ghost use Rattle.std.specs.Prelude.{ℕ, List, drop};
-    ghost use Rattle.iddqd_order.specs.Cursor.{Stands, gap_of};
+    ghost use Rattle.std.specs.Prelude.{◌≤◌, ℕ, List};
+    ghost use Rattle.iddqd_order.specs.Cursor.{Stands, gap_of, part};
     ghost use Rattle.iddqd_order.specs.Tree.{IsTree, in_order};
 
     ghost Value = { List ℕ };
 
-    ghost view = { λ a. drop (gap_of a.root.now a.height a.front) (in_order a.root.now a.height) };
+    ghost view = { λ a. part (gap_of a.root.now a.height a.front) (gap_of a.root.now a.height a.back)
+        (in_order a.root.now a.height) };
 
-    ghost invariant = { λ a. IsTree a.root.now a.height × Stands a.root.now a.height a.front };
+    ghost invariant = { λ a. IsTree a.root.now a.height
+        × Stands a.root.now a.height a.front × Stands a.root.now a.height a.back
+        × (gap_of a.root.now a.height a.front ≤ gap_of a.root.now a.height a.back) };
 }
 
 #[tactic(auto, unfolding(crate::specs::Range::indexes_ahead))]
 impl<'a> Range<'a> {
+    ghost use Rattle.std.specs.Prelude.{◌↔◌, [], IsTrue, drop};
+    ghost use Rattle.iddqd_order.specs.Cursor.{part};
     ghost use Rattle.iddqd_order.specs.Range.{indexes_ahead};
     ghost use Rattle.iddqd_order.specs.Tree.{IsTree, GoesIn, in_order, place_in};
 
-    // The indexes of a tree from the place on to which a path goes.
-    pub(super) fn new(root: &'a Option<Node>, height: usize, path: &Path) -> Range<'a>
+    // The indexes of a tree from one gap on up to another one, and none where that stands before.
+    fn new(root: &'a Option<Node>, height: usize, front: &Path, back: &Path) -> Range<'a>
         requires tree { IsTree root.now height }
-        requires goes { GoesIn root.now height path.now }
-        ensures { indexes_ahead result ≡ drop (place_in root.now height path.now) (in_order root.now height) }
+        requires front { GoesIn root.now height front.now }
+        requires back { GoesIn root.now height back.now }
+        ensures { indexes_ahead result
+            ≡ part (place_in root.now height front.now) (place_in root.now height back.now) (in_order root.now height) }
     {
+        let mut back = *back;
+        if back.compare(front, height).is_lt() {
+            back = *front;
+        }
         Range {
             root,
             height,
-            front: Cursor::new(root, height, path),
+            front: Cursor::new(root, height, front),
+            back: Cursor::new(root, height, &back),
         }
     }
 
-    // None of them.
-    pub(super) fn none(root: &'a Option<Node>, height: usize) -> Range<'a>
-        requires { IsTree root.now height }
-        ensures { indexes_ahead result ≡ [] }
+    // The indexes of a tree from a gap on.
+    fn from(root: &'a Option<Node>, height: usize, front: &Path) -> Range<'a>
+        requires tree { IsTree root.now height }
+        requires goes { GoesIn root.now height front.now }
+        ensures { indexes_ahead result ≡ drop (place_in root.now height front.now) (in_order root.now height) }
     {
         Range {
             root,
             height,
-            front: Cursor::end(root, height, true),
+            front: Cursor::new(root, height, front),
+            back: Cursor::end(root, height, true),
         }
+    }
+
+    // Whether none is left. Most often the places in the leaves tell.
+    fn has_ended(&self) -> bool
+        ensures { IsTrue result ↔ (indexes_ahead self.now ≡ []) }
+    {
+        self.front.at == self.back.at
+            && self
+                .front
+                .compare(&self.back, self.root, self.height)
+                .is_eq()
     }
 }
 
@@ -87,12 +121,31 @@ impl<'a> Iterator for Range<'a> {
     ghost remaining = { item_count indexes_ahead };
 
     fn next(&mut self) -> Option<ItemIndex> {
+        if self.has_ended() {
+            return None;
+        }
         self.front.next(self.root, self.height)
+    }
+}
+
+#[tactic(auto, unfolding(crate::specs::Range::indexes_ahead))]
+impl<'a> DoubleEndedIterator for Range<'a> {
+    ghost use Rattle.std.specs.Iterator.{YieldsLast};
+    ghost use Rattle.iddqd_order.specs.Range.{indexes_ahead};
+
+    ghost next_back_gives = { YieldsLast indexes_ahead };
+
+    fn next_back(&mut self) -> Option<ItemIndex> {
+        if self.has_ended() {
+            return None;
+        }
+        self.back.next_back(self.root, self.height)
     }
 }
 
 impl<'a> FusedIterator for Range<'a> {}
 
+#[tactic(auto, unfolding(crate::specs::MapBTreeTable::order_of))]
 impl MapBTreeTable {
     /// The indexes from the first one on at which the asking doesn't answer Greater. Less says that what
     /// is sought stands before the stored index.
@@ -153,6 +206,45 @@ impl MapBTreeTable {
         self.walk_from(asking, &ByQuery(query), Ordering::Greater)
     }
 
+    /// The indexes from the first one on at which `from` doesn't answer Greater, up to the first one at
+    /// which `to` answers Less: none where that doesn't stand behind.
+    ///
+    /// Under answers that change, they are those between some two places. Each asking is asked at most
+    /// `4 + 2 * digits(len)` times, and no memory is taken.
+    pub fn range_by<F: FnMut(ItemIndex) -> Ordering, G: FnMut(ItemIndex) -> Ordering>(
+        &self,
+        from: &mut Asking<F>,
+        to: &mut Asking<G>,
+    ) -> Range<'_>
+        requires from { CanSearch F.FnMut (order_of self.now) None from.old }
+        requires to { CanSearch G.FnMut (order_of self.now) None to.old }
+        ensures { WalksBetweenBy F.FnMut G.FnMut (order_of self.now) from.old to.old result from.new to.new }
+    {
+        let front = self.find_bound(from, &AsOrdering, Ordering::Less);
+        let back = self.find_bound(to, &AsOrdering, Ordering::Greater);
+        self.walk_between(&front, &back)
+    }
+
+    /// The indexes whose keys, which the asking answers, are within two bounds: none where the lower one
+    /// stands above the upper one.
+    ///
+    /// Under keys that change, they are those between some two places. It asks at most
+    /// `4 + 2 * digits(len)` times for each bound that there is, and takes no memory.
+    pub fn range<K: Ord + Drop, Q: Comparable<K>, F: FnMut(ItemIndex) -> K>(
+        &self,
+        lower: Bound<&Q>,
+        upper: Bound<&Q>,
+        asking: &mut Asking<F>,
+    ) -> Range<'_>
+        requires { CanSearch F.FnMut (order_of self.now) None asking.old }
+        ensures { WalksBetween F.FnMut (order_of self.now) (bound_map (λ q. Q.compare q.now) lower.entry)
+            (bound_map (λ q. Q.compare q.now) upper.entry) asking.old result asking.new }
+    {
+        let front = self.find_lower(lower, asking);
+        let back = self.find_upper(upper, asking);
+        self.walk_between(&front, &back)
+    }
+
     // The walk, by any reading of the answers, where Equal counts as another one.
     fn walk_from<R, F: FnMut(ItemIndex) -> R, H: Reads<R>>(
         &self,
@@ -164,11 +256,88 @@ impl MapBTreeTable {
         requires unequal { at_equal ≢ Equal }
         ensures { WalksFrom F.FnMut (H.reading how.now) at_equal (order_of self.now) asking.old result asking.new }
     {
+        let front = self.find_bound(asking, how, at_equal);
+        let (root, height) = self.tree();
+        Range::from(root, height, &front)
+    }
+
+    // The way to the gap where a lower bound begins.
+    fn find_lower<K: Ord + Drop, Q: Comparable<K>, F: FnMut(ItemIndex) -> K>(
+        &self,
+        lower: Bound<&Q>,
+        asking: &mut Asking<F>,
+    ) -> Path
+        requires { CanSearch F.FnMut (order_of self.now) None asking.old }
+        ensures goes { GoesIn self.now.root self.now.height result }
+        ensures asked { SearchAsks F.FnMut (order_of self.now) None asking.old asking.new }
+        ensures begins { Begins F.FnMut (order_of self.now) (bound_map (λ q. Q.compare q.now) lower.entry) asking.old
+            (place_in self.now.root self.now.height result) }
+    {
+        match lower {
+            Bound::Included(query) => self.find_bound(asking, &ByQuery(query), Ordering::Less),
+            Bound::Excluded(query) => self.find_bound(asking, &ByQuery(query), Ordering::Greater),
+            Bound::Unbounded => self.end(false),
+        }
+    }
+
+    // The way to the gap where an upper bound ends.
+    fn find_upper<K: Ord + Drop, Q: Comparable<K>, F: FnMut(ItemIndex) -> K>(
+        &self,
+        upper: Bound<&Q>,
+        asking: &mut Asking<F>,
+    ) -> Path
+        requires { CanSearch F.FnMut (order_of self.now) None asking.old }
+        ensures goes { GoesIn self.now.root self.now.height result }
+        ensures asked { SearchAsks F.FnMut (order_of self.now) None asking.old asking.new }
+        ensures ends { Ends F.FnMut (order_of self.now) (bound_map (λ q. Q.compare q.now) upper.entry) asking.old
+            (place_in self.now.root self.now.height result) }
+    {
+        match upper {
+            Bound::Included(query) => self.find_bound(asking, &ByQuery(query), Ordering::Greater),
+            Bound::Excluded(query) => self.find_bound(asking, &ByQuery(query), Ordering::Less),
+            Bound::Unbounded => self.end(true),
+        }
+    }
+
+    // The way to the gap where what is sought would stand, where Equal counts as another answer.
+    fn find_bound<R, F: FnMut(ItemIndex) -> R, H: Reads<R>>(
+        &self,
+        asking: &mut Asking<F>,
+        how: &H,
+        at_equal: Ordering,
+    ) -> Path
+        requires can_search { CanSearch F.FnMut (order_of self.now) None asking.old }
+        requires unequal { at_equal ≢ Equal }
+        ensures goes { GoesIn self.now.root self.now.height result }
+        ensures asked { SearchAsks F.FnMut (order_of self.now) None asking.old asking.new }
+        ensures bound { IsBoundBy F.FnMut (H.reading how.now) at_equal (order_of self.now) asking.old
+            (place_in self.now.root self.now.height result) }
+    {
         let (path, end) = self.descend(asking, &Unequal { how, at_equal }, &None);
         match end {
-            // No answer is read as Equal, so it ends at no index.
-            Ok(_) => self.no_range(),
-            Err(_) => self.range_at(&path),
+            // No answer is read as Equal.
+            Ok(_) => unreachable!(),
+            Err(_) => path,
         }
+    }
+
+    // The way to the last gap, or to the first.
+    fn end(&self, last: bool) -> Path
+        ensures goes { GoesIn self.now.root self.now.height result }
+        ensures gap { place_in self.now.root self.now.height result ≡ edge_of last (length (order_of self.now)) }
+    {
+        let (root, height) = self.tree();
+        Cursor::end(root, height, last).gap()
+    }
+
+    // The indexes from one gap on up to another one, and none where that stands before.
+    fn walk_between(&self, front: &Path, back: &Path) -> Range<'_>
+        requires front { GoesIn self.now.root self.now.height front.now }
+        requires back { GoesIn self.now.root self.now.height back.now }
+        ensures { IsPart (order_of self.now) (place_in self.now.root self.now.height front.now)
+            (place_in self.now.root self.now.height back.now) result }
+    {
+        let (root, height) = self.tree();
+        Range::new(root, height, front, back)
     }
 }

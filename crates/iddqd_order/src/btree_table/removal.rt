@@ -19,6 +19,7 @@ use iddqd::item_index::ItemIndex;
 pub fn take_out(root: &mut Option<Node>, height: usize, path: &Path, level: usize) -> usize
     requires tree { IsTree root.old height }
     requires holds { HoldsIn level root.old height path.now }
+    ensures lower { result ≤ height }
     ensures tree { IsTree root.new result }
     ensures items { in_order root.new result
         ≡ remove (in_order root.old height) (spot_in level root.old height path.now) }
@@ -35,6 +36,7 @@ pub fn take_out(root: &mut Option<Node>, height: usize, path: &Path, level: usiz
 // Lets go of a root without indexes: its only child, if there is one, is the new root.
 pub fn lower(root: &mut Option<Node>, height: usize) -> usize
     requires { IsEmptied root.old height }
+    ensures lower { result ≤ height }
     ensures tree { IsTree root.new result }
     ensures items { in_order root.new result ≡ in_order root.old height }
 {

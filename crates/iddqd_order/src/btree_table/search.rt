@@ -5,7 +5,7 @@
 //! each ask. Four asks search fifteen indexes, and a row has at most eleven: at the left edge what is
 //! left over goes to the first place, so an insert before all others asks once or twice a level: without
 //! that, falling inserts take 1.3 to 1.45 times as long, and others as long as before.
-ghost use Rattle.std.specs.Prelude.{◌≡◌, ◌≢◌, ℕ, ◌+◌, ◌*◌, ◌<◌, ◌≤◌, List, Contains, Some, length};
+ghost use Rattle.std.specs.Prelude.{◌≡◌, ◌≢◌, ℕ, ◌+◌, ◌*◌, ◌<◌, ◌≤◌, List, Contains, Some, None, length};
 ghost use Rattle.std.specs.declared.cmp.Ordering.{Ordering};
 ghost use Rattle.iddqd_order.specs.Asking.{closure_of};
 ghost use Rattle.iddqd_order.specs.Asks.{AsksWithin, Steady};
@@ -32,6 +32,7 @@ pub(super) fn compare<R, F: FnMut(ItemIndex) -> R, H: Reads<R>>(
         Steady F.FnMut (Askable xs tie.now) (H.reading how.now) answer (closure_of asking.old) →
         result ≡ with_ties tie.now answer at }
     ensures itself { result ≡ Ordering.Equal → (ix : ℕ) → tie.now ≡ Some ix → at ≡ ix }
+    ensures unequal { tie.now ≡ None → ((r : R) → H.reading how.now r ≢ Ordering.Equal) → result ≢ Ordering.Equal }
 {
     match *tie {
         None => how.read(asking.ask(at)),

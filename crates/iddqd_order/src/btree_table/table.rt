@@ -1,10 +1,10 @@
 //! The table: a tree of distinct indexes, searched from the root down.
-ghost use Rattle.std.specs.Prelude.{◌≡◌, ◌≢◌, ◌↔◌, ℕ, ◌+◌, ◌-◌, ◌<◌, ◌≤◌, [], length, drop, map, slice_get, slice_index, is_some, IfOk, IsOk, IsSome, Contains, insert, IsTrue, false, Some, None};
+ghost use Rattle.std.specs.Prelude.{◌≡◌, ◌≢◌, ◌↔◌, ℕ, ◌+◌, ◌-◌, ◌<◌, ◌≤◌, [], length, map, slice_get, slice_index, is_some, IfOk, IsOk, IsSome, Contains, insert, IsTrue, false, Some, None};
 ghost use Rattle.std.specs.declared.cmp.Ordering.{Ordering};
 ghost use Rattle.iddqd.specs.Compaction.{CanRemap, remapped};
 ghost use Rattle.iddqd_order.specs.Descent.{EndsIn};
 ghost use Rattle.iddqd_order.specs.MapBTreeTable.{order_of, without, sentinel, IsIndexList, LeadsTo};
-ghost use Rattle.iddqd_order.specs.Tree.{GoesIn, place_in, FullIn, HoldsIn, spot_in, blocks_for};
+ghost use Rattle.iddqd_order.specs.Tree.{IsTree, GoesIn, place_in, FullIn, HoldsIn, spot_in, blocks_for};
 ghost use Rattle.iddqd_order.specs.Search.{CanSearch, SearchAsks, IsSteadyRising, IsPlace, Finds, with_ties};
 
 use crate::btree_table::asking::Asking;
@@ -17,7 +17,6 @@ use crate::btree_table::node::Node;
 use crate::btree_table::path::Path;
 use crate::btree_table::prepared_insert::PreparedBTreeInsert;
 use crate::btree_table::prepared_remove::PreparedBTreeRemove;
-use crate::btree_table::range::Range;
 use crate::btree_table::reading::{AsOrdering, ByKey, ByQuery, Reads};
 use crate::btree_table::removal::take_out;
 use crate::btree_table::renaming::rename_in;
@@ -39,7 +38,7 @@ use std::marker::Model;
 /// A contract sees the list by `order_of`. The closures that order it may answer anything: each
 /// call keeps the list distinct, changes no index but its own, and asks about stored indexes alone,
 /// at most 4 plus twice the number of binary digits of the length. No call but the three prepares of
-/// an insert and `clone` can be refused memory.
+/// an insert, that of a move, and `clone` can be refused memory.
 #[derive(Drop)]
 pub struct MapBTreeTable {
     root: Option<Node>,
@@ -75,7 +74,6 @@ impl MapBTreeTable {
     ghost use Rattle.iddqd_order.specs.PreparedBTreeInsert as prepared_insert;
     ghost use Rattle.iddqd_order.specs.PreparedBTreeRemove.{PreparesRemoval};
     ghost use Rattle.iddqd_order.specs.PreparedBTreeRemove as prepared_remove;
-    ghost use Rattle.iddqd_order.specs.Range.{indexes_ahead};
     ghost use Rattle.iddqd_order.specs.Retain.{Retains};
     ghost use Rattle.iddqd_order.specs.State.{default_hash};
     ghost use Rattle.std.specs.Hash.BuildHasherDefault.{initial_hasher};
@@ -149,11 +147,20 @@ impl MapBTreeTable {
     pub fn contains_index(&self, ix: ItemIndex) -> bool
         ensures { IsTrue result ↔ Contains (order_of self.now) ix }
     {
+        self.locate(ix).is_some()
+    }
+
+    // The way to a stored index, a path and a level, by a walk that asks nothing.
+    pub(super) fn locate(&self, ix: ItemIndex) -> Option<(Path, usize)>
+        ensures there { LeadsTo self.now ix result }
+        ensures found { IsTrue (is_some result) ↔ Contains (order_of self.now) ix }
+    {
         let Some(root) = &self.root else {
-            return false;
+            return None;
         };
         let mut path = Path::new();
-        root.locate(self.height, ix, &mut path).is_some()
+        let level = root.locate(self.height, ix, &mut path)?;
+        Some((path, level))
     }
 
     /// Keeps exactly the indexes at which `f` answers true, in their order.
@@ -308,7 +315,7 @@ impl MapBTreeTable {
     }
 
     // Where an index goes that is not stored: the way, and how many nodes at its lower end are full.
-    fn find_gap<R, F: FnMut(ItemIndex) -> R, H: Reads<R>>(
+    pub(super) fn find_gap<R, F: FnMut(ItemIndex) -> R, H: Reads<R>>(
         &self,
         ix: ItemIndex,
         asking: &mut Asking<F>,
@@ -318,7 +325,7 @@ impl MapBTreeTable {
         requires can_ask { CanSearch F.FnMut (order_of self.now) (Some ix) asking.old }
         ensures goes { GoesIn self.now.root self.now.height result.0 }
         ensures full { FullIn result.1 self.now.root self.now.height result.0 }
-        ensures levels { result.1 ≤ 12 }
+        ensures levels { (result.1 ≤ self.now.height + 1) × (result.1 ≤ 12) }
         ensures within { place_in self.now.root self.now.height result.0 ≤ length (order_of self.now) }
         ensures asked { SearchAsks F.FnMut (order_of self.now) (Some ix) asking.old asking.new }
         ensures place { (answer : ℕ → Ordering) →
@@ -349,6 +356,14 @@ impl MapBTreeTable {
         };
         let end = root.descend(self.height, asking, how, tie, &mut path);
         (path, end)
+    }
+
+    // The memory that any insert into a tree of this height can need.
+    pub(super) fn take_most_blocks(&self) -> Result<Blocks, AllocError>
+        ensures blocks { IfOk result (λ blocks. blocks ≡ self.now.height + 1) }
+        ensures few { self.now.height ≤ 11 }
+    {
+        Blocks::new(self.height + 1, self.alloc)
     }
 
     // The memory of an insert through so many full nodes.
@@ -422,7 +437,7 @@ impl MapBTreeTable {
     }
 
     // The way to a stored index, if the search meets it: a path and a level.
-    fn find_way<R, F: FnMut(ItemIndex) -> R, H: Reads<R>>(
+    pub(super) fn find_way<R, F: FnMut(ItemIndex) -> R, H: Reads<R>>(
         &self,
         ix: ItemIndex,
         asking: &mut Asking<F>,
@@ -450,7 +465,7 @@ impl MapBTreeTable {
     }
 
     // A law for proofs, which does nothing when it runs: `SENTINEL` is not stored.
-    fn stores_no_sentinel(&self)
+    pub(super) fn stores_no_sentinel(&self)
         ensures { Contains (order_of self.now) sentinel → ⊥ }
     {
         let _root = &self.root;
@@ -461,11 +476,16 @@ impl MapBTreeTable {
     pub fn remove_exact(&mut self, ix: ItemIndex)
         ensures { order_of self.new ≡ without (order_of self.old) ix }
     {
-        let Some(root) = &self.root else { return };
-        let mut path = Path::new();
-        if let Some(level) = root.locate(self.height, ix, &mut path) {
-            self.remove_at(ix, &path, level);
-        }
+        self.remove_by_walk(ix)
+    }
+
+    // Removes `ix`, if it is stored, by a walk along the list.
+    pub(super) fn remove_by_walk(&mut self, ix: ItemIndex)
+        ensures removed { order_of self.new ≡ without (order_of self.old) ix }
+        ensures lower { self.new.height ≤ self.old.height }
+    {
+        let way = self.locate(ix);
+        self.remove_found(ix, &way);
     }
 
     /// Gives each index its new name in its place, in one walk, or in none where all names stay. It
@@ -505,26 +525,20 @@ impl MapBTreeTable {
         root.index_on(self.height, path, level)
     }
 
-    // The indexes from the place on to which the path goes.
-    pub(super) fn range_at(&self, path: &Path) -> Range<'_>
-        requires { GoesIn self.now.root self.now.height path.now }
-        ensures { indexes_ahead result ≡ drop (place_in self.now.root self.now.height path.now) (order_of self.now) }
+    // The root of the tree, and the levels above its leaves.
+    pub(super) fn tree(&self) -> (&Option<Node>, usize)
+        ensures root { result.0.now ≡ self.now.root }
+        ensures height { result.1 ≡ self.now.height }
+        ensures tree { IsTree self.now.root self.now.height }
     {
-        Range::new(&self.root, self.height, path)
-    }
-
-    // None of the indexes.
-    pub(super) fn no_range(&self) -> Range<'_>
-        ensures { indexes_ahead result ≡ [] }
-    {
-        Range::none(&self.root, self.height)
+        (&self.root, self.height)
     }
 
     // Adds `ix` where the path goes, through so many full nodes at its lower end.
     pub(super) fn insert_at(&mut self, path: &Path, full: usize, ix: ItemIndex, blocks: Blocks)
         requires goes { GoesIn self.old.root self.old.height path.now }
         requires full { FullIn full self.old.root self.old.height path.now }
-        requires as_many { blocks ≡ blocks_for self.old.height full }
+        requires enough { blocks_for self.old.height full ≤ blocks }
         requires absent { Contains (order_of self.old) ix → ⊥ }
         requires assigned { ix ≢ sentinel }
         ensures { order_of self.new ≡ insert (order_of self.old) (place_in self.old.root self.old.height path.now) ix }
@@ -542,6 +556,7 @@ impl MapBTreeTable {
         ensures found { result ≡ is_some way.now }
         ensures removed { IsTrue result → order_of self.new ≡ without (order_of self.old) ix }
         ensures kept { result ≡ false → self.new ≡ self.old }
+        ensures lower { self.new.height ≤ self.old.height }
     {
         match way {
             Some((path, level)) => {
@@ -555,7 +570,8 @@ impl MapBTreeTable {
     // Removes `ix`, to which the path goes at the level.
     pub(super) fn remove_at(&mut self, ix: ItemIndex, path: &Path, level: usize)
         requires { LeadsTo self.old ix (Some (path.now, level)) }
-        ensures { order_of self.new ≡ without (order_of self.old) ix }
+        ensures removed { order_of self.new ≡ without (order_of self.old) ix }
+        ensures lower { self.new.height ≤ self.old.height }
     {
         self.height = take_out(&mut self.root, self.height, path, level);
         self.len -= 1;

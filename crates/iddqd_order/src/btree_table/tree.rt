@@ -27,7 +27,7 @@ pub fn put_in(
     requires goes { GoesIn root.old height path.now }
     requires full { FullIn full root.old height path.now }
     requires fits { length (in_order root.old height) < 4294967296 }
-    requires as_many { blocks ≡ blocks_for height full }
+    requires enough { blocks_for height full ≤ blocks }
     ensures tree { IsTree root.new result }
     ensures items { in_order root.new result
         ≡ insert (in_order root.old height) (place_in root.old height path.now) ix }
@@ -69,7 +69,7 @@ fn put_and_cut(
     requires full { IsFullBelow full height node.old path.now }
     requires root { 1 ≤ length (row node.old) }
     requires fits { length (flat height node.old) < 4294967296 }
-    requires as_many { blocks.old ≡ blocks_for height full }
+    requires enough { blocks_for height full ≤ blocks.old }
     ensures low { result ≤ 11 }
     ensures formed { IsFormed result node.new }
     ensures root { 1 ≤ length (row node.new) }

@@ -1,6 +1,7 @@
-//! Inserts of which some are let go and some are refused memory, at each length up to 300.
+//! Inserts and moves of which some are let go and some are refused memory, at each length up to 300.
 //!
 //! With ample memory each insert is done. Run by `tools/refused-memory` they show what a refusal leaves.
+use super::moves::{move_to, stands_at};
 use super::{insert_by, is_stored};
 use iddqd::item_index::ItemIndex;
 use iddqd_order::btree_table::{Asking, MapBTreeTable};
@@ -50,4 +51,46 @@ fn goes_on(rt: &impl Abort, table: &mut MapBTreeTable) {
 #[test]
 fn an_insert_that_is_refused_or_let_go_changes_no_length(rt: HostRuntime) {
     goes_on(&rt, &mut MapBTreeTable::new(rt.alloc()));
+}
+
+// Adds the numbers below 300, whether or not memory is refused once, and tells how many there are.
+fn grow(rt: &impl Abort, table: &mut MapBTreeTable) -> u32 {
+    let mut count = 0;
+    for _ in 0..300 {
+        count = add_next(rt, table, count);
+    }
+    count
+}
+
+// Prepares the move of an index and lets it go, whether or not memory is refused.
+fn let_move_go(rt: &impl Abort, table: &mut MapBTreeTable, moved: u32) {
+    let ix = ItemIndex::new(moved);
+    assert!(rt; table.contains_index(ix));
+    let _prepared = table.prepare_move(ix);
+}
+
+// Moves each index to the front and back, and looks at the contents where memory is refused.
+fn moves_on(rt: &impl Abort, table: &mut MapBTreeTable, count: u32) {
+    for moved in 0..count {
+        let_move_go(rt, table, moved);
+        assert!(rt; holds(table, count));
+        match move_to(rt, table, moved, moved, 0) {
+            Ok(()) => {
+                assert!(rt; stands_at(table, count, moved, 0));
+                if let Err(AllocError) = move_to(rt, table, moved, 0, moved) {
+                    assert!(rt; stands_at(table, count, moved, 0));
+                    assert!(rt; move_to(rt, table, moved, 0, moved).is_ok());
+                }
+            }
+            Err(AllocError) => assert!(rt; holds(table, count)),
+        }
+    }
+    assert!(rt; count >= 299 && holds(table, count));
+}
+
+#[test]
+fn a_move_that_is_refused_or_let_go_moves_nothing(rt: HostRuntime) {
+    let mut table = MapBTreeTable::new(rt.alloc());
+    let count = grow(&rt, &mut table);
+    moves_on(&rt, &mut table, count);
 }

@@ -57,6 +57,7 @@ returns-in-Equal g c =
       itself = λ ix same. m.0 ∙ c.in-Equal.ensures.itself refl ix same;
       hit = λ answer s. ap (with_ties c.args.tie.now answer) m.0 ∙ sym (c.in-Equal.ensures.steady _ answer m.1 (Steady-later g.F.FnMut _ asked.2.after s));
       place = λ answer s. tt;
+      unequal = λ none never. absurd (c.in-Equal.ensures.unequal none never refl);
     }
 
 pub returns : goal.returns
@@ -69,6 +70,7 @@ returns g c =
       itself = tt;
       hit = λ answer s. tt;
       place = λ answer s. IsPlace-from_split (omega arith) (omega arith) c.loop-low.invariant.within (c.loop-low.invariant.split answer s);
+      unequal = λ none never. refl;
     }
 
 pub compare-requires : goal.compare-requires

@@ -2,8 +2,8 @@ use Rattle.std.proofs.Common.{arith}
 use Rattle.iddqd_order.proofs.CursorLemmas.{IsAt-whole, IsGap-few, IsLow-from}
 use Rattle.iddqd_order.proofs.btree_table.cursor.Cursor.leave.Goals as goal
 
-pub set-requires-clause-place : goal.set-requires-clause-place
-set-requires-clause-place c =
+pub gap-path-requires : goal.gap-path-requires
+gap-path-requires c =
     let few = IsGap-few _ _ c.in-Some.node _ _ c.in-Some.is c.requires.tree c.requires.gap in omega arith
 
 pub returns-then-not-ahead-clause-stands : goal.returns-then-not-ahead-clause-stands

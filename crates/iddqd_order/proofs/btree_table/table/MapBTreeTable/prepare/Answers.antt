@@ -12,6 +12,6 @@ returns g c =
         unchanged = tt;
         same_reference = refl;
         asked = gap.asked;
-        prepared = record { table = refl; index = refl; within = gap.within; few_blocks = rw c.in_ok-blocks.ensures (few_blocks _ _ gap.levels); place = gap.place };
+        prepared = record { table = refl; index = refl; within = gap.within; few_blocks = rw c.in_ok-blocks.ensures (few_blocks _ _ gap.levels.1); place = gap.place };
       },
     )

@@ -14,8 +14,8 @@ invariant_of-self c =
     let way = rw (← c.self.view_is) at c.requires in let taken = c.take_out-self-inside.ensures in
     (shorter _ _ _ _ _ _ _ _ c.self.invariant way.0 way.1 taken.tree taken.items).table
 
-pub returns : goal.returns
+pub returns-clause-removed : goal.returns-clause-removed
 unfolding order_of
-returns c =
+returns-clause-removed c =
     let way = rw (← c.self.view_is) at c.requires in let taken = c.take_out-self-inside.ensures in
     rw (← c.self.view_is) (shorter _ _ _ _ _ _ _ _ c.self.invariant way.0 way.1 taken.tree taken.items).items

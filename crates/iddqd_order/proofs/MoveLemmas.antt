@@ -1,0 +1,59 @@
+-- An index that is taken out of a list and put in again: what may be asked in between, and what was.
+use Rattle.iddqd_order.proofs.Names.{◌≡◌, ◌*◌, ◌≤◌, ◌==◌, ℕ, Bool, true, false, not, List, length, refl, sym, ◌∙◌, arith, IsTrue, is_some, ◌↔◌, Option, Some, Contains, Ordering, Mut, Asking, AsksWithin, Askable, CanSearch, bound, without, order_of, Order}
+use Rattle.std.proofs.lemmas.List.Filters.{length-filter_both}
+use Rattle.iddqd_order.specs.PreparedBTreeMove.{PutsIn}
+use Rattle.iddqd_order.specs.Search.{SearchAsks}
+use Rattle.iddqd_order.proofs.AskLemmas.{After-wider, CanAsk-fewer, CanAsk-later, Steady-later, asks_more, asks_then, asks_wider}
+use Rattle.iddqd_order.proofs.DigitLemmas.{digits-mono}
+use Rattle.iddqd_order.proofs.IndexListLemmas.{without-missing}
+use Rattle.iddqd_order.proofs.MemberLemmas.{contains-without, contains-from_without}
+
+pub absent-without : (xs : List ℕ) (ix : ℕ) → Contains (without xs ix) ix → ⊥
+absent-without xs ix held = (contains-from_without xs ix ix held).1 refl
+
+-- a removal by a way that there is exactly where the index is stored
+pub removed-anyway : {W : Type 0} (found : Bool) (way : Option W) (old new : Order) (ix : ℕ) → found ≡ is_some way → IsTrue (is_some way) ↔ Contains (order_of old) ix
+    → (IsTrue found → order_of new ≡ without (order_of old) ix) → (found ≡ false → new ≡ old) → order_of new ≡ without (order_of old) ix
+removed-anyway true way old new ix e there removed kept = removed refl
+removed-anyway false way old new ix e there removed kept =
+    (λ i. order_of (kept refl i)) ∙ sym (without-missing (order_of old) ix (λ held. let t = e ∙ there.1 held in absurd (cc)))
+
+opposite : (b : Bool) → b ≡ not (not b)
+opposite true = refl
+opposite false = refl
+
+fewer : (xs : List ℕ) (ix : ℕ) → bound (length (without xs ix)) ≤ bound (length xs)
+fewer xs ix =
+    let both = length-filter_both (λ (j : ℕ). not (j == ix)) (λ j. j == ix) (λ j. opposite (j == ix)) xs in
+    let less = digits-mono (length (without xs ix)) (length xs) (omega arith) in
+    omega arith
+
+module _ {F R : Type 0} (g : Mut F (ℕ × Unit {0}) R) (xs : List ℕ) (ix : ℕ) where
+  abbrev among : ℕ → Type 0
+  among = Askable xs (Some ix)
+
+  abbrev others : ℕ → Type 0
+  others = Askable (without xs ix) (Some ix)
+
+  wider : (j : ℕ) → others j → among j
+  wider j h = ((contains-from_without xs ix j h.0).0, h.1)
+
+  narrower : (j : ℕ) → among j → others j
+  narrower j h = (contains-without xs ix j h.0 h.1, h.1)
+
+  pub can-enter : (a : Asking F) → CanSearch g xs (Some ix) a → CanSearch g (without xs ix) (Some ix) a
+  can-enter a can = CanAsk-fewer g others among wider can
+
+  pub can-enter_then : (a b : Asking F) → SearchAsks g xs (Some ix) a b → CanSearch g xs (Some ix) a → CanSearch g (without xs ix) (Some ix) b
+  can-enter_then a b asked can = CanAsk-fewer g others among wider (CanAsk-later g among asked.after can)
+
+  pub asked-both : {a b c : Asking F} → SearchAsks g xs (Some ix) a b → SearchAsks g (without xs ix) (Some ix) b c → AsksWithin g among (2 * bound (length xs)) a c
+  asked-both left entered = let less = fewer xs ix in asks_more g among (omega arith) (asks_then g among left (asks_wider g others among wider entered))
+
+  pub puts-then : {read : R → Ordering} {a b : Asking F} {ys : List ℕ} → SearchAsks g xs (Some ix) a b → PutsIn g read (without xs ix) ix b ys → PutsIn g read (without xs ix) ix a ys
+  puts-then asked puts = record {
+    place = puts.place;
+    within = puts.within;
+    inserted = puts.inserted;
+    bound = λ answer rises. puts.bound answer (record { steady = Steady-later g others (After-wider g among others narrower asked.after) rises.steady; rising = rises.rising });
+  }

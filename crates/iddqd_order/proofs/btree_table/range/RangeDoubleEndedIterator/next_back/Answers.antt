@@ -1,0 +1,16 @@
+use Rattle.iddqd_order.specs.Range.{indexes_ahead}
+use Rattle.iddqd_order.proofs.RangeLemmas.{part-back}
+use Rattle.iddqd_order.proofs.TreeLemmas.{place_in-within}
+use Rattle.iddqd_order.proofs.btree_table.range.RangeDoubleEndedIterator.next_back.Goals as goal
+
+pub invariant_of-self : goal.invariant_of-self
+unfolding indexes_ahead
+invariant_of-self c =
+    let i = c.self.invariant in
+    (i.0, i.1, c.next_back.ensures.stands, (part-back _ _ _ _ _ _ (rw (← c.self.view_is) at c.has_ended.ensures) c.if-has_ended.false i.3 (place_in-within _ _ _ i.0 i.2.at.gap.goes) c.next_back.ensures.next).0)
+
+pub returns-clause-steps : goal.returns-clause-steps
+unfolding indexes_ahead
+returns-clause-steps c =
+    let i = c.self.invariant in
+    rw (← c.self.view_is) (part-back _ _ _ _ _ _ (rw (← c.self.view_is) at c.has_ended.ensures) c.if-has_ended.false i.3 (place_in-within _ _ _ i.0 i.2.at.gap.goes) c.next_back.ensures.next).1

@@ -1,0 +1,46 @@
+-- What a contract sees of a `PreparedBTreeMove`.
+use Rattle.std.specs.Prelude.{◌≡◌, ◌≤◌, ℕ, List, Some, Result, length, insert}
+use Rattle.std.specs.Borrow.{RestsIfErr, Fml, MutBor}
+use Rattle.std.specs.Fn.{Mut}
+use Rattle.std.specs.declared.cmp.Ordering.{Ordering}
+use Rattle.iddqd_order.specs.MapBTreeTable.{Order, order_of}
+use Rattle.iddqd_order.specs.Search.{IsSteadyRising, IsPlace, with_ties}
+use Rattle.iddqd_order.specs.contracts.btree_table.blocks.BlocksHoldsBlocks.TheImpl.{ghosts}
+use Rattle.iddqd_order.specs.contracts.btree_table.table.MapBTreeTable.{the_row}
+use Rattle.iddqd_order.specs.declared.btree_table.asking.Asking.{Asking}
+use Rattle.iddqd_order.specs.declared.btree_table.prepared_move.PreparedBTreeMove.{PreparedBTreeMove}
+
+-- a prepared move with its blocks, which a contract sees as their number
+abbrev pub PreparedMove : Type 0
+PreparedMove = PreparedBTreeMove ℕ ghosts
+
+-- the table in which it moves
+abbrev pub table_of : PreparedMove → MutBor Order
+table_of p = p.table
+
+-- the index that it moves
+unfoldable pub index_of : PreparedMove → ℕ
+index_of p = p.ix
+
+-- how many blocks of memory it holds, each for the children of one node
+unfoldable pub blocks_of : PreparedMove → ℕ
+blocks_of p = p.blocks
+
+-- where memory was refused, the table has the indexes that it had
+abbrev pub rests_if_refused : {E : Type 0} → MutBor Order → Result PreparedMove E → Fml
+rests_if_refused t r = RestsIfErr the_row t (λ p. p.table.ghost_name) r (λ n. order_of n ≡ order_of t.now)
+
+-- a move of ix among the indexes xs is prepared, and nothing is moved yet
+pub record PreparesMove (xs : List ℕ) (ix : ℕ) (p : PreparedMove) : Type 0 where
+  pub table : order_of (table_of p).now ≡ xs
+  pub index : index_of p ≡ ix
+  pub few_blocks : blocks_of p ≤ 12
+
+-- ix is put in among the indexes xs, by answers that are so read: where Greater ends, if they rise
+module _ {F R : Type 0} (g : Mut F (ℕ × Unit {0}) R) (read : R → Ordering) (xs : List ℕ) (ix : ℕ) where
+  pub record PutsIn (old : Asking F) (new_xs : List ℕ) : Type 0 where
+    pub place : ℕ
+    pub within : place ≤ length xs
+    pub inserted : new_xs ≡ insert xs place ix
+    pub bound : (answer : ℕ → Ordering) → IsSteadyRising g xs (Some ix) read answer old →
+        IsPlace (with_ties (Some ix) answer) xs place

@@ -1,0 +1,162 @@
+//! A move of a stored index whose memory is taken.
+//!
+//! Both searches come at the commit: in between a caller can change what its closures read, such as the
+//! item at the index. So the prepare takes as many blocks as any insert into a tree of that height can
+//! need, one for each inner node and one for a new root.
+ghost use Rattle.std.specs.Prelude.{true, ◌≡◌, ◌≢◌, ◌+◌, ◌*◌, ◌<◌, ◌≤◌, Some, IfOk, Contains, length};
+ghost use Rattle.iddqd_order.specs.Asks.{AsksWithin};
+ghost use Rattle.iddqd_order.specs.Digits.{bound};
+ghost use Rattle.iddqd_order.specs.MapBTreeTable.{order_of, sentinel, without};
+ghost use Rattle.iddqd_order.specs.Search.{Askable, CanSearch, SearchAsks};
+
+use crate::btree_table::asking::Asking;
+use crate::btree_table::blocks::{Blocks, HoldsBlocks};
+use crate::btree_table::reading::{AsOrdering, ByKey, Reads};
+use crate::btree_table::table::MapBTreeTable;
+use iddqd::item_index::ItemIndex;
+use std::alloc::AllocError;
+use std::cmp::Ordering;
+
+/// A move that cannot fail and takes no memory. Let go, it leaves the table as it was, and gives back its
+/// memory.
+#[must_use]
+pub struct PreparedBTreeMove<'a, B: HoldsBlocks = Blocks> {
+    table: &'a mut MapBTreeTable,
+    ix: ItemIndex,
+    blocks: B,
+    ghost enough: { table.now.height < B.count blocks },
+    ghost assigned: { ix ≢ sentinel },
+}
+
+#[tactic(auto, unfolding(crate::specs::MapBTreeTable::order_of))]
+impl MapBTreeTable {
+    ghost use Rattle.std.specs.Borrow.{sem};
+    ghost use Rattle.iddqd_order.specs.PreparedBTreeMove.{rests_if_refused, PreparesMove, PutsIn};
+    ghost use Rattle.iddqd_order.specs.PreparedBTreeMove as prepared_move;
+
+    /// Takes the memory of a move of a stored index to any place. It asks nothing.
+    ///
+    /// It answers `AllocError` where memory was refused; the contents then stay.
+    pub fn prepare_move(&mut self, ix: ItemIndex) -> Result<PreparedBTreeMove<'_>, AllocError>
+        requires { Contains (order_of self.old) ix }
+        ensures* unchanged { sem 𝓛 (rests_if_refused self.entry result) }
+        ensures same_reference { IfOk result (λ p. (prepared_move.table_of p).ghost_name ≡ self.entry.ghost_name) }
+        ensures prepared { IfOk result (PreparesMove (order_of self.old) ix) }
+    {
+        self.stores_no_sentinel();
+        let blocks = self.take_most_blocks()?;
+        Ok(PreparedBTreeMove {
+            table: self,
+            ix,
+            blocks,
+        })
+    }
+
+    // Takes an index out: where the search misses it, by a walk.
+    fn leave<R, F: FnMut(ItemIndex) -> R, H: Reads<R>>(
+        &mut self,
+        ix: ItemIndex,
+        asking: &mut Asking<F>,
+        how: &H,
+    )
+        requires { CanSearch F.FnMut (order_of self.old) (Some ix) asking.old }
+        ensures left { order_of self.new ≡ without (order_of self.old) ix }
+        ensures lower { self.new.height ≤ self.old.height }
+        ensures asked { SearchAsks F.FnMut (order_of self.old) (Some ix) asking.old asking.new }
+    {
+        let way = self.find_way(ix, asking, how);
+        if !self.remove_found(ix, &way) {
+            self.remove_by_walk(ix);
+        }
+    }
+
+    // Puts an index that was taken out where a search ends.
+    fn enter_anew<R, F: FnMut(ItemIndex) -> R, H: Reads<R>>(
+        &mut self,
+        ix: ItemIndex,
+        asking: &mut Asking<F>,
+        how: &H,
+        blocks: Blocks,
+    )
+        requires assigned { ix ≢ sentinel }
+        requires absent { Contains (order_of self.old) ix → ⊥ }
+        requires can_ask { CanSearch F.FnMut (order_of self.old) (Some ix) asking.old }
+        requires enough { self.old.height < blocks }
+        ensures asked { SearchAsks F.FnMut (order_of self.old) (Some ix) asking.old asking.new }
+        ensures entered { PutsIn F.FnMut (H.reading how.now) (order_of self.old) ix asking.old (order_of self.new) }
+    {
+        let (path, full) = self.find_gap(ix, asking, how);
+        self.insert_at(&path, full, ix, blocks);
+    }
+}
+
+impl<'a> PreparedBTreeMove<'a> {
+    ghost use Rattle.iddqd_order.specs.PreparedBTreeMove.{table_of, index_of, PutsIn};
+
+    /// Takes the index out, puts it where `entering` leads, and hands the table back. The others keep
+    /// their order. Equal answers are ordered by the indexes.
+    ///
+    /// `leaving` leads to the old place, and `entering` to the new one among the others. Neither is asked
+    /// about the index itself, each at most `4 + 2 * digits(len)` times. Where `leaving` leads past the
+    /// index, a walk that asks nothing finds it.
+    #[tactic(auto, unfolding(crate::specs::PreparedBTreeMove::index_of))]
+    pub fn commit_by<F: FnMut(ItemIndex) -> Ordering, G: FnMut(ItemIndex) -> Ordering>(
+        self,
+        leaving: &mut Asking<F>,
+        entering: &mut Asking<G>,
+    ) -> &'a mut MapBTreeTable
+        requires leaving { CanSearch F.FnMut (order_of (table_of self).now) (Some (index_of self)) leaving.old }
+        requires entering { CanSearch G.FnMut (order_of (table_of self).now) (Some (index_of self)) entering.old }
+        ensures same_reference { result.ghost_name ≡ (table_of self.entry).ghost_name }
+        ensures left { SearchAsks F.FnMut (order_of (table_of self.entry).now) (Some (index_of self.entry))
+            leaving.old leaving.new }
+        ensures entered { SearchAsks G.FnMut (without (order_of (table_of self.entry).now) (index_of self.entry))
+            (Some (index_of self.entry)) entering.old entering.new }
+        ensures moved { PutsIn G.FnMut (λ r. r) (without (order_of (table_of self.entry).now) (index_of self.entry))
+            (index_of self.entry) entering.old (order_of result.now) }
+    {
+        let PreparedBTreeMove { table, ix, blocks } = self;
+        table.leave(ix, leaving, &AsOrdering);
+        table.enter_anew(ix, entering, &AsOrdering, blocks);
+        table
+    }
+
+    /// Takes the index out, puts it where its new key belongs, and hands the table back. The others keep
+    /// their order. Equal keys are ordered by the indexes.
+    ///
+    /// The asking answers the keys of the others, and isn't asked about the index itself. It is asked at
+    /// most `4 + 2 * digits(len)` times for each key. Where the old key leads past the index, a walk that
+    /// asks nothing finds it.
+    #[tactic(auto, unfolding(crate::specs::PreparedBTreeMove::index_of))]
+    pub fn commit<K: Ord + Drop, F: FnMut(ItemIndex) -> K>(
+        self,
+        old_key: &K,
+        new_key: &K,
+        asking: &mut Asking<F>,
+    ) -> &'a mut MapBTreeTable
+        requires { CanSearch F.FnMut (order_of (table_of self).now) (Some (index_of self)) asking.old }
+        ensures same_reference { result.ghost_name ≡ (table_of self.entry).ghost_name }
+        ensures asked { AsksWithin F.FnMut (Askable (order_of (table_of self.entry).now) (Some (index_of self.entry)))
+            (2 * bound (length (order_of (table_of self.entry).now))) asking.old asking.new }
+        ensures moved { PutsIn F.FnMut (K.cmp new_key.now)
+            (without (order_of (table_of self.entry).now) (index_of self.entry)) (index_of self.entry)
+            asking.old (order_of result.now) }
+    {
+        let PreparedBTreeMove { table, ix, blocks } = self;
+        table.leave(ix, asking, &ByKey(old_key));
+        table.enter_anew(ix, asking, &ByKey(new_key), blocks);
+        table
+    }
+}
+
+impl<B: HoldsBlocks> Drop for PreparedBTreeMove<'_, B> {
+    fn drop(self)
+        ensures { self.exit.0.now ≡ self.entry.table.now }
+    {
+        let PreparedBTreeMove {
+            table: _,
+            ix: _,
+            blocks: _,
+        } = self;
+    }
+}
