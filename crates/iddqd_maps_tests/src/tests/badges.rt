@@ -20,7 +20,7 @@ impl IdHashItem for Badge {
 }
 
 /// The badge with that number and seat.
-pub(super) fn badge(number: u32, seat: u32) -> Badge {
+pub(super) fn numbered(number: u32, seat: u32) -> Badge {
     Badge { number, seat }
 }
 

@@ -1,5 +1,5 @@
 //! A map with one key beside a plain list of slots.
-use super::badges::{Badge, badge};
+use super::badges::{Badge, numbered};
 use iddqd::hash_builder::DefaultHashBuilder;
 use iddqd::item_index::ItemIndex;
 use iddqd_maps::id_hash_map::IdHashMap;
@@ -146,7 +146,7 @@ fn answers_alike(
 ) -> Result<bool, AllocError> {
     let kind = numbers.below(10);
     let (number, seat) = (numbers.below(range), numbers.below(1000));
-    let item = badge(numbers.below(range), seat);
+    let item = numbered(numbers.below(range), seat);
     match kind {
         0..=2 => inserts_alike(map, model, item),
         3 => overwrites_alike(map, model, item),
@@ -173,7 +173,11 @@ fn assert_alike(
 
 #[test]
 fn calls_answer_as_a_list_of_slots(rt: HostRuntime) -> Result<(), Fail> {
-    for (limit, range, calls) in [(u32::MAX, 12, 20_000), (u32::MAX, 60, 20_000), (5, 8, 4_000)] {
+    for (limit, range, calls) in [
+        (u32::MAX, 12, 20_000),
+        (u32::MAX, 60, 20_000),
+        (5, 8, 4_000),
+    ] {
         let mut map = IdHashMap::with_limit(rt.alloc(), DefaultHashBuilder::default(), limit);
         let mut model = Model::new(rt.alloc(), limit);
         assert_alike(&rt, &mut map, &mut model, range, calls)?;

@@ -20,7 +20,7 @@ impl IdHashItem for User {
     }
 }
 
-fn user(alloc: Global, name: &str) -> Result<User, AllocError> {
+fn named(alloc: Global, name: &str) -> Result<User, AllocError> {
     let name = String::from_str(alloc, name)?;
     Ok(User { name, logins: 0 })
 }
@@ -38,11 +38,11 @@ fn assert_users(
     alloc: Global,
     users: &mut IdHashMap<User>,
 ) -> Result<(), AllocError> {
-    assert!(rt; users.insert_unique(user(alloc, "ada")?).is_ok());
-    assert!(rt; users.insert_unique(user(alloc, "bo")?).is_ok());
-    assert!(rt; users.insert_unique(user(alloc, "ada")?).is_err());
+    assert!(rt; users.insert_unique(named(alloc, "ada")?).is_ok());
+    assert!(rt; users.insert_unique(named(alloc, "bo")?).is_ok());
+    assert!(rt; users.insert_unique(named(alloc, "ada")?).is_err());
     assert!(rt; logins(users, "ada") == Some(0) && logins(users, "a").is_none());
-    let mut renamed = user(alloc, "cy")?;
+    let mut renamed = named(alloc, "cy")?;
     renamed.logins = 7;
     assert!(rt; users.replace("bo", renamed).is_ok());
     assert!(rt; logins(users, "cy") == Some(7) && logins(users, "bo").is_none());
