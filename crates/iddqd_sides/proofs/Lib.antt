@@ -6,3 +6,4 @@ pub mod OrderedFindLemmas
 pub mod OrderedHoldsLemmas
 pub mod OrderedPlaceLemmas
 pub mod IndexingLemmas
+pub mod OrderedEndLemmas

@@ -1,5 +1,5 @@
 -- For callers: a list of indexes has exactly the live ones of a store, each once, after each step of both.
-use Rattle.std.proofs.Common.{◌≡◌, ◌≢◌, inl, inr, ◌↔◌, ℕ, List, [], map, insert, Some, None, sym, ap, subst}
+use Rattle.std.proofs.Common.{◌≡◌, ◌≢◌, inl, inr, ◌↔◌, ℕ, List, [], map, insert, Some, sym, subst}
 use Rattle.std.specs.List.{Contains, IsDistinct}
 use Rattle.std.proofs.lemmas.Bool.{cases_eq}
 use Rattle.iddqd.specs.Store.{Store, IsValid, empty_within, cleared, get, next_index, inserted, removed, rebound}

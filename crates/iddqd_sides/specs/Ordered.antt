@@ -1,10 +1,10 @@
 -- What a table of indexes in an order means for one key of a store's items. Its list has the indexes in their order.
-use Rattle.std.specs.Prelude.{◌≡◌, ◌≤◌, ℕ, Bool, List, length, insert, nat_eq, Option, Some, None}
+use Rattle.std.specs.Prelude.{◌≡◌, ◌≢◌, ◌≤◌, ℕ, Bool, List, length, insert, nat_eq, Option, Some, None}
 use Rattle.std.specs.List.{Contains, IsDistinct}
 use Rattle.std.specs.Option.{option_map, option_cmp}
 use Rattle.std.specs.Ordering.{is_eq, eq_by_cmp}
 use Rattle.std.specs.declared.cmp.Ordering.{Ordering}
-use Rattle.std.specs.declared.cmp.Ordering.TheVariants.{Greater}
+use Rattle.std.specs.declared.cmp.Ordering.TheVariants.{Less, Greater}
 use Rattle.iddqd.specs.Store.{Store, get, next_index, inserted}
 use Rattle.iddqd_order.specs.Entry.{entry_index, vacant_place}
 use Rattle.iddqd_order.specs.KeyOrder.{IsInKeyOrder}
@@ -75,6 +75,18 @@ module _ {T K : Type 0} (key_of : T → K) where
     abbrev pub LooksUp : Store T → List ℕ → (K → Ordering) → Option ℕ → Type 0
     LooksUp s order comparing result =
         LooksUpOver (Finds s order comparing result) (IsExact s order) s (passes_by key_of (is_equal comparing)) result
+
+    -- the index is live, and no live index has an item with a lesser key
+    abbrev pub HasLeastKey : Store T → ℕ → Type 0
+    HasLeastKey s ix =
+        (item : T) × (get s ix ≡ Some item)
+        × ((j : ℕ) (other : T) → get s j ≡ Some other → compare (key_of other) (key_of item) ≢ Less)
+
+    -- the index is live, and no live index has an item with a greater key
+    abbrev pub HasGreatestKey : Store T → ℕ → Type 0
+    HasGreatestKey s ix =
+        (item : T) × (get s ix ≡ Some item)
+        × ((j : ℕ) (other : T) → get s j ≡ Some other → compare (key_of other) (key_of item) ≢ Greater)
 
     -- A look-up by a query missed, and this is where the list has room for an index whose key the query stands for:
     -- where the list is in place, behind all that the query is greater than.
