@@ -15,7 +15,7 @@ ghost use Rattle.std.specs.Prelude.{◌≡◌, ◌↔◌, [], None, IsSome, IsOk
 ghost use Rattle.std.specs.FinMap as finite;
 ghost use Rattle.iddqd.specs.{get, live_count, next_index, inserted, removed, IsFull, IsValid, IsRemapOf};
 ghost use Rattle.iddqd_hash.specs.{filed};
-ghost use Rattle.iddqd_order.specs.{indexes_left, order_of};
+ghost use Rattle.iddqd_order.specs.{indexes_left, order_of, without};
 ghost use Rattle.iddqd_sides.specs.Scan.{IsLive};
 ghost use Rattle.iddqd_sides.specs.Ordered as ordered_side;
 ghost use Rattle.iddqd_keyed.specs.Keys.{keys_of};
@@ -238,8 +238,7 @@ impl<T: KeyedItem, S: BuildHasher> KeyedItems<T, S> {
         let item = self.items.get(ix)?;
         let hash = hashed::hash_of::<T, First, S>(&self.state, item);
         hashed::take_index(&mut self.filed, hash, ix);
-        ordered::take_index::<T, Second>(&mut self.order, &self.items, ix);
-        Some(take_item(&mut self.items, ix))
+        Some(remove_item(&mut self.order, &mut self.items, ix))
     }
 
     /// Removes the item with this first key. It takes no memory.
@@ -250,8 +249,7 @@ impl<T: KeyedItem, S: BuildHasher> KeyedItems<T, S> {
         let hash = self.filed.compute_hash(&self.state, key);
         let (filed, query) = (&mut self.filed, ByKey(key));
         let ix = hashed::take::<T, First, ByKey<T::Key1>>(filed, &self.items, hash, &query)?;
-        ordered::take_index::<T, Second>(&mut self.order, &self.items, ix);
-        Some((ix, take_item(&mut self.items, ix)))
+        Some((ix, remove_item(&mut self.order, &mut self.items, ix)))
     }
 
     /// Removes the item with this second key. It takes no memory.
@@ -387,6 +385,22 @@ impl<T: KeyedItem, S: BuildHasher> KeyedItems<T, S> {
         }
         Ok(indexes)
     }
+}
+
+// Takes a live index out of the ordered table, and its item out of the store.
+fn remove_item<T: KeyedItem>(
+    order: &mut MapBTreeTable,
+    items: &mut ItemSet<T>,
+    ix: ItemIndex,
+) -> T
+    requires live { IsLive items.old.store ix }
+    requires stored { ordered_side.AreLive items.old.store (order_of order.old) }
+    ensures item { get items.old.store ix ≡ Some result }
+    ensures removed { items.new.store ≡ removed items.old.store ix }
+    ensures taken { order_of order.new ≡ without (order_of order.old) ix }
+{
+    ordered::take_index::<T, Second>(order, items, ix);
+    take_item(items, ix)
 }
 
 // Takes the item at a live index out of the store.

@@ -4,14 +4,14 @@ use Rattle.iddqd_keyed.proofs.keyed_items.KeyedItems.remove.Goals as goal
 
 pub invariant_of-self : goal.invariant_of-self
 invariant_of-self g c =
-    let out = c.take_item.ensures in
-    rw (out.removed, c.take_index.ensures.taken, c.take_index-2.ensures)
+    let out = c.remove_item.ensures in
+    rw (out.removed, c.take_index.ensures.taken, out.taken)
     (IsPaired-unbound _ c.self.invariant c.args.ix _ out.item)
 
 pub returns-clause-keeps : goal.returns-clause-keeps
 returns-clause-keeps g c =
-    let out = c.take_item.ensures in
-    rw (← c.self.view_is, out.removed, c.take_index.ensures.taken, c.take_index-2.ensures)
+    let out = c.remove_item.ensures in
+    rw (← c.self.view_is, out.removed, c.take_index.ensures.taken, out.taken)
     (Keeps-unbound _ _ c.self.invariant
     (AreLawful-from_bounds {item = g.T.KeyedItem} g.S.BuildHasher g.S.Hasher.Hasher g.met.T.Key1.PartialEq.laws
     g.met.T.Key1.Hash.respects_eq g.met.T.Key2.Ord.total) c.args.ix _ out.item)

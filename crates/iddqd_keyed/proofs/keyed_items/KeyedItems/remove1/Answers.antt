@@ -17,14 +17,14 @@ returns-in_err-ix-clause-removes g c =
 
 pub invariant_of-self-2 : goal.invariant_of-self-2
 invariant_of-self-2 g c =
-    let out = c.take_item.ensures in
-    rw (out.removed, c.in_ok-ix.ensures.taken, c.take_index.ensures)
+    let out = c.remove_item.ensures in
+    rw (out.removed, c.in_ok-ix.ensures.taken, out.taken)
     (IsPaired-unbound _ c.self.invariant c.in_ok-ix.ix _ out.item)
 
 pub returns-clause-keeps : goal.returns-clause-keeps
 returns-clause-keeps g c =
-    let out = c.take_item.ensures in
-    rw (← c.self.view_is, out.removed, c.in_ok-ix.ensures.taken, c.take_index.ensures)
+    let out = c.remove_item.ensures in
+    rw (← c.self.view_is, out.removed, c.in_ok-ix.ensures.taken, out.taken)
     (Keeps-unbound _ _ c.self.invariant
     (AreLawful-from_bounds {item = g.T.KeyedItem} g.S.BuildHasher g.S.Hasher.Hasher g.met.T.Key1.PartialEq.laws
     g.met.T.Key1.Hash.respects_eq g.met.T.Key2.Ord.total) c.in_ok-ix.ix _ out.item)
