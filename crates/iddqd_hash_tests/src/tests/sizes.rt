@@ -7,6 +7,10 @@ use std::process::Abort;
 use std::test::Fail;
 
 impl Table {
+    pub(crate) fn linear_for(alloc: Global, capacity: usize) -> Result<Table, AllocError> {
+        Ok(Table::Linear(HashTable::with_capacity(alloc, capacity)?))
+    }
+
     pub(crate) fn open_for(alloc: Global, capacity: usize) -> Result<Table, AllocError> {
         Ok(Table::Open(OpenHashTable::with_capacity(alloc, capacity)?))
     }
