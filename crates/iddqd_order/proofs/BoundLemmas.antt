@@ -1,5 +1,5 @@
 -- For callers. What stands between two bounds is what is within both.
-use Rattle.iddqd_order.proofs.Names.{◌≡◌, ℕ, zero, suc, ◌+◌, ◌-◌, ◌<◌, ◌≤◌, Bool, true, false, not, List, [], ◌∷◌, length, take, drop, filter, refl, sym, ap, ◌∙◌, arith, Ordering, Less, Equal, Greater, IsPlace, part}
+use Rattle.iddqd_order.proofs.Names.{◌≡◌, ℕ, zero, suc, ◌-◌, Bool, not, List, [], ◌∷◌, take, drop, filter, refl, sym, ap, ◌∙◌, arith, Ordering, Less, Greater, IsPlace, part}
 use Rattle.std.specs.Prelude.{◌&&◌}
 use Rattle.std.specs.Ordering.{is_gt}
 

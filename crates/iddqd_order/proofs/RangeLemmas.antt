@@ -1,7 +1,7 @@
 -- Walks between places, which are found by answers of which none is Equal.
-use Rattle.iddqd_order.proofs.Names.{◌≡◌, ◌≢◌, ◌↔◌, ℕ, ◌-◌, ◌<◌, ◌≤◌, List, [], length, drop, slice_index, refl, sym, ap, Option, Bool, arith, None, Err, length-drop, take_all, Ordering, Less, Equal, Greater, ordering_then, Mut, Asking, AsksWithin, Askable, Some, Node, IsFormed, Goes, place, flat, IsTree, GoesIn, place_in, in_order, IsTrue, Compares, IsRising, IsSteadyRising, Searches, Steps, between, part, true, false}
+use Rattle.iddqd_order.proofs.Names.{◌≡◌, ◌≢◌, ◌↔◌, ℕ, ◌-◌, ◌≤◌, List, [], length, drop, slice_index, refl, ap, Option, Bool, arith, None, Err, length-drop, take_all, Ordering, Less, Equal, Greater, ordering_then, Mut, Asking, AsksWithin, Askable, IsTrue, Compares, IsRising, IsSteadyRising, Searches, Steps, between, part, true, false}
 use Rattle.std.specs.Iterator.{YieldsFirst, YieldsLast}
-use Rattle.std.specs.Ordering.{is_eq, is_lt}
+use Rattle.std.specs.Ordering.{is_eq}
 use Rattle.std.specs.declared.ops.Bound.{Bound}
 use Rattle.std.specs.declared.ops.Bound.TheVariants.{Included, Excluded, Unbounded}
 use Rattle.iddqd_order.specs.Range.{Ends, IsBoundBy}
@@ -62,9 +62,6 @@ part-empty i j xs le within = (
   λ e. (let none = left-length (j - i) i j xs (omega arith) within in let len = ap length e in omega arith),
 )
 
-pub part-none : (i j : ℕ) (xs : List ℕ) → j < i → part i i xs ≡ part i j xs
-part-none i j xs lt = let none : j - i ≡ i - i = omega arith in ap (λ k. between k i xs) (sym none)
-
 pub part-rest : (i : ℕ) (xs : List ℕ) → part i (length xs) xs ≡ drop i xs
 part-rest i xs = take_all (length xs - i) (drop i xs) (omega (arith, length-drop i xs))
 
@@ -73,21 +70,6 @@ pub ended-told : (r : Ordering) (i j : ℕ) (xs : List ℕ) → Compares r i j �
 ended-told Less i j xs lt le within = (λ t. absurd (cc), λ e. absurd (let same = (part-empty i j xs le within).1 e in omega arith))
 ended-told Equal i j xs e le within = (λ t. (part-empty i j xs le within).0 e, λ z. refl)
 ended-told Greater i j xs gt le within = absurd (omega arith)
-
--- two gaps by their paths
-pub gaps-before : (r : Ordering) (t : Option Node) (h : ℕ) (p q : List ℕ) → IsTree t h → GoesIn t h p → GoesIn t h q → ((n : Node) → IsFormed h n → Goes h n q → Goes h n p → Compares r (place h n q) (place h n p)) → is_lt r ≡ true
-    → part (place_in t h p) (place_in t h p) (in_order t h) ≡ part (place_in t h p) (place_in t h q) (in_order t h)
-gaps-before r None h p q tree from to told e = refl
-gaps-before Less (Some n) h p q tree from to told e = part-none (place h n p) (place h n q) (flat h n) (told n tree.0 to from)
-gaps-before Equal (Some n) h p q tree from to told e = absurd (cc)
-gaps-before Greater (Some n) h p q tree from to told e = absurd (cc)
-
-pub gaps-behind : (r : Ordering) (t : Option Node) (h : ℕ) (p q : List ℕ) → IsTree t h → GoesIn t h p → GoesIn t h q → ((n : Node) → IsFormed h n → Goes h n q → Goes h n p → Compares r (place h n q) (place h n p)) → is_lt r ≡ false
-    → place_in t h p ≤ place_in t h q
-gaps-behind r None h p q tree from to told e = omega arith
-gaps-behind Less (Some n) h p q tree from to told e = absurd (cc)
-gaps-behind Equal (Some n) h p q tree from to told e = let same = told n tree.0 to from in omega arith
-gaps-behind Greater (Some n) h p q tree from to told e = let lt = told n tree.0 to from in omega arith
 
 -- after a step from the one end or the other
 pub part-ahead : (i j k : ℕ) (xs : List ℕ) (r : Option ℕ) → (b : Bool) → IsTrue b ↔ (part i k xs ≡ []) → b ≡ false → i ≤ k → k ≤ length xs → Steps true xs i r j → (j ≤ k) × YieldsFirst (λ (ys : List ℕ). ys) (part i k xs) r (part j k xs)

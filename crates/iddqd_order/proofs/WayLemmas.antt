@@ -33,12 +33,12 @@ first-way (suc h) n p f some zeros =
     }
 
 -- a step in a leaf
-pub steps-leaf : (h l i : ℕ) (n : Node) (p q : List ℕ) → h ≡ 0 → i ≡ slice_index p h → Holds l h n p → i + 1 < length (row n) → slice_index q 0 ≡ i + 1 → StepsOn h n l p 1 (Some 0) q
+pub steps-leaf : (h l i : ℕ) (n : Node) (p q : List ℕ) → h ≡ 0 → i ≡ slice_index p h → Holds l h n p → i + 1 < length (row n) → slice_index q 0 ≡ i + 1 → StepsOn h n l p (Some 0) q
 steps-leaf (suc h) l i n p q e ei w lt next = absurd (omega arith)
 steps-leaf zero l i n p q e ei w lt next =
     (holds-here 0 n q (omega arith), spot-leaf 0 0 n q refl ∙ next ∙ ap (λ z. z + 1) ei ∙ ap (λ z. z + 1) (sym (spot-leaf l 0 n p refl)))
 
-pub ends-leaf : (h l i : ℕ) (n : Node) (p q : List ℕ) → h ≡ 0 → i ≡ slice_index p h → Holds l h n p → length (row n) ≤ i + 1 → StepsOn h n l p 1 None q
+pub ends-leaf : (h l i : ℕ) (n : Node) (p q : List ℕ) → h ≡ 0 → i ≡ slice_index p h → Holds l h n p → length (row n) ≤ i + 1 → StepsOn h n l p None q
 ends-leaf (suc h) l i n p q e ei w le = absurd (omega arith)
 ends-leaf zero l i n p q e ei w le =
     let lt = holds-leaf l 0 n p refl w in
@@ -46,7 +46,7 @@ ends-leaf zero l i n p q e ei w le =
 
 -- from an index of an inner node to the first one below the next child
 pub steps-here : (h l i : ℕ) (n : Node) (p q : List ℕ) → h ≢ 0 → h ≡ l → i ≡ slice_index p h → IsFormed h n → Holds l h n p → slice_index q h ≡ i + 1 → ((m : ℕ) → m < h → slice_index q m ≡ 0)
-    → StepsOn h n l p 1 (Some 0) q
+    → StepsOn h n l p (Some 0) q
 steps-here h l i n p q ne e ei f w next zeros =
     let s = ends-inner h l i n p ne e ei f w in
     let at = s.within in
@@ -62,9 +62,9 @@ steps-here h l i n p q ne e ei f w next zeros =
     (below-holds 0 h n q ne (rw next lt) (rw next first.holds), omega arith)
 
 -- a step below the i-th child
-pub steps-below : (c : ℕ) (h l i m : ℕ) (n : Node) (p q : List ℕ) → GoesBelow h l i n p → slice_index q h ≡ i → StepsOn (h - 1) (child n i) l p c (Some m) q
-    → StepsOn h n l p c (Some m) q
-steps-below c h l i m n p q b here s =
+pub steps-below : (h l i m : ℕ) (n : Node) (p q : List ℕ) → GoesBelow h l i n p → slice_index q h ≡ i → StepsOn (h - 1) (child n i) l p (Some m) q
+    → StepsOn h n l p (Some m) q
+steps-below h l i m n p q b here s =
     let le = holds-level m (h - 1) (child n i) q s.0 in
     let was = b.place in
     let is : spot m h n q ≡ length (before i (row n) (lists (h - 1) (children n))) + spot m (h - 1) (child n i) q =
@@ -73,10 +73,10 @@ steps-below c h l i m n p q b here s =
     (below-holds m h n q b.inner (rw here b.here) (rw here s.0), omega arith)
 
 -- from the last one below the i-th child to the i-th index
-pub steps-out : (c : ℕ) (h l i : ℕ) (r : Option ℕ) (n : Node) (p q : List ℕ) → GoesBelow h l i n p → i ≡ slice_index p h → IsFormed h n → q ≡ p → i < length (row n) → is_some r ≡ false → StepsOn (h - 1) (child n i) l p c r q
-    → StepsOn h n l p c (Some h) q
-steps-out c h l i (Some m) n p q b ei f same lt none s = absurd (cc)
-steps-out c h l i None n p q b ei f same lt none s =
+pub steps-out : (h l i : ℕ) (r : Option ℕ) (n : Node) (p q : List ℕ) → GoesBelow h l i n p → i ≡ slice_index p h → IsFormed h n → q ≡ p → i < length (row n) → is_some r ≡ false → StepsOn (h - 1) (child n i) l p r q
+    → StepsOn h n l p (Some h) q
+steps-out h l i (Some m) n p q b ei f same lt none s = absurd (cc)
+steps-out h l i None n p q b ei f same lt none s =
     let here : i ≡ slice_index q h = ei ∙ ap (λ z. slice_index z h) (sym same) in
     let holds = holds-here h n q (rw (sym here) lt) in
     let is = (ends-inner h h i n q b.inner refl here f holds).place in
@@ -85,10 +85,10 @@ steps-out c h l i None n p q b ei f same lt none s =
     (holds, omega arith)
 
 -- or to the end of the node
-pub ends-below : (c : ℕ) (h l i : ℕ) (r : Option ℕ) (n : Node) (p q : List ℕ) → GoesBelow h l i n p → IsFormed h n → length (row n) ≤ i → is_some r ≡ false → StepsOn (h - 1) (child n i) l p c r q
-    → StepsOn h n l p c None q
-ends-below c h l i (Some m) n p q b f le none s = absurd (cc)
-ends-below c h l i None n p q b f le none s =
+pub ends-below : (h l i : ℕ) (r : Option ℕ) (n : Node) (p q : List ℕ) → GoesBelow h l i n p → IsFormed h n → length (row n) ≤ i → is_some r ≡ false → StepsOn (h - 1) (child n i) l p r q
+    → StepsOn h n l p None q
+ends-below h l i (Some m) n p q b f le none s = absurd (cc)
+ends-below h l i None n p q b f le none s =
     let xs : List ℕ = row n in let ks : List (List ℕ) = lists (h - 1) (children n) in
     let one = lists-one_more h n b.inner f in
     let whole = ap length (flat-inner h n b.inner ∙ apart i xs ks [] (omega (arith, b.here, length-map (children n) (λ k. flat (h - 1) k))) one) in
@@ -124,26 +124,26 @@ ends-here {h = h} {l = l} {i = i} {n = n} {p = p} le ei f w =
     }
 
 -- what a step below the i-th child answers, if anything
-pub steps-below_any : (c : ℕ) (h l i : ℕ) (r : Option ℕ) (n : Node) (p q : List ℕ) → GoesBelow h l i n p → slice_index q h ≡ i → is_some r ≡ true → StepsOn (h - 1) (child n i) l p c r q
-    → StepsOn h n l p c r q
-steps-below_any c h l i None n p q b same some s = absurd (cc)
-steps-below_any c h l i (Some m) n p q b same some s = steps-below c h l i m n p q b same s
+pub steps-below_any : (h l i : ℕ) (r : Option ℕ) (n : Node) (p q : List ℕ) → GoesBelow h l i n p → slice_index q h ≡ i → is_some r ≡ true → StepsOn (h - 1) (child n i) l p r q
+    → StepsOn h n l p r q
+steps-below_any h l i None n p q b same some s = absurd (cc)
+steps-below_any h l i (Some m) n p q b same some s = steps-below h l i m n p q b same s
 
 -- what a step below the i-th child leaves
 pub record SteppedBelow (h l i ix : ℕ) (r : Option ℕ) (n : Node) (p q : List ℕ) : Type 0 where
   pub below : GoesBelow h l i n p
   pub index : ix ≡ slice_index (flat h n) (spot l h n p)
-  pub next : StepsOn (h - 1) (child n i) l p 1 r q
+  pub next : StepsOn (h - 1) (child n i) l p r q
 
 pub stepped-below : {h l i ix : ℕ} {r : Option ℕ} {n k : Node} {p q : List ℕ} → l < h → i ≡ slice_index p h → IsFormed h n → Holds l h n p → k ≡ get_or (children n) i k
-    → ix ≡ slice_index (flat (h - 1) k) (spot l (h - 1) k p) → StepsOn (h - 1) k l p 1 r q → SteppedBelow h l i ix r n p q
+    → ix ≡ slice_index (flat (h - 1) k) (spot l (h - 1) k p) → StepsOn (h - 1) k l p r q → SteppedBelow h l i ix r n p q
 stepped-below {h = h} {l = l} {i = i} {ix = ix} {r = r} {n = n} {k = k} {p = p} {q = q} lt ei f w is index next =
     let b = goes-below h l i n p lt ei f w in
     let same : k ≡ child n i = child_is n i k b.here is in
     record {
       below = b;
       index = read-below h l i ix n p b f (subst (λ z. ix ≡ slice_index (flat (h - 1) z) (spot l (h - 1) z p)) same index);
-      next = subst (λ z. StepsOn (h - 1) z l p 1 r q) same next;
+      next = subst (λ z. StepsOn (h - 1) z l p r q) same next;
     }
 
 pub none-is : (r : Option ℕ) → is_some r ≡ false → r ≡ None

@@ -25,7 +25,8 @@ IsBoundAt at_equal answer xs place = IsPlace (λ ix. ordering_then (answer ix) a
 -- a walk along the indexes xs from a place on, by answers that are so read: it is the bound, if the answers rise
 module _ {F R : Type 0} (g : Mut F (ℕ × Unit {0}) R) (read : R → Ordering) (at_equal : Ordering) (xs : List ℕ) where
   abbrev pub IsBoundBy : Asking F → ℕ → Type 0
-  IsBoundBy old place = (answer : ℕ → Ordering) → IsSteadyRising g xs None read answer old → IsBoundAt at_equal answer xs place
+  IsBoundBy old place =
+      (answer : ℕ → Ordering) → IsSteadyRising g xs None read answer old → IsBoundAt at_equal answer xs place
 
   pub record WalksFrom (old : Asking F) (walk : Range) (new : Asking F) : Type 0 where
     pub asked : SearchAsks g xs None old new

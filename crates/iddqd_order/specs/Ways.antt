@@ -4,11 +4,11 @@ use Rattle.iddqd_order.specs.declared.btree_table.node.Node.{Node}
 use Rattle.iddqd_order.specs.declared.btree_table.ways.Way.{Way}
 use Rattle.iddqd_order.specs.Node.{flat, Holds, spot}
 
--- from the index to which the path p goes at level l, the path q goes so many on, at the level that is
--- answered, if there are more below n
-abbrev pub StepsOn : ℕ → Node → ℕ → List ℕ → ℕ → Option ℕ → List ℕ → Type 0
-StepsOn h n l p count None q = length (flat h n) ≡ spot l h n p + count
-StepsOn h n l p count (Some m) q = Holds m h n q × (spot m h n q ≡ spot l h n p + count)
+-- from the index to which the path p goes at level l, the path q goes to the next one, at the level that is
+-- answered, if there is one below n
+abbrev pub StepsOn : ℕ → Node → ℕ → List ℕ → Option ℕ → List ℕ → Type 0
+StepsOn h n l p None q = length (flat h n) ≡ spot l h n p + 1
+StepsOn h n l p (Some m) q = Holds m h n q × (spot m h n q ≡ spot l h n p + 1)
 
 -- the way goes to the index at its place, if there is one
 pub record IsWay (h : ℕ) (n : Node) (w : Way) : Type 0 where

@@ -78,7 +78,7 @@ impl Node {
         requires path { length path.old ≡ 12 }
         requires holds { Holds level height self.now path.old }
         ensures index { result.0 ≡ slice_index (flat height self.now) (spot level height self.now path.old) }
-        ensures next { StepsOn height self.now level path.old 1 result.1 path.new }
+        ensures next { StepsOn height self.now level path.old result.1 path.new }
         ensures path { length path.new ≡ 12 }
         ensures above { (l : ℕ) → height < l → slice_index path.new l ≡ slice_index path.old l }
         ensures ended { result.1 ≡ None → path.new ≡ path.old }

@@ -23,7 +23,7 @@ returns-then-is_some-clause-index t c = (stepped-below c.if-height-level.true c.
 pub returns-then-is_some-clause-next : goal.returns-then-is_some-clause-next
 returns-then-is_some-clause-next t c =
     let s = stepped-below c.if-height-level.true c.get-i.ensures c.requires.formed c.requires.holds c.index.ensures c.step-ix.ensures.index c.step-ix.ensures.next in
-    steps-below_any 1 c.args.height c.args.level c.get-i.result c.step-ix.result.1 c.args.self.now c.args.path.now c.step-ix.new.path s.below (c.step-ix.ensures.above c.args.height (omega arith) ∙ sym c.get-i.ensures) (search rules) s.next
+    steps-below_any c.args.height c.args.level c.get-i.result c.step-ix.result.1 c.args.self.now c.args.path.now c.step-ix.new.path s.below (c.step-ix.ensures.above c.args.height (omega arith) ∙ sym c.get-i.ensures) (search rules) s.next
 
 pub returns-then-i-len-clause-index : goal.returns-then-i-len-clause-index
 returns-then-i-len-clause-index t c = (stepped-below c.if-height-level.true c.get-i.ensures c.requires.formed c.requires.holds c.index.ensures c.step-ix.ensures.index c.step-ix.ensures.next).index
@@ -32,7 +32,7 @@ pub returns-then-i-len-clause-next : goal.returns-then-i-len-clause-next
 returns-then-i-len-clause-next t c =
     let s = stepped-below c.if-height-level.true c.get-i.ensures c.requires.formed c.requires.holds c.index.ensures c.step-ix.ensures.index c.step-ix.ensures.next in
     let len = c.len.ensures.length in let lt = c.if-i-len.true in
-    steps-out 1 c.args.height c.args.level c.get-i.result c.step-ix.result.1 c.args.self.now c.args.path.now c.step-ix.new.path s.below c.get-i.ensures c.requires.formed (c.step-ix.ensures.ended (none-is c.step-ix.result.1 (search rules))) (search (rules, lt)) (search rules) s.next
+    steps-out c.args.height c.args.level c.get-i.result c.step-ix.result.1 c.args.self.now c.args.path.now c.step-ix.new.path s.below c.get-i.ensures c.requires.formed (c.step-ix.ensures.ended (none-is c.step-ix.result.1 (search rules))) (search (rules, lt)) (search rules) s.next
 
 pub returns-then-height-level-clause-index : goal.returns-then-height-level-clause-index
 returns-then-height-level-clause-index t c = (stepped-below c.if-height-level.true c.get-i.ensures c.requires.formed c.requires.holds c.index.ensures c.step-ix.ensures.index c.step-ix.ensures.next).index
@@ -40,7 +40,7 @@ returns-then-height-level-clause-index t c = (stepped-below c.if-height-level.tr
 pub returns-then-height-level-clause-next : goal.returns-then-height-level-clause-next
 returns-then-height-level-clause-next t c =
     let s = stepped-below c.if-height-level.true c.get-i.ensures c.requires.formed c.requires.holds c.index.ensures c.step-ix.ensures.index c.step-ix.ensures.next in
-    ends-below 1 c.args.height c.args.level c.get-i.result c.step-ix.result.1 c.args.self.now c.args.path.now c.step-ix.new.path s.below c.requires.formed (search rules) (search rules) s.next
+    ends-below c.args.height c.args.level c.get-i.result c.step-ix.result.1 c.args.self.now c.args.path.now c.step-ix.new.path s.below c.requires.formed (search rules) (search rules) s.next
 
 -- here: the path ends at this node
 pub get-ix-requires : goal.get-ix-requires
