@@ -24,7 +24,7 @@ pub struct PreparedBTreeMove<'a, B: HoldsBlocks = Blocks> {
     table: &'a mut MapBTreeTable,
     ix: ItemIndex,
     blocks: B,
-    ghost enough: { table.now.height < B.count blocks },
+    ghost as_many: { B.count blocks ≡ table.now.height + 1 },
     ghost assigned: { ix ≢ sentinel },
 }
 
