@@ -1,4 +1,6 @@
 //! Walks between two bounds, from both ends, beside plain numbers.
+ghost use Rattle.std.specs.Prelude.{◌<◌};
+
 use super::{bound, filled, insert_by};
 use iddqd::item_index::ItemIndex;
 use iddqd::map_hash::Same;
@@ -46,7 +48,9 @@ fn first_behind(kind: u32, key: u32, len: u32) -> u32 {
 
 // Whether the walk gives the numbers from `first` up to `behind`, from the front or from the back by
 // turns, as many at a time, and stays ended.
-fn gives(mut walk: Range<'_>, first: u32, behind: u32, turn: u32) -> bool {
+fn gives(mut walk: Range<'_>, first: u32, behind: u32, turn: u32) -> bool
+    requires { 0 < turn }
+{
     let mut front = first;
     let mut back = behind.max(first);
     for step in 0..back - front {
@@ -72,8 +76,8 @@ fn walk_by_keys(
     keys: &[u32],
     lower: (u32, u32),
     upper: (u32, u32),
+    len: u32,
 ) {
-    let len = table.len() as u32;
     let first = first_within(lower.0, lower.1, len);
     let behind = first_behind(upper.0, upper.1, len);
     for turn in 1..4 {
@@ -94,8 +98,7 @@ fn walk_by_keys(
 }
 
 // The same by answers: a lower bound that is included, and an upper one that is.
-fn walk_by_answers(rt: &impl Abort, table: &MapBTreeTable, from: u32, to: u32) {
-    let len = table.len() as u32;
+fn walk_by_answers(rt: &impl Abort, table: &MapBTreeTable, from: u32, to: u32, len: u32) {
     let mut lower = Asking::new(|ix: ItemIndex| from.cmp(&(ix.as_u32() / 3)));
     let mut upper = Asking::new(|ix: ItemIndex| to.cmp(&(ix.as_u32() / 3)));
     let walk = table.range_by(&mut lower, &mut upper);
@@ -109,13 +112,20 @@ fn walk_by_answers(rt: &impl Abort, table: &MapBTreeTable, from: u32, to: u32) {
     );
 }
 
-fn walk_by_kinds(rt: &impl Abort, table: &MapBTreeTable, keys: &[u32], from: u32, to: u32) {
+fn walk_by_kinds(
+    rt: &impl Abort,
+    table: &MapBTreeTable,
+    keys: &[u32],
+    from: u32,
+    to: u32,
+    len: u32,
+) {
     for lower in 0..3 {
         for upper in 0..3 {
-            walk_by_keys(rt, table, keys, (lower, from), (upper, to));
+            walk_by_keys(rt, table, keys, (lower, from), (upper, to), len);
         }
     }
-    walk_by_answers(rt, table, from, to);
+    walk_by_answers(rt, table, from, to, len);
 }
 
 #[test]
@@ -124,11 +134,11 @@ fn a_walk_between_keys_gives_what_is_within_both(rt: HostRuntime) -> Result<(), 
     let mut table = MapBTreeTable::new(rt.alloc());
     for len in 0..301u32 {
         let last = len / 3;
-        walk_by_kinds(&rt, &table, &keys, 0, last);
-        walk_by_kinds(&rt, &table, &keys, last / 2, last / 2);
-        walk_by_kinds(&rt, &table, &keys, last / 3, last / 2 + 1);
-        walk_by_kinds(&rt, &table, &keys, last / 2 + 1, last / 3);
-        walk_by_kinds(&rt, &table, &keys, last + 1, 0);
+        walk_by_kinds(&rt, &table, &keys, 0, last, len);
+        walk_by_kinds(&rt, &table, &keys, last / 2, last / 2, len);
+        walk_by_kinds(&rt, &table, &keys, last / 3, last / 2 + 1, len);
+        walk_by_kinds(&rt, &table, &keys, last / 2 + 1, last / 3, len);
+        walk_by_kinds(&rt, &table, &keys, last + 1, 0, len);
         let ix = ItemIndex::new(len);
         insert_by(&rt, &mut table, len, |at| ix.cmp(&at))?;
     }
@@ -148,16 +158,16 @@ fn follow(mut walk: Range<'_>, mut back: Range<'_>, len: u32) -> bool {
         }
     }
     let mut next = last.saturating_add(1);
-    while let Some(ix) = back.next_back() {
+    for _ in 0..next.saturating_sub(first.as_u32()) {
         next = next.saturating_sub(1);
-        if ix.as_u32() != next {
+        if back.next_back() != Some(ItemIndex::new(next)) {
             return false;
         }
     }
-    last < len && next == first.as_u32()
+    last < len && back.next_back().is_none()
 }
 
-fn walk_told(rt: &impl Abort, table: &MapBTreeTable, odd: Ordering, even: Ordering) {
+fn walk_told(rt: &impl Abort, table: &MapBTreeTable, len: u32, odd: Ordering, even: Ordering) {
     let mut asks = 0u32;
     let mut lower = Asking::new(|_: ItemIndex| {
         asks = asks.wrapping_add(1);
@@ -170,7 +180,7 @@ fn walk_told(rt: &impl Abort, table: &MapBTreeTable, odd: Ordering, even: Orderi
     });
     let walk = table.range_by(&mut lower, &mut upper);
     let back = walk.clone().expect(rt, "a copy");
-    assert!(rt; follow(walk, back, table.len() as u32));
+    assert!(rt; follow(walk, back, len));
     assert!(rt; asks <= bound(table.len()) && turns <= bound(table.len()));
 }
 
@@ -180,7 +190,7 @@ fn a_walk_between_lying_answers_gives_what_stands_together(rt: HostRuntime) -> R
         let table = filled(&rt, rt.alloc(), len, Ordering::Greater)?;
         for odd in [Ordering::Less, Ordering::Equal, Ordering::Greater] {
             for even in [Ordering::Less, Ordering::Equal, Ordering::Greater] {
-                walk_told(&rt, &table, odd, even);
+                walk_told(&rt, &table, len, odd, even);
             }
         }
     }

@@ -1,4 +1,6 @@
 //! Moves of a stored index: to each place, by keys that change, and by lying answers.
+ghost use Rattle.std.specs.Prelude.{◌<◌};
+
 use super::{bound, filled};
 use iddqd::item_index::ItemIndex;
 use iddqd_order::btree_table::{Asking, MapBTreeTable};
@@ -67,7 +69,9 @@ fn move_each(
     table: &mut MapBTreeTable,
     step: usize,
     len: u32,
-) -> Result<(), AllocError> {
+) -> Result<(), AllocError>
+    requires { 0 < step }
+{
     for moved in (0..len).step_by(step) {
         for to in (0..len).step_by(step) {
             move_to(rt, table, moved, moved, to)?;
