@@ -388,11 +388,7 @@ impl<T: KeyedItem, S: BuildHasher> KeyedItems<T, S> {
 }
 
 // Takes a live index out of the ordered table, and its item out of the store.
-fn remove_item<T: KeyedItem>(
-    order: &mut MapBTreeTable,
-    items: &mut ItemSet<T>,
-    ix: ItemIndex,
-) -> T
+fn remove_item<T: KeyedItem>(order: &mut MapBTreeTable, items: &mut ItemSet<T>, ix: ItemIndex) -> T
     requires live { IsLive items.old.store ix }
     requires stored { ordered_side.AreLive items.old.store (order_of order.old) }
     ensures item { get items.old.store ix ≡ Some result }

@@ -1,5 +1,5 @@
 -- What becomes of a map with one key in each step of its store and its table.
-use Rattle.std.proofs.Common.{◌≡◌, ◌∙◌, ◌↔◌, ◌+◌, ◌≤◌, ℕ, min, Bool, true, false, not, is_some, Option, Some, None, Result, Ok, Err, refl, sym, ap, subst, arith}
+use Rattle.std.proofs.Common.{◌≡◌, ◌∙◌, ◌↔◌, ◌+◌, ◌≤◌, ℕ, min, Bool, true, false, not, is_some, Option, Some, None, Result, Ok, Err, refl, sym, ap, arith}
 use Rattle.std.specs.Option.{OnSome}
 use Rattle.std.specs.Ordering.{nat_cmp}
 use Rattle.std.specs.FinMap as finite
@@ -19,7 +19,7 @@ use Rattle.iddqd_sides.specs.declared.hashed_move.Move.{Move}
 use Rattle.iddqd_sides.specs.declared.hashed_move.Move.TheVariants.{Stays, To}
 use Rattle.iddqd_sides.proofs.IndexingLemmas.{Indexes-removed, Indexes-inserted, Indexes-rebound}
 use Rattle.iddqd_maps.specs.Map.{MapState, Stays as Rests, shares, IsOnly, FindsItem, Removes, InsertsAt}
-use Rattle.iddqd_maps.specs.Calls.{Inserts, RefusesFull, RefusesMemory, Becomes, LacksRoomAt, ReplacesAt, Replaces}
+use Rattle.iddqd_maps.specs.Calls.{Inserts, Becomes, LacksRoomAt, ReplacesAt, Replaces}
 use Rattle.iddqd_maps.specs.IdMap.{map_of, ClashesAt, IsIdMap}
 use Rattle.iddqd_maps.specs.Refusal.{refusal_of}
 use Rattle.iddqd_maps.specs.declared.refusal.ReplaceRefusal.{ReplaceRefusal}

@@ -1,5 +1,5 @@
 -- How many inserts need no memory, where both parts of a map have room.
-use Rattle.std.proofs.Common.{◌≡◌, ◌+◌, ◌≤◌, ℕ, zero, suc, min, arith, refl}
+use Rattle.std.proofs.Common.{◌≡◌, ◌+◌, ◌≤◌, ℕ, zero, suc, min, arith}
 
 -- no part loses room
 pub min_stays : (a b c d : ℕ) → a ≤ c → b ≤ d → min a b ≤ min c d

@@ -1,5 +1,5 @@
 -- A map with one key, as a store and a table that indexes it.
-use Rattle.std.specs.Prelude.{◌≡◌, ℕ, Bool, Some, min}
+use Rattle.std.specs.Prelude.{ℕ, Bool, Some, min}
 use Rattle.iddqd.specs.Store.{Store, IsValid}
 use Rattle.iddqd.specs.ItemSet.{SizedStore, room as set_room}
 use Rattle.iddqd_hash.specs.HashTable.{Table, room as table_room}

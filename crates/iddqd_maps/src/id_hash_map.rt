@@ -13,6 +13,7 @@ ghost use Rattle.iddqd_maps.specs.Map.{empty_map, shares, IsMap, FindsItem, Remo
 ghost use Rattle.iddqd_maps.specs.Calls.{Inserts, Overwrites};
 ghost use Rattle.iddqd_maps.specs.IdMap.{map_of, ClashesAt};
 
+mod checks;
 mod memory;
 mod replaces;
 mod walks;

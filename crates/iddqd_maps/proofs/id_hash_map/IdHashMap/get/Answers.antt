@@ -1,6 +1,4 @@
-use Rattle.std.proofs.Common.{subst}
 use Rattle.iddqd_sides.specs.Scan.{passes_by}
-use Rattle.iddqd_maps.specs.Map.{MapState}
 use Rattle.iddqd_maps.proofs.IdMapLemmas.{FindsItem-found}
 use Rattle.iddqd_maps.proofs.id_hash_map.IdHashMap.get.Goals as goal
 

@@ -1,0 +1,32 @@
+//! The check of a map's parts, which the invariant makes sound.
+ghost use Rattle.std.specs.Prelude.{length};
+ghost use Rattle.iddqd.specs.{Allows, Validates};
+
+use super::{IdHashItem, IdHashMap};
+use iddqd::internal::{ValidateCompact, ValidateRefusal, ValidationError};
+use std::hash::BuildHasher;
+
+impl<T: IdHashItem, S: BuildHasher> IdHashMap<T, S> {
+    /// Whether store and table are sound, as they are in every map; in `Compact`, whether no slot is
+    /// vacant.
+    ///
+    /// It sorts a copy of the indexes, whose memory may be refused.
+    pub fn validate(
+        &self,
+        compactness: ValidateCompact,
+    ) -> Result<(), ValidateRefusal<ValidationError>>
+        ensures { Validates (Allows compactness (length self.now.store.free)) result }
+    {
+        if let Err(refusal) = self.items.validate(compactness) {
+            return Err(refusal);
+        }
+        match self.table.validate(self.items.len(), compactness) {
+            Ok(()) => Ok(()),
+            Err(ValidateRefusal::Invalid(error)) => {
+                let name = "keys";
+                Err(ValidateRefusal::Invalid(ValidationError::Table { name, error }))
+            }
+            Err(ValidateRefusal::Memory(error)) => Err(ValidateRefusal::Memory(error)),
+        }
+    }
+}
