@@ -1,6 +1,7 @@
 //! The check of a map's parts, which the invariant makes sound.
-ghost use Rattle.std.specs.Prelude.{length};
+ghost use Rattle.std.specs.Prelude.{length, IfErr};
 ghost use Rattle.iddqd.specs.{Allows, Validates};
+ghost use Rattle.iddqd.specs.Validation.{Tells, not_compact_text};
 
 use super::{IdHashItem, IdHashMap};
 use iddqd::internal::{ValidateCompact, ValidateRefusal, ValidationError};
@@ -15,7 +16,9 @@ impl<T: IdHashItem, S: BuildHasher> IdHashMap<T, S> {
         &self,
         compactness: ValidateCompact,
     ) -> Result<(), ValidateRefusal<ValidationError>>
-        ensures { Validates (Allows compactness (length self.now.store.free)) result }
+        ensures allows { Validates (Allows compactness (length self.now.store.free)) result }
+        ensures not_compact { (Allows compactness (length self.now.store.free) → ⊥)
+            → IfErr result (Tells (not_compact_text (length self.now.store.free))) }
     {
         if let Err(refusal) = self.items.validate(compactness) {
             return Err(refusal);

@@ -1,5 +1,5 @@
 //! Memory that a map takes ahead and gives back, and its slots closed up.
-ghost use Rattle.std.specs.Prelude.{◌≡◌, ◌≤◌, [], min, IsOk, IfOk, OnOk, OnErr};
+ghost use Rattle.std.specs.Prelude.{◌≡◌, ◌≤◌, [], length, min, IsOk, IfOk, OnOk, OnErr};
 ghost use Rattle.iddqd.specs.{slot_limit, empty, cleared, insertable, IsRemapOf};
 ghost use Rattle.iddqd_maps.specs.Map.{Stays};
 ghost use Rattle.iddqd_maps.specs.Calls.{Compacts};
@@ -42,10 +42,11 @@ impl<T: IdHashItem, S: BuildHasher> IdHashMap<T, S> {
         self.table.try_reserve(additional)
     }
 
-    /// Gives back the memory that the slots and the table don't need. Where the smaller memory is
-    /// refused the items stay too.
+    /// Gives back the memory that the slots and the table don't need, so that vacant slots alone have
+    /// room. Where the smaller memory is refused the items stay too.
     pub fn shrink_to_fit(&mut self) -> Result<(), AllocError>
-        ensures { self.new.store ≡ self.old.store }
+        ensures contents { self.new.store ≡ self.old.store }
+        ensures fits { OnOk result (self.new.room ≤ length self.old.store.free) }
     {
         self.items.shrink_capacity_to_fit()?;
         self.table.shrink_to_fit()

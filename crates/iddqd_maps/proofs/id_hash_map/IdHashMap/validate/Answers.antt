@@ -5,17 +5,17 @@ use Rattle.iddqd_maps.specs.Map.{MapState}
 use Rattle.iddqd_maps.proofs.CountLemmas.{AreAsExpected-held, Validates-refused}
 use Rattle.iddqd_maps.proofs.id_hash_map.IdHashMap.validate.Goals as goal
 
-pub returns-in-Err : goal.returns-in-Err
-returns-in-Err g c =
+pub returns-in-Err-clause-allows : goal.returns-in-Err-clause-allows
+returns-in-Err-clause-allows g c =
     subst (λ (m : MapState _). Validates (Allows c.args.compactness (length m.store.free)) (Err c.in-Err.refusal)) c.self.view_is
     (Validates-refused _ c.in-Err.refusal (λ allows. (let ok = c.in-Err.ensures.allows.1 allows in cc)))
 
-pub returns-in-Ok : goal.returns-in-Ok
-returns-in-Ok g c =
+pub returns-in-Ok-clause-allows : goal.returns-in-Ok-clause-allows
+returns-in-Ok-clause-allows g c =
     subst (λ (m : MapState _). Allows c.args.compactness (length m.store.free)) c.self.view_is (c.in_default.ensures.allows.0 refl)
 
-pub returns-in-Err-Invalid : goal.returns-in-Err-Invalid
-returns-in-Err-Invalid g c = λ _.
+pub returns-in-Err-Invalid-clause-allows : goal.returns-in-Err-Invalid-clause-allows
+returns-in-Err-Invalid-clause-allows g c = λ _.
     let s = c.self.inside.items.store in
     let o = c.self.invariant in
     let refused = rw (c.in-Err-Invalid.field-0-is, c.len.ensures) at c.in-Err-Invalid.ensures in
