@@ -1,4 +1,4 @@
-pub mod Map
-pub mod Calls
-pub mod IdMap
-pub mod Refusal
+-- what callers' clauses cite, from one place
+pub use Rattle.iddqd_map_base.specs.Map
+pub use Rattle.iddqd_map_base.specs.Calls
+pub use Rattle.iddqd_id_hash.specs.IdMap

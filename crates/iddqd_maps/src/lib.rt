@@ -5,5 +5,5 @@
 //! of all items would.
 #![tactic(auto)]
 
-pub mod id_hash_map;
-pub mod refusal;
+pub use iddqd_id_hash::id_hash_map as id_hash_map;
+pub use iddqd_map_base::refusal as refusal;

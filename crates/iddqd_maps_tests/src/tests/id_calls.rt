@@ -1,6 +1,7 @@
 //! Each call of a map with one key, with ample memory, under two hashers and small limits.
 use super::badges::{Badge, Constant, numbered};
 use iddqd::hash_builder::DefaultHashBuilder;
+use iddqd::internal::ValidateCompact;
 use iddqd::item_index::ItemIndex;
 use iddqd_maps::id_hash_map::IdHashMap;
 use iddqd_maps::refusal::{InsertRefusal, OverwriteRefusal, ReplaceRefusal};
@@ -158,5 +159,16 @@ fn refusals_and_maps_print_their_words(rt: HostRuntime) -> Result<(), Fail> {
     assert!(rt; text.as_str() == "{Badge { number: 1, seat: 2 }}");
     let mut left = map.into_values();
     assert!(rt; left.next() == Some(numbered(1, 2)) && left.next().is_none());
+    Ok(())
+}
+
+#[test]
+fn the_parts_of_a_map_are_sound(rt: HostRuntime) -> Result<(), Fail> {
+    let mut map = within(rt.alloc(), 3);
+    assert!(rt; insert(&mut map, numbered(1, 1)).is_ok());
+    assert!(rt; map.validate(ValidateCompact::Compact).is_ok());
+    assert!(rt; remove(&mut map, 1).is_some());
+    assert!(rt; map.validate(ValidateCompact::Compact).is_err());
+    assert!(rt; map.validate(ValidateCompact::NonCompact).is_ok());
     Ok(())
 }

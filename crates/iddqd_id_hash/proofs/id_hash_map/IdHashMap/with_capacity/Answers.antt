@@ -1,0 +1,11 @@
+use Rattle.std.proofs.Common.{arith}
+use Rattle.iddqd.specs.Store.{slot_limit}
+use Rattle.iddqd.proofs.StoreLemmas.{IsValid-empty}
+use Rattle.iddqd_sides.proofs.IndexingLemmas.{Indexes-empty}
+use Rattle.iddqd_id_hash.proofs.id_hash_map.IdHashMap.with_capacity.Goals as goal
+
+pub invariant_of-result : goal.invariant_of-result
+invariant_of-result g c = record {
+  valid = rw c.in_ok-with_capacity.ensures.contents (IsValid-empty slot_limit (omega arith));
+  indexed = rw (c.in_ok-with_capacity.ensures.contents, c.in_ok-with_capacity-2.ensures.empty) (Indexes-empty _ _ slot_limit);
+}

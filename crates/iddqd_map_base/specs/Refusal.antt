@@ -1,0 +1,29 @@
+-- The words of the refusals.
+use Rattle.std.specs.Prelude.{ℕ, List, codes}
+use Rattle.iddqd.specs.declared.item_set.GrowError.{GrowError}
+use Rattle.iddqd.specs.declared.item_set.GrowError.TheVariants.{Full as NoPlace, Memory as NoRoom}
+use Rattle.iddqd_map_base.specs.declared.refusal.InsertRefusal.{InsertRefusal}
+use Rattle.iddqd_map_base.specs.declared.refusal.InsertRefusal.TheVariants.{Duplicate, Full, Memory}
+use Rattle.iddqd_map_base.specs.declared.refusal.OverwriteRefusal.{OverwriteRefusal}
+use Rattle.iddqd_map_base.specs.declared.refusal.OverwriteRefusal.TheVariants.{Full as NoSlot, Memory as NoMemory}
+use Rattle.iddqd_map_base.specs.declared.refusal.ReplaceRefusal.{ReplaceRefusal}
+use Rattle.iddqd_map_base.specs.declared.refusal.ReplaceRefusal.TheVariants.{Missing, Duplicate as Taken, Memory as Refused}
+
+-- the refusal of an item for which there is no place
+abbrev pub refusal_of : {T C : Type 0} → GrowError → T → InsertRefusal T C
+refusal_of NoPlace item = Full item
+refusal_of NoRoom item = Memory item
+
+abbrev pub insert_refusal_text : {T C : Type 0} → InsertRefusal T C → List ℕ
+insert_refusal_text (Duplicate item at) = codes "duplicate"
+insert_refusal_text (Full item) = codes "full"
+insert_refusal_text (Memory item) = codes "no memory"
+
+abbrev pub overwrite_refusal_text : {T : Type 0} → OverwriteRefusal T → List ℕ
+overwrite_refusal_text (NoSlot item) = codes "full"
+overwrite_refusal_text (NoMemory item) = codes "no memory"
+
+abbrev pub replace_refusal_text : {T C : Type 0} → ReplaceRefusal T C → List ℕ
+replace_refusal_text (Missing item) = codes "missing"
+replace_refusal_text (Taken item at) = codes "duplicate"
+replace_refusal_text (Refused item) = codes "no memory"

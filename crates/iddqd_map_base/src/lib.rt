@@ -1,0 +1,4 @@
+//! What all maps share: their model, which is a store no two of whose items share a key, and their refusals.
+#![tactic(auto)]
+
+pub mod refusal;

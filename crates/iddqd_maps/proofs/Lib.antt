@@ -1,3 +1,0 @@
-pub mod RoomLemmas
-pub mod IdMapLemmas
-pub mod CountLemmas
