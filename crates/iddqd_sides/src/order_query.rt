@@ -51,9 +51,9 @@ impl<A: Allocator> OrdQuery<String<A>> for &str {
     }
 }
 
-// A query as what tables in order are asked by.
+/// A query as what tables in order are asked by.
 #[derive(Clone, Copy)]
-pub(crate) struct Ranked<Q>(pub(crate) Q);
+pub struct Ranked<Q>(pub Q);
 
 impl<K: Ord, Q: OrdQuery<K>> Equivalent<K> for Ranked<Q> {
     ghost equivalent = { λ q k. is_eq (Q.compare q.0 k) };
