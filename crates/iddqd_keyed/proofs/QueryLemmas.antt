@@ -1,5 +1,5 @@
 -- What a look-up by a query answers, in the words of the key for which the query stands.
-use Rattle.std.proofs.Common.{◌≡◌, ◌∙◌, ℕ, Bool, true, List, Option, Some, None, IfSome, sym, ap, subst, Ordering}
+use Rattle.std.proofs.Common.{◌≡◌, ◌∙◌, ℕ, Bool, true, Option, Some, None, IfSome, sym, ap, subst, Ordering}
 use Rattle.std.specs.Ordering.{is_eq}
 use Rattle.std.specs.Cmp.{Equal-is}
 use Rattle.std.specs.declared.cmp.Ordering.TheVariants.{Equal}

@@ -1,6 +1,6 @@
 -- A live index that is given another item, in the store and in both tables: what it leaves paired, in place and exact.
-use Rattle.std.proofs.Common.{◌≡◌, ◌≢◌, ◌∙◌, ◌⊎◌, inl, inr, ◌↔◌, ◌==◌, ◌<◌, ◌≤◌, ℕ, zero, suc, Bool, true, false, not, cond, List, [], ◌∷◌, length, get_or, insert, Option, Some, None, IsSome, option_map, Result, Ok, Err, IfOk, OnOk, IfErr, OnErr, refl, sym, ap, subst, arith, Ordering}
-use Rattle.std.specs.List.{Contains, IsDistinct}
+use Rattle.std.proofs.Common.{◌≡◌, ◌∙◌, ◌⊎◌, inl, inr, ◌↔◌, ◌==◌, ◌<◌, ◌≤◌, ℕ, zero, suc, Bool, true, false, not, cond, List, [], ◌∷◌, length, get_or, insert, Option, Some, None, IsSome, option_map, Result, Ok, Err, IfOk, OnOk, IfErr, OnErr, refl, sym, ap, subst, arith, Ordering}
+use Rattle.std.specs.List.{Contains}
 use Rattle.std.specs.Option.{option_cmp}
 use Rattle.std.specs.Ordering.{nat_cmp, eq_by_cmp}
 use Rattle.std.specs.Cmp.{IsTotalOrder, eq_by_cmp_equiv}
@@ -26,7 +26,7 @@ use Rattle.iddqd_sides.specs.Hashed as hashed
 use Rattle.iddqd_sides.specs.Ordered as ordered
 use Rattle.iddqd_sides.specs.Ordered.{Adds}
 use Rattle.iddqd_sides.specs.Indexing.{moved}
-use Rattle.iddqd_sides.specs.declared.hashed_move.Move.TheVariants.{Stays, To}
+use Rattle.iddqd_sides.specs.declared.hashed_move.Move.TheVariants.{To}
 use Rattle.iddqd_sides.proofs.OrderedHoldsLemmas as order_holds
 use Rattle.iddqd_sides.proofs.OrderedPlaceLemmas as order_place
 use Rattle.iddqd_sides.proofs.ScanLemmas.{rebound_cases, live_rebound}
@@ -281,12 +281,15 @@ module _
 
       pub Keeps-from_parts : Keeps keys s new
       Keeps-from_parts = rw anew (record {
-        paired = (paired, record {
-          valid = IsValid-rebound s.store ix item was paired.valid live;
-          filed = Holds-refiled s.store ix item was live s.filed hash paired.filed;
-          ordered = (order_held at2 placed).each;
-          once = (order_held at2 placed).once;
-        });
+        paired = (
+          paired,
+          record {
+            valid = IsValid-rebound s.store ix item was paired.valid live;
+            filed = Holds-refiled s.store ix item was live s.filed hash paired.filed;
+            ordered = (order_held at2 placed).each;
+            once = (order_held at2 placed).once;
+          },
+        );
         first_keys = first_keeps at1 own1 first;
         second_keys = second_keeps at2 own2 second placed;
       })

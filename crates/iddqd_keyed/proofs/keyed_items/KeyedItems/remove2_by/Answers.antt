@@ -13,12 +13,14 @@ pub returns-in_err-ix-clause-removes : goal.returns-in_err-ix-clause-removes
 returns-in_err-ix-clause-removes g c =
     let none : c.from_residual.result ≡ None = search (rules, c.from_residual.ensures) in
     let comparing = g.Q.OrdQuery.compare c.args.query in
-    rw (← c.self.view_is, none, c.in_err-ix.ensures.taken)
-    (LooksUpBy-ordered
-    (keys_of g.T.KeyedItem g.T.Key1.PartialEq.eq g.T.Key1.Hash.hash_input g.T.Key2.Ord.cmp g.S.BuildHasher
-    g.S.Hasher.Hasher) _ comparing
-    (compares_as_key g.T.Key2.Ord.cmp g.met.T.Key2.Ord.total comparing (g.met.Q.OrdQuery.lawful c.args.query))
-    None c.in_err-ix.ensures.found, refl)
+    rw (← c.self.view_is, none, c.in_err-ix.ensures.taken) (
+      LooksUpBy-ordered
+          (keys_of g.T.KeyedItem g.T.Key1.PartialEq.eq g.T.Key1.Hash.hash_input g.T.Key2.Ord.cmp g.S.BuildHasher
+          g.S.Hasher.Hasher) _ comparing
+          (compares_as_key g.T.Key2.Ord.cmp g.met.T.Key2.Ord.total comparing (g.met.Q.OrdQuery.lawful c.args.query))
+          None c.in_err-ix.ensures.found,
+      refl,
+    )
 
 pub invariant_of-self-2 : goal.invariant_of-self-2
 invariant_of-self-2 g c =
@@ -30,12 +32,14 @@ pub returns-clause-removes : goal.returns-clause-removes
 returns-clause-removes g c =
     let out = c.take_item-item.ensures in
     let comparing = g.Q.OrdQuery.compare c.args.query in
-    rw (← c.self.view_is, out.removed, c.take_index.ensures.taken, c.in_ok-ix.ensures.taken)
-    (LooksUpBy-ordered
-    (keys_of g.T.KeyedItem g.T.Key1.PartialEq.eq g.T.Key1.Hash.hash_input g.T.Key2.Ord.cmp g.S.BuildHasher
-    g.S.Hasher.Hasher) _ comparing
-    (compares_as_key g.T.Key2.Ord.cmp g.met.T.Key2.Ord.total comparing (g.met.Q.OrdQuery.lawful c.args.query))
-    _ c.in_ok-ix.ensures.found, (out.item, refl))
+    rw (← c.self.view_is, out.removed, c.take_index.ensures.taken, c.in_ok-ix.ensures.taken) (
+      LooksUpBy-ordered
+          (keys_of g.T.KeyedItem g.T.Key1.PartialEq.eq g.T.Key1.Hash.hash_input g.T.Key2.Ord.cmp g.S.BuildHasher
+          g.S.Hasher.Hasher) _ comparing
+          (compares_as_key g.T.Key2.Ord.cmp g.met.T.Key2.Ord.total comparing (g.met.Q.OrdQuery.lawful c.args.query))
+          _ c.in_ok-ix.ensures.found,
+      (out.item, refl),
+    )
 
 pub returns-clause-keeps : goal.returns-clause-keeps
 returns-clause-keeps g c =
