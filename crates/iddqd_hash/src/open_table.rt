@@ -3,8 +3,9 @@
 //! A pair stands in a cell that a walk by steps of one from cell `hash % cells` comes to before any
 //! empty cell, so a look-up ends at the first empty one. The full hash is kept beside each value, and a
 //! byte for each cell has seven bits of it, so that a walk reads few cells. A removed pair leaves a
-//! mark, which a walk passes and an insert takes. At least one cell of eight is empty. The contracts
-//! are those of [`HashTable`](crate::hash_table_reference::HashTable).
+//! mark, which a walk passes and an insert takes. At least one cell of eight is empty. To insert n
+//! pairs whose hashes share the low bits costs n * n / 2 steps. The contracts are those of
+//! [`HashTable`](crate::hash_table_reference::HashTable).
 //!
 //! Marks go when the table is placed anew: at the same size where at most three quarters of the limit
 //! are needed, else at twice the size, so that a table near its limit isn't placed anew again and
