@@ -4,3 +4,6 @@ pub mod InsertLemmas
 pub mod StepLemmas
 pub mod RunLemmas
 pub mod ValidationLemmas
+pub mod QueryLemmas
+pub mod WalkLemmas
+pub mod ReplacementLemmas

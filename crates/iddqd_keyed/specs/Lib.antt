@@ -5,6 +5,9 @@ pub mod Sides
 pub mod Machine
 pub mod Run
 pub mod Validation
+pub mod Queries
+pub mod Walks
+pub mod Replacement
 -- what a caller's clauses cite, from one place: of the crates below, and of this one
 pub use Rattle.iddqd.specs.Store
 pub use Rattle.iddqd.specs.Compaction
@@ -20,6 +23,9 @@ pub use Rattle.iddqd_keyed.specs.Keys.{keys_of}
 pub use Rattle.iddqd_keyed.specs.State.{empty_state, empty_state_within, cleared_state, unbound, Compacts, IsPaired}
 pub use Rattle.iddqd_keyed.specs.Sides.{hash_in, has, first_side, second_side, IsExact, LooksUp, AsScan}
 pub use Rattle.iddqd_keyed.specs.Sides.{FirstKeysInOrder, SecondKeysInOrder, InOrder, Keeps, KeepsUnlessChanged}
-pub use Rattle.iddqd_keyed.specs.Refusal.{index_or_dash, refusal_text}
+pub use Rattle.iddqd_keyed.specs.Refusal.{index_or_dash, refusal_text, replace_refusal_text}
 pub use Rattle.iddqd_keyed.specs.Machine.{StoresAt, Inserts, TellsAsScan, Removes, RemovesBy, Overwrites, Answers, Step}
 pub use Rattle.iddqd_keyed.specs.Run.{IsSilentChange}
+pub use Rattle.iddqd_keyed.specs.Queries.{LooksUpBy, GivesFound}
+pub use Rattle.iddqd_keyed.specs.Walks.{items_at}
+pub use Rattle.iddqd_keyed.specs.Replacement.{TellsOther, Becomes, Replaces}

@@ -11,7 +11,7 @@
 //! An insert is one search of the ordered table, which tells a duplicate, or else the place. Each call
 //! says that its states are paired, though the type does, so that `step` and `run` are proved from the
 //! calls' clauses alone. `walk` lends the indexes and takes no memory.
-ghost use Rattle.std.specs.Prelude.{◌≡◌, ◌↔◌, [], None, IsSome, IsOk, IfOk, OnOk, IfErr, OnErr, option_copied};
+ghost use Rattle.std.specs.Prelude.{◌≡◌, ◌↔◌, [], None, IsTrue, IsSome, IsOk, IfOk, OnOk, IfErr, OnErr, option_copied};
 ghost use Rattle.std.specs.FinMap as finite;
 ghost use Rattle.iddqd.specs.{get, live_count, next_index, inserted, removed, IsFull, IsValid, IsRemapOf};
 ghost use Rattle.iddqd_hash.specs.{filed};
@@ -24,7 +24,10 @@ ghost use Rattle.iddqd_keyed.specs.Sides.{first_side, second_side, finds_told, h
 ghost use Rattle.iddqd_keyed.specs.Machine.{Refuses, Inserts, TellsAsScan, Removes, RemovesBy, Overwrites, Step};
 ghost use Rattle.iddqd_keyed.specs.Run.{Run};
 
+mod queries;
+mod replaces;
 mod validation;
+mod walks;
 
 use crate::command::{Command, Reply};
 use crate::keyed_item::{First, KeyedItem, Second};
@@ -33,14 +36,16 @@ use iddqd::item_index::ItemIndex;
 use iddqd::item_set::{GrowError, ItemSet};
 use iddqd::map_hash::MapHash;
 use iddqd_hash::hash_table::MapHashTable;
-use iddqd_order::btree_table::{Entry, Iter, MapBTreeTable};
+use iddqd_order::btree_table::{Entry, MapBTreeTable};
 use iddqd_sides::key_of::ByKey;
 use iddqd_sides::{hashed, ordered};
+pub use replaces::ReplaceRefusal;
 use std::alloc::{AllocError, Global};
 use std::error::Error;
 use std::fmt;
 use std::hash::BuildHasher;
 use std::marker::Model;
+pub use walks::ValuesByKey2;
 
 /// Items that lend two keys each.
 ///
@@ -131,15 +136,15 @@ pub trait Keyed {
     type Item: KeyedItem;
 
     /// What hashes first keys.
-    type State: BuildHasher;
+    type Hasher: BuildHasher;
 
-    ghost keys: { Keys Self.Item Self.Item.Key1 Self.Item.Key2 Self.State };
+    ghost keys: { Keys Self.Item Self.Item.Key1 Self.Item.Key2 Self.Hasher };
 }
 
 impl<T: KeyedItem, S: BuildHasher> Keyed for KeyedItems<T, S> {
     type Item = T;
 
-    type State = S;
+    type Hasher = S;
 
     ghost keys = { keys_of T.KeyedItem T.Key1.eq T.Key1.hash_input T.Key2.cmp S.BuildHasher S.Hasher.Hasher };
 }
@@ -177,6 +182,13 @@ impl<T: KeyedItem, S: BuildHasher> KeyedItems<T, S> {
         self.items.len()
     }
 
+    /// Whether there is no item.
+    pub fn is_empty(&self) -> bool
+        ensures { IsTrue result ↔ (live_count self.now.store ≡ 0) }
+    {
+        self.items.is_empty()
+    }
+
     /// The item at an index, if it is live.
     pub fn get(&self, ix: ItemIndex) -> Option<&T>
         ensures { option_copied result ≡ get self.now.store ix }
@@ -201,17 +213,6 @@ impl<T: KeyedItem, S: BuildHasher> KeyedItems<T, S> {
         ensures found { LooksUp (second_side ⟦<Self as Keyed>⟧.keys) self.now key.now result }
     {
         ordered::find::<T, Second, ByKey<T::Key2>>(&self.order, &self.items, &ByKey(key))
-    }
-
-    /// The indexes in the order of the ordered table: by second key, where none was changed silently.
-    /// It takes no memory.
-    pub fn walk(&self) -> Iter<'_>
-        ensures order { indexes_left result ≡ self.now.order }
-        ensures paired { IsPaired self.now }
-        ensures as_scan { let side = second_side ⟦<Self as Keyed>⟧.keys in
-            IsExact side self.now → side.Lists self.now.store (indexes_left result) }
-    {
-        self.order.iter()
     }
 
     /// Takes an item, where neither of its keys is found.
@@ -370,20 +371,6 @@ impl<T: KeyedItem, S: BuildHasher> KeyedItems<T, S> {
     {
         let query = ByKey(key);
         hashed::find::<T, First, ByKey<T::Key1>>(&self.filed, &self.items, hash, &query)
-    }
-
-    // The indexes in the order of the ordered table, in memory of their own.
-    fn indexes(&self) -> Result<Vec<ItemIndex>, AllocError>
-        ensures paired { IsPaired self.now }
-        ensures all { IfOk result (λ indexes. indexes.items ≡ self.now.order) }
-        ensures empty { self.now.order ≡ [] → IsOk result }
-    {
-        let walk = self.walk();
-        let mut indexes = Vec::with_capacity(self.alloc, walk.len())?;
-        for ix in walk {
-            indexes.push_reserved(ix);
-        }
-        Ok(indexes)
     }
 }
 

@@ -21,6 +21,7 @@ mod model;
 mod numbered;
 mod original;
 mod queries;
+mod record_table;
 mod refused;
 mod refused_replies;
 mod renaming;

@@ -7,3 +7,5 @@ pub mod OrderedHoldsLemmas
 pub mod OrderedPlaceLemmas
 pub mod IndexingLemmas
 pub mod OrderedEndLemmas
+pub mod OrderedIndexingLemmas
+pub mod OrderedCountLemmas

@@ -21,19 +21,13 @@ use Rattle.iddqd_order.specs.Search as search
 use Rattle.iddqd_order.specs.Search.{IsSteady, IsSteadyRising, IsRising, with_ties}
 use Rattle.iddqd_order.proofs.KeyOrderLemmas.{IsRising-from_query}
 use Rattle.iddqd_sides.specs.Scan.{IsHit, HasNoHit, passes_by}
+use Rattle.iddqd_sides.specs.OrderedQuery.{IsQuery}
 use Rattle.iddqd_sides.specs.Ordered.{Holds, IsInPlace, Finds, LooksUp, Enters, is_equal, compared, key_at}
 use Rattle.iddqd_sides.proofs.ScanLemmas.{AnswersScan-hit}
 
 module _ {K : Type 0} (compare : K → K → Ordering) where
-  -- a query that compares so with keys goes along their order, and stands for one key
-  pub record IsQuery (comparing : K → Ordering) : Type 0 where
-    pub less_after : (a b : K) → compare a b ≡ Less → comparing a ≡ Less → comparing b ≡ Less
-    pub greater_before : (a b : K) → compare a b ≡ Less → comparing b ≡ Greater → comparing a ≡ Greater
-    pub equal_keys : (a b : K) → compare a b ≡ Equal → comparing a ≡ comparing b
-    pub one_key : (a b : K) → comparing a ≡ Equal → comparing b ≡ Equal → compare a b ≡ Equal
-
   -- a query whose type keeps its laws does
-  pub IsQuery-lawful : {comparing : K → Ordering} (equivalent : K → Bool) → ((a b : K) → compare a b ≡ Less → comparing a ≡ Less → comparing b ≡ Less) → ((a b : K) → compare a b ≡ Less → comparing b ≡ Greater → comparing a ≡ Greater) → ((a b : K) → compare a b ≡ Equal → comparing a ≡ comparing b) → ((k : K) → IsTrue (equivalent k) ↔ (comparing k ≡ Equal)) → ((k a : K) → IsTrue (equivalent k) → comparing a ≡ compare k a) → IsQuery comparing
+  pub IsQuery-lawful : {comparing : K → Ordering} (equivalent : K → Bool) → ((a b : K) → compare a b ≡ Less → comparing a ≡ Less → comparing b ≡ Less) → ((a b : K) → compare a b ≡ Less → comparing b ≡ Greater → comparing a ≡ Greater) → ((a b : K) → compare a b ≡ Equal → comparing a ≡ comparing b) → ((k : K) → IsTrue (equivalent k) ↔ (comparing k ≡ Equal)) → ((k a : K) → IsTrue (equivalent k) → comparing a ≡ compare k a) → IsQuery compare comparing
   IsQuery-lawful equivalent less_after greater_before equal_keys equal as_key = record {
     less_after = less_after;
     greater_before = greater_before;
@@ -41,17 +35,8 @@ module _ {K : Type 0} (compare : K → K → Ordering) where
     one_key = λ a b one other. sym (as_key a b ((equal a).1 one)) ∙ other;
   }
 
-  -- a key does
-  pub IsQuery-key : IsTotalOrder compare → (key : K) → IsQuery (compare key)
-  IsQuery-key o key = record {
-    less_after = λ a b before less. o.trans key a b less before;
-    greater_before = greater_before_in o key;
-    equal_keys = λ a b same. alike_right o a b key same;
-    one_key = λ a b one other. sym (o.congr key a b one) ∙ other;
-  }
-
   -- the same along optional keys, none first
-  module _ (comparing : K → Ordering) (query : IsQuery comparing) where
+  module _ (comparing : K → Ordering) (query : IsQuery compare comparing) where
     less_after : (a b : Option K) → option_cmp compare a b ≡ Less → compared comparing a ≡ Less → compared comparing b ≡ Less
     less_after None b before less = cc
     less_after (Some a) None before less = cc

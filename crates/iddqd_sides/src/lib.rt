@@ -9,5 +9,7 @@ pub mod hashed;
 pub mod hashed_move;
 pub mod hashed_query;
 pub mod key_of;
+pub mod order_query;
 pub mod ordered;
+pub mod ordered_query;
 pub mod query;

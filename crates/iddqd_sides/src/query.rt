@@ -56,9 +56,9 @@ impl<A: Allocator> HashQuery<String<A>> for &str {
     }
 }
 
-// A query as what tables are asked by.
+/// A query as what tables are asked by.
 #[derive(Clone, Copy)]
-pub(crate) struct Asked<Q>(pub(crate) Q);
+pub struct Asked<Q>(pub Q);
 
 impl<K: Eq + Hash, Q: HashQuery<K>> Equivalent<K> for Asked<Q> {
     ghost equivalent = { λ q k. Q.stands_for q.0 k };
