@@ -11,5 +11,6 @@ pub mod hashed_query;
 pub mod key_of;
 pub mod order_query;
 pub mod ordered;
+pub mod ordered_move;
 pub mod ordered_query;
 pub mod query;
