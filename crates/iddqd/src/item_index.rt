@@ -1,4 +1,7 @@
 //! Numbers that name the items of an `ItemSet`.
+//!
+//! Clauses say the number of `SENTINEL` as `sentinel`: a constant of a type with a model has no
+//! name in them.
 ghost use Rattle.std.specs.Prelude.{◌≡◌, ◌<◌, SomeIff};
 ghost use Rattle.iddqd.specs.Store.{sentinel};
 

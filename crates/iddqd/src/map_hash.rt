@@ -1,8 +1,9 @@
 //! Hashes of keys, and queries that stand for keys.
 //!
 //! A table of indexes holds no keys. It is searched by a query, which answers how it compares with
-//! the key of an index. A query that is [`Equivalent`] to a key has to hash as that key does; no
-//! trait states this, so it is a premise of whoever searches a table of hashes.
+//! the key of an index. A query that is [`Equivalent`] to a key has to hash as that key does; the
+//! trait doesn't state this, so it is a premise of whoever searches a table of hashes. One that is
+//! [`Comparable`] compares as that key does, so an insert by it goes to the key's place.
 ghost use Rattle.std.specs.Prelude.{◌≡◌, ◌↔◌, Bool, IsTrue};
 ghost use Rattle.std.specs.declared.cmp.Ordering.{Ordering};
 ghost use Rattle.std.specs.declared.cmp.Ordering.TheVariants.{Less, Equal, Greater};

@@ -3,15 +3,19 @@
 //! A pair stands in a cell that a walk by steps of one from cell `hash % cells` comes to before any
 //! empty cell, so a look-up ends at the first empty one. The full hash is kept beside each value, and a
 //! byte for each cell has seven bits of it, so that a walk reads few cells. A removed pair leaves a
-//! mark, which a walk passes and an insert takes. At least one cell of eight is empty. The contracts
-//! are those of [`HashTable`](crate::hash_table_reference::HashTable).
+//! mark, which a walk passes and an insert takes. At least one cell of eight is empty. To insert n
+//! pairs whose hashes share the low bits costs n * n / 2 steps. The contracts are those of
+//! [`HashTable`](crate::hash_table_reference::HashTable).
 //!
-//! Marks go when the table is placed anew: at the same size where at most three quarters of the limit
-//! are needed, else at twice the size, so that a table near its limit isn't placed anew again and
-//! again. Tags stand apart from cells, since at 1,000 entries a miss took 1.4 times hashbrown's time
-//! so, and 7.7 times in one vector of cells. Up to 65536 cells a walk begins with sixteen tags, which
-//! spares a branch guessed wrong; past them with the home's tag alone, since then the processor fetches
-//! the home's cell before it has the tag.
+//! Marks go when the table is placed anew: at the same size where at most three quarters of the
+//! limit are needed, else at twice the size, so that a table near its limit isn't placed anew again
+//! and again. With seven eighths in the place of three quarters a removal with an insert took 114
+//! ns at 100,000 entries, not 81. Tags stand apart from cells, since at 1,000 entries a miss took
+//! 1.4 times hashbrown's time so, and 7.7 times in one vector of cells. Up to 65536 cells a walk
+//! begins with sixteen tags, which spares a branch guessed wrong: at 1,000 a hit took 2.1 times
+//! hashbrown's time without that, and 1.7 with it. Past them it begins with the home's tag alone,
+//! since then the processor fetches the home's cell before it has the tag: with sixteen a hit took
+//! 1.5 times as long.
 //!
 //! An insert writes its cell unread, since safe code would load the cell to drop what stood there: the
 //! one `unsafe` line. `grow` and `later_match` stand apart, so that what runs mostly is short enough

@@ -1,7 +1,7 @@
 //! Entries of a table of cells, whichever table it is: the place of a value, or room for one that isn't there.
 //!
-//! A table names them by aliases, and has its own `find_entry` and `entry`: where the lender is a type parameter,
-//! the check proves no clause on what it ends as.
+//! A table names them by aliases, and has its own `find_entry` and `entry`: so callers import no
+//! trait, and where the lender is a type parameter, the check proves no clause on what it ends as.
 ghost use Rattle.std.specs.Prelude.{◌≡◌, ◌∷◌, ◌≤◌, Some, IsSome};
 ghost use Rattle.std.specs.List.Sorted.{IsPermutation};
 ghost use Rattle.std.specs.Fn.{TakesAt, CalledAt};

@@ -1,4 +1,6 @@
 //! What can be asked of keyed items, and what is answered.
+//!
+//! `Command` doesn't print or compare, since its keys are types of the item's. `Reply` does.
 use crate::keyed_item::KeyedItem;
 use crate::keyed_items::InsertRefusal;
 use iddqd::index_remap::IndexRemap;

@@ -2,3 +2,5 @@
 pub use Rattle.iddqd_map_base.specs.Map
 pub use Rattle.iddqd_map_base.specs.Calls
 pub use Rattle.iddqd_id_hash.specs.IdMap
+pub use Rattle.iddqd_id_ord.specs.OrdMap
+pub use Rattle.iddqd_id_ord.specs.KeyOrder

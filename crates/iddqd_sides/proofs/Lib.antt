@@ -9,3 +9,5 @@ pub mod IndexingLemmas
 pub mod OrderedEndLemmas
 pub mod OrderedIndexingLemmas
 pub mod OrderedCountLemmas
+pub mod OrderedRangeLemmas
+pub mod OrderedMoveLemmas

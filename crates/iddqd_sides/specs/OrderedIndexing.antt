@@ -1,13 +1,16 @@
 -- A table of indexes in an order by which each look-up of a store's items answers as a scan of them does.
-use Rattle.std.specs.Prelude.{◌≡◌, ◌≢◌, ℕ, Bool, List, Some, Result, Ok, Err}
+use Rattle.std.specs.Prelude.{◌≢◌, ◌↔◌, ℕ, Bool, List, Some, Result, Ok, Err}
+use Rattle.std.specs.List.{Contains}
 use Rattle.std.specs.Ordering.{eq_by_cmp}
 use Rattle.std.specs.declared.cmp.Ordering.{Ordering}
 use Rattle.iddqd.specs.Store.{Store}
 use Rattle.iddqd_order.specs.Entry.{entry_index, vacant_place}
 use Rattle.iddqd_order.specs.declared.btree_table.entry.Entry.{Entry}
 use Rattle.iddqd_order.specs.declared.btree_table.entry.Entry.TheVariants.{Occupied, Vacant}
-use Rattle.iddqd_sides.specs.Scan.{HasNoHit, AnswersScan, passes_by}
-use Rattle.iddqd_sides.specs.Ordered.{Holds, IsExact, IsVacantAt}
+use Rattle.iddqd_sides.specs.Scan.{IsHit, HasNoHit, AnswersScan, passes_by}
+use Rattle.iddqd_sides.specs.Ordered.{Holds, IsInPlace, IsExact, IsVacantAt}
+use Rattle.iddqd_sides.specs.declared.ordered_move.Move.{Move}
+use Rattle.iddqd_sides.specs.declared.ordered_move.Move.TheVariants.{Stays, Moves}
 
 module _ {T K : Type 0} (key_of : T → K) (compare : K → K → Ordering) where
   -- the item has this key
@@ -25,3 +28,15 @@ module _ {T K : Type 0} (key_of : T → K) (compare : K → K → Ordering) wher
   EntersKey s order key (Occupied entry) = AnswersScan s (has_key key) (Some (entry_index entry))
   EntersKey s order key (Vacant entry) =
       HasNoHit s (has_key key) × IsVacantAt key_of compare s order (compare key) (vacant_place entry)
+
+  -- these are exactly the live indexes whose items' keys pass, sorted by key
+  pub record SortsWithin (within : K → Bool) (s : Store T) (indexes : List ℕ) : Type 0 where
+    pub each : (ix : ℕ) → Contains indexes ix ↔ IsHit s (passes_by key_of within) ix
+    pub placed : IsInPlace key_of compare s indexes
+
+  -- What has to become of a live index that is given this item: it stays where the key stays, and else, where no item
+  -- has the key, it moves; or the index of another item that has the key.
+  abbrev pub PlansOrClashes : Store T → ℕ → T → Result Move ℕ → Type 0
+  PlansOrClashes s ix item (Ok Stays) = IsHit s (has_key (key_of item)) ix
+  PlansOrClashes s ix item (Ok Moves) = HasNoHit s (has_key (key_of item))
+  PlansOrClashes s ix item (Err at) = (at ≢ ix) × AnswersScan s (has_key (key_of item)) (Some at)

@@ -1,10 +1,12 @@
 -- What a query keeps that has a place in the order of the keys.
-use Rattle.std.specs.Prelude.{◌≡◌}
+use Rattle.std.specs.Prelude.{◌≡◌, ◌&&◌, Bool, true, not}
 use Rattle.std.proofs.Common.{◌∙◌, ap, refl, sym}
 use Rattle.std.specs.Cmp.{IsTotalOrder}
-use Rattle.std.specs.Ordering.{ordering_reverse}
+use Rattle.std.specs.Ordering.{ordering_reverse, is_lt, is_gt}
 use Rattle.std.specs.declared.cmp.Ordering.{Ordering}
 use Rattle.std.specs.declared.cmp.Ordering.TheVariants.{Less, Equal, Greater}
+use Rattle.std.specs.declared.ops.Bound.{Bound}
+use Rattle.std.specs.declared.ops.Bound.TheVariants.{Included, Excluded, Unbounded}
 use Rattle.std.proofs.lemmas.Cmp.{alike_right}
 use Rattle.iddqd.specs.MapHashLaws.{greater_before_in}
 
@@ -57,3 +59,20 @@ IsQuery-on part compare comparing query = record {
   equal_keys = λ a b. query.equal_keys (part a) (part b);
   one_key = λ a b. query.one_key (part a) (part b);
 }
+
+module _ {K : Type 0} where
+  -- whether the key isn't before a lower bound, which says how its query compares with keys
+  abbrev pub is_from : Bound (K → Ordering) → K → Bool
+  is_from (Included comparing) key = not (is_gt (comparing key))
+  is_from (Excluded comparing) key = is_lt (comparing key)
+  is_from Unbounded key = true
+
+  -- whether it isn't behind an upper bound
+  abbrev pub is_up_to : Bound (K → Ordering) → K → Bool
+  is_up_to (Included comparing) key = not (is_lt (comparing key))
+  is_up_to (Excluded comparing) key = is_gt (comparing key)
+  is_up_to Unbounded key = true
+
+  -- whether it is between both
+  abbrev pub is_between : Bound (K → Ordering) → Bound (K → Ordering) → K → Bool
+  is_between lower upper key = is_from lower key && is_up_to upper key

@@ -4,6 +4,8 @@
 //! hits an index whose item compares otherwise now, and an index is still taken out by `take_index`.
 //! An insert takes `entry`, which finds its place or the index that has the key by one search; the
 //! table is lent alone then, so the store may be changed before the index is put there.
+//!
+//! No query needs a premise: by the laws of `Comparable` it stands for one key.
 ghost use Rattle.std.specs.Prelude.{◌≡◌};
 ghost use Rattle.iddqd_order.specs.{entry_table, order_of, without};
 ghost use Rattle.iddqd_sides.specs.Scan.{IsLive, IsKeyAt};

@@ -1,8 +1,8 @@
 //! Items with three unique keys: a store and three tables of its indexes under hashes.
 //!
-//! As in [`crate::keyed_items`] the items stand in the store alone, and the tables read keys from it.
-//! No call changes a key of a stored item, so each table has each live index under the hash of its key
-//! now, and a look-up answers as a scan would.
+//! The items stand in the store alone, and the tables read keys from it. No call changes a key of a
+//! stored item, so each table has each live index under the hash of its key now, and a look-up
+//! answers as a scan would.
 //!
 //! An item that shares keys with others takes their place. Its clashes are found, then all memory is
 //! taken, and only then are they removed.

@@ -1,7 +1,8 @@
 //! The check of a store's slots.
 //!
-//! The walk along the chain marks nothing, since it takes no memory: it counts. A chain that comes back to a slot
-//! passes more vacant slots than there are, and one that ends has none twice.
+//! The walk along the chain marks nothing, since it takes no memory: it counts. A chain that comes
+//! back to a slot passes more vacant slots than there are, and one that ends has none twice. A
+//! chain has indexes alone, so slots with a vacant one at `SENTINEL`'s number are never sound.
 ghost use Rattle.std.specs.Prelude.{◌≡◌, ◌≢◌, ◌+◌, ◌-◌, ◌↔◌, ℕ, List, Ok, Err, Some, length, map, is_some, count_by, slice_get, IsOk, IfErr, MatchResult};
 ghost use Rattle.iddqd.specs.declared.item_set.ItemSlot.TheVariants.{Vacant};
 ghost use Rattle.iddqd.specs.Slots.{item_of, HasChain, IsSound};

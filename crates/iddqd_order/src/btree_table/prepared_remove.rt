@@ -1,4 +1,7 @@
 //! A removal whose place is found, or missing.
+//!
+//! What it leaves is said by a filter of the list and not by a place, so a tree meets it word for
+//! word.
 ghost use Rattle.std.specs.Prelude.{◌≡◌, IsTrue, false};
 ghost use Rattle.iddqd_order.specs.MapBTreeTable.{order_of, without, LeadsTo, LeadsTo-prop};
 

@@ -6,6 +6,9 @@
 //!
 //! What is left isn't counted, since a tree doesn't count what is below a node: the walk has ended where
 //! its ends stand at one gap.
+//!
+//! A range is said by two places, each the bound where answers rise, so it means something under
+//! any. `range_by` has included bounds alone: a closure makes another one by its answer at Equal.
 ghost use Rattle.std.specs.Prelude.{◌≡◌, ◌≢◌, None, length};
 ghost use Rattle.std.specs.declared.cmp.Ordering.{Ordering};
 ghost use Rattle.std.specs.declared.cmp.Ordering.TheVariants.{Less, Equal, Greater};

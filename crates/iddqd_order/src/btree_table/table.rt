@@ -38,7 +38,7 @@ use std::marker::Model;
 /// A contract sees the list by `order_of`. The closures that order it may answer anything: each
 /// call keeps the list distinct, changes no index but its own, and asks about stored indexes alone,
 /// at most 4 plus twice the number of binary digits of the length. No call but the three prepares of
-/// an insert, that of a move, and `clone` can be refused memory.
+/// an insert, that of a move, `clone` and `validate` can be refused memory.
 #[derive(Drop)]
 pub struct MapBTreeTable {
     root: Option<Node>,

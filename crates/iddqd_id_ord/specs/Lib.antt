@@ -1,0 +1,3 @@
+pub mod OrdMap
+pub mod KeyOrder
+pub mod Pairs

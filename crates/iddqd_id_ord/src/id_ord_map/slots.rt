@@ -1,0 +1,34 @@
+//! The slots of a map, forgotten or closed up.
+ghost use Rattle.std.specs.Prelude.{◌≡◌, ◌≤◌, [], IsOk, IfOk, OnOk, OnErr};
+ghost use Rattle.iddqd.specs.{cleared, IsRemapOf};
+ghost use Rattle.iddqd_map_base.specs.Calls.{Compacts};
+
+use super::{IdOrdItem, IdOrdMap};
+use iddqd::index_remap::IndexRemap;
+use std::alloc::AllocError;
+
+impl<T: IdOrdItem> IdOrdMap<T> {
+    /// Forgets all items and all slots, so that the next index is 0. It takes no memory.
+    pub fn clear(&mut self)
+        ensures store { self.new.store ≡ cleared self.old.store }
+        ensures room { self.old.room ≤ self.new.room }
+    {
+        self.items.clear();
+        self.table.clear();
+    }
+
+    /// Moves every item down to its rank, so that no slot is vacant, and tells the new names.
+    ///
+    /// No key is compared. Where no slot is vacant it is `Identity` and takes no memory. Else it takes
+    /// that of one index a slot before an item moves; where that is refused nothing changes.
+    pub fn compact(&mut self) -> Result<IndexRemap, AllocError>
+        ensures remap { IfOk result (IsRemapOf self.old.store) }
+        ensures compacted { OnOk result (Compacts self.old self.new) }
+        ensures refused { OnErr result (self.new ≡ self.old) }
+        ensures dense { self.old.store.free ≡ [] → IsOk result }
+    {
+        let remap = self.items.compact()?;
+        self.table.remap_indexes(&remap);
+        Ok(remap)
+    }
+}
