@@ -1,3 +1,4 @@
 pub mod Map
 pub mod Calls
+pub mod Several
 pub mod Refusal
