@@ -47,11 +47,10 @@ impl<T: BiHashItem, S: BuildHasher> BiHashMap<T, S> {
             Overwriting (either_key first second) 2 self.old item result self.new }
     {
         let hashes = BiHashes::of(&self.state, &item);
-        let (items, tables) = (&mut self.items, &mut self.tables);
-        match insert(items, tables, &self.state, &hashes, item) {
+        match insert(&mut self.items, &mut self.tables, &self.state, &hashes, item) {
             Ok(ix) => Ok((ix, [None, None])),
             Err(InsertRefusal::Duplicate { item, at }) => {
-                overwrite(items, tables, &self.state, &hashes, item, &at)
+                overwrite(&mut self.items, &mut self.tables, &self.state, &hashes, item, &at)
             }
             Err(InsertRefusal::Full(item)) => Err(OverwriteRefusal::Full(item)),
             Err(InsertRefusal::Memory(item)) => Err(OverwriteRefusal::Memory(item)),
