@@ -1,23 +1,21 @@
 -- What becomes of a map with two keys in each step of its store and its tables.
-use Rattle.std.proofs.Common.{◌≡◌, ◌∙◌, ◌⊎◌, inl, inr, ◌↔◌, ◌+◌, ◌≤◌, ◌&&◌, ℕ, zero, suc, min, Bool, true, false, not, List, [], ◌∷◌, length, map, Option, Some, None, IsSome, IsTrue, Result, Ok, Err, refl, sym, ap, subst, arith}
+use Rattle.std.proofs.Common.{◌≡◌, ◌∙◌, ◌⊎◌, inl, inr, ◌+◌, ◌≤◌, ◌&&◌, ℕ, zero, suc, min, Bool, true, false, not, List, Option, Some, None, IsSome, IsTrue, Result, Ok, Err, refl, ap, arith}
 use Rattle.std.specs.Cmp.{IsPartialEquivalence}
-use Rattle.std.specs.List.{Contains}
 use Rattle.std.specs.Option.{OnSome}
 use Rattle.std.specs.Result.{result_err}
-use Rattle.std.specs.FinMap as finite
 use Rattle.std.specs.declared.hash.Hasher as hasher
 use Rattle.std.specs.declared.hash.BuildHasher as builder
 use Rattle.iddqd.proofs.LiveLemmas.{item_at, live_at}
 use Rattle.iddqd.proofs.RoomLemmas.{room-rebound}
 use Rattle.iddqd.proofs.CompactionLemmas.{IsValid-compacted}
 use Rattle.iddqd.proofs.StoreLemmas.{IsValid-empty, IsValid-removed, IsValid-inserted, IsValid-rebound}
-use Rattle.iddqd.specs.Store.{Store, IsValid, IsFull, slot_limit, empty_within, cleared, get, next_index, inserted, removed, rebound}
+use Rattle.iddqd.specs.Store.{Store, IsFull, slot_limit, empty_within, cleared, get, next_index, inserted, removed, rebound}
 use Rattle.iddqd.specs.Compaction.{compacted, rank}
 use Rattle.iddqd.specs.ItemSet.{SizedStore, with_item, room as set_room}
 use Rattle.iddqd_hash.specs.HashTable.{Table, room as table_room}
 use Rattle.iddqd_hash.specs.MapHashTable.{filed, Renames}
 use Rattle.iddqd_sides.specs.Scan.{IsLive, IsHit, HasNoHit, AnswersScan}
-use Rattle.iddqd_sides.specs.Hashed.{Hashing, IsLawful}
+use Rattle.iddqd_sides.specs.Hashed.{IsLawful}
 use Rattle.iddqd_sides.specs.Indexing.{Indexes, Plans, PlansOrClashes, IfStays, LacksRoom}
 use Rattle.iddqd_sides.specs.declared.hashed_move.Move.{Move}
 use Rattle.iddqd_sides.specs.declared.hashed_move.Move.TheVariants.{Stays, To}
@@ -185,10 +183,14 @@ module _ {T K1 K2 : Type 0} (keys : BiKeys T K1 K2) (items : SizedStore T) (tabl
   -- there is no room for what was planned
   pub LacksRoomFor-planned : LackRoom plans tables → LacksRoomFor (alike keys) (same keys) (map_of items tables) ix item
   LacksRoomFor-planned lacks = record {
-    changed = (was, live, not_both _ _ (elim lacks [
-      | inl one ↦ inl (unlike_by keys.first items.store ix item was live plans.first tables.first planned.first one)
-      | inr two ↦ inr (unlike_by keys.second items.store ix item was live plans.second tables.second planned.second two)
-    ]));
+    changed = (
+      was,
+      live,
+      not_both _ _ (elim lacks [
+        | inl one ↦ inl (unlike_by keys.first items.store ix item was live plans.first tables.first planned.first one)
+        | inr two ↦ inr (unlike_by keys.second items.store ix item was live plans.second tables.second planned.second two)
+      ]),
+    );
     no_other = no_other;
     no_room = elim lacks [
       | inl one ↦ none_first _ _ _ (lacks_none plans.first tables.first one)

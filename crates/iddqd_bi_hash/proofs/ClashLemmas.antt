@@ -1,14 +1,14 @@
 -- The items that clash with one: where they are, and what their removal leaves.
-use Rattle.std.proofs.Common.{◌≡◌, ◌≢◌, ◌∙◌, ◌⊎◌, inl, inr, ◌↔◌, ◌+◌, ◌<◌, ◌≤◌, ℕ, Bool, List, [], ◌∷◌, map, Option, Some, None, IsSome, refl, sym, subst, arith}
+use Rattle.std.proofs.Common.{◌≡◌, ◌≢◌, ◌∙◌, inl, inr, ◌↔◌, ◌+◌, ◌≤◌, ℕ, Bool, List, [], ◌∷◌, map, Option, Some, None, IsSome, refl, subst, arith}
 use Rattle.std.specs.List.{Contains}
 use Rattle.std.specs.Option.{IfSome, option_and_then}
-use Rattle.iddqd.specs.Store.{Store, IsFull, get, next_index, inserted, removed}
+use Rattle.iddqd.specs.Store.{Store, get, next_index, inserted}
 use Rattle.iddqd.specs.ItemSet.{SizedStore, room as set_room}
 use Rattle.iddqd.proofs.LiveLemmas.{get-removed_other}
 use Rattle.iddqd_hash.specs.HashTable.{room as table_room}
 use Rattle.iddqd_sides.specs.Scan.{IsLive, IsHit, HasNoHit, AnswersScan}
 use Rattle.iddqd_sides.proofs.ScanLemmas.{scan_hits}
-use Rattle.iddqd_map_base.specs.Several.{either_key, padded, removed_all, IsBefore, IsOneOfTwo, AreClashes, OverwritesAt}
+use Rattle.iddqd_map_base.specs.Several.{either_key, padded, removed_all, IsBefore, IsOneOfTwo, OverwritesAt}
 use Rattle.iddqd_map_base.proofs.RoomLemmas.{min_falls}
 use Rattle.iddqd_map_base.proofs.SeveralLemmas.{listed, before_less, none_before, Contains-listed, IsRising-listed, at_most_two, IsHit-either, HasNoHit-removed_all}
 use Rattle.iddqd_bi_hash.specs.BiMap.{AreTold, map_of}
