@@ -1,2 +1,5 @@
 pub mod RoomLemmas
 pub mod CountLemmas
+pub mod RetainLemmas
+pub mod EqualityLemmas
+pub mod CloneLemmas

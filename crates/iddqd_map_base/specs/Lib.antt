@@ -1,3 +1,5 @@
 pub mod Map
 pub mod Calls
 pub mod Refusal
+pub mod Retain
+pub mod Equality
