@@ -1,14 +1,12 @@
 -- For maps: a clone of a store has the same indexes, and where clones keep their keys the same table indexes it.
-use Rattle.std.proofs.Common.{◌≡◌, ◌∙◌, ◌↔◌, ℕ, zero, suc, ◌+◌, ◌<◌, Bool, true, List, [], ◌∷◌, length, get_or, Option, Some, None, is_some, IsSome, count_by, cond, refl, sym, ap, subst, arith}
+use Rattle.std.proofs.Common.{◌≡◌, ◌∙◌, ◌↔◌, ℕ, zero, suc, true, List, [], ◌∷◌, length, get_or, Option, Some, None, is_some, count_by, cond, refl, sym, ap, subst, arith}
 use Rattle.std.specs.List.{AllZip}
 use Rattle.std.specs.Ordering.{nat_cmp}
-use Rattle.std.specs.FinMap as finite
 use Rattle.std.specs.FinMap.{FinMap}
 use Rattle.std.proofs.lemmas.List.Elements.{length_all_zip}
 use Rattle.std.proofs.lemmas.List.Sums.{sum_by-cons}
-use Rattle.iddqd.specs.Store.{Store, IsVacant, IsValid, get}
+use Rattle.iddqd.specs.Store.{Store, IsValid, get}
 use Rattle.iddqd.specs.Clones.{IsItemClone, IsStoreClone}
-use Rattle.iddqd_sides.specs.Scan.{IsLive, AreApart}
 use Rattle.iddqd_sides.specs.Hashed.{Hashing, IsLawful}
 use Rattle.iddqd_sides.specs.Indexing.{Indexes}
 

@@ -1,8 +1,7 @@
 -- Equality of maps by their items: its laws, and that one way of it and the numbers of items are enough.
-use Rattle.std.proofs.Common.{◌≡◌, ◌∙◌, ℕ, zero, suc, ◌+◌, ◌≤◌, Bool, true, false, ◌&&◌, ◌||◌, List, [], ◌∷◌, ◌++◌, length, get_or, Option, Some, None, refl, sym, ap, subst, arith, append_assoc, true≢false}
-use Rattle.std.specs.Bool.{⊤}
+use Rattle.std.proofs.Common.{◌≡◌, ◌∙◌, ℕ, zero, suc, ◌≤◌, Bool, true, false, ◌&&◌, ◌||◌, List, [], ◌∷◌, ◌++◌, length, get_or, Option, Some, None, refl, sym, ap, subst, arith, append_assoc, true≢false}
 use Rattle.std.specs.Cmp.{IsPartialEquivalence, IsEquivalence, equiv, partial_equiv_from_equiv, first_so, second_so, both_ways}
-use Rattle.std.specs.List.{IsDistinct, AllByRecursion, list_any, list_all}
+use Rattle.std.specs.List.{IsDistinct, AllByRecursion, list_any}
 use Rattle.std.specs.Ordering.{eq_of_both}
 use Rattle.std.proofs.lemmas.List.{length-append}
 use Rattle.std.proofs.lemmas.List.Folds.{list_all-append, list_any-append}
@@ -10,7 +9,7 @@ use Rattle.iddqd.specs.Store.{Store, get, live_count}
 use Rattle.iddqd.specs.LiveItems.{items_in, live_items}
 use Rattle.iddqd.proofs.LiveItemLemmas.{length-items_in}
 use Rattle.iddqd_hash.proofs.AskLemmas.{or_true}
-use Rattle.iddqd_sides.specs.Scan.{IsHit, HasNoHit, AnswersScan, AreApart}
+use Rattle.iddqd_sides.specs.Scan.{HasNoHit, AreApart}
 use Rattle.iddqd_map_base.specs.Map.{MapState, FindsItem, shares}
 use Rattle.iddqd_map_base.specs.Equality.{each_among, has_same_items}
 
@@ -104,8 +103,8 @@ module _ {T : Type 0} (same : T → T → Bool) where
   split_at x (y ∷ ys) h = or_cases (same x y) (list_any (same x) ys) h
       (λ first. record { front = []; there = y; back = ys; whole = refl; is = first })
       (λ _ later.
-          let rest = split_at x ys later in
-          record { front = y ∷ rest.front; there = rest.there; back = rest.back; whole = ap (λ l. y ∷ l) rest.whole; is = rest.is })
+      let rest = split_at x ys later in
+      record { front = y ∷ rest.front; there = rest.there; back = rest.back; whole = ap (λ l. y ∷ l) rest.whole; is = rest.is })
 
   -- what isn't the same as the one there has one among the others
   any_but : (z : T) (front back : List T) (there : T) → same z there ≡ false → list_any (same z) (front ++ there ∷ back) ≡ true → list_any (same z) (front ++ back) ≡ true
@@ -142,7 +141,7 @@ module _ {T : Type 0} (same : T → T → Bool) where
     covers (x ∷ xs) ys distinct each =
         let split = split_at x ys (first_so (list_any (same x) ys) (each_among same xs ys) each) in
         let rest : each_among same xs (split.front ++ split.there ∷ split.back) ≡ true =
-            subst (λ l. each_among same xs l ≡ true) split.whole (second_so (list_any (same x) ys) (each_among same xs ys) each) in
+        subst (λ l. each_among same xs l ≡ true) split.whole (second_so (list_any (same x) ys) (each_among same xs ys) each) in
         let others = covers xs (split.front ++ split.back) distinct.1 (each_but x xs split.front split.back split.there distinct.0 split.is rest) in
         let long = ap length split.whole ∙ length-append split.front (split.there ∷ split.back) in
         let short = length-append split.front split.back in
@@ -155,7 +154,7 @@ module _ {T : Type 0} (same : T → T → Bool) where
               let front = first_so (each_among same split.front (x ∷ xs)) (each_among same split.back (x ∷ xs)) parts in
               let back = second_so (each_among same split.front (x ∷ xs)) (each_among same split.back (x ∷ xs)) parts in
               let there : list_any (same split.there) (x ∷ xs) ≡ true =
-                  ap (λ b. b || list_any (same split.there) xs) (turn split.there x ∙ split.is) in
+              ap (λ b. b || list_any (same split.there) xs) (turn split.there x ∙ split.is) in
               subst (λ l. each_among same l (x ∷ xs) ≡ true) (sym split.whole)
               (list_all-append (λ z. list_any (same z) (x ∷ xs)) split.front (split.there ∷ split.back)
               ∙ both_true (each_among same split.front (x ∷ xs)) (each_among same (split.there ∷ split.back) (x ∷ xs)) front
@@ -189,10 +188,10 @@ module _ {T : Type 0} (same : T → T → Bool) where
       pub same_items-equal : live_count s ≡ live_count t → each_among same (live_items s) (live_items t) ≡ has_same_items same s t
       same_items-equal as_many = both_ways (each_among same (live_items s) (live_items t)) (has_same_items same s t)
           (λ one.
-              let back = (covers (live_items s) (live_items t) apart_s one).back in
-              let mine = length-items_in s.items in
-              let theirs = length-items_in t.items in
-              both_true (each_among same (live_items s) (live_items t)) (each_among same (live_items t) (live_items s)) one (back (omega arith)))
+          let back = (covers (live_items s) (live_items t) apart_s one).back in
+          let mine = length-items_in s.items in
+          let theirs = length-items_in t.items in
+          both_true (each_among same (live_items s) (live_items t)) (each_among same (live_items t) (live_items s)) one (back (omega arith)))
           (λ both. first_so (each_among same (live_items s) (live_items t)) (each_among same (live_items t) (live_items s)) both)
 
 -- the items of slots, and a test

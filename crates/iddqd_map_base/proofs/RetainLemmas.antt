@@ -1,5 +1,5 @@
 -- For maps: what asks up to a slot leave, where each item that is refused is removed before the next is asked about.
-use Rattle.std.proofs.Common.{◌≡◌, ◌∙◌, ℕ, ◌+◌, ◌<◌, ◌≤◌, List, [], ◌∷◌, ◌++◌, length, get_or, take, set, map, filter, not, Bool, true, false, Option, Some, None, refl, sym, ap, subst, arith, Contains, length-set, length-take-le, append-nil}
+use Rattle.std.proofs.Common.{◌≡◌, ◌∙◌, ℕ, ◌+◌, ◌<◌, ◌≤◌, List, [], ◌∷◌, ◌++◌, length, get_or, take, set, map, not, Bool, true, false, Option, Some, None, refl, sym, ap, subst, arith, Contains, length-set, length-take-le, append-nil}
 use Rattle.std.proofs.lemmas.List.{map-append, take_all, take_more, take-set, get_or-set_same, get_or-set_other}
 use Rattle.std.proofs.lemmas.List.Elements.{filter-append}
 use Rattle.std.proofs.lemmas.Fn.{FoldsTo-push}
