@@ -53,10 +53,16 @@ pub(crate) fn plan_moves<T: BiHashItem, S: BuildHasher>(
 {
     let first = plan_move::<T, First, S>(&tables.first, items, state, ix, item);
     let second = plan_move::<T, Second, S>(&tables.second, items, state, ix, item);
-    match (first, second) {
-        (Ok(first), Ok(second)) => Ok(BiMoves { first, second }),
-        (first, second) => Err(BiClash {
-            key1: first.err(),
+    match first {
+        Ok(first) => match second {
+            Ok(second) => Ok(BiMoves { first, second }),
+            Err(at) => Err(BiClash {
+                key1: None,
+                key2: Some(at),
+            }),
+        },
+        Err(at) => Err(BiClash {
+            key1: Some(at),
             key2: second.err(),
         }),
     }
