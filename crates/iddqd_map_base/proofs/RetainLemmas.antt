@@ -10,7 +10,8 @@ use Rattle.iddqd.proofs.LiveItemLemmas.{pairs_from-append, items_of_pairs, IsWal
 use Rattle.iddqd_hash.specs.Asks.{CanAsk}
 use Rattle.iddqd_hash.proofs.AskLemmas.{CanAsk-takes, CanAsk-asked}
 use Rattle.iddqd_hash.proofs.RetainLemmas.{Contains-values}
-use Rattle.iddqd_map_base.specs.Retain.{removed_each, kept_of, refused_of, RetainsTo}
+use Rattle.iddqd_map_base.specs.Several.{removed_all}
+use Rattle.iddqd_map_base.specs.Retain.{kept_of, refused_of, RetainsTo}
 
 module _ {T : Type 0} where
   -- the walk over one slot more
@@ -24,9 +25,9 @@ module _ {T : Type 0} where
   pairs_vacant : (items : List (Option T)) (p : ℕ) → p < length items → get_or items p None ≡ None → pairs_from 0 (take (p + 1) items) ≡ pairs_from 0 (take p items)
   pairs_vacant items p within is = pairs_more items p None within is ∙ append-nil _
 
-  removed_each-push : (s : Store T) (ixs : List ℕ) (ix : ℕ) → removed_each s (ixs ++ ix ∷ []) ≡ removed (removed_each s ixs) ix
-  removed_each-push s [] ix = refl
-  removed_each-push s (at ∷ ixs) ix = removed_each-push (removed s at) ixs ix
+  removed_all-push : (s : Store T) (ixs : List ℕ) (ix : ℕ) → removed_all s (ixs ++ ix ∷ []) ≡ removed (removed_all s ixs) ix
+  removed_all-push s [] ix = refl
+  removed_all-push s (at ∷ ixs) ix = removed_all-push (removed s at) ixs ix
 
   kept-push : (asks : List ((ℕ × T) × Bool)) (a : (ℕ × T) × Bool) → kept_of (asks ++ a ∷ []) ≡ kept_of asks ++ kept_of (a ∷ [])
   kept-push asks a = ap (map (λ (a : (ℕ × T) × Bool). a.0)) (filter-append (λ (a : (ℕ × T) × Bool). a.1) asks (a ∷ [])) ∙ map-append (λ (a : (ℕ × T) × Bool). a.0) _ _
@@ -46,7 +47,7 @@ module _ {F T : Type 0} (takes : F → T → Type 0) (ask : F → T → Bool →
     pub each_once : map (λ a. a.0) asks ≡ pairs_from 0 (take p old.items)
     pub were_asked : FoldsTo (λ p a q. ask p a.0.1 a.1 q) f asks state
     pub kept : pairs_from 0 (take p now.items) ≡ kept_of asks
-    pub left : now ≡ removed_each old (refused_of asks)
+    pub left : now ≡ removed_all old (refused_of asks)
     pub rest : (ix : ℕ) → p ≤ ix → get now ix ≡ get old ix
     pub counted : length now.items ≡ length old.items
     pub can : CanAsk takes ask state (live_items old)
@@ -111,7 +112,7 @@ module _ {F T : Type 0} (takes : F → T → Type 0) (ask : F → T → Bool →
         each_once = each-more true;
         were_asked = FoldsTo-push (λ p a q. ask p a.0.1 a.1 q) f w.asks state ((p, item), true) next w.were_asked asked;
         kept = pairs_more now.items p (Some item) (let counted = w.counted in omega arith) live ∙ ap (λ l. l ++ (p, item) ∷ []) w.kept ∙ sym (kept-push w.asks ((p, item), true));
-        left = w.left ∙ ap (removed_each old) (sym (refused-push w.asks ((p, item), true) ∙ append-nil _));
+        left = w.left ∙ ap (removed_all old) (sym (refused-push w.asks ((p, item), true) ∙ append-nil _));
         rest = λ ix from. w.rest ix (omega arith);
         counted = w.counted;
         can = can-more true next asked;
@@ -132,8 +133,8 @@ module _ {F T : Type 0} (takes : F → T → Type 0) (ask : F → T → Bool →
                 pairs_vacant (set now.items p None) p (omega arith) (get_or-set_same now.items p None None within_now)
                 ∙ ap (pairs_from 0) (take-set now.items p None) ∙ w.kept ∙ sym (kept-push w.asks ((p, item), false) ∙ append-nil _);
             left =
-                ap (λ s. removed s p) w.left ∙ sym (removed_each-push old (refused_of w.asks) p)
-                ∙ ap (removed_each old) (sym (refused-push w.asks ((p, item), false)));
+                ap (λ s. removed s p) w.left ∙ sym (removed_all-push old (refused_of w.asks) p)
+                ∙ ap (removed_all old) (sym (refused-push w.asks ((p, item), false)));
             rest = λ ix from. get_or-set_other now.items p ix None None (λ same. omega arith) ∙ w.rest ix (omega arith);
             counted = long ∙ counted;
             can = can-more false next asked;

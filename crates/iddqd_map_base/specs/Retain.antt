@@ -1,16 +1,12 @@
 -- What `retain` asks of a closure, and what it leaves.
-use Rattle.std.specs.Prelude.{◌≡◌, ◌≤◌, ℕ, Bool, not, List, [], ◌∷◌, map, filter}
+use Rattle.std.specs.Prelude.{◌≡◌, ◌≤◌, ℕ, Bool, not, List, map, filter}
 use Rattle.std.specs.List.{FoldsTo}
-use Rattle.iddqd.specs.Store.{Store, removed}
+use Rattle.iddqd.specs.Store.{Store}
 use Rattle.iddqd.specs.LiveItems.{live_pairs}
 use Rattle.iddqd_map_base.specs.Map.{MapState}
+use Rattle.iddqd_map_base.specs.Several.{removed_all}
 
 module _ {T : Type 0} where
-  -- what is left of a store once these live indexes were removed, one after the other
-  abbrev pub removed_each : Store T → List ℕ → Store T
-  removed_each s [] = s
-  removed_each s (ix ∷ rest) = removed_each (removed s ix) rest
-
   -- of asks, each of an index with its item, and its answer: those that were answered true
   abbrev pub kept_of : List ((ℕ × T) × Bool) → List (ℕ × T)
   kept_of asks = map (λ a. a.0) (filter (λ a. a.1) asks)
@@ -28,7 +24,7 @@ module _ {F T : Type 0} (ask : F → T → Bool → F → Type 0) where
     pub each_once : map (λ a. a.0) asks ≡ live_pairs old
     pub were_asked : FoldsTo (λ p a q. ask p a.0.1 a.1 q) f asks last
     pub kept : live_pairs new ≡ kept_of asks
-    pub left : new ≡ removed_each old (refused_of asks)
+    pub left : new ≡ removed_all old (refused_of asks)
 
   -- the same, where f isn't handed back, and no room is lost
   pub record Retains (f : F) (old new : MapState T) : Type 0 where
