@@ -2,3 +2,5 @@ pub mod Map
 pub mod Calls
 pub mod Several
 pub mod Refusal
+pub mod Retain
+pub mod Equality
