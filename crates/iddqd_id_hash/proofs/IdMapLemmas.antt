@@ -1,5 +1,5 @@
 -- What becomes of a map with one key in each step of its store and its table.
-use Rattle.std.proofs.Common.{◌≡◌, ◌∙◌, ◌↔◌, ◌+◌, ◌≤◌, ℕ, min, Bool, true, false, not, is_some, Option, Some, None, Result, Ok, Err, refl, sym, ap, arith}
+use Rattle.std.proofs.Common.{◌≡◌, ◌∙◌, ◌+◌, ◌≤◌, ℕ, min, Bool, true, false, not, Option, Some, None, Result, Ok, Err, refl, sym, ap, arith}
 use Rattle.std.specs.Option.{OnSome}
 use Rattle.std.specs.Ordering.{nat_cmp}
 use Rattle.std.specs.FinMap as finite
@@ -8,8 +8,6 @@ use Rattle.iddqd.proofs.RoomLemmas.{room-rebound}
 use Rattle.iddqd.proofs.StoreLemmas.{IsValid-removed, IsValid-inserted, IsValid-rebound}
 use Rattle.iddqd.specs.Store.{Store, IsValid, IsFull, get, next_index, inserted, removed, rebound}
 use Rattle.iddqd.specs.ItemSet.{SizedStore, with_item, room as set_room}
-use Rattle.iddqd.specs.declared.item_set.GrowError.{GrowError}
-use Rattle.iddqd.specs.declared.item_set.GrowError.TheVariants.{Full as NoPlace, Memory as NoRoom}
 use Rattle.iddqd_hash.specs.HashTable.{Table, room as table_room}
 use Rattle.iddqd_hash.specs.MapHashTable.{filed}
 use Rattle.iddqd_sides.specs.Scan.{IsHit, HasNoHit, AnswersScan}
@@ -18,10 +16,9 @@ use Rattle.iddqd_sides.specs.Indexing.{Indexes, Plans, IfStays, LacksRoom, moved
 use Rattle.iddqd_sides.specs.declared.hashed_move.Move.{Move}
 use Rattle.iddqd_sides.specs.declared.hashed_move.Move.TheVariants.{Stays, To}
 use Rattle.iddqd_sides.proofs.IndexingLemmas.{Indexes-removed, Indexes-inserted, Indexes-rebound}
-use Rattle.iddqd_map_base.specs.Map.{MapState, Stays as Rests, shares, IsOnly, FindsItem, Removes, InsertsAt}
-use Rattle.iddqd_map_base.specs.Calls.{Inserts, Becomes, LacksRoomAt, ReplacesAt, Replaces}
-use Rattle.iddqd_id_hash.specs.IdMap.{map_of, ClashesAt, IsIdMap}
-use Rattle.iddqd_map_base.specs.Refusal.{refusal_of}
+use Rattle.iddqd_map_base.specs.Map.{MapState, Stays as Rests, shares, IsOnly, Removes, InsertsAt}
+use Rattle.iddqd_map_base.specs.Calls.{Becomes, LacksRoomAt, ReplacesAt, Replaces}
+use Rattle.iddqd_id_hash.specs.IdMap.{map_of, IsIdMap}
 use Rattle.iddqd_map_base.specs.declared.refusal.ReplaceRefusal.{ReplaceRefusal}
 use Rattle.iddqd_map_base.specs.declared.refusal.ReplaceRefusal.TheVariants.{Missing, Duplicate as Taken, Memory as Refused}
 use Rattle.iddqd_map_base.proofs.RoomLemmas.{min_stays, min_falls, none_right, not_less}
@@ -29,20 +26,6 @@ use Rattle.iddqd_map_base.proofs.RoomLemmas.{min_stays, min_falls, none_right, n
 module _ {T : Type 0} (old new : SizedStore T) (table after : Table ℕ) where
   pub Stays-parts : new.store ≡ old.store → set_room old ≤ set_room new → table_room table ≤ table_room after → Rests (map_of old table) (map_of new after)
   Stays-parts same items hashes = record { store = same; room_stays = min_stays _ _ _ _ items hashes }
-
-module _ {T : Type 0} (alike : T → T → Bool) where
-  -- a refusal for fullness or for memory
-  pub Inserts-refused : (old new : MapState T) (item : T) (error : GrowError) → HasNoHit old.store (alike item) → (error ≡ NoPlace) ↔ IsFull old.store → (error ≡ NoRoom → old.room ≡ 0) → Rests old new → Inserts alike (ClashesAt alike) old item (Err (refusal_of error item)) new
-  Inserts-refused old new item NoPlace none full no_room stays =
-      record { given_back = refl; no_clash = none; full = full.0 refl; unchanged = stays }
-  Inserts-refused old new item NoRoom none full no_room stays =
-      record { given_back = refl; no_clash = none; not_full = λ is. (let same = full.1 is in cc); no_room = no_room refl; unchanged = stays }
-
--- the item that a look-up finds
-pub FindsItem-found : {T : Type 0} (s : Store T) (test : T → Bool) (ix : ℕ) (r : Option T) → AnswersScan s test (Some ix) → r ≡ get s ix → FindsItem s test r
-FindsItem-found s test ix r scan is =
-    let (item, live, passed) = (scan ix).1 refl in
-    rw (is ∙ live) (ix, record { live = live; only = scan })
 
 module _ {T K : Type 0} (key_of : T → K) (hashing : Hashing K) (old new : SizedStore T) (table after : Table ℕ) where
   -- an index that a table lost, and its item that the store lost
@@ -160,8 +143,3 @@ Replaces-at alike old new test item ix (Ok was) scan at = (ix, scan, at)
 Replaces-at alike old new test item ix (Err (Missing back)) scan at = absurd at
 Replaces-at alike old new test item ix (Err (Taken back clash)) scan at = (ix, scan, at)
 Replaces-at alike old new test item ix (Err (Refused back)) scan at = (ix, scan, at)
-
--- a scan misses exactly where nothing hits
-pub scan_misses : {T : Type 0} (s : Store T) (test : T → Bool) (r : Option ℕ) → AnswersScan s test r → (is_some r ≡ false) ↔ HasNoHit s test
-scan_misses s test None none = (λ _. none, λ _. refl)
-scan_misses s test (Some ix) scan = (λ is. absurd (cc), λ none. absurd (none ix ((scan ix).1 refl)))

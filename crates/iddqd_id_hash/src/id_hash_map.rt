@@ -14,15 +14,19 @@ ghost use Rattle.iddqd_map_base.specs.Calls.{Inserts, Overwrites};
 ghost use Rattle.iddqd_id_hash.specs.IdMap.{map_of, ClashesAt};
 
 mod checks;
+mod clones;
+mod equality;
 mod memory;
 mod replaces;
+mod retain;
 mod walks;
 
-use iddqd_map_base::refusal::{InsertRefusal, OverwriteRefusal, lack_of_place, refusal};
+pub use clones::IdHashClone;
 use iddqd::hash_builder::DefaultHashBuilder;
 use iddqd::item_index::ItemIndex;
 use iddqd::item_set::ItemSet;
 use iddqd_hash::hash_table::{Entry, MapHashTable};
+use iddqd_map_base::refusal::{InsertRefusal, OverwriteRefusal, lack_of_place, refusal};
 use iddqd_sides::hashed_query::{enter, find_by, take_by};
 use iddqd_sides::key_of::KeyOf;
 use iddqd_sides::query::HashQuery;

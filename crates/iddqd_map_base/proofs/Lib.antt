@@ -1,2 +1,6 @@
 pub mod RoomLemmas
 pub mod CountLemmas
+pub mod SeveralLemmas
+pub mod RetainLemmas
+pub mod EqualityLemmas
+pub mod CloneLemmas

@@ -16,6 +16,37 @@ pub record Compacts {T : Type 0} (old new : MapState T) : Type 0 where
   pub store : new.store ≡ compacted old.store
   pub room_stays : old.room ≤ new.room
 
+-- `becomes old ix item was new` says that the item at the index is another one now, `taken s ix item at` that others have
+-- a key that it was to have, which are told, and `lacks old ix item` that there was no room for that
+module _ {T C : Type 0} (becomes : MapState T → ℕ → T → T → MapState T → Type 0)
+    (taken : Store T → ℕ → T → C → Type 0) (lacks : MapState T → ℕ → T → Type 0) where
+  -- what may become of the item at a live index that is to become another one
+  abbrev pub ReplacingAt : MapState T → ℕ → T → Result T (ReplaceRefusal T C) → MapState T → Type 0
+  ReplacingAt old ix item (Ok was) new = becomes old ix item was new
+  ReplacingAt old ix item (Err (Missing back)) new = ⊥
+  ReplacingAt old ix item (Err (Taken back at)) new = (back ≡ item) × taken old.store ix item at × Stays old new
+  ReplacingAt old ix item (Err (Refused back)) new = (back ≡ item) × lacks old ix item × Stays old new
+
+  -- what a replacement of the item that passes the test may answer and leave
+  abbrev pub Replacing : MapState T → (T → Bool) → T → Result T (ReplaceRefusal T C) → MapState T → Type 0
+  Replacing old test item (Err (Missing back)) new = (back ≡ item) × HasNoHit old.store test × (new ≡ old)
+  Replacing old test item result new =
+      (ix : ℕ) × AnswersScan old.store test (Some ix) × ReplacingAt old ix item result new
+
+  -- the same where `gives was item` says that the item may be made of the one that passes
+  abbrev pub ChangingBy :
+      (T → T → Type 0) → MapState T → (T → Bool) → Result T (ReplaceRefusal T C) → MapState T → Type 0
+  ChangingBy gives old test result new =
+      (ix : ℕ) × AnswersScan old.store test (Some ix)
+      × ((was item : T) × (get old.store ix ≡ Some was) × gives was item × ReplacingAt old ix item result new)
+
+  -- what a change of the item that passes the test may answer and leave
+  abbrev pub Changing :
+      (T → T → Type 0) → MapState T → (T → Bool) → Result (Option T) (ReplaceRefusal T C) → MapState T → Type 0
+  Changing gives old test (Ok None) new = HasNoHit old.store test × (new ≡ old)
+  Changing gives old test (Ok (Some was)) new = ChangingBy gives old test (Ok was) new
+  Changing gives old test (Err refusal) new = ChangingBy gives old test (Err refusal) new
+
 module _ {T : Type 0} (alike : T → T → Bool) where
   -- a refusal for fullness: the item comes back, it shares no key, and there is no slot for it
   pub record RefusesFull (old : MapState T) (item back : T) (new : MapState T) : Type 0 where
@@ -72,27 +103,18 @@ module _ {T : Type 0} (alike : T → T → Bool) where
 
   -- what may become of the item at a live index that is to become another one
   abbrev pub ReplacesAt : MapState T → ℕ → T → Result T (ReplaceRefusal T ℕ) → MapState T → Type 0
-  ReplacesAt old ix item (Ok was) new = Becomes old ix item was new
-  ReplacesAt old ix item (Err (Missing back)) new = ⊥
-  ReplacesAt old ix item (Err (Taken back at)) new = (back ≡ item) × IsTakenAt old.store ix item at × Stays old new
-  ReplacesAt old ix item (Err (Refused back)) new = (back ≡ item) × LacksRoomAt old ix item × Stays old new
+  ReplacesAt = ReplacingAt Becomes IsTakenAt LacksRoomAt
 
   -- what a replacement of the item that passes the test may answer and leave
   abbrev pub Replaces : MapState T → (T → Bool) → T → Result T (ReplaceRefusal T ℕ) → MapState T → Type 0
-  Replaces old test item (Err (Missing back)) new = (back ≡ item) × HasNoHit old.store test × (new ≡ old)
-  Replaces old test item result new =
-      (ix : ℕ) × AnswersScan old.store test (Some ix) × ReplacesAt old ix item result new
+  Replaces = Replacing Becomes IsTakenAt LacksRoomAt
 
   -- the same where `gives was item` says that the item may be made of the one that passes
   abbrev pub ChangesBy :
       (T → T → Type 0) → MapState T → (T → Bool) → Result T (ReplaceRefusal T ℕ) → MapState T → Type 0
-  ChangesBy gives old test result new =
-      (ix : ℕ) × AnswersScan old.store test (Some ix)
-      × ((was item : T) × (get old.store ix ≡ Some was) × gives was item × ReplacesAt old ix item result new)
+  ChangesBy = ChangingBy Becomes IsTakenAt LacksRoomAt
 
   -- what a change of the item that passes the test may answer and leave
   abbrev pub Changes :
       (T → T → Type 0) → MapState T → (T → Bool) → Result (Option T) (ReplaceRefusal T ℕ) → MapState T → Type 0
-  Changes gives old test (Ok None) new = HasNoHit old.store test × (new ≡ old)
-  Changes gives old test (Ok (Some was)) new = ChangesBy gives old test (Ok was) new
-  Changes gives old test (Err refusal) new = ChangesBy gives old test (Err refusal) new
+  Changes = Changing Becomes IsTakenAt LacksRoomAt

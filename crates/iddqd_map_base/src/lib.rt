@@ -1,4 +1,5 @@
 //! What all maps share: their model, which is a store no two of whose items share a key, and their refusals.
 #![tactic(auto)]
 
+pub mod order;
 pub mod refusal;

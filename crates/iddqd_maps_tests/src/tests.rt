@@ -1,5 +1,9 @@
 //! Maps by their calls, beside a list, and where calls are refused.
 mod badges;
+mod bi_calls;
+mod bi_model;
+mod bi_names;
 mod id_calls;
 mod id_model;
 mod names;
+mod passes;

@@ -10,11 +10,11 @@ ghost use Rattle.iddqd_map_base.specs.Calls.{ReplacesAt, Replaces, Changes};
 ghost use Rattle.iddqd_id_hash.specs.IdMap.{map_of};
 
 use super::{IdHashItem, IdHashMap, ItsKey};
-use iddqd_map_base::refusal::ReplaceRefusal;
 use iddqd::item_index::ItemIndex;
 use iddqd::item_set::ItemSet;
 use iddqd::map_hash::MapHash;
 use iddqd_hash::hash_table::MapHashTable;
+use iddqd_map_base::refusal::ReplaceRefusal;
 use iddqd_sides::hashed_move::{commit_move, plan_move, reserve_move};
 use iddqd_sides::hashed_query::{find_under, query_hash};
 use iddqd_sides::query::HashQuery;

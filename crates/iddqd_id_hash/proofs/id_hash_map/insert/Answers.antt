@@ -9,7 +9,9 @@ use Rattle.iddqd_sides.specs.Scan.{HasNoHit, AnswersScan, passes_by}
 use Rattle.iddqd_sides.proofs.FindLemmas.{IsLawful-from_bounds}
 use Rattle.iddqd_sides.proofs.HoldsLemmas.{next_unfiled}
 use Rattle.iddqd_map_base.specs.Map.{shares}
-use Rattle.iddqd_id_hash.proofs.IdMapLemmas.{Inserts-refused, room_same, room_held, Stays-parts, Stays-same, IsValid-stored, Indexes-stored, InsertsAt-stored}
+use Rattle.iddqd_id_hash.proofs.IdMapLemmas.{room_same, room_held, Stays-parts, Stays-same, IsValid-stored, Indexes-stored, InsertsAt-stored}
+use Rattle.iddqd_map_base.proofs.SeveralLemmas.{Inserts-refused}
+use Rattle.iddqd_id_hash.specs.IdMap.{ClashesAt}
 use Rattle.iddqd_map_base.proofs.RoomLemmas.{none_left, none_right}
 use Rattle.iddqd_id_hash.proofs.id_hash_map.insert.Goals as goal
 
@@ -35,7 +37,7 @@ returns-in-Err-clause-inserts g c =
     let none = subst (λ k. HasNoHit s (passes_by key_of (equal k))) c.key.ensures c.in-Err.ensures.missed in
     let lack = c.lack_of_place.ensures in
     rw c.refusal.ensures
-    (Inserts-refused (shares key_of equal) _ _ c.args.item c.lack_of_place.result none lack.full (λ _. none_right _ _ c.in-Err.ensures.refused)
+    (Inserts-refused (shares key_of equal) (ClashesAt (shares key_of equal)) _ _ c.args.item c.lack_of_place.result none lack.full (λ _. none_right _ _ c.in-Err.ensures.refused)
     (Stays-parts _ _ _ _ lack.store lack.room (room_same _ _ (search rules))))
 
 pub returns-in-Err-assert_can_grow-clause-inserts : goal.returns-in-Err-assert_can_grow-clause-inserts
@@ -48,7 +50,7 @@ returns-in-Err-assert_can_grow-clause-inserts g c =
     let held = rw c.in-Ok-Vacant.field-0-is at c.in-Ok-Vacant.ensures.vacant in
     let grow = c.in-Err-assert_can_grow.ensures in
     rw c.refusal-in-Err-assert_can_grow.ensures
-    (Inserts-refused (shares key_of equal) _ _ c.args.item c.in-Err-assert_can_grow.error none (λ is. grow.full.0 (ap Err is), λ is. (let r = grow.full.1 is in cc)) (λ is. none_left _ _ (grow.memory (ap Err is)))
+    (Inserts-refused (shares key_of equal) (ClashesAt (shares key_of equal)) _ _ c.args.item c.in-Err-assert_can_grow.error none (λ is. grow.full.0 (ap Err is), λ is. (let r = grow.full.1 is in cc)) (λ is. none_left _ _ (grow.memory (ap Err is)))
     (Stays-same _ _ _ _ (search rules) (room_held _ (vacant_table c.in-Ok-Vacant.vacant) _ (search rules) held.room_stays)))
 
 pub insert-requires : goal.insert-requires

@@ -1,5 +1,5 @@
 use Rattle.iddqd_sides.specs.Scan.{passes_by}
-use Rattle.iddqd_id_hash.proofs.IdMapLemmas.{scan_misses}
+use Rattle.iddqd_map_base.proofs.SeveralLemmas.{scan_misses}
 use Rattle.iddqd_id_hash.proofs.id_hash_map.IdHashMap.contains_key.Goals as goal
 
 pub returns : goal.returns

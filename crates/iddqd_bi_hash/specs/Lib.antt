@@ -1,0 +1,2 @@
+pub mod BiMap
+pub mod BiSteps

@@ -1,0 +1,22 @@
+//! What a refused item is told of those that have its keys.
+ghost use Rattle.std.specs.Prelude.{◌⊎◌, ◌↔◌, IsTrue, IsSome};
+
+use iddqd::item_index::ItemIndex;
+
+/// For each key of an item the index of the other item that has it, if one has.
+#[derive(Clone, Copy, Debug, PartialEq, Eq)]
+pub struct BiClash {
+    /// Where the first key is.
+    pub key1: Option<ItemIndex>,
+    /// Where the second key is.
+    pub key2: Option<ItemIndex>,
+}
+
+impl BiClash {
+    /// Whether an item has one of the keys.
+    pub fn is_some(&self) -> bool
+        ensures { IsTrue result ↔ (IsSome self.now.key1 ⊎ IsSome self.now.key2) }
+    {
+        self.key1.is_some() || self.key2.is_some()
+    }
+}

@@ -1,0 +1,202 @@
+//! Items come into a map. All memory is taken before anything is written.
+ghost use Rattle.std.specs.Prelude.{◌≡◌, ◌⊎◌, ◌≤◌, ◌+◌, IsSome, IfSome};
+ghost use Rattle.std.specs.Option.{option_and_then};
+ghost use Rattle.iddqd.specs.{get, next_index, inserted, room, IsFull};
+ghost use Rattle.iddqd_sides.specs.Scan.{IsLive};
+ghost use Rattle.iddqd_map_base.specs.Map.{shares};
+ghost use Rattle.iddqd_map_base.specs.Calls.{Inserts};
+ghost use Rattle.iddqd_map_base.specs.Several.{either_key, Overwriting};
+ghost use Rattle.iddqd_bi_hash.specs.BiMap.{alike, alike_by, bi_keys_of, map_of, AreTold, IsBiMap};
+ghost use Rattle.iddqd_bi_hash.specs.BiSteps.{AreHashes, KeepRoom, TakesAll, removed_one};
+
+use super::BiHashMap;
+use super::clash::BiClash;
+use super::item::BiHashItem;
+use super::tables::{BiHashes, BiTables, clash_of};
+use iddqd::item_index::ItemIndex;
+use iddqd::item_set::ItemSet;
+use iddqd_map_base::order::in_order;
+use iddqd_map_base::refusal::{InsertRefusal, OverwriteRefusal, refusal};
+use std::alloc::AllocError;
+use std::hash::BuildHasher;
+
+impl<T: BiHashItem, S: BuildHasher> BiHashMap<T, S> {
+    /// Takes an item whose keys none has, and tells its index.
+    ///
+    /// Duplicates are told even where the map is full or no memory is left, and a full map even where
+    /// no memory is left. A refusal hands the item back, and the map stays as it was.
+    pub fn insert_unique(&mut self, item: T) -> Result<ItemIndex, InsertRefusal<T, BiClash>>
+        ensures { let first = shares T.first_key T.Key1.eq in let second = shares T.second_key T.Key2.eq in
+            Inserts (either_key first second) (AreTold first second) self.old item result self.new }
+    {
+        let hashes = BiHashes::of(&self.state, &item);
+        insert(
+            &mut self.items,
+            &mut self.tables,
+            &self.state,
+            &hashes,
+            item,
+        )
+    }
+
+    /// Takes an item, and removes those that share a key with it, at most two, which it hands back by
+    /// rising index from the first place on.
+    ///
+    /// Where none does, it is inserted, and may be refused, as by `insert_unique`. Where some do, the
+    /// store needs no memory, and each table may be refused the memory of one more index, before
+    /// anything is removed. A refusal hands the item back, and the map stays as it was.
+    pub fn insert_overwrite(
+        &mut self,
+        item: T,
+    ) -> Result<(ItemIndex, [Option<T>; 2]), OverwriteRefusal<T>>
+        ensures { let first = shares T.first_key T.Key1.eq in let second = shares T.second_key T.Key2.eq in
+            Overwriting (either_key first second) 2 self.old item result self.new }
+    {
+        let hashes = BiHashes::of(&self.state, &item);
+        match insert(
+            &mut self.items,
+            &mut self.tables,
+            &self.state,
+            &hashes,
+            item,
+        ) {
+            Ok(ix) => Ok((ix, [None, None])),
+            Err(InsertRefusal::Duplicate { item, at }) => {
+                overwrite(
+                    &mut self.items,
+                    &mut self.tables,
+                    &self.state,
+                    &hashes,
+                    item,
+                    &at,
+                )
+            }
+            Err(InsertRefusal::Full(item)) => Err(OverwriteRefusal::Full(item)),
+            Err(InsertRefusal::Memory(item)) => Err(OverwriteRefusal::Memory(item)),
+        }
+    }
+}
+
+// Stores an item whose keys none has, and enters its index under the hashes.
+fn insert<T: BiHashItem, S: BuildHasher>(
+    items: &mut ItemSet<T>,
+    tables: &mut BiTables,
+    state: &S,
+    hashes: &BiHashes,
+    item: T,
+) -> Result<ItemIndex, InsertRefusal<T, BiClash>>
+    requires map { let keys = bi_keys_of T.BiHashItem T.Key1.eq T.Key1.hash_input T.Key2.eq T.Key2.hash_input
+        S.BuildHasher S.Hasher.Hasher state.now in IsBiMap keys items.old.store tables.old }
+    requires hashes { let keys = bi_keys_of T.BiHashItem T.Key1.eq T.Key1.hash_input T.Key2.eq T.Key2.hash_input
+        S.BuildHasher S.Hasher.Hasher state.now in AreHashes keys hashes.now item }
+    ensures map { let keys = bi_keys_of T.BiHashItem T.Key1.eq T.Key1.hash_input T.Key2.eq T.Key2.hash_input
+        S.BuildHasher S.Hasher.Hasher state.now in IsBiMap keys items.new.store tables.new }
+    ensures inserts { let first = shares T.first_key T.Key1.eq in let second = shares T.second_key T.Key2.eq in
+        Inserts (either_key first second) (AreTold first second)
+        (map_of items.old tables.old) item result (map_of items.new tables.new) }
+{
+    let at = clash_of(tables, items, state, hashes, &item);
+    if at.is_some() {
+        return Err(InsertRefusal::Duplicate { item, at });
+    }
+    let handle = match items.assert_can_grow() {
+        Ok(handle) => handle,
+        Err(error) => return Err(refusal(error, item)),
+    };
+    if let Err(AllocError) = tables.reserve(1) {
+        return Err(InsertRefusal::Memory(item));
+    }
+    tables.enter(hashes, handle.next_index());
+    Ok(handle.insert(item))
+}
+
+// Takes the items that have keys of an item, stores it and enters its index under the hashes; or hands
+// it back where memory is refused, before anything is removed.
+fn overwrite<T: BiHashItem, S: BuildHasher>(
+    items: &mut ItemSet<T>,
+    tables: &mut BiTables,
+    state: &S,
+    hashes: &BiHashes,
+    item: T,
+    at: &BiClash,
+) -> Result<(ItemIndex, [Option<T>; 2]), OverwriteRefusal<T>>
+    requires map { let keys = bi_keys_of T.BiHashItem T.Key1.eq T.Key1.hash_input T.Key2.eq T.Key2.hash_input
+        S.BuildHasher S.Hasher.Hasher state.now in IsBiMap keys items.old.store tables.old }
+    requires hashes { let keys = bi_keys_of T.BiHashItem T.Key1.eq T.Key1.hash_input T.Key2.eq T.Key2.hash_input
+        S.BuildHasher S.Hasher.Hasher state.now in AreHashes keys hashes.now item }
+    requires told { AreTold (shares T.first_key T.Key1.eq) (shares T.second_key T.Key2.eq) items.old.store item at.now }
+    ensures map { let keys = bi_keys_of T.BiHashItem T.Key1.eq T.Key1.hash_input T.Key2.eq T.Key2.hash_input
+        S.BuildHasher S.Hasher.Hasher state.now in IsBiMap keys items.new.store tables.new }
+    ensures overwrites { let first = shares T.first_key T.Key1.eq in let second = shares T.second_key T.Key2.eq in
+        Overwriting (either_key first second) 2
+        (map_of items.old tables.old) item result (map_of items.new tables.new) }
+{
+    if let Err(AllocError) = tables.reserve(1) {
+        return Err(OverwriteRefusal::Memory(item));
+    }
+    let removed = take_clashes(items, tables, state, at);
+    let ix = store_in_room(items, item);
+    tables.enter(hashes, ix);
+    Ok((ix, removed))
+}
+
+// Takes the items that clash out of the store and the tables, by rising index.
+fn take_clashes<T: BiHashItem, S: BuildHasher>(
+    items: &mut ItemSet<T>,
+    tables: &mut BiTables,
+    state: &S,
+    at: &BiClash,
+) -> [Option<T>; 2]
+    requires map { let keys = bi_keys_of T.BiHashItem T.Key1.eq T.Key1.hash_input T.Key2.eq T.Key2.hash_input
+        S.BuildHasher S.Hasher.Hasher state.now in IsBiMap keys items.old.store tables.old }
+    requires key1 { IfSome at.now.key1 (IsLive items.old.store) }
+    requires key2 { IfSome at.now.key2 (IsLive items.old.store) }
+    requires some { IsSome at.now.key1 ⊎ IsSome at.now.key2 }
+    ensures taken { TakesAll items.old.store at.now result items.new.store }
+    ensures map { let keys = bi_keys_of T.BiHashItem T.Key1.eq T.Key1.hash_input T.Key2.eq T.Key2.hash_input
+        S.BuildHasher S.Hasher.Hasher state.now in IsBiMap keys items.new.store tables.new }
+    ensures room { 1 ≤ room items.new }
+    ensures items_room { room items.old ≤ room items.new }
+    ensures tables_room { KeepRoom tables.old tables.new }
+{
+    let (first, second) = in_order(at.key1, at.key2);
+    let first = take_clash(items, tables, state, first);
+    let second = take_clash(items, tables, state, second);
+    [first, second]
+}
+
+// Takes the item at an index that clashes out of the store and the tables, if there is one.
+fn take_clash<T: BiHashItem, S: BuildHasher>(
+    items: &mut ItemSet<T>,
+    tables: &mut BiTables,
+    state: &S,
+    ix: Option<ItemIndex>,
+) -> Option<T>
+    requires map { let keys = bi_keys_of T.BiHashItem T.Key1.eq T.Key1.hash_input T.Key2.eq T.Key2.hash_input
+        S.BuildHasher S.Hasher.Hasher state.now in IsBiMap keys items.old.store tables.old }
+    requires live { IfSome ix (IsLive items.old.store) }
+    ensures value { result ≡ option_and_then (get items.old.store) ix }
+    ensures removed { items.new.store ≡ removed_one items.old.store ix }
+    ensures map { let keys = bi_keys_of T.BiHashItem T.Key1.eq T.Key1.hash_input T.Key2.eq T.Key2.hash_input
+        S.BuildHasher S.Hasher.Hasher state.now in IsBiMap keys items.new.store tables.new }
+    ensures room { IsSome ix → 1 ≤ room items.new }
+    ensures items_room { room items.old ≤ room items.new }
+    ensures tables_room { KeepRoom tables.old tables.new }
+{
+    let ix = ix?;
+    tables.take(items, state, ix);
+    items.remove(ix)
+}
+
+// Stores an item where there is room for it.
+fn store_in_room<T>(items: &mut ItemSet<T>, item: T) -> ItemIndex
+    requires { 1 ≤ room items.old }
+    ensures index { result ≡ next_index items.old.store }
+    ensures stored { items.new.store ≡ inserted items.old.store item }
+    ensures room { room items.new + 1 ≡ room items.old }
+{
+    match items.assert_can_grow() {
+        Ok(handle) => handle.insert(item),
+        Err(_) => unreachable!(),
+    }
+}

@@ -1,0 +1,2 @@
+pub mod TriLemmas
+pub mod TriEqualityLemmas

@@ -1,0 +1,321 @@
+-- What becomes of a map with three keys in each step of its store and its tables.
+use Rattle.std.proofs.Common.{◌≡◌, ◌∙◌, ◌⊎◌, inl, inr, ◌↔◌, ◌+◌, ◌≤◌, ◌&&◌, ℕ, suc, min, Bool, true, false, not, List, [], ◌∷◌, length, map, Option, Some, None, IsSome, IsTrue, Result, Ok, Err, refl, sym, ap, subst, arith}
+use Rattle.std.specs.Cmp.{IsPartialEquivalence}
+use Rattle.std.specs.List.{Contains}
+use Rattle.std.specs.Option.{OnSome}
+use Rattle.std.specs.Result.{result_err}
+use Rattle.std.specs.FinMap as finite
+use Rattle.std.specs.declared.hash.Hasher as hasher
+use Rattle.std.specs.declared.hash.BuildHasher as builder
+use Rattle.iddqd.proofs.LiveLemmas.{item_at, live_at}
+use Rattle.iddqd.proofs.RoomLemmas.{room-rebound}
+use Rattle.iddqd.proofs.CompactionLemmas.{IsValid-compacted}
+use Rattle.iddqd.proofs.StoreLemmas.{IsValid-empty, IsValid-removed, IsValid-inserted, IsValid-rebound}
+use Rattle.iddqd.specs.Store.{Store, IsValid, IsFull, slot_limit, empty_within, cleared, get, next_index, inserted, removed, rebound}
+use Rattle.iddqd.specs.Compaction.{compacted, rank}
+use Rattle.iddqd.specs.ItemSet.{SizedStore, with_item, room as set_room}
+use Rattle.iddqd_hash.specs.HashTable.{Table, room as table_room}
+use Rattle.iddqd_hash.specs.MapHashTable.{filed, Renames}
+use Rattle.iddqd_sides.specs.Scan.{IsLive, IsHit, HasNoHit, AnswersScan}
+use Rattle.iddqd_sides.specs.Hashed.{Hashing, IsLawful}
+use Rattle.iddqd_sides.specs.Indexing.{Indexes, Plans, PlansOrClashes, IfStays, LacksRoom}
+use Rattle.iddqd_sides.specs.declared.hashed_move.Move.{Move}
+use Rattle.iddqd_sides.specs.declared.hashed_move.Move.TheVariants.{Stays, To}
+use Rattle.iddqd_sides.proofs.FindLemmas.{IsLawful-from_bounds}
+use Rattle.iddqd_sides.proofs.HoldsLemmas.{next_unfiled}
+use Rattle.iddqd_sides.proofs.IndexingLemmas.{Indexes-empty, Indexes-cleared, Indexes-removed, Indexes-inserted, Indexes-compacted, Indexes-rebound}
+use Rattle.iddqd_map_base.specs.Map.{Stays as Rests, Removes, InsertsAt}
+use Rattle.iddqd_map_base.specs.Several.{either_key, BecomesOne, LacksRoomFor, AnswersOther}
+use Rattle.iddqd_map_base.proofs.RoomLemmas.{min_stays, min_falls, not_less}
+use Rattle.iddqd_map_base.proofs.SeveralLemmas.{IsHit-either, HasNoHit-either, HasNoHit-first, HasNoHit-second}
+use Rattle.iddqd_tri_hash.specs.TriMap.{ItemKey, TriKeys, tri_keys_of, alike_by, alike, same, map_of, IsTriMap}
+use Rattle.iddqd_tri_hash.specs.TriSteps.{AreEmpty, AreHashes, AreUnfiled, Enter, KeepRoom, LackRoom, MoveTo, ArePlans, SameIndexes, Take, Untouched}
+use Rattle.iddqd_tri_hash.specs.declared.tri_hash_map.item.TriHashItem.{Ghosts}
+use Rattle.iddqd_tri_hash.specs.declared.tri_hash_map.moves.TriMoves.{TriMoves}
+use Rattle.iddqd_tri_hash.specs.declared.tri_hash_map.tables.TriTables.{TriTables}
+use Rattle.iddqd_tri_hash.specs.declared.tri_hash_map.tables.TriHashes.{TriHashes}
+
+-- all keys are lawful
+pub record AreLawful {T K1 K2 K3 : Type 0} (keys : TriKeys T K1 K2 K3) : Type 0 where
+  pub first : IsLawful keys.first.hashing
+  pub second : IsLawful keys.second.hashing
+  pub third : IsLawful keys.third.hashing
+
+-- keys whose bounds keep their laws
+pub AreLawful-from_bounds : {T K1 K2 K3 S H : Type 0} (item : Ghosts T K1 K2 K3) (equal1 : K1 → K1 → Bool) (input1 : K1 → List (List ℕ)) (equal2 : K2 → K2 → Bool) (input2 : K2 → List (List ℕ)) (equal3 : K3 → K3 → Bool) (input3 : K3 → List (List ℕ)) (b : builder.Ghosts S H) (h : hasher.Ghosts H) (state : S) → IsPartialEquivalence equal1 → ((x y : K1) → IsTrue (equal1 x y) → input1 x ≡ input1 y) → IsPartialEquivalence equal2 → ((x y : K2) → IsTrue (equal2 x y) → input2 x ≡ input2 y) → IsPartialEquivalence equal3 → ((x y : K3) → IsTrue (equal3 x y) → input3 x ≡ input3 y) → AreLawful (tri_keys_of item equal1 input1 equal2 input2 equal3 input3 b h state)
+AreLawful-from_bounds item equal1 input1 equal2 input2 equal3 input3 b h state laws1 respects1 laws2 respects2 laws3 respects3 = record {
+  first = IsLawful-from_bounds equal1 input1 b h state laws1 respects1;
+  second = IsLawful-from_bounds equal2 input2 b h state laws2 respects2;
+  third = IsLawful-from_bounds equal3 input3 b h state laws3 respects3;
+}
+
+module _ {T K1 K2 K3 : Type 0} (keys : TriKeys T K1 K2 K3) where
+  pub IsTriMap-empty : (limit : ℕ) (s : Store T) (tables : TriTables) → limit ≤ slot_limit → s ≡ empty_within limit → AreEmpty tables → IsTriMap keys s tables
+  IsTriMap-empty limit s tables within is none = rw is (record {
+    valid = IsValid-empty limit within;
+    first = rw none.first (Indexes-empty _ _ limit);
+    second = rw none.second (Indexes-empty _ _ limit);
+    third = rw none.third (Indexes-empty _ _ limit);
+  })
+
+  module _ (s : Store T) (tables : TriTables) (o : IsTriMap keys s tables) where
+    -- the next index is new to all tables
+    pub AreUnfiled-next : AreUnfiled tables (next_index s)
+    AreUnfiled-next = record {
+      first = next_unfiled s (filed tables.first) o.first.held o.valid;
+      second = next_unfiled s (filed tables.second) o.second.held o.valid;
+      third = next_unfiled s (filed tables.third) o.third.held o.valid;
+    }
+
+    module _ (left : Store T) (after : TriTables) where
+      pub IsTriMap-cleared : left ≡ cleared s → AreEmpty after → IsTriMap keys left after
+      IsTriMap-cleared is none = rw is (record {
+        valid = IsValid-empty s.limit o.valid.named;
+        first = rw none.first (Indexes-cleared _ _ s (filed tables.first) o.first);
+        second = rw none.second (Indexes-cleared _ _ s (filed tables.second) o.second);
+        third = rw none.third (Indexes-cleared _ _ s (filed tables.third) o.third);
+      })
+
+      pub IsTriMap-removed : (ix : ℕ) (item : T) → get s ix ≡ Some item → left ≡ removed s ix → Take tables ix after → IsTriMap keys left after
+      IsTriMap-removed ix item live is taken = rw is (record {
+        valid = IsValid-removed s ix item o.valid live;
+        first = rw taken.first (Indexes-removed _ _ s (filed tables.first) o.first ix item live);
+        second = rw taken.second (Indexes-removed _ _ s (filed tables.second) o.second ix item live);
+        third = rw taken.third (Indexes-removed _ _ s (filed tables.third) o.third ix item live);
+      })
+
+      pub IsTriMap-compacted : left ≡ compacted s → Renames (rank s) (filed tables.first) (filed after.first) → Renames (rank s) (filed tables.second) (filed after.second) → Renames (rank s) (filed tables.third) (filed after.third) → IsTriMap keys left after
+      IsTriMap-compacted is first second third = rw is (record {
+        valid = IsValid-compacted s o.valid;
+        first = Indexes-compacted _ _ s (filed tables.first) o.first (filed after.first) first;
+        second = Indexes-compacted _ _ s (filed tables.second) o.second (filed after.second) second;
+        third = Indexes-compacted _ _ s (filed tables.third) o.third (filed after.third) third;
+      })
+
+      module _ (lawful : AreLawful keys) (item : T) where
+        pub IsTriMap-inserted : (hashes : TriHashes) (ix : ℕ) → AreHashes keys hashes item → HasNoHit s (alike keys item) → (IsFull s → ⊥) → ix ≡ next_index s → left ≡ inserted s item → Enter tables hashes ix after → IsTriMap keys left after
+        IsTriMap-inserted hashes ix hashed none not_full index is entered =
+            let others = either_key (alike_by keys.second) (alike_by keys.third) in
+            let one = HasNoHit-first (alike_by keys.first) others s item none in
+            let rest = HasNoHit-second (alike_by keys.first) others s item none in
+            let two = HasNoHit-first (alike_by keys.second) (alike_by keys.third) s item rest in
+            let three = HasNoHit-second (alike_by keys.second) (alike_by keys.third) s item rest in
+            rw is (record {
+              valid = IsValid-inserted s item o.valid not_full;
+              first = rw (entered.first, index, hashed.first) (Indexes-inserted _ _ s (filed tables.first) o.first item o.valid lawful.first one);
+              second = rw (entered.second, index, hashed.second) (Indexes-inserted _ _ s (filed tables.second) o.second item o.valid lawful.second two);
+              third = rw (entered.third, index, hashed.third) (Indexes-inserted _ _ s (filed tables.third) o.third item o.valid lawful.third three);
+            })
+
+        pub IsTriMap-rebound : (ix : ℕ) (was : T) (plans : TriMoves) → get s ix ≡ Some was → left ≡ rebound s ix item → ArePlans keys s ix item plans → MoveTo tables ix plans after → IsTriMap keys left after
+        IsTriMap-rebound ix was plans live is planned went = rw is (record {
+          valid = IsValid-rebound s ix item was o.valid live;
+          first = rw went.first (Indexes-rebound _ _ s (filed tables.first) o.first ix item was live lawful.first plans.first planned.first);
+          second = rw went.second (Indexes-rebound _ _ s (filed tables.second) o.second ix item was live lawful.second plans.second planned.second);
+          third = rw went.third (Indexes-rebound _ _ s (filed tables.third) o.third ix item was live lawful.third plans.third planned.third);
+        })
+
+-- no part lost room
+module _ {T : Type 0} (old new : SizedStore T) (tables after : TriTables) where
+  pub room_stays : set_room old ≤ set_room new → KeepRoom tables after → (map_of old tables).room ≤ (map_of new after).room
+  room_stays items kept = min_stays _ _ _ _ items (min_stays _ _ _ _ kept.first (min_stays _ _ _ _ kept.second kept.third))
+
+  pub Rests-parts : new.store ≡ old.store → set_room old ≤ set_room new → KeepRoom tables after → Rests (map_of old tables) (map_of new after)
+  Rests-parts same items kept = record { store = same; room_stays = room_stays items kept }
+
+-- an insert that was done, through a handle that was held
+pub InsertsAt-stored : {T : Type 0} (test : T → T → Bool) (old held left : SizedStore T) (tables reserved after : TriTables) (hashes : TriHashes) (item : T) (ix at : ℕ) → HasNoHit old.store (test item) → (IsFull old.store → ⊥) → ix ≡ next_index old.store → left.store ≡ inserted old.store item → (1 ≤ set_room old → held ≡ old) → set_room left + 1 ≡ set_room held → KeepRoom tables reserved → Enter reserved hashes at after → InsertsAt test (map_of old tables) item ix (map_of left after)
+InsertsAt-stored test old held left tables reserved after hashes item ix at none not_full index stored kept used roomy filled =
+    let ahead : set_room old ≤ set_room held = not_less _ _ (λ some. ap set_room (kept some)) in
+    let first : table_room tables.first ≤ table_room after.first + 1 = omega (arith, roomy.first, filled.room_first) in
+    let second : table_room tables.second ≤ table_room after.second + 1 = omega (arith, roomy.second, filled.room_second) in
+    let third : table_room tables.third ≤ table_room after.third + 1 = omega (arith, roomy.third, filled.room_third) in
+    record {
+      no_clash = none;
+      not_full = not_full;
+      index = index;
+      stored = stored;
+      room = min_falls _ _ _ _ (omega (arith, ahead, used)) (min_falls _ _ _ _ first (min_falls _ _ _ _ second third));
+    }
+
+-- no insert into all tables needs no memory
+pub none_roomy : (a b c d : ℕ) → (1 ≤ b → 1 ≤ c → 1 ≤ d → ⊥) → min a (min b (min c d)) ≡ 0
+none_roomy a 0 c d none = omega arith
+none_roomy a (suc b) 0 d none = omega arith
+none_roomy a (suc b) (suc c) 0 none = omega arith
+none_roomy a (suc b) (suc c) (suc d) none = absurd (none (omega arith) (omega arith) (omega arith))
+
+-- what was planned for one key of an item that a live index is given
+module _ {T K : Type 0} (key : ItemKey T K) (s : Store T) (table : Table ℕ) (o : Indexes key.key_of key.hashing s (filed table)) (lawful : IsLawful key.hashing) (ix : ℕ) (item : T) where
+  -- who shares the key with the item is the one whose place it takes
+  pub no_other_by : (plan : Move) → Plans key.key_of key.hashing s ix item plan → (j : ℕ) → IsHit s (alike_by key item) j → j ≡ ix
+  no_other_by (To hash) planned j hit = absurd (planned.0 j hit)
+  no_other_by Stays (y, is, same) j (x, there, like) =
+      let e = lawful.equivalence in
+      o.exact.apart j ix x y there is (e.trans (key.key_of x) (key.key_of item) (key.key_of y) (e.symm (key.key_of x) (key.key_of item) ∙ like) same)
+
+module _ {T K : Type 0} (key : ItemKey T K) (s : Store T) (ix : ℕ) (item was : T) (live : get s ix ≡ Some was) where
+  -- where the keys are alike it was planned that the index stays
+  untouched_by : (plan : Move) (table mid after : Table ℕ) → Plans key.key_of key.hashing s ix item plan → IfStays plan (mid ≡ table) → IfStays plan (after ≡ mid) → alike_by key item was ≡ true → table_room table ≤ table_room after
+  untouched_by Stays table mid after planned one other like = rw (other, one) (omega arith)
+  untouched_by (To hash) table mid after planned one other like = absurd (planned.0 ix (was, live, like))
+
+  -- and where there was no room for a move they aren't
+  unlike_by : (plan : Move) (table : Table ℕ) → Plans key.key_of key.hashing s ix item plan → LacksRoom plan table → alike_by key item was ≡ false
+  unlike_by Stays table planned lacks = absurd lacks
+  unlike_by (To hash) table planned lacks = by_cases (alike_by key item was) refl
+    where
+      by_cases : (b : Bool) → alike_by key item was ≡ b → b ≡ false
+      by_cases true is = absurd (planned.0 ix (was, live, is))
+      by_cases false is = refl
+
+lacks_none : (plan : Move) (table : Table ℕ) → LacksRoom plan table → table_room table ≡ 0
+lacks_none Stays table lacks = absurd lacks
+lacks_none (To hash) table lacks = lacks
+
+both_true : (a b : Bool) → (a && b) ≡ true → (a ≡ true) × (b ≡ true)
+both_true true b is = (refl, is)
+both_true false b is = absurd (cc)
+
+not_both : (a b : Bool) → (a ≡ false) ⊎ (b ≡ false) → not (a && b) ≡ true
+not_both false b is = refl
+not_both true false is = refl
+not_both true true is = elim is [ inl never ↦ absurd (cc) | inr never ↦ absurd (cc) ]
+
+none_first : (a b c d : ℕ) → b ≡ 0 → min a (min b (min c d)) ≡ 0
+none_first a b c d none = omega arith
+
+none_second : (a b c d : ℕ) → c ≡ 0 → min a (min b (min c d)) ≡ 0
+none_second a b c d none = omega arith
+
+none_third : (a b c d : ℕ) → d ≡ 0 → min a (min b (min c d)) ≡ 0
+none_third a b c d none = omega arith
+
+one_false : (a b c : Bool) → (a ≡ false) ⊎ ((b ≡ false) ⊎ (c ≡ false)) → not (a && (b && c)) ≡ true
+one_false a b c (inl no) = ap (λ x. not (x && (b && c))) no
+one_false a b c (inr (inl no)) = ap (λ x. not (a && (x && c))) no ∙ not_both a false (inr refl)
+one_false a b c (inr (inr no)) = ap (λ x. not (a && (b && x))) no ∙ not_both a (b && false) (inr (not_second b))
+  where
+    not_second : (b : Bool) → (b && false) ≡ false
+    not_second true = refl
+    not_second false = refl
+
+module _ {T K1 K2 K3 : Type 0} (keys : TriKeys T K1 K2 K3) (items : SizedStore T) (tables : TriTables) (o : IsTriMap keys items.store tables) (lawful : AreLawful keys) (ix : ℕ) (item was : T) (live : get items.store ix ≡ Some was) (plans : TriMoves) (planned : ArePlans keys items.store ix item plans) where
+  no_other : (j : ℕ) → IsHit items.store (alike keys item) j → j ≡ ix
+  no_other j hit =
+      elim ((IsHit-either (alike_by keys.first) (either_key (alike_by keys.second) (alike_by keys.third)) items.store item j).0 hit) [
+        | inl one ↦ no_other_by keys.first items.store tables.first o.first lawful.first ix item plans.first planned.first j one
+        | inr rest ↦ elim ((IsHit-either (alike_by keys.second) (alike_by keys.third) items.store item j).0 rest) [
+          | inl two ↦ no_other_by keys.second items.store tables.second o.second lawful.second ix item plans.second planned.second j two
+          | inr three ↦ no_other_by keys.third items.store tables.third o.third lawful.third ix item plans.third planned.third j three
+        ]
+      ]
+
+  -- there is no room for what was planned
+  pub LacksRoomFor-planned : LackRoom plans tables → LacksRoomFor (alike keys) (same keys) (map_of items tables) ix item
+  LacksRoomFor-planned lacks = record {
+    changed = (was, live, one_false _ _ _ (elim lacks [
+      | inl one ↦ inl (unlike_by keys.first items.store ix item was live plans.first tables.first planned.first one)
+      | inr rest ↦ inr (elim rest [
+        | inl two ↦ inl (unlike_by keys.second items.store ix item was live plans.second tables.second planned.second two)
+        | inr three ↦ inr (unlike_by keys.third items.store ix item was live plans.third tables.third planned.third three)
+      ])
+    ]));
+    no_other = no_other;
+    no_room = elim lacks [
+      | inl one ↦ none_first _ _ _ _ (lacks_none plans.first tables.first one)
+      | inr rest ↦ elim rest [
+        | inl two ↦ none_second _ _ _ _ (lacks_none plans.second tables.second two)
+        | inr three ↦ none_third _ _ _ _ (lacks_none plans.third tables.third three)
+      ]
+    ];
+  }
+
+  pub BecomesOne-planned : (new : SizedStore T) (mid after : TriTables) → new ≡ with_item items ix item → Untouched plans tables mid → Untouched plans mid after → KeepRoom tables mid → MoveTo mid ix plans after → BecomesOne (alike keys) (same keys) (map_of items tables) ix item was (map_of new after)
+  BecomesOne-planned new mid after left one other reserved went =
+      let same_room : set_room new ≡ set_room items = rw left (room-rebound items.store items.capacity ix item) in
+      let first : table_room tables.first ≤ table_room after.first + 1 = omega (arith, reserved.first, went.room_first) in
+      let second : table_room tables.second ≤ table_room after.second + 1 = omega (arith, reserved.second, went.room_second) in
+      let third : table_room tables.third ≤ table_room after.third + 1 = omega (arith, reserved.third, went.room_third) in
+      record {
+        live = live;
+        no_other = no_other;
+        left = ap (λ (s : SizedStore T). s.store) left;
+        room = min_falls _ _ _ _ (omega (arith, same_room)) (min_falls _ _ _ _ first (min_falls _ _ _ _ second third));
+        same_keys = λ like.
+            let (like1, rest) = both_true _ _ like in
+            let (like2, like3) = both_true _ _ rest in
+            min_stays _ _ _ _ (omega (arith, same_room)) (min_stays _ _ _ _
+            (untouched_by keys.first items.store ix item was live plans.first tables.first mid.first after.first planned.first one.first other.first like1)
+            (min_stays _ _ _ _
+            (untouched_by keys.second items.store ix item was live plans.second tables.second mid.second after.second planned.second one.second other.second like2)
+            (untouched_by keys.third items.store ix item was live plans.third tables.third mid.third after.third planned.third one.third other.third like3)));
+      }
+
+-- where another item has a key, from what was planned for that key or the clash that was told
+module _ {T K : Type 0} (key : ItemKey T K) (s : Store T) (table : Table ℕ) (o : Indexes key.key_of key.hashing s (filed table)) (lawful : IsLawful key.hashing) (ix : ℕ) (item : T) where
+  pub AnswersOther-planned : (r : Result Move ℕ) → PlansOrClashes key.key_of key.hashing s ix item r → AnswersOther s (alike_by key item) ix (result_err r)
+  AnswersOther-planned (Ok plan) planned = no_other_by key s table o lawful ix item plan planned
+  AnswersOther-planned (Err at) told = told
+
+-- the removal of the one item that passes a test, or of none
+module _ {T : Type 0} (old : SizedStore T) (tables after : TriTables) (test : T → Bool) (kept : KeepRoom tables after) where
+  pub Removes-hit : (new : SizedStore T) (ix : ℕ) (r : Option T) → AnswersScan old.store test (Some ix) → r ≡ get old.store ix → OnSome r (new ≡ record old { store = removed old.store ix }) → OnSome r (set_room new ≡ set_room old + 1) → Removes (map_of old tables) test r (map_of new after)
+  Removes-hit new ix r scan value left freed =
+      let (item, live, passed) = (scan ix).1 refl in
+      let gone = rw (value, live) at left in
+      let risen : set_room new ≡ set_room old + 1 = rw (value, live) at freed in
+      rw (value, live)
+      (record {
+        ix = ix;
+        hit = record { live = live; only = scan };
+        left = ap (λ (s : SizedStore T). s.store) gone;
+        room_stays = room_stays old new tables after (omega (arith, risen)) kept;
+      })
+
+  pub Removes-none : (r : Option T) → r ≡ None → HasNoHit old.store test → Removes (map_of old tables) test r (map_of old after)
+  Removes-none r none missed = rw none (missed, Rests-parts old old tables after refl (omega arith) kept)
+
+-- an index that the tables lost, and its item that the store lost
+pub IsTriMap-gone : {T K1 K2 K3 : Type 0} (keys : TriKeys T K1 K2 K3) (old new : SizedStore T) (tables after : TriTables) (ix : ℕ) (r : Option T) → IsTriMap keys old.store tables → IsLive old.store ix → r ≡ get old.store ix → OnSome r (new ≡ record old { store = removed old.store ix }) → Take tables ix after → IsTriMap keys new.store after
+IsTriMap-gone keys old new tables after ix r o here value left taken =
+    let (item, live) = item_at old.store ix here in
+    let gone = rw (value, live) at left in
+    IsTriMap-removed keys old.store tables o new.store after ix item live (ap (λ (s : SizedStore _). s.store) gone) taken
+
+-- the index that a scan hits is live
+pub hit_live : {T : Type 0} (s : Store T) (test : T → Bool) (ix : ℕ) → AnswersScan s test (Some ix) → IsLive s ix
+hit_live s test ix scan = let (item, live, passed) = (scan ix).1 refl in live_at s ix item live
+
+-- the tables have the same indexes as before
+module _ (tables mid : TriTables) (same_indexes : SameIndexes tables mid) where
+  pub AreUnfiled-same : (ix : ℕ) → AreUnfiled tables ix → AreUnfiled mid ix
+  AreUnfiled-same ix none = record { first = rw same_indexes.first none.first; second = rw same_indexes.second none.second; third = rw same_indexes.third none.third }
+
+  pub IsTriMap-same : {T K1 K2 K3 : Type 0} (keys : TriKeys T K1 K2 K3) (s : Store T) → IsTriMap keys s tables → IsTriMap keys s mid
+  IsTriMap-same keys s o = record {
+    valid = o.valid;
+    first = rw same_indexes.first o.first;
+    second = rw same_indexes.second o.second;
+    third = rw same_indexes.third o.third;
+  }
+
+-- where no item was told there is none
+pub HasNoHit-untold : {T : Type 0} (first second third : T → T → Bool) (s : Store T) (item : T) (a b c : Option ℕ) → AnswersScan s (first item) a → AnswersScan s (second item) b → AnswersScan s (third item) c → (IsSome a ⊎ (IsSome b ⊎ IsSome c) → ⊥) → HasNoHit s (either_key first (either_key second third) item)
+HasNoHit-untold first second third s item None None None one two three none =
+    HasNoHit-either first (either_key second third) s item one (HasNoHit-either second third s item two three)
+HasNoHit-untold first second third s item (Some x) b c one two three none = absurd (none (inl refl))
+HasNoHit-untold first second third s item None (Some y) c one two three none = absurd (none (inr (inl refl)))
+HasNoHit-untold first second third s item None None (Some z) one two three none = absurd (none (inr (inr refl)))
+
+-- a store that is as it was
+pub Rests-same : {T : Type 0} (items left : SizedStore T) (tables after : TriTables) → left ≡ items → KeepRoom tables after → Rests (map_of items tables) (map_of left after)
+Rests-same items left tables after is kept = rw is (Rests-parts items items tables after refl (omega arith) kept)
+
+pub KeepRoom-same : (tables : TriTables) → KeepRoom tables tables
+KeepRoom-same tables = record { first = omega arith; second = omega arith; third = omega arith }
+
+-- a store that a handle held, which was let go
+pub Rests-held : {T : Type 0} (items held left : SizedStore T) (tables after : TriTables) → left ≡ held → held.store ≡ items.store → (1 ≤ set_room items → held ≡ items) → KeepRoom tables after → Rests (map_of items tables) (map_of left after)
+Rests-held items held left tables after is contents same tables_kept =
+    rw is (Rests-parts items held tables after contents (not_less _ _ (λ some. ap set_room (same some))) tables_kept)

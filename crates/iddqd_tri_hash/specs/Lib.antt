@@ -1,0 +1,2 @@
+pub mod TriMap
+pub mod TriSteps

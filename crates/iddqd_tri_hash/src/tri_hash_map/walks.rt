@@ -1,0 +1,56 @@
+//! Walks over the items of a map by rising index. They take no memory.
+ghost use Rattle.std.specs.Prelude.{◌≡◌, length};
+ghost use Rattle.iddqd.specs.{live_count, live_items, live_pairs};
+ghost use Rattle.iddqd.specs.LiveItems.{IsWalkOf};
+
+use super::{TriHashItem, TriHashMap};
+use iddqd::item_set::{IntoValues, Iter, Values};
+use std::fmt;
+use std::hash::BuildHasher;
+
+impl<T: TriHashItem, S: BuildHasher> TriHashMap<T, S> {
+    /// The live indexes with their items, by rising index.
+    pub fn iter(&self) -> Iter<'_, T>
+        ensures pairs { result ≡ live_pairs self.now.store }
+        ensures len { length result ≡ live_count self.now.store }
+        ensures walk { IsWalkOf self.now.store result }
+    {
+        self.items.iter()
+    }
+
+    /// The items, by rising index.
+    pub fn values(&self) -> Values<'_, T>
+        ensures items { result ≡ live_items self.now.store }
+        ensures len { length result ≡ live_count self.now.store }
+    {
+        self.items.values()
+    }
+
+    /// The items by value, by rising index.
+    pub fn into_values(self) -> IntoValues<T>
+    where
+        S: Drop,
+        ensures items { result ≡ live_items self.store }
+        ensures len { length result ≡ live_count self.store }
+    {
+        self.items.into_values()
+    }
+}
+
+impl<T: TriHashItem, S: BuildHasher + Drop> IntoIterator for TriHashMap<T, S> {
+    type Item = T;
+
+    type IntoIter = IntoValues<T>;
+
+    ghost into_iter_gives = { λ m items. items ≡ live_items m.store };
+
+    fn into_iter(self) -> IntoValues<T> {
+        self.into_values()
+    }
+}
+
+impl<T: TriHashItem + fmt::Debug, S: BuildHasher> fmt::Debug for TriHashMap<T, S> {
+    fn fmt<W: fmt::Write>(&self, f: &mut fmt::Formatter<W>) -> fmt::Result {
+        f.debug_set().entries(self.values()).finish()
+    }
+}
