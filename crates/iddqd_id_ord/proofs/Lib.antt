@@ -1,1 +1,4 @@
 pub mod OrdMapLemmas
+pub mod WalkLemmas
+pub mod EndLemmas
+pub mod ReplaceLemmas

@@ -1,25 +1,10 @@
 -- The items of a map in the order of their keys.
-use Rattle.std.specs.Prelude.{◌≡◌, ◌≢◌, ◌≤◌, ◌<◌, ◌↔◌, ⊤, ℕ, List, map, Option, Some, None, slice_get}
+use Rattle.std.specs.Prelude.{◌≡◌, ◌≢◌, ◌≤◌, ◌<◌, ◌↔◌, ℕ, Bool, true, List, map, Option, Some, None, slice_get}
 use Rattle.std.specs.List.{Contains}
 use Rattle.std.specs.declared.cmp.Ordering.{Ordering}
-use Rattle.std.specs.declared.cmp.Ordering.TheVariants.{Less, Greater}
-use Rattle.std.specs.declared.ops.Bound.{Bound}
-use Rattle.std.specs.declared.ops.Bound.TheVariants.{Included, Excluded, Unbounded}
+use Rattle.std.specs.declared.cmp.Ordering.TheVariants.{Less}
 use Rattle.iddqd.specs.Store.{Store, get, live_count, removed}
 use Rattle.iddqd_map_base.specs.Map.{MapState}
-
-module _ {K : Type 0} where
-  -- the key is not before a lower bound, of which a query says how it compares with keys
-  abbrev pub IsFrom : Bound (K → Ordering) → K → Type 0
-  IsFrom (Included comparing) key = comparing key ≢ Greater
-  IsFrom (Excluded comparing) key = comparing key ≡ Less
-  IsFrom Unbounded key = ⊤
-
-  -- it is not behind an upper bound
-  abbrev pub IsUpTo : Bound (K → Ordering) → K → Type 0
-  IsUpTo (Included comparing) key = comparing key ≢ Less
-  IsUpTo (Excluded comparing) key = comparing key ≡ Greater
-  IsUpTo Unbounded key = ⊤
 
 module _ {T K : Type 0} (key_of : T → K) (compare : K → K → Ordering) where
   -- This is the item at the index, and no item's key stands so to its key: at Less it is the first one, at Greater the
@@ -45,20 +30,17 @@ module _ {T K : Type 0} (key_of : T → K) (compare : K → K → Ordering) wher
   PopsEnd beyond old (Some item) new = RemovesEnd beyond old item new
   PopsEnd beyond old None new = (live_count old.store ≡ 0) × (new ≡ old)
 
-  -- The pairs are exactly the live indexes, with their items, whose keys are within; and the keys rise, so that each
-  -- comes once.
-  pub record IsWalkWithin (within : K → Type 0) (s : Store T) (pairs : List (ℕ × T)) : Type 0 where
-    pub live : (ix : ℕ) (item : T) → Contains pairs (ix, item) ↔ ((get s ix ≡ Some item) × within (key_of item))
+  -- The pairs are exactly the live indexes, with their items, whose keys pass; and the keys rise, so that each comes
+  -- once.
+  pub record IsWalkWithin (within : K → Bool) (s : Store T) (pairs : List (ℕ × T)) : Type 0 where
+    pub live : (ix : ℕ) (item : T) →
+        Contains pairs (ix, item) ↔ ((get s ix ≡ Some item) × (within (key_of item) ≡ true))
     pub rising : (i j : ℕ) (a b : ℕ × T) → i < j → slice_get pairs i ≡ Some a → slice_get pairs j ≡ Some b →
         compare (key_of a.1) (key_of b.1) ≡ Less
 
   -- the same of all live indexes
   abbrev pub IsKeyWalk : Store T → List (ℕ × T) → Type 0
-  IsKeyWalk s pairs = IsWalkWithin (λ _. ⊤) s pairs
-
-  -- and of those between two bounds
-  abbrev pub IsRange : Bound (K → Ordering) → Bound (K → Ordering) → Store T → List (ℕ × T) → Type 0
-  IsRange lower upper s pairs = IsWalkWithin (λ key. IsFrom lower key × IsUpTo upper key) s pairs
+  IsKeyWalk s pairs = IsWalkWithin (λ _. true) s pairs
 
   -- the items of such a walk
   abbrev pub AreInKeyOrder : Store T → List T → Type 0

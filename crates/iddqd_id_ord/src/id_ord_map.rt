@@ -17,7 +17,12 @@ ghost use Rattle.iddqd_map_base.specs.Calls.{Inserts, Overwrites};
 ghost use Rattle.iddqd_id_ord.specs.OrdMap.{map_of, ClashesAt};
 
 mod checks;
+mod iter;
+mod range;
+mod replaces;
 mod slots;
+mod values;
+mod walks;
 
 use iddqd::item_index::ItemIndex;
 use iddqd::item_set::ItemSet;
@@ -26,8 +31,11 @@ use iddqd_order::btree_table::{Entry, MapBTreeTable};
 use iddqd_sides::key_of::KeyOf;
 use iddqd_sides::order_query::OrdQuery;
 use iddqd_sides::ordered_query::{enter, find_by, take_by};
+pub use iter::Iter;
+pub use range::Range;
 use std::alloc::{AllocError, Global};
 use std::marker::Model;
+pub use values::Values;
 
 /// An item with a key, which is a function of the item's value.
 pub trait IdOrdItem: Drop {

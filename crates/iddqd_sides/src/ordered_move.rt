@@ -2,7 +2,7 @@
 //!
 //! It is planned first: by one look-up of the new key, and none where the key stays. Then the index is
 //! moved, while its old item still stands in the store; all memory is taken before it leaves its place.
-ghost use Rattle.std.specs.Prelude.{◌≡◌, OnOk, OnErr};
+ghost use Rattle.std.specs.Prelude.{◌≡◌, Ok, OnOk, OnErr};
 ghost use Rattle.iddqd.specs.{rebound};
 ghost use Rattle.iddqd_order.specs.{order_of};
 ghost use Rattle.iddqd_sides.specs.Scan.{HasNoHit, IsLive, IsKeyAt};
@@ -52,10 +52,38 @@ where
     }
 }
 
-/// Moves a live index to the place of this item's key, which no item has.
+/// Makes the table fit for a live index that is given this item, as it was planned.
 ///
-/// Where memory is refused the table stays as it was.
+/// All memory is taken before the index leaves its place; where it is refused the table stays as it
+/// was. Where the key stays nothing is done.
 pub fn make_move<T, E>(
+    table: &mut MapBTreeTable,
+    items: &ItemSet<T>,
+    plan: Move,
+    ix: ItemIndex,
+    item: &T,
+) -> Result<(), AllocError>
+where
+    E: KeyOf<T>,
+    E::Key: Ord,
+    requires live { IsLive items.now.store ix }
+    requires sorted { Sorts E.key_of E.Key.cmp items.now.store (order_of table.old) }
+    requires planned { PlansOrClashes E.key_of E.Key.cmp items.now.store ix item.now (Ok plan) }
+
+    // The table sorts what the store is once the index has the item.
+    ensures made { OnOk result (Sorts E.key_of E.Key.cmp (rebound items.now.store ix item.now) (order_of table.new)) }
+    ensures refused { OnErr result (plan ≡ Move.Moves) }
+    ensures unchanged { OnErr result (order_of table.new ≡ order_of table.old) }
+    ensures untouched { plan ≡ Move.Stays → table.new ≡ table.old }
+{
+    match plan {
+        Move::Stays => Ok(()),
+        Move::Moves => relocate::<T, E>(table, items, ix, item),
+    }
+}
+
+// Moves a live index to the place of this item's key, which no item has.
+fn relocate<T, E>(
     table: &mut MapBTreeTable,
     items: &ItemSet<T>,
     ix: ItemIndex,
@@ -67,8 +95,6 @@ where
     requires live { IsLive items.now.store ix }
     requires sorted { Sorts E.key_of E.Key.cmp items.now.store (order_of table.old) }
     requires new_key { HasNoHit items.now.store (has_key E.key_of E.Key.cmp (E.key_of item.now)) }
-
-    // The table sorts what the store will be once the index has the item.
     ensures moved { OnOk result (Sorts E.key_of E.Key.cmp (rebound items.now.store ix item.now) (order_of table.new)) }
     ensures unchanged { OnErr result (order_of table.new ≡ order_of table.old) }
 {

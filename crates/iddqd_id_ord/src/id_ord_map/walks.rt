@@ -1,0 +1,87 @@
+//! Walks over a map in the order of the keys, and its ends. They take no memory.
+ghost use Rattle.std.specs.Prelude.{◌≡◌, length, option_copied};
+ghost use Rattle.std.specs.Range.Bound.{bound_map};
+ghost use Rattle.std.specs.declared.cmp.Ordering.TheVariants.{Less, Greater};
+ghost use Rattle.iddqd.specs.{live_count};
+ghost use Rattle.iddqd_sides.specs.OrderedQuery.{is_between};
+ghost use Rattle.iddqd_id_ord.specs.KeyOrder.{AreInKeyOrder, FindsEnd, IsKeyWalk, IsWalkWithin, PopsEnd};
+
+use super::{IdOrdItem, IdOrdMap, ItsKey, Iter, Range, Values};
+use iddqd_sides::order_query::OrdQuery;
+use iddqd_sides::ordered::take_index;
+use iddqd_sides::ordered_query::range_by;
+use std::fmt;
+use std::ops::Bound;
+
+impl<T: IdOrdItem> IdOrdMap<T> {
+    /// The live indexes with their items, in the order of the keys, from both ends.
+    pub fn iter(&self) -> Iter<'_, T>
+        ensures walk { IsKeyWalk T.key_of T.Key.cmp self.now.store result }
+        ensures len { length result ≡ live_count self.now.store }
+    {
+        Iter {
+            indexes: self.table.iter(),
+            items: &self.items,
+        }
+    }
+
+    /// The items, in the order of the keys, from both ends.
+    pub fn values(&self) -> Values<'_, T>
+        ensures items { AreInKeyOrder T.key_of T.Key.cmp self.now.store result }
+        ensures len { length result ≡ live_count self.now.store }
+    {
+        Values { pairs: self.iter() }
+    }
+
+    /// The live indexes with their items whose keys are between two bounds, in the order of the keys,
+    /// from both ends: none where the lower bound stands above the upper one.
+    ///
+    /// Each query is compared with at most 4 and twice the binary digits of the number of items keys.
+    pub fn range<Q: OrdQuery<T::Key>>(&self, lower: Bound<Q>, upper: Bound<Q>) -> Range<'_, T>
+        ensures { let within = is_between (bound_map Q.compare lower) (bound_map Q.compare upper) in
+            IsWalkWithin T.key_of T.Key.cmp within self.now.store result }
+    {
+        Range {
+            indexes: range_by::<T, ItsKey, Q>(&self.table, &self.items, lower, upper),
+            items: &self.items,
+        }
+    }
+
+    /// The item with the least key.
+    pub fn first(&self) -> Option<&T>
+        ensures { FindsEnd T.key_of T.Key.cmp Less self.now.store (option_copied result) }
+    {
+        self.items.get(self.table.first()?)
+    }
+
+    /// The item with the greatest key.
+    pub fn last(&self) -> Option<&T>
+        ensures { FindsEnd T.key_of T.Key.cmp Greater self.now.store (option_copied result) }
+    {
+        self.items.get(self.table.last()?)
+    }
+
+    /// Takes the item with the least key out of the map.
+    pub fn pop_first(&mut self) -> Option<T>
+        ensures { PopsEnd T.key_of T.Key.cmp Less self.old result self.new }
+    {
+        let ix = self.table.first()?;
+        take_index::<T, ItsKey>(&mut self.table, &self.items, ix);
+        self.items.remove(ix)
+    }
+
+    /// Takes the item with the greatest key out of the map.
+    pub fn pop_last(&mut self) -> Option<T>
+        ensures { PopsEnd T.key_of T.Key.cmp Greater self.old result self.new }
+    {
+        let ix = self.table.last()?;
+        take_index::<T, ItsKey>(&mut self.table, &self.items, ix);
+        self.items.remove(ix)
+    }
+}
+
+impl<T: IdOrdItem + fmt::Debug> fmt::Debug for IdOrdMap<T> {
+    fn fmt<W: fmt::Write>(&self, f: &mut fmt::Formatter<W>) -> fmt::Result {
+        f.debug_set().entries(self.values()).finish()
+    }
+}
