@@ -1,5 +1,7 @@
 //! Small items with two numbers as their keys.
-use iddqd_maps::bi_hash_map::BiHashItem;
+ghost use Rattle.std.proofs.Common.{rules};
+
+use iddqd_maps::bi_hash_map::{BiHashClone, BiHashItem};
 
 /// Passes are told apart by their numbers, and by their seats.
 #[derive(Clone, Copy, Debug, PartialEq, Eq)]
@@ -25,6 +27,12 @@ impl BiHashItem for Pass {
     fn key2(&self) -> &u32 {
         &self.seat
     }
+}
+
+impl BiHashClone for Pass {
+    ghost same_key1 = { Prim.search rules };
+
+    ghost same_key2 = { Prim.search rules };
 }
 
 /// The pass with that number and seat, which was used so often.
