@@ -1,5 +1,5 @@
 -- Equality of maps with two keys.
-use Rattle.std.proofs.Common.{◌≡◌, ◌||◌, Bool, true, ap}
+use Rattle.std.proofs.Common.{◌||◌, Bool, ap}
 use Rattle.std.specs.Cmp.{IsPartialEquivalence, IsEquivalence}
 use Rattle.iddqd.specs.Store.{Store}
 use Rattle.iddqd_sides.specs.Scan.{AreApart}

@@ -1,6 +1,6 @@
 //! Copies of a map.
-use super::item::BiHashItem;
 use super::BiHashMap;
+use super::item::BiHashItem;
 use std::alloc::AllocError;
 use std::hash::BuildHasher;
 

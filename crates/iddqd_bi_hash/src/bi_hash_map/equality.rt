@@ -5,8 +5,8 @@ ghost use Rattle.iddqd.specs.LiveItems.{live_items};
 ghost use Rattle.iddqd_map_base.specs.Map.{shares};
 ghost use Rattle.iddqd_bi_hash.specs.BiMap.{same_item, same_but_first};
 
-use super::item::BiHashItem;
 use super::BiHashMap;
+use super::item::BiHashItem;
 use std::hash::BuildHasher;
 
 impl<T: BiHashItem + PartialEq, S: BuildHasher> BiHashMap<T, S> {
@@ -40,7 +40,7 @@ impl<T: BiHashItem + PartialEq, S: BuildHasher> PartialEq for BiHashMap<T, S> {
 
     ghost laws = { let first = shares T.first_key T.Key1.eq in let second = shares T.second_key T.Key2.eq in
         map_laws first (same_but_first second T.eq) (shares_laws T.first_key T.Key1.eq T.Key1.Eq.laws)
-            (same_laws second T.eq (shares_laws T.second_key T.Key2.eq T.Key2.Eq.laws) T.laws) };
+        (same_laws second T.eq (shares_laws T.second_key T.Key2.eq T.Key2.Eq.laws) T.laws) };
 
     fn eq(&self, other: &BiHashMap<T, S>) -> bool {
         self.len() == other.len() && self.values().all(|item| other.has(item))
@@ -53,5 +53,5 @@ impl<T: BiHashItem + Eq, S: BuildHasher> Eq for BiHashMap<T, S> {
 
     ghost laws = { let first = shares T.first_key T.Key1.eq in let second = shares T.second_key T.Key2.eq in
         map_equivalence first (same_but_first second T.eq) (shares_laws T.first_key T.Key1.eq T.Key1.Eq.laws)
-            (and_equiv (shares_laws T.second_key T.Key2.eq T.Key2.Eq.laws) T.Eq.laws) };
+        (and_equiv (shares_laws T.second_key T.Key2.eq T.Key2.Eq.laws) T.Eq.laws) };
 }

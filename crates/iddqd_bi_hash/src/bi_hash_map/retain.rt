@@ -12,9 +12,9 @@ ghost use Rattle.iddqd_map_base.specs.Retain.{RetainsTo, Retains};
 ghost use Rattle.iddqd_bi_hash.specs.BiMap.{bi_keys_of, IsBiMap};
 ghost use Rattle.iddqd_bi_hash.specs.BiSteps.{KeepRoom};
 
+use super::BiHashMap;
 use super::item::BiHashItem;
 use super::tables::BiTables;
-use super::BiHashMap;
 use iddqd::item_index::ItemIndex;
 use iddqd::item_set::ItemSet;
 use std::hash::BuildHasher;

@@ -1,5 +1,5 @@
 //! A map with two keys whose items are retained, cloned and compared.
-use super::passes::{Pass, pass};
+use super::passes::{Pass, issued};
 use iddqd::item_index::ItemIndex;
 use iddqd_maps::bi_hash_map::BiHashMap;
 use std::alloc::{AllocError, Global};
@@ -12,7 +12,7 @@ type Map = BiHashMap<Pass>;
 fn filled(alloc: Global, numbers: &[u32]) -> Map {
     let mut map = BiHashMap::new(alloc);
     for number in numbers {
-        let _ = map.insert_unique(pass(*number, number.wrapping_add(10), 0));
+        let _ = map.insert_unique(issued(*number, number.wrapping_add(10), 0));
     }
     map
 }
@@ -43,7 +43,7 @@ fn a_retain_asks_once_of_each(rt: HostRuntime) -> Result<(), Fail> {
     assert!(rt; keep_even(&mut map) == 4321 && map.len() == 2);
     assert!(rt; indexes_of(&map, 4, 12) == (Some(0), Some(2)));
     assert!(rt; indexes_of(&map, 3, 11) == (None, None));
-    assert!(rt; overwrites(&mut map, pass(5, 13, 0)) && indexes_of(&map, 5, 13) == (Some(3), Some(3)));
+    assert!(rt; overwrites(&mut map, issued(5, 13, 0)) && indexes_of(&map, 5, 13) == (Some(3), Some(3)));
     assert!(rt; keep_even(&mut map) == 425 && keep_even(&mut map) == 42);
     Ok(())
 }
@@ -62,7 +62,7 @@ fn assert_clones(rt: &impl Abort, map: &mut Map) -> Result<(), AllocError> {
     let mut copy = clone_of(map)?;
     assert!(rt; are_equal(map, &copy) && copy.len() == 2);
     assert!(rt; indexes_of(&copy, 1, 13) == (Some(0), Some(2)));
-    assert!(rt; overwrites(&mut copy, pass(4, 14, 0)) && indexes_of(&copy, 4, 14) == (Some(1), Some(1)));
+    assert!(rt; overwrites(&mut copy, issued(4, 14, 0)) && indexes_of(&copy, 4, 14) == (Some(1), Some(1)));
     assert!(rt; !are_equal(map, &copy) && map.len() == 2 && indexes_of(map, 4, 14) == (None, None));
     Ok(())
 }
@@ -78,9 +78,9 @@ fn maps_are_equal_by_their_items(rt: HostRuntime) -> Result<(), Fail> {
     let map = filled(rt.alloc(), &[1, 2, 3]);
     let mut other = filled(rt.alloc(), &[3, 1, 2]);
     assert!(rt; are_equal(&map, &other) && are_equal(&map, &map));
-    assert!(rt; overwrites(&mut other, pass(1, 11, 7)) && !are_equal(&map, &other));
-    assert!(rt; overwrites(&mut other, pass(1, 19, 0)) && !are_equal(&map, &other));
-    assert!(rt; overwrites(&mut other, pass(1, 11, 0)) && are_equal(&map, &other));
+    assert!(rt; overwrites(&mut other, issued(1, 11, 7)) && !are_equal(&map, &other));
+    assert!(rt; overwrites(&mut other, issued(1, 19, 0)) && !are_equal(&map, &other));
+    assert!(rt; overwrites(&mut other, issued(1, 11, 0)) && are_equal(&map, &other));
     assert!(rt; other.remove2(&13).is_some() && !are_equal(&map, &other));
     assert!(rt; are_equal(&filled(rt.alloc(), &[]), &filled(rt.alloc(), &[])));
     Ok(())

@@ -36,7 +36,7 @@ impl BiHashClone for Pass {
 }
 
 /// The pass with that number and seat, which was used so often.
-pub(super) fn pass(number: u32, seat: u32, visits: u32) -> Pass {
+pub(super) fn issued(number: u32, seat: u32, visits: u32) -> Pass {
     Pass {
         number,
         seat,

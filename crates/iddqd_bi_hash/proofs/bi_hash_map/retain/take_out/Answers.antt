@@ -1,4 +1,3 @@
-use Rattle.iddqd_bi_hash.specs.BiMap.{bi_keys_of}
 use Rattle.iddqd_bi_hash.proofs.BiLemmas.{IsBiMap-gone}
 use Rattle.iddqd_bi_hash.proofs.bi_hash_map.retain.take_out.Goals as goal
 

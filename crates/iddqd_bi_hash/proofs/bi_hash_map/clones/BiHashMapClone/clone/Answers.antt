@@ -1,4 +1,3 @@
-use Rattle.iddqd_bi_hash.specs.BiMap.{bi_keys_of}
 use Rattle.iddqd_bi_hash.proofs.BiLemmas.{AreLawful-from_bounds, IsBiMap-cloned}
 use Rattle.iddqd_bi_hash.proofs.bi_hash_map.clones.BiHashMapClone.clone.Goals as goal
 
