@@ -112,6 +112,16 @@ impl BiTables {
         take_item::<T, Second, S>(&mut self.second, items, state, ix);
     }
 
+    /// Tables with the same indexes under the same hashes.
+    pub(crate) fn copied(&self) -> Result<BiTables, AllocError>
+        ensures { IfOk result (SameIndexes self.now) }
+    {
+        Ok(BiTables {
+            first: self.first.clone()?,
+            second: self.second.clone()?,
+        })
+    }
+
     /// Gives back the memory that the indexes don't need.
     pub(crate) fn shrink_to_fit(&mut self) -> Result<(), AllocError>
         ensures { SameIndexes self.old self.new }

@@ -1,5 +1,5 @@
 //! A map with two keys beside a plain list of slots.
-use super::passes::{Pass, pass};
+use super::passes::{Pass, issued};
 use iddqd::hash_builder::DefaultHashBuilder;
 use iddqd::item_index::ItemIndex;
 use iddqd_maps::bi_hash_map::{BiClash, BiHashMap};
@@ -189,7 +189,7 @@ fn answers_alike(
 ) -> Result<bool, AllocError> {
     let kind = numbers.below(12);
     let (key, visits) = (numbers.below(range), numbers.below(1000));
-    let item = pass(numbers.below(range), numbers.below(range), visits);
+    let item = issued(numbers.below(range), numbers.below(range), visits);
     match kind {
         0..=3 => inserts_alike(map, model, item),
         4 => overwrites_alike(map, model, item),
