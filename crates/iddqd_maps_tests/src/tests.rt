@@ -3,3 +3,4 @@ mod badges;
 mod id_calls;
 mod id_model;
 mod names;
+mod ord_calls;
