@@ -2,3 +2,5 @@ pub mod OrdMapLemmas
 pub mod WalkLemmas
 pub mod EndLemmas
 pub mod ReplaceLemmas
+pub mod TakeLemmas
+pub mod CloneLemmas

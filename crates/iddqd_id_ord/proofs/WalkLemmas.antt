@@ -18,7 +18,7 @@ use Rattle.iddqd_sides.specs.Side.{IsApart}
 use Rattle.iddqd_sides.specs.Ordered.{AreLive, IsInPlace, key_at}
 use Rattle.iddqd_sides.specs.OrderedIndexing.{Sorts, SortsWithin}
 use Rattle.iddqd_id_ord.specs.KeyOrder.{IsWalkWithin}
-use Rattle.iddqd_id_ord.specs.Pairs.{pair_at, pairs_at}
+use Rattle.iddqd_id_ord.specs.Pairs.{pair_at, pairs_at, items_at}
 
 module _ {T : Type 0} (s : Store T) where
   -- what a walk that had these indexes left keeps once it gives the first one, or the last one
@@ -125,6 +125,16 @@ keys_differ : (r t : Ordering) → ordering_then r t ≡ Less → (r ≡ Equal �
 keys_differ Less t less tied = refl
 keys_differ Equal t less tied = let same = tied refl in cc
 keys_differ Greater t less tied = cc
+
+-- the items of pairs are those at their indexes
+pub items_of_pairs : {T : Type 0} (s : Store T) (xs : List ℕ) → map (λ pair. pair.1) (pairs_at s xs) ≡ items_at s.items xs
+items_of_pairs s [] = refl
+items_of_pairs s (x ∷ xs) =
+    let rest = items_of_pairs s xs in
+    elim (get s x) as (λ o. map (λ pair. pair.1) (cons_option (option_map (λ item. (x, item)) o) (pairs_at s xs)) ≡ cons_option o (items_at s.items xs)) [
+      | Some item ↦ ap (λ l. item ∷ l) rest
+      | None ↦ rest
+    ]
 
 module _ {T K : Type 0} (key_of : T → K) (compare : K → K → Ordering) (s : Store T) where
   -- all are within, where nothing is asked of a key

@@ -17,6 +17,8 @@ ghost use Rattle.iddqd_map_base.specs.Calls.{Inserts, Overwrites};
 ghost use Rattle.iddqd_id_ord.specs.OrdMap.{map_of, ClashesAt};
 
 mod checks;
+mod clones;
+mod into_values;
 mod iter;
 mod range;
 mod replaces;
@@ -31,6 +33,8 @@ use iddqd_order::btree_table::{Entry, MapBTreeTable};
 use iddqd_sides::key_of::KeyOf;
 use iddqd_sides::order_query::OrdQuery;
 use iddqd_sides::ordered_query::{enter, find_by, take_by};
+pub use clones::IdOrdClone;
+pub use into_values::IntoValues;
 pub use iter::Iter;
 pub use range::Range;
 use std::alloc::{AllocError, Global};

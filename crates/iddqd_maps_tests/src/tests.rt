@@ -7,4 +7,5 @@ mod bi_names;
 mod id_calls;
 mod id_model;
 mod names;
+mod ord_calls;
 mod passes;

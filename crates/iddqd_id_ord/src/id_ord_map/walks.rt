@@ -6,7 +6,7 @@ ghost use Rattle.iddqd.specs.{live_count};
 ghost use Rattle.iddqd_sides.specs.OrderedQuery.{is_between};
 ghost use Rattle.iddqd_id_ord.specs.KeyOrder.{AreInKeyOrder, FindsEnd, IsKeyWalk, IsWalkWithin, PopsEnd};
 
-use super::{IdOrdItem, IdOrdMap, ItsKey, Iter, Range, Values};
+use super::{IdOrdItem, IdOrdMap, IntoValues, ItsKey, Iter, Range, Values};
 use iddqd_sides::order_query::OrdQuery;
 use iddqd_sides::ordered::take_index;
 use iddqd_sides::ordered_query::range_by;
@@ -31,6 +31,17 @@ impl<T: IdOrdItem> IdOrdMap<T> {
         ensures len { length result ≡ live_count self.now.store }
     {
         Values { pairs: self.iter() }
+    }
+
+    /// The items by value, in the order of the keys, from both ends.
+    pub fn into_values(self) -> IntoValues<T>
+        ensures items { AreInKeyOrder T.key_of T.Key.cmp self.store result }
+        ensures len { length result ≡ live_count self.store }
+    {
+        IntoValues {
+            indexes: self.table.into_iter(),
+            items: self.items.into_consuming(),
+        }
     }
 
     /// The live indexes with their items whose keys are between two bounds, in the order of the keys,
@@ -77,6 +88,18 @@ impl<T: IdOrdItem> IdOrdMap<T> {
         let ix = self.table.last()?;
         take_index::<T, ItsKey>(&mut self.table, &self.items, ix);
         self.items.remove(ix)
+    }
+}
+
+impl<T: IdOrdItem> IntoIterator for IdOrdMap<T> {
+    type Item = T;
+
+    type IntoIter = IntoValues<T>;
+
+    ghost into_iter_gives = { λ m items. AreInKeyOrder T.IdOrdItem.key_of T.Key.cmp m.store items };
+
+    fn into_iter(self) -> IntoValues<T> {
+        self.into_values()
     }
 }
 
