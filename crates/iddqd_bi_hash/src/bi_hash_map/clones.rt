@@ -10,9 +10,11 @@ use std::hash::BuildHasher;
 pub trait BiHashClone: BiHashItem + Clone {
     ghost use Rattle.std.specs.Prelude.{IsTrue};
 
-    ghost same_key1: { (x y : Self) → Self.is_clone x y → IsTrue (Self.Key1.eq (Self.first_key x) (Self.first_key y)) };
+    ghost same_key1: { (x y : Self) → Self.is_clone x y
+        → IsTrue (Self.Key1.eq (Self.first_key x) (Self.first_key y)) };
 
-    ghost same_key2: { (x y : Self) → Self.is_clone x y → IsTrue (Self.Key2.eq (Self.second_key x) (Self.second_key y)) };
+    ghost same_key2: { (x y : Self) → Self.is_clone x y
+        → IsTrue (Self.Key2.eq (Self.second_key x) (Self.second_key y)) };
 }
 
 /// Each item is cloned once, under its index, and no key is hashed or compared. Where memory is refused
