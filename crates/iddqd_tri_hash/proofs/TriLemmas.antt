@@ -27,6 +27,8 @@ use Rattle.iddqd_sides.proofs.IndexingLemmas.{Indexes-empty, Indexes-cleared, In
 use Rattle.iddqd_map_base.specs.Map.{Stays as Rests, Removes, InsertsAt}
 use Rattle.iddqd_map_base.specs.Several.{either_key, BecomesOne, LacksRoomFor, AnswersOther}
 use Rattle.iddqd_map_base.proofs.RoomLemmas.{min_stays, min_falls, not_less}
+use Rattle.iddqd.specs.Clones.{IsStoreClone}
+use Rattle.iddqd_map_base.proofs.CloneLemmas.{IsValid-cloned, Indexes-cloned}
 use Rattle.iddqd_map_base.proofs.SeveralLemmas.{IsHit-either, HasNoHit-either, HasNoHit-first, HasNoHit-second}
 use Rattle.iddqd_tri_hash.specs.TriMap.{ItemKey, TriKeys, tri_keys_of, alike_by, alike, same, map_of, IsTriMap}
 use Rattle.iddqd_tri_hash.specs.TriSteps.{AreEmpty, AreHashes, AreUnfiled, Enter, KeepRoom, LackRoom, MoveTo, ArePlans, SameIndexes, Take, Untouched}
@@ -319,3 +321,20 @@ KeepRoom-same tables = record { first = omega arith; second = omega arith; third
 pub Rests-held : {T : Type 0} (items held left : SizedStore T) (tables after : TriTables) → left ≡ held → held.store ≡ items.store → (1 ≤ set_room items → held ≡ items) → KeepRoom tables after → Rests (map_of items tables) (map_of left after)
 Rests-held items held left tables after is contents same tables_kept =
     rw is (Rests-parts items held tables after contents (not_less _ _ (λ some. ap set_room (same some))) tables_kept)
+
+-- no table lost room in either of two steps
+pub KeepRoom-twice : (tables mid after : TriTables) → KeepRoom tables mid → KeepRoom mid after → KeepRoom tables after
+KeepRoom-twice tables mid after one other = record {
+  first = omega (arith, one.first, other.first);
+  second = omega (arith, one.second, other.second);
+  third = omega (arith, one.third, other.third);
+}
+
+-- a clone whose items keep their keys, and tables with the same indexes
+pub IsTriMap-cloned : {T K1 K2 K3 : Type 0} (keys : TriKeys T K1 K2 K3) → AreLawful keys → (is_clone : T → T → Type 0) → ((x y : T) → is_clone x y → alike_by keys.first x y ≡ true) → ((x y : T) → is_clone x y → alike_by keys.second x y ≡ true) → ((x y : T) → is_clone x y → alike_by keys.third x y ≡ true) → (s copy : Store T) (tables after : TriTables) → IsStoreClone is_clone s copy → SameIndexes tables after → IsTriMap keys s tables → IsTriMap keys copy after
+IsTriMap-cloned keys lawful is_clone one two three s copy tables after is same_indexes o = record {
+  valid = IsValid-cloned is_clone s copy is o.valid;
+  first = rw same_indexes.first (Indexes-cloned is_clone s copy is keys.first.key_of keys.first.hashing (filed tables.first) one lawful.first o.first);
+  second = rw same_indexes.second (Indexes-cloned is_clone s copy is keys.second.key_of keys.second.hashing (filed tables.second) two lawful.second o.second);
+  third = rw same_indexes.third (Indexes-cloned is_clone s copy is keys.third.key_of keys.third.hashing (filed tables.third) three lawful.third o.third);
+}
