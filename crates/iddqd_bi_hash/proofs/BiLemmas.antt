@@ -1,23 +1,21 @@
 -- What becomes of a map with two keys in each step of its store and its tables.
-use Rattle.std.proofs.Common.{◌≡◌, ◌∙◌, ◌⊎◌, inl, inr, ◌↔◌, ◌+◌, ◌≤◌, ◌&&◌, ℕ, suc, min, Bool, true, false, not, List, [], ◌∷◌, length, map, Option, Some, None, IsSome, IsTrue, Result, Ok, Err, refl, sym, ap, subst, arith}
+use Rattle.std.proofs.Common.{◌≡◌, ◌∙◌, ◌⊎◌, inl, inr, ◌+◌, ◌≤◌, ◌&&◌, ℕ, zero, suc, min, Bool, true, false, not, List, Option, Some, None, IsSome, IsTrue, Result, Ok, Err, refl, ap, arith}
 use Rattle.std.specs.Cmp.{IsPartialEquivalence}
-use Rattle.std.specs.List.{Contains}
 use Rattle.std.specs.Option.{OnSome}
 use Rattle.std.specs.Result.{result_err}
-use Rattle.std.specs.FinMap as finite
 use Rattle.std.specs.declared.hash.Hasher as hasher
 use Rattle.std.specs.declared.hash.BuildHasher as builder
 use Rattle.iddqd.proofs.LiveLemmas.{item_at, live_at}
 use Rattle.iddqd.proofs.RoomLemmas.{room-rebound}
 use Rattle.iddqd.proofs.CompactionLemmas.{IsValid-compacted}
 use Rattle.iddqd.proofs.StoreLemmas.{IsValid-empty, IsValid-removed, IsValid-inserted, IsValid-rebound}
-use Rattle.iddqd.specs.Store.{Store, IsValid, IsFull, slot_limit, empty_within, cleared, get, next_index, inserted, removed, rebound}
+use Rattle.iddqd.specs.Store.{Store, IsFull, slot_limit, empty_within, cleared, get, next_index, inserted, removed, rebound}
 use Rattle.iddqd.specs.Compaction.{compacted, rank}
 use Rattle.iddqd.specs.ItemSet.{SizedStore, with_item, room as set_room}
 use Rattle.iddqd_hash.specs.HashTable.{Table, room as table_room}
 use Rattle.iddqd_hash.specs.MapHashTable.{filed, Renames}
 use Rattle.iddqd_sides.specs.Scan.{IsLive, IsHit, HasNoHit, AnswersScan}
-use Rattle.iddqd_sides.specs.Hashed.{Hashing, IsLawful}
+use Rattle.iddqd_sides.specs.Hashed.{IsLawful}
 use Rattle.iddqd_sides.specs.Indexing.{Indexes, Plans, PlansOrClashes, IfStays, LacksRoom}
 use Rattle.iddqd_sides.specs.declared.hashed_move.Move.{Move}
 use Rattle.iddqd_sides.specs.declared.hashed_move.Move.TheVariants.{Stays, To}
@@ -25,11 +23,11 @@ use Rattle.iddqd_sides.proofs.FindLemmas.{IsLawful-from_bounds}
 use Rattle.iddqd_sides.proofs.HoldsLemmas.{next_unfiled}
 use Rattle.iddqd_sides.proofs.IndexingLemmas.{Indexes-empty, Indexes-cleared, Indexes-removed, Indexes-inserted, Indexes-compacted, Indexes-rebound}
 use Rattle.iddqd_map_base.specs.Map.{Stays as Rests, Removes, InsertsAt}
-use Rattle.iddqd_map_base.specs.Several.{BecomesOne, LacksRoomFor, AnswersOther}
+use Rattle.iddqd_map_base.specs.Several.{either_key, BecomesOne, LacksRoomFor, AnswersOther}
 use Rattle.iddqd_map_base.proofs.RoomLemmas.{min_stays, min_falls, not_less}
-use Rattle.iddqd_map_base.proofs.SeveralLemmas.{IsHit-either, HasNoHit-first, HasNoHit-second}
+use Rattle.iddqd_map_base.proofs.SeveralLemmas.{IsHit-either, HasNoHit-either, HasNoHit-first, HasNoHit-second}
 use Rattle.iddqd_bi_hash.specs.BiMap.{ItemKey, BiKeys, bi_keys_of, alike_by, alike, same, map_of, IsBiMap}
-use Rattle.iddqd_bi_hash.specs.BiSteps.{AreEmpty, AreHashes, AreUnfiled, Enter, KeepRoom, LackRoom, MoveTo, ArePlans, Take, Untouched}
+use Rattle.iddqd_bi_hash.specs.BiSteps.{AreEmpty, AreHashes, AreUnfiled, Enter, KeepRoom, LackRoom, MoveTo, ArePlans, SameIndexes, Take, Untouched}
 use Rattle.iddqd_bi_hash.specs.declared.bi_hash_map.item.BiHashItem.{Ghosts}
 use Rattle.iddqd_bi_hash.specs.declared.bi_hash_map.moves.BiMoves.{BiMoves}
 use Rattle.iddqd_bi_hash.specs.declared.bi_hash_map.tables.BiTables.{BiTables}
@@ -127,8 +125,8 @@ InsertsAt-stored test old held left tables reserved after hashes item ix at none
 
 -- no insert into both tables needs no memory
 pub none_roomy : (a b c : ℕ) → (1 ≤ b → 1 ≤ c → ⊥) → min a (min b c) ≡ 0
-none_roomy a 0 c none = omega arith
-none_roomy a (suc b) 0 none = omega arith
+none_roomy a zero c none = omega arith
+none_roomy a (suc b) zero none = omega arith
 none_roomy a (suc b) (suc c) none = absurd (none (omega arith) (omega arith))
 
 -- what was planned for one key of an item that a live index is given
@@ -185,10 +183,14 @@ module _ {T K1 K2 : Type 0} (keys : BiKeys T K1 K2) (items : SizedStore T) (tabl
   -- there is no room for what was planned
   pub LacksRoomFor-planned : LackRoom plans tables → LacksRoomFor (alike keys) (same keys) (map_of items tables) ix item
   LacksRoomFor-planned lacks = record {
-    changed = (was, live, not_both _ _ (elim lacks [
-      | inl one ↦ inl (unlike_by keys.first items.store ix item was live plans.first tables.first planned.first one)
-      | inr two ↦ inr (unlike_by keys.second items.store ix item was live plans.second tables.second planned.second two)
-    ]));
+    changed = (
+      was,
+      live,
+      not_both _ _ (elim lacks [
+        | inl one ↦ inl (unlike_by keys.first items.store ix item was live plans.first tables.first planned.first one)
+        | inr two ↦ inr (unlike_by keys.second items.store ix item was live plans.second tables.second planned.second two)
+      ]),
+    );
     no_other = no_other;
     no_room = elim lacks [
       | inl one ↦ none_first _ _ _ (lacks_none plans.first tables.first one)
@@ -247,3 +249,33 @@ IsBiMap-gone keys old new tables after ix r o here value left taken =
 -- the index that a scan hits is live
 pub hit_live : {T : Type 0} (s : Store T) (test : T → Bool) (ix : ℕ) → AnswersScan s test (Some ix) → IsLive s ix
 hit_live s test ix scan = let (item, live, passed) = (scan ix).1 refl in live_at s ix item live
+
+-- the tables have the same indexes as before
+module _ (tables mid : BiTables) (same_indexes : SameIndexes tables mid) where
+  pub AreUnfiled-same : (ix : ℕ) → AreUnfiled tables ix → AreUnfiled mid ix
+  AreUnfiled-same ix none = record { first = rw same_indexes.first none.first; second = rw same_indexes.second none.second }
+
+  pub IsBiMap-same : {T K1 K2 : Type 0} (keys : BiKeys T K1 K2) (s : Store T) → IsBiMap keys s tables → IsBiMap keys s mid
+  IsBiMap-same keys s o = record {
+    valid = o.valid;
+    first = rw same_indexes.first o.first;
+    second = rw same_indexes.second o.second;
+  }
+
+-- where no item was told there is none
+pub HasNoHit-untold : {T : Type 0} (first second : T → T → Bool) (s : Store T) (item : T) (a b : Option ℕ) → AnswersScan s (first item) a → AnswersScan s (second item) b → (IsSome a ⊎ IsSome b → ⊥) → HasNoHit s (either_key first second item)
+HasNoHit-untold first second s item None None one two none = HasNoHit-either first second s item one two
+HasNoHit-untold first second s item (Some x) b one two none = absurd (none (inl refl))
+HasNoHit-untold first second s item None (Some y) one two none = absurd (none (inr refl))
+
+-- a store that is as it was
+pub Rests-same : {T : Type 0} (items left : SizedStore T) (tables after : BiTables) → left ≡ items → KeepRoom tables after → Rests (map_of items tables) (map_of left after)
+Rests-same items left tables after is kept = rw is (Rests-parts items items tables after refl (omega arith) kept)
+
+pub KeepRoom-same : (tables : BiTables) → KeepRoom tables tables
+KeepRoom-same tables = record { first = omega arith; second = omega arith }
+
+-- a store that a handle held, which was let go
+pub Rests-held : {T : Type 0} (items held left : SizedStore T) (tables after : BiTables) → left ≡ held → held.store ≡ items.store → (1 ≤ set_room items → held ≡ items) → KeepRoom tables after → Rests (map_of items tables) (map_of left after)
+Rests-held items held left tables after is contents same tables_kept =
+    rw is (Rests-parts items held tables after contents (not_less _ _ (λ some. ap set_room (same some))) tables_kept)

@@ -1,1 +1,2 @@
 pub mod BiLemmas
+pub mod ClashLemmas

@@ -1,5 +1,5 @@
 -- A map with two keys, as a store and a table for each key that indexes it.
-use Rattle.std.specs.Prelude.{◌≡◌, ◌⊎◌, ℕ, Bool, List, IsSome, min}
+use Rattle.std.specs.Prelude.{◌⊎◌, ℕ, Bool, List, IsSome, min}
 use Rattle.std.specs.declared.hash.Hasher as hasher
 use Rattle.std.specs.declared.hash.BuildHasher as builder
 use Rattle.iddqd.specs.Store.{Store, IsValid}

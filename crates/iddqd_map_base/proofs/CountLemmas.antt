@@ -1,5 +1,5 @@
 -- A table that has exactly the live indexes has as many of them as there are items.
-use Rattle.std.proofs.Common.{◌≡◌, ◌∙◌, ◌↔◌, ◌+◌, ◌<◌, ◌&&◌, ◌||◌, ℕ, zero, suc, Bool, true, false, cond, List, [], ◌∷◌, map, length, Option, Some, None, is_some, IsSome, Err, All, refl, sym, ap, subst, arith, T as Is}
+use Rattle.std.proofs.Common.{◌≡◌, ◌∙◌, ◌↔◌, ◌+◌, ◌<◌, ◌&&◌, ◌||◌, ℕ, zero, suc, Bool, true, false, cond, List, [], ◌∷◌, map, length, Option, Some, None, is_some, IsSome, Result, Ok, Err, All, refl, sym, ap, subst, arith, T as Is}
 use Rattle.std.specs.List.{IsDistinct, AllByRecursion, list_any}
 use Rattle.std.specs.Ordering.{nat_cmp, eq_by_cmp, is_eq, is_lt}
 use Rattle.std.specs.declared.cmp.Ordering.TheVariants.{Less, Equal, Greater}
@@ -143,3 +143,9 @@ AreAsExpected-held s m held valid Compact allows = (counted s m held, all_among 
 pub Validates-refused : {E : Type 0} (sound : Type 0) (refusal : ValidateRefusal E) → (sound → ⊥) → Validates sound (Err refusal)
 Validates-refused sound (Invalid error) unsound = unsound
 Validates-refused sound (Memory error) unsound = tt
+
+-- what one check says where what another one sought is sound as well
+pub Validates-beside : {E : Type 0} (sound other : Type 0) → sound → other → (r : Result (Unit {0}) (ValidateRefusal E)) → Validates other r → Validates sound r
+Validates-beside sound other is holds (Ok done) said = is
+Validates-beside sound other is holds (Err (Invalid error)) said = absurd (said holds)
+Validates-beside sound other is holds (Err (Memory error)) said = tt

@@ -8,10 +8,14 @@ use Rattle.iddqd.proofs.LiveLemmas.{item_at, get-removed_other}
 use Rattle.iddqd.proofs.StoreLemmas.{contains_head, contains_tail, contains_cases, contains_none, IsValid-removed}
 use Rattle.iddqd_sides.specs.Scan.{IsLive, IsHit, HasNoHit, AnswersScan, AreApart}
 use Rattle.iddqd_sides.proofs.ScanLemmas.{live_before}
-use Rattle.iddqd_map_base.specs.Map.{MapState, Stays, IsOnly, FindsItem, Removes}
-use Rattle.iddqd_map_base.specs.Calls.{Inserts}
+use Rattle.iddqd_map_base.specs.Map.{MapState, Stays, FindsItem, InsertsAt}
+use Rattle.iddqd_map_base.specs.Calls.{RefusesMemory, Inserts, ReplacingAt, Replacing}
 use Rattle.iddqd_map_base.specs.Refusal.{refusal_of}
-use Rattle.iddqd_map_base.specs.Several.{either_key, IsRising, IsBefore, IsOneOfTwo, removed_all}
+use Rattle.iddqd_map_base.specs.Several.{either_key, IsRising, IsBefore, IsOneOfTwo, padded, removed_all, OverwritesAt, RefusesRoom, Overwriting}
+use Rattle.iddqd_map_base.specs.declared.refusal.OverwriteRefusal.{OverwriteRefusal}
+use Rattle.iddqd_map_base.specs.declared.refusal.OverwriteRefusal.TheVariants.{Full, Memory}
+use Rattle.iddqd_map_base.specs.declared.refusal.ReplaceRefusal.{ReplaceRefusal}
+use Rattle.iddqd_map_base.specs.declared.refusal.ReplaceRefusal.TheVariants.{Missing, Duplicate as Taken, Memory as Refused}
 
 either_true : (a b : Bool) → (a || b) ≡ true → (a ≡ true) ⊎ (b ≡ true)
 either_true true b is = inl refl
@@ -99,10 +103,10 @@ module _ {T : Type 0} where
       hit_live s test j (item, is, passed) = rw is refl
 
 -- at most two indexes in order
-before_less : (x y : ℕ) → IsBefore (Some x) (Some y) → x < y
+pub before_less : (x y : ℕ) → IsBefore (Some x) (Some y) → x < y
 before_less x y before = let (w, same, less) = before y refl in let e : x ≡ w = cc in omega (arith, e, less)
 
-none_before : (y : ℕ) → IsBefore None (Some y) → ⊥
+pub none_before : (y : ℕ) → IsBefore None (Some y) → ⊥
 none_before y before = let (w, same, less) = before y refl in cc
 
 contains_one : (x ix : ℕ) → Contains (x ∷ []) ix → x ≡ ix
@@ -178,3 +182,59 @@ module _ {T C : Type 0} (alike : T → T → Bool) (clashes : Store T → T → 
       record { given_back = refl; no_clash = none; full = full.0 refl; unchanged = stays }
   Inserts-refused old new item NoRoom none full no_room stays =
       record { given_back = refl; no_clash = none; not_full = λ is. (let same = full.1 is in cc); no_room = no_room refl; unchanged = stays }
+
+-- an insert that overwrites, from what its steps did
+module _ {T : Type 0} (alike : T → T → Bool) (places : ℕ) where
+  pub OverwritesAt-apart : (old new : MapState T) (item : T) (ix : ℕ) (back : List (Option T)) → InsertsAt alike old item ix new → back ≡ padded places [] → OverwritesAt alike places old item ix back new
+  OverwritesAt-apart old new item ix back did none = record {
+    clashes = [];
+    are_clashes = record { each = λ j. (λ here. absurd (contains_none j here), λ hit. absurd (did.no_clash j hit)); rising = tt };
+    at_most = omega arith;
+    not_full = λ _. did.not_full;
+    items = none;
+    index = did.index;
+    stored = did.stored;
+    room = did.room;
+  }
+
+  pub RefusesRoom-apart : (old new : MapState T) (item back : T) → RefusesMemory alike old item back new → RefusesRoom alike old item back new
+  RefusesRoom-apart old new item back did =
+      record { given_back = did.given_back; not_full = λ _. did.not_full; no_room = did.no_room; unchanged = did.unchanged }
+
+  less_room : (s : Store T) (was is : ℕ) (new : MapState T) (item : T) (r : Result (ℕ × List (Option T)) (OverwriteRefusal T)) → is ≤ was → Overwriting alike places (record { store = s; room = was }) item r new → Overwriting alike places (record { store = s; room = is }) item r new
+  less_room s was is new item (Ok (ix, back)) less did = record {
+    clashes = did.clashes;
+    are_clashes = did.are_clashes;
+    at_most = did.at_most;
+    not_full = did.not_full;
+    items = did.items;
+    index = did.index;
+    stored = did.stored;
+    room = let fell = did.room in omega (arith, less, fell);
+  }
+  less_room s was is new item (Err (Full back)) less did = record {
+    given_back = did.given_back;
+    no_clash = did.no_clash;
+    full = did.full;
+    unchanged = record { store = did.unchanged.store; room_stays = let kept = did.unchanged.room_stays in omega (arith, less, kept) };
+  }
+  less_room s was is new item (Err (Memory back)) less did = record {
+    given_back = did.given_back;
+    not_full = did.not_full;
+    no_room = let none = did.no_room in omega (arith, less, none);
+    unchanged = record { store = did.unchanged.store; room_stays = let kept = did.unchanged.room_stays in omega (arith, less, kept) };
+  }
+
+  -- where nothing changed before
+  pub Overwriting-after : (old mid new : MapState T) (item back : T) (r : Result (ℕ × List (Option T)) (OverwriteRefusal T)) → Stays old mid → back ≡ item → Overwriting alike places mid back r new → Overwriting alike places old item r new
+  Overwriting-after old mid new item back r stays same did =
+      less_room old.store mid.room old.room new item r stays.room_stays
+      (subst (λ s. Overwriting alike places (record { store = s; room = mid.room }) item r new) stays.store
+      (subst (λ x. Overwriting alike places mid x r new) same did))
+
+-- a replacement of the one item that passes the test is one at its index
+pub Replacing-at : {T C : Type 0} (becomes : MapState T → ℕ → T → T → MapState T → Type 0) (taken : Store T → ℕ → T → C → Type 0) (lacks : MapState T → ℕ → T → Type 0) (old new : MapState T) (test : T → Bool) (item : T) (ix : ℕ) (r : Result T (ReplaceRefusal T C)) → AnswersScan old.store test (Some ix) → ReplacingAt becomes taken lacks old ix item r new → Replacing becomes taken lacks old test item r new
+Replacing-at becomes taken lacks old new test item ix (Ok was) scan at = (ix, scan, at)
+Replacing-at becomes taken lacks old new test item ix (Err (Missing back)) scan at = absurd at
+Replacing-at becomes taken lacks old new test item ix (Err (Taken back clash)) scan at = (ix, scan, at)
+Replacing-at becomes taken lacks old new test item ix (Err (Refused back)) scan at = (ix, scan, at)

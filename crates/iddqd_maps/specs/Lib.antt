@@ -1,4 +1,6 @@
 -- what callers' clauses cite, from one place
 pub use Rattle.iddqd_map_base.specs.Map
 pub use Rattle.iddqd_map_base.specs.Calls
+pub use Rattle.iddqd_map_base.specs.Several
 pub use Rattle.iddqd_id_hash.specs.IdMap
+pub use Rattle.iddqd_bi_hash.specs.BiMap

@@ -5,5 +5,6 @@
 //! of all items would.
 #![tactic(auto)]
 
+pub use iddqd_bi_hash::bi_hash_map as bi_hash_map;
 pub use iddqd_id_hash::id_hash_map as id_hash_map;
 pub use iddqd_map_base::refusal as refusal;

@@ -1,10 +1,14 @@
 //! Maps by their calls, beside a list, and where calls are refused.
 mod badges;
+mod bi_calls;
+mod bi_model;
+mod bi_names;
 mod cards;
 mod id_calls;
 mod id_copies;
 mod id_model;
 mod id_refused;
 mod names;
+mod passes;
 mod tri_calls;
 mod tri_model;

@@ -9,10 +9,10 @@ ghost use Rattle.iddqd_map_base.specs.Several.{either_key, Overwriting};
 ghost use Rattle.iddqd_bi_hash.specs.BiMap.{alike, alike_by, bi_keys_of, map_of, AreTold, IsBiMap};
 ghost use Rattle.iddqd_bi_hash.specs.BiSteps.{AreHashes, KeepRoom, TakesAll, removed_one};
 
+use super::BiHashMap;
 use super::clash::BiClash;
 use super::item::BiHashItem;
 use super::tables::{BiHashes, BiTables, clash_of};
-use super::BiHashMap;
 use iddqd::item_index::ItemIndex;
 use iddqd::item_set::ItemSet;
 use iddqd_map_base::order::in_order;
@@ -30,7 +30,13 @@ impl<T: BiHashItem, S: BuildHasher> BiHashMap<T, S> {
             Inserts (either_key first second) (AreTold first second) self.old item result self.new }
     {
         let hashes = BiHashes::of(&self.state, &item);
-        insert(&mut self.items, &mut self.tables, &self.state, &hashes, item)
+        insert(
+            &mut self.items,
+            &mut self.tables,
+            &self.state,
+            &hashes,
+            item,
+        )
     }
 
     /// Takes an item, and removes those that share a key with it, at most two, which it hands back by
@@ -47,11 +53,23 @@ impl<T: BiHashItem, S: BuildHasher> BiHashMap<T, S> {
             Overwriting (either_key first second) 2 self.old item result self.new }
     {
         let hashes = BiHashes::of(&self.state, &item);
-        let (items, tables) = (&mut self.items, &mut self.tables);
-        match insert(items, tables, &self.state, &hashes, item) {
+        match insert(
+            &mut self.items,
+            &mut self.tables,
+            &self.state,
+            &hashes,
+            item,
+        ) {
             Ok(ix) => Ok((ix, [None, None])),
             Err(InsertRefusal::Duplicate { item, at }) => {
-                overwrite(items, tables, &self.state, &hashes, item, &at)
+                overwrite(
+                    &mut self.items,
+                    &mut self.tables,
+                    &self.state,
+                    &hashes,
+                    item,
+                    &at,
+                )
             }
             Err(InsertRefusal::Full(item)) => Err(OverwriteRefusal::Full(item)),
             Err(InsertRefusal::Memory(item)) => Err(OverwriteRefusal::Memory(item)),

@@ -5,11 +5,11 @@ ghost use Rattle.iddqd_map_base.specs.Map.{shares};
 ghost use Rattle.iddqd_map_base.specs.Several.{either_key, both_keys, ReplacesOneAt, ReplacesOne, ChangesOne};
 ghost use Rattle.iddqd_bi_hash.specs.BiMap.{bi_keys_of, map_of, AreTaken, IsBiMap};
 
+use super::BiHashMap;
 use super::clash::BiClash;
 use super::item::{BiHashItem, First, Second};
 use super::moves::{KnownHashes, commit_moves, plan_moves, reserve_moves};
 use super::tables::BiTables;
-use super::BiHashMap;
 use iddqd::item_index::ItemIndex;
 use iddqd::item_set::ItemSet;
 use iddqd_map_base::refusal::ReplaceRefusal;
@@ -33,10 +33,20 @@ impl<T: BiHashItem, S: BuildHasher> BiHashMap<T, S> {
             (passes_by T.first_key (Q.stands_for query)) item result self.new }
     {
         let hash = query_hash(&self.state, query);
-        let known = KnownHashes { first: Some(hash), second: None };
+        let known = KnownHashes {
+            first: Some(hash),
+            second: None,
+        };
         let table = &self.tables.first;
         match find_under::<T, First, S, Q>(table, &self.items, &self.state, hash, query) {
-            Some(ix) => replace_at(&mut self.items, &mut self.tables, &self.state, known, ix, item),
+            Some(ix) => replace_at(
+                &mut self.items,
+                &mut self.tables,
+                &self.state,
+                known,
+                ix,
+                item,
+            ),
             None => Err(ReplaceRefusal::Missing(item)),
         }
     }
@@ -52,10 +62,20 @@ impl<T: BiHashItem, S: BuildHasher> BiHashMap<T, S> {
             (passes_by T.second_key (Q.stands_for query)) item result self.new }
     {
         let hash = query_hash(&self.state, query);
-        let known = KnownHashes { first: None, second: Some(hash) };
+        let known = KnownHashes {
+            first: None,
+            second: Some(hash),
+        };
         let table = &self.tables.second;
         match find_under::<T, Second, S, Q>(table, &self.items, &self.state, hash, query) {
-            Some(ix) => replace_at(&mut self.items, &mut self.tables, &self.state, known, ix, item),
+            Some(ix) => replace_at(
+                &mut self.items,
+                &mut self.tables,
+                &self.state,
+                known,
+                ix,
+                item,
+            ),
             None => Err(ReplaceRefusal::Missing(item)),
         }
     }
@@ -75,14 +95,24 @@ impl<T: BiHashItem, S: BuildHasher> BiHashMap<T, S> {
             (FnOnceReturnsAt F.FnOnce f) self.old (passes_by T.first_key (Q.stands_for query)) result self.new }
     {
         let hash = query_hash(&self.state, query);
-        let known = KnownHashes { first: Some(hash), second: None };
+        let known = KnownHashes {
+            first: Some(hash),
+            second: None,
+        };
         let table = &self.tables.first;
         let found = find_under::<T, First, S, Q>(table, &self.items, &self.state, hash, query);
         let Some(ix) = found else {
             return Ok(None);
         };
         let item = f(&self.items[ix]);
-        let was = replace_at(&mut self.items, &mut self.tables, &self.state, known, ix, item)?;
+        let was = replace_at(
+            &mut self.items,
+            &mut self.tables,
+            &self.state,
+            known,
+            ix,
+            item,
+        )?;
         Ok(Some(was))
     }
 
@@ -98,14 +128,24 @@ impl<T: BiHashItem, S: BuildHasher> BiHashMap<T, S> {
             (FnOnceReturnsAt F.FnOnce f) self.old (passes_by T.second_key (Q.stands_for query)) result self.new }
     {
         let hash = query_hash(&self.state, query);
-        let known = KnownHashes { first: None, second: Some(hash) };
+        let known = KnownHashes {
+            first: None,
+            second: Some(hash),
+        };
         let table = &self.tables.second;
         let found = find_under::<T, Second, S, Q>(table, &self.items, &self.state, hash, query);
         let Some(ix) = found else {
             return Ok(None);
         };
         let item = f(&self.items[ix]);
-        let was = replace_at(&mut self.items, &mut self.tables, &self.state, known, ix, item)?;
+        let was = replace_at(
+            &mut self.items,
+            &mut self.tables,
+            &self.state,
+            known,
+            ix,
+            item,
+        )?;
         Ok(Some(was))
     }
 }
