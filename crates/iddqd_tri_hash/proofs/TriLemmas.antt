@@ -1,23 +1,21 @@
 -- What becomes of a map with three keys in each step of its store and its tables.
-use Rattle.std.proofs.Common.{◌≡◌, ◌∙◌, ◌⊎◌, inl, inr, ◌↔◌, ◌+◌, ◌≤◌, ◌&&◌, ℕ, suc, min, Bool, true, false, not, List, [], ◌∷◌, length, map, Option, Some, None, IsSome, IsTrue, Result, Ok, Err, refl, sym, ap, subst, arith}
+use Rattle.std.proofs.Common.{◌≡◌, ◌∙◌, ◌⊎◌, inl, inr, ◌+◌, ◌≤◌, ◌&&◌, ℕ, zero, suc, min, Bool, true, false, not, List, Option, Some, None, IsSome, IsTrue, Result, Ok, Err, refl, ap, arith}
 use Rattle.std.specs.Cmp.{IsPartialEquivalence}
-use Rattle.std.specs.List.{Contains}
 use Rattle.std.specs.Option.{OnSome}
 use Rattle.std.specs.Result.{result_err}
-use Rattle.std.specs.FinMap as finite
 use Rattle.std.specs.declared.hash.Hasher as hasher
 use Rattle.std.specs.declared.hash.BuildHasher as builder
 use Rattle.iddqd.proofs.LiveLemmas.{item_at, live_at}
 use Rattle.iddqd.proofs.RoomLemmas.{room-rebound}
 use Rattle.iddqd.proofs.CompactionLemmas.{IsValid-compacted}
 use Rattle.iddqd.proofs.StoreLemmas.{IsValid-empty, IsValid-removed, IsValid-inserted, IsValid-rebound}
-use Rattle.iddqd.specs.Store.{Store, IsValid, IsFull, slot_limit, empty_within, cleared, get, next_index, inserted, removed, rebound}
+use Rattle.iddqd.specs.Store.{Store, IsFull, slot_limit, empty_within, cleared, get, next_index, inserted, removed, rebound}
 use Rattle.iddqd.specs.Compaction.{compacted, rank}
 use Rattle.iddqd.specs.ItemSet.{SizedStore, with_item, room as set_room}
 use Rattle.iddqd_hash.specs.HashTable.{Table, room as table_room}
 use Rattle.iddqd_hash.specs.MapHashTable.{filed, Renames}
 use Rattle.iddqd_sides.specs.Scan.{IsLive, IsHit, HasNoHit, AnswersScan}
-use Rattle.iddqd_sides.specs.Hashed.{Hashing, IsLawful}
+use Rattle.iddqd_sides.specs.Hashed.{IsLawful}
 use Rattle.iddqd_sides.specs.Indexing.{Indexes, Plans, PlansOrClashes, IfStays, LacksRoom}
 use Rattle.iddqd_sides.specs.declared.hashed_move.Move.{Move}
 use Rattle.iddqd_sides.specs.declared.hashed_move.Move.TheVariants.{Stays, To}
@@ -142,9 +140,9 @@ InsertsAt-stored test old held left tables reserved after hashes item ix at none
 
 -- no insert into all tables needs no memory
 pub none_roomy : (a b c d : ℕ) → (1 ≤ b → 1 ≤ c → 1 ≤ d → ⊥) → min a (min b (min c d)) ≡ 0
-none_roomy a 0 c d none = omega arith
-none_roomy a (suc b) 0 d none = omega arith
-none_roomy a (suc b) (suc c) 0 none = omega arith
+none_roomy a zero c d none = omega arith
+none_roomy a (suc b) zero d none = omega arith
+none_roomy a (suc b) (suc c) zero none = omega arith
 none_roomy a (suc b) (suc c) (suc d) none = absurd (none (omega arith) (omega arith) (omega arith))
 
 -- what was planned for one key of an item that a live index is given
@@ -194,9 +192,9 @@ none_third : (a b c d : ℕ) → d ≡ 0 → min a (min b (min c d)) ≡ 0
 none_third a b c d none = omega arith
 
 one_false : (a b c : Bool) → (a ≡ false) ⊎ ((b ≡ false) ⊎ (c ≡ false)) → not (a && (b && c)) ≡ true
-one_false a b c (inl no) = ap (λ x. not (x && (b && c))) no
-one_false a b c (inr (inl no)) = ap (λ x. not (a && (x && c))) no ∙ not_both a false (inr refl)
-one_false a b c (inr (inr no)) = ap (λ x. not (a && (b && x))) no ∙ not_both a (b && false) (inr (not_second b))
+one_false a b c (inl isnt) = ap (λ x. not (x && (b && c))) isnt
+one_false a b c (inr (inl isnt)) = ap (λ x. not (a && (x && c))) isnt ∙ not_both a false (inr refl)
+one_false a b c (inr (inr isnt)) = ap (λ x. not (a && (b && x))) isnt ∙ not_both a (b && false) (inr (not_second b))
   where
     not_second : (b : Bool) → (b && false) ≡ false
     not_second true = refl

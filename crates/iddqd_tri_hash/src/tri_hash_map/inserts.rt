@@ -49,11 +49,23 @@ impl<T: TriHashItem, S: BuildHasher> TriHashMap<T, S> {
             Overwriting (any_key first second third) 3 self.old item result self.new }
     {
         let hashes = TriHashes::of(&self.state, &item);
-        let (items, tables) = (&mut self.items, &mut self.tables);
-        match insert(items, tables, &self.state, &hashes, item) {
+        match insert(
+            &mut self.items,
+            &mut self.tables,
+            &self.state,
+            &hashes,
+            item,
+        ) {
             Ok(ix) => Ok((ix, [None, None, None])),
             Err(InsertRefusal::Duplicate { item, at }) => {
-                overwrite(items, tables, &self.state, &hashes, item, &at)
+                overwrite(
+                    &mut self.items,
+                    &mut self.tables,
+                    &self.state,
+                    &hashes,
+                    item,
+                    &at,
+                )
             }
             Err(InsertRefusal::Full(item)) => Err(OverwriteRefusal::Full(item)),
             Err(InsertRefusal::Memory(item)) => Err(OverwriteRefusal::Memory(item)),
