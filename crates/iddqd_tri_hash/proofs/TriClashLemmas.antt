@@ -1,5 +1,5 @@
 -- The items that clash with one: where they are, and what their removal leaves.
-use Rattle.std.proofs.Common.{◌≡◌, ◌≢◌, ◌∙◌, ◌⊎◌, inl, inr, ◌↔◌, ◌+◌, ◌<◌, ◌≤◌, ℕ, Bool, List, [], ◌∷◌, map, Option, Some, None, IsSome, refl, sym, ap, subst, arith}
+use Rattle.std.proofs.Common.{◌≡◌, ◌≢◌, ◌∙◌, ◌⊎◌, inl, inr, ◌↔◌, ◌+◌, ◌<◌, ◌≤◌, ℕ, Bool, List, [], ◌∷◌, map, Option, Some, None, IsSome, refl, ap, subst, arith}
 use Rattle.std.specs.List.{Contains}
 use Rattle.std.specs.Option.{IfSome, option_and_then}
 use Rattle.iddqd.specs.Store.{Store, get, next_index, inserted}
@@ -13,7 +13,7 @@ use Rattle.iddqd_tri.proofs.ClashLemmas.{listed, Contains-listed, IsRising-liste
 use Rattle.iddqd_map_base.specs.Several.{either_key, padded, removed_all, OverwritesAt}
 use Rattle.iddqd_map_base.proofs.RoomLemmas.{min_falls}
 use Rattle.iddqd_map_base.proofs.SeveralLemmas.{before_less, none_before, IsHit-either, HasNoHit-removed_all}
-use Rattle.iddqd_tri_hash.specs.TriMap.{AreTold, any_key, map_of, TellsSome}
+use Rattle.iddqd_tri_hash.specs.TriMap.{AreTold, any_key, map_of}
 use Rattle.iddqd_tri_hash.specs.TriSteps.{AreInOrder, Enter, KeepRoom, TakesAll, removed_one}
 use Rattle.iddqd_tri_hash.proofs.TriLemmas.{hit_live}
 use Rattle.iddqd_tri_hash.specs.declared.tri_hash_map.clash.TriClash.{TriClash}

@@ -1,5 +1,5 @@
 -- Equality of maps with three keys.
-use Rattle.std.proofs.Common.{◌≡◌, ◌||◌, Bool, true, ap}
+use Rattle.std.proofs.Common.{◌||◌, Bool, ap}
 use Rattle.std.specs.Cmp.{IsPartialEquivalence, IsEquivalence}
 use Rattle.std.proofs.lemmas.Cmp.{and_equiv}
 use Rattle.iddqd.specs.Store.{Store}

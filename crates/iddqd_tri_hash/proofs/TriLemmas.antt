@@ -214,13 +214,17 @@ module _ {T K1 K2 K3 : Type 0} (keys : TriKeys T K1 K2 K3) (items : SizedStore T
   -- there is no room for what was planned
   pub LacksRoomFor-planned : LackRoom plans tables → LacksRoomFor (alike keys) (same keys) (map_of items tables) ix item
   LacksRoomFor-planned lacks = record {
-    changed = (was, live, one_false _ _ _ (elim lacks [
-      | inl one ↦ inl (unlike_by keys.first items.store ix item was live plans.first tables.first planned.first one)
-      | inr rest ↦ inr (elim rest [
-        | inl two ↦ inl (unlike_by keys.second items.store ix item was live plans.second tables.second planned.second two)
-        | inr three ↦ inr (unlike_by keys.third items.store ix item was live plans.third tables.third planned.third three)
-      ])
-    ]));
+    changed = (
+      was,
+      live,
+      one_false _ _ _ (elim lacks [
+        | inl one ↦ inl (unlike_by keys.first items.store ix item was live plans.first tables.first planned.first one)
+        | inr rest ↦ inr (elim rest [
+          | inl two ↦ inl (unlike_by keys.second items.store ix item was live plans.second tables.second planned.second two)
+          | inr three ↦ inr (unlike_by keys.third items.store ix item was live plans.third tables.third planned.third three)
+        ])
+      ]),
+    );
     no_other = no_other;
     no_room = elim lacks [
       | inl one ↦ none_first _ _ _ _ (lacks_none plans.first tables.first one)

@@ -5,8 +5,8 @@ ghost use Rattle.iddqd.specs.LiveItems.{live_items};
 ghost use Rattle.iddqd_map_base.specs.Map.{shares};
 ghost use Rattle.iddqd_tri_hash.specs.TriMap.{same_item, same_but_first};
 
-use super::item::TriHashItem;
 use super::TriHashMap;
+use super::item::TriHashItem;
 use std::hash::BuildHasher;
 
 impl<T: TriHashItem + PartialEq, S: BuildHasher> TriHashMap<T, S> {
@@ -45,9 +45,9 @@ impl<T: TriHashItem + PartialEq, S: BuildHasher> PartialEq for TriHashMap<T, S> 
     ghost laws = { let first = shares T.first_key T.Key1.eq in let second = shares T.second_key T.Key2.eq in
         let third = shares T.third_key T.Key3.eq in
         let others = and_equiv (shares_laws T.second_key T.Key2.eq T.Key2.Eq.laws)
-            (shares_laws T.third_key T.Key3.eq T.Key3.Eq.laws) in
+        (shares_laws T.third_key T.Key3.eq T.Key3.Eq.laws) in
         map_laws first (same_but_first second third T.eq) (shares_laws T.first_key T.Key1.eq T.Key1.Eq.laws)
-            (same_laws (both_keys second third) T.eq others T.laws) };
+        (same_laws (both_keys second third) T.eq others T.laws) };
 
     fn eq(&self, other: &TriHashMap<T, S>) -> bool {
         self.len() == other.len() && self.values().all(|item| other.has(item))
@@ -61,7 +61,7 @@ impl<T: TriHashItem + Eq, S: BuildHasher> Eq for TriHashMap<T, S> {
     ghost laws = { let first = shares T.first_key T.Key1.eq in let second = shares T.second_key T.Key2.eq in
         let third = shares T.third_key T.Key3.eq in
         let others = and_equiv (shares_laws T.second_key T.Key2.eq T.Key2.Eq.laws)
-            (shares_laws T.third_key T.Key3.eq T.Key3.Eq.laws) in
+        (shares_laws T.third_key T.Key3.eq T.Key3.Eq.laws) in
         map_equivalence first (same_but_first second third T.eq) (shares_laws T.first_key T.Key1.eq T.Key1.Eq.laws)
-            (and_equiv others T.Eq.laws) };
+        (and_equiv others T.Eq.laws) };
 }

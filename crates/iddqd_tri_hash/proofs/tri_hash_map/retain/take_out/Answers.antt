@@ -1,4 +1,3 @@
-use Rattle.iddqd_tri_hash.specs.TriMap.{tri_keys_of}
 use Rattle.iddqd_tri_hash.proofs.TriLemmas.{IsTriMap-gone}
 use Rattle.iddqd_tri_hash.proofs.tri_hash_map.retain.take_out.Goals as goal
 

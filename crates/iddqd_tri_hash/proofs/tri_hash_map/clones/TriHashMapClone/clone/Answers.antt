@@ -1,4 +1,3 @@
-use Rattle.iddqd_tri_hash.specs.TriMap.{tri_keys_of}
 use Rattle.iddqd_tri_hash.proofs.TriLemmas.{AreLawful-from_bounds, IsTriMap-cloned}
 use Rattle.iddqd_tri_hash.proofs.tri_hash_map.clones.TriHashMapClone.clone.Goals as goal
 
