@@ -24,6 +24,8 @@ use Rattle.iddqd_sides.proofs.HoldsLemmas.{next_unfiled}
 use Rattle.iddqd_sides.proofs.IndexingLemmas.{Indexes-empty, Indexes-cleared, Indexes-removed, Indexes-inserted, Indexes-compacted, Indexes-rebound}
 use Rattle.iddqd_map_base.specs.Map.{Stays as Rests, Removes, InsertsAt}
 use Rattle.iddqd_map_base.specs.Several.{either_key, BecomesOne, LacksRoomFor, AnswersOther}
+use Rattle.iddqd.specs.Clones.{IsStoreClone}
+use Rattle.iddqd_map_base.proofs.CloneLemmas.{IsValid-cloned, Indexes-cloned}
 use Rattle.iddqd_map_base.proofs.RoomLemmas.{min_stays, min_falls, not_less}
 use Rattle.iddqd_map_base.proofs.SeveralLemmas.{IsHit-either, HasNoHit-either, HasNoHit-first, HasNoHit-second}
 use Rattle.iddqd_bi_hash.specs.BiMap.{ItemKey, BiKeys, bi_keys_of, alike_by, alike, same, map_of, IsBiMap}
@@ -279,3 +281,17 @@ KeepRoom-same tables = record { first = omega arith; second = omega arith }
 pub Rests-held : {T : Type 0} (items held left : SizedStore T) (tables after : BiTables) → left ≡ held → held.store ≡ items.store → (1 ≤ set_room items → held ≡ items) → KeepRoom tables after → Rests (map_of items tables) (map_of left after)
 Rests-held items held left tables after is contents same tables_kept =
     rw is (Rests-parts items held tables after contents (not_less _ _ (λ some. ap set_room (same some))) tables_kept)
+
+pub KeepRoom-twice : (tables mid after : BiTables) → KeepRoom tables mid → KeepRoom mid after → KeepRoom tables after
+KeepRoom-twice tables mid after one other = record {
+  first = omega (arith, one.first, other.first);
+  second = omega (arith, one.second, other.second);
+}
+
+-- a clone whose items keep their keys, and tables with the same indexes
+pub IsBiMap-cloned : {T K1 K2 : Type 0} (keys : BiKeys T K1 K2) → AreLawful keys → (is_clone : T → T → Type 0) → ((x y : T) → is_clone x y → alike_by keys.first x y ≡ true) → ((x y : T) → is_clone x y → alike_by keys.second x y ≡ true) → (s copy : Store T) (tables after : BiTables) → IsStoreClone is_clone s copy → SameIndexes tables after → IsBiMap keys s tables → IsBiMap keys copy after
+IsBiMap-cloned keys lawful is_clone one two s copy tables after is same_indexes o = record {
+  valid = IsValid-cloned is_clone s copy is o.valid;
+  first = rw same_indexes.first (Indexes-cloned is_clone s copy is keys.first.key_of keys.first.hashing (filed tables.first) one lawful.first o.first);
+  second = rw same_indexes.second (Indexes-cloned is_clone s copy is keys.second.key_of keys.second.hashing (filed tables.second) two lawful.second o.second);
+}

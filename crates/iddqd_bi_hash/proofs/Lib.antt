@@ -1,2 +1,3 @@
 pub mod BiLemmas
 pub mod ClashLemmas
+pub mod BiEqualityLemmas

@@ -1,5 +1,6 @@
 -- A map with two keys, as a store and a table for each key that indexes it.
 use Rattle.std.specs.Prelude.{◌⊎◌, ℕ, Bool, List, IsSome, min}
+use Rattle.std.specs.Ordering.{eq_of_both}
 use Rattle.std.specs.declared.hash.Hasher as hasher
 use Rattle.std.specs.declared.hash.BuildHasher as builder
 use Rattle.iddqd.specs.Store.{Store, IsValid}
@@ -15,8 +16,16 @@ use Rattle.iddqd_bi_hash.specs.declared.bi_hash_map.clash.BiClash.{BiClash}
 use Rattle.iddqd_bi_hash.specs.declared.bi_hash_map.item.BiHashItem.{Ghosts}
 use Rattle.iddqd_bi_hash.specs.declared.bi_hash_map.tables.BiTables.{BiTables}
 
+-- the items share their second key, and are equal
+abbrev pub same_but_first : {T : Type 0} → (T → T → Bool) → (T → T → Bool) → T → T → Bool
+same_but_first second equal = eq_of_both second equal
+
 -- `first x y` says that the items share their first key, `second x y` that they share their second
 module _ {T : Type 0} (first second : T → T → Bool) where
+  -- the items share both keys, and are equal
+  abbrev pub same_item : (T → T → Bool) → T → T → Bool
+  same_item equal = eq_of_both first (same_but_first second equal)
+
   -- for each key where the item is that has that of this item, and there is one that has one
   pub record AreTold (s : Store T) (item : T) (at : BiClash) : Type 0 where
     pub key1 : AnswersScan s (first item) at.key1

@@ -12,16 +12,20 @@ ghost use Rattle.iddqd_map_base.specs.Several.{either_key};
 
 mod checks;
 mod clash;
+mod clones;
+mod equality;
 mod inserts;
 mod item;
 mod memory;
 mod moves;
 mod removals;
 mod replaces;
+mod retain;
 mod tables;
 mod walks;
 
 pub use clash::BiClash;
+pub use clones::BiHashClone;
 use iddqd::hash_builder::DefaultHashBuilder;
 use iddqd::item_index::ItemIndex;
 use iddqd::item_set::ItemSet;

@@ -1,6 +1,7 @@
 //! Maps by their calls, beside a list, and where calls are refused.
 mod badges;
 mod bi_calls;
+mod bi_copies;
 mod bi_model;
 mod bi_names;
 mod cards;

@@ -1,12 +1,12 @@
 //! Items come into a map. All memory is taken before anything is written.
 ghost use Rattle.std.specs.Prelude.{◌≡◌, ◌⊎◌, ◌≤◌, ◌+◌, IsSome, IfSome};
 ghost use Rattle.std.specs.Option.{option_and_then};
-ghost use Rattle.iddqd.specs.{get, next_index, inserted, room, IsFull};
+ghost use Rattle.iddqd.specs.{get, next_index, inserted, room};
 ghost use Rattle.iddqd_sides.specs.Scan.{IsLive};
 ghost use Rattle.iddqd_map_base.specs.Map.{shares};
 ghost use Rattle.iddqd_map_base.specs.Calls.{Inserts};
 ghost use Rattle.iddqd_map_base.specs.Several.{either_key, Overwriting};
-ghost use Rattle.iddqd_bi_hash.specs.BiMap.{alike, alike_by, bi_keys_of, map_of, AreTold, IsBiMap};
+ghost use Rattle.iddqd_bi_hash.specs.BiMap.{bi_keys_of, map_of, AreTold, IsBiMap};
 ghost use Rattle.iddqd_bi_hash.specs.BiSteps.{AreHashes, KeepRoom, TakesAll, removed_one};
 
 use super::BiHashMap;

@@ -7,7 +7,8 @@ ghost use Rattle.iddqd_hash.specs.HashTable.{room, UsesRoom};
 ghost use Rattle.iddqd_sides.specs.Scan.{IsLive};
 ghost use Rattle.iddqd_sides.specs.Indexing.{IfMoves, IfStays, moved};
 ghost use Rattle.iddqd_bi_hash.specs.BiMap.{bi_keys_of, IsBiMap};
-ghost use Rattle.iddqd_bi_hash.specs.BiSteps.{HaveRoomFor, KeepRoom, LackRoom, MoveTo, PlanOrClash, SameIndexes, Untouched};
+ghost use Rattle.iddqd_bi_hash.specs.BiSteps.{HaveRoomFor, KeepRoom, LackRoom};
+ghost use Rattle.iddqd_bi_hash.specs.BiSteps.{MoveTo, PlanOrClash, SameIndexes, Untouched};
 
 use super::clash::BiClash;
 use super::item::{BiHashItem, First, Second};

@@ -1,5 +1,5 @@
 //! The two tables of a map: each step is one of each table, which is said once, of any key.
-ghost use Rattle.std.specs.Prelude.{◌≡◌, ◌≤◌, IsOk, IfOk, OnOk, OnErr, IsSome};
+ghost use Rattle.std.specs.Prelude.{◌≡◌, IsOk, IfOk, OnOk, OnErr, IsSome};
 ghost use Rattle.std.specs.FinMap as finite;
 ghost use Rattle.iddqd.specs.{remapped};
 ghost use Rattle.iddqd_hash.specs.{filed, Renames};
@@ -9,7 +9,8 @@ ghost use Rattle.iddqd_sides.specs.Hashed.{hashing_of};
 ghost use Rattle.iddqd_sides.specs.Indexing.{Indexes};
 ghost use Rattle.iddqd_map_base.specs.Map.{shares};
 ghost use Rattle.iddqd_bi_hash.specs.BiMap.{bi_keys_of, IsBiMap};
-ghost use Rattle.iddqd_bi_hash.specs.BiSteps.{AreEmpty, AreHashes, AreUnfiled, CanName, Enter, HaveRoom, KeepRoom, SameIndexes, Take};
+ghost use Rattle.iddqd_bi_hash.specs.BiSteps.{AreEmpty, AreHashes, AreUnfiled, CanName};
+ghost use Rattle.iddqd_bi_hash.specs.BiSteps.{Enter, HaveRoom, KeepRoom, SameIndexes, Take};
 
 use super::clash::BiClash;
 use super::item::{BiHashItem, First, Second};
@@ -110,6 +111,16 @@ impl BiTables {
     {
         take_item::<T, First, S>(&mut self.first, items, state, ix);
         take_item::<T, Second, S>(&mut self.second, items, state, ix);
+    }
+
+    /// Tables with the same indexes under the same hashes.
+    pub(crate) fn copied(&self) -> Result<BiTables, AllocError>
+        ensures { IfOk result (SameIndexes self.now) }
+    {
+        Ok(BiTables {
+            first: self.first.clone()?,
+            second: self.second.clone()?,
+        })
     }
 
     /// Gives back the memory that the indexes don't need.

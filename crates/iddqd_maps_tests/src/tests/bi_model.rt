@@ -1,5 +1,5 @@
 //! A map with two keys beside a plain list of slots.
-use super::passes::{Pass, pass};
+use super::passes::{Pass, issued};
 use iddqd::hash_builder::DefaultHashBuilder;
 use iddqd::item_index::ItemIndex;
 use iddqd_maps::bi_hash_map::{BiClash, BiHashMap};
@@ -124,8 +124,12 @@ impl Numbers {
     }
 }
 
+fn ix(place: usize) -> ItemIndex {
+    ItemIndex::of_slot(place).unwrap_or_default()
+}
+
 fn index(place: Option<usize>) -> Option<ItemIndex> {
-    ItemIndex::of_slot(place?)
+    place.map(ix)
 }
 
 type Map = BiHashMap<Pass>;
@@ -137,7 +141,7 @@ fn inserts_alike(map: &mut Map, model: &mut Model, item: Pass) -> Result<bool, A
         return Ok(answer == Err(InsertRefusal::Duplicate { item, at }));
     }
     Ok(match model.insert(item)? {
-        Some(place) => answer.ok() == index(Some(place)),
+        Some(place) => answer == Ok(ix(place)),
         None => answer == Err(InsertRefusal::Full(item)),
     })
 }
@@ -147,10 +151,7 @@ fn overwrites_alike(map: &mut Map, model: &mut Model, item: Pass) -> Result<bool
     let (first, second) = model.clashes(item);
     let (first, second) = (model.remove(first)?, model.remove(second)?);
     Ok(match model.insert(item)? {
-        Some(place) => match answer {
-            Ok((ix, was)) => index(Some(place)) == Some(ix) && was == [first, second],
-            Err(_) => false,
-        },
+        Some(place) => answer == Ok((ix(place), [first, second])),
         None => answer == Err(OverwriteRefusal::Full(item)),
     })
 }
@@ -189,7 +190,7 @@ fn answers_alike(
 ) -> Result<bool, AllocError> {
     let kind = numbers.below(12);
     let (key, visits) = (numbers.below(range), numbers.below(1000));
-    let item = pass(numbers.below(range), numbers.below(range), visits);
+    let item = issued(numbers.below(range), numbers.below(range), visits);
     match kind {
         0..=3 => inserts_alike(map, model, item),
         4 => overwrites_alike(map, model, item),

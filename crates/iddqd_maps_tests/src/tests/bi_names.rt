@@ -28,7 +28,7 @@ impl BiHashItem for Member {
     }
 }
 
-fn member(alloc: Global, name: &str, number: u32) -> Result<Member, AllocError> {
+fn joined(alloc: Global, name: &str, number: u32) -> Result<Member, AllocError> {
     let name = String::from_str(alloc, name)?;
     Ok(Member { name, number })
 }
@@ -46,12 +46,12 @@ fn assert_members(
     alloc: Global,
     members: &mut BiHashMap<Member>,
 ) -> Result<(), AllocError> {
-    assert!(rt; members.insert_unique(member(alloc, "ada", 1)?).is_ok());
-    assert!(rt; members.insert_unique(member(alloc, "bo", 2)?).is_ok());
-    assert!(rt; members.insert_unique(member(alloc, "ada", 3)?).is_err());
+    assert!(rt; members.insert_unique(joined(alloc, "ada", 1)?).is_ok());
+    assert!(rt; members.insert_unique(joined(alloc, "bo", 2)?).is_ok());
+    assert!(rt; members.insert_unique(joined(alloc, "ada", 3)?).is_err());
     assert!(rt; number_of(members, "ada") == Some(1) && number_of(members, "a").is_none());
-    assert!(rt; members.replace1("bo", member(alloc, "cy", 1)?).is_err());
-    assert!(rt; members.replace1("bo", member(alloc, "cy", 2)?).is_ok());
+    assert!(rt; members.replace1("bo", joined(alloc, "cy", 1)?).is_err());
+    assert!(rt; members.replace1("bo", joined(alloc, "cy", 2)?).is_ok());
     assert!(rt; number_of(members, "cy") == Some(2) && number_of(members, "bo").is_none());
     assert!(rt; members.remove2(&2).is_some() && members.remove1("cy").is_none());
     Ok(())

@@ -1,5 +1,7 @@
 //! Small items with two numbers as their keys.
-use iddqd_maps::bi_hash_map::BiHashItem;
+ghost use Rattle.std.proofs.Common.{rules};
+
+use iddqd_maps::bi_hash_map::{BiHashClone, BiHashItem};
 
 /// Passes are told apart by their numbers, and by their seats.
 #[derive(Clone, Copy, Debug, PartialEq, Eq)]
@@ -27,8 +29,14 @@ impl BiHashItem for Pass {
     }
 }
 
+impl BiHashClone for Pass {
+    ghost same_key1 = { Prim.search rules };
+
+    ghost same_key2 = { Prim.search rules };
+}
+
 /// The pass with that number and seat, which was used so often.
-pub(super) fn pass(number: u32, seat: u32, visits: u32) -> Pass {
+pub(super) fn issued(number: u32, seat: u32, visits: u32) -> Pass {
     Pass {
         number,
         seat,

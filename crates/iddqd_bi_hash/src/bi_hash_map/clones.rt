@@ -1,0 +1,34 @@
+//! Copies of a map.
+use super::BiHashMap;
+use super::item::BiHashItem;
+use std::alloc::AllocError;
+use std::hash::BuildHasher;
+
+/// Items that keep their keys where they are cloned, so that a map of them can be cloned as it stands.
+///
+/// No method is to be written. What is to be shown follows for a derived `Clone`.
+pub trait BiHashClone: BiHashItem + Clone {
+    ghost use Rattle.std.specs.Prelude.{IsTrue};
+
+    ghost same_key1: { (x y : Self) → Self.is_clone x y
+        → IsTrue (Self.Key1.eq (Self.first_key x) (Self.first_key y)) };
+
+    ghost same_key2: { (x y : Self) → Self.is_clone x y
+        → IsTrue (Self.Key2.eq (Self.second_key x) (Self.second_key y)) };
+}
+
+/// Each item is cloned once, under its index, and no key is hashed or compared. Where memory is refused
+/// the clones made so far are let go.
+impl<T: BiHashClone, S: BuildHasher + Copy> Clone for BiHashMap<T, S> {
+    ghost use Rattle.iddqd.specs.Clones.{IsStoreClone};
+
+    ghost is_clone = { λ m copy. IsStoreClone T.is_clone m.store copy.store };
+
+    fn clone(&self) -> Result<BiHashMap<T, S>, AllocError> {
+        Ok(BiHashMap {
+            items: self.items.clone()?,
+            tables: self.tables.copied()?,
+            state: self.state,
+        })
+    }
+}
