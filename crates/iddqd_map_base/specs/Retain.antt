@@ -17,8 +17,8 @@ module _ {T : Type 0} where
 
 -- `ask p x b q` says that x, asked in the state p, may be answered b and leave the state q
 module _ {F T : Type 0} (ask : F → T → Bool → F → Type 0) where
-  -- f was asked about each item once, by rising index, each time in the state that the ask before left, and is then left
-  -- in the last state. The items are left that were answered true, under their indexes; the others were removed.
+  -- f was asked about each item once, by rising index, each time in the state that the ask before left, and is then
+  -- left in the last state. The items are left that were answered true, under their indexes; the others were removed.
   pub record RetainsTo (f : F) (old new : Store T) (last : F) : Type 0 where
     pub asks : List ((ℕ × T) × Bool)
     pub each_once : map (λ a. a.0) asks ≡ live_pairs old

@@ -2,7 +2,10 @@
 pub use Rattle.iddqd_map_base.specs.Map
 pub use Rattle.iddqd_map_base.specs.Calls
 pub use Rattle.iddqd_map_base.specs.Several
+pub use Rattle.iddqd_map_base.specs.Retain
+pub use Rattle.iddqd_map_base.specs.Equality
 pub use Rattle.iddqd_id_hash.specs.IdMap
 pub use Rattle.iddqd_id_ord.specs.OrdMap
 pub use Rattle.iddqd_id_ord.specs.KeyOrder
 pub use Rattle.iddqd_bi_hash.specs.BiMap
+pub use Rattle.iddqd_tri_hash.specs.TriMap

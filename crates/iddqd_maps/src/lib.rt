@@ -9,3 +9,4 @@ pub use iddqd_bi_hash::bi_hash_map as bi_hash_map;
 pub use iddqd_id_hash::id_hash_map as id_hash_map;
 pub use iddqd_id_ord::id_ord_map as id_ord_map;
 pub use iddqd_map_base::refusal as refusal;
+pub use iddqd_tri_hash::tri_hash_map as tri_hash_map;

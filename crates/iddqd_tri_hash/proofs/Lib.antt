@@ -1,2 +1,3 @@
 pub mod TriLemmas
+pub mod TriClashLemmas
 pub mod TriEqualityLemmas

@@ -1,23 +1,21 @@
 -- What becomes of a map with three keys in each step of its store and its tables.
-use Rattle.std.proofs.Common.{◌≡◌, ◌∙◌, ◌⊎◌, inl, inr, ◌↔◌, ◌+◌, ◌≤◌, ◌&&◌, ℕ, suc, min, Bool, true, false, not, List, [], ◌∷◌, length, map, Option, Some, None, IsSome, IsTrue, Result, Ok, Err, refl, sym, ap, subst, arith}
+use Rattle.std.proofs.Common.{◌≡◌, ◌∙◌, ◌⊎◌, inl, inr, ◌+◌, ◌≤◌, ◌&&◌, ℕ, zero, suc, min, Bool, true, false, not, List, Option, Some, None, IsSome, IsTrue, Result, Ok, Err, refl, ap, arith}
 use Rattle.std.specs.Cmp.{IsPartialEquivalence}
-use Rattle.std.specs.List.{Contains}
 use Rattle.std.specs.Option.{OnSome}
 use Rattle.std.specs.Result.{result_err}
-use Rattle.std.specs.FinMap as finite
 use Rattle.std.specs.declared.hash.Hasher as hasher
 use Rattle.std.specs.declared.hash.BuildHasher as builder
 use Rattle.iddqd.proofs.LiveLemmas.{item_at, live_at}
 use Rattle.iddqd.proofs.RoomLemmas.{room-rebound}
 use Rattle.iddqd.proofs.CompactionLemmas.{IsValid-compacted}
 use Rattle.iddqd.proofs.StoreLemmas.{IsValid-empty, IsValid-removed, IsValid-inserted, IsValid-rebound}
-use Rattle.iddqd.specs.Store.{Store, IsValid, IsFull, slot_limit, empty_within, cleared, get, next_index, inserted, removed, rebound}
+use Rattle.iddqd.specs.Store.{Store, IsFull, slot_limit, empty_within, cleared, get, next_index, inserted, removed, rebound}
 use Rattle.iddqd.specs.Compaction.{compacted, rank}
 use Rattle.iddqd.specs.ItemSet.{SizedStore, with_item, room as set_room}
 use Rattle.iddqd_hash.specs.HashTable.{Table, room as table_room}
 use Rattle.iddqd_hash.specs.MapHashTable.{filed, Renames}
 use Rattle.iddqd_sides.specs.Scan.{IsLive, IsHit, HasNoHit, AnswersScan}
-use Rattle.iddqd_sides.specs.Hashed.{Hashing, IsLawful}
+use Rattle.iddqd_sides.specs.Hashed.{IsLawful}
 use Rattle.iddqd_sides.specs.Indexing.{Indexes, Plans, PlansOrClashes, IfStays, LacksRoom}
 use Rattle.iddqd_sides.specs.declared.hashed_move.Move.{Move}
 use Rattle.iddqd_sides.specs.declared.hashed_move.Move.TheVariants.{Stays, To}
@@ -27,6 +25,8 @@ use Rattle.iddqd_sides.proofs.IndexingLemmas.{Indexes-empty, Indexes-cleared, In
 use Rattle.iddqd_map_base.specs.Map.{Stays as Rests, Removes, InsertsAt}
 use Rattle.iddqd_map_base.specs.Several.{either_key, BecomesOne, LacksRoomFor, AnswersOther}
 use Rattle.iddqd_map_base.proofs.RoomLemmas.{min_stays, min_falls, not_less}
+use Rattle.iddqd.specs.Clones.{IsStoreClone}
+use Rattle.iddqd_map_base.proofs.CloneLemmas.{IsValid-cloned, Indexes-cloned}
 use Rattle.iddqd_map_base.proofs.SeveralLemmas.{IsHit-either, HasNoHit-either, HasNoHit-first, HasNoHit-second}
 use Rattle.iddqd_tri_hash.specs.TriMap.{ItemKey, TriKeys, tri_keys_of, alike_by, alike, same, map_of, IsTriMap}
 use Rattle.iddqd_tri_hash.specs.TriSteps.{AreEmpty, AreHashes, AreUnfiled, Enter, KeepRoom, LackRoom, MoveTo, ArePlans, SameIndexes, Take, Untouched}
@@ -140,9 +140,9 @@ InsertsAt-stored test old held left tables reserved after hashes item ix at none
 
 -- no insert into all tables needs no memory
 pub none_roomy : (a b c d : ℕ) → (1 ≤ b → 1 ≤ c → 1 ≤ d → ⊥) → min a (min b (min c d)) ≡ 0
-none_roomy a 0 c d none = omega arith
-none_roomy a (suc b) 0 d none = omega arith
-none_roomy a (suc b) (suc c) 0 none = omega arith
+none_roomy a zero c d none = omega arith
+none_roomy a (suc b) zero d none = omega arith
+none_roomy a (suc b) (suc c) zero none = omega arith
 none_roomy a (suc b) (suc c) (suc d) none = absurd (none (omega arith) (omega arith) (omega arith))
 
 -- what was planned for one key of an item that a live index is given
@@ -192,9 +192,9 @@ none_third : (a b c d : ℕ) → d ≡ 0 → min a (min b (min c d)) ≡ 0
 none_third a b c d none = omega arith
 
 one_false : (a b c : Bool) → (a ≡ false) ⊎ ((b ≡ false) ⊎ (c ≡ false)) → not (a && (b && c)) ≡ true
-one_false a b c (inl no) = ap (λ x. not (x && (b && c))) no
-one_false a b c (inr (inl no)) = ap (λ x. not (a && (x && c))) no ∙ not_both a false (inr refl)
-one_false a b c (inr (inr no)) = ap (λ x. not (a && (b && x))) no ∙ not_both a (b && false) (inr (not_second b))
+one_false a b c (inl isnt) = ap (λ x. not (x && (b && c))) isnt
+one_false a b c (inr (inl isnt)) = ap (λ x. not (a && (x && c))) isnt ∙ not_both a false (inr refl)
+one_false a b c (inr (inr isnt)) = ap (λ x. not (a && (b && x))) isnt ∙ not_both a (b && false) (inr (not_second b))
   where
     not_second : (b : Bool) → (b && false) ≡ false
     not_second true = refl
@@ -214,13 +214,17 @@ module _ {T K1 K2 K3 : Type 0} (keys : TriKeys T K1 K2 K3) (items : SizedStore T
   -- there is no room for what was planned
   pub LacksRoomFor-planned : LackRoom plans tables → LacksRoomFor (alike keys) (same keys) (map_of items tables) ix item
   LacksRoomFor-planned lacks = record {
-    changed = (was, live, one_false _ _ _ (elim lacks [
-      | inl one ↦ inl (unlike_by keys.first items.store ix item was live plans.first tables.first planned.first one)
-      | inr rest ↦ inr (elim rest [
-        | inl two ↦ inl (unlike_by keys.second items.store ix item was live plans.second tables.second planned.second two)
-        | inr three ↦ inr (unlike_by keys.third items.store ix item was live plans.third tables.third planned.third three)
-      ])
-    ]));
+    changed = (
+      was,
+      live,
+      one_false _ _ _ (elim lacks [
+        | inl one ↦ inl (unlike_by keys.first items.store ix item was live plans.first tables.first planned.first one)
+        | inr rest ↦ inr (elim rest [
+          | inl two ↦ inl (unlike_by keys.second items.store ix item was live plans.second tables.second planned.second two)
+          | inr three ↦ inr (unlike_by keys.third items.store ix item was live plans.third tables.third planned.third three)
+        ])
+      ]),
+    );
     no_other = no_other;
     no_room = elim lacks [
       | inl one ↦ none_first _ _ _ _ (lacks_none plans.first tables.first one)
@@ -319,3 +323,20 @@ KeepRoom-same tables = record { first = omega arith; second = omega arith; third
 pub Rests-held : {T : Type 0} (items held left : SizedStore T) (tables after : TriTables) → left ≡ held → held.store ≡ items.store → (1 ≤ set_room items → held ≡ items) → KeepRoom tables after → Rests (map_of items tables) (map_of left after)
 Rests-held items held left tables after is contents same tables_kept =
     rw is (Rests-parts items held tables after contents (not_less _ _ (λ some. ap set_room (same some))) tables_kept)
+
+-- no table lost room in either of two steps
+pub KeepRoom-twice : (tables mid after : TriTables) → KeepRoom tables mid → KeepRoom mid after → KeepRoom tables after
+KeepRoom-twice tables mid after one other = record {
+  first = omega (arith, one.first, other.first);
+  second = omega (arith, one.second, other.second);
+  third = omega (arith, one.third, other.third);
+}
+
+-- a clone whose items keep their keys, and tables with the same indexes
+pub IsTriMap-cloned : {T K1 K2 K3 : Type 0} (keys : TriKeys T K1 K2 K3) → AreLawful keys → (is_clone : T → T → Type 0) → ((x y : T) → is_clone x y → alike_by keys.first x y ≡ true) → ((x y : T) → is_clone x y → alike_by keys.second x y ≡ true) → ((x y : T) → is_clone x y → alike_by keys.third x y ≡ true) → (s copy : Store T) (tables after : TriTables) → IsStoreClone is_clone s copy → SameIndexes tables after → IsTriMap keys s tables → IsTriMap keys copy after
+IsTriMap-cloned keys lawful is_clone one two three s copy tables after is same_indexes o = record {
+  valid = IsValid-cloned is_clone s copy is o.valid;
+  first = rw same_indexes.first (Indexes-cloned is_clone s copy is keys.first.key_of keys.first.hashing (filed tables.first) one lawful.first o.first);
+  second = rw same_indexes.second (Indexes-cloned is_clone s copy is keys.second.key_of keys.second.hashing (filed tables.second) two lawful.second o.second);
+  third = rw same_indexes.third (Indexes-cloned is_clone s copy is keys.third.key_of keys.third.hashing (filed tables.third) three lawful.third o.third);
+}

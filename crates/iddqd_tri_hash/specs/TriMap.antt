@@ -1,5 +1,5 @@
 -- A map with three keys, as a store and a table for each key that indexes it.
-use Rattle.std.specs.Prelude.{◌≡◌, ◌⊎◌, ℕ, Bool, List, IsSome, min}
+use Rattle.std.specs.Prelude.{◌⊎◌, ℕ, Bool, List, IsSome, min}
 use Rattle.std.specs.Ordering.{eq_of_both}
 use Rattle.std.specs.declared.hash.Hasher as hasher
 use Rattle.std.specs.declared.hash.BuildHasher as builder

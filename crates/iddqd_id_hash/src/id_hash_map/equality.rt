@@ -38,5 +38,6 @@ impl<T: IdHashItem + PartialEq, S: BuildHasher> PartialEq for IdHashMap<T, S> {
 impl<T: IdHashItem + Eq, S: BuildHasher> Eq for IdHashMap<T, S> {
     ghost use Rattle.iddqd_map_base.proofs.EqualityLemmas.{map_equivalence, shares_laws};
 
-    ghost laws = { map_equivalence (shares T.key_of T.Key.eq) T.eq (shares_laws T.key_of T.Key.eq T.Key.Eq.laws) T.Eq.laws };
+    ghost laws = { map_equivalence (shares T.key_of T.Key.eq) T.eq
+        (shares_laws T.key_of T.Key.eq T.Key.Eq.laws) T.Eq.laws };
 }

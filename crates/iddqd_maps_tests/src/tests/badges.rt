@@ -1,5 +1,7 @@
 //! Small items with a number as their key, and a hasher under which all keys have one hash.
-use iddqd_maps::id_hash_map::IdHashItem;
+ghost use Rattle.std.proofs.Common.{rules};
+
+use iddqd_maps::id_hash_map::{IdHashClone, IdHashItem};
 use std::hash::{BuildHasher, Hasher};
 
 /// Badges are told apart by their numbers.
@@ -17,6 +19,10 @@ impl IdHashItem for Badge {
     fn key(&self) -> &u32 {
         &self.number
     }
+}
+
+impl IdHashClone for Badge {
+    ghost same_key = { Prim.search rules };
 }
 
 /// The badge with that number and seat.

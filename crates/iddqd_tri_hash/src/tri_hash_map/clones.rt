@@ -1,6 +1,6 @@
 //! Copies of a map.
-use super::item::TriHashItem;
 use super::TriHashMap;
+use super::item::TriHashItem;
 use std::alloc::AllocError;
 use std::hash::BuildHasher;
 
@@ -10,11 +10,14 @@ use std::hash::BuildHasher;
 pub trait TriHashClone: TriHashItem + Clone {
     ghost use Rattle.std.specs.Prelude.{IsTrue};
 
-    ghost same_key1: { (x y : Self) → Self.is_clone x y → IsTrue (Self.Key1.eq (Self.first_key x) (Self.first_key y)) };
+    ghost same_key1: { (x y : Self) → Self.is_clone x y
+        → IsTrue (Self.Key1.eq (Self.first_key x) (Self.first_key y)) };
 
-    ghost same_key2: { (x y : Self) → Self.is_clone x y → IsTrue (Self.Key2.eq (Self.second_key x) (Self.second_key y)) };
+    ghost same_key2: { (x y : Self) → Self.is_clone x y
+        → IsTrue (Self.Key2.eq (Self.second_key x) (Self.second_key y)) };
 
-    ghost same_key3: { (x y : Self) → Self.is_clone x y → IsTrue (Self.Key3.eq (Self.third_key x) (Self.third_key y)) };
+    ghost same_key3: { (x y : Self) → Self.is_clone x y
+        → IsTrue (Self.Key3.eq (Self.third_key x) (Self.third_key y)) };
 }
 
 /// Each item is cloned once, under its index, and no key is hashed or compared. Where memory is refused

@@ -5,8 +5,8 @@ ghost use Rattle.iddqd.specs.LiveItems.{live_items};
 ghost use Rattle.iddqd_map_base.specs.Map.{shares};
 ghost use Rattle.iddqd_tri_hash.specs.TriMap.{same_item, same_but_first};
 
-use super::item::TriHashItem;
 use super::TriHashMap;
+use super::item::TriHashItem;
 use std::hash::BuildHasher;
 
 impl<T: TriHashItem + PartialEq, S: BuildHasher> TriHashMap<T, S> {
@@ -35,13 +35,19 @@ fn is_same<T: TriHashItem + PartialEq>(item: &T, other: &T) -> bool
 /// keys in the other. It hashes the first key of each item of one map once.
 impl<T: TriHashItem + PartialEq, S: BuildHasher> PartialEq for TriHashMap<T, S> {
     ghost use Rattle.iddqd_map_base.specs.Equality.{has_same_items};
-    ghost use Rattle.iddqd_tri_hash.proofs.TriEqualityLemmas.{tri_laws};
+    ghost use Rattle.iddqd_map_base.specs.Several.{both_keys};
+    ghost use Rattle.iddqd_map_base.proofs.EqualityLemmas.{map_laws, same_laws, shares_laws};
+    ghost use Rattle.std.proofs.lemmas.Cmp.{and_equiv};
 
     ghost eq = { λ m n. has_same_items (same_item (shares T.first_key T.Key1.eq) (shares T.second_key T.Key2.eq)
         (shares T.third_key T.Key3.eq) T.eq) m.store n.store };
 
-    ghost laws = { tri_laws T.first_key T.Key1.eq T.second_key T.Key2.eq T.third_key T.Key3.eq T.eq
-        T.Key1.Eq.laws T.Key2.Eq.laws T.Key3.Eq.laws T.laws };
+    ghost laws = { let first = shares T.first_key T.Key1.eq in let second = shares T.second_key T.Key2.eq in
+        let third = shares T.third_key T.Key3.eq in
+        let others = and_equiv (shares_laws T.second_key T.Key2.eq T.Key2.Eq.laws)
+        (shares_laws T.third_key T.Key3.eq T.Key3.Eq.laws) in
+        map_laws first (same_but_first second third T.eq) (shares_laws T.first_key T.Key1.eq T.Key1.Eq.laws)
+        (same_laws (both_keys second third) T.eq others T.laws) };
 
     fn eq(&self, other: &TriHashMap<T, S>) -> bool {
         self.len() == other.len() && self.values().all(|item| other.has(item))
@@ -49,8 +55,13 @@ impl<T: TriHashItem + PartialEq, S: BuildHasher> PartialEq for TriHashMap<T, S> 
 }
 
 impl<T: TriHashItem + Eq, S: BuildHasher> Eq for TriHashMap<T, S> {
-    ghost use Rattle.iddqd_tri_hash.proofs.TriEqualityLemmas.{tri_equivalence};
+    ghost use Rattle.iddqd_map_base.proofs.EqualityLemmas.{map_equivalence, shares_laws};
+    ghost use Rattle.std.proofs.lemmas.Cmp.{and_equiv};
 
-    ghost laws = { tri_equivalence T.first_key T.Key1.eq T.second_key T.Key2.eq T.third_key T.Key3.eq T.eq
-        T.Key1.Eq.laws T.Key2.Eq.laws T.Key3.Eq.laws T.Eq.laws };
+    ghost laws = { let first = shares T.first_key T.Key1.eq in let second = shares T.second_key T.Key2.eq in
+        let third = shares T.third_key T.Key3.eq in
+        let others = and_equiv (shares_laws T.second_key T.Key2.eq T.Key2.Eq.laws)
+        (shares_laws T.third_key T.Key3.eq T.Key3.Eq.laws) in
+        map_equivalence first (same_but_first second third T.eq) (shares_laws T.first_key T.Key1.eq T.Key1.Eq.laws)
+        (and_equiv others T.Eq.laws) };
 }

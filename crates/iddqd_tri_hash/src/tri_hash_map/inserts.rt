@@ -9,10 +9,10 @@ ghost use Rattle.iddqd_map_base.specs.Several.{Overwriting};
 ghost use Rattle.iddqd_tri_hash.specs.TriMap.{tri_keys_of, map_of, any_key, AreTold, IsTriMap, TellsSome};
 ghost use Rattle.iddqd_tri_hash.specs.TriSteps.{AreHashes, KeepRoom, TakesAll, removed_one};
 
+use super::TriHashMap;
 use super::clash::TriClash;
 use super::item::TriHashItem;
 use super::tables::{TriHashes, TriTables, clash_of};
-use super::TriHashMap;
 use iddqd::item_index::ItemIndex;
 use iddqd::item_set::ItemSet;
 use iddqd_map_base::order::in_order;
@@ -31,7 +31,13 @@ impl<T: TriHashItem, S: BuildHasher> TriHashMap<T, S> {
             Inserts (any_key first second third) (AreTold first second third) self.old item result self.new }
     {
         let hashes = TriHashes::of(&self.state, &item);
-        insert(&mut self.items, &mut self.tables, &self.state, &hashes, item)
+        insert(
+            &mut self.items,
+            &mut self.tables,
+            &self.state,
+            &hashes,
+            item,
+        )
     }
 
     /// Takes an item, and removes those that share a key with it, at most three, which it hands back by
@@ -49,11 +55,23 @@ impl<T: TriHashItem, S: BuildHasher> TriHashMap<T, S> {
             Overwriting (any_key first second third) 3 self.old item result self.new }
     {
         let hashes = TriHashes::of(&self.state, &item);
-        let (items, tables) = (&mut self.items, &mut self.tables);
-        match insert(items, tables, &self.state, &hashes, item) {
+        match insert(
+            &mut self.items,
+            &mut self.tables,
+            &self.state,
+            &hashes,
+            item,
+        ) {
             Ok(ix) => Ok((ix, [None, None, None])),
             Err(InsertRefusal::Duplicate { item, at }) => {
-                overwrite(items, tables, &self.state, &hashes, item, &at)
+                overwrite(
+                    &mut self.items,
+                    &mut self.tables,
+                    &self.state,
+                    &hashes,
+                    item,
+                    &at,
+                )
             }
             Err(InsertRefusal::Full(item)) => Err(OverwriteRefusal::Full(item)),
             Err(InsertRefusal::Memory(item)) => Err(OverwriteRefusal::Memory(item)),

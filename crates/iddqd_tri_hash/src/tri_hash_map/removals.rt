@@ -2,9 +2,9 @@
 ghost use Rattle.iddqd_sides.specs.Scan.{passes_by};
 ghost use Rattle.iddqd_map_base.specs.Map.{Removes};
 
+use super::TriHashMap;
 use super::item::{First, Second, Third, TriHashItem};
 use super::tables::take_item;
-use super::TriHashMap;
 use iddqd_sides::hashed_query::take_by;
 use iddqd_sides::query::HashQuery;
 use std::hash::BuildHasher;

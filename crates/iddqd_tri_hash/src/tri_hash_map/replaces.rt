@@ -5,11 +5,11 @@ ghost use Rattle.iddqd_map_base.specs.Map.{shares};
 ghost use Rattle.iddqd_map_base.specs.Several.{ReplacesOneAt, ReplacesOne, ChangesOne};
 ghost use Rattle.iddqd_tri_hash.specs.TriMap.{tri_keys_of, map_of, all_keys, any_key, AreTaken, IsTriMap};
 
+use super::TriHashMap;
 use super::clash::TriClash;
 use super::item::{First, Second, Third, TriHashItem};
 use super::moves::{KnownHashes, commit_moves, plan_moves, reserve_moves};
 use super::tables::TriTables;
-use super::TriHashMap;
 use iddqd::item_index::ItemIndex;
 use iddqd::item_set::ItemSet;
 use iddqd_map_base::refusal::ReplaceRefusal;
@@ -34,10 +34,21 @@ impl<T: TriHashItem, S: BuildHasher> TriHashMap<T, S> {
             self.old (passes_by T.first_key (Q.stands_for query)) item result self.new }
     {
         let hash = query_hash(&self.state, query);
-        let known = KnownHashes { first: Some(hash), second: None, third: None };
+        let known = KnownHashes {
+            first: Some(hash),
+            second: None,
+            third: None,
+        };
         let table = &self.tables.first;
         match find_under::<T, First, S, Q>(table, &self.items, &self.state, hash, query) {
-            Some(ix) => replace_at(&mut self.items, &mut self.tables, &self.state, known, ix, item),
+            Some(ix) => replace_at(
+                &mut self.items,
+                &mut self.tables,
+                &self.state,
+                known,
+                ix,
+                item,
+            ),
             None => Err(ReplaceRefusal::Missing(item)),
         }
     }
@@ -54,10 +65,21 @@ impl<T: TriHashItem, S: BuildHasher> TriHashMap<T, S> {
             self.old (passes_by T.second_key (Q.stands_for query)) item result self.new }
     {
         let hash = query_hash(&self.state, query);
-        let known = KnownHashes { first: None, second: Some(hash), third: None };
+        let known = KnownHashes {
+            first: None,
+            second: Some(hash),
+            third: None,
+        };
         let table = &self.tables.second;
         match find_under::<T, Second, S, Q>(table, &self.items, &self.state, hash, query) {
-            Some(ix) => replace_at(&mut self.items, &mut self.tables, &self.state, known, ix, item),
+            Some(ix) => replace_at(
+                &mut self.items,
+                &mut self.tables,
+                &self.state,
+                known,
+                ix,
+                item,
+            ),
             None => Err(ReplaceRefusal::Missing(item)),
         }
     }
@@ -74,10 +96,21 @@ impl<T: TriHashItem, S: BuildHasher> TriHashMap<T, S> {
             self.old (passes_by T.third_key (Q.stands_for query)) item result self.new }
     {
         let hash = query_hash(&self.state, query);
-        let known = KnownHashes { first: None, second: None, third: Some(hash) };
+        let known = KnownHashes {
+            first: None,
+            second: None,
+            third: Some(hash),
+        };
         let table = &self.tables.third;
         match find_under::<T, Third, S, Q>(table, &self.items, &self.state, hash, query) {
-            Some(ix) => replace_at(&mut self.items, &mut self.tables, &self.state, known, ix, item),
+            Some(ix) => replace_at(
+                &mut self.items,
+                &mut self.tables,
+                &self.state,
+                known,
+                ix,
+                item,
+            ),
             None => Err(ReplaceRefusal::Missing(item)),
         }
     }
@@ -98,14 +131,25 @@ impl<T: TriHashItem, S: BuildHasher> TriHashMap<T, S> {
             (FnOnceReturnsAt F.FnOnce f) self.old (passes_by T.first_key (Q.stands_for query)) result self.new }
     {
         let hash = query_hash(&self.state, query);
-        let known = KnownHashes { first: Some(hash), second: None, third: None };
+        let known = KnownHashes {
+            first: Some(hash),
+            second: None,
+            third: None,
+        };
         let table = &self.tables.first;
         let found = find_under::<T, First, S, Q>(table, &self.items, &self.state, hash, query);
         let Some(ix) = found else {
             return Ok(None);
         };
         let item = f(&self.items[ix]);
-        let was = replace_at(&mut self.items, &mut self.tables, &self.state, known, ix, item)?;
+        let was = replace_at(
+            &mut self.items,
+            &mut self.tables,
+            &self.state,
+            known,
+            ix,
+            item,
+        )?;
         Ok(Some(was))
     }
 
@@ -122,14 +166,25 @@ impl<T: TriHashItem, S: BuildHasher> TriHashMap<T, S> {
             (FnOnceReturnsAt F.FnOnce f) self.old (passes_by T.second_key (Q.stands_for query)) result self.new }
     {
         let hash = query_hash(&self.state, query);
-        let known = KnownHashes { first: None, second: Some(hash), third: None };
+        let known = KnownHashes {
+            first: None,
+            second: Some(hash),
+            third: None,
+        };
         let table = &self.tables.second;
         let found = find_under::<T, Second, S, Q>(table, &self.items, &self.state, hash, query);
         let Some(ix) = found else {
             return Ok(None);
         };
         let item = f(&self.items[ix]);
-        let was = replace_at(&mut self.items, &mut self.tables, &self.state, known, ix, item)?;
+        let was = replace_at(
+            &mut self.items,
+            &mut self.tables,
+            &self.state,
+            known,
+            ix,
+            item,
+        )?;
         Ok(Some(was))
     }
 
@@ -146,14 +201,25 @@ impl<T: TriHashItem, S: BuildHasher> TriHashMap<T, S> {
             (FnOnceReturnsAt F.FnOnce f) self.old (passes_by T.third_key (Q.stands_for query)) result self.new }
     {
         let hash = query_hash(&self.state, query);
-        let known = KnownHashes { first: None, second: None, third: Some(hash) };
+        let known = KnownHashes {
+            first: None,
+            second: None,
+            third: Some(hash),
+        };
         let table = &self.tables.third;
         let found = find_under::<T, Third, S, Q>(table, &self.items, &self.state, hash, query);
         let Some(ix) = found else {
             return Ok(None);
         };
         let item = f(&self.items[ix]);
-        let was = replace_at(&mut self.items, &mut self.tables, &self.state, known, ix, item)?;
+        let was = replace_at(
+            &mut self.items,
+            &mut self.tables,
+            &self.state,
+            known,
+            ix,
+            item,
+        )?;
         Ok(Some(was))
     }
 }

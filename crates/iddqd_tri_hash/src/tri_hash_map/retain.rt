@@ -12,9 +12,9 @@ ghost use Rattle.iddqd_map_base.specs.Retain.{RetainsTo, Retains};
 ghost use Rattle.iddqd_tri_hash.specs.TriMap.{tri_keys_of, IsTriMap};
 ghost use Rattle.iddqd_tri_hash.specs.TriSteps.{KeepRoom};
 
+use super::TriHashMap;
 use super::item::TriHashItem;
 use super::tables::TriTables;
-use super::TriHashMap;
 use iddqd::item_index::ItemIndex;
 use iddqd::item_set::ItemSet;
 use std::hash::BuildHasher;

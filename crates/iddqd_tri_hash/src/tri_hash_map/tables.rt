@@ -45,7 +45,7 @@ impl TriHashes {
     pub(crate) fn of<T: TriHashItem, S: BuildHasher>(state: &S, item: &T) -> TriHashes
         ensures { let keys = tri_keys_of T.TriHashItem T.Key1.eq T.Key1.hash_input T.Key2.eq T.Key2.hash_input
             T.Key3.eq T.Key3.hash_input S.BuildHasher S.Hasher.Hasher state.now in
-        AreHashes keys result item.now }
+            AreHashes keys result item.now }
     {
         TriHashes {
             first: hash_of::<T, First, S>(state, item),
@@ -113,7 +113,7 @@ impl TriTables {
         requires live { IsLive items.now.store ix }
         requires map { let keys = tri_keys_of T.TriHashItem T.Key1.eq T.Key1.hash_input T.Key2.eq T.Key2.hash_input
             T.Key3.eq T.Key3.hash_input S.BuildHasher S.Hasher.Hasher state.now in
-        IsTriMap keys items.now.store self.old }
+            IsTriMap keys items.now.store self.old }
         ensures taken { Take self.old ix self.new }
         ensures kept { KeepRoom self.old self.new }
     {
