@@ -47,7 +47,7 @@ impl TriHashClone for Card {
 }
 
 /// The card with these keys, which was used so often.
-pub(super) fn card(number: u32, seat: u32, code: u32, visits: u32) -> Card {
+pub(super) fn printed(number: u32, seat: u32, code: u32, visits: u32) -> Card {
     Card {
         number,
         seat,

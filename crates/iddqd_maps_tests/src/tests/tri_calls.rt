@@ -1,6 +1,6 @@
 //! Each call of a map with three keys, with ample memory, under two hashers and small limits.
 use super::badges::Constant;
-use super::cards::{Card, card};
+use super::cards::{Card, printed};
 use iddqd::hash_builder::DefaultHashBuilder;
 use iddqd::internal::ValidateCompact;
 use iddqd::item_index::ItemIndex;
@@ -23,6 +23,16 @@ fn at(key1: Option<u32>, key2: Option<u32>, key3: Option<u32>) -> TriClash {
         key2: key2.map(ix),
         key3: key3.map(ix),
     }
+}
+
+// The refusal of an insert.
+fn told(item: Card, at: TriClash) -> Result<ItemIndex, InsertRefusal<Card, TriClash>> {
+    Err(InsertRefusal::Duplicate { item, at })
+}
+
+// The refusal of a replacement or of a change.
+fn taken_by<A>(item: Card, at: TriClash) -> Result<A, Refusal> {
+    Err(Refusal::Duplicate { item, at })
 }
 
 // The calls stand alone: so each is proved once.
@@ -84,7 +94,7 @@ fn renumber<S: BuildHasher>(
 ) -> Result<Option<Card>, Refusal> {
     map.change1(
         &number,
-        |was| card(was.number.wrapping_add(1), was.seat, was.code, was.visits),
+        |was| printed(was.number.wrapping_add(1), was.seat, was.code, was.visits),
     )
 }
 
@@ -95,7 +105,7 @@ fn visit<S: BuildHasher>(
 ) -> Result<Option<Card>, Refusal> {
     map.change2(
         &seat,
-        |was| card(was.number, was.seat, was.code, was.visits.wrapping_add(1)),
+        |was| printed(was.number, was.seat, was.code, was.visits.wrapping_add(1)),
     )
 }
 
@@ -106,65 +116,63 @@ fn recode<S: BuildHasher>(
 ) -> Result<Option<Card>, Refusal> {
     map.change3(
         &code,
-        |was| card(was.number, was.seat, was.code.wrapping_add(1), was.visits),
+        |was| printed(was.number, was.seat, was.code.wrapping_add(1), was.visits),
     )
 }
 
 // Three cards come, and others clash with one, with two or with all of them.
 fn assert_clashes<S: BuildHasher>(rt: &impl Abort, map: &mut TriHashMap<Card, S>) {
     assert!(rt; map.is_empty() && get1(map, 1).is_none() && get3(map, 1).is_none());
-    assert!(rt; insert(map, card(1, 10, 100, 0)) == Ok(ix(0)));
-    assert!(rt; insert(map, card(2, 20, 200, 0)) == Ok(ix(1)));
-    assert!(rt; insert(map, card(3, 30, 300, 0)) == Ok(ix(2)));
-    let told = |item: Card, at: TriClash| Err(InsertRefusal::Duplicate { item, at });
-    let (number, seat, code) = (card(1, 9, 9, 5), card(9, 20, 9, 5), card(9, 9, 300, 5));
+    assert!(rt; insert(map, printed(1, 10, 100, 0)) == Ok(ix(0)));
+    assert!(rt; insert(map, printed(2, 20, 200, 0)) == Ok(ix(1)));
+    assert!(rt; insert(map, printed(3, 30, 300, 0)) == Ok(ix(2)));
+    let (number, seat, code) = (printed(1, 9, 9, 5), printed(9, 20, 9, 5), printed(9, 9, 300, 5));
     assert!(rt; insert(map, number) == told(number, at(Some(0), None, None)));
     assert!(rt; insert(map, seat) == told(seat, at(None, Some(1), None)));
     assert!(rt; insert(map, code) == told(code, at(None, None, Some(2))));
-    let (two, all) = (card(1, 10, 200, 5), card(3, 10, 200, 5));
+    let (two, all) = (printed(1, 10, 200, 5), printed(3, 10, 200, 5));
     assert!(rt; insert(map, two) == told(two, at(Some(0), Some(0), Some(1))));
     assert!(rt; insert(map, all) == told(all, at(Some(2), Some(0), Some(1))));
     assert!(rt; map.find1(&2) == Some(ix(1)) && map.find2(&10) == Some(ix(0)));
     assert!(rt; map.find3(&300) == Some(ix(2)) && map.get_at(ix(3)).is_none());
-    assert!(rt; map.get_at(ix(1)).copied() == Some(card(2, 20, 200, 0)));
+    assert!(rt; map.get_at(ix(1)).copied() == Some(printed(2, 20, 200, 0)));
 }
 
 // An item takes the place of one, of none, and of three.
 fn assert_overwrites<S: BuildHasher>(rt: &impl Abort, map: &mut TriHashMap<Card, S>) {
-    let one = card(1, 10, 100, 1);
-    assert!(rt; overwrite(map, one) == Ok((ix(0), [Some(card(1, 10, 100, 0)), None, None])));
-    assert!(rt; overwrite(map, card(4, 40, 400, 1)) == Ok((ix(3), [None, None, None])));
-    let (two, three) = (card(2, 20, 200, 0), card(3, 30, 300, 0));
-    let all = card(3, 10, 200, 2);
+    let one = printed(1, 10, 100, 1);
+    assert!(rt; overwrite(map, one) == Ok((ix(0), [Some(printed(1, 10, 100, 0)), None, None])));
+    assert!(rt; overwrite(map, printed(4, 40, 400, 1)) == Ok((ix(3), [None, None, None])));
+    let (two, three) = (printed(2, 20, 200, 0), printed(3, 30, 300, 0));
+    let all = printed(3, 10, 200, 2);
     assert!(rt; overwrite(map, all) == Ok((ix(2), [Some(one), Some(two), Some(three)])));
     assert!(rt; map.len() == 2 && get2(map, 10) == Some(all) && get3(map, 200) == Some(all));
     assert!(rt; !map.contains_key1(&1) && !map.contains_key2(&20) && !map.contains_key3(&300));
-    assert!(rt; insert(map, card(5, 50, 500, 0)) == Ok(ix(1)));
-    let both = card(5, 50, 200, 3);
-    let were = [Some(card(5, 50, 500, 0)), Some(all), None];
+    assert!(rt; insert(map, printed(5, 50, 500, 0)) == Ok(ix(1)));
+    let both = printed(5, 50, 200, 3);
+    let were = [Some(printed(5, 50, 500, 0)), Some(all), None];
     assert!(rt; overwrite(map, both) == Ok((ix(2), were)));
-    assert!(rt; insert(map, card(1, 11, 101, 0)) == Ok(ix(1)) && map.len() == 3);
+    assert!(rt; insert(map, printed(1, 11, 101, 0)) == Ok(ix(1)) && map.len() == 3);
 }
 
 // Items become others: with other keys, with some of their own, with those of others.
 fn assert_replaces<S: BuildHasher>(rt: &impl Abort, map: &mut TriHashMap<Card, S>) {
-    let taken = card(5, 11, 400, 0);
-    let told = |item: Card, at: TriClash| Err(Refusal::Duplicate { item, at });
-    assert!(rt; replace1(map, 1, taken) == told(taken, at(Some(2), None, Some(3))));
-    assert!(rt; replace2(map, 50, taken) == told(taken, at(None, Some(1), Some(3))));
-    assert!(rt; replace3(map, 400, taken) == told(taken, at(Some(2), Some(1), None)));
+    let taken = printed(5, 11, 400, 0);
+    assert!(rt; replace1(map, 1, taken) == taken_by(taken, at(Some(2), None, Some(3))));
+    assert!(rt; replace2(map, 50, taken) == taken_by(taken, at(None, Some(1), Some(3))));
+    assert!(rt; replace3(map, 400, taken) == taken_by(taken, at(Some(2), Some(1), None)));
     assert!(rt; replace1(map, 9, taken) == Err(Refusal::Missing(taken)));
     assert!(rt; replace2(map, 9, taken) == Err(Refusal::Missing(taken)));
     assert!(rt; replace3(map, 9, taken) == Err(Refusal::Missing(taken)));
-    assert!(rt; replace1(map, 1, card(1, 12, 101, 4)) == Ok(card(1, 11, 101, 0)));
-    assert!(rt; replace2(map, 12, card(7, 12, 102, 5)) == Ok(card(1, 12, 101, 4)));
-    assert!(rt; replace3(map, 102, card(7, 12, 102, 6)) == Ok(card(7, 12, 102, 5)));
+    assert!(rt; replace1(map, 1, printed(1, 12, 101, 4)) == Ok(printed(1, 11, 101, 0)));
+    assert!(rt; replace2(map, 12, printed(7, 12, 102, 5)) == Ok(printed(1, 12, 101, 4)));
+    assert!(rt; replace3(map, 102, printed(7, 12, 102, 6)) == Ok(printed(7, 12, 102, 5)));
     assert!(rt; map.find1(&7) == Some(ix(1)) && !map.contains_key2(&11) && !map.contains_key3(&101));
-    assert!(rt; renumber(map, 7) == Ok(Some(card(7, 12, 102, 6))) && renumber(map, 7) == Ok(None));
-    assert!(rt; renumber(map, 4) == told(card(5, 40, 400, 1), at(Some(2), None, None)));
-    assert!(rt; visit(map, 12) == Ok(Some(card(8, 12, 102, 6))) && visit(map, 13) == Ok(None));
-    assert!(rt; recode(map, 102) == Ok(Some(card(8, 12, 102, 7))) && recode(map, 102) == Ok(None));
-    assert!(rt; get1(map, 8) == Some(card(8, 12, 103, 7)));
+    assert!(rt; renumber(map, 7) == Ok(Some(printed(7, 12, 102, 6))) && renumber(map, 7) == Ok(None));
+    assert!(rt; renumber(map, 4) == taken_by(printed(5, 40, 400, 1), at(Some(2), None, None)));
+    assert!(rt; visit(map, 12) == Ok(Some(printed(8, 12, 102, 6))) && visit(map, 13) == Ok(None));
+    assert!(rt; recode(map, 102) == Ok(Some(printed(8, 12, 102, 7))) && recode(map, 102) == Ok(None));
+    assert!(rt; get1(map, 8) == Some(printed(8, 12, 103, 7)));
 }
 
 // Items go, and those that are left close up.
@@ -172,15 +180,15 @@ fn assert_removals<S: BuildHasher>(
     rt: &impl Abort,
     map: &mut TriHashMap<Card, S>,
 ) -> Result<(), AllocError> {
-    assert!(rt; map.remove1(&8) == Some(card(8, 12, 103, 7)) && map.remove1(&8).is_none());
-    assert!(rt; map.remove2(&50) == Some(card(5, 50, 200, 3)) && map.remove2(&50).is_none());
+    assert!(rt; map.remove1(&8) == Some(printed(8, 12, 103, 7)) && map.remove1(&8).is_none());
+    assert!(rt; map.remove2(&50) == Some(printed(5, 50, 200, 3)) && map.remove2(&50).is_none());
     assert!(rt; !map.compact()?.is_identity() && map.find1(&4) == Some(ix(0)));
     map.reserve(3)?;
     map.shrink_to_fit()?;
-    assert!(rt; get2(map, 40) == Some(card(4, 40, 400, 1)) && map.len() == 1);
-    assert!(rt; map.remove3(&400) == Some(card(4, 40, 400, 1)) && map.remove3(&400).is_none());
+    assert!(rt; get2(map, 40) == Some(printed(4, 40, 400, 1)) && map.len() == 1);
+    assert!(rt; map.remove3(&400) == Some(printed(4, 40, 400, 1)) && map.remove3(&400).is_none());
     map.clear();
-    assert!(rt; map.is_empty() && insert(map, card(3, 30, 300, 0)) == Ok(ix(0)));
+    assert!(rt; map.is_empty() && insert(map, printed(3, 30, 300, 0)) == Ok(ix(0)));
     map.clear();
     Ok(())
 }
@@ -212,7 +220,7 @@ fn within(alloc: Global, limit: u32) -> TriHashMap<Card> {
 
 // A map without a slot takes nothing.
 fn assert_no_slot(rt: &impl Abort, map: &mut TriHashMap<Card>) {
-    let item = card(1, 1, 1, 1);
+    let item = printed(1, 1, 1, 1);
     assert!(rt; insert(map, item) == Err(InsertRefusal::Full(item)));
     assert!(rt; overwrite(map, item) == Err(OverwriteRefusal::Full(item)));
     assert!(rt; map.is_empty());
@@ -220,12 +228,12 @@ fn assert_no_slot(rt: &impl Abort, map: &mut TriHashMap<Card>) {
 
 // A full map takes an item that clashes, and one that replaces.
 fn assert_one_slot(rt: &impl Abort, map: &mut TriHashMap<Card>) {
-    let (item, other) = (card(1, 1, 1, 1), card(2, 2, 2, 2));
+    let (item, other) = (printed(1, 1, 1, 1), printed(2, 2, 2, 2));
     assert!(rt; overwrite(map, item) == Ok((ix(0), [None, None, None])));
     assert!(rt; insert(map, other) == Err(InsertRefusal::Full(other)));
     assert!(rt; overwrite(map, other) == Err(OverwriteRefusal::Full(other)));
-    assert!(rt; overwrite(map, card(1, 2, 3, 3)) == Ok((ix(0), [Some(item), None, None])));
-    assert!(rt; replace3(map, 3, other) == Ok(card(1, 2, 3, 3)));
+    assert!(rt; overwrite(map, printed(1, 2, 3, 3)) == Ok((ix(0), [Some(item), None, None])));
+    assert!(rt; replace3(map, 3, other) == Ok(printed(1, 2, 3, 3)));
     assert!(rt; map.remove2(&2) == Some(other) && insert(map, item) == Ok(ix(0)));
 }
 
@@ -239,19 +247,19 @@ fn a_full_map_takes_an_item_that_clashes(rt: HostRuntime) -> Result<(), Fail> {
 #[test]
 fn maps_print_and_give_their_cards(rt: HostRuntime) -> Result<(), Fail> {
     let mut map = within(rt.alloc(), 2);
-    assert!(rt; map.insert_unique(card(1, 2, 3, 4)).is_ok());
+    assert!(rt; map.insert_unique(printed(1, 2, 3, 4)).is_ok());
     let text = format!(in rt.alloc(); "{map:?}")?;
     assert!(rt; text.as_str() == "{Card { number: 1, seat: 2, code: 3, visits: 4 }}");
     assert!(rt; map.iter().next().is_some_and(|(at, _)| at == ix(0)) && map.values().len() == 1);
     let mut left = map.into_values();
-    assert!(rt; left.next() == Some(card(1, 2, 3, 4)) && left.next().is_none());
+    assert!(rt; left.next() == Some(printed(1, 2, 3, 4)) && left.next().is_none());
     Ok(())
 }
 
 #[test]
 fn the_parts_of_a_map_are_sound(rt: HostRuntime) -> Result<(), Fail> {
     let mut map = within(rt.alloc(), 3);
-    assert!(rt; insert(&mut map, card(1, 1, 1, 1)).is_ok());
+    assert!(rt; insert(&mut map, printed(1, 1, 1, 1)).is_ok());
     assert!(rt; map.validate(ValidateCompact::Compact).is_ok());
     assert!(rt; map.remove1(&1).is_some());
     assert!(rt; map.validate(ValidateCompact::Compact).is_err());
@@ -279,12 +287,12 @@ fn pair(alloc: Global, one: Card, other: Card) -> TriHashMap<Card> {
 
 #[test]
 fn maps_are_retained_cloned_and_compared(rt: HostRuntime) -> Result<(), Fail> {
-    let (one, other) = (card(1, 3, 5, 0), card(2, 4, 6, 0));
+    let (one, other) = (printed(1, 3, 5, 0), printed(2, 4, 6, 0));
     let mut map = pair(rt.alloc(), one, other);
     let mut copy = map.clone()?;
     assert!(rt; copy == map && pair(rt.alloc(), other, one) == map);
-    assert!(rt; pair(rt.alloc(), one, card(2, 4, 6, 1)) != map);
-    assert!(rt; pair(rt.alloc(), one, card(2, 4, 7, 0)) != map);
+    assert!(rt; pair(rt.alloc(), one, printed(2, 4, 6, 1)) != map);
+    assert!(rt; pair(rt.alloc(), one, printed(2, 4, 7, 0)) != map);
     assert!(rt; keep_even(&mut map) == 12 && map.len() == 1 && map != copy);
     assert!(rt; map.find2(&4) == Some(ix(1)) && !map.contains_key1(&1) && !map.contains_key3(&5));
     assert!(rt; copy.remove3(&5) == Some(one) && map == copy);

@@ -1,5 +1,5 @@
 //! A map with three keys beside a plain list of slots.
-use super::cards::{Card, card};
+use super::cards::{Card, printed};
 use iddqd::hash_builder::DefaultHashBuilder;
 use iddqd::item_index::ItemIndex;
 use iddqd_maps::refusal::{InsertRefusal, OverwriteRefusal, ReplaceRefusal};
@@ -234,7 +234,7 @@ fn answers_alike(
     let (kind, which) = (numbers.below(12), numbers.below(3));
     let (key, visits) = (numbers.below(range), numbers.below(1000));
     let (number, seat) = (numbers.below(range), numbers.below(range));
-    let item = card(number, seat, numbers.below(range), visits);
+    let item = printed(number, seat, numbers.below(range), visits);
     match kind {
         0..=4 => inserts_alike(map, model, item),
         5 => overwrites_alike(map, model, item),
