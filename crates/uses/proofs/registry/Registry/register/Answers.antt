@@ -1,0 +1,33 @@
+use Rattle.std.proofs.Common.{rules, Some, refl}
+use Rattle.std.specs.Str.{bytes_eq}
+use Rattle.std.specs.String.{string_bytes}
+use Rattle.iddqd_sides.specs.Scan.{AnswersScan}
+use Rattle.uses.specs.declared.registry.Entry.{Entry}
+use Rattle.uses.proofs.RegistryLemmas.{hit_named, contained_hit, IsDense-inserted, names_of-inserted}
+use Rattle.uses.proofs.registry.Registry.register.Goals as goal
+
+pub invariant_of-self : goal.invariant_of-self
+invariant_of-self c =
+    rw c.in-Ok.ensures.stored
+    (IsDense-inserted c.self.inside.entries.store c.self.invariant (record { name = c.args.name }))
+
+pub returns-in-Ok-clause-registered : goal.returns-in-Ok-clause-registered
+returns-in-Ok-clause-registered c =
+    let out = c.in-Ok.ensures in
+    rw (out.stored, ← c.self.view_is)
+    (names_of-inserted c.self.inside.entries.store c.self.invariant (record { name = c.args.name }))
+
+pub returns-in-Ok-clause-was_new : goal.returns-in-Ok-clause-was_new
+returns-in-Ok-clause-was_new c = λ _ here.
+    let named = rw (← c.self.view_is) at here in
+    let hit = contained_hit c.self.inside.entries.store c.self.invariant (string_bytes c.args.name) named in
+    c.in-Ok.ensures.no_clash hit.0 hit.1
+
+pub returns-in-Err-Duplicate-clause-taken : goal.returns-in-Err-Duplicate-clause-taken
+returns-in-Err-Duplicate-clause-taken c =
+    let s = c.self.inside.entries.store in
+    let name = string_bytes c.args.name in
+    let at = c.in-Err-Duplicate.at in
+    let scan : AnswersScan s (λ (entry : Entry). bytes_eq name (string_bytes entry.name)) (Some at) =
+    search (rules, c.in-Err-Duplicate.ensures) in
+    rw (← c.self.view_is) (hit_named s c.self.invariant name at ((scan at).1 refl))

@@ -1,0 +1,41 @@
+//! Callers of the maps and of keyed items, a module each: they are proved, and the program prints what they answer.
+#![tactic(auto)]
+
+mod badges;
+mod guests;
+mod hashers;
+mod registry;
+mod routes;
+mod scores;
+mod stock;
+mod users;
+
+use std::alloc::{AllocError, Global};
+use std::io;
+use std::process::ExitCode;
+use std::random::RandomSource;
+
+fn print(rt: &impl Print, line: Result<String, AllocError>) -> io::Result<()> {
+    match line {
+        Ok(line) => println!(rt; "{line}"),
+        Err(AllocError) => println!(rt; "no memory"),
+    }
+}
+
+fn print_all(rt: &(impl Print + RandomSource), alloc: Global) -> io::Result<()> {
+    print(rt, users::line(alloc))?;
+    print(rt, hashers::line(rt, alloc))?;
+    print(rt, routes::line(alloc))?;
+    print(rt, stock::line(alloc))?;
+    print(rt, guests::line(alloc))?;
+    print(rt, scores::line(alloc))?;
+    print(rt, badges::line(alloc))?;
+    print(rt, registry::line(alloc))
+}
+
+fn main(rt: HostRuntime) -> ExitCode {
+    match print_all(&rt, rt.alloc()) {
+        Ok(()) => ExitCode::SUCCESS,
+        Err(_) => ExitCode::FAILURE,
+    }
+}

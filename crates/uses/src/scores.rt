@@ -1,0 +1,50 @@
+//! A map in the order of its keys: its ends, and the items whose keys are between two bounds.
+use iddqd_maps::id_ord_map::{IdOrdItem, IdOrdMap};
+use std::alloc::{AllocError, Global};
+use std::ops::Bound;
+
+/// A score at an hour. No two are of the same hour.
+#[derive(Clone, Copy)]
+pub struct Score {
+    pub hour: u32,
+    pub points: u32,
+}
+
+impl IdOrdItem for Score {
+    type Key = u32;
+
+    ghost key_of = { λ score. score.hour };
+
+    fn key(&self) -> &u32 {
+        &self.hour
+    }
+}
+
+/// The sum of the points from one hour on, up to another one.
+pub fn points(scores: &IdOrdMap<Score>, from: u32, below: u32) -> u32 {
+    let mut sum: u32 = 0;
+    for (_, score) in scores.range(Bound::Included(&from), Bound::Excluded(&below)) {
+        sum = sum.saturating_add(score.points);
+    }
+    sum
+}
+
+fn script(scores: &mut IdOrdMap<Score>) -> (u32, Option<u32>) {
+    for hour in [9, 7, 8] {
+        let _ = scores.insert_unique(Score {
+            hour,
+            points: 10 + hour,
+        });
+    }
+    let first = match scores.first() {
+        Some(score) => Some(score.hour),
+        None => None,
+    };
+    (points(scores, 8, 10), first)
+}
+
+/// What the calls answer.
+pub fn line(alloc: Global) -> Result<String, AllocError> {
+    let (sum, first) = script(&mut IdOrdMap::new(alloc));
+    format!(in alloc; "scores: {sum}, {first:?}")
+}
