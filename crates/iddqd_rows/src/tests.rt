@@ -2,7 +2,6 @@ ghost use Rattle.std.specs.Prelude.{IsTrue};
 
 mod answers;
 mod call_lines;
-mod caller;
 mod calls;
 mod checks;
 mod collisions;
