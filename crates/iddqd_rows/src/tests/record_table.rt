@@ -38,7 +38,7 @@ impl KeyedItem for Clerk {
 
 type Clerks = KeyedItems<Clerk, DefaultHashBuilder>;
 
-fn clerk(alloc: Global, name: &str, desk: &str, floor: u8) -> Result<Clerk, AllocError> {
+fn made_clerk(alloc: Global, name: &str, desk: &str, floor: u8) -> Result<Clerk, AllocError> {
     let name = String::from_str(alloc, name)?;
     let desk = String::from_str(alloc, desk)?;
     Ok(Clerk { name, desk, floor })
@@ -54,9 +54,9 @@ fn is_found(clerks: &Clerks, name: &str, desk: &str, floor: u8) -> bool {
 
 fn assert_clerks(rt: &impl Abort, alloc: Global, clerks: &mut Clerks) -> Result<(), AllocError> {
     assert!(rt; clerks.is_empty());
-    assert!(rt; clerks.insert(clerk(alloc, "ada", "w", 1)?).is_ok());
-    assert!(rt; clerks.insert(clerk(alloc, "bo", "e", 2)?).is_ok());
-    assert!(rt; clerks.insert(clerk(alloc, "cy", "e", 3)?).is_err());
+    assert!(rt; clerks.insert(made_clerk(alloc, "ada", "w", 1)?).is_ok());
+    assert!(rt; clerks.insert(made_clerk(alloc, "bo", "e", 2)?).is_ok());
+    assert!(rt; clerks.insert(made_clerk(alloc, "cy", "e", 3)?).is_err());
     assert!(rt; !clerks.is_empty());
     assert!(rt; is_found(clerks, "ada", "w", 1) && is_found(clerks, "bo", "e", 2));
     assert!(rt; clerks.find1_by("cy").is_none() && clerks.find2_by("n").is_none());
@@ -97,7 +97,9 @@ fn assert_walks(rt: &impl Abort, items: &Items) {
     assert!(rt; matches!(values.next(), Some(item) if *item == record(3, 20)));
     assert!(rt; values.next().is_none() && values.next_back().is_none());
     let mut pairs = items.iter();
-    assert!(rt; matches!(pairs.next_back(), Some((at, item)) if at == ix(2) && *item == record(3, 20)));
+    assert!(rt;
+        matches!(pairs.next_back(), Some((at, item)) if at == ix(2) && *item == record(3, 20))
+    );
 }
 
 fn assert_gets(rt: &impl Abort, items: &Items) {
@@ -118,10 +120,30 @@ const REPLACED: [(u32, u32, u32, &str); 7] = [
     (0, 5, 15, "Ok(Record { first: 1, second: 30, value: 7 })"),
     (0, 5, 15, "Ok(Record { first: 5, second: 15, value: 7 })"),
     (0, 1, 15, "Ok(Record { first: 5, second: 15, value: 7 })"),
-    (1, 1, 9, "Err(Duplicate { item: Record { first: 1, second: 9, value: 7 }, first: Some(0), second: None })"),
-    (1, 2, 20, "Err(Duplicate { item: Record { first: 2, second: 20, value: 7 }, first: None, second: Some(2) })"),
-    (2, 1, 10, "Err(Duplicate { item: Record { first: 1, second: 10, value: 7 }, first: Some(0), second: Some(1) })"),
-    (3, 4, 40, "Err(Missing(Record { first: 4, second: 40, value: 7 }))"),
+    (
+        1,
+        1,
+        9,
+        "Err(Duplicate { item: Record { first: 1, second: 9, value: 7 }, first: Some(0), second: None })",
+    ),
+    (
+        1,
+        2,
+        20,
+        "Err(Duplicate { item: Record { first: 2, second: 20, value: 7 }, first: None, second: Some(2) })",
+    ),
+    (
+        2,
+        1,
+        10,
+        "Err(Duplicate { item: Record { first: 1, second: 10, value: 7 }, first: Some(0), second: Some(1) })",
+    ),
+    (
+        3,
+        4,
+        40,
+        "Err(Missing(Record { first: 4, second: 40, value: 7 }))",
+    ),
 ];
 
 fn assert_replaced(rt: &impl Abort, alloc: Global, items: &mut Items) -> Result<(), AllocError> {
@@ -130,7 +152,12 @@ fn assert_replaced(rt: &impl Abort, alloc: Global, items: &mut Items) -> Result<
         assert_told(rt, &told, want, "replace");
     }
     let told = printed(alloc, &items.values_by_key2().next_back().copied())?;
-    assert_told(rt, &told, "Some(Record { first: 3, second: 20, value: 7 })", "values_by_key2");
+    assert_told(
+        rt,
+        &told,
+        "Some(Record { first: 3, second: 20, value: 7 })",
+        "values_by_key2",
+    );
     Ok(())
 }
 
