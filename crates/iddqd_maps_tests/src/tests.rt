@@ -4,3 +4,5 @@ mod id_calls;
 mod id_model;
 mod names;
 mod ord_calls;
+mod ord_model;
+mod ord_names;
