@@ -4,3 +4,4 @@ pub mod EndLemmas
 pub mod ReplaceLemmas
 pub mod TakeLemmas
 pub mod CloneLemmas
+pub mod EqualityLemmas

@@ -1,3 +1,4 @@
 pub mod OrdMap
 pub mod KeyOrder
 pub mod Pairs
+pub mod Equality

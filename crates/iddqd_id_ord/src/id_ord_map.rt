@@ -18,6 +18,7 @@ ghost use Rattle.iddqd_id_ord.specs.OrdMap.{map_of, ClashesAt};
 
 mod checks;
 mod clones;
+mod equality;
 mod into_values;
 mod iter;
 mod range;

@@ -11,6 +11,8 @@ mod id_model;
 mod id_refused;
 mod names;
 mod ord_calls;
+mod ord_model;
+mod ord_names;
 mod passes;
 mod tri_calls;
 mod tri_model;

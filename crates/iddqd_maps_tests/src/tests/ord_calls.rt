@@ -2,7 +2,7 @@
 use super::badges::{Badge, numbered};
 use iddqd::internal::ValidateCompact;
 use iddqd::item_index::ItemIndex;
-use iddqd_maps::id_ord_map::{IdOrdItem, IdOrdMap};
+use iddqd_maps::id_ord_map::{IdOrdClone, IdOrdItem, IdOrdMap};
 use iddqd_maps::refusal::{InsertRefusal, OverwriteRefusal, ReplaceRefusal};
 use std::alloc::{AllocError, Global};
 use std::ops::Bound;
@@ -227,6 +227,24 @@ fn assert_walks(rt: &impl Abort, map: &mut Map) {
 #[test]
 fn badges_are_walked_in_order(rt: HostRuntime) -> Result<(), Fail> {
     assert_walks(&rt, &mut within(rt.alloc(), 9));
+    Ok(())
+}
+
+impl IdOrdClone for Badge {
+    ghost use Rattle.std.proofs.Common.{rules};
+
+    ghost same_key = { Prim.search rules };
+}
+
+#[test]
+fn a_copy_of_a_map_in_order_stands_alone(rt: HostRuntime) -> Result<(), Fail> {
+    let mut map = within(rt.alloc(), 3);
+    assert!(rt; insert(&mut map, 2, 0).is_ok() && insert(&mut map, 1, 9).is_ok());
+    let copy = map.clone()?;
+    assert!(rt; remove(&mut map, 2).is_some() && has_all(&copy, &[1, 2]));
+    let mut left = copy.into_values();
+    assert!(rt; left.len() == 2 && left.next_back() == Some(numbered(2, 0)));
+    assert!(rt; left.next() == Some(numbered(1, 9)) && left.next().is_none());
     Ok(())
 }
 
