@@ -146,6 +146,10 @@ impl Numbers {
     }
 }
 
+fn ix(place: usize) -> ItemIndex {
+    ItemIndex::of_slot(place).unwrap_or_default()
+}
+
 fn index(place: Option<usize>) -> Option<ItemIndex> {
     ItemIndex::of_slot(place?)
 }
@@ -168,10 +172,7 @@ fn overwrites_alike(map: &mut Map, model: &mut Model, item: Card) -> Result<bool
     let answer = map.insert_overwrite(item);
     let were = model.make_way(item)?;
     Ok(match model.insert(item)? {
-        Some(place) => match answer {
-            Ok((ix, was)) => index(Some(place)) == Some(ix) && was == were,
-            Err(_) => false,
-        },
+        Some(place) => answer == Ok((ix(place), were)),
         None => answer == Err(OverwriteRefusal::Full(item)),
     })
 }
