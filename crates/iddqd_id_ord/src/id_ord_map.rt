@@ -27,6 +27,7 @@ mod slots;
 mod values;
 mod walks;
 
+pub use clones::IdOrdClone;
 use iddqd::item_index::ItemIndex;
 use iddqd::item_set::ItemSet;
 use iddqd_map_base::refusal::{InsertRefusal, OverwriteRefusal, refusal};
@@ -34,7 +35,6 @@ use iddqd_order::btree_table::{Entry, MapBTreeTable};
 use iddqd_sides::key_of::KeyOf;
 use iddqd_sides::order_query::OrdQuery;
 use iddqd_sides::ordered_query::{enter, find_by, take_by};
-pub use clones::IdOrdClone;
 pub use into_values::IntoValues;
 pub use iter::Iter;
 pub use range::Range;

@@ -52,11 +52,7 @@ where
 /// The entry of the index whose item has this key, or else of the place for such an index.
 ///
 /// It is one search, and takes no memory.
-pub fn enter<'t, T, E>(
-    table: &'t mut MapBTreeTable,
-    items: &ItemSet<T>,
-    key: &E::Key,
-) -> Entry<'t>
+pub fn enter<'t, T, E>(table: &'t mut MapBTreeTable, items: &ItemSet<T>, key: &E::Key) -> Entry<'t>
 where
     E: KeyOf<T>,
     E::Key: Ord,

@@ -6,7 +6,7 @@ ghost use Rattle.iddqd.specs.{live_count};
 ghost use Rattle.iddqd_sides.specs.OrderedQuery.{is_between};
 ghost use Rattle.iddqd_id_ord.specs.KeyOrder.{AreInKeyOrder, FindsEnd, IsKeyWalk, IsWalkWithin, PopsEnd};
 
-use super::{IdOrdItem, IdOrdMap, IntoValues, ItsKey, Iter, Range, Values};
+use super::{IdOrdItem, IdOrdMap, IntoValues, Iter, ItsKey, Range, Values};
 use iddqd_sides::order_query::OrdQuery;
 use iddqd_sides::ordered::take_index;
 use iddqd_sides::ordered_query::range_by;

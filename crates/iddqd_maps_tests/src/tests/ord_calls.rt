@@ -29,7 +29,11 @@ fn ix(number: u32) -> ItemIndex {
 
 // The calls stand alone: so each is proved once.
 
-fn insert(map: &mut Map, number: u32, seat: u32) -> Result<ItemIndex, InsertRefusal<Badge, ItemIndex>> {
+fn insert(
+    map: &mut Map,
+    number: u32,
+    seat: u32,
+) -> Result<ItemIndex, InsertRefusal<Badge, ItemIndex>> {
     map.insert_unique(numbered(number, seat))
 }
 
@@ -214,7 +218,9 @@ fn walks_from_both_ends(map: &Map) -> bool {
 
 // Walks and ends, while slots were freed and filled in another order.
 fn assert_walks(rt: &impl Abort, map: &mut Map) {
-    assert!(rt; insert(map, 5, 0).is_ok() && insert(map, 9, 1).is_ok() && insert(map, 1, 2).is_ok());
+    assert!(rt;
+        insert(map, 5, 0).is_ok() && insert(map, 9, 1).is_ok() && insert(map, 1, 2).is_ok()
+    );
     assert!(rt; map.pop_last() == Some(numbered(9, 1)) && insert(map, 3, 3) == Ok(ix(1)));
     assert!(rt; insert(map, 7, 4) == Ok(ix(3)));
     assert_ranges(rt, map);

@@ -44,8 +44,7 @@ returns g c =
     let ix = c.in-Some.ix in
     let new = map_of c.replace_at.new.items in
     let was = c.index.result.now in
-    let gave : FnOnceReturnsAt g.F.FnOnce c.args.f was c.f-item.result = search rules in
-    (
+    let gave : FnOnceReturnsAt g.F.FnOnce c.args.f was c.f-item.result = search rules in (
       ix,
       c.in-Some.ensures,
       (
