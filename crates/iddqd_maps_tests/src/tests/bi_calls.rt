@@ -86,10 +86,7 @@ fn renumber<S: BuildHasher>(
 }
 
 // Counts a visit of the pass with that seat.
-fn visit<S: BuildHasher>(
-    map: &mut BiHashMap<Pass, S>,
-    seat: u32,
-) -> Result<Option<Pass>, Refusal> {
+fn visit<S: BuildHasher>(map: &mut BiHashMap<Pass, S>, seat: u32) -> Result<Option<Pass>, Refusal> {
     map.change2(
         &seat,
         |was| issued(was.number, was.seat, was.visits.wrapping_add(1)),
@@ -106,7 +103,9 @@ fn assert_clashes<S: BuildHasher>(rt: &impl Abort, map: &mut BiHashMap<Pass, S>)
     assert!(rt; insert(map, seat) == told(seat, at(None, Some(1))));
     assert!(rt; insert(map, both) == told(both, at(Some(1), Some(0))));
     assert!(rt; map.find1(&2) == Some(ix(1)) && map.find2(&10) == Some(ix(0)));
-    assert!(rt; map.get_at(ix(1)).copied() == Some(issued(2, 20, 0)) && map.get_at(ix(2)).is_none());
+    assert!(rt;
+        map.get_at(ix(1)).copied() == Some(issued(2, 20, 0)) && map.get_at(ix(2)).is_none()
+    );
 }
 
 // An item takes the place of one, of none and of two.

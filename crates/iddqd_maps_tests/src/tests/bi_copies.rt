@@ -43,7 +43,9 @@ fn a_retain_asks_once_of_each(rt: HostRuntime) -> Result<(), Fail> {
     assert!(rt; keep_even(&mut map) == 4321 && map.len() == 2);
     assert!(rt; indexes_of(&map, 4, 12) == (Some(0), Some(2)));
     assert!(rt; indexes_of(&map, 3, 11) == (None, None));
-    assert!(rt; overwrites(&mut map, issued(5, 13, 0)) && indexes_of(&map, 5, 13) == (Some(3), Some(3)));
+    assert!(rt;
+        overwrites(&mut map, issued(5, 13, 0)) && indexes_of(&map, 5, 13) == (Some(3), Some(3))
+    );
     assert!(rt; keep_even(&mut map) == 425 && keep_even(&mut map) == 42);
     Ok(())
 }
@@ -62,7 +64,9 @@ fn assert_clones(rt: &impl Abort, map: &mut Map) -> Result<(), AllocError> {
     let mut copy = clone_of(map)?;
     assert!(rt; are_equal(map, &copy) && copy.len() == 2);
     assert!(rt; indexes_of(&copy, 1, 13) == (Some(0), Some(2)));
-    assert!(rt; overwrites(&mut copy, issued(4, 14, 0)) && indexes_of(&copy, 4, 14) == (Some(1), Some(1)));
+    assert!(rt;
+        overwrites(&mut copy, issued(4, 14, 0)) && indexes_of(&copy, 4, 14) == (Some(1), Some(1))
+    );
     assert!(rt; !are_equal(map, &copy) && map.len() == 2 && indexes_of(map, 4, 14) == (None, None));
     Ok(())
 }

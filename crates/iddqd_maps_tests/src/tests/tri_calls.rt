@@ -126,7 +126,11 @@ fn assert_clashes<S: BuildHasher>(rt: &impl Abort, map: &mut TriHashMap<Card, S>
     assert!(rt; insert(map, printed(1, 10, 100, 0)) == Ok(ix(0)));
     assert!(rt; insert(map, printed(2, 20, 200, 0)) == Ok(ix(1)));
     assert!(rt; insert(map, printed(3, 30, 300, 0)) == Ok(ix(2)));
-    let (number, seat, code) = (printed(1, 9, 9, 5), printed(9, 20, 9, 5), printed(9, 9, 300, 5));
+    let (number, seat, code) = (
+        printed(1, 9, 9, 5),
+        printed(9, 20, 9, 5),
+        printed(9, 9, 300, 5),
+    );
     assert!(rt; insert(map, number) == told(number, at(Some(0), None, None)));
     assert!(rt; insert(map, seat) == told(seat, at(None, Some(1), None)));
     assert!(rt; insert(map, code) == told(code, at(None, None, Some(2))));
@@ -167,11 +171,17 @@ fn assert_replaces<S: BuildHasher>(rt: &impl Abort, map: &mut TriHashMap<Card, S
     assert!(rt; replace1(map, 1, printed(1, 12, 101, 4)) == Ok(printed(1, 11, 101, 0)));
     assert!(rt; replace2(map, 12, printed(7, 12, 102, 5)) == Ok(printed(1, 12, 101, 4)));
     assert!(rt; replace3(map, 102, printed(7, 12, 102, 6)) == Ok(printed(7, 12, 102, 5)));
-    assert!(rt; map.find1(&7) == Some(ix(1)) && !map.contains_key2(&11) && !map.contains_key3(&101));
-    assert!(rt; renumber(map, 7) == Ok(Some(printed(7, 12, 102, 6))) && renumber(map, 7) == Ok(None));
+    assert!(rt;
+        map.find1(&7) == Some(ix(1)) && !map.contains_key2(&11) && !map.contains_key3(&101)
+    );
+    assert!(rt;
+        renumber(map, 7) == Ok(Some(printed(7, 12, 102, 6))) && renumber(map, 7) == Ok(None)
+    );
     assert!(rt; renumber(map, 4) == taken_by(printed(5, 40, 400, 1), at(Some(2), None, None)));
     assert!(rt; visit(map, 12) == Ok(Some(printed(8, 12, 102, 6))) && visit(map, 13) == Ok(None));
-    assert!(rt; recode(map, 102) == Ok(Some(printed(8, 12, 102, 7))) && recode(map, 102) == Ok(None));
+    assert!(rt;
+        recode(map, 102) == Ok(Some(printed(8, 12, 102, 7))) && recode(map, 102) == Ok(None)
+    );
     assert!(rt; get1(map, 8) == Some(printed(8, 12, 103, 7)));
 }
 
