@@ -16,7 +16,9 @@ module _ (from to x_from x_to : List ℕ) (stands : IsTrue (bytes_eq from x_from
       let same_to = (bytes_decides to x_to).0 right in
       rw (same_from, same_to) refl
 
-  pub same_answer : (y_from y_to : List ℕ) → (bytes_eq from y_from && bytes_eq to y_to) ≡ (bytes_eq x_from y_from && bytes_eq x_to y_to)
+  pub same_answer :
+      (y_from y_to : List ℕ)
+      → (bytes_eq from y_from && bytes_eq to y_to) ≡ (bytes_eq x_from y_from && bytes_eq x_to y_to)
   same_answer y_from y_to =
       let (left, right) = both (bytes_eq from x_from) (bytes_eq to x_to) stands in
       rw (nat_list_eq_equiv.congr from x_from y_from left, nat_list_eq_equiv.congr to x_to y_to right) refl

@@ -42,12 +42,14 @@ pub struct Between<'a> {
 }
 
 impl HashQuery<Ends> for Between<'_> {
-    ghost stands_for = { λ q ends. bytes_eq q.from.now (string_bytes ends.from) && bytes_eq q.to.now (string_bytes ends.to) };
+    ghost stands_for = { λ q ends.
+        bytes_eq q.from.now (string_bytes ends.from) && bytes_eq q.to.now (string_bytes ends.to) };
 
     ghost same_hash = { λ q ends. same_texts q.from.now q.to.now (string_bytes ends.from) (string_bytes ends.to) };
 
     ghost same_key = { λ q x y stands.
-        same_answer q.from.now q.to.now (string_bytes x.from) (string_bytes x.to) stands (string_bytes y.from) (string_bytes y.to) };
+        same_answer q.from.now q.to.now (string_bytes x.from) (string_bytes x.to) stands
+        (string_bytes y.from) (string_bytes y.to) };
 
     fn stands_for(&self, ends: &Ends) -> bool {
         self.from == ends.from.as_str() && self.to == ends.to.as_str()

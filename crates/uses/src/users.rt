@@ -27,8 +27,8 @@ impl IdHashItem for User {
 
 /// How often the user with this name logged in; none exactly where there is no such user.
 pub fn logins(users: &IdHashMap<User>, name: &str) -> Option<u32>
-    ensures { MatchOption result (HasNoHit users.now.store (is_named name.now))
-        (λ count. (ix : ℕ) × (user : User) × IsOnly users.now.store (is_named name.now) ix user × (user.logins ≡ count)) }
+    ensures { let named = is_named name.now in MatchOption result (HasNoHit users.now.store named)
+        (λ count. (ix : ℕ) × (user : User) × IsOnly users.now.store named ix user × (user.logins ≡ count)) }
 {
     match users.get(name) {
         Some(user) => Some(user.logins),
