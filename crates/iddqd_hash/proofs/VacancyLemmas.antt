@@ -1,7 +1,7 @@
 -- What an entry without a pair has of a reserve.
-use Rattle.std.proofs.Common.{ℕ, Ok, refl}
+use Rattle.std.proofs.Common.{◌≡◌, ◌≤◌, ℕ, Ok, Err, refl, arith}
 use Rattle.iddqd_hash.specs.Entries.{IsVacancy}
-use Rattle.iddqd_hash.specs.HashTable.{Table, Reserves}
+use Rattle.iddqd_hash.specs.HashTable.{Table, Reserves, room}
 
 -- once room for one was made, an entry has it
 pub IsVacancy-reserved : {T A E : Type 0} (hash : ℕ) (old new : Table T) (done : A) → Reserves {E = E} 1 old (Ok done) new → IsVacancy hash old hash new
@@ -13,3 +13,9 @@ IsVacancy-reserved hash old new done made =
       room_stays = made.room_stays;
       capacity_stays = made.capacity_stays;
     }
+
+-- where room for one was refused there was none
+pub Reserves-refused : {T A E : Type 0} (old new : Table T) (error : E) → Reserves {A = A} 1 old (Err error) new → room old ≡ 0
+Reserves-refused old new error kept =
+    let none : 1 ≤ room old → ⊥ = λ some. cc ((kept.had_room some).0) in
+    omega arith

@@ -73,7 +73,8 @@ impl<'a, T> Iterator for TableIter<'a, T> {
         ensures upper { IfSome result.1 (UpTo (at_most (length self.now))) }
         ensures exact { result ≡ (length self.now, Some (length self.now)) }
     {
-        (self.left, Some(self.left))
+        let left = self.len();
+        (left, Some(left))
     }
 }
 

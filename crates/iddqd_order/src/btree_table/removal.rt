@@ -140,7 +140,7 @@ impl Node {
         ensures children { children self.new ≡ children self.old ++ option_to_list child }
         ensures room { room self.old ≤ room self.new }
     {
-        self.row.insert(self.row.len(), ix);
+        self.row.push(ix);
         if let Some(child) = child {
             let _ = self.children.push(child);
         }
@@ -155,7 +155,7 @@ impl Node {
         ensures room { room self.old ≤ room self.new }
     {
         let Node { row, mut children } = other;
-        self.row.insert(self.row.len(), middle);
+        self.row.push(middle);
         self.row.append(&row);
         let _ = self.children.append(&mut children);
     }

@@ -1,5 +1,5 @@
 //! At most eleven indexes in a row, in one place of memory.
-ghost use Rattle.std.specs.Prelude.{◌≡◌, ℕ, ◌+◌, ◌<◌, ◌≤◌, List, [], ◌++◌, length, take, drop, slice_index, slice_set};
+ghost use Rattle.std.specs.Prelude.{◌≡◌, ℕ, ◌+◌, ◌<◌, ◌≤◌, List, [], ◌∷◌, ◌++◌, length, take, drop, slice_index, slice_set};
 ghost use Rattle.std.specs.List.{insert, remove};
 ghost use Rattle.iddqd_order.specs.Row.{IsCut};
 
@@ -102,6 +102,13 @@ impl Row {
         self.items.copy_within(at..len, at + 1);
         self.items[at] = ix;
         self.len += 1;
+    }
+
+    pub fn push(&mut self, ix: ItemIndex)
+        requires { length self.old < 11 }
+        ensures { self.new ≡ self.old ++ ix ∷ [] }
+    {
+        self.insert(self.len(), ix);
     }
 
     pub fn remove(&mut self, at: usize) -> ItemIndex

@@ -37,3 +37,6 @@ returns-clause-memory g c =
     let fewer : c.fewer_cells-count.result < length c.self.inside.tags.items = elim c.fewer_cells-count.ensures.halved [ inl same ↦ absurd (omega arith) | inr fewer ↦ omega (arith, fewer.fewer) ] in
     Shrinks-placed c.args.least (length (entries c.args.self.now)) c.args.self.now _ c.place_anew.result c.fewer_cells-count.result (omega arith) (omega arith) (omega arith) (omega (arith, c.fewer_cells-count.ensures.few))
     c.place_anew.ensures.refused c.place_anew.ensures.room c.place_anew.ensures.capacity
+
+pub place_anew-requires-clause-power : goal.place_anew-requires-clause-power
+place_anew-requires-clause-power g c = elim c.fewer_cells-count.ensures.halved [ inl same ↦ absurd (omega arith) | inr fewer ↦ fewer.power ]

@@ -1,9 +1,9 @@
-use Rattle.std.proofs.Common.{◌≡◌, ◌∙◌, ◌≤◌, ◌<◌, ◌-◌, Some, None, length, set, ap, arith}
+use Rattle.std.proofs.Common.{◌≡◌, ◌∙◌, ◌≤◌, ◌<◌, ◌-◌, Some, None, length, set, ap, arith, sym}
 use Rattle.std.proofs.lemmas.List.{with_items_is, get_or-set_same, length-set}
 use Rattle.std.specs.Vec.{with_items}
 use Rattle.iddqd_hash.specs.OpenTable.{tag_of, limit_of, slots_of, slot_at}
 use Rattle.iddqd_hash.proofs.OpenSlotLemmas.{length_pairs, pairs-put, free_slot}
-use Rattle.iddqd_hash.proofs.OpenTableLemmas.{entries-opened, pair_at-opened, room-opened, power_from, empty_from, was_empty_counts, IsSound-put, UsesRoom-opened}
+use Rattle.iddqd_hash.proofs.OpenTableLemmas.{entries-opened, pair_at-opened, room-opened, power_from, empty_from, was_empty_counts, IsSound-put, UsesRoom-opened, cells_long}
 use Rattle.iddqd_hash.proofs.open_table.OpenHashTablePairCells.add.Goals as goal
 
 pub free_place-place-requires-clause-power : goal.free_place-place-requires-clause-power
@@ -65,3 +65,12 @@ returns-clause-memory g c =
     let inside : place < length c.self.inside.tags.items = rw c.as_slice.ensures.value at c.free_place-place.ensures.free.within in
     let counts = was_empty_counts c.self.inside.tags.items place c.index.result.now inside c.index.ensures in
     rw (← c.self.view_is) (UsesRoom-opened _ _ _ _ (ap length slots-is ∙ length-set (slots_of cells.items) place _) (omega (arith, counts)))
+
+pub put-requires-clause-same_length : goal.put-requires-clause-same_length
+put-requires-clause-same_length g c =
+    ap length c.as_mut_slice-2.ensures.value ∙ sym (cells_long _) ∙ c.self.invariant.probed.same_length ∙ ap length (sym c.as_mut_slice.ensures.value)
+
+pub put-requires-clause-free : goal.put-requires-clause-free
+put-requires-clause-free g c =
+    let inside : c.free_place-place.result < length c.self.inside.tags.items = rw c.as_slice.ensures.value at c.free_place-place.ensures.free.within in
+    rw c.as_mut_slice-2.ensures.value (free_slot _ _ (c.self.invariant.probed.suited c.free_place-place.result inside) (rw c.as_slice.ensures.value at c.free_place-place.ensures.free.free))

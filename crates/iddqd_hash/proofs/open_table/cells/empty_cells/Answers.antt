@@ -1,4 +1,4 @@
-use Rattle.std.proofs.Common.{◌∙◌, ◌∷◌, ◌++◌, [], None, ap, arith}
+use Rattle.std.proofs.Common.{◌∙◌, ◌∷◌, ◌++◌, [], None, ap, arith, ◌≡◌, replicate}
 use Rattle.std.proofs.lemmas.List.{map_push, replicate_more}
 use Rattle.iddqd_hash.specs.OpenTable.{pair_in}
 use Rattle.iddqd_hash.proofs.open_table.cells.empty_cells.Goals as goal
@@ -10,3 +10,8 @@ empty-preserved g c =
       omega arith,
       omega arith,
     )
+
+pub returns : goal.returns
+returns g c =
+    let counted : c.empty.counter ≡ c.args.count = omega arith in
+    c.empty.invariant.0 ∙ ap (λ n. replicate n None) counted

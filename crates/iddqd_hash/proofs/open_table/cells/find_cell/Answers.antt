@@ -1,3 +1,4 @@
+use Rattle.iddqd_hash.proofs.OpenTableLemmas.{cells_long}
 use Rattle.std.proofs.Common.{◌<◌, ◌≤◌, ◌%◌, ◌+◌, length, true, false, refl, arith}
 use Rattle.std.specs.Fn.{TakesAt, CalledAt}
 use Rattle.iddqd_hash.specs.OpenTable.{slots_of, FindsNext}
@@ -64,3 +65,21 @@ returns-clause-place g c =
     let ended = FindsNext-none _ _ _ _ _ c.in_default.not-Some c.loop-found.invariant.1.2 in
     let looking = Looking-passed (CalledAt g.F.FnMut) _ _ _ _ c.requires.probed c.requires.ends _ _ _ c.loop-found.invariant.1.1 ended.1 in
     Misses-looked (CalledAt g.F.FnMut) _ _ _ _ c.requires.probed c.requires.ends _ _ looking ended.2
+
+pub bounds-cells-place : goal.bounds-cells-place
+bounds-cells-place g c =
+    let finds = rw c.in-Some.is at c.loop-found.invariant.1.2 in
+    let inside : c.in-Some.place < length c.args.tags.now = PassesBy-inside _ _ _ _ _ (omega arith) finds.0 in
+    omega (arith, inside, c.requires.probed.same_length, cells_long c.args.cells.now)
+
+pub offset_bounds-cells-place : goal.offset_bounds-cells-place
+offset_bounds-cells-place g c =
+    let finds = rw c.in-Some.is at c.loop-found.invariant.1.2 in
+    let inside : c.in-Some.place < length c.args.tags.now = PassesBy-inside _ _ _ _ _ (omega arith) finds.0 in
+    omega (arith, inside, c.requires.probed.same_length, cells_long c.args.cells.now)
+
+pub returns-then-eq-clause-value : goal.returns-then-eq-clause-value
+returns-then-eq-clause-value g c =
+    let finds = rw c.in-Some.is at c.loop-found.invariant.1.2 in
+    let inside : c.in-Some.place < length c.args.tags.now = PassesBy-inside _ _ _ _ _ (omega arith) finds.0 in
+    value_read c.args.tags.now c.args.cells.now c.in-Some.place _ inside c.index-cells-place.is c.requires.probed _ _ _ finds.1.1 c.value_in-value.ensures

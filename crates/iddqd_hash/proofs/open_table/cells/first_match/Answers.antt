@@ -1,3 +1,4 @@
+use Rattle.iddqd_hash.proofs.OpenTableLemmas.{cells_long}
 use Rattle.std.proofs.Common.{◌<◌, ◌%◌, length, slice_index, sym, subst, arith}
 use Rattle.std.proofs.Math.Nat.{mod-lt}
 use Rattle.iddqd_hash.specs.OpenTable.{slots_of, PassesBy}
@@ -14,3 +15,12 @@ returns-then-cells-home g c =
       subst (λ x. PassesBy tags (slots_of c.args.cells.now) c.args.hash (c.args.hash % length tags) x) (sym c.home_of-home.ensures) (PassesBy-start _ _ _ _ below),
       full_read tags c.args.cells.now home _ inside c.index-cells-home.is c.requires.probed _ full c.if-cells-home.true,
     )
+
+pub bounds-cells-home-then-tags-home : goal.bounds-cells-home-then-tags-home
+bounds-cells-home-then-tags-home g c = omega (arith, c.requires.probed.same_length, cells_long c.args.cells.now)
+
+pub bounds-cells-home : goal.bounds-cells-home
+bounds-cells-home g c = omega (arith, c.requires.probed.same_length, cells_long c.args.cells.now)
+
+pub offset_bounds-cells-home : goal.offset_bounds-cells-home
+offset_bounds-cells-home g c = omega (arith, c.requires.probed.same_length, cells_long c.args.cells.now)

@@ -1,3 +1,4 @@
+use Rattle.iddqd_hash.proofs.OpenTableLemmas.{cells_long}
 use Rattle.std.proofs.Common.{◌≢◌, ◌∙◌, ◌+◌, ◌%◌, ◌<◌, ◌≤◌, Some, length, slice_index, sym, arith}
 use Rattle.iddqd_hash.specs.OpenTable.{slots_of, slot_at, Skips}
 use Rattle.iddqd_hash.proofs.OpenWalkLemmas.{places_left, places_left-next, places_left-on, IsReached-next}
@@ -45,3 +46,12 @@ loop-at-preserved g c =
 
 pub returns : goal.returns
 returns g c = (c.loop-at.at, c.loop-at.invariant, c.loop-at-test.false)
+
+pub bounds-cells-at-then-tags-at : goal.bounds-cells-at-then-tags-at
+bounds-cells-at-then-tags-at g c = omega (arith, c.requires.probed.same_length, cells_long c.args.cells.now)
+
+pub bounds-cells-at : goal.bounds-cells-at
+bounds-cells-at g c = omega (arith, c.requires.probed.same_length, cells_long c.args.cells.now)
+
+pub offset_bounds-cells-at : goal.offset_bounds-cells-at
+offset_bounds-cells-at g c = omega (arith, c.requires.probed.same_length, cells_long c.args.cells.now)

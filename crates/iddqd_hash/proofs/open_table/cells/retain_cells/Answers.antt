@@ -120,3 +120,6 @@ returns-clause-marked g c = c.asking.invariant.3
 
 pub returns-clause-counted : goal.returns-clause-counted
 returns-clause-counted g c = c.asking.invariant.4
+
+pub bounds-cells-here : goal.bounds-cells-here
+bounds-cells-here g c = omega (arith, c.next-here.ensures.inside, c.asking.invariant.2.same_length, cells_long c.asking.cells)

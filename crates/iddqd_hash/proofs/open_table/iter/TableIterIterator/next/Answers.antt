@@ -1,4 +1,6 @@
-use Rattle.std.proofs.Common.{◌≡◌, ◌∙◌, ◌∷◌, IsSome, length, slice_index_or, sym, ap, subst, arith, rules}
+use Rattle.std.proofs.lemmas.List.{nil_from_length}
+use Rattle.iddqd_hash.proofs.OpenTableLemmas.{cells_long}
+use Rattle.std.proofs.Common.{◌≡◌, ◌∙◌, ◌∷◌, IsSome, length, slice_index_or, sym, ap, subst, arith, rules, ◌<◌}
 use Rattle.iddqd_hash.specs.HashTable.{values}
 use Rattle.iddqd_hash.specs.OpenTable.{pairs, slots_of, slot_at, pair_in}
 use Rattle.iddqd_hash.proofs.OpenAheadLemmas.{IsInSixteens-count, SomeFull-pairs, pairs-full}
@@ -47,3 +49,16 @@ returns-clause-steps g c = sym c.self.view_is ∙ ap values (pair_here g c)
 
 pub returns-clause-goes : goal.returns-clause-goes
 returns-clause-goes g c = let steps = returns-clause-steps g c in search rules
+
+pub bounds-self-inside-here : goal.bounds-self-inside-here
+bounds-self-inside-here g c = omega (arith, c.next-here.ensures.inside, c.self.invariant.probed.same_length, cells_long c.self.inside.cells.now)
+
+pub offset_bounds-self-inside-here : goal.offset_bounds-self-inside-here
+offset_bounds-self-inside-here g c =
+    let inside : c.next-here.result < length c.self.inside.cells.now = omega (arith, c.next-here.ensures.inside, c.self.invariant.probed.same_length, cells_long c.self.inside.cells.now) in
+    search rules
+
+pub returns-then-self-eq0-clause-steps : goal.returns-then-self-eq0-clause-steps
+returns-then-self-eq0-clause-steps g c =
+    let none = sym c.self.view_is ∙ ap values (nil_from_length _ (sym c.self.invariant.counted ∙ c.if-self-eq0.true)) in
+    (none, none)

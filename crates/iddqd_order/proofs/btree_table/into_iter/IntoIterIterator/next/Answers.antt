@@ -1,3 +1,4 @@
+use Rattle.std.proofs.Common.{rules}
 use Rattle.iddqd_order.specs.IntoIter.{indexes_to_come}
 use Rattle.iddqd_order.proofs.CursorLemmas.{left-ahead}
 use Rattle.iddqd_order.proofs.TreeLemmas.{place_in-within}
@@ -13,3 +14,7 @@ unfolding indexes_to_come
 returns-clause-steps c =
     let i = c.self.invariant in
     rw (← c.self.view_is) (left-ahead _ _ _ _ _ _ c.if-self-eq0.false i.3 (place_in-within _ _ _ i.0 i.2.gap.goes) c.next.ensures.next).1
+
+pub returns-clause-goes : goal.returns-clause-goes
+unfolding indexes_to_come
+returns-clause-goes c = let steps = returns-clause-steps c in search rules

@@ -1,3 +1,4 @@
+use Rattle.std.proofs.Common.{rules}
 use Rattle.iddqd_order.specs.Range.{indexes_ahead}
 use Rattle.iddqd_order.proofs.RangeLemmas.{part-ahead}
 use Rattle.iddqd_order.proofs.TreeLemmas.{place_in-within}
@@ -14,3 +15,7 @@ unfolding indexes_ahead
 returns-clause-steps c =
     let i = c.self.invariant in
     rw (← c.self.view_is) (part-ahead _ _ _ _ _ _ (rw (← c.self.view_is) at c.has_ended.ensures) c.if-has_ended.false i.3 (place_in-within _ _ _ i.0 i.2.at.gap.goes) c.next.ensures.next).1
+
+pub returns-clause-goes : goal.returns-clause-goes
+unfolding indexes_ahead
+returns-clause-goes c = let steps = returns-clause-steps c in search rules
