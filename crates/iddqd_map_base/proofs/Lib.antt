@@ -1,4 +1,5 @@
 pub mod RoomLemmas
+pub mod TablesLemmas
 pub mod CountLemmas
 pub mod SeveralLemmas
 pub mod RetainLemmas

@@ -4,3 +4,4 @@ pub mod Several
 pub mod Refusal
 pub mod Retain
 pub mod Equality
+pub mod Steps

@@ -1,7 +1,8 @@
 -- The model of a map: items in slots under stable indexes, no two of which share a key.
-use Rattle.std.specs.Prelude.{◌≡◌, ◌≤◌, ◌+◌, ℕ, Bool, Option, Some, None, refl}
+use Rattle.std.specs.Prelude.{◌≡◌, ◌≤◌, ◌+◌, ℕ, Bool, Option, Some, None, min, refl}
 use Rattle.std.specs.Coded.{Coded, code_by, coded×, coded_ℕ}
 use Rattle.iddqd.specs.Store.{Store, store_code, IsValid, IsFull, empty_within, get, next_index, inserted, removed}
+use Rattle.iddqd.specs.ItemSet.{SizedStore, room as set_room}
 use Rattle.iddqd_sides.specs.Scan.{HasNoHit, AnswersScan, AreApart}
 
 -- what a map has: its items, and room for so many more that need no memory
@@ -18,6 +19,10 @@ map_code {T} item =
     (λ m. (m.store, m.room))
     (λ p. record { store = p.0; room = p.1 })
     (λ _. refl)
+
+-- what a map has whose tables have room for so many: an item needs no memory where no part needs any
+abbrev pub map_with : {T : Type 0} → SizedStore T → ℕ → MapState T
+map_with items spare = record { store = items.store; room = min (set_room items) spare }
 
 -- the items share this key
 abbrev pub shares : {T K : Type 0} → (T → K) → (K → K → Bool) → T → T → Bool
