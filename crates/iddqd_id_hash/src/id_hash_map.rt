@@ -19,6 +19,7 @@ mod equality;
 mod memory;
 mod replaces;
 mod retain;
+mod table;
 mod walks;
 
 pub use clones::IdHashClone;
@@ -33,6 +34,7 @@ use iddqd_sides::query::HashQuery;
 use std::alloc::{AllocError, Global};
 use std::hash::{BuildHasher, Hash};
 use std::marker::Model;
+use table::IdTable;
 
 /// An item with a key, which is a function of the item's value.
 pub trait IdHashItem: Drop {
@@ -66,7 +68,7 @@ impl<T: IdHashItem> KeyOf<T> for ItsKey {
 pub struct IdHashMap<T: IdHashItem, S: BuildHasher = DefaultHashBuilder> {
     items: ItemSet<T>,
     // Each live index, under the hash of its item's key.
-    table: MapHashTable,
+    table: IdTable,
     state: S,
 }
 
@@ -80,10 +82,10 @@ impl<T: IdHashItem, S: BuildHasher> Model for IdHashMap<T, S> {
     ghost use Rattle.iddqd_sides.specs.Hashed.{hashing_of};
     ghost use Rattle.iddqd_id_hash.specs.IdMap.{map_of, IsIdMap};
 
-    ghost view = { λ m. map_of m.items m.table };
+    ghost view = { λ m. map_of m.items m.table.keys };
 
     ghost invariant = { λ m. IsIdMap T.IdHashItem.key_of
-        (hashing_of T.Key.eq T.Key.hash_input S.BuildHasher S.Hasher.Hasher m.state) m.items.store m.table };
+        (hashing_of T.Key.eq T.Key.hash_input S.BuildHasher S.Hasher.Hasher m.state) m.items.store m.table.keys };
 }
 
 impl<T: IdHashItem> IdHashMap<T, DefaultHashBuilder> {
@@ -112,7 +114,9 @@ impl<T: IdHashItem, S: BuildHasher> IdHashMap<T, S> {
     {
         IdHashMap {
             items: ItemSet::with_limit(alloc, limit),
-            table: MapHashTable::new(alloc),
+            table: IdTable {
+                keys: MapHashTable::new(alloc),
+            },
             state,
         }
     }
@@ -140,7 +144,7 @@ impl<T: IdHashItem, S: BuildHasher> IdHashMap<T, S> {
     pub fn find<Q: HashQuery<T::Key>>(&self, query: Q) -> Option<ItemIndex>
         ensures { AnswersScan self.now.store (passes_by T.key_of (Q.stands_for query)) result }
     {
-        find_by::<T, ItsKey, S, Q>(&self.table, &self.items, &self.state, query)
+        find_by::<T, ItsKey, S, Q>(&self.table.keys, &self.items, &self.state, query)
     }
 
     /// Whether an item has the key.
@@ -172,7 +176,7 @@ impl<T: IdHashItem, S: BuildHasher> IdHashMap<T, S> {
         ensures { let alike = shares T.key_of T.Key.eq in
             Inserts alike (ClashesAt alike) self.old item result self.new }
     {
-        insert(&mut self.items, &mut self.table, &self.state, item)
+        insert(&mut self.items, &mut self.table.keys, &self.state, item)
     }
 
     /// Takes an item, in the place of the one that has its key, which is handed back with the index.
@@ -185,7 +189,7 @@ impl<T: IdHashItem, S: BuildHasher> IdHashMap<T, S> {
     ) -> Result<(ItemIndex, Option<T>), OverwriteRefusal<T>>
         ensures { Overwrites (shares T.key_of T.Key.eq) self.old item result self.new }
     {
-        match insert(&mut self.items, &mut self.table, &self.state, item) {
+        match insert(&mut self.items, &mut self.table.keys, &self.state, item) {
             Ok(ix) => Ok((ix, None)),
             Err(InsertRefusal::Duplicate { item, at }) => {
                 Ok((at, Some(self.items.replace(at, item))))
@@ -199,7 +203,7 @@ impl<T: IdHashItem, S: BuildHasher> IdHashMap<T, S> {
     pub fn remove<Q: HashQuery<T::Key>>(&mut self, query: Q) -> Option<T>
         ensures { Removes self.old (passes_by T.key_of (Q.stands_for query)) result self.new }
     {
-        let ix = take_by::<T, ItsKey, S, Q>(&mut self.table, &self.items, &self.state, query)?;
+        let ix = take_by::<T, ItsKey, S, Q>(&mut self.table.keys, &self.items, &self.state, query)?;
         self.items.remove(ix)
     }
 }

@@ -5,6 +5,7 @@ ghost use Rattle.iddqd.specs.Validation.{Tells, not_compact_text};
 
 use super::{IdHashItem, IdHashMap};
 use iddqd::internal::{ValidateCompact, ValidateRefusal, ValidationError};
+use iddqd_map_base::of_item::validate_table;
 use std::hash::BuildHasher;
 
 impl<T: IdHashItem, S: BuildHasher> IdHashMap<T, S> {
@@ -23,13 +24,6 @@ impl<T: IdHashItem, S: BuildHasher> IdHashMap<T, S> {
         if let Err(refusal) = self.items.validate(compactness) {
             return Err(refusal);
         }
-        match self.table.validate(self.items.len(), compactness) {
-            Ok(()) => Ok(()),
-            Err(ValidateRefusal::Invalid(error)) => {
-                let name = "keys";
-                Err(ValidateRefusal::Invalid(ValidationError::Table { name, error }))
-            }
-            Err(ValidateRefusal::Memory(error)) => Err(ValidateRefusal::Memory(error)),
-        }
+        validate_table("keys", &self.table.keys, self.items.len(), compactness)
     }
 }

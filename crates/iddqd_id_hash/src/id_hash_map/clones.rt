@@ -1,4 +1,5 @@
 //! Copies of a map.
+use super::table::IdTable;
 use super::{IdHashItem, IdHashMap};
 use std::alloc::AllocError;
 use std::hash::BuildHasher;
@@ -22,7 +23,9 @@ impl<T: IdHashClone, S: BuildHasher + Copy> Clone for IdHashMap<T, S> {
     fn clone(&self) -> Result<IdHashMap<T, S>, AllocError> {
         Ok(IdHashMap {
             items: self.items.clone()?,
-            table: self.table.clone()?,
+            table: IdTable {
+                keys: self.table.keys.clone()?,
+            },
             state: self.state,
         })
     }

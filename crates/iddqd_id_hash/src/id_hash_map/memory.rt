@@ -1,9 +1,12 @@
 //! Memory that a map takes ahead and gives back, and its slots closed up.
 ghost use Rattle.std.specs.Prelude.{◌≡◌, ◌≤◌, [], length, min, IsOk, IfOk, OnOk, OnErr};
 ghost use Rattle.iddqd.specs.{slot_limit, empty, cleared, insertable, IsRemapOf};
+ghost use Rattle.iddqd_hash.specs.{filed};
 ghost use Rattle.iddqd_map_base.specs.Map.{Stays};
 ghost use Rattle.iddqd_map_base.specs.Calls.{Compacts};
+ghost use Rattle.iddqd_map_base.specs.Steps.{IsShrunk};
 
+use super::table::IdTable;
 use super::{IdHashItem, IdHashMap};
 use iddqd::index_remap::IndexRemap;
 use iddqd::item_set::ItemSet;
@@ -26,9 +29,18 @@ impl<T: IdHashItem, S: BuildHasher> IdHashMap<T, S> {
     {
         Ok(IdHashMap {
             items: ItemSet::with_capacity(alloc, capacity)?,
-            table: MapHashTable::with_capacity(alloc, capacity)?,
+            table: IdTable {
+                keys: MapHashTable::with_capacity(alloc, capacity)?,
+            },
             state,
         })
+    }
+
+    /// How many inserts need no memory.
+    pub fn room(&self) -> usize
+        ensures { result ≡ self.now.room }
+    {
+        self.items.room().min(self.table.keys.room())
     }
 
     /// Takes memory, so that as many inserts need none, or as many as there can be.
@@ -39,7 +51,7 @@ impl<T: IdHashItem, S: BuildHasher> IdHashMap<T, S> {
         ensures room { OnOk result (min additional (insertable self.old.store) ≤ self.new.room) }
     {
         self.items.reserve(additional)?;
-        self.table.try_reserve(additional)
+        self.table.keys.try_reserve(additional)
     }
 
     /// Gives back the memory that the slots and the table don't need, so that vacant slots alone have
@@ -49,7 +61,7 @@ impl<T: IdHashItem, S: BuildHasher> IdHashMap<T, S> {
         ensures fits { OnOk result (self.new.room ≤ length self.old.store.free) }
     {
         self.items.shrink_capacity_to_fit()?;
-        self.table.shrink_to_fit()
+        shrink_table(&mut self.table.keys)
     }
 
     /// Forgets all items and all slots, so that the next index is 0. It keeps the memory.
@@ -58,7 +70,7 @@ impl<T: IdHashItem, S: BuildHasher> IdHashMap<T, S> {
         ensures room { self.old.room ≤ self.new.room }
     {
         self.items.clear();
-        self.table.clear();
+        self.table.keys.clear();
     }
 
     /// Moves every item down to its rank, so that no slot is vacant, and tells the new names.
@@ -73,7 +85,15 @@ impl<T: IdHashItem, S: BuildHasher> IdHashMap<T, S> {
         ensures dense { self.old.store.free ≡ [] → IsOk result }
     {
         let remap = self.items.compact()?;
-        self.table.remap_indexes(&remap);
+        self.table.keys.remap_indexes(&remap);
         Ok(remap)
     }
+}
+
+// Gives back the memory that the indexes don't need.
+fn shrink_table(table: &mut MapHashTable) -> Result<(), AllocError>
+    ensures contents { filed table.new ≡ filed table.old }
+    ensures shrunk { OnOk result (IsShrunk table.new) }
+{
+    table.shrink_to_fit()
 }

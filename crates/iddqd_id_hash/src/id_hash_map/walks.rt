@@ -4,6 +4,7 @@ ghost use Rattle.iddqd.specs.{live_count, live_items, live_pairs};
 ghost use Rattle.iddqd.specs.LiveItems.{IsWalkOf};
 
 use super::{IdHashItem, IdHashMap};
+use iddqd::item_index::ItemIndex;
 use iddqd::item_set::{IntoValues, Iter, Values};
 use std::fmt;
 use std::hash::BuildHasher;
@@ -37,6 +38,18 @@ impl<T: IdHashItem, S: BuildHasher> IdHashMap<T, S> {
     }
 }
 
+impl<'a, T: IdHashItem, S: BuildHasher> IntoIterator for &'a IdHashMap<T, S> {
+    type Item = (ItemIndex, &'a T);
+
+    type IntoIter = Iter<'a, T>;
+
+    ghost into_iter_gives = { λ m pairs. pairs ≡ live_pairs m.now.store };
+
+    fn into_iter(self) -> Iter<'a, T> {
+        self.iter()
+    }
+}
+
 impl<T: IdHashItem, S: BuildHasher + Drop> IntoIterator for IdHashMap<T, S> {
     type Item = T;
 
@@ -49,8 +62,16 @@ impl<T: IdHashItem, S: BuildHasher + Drop> IntoIterator for IdHashMap<T, S> {
     }
 }
 
-impl<T: IdHashItem + fmt::Debug, S: BuildHasher> fmt::Debug for IdHashMap<T, S> {
+/// It prints as a map of the items by their keys, by rising index.
+impl<T: IdHashItem + fmt::Debug, S: BuildHasher> fmt::Debug for IdHashMap<T, S>
+where
+    T::Key: fmt::Debug,
+{
     fn fmt<W: fmt::Write>(&self, f: &mut fmt::Formatter<W>) -> fmt::Result {
-        f.debug_set().entries(self.values()).finish()
+        let mut out = f.debug_map();
+        for item in self.values() {
+            out.entry(item.key(), item);
+        }
+        out.finish()
     }
 }

@@ -9,8 +9,9 @@ use Rattle.iddqd_sides.specs.Scan.{HasNoHit, AnswersScan, passes_by}
 use Rattle.iddqd_sides.proofs.FindLemmas.{IsLawful-from_bounds}
 use Rattle.iddqd_sides.proofs.HoldsLemmas.{next_unfiled}
 use Rattle.iddqd_map_base.specs.Map.{shares}
-use Rattle.iddqd_id_hash.proofs.IdMapLemmas.{room_same, room_held, Stays-parts, Stays-same, IsValid-stored, Indexes-stored, InsertsAt-stored}
+use Rattle.iddqd_id_hash.proofs.IdMapLemmas.{room_same, room_held, room_used, IsValid-stored, Indexes-stored}
 use Rattle.iddqd_map_base.proofs.SeveralLemmas.{Inserts-refused}
+use Rattle.iddqd_map_base.proofs.TablesLemmas.{InsertsAt-stored, Rests-parts, Rests-same}
 use Rattle.iddqd_id_hash.specs.IdMap.{ClashesAt}
 use Rattle.iddqd_map_base.proofs.RoomLemmas.{none_left, none_right}
 use Rattle.iddqd_id_hash.proofs.id_hash_map.insert.Goals as goal
@@ -26,7 +27,7 @@ returns-in-Ok-Occupied-clause-inserts g c =
       refl,
       subst (λ ix. AnswersScan s (passes_by key_of (equal (key_of c.args.item))) (Some ix)) at
           (subst (λ k. AnswersScan s (passes_by key_of (equal k)) (Some found.ix)) c.key.ensures found.only),
-      Stays-same _ _ _ _ refl (room_same _ _ (search rules)),
+      Rests-same _ _ _ _ refl (room_same _ _ (search rules)),
     )
 
 pub returns-in-Err-clause-inserts : goal.returns-in-Err-clause-inserts
@@ -38,7 +39,7 @@ returns-in-Err-clause-inserts g c =
     let lack = c.lack_of_place.ensures in
     rw c.refusal.ensures
     (Inserts-refused (shares key_of equal) (ClashesAt (shares key_of equal)) _ _ c.args.item c.lack_of_place.result none lack.full (λ _. none_right _ _ c.in-Err.ensures.refused)
-    (Stays-parts _ _ _ _ lack.store lack.room (room_same _ _ (search rules))))
+    (Rests-parts _ _ _ _ lack.store lack.room (room_same _ _ (search rules))))
 
 pub returns-in-Err-assert_can_grow-clause-inserts : goal.returns-in-Err-assert_can_grow-clause-inserts
 returns-in-Err-assert_can_grow-clause-inserts g c =
@@ -51,7 +52,7 @@ returns-in-Err-assert_can_grow-clause-inserts g c =
     let grow = c.in-Err-assert_can_grow.ensures in
     rw c.refusal-in-Err-assert_can_grow.ensures
     (Inserts-refused (shares key_of equal) (ClashesAt (shares key_of equal)) _ _ c.args.item c.in-Err-assert_can_grow.error none (λ is. grow.full.0 (ap Err is), λ is. (let r = grow.full.1 is in cc)) (λ is. none_left _ _ (grow.memory (ap Err is)))
-    (Stays-same _ _ _ _ (search rules) (room_held _ (vacant_table c.in-Ok-Vacant.vacant) _ (search rules) held.room_stays)))
+    (Rests-same _ _ _ _ (search rules) (room_held _ (vacant_table c.in-Ok-Vacant.vacant) _ (search rules) held.room_stays)))
 
 pub insert-requires : goal.insert-requires
 insert-requires g c =
@@ -89,5 +90,5 @@ returns-clause-inserts g c =
     let missed = rw c.in-Ok-Vacant.field-0-is at c.in-Ok-Vacant.ensures.missed in
     let none = subst (λ k. HasNoHit s (passes_by key_of (equal k))) c.key.ensures missed in
     let held = rw c.in-Ok-Vacant.field-0-is at c.in-Ok-Vacant.ensures.vacant in
-    InsertsAt-stored (shares key_of equal) c.args.items.now (handle_set c.in-Ok.handle) _ c.args.table.now (vacant_table c.in-Ok-Vacant.vacant) _ c.args.item _ none (λ is. (let r = c.in-Ok.ensures.full.1 is in cc))
-    (c.insert-2.ensures.index ∙ ap next_index c.in-Ok.ensures.contents) (search rules) c.in-Ok.ensures.kept (search rules) held.room_stays (search rules)
+    InsertsAt-stored (shares key_of equal) c.args.items.now (handle_set c.in-Ok.handle) _ _ _ c.args.item _ none (λ is. (let r = c.in-Ok.ensures.full.1 is in cc))
+    (c.insert-2.ensures.index ∙ ap next_index c.in-Ok.ensures.contents) (search rules) c.in-Ok.ensures.kept (search rules) (room_used _ _ _ held.room_stays (search rules))

@@ -9,5 +9,5 @@ invariant_of-self g c =
     let o = c.self.invariant in
     record {
       valid = rw c.clear.ensures.store (IsValid-empty s.limit o.valid.named);
-      indexed = rw (c.clear.ensures.store, c.clear-2.ensures.empty) (Indexes-cleared _ _ s (filed c.self.inside.table) o.indexed);
+      indexed = rw (c.clear.ensures.store, c.clear-2.ensures.empty) (Indexes-cleared _ _ s (filed c.self.inside.table.keys) o.indexed);
     }

@@ -15,5 +15,5 @@ invariant_of-result g c =
     let is = c.in_ok-clone.ensures.cases in
     record {
       valid = IsValid-cloned g.T.Clone.is_clone s copy is c.self.invariant.valid;
-      indexed = rw c.in_ok-clone-2.ensures.cases (Indexes-cloned g.T.Clone.is_clone s copy is g.T.IdHashItem.key_of hashing (filed c.self.inside.table) g.met.T.IdHashClone.same_key lawful c.self.invariant.indexed);
+      indexed = rw c.in_ok-clone-2.ensures.cases (Indexes-cloned g.T.Clone.is_clone s copy is g.T.IdHashItem.key_of hashing (filed c.self.inside.table.keys) g.met.T.IdHashClone.same_key lawful c.self.invariant.indexed);
     }
