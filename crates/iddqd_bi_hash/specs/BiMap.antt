@@ -4,14 +4,15 @@ use Rattle.std.specs.Ordering.{eq_of_both}
 use Rattle.std.specs.declared.hash.Hasher as hasher
 use Rattle.std.specs.declared.hash.BuildHasher as builder
 use Rattle.iddqd.specs.Store.{Store, IsValid}
-use Rattle.iddqd.specs.ItemSet.{SizedStore, room as set_room}
+use Rattle.iddqd.specs.ItemSet.{SizedStore}
 use Rattle.iddqd_hash.specs.HashTable.{room as table_room}
 use Rattle.iddqd_hash.specs.MapHashTable.{filed}
 use Rattle.iddqd_sides.specs.Scan.{AnswersScan}
-use Rattle.iddqd_sides.specs.Hashed.{Hashing, hashing_of}
+use Rattle.iddqd_sides.specs.Hashed.{hashing_of}
 use Rattle.iddqd_sides.specs.Indexing.{Indexes}
-use Rattle.iddqd_map_base.specs.Map.{MapState, shares}
+use Rattle.iddqd_map_base.specs.Map.{MapState, map_with}
 use Rattle.iddqd_map_base.specs.Several.{either_key, both_keys, AnswersOther}
+use Rattle.iddqd_map_base.specs.Steps.{ItemKey, alike_by}
 use Rattle.iddqd_bi_hash.specs.declared.bi_hash_map.clash.BiClash.{BiClash}
 use Rattle.iddqd_bi_hash.specs.declared.bi_hash_map.item.BiHashItem.{Ghosts}
 use Rattle.iddqd_bi_hash.specs.declared.bi_hash_map.tables.BiTables.{BiTables}
@@ -38,11 +39,7 @@ module _ {T : Type 0} (first second : T → T → Bool) where
     pub key2 : AnswersOther s (second item) ix at.key2
     pub some : IsSome at.key1 ⊎ IsSome at.key2
 
--- which a key is, and how it is compared and hashed
-pub record ItemKey (T K : Type 0) : Type 0 where
-  pub key_of : T → K
-  pub hashing : Hashing K
-
+-- both keys of an item
 pub record BiKeys (T K1 K2 : Type 0) : Type 0 where
   pub first : ItemKey T K1
   pub second : ItemKey T K2
@@ -57,17 +54,13 @@ bi_keys_of item equal1 input1 equal2 input2 b h state =
       second = record { key_of = item.second_key; hashing = hashing_of equal2 input2 b h state };
     }
 
--- the items share this key
-abbrev pub alike_by : {T K : Type 0} → ItemKey T K → T → T → Bool
-alike_by key = shares key.key_of key.hashing.equal
-
 -- how many inserts need no memory of the tables
 abbrev pub tables_room : BiTables → ℕ
 tables_room tables = min (table_room tables.first) (table_room tables.second)
 
 -- what a map has: an item needs no memory where no part needs any
 abbrev pub map_of : {T : Type 0} → SizedStore T → BiTables → MapState T
-map_of items tables = record { store = items.store; room = min (set_room items) (tables_room tables) }
+map_of items tables = map_with items (tables_room tables)
 
 module _ {T K1 K2 : Type 0} (keys : BiKeys T K1 K2) where
   -- the items share a key

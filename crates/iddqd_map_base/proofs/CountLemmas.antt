@@ -149,3 +149,8 @@ pub Validates-beside : {E : Type 0} (sound other : Type 0) → sound → other �
 Validates-beside sound other is holds (Ok done) said = is
 Validates-beside sound other is holds (Err (Invalid error)) said = absurd (said holds)
 Validates-beside sound other is holds (Err (Memory error)) said = tt
+
+-- what the check of one table, which has the live indexes, leaves of that of a map
+pub Validates-table : {T E : Type 0} (s : Store T) (m : FinMap nat_cmp ℕ) (len : ℕ) (mode : ValidateCompact) → Holds s m → IsValid s → len ≡ live_count s → Allows mode (length s.free) → (r : Result (Unit {0}) (ValidateRefusal E)) → Validates (AreAsExpected mode len (indexes_of m)) r → Validates (Allows mode (length s.free)) r
+Validates-table s m len mode held valid counted_so allowed r did =
+    Validates-beside _ _ allowed (rw counted_so (AreAsExpected-held s m held valid mode allowed)) r did

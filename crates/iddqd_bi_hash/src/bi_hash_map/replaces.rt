@@ -1,21 +1,18 @@
 //! An item becomes another one, which may have other keys.
 ghost use Rattle.std.specs.Fn.{FnOnceReturnsAt};
-ghost use Rattle.iddqd_sides.specs.Scan.{IsLive, passes_by};
+ghost use Rattle.iddqd_sides.specs.Scan.{passes_by};
 ghost use Rattle.iddqd_map_base.specs.Map.{shares};
-ghost use Rattle.iddqd_map_base.specs.Several.{either_key, both_keys, ReplacesOneAt, ReplacesOne, ChangesOne};
-ghost use Rattle.iddqd_bi_hash.specs.BiMap.{bi_keys_of, map_of, AreTaken, IsBiMap};
+ghost use Rattle.iddqd_map_base.specs.Several.{either_key, both_keys, ReplacesOne, ChangesOne};
+ghost use Rattle.iddqd_bi_hash.specs.BiMap.{AreTaken};
 
 use super::BiHashMap;
 use super::clash::BiClash;
 use super::item::{BiHashItem, First, Second};
-use super::moves::{KnownHashes, commit_moves, plan_moves, reserve_moves};
-use super::tables::BiTables;
-use iddqd::item_index::ItemIndex;
-use iddqd::item_set::ItemSet;
+use super::moves::KnownHashes;
 use iddqd_map_base::refusal::ReplaceRefusal;
+use iddqd_map_base::tables::{change_found, replace_found};
 use iddqd_sides::hashed_query::{find_under, query_hash};
 use iddqd_sides::query::HashQuery;
-use std::alloc::AllocError;
 use std::hash::BuildHasher;
 
 impl<T: BiHashItem, S: BuildHasher> BiHashMap<T, S> {
@@ -38,17 +35,15 @@ impl<T: BiHashItem, S: BuildHasher> BiHashMap<T, S> {
             second: None,
         };
         let table = &self.tables.first;
-        match find_under::<T, First, S, Q>(table, &self.items, &self.state, hash, query) {
-            Some(ix) => replace_at(
-                &mut self.items,
-                &mut self.tables,
-                &self.state,
-                known,
-                ix,
-                item,
-            ),
-            None => Err(ReplaceRefusal::Missing(item)),
-        }
+        let ix = find_under::<T, First, S, Q>(table, &self.items, &self.state, hash, query);
+        replace_found(
+            &mut self.items,
+            &mut self.tables,
+            &self.state,
+            known,
+            ix,
+            item,
+        )
     }
 
     /// Puts an item in the place of the one that has the second key, as `replace1`.
@@ -67,17 +62,15 @@ impl<T: BiHashItem, S: BuildHasher> BiHashMap<T, S> {
             second: Some(hash),
         };
         let table = &self.tables.second;
-        match find_under::<T, Second, S, Q>(table, &self.items, &self.state, hash, query) {
-            Some(ix) => replace_at(
-                &mut self.items,
-                &mut self.tables,
-                &self.state,
-                known,
-                ix,
-                item,
-            ),
-            None => Err(ReplaceRefusal::Missing(item)),
-        }
+        let ix = find_under::<T, Second, S, Q>(table, &self.items, &self.state, hash, query);
+        replace_found(
+            &mut self.items,
+            &mut self.tables,
+            &self.state,
+            known,
+            ix,
+            item,
+        )
     }
 
     /// Puts what the closure makes of the item that has the first key in its place, and hands that
@@ -101,19 +94,14 @@ impl<T: BiHashItem, S: BuildHasher> BiHashMap<T, S> {
         };
         let table = &self.tables.first;
         let found = find_under::<T, First, S, Q>(table, &self.items, &self.state, hash, query);
-        let Some(ix) = found else {
-            return Ok(None);
-        };
-        let item = f(&self.items[ix]);
-        let was = replace_at(
+        change_found(
             &mut self.items,
             &mut self.tables,
             &self.state,
             known,
-            ix,
-            item,
-        )?;
-        Ok(Some(was))
+            found,
+            f,
+        )
     }
 
     /// Puts what the closure makes of the item that has the second key in its place, as `change1`.
@@ -134,47 +122,13 @@ impl<T: BiHashItem, S: BuildHasher> BiHashMap<T, S> {
         };
         let table = &self.tables.second;
         let found = find_under::<T, Second, S, Q>(table, &self.items, &self.state, hash, query);
-        let Some(ix) = found else {
-            return Ok(None);
-        };
-        let item = f(&self.items[ix]);
-        let was = replace_at(
+        change_found(
             &mut self.items,
             &mut self.tables,
             &self.state,
             known,
-            ix,
-            item,
-        )?;
-        Ok(Some(was))
+            found,
+            f,
+        )
     }
-}
-
-// Puts an item in the place of the one at a live index. All memory is taken before anything is written.
-fn replace_at<T: BiHashItem, S: BuildHasher>(
-    items: &mut ItemSet<T>,
-    tables: &mut BiTables,
-    state: &S,
-    known: KnownHashes,
-    ix: ItemIndex,
-    item: T,
-) -> Result<T, ReplaceRefusal<T, BiClash>>
-    requires live { IsLive items.old.store ix }
-    requires map { let keys = bi_keys_of T.BiHashItem T.Key1.eq T.Key1.hash_input T.Key2.eq T.Key2.hash_input
-        S.BuildHasher S.Hasher.Hasher state.now in IsBiMap keys items.old.store tables.old }
-    ensures map { let keys = bi_keys_of T.BiHashItem T.Key1.eq T.Key1.hash_input T.Key2.eq T.Key2.hash_input
-        S.BuildHasher S.Hasher.Hasher state.now in IsBiMap keys items.new.store tables.new }
-    ensures replaces { let first = shares T.first_key T.Key1.eq in let second = shares T.second_key T.Key2.eq in
-        ReplacesOneAt (either_key first second) (both_keys first second) (AreTaken first second)
-        (map_of items.old tables.old) ix item result (map_of items.new tables.new) }
-{
-    let plans = match plan_moves(tables, items, state, ix, &item) {
-        Ok(plans) => plans,
-        Err(at) => return Err(ReplaceRefusal::Duplicate { item, at }),
-    };
-    if let Err(AllocError) = reserve_moves(tables, &plans) {
-        return Err(ReplaceRefusal::Memory(item));
-    }
-    commit_moves(tables, items, state, known, &plans, ix);
-    Ok(items.replace(ix, item))
 }

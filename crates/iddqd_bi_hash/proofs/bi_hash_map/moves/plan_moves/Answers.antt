@@ -1,6 +1,7 @@
 use Rattle.std.proofs.Common.{inl, inr, refl}
 use Rattle.iddqd_bi_hash.specs.BiMap.{BiKeys, bi_keys_of}
-use Rattle.iddqd_bi_hash.proofs.BiLemmas.{AreLawful-from_bounds, AnswersOther-planned, no_other_by}
+use Rattle.iddqd_map_base.proofs.TablesLemmas.{AnswersOther-planned, no_other_by}
+use Rattle.iddqd_bi_hash.proofs.BiLemmas.{AreLawful-from_bounds}
 use Rattle.iddqd_bi_hash.proofs.bi_hash_map.moves.plan_moves.Goals as goal
 
 pub returns-in-Err-second : goal.returns-in-Err-second
