@@ -1,24 +1,18 @@
 -- The items that clash with one: where they are, and what their removal leaves.
-use Rattle.std.proofs.Common.{◌≡◌, ◌≢◌, ◌∙◌, ◌⊎◌, inl, inr, ◌↔◌, ◌+◌, ◌<◌, ◌≤◌, ℕ, Bool, List, [], ◌∷◌, map, Option, Some, None, IsSome, refl, ap, subst, arith}
-use Rattle.std.specs.List.{Contains}
+use Rattle.std.proofs.Common.{◌≡◌, ◌≢◌, ◌∙◌, ◌⊎◌, inl, inr, ◌↔◌, ◌<◌, ℕ, Bool, [], ◌∷◌, map, Option, Some, None, IsSome, refl, ap, subst, arith}
 use Rattle.std.specs.Option.{IfSome, option_and_then}
-use Rattle.iddqd.specs.Store.{Store, get, next_index, inserted}
-use Rattle.iddqd.specs.ItemSet.{SizedStore, room as set_room}
+use Rattle.iddqd.specs.Store.{Store, get}
 use Rattle.iddqd.proofs.LiveLemmas.{get-removed_other}
-use Rattle.iddqd_hash.specs.HashTable.{room as table_room}
-use Rattle.iddqd_sides.specs.Scan.{IsLive, IsHit, HasNoHit, AnswersScan}
+use Rattle.iddqd_sides.specs.Scan.{IsLive, IsHit, HasNoHit}
 use Rattle.iddqd_sides.proofs.ScanLemmas.{scan_hits}
 use Rattle.iddqd_tri.specs.Clashes.{AreInOrder as Ordered, IsOneOf}
 use Rattle.iddqd_tri.proofs.ClashLemmas.{listed, Contains-listed, IsRising-listed, at_most_three}
-use Rattle.iddqd_map_base.specs.Several.{either_key, padded, removed_all, OverwritesAt}
-use Rattle.iddqd_map_base.proofs.RoomLemmas.{min_falls}
-use Rattle.iddqd_map_base.proofs.SeveralLemmas.{before_less, none_before, IsHit-either, HasNoHit-removed_all}
-use Rattle.iddqd_tri_hash.specs.TriMap.{AreTold, any_key, map_of}
-use Rattle.iddqd_tri_hash.specs.TriSteps.{AreInOrder, Enter, KeepRoom, TakesAll, removed_one}
-use Rattle.iddqd_tri_hash.proofs.TriLemmas.{hit_live}
+use Rattle.iddqd_map_base.specs.Several.{either_key, padded, removed_all}
+use Rattle.iddqd_map_base.specs.Steps.{TakesAll, removed_one}
+use Rattle.iddqd_map_base.proofs.SeveralLemmas.{before_less, none_before, IsHit-either}
+use Rattle.iddqd_map_base.proofs.TablesLemmas.{live_found}
+use Rattle.iddqd_tri_hash.specs.TriMap.{AreTold, any_key}
 use Rattle.iddqd_tri_hash.specs.declared.tri_hash_map.clash.TriClash.{TriClash}
-use Rattle.iddqd_tri_hash.specs.declared.tri_hash_map.tables.TriTables.{TriTables}
-use Rattle.iddqd_tri_hash.specs.declared.tri_hash_map.tables.TriHashes.{TriHashes}
 
 -- how three in order may be there
 data View : Option ℕ → Option ℕ → Option ℕ → Type 0 where
@@ -120,28 +114,22 @@ module _ {T : Type 0} (s mid mid2 left : Store T) (x y z : Option T) where
   left_all (two_there less) one two three = rw (three, two, one) refl
   left_all (three_there less more) one two three = rw (three, two, one) refl
 
-  pub TakesAll-done : (at : TriClash) (a b c : Option ℕ) → Ordered a b c → ((ix : ℕ) → IsOneOf a b c ix ↔ IsOneOf at.key1 at.key2 at.key3 ix) → mid ≡ removed_one s a → mid2 ≡ removed_one mid b → left ≡ removed_one mid2 c → x ≡ option_and_then (get s) a → y ≡ option_and_then (get mid) b → z ≡ option_and_then (get mid2) c → TakesAll s at (x ∷ y ∷ z ∷ []) left
+  pub TakesAll-done : (at : TriClash) (a b c : Option ℕ) → Ordered a b c → ((ix : ℕ) → IsOneOf a b c ix ↔ IsOneOf at.key1 at.key2 at.key3 ix) → mid ≡ removed_one s a → mid2 ≡ removed_one mid b → left ≡ removed_one mid2 c → x ≡ option_and_then (get s) a → y ≡ option_and_then (get mid) b → z ≡ option_and_then (get mid2) c → TakesAll 3 (IsOneOf at.key1 at.key2 at.key3) s (x ∷ y ∷ z ∷ []) left
   TakesAll-done at a b c o same one two three first second third = record {
     clashes = listed a b c;
-    ordered = record {
-      each = λ ix. (λ here. (same ix).0 ((Contains-listed ix a b c).0 here), λ is. (Contains-listed ix a b c).1 ((same ix).1 is));
-      rising = IsRising-listed a b c o;
-      at_most = at_most_three a b c o;
-    };
+    each = λ ix. (λ here. (same ix).0 ((Contains-listed ix a b c).0 here), λ is. (Contains-listed ix a b c).1 ((same ix).1 is));
+    rising = IsRising-listed a b c o;
+    at_most = at_most_three a b c o;
     items = given_back (view a b c o) one two first second third;
     left = left_all (view a b c o) one two three;
   }
 
 -- the clashes of an item, which were told
 module _ {T : Type 0} (first second third : T → T → Bool) (s : Store T) (item : T) (at : TriClash) (told : AreTold first second third s item at) where
-  by_scan : (test : T → Bool) (o : Option ℕ) → AnswersScan s test o → IfSome o (IsLive s)
-  by_scan test None scan = tt
-  by_scan test (Some ix) scan = hit_live s test ix scan
-
   pub live_told : IfSome at.key1 (IsLive s) × IfSome at.key2 (IsLive s) × IfSome at.key3 (IsLive s)
-  live_told = (by_scan (first item) at.key1 told.key1, by_scan (second item) at.key2 told.key2, by_scan (third item) at.key3 told.key3)
+  live_told = (live_found s (first item) at.key1 told.key1, live_found s (second item) at.key2 told.key2, live_found s (third item) at.key3 told.key3)
 
-  told_hit : (ix : ℕ) → IsOneOf at.key1 at.key2 at.key3 ix ↔ IsHit s (any_key first second third item) ix
+  pub told_hit : (ix : ℕ) → IsOneOf at.key1 at.key2 at.key3 ix ↔ IsHit s (any_key first second third item) ix
   told_hit ix = (
     λ is. (IsHit-either first (either_key second third) s item ix).1 (elim is [
       | inl one ↦ inl ((scan_hits s (first item) at.key1 told.key1 ix).0 one)
@@ -171,27 +159,3 @@ module _ {T : Type 0} (first second third : T → T → Bool) (s : Store T) (ite
       by_some : (o : Option ℕ) → IsSome o → ((ix : ℕ) → o ≡ Some ix → ⊥) → ⊥
       by_some (Some x) some never = never x refl
       by_some None some never = absurd (cc)
-
-  clashes_hit : (clashes : List ℕ) → AreInOrder at clashes → (ix : ℕ) → Contains clashes ix ↔ IsHit s (any_key first second third item) ix
-  clashes_hit clashes ordered ix = (λ here. (told_hit ix).0 ((ordered.each ix).0 here), λ hit. (ordered.each ix).1 ((told_hit ix).1 hit))
-
-  -- once they are removed there is none
-  pub HasNoHit-taken : (back : List (Option T)) (left : Store T) → TakesAll s at back left → HasNoHit left (any_key first second third item)
-  HasNoHit-taken back left took =
-      rw took.left (HasNoHit-removed_all s took.clashes (any_key first second third item) took.ordered.rising (clashes_hit took.clashes took.ordered))
-
-  pub OverwritesAt-done : (items taken left : SizedStore T) (tables reserved kept after : TriTables) (hashes : TriHashes) (back : List (Option T)) (ix : ℕ) → items.store ≡ s → TakesAll s at back taken.store → ix ≡ next_index taken.store → left.store ≡ inserted taken.store item → set_room items ≤ set_room taken → set_room left + 1 ≡ set_room taken → KeepRoom tables reserved → KeepRoom reserved kept → Enter kept hashes ix after → OverwritesAt (any_key first second third) 3 (map_of items tables) item ix back (map_of left after)
-  OverwritesAt-done items taken left tables reserved kept after hashes back ix is took index stored risen used roomy stays entered =
-      let one : table_room tables.first ≤ table_room after.first + 1 = omega (arith, roomy.first, stays.first, entered.room_first) in
-      let two : table_room tables.second ≤ table_room after.second + 1 = omega (arith, roomy.second, stays.second, entered.room_second) in
-      let three : table_room tables.third ≤ table_room after.third + 1 = omega (arith, roomy.third, stays.third, entered.room_third) in
-      record {
-        clashes = took.clashes;
-        are_clashes = rw is (record { each = clashes_hit took.clashes took.ordered; rising = took.ordered.rising });
-        at_most = took.ordered.at_most;
-        not_full = λ none full. some_hit (rw (← is) none);
-        items = rw is took.items;
-        index = rw (is, ← took.left) index;
-        stored = rw (is, ← took.left) stored;
-        room = min_falls _ _ _ _ (omega (arith, risen, used)) (min_falls _ _ _ _ one (min_falls _ _ _ _ two three));
-      }

@@ -1,35 +1,31 @@
 -- What becomes of a map with three keys in each step of its store and its tables.
-use Rattle.std.proofs.Common.{◌≡◌, ◌∙◌, ◌⊎◌, inl, inr, ◌+◌, ◌≤◌, ◌&&◌, ℕ, zero, suc, min, Bool, true, false, not, List, Option, Some, None, IsSome, IsTrue, Result, Ok, Err, refl, ap, arith}
+use Rattle.std.proofs.Common.{◌≡◌, ◌∙◌, ◌⊎◌, inl, inr, ◌+◌, ◌≤◌, ◌&&◌, ℕ, Bool, true, false, not, List, Option, Some, None, IsSome, IsTrue, refl, ap, arith}
 use Rattle.std.specs.Cmp.{IsPartialEquivalence}
-use Rattle.std.specs.Option.{OnSome}
-use Rattle.std.specs.Result.{result_err}
+use Rattle.std.specs.FinMap as finite
 use Rattle.std.specs.declared.hash.Hasher as hasher
 use Rattle.std.specs.declared.hash.BuildHasher as builder
-use Rattle.iddqd.proofs.LiveLemmas.{item_at, live_at}
+use Rattle.iddqd.proofs.LiveLemmas.{item_at}
 use Rattle.iddqd.proofs.RoomLemmas.{room-rebound}
 use Rattle.iddqd.proofs.CompactionLemmas.{IsValid-compacted}
 use Rattle.iddqd.proofs.StoreLemmas.{IsValid-empty, IsValid-removed, IsValid-inserted, IsValid-rebound}
+use Rattle.iddqd.specs.Clones.{IsStoreClone}
 use Rattle.iddqd.specs.Store.{Store, IsFull, slot_limit, empty_within, cleared, get, next_index, inserted, removed, rebound}
 use Rattle.iddqd.specs.Compaction.{compacted, rank}
 use Rattle.iddqd.specs.ItemSet.{SizedStore, with_item, room as set_room}
-use Rattle.iddqd_hash.specs.HashTable.{Table, room as table_room}
 use Rattle.iddqd_hash.specs.MapHashTable.{filed, Renames}
 use Rattle.iddqd_sides.specs.Scan.{IsLive, IsHit, HasNoHit, AnswersScan}
 use Rattle.iddqd_sides.specs.Hashed.{IsLawful}
-use Rattle.iddqd_sides.specs.Indexing.{Indexes, Plans, PlansOrClashes, IfStays, LacksRoom}
-use Rattle.iddqd_sides.specs.declared.hashed_move.Move.{Move}
-use Rattle.iddqd_sides.specs.declared.hashed_move.Move.TheVariants.{Stays, To}
 use Rattle.iddqd_sides.proofs.FindLemmas.{IsLawful-from_bounds}
 use Rattle.iddqd_sides.proofs.HoldsLemmas.{next_unfiled}
 use Rattle.iddqd_sides.proofs.IndexingLemmas.{Indexes-empty, Indexes-cleared, Indexes-removed, Indexes-inserted, Indexes-compacted, Indexes-rebound}
-use Rattle.iddqd_map_base.specs.Map.{Stays as Rests, Removes, InsertsAt}
-use Rattle.iddqd_map_base.specs.Several.{either_key, BecomesOne, LacksRoomFor, AnswersOther}
-use Rattle.iddqd_map_base.proofs.RoomLemmas.{min_stays, min_falls, not_less}
-use Rattle.iddqd.specs.Clones.{IsStoreClone}
+use Rattle.iddqd_map_base.specs.Several.{either_key, BecomesOne, LacksRoomFor}
+use Rattle.iddqd_map_base.specs.Steps.{alike_by}
 use Rattle.iddqd_map_base.proofs.CloneLemmas.{IsValid-cloned, Indexes-cloned}
+use Rattle.iddqd_map_base.proofs.RoomLemmas.{min_stays, min_falls}
 use Rattle.iddqd_map_base.proofs.SeveralLemmas.{IsHit-either, HasNoHit-either, HasNoHit-first, HasNoHit-second}
-use Rattle.iddqd_tri_hash.specs.TriMap.{ItemKey, TriKeys, tri_keys_of, alike_by, alike, same, map_of, IsTriMap}
-use Rattle.iddqd_tri_hash.specs.TriSteps.{AreEmpty, AreHashes, AreUnfiled, Enter, KeepRoom, LackRoom, MoveTo, ArePlans, SameIndexes, Take, Untouched}
+use Rattle.iddqd_map_base.proofs.TablesLemmas.{no_other_by, untouched_by, unlike_by, lacks_none, both_true, not_both}
+use Rattle.iddqd_tri_hash.specs.TriMap.{TriKeys, tri_keys_of, alike, same, map_of, tables_room, IsTriMap}
+use Rattle.iddqd_tri_hash.specs.TriSteps.{AreEmpty, AreHashes, AreUnfiled, Enter, LackRoom, MoveTo, ArePlans, SameIndexes, Untouched}
 use Rattle.iddqd_tri_hash.specs.declared.tri_hash_map.item.TriHashItem.{Ghosts}
 use Rattle.iddqd_tri_hash.specs.declared.tri_hash_map.moves.TriMoves.{TriMoves}
 use Rattle.iddqd_tri_hash.specs.declared.tri_hash_map.tables.TriTables.{TriTables}
@@ -76,13 +72,16 @@ module _ {T K1 K2 K3 : Type 0} (keys : TriKeys T K1 K2 K3) where
         third = rw none.third (Indexes-cleared _ _ s (filed tables.third) o.third);
       })
 
-      pub IsTriMap-removed : (ix : ℕ) (item : T) → get s ix ≡ Some item → left ≡ removed s ix → Take tables ix after → IsTriMap keys left after
-      IsTriMap-removed ix item live is taken = rw is (record {
-        valid = IsValid-removed s ix item o.valid live;
-        first = rw taken.first (Indexes-removed _ _ s (filed tables.first) o.first ix item live);
-        second = rw taken.second (Indexes-removed _ _ s (filed tables.second) o.second ix item live);
-        third = rw taken.third (Indexes-removed _ _ s (filed tables.third) o.third ix item live);
-      })
+      pub IsTriMap-removed : (ix : ℕ) → IsLive s ix → left ≡ removed s ix → filed after.first ≡ finite.remove (filed tables.first) ix → filed after.second ≡ finite.remove (filed tables.second) ix → filed after.third ≡ finite.remove (filed tables.third) ix → IsTriMap keys left after
+      IsTriMap-removed ix here is first second third =
+          let (item, live) = item_at s ix here in
+          rw is
+          (record {
+            valid = IsValid-removed s ix item o.valid live;
+            first = rw first (Indexes-removed _ _ s (filed tables.first) o.first ix item live);
+            second = rw second (Indexes-removed _ _ s (filed tables.second) o.second ix item live);
+            third = rw third (Indexes-removed _ _ s (filed tables.third) o.third ix item live);
+          })
 
       pub IsTriMap-compacted : left ≡ compacted s → Renames (rank s) (filed tables.first) (filed after.first) → Renames (rank s) (filed tables.second) (filed after.second) → Renames (rank s) (filed tables.third) (filed after.third) → IsTriMap keys left after
       IsTriMap-compacted is first second third = rw is (record {
@@ -114,82 +113,6 @@ module _ {T K1 K2 K3 : Type 0} (keys : TriKeys T K1 K2 K3) where
           second = rw went.second (Indexes-rebound _ _ s (filed tables.second) o.second ix item was live lawful.second plans.second planned.second);
           third = rw went.third (Indexes-rebound _ _ s (filed tables.third) o.third ix item was live lawful.third plans.third planned.third);
         })
-
--- no part lost room
-module _ {T : Type 0} (old new : SizedStore T) (tables after : TriTables) where
-  pub room_stays : set_room old ≤ set_room new → KeepRoom tables after → (map_of old tables).room ≤ (map_of new after).room
-  room_stays items kept = min_stays _ _ _ _ items (min_stays _ _ _ _ kept.first (min_stays _ _ _ _ kept.second kept.third))
-
-  pub Rests-parts : new.store ≡ old.store → set_room old ≤ set_room new → KeepRoom tables after → Rests (map_of old tables) (map_of new after)
-  Rests-parts same items kept = record { store = same; room_stays = room_stays items kept }
-
--- an insert that was done, through a handle that was held
-pub InsertsAt-stored : {T : Type 0} (test : T → T → Bool) (old held left : SizedStore T) (tables reserved after : TriTables) (hashes : TriHashes) (item : T) (ix at : ℕ) → HasNoHit old.store (test item) → (IsFull old.store → ⊥) → ix ≡ next_index old.store → left.store ≡ inserted old.store item → (1 ≤ set_room old → held ≡ old) → set_room left + 1 ≡ set_room held → KeepRoom tables reserved → Enter reserved hashes at after → InsertsAt test (map_of old tables) item ix (map_of left after)
-InsertsAt-stored test old held left tables reserved after hashes item ix at none not_full index stored kept used roomy filled =
-    let ahead : set_room old ≤ set_room held = not_less _ _ (λ some. ap set_room (kept some)) in
-    let first : table_room tables.first ≤ table_room after.first + 1 = omega (arith, roomy.first, filled.room_first) in
-    let second : table_room tables.second ≤ table_room after.second + 1 = omega (arith, roomy.second, filled.room_second) in
-    let third : table_room tables.third ≤ table_room after.third + 1 = omega (arith, roomy.third, filled.room_third) in
-    record {
-      no_clash = none;
-      not_full = not_full;
-      index = index;
-      stored = stored;
-      room = min_falls _ _ _ _ (omega (arith, ahead, used)) (min_falls _ _ _ _ first (min_falls _ _ _ _ second third));
-    }
-
--- no insert into all tables needs no memory
-pub none_roomy : (a b c d : ℕ) → (1 ≤ b → 1 ≤ c → 1 ≤ d → ⊥) → min a (min b (min c d)) ≡ 0
-none_roomy a zero c d none = omega arith
-none_roomy a (suc b) zero d none = omega arith
-none_roomy a (suc b) (suc c) zero none = omega arith
-none_roomy a (suc b) (suc c) (suc d) none = absurd (none (omega arith) (omega arith) (omega arith))
-
--- what was planned for one key of an item that a live index is given
-module _ {T K : Type 0} (key : ItemKey T K) (s : Store T) (table : Table ℕ) (o : Indexes key.key_of key.hashing s (filed table)) (lawful : IsLawful key.hashing) (ix : ℕ) (item : T) where
-  -- who shares the key with the item is the one whose place it takes
-  pub no_other_by : (plan : Move) → Plans key.key_of key.hashing s ix item plan → (j : ℕ) → IsHit s (alike_by key item) j → j ≡ ix
-  no_other_by (To hash) planned j hit = absurd (planned.0 j hit)
-  no_other_by Stays (y, is, same) j (x, there, like) =
-      let e = lawful.equivalence in
-      o.exact.apart j ix x y there is (e.trans (key.key_of x) (key.key_of item) (key.key_of y) (e.symm (key.key_of x) (key.key_of item) ∙ like) same)
-
-module _ {T K : Type 0} (key : ItemKey T K) (s : Store T) (ix : ℕ) (item was : T) (live : get s ix ≡ Some was) where
-  -- where the keys are alike it was planned that the index stays
-  untouched_by : (plan : Move) (table mid after : Table ℕ) → Plans key.key_of key.hashing s ix item plan → IfStays plan (mid ≡ table) → IfStays plan (after ≡ mid) → alike_by key item was ≡ true → table_room table ≤ table_room after
-  untouched_by Stays table mid after planned one other like = rw (other, one) (omega arith)
-  untouched_by (To hash) table mid after planned one other like = absurd (planned.0 ix (was, live, like))
-
-  -- and where there was no room for a move they aren't
-  unlike_by : (plan : Move) (table : Table ℕ) → Plans key.key_of key.hashing s ix item plan → LacksRoom plan table → alike_by key item was ≡ false
-  unlike_by Stays table planned lacks = absurd lacks
-  unlike_by (To hash) table planned lacks = by_cases (alike_by key item was) refl
-    where
-      by_cases : (b : Bool) → alike_by key item was ≡ b → b ≡ false
-      by_cases true is = absurd (planned.0 ix (was, live, is))
-      by_cases false is = refl
-
-lacks_none : (plan : Move) (table : Table ℕ) → LacksRoom plan table → table_room table ≡ 0
-lacks_none Stays table lacks = absurd lacks
-lacks_none (To hash) table lacks = lacks
-
-both_true : (a b : Bool) → (a && b) ≡ true → (a ≡ true) × (b ≡ true)
-both_true true b is = (refl, is)
-both_true false b is = absurd (cc)
-
-not_both : (a b : Bool) → (a ≡ false) ⊎ (b ≡ false) → not (a && b) ≡ true
-not_both false b is = refl
-not_both true false is = refl
-not_both true true is = elim is [ inl never ↦ absurd (cc) | inr never ↦ absurd (cc) ]
-
-none_first : (a b c d : ℕ) → b ≡ 0 → min a (min b (min c d)) ≡ 0
-none_first a b c d none = omega arith
-
-none_second : (a b c d : ℕ) → c ≡ 0 → min a (min b (min c d)) ≡ 0
-none_second a b c d none = omega arith
-
-none_third : (a b c d : ℕ) → d ≡ 0 → min a (min b (min c d)) ≡ 0
-none_third a b c d none = omega arith
 
 one_false : (a b c : Bool) → (a ≡ false) ⊎ ((b ≡ false) ⊎ (c ≡ false)) → not (a && (b && c)) ≡ true
 one_false a b c (inl isnt) = ap (λ x. not (x && (b && c))) isnt
@@ -227,25 +150,22 @@ module _ {T K1 K2 K3 : Type 0} (keys : TriKeys T K1 K2 K3) (items : SizedStore T
     );
     no_other = no_other;
     no_room = elim lacks [
-      | inl one ↦ none_first _ _ _ _ (lacks_none plans.first tables.first one)
+      | inl one ↦ let none = lacks_none plans.first tables.first one in omega (arith, none)
       | inr rest ↦ elim rest [
-        | inl two ↦ none_second _ _ _ _ (lacks_none plans.second tables.second two)
-        | inr three ↦ none_third _ _ _ _ (lacks_none plans.third tables.third three)
+        | inl two ↦ let none = lacks_none plans.second tables.second two in omega (arith, none)
+        | inr three ↦ let none = lacks_none plans.third tables.third three in omega (arith, none)
       ]
     ];
   }
 
-  pub BecomesOne-planned : (new : SizedStore T) (mid after : TriTables) → new ≡ with_item items ix item → Untouched plans tables mid → Untouched plans mid after → KeepRoom tables mid → MoveTo mid ix plans after → BecomesOne (alike keys) (same keys) (map_of items tables) ix item was (map_of new after)
-  BecomesOne-planned new mid after left one other reserved went =
+  pub BecomesOne-planned : (new : SizedStore T) (mid after : TriTables) → new ≡ with_item items ix item → Untouched plans tables mid → Untouched plans mid after → tables_room tables ≤ tables_room mid → tables_room mid ≤ tables_room after + 1 → BecomesOne (alike keys) (same keys) (map_of items tables) ix item was (map_of new after)
+  BecomesOne-planned new mid after left one other reserved used =
       let same_room : set_room new ≡ set_room items = rw left (room-rebound items.store items.capacity ix item) in
-      let first : table_room tables.first ≤ table_room after.first + 1 = omega (arith, reserved.first, went.room_first) in
-      let second : table_room tables.second ≤ table_room after.second + 1 = omega (arith, reserved.second, went.room_second) in
-      let third : table_room tables.third ≤ table_room after.third + 1 = omega (arith, reserved.third, went.room_third) in
       record {
         live = live;
         no_other = no_other;
         left = ap (λ (s : SizedStore T). s.store) left;
-        room = min_falls _ _ _ _ (omega (arith, same_room)) (min_falls _ _ _ _ first (min_falls _ _ _ _ second third));
+        room = min_falls _ _ _ _ (omega (arith, same_room)) (omega (arith, reserved, used));
         same_keys = λ like.
             let (like1, rest) = both_true _ _ like in
             let (like2, like3) = both_true _ _ rest in
@@ -255,41 +175,6 @@ module _ {T K1 K2 K3 : Type 0} (keys : TriKeys T K1 K2 K3) (items : SizedStore T
             (untouched_by keys.second items.store ix item was live plans.second tables.second mid.second after.second planned.second one.second other.second like2)
             (untouched_by keys.third items.store ix item was live plans.third tables.third mid.third after.third planned.third one.third other.third like3)));
       }
-
--- where another item has a key, from what was planned for that key or the clash that was told
-module _ {T K : Type 0} (key : ItemKey T K) (s : Store T) (table : Table ℕ) (o : Indexes key.key_of key.hashing s (filed table)) (lawful : IsLawful key.hashing) (ix : ℕ) (item : T) where
-  pub AnswersOther-planned : (r : Result Move ℕ) → PlansOrClashes key.key_of key.hashing s ix item r → AnswersOther s (alike_by key item) ix (result_err r)
-  AnswersOther-planned (Ok plan) planned = no_other_by key s table o lawful ix item plan planned
-  AnswersOther-planned (Err at) told = told
-
--- the removal of the one item that passes a test, or of none
-module _ {T : Type 0} (old : SizedStore T) (tables after : TriTables) (test : T → Bool) (kept : KeepRoom tables after) where
-  pub Removes-hit : (new : SizedStore T) (ix : ℕ) (r : Option T) → AnswersScan old.store test (Some ix) → r ≡ get old.store ix → OnSome r (new ≡ record old { store = removed old.store ix }) → OnSome r (set_room new ≡ set_room old + 1) → Removes (map_of old tables) test r (map_of new after)
-  Removes-hit new ix r scan value left freed =
-      let (item, live, passed) = (scan ix).1 refl in
-      let gone = rw (value, live) at left in
-      let risen : set_room new ≡ set_room old + 1 = rw (value, live) at freed in
-      rw (value, live)
-      (record {
-        ix = ix;
-        hit = record { live = live; only = scan };
-        left = ap (λ (s : SizedStore T). s.store) gone;
-        room_stays = room_stays old new tables after (omega (arith, risen)) kept;
-      })
-
-  pub Removes-none : (r : Option T) → r ≡ None → HasNoHit old.store test → Removes (map_of old tables) test r (map_of old after)
-  Removes-none r none missed = rw none (missed, Rests-parts old old tables after refl (omega arith) kept)
-
--- an index that the tables lost, and its item that the store lost
-pub IsTriMap-gone : {T K1 K2 K3 : Type 0} (keys : TriKeys T K1 K2 K3) (old new : SizedStore T) (tables after : TriTables) (ix : ℕ) (r : Option T) → IsTriMap keys old.store tables → IsLive old.store ix → r ≡ get old.store ix → OnSome r (new ≡ record old { store = removed old.store ix }) → Take tables ix after → IsTriMap keys new.store after
-IsTriMap-gone keys old new tables after ix r o here value left taken =
-    let (item, live) = item_at old.store ix here in
-    let gone = rw (value, live) at left in
-    IsTriMap-removed keys old.store tables o new.store after ix item live (ap (λ (s : SizedStore _). s.store) gone) taken
-
--- the index that a scan hits is live
-pub hit_live : {T : Type 0} (s : Store T) (test : T → Bool) (ix : ℕ) → AnswersScan s test (Some ix) → IsLive s ix
-hit_live s test ix scan = let (item, live, passed) = (scan ix).1 refl in live_at s ix item live
 
 -- the tables have the same indexes as before
 module _ (tables mid : TriTables) (same_indexes : SameIndexes tables mid) where
@@ -311,26 +196,6 @@ HasNoHit-untold first second third s item None None None one two three none =
 HasNoHit-untold first second third s item (Some x) b c one two three none = absurd (none (inl refl))
 HasNoHit-untold first second third s item None (Some y) c one two three none = absurd (none (inr (inl refl)))
 HasNoHit-untold first second third s item None None (Some z) one two three none = absurd (none (inr (inr refl)))
-
--- a store that is as it was
-pub Rests-same : {T : Type 0} (items left : SizedStore T) (tables after : TriTables) → left ≡ items → KeepRoom tables after → Rests (map_of items tables) (map_of left after)
-Rests-same items left tables after is kept = rw is (Rests-parts items items tables after refl (omega arith) kept)
-
-pub KeepRoom-same : (tables : TriTables) → KeepRoom tables tables
-KeepRoom-same tables = record { first = omega arith; second = omega arith; third = omega arith }
-
--- a store that a handle held, which was let go
-pub Rests-held : {T : Type 0} (items held left : SizedStore T) (tables after : TriTables) → left ≡ held → held.store ≡ items.store → (1 ≤ set_room items → held ≡ items) → KeepRoom tables after → Rests (map_of items tables) (map_of left after)
-Rests-held items held left tables after is contents same tables_kept =
-    rw is (Rests-parts items held tables after contents (not_less _ _ (λ some. ap set_room (same some))) tables_kept)
-
--- no table lost room in either of two steps
-pub KeepRoom-twice : (tables mid after : TriTables) → KeepRoom tables mid → KeepRoom mid after → KeepRoom tables after
-KeepRoom-twice tables mid after one other = record {
-  first = omega (arith, one.first, other.first);
-  second = omega (arith, one.second, other.second);
-  third = omega (arith, one.third, other.third);
-}
 
 -- a clone whose items keep their keys, and tables with the same indexes
 pub IsTriMap-cloned : {T K1 K2 K3 : Type 0} (keys : TriKeys T K1 K2 K3) → AreLawful keys → (is_clone : T → T → Type 0) → ((x y : T) → is_clone x y → alike_by keys.first x y ≡ true) → ((x y : T) → is_clone x y → alike_by keys.second x y ≡ true) → ((x y : T) → is_clone x y → alike_by keys.third x y ≡ true) → (s copy : Store T) (tables after : TriTables) → IsStoreClone is_clone s copy → SameIndexes tables after → IsTriMap keys s tables → IsTriMap keys copy after

@@ -4,14 +4,15 @@ use Rattle.std.specs.Ordering.{eq_of_both}
 use Rattle.std.specs.declared.hash.Hasher as hasher
 use Rattle.std.specs.declared.hash.BuildHasher as builder
 use Rattle.iddqd.specs.Store.{Store, IsValid}
-use Rattle.iddqd.specs.ItemSet.{SizedStore, room as set_room}
+use Rattle.iddqd.specs.ItemSet.{SizedStore}
 use Rattle.iddqd_hash.specs.HashTable.{room as table_room}
 use Rattle.iddqd_hash.specs.MapHashTable.{filed}
 use Rattle.iddqd_sides.specs.Scan.{AnswersScan}
-use Rattle.iddqd_sides.specs.Hashed.{Hashing, hashing_of}
+use Rattle.iddqd_sides.specs.Hashed.{hashing_of}
 use Rattle.iddqd_sides.specs.Indexing.{Indexes}
-use Rattle.iddqd_map_base.specs.Map.{MapState, shares}
+use Rattle.iddqd_map_base.specs.Map.{MapState, map_with}
 use Rattle.iddqd_map_base.specs.Several.{either_key, both_keys, AnswersOther}
+use Rattle.iddqd_map_base.specs.Steps.{ItemKey, alike_by}
 use Rattle.iddqd_tri_hash.specs.declared.tri_hash_map.clash.TriClash.{TriClash}
 use Rattle.iddqd_tri_hash.specs.declared.tri_hash_map.item.TriHashItem.{Ghosts}
 use Rattle.iddqd_tri_hash.specs.declared.tri_hash_map.tables.TriTables.{TriTables}
@@ -53,11 +54,7 @@ module _ {T : Type 0} (first second third : T → T → Bool) where
     pub key3 : AnswersOther s (third item) ix at.key3
     pub some : TellsSome at
 
--- which a key is, and how it is compared and hashed
-pub record ItemKey (T K : Type 0) : Type 0 where
-  pub key_of : T → K
-  pub hashing : Hashing K
-
+-- all keys of an item
 pub record TriKeys (T K1 K2 K3 : Type 0) : Type 0 where
   pub first : ItemKey T K1
   pub second : ItemKey T K2
@@ -75,17 +72,13 @@ tri_keys_of item equal1 input1 equal2 input2 equal3 input3 b h state =
       third = record { key_of = item.third_key; hashing = hashing_of equal3 input3 b h state };
     }
 
--- the items share this key
-abbrev pub alike_by : {T K : Type 0} → ItemKey T K → T → T → Bool
-alike_by key = shares key.key_of key.hashing.equal
-
 -- how many inserts need no memory of the tables
 abbrev pub tables_room : TriTables → ℕ
 tables_room tables = min (table_room tables.first) (min (table_room tables.second) (table_room tables.third))
 
 -- what a map has: an item needs no memory where no part needs any
 abbrev pub map_of : {T : Type 0} → SizedStore T → TriTables → MapState T
-map_of items tables = record { store = items.store; room = min (set_room items) (tables_room tables) }
+map_of items tables = map_with items (tables_room tables)
 
 module _ {T K1 K2 K3 : Type 0} (keys : TriKeys T K1 K2 K3) where
   -- the items share a key

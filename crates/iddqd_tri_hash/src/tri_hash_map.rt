@@ -18,9 +18,11 @@ mod inserts;
 mod item;
 mod memory;
 mod moves;
+mod prints;
 mod removals;
 mod replaces;
 mod retain;
+mod steps;
 mod tables;
 mod walks;
 

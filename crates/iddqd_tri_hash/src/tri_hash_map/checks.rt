@@ -1,12 +1,11 @@
 //! The check of a map's parts, which the invariant makes sound.
 ghost use Rattle.std.specs.Prelude.{length, IfErr};
 ghost use Rattle.iddqd.specs.{Allows, Validates};
-ghost use Rattle.iddqd.specs.Validation.{AreAsExpected, Tells, not_compact_text};
-ghost use Rattle.iddqd_hash.specs.{filed, indexes_of};
+ghost use Rattle.iddqd.specs.Validation.{Tells, not_compact_text};
 
 use super::{TriHashItem, TriHashMap};
 use iddqd::internal::{ValidateCompact, ValidateRefusal, ValidationError};
-use iddqd_hash::hash_table::MapHashTable;
+use iddqd_map_base::of_item::validate_table;
 use std::hash::BuildHasher;
 
 impl<T: TriHashItem, S: BuildHasher> TriHashMap<T, S> {
@@ -33,23 +32,5 @@ impl<T: TriHashItem, S: BuildHasher> TriHashMap<T, S> {
             return Err(refusal);
         }
         validate_table("third keys", &self.tables.third, len, compactness)
-    }
-}
-
-// Whether a table has as many indexes as there are items; in `Compact`, whether they are those from 0 on.
-fn validate_table(
-    name: &'static str,
-    table: &MapHashTable,
-    len: usize,
-    compactness: ValidateCompact,
-) -> Result<(), ValidateRefusal<ValidationError>>
-    ensures { Validates (AreAsExpected compactness len (indexes_of (filed table.now))) result }
-{
-    match table.validate(len, compactness) {
-        Ok(()) => Ok(()),
-        Err(ValidateRefusal::Invalid(error)) => {
-            Err(ValidateRefusal::Invalid(ValidationError::Table { name, error }))
-        }
-        Err(ValidateRefusal::Memory(error)) => Err(ValidateRefusal::Memory(error)),
     }
 }

@@ -1,13 +1,14 @@
 //! Items come into a map. All memory is taken before anything is written.
-ghost use Rattle.std.specs.Prelude.{◌≡◌, ◌⊎◌, ◌≤◌, ◌+◌, IsSome, IfSome};
-ghost use Rattle.std.specs.Option.{option_and_then};
-ghost use Rattle.iddqd.specs.{get, next_index, inserted, room, IsFull};
+ghost use Rattle.std.specs.Prelude.{◌≡◌, ◌≤◌, IfSome, OnErr};
+ghost use Rattle.iddqd.specs.{room};
 ghost use Rattle.iddqd_sides.specs.Scan.{IsLive};
+ghost use Rattle.iddqd_tri.specs.Clashes.{IsOneOf};
 ghost use Rattle.iddqd_map_base.specs.Map.{shares};
 ghost use Rattle.iddqd_map_base.specs.Calls.{Inserts};
 ghost use Rattle.iddqd_map_base.specs.Several.{Overwriting};
-ghost use Rattle.iddqd_tri_hash.specs.TriMap.{tri_keys_of, map_of, any_key, AreTold, IsTriMap, TellsSome};
-ghost use Rattle.iddqd_tri_hash.specs.TriSteps.{AreHashes, KeepRoom, TakesAll, removed_one};
+ghost use Rattle.iddqd_map_base.specs.Steps.{TakesAll};
+ghost use Rattle.iddqd_tri_hash.specs.TriMap.{tri_keys_of, map_of, tables_room, any_key, AreTold, IsTriMap, TellsSome};
+ghost use Rattle.iddqd_tri_hash.specs.TriSteps.{AreHashes};
 
 use super::TriHashMap;
 use super::clash::TriClash;
@@ -17,6 +18,7 @@ use iddqd::item_index::ItemIndex;
 use iddqd::item_set::ItemSet;
 use iddqd_map_base::order::in_order;
 use iddqd_map_base::refusal::{InsertRefusal, OverwriteRefusal, refusal};
+use iddqd_map_base::tables::{store_in_room, take_found};
 use std::alloc::AllocError;
 use std::hash::BuildHasher;
 
@@ -141,6 +143,7 @@ fn overwrite<T: TriHashItem, S: BuildHasher>(
         let third = shares T.third_key T.Key3.eq in
         Overwriting (any_key first second third) 3
         (map_of items.old tables.old) item result (map_of items.new tables.new) }
+    ensures no_room { OnErr result (tables_room tables.old ≡ 0) }
 {
     if let Err(AllocError) = tables.reserve(1) {
         return Err(OverwriteRefusal::Memory(item));
@@ -165,57 +168,19 @@ fn take_clashes<T: TriHashItem, S: BuildHasher>(
     requires key2 { IfSome at.now.key2 (IsLive items.old.store) }
     requires key3 { IfSome at.now.key3 (IsLive items.old.store) }
     requires some { TellsSome at.now }
-    ensures taken { TakesAll items.old.store at.now result items.new.store }
+    ensures taken { TakesAll 3 (IsOneOf at.now.key1 at.now.key2 at.now.key3) items.old.store result items.new.store }
     ensures map { let keys = tri_keys_of T.TriHashItem T.Key1.eq T.Key1.hash_input T.Key2.eq T.Key2.hash_input
         T.Key3.eq T.Key3.hash_input S.BuildHasher S.Hasher.Hasher state.now in
         IsTriMap keys items.new.store tables.new }
     ensures room { 1 ≤ room items.new }
     ensures items_room { room items.old ≤ room items.new }
-    ensures tables_room { KeepRoom tables.old tables.new }
+    ensures tables_room { tables_room tables.old ≤ tables_room tables.new }
 {
     let (first, second) = in_order(at.key1, at.key2);
     let (first, third) = in_order(first, at.key3);
     let (second, third) = in_order(second, third);
-    let first = take_clash(items, tables, state, first);
-    let second = take_clash(items, tables, state, second);
-    let third = take_clash(items, tables, state, third);
+    let first = take_found(items, tables, state, first);
+    let second = take_found(items, tables, state, second);
+    let third = take_found(items, tables, state, third);
     [first, second, third]
-}
-
-// Takes the item at an index that clashes out of the store and the tables, if there is one.
-fn take_clash<T: TriHashItem, S: BuildHasher>(
-    items: &mut ItemSet<T>,
-    tables: &mut TriTables,
-    state: &S,
-    ix: Option<ItemIndex>,
-) -> Option<T>
-    requires map { let keys = tri_keys_of T.TriHashItem T.Key1.eq T.Key1.hash_input T.Key2.eq T.Key2.hash_input
-        T.Key3.eq T.Key3.hash_input S.BuildHasher S.Hasher.Hasher state.now in
-        IsTriMap keys items.old.store tables.old }
-    requires live { IfSome ix (IsLive items.old.store) }
-    ensures value { result ≡ option_and_then (get items.old.store) ix }
-    ensures removed { items.new.store ≡ removed_one items.old.store ix }
-    ensures map { let keys = tri_keys_of T.TriHashItem T.Key1.eq T.Key1.hash_input T.Key2.eq T.Key2.hash_input
-        T.Key3.eq T.Key3.hash_input S.BuildHasher S.Hasher.Hasher state.now in
-        IsTriMap keys items.new.store tables.new }
-    ensures room { IsSome ix → 1 ≤ room items.new }
-    ensures items_room { room items.old ≤ room items.new }
-    ensures tables_room { KeepRoom tables.old tables.new }
-{
-    let ix = ix?;
-    tables.take(items, state, ix);
-    items.remove(ix)
-}
-
-// Stores an item where there is room for it.
-fn store_in_room<T>(items: &mut ItemSet<T>, item: T) -> ItemIndex
-    requires { 1 ≤ room items.old }
-    ensures index { result ≡ next_index items.old.store }
-    ensures stored { items.new.store ≡ inserted items.old.store item }
-    ensures room { room items.new + 1 ≡ room items.old }
-{
-    match items.assert_can_grow() {
-        Ok(handle) => handle.insert(item),
-        Err(_) => unreachable!(),
-    }
 }

@@ -31,6 +31,13 @@ impl<T: TriHashItem, S: BuildHasher> TriHashMap<T, S> {
         })
     }
 
+    /// How many inserts need no memory.
+    pub fn room(&self) -> usize
+        ensures { result ≡ self.now.room }
+    {
+        self.items.room().min(self.tables.room())
+    }
+
     /// Takes memory, so that as many inserts need none, or as many as there can be.
     ///
     /// Where it is refused the items stay.

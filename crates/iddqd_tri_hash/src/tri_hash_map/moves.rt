@@ -1,13 +1,9 @@
 //! What the tables do where a live index is given an item that may have other keys: they plan, then
 //! make room, and only then is the index filed anew. A table whose key stays isn't touched.
-ghost use Rattle.std.specs.Prelude.{◌≡◌, ◌≤◌, OnOk, OnErr, IsSome};
-ghost use Rattle.std.specs.FinMap as finite;
-ghost use Rattle.iddqd_hash.specs.{filed};
-ghost use Rattle.iddqd_hash.specs.HashTable.{room, UsesRoom};
+ghost use Rattle.std.specs.Prelude.{◌+◌, ◌≤◌, OnOk, OnErr};
 ghost use Rattle.iddqd_sides.specs.Scan.{IsLive};
-ghost use Rattle.iddqd_sides.specs.Indexing.{IfMoves, IfStays, moved};
-ghost use Rattle.iddqd_tri_hash.specs.TriMap.{tri_keys_of, IsTriMap};
-ghost use Rattle.iddqd_tri_hash.specs.TriSteps.{HaveRoomFor, KeepRoom, LackRoom, MoveTo, PlanOrClash, SameIndexes, Untouched};
+ghost use Rattle.iddqd_tri_hash.specs.TriMap.{tri_keys_of, tables_room, IsTriMap};
+ghost use Rattle.iddqd_tri_hash.specs.TriSteps.{HaveRoomFor, LackRoom, MoveTo, PlanOrClash, SameIndexes, Untouched};
 
 use super::clash::TriClash;
 use super::item::{First, Second, Third, TriHashItem};
@@ -15,12 +11,10 @@ use super::tables::TriTables;
 use iddqd::item_index::ItemIndex;
 use iddqd::item_set::ItemSet;
 use iddqd::map_hash::MapHash;
-use iddqd_hash::hash_table::MapHashTable;
-use iddqd_sides::hashed::hash_of;
-use iddqd_sides::hashed_move::{Move, commit_move, plan_move, reserve_move};
-use iddqd_sides::key_of::KeyOf;
+use iddqd_map_base::of_item::commit_item;
+use iddqd_sides::hashed_move::{Move, plan_move, reserve_move};
 use std::alloc::AllocError;
-use std::hash::{BuildHasher, Hash};
+use std::hash::BuildHasher;
 
 /// What has to become of a live index in each table.
 #[derive(Clone, Copy)]
@@ -90,7 +84,7 @@ pub(crate) fn plan_moves<T: TriHashItem, S: BuildHasher>(
 pub(crate) fn reserve_moves(tables: &mut TriTables, plans: &TriMoves) -> Result<(), AllocError>
     ensures contents { SameIndexes tables.old tables.new }
     ensures roomy { OnOk result (HaveRoomFor plans.now tables.new) }
-    ensures kept { KeepRoom tables.old tables.new }
+    ensures kept { tables_room tables.old ≤ tables_room tables.new }
     ensures refused { OnErr result (LackRoom plans.now tables.old) }
     ensures untouched { Untouched plans.now tables.old tables.new }
 {
@@ -115,39 +109,11 @@ pub(crate) fn commit_moves<T: TriHashItem, S: BuildHasher>(
         IsTriMap keys items.now.store tables.old }
     requires roomy { HaveRoomFor plans.now tables.old }
     ensures moved { MoveTo tables.old ix plans.now tables.new }
+    ensures room { tables_room tables.old ≤ tables_room tables.new + 1 }
     ensures untouched { Untouched plans.now tables.old tables.new }
 {
     let (first, second, third) = (&mut tables.first, &mut tables.second, &mut tables.third);
     commit_item::<T, First, S>(first, items, state, known.first, &plans.first, ix);
     commit_item::<T, Second, S>(second, items, state, known.second, &plans.second, ix);
     commit_item::<T, Third, S>(third, items, state, known.third, &plans.third, ix);
-}
-
-// Files a live index in one table. The hash that it stands under is computed where it has to move.
-fn commit_item<T, E, S>(
-    table: &mut MapHashTable,
-    items: &ItemSet<T>,
-    state: &S,
-    known: Option<MapHash>,
-    plan: &Move,
-    ix: ItemIndex,
-)
-where
-    E: KeyOf<T>,
-    E::Key: Hash,
-    S: BuildHasher,
-    requires live { IsLive items.now.store ix }
-    requires filed { IsSome (finite.get (filed table.old) ix) }
-    requires roomy { IfMoves plan.now (λ _. 1 ≤ room table.old) }
-    ensures moved { filed table.new ≡ moved (filed table.old) ix plan.now }
-    ensures memory { UsesRoom table.old table.new }
-    ensures untouched { IfStays plan.now (table.new ≡ table.old) }
-{
-    if let Move::To(_) = plan {
-        let from = match known {
-            Some(hash) => hash,
-            None => hash_of::<T, E, S>(state, &items[ix]),
-        };
-        commit_move(table, from, plan, ix);
-    }
 }

@@ -4,7 +4,7 @@ ghost use Rattle.iddqd_map_base.specs.Map.{Removes};
 
 use super::TriHashMap;
 use super::item::{First, Second, Third, TriHashItem};
-use super::tables::take_item;
+use iddqd_map_base::of_item::take_item;
 use iddqd_sides::hashed_query::take_by;
 use iddqd_sides::query::HashQuery;
 use std::hash::BuildHasher;

@@ -4,8 +4,8 @@ ghost use Rattle.iddqd.specs.{live_count, live_items, live_pairs};
 ghost use Rattle.iddqd.specs.LiveItems.{IsWalkOf};
 
 use super::{TriHashItem, TriHashMap};
+use iddqd::item_index::ItemIndex;
 use iddqd::item_set::{IntoValues, Iter, Values};
-use std::fmt;
 use std::hash::BuildHasher;
 
 impl<T: TriHashItem, S: BuildHasher> TriHashMap<T, S> {
@@ -37,6 +37,18 @@ impl<T: TriHashItem, S: BuildHasher> TriHashMap<T, S> {
     }
 }
 
+impl<'a, T: TriHashItem, S: BuildHasher> IntoIterator for &'a TriHashMap<T, S> {
+    type Item = (ItemIndex, &'a T);
+
+    type IntoIter = Iter<'a, T>;
+
+    ghost into_iter_gives = { λ m pairs. pairs ≡ live_pairs m.now.store };
+
+    fn into_iter(self) -> Iter<'a, T> {
+        self.iter()
+    }
+}
+
 impl<T: TriHashItem, S: BuildHasher + Drop> IntoIterator for TriHashMap<T, S> {
     type Item = T;
 
@@ -46,11 +58,5 @@ impl<T: TriHashItem, S: BuildHasher + Drop> IntoIterator for TriHashMap<T, S> {
 
     fn into_iter(self) -> IntoValues<T> {
         self.into_values()
-    }
-}
-
-impl<T: TriHashItem + fmt::Debug, S: BuildHasher> fmt::Debug for TriHashMap<T, S> {
-    fn fmt<W: fmt::Write>(&self, f: &mut fmt::Formatter<W>) -> fmt::Result {
-        f.debug_set().entries(self.values()).finish()
     }
 }

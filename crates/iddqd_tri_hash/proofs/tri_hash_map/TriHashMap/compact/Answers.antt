@@ -1,37 +1,20 @@
 use Rattle.iddqd_hash.specs.MapHashTable.{filed}
-use Rattle.iddqd_sides.proofs.HoldsLemmas.{CanRemap-held, one_name-held, Renames-by_rank}
+use Rattle.iddqd_sides.proofs.HoldsLemmas.{Renames-by_rank}
+use Rattle.iddqd_map_base.proofs.TablesLemmas.{CanName-held}
 use Rattle.iddqd_tri_hash.proofs.TriLemmas.{IsTriMap-compacted}
 use Rattle.iddqd_tri_hash.proofs.tri_hash_map.TriHashMap.compact.Goals as goal
 
 pub remap-requires-clause-first : goal.remap-requires-clause-first
 remap-requires-clause-first g c =
-    let s = c.self.inside.items.store in
-    let m = filed c.self.inside.tables.first in
-    let o = c.self.invariant in
-    record {
-      each = CanRemap-held s m o.first.held c.in_ok-remap.remap o.valid c.in_ok-remap.ensures.remap;
-      distinct = one_name-held s m o.first.held c.in_ok-remap.remap o.valid c.in_ok-remap.ensures.remap;
-    }
+    CanName-held c.self.inside.items.store c.self.inside.tables.first c.in_ok-remap.remap c.self.invariant.first.held c.self.invariant.valid c.in_ok-remap.ensures.remap
 
 pub remap-requires-clause-second : goal.remap-requires-clause-second
 remap-requires-clause-second g c =
-    let s = c.self.inside.items.store in
-    let m = filed c.self.inside.tables.second in
-    let o = c.self.invariant in
-    record {
-      each = CanRemap-held s m o.second.held c.in_ok-remap.remap o.valid c.in_ok-remap.ensures.remap;
-      distinct = one_name-held s m o.second.held c.in_ok-remap.remap o.valid c.in_ok-remap.ensures.remap;
-    }
+    CanName-held c.self.inside.items.store c.self.inside.tables.second c.in_ok-remap.remap c.self.invariant.second.held c.self.invariant.valid c.in_ok-remap.ensures.remap
 
 pub remap-requires-clause-third : goal.remap-requires-clause-third
 remap-requires-clause-third g c =
-    let s = c.self.inside.items.store in
-    let m = filed c.self.inside.tables.third in
-    let o = c.self.invariant in
-    record {
-      each = CanRemap-held s m o.third.held c.in_ok-remap.remap o.valid c.in_ok-remap.ensures.remap;
-      distinct = one_name-held s m o.third.held c.in_ok-remap.remap o.valid c.in_ok-remap.ensures.remap;
-    }
+    CanName-held c.self.inside.items.store c.self.inside.tables.third c.in_ok-remap.remap c.self.invariant.third.held c.self.invariant.valid c.in_ok-remap.ensures.remap
 
 pub invariant_of-self-2 : goal.invariant_of-self-2
 invariant_of-self-2 g c =

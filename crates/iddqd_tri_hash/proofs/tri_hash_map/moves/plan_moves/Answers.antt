@@ -1,6 +1,7 @@
 use Rattle.std.proofs.Common.{inl, inr, refl}
 use Rattle.iddqd_tri_hash.specs.TriMap.{TriKeys, tri_keys_of}
-use Rattle.iddqd_tri_hash.proofs.TriLemmas.{AreLawful-from_bounds, AnswersOther-planned, no_other_by}
+use Rattle.iddqd_map_base.proofs.TablesLemmas.{AnswersOther-planned, no_other_by}
+use Rattle.iddqd_tri_hash.proofs.TriLemmas.{AreLawful-from_bounds}
 use Rattle.iddqd_tri_hash.proofs.tri_hash_map.moves.plan_moves.Goals as goal
 
 pub returns-in-Err-third : goal.returns-in-Err-third
