@@ -9,5 +9,6 @@ pub mod IndexingLemmas
 pub mod OrderedEndLemmas
 pub mod OrderedIndexingLemmas
 pub mod OrderedCountLemmas
+pub mod OrderedWalkLemmas
 pub mod OrderedRangeLemmas
 pub mod OrderedMoveLemmas

@@ -1,4 +1,4 @@
--- What stands between two bounds of a table that sorts a store's items: exactly what is within both.
+-- What stands between two bounds of a table's list: a run of it, and where it is in place exactly what is within both.
 use Rattle.std.proofs.Common.{◌≡◌, ◌∙◌, ◌<◌, ◌≤◌, ◌&&◌, inl, inr, ℕ, Bool, true, false, not, List, [], ◌∷◌, length, filter, cond, Some, None, refl, sym, ap, subst, Ordering, arith}
 use Rattle.std.specs.Cmp.{IsTotalOrder}
 use Rattle.std.specs.Fn.{Mut}
@@ -21,9 +21,11 @@ use Rattle.iddqd_order.specs.declared.btree_table.asking.Asking.{Asking}
 use Rattle.iddqd_order.specs.declared.btree_table.range.Range.{Range}
 use Rattle.iddqd_sides.specs.Scan.{IsHit, passes_by}
 use Rattle.iddqd_sides.specs.OrderedQuery.{IsQuery, is_from, is_up_to, is_between}
-use Rattle.iddqd_sides.specs.Ordered.{compared, key_at}
-use Rattle.iddqd_sides.specs.OrderedIndexing.{Sorts, SortsWithin}
+use Rattle.iddqd_sides.specs.Ordered.{Holds, IsInPlace, compared, key_at}
+use Rattle.iddqd_sides.specs.OrderedIndexing.{SortsWithin}
+use Rattle.iddqd_sides.specs.OrderedWalk.{WalksWithin}
 use Rattle.iddqd_sides.proofs.OrderedFindLemmas.{answer_at, IsRising-query}
+use Rattle.iddqd_sides.proofs.OrderedWalkLemmas.{IsRunOf-part, Contains-run, IsDistinct-run}
 
 -- a bound that is read in two steps
 pub bound_map-twice : {A B C : Type 0} (g : B → C) (f : A → B) (b : Bound A) → bound_map g (bound_map f b) ≡ bound_map (λ x. g (f x)) b
@@ -116,7 +118,7 @@ module _ {T K Q : Type 0} (key_of : T → K) (compare : K → K → Ordering) (c
       gt_less (answers q ix) ∙ ap is_gt (answer_at key_of compare s order (cmp q) ix item is)
   up_to_at Unbounded ix item is = refl
 
-  module _ (lower upper : Bound Q) (o : Sorts key_of compare s order) where
+  module _ (lower upper : Bound Q) (holds : Holds s order) where
     abbrev chosen : ℕ → Bool
     chosen = is_within (lower_at lower) (upper_at upper)
 
@@ -128,49 +130,65 @@ module _ {T K Q : Type 0} (key_of : T → K) (compare : K → K → Ordering) (c
         ap (λ b. b && is_gt (upper_at upper ix)) (from_at lower ix item is)
         ∙ ap (λ b. is_from (bound_map cmp lower) (key_of item) && b) (up_to_at upper ix item is)
 
-    SortsWithin-chosen : SortsWithin key_of compare between s (filter chosen order)
-    SortsWithin-chosen = record {
+    SortsWithin-chosen : IsInPlace key_of compare s order → SortsWithin key_of compare between s (filter chosen order)
+    SortsWithin-chosen placed = record {
       each = λ ix. (
         λ here.
             let (stored, passes) = kept_from chosen order ix here in
-            let (item, is) = item_at s ix ((o.held.each ix).0 stored) in
+            let (item, is) = item_at s ix ((holds.each ix).0 stored) in
             (item, is, sym (chosen_at ix item is) ∙ passes),
-        λ (item, is, passes). keeps chosen order ix ((o.held.each ix).1 (live_at s ix item is)) (chosen_at ix item is ∙ passes),
+        λ (item, is, passes). keeps chosen order ix ((holds.each ix).1 (live_at s ix item is)) (chosen_at ix item is ∙ passes),
       );
-      placed = IsStrictlySortedBy-filter _ chosen order o.exact.placed;
+      placed = IsStrictlySortedBy-filter _ chosen order placed;
     }
 
     module _ {F : Type 0} (g : Mut F (ℕ × Unit {0}) (Bor K)) (old new : Asking F) (total : IsTotalOrder compare) (lawful : (q : Q) → IsQuery compare (cmp q)) (steady : (q : Q) → IsSteady g order None (λ k. cmp q k.now) (answers q) old) where
-      rising : (q : Q) → IsSteadyRising g order None (λ k. cmp q k.now) (answers q) old
-      rising q = record {
-        steady = steady q;
-        rising = IsRising-query compare (cmp q) (lawful q) total (key_at key_of s) order o.exact.placed;
-      }
-
       abbrev reads : Bound Q → Bound (Bor K → Ordering)
       reads b = reads_by cmp b
 
-      begins_at : (lower : Bound Q) (place : ℕ) → Begins g order (reads lower) old place → IsPlace (lower_at lower) order place
-      begins_at (Included q) place begins = begins (answers q) (rising q)
-      begins_at (Excluded q) place begins = begins (answers q) (rising q)
-      begins_at Unbounded place begins = record {
-        within = omega (arith, begins);
-        greater_before = λ k lt. absurd (omega (arith, begins, lt));
-        less_from = λ k from lt. refl;
-      }
+      module _ (placed : IsInPlace key_of compare s order) where
+        rising : (q : Q) → IsSteadyRising g order None (λ k. cmp q k.now) (answers q) old
+        rising q = record {
+          steady = steady q;
+          rising = IsRising-query compare (cmp q) (lawful q) total (key_at key_of s) order placed;
+        }
 
-      ends_at : (upper : Bound Q) (place : ℕ) → Ends g order (reads upper) old place → IsPlace (upper_at upper) order place
-      ends_at (Included q) place ends = ends (answers q) (rising q)
-      ends_at (Excluded q) place ends = ends (answers q) (rising q)
-      ends_at Unbounded place ends = record {
-        within = omega (arith, ends);
-        greater_before = λ k lt. refl;
-        less_from = λ k from lt. absurd (omega (arith, ends, from, lt));
-      }
+        begins_at : (lower : Bound Q) (place : ℕ) → Begins g order (reads lower) old place → IsPlace (lower_at lower) order place
+        begins_at (Included q) place begins = begins (answers q) (rising q)
+        begins_at (Excluded q) place begins = begins (answers q) (rising q)
+        begins_at Unbounded place begins = record {
+          within = omega (arith, begins);
+          greater_before = λ k lt. absurd (omega (arith, begins, lt));
+          less_from = λ k from lt. refl;
+        }
 
-      pub SortsWithin-walked : (from to : Bound (Bor K → Ordering)) → from ≡ reads lower → to ≡ reads upper → (walk : Range) → WalksBetween g order from to old walk new → SortsWithin key_of compare between s (indexes_ahead walk)
-      SortsWithin-walked from to from_is to_is walk walks =
+        ends_at : (upper : Bound Q) (place : ℕ) → Ends g order (reads upper) old place → IsPlace (upper_at upper) order place
+        ends_at (Included q) place ends = ends (answers q) (rising q)
+        ends_at (Excluded q) place ends = ends (answers q) (rising q)
+        ends_at Unbounded place ends = record {
+          within = omega (arith, ends);
+          greater_before = λ k lt. refl;
+          less_from = λ k from lt. absurd (omega (arith, ends, from, lt));
+        }
+
+        SortsWithin-part : (from to : ℕ) → Begins g order (reads lower) old from → Ends g order (reads upper) old to → SortsWithin key_of compare between s (part from to order)
+        SortsWithin-part from to begins ends =
+            subst (SortsWithin key_of compare between s)
+            (sym (part-within (lower_at lower) (upper_at upper) order from to (begins_at lower from begins) (ends_at upper to ends)))
+            (SortsWithin-chosen placed)
+
+      WalksWithin-part : (from to : ℕ) → Begins g order (reads lower) old from → Ends g order (reads upper) old to → WalksWithin key_of compare between s order (part from to order)
+      WalksWithin-part from to begins ends =
+          let run = IsRunOf-part order from to in
+          record {
+            run = run;
+            live = λ ix here. (holds.each ix).0 (Contains-run order (part from to order) run ix here);
+            once = IsDistinct-run order (part from to order) run holds.once;
+            in_place = λ placed. SortsWithin-part placed from to begins ends;
+          }
+
+      pub WalksWithin-walked : (from to : Bound (Bor K → Ordering)) → from ≡ reads lower → to ≡ reads upper → (walk : Range) → WalksBetween g order from to old walk new → WalksWithin key_of compare between s order (indexes_ahead walk)
+      WalksWithin-walked from to from_is to_is walk walks =
           let begins = subst (λ b. Begins g order b old walks.from) from_is walks.begins in
           let ends = subst (λ b. Ends g order b old walks.to) to_is walks.ends in
-          let parts = part-within (lower_at lower) (upper_at upper) order walks.from walks.to (begins_at lower walks.from begins) (ends_at upper walks.to ends) in
-          subst (SortsWithin key_of compare between s) (sym (walks.ahead.ahead ∙ parts)) SortsWithin-chosen
+          subst (WalksWithin key_of compare between s order) (sym walks.ahead.ahead) (WalksWithin-part walks.from walks.to begins ends)

@@ -5,3 +5,4 @@ pub mod Ordered
 pub mod OrderedQuery
 pub mod Indexing
 pub mod OrderedIndexing
+pub mod OrderedWalk

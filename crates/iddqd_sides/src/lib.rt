@@ -13,4 +13,5 @@ pub mod order_query;
 pub mod ordered;
 pub mod ordered_move;
 pub mod ordered_query;
+pub mod ordered_walk;
 pub mod query;

@@ -1,21 +1,27 @@
 //! A side that goes by the order of a key: a table of indexes, sorted by key, ties by index.
 //!
 //! Keys may change behind the table's back. Then it may be in no order: a search may miss, but never
-//! hits an index whose item compares otherwise now, and an index is still taken out by `take_index`.
+//! hits an index whose item compares otherwise now, a walk between two bounds gives a run of the list,
+//! and an index is still taken out by `take_index`.
 //! An insert takes `entry`, which finds its place or the index that has the key by one search; the
 //! table is lent alone then, so the store may be changed before the index is put there.
 //!
 //! No query needs a premise: by the laws of `Comparable` it stands for one key.
 ghost use Rattle.std.specs.Prelude.{◌≡◌};
-ghost use Rattle.iddqd_order.specs.{entry_table, order_of, without};
+ghost use Rattle.std.specs.Range.Bound.{bound_map};
+ghost use Rattle.iddqd_order.specs.{entry_table, indexes_ahead, order_of, without};
 ghost use Rattle.iddqd_sides.specs.Scan.{IsLive, IsKeyAt};
 ghost use Rattle.iddqd_sides.specs.Ordered.{AreLive, Enters, Holds, LooksUp, Takes};
+ghost use Rattle.iddqd_sides.specs.OrderedQuery.{is_between};
+ghost use Rattle.iddqd_sides.specs.OrderedWalk.{WalksWithin};
 
 use crate::key_of::{KeyOf, Lent, key_at};
+use crate::order_query::{OrdQuery, RankedLent};
 use iddqd::item_index::ItemIndex;
 use iddqd::item_set::ItemSet;
 use iddqd::map_hash::Comparable;
-use iddqd_order::btree_table::{Asking, Entry, MapBTreeTable};
+use iddqd_order::btree_table::{Asking, Entry, MapBTreeTable, Range};
+use std::ops::Bound;
 
 /// The index whose item has a key that the query compares Equal with.
 ///
@@ -96,5 +102,47 @@ where
     let is_removed = table.prepare_remove(ix, &key, &mut asking).remove();
     if !is_removed {
         table.remove_exact(ix);
+    }
+}
+
+/// The indexes whose items have keys between two bounds, in the order of the keys: none where the
+/// lower bound stands above the upper one. Where the list isn't in place they are those between some
+/// two places of it.
+///
+/// It compares each query with at most 4 and twice the binary digits of the length keys, and takes no
+/// memory.
+pub fn range<'t, T, E, Q>(
+    table: &'t MapBTreeTable,
+    items: &ItemSet<T>,
+    lower: Bound<Q>,
+    upper: Bound<Q>,
+) -> Range<'t>
+where
+    E: KeyOf<T>,
+    E::Key: Ord,
+    Q: OrdQuery<E::Key>,
+    requires { Holds items.now.store (order_of table.now) }
+    ensures { let within = is_between (bound_map Q.compare lower) (bound_map Q.compare upper) in
+        WalksWithin E.key_of E.Key.cmp within items.now.store (order_of table.now) (indexes_ahead result) }
+{
+    let mut asking = Asking::new(
+        |at: ItemIndex|
+            requires { IsLive items.now.store at }
+            ensures { IsKeyAt E.key_of items.entry.now.store at result.now }
+        { key_at::<T, E>(items, at) },
+    );
+    let from = ranked(lower);
+    let to = ranked(upper);
+    table.range(from.as_ref(), to.as_ref(), &mut asking)
+}
+
+// A bound by what the table is asked by.
+fn ranked<Q>(bound: Bound<Q>) -> Bound<RankedLent<Q>>
+    ensures { bound_map (λ query. query.0) result ≡ bound }
+{
+    match bound {
+        Bound::Included(query) => Bound::Included(RankedLent(query)),
+        Bound::Excluded(query) => Bound::Excluded(RankedLent(query)),
+        Bound::Unbounded => Bound::Unbounded,
     }
 }

@@ -5,17 +5,17 @@
 ghost use Rattle.std.specs.Prelude.{◌≡◌};
 ghost use Rattle.std.specs.Range.Bound.{bound_map};
 ghost use Rattle.iddqd_order.specs.{entry_table, indexes_ahead, order_of};
-ghost use Rattle.iddqd_sides.specs.Scan.{AnswersScan, IsLive, IsKeyAt, passes_by};
+ghost use Rattle.iddqd_sides.specs.Scan.{AnswersScan, passes_by};
 ghost use Rattle.iddqd_sides.specs.Ordered.{Takes, is_equal};
 ghost use Rattle.iddqd_sides.specs.OrderedQuery.{is_between};
 ghost use Rattle.iddqd_sides.specs.OrderedIndexing.{EntersKey, Sorts, SortsWithin};
 
-use crate::key_of::{ByKey, KeyOf, key_at};
-use crate::order_query::{OrdQuery, Ranked, RankedLent};
+use crate::key_of::{ByKey, KeyOf};
+use crate::order_query::{OrdQuery, Ranked};
 use crate::ordered;
 use iddqd::item_index::ItemIndex;
 use iddqd::item_set::ItemSet;
-use iddqd_order::btree_table::{Asking, Entry, MapBTreeTable, Range};
+use iddqd_order::btree_table::{Entry, MapBTreeTable, Range};
 use std::ops::Bound;
 
 /// The index of the item that has the key for which the query stands.
@@ -83,24 +83,5 @@ where
     ensures { let within = is_between (bound_map Q.compare lower) (bound_map Q.compare upper) in
         SortsWithin E.key_of E.Key.cmp within items.now.store (indexes_ahead result) }
 {
-    let mut asking = Asking::new(
-        |at: ItemIndex|
-            requires { IsLive items.now.store at }
-            ensures { IsKeyAt E.key_of items.entry.now.store at result.now }
-        { key_at::<T, E>(items, at) },
-    );
-    let from = ranked(lower);
-    let to = ranked(upper);
-    table.range(from.as_ref(), to.as_ref(), &mut asking)
-}
-
-// A bound by what the table is asked by.
-fn ranked<Q>(bound: Bound<Q>) -> Bound<RankedLent<Q>>
-    ensures { bound_map (λ query. query.0) result ≡ bound }
-{
-    match bound {
-        Bound::Included(query) => Bound::Included(RankedLent(query)),
-        Bound::Excluded(query) => Bound::Excluded(RankedLent(query)),
-        Bound::Unbounded => Bound::Unbounded,
-    }
+    ordered::range::<T, E, Q>(table, items, lower, upper)
 }
