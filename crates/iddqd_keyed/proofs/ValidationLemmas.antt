@@ -1,7 +1,7 @@
 -- What a check of keyed items finds, where store and tables are paired.
-use Rattle.std.proofs.Common.{◌≡◌, ◌⊎◌, inl, inr, ◌<◌, ◌+◌, ◌∙◌, ◌↔◌, ◌&&◌, ℕ, Bool, true, false, nat_eq, List, [], ◌∷◌, map, length, get_or, Option, Some, None, IsSome, is_some, Result, Ok, Err, IsErr, IfErr, not, eq-eqb, refl, sym, ap, subst, arith, T as Holds}
+use Rattle.std.proofs.Common.{◌≡◌, ◌⊎◌, inl, inr, ◌∙◌, ◌↔◌, ◌&&◌, ℕ, Bool, true, false, nat_eq, List, [], ◌∷◌, map, length, Option, Some, None, IsSome, is_some, Result, Ok, Err, IsErr, IfErr, not, eq-eqb, refl, sym, ap, subst, T as Holds}
 use Rattle.std.specs.Borrow.{Bor}
-use Rattle.std.specs.Cmp.{nat_cmp_total, nat_eq_equiv, eq_by_cmp_equiv}
+use Rattle.std.specs.Cmp.{nat_cmp_total, eq_by_cmp_equiv}
 use Rattle.std.specs.List.{AllByRecursion, Contains, IsDistinct, list_any}
 use Rattle.std.specs.Ordering.{nat_cmp, eq_by_cmp, is_lt}
 use Rattle.std.specs.declared.cmp.Ordering.TheVariants.{Equal}
@@ -9,27 +9,25 @@ use Rattle.std.specs.FinMap as finite
 use Rattle.std.specs.FinMap.{FinMap}
 use Rattle.std.specs.FinMap.Entries.{is_sorted, below_all, is_some-find}
 use Rattle.std.specs.Option.{option_eq}
-use Rattle.std.proofs.lemmas.Bool.Decides.{Decides-eqb}
-use Rattle.std.proofs.lemmas.List.Elements.{Contains-get_or}
 use Rattle.std.proofs.lemmas.Cmp.{tied_itself}
 use Rattle.std.proofs.lemmas.Map.Keys.{IsDistinct-cons}
 use Rattle.std.proofs.lemmas.Map.Views.{list_any-from_Contains, Contains-from_any}
-use Rattle.std.proofs.lemmas.Map.Made.{is_member-Decides, length-le_from_is_member}
 use Rattle.iddqd.specs.declared.internal.ValidateCompact.{ValidateCompact}
-use Rattle.iddqd.specs.declared.internal.ValidateCompact.TheVariants.{Compact, NonCompact}
 use Rattle.iddqd.specs.declared.internal.ValidateRefusal.{ValidateRefusal}
 use Rattle.iddqd.specs.declared.internal.ValidateRefusal.TheVariants.{Invalid, Memory}
 use Rattle.iddqd.specs.Store.{Store, get, live_count}
-use Rattle.iddqd.specs.LiveItems.{live_pairs, pairs_from}
+use Rattle.iddqd.specs.LiveItems.{live_pairs}
 use Rattle.iddqd.specs.Validation.{Allows, AreAsExpected, IsMemory, Validates}
-use Rattle.iddqd.proofs.LiveItemLemmas.{IsWalkOf-live_pairs, length-pairs_from}
-use Rattle.iddqd.proofs.LiveLemmas.{item_at, live_at}
-use Rattle.iddqd.proofs.StoreLemmas.{contains_head, contains_tail, contains_cases, contains_none, differs, live_within}
+use Rattle.iddqd.proofs.LiveItemLemmas.{IsWalkOf-live_pairs}
+use Rattle.iddqd.proofs.StoreLemmas.{contains_head, contains_tail, contains_cases, contains_none, differs}
 use Rattle.iddqd_hash.specs.MapHashTable.{indexes_of}
 use Rattle.iddqd_hash.proofs.FiledLemmas.{same_index}
-use Rattle.iddqd_sides.specs.Scan.{IsLive, IsHit, AnswersScan}
+use Rattle.iddqd_sides.specs.Scan.{IsHit, AnswersScan}
+use Rattle.iddqd_sides.specs.Ordered as ordered
+use Rattle.iddqd_sides.proofs.OrderedCountLemmas.{AreAsExpected-listed}
 use Rattle.iddqd_keyed.specs.State.{State, IsPaired}
 use Rattle.iddqd_keyed.specs.Validation.{AreStored, named}
+use Rattle.iddqd_keyed.proofs.KeepsLemmas.{Holds-order}
 
 -- A walk over the live items has these left, and the others pass: each that is left is live, and each live one is left or
 -- passes.
@@ -69,58 +67,11 @@ module _ {T : Type 0} (s : Store T) (Passes : ℕ → T → Type 0) where
     | inr passed ↦ passed
   ]
 
--- ---- how many indexes there are
+-- ---- the indexes of a map
 
--- two lists of distinct numbers with the same members are as long
-same_count : (xs ys : List ℕ) → IsDistinct nat_eq xs → IsDistinct nat_eq ys → ((n : ℕ) → Contains xs n ↔ Contains ys n) → length xs ≡ length ys
-same_count xs ys apart also_apart same =
-    let le = length-le_from_is_member nat_eq_equiv xs ys apart (λ n here. (is_member-Decides Decides-eqb ys n).1 ((same n).0 ((is_member-Decides Decides-eqb xs n).0 here))) in
-    let ge = length-le_from_is_member nat_eq_equiv ys xs also_apart (λ n here. (is_member-Decides Decides-eqb xs n).1 ((same n).1 ((is_member-Decides Decides-eqb ys n).0 here))) in
-    omega (arith, le, ge)
-
-module _ {X : Type 0} where
-  abbrev firsts : List (ℕ × X) → List ℕ
-  firsts pairs = map (λ p. p.0) pairs
-
-  firsts-listed : (pairs : List (ℕ × X)) (n : ℕ) (x : X) → Contains pairs (n, x) → Contains (firsts pairs) n
-  firsts-listed [] n x listed = absurd (contains_none (n, x) listed)
-  firsts-listed (p ∷ pairs) n x listed = elim (contains_cases p (n, x) pairs listed) [
-    | inl here ↦ subst (λ (q : ℕ × X). Contains (p.0 ∷ firsts pairs) q.0) here (contains_head p.0 (firsts pairs))
-    | inr there ↦ contains_tail p.0 n (firsts pairs) (firsts-listed pairs n x there)
-  ]
-
-  listed-firsts : (pairs : List (ℕ × X)) (n : ℕ) → Contains (firsts pairs) n → (x : X) × Contains pairs (n, x)
-  listed-firsts [] n listed = absurd (contains_none n listed)
-  listed-firsts (p ∷ pairs) n listed = elim (contains_cases p.0 n (firsts pairs) listed) [
-    | inl here ↦ (p.1, subst (λ (m : ℕ). Contains (p ∷ pairs) (m, p.1)) here (contains_head p pairs))
-    | inr there ↦ let later = listed-firsts pairs n there in (later.0, contains_tail p (n, later.0) pairs later.1)
-  ]
-
-module _ {T : Type 0} where
-  rising_apart : (n first : ℕ) (slots : List (Option T)) → n < first → AllByRecursion (λ m. nat_eq n m ≡ false) (firsts (pairs_from first slots))
-  rising_apart n first [] less = tt
-  rising_apart n first (None ∷ rest) less = rising_apart n (first + 1) rest (omega arith)
-  rising_apart n first (Some item ∷ rest) less = (differs n first (omega arith), rising_apart n (first + 1) rest (omega arith))
-
-  distinct-pairs : (first : ℕ) (slots : List (Option T)) → IsDistinct nat_eq (firsts (pairs_from first slots))
-  unfolding IsDistinct
-  distinct-pairs first [] = tt
-  distinct-pairs first (None ∷ rest) = distinct-pairs (first + 1) rest
-  distinct-pairs first (Some item ∷ rest) =
-      IsDistinct-cons nat_eq first (firsts (pairs_from (first + 1) rest)) (rising_apart first (first + 1) rest (omega arith)) (distinct-pairs (first + 1) rest)
-
-  length-firsts : (pairs : List (ℕ × T)) → length (firsts pairs) ≡ length pairs
-  length-firsts [] = refl
-  length-firsts (p ∷ pairs) = omega (arith, length-firsts pairs)
-
-  -- distinct indexes that are the live ones are as many
-  pub count_live : (s : Store T) (indexes : List ℕ) → IsDistinct nat_eq indexes → ((ix : ℕ) → Contains indexes ix ↔ IsLive s ix) → length indexes ≡ live_count s
-  count_live s indexes apart live =
-      let all = same_count indexes (firsts (live_pairs s)) apart (distinct-pairs 0 s.items) (λ ix. (
-        λ here. let at = item_at s ix ((live ix).0 here) in firsts-listed (live_pairs s) ix at.0 (((IsWalkOf-live_pairs s).live ix at.0).1 at.1),
-        λ here. let at = listed-firsts (live_pairs s) ix here in (live ix).1 (live_at s ix at.0 (((IsWalkOf-live_pairs s).live ix at.0).0 at.1)),
-      )) in
-      all ∙ length-firsts (live_pairs s) ∙ length-pairs_from 0 s.items
+-- the indexes of a map's entries
+abbrev firsts : List (ℕ × ℕ) → List ℕ
+firsts es = map (λ e. e.0) es
 
 both_hold : (a b : Bool) → Holds (a && b) → Holds a × Holds b
 both_hold true b h = (tt, h)
@@ -161,28 +112,23 @@ module _ (m : FinMap nat_cmp ℕ) where
 -- ---- what the tables are answered
 
 module _ {T S : Type 0} (s : State T S) (paired : IsPaired s) where
-  -- where no slot is vacant each live index is below their number
-  below_count : (ix : ℕ) → length s.store.free ≡ 0 → IsLive s.store ix → ix < live_count s.store
-  below_count ix none live =
-      let within = live_within s.store.items ix live in
-      omega (arith, within, paired.valid.counted, none)
-
-  as_expected : (mode : ValidateCompact) (indexes : List ℕ) → IsDistinct nat_eq indexes → ((ix : ℕ) → Contains indexes ix ↔ IsLive s.store ix) → Allows mode (length s.store.free) → AreAsExpected mode (live_count s.store) indexes
-  as_expected NonCompact indexes apart live allowed = count_live s.store indexes apart live
-  as_expected Compact indexes apart live none = (
-    count_live s.store indexes apart live,
-    λ k d inside. below_count (get_or indexes k d) none ((live (get_or indexes k d)).0 (Contains-get_or indexes k d inside)),
-  )
+  -- the filed indexes are the live ones, each once
+  filed_held : ordered.Holds s.store (indexes_of s.filed)
+  filed_held = record {
+    each = λ ix. (
+      λ here. (paired.filed ix).0 ((listed-index s.filed ix).0 here),
+      λ live. (listed-index s.filed ix).1 ((paired.filed ix).1 live),
+    );
+    once = distinct-indexes s.filed;
+  }
 
   pub AreAsExpected-filed : (mode : ValidateCompact) → Allows mode (length s.store.free) → AreAsExpected mode (live_count s.store) (indexes_of s.filed)
   AreAsExpected-filed mode allowed =
-      as_expected mode (indexes_of s.filed) (distinct-indexes s.filed) (λ ix. (
-        λ here. (paired.filed ix).0 ((listed-index s.filed ix).0 here),
-        λ live. (listed-index s.filed ix).1 ((paired.filed ix).1 live),
-      )) allowed
+      AreAsExpected-listed s.store (indexes_of s.filed) filed_held paired.valid mode allowed
 
   pub AreAsExpected-order : (mode : ValidateCompact) → Allows mode (length s.store.free) → AreAsExpected mode (live_count s.store) s.order
-  AreAsExpected-order mode allowed = as_expected mode s.order paired.once paired.ordered allowed
+  AreAsExpected-order mode allowed =
+      AreAsExpected-listed s.store s.order (Holds-order s paired) paired.valid mode allowed
 
   -- both tables have each live index
   pub AreStored-paired : AreStored s.store s.filed s.order

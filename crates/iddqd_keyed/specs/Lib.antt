@@ -27,5 +27,5 @@ pub use Rattle.iddqd_keyed.specs.Refusal.{index_or_dash, refusal_text, replace_r
 pub use Rattle.iddqd_keyed.specs.Machine.{StoresAt, Inserts, TellsAsScan, Removes, RemovesBy, Overwrites, Answers, Step}
 pub use Rattle.iddqd_keyed.specs.Run.{IsSilentChange}
 pub use Rattle.iddqd_keyed.specs.Queries.{LooksUpBy, GivesFound}
-pub use Rattle.iddqd_keyed.specs.Walks.{items_at}
+pub use Rattle.iddqd_keyed.specs.Walks.{items_at, RangesWithin}
 pub use Rattle.iddqd_keyed.specs.Replacement.{TellsOther, Becomes, Replaces}

@@ -2,23 +2,29 @@
 ghost use Rattle.std.specs.Prelude.{◌≡◌, [], Some, IfSome, IsOk, IfOk, length};
 ghost use Rattle.std.specs.Iterator.{YieldsFirstRef, YieldsLastRef, item_count, at_most, UpTo};
 ghost use Rattle.std.specs.Iterator.SizeHint.{IsWithinCount};
+ghost use Rattle.std.specs.Range.Bound.{bound_map};
 ghost use Rattle.iddqd.specs.{live_count, live_pairs};
 ghost use Rattle.iddqd.specs.LiveItems.{IsWalkOf};
 ghost use Rattle.iddqd_order.specs.{indexes_left};
+ghost use Rattle.iddqd_sides.specs.OrderedQuery.{is_between};
 ghost use Rattle.iddqd_keyed.specs.State.{IsPaired};
 ghost use Rattle.iddqd_keyed.specs.Sides.{second_side, IsExact};
-ghost use Rattle.iddqd_keyed.specs.Walks.{items_at};
+ghost use Rattle.iddqd_keyed.specs.Walks.{items_at, RangesWithin};
 
 use super::{Keyed, KeyedItems};
-use crate::keyed_item::KeyedItem;
+use crate::keyed_item::{KeyedItem, Second};
 use iddqd::item_index::ItemIndex;
 use iddqd::item_set::{self, ItemSet};
 use iddqd_order::btree_table;
+use iddqd_sides::order_query::OrdQuery;
+use iddqd_sides::ordered;
+use iddqd_sides::ordered_walk::Range;
 use std::alloc::AllocError;
 use std::fmt;
 use std::hash::BuildHasher;
 use std::iter::FusedIterator;
 use std::marker::Model;
+use std::ops::Bound;
 
 impl<T: KeyedItem, S: BuildHasher> KeyedItems<T, S> {
     /// The live indexes with their items, by rising index.
@@ -52,6 +58,27 @@ impl<T: KeyedItem, S: BuildHasher> KeyedItems<T, S> {
             items: &self.items,
             order: self.order.iter(),
         }
+    }
+
+    /// The live indexes with their items whose second keys are between two bounds, in the order of the
+    /// second keys, from both ends: none where the lower bound stands above the upper one.
+    ///
+    /// Where a second key was changed silently, they are those between some two places of the ordered
+    /// table. Each query is compared with at most 4 and twice the binary digits of the number of items
+    /// second keys.
+    pub fn range_by_key2<Q: OrdQuery<T::Key2>>(
+        &self,
+        lower: Bound<Q>,
+        upper: Bound<Q>,
+    ) -> Range<'_, T>
+        ensures { let within = is_between (bound_map Q.compare lower) (bound_map Q.compare upper) in
+            RangesWithin ⟦<Self as Keyed>⟧.keys within self.now result }
+    {
+        let (order, items) = (&self.order, &self.items);
+        Range::new(
+            ordered::range::<T, Second, Q>(order, items, lower, upper),
+            items,
+        )
     }
 
     // The indexes in the order of the ordered table, in memory of their own.

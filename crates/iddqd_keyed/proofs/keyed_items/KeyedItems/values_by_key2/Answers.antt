@@ -1,5 +1,6 @@
 use Rattle.std.proofs.Common.{◌∙◌}
-use Rattle.iddqd_keyed.proofs.ValidationLemmas.{count_live}
+use Rattle.iddqd_sides.proofs.OrderedCountLemmas.{length-held}
+use Rattle.iddqd_keyed.proofs.KeepsLemmas.{Holds-order}
 use Rattle.iddqd_keyed.proofs.WalkLemmas.{length-items_at}
 use Rattle.iddqd_keyed.proofs.keyed_items.KeyedItems.values_by_key2.Goals as goal
 
@@ -8,4 +9,4 @@ returns-clause-len g c =
     let is = c.self.invariant in
     let s = c.self.inside.items.store in
     rw (← c.self.view_is, c.iter.ensures.left)
-    (length-items_at s _ (λ ix. (is.ordered ix).0) ∙ count_live s _ is.once is.ordered)
+    (length-items_at s _ (λ ix. (is.ordered ix).0) ∙ length-held s _ (Holds-order _ is))
