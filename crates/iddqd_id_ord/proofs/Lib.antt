@@ -5,3 +5,4 @@ pub mod ReplaceLemmas
 pub mod TakeLemmas
 pub mod CloneLemmas
 pub mod EqualityLemmas
+pub mod RetainLemmas

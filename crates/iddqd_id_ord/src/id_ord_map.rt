@@ -23,6 +23,7 @@ mod into_values;
 mod iter;
 mod range;
 mod replaces;
+mod retain;
 mod slots;
 mod values;
 mod walks;

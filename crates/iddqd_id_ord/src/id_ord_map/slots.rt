@@ -1,4 +1,4 @@
-//! The slots of a map, forgotten or closed up.
+//! The slots of a map, forgotten or closed up, and their memory given back.
 ghost use Rattle.std.specs.Prelude.{◌≡◌, ◌≤◌, [], IsOk, IfOk, OnOk, OnErr};
 ghost use Rattle.iddqd.specs.{cleared, IsRemapOf};
 ghost use Rattle.iddqd_map_base.specs.Calls.{Compacts};
@@ -30,5 +30,15 @@ impl<T: IdOrdItem> IdOrdMap<T> {
         let remap = self.items.compact()?;
         self.table.remap_indexes(&remap);
         Ok(remap)
+    }
+
+    /// Gives back the memory of the store past the slots that there are. Vacant slots stay, and the
+    /// table keeps its own.
+    ///
+    /// The items move to a smaller block; where that is refused they stay where they are.
+    pub fn shrink_to_fit(&mut self) -> Result<(), AllocError>
+        ensures { self.new ≡ self.old }
+    {
+        self.items.shrink_capacity_to_fit()
     }
 }

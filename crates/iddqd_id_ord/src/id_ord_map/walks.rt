@@ -7,6 +7,7 @@ ghost use Rattle.iddqd_sides.specs.OrderedQuery.{is_between};
 ghost use Rattle.iddqd_id_ord.specs.KeyOrder.{AreInKeyOrder, FindsEnd, IsKeyWalk, IsWalkWithin, PopsEnd};
 
 use super::{IdOrdItem, IdOrdMap, IntoValues, Iter, ItsKey, Range, Values};
+use iddqd::item_index::ItemIndex;
 use iddqd_sides::order_query::OrdQuery;
 use iddqd_sides::ordered::take_index;
 use iddqd_sides::ordered_query::range_by;
@@ -91,6 +92,7 @@ impl<T: IdOrdItem> IdOrdMap<T> {
     }
 }
 
+/// As `into_values`: each item, in the order of the keys.
 impl<T: IdOrdItem> IntoIterator for IdOrdMap<T> {
     type Item = T;
 
@@ -103,8 +105,29 @@ impl<T: IdOrdItem> IntoIterator for IdOrdMap<T> {
     }
 }
 
-impl<T: IdOrdItem + fmt::Debug> fmt::Debug for IdOrdMap<T> {
+/// As `iter`: each index with its item, in the order of the keys.
+impl<'a, T: IdOrdItem> IntoIterator for &'a IdOrdMap<T> {
+    type Item = (ItemIndex, &'a T);
+
+    type IntoIter = Iter<'a, T>;
+
+    ghost into_iter_gives = { λ m pairs. IsKeyWalk T.IdOrdItem.key_of T.Key.cmp m.now.store pairs };
+
+    fn into_iter(self) -> Iter<'a, T> {
+        self.iter()
+    }
+}
+
+/// Each key with its item, as maps are printed, in the order of the keys.
+impl<T: IdOrdItem + fmt::Debug> fmt::Debug for IdOrdMap<T>
+where
+    T::Key: fmt::Debug,
+{
     fn fmt<W: fmt::Write>(&self, f: &mut fmt::Formatter<W>) -> fmt::Result {
-        f.debug_set().entries(self.values()).finish()
+        let mut out = f.debug_map();
+        for item in self.values() {
+            out.entry(item.key(), item);
+        }
+        out.finish()
     }
 }

@@ -95,6 +95,48 @@ impl Model {
         Ok(Some(badge))
     }
 
+    // How many indexes of badges are less than this one.
+    fn below(&self, at: usize) -> usize {
+        let mut count = 0usize;
+        for entry in self.entries.iter() {
+            if entry.0 < at {
+                count = count.saturating_add(1);
+            }
+        }
+        count
+    }
+
+    // Gives each index its rank.
+    fn compact(&mut self, alloc: Global) -> Result<(), AllocError> {
+        let mut renamed = Vec::new(alloc);
+        for entry in self.entries.iter() {
+            renamed.push((self.below(entry.0), entry.1))?;
+        }
+        self.slots = renamed.len();
+        self.entries = renamed;
+        self.free.clear();
+        Ok(())
+    }
+
+    // Removes the badges whose seats are less, and tells of which numbers it asked.
+    fn retain(&mut self, least: u32) -> Result<u64, AllocError> {
+        let mut told = 0;
+        for entry in self.entries.iter() {
+            told = noted(told, entry.1.number);
+            if entry.1.seat < least {
+                self.free.push(entry.0)?;
+            }
+        }
+        self.entries.retain(|entry| entry.1.seat >= least);
+        Ok(told)
+    }
+
+    fn clear(&mut self) {
+        self.entries.clear();
+        self.free.clear();
+        self.slots = 0;
+    }
+
     // Gives the badge at a place another value, under its index.
     fn rebind(&mut self, place: usize, item: Badge) -> Result<Option<Badge>, AllocError> {
         let Some((at, was)) = self.take(place) else {
@@ -103,6 +145,11 @@ impl Model {
         self.put(at, item)?;
         Ok(Some(was))
     }
+}
+
+// Numbers that were asked about, in their order, and one more.
+fn noted(told: u64, number: u32) -> u64 {
+    told.wrapping_mul(31).wrapping_add(u64::from(number))
 }
 
 // A linear congruential generator.
@@ -168,6 +215,25 @@ fn replaces_alike(
     }
 }
 
+fn changes_alike(
+    map: &mut Map,
+    model: &mut Model,
+    number: u32,
+    item: Badge,
+) -> Result<bool, AllocError> {
+    let answer = map.change(&number, |_| item);
+    let Some((place, _)) = model.find(number) else {
+        return Ok(answer == Ok(None));
+    };
+    match model.find(item.number) {
+        Some((other, at)) if other != place => {
+            let at = ix(at);
+            Ok(answer == Err(ReplaceRefusal::Duplicate { item, at }))
+        }
+        _ => Ok(answer == Ok(model.rebind(place, item)?)),
+    }
+}
+
 fn removes_alike(map: &mut Map, model: &mut Model, number: u32) -> Result<bool, AllocError> {
     let answer = map.remove(&number);
     match model.find(number) {
@@ -209,6 +275,55 @@ fn ranges_alike(
     Ok(has_between(map, Bound::Included(&from), Bound::Excluded(&to), &want))
 }
 
+// Removes the badges whose seats are less, and tells of which numbers it asked.
+fn retain(map: &mut Map, least: u32) -> u64 {
+    let mut told = 0;
+    map.retain(|badge| {
+        told = noted(told, badge.number);
+        badge.seat >= least
+    });
+    told
+}
+
+// Whether both have the same badges under the same indexes.
+fn walks_alike(map: &Map, model: &Model) -> bool {
+    let mut pairs = map.iter();
+    for entry in model.entries.iter() {
+        match pairs.next() {
+            Some((at, badge)) if at == ix(entry.0) && *badge == entry.1 => {}
+            _ => return false,
+        }
+    }
+    pairs.next().is_none()
+}
+
+// A call that may change all badges at once.
+fn all_alike(
+    alloc: Global,
+    map: &mut Map,
+    model: &mut Model,
+    kind: u32,
+    seat: u32,
+) -> Result<bool, AllocError> {
+    match kind {
+        0..=7 => {
+            if retain(map, seat) != model.retain(seat)? {
+                return Ok(false);
+            }
+        }
+        8..=13 => {
+            map.compact()?;
+            model.compact(alloc)?;
+        }
+        14 => {
+            map.clear();
+            model.clear();
+        }
+        _ => map.shrink_to_fit()?,
+    }
+    Ok(walks_alike(map, model))
+}
+
 // Both answer one call alike.
 fn answers_alike(
     alloc: Global,
@@ -217,17 +332,19 @@ fn answers_alike(
     numbers: &mut Numbers,
     range: u32,
 ) -> Result<bool, AllocError> {
-    let kind = numbers.below(12);
+    let kind = numbers.below(320);
     let (number, seat) = (numbers.below(range), numbers.below(1000));
     let item = numbered(numbers.below(range), seat);
     match kind {
-        0..=3 => inserts_alike(map, model, item),
-        4 => overwrites_alike(map, model, item),
-        5 => removes_alike(map, model, number),
-        6..=7 => replaces_alike(map, model, number, item),
-        8 => pops_alike(map, model, seat > 500),
-        9 => ranges_alike(alloc, map, model, number, item.number),
-        _ => Ok(finds_alike(map, model, number)),
+        0..=99 => inserts_alike(map, model, item),
+        100..=129 => overwrites_alike(map, model, item),
+        130..=159 => removes_alike(map, model, number),
+        160..=189 => replaces_alike(map, model, number, item),
+        190..=219 => changes_alike(map, model, number, item),
+        220..=239 => pops_alike(map, model, seat > 500),
+        240..=264 => ranges_alike(alloc, map, model, number, item.number),
+        265..=303 => Ok(finds_alike(map, model, number)),
+        _ => all_alike(alloc, map, model, kind - 304, seat / 2),
     }
 }
 
