@@ -1,5 +1,5 @@
 -- What asks along a table leave, where each item that is refused is removed before the next is asked about.
-use Rattle.std.proofs.Common.{◌≡◌, ◌≢◌, ◌∙◌, inl, inr, ℕ, List, [], ◌∷◌, ◌++◌, map, filter, cond, not, Bool, true, false, is_some, IsSome, Option, Some, None, refl, sym, ap, subst, arith, Ordering, nat_eq, append-nil, length-set}
+use Rattle.std.proofs.Common.{◌≡◌, ◌≢◌, ◌∙◌, inl, inr, ℕ, List, [], ◌∷◌, ◌++◌, length, map, filter, cond, not, Bool, true, false, is_some, IsSome, Option, Some, None, refl, sym, ap, subst, arith, Ordering, nat_eq, append-nil, length-set}
 use Rattle.std.specs.Fn.{Called, Mut}
 use Rattle.std.specs.List.{Contains, FoldsTo, IsDistinct, cons_option}
 use Rattle.std.specs.Cmp.{IsTotalOrder}

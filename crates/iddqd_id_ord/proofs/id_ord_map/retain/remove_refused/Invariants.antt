@@ -1,0 +1,10 @@
+use Rattle.std.specs.Fn.{TakesAt, CalledAt}
+use Rattle.iddqd_order.specs.Iter.{indexes_left}
+use Rattle.iddqd_order.specs.MapBTreeTable.{order_of}
+use Rattle.iddqd_id_ord.proofs.RetainLemmas.{Retaining}
+use Rattle.iddqd_id_ord.proofs.id_ord_map.retain.remove_refused.Given as goal
+
+-- the items at the indexes to come are as they were
+abbrev pub invariant-loop-ix : goal.invariant-loop-ix
+invariant-loop-ix g l =
+    Retaining (TakesAt g.F.FnMut) (CalledAt g.F.FnMut) l.fn.f l.fn.items.store l.items.store (order_of l.table) (indexes_left l.ix-iterator) l.f

@@ -1,0 +1,141 @@
+//! A map in order that is consumed from both ends, and a query of one's own.
+ghost use Rattle.std.specs.Prelude.{◌+◌, ◌*◌};
+ghost use Rattle.std.specs.Cmp.{nat_cmp_total};
+ghost use Rattle.std.specs.Ordering.{nat_cmp};
+ghost use Rattle.iddqd_sides.specs.OrderedQuery.{IsQuery-key};
+
+use super::badges::numbered;
+use super::ord_calls::Map;
+use iddqd_maps::id_ord_map::{IdOrdItem, IdOrdMap, IntoValues};
+use iddqd_sides::order_query::OrdQuery;
+use std::alloc::Global;
+use std::cell::Cell;
+use std::cmp::Ordering;
+use std::process::Abort;
+use std::test::Fail;
+
+// An item that adds its number to a sum once it is let go.
+struct Guest<'a> {
+    number: u32,
+    gone: &'a Cell<u32>,
+}
+
+impl<'a> Drop for Guest<'a> {
+    fn drop(self) {
+        let Guest { number, gone } = self;
+        gone.set(gone.get().wrapping_add(number));
+    }
+}
+
+impl<'a> IdOrdItem for Guest<'a> {
+    type Key = u32;
+
+    ghost key_of = { λ guest. guest.number };
+
+    fn key(&self) -> &u32 {
+        &self.number
+    }
+}
+
+// Guests whose numbers are powers of ten: a sum of 11111 says that each was let go once.
+fn guests<'a>(rt: &impl Abort, alloc: Global, gone: &'a Cell<u32>) -> IdOrdMap<Guest<'a>> {
+    let mut guests = IdOrdMap::new(alloc);
+    for number in [100, 10_000, 1, 1000, 10] {
+        assert!(rt; guests.insert_unique(Guest { number, gone }).is_ok());
+    }
+    guests
+}
+
+fn next(walk: &mut IntoValues<Guest<'_>>) -> u32 {
+    walk.next().map_or(0, |guest| guest.number)
+}
+
+fn next_back(walk: &mut IntoValues<Guest<'_>>) -> u32 {
+    walk.next_back().map_or(0, |guest| guest.number)
+}
+
+#[test]
+fn values_come_from_both_ends_once(rt: HostRuntime) -> Result<(), Fail> {
+    let gone = Cell::new(0);
+    let mut walk = guests(&rt, rt.alloc(), &gone).into_values();
+    assert!(rt; next(&mut walk) == 1 && gone.get() == 1 && walk.len() == 4);
+    assert!(rt; next_back(&mut walk) == 10_000 && next_back(&mut walk) == 1000);
+    assert!(rt; gone.get() == 11_001 && walk.len() == 2);
+    assert!(rt; next(&mut walk) == 10 && next_back(&mut walk) == 100 && gone.get() == 11_111);
+    assert!(rt; next(&mut walk) == 0 && next_back(&mut walk) == 0 && walk.len() == 0);
+    drop(walk);
+    assert!(rt; gone.get() == 11_111);
+    Ok(())
+}
+
+#[test]
+fn values_that_are_left_are_let_go_once(rt: HostRuntime) -> Result<(), Fail> {
+    let gone = Cell::new(0);
+    let mut walk = guests(&rt, rt.alloc(), &gone).into_values();
+    assert!(rt; next(&mut walk) == 1 && next_back(&mut walk) == 10_000);
+    assert!(rt; gone.get() == 10_001);
+    drop(walk);
+    assert!(rt; gone.get() == 11_111);
+    drop(guests(&rt, rt.alloc(), &gone).into_values());
+    assert!(rt; gone.get() == 22_222);
+    drop(guests(&rt, rt.alloc(), &gone));
+    assert!(rt; gone.get() == 33_333);
+    Ok(())
+}
+
+#[test]
+fn a_loop_takes_each_value(rt: HostRuntime) -> Result<(), Fail> {
+    let gone = Cell::new(0);
+    let mut last = 0;
+    for guest in guests(&rt, rt.alloc(), &gone) {
+        assert!(rt; guest.number > last && gone.get() < guest.number);
+        last = guest.number;
+    }
+    assert!(rt; last == 10_000 && gone.get() == 11_111);
+    Ok(())
+}
+
+// A number by its digits.
+#[derive(Clone, Copy)]
+struct Digits {
+    tens: u8,
+    ones: u8,
+}
+
+impl OrdQuery<u32> for Digits {
+    ghost compare = { λ q. nat_cmp (q.tens * 10 + q.ones) };
+
+    ghost lawful = { λ q. IsQuery-key nat_cmp nat_cmp_total (q.tens * 10 + q.ones) };
+
+    fn compare(&self, key: &u32) -> Ordering {
+        (u32::from(self.tens) * 10 + u32::from(self.ones)).cmp(key)
+    }
+}
+
+fn seat(map: &Map, tens: u8, ones: u8) -> Option<u32> {
+    match map.get(Digits { tens, ones }) {
+        Some(badge) => Some(badge.seat),
+        None => None,
+    }
+}
+
+fn assert_digits(rt: &impl Abort, map: &mut Map) {
+    assert!(rt; map.insert_unique(numbered(35, 1)).is_ok());
+    assert!(rt; map.insert_unique(numbered(53, 2)).is_ok());
+    assert!(rt; map.insert_unique(numbered(135, 3)).is_ok());
+    assert!(rt; seat(map, 3, 5) == Some(1) && seat(map, 5, 3) == Some(2));
+    assert!(rt; seat(map, 13, 5) == Some(3) && seat(map, 12, 15) == Some(3));
+    assert!(rt; seat(map, 0, 0).is_none() && seat(map, 255, 255).is_none());
+    let query = Digits { tens: 5, ones: 3 };
+    assert!(rt; map.replace(query, numbered(36, 4)) == Ok(numbered(53, 2)));
+    assert!(rt; seat(map, 3, 6) == Some(4) && map.remove(query).is_none());
+    let query = Digits { tens: 3, ones: 5 };
+    assert!(rt; map.remove(query) == Some(numbered(35, 1)) && map.len() == 2);
+}
+
+#[test]
+fn a_query_of_ones_own_finds_its_key(rt: HostRuntime) -> Result<(), Fail> {
+    let mut map = IdOrdMap::new(rt.alloc());
+    assert_digits(&rt, &mut map);
+    Ok(())
+}
