@@ -13,6 +13,7 @@ mod names;
 mod ord_calls;
 mod ord_model;
 mod ord_names;
+mod ord_refused;
 mod ord_retains;
 mod ord_searches;
 mod ord_walks;

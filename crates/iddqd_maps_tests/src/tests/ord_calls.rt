@@ -163,6 +163,9 @@ fn assert_no_slot(rt: &impl Abort, map: &mut Map) {
     let item = numbered(1, 1);
     assert!(rt; insert(map, 1, 1) == Err(InsertRefusal::Full(item)));
     assert!(rt; overwrite(map, 1, 1) == Err(OverwriteRefusal::Full(item)));
+    assert!(rt;
+        replace(map, 1, item) == Err(Refusal::Missing(item)) && renumber(map, 1) == Ok(None)
+    );
     assert_nothing(rt, map);
 }
 
@@ -174,7 +177,8 @@ fn assert_one_slot(rt: &impl Abort, map: &mut Map) {
     assert!(rt; overwrite(map, 2, 2) == Err(OverwriteRefusal::Full(other)));
     assert!(rt; insert(map, 1, 1) == Err(InsertRefusal::Duplicate { item, at: ix(0) }));
     assert!(rt; overwrite(map, 1, 3) == Ok((ix(0), Some(item))));
-    assert!(rt; replace(map, 1, other) == Ok(numbered(1, 3)));
+    assert!(rt; replace(map, 1, numbered(1, 4)) == Ok(numbered(1, 3)));
+    assert!(rt; replace(map, 1, other) == Ok(numbered(1, 4)) && !map.contains_key(&1));
     assert!(rt; map.first().copied() == Some(other) && map.last().copied() == Some(other));
     assert!(rt; map.pop_last() == Some(other));
     assert_nothing(rt, map);
