@@ -1,5 +1,5 @@
 -- What becomes of an ordered map in each step of its store and its table.
-use Rattle.std.proofs.Common.{◌≡◌, ◌∙◌, ◌↔◌, ◌≤◌, ℕ, Bool, true, false, is_some, List, Option, Some, None, Err, refl, sym, ap, arith, Ordering}
+use Rattle.std.proofs.Common.{◌≡◌, ◌∙◌, ◌↔◌, ◌≤◌, ℕ, Bool, false, is_some, List, Option, Some, None, Err, refl, ap, arith, Ordering}
 use Rattle.std.specs.Option.{OnSome}
 use Rattle.std.specs.Cmp.{IsTotalOrder}
 use Rattle.std.specs.Ordering.{eq_by_cmp}

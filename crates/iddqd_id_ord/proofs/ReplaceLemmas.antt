@@ -1,8 +1,8 @@
 -- What becomes of an ordered map where an item becomes another one.
-use Rattle.std.proofs.Common.{◌≡◌, ◌∙◌, ℕ, Bool, true, false, not, List, Option, Some, Result, Ok, Err, refl, sym, ap, Ordering, arith}
+use Rattle.std.proofs.Common.{◌≡◌, ◌∙◌, ℕ, Bool, true, false, not, List, Some, Result, Ok, Err, refl, sym, ap, Ordering, arith}
 use Rattle.std.specs.Cmp.{IsTotalOrder, eq_by_cmp_equiv}
 use Rattle.std.specs.Ordering.{eq_by_cmp}
-use Rattle.iddqd.specs.Store.{Store, get}
+use Rattle.iddqd.specs.Store.{get}
 use Rattle.iddqd.specs.ItemSet.{SizedStore, with_item}
 use Rattle.iddqd_sides.specs.Scan.{IsHit, AnswersScan}
 use Rattle.iddqd_sides.specs.OrderedIndexing.{Sorts, PlansOrClashes}

@@ -1,5 +1,5 @@
 -- A walk that takes the items out of slots, one after another.
-use Rattle.std.proofs.Common.{◌≡◌, ◌≢◌, ◌∙◌, ◌+◌, ◌<◌, ℕ, nat_eq, false, List, [], ◌∷◌, ◌++◌, length, Option, Some, None, IsSome, refl, sym, ap, subst, arith}
+use Rattle.std.proofs.Common.{◌≡◌, ◌≢◌, ◌∙◌, ◌<◌, ℕ, nat_eq, false, List, [], ◌∷◌, ◌++◌, length, Option, Some, None, IsSome, refl, sym, ap, subst, arith}
 use Rattle.std.specs.List.{Contains, IsDistinct, cons_option}
 use Rattle.std.specs.Cmp.{nat_eq_equiv}
 use Rattle.std.specs.List.{insert}
@@ -11,7 +11,7 @@ use Rattle.std.proofs.lemmas.List.Sorted.{Contains-permutation, IsPermutation-in
 use Rattle.std.proofs.lemmas.Map.Keys.{IsDistinct-head, IsDistinct-tail, IsDistinct-IsPermutation}
 use Rattle.iddqd.specs.LiveItems.{item_at, KeepsOtherItems}
 use Rattle.iddqd.specs.Store.{Store}
-use Rattle.iddqd.proofs.StoreLemmas.{contains_head, contains_tail, contains_cases, contains_none}
+use Rattle.iddqd.proofs.StoreLemmas.{contains_head, contains_tail, contains_none}
 use Rattle.iddqd_sides.specs.Ordered.{Holds}
 use Rattle.iddqd_id_ord.specs.Pairs.{items_at, AreThere}
 

@@ -1,5 +1,5 @@
 -- The items of a store at listed indexes, and the order of their keys.
-use Rattle.std.proofs.Common.{◌≡◌, ◌∙◌, ◌+◌, ◌<◌, ◌≤◌, inl, inr, ℕ, zero, suc, true, List, [], ◌∷◌, ◌++◌, length, map, get_or, slice_get, Option, Some, None, refl, sym, ap, subst, Ordering, arith}
+use Rattle.std.proofs.Common.{◌≡◌, ◌∙◌, ◌<◌, inl, inr, ℕ, zero, suc, true, List, [], ◌∷◌, ◌++◌, length, map, get_or, slice_get, Some, None, refl, sym, ap, subst, Ordering, arith}
 use Rattle.std.specs.List.{Contains, cons_option}
 use Rattle.std.specs.Option.{option_cmp, option_map}
 use Rattle.std.specs.Ordering.{nat_cmp, ordering_then, is_eq, eq_by_cmp}
@@ -15,7 +15,7 @@ use Rattle.iddqd.proofs.StoreLemmas.{contains_head, contains_tail, contains_case
 use Rattle.iddqd_order.specs.KeyOrder.{key_then_index}
 use Rattle.iddqd_sides.specs.Scan.{IsLive}
 use Rattle.iddqd_sides.specs.Side.{IsApart}
-use Rattle.iddqd_sides.specs.Ordered.{AreLive, IsInPlace, key_at}
+use Rattle.iddqd_sides.specs.Ordered.{AreLive, key_at}
 use Rattle.iddqd_sides.specs.OrderedIndexing.{Sorts, SortsWithin}
 use Rattle.iddqd_id_ord.specs.KeyOrder.{IsWalkWithin}
 use Rattle.iddqd_id_ord.specs.Pairs.{pair_at, pairs_at, items_at}

@@ -1,4 +1,4 @@
-use Rattle.std.proofs.Common.{refl, ap}
+use Rattle.std.proofs.Common.{refl}
 use Rattle.iddqd.proofs.LiveLemmas.{item_at}
 use Rattle.iddqd.proofs.StoreLemmas.{IsValid-rebound}
 use Rattle.iddqd_order.specs.MapBTreeTable.{order_of}
