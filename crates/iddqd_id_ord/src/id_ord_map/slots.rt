@@ -1,6 +1,6 @@
 //! The slots of a map, forgotten or closed up, and their memory given back.
 ghost use Rattle.std.specs.Prelude.{◌≡◌, ◌≤◌, [], IsOk, IfOk, OnOk, OnErr};
-ghost use Rattle.iddqd.specs.{cleared, IsRemapOf};
+ghost use Rattle.iddqd.specs.{slot_count, cleared, IsRemapOf};
 ghost use Rattle.iddqd_map_base.specs.Calls.{Compacts};
 
 use super::{IdOrdItem, IdOrdMap};
@@ -30,6 +30,13 @@ impl<T: IdOrdItem> IdOrdMap<T> {
         let remap = self.items.compact()?;
         self.table.remap_indexes(&remap);
         Ok(remap)
+    }
+
+    /// How many slots the memory of the store holds.
+    pub fn capacity(&self) -> usize
+        ensures { slot_count self.now.store ≤ result }
+    {
+        self.items.capacity()
     }
 
     /// Gives back the memory of the store past the slots that there are. Vacant slots stay, and the
