@@ -18,5 +18,6 @@ mod ord_retains;
 mod ord_searches;
 mod ord_walks;
 mod passes;
+mod slices;
 mod tri_calls;
 mod tri_model;

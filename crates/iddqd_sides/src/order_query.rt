@@ -5,7 +5,7 @@
 //! any query answers as a scan would.
 ghost use Rattle.std.specs.Prelude.{◌≡◌};
 ghost use Rattle.std.specs.Cmp.{Equal-is};
-ghost use Rattle.std.specs.Cmp.Lexicographic.{slice_cmp, nat_list_cmp_total};
+ghost use Rattle.std.specs.Cmp.Lexicographic.{slice_cmp, lists_total, nat_list_cmp_total};
 ghost use Rattle.std.specs.Ordering.{is_eq, nat_cmp};
 ghost use Rattle.std.specs.String.{string_bytes};
 ghost use Rattle.std.specs.declared.cmp.Ordering.{Ordering};
@@ -15,7 +15,8 @@ use iddqd::map_hash::{Comparable, Equivalent};
 use std::alloc::Allocator;
 use std::cmp::Ordering;
 
-/// What a key is looked up by: a `&K` at any keys, a `&str` at keys that are a `String`.
+/// What a key is looked up by: a `&K` at any keys, a `&str` at keys that are a `String`, a `&[T]` at those
+/// that are a `Vec<T>`.
 ///
 /// Implement it for a small `Copy` type of your own to look up by what determines a key.
 pub trait OrdQuery<K: Ord>: Copy {
@@ -48,6 +49,17 @@ impl<A: Allocator> OrdQuery<String<A>> for &str {
 
     fn compare(&self, key: &String<A>) -> Ordering {
         (*self).cmp(key.as_str())
+    }
+}
+
+impl<T: Ord, A: Allocator> OrdQuery<Vec<T, A>> for &[T] {
+    ghost compare = { λ q k. slice_cmp T.cmp q.now k.items };
+
+    ghost lawful = { λ q. IsQuery-on (λ k. k.items) (slice_cmp T.cmp) (slice_cmp T.cmp q.now)
+        (IsQuery-key (slice_cmp T.cmp) (lists_total T.total) q.now) };
+
+    fn compare(&self, key: &Vec<T, A>) -> Ordering {
+        self.cmp(&key.as_slice())
     }
 }
 

@@ -5,8 +5,9 @@
 //! as a scan would.
 ghost use Rattle.std.specs.Prelude.{◌≡◌, Bool, IsTrue};
 ghost use Rattle.std.proofs.Common.{ap};
-ghost use Rattle.std.specs.Cmp.Lexicographic.{bytes_decides, nat_list_eq_equiv};
+ghost use Rattle.std.specs.Cmp.Lexicographic.{bytes_decides, lists_equiv, nat_list_eq_equiv, pointwise};
 ghost use Rattle.std.specs.Hash as fed;
+ghost use Rattle.std.specs.Hash.{items_Alike};
 ghost use Rattle.std.specs.Str.{bytes_eq};
 ghost use Rattle.std.specs.String.{string_bytes};
 
@@ -14,7 +15,8 @@ use iddqd::map_hash::Equivalent;
 use std::alloc::Allocator;
 use std::hash::Hash;
 
-/// What a key is looked up by: a `&K` at any keys, a `&str` at keys that are a `String`.
+/// What a key is looked up by: a `&K` at any keys, a `&str` at keys that are a `String`, a `&[T]` at those
+/// that are a `Vec<T>`.
 ///
 /// Implement it for a small `Copy` type of your own to look up by parts of a key.
 pub trait HashQuery<K: Eq + Hash>: Copy + Hash {
@@ -53,6 +55,18 @@ impl<A: Allocator> HashQuery<String<A>> for &str {
 
     fn stands_for(&self, key: &String<A>) -> bool {
         *self == key.as_str()
+    }
+}
+
+impl<T: Eq + Hash, A: Allocator> HashQuery<Vec<T, A>> for &[T] {
+    ghost stands_for = { λ q k. pointwise T.eq q.now k.items };
+
+    ghost same_hash = { λ q k same. (items_Alike (record { fed = T.respects_eq })).fed q.now k.items same };
+
+    ghost same_key = { λ q x y. (lists_equiv T.Eq.laws).congr q.now x.items y.items };
+
+    fn stands_for(&self, key: &Vec<T, A>) -> bool {
+        **self == *key.as_slice()
     }
 }
 

@@ -5,9 +5,9 @@ use Rattle.std.specs.Str.{bytes_eq}
 use Rattle.std.specs.String.{string_bytes}
 use Rattle.std.specs.Cmp.Lexicographic.{bytes_decides}
 use Rattle.std.proofs.lemmas.List.{length_push}
-use Rattle.iddqd.specs.Store.{Store, get, next_index, filled, inserted}
-use Rattle.iddqd_sides.specs.Scan.{IsHit, AnswersScan}
-use Rattle.iddqd_sides.proofs.ScanLemmas.{scan_hits}
+use Rattle.iddqd_maps.specs.Store.{Store, get, next_index, filled, inserted}
+use Rattle.iddqd_maps.specs.Scan.{IsHit, AnswersScan}
+use Rattle.iddqd_maps.proofs.ScanLemmas.{scan_hits}
 use Rattle.uses.specs.declared.registry.Entry.{Entry}
 use Rattle.uses.specs.Registry.{names_of, IsDense}
 

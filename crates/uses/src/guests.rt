@@ -1,5 +1,5 @@
 //! Keyed items as a table of records: two unique keys, stable indexes, and a walk in the order of the second key.
-use iddqd::hash_builder::DefaultHashBuilder;
+use iddqd_maps::hash_builder::DefaultHashBuilder;
 use iddqd_keyed::keyed_item::KeyedItem;
 use iddqd_keyed::keyed_items::{KeyedItems, ReplaceRefusal};
 use std::alloc::{AllocError, Global};

@@ -4,6 +4,7 @@
 mod badges;
 mod guests;
 mod hashers;
+mod leases;
 mod registry;
 mod routes;
 mod scores;
@@ -30,6 +31,7 @@ fn print_all(rt: &(impl Print + RandomSource), alloc: Global) -> io::Result<()> 
     print(rt, guests::line(alloc))?;
     print(rt, scores::line(alloc))?;
     print(rt, badges::line(alloc))?;
+    print(rt, leases::line(alloc))?;
     print(rt, registry::line(alloc))
 }
 

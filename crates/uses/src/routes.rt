@@ -6,7 +6,7 @@ ghost use Rattle.std.specs.String.{string_bytes};
 ghost use Rattle.uses.specs.RouteLaws.{same_texts, same_answer};
 
 use iddqd_maps::id_hash_map::{IdHashItem, IdHashMap};
-use iddqd_sides::query::HashQuery;
+use iddqd_maps::query::HashQuery;
 use std::alloc::{AllocError, Global};
 use std::hash::{Hash, Hasher};
 

@@ -1,8 +1,8 @@
 //! Refusals, by what they mean to a caller: a duplicate is merged, and where room was taken ahead memory isn't refused.
 ghost use Rattle.std.specs.Prelude.{◌≡◌, ◌≤◌, OnOk, OnErr};
 
-use iddqd::hash_builder::DefaultHashBuilder;
-use iddqd::item_index::ItemIndex;
+use iddqd_maps::hash_builder::DefaultHashBuilder;
+use iddqd_maps::item_index::ItemIndex;
 use iddqd_maps::id_hash_map::{IdHashItem, IdHashMap};
 use iddqd_maps::refusal::InsertRefusal;
 use std::alloc::{AllocError, Global};

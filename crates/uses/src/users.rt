@@ -1,7 +1,7 @@
 //! Items whose key is a text of their own. A text that is lent looks them up, so none is copied for it.
 ghost use Rattle.std.specs.Prelude.{◌≡◌, ℕ, MatchOption};
 ghost use Rattle.iddqd_maps.specs.Map.{IsOnly};
-ghost use Rattle.iddqd_sides.specs.Scan.{HasNoHit};
+ghost use Rattle.iddqd_maps.specs.Scan.{HasNoHit};
 ghost use Rattle.uses.specs.Users.{is_named};
 
 use iddqd_maps::id_hash_map::{IdHashItem, IdHashMap};

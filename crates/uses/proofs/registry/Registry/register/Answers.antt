@@ -1,7 +1,7 @@
 use Rattle.std.proofs.Common.{rules, Some, refl}
 use Rattle.std.specs.Str.{bytes_eq}
 use Rattle.std.specs.String.{string_bytes}
-use Rattle.iddqd_sides.specs.Scan.{AnswersScan}
+use Rattle.iddqd_maps.specs.Scan.{AnswersScan}
 use Rattle.uses.specs.declared.registry.Entry.{Entry}
 use Rattle.uses.proofs.RegistryLemmas.{hit_named, contained_hit, IsDense-inserted, names_of-inserted}
 use Rattle.uses.proofs.registry.Registry.register.Goals as goal

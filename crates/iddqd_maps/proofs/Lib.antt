@@ -1,0 +1,2 @@
+-- lemmas that callers' proofs cite, from one place
+pub use Rattle.iddqd_sides.proofs.ScanLemmas
