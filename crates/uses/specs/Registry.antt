@@ -1,7 +1,7 @@
 -- A registry as the list of its names.
 use Rattle.std.specs.Prelude.{◌≡◌, ℕ, List, [], ◌∷◌, length, Option, Some, None, slice_get}
 use Rattle.std.specs.String.{string_bytes}
-use Rattle.iddqd.specs.Store.{Store}
+use Rattle.iddqd_maps.specs.Store.{Store}
 use Rattle.uses.specs.declared.registry.Entry.{Entry}
 use Rattle.uses.specs.declared.registry.RegisterError.{RegisterError}
 use Rattle.uses.specs.declared.registry.RegisterError.TheVariants.{Taken, Full, Memory}

@@ -40,10 +40,15 @@ impl TriHashItem for Lease {
 /// Grants a lease, which ends those of its address, of its device and of its name: how many they were.
 pub fn grant(leases: &mut TriHashMap<Lease>, lease: Lease) -> Result<usize, &'static str> {
     match leases.insert_overwrite(lease) {
-        Ok((_, ended)) => Ok(ended.iter().filter(|lease| lease.is_some()).count()),
+        Ok(granted) => Ok(count_of(&granted.1)),
         Err(OverwriteRefusal::Full(_)) => Err("there are too many leases"),
         Err(OverwriteRefusal::Memory(_)) => Err("no memory"),
     }
+}
+
+// How many leases there are.
+fn count_of(leases: &[Option<Lease>; 3]) -> usize {
+    leases.iter().filter(|lease| lease.is_some()).count()
 }
 
 /// The device that has the lease of this name.
