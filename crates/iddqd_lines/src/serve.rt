@@ -7,9 +7,10 @@
 //! Replies are written where the block has no room for one more, before each read, and at the end: so a
 //! person who types sees each answer at once, and a pipe gets large writes. Of a line that goes on 129
 //! bytes are kept, one more than a line may have, so that a longer one is seen to be longer.
-ghost use Rattle.std.specs.Prelude.{◌≡◌, ◌∷◌, ◌++◌, [], List, ℕ, take, OnOk, IfSome, false};
+ghost use Rattle.std.specs.Prelude.{◌≡◌, ◌∷◌, ◌++◌, [], List, ℕ, ◌<◌, length, take, OnOk, IfSome, false};
+ghost use Rattle.iddqd_keyed.specs.State.{empty_state};
 ghost use Rattle.iddqd_lines.specs.Line.{lines_of};
-ghost use Rattle.iddqd_lines.specs.Program.{hash_u32, ServesUntil, FailsAt};
+ghost use Rattle.iddqd_lines.specs.Program.{hash_u32, IsDefaultHasher, ServesUntil, FailsAt};
 ghost use Rattle.iddqd_lines.specs.Serve.{moment, IsKept, Obeys, Feeds, Tells};
 ghost use Rattle.iddqd_lines.specs.declared.line.Request.TheVariants.{Run, Validate};
 ghost use Rattle.iddqd_lines.specs.Stream.{FailsOnErr};
@@ -96,21 +97,51 @@ pub fn serve<I: Source, O: Sink>(
     let mut partial = LineBuffer::new();
     let mut replies = Replies::new();
     let mut block = [0; BLOCK];
+    serve_blocks(
+        &mut items,
+        &mut partial,
+        &mut block,
+        &mut replies,
+        input,
+        output,
+    )
+}
+
+// Does so with what is lent: what a body owns makes each of its steps dear to check.
+fn serve_blocks<I: Source, O: Sink>(
+    items: &mut KeyedItems<Record, DefaultHashBuilder>,
+    partial: &mut LineBuffer,
+    block: &mut [u8],
+    replies: &mut Replies,
+    input: &mut I,
+    output: &mut O,
+) -> Result<(), ServeFault>
+    requires hasher { IsDefaultHasher items.old.hasher }
+    requires no_item { items.old ≡ empty_state items.old.hasher }
+    requires no_line { partial.old ≡ [] }
+    requires no_reply { replies.old ≡ [] }
+    requires room { 0 < length block.old }
+    requires reads { I.has_failed input.old ≡ false }
+    requires writes { O.has_failed output.old ≡ false }
+    ensures serves { IfSome (I.left input.old)
+        (λ bytes. ServesUntil result bytes (I.left input.new) (O.written output.old) (O.written output.new)) }
+    ensures faults { FailsAt result (I.left input.old) (I.has_failed input.new) (O.has_failed output.new) }
+{
     'reads: for _ in 0..u64::MAX {
         let Ok(()) = replies.flush(output) else {
             return Err(ServeFault::Write);
         };
-        let Ok(count) = input.read(&mut block) else {
+        let Ok(count) = input.read(block) else {
             return Err(ServeFault::Read);
         };
         if count == 0 {
-            let Ok(()) = finish(&mut items, partial.as_slice(), &mut replies, output) else {
+            let Ok(()) = finish(items, partial.as_slice(), replies, output) else {
                 return Err(ServeFault::Write);
             };
             return Ok(());
         }
         let bytes = &block[..count];
-        let Ok(()) = feed(&mut items, &mut partial, bytes, &mut replies, output) else {
+        let Ok(()) = feed(items, partial, bytes, replies, output) else {
             return Err(ServeFault::Write);
         };
     }

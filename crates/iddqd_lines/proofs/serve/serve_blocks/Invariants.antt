@@ -3,13 +3,13 @@ use Rattle.iddqd_keyed.specs.State.{empty_state}
 use Rattle.iddqd_lines.specs.Program.{default_hash}
 use Rattle.iddqd_lines.specs.Serve.{moment}
 use Rattle.iddqd_lines.proofs.ServeLemmas.{Reads}
-use Rattle.iddqd_lines.proofs.serve.serve.Given as goal
+use Rattle.iddqd_lines.proofs.serve.serve_blocks.Given as goal
 
 -- the bytes that were read were fed, and neither has failed
 abbrev pub invariant-reads : goal.invariant-reads
 invariant-reads g l = record {
   reads :
-      let old = moment (empty_state l.initial.items.hasher) l.fn.output [] in
+      let old = moment (empty_state l.fn.items.hasher) l.fn.output [] in
       let now = moment l.items l.output l.replies in
       let left = g.I.Source.left in
       IfSome (left l.fn.input) (λ bytes. Reads default_hash g.O.Sink old bytes (left l.input) l.counter now l.partial);
