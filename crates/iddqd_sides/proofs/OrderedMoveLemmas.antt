@@ -22,7 +22,7 @@ use Rattle.iddqd_order.proofs.IndexListLemmas.{IsDistinct-insert, IsDistinct-fil
 use Rattle.iddqd_order.proofs.KeyOrderLemmas.{key_then_index-total, with_ties-key, IsRising-from_sorted, IsStrictlySortedBy-insert}
 use Rattle.iddqd_order.proofs.MemberLemmas.{contains-inserted_at, contains-inserted_other, contains-inserted_cases, contains-without, contains-from_without}
 use Rattle.iddqd_sides.specs.Scan.{IsLive, IsHit, HasNoHit, AreApart}
-use Rattle.iddqd_sides.specs.Ordered.{Holds, IsInPlace, compared, key_at}
+use Rattle.iddqd_sides.specs.Ordered.{IsInPlace, compared, key_at}
 use Rattle.iddqd_sides.specs.OrderedIndexing.{Sorts, has_key}
 use Rattle.iddqd_sides.proofs.OrderedPlaceLemmas.{IsInPlace-alike}
 use Rattle.iddqd_sides.proofs.ScanLemmas.{rebound_cases, live_rebound}

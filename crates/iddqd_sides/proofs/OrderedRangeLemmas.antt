@@ -1,5 +1,5 @@
 -- What stands between two bounds of a table's list: a run of it, and where it is in place exactly what is within both.
-use Rattle.std.proofs.Common.{◌≡◌, ◌∙◌, ◌<◌, ◌≤◌, ◌&&◌, inl, inr, ℕ, Bool, true, false, not, List, [], ◌∷◌, length, filter, cond, Some, None, refl, sym, ap, subst, Ordering, arith}
+use Rattle.std.proofs.Common.{◌≡◌, ◌∙◌, ◌&&◌, inl, inr, ℕ, Bool, true, false, not, List, [], ◌∷◌, filter, cond, Some, None, refl, sym, ap, subst, Ordering, arith}
 use Rattle.std.specs.Cmp.{IsTotalOrder}
 use Rattle.std.specs.Fn.{Mut}
 use Rattle.std.specs.List.{Contains}
@@ -19,7 +19,6 @@ use Rattle.iddqd_order.specs.Range.{Begins, Ends, WalksBetween, indexes_ahead}
 use Rattle.iddqd_order.specs.Search.{IsSteady, IsSteadyRising, IsPlace}
 use Rattle.iddqd_order.specs.declared.btree_table.asking.Asking.{Asking}
 use Rattle.iddqd_order.specs.declared.btree_table.range.Range.{Range}
-use Rattle.iddqd_sides.specs.Scan.{IsHit, passes_by}
 use Rattle.iddqd_sides.specs.OrderedQuery.{IsQuery, is_from, is_up_to, is_between}
 use Rattle.iddqd_sides.specs.Ordered.{Holds, IsInPlace, compared, key_at}
 use Rattle.iddqd_sides.specs.OrderedIndexing.{SortsWithin}

@@ -5,7 +5,6 @@ use Rattle.std.proofs.lemmas.List.{length_push, take-append-drop}
 use Rattle.std.proofs.lemmas.List.Elements.{Contains-append_left, Contains-append_right, filter_map-append}
 use Rattle.std.proofs.lemmas.Map.Keys.{IsDistinct-cons, IsDistinct-head, IsDistinct-tail}
 use Rattle.iddqd.specs.Store.{Store, get}
-use Rattle.iddqd.proofs.LiveLemmas.{item_at}
 use Rattle.iddqd.proofs.StoreLemmas.{contains_head, contains_tail, contains_none}
 use Rattle.iddqd_order.specs.Cursor.{part}
 use Rattle.iddqd_sides.specs.Scan.{IsLive}
