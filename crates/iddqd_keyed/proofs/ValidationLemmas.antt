@@ -19,14 +19,14 @@ use Rattle.iddqd.specs.Store.{Store, get, live_count}
 use Rattle.iddqd.specs.LiveItems.{live_pairs}
 use Rattle.iddqd.specs.Validation.{Allows, AreAsExpected, IsMemory, Validates}
 use Rattle.iddqd.proofs.LiveItemLemmas.{IsWalkOf-live_pairs}
-use Rattle.iddqd.proofs.StoreLemmas.{contains_head, contains_tail, contains_cases, contains_none, differs}
+use Rattle.iddqd.proofs.StoreLemmas.{contains_head, contains_tail, contains_cases, differs}
 use Rattle.iddqd_hash.specs.MapHashTable.{indexes_of}
 use Rattle.iddqd_hash.proofs.FiledLemmas.{same_index}
 use Rattle.iddqd_sides.specs.Scan.{IsHit, AnswersScan}
 use Rattle.iddqd_sides.specs.Ordered as ordered
 use Rattle.iddqd_sides.proofs.OrderedCountLemmas.{AreAsExpected-listed}
 use Rattle.iddqd_keyed.specs.State.{State, IsPaired}
-use Rattle.iddqd_keyed.specs.Validation.{AreStored, named}
+use Rattle.iddqd_keyed.specs.Validation.{named}
 use Rattle.iddqd_keyed.proofs.KeepsLemmas.{Holds-order}
 
 -- A walk over the live items has these left, and the others pass: each that is left is live, and each live one is left or
@@ -59,13 +59,6 @@ module _ {T : Type 0} (s : Store T) (Passes : ℕ → T → Type 0) where
       | inr passed ↦ inr passed
     ];
   }
-
-  -- where none is left all pass
-  pub Checked-all : Checked [] → (ix : ℕ) (item : T) → get s ix ≡ Some item → Passes ix item
-  Checked-all done ix item is = elim (done.passed ix item is) [
-    | inl listed ↦ absurd (contains_none (ix, item) listed)
-    | inr passed ↦ passed
-  ]
 
 -- ---- the indexes of a map
 
@@ -130,27 +123,11 @@ module _ {T S : Type 0} (s : State T S) (paired : IsPaired s) where
   AreAsExpected-order mode allowed =
       AreAsExpected-listed s.store s.order (Holds-order s paired) paired.valid mode allowed
 
-  -- both tables have each live index
-  pub AreStored-paired : AreStored s.store s.filed s.order
-  AreStored-paired ix live = ((paired.filed ix).1 live, (paired.ordered ix).1 live)
-
 -- a table that is sound is refused for want of memory alone
 pub IsMemory-named : (sound : Type 0) (name : Bor (List ℕ)) (answer : Result (Unit {0}) (ValidateRefusal (List ℕ))) → sound → Validates sound answer → IfErr (named name answer) IsMemory
 IsMemory-named sound name (Ok passed) holds validates = tt
 IsMemory-named sound name (Err (Invalid error)) holds refuted = absurd (refuted holds)
 IsMemory-named sound name (Err (Memory error)) holds validates = tt
-
--- the same of any parts
-pub IsMemory-sound : {E : Type 0} (sound : Type 0) (answer : Result (Unit {0}) (ValidateRefusal E)) → sound → Validates sound answer → IfErr answer IsMemory
-IsMemory-sound sound (Ok passed) holds validates = tt
-IsMemory-sound sound (Err (Invalid error)) holds refuted = absurd (refuted holds)
-IsMemory-sound sound (Err (Memory error)) holds validates = tt
-
--- an answer for want of memory alone
-pub Validates-but_memory : {E : Type 0} (sound : Type 0) (answer : Result (Unit {0}) (ValidateRefusal E)) → sound → IfErr answer IsMemory → Validates sound answer
-Validates-but_memory sound (Ok passed) holds memory = holds
-Validates-but_memory sound (Err (Invalid error)) holds memory = absurd memory
-Validates-but_memory sound (Err (Memory error)) holds memory = tt
 
 -- a refusal for want of memory will do
 pub Validates-refused : {E : Type 0} (sound : Type 0) (answer : Result (Unit {0}) (ValidateRefusal E)) → IsErr answer → IfErr answer IsMemory → Validates sound answer

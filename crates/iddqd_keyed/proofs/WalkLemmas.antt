@@ -1,7 +1,7 @@
 -- The items at the live indexes of a list.
 use Rattle.std.proofs.Common.{◌≡◌, ◌∙◌, ◌<◌, ℕ, List, [], ◌∷◌, ◌++◌, length, Some, refl, ap, arith}
 use Rattle.std.proofs.lemmas.List.{length_push}
-use Rattle.std.proofs.lemmas.List.Elements.{Contains-append_left, filter_map-append}
+use Rattle.std.proofs.lemmas.List.Elements.{filter_map-append}
 use Rattle.iddqd.specs.Store.{Store, get}
 use Rattle.iddqd.proofs.StoreLemmas.{contains_head, contains_tail}
 use Rattle.iddqd.proofs.LiveLemmas.{item_at}
@@ -25,9 +25,6 @@ module _ {T : Type 0} (s : Store T) where
       let one = ap length (items_at-cons ix item rest is) in
       let others = length-items_at rest (AreLive-tail ix rest live) in
       omega (arith, one, others)
-
-  pub AreLive-init : (ix : ℕ) (rest : List ℕ) → AreLive s (rest ++ ix ∷ []) → AreLive s rest
-  AreLive-init ix rest live j here = live j (Contains-append_left rest (ix ∷ []) j here)
 
 -- what is left of items once the last one was given is shorter
 pub shorter-push : {T : Type 0} (all rest : List T) (item : T) → all ≡ rest ++ item ∷ [] → length rest < length all

@@ -19,6 +19,7 @@ pub use Rattle.iddqd.specs.Store.{get, live_count, next_index, IsFull}
 pub use Rattle.iddqd.specs.Compaction.{rank, IsRemapOf}
 pub use Rattle.iddqd_order.specs.Iter.{indexes_left}
 pub use Rattle.iddqd_sides.specs.Scan.{IsLive, AnswersScan}
+pub use Rattle.iddqd_sides.specs.OrderedWalk.{WalksWithin, pairs_at}
 pub use Rattle.iddqd_keyed.specs.Keys.{keys_of}
 pub use Rattle.iddqd_keyed.specs.State.{empty_state, empty_state_within, cleared_state, unbound, Compacts, IsPaired}
 pub use Rattle.iddqd_keyed.specs.Sides.{hash_in, has, first_side, second_side, IsExact, LooksUp, AsScan}

@@ -2,15 +2,15 @@
 //!
 //! The items stand in the store alone, and so do their keys: both tables hold indexes, and read the
 //! key of an index from the store where they need it. So one item is stored once, and an index stays
-//! good until its item is removed, or all items are moved down or forgotten: by `remove`, `remove1`
-//! and `remove2`, by `compact` and by `clear`. Every index of an item stands in both
-//! tables once, and no other does, whatever becomes of the keys: an insert takes all memory before it
-//! writes anything, and a removal that frees a slot takes its index out of both tables.
+//! good until its item is removed, or all items are moved down or forgotten, by `compact` and by
+//! `clear`. Every index of an item stands in both tables once, and no other does, whatever becomes of
+//! the keys: an insert takes all memory before it writes anything, and a removal that frees a slot takes
+//! its index out of both tables.
 //!
 //! A removal searches both tables, by the keys that the item has now, and walks only where that misses.
 //! An insert is one search of the ordered table, which tells a duplicate, or else the place. Each call
-//! says that its states are paired, though the type does, so that `step` and `run` are proved from the
-//! calls' clauses alone. `walk` lends the indexes and takes no memory.
+//! that obeys a command says that its states are paired, though the type does, so that `step` and `run`
+//! are proved from the calls' clauses alone.
 ghost use Rattle.std.specs.Prelude.{◌≡◌, ◌↔◌, [], None, IsTrue, IsSome, IsOk, IfOk, OnOk, IfErr, OnErr, option_copied};
 ghost use Rattle.std.specs.FinMap as finite;
 ghost use Rattle.iddqd.specs.{get, live_count, next_index, inserted, removed, IsFull, IsValid, IsRemapOf};
@@ -38,6 +38,7 @@ use iddqd::map_hash::MapHash;
 use iddqd_hash::hash_table::MapHashTable;
 use iddqd_order::btree_table::{Entry, MapBTreeTable};
 use iddqd_sides::key_of::ByKey;
+pub use iddqd_sides::ordered_walk::Range;
 use iddqd_sides::{hashed, ordered};
 pub use replaces::ReplaceRefusal;
 use std::alloc::{AllocError, Global};

@@ -1,4 +1,4 @@
-//! Walks over the items, by rising index and in the order of their second keys. They take no memory.
+//! Walks over the items, by rising index and in the order of their second keys. No walk takes memory.
 ghost use Rattle.std.specs.Prelude.{◌≡◌, [], Some, IfSome, IsOk, IfOk, length};
 ghost use Rattle.std.specs.Iterator.{YieldsFirstRef, YieldsLastRef, item_count, at_most, UpTo};
 ghost use Rattle.std.specs.Iterator.SizeHint.{IsWithinCount};
@@ -11,14 +11,13 @@ ghost use Rattle.iddqd_keyed.specs.State.{IsPaired};
 ghost use Rattle.iddqd_keyed.specs.Sides.{second_side, IsExact};
 ghost use Rattle.iddqd_keyed.specs.Walks.{items_at, RangesWithin};
 
-use super::{Keyed, KeyedItems};
+use super::{Keyed, KeyedItems, Range};
 use crate::keyed_item::{KeyedItem, Second};
 use iddqd::item_index::ItemIndex;
 use iddqd::item_set::{self, ItemSet};
 use iddqd_order::btree_table;
 use iddqd_sides::order_query::OrdQuery;
 use iddqd_sides::ordered;
-use iddqd_sides::ordered_walk::Range;
 use std::alloc::AllocError;
 use std::fmt;
 use std::hash::BuildHasher;
@@ -65,7 +64,7 @@ impl<T: KeyedItem, S: BuildHasher> KeyedItems<T, S> {
     ///
     /// Where a second key was changed silently, they are those between some two places of the ordered
     /// table. Each query is compared with at most 4 and twice the binary digits of the number of items
-    /// second keys.
+    /// second keys. It takes no memory.
     pub fn range_by_key2<Q: OrdQuery<T::Key2>>(
         &self,
         lower: Bound<Q>,
