@@ -53,10 +53,8 @@ impl<T: IdOrdItem> IdOrdMap<T> {
         ensures { let within = is_between (bound_map Q.compare lower) (bound_map Q.compare upper) in
             IsWalkWithin T.key_of T.Key.cmp within self.now.store result }
     {
-        Range {
-            indexes: range_by::<T, ItsKey, Q>(&self.table, &self.items, lower, upper),
-            items: &self.items,
-        }
+        let (table, items) = (&self.table, &self.items);
+        Range::new(range_by::<T, ItsKey, Q>(table, items, lower, upper), items)
     }
 
     /// The item with the least key.

@@ -1,15 +1,15 @@
-use Rattle.std.proofs.Common.{subst}
+use Rattle.std.proofs.Common.{subst, sym}
 use Rattle.std.specs.Range.Bound.{bound_map}
 use Rattle.iddqd_order.specs.Range.{indexes_ahead}
 use Rattle.iddqd_sides.specs.OrderedQuery.{is_between}
+use Rattle.iddqd_sides.specs.OrderedWalk.{pairs_at}
 use Rattle.iddqd_map_base.specs.Map.{MapState}
 use Rattle.iddqd_id_ord.specs.KeyOrder.{IsWalkWithin}
-use Rattle.iddqd_id_ord.specs.Pairs.{pairs_at}
 use Rattle.iddqd_id_ord.proofs.WalkLemmas.{AreLive-within, IsWalkWithin-sorted}
 use Rattle.iddqd_id_ord.proofs.id_ord_map.IdOrdMap.range.Goals as goal
 
-pub invariant_of-result : goal.invariant_of-result
-invariant_of-result g c =
+pub new-requires : goal.new-requires
+new-requires g c =
     let within = is_between (bound_map g.Q.OrdQuery.compare c.args.lower) (bound_map g.Q.OrdQuery.compare c.args.upper) in
     AreLive-within g.T.IdOrdItem.key_of g.T.Key.Ord.cmp c.self.inside.items.store within (indexes_ahead c.range_by.result) c.range_by.ensures
 
@@ -20,5 +20,6 @@ returns g c =
     let s = c.self.inside.items.store in
     let within = is_between (bound_map g.Q.OrdQuery.compare c.args.lower) (bound_map g.Q.OrdQuery.compare c.args.upper) in
     let xs = indexes_ahead c.range_by.result in
-    subst (λ (m : MapState _). IsWalkWithin key_of compare within m.store (pairs_at s xs)) c.self.view_is
-    (IsWalkWithin-sorted key_of compare s within xs c.range_by.ensures c.self.invariant.sorted.exact.apart)
+    let walk = IsWalkWithin-sorted key_of compare s within xs c.range_by.ensures c.self.invariant.sorted.exact.apart in
+    let seen = subst (λ (m : MapState _). IsWalkWithin key_of compare within m.store (pairs_at s xs)) c.self.view_is walk in
+    subst (IsWalkWithin key_of compare within c.args.self.now.store) (sym c.new.ensures) seen
