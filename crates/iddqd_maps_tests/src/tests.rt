@@ -18,6 +18,8 @@ mod ord_retains;
 mod ord_searches;
 mod ord_walks;
 mod passes;
+mod rooms;
 mod slices;
+mod slots;
 mod tri_calls;
 mod tri_model;

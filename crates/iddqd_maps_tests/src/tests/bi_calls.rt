@@ -205,12 +205,51 @@ fn a_full_map_takes_an_item_that_clashes(rt: HostRuntime) -> Result<(), Fail> {
     Ok(())
 }
 
+// A full map of two tells each key that is there, and a key of its own is none to an item that is replaced.
+fn assert_full<S: BuildHasher>(rt: &impl Abort, map: &mut BiHashMap<Pass, S>) {
+    let (one, two) = (issued(1, 10, 0), issued(2, 20, 0));
+    assert!(rt; insert(map, one) == Ok(ix(0)) && insert(map, two) == Ok(ix(1)));
+    let (number, seat, both) = (issued(1, 30, 1), issued(3, 20, 1), issued(1, 20, 1));
+    assert!(rt; insert(map, number) == told(number, at(Some(0), None)));
+    assert!(rt; insert(map, seat) == told(seat, at(None, Some(1))));
+    assert!(rt; insert(map, both) == told(both, at(Some(0), Some(1))));
+    assert!(rt; insert(map, one) == told(one, at(Some(0), Some(0))));
+    assert!(rt; replace1(map, 1, both) == taken_by(both, at(None, Some(1))));
+    assert!(rt; replace2(map, 20, both) == taken_by(both, at(Some(0), None)));
+    let visited = issued(1, 10, 7);
+    assert!(rt; replace1(map, 1, visited) == Ok(one) && replace2(map, 10, one) == Ok(visited));
+}
+
+// It takes an item in the place of one or of two, and then there is place for another.
+fn assert_full_overwrites<S: BuildHasher>(rt: &impl Abort, map: &mut BiHashMap<Pass, S>) {
+    let (one, two) = (issued(1, 10, 0), issued(2, 20, 0));
+    let (seat, both, none) = (issued(3, 20, 1), issued(1, 20, 2), issued(4, 40, 3));
+    assert!(rt; overwrite(map, none) == Err(OverwriteRefusal::Full(none)));
+    assert!(rt; overwrite(map, seat) == Ok((ix(1), [Some(two), None])) && map.len() == 2);
+    assert!(rt; overwrite(map, both) == Ok((ix(1), [Some(one), Some(seat)])) && map.len() == 1);
+    assert!(rt; overwrite(map, none) == Ok((ix(0), [None, None])));
+    assert!(rt;
+        get1(map, 1) == Some(both) && get2(map, 40) == Some(none) && get1(map, 3).is_none()
+    );
+}
+
+#[test]
+fn a_full_map_tells_each_key(rt: HostRuntime) -> Result<(), Fail> {
+    let mut map = within(rt.alloc(), 2);
+    assert_full(&rt, &mut map);
+    assert_full_overwrites(&rt, &mut map);
+    let mut map = BiHashMap::with_limit(rt.alloc(), Constant, 2);
+    assert_full(&rt, &mut map);
+    assert_full_overwrites(&rt, &mut map);
+    Ok(())
+}
+
 #[test]
 fn maps_print_and_give_their_passes(rt: HostRuntime) -> Result<(), Fail> {
     let mut map = within(rt.alloc(), 2);
     assert!(rt; map.insert_unique(issued(1, 2, 3)).is_ok());
     let text = format!(in rt.alloc(); "{map:?}")?;
-    assert!(rt; text.as_str() == "{Pass { number: 1, seat: 2, visits: 3 }}");
+    assert!(rt; text.as_str() == "{{k1: 1, k2: 2}: Pass { number: 1, seat: 2, visits: 3 }}");
     assert!(rt; map.iter().len() == 1 && map.values().len() == 1);
     let mut left = map.into_values();
     assert!(rt; left.next() == Some(issued(1, 2, 3)) && left.next().is_none());

@@ -1,142 +1,60 @@
 //! A map with two keys beside a plain list of slots.
 use super::passes::{Pass, issued};
+use super::slots::{Numbers, Slots, index, ix};
 use iddqd::hash_builder::DefaultHashBuilder;
-use iddqd::item_index::ItemIndex;
 use iddqd_maps::bi_hash_map::{BiClash, BiHashMap};
 use iddqd_maps::refusal::{InsertRefusal, OverwriteRefusal, ReplaceRefusal};
 use std::alloc::{AllocError, Global};
 use std::process::Abort;
 use std::test::Fail;
 
-// Slots, and the numbers of those that were freed, the last at the end. It is searched by scans.
-#[derive(Drop)]
-struct Model {
-    slots: Vec<Option<Pass>>,
-    free: Vec<usize>,
-    // The most slots that there can be.
-    limit: usize,
-}
-
-impl Model {
-    fn new(alloc: Global, limit: u32) -> Model {
-        Model {
-            slots: Vec::new(alloc),
-            free: Vec::new(alloc),
-            limit: limit as usize,
-        }
-    }
-
-    // The slot whose pass has that number.
-    fn find1(&self, number: u32) -> Option<usize> {
-        for (place, slot) in self.slots.iter().enumerate() {
-            if slot.is_some_and(|pass| pass.number == number) {
-                return Some(place);
-            }
-        }
-        None
-    }
-
-    // The slot whose pass has that seat.
-    fn find2(&self, seat: u32) -> Option<usize> {
-        for (place, slot) in self.slots.iter().enumerate() {
-            if slot.is_some_and(|pass| pass.seat == seat) {
-                return Some(place);
-            }
-        }
-        None
-    }
-
-    // Where the keys of a pass are.
-    fn clash(&self, item: Pass) -> BiClash {
-        BiClash {
-            key1: index(self.find1(item.number)),
-            key2: index(self.find2(item.seat)),
-        }
-    }
-
-    // Where the keys of a pass are, but for this slot.
-    fn clash_beside(&self, item: Pass, place: usize) -> BiClash {
-        let at = self.clash(item);
-        let here = index(Some(place));
-        BiClash {
-            key1: if at.key1 == here { None } else { at.key1 },
-            key2: if at.key2 == here { None } else { at.key2 },
-        }
-    }
-
-    fn put(&mut self, place: usize, item: Option<Pass>) -> Option<Pass> {
-        match self.slots.get_mut(place) {
-            Some(slot) => {
-                let was = *slot;
-                *slot = item;
-                was
-            }
-            None => None,
-        }
-    }
-
-    // The slot of a new pass, if there is place for it.
-    fn insert(&mut self, item: Pass) -> Result<Option<usize>, AllocError> {
-        if let Some(place) = self.free.pop() {
-            self.put(place, Some(item));
-            return Ok(Some(place));
-        }
-        if self.slots.len() == self.limit {
-            return Ok(None);
-        }
-        self.slots.push(Some(item))?;
-        Ok(Some(self.slots.len().saturating_sub(1)))
-    }
-
-    // Frees a slot, if there is one.
-    fn remove(&mut self, place: Option<usize>) -> Result<Option<Pass>, AllocError> {
-        let Some(place) = place else {
-            return Ok(None);
-        };
-        self.free.push(place)?;
-        Ok(self.put(place, None))
-    }
-
-    // The slots whose passes have a key of this one, the lower first.
-    fn clashes(&self, item: Pass) -> (Option<usize>, Option<usize>) {
-        match (self.find1(item.number), self.find2(item.seat)) {
-            (Some(one), Some(two)) if one == two => (Some(one), None),
-            (Some(one), Some(two)) if two < one => (Some(two), Some(one)),
-            (None, two) => (two, None),
-            both => both,
-        }
-    }
-}
-
-// A linear congruential generator.
-#[derive(Clone, Copy)]
-struct Numbers(u64);
-
-impl Numbers {
-    // The upper bits of the next number, below the bound.
-    fn below(&mut self, bound: u32) -> u32 {
-        self.0 = self
-            .0
-            .wrapping_mul(6364136223846793005)
-            .wrapping_add(1442695040888963407);
-        let upper = (self.0 >> 33) as u32;
-        upper.checked_rem(bound).unwrap_or(0)
-    }
-}
-
-fn ix(place: usize) -> ItemIndex {
-    ItemIndex::of_slot(place).unwrap_or_default()
-}
-
-fn index(place: Option<usize>) -> Option<ItemIndex> {
-    place.map(ix)
-}
-
 type Map = BiHashMap<Pass>;
+
+type Model = Slots<Pass>;
+
+type Refusal = ReplaceRefusal<Pass, BiClash>;
+
+// The slot whose pass has that number.
+fn find1(model: &Model, number: u32) -> Option<usize> {
+    for place in 0..model.len() {
+        if model.at(place).is_some_and(|pass| pass.number == number) {
+            return Some(place);
+        }
+    }
+    None
+}
+
+// The slot whose pass has that seat.
+fn find2(model: &Model, seat: u32) -> Option<usize> {
+    for place in 0..model.len() {
+        if model.at(place).is_some_and(|pass| pass.seat == seat) {
+            return Some(place);
+        }
+    }
+    None
+}
+
+// Where the keys of a pass are.
+fn clash(model: &Model, item: Pass) -> BiClash {
+    BiClash {
+        key1: index(find1(model, item.number)),
+        key2: index(find2(model, item.seat)),
+    }
+}
+
+// Where the keys of a pass are, but for this slot.
+fn clash_beside(model: &Model, item: Pass, place: usize) -> BiClash {
+    let at = clash(model, item);
+    let here = index(Some(place));
+    BiClash {
+        key1: if at.key1 == here { None } else { at.key1 },
+        key2: if at.key2 == here { None } else { at.key2 },
+    }
+}
 
 fn inserts_alike(map: &mut Map, model: &mut Model, item: Pass) -> Result<bool, AllocError> {
     let answer = map.insert_unique(item);
-    let at = model.clash(item);
+    let at = clash(model, item);
     if at.is_some() {
         return Ok(answer == Err(InsertRefusal::Duplicate { item, at }));
     }
@@ -148,37 +66,107 @@ fn inserts_alike(map: &mut Map, model: &mut Model, item: Pass) -> Result<bool, A
 
 fn overwrites_alike(map: &mut Map, model: &mut Model, item: Pass) -> Result<bool, AllocError> {
     let answer = map.insert_overwrite(item);
-    let (first, second) = model.clashes(item);
-    let (first, second) = (model.remove(first)?, model.remove(second)?);
+    let found = [find1(model, item.number), find2(model, item.seat)];
+    let were = model.make_way(found)?;
     Ok(match model.insert(item)? {
-        Some(place) => answer == Ok((ix(place), [first, second])),
+        Some(place) => answer == Ok((ix(place), were)),
         None => answer == Err(OverwriteRefusal::Full(item)),
     })
 }
 
 // What a replacement answered, and what it does to the pass in that slot.
 fn is_replaced(
-    answer: Result<Pass, ReplaceRefusal<Pass, BiClash>>,
+    answer: Result<Pass, Refusal>,
     model: &mut Model,
     place: Option<usize>,
     item: Pass,
 ) -> bool {
     let Some(place) = place else {
-        return answer == Err(ReplaceRefusal::Missing(item));
+        return answer == Err(Refusal::Missing(item));
     };
-    let at = model.clash_beside(item, place);
+    let at = clash_beside(model, item, place);
     if at.is_some() {
-        return answer == Err(ReplaceRefusal::Duplicate { item, at });
+        return answer == Err(Refusal::Duplicate { item, at });
     }
     answer.ok() == model.put(place, Some(item))
 }
 
+// What a change answered, and what it does to the pass in that slot, which becomes this one.
+fn is_changed(
+    answer: Result<Option<Pass>, Refusal>,
+    model: &mut Model,
+    place: Option<usize>,
+    item: Option<Pass>,
+) -> bool {
+    let Some(item) = item else {
+        return answer == Ok(None);
+    };
+    match answer {
+        Ok(Some(was)) => is_replaced(Ok(was), model, place, item),
+        Ok(None) => false,
+        Err(refusal) => is_replaced(Err(refusal), model, place, item),
+    }
+}
+
+// Gives the pass with that number another one.
+fn changes1_alike(map: &mut Map, model: &mut Model, key: u32, item: Pass) -> bool {
+    let answer = map.change1(&key, |was| issued(item.number, was.seat, item.visits));
+    let place = find1(model, key);
+    let becomes = match model.in_slot(place) {
+        Some(was) => Some(issued(item.number, was.seat, item.visits)),
+        None => None,
+    };
+    is_changed(answer, model, place, becomes)
+}
+
+// Gives the pass with that seat another one.
+fn changes2_alike(map: &mut Map, model: &mut Model, key: u32, item: Pass) -> bool {
+    let answer = map.change2(&key, |was| issued(was.number, item.seat, item.visits));
+    let place = find2(model, key);
+    let becomes = match model.in_slot(place) {
+        Some(was) => Some(issued(was.number, item.seat, item.visits)),
+        None => None,
+    };
+    is_changed(answer, model, place, becomes)
+}
+
 fn finds_alike(map: &Map, model: &Model, number: u32) -> bool {
-    let (first, second) = (model.find1(number), model.find2(number));
-    map.find1(&number) == index(first)
-        && map.find2(&number) == index(second)
-        && map.contains_key1(&number) == first.is_some()
-        && map.contains_key2(&number) == second.is_some()
+    map.find1(&number) == index(find1(model, number))
+        && map.find2(&number) == index(find2(model, number))
+        && map.contains_key1(&number) == find1(model, number).is_some()
+        && map.contains_key2(&number) == find2(model, number).is_some()
+}
+
+// Both answer one call by the first key alike.
+fn answers1_alike(
+    map: &mut Map,
+    model: &mut Model,
+    kind: u32,
+    key: u32,
+    item: Pass,
+) -> Result<bool, AllocError> {
+    let place = find1(model, key);
+    Ok(match kind {
+        0..=1 => map.remove1(&key) == model.remove(place)?,
+        2..=3 => is_replaced(map.replace1(&key, item), model, place, item),
+        _ => changes1_alike(map, model, key, item),
+    })
+}
+
+// Both answer one call by the second key alike.
+fn answers2_alike(
+    map: &mut Map,
+    model: &mut Model,
+    kind: u32,
+    key: u32,
+    item: Pass,
+) -> Result<bool, AllocError> {
+    let place = find2(model, key);
+    Ok(match kind {
+        0..=1 => map.remove2(&key) == model.remove(place)?,
+        2..=3 => is_replaced(map.replace2(&key, item), model, place, item),
+        _ => changes2_alike(map, model, key, item),
+    })
 }
 
 // Both answer one call alike.
@@ -188,18 +176,59 @@ fn answers_alike(
     numbers: &mut Numbers,
     range: u32,
 ) -> Result<bool, AllocError> {
-    let kind = numbers.below(12);
-    let (key, visits) = (numbers.below(range), numbers.below(1000));
-    let item = issued(numbers.below(range), numbers.below(range), visits);
+    let (kind, key) = (numbers.below(11), numbers.below(range));
+    let (number, seat) = (numbers.below(range), numbers.below(range));
+    let item = issued(number, seat, numbers.below(1000));
     match kind {
         0..=3 => inserts_alike(map, model, item),
         4 => overwrites_alike(map, model, item),
-        5 => Ok(map.remove1(&key) == model.remove(model.find1(key))?),
-        6 => Ok(map.remove2(&key) == model.remove(model.find2(key))?),
-        7..=8 => Ok(is_replaced(map.replace1(&key, item), model, model.find1(key), item)),
-        9..=10 => Ok(is_replaced(map.replace2(&key, item), model, model.find2(key), item)),
+        5..=6 => answers1_alike(map, model, numbers.below(5), key, item),
+        7..=8 => answers2_alike(map, model, numbers.below(5), key, item),
         _ => Ok(finds_alike(map, model, key)),
     }
+}
+
+// Whether both have the same items under the same indexes.
+fn has_same_items(map: &Map, model: &Model) -> bool {
+    for (ix, item) in map.iter() {
+        if model.at(ix.as_u32() as usize) != Some(*item) {
+            return false;
+        }
+    }
+    map.len() == model.count()
+}
+
+fn keeps(item: &Pass) -> bool {
+    item.visits % 4 != 0
+}
+
+fn retain(map: &mut Map) {
+    map.retain(keeps);
+}
+
+// Both are cleared, close up or retain some alike.
+fn tidies_alike(map: &mut Map, model: &mut Model, kind: u32) -> Result<bool, AllocError> {
+    match kind {
+        0 => {
+            map.clear();
+            model.clear();
+        }
+        1..=4 => {
+            if map.compact()?.is_identity() != model.is_dense() {
+                return Ok(false);
+            }
+            model.close_up();
+        }
+        _ => {
+            retain(map);
+            for place in 0..model.len() {
+                if model.at(place).is_some_and(|item| !keeps(&item)) {
+                    model.remove(Some(place))?;
+                }
+            }
+        }
+    }
+    Ok(has_same_items(map, model))
 }
 
 // So many calls, over that many numbers.
@@ -211,8 +240,11 @@ fn assert_alike(
     calls: u32,
 ) -> Result<(), AllocError> {
     let mut numbers = Numbers(u64::from(range));
-    for _ in 0..calls {
+    for call in 0..calls {
         assert!(rt; answers_alike(map, model, &mut numbers, range)?);
+        if call % 50 == 0 {
+            assert!(rt; tidies_alike(map, model, numbers.below(10))?);
+        }
     }
     Ok(())
 }
@@ -225,7 +257,7 @@ fn calls_answer_as_a_list_of_slots(rt: HostRuntime) -> Result<(), Fail> {
         (5, 8, 4_000),
     ] {
         let mut map = BiHashMap::with_limit(rt.alloc(), DefaultHashBuilder::default(), limit);
-        let mut model = Model::new(rt.alloc(), limit);
+        let mut model = Slots::new(rt.alloc(), limit);
         assert_alike(&rt, &mut map, &mut model, range, calls)?;
     }
     Ok(())

@@ -156,7 +156,7 @@ fn refusals_and_maps_print_their_words(rt: HostRuntime) -> Result<(), Fail> {
     let mut map = within(rt.alloc(), 2);
     assert!(rt; map.insert_unique(numbered(1, 2)).is_ok());
     let text = format!(in rt.alloc(); "{map:?}")?;
-    assert!(rt; text.as_str() == "{Badge { number: 1, seat: 2 }}");
+    assert!(rt; text.as_str() == "{1: Badge { number: 1, seat: 2 }}");
     let mut left = map.into_values();
     assert!(rt; left.next() == Some(numbered(1, 2)) && left.next().is_none());
     Ok(())

@@ -1,5 +1,6 @@
 //! A map with one key beside a plain list of slots.
 use super::badges::{Badge, numbered};
+use super::slots::{Numbers, Slots, index, ix};
 use iddqd::hash_builder::DefaultHashBuilder;
 use iddqd::item_index::ItemIndex;
 use iddqd_maps::id_hash_map::IdHashMap;
@@ -8,92 +9,25 @@ use std::alloc::{AllocError, Global};
 use std::process::Abort;
 use std::test::Fail;
 
-// Slots, and the numbers of those that were freed, the last at the end. It is searched by scans.
-#[derive(Drop)]
-struct Model {
-    slots: Vec<Option<Badge>>,
-    free: Vec<usize>,
-    // The most slots that there can be.
-    limit: usize,
-}
-
-impl Model {
-    fn new(alloc: Global, limit: u32) -> Model {
-        Model {
-            slots: Vec::new(alloc),
-            free: Vec::new(alloc),
-            limit: limit as usize,
-        }
-    }
-
-    // The slot whose badge has that number.
-    fn find(&self, number: u32) -> Option<usize> {
-        for (place, slot) in self.slots.iter().enumerate() {
-            if slot.is_some_and(|badge| badge.number == number) {
-                return Some(place);
-            }
-        }
-        None
-    }
-
-    fn put(&mut self, place: usize, item: Option<Badge>) -> Option<Badge> {
-        match self.slots.get_mut(place) {
-            Some(slot) => {
-                let was = *slot;
-                *slot = item;
-                was
-            }
-            None => None,
-        }
-    }
-
-    // The slot of a new badge, if there is place for it.
-    fn insert(&mut self, item: Badge) -> Result<Option<usize>, AllocError> {
-        if let Some(place) = self.free.pop() {
-            self.put(place, Some(item));
-            return Ok(Some(place));
-        }
-        if self.slots.len() == self.limit {
-            return Ok(None);
-        }
-        self.slots.push(Some(item))?;
-        Ok(Some(self.slots.len().saturating_sub(1)))
-    }
-
-    fn remove(&mut self, number: u32) -> Result<Option<Badge>, AllocError> {
-        let Some(place) = self.find(number) else {
-            return Ok(None);
-        };
-        self.free.push(place)?;
-        Ok(self.put(place, None))
-    }
-}
-
-// A linear congruential generator.
-#[derive(Clone, Copy)]
-struct Numbers(u64);
-
-impl Numbers {
-    // The upper bits of the next number, below the bound.
-    fn below(&mut self, bound: u32) -> u32 {
-        self.0 = self
-            .0
-            .wrapping_mul(6364136223846793005)
-            .wrapping_add(1442695040888963407);
-        let upper = (self.0 >> 33) as u32;
-        upper.checked_rem(bound).unwrap_or(0)
-    }
-}
-
-fn ix(place: usize) -> ItemIndex {
-    ItemIndex::of_slot(place).unwrap_or_default()
-}
-
 type Map = IdHashMap<Badge>;
+
+type Model = Slots<Badge>;
+
+type Refusal = ReplaceRefusal<Badge, ItemIndex>;
+
+// The slot whose badge has that number.
+fn find(model: &Model, number: u32) -> Option<usize> {
+    for place in 0..model.len() {
+        if model.at(place).is_some_and(|badge| badge.number == number) {
+            return Some(place);
+        }
+    }
+    None
+}
 
 fn inserts_alike(map: &mut Map, model: &mut Model, item: Badge) -> Result<bool, AllocError> {
     let answer = map.insert_unique(item);
-    if let Some(place) = model.find(item.number) {
+    if let Some(place) = find(model, item.number) {
         let at = ix(place);
         return Ok(answer == Err(InsertRefusal::Duplicate { item, at }));
     }
@@ -105,7 +39,7 @@ fn inserts_alike(map: &mut Map, model: &mut Model, item: Badge) -> Result<bool, 
 
 fn overwrites_alike(map: &mut Map, model: &mut Model, item: Badge) -> Result<bool, AllocError> {
     let answer = map.insert_overwrite(item);
-    if let Some(place) = model.find(item.number) {
+    if let Some(place) = find(model, item.number) {
         let was = model.put(place, Some(item));
         return Ok(answer == Ok((ix(place), was)));
     }
@@ -115,26 +49,72 @@ fn overwrites_alike(map: &mut Map, model: &mut Model, item: Badge) -> Result<boo
     })
 }
 
-fn replaces_alike(map: &mut Map, model: &mut Model, number: u32, item: Badge) -> bool {
-    let answer = map.replace(&number, item);
-    let Some(place) = model.find(number) else {
-        return answer == Err(ReplaceRefusal::Missing(item));
+// What a replacement answered, and what it does to the badge in that slot.
+fn is_replaced(
+    answer: Result<Badge, Refusal>,
+    model: &mut Model,
+    place: Option<usize>,
+    item: Badge,
+) -> bool {
+    let Some(place) = place else {
+        return answer == Err(Refusal::Missing(item));
     };
-    match model.find(item.number) {
+    match find(model, item.number) {
         Some(other) if other != place => {
             let at = ix(other);
-            answer == Err(ReplaceRefusal::Duplicate { item, at })
+            answer == Err(Refusal::Duplicate { item, at })
         }
         _ => answer.ok() == model.put(place, Some(item)),
     }
 }
 
-fn finds_alike(map: &Map, model: &Model, number: u32) -> bool {
-    let found = map.find(&number);
-    match model.find(number) {
-        Some(place) => found == Some(ix(place)) && map.contains_key(&number),
-        None => found.is_none() && !map.contains_key(&number),
+// What a change answered, and what it does to the badge in that slot, which becomes this one.
+fn is_changed(
+    answer: Result<Option<Badge>, Refusal>,
+    model: &mut Model,
+    place: Option<usize>,
+    item: Option<Badge>,
+) -> bool {
+    let Some(item) = item else {
+        return answer == Ok(None);
+    };
+    match answer {
+        Ok(Some(was)) => is_replaced(Ok(was), model, place, item),
+        Ok(None) => false,
+        Err(refusal) => is_replaced(Err(refusal), model, place, item),
     }
+}
+
+// Gives the badge with that number another one.
+fn changes_alike(map: &mut Map, model: &mut Model, key: u32, item: Badge) -> bool {
+    let answer = map.change(&key, |was| numbered(item.number, item.seat));
+    let place = find(model, key);
+    let becomes = match model.in_slot(place) {
+        Some(was) => Some(numbered(item.number, item.seat)),
+        None => None,
+    };
+    is_changed(answer, model, place, becomes)
+}
+
+fn finds_alike(map: &Map, model: &Model, number: u32) -> bool {
+    let found = find(model, number);
+    map.find(&number) == index(found) && map.contains_key(&number) == found.is_some()
+}
+
+// Both answer one call by the key alike.
+fn answers_alike_by(
+    map: &mut Map,
+    model: &mut Model,
+    kind: u32,
+    key: u32,
+    item: Badge,
+) -> Result<bool, AllocError> {
+    let place = find(model, key);
+    Ok(match kind {
+        0..=1 => map.remove(&key) == model.remove(place)?,
+        2..=3 => is_replaced(map.replace(&key, item), model, place, item),
+        _ => changes_alike(map, model, key, item),
+    })
 }
 
 // Both answer one call alike.
@@ -144,16 +124,57 @@ fn answers_alike(
     numbers: &mut Numbers,
     range: u32,
 ) -> Result<bool, AllocError> {
-    let kind = numbers.below(10);
-    let (number, seat) = (numbers.below(range), numbers.below(1000));
-    let item = numbered(numbers.below(range), seat);
+    let (kind, key) = (numbers.below(11), numbers.below(range));
+    let item = numbered(numbers.below(range), numbers.below(1000));
     match kind {
-        0..=2 => inserts_alike(map, model, item),
-        3 => overwrites_alike(map, model, item),
-        4..=5 => Ok(map.remove(&number) == model.remove(number)?),
-        6..=7 => Ok(replaces_alike(map, model, number, item)),
-        _ => Ok(finds_alike(map, model, number)),
+        0..=3 => inserts_alike(map, model, item),
+        4 => overwrites_alike(map, model, item),
+        5..=8 => answers_alike_by(map, model, numbers.below(5), key, item),
+        _ => Ok(finds_alike(map, model, key)),
     }
+}
+
+// Whether both have the same items under the same indexes.
+fn has_same_items(map: &Map, model: &Model) -> bool {
+    for (ix, item) in map.iter() {
+        if model.at(ix.as_u32() as usize) != Some(*item) {
+            return false;
+        }
+    }
+    map.len() == model.count()
+}
+
+fn keeps(item: &Badge) -> bool {
+    item.seat % 4 != 0
+}
+
+fn retain(map: &mut Map) {
+    map.retain(keeps);
+}
+
+// Both are cleared, close up or retain some alike.
+fn tidies_alike(map: &mut Map, model: &mut Model, kind: u32) -> Result<bool, AllocError> {
+    match kind {
+        0 => {
+            map.clear();
+            model.clear();
+        }
+        1..=4 => {
+            if map.compact()?.is_identity() != model.is_dense() {
+                return Ok(false);
+            }
+            model.close_up();
+        }
+        _ => {
+            retain(map);
+            for place in 0..model.len() {
+                if model.at(place).is_some_and(|item| !keeps(&item)) {
+                    model.remove(Some(place))?;
+                }
+            }
+        }
+    }
+    Ok(has_same_items(map, model))
 }
 
 // So many calls, over that many numbers.
@@ -165,8 +186,11 @@ fn assert_alike(
     calls: u32,
 ) -> Result<(), AllocError> {
     let mut numbers = Numbers(u64::from(range));
-    for _ in 0..calls {
+    for call in 0..calls {
         assert!(rt; answers_alike(map, model, &mut numbers, range)?);
+        if call % 50 == 0 {
+            assert!(rt; tidies_alike(map, model, numbers.below(10))?);
+        }
     }
     Ok(())
 }
@@ -179,7 +203,7 @@ fn calls_answer_as_a_list_of_slots(rt: HostRuntime) -> Result<(), Fail> {
         (5, 8, 4_000),
     ] {
         let mut map = IdHashMap::with_limit(rt.alloc(), DefaultHashBuilder::default(), limit);
-        let mut model = Model::new(rt.alloc(), limit);
+        let mut model = Slots::new(rt.alloc(), limit);
         assert_alike(&rt, &mut map, &mut model, range, calls)?;
     }
     Ok(())

@@ -254,12 +254,58 @@ fn a_full_map_takes_an_item_that_clashes(rt: HostRuntime) -> Result<(), Fail> {
     Ok(())
 }
 
+// A full map of two tells each key that is there, and a key of its own is none to an item that is replaced.
+fn assert_full<S: BuildHasher>(rt: &impl Abort, map: &mut TriHashMap<Card, S>) {
+    let (one, two) = (printed(1, 10, 100, 0), printed(2, 20, 200, 0));
+    assert!(rt; insert(map, one) == Ok(ix(0)) && insert(map, two) == Ok(ix(1)));
+    let (seat, code, both) = (
+        printed(3, 20, 300, 1),
+        printed(3, 30, 100, 1),
+        printed(1, 30, 200, 1),
+    );
+    assert!(rt; insert(map, seat) == told(seat, at(None, Some(1), None)));
+    assert!(rt; insert(map, code) == told(code, at(None, None, Some(0))));
+    assert!(rt; insert(map, both) == told(both, at(Some(0), None, Some(1))));
+    assert!(rt; insert(map, one) == told(one, at(Some(0), Some(0), Some(0))));
+    assert!(rt; replace1(map, 1, both) == taken_by(both, at(None, None, Some(1))));
+    assert!(rt; replace3(map, 200, both) == taken_by(both, at(Some(0), None, None)));
+    let visited = printed(1, 10, 100, 7);
+    assert!(rt; replace2(map, 10, visited) == Ok(one) && replace3(map, 100, one) == Ok(visited));
+}
+
+// It takes an item in the place of one or of two, and then there is place for another.
+fn assert_full_overwrites<S: BuildHasher>(rt: &impl Abort, map: &mut TriHashMap<Card, S>) {
+    let (one, two) = (printed(1, 10, 100, 0), printed(2, 20, 200, 0));
+    let (code, both) = (printed(3, 30, 200, 1), printed(1, 30, 300, 2));
+    let none = printed(4, 40, 400, 3);
+    assert!(rt; overwrite(map, none) == Err(OverwriteRefusal::Full(none)));
+    assert!(rt; overwrite(map, code) == Ok((ix(1), [Some(two), None, None])) && map.len() == 2);
+    assert!(rt; overwrite(map, both) == Ok((ix(1), [Some(one), Some(code), None])));
+    assert!(rt; map.len() == 1 && overwrite(map, none) == Ok((ix(0), [None, None, None])));
+    assert!(rt;
+        get1(map, 1) == Some(both) && get2(map, 40) == Some(none) && get3(map, 200).is_none()
+    );
+}
+
+#[test]
+fn a_full_map_tells_each_key(rt: HostRuntime) -> Result<(), Fail> {
+    let mut map = within(rt.alloc(), 2);
+    assert_full(&rt, &mut map);
+    assert_full_overwrites(&rt, &mut map);
+    let mut map = TriHashMap::with_limit(rt.alloc(), Constant, 2);
+    assert_full(&rt, &mut map);
+    assert_full_overwrites(&rt, &mut map);
+    Ok(())
+}
+
 #[test]
 fn maps_print_and_give_their_cards(rt: HostRuntime) -> Result<(), Fail> {
     let mut map = within(rt.alloc(), 2);
     assert!(rt; map.insert_unique(printed(1, 2, 3, 4)).is_ok());
     let text = format!(in rt.alloc(); "{map:?}")?;
-    assert!(rt; text.as_str() == "{Card { number: 1, seat: 2, code: 3, visits: 4 }}");
+    assert!(rt;
+        text.as_str() == "{{k1: 1, k2: 2, k3: 3}: Card { number: 1, seat: 2, code: 3, visits: 4 }}"
+    );
     assert!(rt; map.iter().len() == 1 && map.values().len() == 1);
     let mut left = map.into_values();
     assert!(rt; left.next() == Some(printed(1, 2, 3, 4)) && left.next().is_none());

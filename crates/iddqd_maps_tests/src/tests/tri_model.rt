@@ -1,176 +1,89 @@
 //! A map with three keys beside a plain list of slots.
 use super::cards::{Card, printed};
+use super::slots::{Numbers, Slots, index, ix};
 use iddqd::hash_builder::DefaultHashBuilder;
-use iddqd::item_index::ItemIndex;
 use iddqd_maps::refusal::{InsertRefusal, OverwriteRefusal, ReplaceRefusal};
 use iddqd_maps::tri_hash_map::{TriClash, TriHashMap};
 use std::alloc::{AllocError, Global};
 use std::process::Abort;
 use std::test::Fail;
 
-// Slots, and the numbers of those that were freed, the last at the end. It is searched by scans.
-#[derive(Drop)]
-struct Model {
-    slots: Vec<Option<Card>>,
-    free: Vec<usize>,
-    // The most slots that there can be.
-    limit: usize,
-}
-
-impl Model {
-    fn new(alloc: Global, limit: u32) -> Model {
-        Model {
-            slots: Vec::new(alloc),
-            free: Vec::new(alloc),
-            limit: limit as usize,
-        }
-    }
-
-    // The slot whose card has that number.
-    fn find1(&self, number: u32) -> Option<usize> {
-        for (place, slot) in self.slots.iter().enumerate() {
-            if slot.is_some_and(|card| card.number == number) {
-                return Some(place);
-            }
-        }
-        None
-    }
-
-    // The slot whose card has that seat.
-    fn find2(&self, seat: u32) -> Option<usize> {
-        for (place, slot) in self.slots.iter().enumerate() {
-            if slot.is_some_and(|card| card.seat == seat) {
-                return Some(place);
-            }
-        }
-        None
-    }
-
-    // The slot whose card has that code.
-    fn find3(&self, code: u32) -> Option<usize> {
-        for (place, slot) in self.slots.iter().enumerate() {
-            if slot.is_some_and(|card| card.code == code) {
-                return Some(place);
-            }
-        }
-        None
-    }
-
-    // Where the keys of a card are.
-    fn clash(&self, item: Card) -> TriClash {
-        TriClash {
-            key1: index(self.find1(item.number)),
-            key2: index(self.find2(item.seat)),
-            key3: index(self.find3(item.code)),
-        }
-    }
-
-    // Where the keys of a card are, but for this slot.
-    fn clash_beside(&self, item: Card, place: usize) -> TriClash {
-        let at = self.clash(item);
-        let here = index(Some(place));
-        TriClash {
-            key1: if at.key1 == here { None } else { at.key1 },
-            key2: if at.key2 == here { None } else { at.key2 },
-            key3: if at.key3 == here { None } else { at.key3 },
-        }
-    }
-
-    fn put(&mut self, place: usize, item: Option<Card>) -> Option<Card> {
-        match self.slots.get_mut(place) {
-            Some(slot) => {
-                let was = *slot;
-                *slot = item;
-                was
-            }
-            None => None,
-        }
-    }
-
-    // The slot of a new card, if there is place for it.
-    fn insert(&mut self, item: Card) -> Result<Option<usize>, AllocError> {
-        if let Some(place) = self.free.pop() {
-            self.put(place, Some(item));
-            return Ok(Some(place));
-        }
-        if self.slots.len() == self.limit {
-            return Ok(None);
-        }
-        self.slots.push(Some(item))?;
-        Ok(Some(self.slots.len().saturating_sub(1)))
-    }
-
-    // Frees a slot, if there is one.
-    fn remove(&mut self, place: Option<usize>) -> Result<Option<Card>, AllocError> {
-        let Some(place) = place else {
-            return Ok(None);
-        };
-        self.free.push(place)?;
-        Ok(self.put(place, None))
-    }
-
-    // Frees the slots whose cards have a key of this one, by rising number, and tells these cards.
-    fn make_way(&mut self, item: Card) -> Result<[Option<Card>; 3], AllocError> {
-        let found = [
-            self.find1(item.number),
-            self.find2(item.seat),
-            self.find3(item.code),
-        ];
-        let mut cards = [None; 3];
-        let mut count = 0usize;
-        for place in 0..self.slots.len() {
-            if found.contains(&Some(place)) {
-                if let Some(card) = cards.get_mut(count) {
-                    *card = self.remove(Some(place))?;
-                }
-                count = count.saturating_add(1);
-            }
-        }
-        Ok(cards)
-    }
-}
-
-// A linear congruential generator.
-#[derive(Clone, Copy)]
-struct Numbers(u64);
-
-impl Numbers {
-    // The upper bits of the next number, below the bound.
-    fn below(&mut self, bound: u32) -> u32 {
-        self.0 = self
-            .0
-            .wrapping_mul(6364136223846793005)
-            .wrapping_add(1442695040888963407);
-        let upper = (self.0 >> 33) as u32;
-        upper.checked_rem(bound).unwrap_or(0)
-    }
-}
-
-fn ix(place: usize) -> ItemIndex {
-    ItemIndex::of_slot(place).unwrap_or_default()
-}
-
-fn index(place: Option<usize>) -> Option<ItemIndex> {
-    ItemIndex::of_slot(place?)
-}
-
 type Map = TriHashMap<Card>;
+
+type Model = Slots<Card>;
+
+type Refusal = ReplaceRefusal<Card, TriClash>;
+
+// The slot whose card has that number.
+fn find1(model: &Model, number: u32) -> Option<usize> {
+    for place in 0..model.len() {
+        if model.at(place).is_some_and(|card| card.number == number) {
+            return Some(place);
+        }
+    }
+    None
+}
+
+// The slot whose card has that seat.
+fn find2(model: &Model, seat: u32) -> Option<usize> {
+    for place in 0..model.len() {
+        if model.at(place).is_some_and(|card| card.seat == seat) {
+            return Some(place);
+        }
+    }
+    None
+}
+
+// The slot whose card has that code.
+fn find3(model: &Model, code: u32) -> Option<usize> {
+    for place in 0..model.len() {
+        if model.at(place).is_some_and(|card| card.code == code) {
+            return Some(place);
+        }
+    }
+    None
+}
+
+// Where the keys of a card are.
+fn clash(model: &Model, item: Card) -> TriClash {
+    TriClash {
+        key1: index(find1(model, item.number)),
+        key2: index(find2(model, item.seat)),
+        key3: index(find3(model, item.code)),
+    }
+}
+
+// Where the keys of a card are, but for this slot.
+fn clash_beside(model: &Model, item: Card, place: usize) -> TriClash {
+    let at = clash(model, item);
+    let here = index(Some(place));
+    TriClash {
+        key1: if at.key1 == here { None } else { at.key1 },
+        key2: if at.key2 == here { None } else { at.key2 },
+        key3: if at.key3 == here { None } else { at.key3 },
+    }
+}
 
 fn inserts_alike(map: &mut Map, model: &mut Model, item: Card) -> Result<bool, AllocError> {
     let answer = map.insert_unique(item);
-    let at = model.clash(item);
+    let at = clash(model, item);
     if at.is_some() {
         return Ok(answer == Err(InsertRefusal::Duplicate { item, at }));
     }
     Ok(match model.insert(item)? {
-        Some(place) => answer.ok() == index(Some(place)),
+        Some(place) => answer == Ok(ix(place)),
         None => answer == Err(InsertRefusal::Full(item)),
     })
 }
 
 fn overwrites_alike(map: &mut Map, model: &mut Model, item: Card) -> Result<bool, AllocError> {
     let answer = map.insert_overwrite(item);
-    let were = model.make_way(item)?;
+    let found = [
+        find1(model, item.number),
+        find2(model, item.seat),
+        find3(model, item.code),
+    ];
+    let were = model.make_way(found)?;
     Ok(match model.insert(item)? {
         Some(place) => answer == Ok((ix(place), were)),
         None => answer == Err(OverwriteRefusal::Full(item)),
@@ -179,49 +92,134 @@ fn overwrites_alike(map: &mut Map, model: &mut Model, item: Card) -> Result<bool
 
 // What a replacement answered, and what it does to the card in that slot.
 fn is_replaced(
-    answer: Result<Card, ReplaceRefusal<Card, TriClash>>,
+    answer: Result<Card, Refusal>,
     model: &mut Model,
     place: Option<usize>,
     item: Card,
 ) -> bool {
     let Some(place) = place else {
-        return answer == Err(ReplaceRefusal::Missing(item));
+        return answer == Err(Refusal::Missing(item));
     };
-    let at = model.clash_beside(item, place);
+    let at = clash_beside(model, item, place);
     if at.is_some() {
-        return answer == Err(ReplaceRefusal::Duplicate { item, at });
+        return answer == Err(Refusal::Duplicate { item, at });
     }
     answer.ok() == model.put(place, Some(item))
 }
 
-fn finds_alike(map: &Map, model: &Model, number: u32) -> bool {
-    let first = model.find1(number);
-    map.find1(&number) == index(first)
-        && map.find2(&number) == index(model.find2(number))
-        && map.find3(&number) == index(model.find3(number))
-        && map.contains_key1(&number) == first.is_some()
-}
-
-// A replacement by one of the keys.
-fn replaces_alike(map: &mut Map, model: &mut Model, kind: u32, key: u32, item: Card) -> bool {
-    match kind {
-        0 => is_replaced(map.replace1(&key, item), model, model.find1(key), item),
-        1 => is_replaced(map.replace2(&key, item), model, model.find2(key), item),
-        _ => is_replaced(map.replace3(&key, item), model, model.find3(key), item),
+// What a change answered, and what it does to the card in that slot, which becomes this one.
+fn is_changed(
+    answer: Result<Option<Card>, Refusal>,
+    model: &mut Model,
+    place: Option<usize>,
+    item: Option<Card>,
+) -> bool {
+    let Some(item) = item else {
+        return answer == Ok(None);
+    };
+    match answer {
+        Ok(Some(was)) => is_replaced(Ok(was), model, place, item),
+        Ok(None) => false,
+        Err(refusal) => is_replaced(Err(refusal), model, place, item),
     }
 }
 
-// A removal by one of the keys.
-fn removes_alike(
+// Gives the card with that number another one.
+fn changes1_alike(map: &mut Map, model: &mut Model, key: u32, item: Card) -> bool {
+    let answer = map.change1(
+        &key,
+        |was| printed(item.number, was.seat, was.code, item.visits),
+    );
+    let place = find1(model, key);
+    let becomes = match model.in_slot(place) {
+        Some(was) => Some(printed(item.number, was.seat, was.code, item.visits)),
+        None => None,
+    };
+    is_changed(answer, model, place, becomes)
+}
+
+// Gives the card with that seat another one.
+fn changes2_alike(map: &mut Map, model: &mut Model, key: u32, item: Card) -> bool {
+    let answer = map.change2(
+        &key,
+        |was| printed(was.number, item.seat, was.code, item.visits),
+    );
+    let place = find2(model, key);
+    let becomes = match model.in_slot(place) {
+        Some(was) => Some(printed(was.number, item.seat, was.code, item.visits)),
+        None => None,
+    };
+    is_changed(answer, model, place, becomes)
+}
+
+// Gives the card with that code another one.
+fn changes3_alike(map: &mut Map, model: &mut Model, key: u32, item: Card) -> bool {
+    let answer = map.change3(
+        &key,
+        |was| printed(was.number, was.seat, item.code, item.visits),
+    );
+    let place = find3(model, key);
+    let becomes = match model.in_slot(place) {
+        Some(was) => Some(printed(was.number, was.seat, item.code, item.visits)),
+        None => None,
+    };
+    is_changed(answer, model, place, becomes)
+}
+
+fn finds_alike(map: &Map, model: &Model, number: u32) -> bool {
+    map.find1(&number) == index(find1(model, number))
+        && map.find2(&number) == index(find2(model, number))
+        && map.find3(&number) == index(find3(model, number))
+        && map.contains_key1(&number) == find1(model, number).is_some()
+        && map.contains_key2(&number) == find2(model, number).is_some()
+        && map.contains_key3(&number) == find3(model, number).is_some()
+}
+
+// Both answer one call by the first key alike.
+fn answers1_alike(
     map: &mut Map,
     model: &mut Model,
     kind: u32,
     key: u32,
+    item: Card,
 ) -> Result<bool, AllocError> {
+    let place = find1(model, key);
     Ok(match kind {
-        0 => map.remove1(&key) == model.remove(model.find1(key))?,
-        1 => map.remove2(&key) == model.remove(model.find2(key))?,
-        _ => map.remove3(&key) == model.remove(model.find3(key))?,
+        0..=1 => map.remove1(&key) == model.remove(place)?,
+        2..=3 => is_replaced(map.replace1(&key, item), model, place, item),
+        _ => changes1_alike(map, model, key, item),
+    })
+}
+
+// Both answer one call by the second key alike.
+fn answers2_alike(
+    map: &mut Map,
+    model: &mut Model,
+    kind: u32,
+    key: u32,
+    item: Card,
+) -> Result<bool, AllocError> {
+    let place = find2(model, key);
+    Ok(match kind {
+        0..=1 => map.remove2(&key) == model.remove(place)?,
+        2..=3 => is_replaced(map.replace2(&key, item), model, place, item),
+        _ => changes2_alike(map, model, key, item),
+    })
+}
+
+// Both answer one call by the third key alike.
+fn answers3_alike(
+    map: &mut Map,
+    model: &mut Model,
+    kind: u32,
+    key: u32,
+    item: Card,
+) -> Result<bool, AllocError> {
+    let place = find3(model, key);
+    Ok(match kind {
+        0..=1 => map.remove3(&key) == model.remove(place)?,
+        2..=3 => is_replaced(map.replace3(&key, item), model, place, item),
+        _ => changes3_alike(map, model, key, item),
     })
 }
 
@@ -232,17 +230,61 @@ fn answers_alike(
     numbers: &mut Numbers,
     range: u32,
 ) -> Result<bool, AllocError> {
-    let (kind, which) = (numbers.below(12), numbers.below(3));
-    let (key, visits) = (numbers.below(range), numbers.below(1000));
+    let (kind, key) = (numbers.below(11), numbers.below(range));
     let (number, seat) = (numbers.below(range), numbers.below(range));
-    let item = printed(number, seat, numbers.below(range), visits);
+    let (code, visits) = (numbers.below(range), numbers.below(1000));
+    let item = printed(number, seat, code, visits);
     match kind {
-        0..=4 => inserts_alike(map, model, item),
-        5 => overwrites_alike(map, model, item),
-        6..=7 => removes_alike(map, model, which, key),
-        8..=10 => Ok(replaces_alike(map, model, which, key, item)),
+        0..=3 => inserts_alike(map, model, item),
+        4 => overwrites_alike(map, model, item),
+        5..=6 => answers1_alike(map, model, numbers.below(5), key, item),
+        7..=8 => answers2_alike(map, model, numbers.below(5), key, item),
+        9 => answers3_alike(map, model, numbers.below(5), key, item),
         _ => Ok(finds_alike(map, model, key)),
     }
+}
+
+// Whether both have the same items under the same indexes.
+fn has_same_items(map: &Map, model: &Model) -> bool {
+    for (ix, item) in map.iter() {
+        if model.at(ix.as_u32() as usize) != Some(*item) {
+            return false;
+        }
+    }
+    map.len() == model.count()
+}
+
+fn keeps(item: &Card) -> bool {
+    item.visits % 4 != 0
+}
+
+fn retain(map: &mut Map) {
+    map.retain(keeps);
+}
+
+// Both are cleared, close up or retain some alike.
+fn tidies_alike(map: &mut Map, model: &mut Model, kind: u32) -> Result<bool, AllocError> {
+    match kind {
+        0 => {
+            map.clear();
+            model.clear();
+        }
+        1..=4 => {
+            if map.compact()?.is_identity() != model.is_dense() {
+                return Ok(false);
+            }
+            model.close_up();
+        }
+        _ => {
+            retain(map);
+            for place in 0..model.len() {
+                if model.at(place).is_some_and(|item| !keeps(&item)) {
+                    model.remove(Some(place))?;
+                }
+            }
+        }
+    }
+    Ok(has_same_items(map, model))
 }
 
 // So many calls, over that many numbers.
@@ -254,8 +296,11 @@ fn assert_alike(
     calls: u32,
 ) -> Result<(), AllocError> {
     let mut numbers = Numbers(u64::from(range));
-    for _ in 0..calls {
+    for call in 0..calls {
         assert!(rt; answers_alike(map, model, &mut numbers, range)?);
+        if call % 50 == 0 {
+            assert!(rt; tidies_alike(map, model, numbers.below(10))?);
+        }
     }
     Ok(())
 }
@@ -268,7 +313,7 @@ fn calls_answer_as_a_list_of_slots(rt: HostRuntime) -> Result<(), Fail> {
         (5, 8, 4_000),
     ] {
         let mut map = TriHashMap::with_limit(rt.alloc(), DefaultHashBuilder::default(), limit);
-        let mut model = Model::new(rt.alloc(), limit);
+        let mut model = Slots::new(rt.alloc(), limit);
         assert_alike(&rt, &mut map, &mut model, range, calls)?;
     }
     Ok(())
