@@ -119,13 +119,10 @@ def reported(it, crate, path, names):
     """The name, of those that a check tells of, under which it tells of this function of the file; None if in doubt."""
     inner = re.sub(r"^src/|(/mod)?\.rt$", "", path).split("/")
     module = "::".join([crate, *([] if inner in (["lib"], ["main"]) else inner)])
-    if not it.owner:
-        fits = re.escape(f"{module}::{it.name}")
-    elif it.is_impl:
-        fits = re.escape(f"{module}::{it.owner}") + r"\w*::" + it.name
-    else:
-        fits = rf"{crate}::(\w+::)*{it.owner}::{it.name}"
+    whole = "::".join(part for part in [module, it.owner, it.name] if part)
+    if whole in names or not it.owner:
+        return whole if whole in names else None
+    # an impl is told with its trait's arguments, another method where its type stands
+    fits = rf"{module}::{it.owner}\w*::{it.name}" if it.is_impl else rf"{crate}::(\w+::)*{it.owner}::{it.name}"
     found = [name for name in names if re.fullmatch(fits, name)]
-    exact = [name for name in found if name.endswith(f"::{it.owner}::{it.name}")]
-    chosen = exact if len(exact) == 1 else found
-    return chosen[0] if len(chosen) == 1 else None
+    return found[0] if len(found) == 1 else None
