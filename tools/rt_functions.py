@@ -43,8 +43,11 @@ def body_of(text, at):
 
 
 def plain(path):
-    """The last name of a type's or trait's path, without its arguments."""
-    return re.sub(r"<.*", "", path.strip().lstrip("&"), flags=re.DOTALL).split("::")[-1].strip()
+    """The last name of a type's or trait's path, without its arguments, in the words of a check: `&str` is `RefStr`."""
+    behind = re.match(r"&(?:'\w+ )?(?:mut )?", path.strip())
+    name = re.sub(r"<.*", "", path.strip()[behind.end() if behind else 0 :], flags=re.DOTALL).split("::")[-1].strip()
+    # of a reference to a parameter only the reference is told
+    return f"Ref{name[0].upper() + name[1:] if len(name) > 1 else ''}" if behind else name
 
 
 def owner_of(kind, head):
