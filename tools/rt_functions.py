@@ -82,6 +82,12 @@ def functions(text):
     return found
 
 
+def lines(text, key):
+    """The first and the last line of a function."""
+    it = functions(text)[key]
+    return text.count("\n", 0, it.start) + 1, text.count("\n", 0, it.end) + 1
+
+
 def words(text):
     """The text without comments and layout."""
     return " ".join(without(COMMENT, text).split())
