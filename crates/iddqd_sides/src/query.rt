@@ -66,7 +66,8 @@ impl<T: Eq + Hash, A: Allocator> HashQuery<Vec<T, A>> for &[T] {
     ghost same_key = { λ q x y. (lists_equiv T.Eq.laws).congr q.now x.items y.items };
 
     fn stands_for(&self, key: &Vec<T, A>) -> bool {
-        **self == *key.as_slice()
+        let items = key.as_slice();
+        **self == *items
     }
 }
 
