@@ -6,34 +6,54 @@ ghost use Rattle.std.specs.Cmp.Rules.{comparing};
 ghost use Rattle.std.proofs.Common.{rules};
 
 use iddqd_maps::id_ord_map::{IdOrdItem, IdOrdMap};
+use std::alloc::AllocError;
 use std::cell::Cell;
 use std::cmp::Ordering;
 use std::ops::Bound;
 use std::process::Abort;
+use std::rc::Rc;
 use std::test::Fail;
 
-// A key whose value is the number alone, and that counts how often it is compared.
-#[derive(Clone, Copy)]
-struct Counted<'a> {
-    number: u32,
-    count: &'a Cell<u32>,
+// How often keys were compared.
+#[derive(Drop)]
+struct Count {
+    compared: Cell<u32>,
 }
 
-impl<'a> PartialEq for Counted<'a> {
+impl Count {
+    fn note(&self) {
+        self.compared.set(self.compared.get().saturating_add(1));
+    }
+
+    // At most 4 and twice the 10 binary digits of 1000, and some, since the last look.
+    fn is_search(&self) -> bool {
+        let compared = self.compared.replace(0);
+        0 < compared && compared <= 24
+    }
+}
+
+// A key whose value is the number alone, and that counts how often it is compared.
+#[derive(Drop)]
+struct Counted {
+    number: u32,
+    count: Rc<Count>,
+}
+
+impl PartialEq for Counted {
     ghost eq = { λ a b. a.number == b.number };
 
     ghost laws = { Prim.search (comparing, rules) };
 
-    fn eq(&self, other: &Counted<'a>) -> bool {
+    fn eq(&self, other: &Counted) -> bool {
         self.number == other.number
     }
 }
 
-impl<'a> Eq for Counted<'a> {
+impl Eq for Counted {
     ghost laws = { Prim.search (comparing, rules) };
 }
 
-impl<'a> Ord for Counted<'a> {
+impl Ord for Counted {
     ghost cmp = { on (λ a. a.number) nat_cmp };
 
     ghost total = { Prim.search (comparing, rules) };
@@ -42,125 +62,130 @@ impl<'a> Ord for Counted<'a> {
 
     ghost matches_eq = { Prim.search (comparing, rules) };
 
-    fn cmp(&self, other: &Counted<'a>) -> Ordering {
-        self.count.set(self.count.get().wrapping_add(1));
+    fn cmp(&self, other: &Counted) -> Ordering {
+        self.count.note();
         self.number.cmp(&other.number)
     }
 }
 
-impl<'a> PartialOrd for Counted<'a> {
+impl PartialOrd for Counted {
     ghost partial_cmp = { as_partial_cmp (on (λ a. a.number) nat_cmp) };
 
     ghost laws = { partial_order_from_own_ties (Prim.search (comparing, rules)) (Prim.search (comparing, rules)) };
 
-    fn partial_cmp(&self, other: &Counted<'a>) -> Option<Ordering> {
+    fn partial_cmp(&self, other: &Counted) -> Option<Ordering> {
         Some(self.cmp(other))
     }
 }
 
 // An item that is its key.
-struct Ticket<'a>(Counted<'a>);
+#[derive(Drop)]
+struct Ticket(Counted);
 
-impl<'a> Drop for Ticket<'a> {
-    fn drop(self) {
-        let Ticket(_) = self;
-    }
-}
-
-impl<'a> IdOrdItem for Ticket<'a> {
-    type Key = Counted<'a>;
+impl IdOrdItem for Ticket {
+    type Key = Counted;
 
     ghost key_of = { λ ticket. ticket.0 };
 
-    fn key(&self) -> &Counted<'a> {
+    fn key(&self) -> &Counted {
         &self.0
     }
 }
 
-type Tickets<'a> = IdOrdMap<Ticket<'a>>;
+type Tickets = IdOrdMap<Ticket>;
 
-// At most 4 and twice the 10 binary digits of 1000, and some.
-fn is_search(count: &Cell<u32>) -> bool {
-    let compared = count.replace(0);
-    0 < compared && compared <= 24
+fn counted(count: &Rc<Count>, number: u32) -> Result<Counted, AllocError> {
+    let count = count.clone()?;
+    Ok(Counted { number, count })
 }
 
-fn insert<'a>(tickets: &mut Tickets<'a>, number: u32, count: &'a Cell<u32>) -> bool {
-    tickets
-        .insert_unique(Ticket(Counted { number, count }))
-        .is_ok()
+fn insert(tickets: &mut Tickets, number: u32, count: &Rc<Count>) -> Result<bool, AllocError> {
+    let ticket = Ticket(counted(count, number)?);
+    Ok(tickets.insert_unique(ticket).is_ok())
 }
 
-fn overwrite<'a>(tickets: &mut Tickets<'a>, number: u32, count: &'a Cell<u32>) -> bool {
-    tickets
-        .insert_overwrite(Ticket(Counted { number, count }))
-        .is_ok()
+fn overwrite(tickets: &mut Tickets, number: u32, count: &Rc<Count>) -> Result<bool, AllocError> {
+    let ticket = Ticket(counted(count, number)?);
+    Ok(tickets.insert_overwrite(ticket).is_ok())
 }
 
-fn has<'a>(tickets: &Tickets<'a>, number: u32, count: &'a Cell<u32>) -> bool {
-    tickets.contains_key(&Counted { number, count })
+fn has(tickets: &Tickets, number: u32, count: &Rc<Count>) -> Result<bool, AllocError> {
+    let key = counted(count, number)?;
+    Ok(tickets.contains_key(&key))
 }
 
-fn remove<'a>(tickets: &mut Tickets<'a>, number: u32, count: &'a Cell<u32>) -> bool {
-    tickets.remove(&Counted { number, count }).is_some()
+fn remove(tickets: &mut Tickets, number: u32, count: &Rc<Count>) -> Result<bool, AllocError> {
+    let key = counted(count, number)?;
+    Ok(tickets.remove(&key).is_some())
 }
 
-// The least number from a bound on, by a walk that compares both bounds.
-fn from<'a>(tickets: &Tickets<'a>, number: u32, count: &'a Cell<u32>) -> Option<u32> {
-    let lower = Counted { number, count };
+// Whether a number from this one on is there, by a walk that compares its bound.
+fn has_from(tickets: &Tickets, number: u32, count: &Rc<Count>) -> Result<bool, AllocError> {
+    let lower = counted(count, number)?;
     let mut walk = tickets.range(Bound::Included(&lower), Bound::Unbounded);
-    match walk.next() {
-        Some((_, ticket)) => Some(ticket.0.number),
-        None => None,
-    }
+    Ok(walk.next().is_some())
 }
 
 // Even numbers below 2000, in another order.
-fn fill<'a>(rt: &impl Abort, tickets: &mut Tickets<'a>, count: &'a Cell<u32>) {
+fn fill(rt: &impl Abort, tickets: &mut Tickets, count: &Rc<Count>) -> Result<(), AllocError> {
     for place in 0..1000_u32 {
         let number = (place.wrapping_mul(7) % 1000).wrapping_mul(2);
-        assert!(rt; insert(tickets, number, count));
-        assert!(rt; place == 0 || is_search(count));
+        assert!(rt; insert(tickets, number, count)?);
+        assert!(rt; place == 0 || count.is_search());
     }
+    Ok(())
 }
 
-// A call that searches, at keys that are there and at those that aren't.
-fn assert_searches<'a>(rt: &impl Abort, tickets: &mut Tickets<'a>, count: &'a Cell<u32>) {
+// A look-up, at numbers that are there and at those that aren't.
+fn assert_looks(rt: &impl Abort, tickets: &Tickets, count: &Rc<Count>) -> Result<(), AllocError> {
     for number in 0..2001_u32 {
         let there = number < 2000 && number.is_multiple_of(2);
-        assert!(rt; has(tickets, number, count) == there && is_search(count));
+        assert!(rt; has(tickets, number, count)? == there && count.is_search());
     }
     for number in [0, 1, 998, 999, 1998, 1999] {
-        assert!(rt; from(tickets, number, count).is_some() == (number < 1999) && is_search(count));
+        assert!(rt; has_from(tickets, number, count)? == (number < 1999) && count.is_search());
     }
+    Ok(())
+}
+
+// The other calls that search, at numbers that are there and then aren't.
+fn assert_changes(
+    rt: &impl Abort,
+    tickets: &mut Tickets,
+    count: &Rc<Count>,
+) -> Result<(), AllocError> {
     for number in [0, 998, 1998] {
-        assert!(rt; !insert(tickets, number, count) && is_search(count));
-        assert!(rt; overwrite(tickets, number, count) && is_search(count));
-        assert!(rt; remove(tickets, number, count) && is_search(count));
-        assert!(rt; !remove(tickets, number, count) && is_search(count));
-        assert!(rt; overwrite(tickets, number, count) && is_search(count));
+        assert!(rt; !insert(tickets, number, count)? && count.is_search());
+        assert!(rt; overwrite(tickets, number, count)? && count.is_search());
+        assert!(rt; remove(tickets, number, count)? && count.is_search());
+        assert!(rt; !remove(tickets, number, count)? && count.is_search());
+        assert!(rt; overwrite(tickets, number, count)? && count.is_search());
     }
+    Ok(())
+}
+
+fn keep_lower(tickets: &mut Tickets) {
+    tickets.retain(|ticket| ticket.0.number < 1000);
 }
 
 // Calls that compare no key, and the removal of an end, which is a search.
-fn assert_others(rt: &impl Abort, tickets: &mut Tickets<'_>, count: &Cell<u32>) {
+fn assert_others(rt: &impl Abort, tickets: &mut Tickets, count: &Rc<Count>) {
     keep_lower(tickets);
     assert!(rt; tickets.first().is_some() && tickets.last().is_some());
-    assert!(rt; tickets.compact().is_ok() && tickets.len() == 500 && count.get() == 0);
-    assert!(rt; tickets.pop_first().is_some() && is_search(count));
-    assert!(rt; tickets.pop_last().is_some() && is_search(count));
-}
-
-fn keep_lower(tickets: &mut Tickets<'_>) {
-    tickets.retain(|ticket| ticket.0.number < 1000);
+    assert!(rt; tickets.compact().is_ok() && tickets.len() == 500);
+    assert!(rt; count.compared.get() == 0);
+    assert!(rt; tickets.pop_first().is_some() && count.is_search());
+    assert!(rt; tickets.pop_last().is_some() && count.is_search());
 }
 
 #[test]
 fn calls_compare_few_keys(rt: HostRuntime) -> Result<(), Fail> {
-    let count = Cell::new(0);
+    let compared = Cell::new(0);
+    let count = Rc::new(rt.alloc(), Count { compared })?;
     let mut tickets = IdOrdMap::new(rt.alloc());
-    fill(&rt, &mut tickets, &count);
-    assert_searches(&rt, &mut tickets, &count);
+    fill(&rt, &mut tickets, &count)?;
+    assert_looks(&rt, &tickets, &count)?;
+    assert_changes(&rt, &mut tickets, &count)?;
     assert_others(&rt, &mut tickets, &count);
     Ok(())
 }
