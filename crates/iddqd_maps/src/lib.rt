@@ -7,13 +7,12 @@
 //! What callers name of the crates below, indexes, hashers and queries, is handed on here.
 #![tactic(auto)]
 
-pub use iddqd::hash_builder as hash_builder;
-pub use iddqd::index_remap as index_remap;
-pub use iddqd::item_index as item_index;
+pub use iddqd::{
+    hash_builder as hash_builder, index_remap as index_remap, item_index as item_index,
+};
 pub use iddqd_bi_hash::bi_hash_map as bi_hash_map;
 pub use iddqd_id_hash::id_hash_map as id_hash_map;
 pub use iddqd_id_ord::id_ord_map as id_ord_map;
 pub use iddqd_map_base::refusal as refusal;
-pub use iddqd_sides::order_query as order_query;
-pub use iddqd_sides::query as query;
+pub use iddqd_sides::{order_query as order_query, query as query};
 pub use iddqd_tri_hash::tri_hash_map as tri_hash_map;

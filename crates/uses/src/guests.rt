@@ -1,7 +1,7 @@
 //! Keyed items as a table of records: two unique keys, stable indexes, and a walk in the order of the second key.
-use iddqd_maps::hash_builder::DefaultHashBuilder;
 use iddqd_keyed::keyed_item::KeyedItem;
 use iddqd_keyed::keyed_items::{KeyedItems, ReplaceRefusal};
+use iddqd_maps::hash_builder::DefaultHashBuilder;
 use std::alloc::{AllocError, Global};
 
 /// A guest. Names are unique, and so are arrivals.

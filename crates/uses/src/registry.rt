@@ -6,8 +6,8 @@ ghost use Rattle.std.specs.Prelude.{◌≡◌, ◌↔◌, ◌++◌, ◌∷◌, [
 ghost use Rattle.std.specs.String.{string_bytes};
 ghost use Rattle.uses.specs.Registry.{TellsWhy};
 
-use iddqd_maps::item_index::ItemIndex;
 use iddqd_maps::id_hash_map::{IdHashItem, IdHashMap};
+use iddqd_maps::item_index::ItemIndex;
 use iddqd_maps::refusal::InsertRefusal;
 use std::alloc::{AllocError, Global};
 use std::marker::Model;

@@ -2,8 +2,8 @@
 ghost use Rattle.std.specs.Prelude.{◌≡◌, ◌≤◌, OnOk, OnErr};
 
 use iddqd_maps::hash_builder::DefaultHashBuilder;
-use iddqd_maps::item_index::ItemIndex;
 use iddqd_maps::id_hash_map::{IdHashItem, IdHashMap};
+use iddqd_maps::item_index::ItemIndex;
 use iddqd_maps::refusal::InsertRefusal;
 use std::alloc::{AllocError, Global};
 
