@@ -94,34 +94,34 @@ impl IdOrdItem for Ticket {
 
 type Tickets = IdOrdMap<Ticket>;
 
-fn counted(count: &Rc<Count>, number: u32) -> Result<Counted, AllocError> {
+fn numbered(count: &Rc<Count>, number: u32) -> Result<Counted, AllocError> {
     let count = count.clone()?;
     Ok(Counted { number, count })
 }
 
 fn insert(tickets: &mut Tickets, number: u32, count: &Rc<Count>) -> Result<bool, AllocError> {
-    let ticket = Ticket(counted(count, number)?);
+    let ticket = Ticket(numbered(count, number)?);
     Ok(tickets.insert_unique(ticket).is_ok())
 }
 
 fn overwrite(tickets: &mut Tickets, number: u32, count: &Rc<Count>) -> Result<bool, AllocError> {
-    let ticket = Ticket(counted(count, number)?);
+    let ticket = Ticket(numbered(count, number)?);
     Ok(tickets.insert_overwrite(ticket).is_ok())
 }
 
 fn has(tickets: &Tickets, number: u32, count: &Rc<Count>) -> Result<bool, AllocError> {
-    let key = counted(count, number)?;
+    let key = numbered(count, number)?;
     Ok(tickets.contains_key(&key))
 }
 
 fn remove(tickets: &mut Tickets, number: u32, count: &Rc<Count>) -> Result<bool, AllocError> {
-    let key = counted(count, number)?;
+    let key = numbered(count, number)?;
     Ok(tickets.remove(&key).is_some())
 }
 
 // Whether a number from this one on is there, by a walk that compares its bound.
 fn has_from(tickets: &Tickets, number: u32, count: &Rc<Count>) -> Result<bool, AllocError> {
-    let lower = counted(count, number)?;
+    let lower = numbered(count, number)?;
     let mut walk = tickets.range(Bound::Included(&lower), Bound::Unbounded);
     Ok(walk.next().is_some())
 }
