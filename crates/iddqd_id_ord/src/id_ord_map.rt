@@ -1,10 +1,10 @@
 //! A map of items that have one key each, found by its order.
 //!
 //! The items stand in a store, and a table has the index of each in the order of the keys. Every call
-//! searches the table at most once, but for a replacement that changes the key. An insert keeps the
-//! place that its search found, and takes its memory before anything is written. The table takes
-//! memory as its tree grows, so a map promises room for no insert; look-ups, removals and walks take
-//! none.
+//! searches the table at most once, but for a replacement that changes the key, and a range, which
+//! searches for each bound. An insert keeps the place that its search found, and takes its memory
+//! before anything is written. The table takes memory as its tree grows, so a map promises room for
+//! no insert; look-ups, removals and walks take none.
 ghost use Rattle.std.specs.Prelude.{◌≡◌, ◌↔◌, false, IsTrue, option_copied};
 ghost use Rattle.std.specs.Ordering.{eq_by_cmp};
 ghost use Rattle.iddqd.specs.{get, live_count, IsValid};
@@ -132,8 +132,8 @@ impl<T: IdOrdItem> IdOrdMap<T> {
 
     /// The index of the item that has the key for which the query stands.
     ///
-    /// The query is a `&T::Key`, or what else stands for such a key. It is compared with at most 4 and
-    /// twice the binary digits of the number of items keys.
+    /// The query is a `&T::Key`, or what else stands for such a key. It is compared with at most 4 + 2d
+    /// keys, where the number of items has d binary digits.
     pub fn find<Q: OrdQuery<T::Key>>(&self, query: Q) -> Option<ItemIndex>
         ensures { AnswersScan self.now.store (passes_by T.key_of (is_equal (Q.compare query))) result }
     {

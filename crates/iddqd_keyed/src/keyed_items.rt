@@ -207,8 +207,8 @@ impl<T: KeyedItem, S: BuildHasher> KeyedItems<T, S> {
         self.find_hashed(hash, key)
     }
 
-    /// The index of the item with this second key. It makes at most 4 and twice the binary digits of
-    /// the number of items comparisons.
+    /// The index of the item with this second key. It makes at most 4 + 2d comparisons, where the
+    /// number of items has d binary digits.
     pub fn find2(&self, key: &T::Key2) -> Option<ItemIndex>
         ensures paired { IsPaired self.now }
         ensures found { LooksUp (second_side ⟦<Self as Keyed>⟧.keys) self.now key.now result }

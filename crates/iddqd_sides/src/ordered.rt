@@ -25,7 +25,7 @@ use std::ops::Bound;
 
 /// The index whose item has a key that the query compares Equal with.
 ///
-/// It compares the query with at most 4 and twice the binary digits of the length keys.
+/// It compares the query with at most 4 + 2d keys, where the length has d binary digits.
 pub fn find<T, E, Q>(table: &MapBTreeTable, items: &ItemSet<T>, query: &Q) -> Option<ItemIndex>
 where
     E: KeyOf<T>,
@@ -109,8 +109,8 @@ where
 /// lower bound stands above the upper one. Where the list isn't in place they are those between some
 /// two places of it.
 ///
-/// It compares each query with at most 4 and twice the binary digits of the length keys, and takes no
-/// memory.
+/// It compares each query with at most 4 + 2d keys, where the length has d binary digits, and takes
+/// no memory.
 pub fn range<'t, T, E, Q>(
     table: &'t MapBTreeTable,
     items: &ItemSet<T>,

@@ -20,7 +20,7 @@ use std::ops::Bound;
 
 /// The index of the item that has the key for which the query stands.
 ///
-/// It compares the query with at most 4 and twice the binary digits of the length keys.
+/// It compares the query with at most 4 + 2d keys, where the length has d binary digits.
 pub fn find_by<T, E, Q>(table: &MapBTreeTable, items: &ItemSet<T>, query: Q) -> Option<ItemIndex>
 where
     E: KeyOf<T>,
@@ -67,8 +67,8 @@ where
 /// The indexes whose items have keys between two bounds, in the order of the keys: none where the
 /// lower bound stands above the upper one.
 ///
-/// It compares each query with at most 4 and twice the binary digits of the length keys, and takes no
-/// memory.
+/// It compares each query with at most 4 + 2d keys, where the length has d binary digits, and takes
+/// no memory.
 pub fn range_by<'t, T, E, Q>(
     table: &'t MapBTreeTable,
     items: &ItemSet<T>,

@@ -6,7 +6,7 @@ use std::hash::BuildHasher;
 
 /// Items that keep their keys where they are cloned, so that a map of them can be cloned as it stands.
 ///
-/// No method is to be written. What is to be shown follows for a derived `Clone`.
+/// No method is to be written. For a derived `Clone` `ghost same_key1 = { Prim.search rules };` shows it.
 pub trait BiHashClone: BiHashItem + Clone {
     ghost use Rattle.std.specs.Prelude.{IsTrue};
 

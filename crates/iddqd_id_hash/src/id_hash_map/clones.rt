@@ -6,7 +6,7 @@ use std::hash::BuildHasher;
 
 /// Items that keep their key where they are cloned, so that a map of them can be cloned as it stands.
 ///
-/// No method is to be written. What is to be shown follows for a derived `Clone`.
+/// No method is to be written. For a derived `Clone` `ghost same_key = { Prim.search rules };` shows it.
 pub trait IdHashClone: IdHashItem + Clone {
     ghost use Rattle.std.specs.Prelude.{IsTrue};
 

@@ -4,7 +4,7 @@ use std::alloc::AllocError;
 
 /// Items that keep their key where they are cloned, so that a map of them can be cloned as it stands.
 ///
-/// No method is to be written. What is to be shown follows for a derived `Clone`.
+/// No method is to be written. For a derived `Clone` `ghost same_key = { Prim.search rules };` shows it.
 pub trait IdOrdClone: IdOrdItem + Clone {
     ghost use Rattle.std.specs.Prelude.{◌≡◌};
     ghost use Rattle.std.specs.declared.cmp.Ordering.TheVariants.{Equal};

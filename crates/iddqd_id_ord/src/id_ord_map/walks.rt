@@ -48,7 +48,7 @@ impl<T: IdOrdItem> IdOrdMap<T> {
     /// The live indexes with their items whose keys are between two bounds, in the order of the keys,
     /// from both ends: none where the lower bound stands above the upper one.
     ///
-    /// Each query is compared with at most 4 and twice the binary digits of the number of items keys.
+    /// Each query is compared with at most 4 + 2d keys, where the number of items has d binary digits.
     pub fn range<Q: OrdQuery<T::Key>>(&self, lower: Bound<Q>, upper: Bound<Q>) -> Range<'_, T>
         ensures { let within = is_between (bound_map Q.compare lower) (bound_map Q.compare upper) in
             IsWalkWithin T.key_of T.Key.cmp within self.now.store result }

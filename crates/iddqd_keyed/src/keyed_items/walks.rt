@@ -63,8 +63,8 @@ impl<T: KeyedItem, S: BuildHasher> KeyedItems<T, S> {
     /// second keys, from both ends: none where the lower bound stands above the upper one.
     ///
     /// Where a second key was changed silently, they are those between some two places of the ordered
-    /// table. Each query is compared with at most 4 and twice the binary digits of the number of items
-    /// second keys. It takes no memory.
+    /// table. Each query is compared with at most 4 + 2d second keys, where the number of items has d
+    /// binary digits. It takes no memory.
     pub fn range_by_key2<Q: OrdQuery<T::Key2>>(
         &self,
         lower: Bound<Q>,
