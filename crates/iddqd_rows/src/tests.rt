@@ -20,6 +20,7 @@ mod model;
 mod numbered;
 mod original;
 mod queries;
+mod ranges;
 mod record_table;
 mod refused;
 mod refused_replies;
