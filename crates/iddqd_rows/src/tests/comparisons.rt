@@ -22,15 +22,6 @@ fn calls_compare_few_keys(rt: HostRuntime) -> Result<(), Fail> {
 }
 
 #[test]
-fn a_range_compares_few_keys(rt: HostRuntime) -> Result<(), Fail> {
-    let thousand = Numbered::thousand(&rt, rt.alloc())?;
-    for (from, to) in [(0, 999), (1, 500), (499, 501), (998, 999)] {
-        thousand.assert_range(&rt, from, to)?;
-    }
-    Ok(())
-}
-
-#[test]
 fn removals_by_a_key_compare_few_keys(rt: HostRuntime) -> Result<(), Fail> {
     let mut thousand = Numbered::thousand(&rt, rt.alloc())?;
     thousand.assert_remove2(&rt, 500)?;

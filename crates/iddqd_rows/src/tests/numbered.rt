@@ -3,9 +3,7 @@ use super::counted::{Counts, First, Item, Own, Second, first_of, item_of, second
 use super::holds;
 use iddqd::item_index::ItemIndex;
 use iddqd_keyed::keyed_items::KeyedItems;
-use iddqd_sides::ordered_walk::Range;
 use std::alloc::{AllocError, Global};
-use std::ops::Bound;
 use std::process::Abort;
 use std::rc::Rc;
 
@@ -38,10 +36,6 @@ fn find1(items: &Items, key: &First) -> Option<ItemIndex> {
 
 fn find2(items: &Items, key: &Second) -> Option<ItemIndex> {
     items.find2(key)
-}
-
-fn range<'a>(items: &'a Items, lower: &Second, upper: &Second) -> Range<'a, Item> {
-    items.range_by_key2(Bound::Included(lower), Bound::Included(upper))
 }
 
 fn remove(items: &mut Items, number: u32) -> bool {
@@ -115,23 +109,6 @@ impl Numbered {
         let is_so = number_of(find2(&self.items, &key)) == want;
         holds(rt, is_so, &number);
         assert_few(rt, &self.counts, 0, (0, 24), "find2");
-        Ok(())
-    }
-
-    /// A range gives the numbers from one on up to another one, and compares as often as two finds at most.
-    pub(super) fn assert_range(
-        &self,
-        rt: &impl Abort,
-        from: u32,
-        to: u32,
-    ) -> Result<(), AllocError> {
-        let lower = second_of(&self.counts, from)?;
-        let upper = second_of(&self.counts, to)?;
-        let mut walk = range(&self.items, &lower, &upper);
-        let first = number_of(walk.next().map(|pair| pair.0));
-        let last = number_of(walk.next_back().map(|pair| pair.0));
-        holds(rt, first == Some(from) && last == Some(to), &(from, to));
-        assert_few(rt, &self.counts, 0, (0, 48), "a range");
         Ok(())
     }
 
