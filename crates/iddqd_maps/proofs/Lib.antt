@@ -1,2 +1,3 @@
 -- lemmas that callers' proofs cite, from one place
 pub use Rattle.iddqd_sides.proofs.ScanLemmas
+pub mod RetainedLemmas

@@ -1,8 +1,10 @@
 //! Items whose key is a text of their own. A text that is lent looks them up, so none is copied for it.
-ghost use Rattle.std.specs.Prelude.{◌≡◌, ℕ, MatchOption};
+ghost use Rattle.std.specs.Prelude.{◌≡◌, ℕ, MatchOption, filter};
+ghost use Rattle.iddqd_maps.specs.LiveItems.{live_pairs};
 ghost use Rattle.iddqd_maps.specs.Map.{IsOnly};
 ghost use Rattle.iddqd_maps.specs.Scan.{HasNoHit};
-ghost use Rattle.uses.specs.Users.{is_named};
+ghost use Rattle.iddqd_maps.specs.Store.{live_count};
+ghost use Rattle.uses.specs.Users.{is_named, has_logged_in};
 
 use iddqd_maps::id_hash_map::{IdHashItem, IdHashMap};
 use iddqd_maps::refusal::{InsertRefusal, ReplaceRefusal};
@@ -59,6 +61,16 @@ pub fn rename(users: &mut IdHashMap<User>, from: &str, to: String) -> &'static s
     }
 }
 
+/// Lets those users go who never logged in, and tells how many stay.
+pub fn forget_idle(users: &mut IdHashMap<User>) -> usize
+    ensures stay { live_pairs users.new.store
+        ≡ filter (λ pair. has_logged_in pair.1) (live_pairs users.old.store) }
+    ensures count { result ≡ live_count users.new.store }
+{
+    users.retain(|user| user.logins != 0);
+    users.len()
+}
+
 fn script(alloc: Global, users: &mut IdHashMap<User>) -> Result<String, AllocError> {
     let first = sign_up(users, String::from_str(alloc, "ada")?);
     let second = sign_up(users, String::from_str(alloc, "ada")?);
@@ -67,7 +79,8 @@ fn script(alloc: Global, users: &mut IdHashMap<User>) -> Result<String, AllocErr
         logins(users, "ada").is_some(),
         logins(users, "bo").is_some(),
     );
-    format!(in alloc; "users: {first}, {second}, {third}, {found:?}")
+    let active = forget_idle(users);
+    format!(in alloc; "users: {first}, {second}, {third}, {found:?}, {active}")
 }
 
 /// What the calls answer.
