@@ -1,3 +1,4 @@
 -- lemmas that callers' proofs cite, from one place
 pub use Rattle.iddqd_sides.proofs.ScanLemmas
+pub mod KeyLemmas
 pub mod RetainedLemmas

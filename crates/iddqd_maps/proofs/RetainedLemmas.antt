@@ -1,10 +1,12 @@
 -- For callers of `retain`: that a closure may be asked, and that exactly the items that pass a test stay, where its
 -- answers are that test.
-use Rattle.std.proofs.Common.{◌≡◌, ◌∙◌, ℕ, Bool, true, false, List, [], ◌∷◌, map, refl, ap}
+use Rattle.std.proofs.Common.{◌≡◌, ◌∙◌, ℕ, Bool, true, false, List, [], ◌∷◌, map, refl, ap, subst}
 use Rattle.std.specs.List.{filter, FoldsTo}
+use Rattle.iddqd.specs.Store.{Store}
 use Rattle.iddqd.specs.LiveItems.{live_pairs}
 use Rattle.iddqd_map_base.specs.Map.{MapState}
 use Rattle.iddqd_map_base.specs.Retain.{kept_of, Retains}
+use Rattle.iddqd_id_ord.specs.Retain.{RetainsAlong}
 pub use Rattle.iddqd_hash.proofs.AskLemmas.{CanAsk-by, CanAsk-everywhere}
 
 -- `I` holds of each state of the closure, and there its answer on an item is whether that passes the test
@@ -22,3 +24,9 @@ module _ {F T : Type 0} (ask : F → T → Bool → F → Type 0) (I : F → Typ
   Retains-tested f old new i retains =
       let to = retains.retained in
       to.kept ∙ kept_tested f to.asks retains.last i to.were_asked ∙ ap (filter (λ p. test p.1)) to.each_once
+
+  -- the same along a walk in order
+  pub RetainsAlong-tested : (is_walk : Store T → List (ℕ × T) → Type 0) (f : F) (old new : MapState T) → I f → RetainsAlong is_walk ask f old new → (walk : List (ℕ × T)) × is_walk old.store walk × is_walk new.store (filter (λ p. test p.1) walk)
+  RetainsAlong-tested is_walk f old new i retains =
+      let to = retains.retained in
+      (map (λ a. a.0) to.asks, to.each_once, subst (is_walk new.store) (kept_tested f to.asks retains.last i to.were_asked) to.kept)

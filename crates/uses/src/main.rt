@@ -10,6 +10,7 @@ mod routes;
 mod scores;
 mod stock;
 mod users;
+mod words;
 
 use std::alloc::{AllocError, Global};
 use std::io;
@@ -30,6 +31,7 @@ fn print_all(rt: &(impl Print + RandomSource), alloc: Global) -> io::Result<()> 
     print(rt, stock::line(alloc))?;
     print(rt, guests::line(alloc))?;
     print(rt, scores::line(alloc))?;
+    print(rt, words::line(alloc))?;
     print(rt, badges::line(alloc))?;
     print(rt, leases::line(alloc))?;
     print(rt, registry::line(alloc))

@@ -4,7 +4,8 @@ use std::alloc::AllocError;
 
 /// Items that keep their key where they are cloned, so that a map of them can be cloned as it stands.
 ///
-/// No method is to be written. For a derived `Clone` `ghost same_key = { Prim.search rules };` shows it.
+/// No method is to be written. For a derived `Clone` `ghost same_key = { Prim.search rules };` shows it, or at a key
+/// that is text `same_text` of `KeyLemmas` of `iddqd_maps`.
 pub trait IdOrdClone: IdOrdItem + Clone {
     ghost use Rattle.std.specs.Prelude.{◌≡◌};
     ghost use Rattle.std.specs.declared.cmp.Ordering.TheVariants.{Equal};
