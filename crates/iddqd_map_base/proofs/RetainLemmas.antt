@@ -8,10 +8,10 @@ use Rattle.iddqd.specs.Store.{Store, get, removed}
 use Rattle.iddqd.specs.LiveItems.{pairs_from, live_pairs, live_items}
 use Rattle.iddqd.proofs.LiveItemLemmas.{pairs_from-append, items_of_pairs, IsWalkOf-live_pairs}
 use Rattle.iddqd_hash.specs.Asks.{CanAsk}
-use Rattle.iddqd_hash.proofs.AskLemmas.{CanAsk-takes, CanAsk-asked}
+use Rattle.iddqd_hash.proofs.AskLemmas.{CanAsk-takes, CanAsk-asked, CanAsk-everywhere}
 use Rattle.iddqd_hash.proofs.RetainLemmas.{Contains-values}
 use Rattle.iddqd_map_base.specs.Several.{removed_all}
-use Rattle.iddqd_map_base.specs.Retain.{kept_of, refused_of, RetainsTo}
+use Rattle.iddqd_map_base.specs.Retain.{MayAsk, kept_of, refused_of, RetainsTo}
 
 module _ {T : Type 0} where
   -- the walk over one slot more
@@ -41,6 +41,9 @@ module _ {T : Type 0} where
       subst (λ l. Contains l item) (items_of_pairs 0 s.items) (Contains-values (live_pairs s) (ix, item) (((IsWalkOf-live_pairs s).live ix item).1 live))
 
 module _ {F T : Type 0} (takes : F → T → Type 0) (ask : F → T → Bool → F → Type 0) where
+  pub MayAsk-can : (f : F) (items : List T) → MayAsk takes ask f items → CanAsk takes ask f items
+  MayAsk-can f items may = may (CanAsk-everywhere takes ask f items)
+
   -- the slots before p were asked about, and from p on all is as it was
   pub record Retaining (f : F) (old now : Store T) (p : ℕ) (state : F) : Type 0 where
     pub asks : List ((ℕ × T) × Bool)

@@ -3,6 +3,7 @@ use Rattle.std.specs.Prelude.{◌≡◌, ◌≤◌, ℕ, Bool, not, List, map, f
 use Rattle.std.specs.List.{FoldsTo}
 use Rattle.iddqd.specs.Store.{Store}
 use Rattle.iddqd.specs.LiveItems.{live_pairs}
+use Rattle.iddqd_hash.specs.Asks.{CanAsk}
 use Rattle.iddqd_map_base.specs.Map.{MapState}
 use Rattle.iddqd_map_base.specs.Several.{removed_all}
 
@@ -14,6 +15,13 @@ module _ {T : Type 0} where
   -- and the indexes of those that were answered false
   abbrev pub refused_of : List ((ℕ × T) × Bool) → List ℕ
   refused_of asks = map (λ a. a.0.0) (filter (λ a. not a.1) asks)
+
+-- `takes p x` says that x may be asked in the state p, and `ask p x b q` that it may be answered b and leave the state q
+module _ {F T : Type 0} (takes : F → T → Type 0) (ask : F → T → Bool → F → Type 0) where
+  -- each of the items may be asked, and again after any such asks. That this is so where whatever is asked may be is
+  -- granted: it is a lemma, and so a caller whose closure asks for nothing needs no proof.
+  abbrev pub MayAsk : F → List T → Type 0
+  MayAsk f items = (((p : F) (x : T) → takes p x) → CanAsk takes ask f items) → CanAsk takes ask f items
 
 -- `ask p x b q` says that x, asked in the state p, may be answered b and leave the state q
 module _ {F T : Type 0} (ask : F → T → Bool → F → Type 0) where

@@ -1,5 +1,5 @@
--- For callers of `retain`: that a closure may be asked, and that exactly the items that pass a test stay, where its
--- answers are that test.
+-- For callers of `retain`: that exactly the items that pass a test stay, where the closure's answers are that test; and
+-- that a closure may be asked which asks for something.
 use Rattle.std.proofs.Common.{◌≡◌, ◌∙◌, ℕ, Bool, true, false, List, [], ◌∷◌, map, refl, ap, subst}
 use Rattle.std.specs.List.{filter, FoldsTo}
 use Rattle.iddqd.specs.Store.{Store}
@@ -7,7 +7,7 @@ use Rattle.iddqd.specs.LiveItems.{live_pairs}
 use Rattle.iddqd_map_base.specs.Map.{MapState}
 use Rattle.iddqd_map_base.specs.Retain.{kept_of, Retains}
 use Rattle.iddqd_id_ord.specs.Retain.{RetainsAlong}
-pub use Rattle.iddqd_hash.proofs.AskLemmas.{CanAsk-by, CanAsk-everywhere}
+pub use Rattle.iddqd_hash.proofs.AskLemmas.{CanAsk-by}
 
 -- `I` holds of each state of the closure, and there its answer on an item is whether that passes the test
 module _ {F T : Type 0} (ask : F → T → Bool → F → Type 0) (I : F → Type 0) (test : T → Bool) (says : (s : F) (x : T) (b : Bool) (t : F) → I s → ask s x b t → (b ≡ test x) × I t) where

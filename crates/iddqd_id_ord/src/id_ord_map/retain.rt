@@ -8,6 +8,7 @@ ghost use Rattle.std.specs.Fn.{TakesAt, CalledAt};
 ghost use Rattle.iddqd.specs.{get, IsValid};
 ghost use Rattle.iddqd.specs.LiveItems.{live_items};
 ghost use Rattle.iddqd_hash.specs.Asks.{CanAsk};
+ghost use Rattle.iddqd_map_base.specs.Retain.{MayAsk};
 ghost use Rattle.iddqd_order.specs.{order_of};
 ghost use Rattle.iddqd_sides.specs.Ordered.{Holds};
 ghost use Rattle.iddqd_sides.specs.OrderedIndexing.{Sorts};
@@ -27,7 +28,7 @@ impl<T: IdOrdItem> IdOrdMap<T> {
     /// refuses are removed, in this order. No memory is taken, no key is compared, and it costs a few
     /// steps an item.
     pub fn retain<F: FnMut(&T) -> bool>(&mut self, mut f: F)
-        requires { CanAsk (TakesAt F.FnMut) (CalledAt F.FnMut) f (live_items self.old.store) }
+        requires { MayAsk (TakesAt F.FnMut) (CalledAt F.FnMut) f (live_items self.old.store) }
         ensures { RetainsAlong (IsKeyWalk T.key_of T.Key.cmp) (CalledAt F.FnMut) f self.old self.new }
     {
         retain_in(&mut self.items, &mut self.table, &mut f);

@@ -1,8 +1,7 @@
 //! The items that a closure keeps.
 ghost use Rattle.std.specs.Fn.{TakesAt, CalledAt};
 ghost use Rattle.iddqd.specs.LiveItems.{live_items};
-ghost use Rattle.iddqd_hash.specs.Asks.{CanAsk};
-ghost use Rattle.iddqd_map_base.specs.Retain.{Retains};
+ghost use Rattle.iddqd_map_base.specs.Retain.{MayAsk, Retains};
 
 use super::TriHashMap;
 use super::item::TriHashItem;
@@ -16,7 +15,7 @@ impl<T: TriHashItem, S: BuildHasher> TriHashMap<T, S> {
     /// removed, by rising index. No memory is taken. It costs a step a slot, and hashes the keys of the
     /// refused alone.
     pub fn retain<F: FnMut(&T) -> bool>(&mut self, mut f: F)
-        requires { CanAsk (TakesAt F.FnMut) (CalledAt F.FnMut) f (live_items self.old.store) }
+        requires { MayAsk (TakesAt F.FnMut) (CalledAt F.FnMut) f (live_items self.old.store) }
         ensures { Retains (CalledAt F.FnMut) f self.old self.new }
     {
         retain_in(&mut self.items, &mut self.tables, &self.state, &mut f);
