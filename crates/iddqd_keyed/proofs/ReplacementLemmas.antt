@@ -1,5 +1,7 @@
 -- A live index that is given another item, in the store and in both tables: what it leaves paired, in place and exact.
 use Rattle.std.proofs.Common.{◌≡◌, ◌∙◌, ◌⊎◌, inl, inr, ◌↔◌, ◌==◌, ◌<◌, ◌≤◌, ℕ, zero, suc, Bool, true, false, not, cond, List, [], ◌∷◌, length, get_or, insert, Option, Some, None, IsSome, option_map, Result, Ok, Err, IfOk, OnOk, IfErr, OnErr, refl, sym, ap, subst, arith, Ordering}
+use Rattle.std.specs.Borrow.{Bor}
+use Rattle.std.specs.Fn.{Mut}
 use Rattle.std.specs.List.{Contains}
 use Rattle.std.specs.Option.{option_cmp}
 use Rattle.std.specs.Ordering.{nat_cmp, eq_by_cmp}
@@ -16,7 +18,9 @@ use Rattle.iddqd.proofs.LiveLemmas.{live_at}
 use Rattle.iddqd_hash.proofs.MemberLemmas.{get-insert_at, get-insert_other, get-remove_other}
 use Rattle.iddqd_order.specs.KeyOrder.{key_then_index, ComparesKeys}
 use Rattle.iddqd_order.specs.MapBTreeTable.{without}
-use Rattle.iddqd_order.specs.Search.{IsPlace, IsRising, with_ties}
+use Rattle.iddqd_order.specs.PreparedBTreeMove.{PutsIn}
+use Rattle.iddqd_order.specs.Search.{IsPlace, IsRising, IsSteady, with_ties}
+use Rattle.iddqd_order.specs.declared.btree_table.asking.Asking.{Asking}
 use Rattle.iddqd_order.proofs.IndexListLemmas.{IsDistinct-insert, IsDistinct-filter, without-missing}
 use Rattle.iddqd_order.proofs.KeyOrderLemmas.{IsRising-from_sorted, IsStrictlySortedBy-insert, key_then_index-total, with_ties-key}
 use Rattle.iddqd_order.proofs.MemberLemmas.{contains-inserted_at, contains-inserted_other, contains-inserted_cases, contains-without, contains-from_without}
@@ -191,6 +195,13 @@ module _ {T : Type 0} (s : Store T) (ix : ℕ) (item was : T) (live : get s ix �
         adds = record { place = place; within = within; added = same ∙ is };
         placed = λ placed. rw (same, is) (IsInPlace-reordered place placed (leads placed));
       }
+
+      -- the index was put where a search for the new key led
+      pub MovesInPlace-put_in : {F : Type 0} (g : Mut F (ℕ × Unit {0}) (Bor K)) (read : Bor K → Ordering) (xs : List ℕ) (i : ℕ) (asking : Asking F) (put new : List ℕ) → xs ≡ order → i ≡ ix → IsSteady g left (Some ix) read answer asking → PutsIn g read (without xs i) i asking put → new ≡ put → MovesInPlace key_of compare s ix item order new
+      MovesInPlace-put_in g read xs i asking put new all own steady puts is =
+          let there : PutsIn g read left ix asking put = subst (λ j. PutsIn g read (without order j) j asking put) own (subst (λ l. PutsIn g read (without l i) i asking put) all puts) in
+          MovesInPlace-put new put there.place there.within is there.inserted
+          (λ placed. there.bound answer (record { steady = steady; rising = IsRising-left placed }))
 
 -- an index that was put in is left out again
 without-insert : (xs : List ℕ) (place ix : ℕ) → place ≤ length xs → without (insert xs place ix) ix ≡ without xs ix

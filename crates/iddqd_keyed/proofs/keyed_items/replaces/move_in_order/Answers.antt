@@ -3,9 +3,10 @@ use Rattle.std.specs.List.{Contains}
 use Rattle.iddqd.proofs.LiveLemmas.{item_at}
 use Rattle.iddqd_order.specs.Asking.{closure_of}
 use Rattle.iddqd_order.specs.MapBTreeTable.{order_of}
+use Rattle.iddqd_order.specs.PreparedBTreeMove.{table_of, index_of}
 use Rattle.iddqd_order.proofs.AskLemmas.{CanAsk-by, Steady-by}
 use Rattle.iddqd_sides.specs.Scan.{IsLive, IsKeyAt}
-use Rattle.iddqd_keyed.proofs.ReplacementLemmas.{answer, answer_at, IsRising-left, MovesInPlace-put}
+use Rattle.iddqd_keyed.proofs.ReplacementLemmas.{answer_at, MovesInPlace-put_in}
 use Rattle.iddqd_keyed.proofs.keyed_items.replaces.move_in_order.Goals as goal
 
 pub commit-requires : goal.commit-requires
@@ -28,14 +29,12 @@ returns-clause-moved g c =
     let total = g.met.T.Key2.Ord.total in
     let holds = c.requires.ordered in
     let (was, live) = item_at s ix c.requires.live in
-    let is = c.in-Ok.ensures.prepared in
-    let put = rw (is.table, is.index, c.key2-new_key.ensures) at c.commit.ensures.moved in
-    MovesInPlace-put s ix item was live order holds key_of compare total _ (order_of c.commit.result.now) put.place put.within (search rules) put.inserted
-    (λ placed. put.bound (answer s ix item was live order holds key_of compare total) (record {
-      steady = Steady-by _ _ (λ f. f ≡ closure_of c.new-asking.result) (λ f f' j r i h e. search rules) _ _
-          (λ f f' j r i h e.
-          let read : IsKeyAt key_of s j r.now = search (rules, i, e) in
-          ap (compare (key_of item)) read.2 ∙ sym (answer_at s ix item was live order holds key_of compare total j read.0 h.0 read.1))
-          _ refl;
-      rising = IsRising-left s ix item was live order holds key_of compare total placed;
-    }))
+    let new_key = c.key2-new_key.result.now in
+    MovesInPlace-put_in s ix item was live order holds key_of compare total _ _
+    (order_of (table_of c.in-Ok.prepared).now) (index_of c.in-Ok.prepared) c.new-asking.result (order_of c.commit.result.now) _ c.in-Ok.ensures.prepared.table c.in-Ok.ensures.prepared.index
+    (Steady-by _ _ (λ f. f ≡ closure_of c.new-asking.result) (λ f f' j r i h e. search rules) _ _
+    (λ f f' j r i h e.
+    let read : IsKeyAt key_of s j r.now = search (rules, i, e) in
+    ap (compare new_key) read.2 ∙ ap (λ key. compare key (key_of read.0)) c.key2-new_key.ensures ∙ sym (answer_at s ix item was live order holds key_of compare total j read.0 h.0 read.1))
+    _ refl)
+    c.commit.ensures.moved (search rules)
