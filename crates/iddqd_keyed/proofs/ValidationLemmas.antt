@@ -9,6 +9,7 @@ use Rattle.std.specs.FinMap as finite
 use Rattle.std.specs.FinMap.{FinMap}
 use Rattle.std.specs.FinMap.Entries.{is_sorted, below_all, is_some-find}
 use Rattle.std.specs.Option.{option_eq}
+use Rattle.std.proofs.lemmas.Bool.{false≢true}
 use Rattle.std.proofs.lemmas.Cmp.{tied_itself}
 use Rattle.std.proofs.lemmas.Map.Keys.{IsDistinct-cons}
 use Rattle.std.proofs.lemmas.Map.Views.{list_any-from_Contains, Contains-from_any}
@@ -143,5 +144,8 @@ AnswersScan-hit s test None ix none hit = absurd (none ix hit)
 AnswersScan-hit s test (Some at) ix one hit = ap Some (sym ((one ix).0 hit))
 
 -- an answer is no other than itself
-pub ne-itself : (answer : Option ℕ) (ix : ℕ) → answer ≡ Some ix → not (option_eq nat_eq answer (Some ix)) ≡ false
+ne-itself : (answer : Option ℕ) (ix : ℕ) → answer ≡ Some ix → not (option_eq nat_eq answer (Some ix)) ≡ false
 ne-itself answer ix is = rw (is, eq-eqb ix ix refl) refl
+
+pub differs-itself : (answer : Option ℕ) (ix : ℕ) (differs : Bool) → differs ≡ not (option_eq nat_eq answer (Some ix)) → differs ≡ true → answer ≡ Some ix → ⊥
+differs-itself answer ix differs is told same = false≢true (sym (ne-itself answer ix same) ∙ sym is ∙ told)

@@ -203,8 +203,7 @@ impl<T: KeyedItem, S: BuildHasher> KeyedItems<T, S> {
         ensures paired { IsPaired self.now }
         ensures found { LooksUp (first_side ⟦<Self as Keyed>⟧.keys) self.now key.now result }
     {
-        let hash = self.filed.compute_hash(&self.state, key);
-        self.find_hashed(hash, key)
+        self.hash_and_find(key).1
     }
 
     /// The index of the item with this second key. It makes at most 4 + 2d comparisons, where the
@@ -225,8 +224,7 @@ impl<T: KeyedItem, S: BuildHasher> KeyedItems<T, S> {
         ensures tells { TellsAsScan ⟦<Self as Keyed>⟧.keys self.old item result }
         ensures keeps { Keeps ⟦<Self as Keyed>⟧.keys self.old self.new }
     {
-        let hash = hashed::hash_of::<T, First, S>(&self.state, &item);
-        let first = self.find_hashed(hash, item.key1());
+        let (hash, first) = self.hash_and_find(item.key1());
         let (items, filed, order) = (&mut self.items, &mut self.filed, &mut self.order);
         enter(items, filed, order, item, hash, first)
     }
@@ -365,13 +363,18 @@ impl<T: KeyedItem, S: BuildHasher> KeyedItems<T, S> {
 }
 
 impl<T: KeyedItem, S: BuildHasher> KeyedItems<T, S> {
-    // The index of the item with this first key, whose hash was computed before.
-    fn find_hashed(&self, hash: MapHash, key: &T::Key1) -> Option<ItemIndex>
-        requires { hash ≡ hash_in ⟦<Self as Keyed>⟧.keys self.now key.now }
-        ensures { LooksUp (first_side ⟦<Self as Keyed>⟧.keys) self.now key.now result }
+    // The hash of a first key, and the index of the item with it.
+    fn hash_and_find(&self, key: &T::Key1) -> (MapHash, Option<ItemIndex>)
+        ensures paired { IsPaired self.now }
+        ensures hash { result.0 ≡ hash_in ⟦<Self as Keyed>⟧.keys self.now key.now }
+        ensures found { LooksUp (first_side ⟦<Self as Keyed>⟧.keys) self.now key.now result.1 }
     {
+        let hash = self.filed.compute_hash(&self.state, key);
         let query = ByKey(key);
-        hashed::find::<T, First, ByKey<T::Key1>>(&self.filed, &self.items, hash, &query)
+        (
+            hash,
+            hashed::find::<T, First, ByKey<T::Key1>>(&self.filed, &self.items, hash, &query),
+        )
     }
 }
 

@@ -76,8 +76,7 @@ impl<T: KeyedItem, S: BuildHasher> KeyedItems<T, S> {
         if self.items.get(ix).is_none() {
             return Err(ReplaceRefusal::Missing(item));
         }
-        let hash = hashed::hash_of::<T, First, S>(&self.state, &item);
-        let at1 = self.find_hashed(hash, item.key1());
+        let (hash, at1) = self.hash_and_find(item.key1());
         let at2 = self.find2(item.key2());
         let (first, second) = (other_than(ix, &at1), other_than(ix, &at2));
         if first.is_some() || second.is_some() {

@@ -11,8 +11,30 @@ prepare-requires-clause-absent g c = λ here.
     next_absent c.args.items.now.store _ c.requires.ordered c.requires.valid
     (rw (← next, ← c.in-Vacant.ensures.table) here)
 
+pub returns-in-Occupied-clause-second : goal.returns-in-Occupied-clause-second
+returns-in-Occupied-clause-second g c = rw (← c.key2.ensures, c.get.ensures) c.in-Occupied.ensures.entered
+
+pub returns-then-is_some-clause-second : goal.returns-then-is_some-clause-second
+returns-then-is_some-clause-second g c = rw (← c.key2.ensures) c.in-Vacant.ensures.entered.missed
+
+pub returns-in-Err-Full-clause-second : goal.returns-in-Err-Full-clause-second
+returns-in-Err-Full-clause-second g c = rw (← c.key2.ensures) c.in-Vacant.ensures.entered.missed
+
+pub returns-in-Err-Memory-clause-second : goal.returns-in-Err-Memory-clause-second
+returns-in-Err-Memory-clause-second g c = rw (← c.key2.ensures) c.in-Vacant.ensures.entered.missed
+
+pub returns-in-Err-clause-second : goal.returns-in-Err-clause-second
+returns-in-Err-clause-second g c = rw (← c.key2.ensures) c.in-Vacant.ensures.entered.missed
+
+pub returns-in-Err-prepare-clause-second : goal.returns-in-Err-prepare-clause-second
+returns-in-Err-prepare-clause-second g c = rw (← c.key2.ensures) c.in-Vacant.ensures.entered.missed
+
 pub returns-clause-second : goal.returns-clause-second
 returns-clause-second g c = rw (← c.key2.ensures) c.in-Vacant.ensures.entered.missed
+
+pub returns-clause-filed : goal.returns-clause-filed
+returns-clause-filed g c =
+    rw (c.insert-ix.ensures.index, c.in-Ok.ensures.contents, c.try_reserve.ensures.contents) at c.insert_prehashed_unchecked.ensures.added
 
 pub returns-clause-placed : goal.returns-clause-placed
 returns-clause-placed g c =

@@ -3,7 +3,7 @@ use Rattle.std.specs.Cmp.{eq_by_cmp_equiv}
 use Rattle.iddqd.specs.LiveItems.{live_pairs}
 use Rattle.iddqd_keyed.specs.Keys.{Keys, keys_of}
 use Rattle.iddqd_keyed.specs.Sides.{has, first_side, second_side, hash_in}
-use Rattle.iddqd_keyed.proofs.ValidationLemmas.{Checked-none, Checked-live, Checked-next, AnswersScan-hit, ne-itself}
+use Rattle.iddqd_keyed.proofs.ValidationLemmas.{Checked-none, Checked-live, Checked-next, AnswersScan-hit, differs-itself}
 use Rattle.iddqd_keyed.proofs.keyed_items.KeyedItems.check_found.Goals as goal
 
 pub loop-ix-init : goal.loop-ix-init
@@ -16,8 +16,7 @@ returns-then-ne-clause-in_order g c = λ o.
     let keys : Keys _ _ _ _ = keys_of g.T.KeyedItem g.T.Key1.PartialEq.eq g.T.Key1.Hash.hash_input g.T.Key2.Ord.cmp g.S.BuildHasher g.S.Hasher.Hasher in
     let itself : has (first_side keys) c.key1.result.now c.in-Some.item.now ≡ true = rw c.key1.ensures (g.met.T.Key1.Eq.laws.refl (keys.first c.in-Some.item.now)) in
     let found : c.find1.result ≡ Some c.in-Some.ix = AnswersScan-hit c.args.self.now.store (has (first_side keys) c.key1.result.now) c.find1.result c.in-Some.ix (c.find1.ensures.found.as_scan o.first) (c.in-Some.item.now, Checked-live _ _ _ _ _ left, itself) in
-    let same = c.ne.ensures ∙ ne-itself c.find1.result c.in-Some.ix found in
-    absurd (cc)
+    absurd (differs-itself c.find1.result c.in-Some.ix c.ne.result c.ne.ensures c.if-ne.true found)
 
 pub returns-then-ne-2-clause-in_order : goal.returns-then-ne-2-clause-in_order
 returns-then-ne-2-clause-in_order g c = λ o.
@@ -25,8 +24,7 @@ returns-then-ne-2-clause-in_order g c = λ o.
     let keys : Keys _ _ _ _ = keys_of g.T.KeyedItem g.T.Key1.PartialEq.eq g.T.Key1.Hash.hash_input g.T.Key2.Ord.cmp g.S.BuildHasher g.S.Hasher.Hasher in
     let itself : has (second_side keys) c.key2.result.now c.in-Some.item.now ≡ true = rw c.key2.ensures ((eq_by_cmp_equiv g.met.T.Key2.Ord.total).refl (keys.second c.in-Some.item.now)) in
     let found : c.find2.result ≡ Some c.in-Some.ix = AnswersScan-hit c.args.self.now.store (has (second_side keys) c.key2.result.now) c.find2.result c.in-Some.ix (c.find2.ensures.found.as_scan o.second) (c.in-Some.item.now, Checked-live _ _ _ _ _ left, itself) in
-    let same = c.ne-in-loop-ix.ensures ∙ ne-itself c.find2.result c.in-Some.ix found in
-    absurd (cc)
+    absurd (differs-itself c.find2.result c.in-Some.ix c.ne-in-loop-ix.result c.ne-in-loop-ix.ensures c.if-ne-2.true found)
 
 pub loop-ix-preserved : goal.loop-ix-preserved
 loop-ix-preserved g c =

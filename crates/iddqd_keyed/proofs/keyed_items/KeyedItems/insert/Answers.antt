@@ -11,9 +11,6 @@ use Rattle.iddqd_sides.proofs.HoldsLemmas.{next_unfiled}
 use Rattle.iddqd_keyed.proofs.keyed_items.KeyedItems.insert.Goals.{After-enter}
 use Rattle.iddqd_keyed.proofs.keyed_items.KeyedItems.insert.Goals as goal
 
-pub find_hashed-first-requires : goal.find_hashed-first-requires
-find_hashed-first-requires g c = rw (← c.self.view_is, c.key1.ensures) c.hash_of-hash.ensures
-
 pub enter-requires-clause-valid : goal.enter-requires-clause-valid
 enter-requires-clause-valid g c = c.self.invariant.valid
 
@@ -38,13 +35,14 @@ keys g c =
 first : (g : _) (c : After-enter g)
     → LooksUp (first_side (keys g c)) (was g c) (g.T.KeyedItem.first_key c.args.item) (finds_told c.enter.result).0
 first g c =
-    let found = rw (← c.self.view_is, c.key1.ensures) at c.find_hashed-first.ensures in
+    let found = rw (← c.self.view_is, c.key1.ensures) at c.hash_and_find-hash.ensures.found in
     rw c.enter.ensures.first found
 
 stored : (g : _) (c : After-enter g) → IfOk c.enter.result (λ ix. StoresAt (keys g c) (was g c) c.args.item ix (is g c))
 stored g c =
     let out = c.enter.ensures in
-    let filed = rw c.hash_of-hash.ensures at out.filed in
+    let hashed = rw (← c.self.view_is, c.key1.ensures) at c.hash_and_find-hash.ensures.hash in
+    let filed = rw hashed at out.filed in
     StoresAt-from_parts (keys g c) (was g c) c.args.item _ _ _ c.enter.result
     out.not_full out.index out.stored filed out.placed
 

@@ -15,7 +15,7 @@ returns-then-is_some-clause-replaces g c =
     let keys : Keys g.row.T.Denot g.row.T-Key1.Denot g.row.T-Key2.Denot g.row.S.Denot =
     keys_of g.T.KeyedItem g.T.Key1.PartialEq.eq g.T.Key1.Hash.hash_input g.T.Key2.Ord.cmp g.S.BuildHasher g.S.Hasher.Hasher in
     record {
-      first = λ _. TellsOther-found (LooksUp (first_side keys) c.args.self.now (keys.first item)) c.find_hashed-at1.result c.args.ix _ (rw c.key1.ensures at c.find_hashed-at1.ensures) c.other_than-first.ensures;
+      first = λ _. TellsOther-found (LooksUp (first_side keys) c.args.self.now (keys.first item)) c.hash_and_find-hash.result.1 c.args.ix _ (rw c.key1.ensures at c.hash_and_find-hash.ensures.found) c.other_than-first.ensures;
       second = λ _. TellsOther-found (LooksUp (second_side keys) c.args.self.now (keys.second item)) c.find2-at2.result c.args.ix _ (rw c.key2.ensures at c.find2-at2.ensures.found) c.other_than-second.ensures;
       replaced = tt;
       refused = (
@@ -50,7 +50,7 @@ live : (g : _) (c : After-rebind g) → IsLive (was g c).store c.args.ix
 live g c = search (rules, c.get.ensures, c.if-is_none.false)
 
 -- each look-up missed, or hit the index itself
-own1 : (g : _) (c : After-rebind g) → (c.find_hashed-at1.result ≡ None) ⊎ (c.find_hashed-at1.result ≡ Some c.args.ix)
+own1 : (g : _) (c : After-rebind g) → (c.hash_and_find-hash.result.1 ≡ None) ⊎ (c.hash_and_find-hash.result.1 ≡ Some c.args.ix)
 own1 g c =
     let none : c.other_than-first.result ≡ None = search (rules, c.if-is_some.false) in
     rw none at c.other_than-first.ensures
@@ -60,8 +60,8 @@ own2 g c =
     let none : c.other_than-second.result ≡ None = search (rules, c.if-is_some-2.false) in
     rw none at c.other_than-second.ensures
 
-first : (g : _) (c : After-rebind g) → LooksUp (first_side (keys g c)) (was g c) (g.T.KeyedItem.first_key c.args.item) c.find_hashed-at1.result
-first g c = rw (← c.self.view_is, c.key1.ensures) at c.find_hashed-at1.ensures
+first : (g : _) (c : After-rebind g) → LooksUp (first_side (keys g c)) (was g c) (g.T.KeyedItem.first_key c.args.item) c.hash_and_find-hash.result.1
+first g c = rw (← c.self.view_is, c.key1.ensures) at c.hash_and_find-hash.ensures.found
 
 second : (g : _) (c : After-rebind g) → LooksUp (second_side (keys g c)) (was g c) (g.T.KeyedItem.second_key c.args.item) c.find2-at2.result
 second g c = rw (← c.self.view_is, c.key2.ensures) at c.find2-at2.ensures.found
@@ -69,7 +69,8 @@ second g c = rw (← c.self.view_is, c.key2.ensures) at c.find2-at2.ensures.foun
 keeps : (g : _) (c : After-rebind g) → Keeps (keys g c) (was g c) (is g c)
 keeps g c =
     let out = c.rebind.ensures in
-    let filed = rw c.hash_of-hash.ensures at out.filed in
+    let hashed = rw (← c.self.view_is, c.key1.ensures) at c.hash_and_find-hash.ensures.hash in
+    let filed = rw hashed at out.filed in
     Keeps-rebound (keys g c) (was g c) c.self.invariant (lawful g c) c.args.ix c.args.item _ _ (own1 g c) (own2 g c)
     (first g c) (second g c) (live g c) _ _ _ c.rebind.result
     out.was out.stored filed out.placed out.items_stay out.hashes_stay out.order_stays
@@ -80,7 +81,8 @@ invariant_of-self g c = (keeps g c).paired.1
 pub returns-clause-replaces : goal.returns-clause-replaces
 returns-clause-replaces g c =
     let out = c.rebind.ensures in
-    let filed = rw c.hash_of-hash.ensures at out.filed in
+    let hashed = rw (← c.self.view_is, c.key1.ensures) at c.hash_and_find-hash.ensures.hash in
+    let filed = rw hashed at out.filed in
     rw (← c.self.view_is)
     (Replaces-rebound (keys g c) (was g c) c.self.invariant (lawful g c) c.args.ix c.args.item _ _ (own1 g c) (own2 g c)
     (first g c) (second g c) (live g c) _ _ _ c.rebind.result

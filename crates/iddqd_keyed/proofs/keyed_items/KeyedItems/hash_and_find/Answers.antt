@@ -1,14 +1,16 @@
 use Rattle.iddqd_keyed.proofs.KeyLemmas.{AreLawful-from_bounds}
 use Rattle.iddqd_keyed.proofs.KeepsLemmas.{LooksUp-hashed}
-use Rattle.iddqd_keyed.proofs.keyed_items.KeyedItems.find_hashed.Goals as goal
+use Rattle.iddqd_keyed.proofs.keyed_items.KeyedItems.hash_and_find.Goals as goal
 
 pub find-requires : goal.find-requires
 find-requires g c = λ ix. (c.self.invariant.filed ix).0
 
-pub returns : goal.returns
-returns g c =
-    let hashed = rw (← c.self.view_is) at c.requires in
+pub returns-clause-hash : goal.returns-clause-hash
+returns-clause-hash g c = rw (← c.self.view_is) c.compute_hash-hash.ensures.hash
+
+pub returns-clause-found : goal.returns-clause-found
+returns-clause-found g c =
     LooksUp-hashed _ _ _ c.self.view_is
     (AreLawful-from_bounds {item = g.T.KeyedItem} g.S.BuildHasher g.S.Hasher.Hasher g.met.T.Key1.PartialEq.laws
     g.met.T.Key1.Hash.respects_eq g.met.T.Key2.Ord.total)
-    c.args.key.now _ _ hashed c.find.ensures
+    c.args.key.now _ _ c.compute_hash-hash.ensures.hash c.find.ensures
