@@ -9,7 +9,8 @@ use Rattle.iddqd_sides.specs.Hashed as hashed
 use Rattle.iddqd_sides.specs.Ordered as ordered
 use Rattle.iddqd_keyed.specs.Keys.{Keys, first_hashing}
 use Rattle.iddqd_keyed.specs.State.{State}
-use Rattle.iddqd_keyed.specs.Sides.{hash_in, first_side, second_side}
+use Rattle.iddqd_keyed.specs.Sides.{Side, hash_in, first_side, second_side}
+use Rattle.iddqd_keyed.specs.Machine.{RemovesBy, RemovesFound}
 use Rattle.iddqd_keyed.specs.Queries.{LooksUpBy}
 
 -- a hit of one test hits another one that passes what the first passes
@@ -82,3 +83,9 @@ module _ {T S K1 K2 : Type 0} (keys : Keys T K1 K2 S) where
       hit = hit_ordered r looked.found;
       as_scan = looked.as_scan;
     }
+
+-- a query that is a key itself
+module _ {T S K1 K2 K : Type 0} (side : Side T S K1 K2 K) (s : State T S) (key : K) (itself : side.equal key key ≡ true) where
+  pub RemovesBy-query : (removed : Option (ℕ × T)) (new : State T S) → RemovesFound (LooksUpBy side s (side.equal key)) s removed new → RemovesBy side s key removed new
+  RemovesBy-query None new (looked, same) = record { removes = (looked.as_key key itself, same); as_scan = looked.as_scan }
+  RemovesBy-query (Some (ix, item)) new (looked, removes) = record { removes = (looked.as_key key itself, removes); as_scan = looked.as_scan }

@@ -246,10 +246,7 @@ impl<T: KeyedItem, S: BuildHasher> KeyedItems<T, S> {
         ensures removes { RemovesBy (first_side ⟦<Self as Keyed>⟧.keys) self.old key.now result self.new }
         ensures keeps { Keeps ⟦<Self as Keyed>⟧.keys self.old self.new }
     {
-        let hash = self.filed.compute_hash(&self.state, key);
-        let (filed, query) = (&mut self.filed, ByKey(key));
-        let ix = hashed::take::<T, First, ByKey<T::Key1>>(filed, &self.items, hash, &query)?;
-        Some((ix, remove_item(&mut self.order, &mut self.items, ix)))
+        self.remove1_by(key)
     }
 
     /// Removes the item with this second key. It takes no memory.
@@ -257,12 +254,7 @@ impl<T: KeyedItem, S: BuildHasher> KeyedItems<T, S> {
         ensures removes { RemovesBy (second_side ⟦<Self as Keyed>⟧.keys) self.old key.now result self.new }
         ensures keeps { Keeps ⟦<Self as Keyed>⟧.keys self.old self.new }
     {
-        let (order, query) = (&mut self.order, ByKey(key));
-        let ix = ordered::take::<T, Second, ByKey<T::Key2>>(order, &self.items, &query)?;
-        let item = take_item(&mut self.items, ix);
-        let hash = hashed::hash_of::<T, First, S>(&self.state, &item);
-        hashed::take_index(&mut self.filed, hash, ix);
-        Some((ix, item))
+        self.remove2_by(key)
     }
 
     /// Gives a live index another item, and hands back the one that it had; of an index that isn't
