@@ -1,4 +1,5 @@
-use Rattle.std.proofs.Common.{rules, ◌∙◌, ap}
+use Rattle.std.proofs.Common.{rules, inl, inr, is_err, refl, sym, ◌∙◌, ap}
+use Rattle.std.proofs.lemmas.Bool.{false≢true}
 use Rattle.iddqd.specs.Store.{next_index}
 use Rattle.iddqd_order.specs.MapBTreeTable.{order_of}
 use Rattle.iddqd_sides.proofs.OrderedHoldsLemmas.{next_absent}
@@ -44,3 +45,18 @@ returns-clause-placed g c =
     (λ k. ap (λ key. compare key k) c.key2.ensures) c.in-Vacant.vacant c.in-Ok-prepare.prepared c.next_index.result _
     (ap order_of c.in-Vacant.ensures.table) c.in-Vacant.ensures.entered c.in-Ok-prepare.ensures.prepared
     (c.next_index.ensures.index ∙ ap next_index c.in-Ok.ensures.contents) (search (rules, c.insert.ensures))
+
+pub returns-in-Occupied-clause-refused : goal.returns-in-Occupied-clause-refused
+returns-in-Occupied-clause-refused g c = (refl, inr refl)
+
+pub returns-then-is_some-clause-refused : goal.returns-then-is_some-clause-refused
+returns-then-is_some-clause-refused g c = (refl, inl (sym c.is_some.ensures ∙ c.if-is_some.true))
+
+pub returns-in-Err-clause-refused : goal.returns-in-Err-clause-refused
+returns-in-Err-clause-refused g c = (refl, λ full. absurd (false≢true (ap is_err (c.in-Ok.ensures.full.1 full))))
+
+pub returns-in-Err-prepare-clause-refused : goal.returns-in-Err-prepare-clause-refused
+returns-in-Err-prepare-clause-refused g c = (refl, λ full. absurd (false≢true (ap is_err (c.in-Ok.ensures.full.1 full))))
+
+pub returns-clause-not_full : goal.returns-clause-not_full
+returns-clause-not_full g c = λ _ full. absurd (false≢true (ap is_err (c.in-Ok.ensures.full.1 full)))

@@ -1,5 +1,6 @@
 use Rattle.std.proofs.Common.{◌≡◌, ◌∙◌, true, Some, rules, ap, subst}
 use Rattle.std.specs.Cmp.{eq_by_cmp_equiv}
+use Rattle.std.proofs.lemmas.Bool.{false≢true}
 use Rattle.iddqd.specs.LiveItems.{live_pairs}
 use Rattle.iddqd_keyed.specs.Keys.{Keys, keys_of}
 use Rattle.iddqd_keyed.specs.Sides.{has, first_side, second_side, hash_in}
@@ -9,6 +10,12 @@ use Rattle.iddqd_keyed.proofs.keyed_items.KeyedItems.check_found.Goals as goal
 pub loop-ix-init : goal.loop-ix-init
 loop-ix-init g c =
     rw (c.into_iter-ix-iterator.ensures.into_iter_gives ∙ c.iter-ix-items.ensures.pairs ∙ ap (λ s. live_pairs s.store) c.self.view_is) (Checked-none _ _)
+
+pub returns-then-ne-clause-by_keys : goal.returns-then-ne-clause-by_keys
+returns-then-ne-clause-by_keys g c = λ ok. absurd (false≢true ok)
+
+pub returns-then-ne-2-clause-by_keys : goal.returns-then-ne-2-clause-by_keys
+returns-then-ne-2-clause-by_keys g c = λ ok. absurd (false≢true ok)
 
 pub returns-then-ne-clause-in_order : goal.returns-then-ne-clause-in_order
 returns-then-ne-clause-in_order g c = λ o.
