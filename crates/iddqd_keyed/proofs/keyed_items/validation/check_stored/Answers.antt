@@ -1,4 +1,5 @@
 use Rattle.std.proofs.Common.{◌∙◌, sym}
+use Rattle.std.proofs.lemmas.Bool.{false≢true}
 use Rattle.iddqd.proofs.ValidationLemmas.{Validates-unsound}
 use Rattle.iddqd.proofs.LiveLemmas.{live_at}
 use Rattle.iddqd_hash.specs.MapHashTable.{filed}
@@ -14,13 +15,13 @@ pub returns-then-not-contains_index : goal.returns-then-not-contains_index
 returns-then-not-contains_index g c =
     let left = rw c.in-Some.ensures.steps at c.loop-ix.invariant in
     let live = live_at c.args.items.now.store c.in-Some.ix _ (Checked-live _ _ _ _ _ left) in
-    Validates-unsound (AreStored c.args.items.now.store (filed c.args.first.now) (order_of c.args.second.now)) c.refusal.result (λ stored. let here = (stored c.in-Some.ix live).0 in let told = c.contains_index.ensures in absurd (cc))
+    Validates-unsound (AreStored c.args.items.now.store (filed c.args.first.now) (order_of c.args.second.now)) c.refusal.result (λ stored. let here = (stored c.in-Some.ix live).0 in absurd (false≢true (sym c.if-not-contains_index.true ∙ c.contains_index.ensures ∙ here)))
 
 pub returns-then-not-contains_index-2 : goal.returns-then-not-contains_index-2
 returns-then-not-contains_index-2 g c =
     let left = rw c.in-Some.ensures.steps at c.loop-ix.invariant in
     let live = live_at c.args.items.now.store c.in-Some.ix _ (Checked-live _ _ _ _ _ left) in
-    Validates-unsound (AreStored c.args.items.now.store (filed c.args.first.now) (order_of c.args.second.now)) c.refusal-then-not-contains_index-2.result (λ stored. let here = (stored c.in-Some.ix live).1 in let told = c.contains_index-in-loop-ix.ensures.1 here in absurd (cc))
+    Validates-unsound (AreStored c.args.items.now.store (filed c.args.first.now) (order_of c.args.second.now)) c.refusal-then-not-contains_index-2.result (λ stored. let here = (stored c.in-Some.ix live).1 in let told = c.contains_index-in-loop-ix.ensures.1 here in absurd (false≢true (sym c.if-not-contains_index-2.true ∙ told)))
 
 pub loop-ix-preserved : goal.loop-ix-preserved
 loop-ix-preserved g c =
