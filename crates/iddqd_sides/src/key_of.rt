@@ -79,24 +79,6 @@ impl<'a, 'b, K, Q: Equivalent<K>> Equivalent<&'b K> for Lent<'a, Q> {
     }
 }
 
-impl<'a, 'b, K: Ord, Q: Comparable<K>> Comparable<&'b K> for Lent<'a, Q> {
-    ghost compare = { λ q k. Q.compare q.0.now k.now };
-
-    ghost equal_where_equivalent = { λ q k. Q.equal_where_equivalent q.0.now k.now };
-
-    ghost less_after = { λ q a b. Q.less_after q.0.now a.now b.now };
-
-    ghost greater_before = { λ q a b. Q.greater_before q.0.now a.now b.now };
-
-    ghost equal_keys = { λ q a b. Q.equal_keys q.0.now a.now b.now };
-
-    ghost as_equivalent = { λ q k a. Q.as_equivalent q.0.now k.now a.now };
-
-    fn compare(&self, key: &&'b K) -> Ordering {
-        self.0.compare(*key)
-    }
-}
-
 // The key of the item at a live index.
 pub(crate) fn key_at<T, E: KeyOf<T>>(items: &ItemSet<T>, ix: ItemIndex) -> &E::Key
     requires { IsLive items.now.store ix }

@@ -15,12 +15,13 @@ ghost use Rattle.iddqd_sides.specs.Ordered.{AreLive, Enters, Holds, LooksUp, Tak
 ghost use Rattle.iddqd_sides.specs.OrderedQuery.{is_between};
 ghost use Rattle.iddqd_sides.specs.OrderedWalk.{WalksWithin};
 
-use crate::key_of::{KeyOf, Lent, key_at};
+use crate::key_of::{KeyOf, key_at};
 use crate::order_query::{OrdQuery, RankedLent};
 use iddqd::item_index::ItemIndex;
 use iddqd::item_set::ItemSet;
 use iddqd::map_hash::Comparable;
 use iddqd_order::btree_table::{Asking, Entry, MapBTreeTable, Range};
+use std::cmp::Ordering;
 use std::ops::Bound;
 
 /// The index whose item has a key that the query compares Equal with.
@@ -35,12 +36,12 @@ where
     ensures { LooksUp E.key_of E.Key.cmp items.now.store (order_of table.now) (Q.compare query.now) result }
 {
     let mut asking = Asking::new(
-        |at: ItemIndex|
+        |at: ItemIndex| -> Ordering
             requires { IsLive items.now.store at }
-            ensures { IsKeyAt E.key_of items.entry.now.store at result.now }
-        { key_at::<T, E>(items, at) },
+            ensures { IsKeyAt (λ item. Q.compare query.entry.now (E.key_of item)) items.entry.now.store at result }
+        { query.compare(key_at::<T, E>(items, at)) },
     );
-    table.find_index(&Lent(query), &mut asking)
+    table.find_by(&mut asking)
 }
 
 /// The entry of the index whose item has a key that the query compares Equal with, or else of the
@@ -58,12 +59,12 @@ where
     ensures entered { Enters E.key_of E.Key.cmp items.now.store (order_of table.old) (Q.compare query.now) result }
 {
     let mut asking = Asking::new(
-        |at: ItemIndex|
+        |at: ItemIndex| -> Ordering
             requires { IsLive items.now.store at }
-            ensures { IsKeyAt E.key_of items.entry.now.store at result.now }
-        { key_at::<T, E>(items, at) },
+            ensures { IsKeyAt (λ item. Q.compare query.entry.now (E.key_of item)) items.entry.now.store at result }
+        { query.compare(key_at::<T, E>(items, at)) },
     );
-    table.entry(&Lent(query), &mut asking)
+    table.entry_by(&mut asking)
 }
 
 /// Finds as `find` does, and takes the index out of the table, by one search. It takes no memory.

@@ -1,4 +1,5 @@
 use Rattle.std.proofs.Common.{rules, ◌≡◌, ◌∙◌, Some, None, ap, sym, subst, refl}
+use Rattle.std.specs.Option.{unwrap_or}
 use Rattle.iddqd_hash.specs.HashTable.{value_of}
 use Rattle.iddqd_hash.specs.MapHashTable.{filed}
 use Rattle.iddqd_hash.proofs.AskLemmas.{CanAsk-by}
@@ -24,7 +25,7 @@ returns-in-Ok-clause-found g c =
     let passing = passes_by key_of test in
     let found = c.in-Ok.ensures.found in
     let same : Some c.get-ix.result ≡ Some found.value = sym c.get-ix.ensures ∙ entry_index-value _ ∙ ap value_of found.is_pair in
-    let back : found.value ≡ c.get-ix.result = cc in
+    let back : found.value ≡ c.get-ix.result = sym (ap (λ o. unwrap_or o found.value) same) in
     let hit = Finds-from_where store (filed c.args.table.now) c.hash.result passing (Some found.value)
     (FindsWhere-looked_up (filed c.args.table.now) c.hash.result _ (λ s. (s.0.now ≡ c.args.query.now) × (s.1.now ≡ c.args.items.now)) (passes store passing)
     (λ s x b t is i called.
