@@ -1,4 +1,4 @@
--- The words of the refusals.
+-- The words of the refusals, and the items that they hand back.
 use Rattle.std.specs.Prelude.{ℕ, List, codes}
 use Rattle.iddqd.specs.declared.item_set.GrowError.{GrowError}
 use Rattle.iddqd.specs.declared.item_set.GrowError.TheVariants.{Full as NoPlace, Memory as NoRoom}
@@ -27,3 +27,18 @@ abbrev pub replace_refusal_text : {T C : Type 0} → ReplaceRefusal T C → List
 replace_refusal_text (Missing item) = codes "missing"
 replace_refusal_text (Taken item at) = codes "duplicate"
 replace_refusal_text (Refused item) = codes "no memory"
+
+-- the item that each hands back
+abbrev pub insert_refusal_item : {T C : Type 0} → InsertRefusal T C → T
+insert_refusal_item (Duplicate item at) = item
+insert_refusal_item (Full item) = item
+insert_refusal_item (Memory item) = item
+
+abbrev pub overwrite_refusal_item : {T : Type 0} → OverwriteRefusal T → T
+overwrite_refusal_item (NoSlot item) = item
+overwrite_refusal_item (NoMemory item) = item
+
+abbrev pub replace_refusal_item : {T C : Type 0} → ReplaceRefusal T C → T
+replace_refusal_item (Missing item) = item
+replace_refusal_item (Taken item at) = item
+replace_refusal_item (Refused item) = item

@@ -3,5 +3,6 @@
 
 pub mod of_item;
 pub mod order;
+pub mod place;
 pub mod refusal;
 pub mod tables;

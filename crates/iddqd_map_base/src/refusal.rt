@@ -1,9 +1,7 @@
 //! Why a map doesn't take an item. Each refusal hands the item back, and the map is as it was.
-ghost use Rattle.std.specs.Prelude.{◌≡◌, ◌↔◌, ◌≤◌};
-ghost use Rattle.iddqd.specs.{room, IsFull};
-ghost use Rattle.iddqd_map_base.specs.Refusal.{refusal_of};
+ghost use Rattle.std.specs.Prelude.{◌≡◌};
+ghost use Rattle.iddqd_map_base.specs.Refusal.{insert_refusal_item, overwrite_refusal_item, replace_refusal_item};
 
-use iddqd::item_set::{GrowError, ItemSet};
 use std::error::Error;
 use std::fmt;
 
@@ -36,6 +34,44 @@ pub enum ReplaceRefusal<T, C> {
     Duplicate { item: T, at: C },
     /// No other item has a key of the new one, and memory was refused.
     Memory(T),
+}
+
+impl<T, C: Drop> InsertRefusal<T, C> {
+    /// The item that was not inserted.
+    pub fn into_item(self) -> T
+        ensures { result ≡ insert_refusal_item self }
+    {
+        match self {
+            InsertRefusal::Duplicate { item, .. } => item,
+            InsertRefusal::Full(item) => item,
+            InsertRefusal::Memory(item) => item,
+        }
+    }
+}
+
+impl<T> OverwriteRefusal<T> {
+    /// The item that was not taken.
+    pub fn into_item(self) -> T
+        ensures { result ≡ overwrite_refusal_item self }
+    {
+        match self {
+            OverwriteRefusal::Full(item) => item,
+            OverwriteRefusal::Memory(item) => item,
+        }
+    }
+}
+
+impl<T, C: Drop> ReplaceRefusal<T, C> {
+    /// The item that no other one became.
+    pub fn into_item(self) -> T
+        ensures { result ≡ replace_refusal_item self }
+    {
+        match self {
+            ReplaceRefusal::Missing(item) => item,
+            ReplaceRefusal::Duplicate { item, .. } => item,
+            ReplaceRefusal::Memory(item) => item,
+        }
+    }
 }
 
 impl<T, C> fmt::Display for InsertRefusal<T, C> {
@@ -87,25 +123,3 @@ impl<T: fmt::Debug + Drop, C: fmt::Debug + Drop> Error for InsertRefusal<T, C> {
 impl<T: fmt::Debug + Drop> Error for OverwriteRefusal<T> {}
 
 impl<T: fmt::Debug + Drop, C: fmt::Debug + Drop> Error for ReplaceRefusal<T, C> {}
-
-/// The refusal of an item that shares no key, for which there is no place.
-pub fn refusal<T, C>(error: GrowError, item: T) -> InsertRefusal<T, C>
-    ensures { result ≡ refusal_of error item }
-{
-    match error {
-        GrowError::Full => InsertRefusal::Full(item),
-        GrowError::Memory => InsertRefusal::Memory(item),
-    }
-}
-
-/// Why an item has no place where a table was refused memory: a full store is told before that.
-pub fn lack_of_place<T>(items: &mut ItemSet<T>) -> GrowError
-    ensures full { (result ≡ GrowError.Full) ↔ IsFull items.old.store }
-    ensures store { items.new.store ≡ items.old.store }
-    ensures room { room items.old ≤ room items.new }
-{
-    match items.assert_can_grow() {
-        Err(error) => error,
-        Ok(_handle) => GrowError::Memory,
-    }
-}
