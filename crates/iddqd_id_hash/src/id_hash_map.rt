@@ -9,7 +9,7 @@ ghost use Rattle.iddqd_hash.specs.{filed};
 ghost use Rattle.iddqd_sides.specs.Scan.{HasNoHit, AnswersScan, passes_by};
 ghost use Rattle.iddqd_sides.specs.Hashed.{hashing_of};
 ghost use Rattle.iddqd_sides.specs.Indexing.{Indexes};
-ghost use Rattle.iddqd_map_base.specs.Map.{empty_map, shares, IsMap, FindsItem, Removes};
+ghost use Rattle.iddqd_map_base.specs.Map.{empty_map, shares, IsMap, FindsItem, Removes, RemovesAt};
 ghost use Rattle.iddqd_map_base.specs.Calls.{Inserts, Overwrites};
 ghost use Rattle.iddqd_id_hash.specs.IdMap.{map_of, ClashesAt};
 
@@ -29,6 +29,7 @@ use iddqd::item_set::ItemSet;
 use iddqd_hash::hash_table::{Entry, MapHashTable};
 use iddqd_map_base::place::{lack_of_place, refusal};
 use iddqd_map_base::refusal::{InsertRefusal, OverwriteRefusal};
+use iddqd_map_base::tables::take_at;
 use iddqd_sides::hashed_query::{enter, find_by, take_by};
 use iddqd_sides::key_of::KeyOf;
 use iddqd_sides::query::HashQuery;
@@ -206,6 +207,13 @@ impl<T: IdHashItem, S: BuildHasher> IdHashMap<T, S> {
     {
         let ix = take_by::<T, ItsKey, S, Q>(&mut self.table.keys, &self.items, &self.state, query)?;
         self.items.remove(ix)
+    }
+
+    /// Takes the item at an index out of the map, if there is one. It takes no memory.
+    pub fn remove_at(&mut self, ix: ItemIndex) -> Option<T>
+        ensures { RemovesAt self.old ix result self.new }
+    {
+        take_at(&mut self.items, &mut self.table, &self.state, ix)
     }
 }
 

@@ -12,7 +12,7 @@ ghost use Rattle.iddqd_order.specs.{order_of};
 ghost use Rattle.iddqd_sides.specs.Scan.{HasNoHit, AnswersScan, passes_by};
 ghost use Rattle.iddqd_sides.specs.Ordered.{is_equal};
 ghost use Rattle.iddqd_sides.specs.OrderedIndexing.{Sorts};
-ghost use Rattle.iddqd_map_base.specs.Map.{empty_map, shares, IsMap, FindsItem, Removes};
+ghost use Rattle.iddqd_map_base.specs.Map.{empty_map, shares, IsMap, FindsItem, Removes, RemovesAt};
 ghost use Rattle.iddqd_map_base.specs.Calls.{Inserts, Overwrites};
 ghost use Rattle.iddqd_id_ord.specs.OrdMap.{map_of, ClashesAt};
 
@@ -36,6 +36,7 @@ use iddqd_map_base::refusal::{InsertRefusal, OverwriteRefusal};
 use iddqd_order::btree_table::{Entry, MapBTreeTable};
 use iddqd_sides::key_of::KeyOf;
 use iddqd_sides::order_query::OrdQuery;
+use iddqd_sides::ordered::take_index;
 use iddqd_sides::ordered_query::{enter, find_by, take_by};
 pub use into_values::IntoValues;
 pub use iter::Iter;
@@ -198,6 +199,17 @@ impl<T: IdOrdItem> IdOrdMap<T> {
         ensures { Removes self.old (passes_by T.key_of (is_equal (Q.compare query))) result self.new }
     {
         let ix = take_by::<T, ItsKey, Q>(&mut self.table, &self.items, query)?;
+        self.items.remove(ix)
+    }
+
+    /// Takes the item at an index out of the map, if there is one. It takes no memory.
+    pub fn remove_at(&mut self, ix: ItemIndex) -> Option<T>
+        ensures { RemovesAt self.old ix result self.new }
+    {
+        if self.items.get(ix).is_none() {
+            return None;
+        }
+        take_index::<T, ItsKey>(&mut self.table, &self.items, ix);
         self.items.remove(ix)
     }
 }

@@ -2,7 +2,7 @@
 use Rattle.std.specs.Prelude.{◌≡◌, ◌≢◌, ◌≤◌, ◌+◌, ℕ, Bool, true, not, Option, Some, None, Result, Ok, Err}
 use Rattle.iddqd.specs.Store.{Store, IsFull, get, rebound}
 use Rattle.iddqd.specs.Compaction.{compacted}
-use Rattle.iddqd_sides.specs.Scan.{IsHit, HasNoHit, AnswersScan}
+use Rattle.iddqd_sides.specs.Scan.{IsLive, IsHit, HasNoHit, AnswersScan}
 use Rattle.iddqd_map_base.specs.Map.{MapState, Stays, IsOnly, InsertsAt}
 use Rattle.iddqd_map_base.specs.declared.refusal.InsertRefusal.{InsertRefusal}
 use Rattle.iddqd_map_base.specs.declared.refusal.InsertRefusal.TheVariants.{Duplicate, Full, Memory}
@@ -26,6 +26,11 @@ module _ {T C : Type 0} (becomes : MapState T → ℕ → T → T → MapState T
   ReplacingAt old ix item (Err (Missing back)) new = ⊥
   ReplacingAt old ix item (Err (Taken back at)) new = (back ≡ item) × taken old.store ix item at × Stays old new
   ReplacingAt old ix item (Err (Refused back)) new = (back ≡ item) × lacks old ix item × Stays old new
+
+  -- what a replacement at an index may answer and leave: missing exactly where no item is there
+  abbrev pub ReplacingIfLive : MapState T → ℕ → T → Result T (ReplaceRefusal T C) → MapState T → Type 0
+  ReplacingIfLive old ix item (Err (Missing back)) new = (back ≡ item) × (get old.store ix ≡ None) × (new ≡ old)
+  ReplacingIfLive old ix item result new = IsLive old.store ix × ReplacingAt old ix item result new
 
   -- what a replacement of the item that passes the test may answer and leave
   abbrev pub Replacing : MapState T → (T → Bool) → T → Result T (ReplaceRefusal T C) → MapState T → Type 0
@@ -104,6 +109,10 @@ module _ {T : Type 0} (alike : T → T → Bool) where
   -- what may become of the item at a live index that is to become another one
   abbrev pub ReplacesAt : MapState T → ℕ → T → Result T (ReplaceRefusal T ℕ) → MapState T → Type 0
   ReplacesAt = ReplacingAt Becomes IsTakenAt LacksRoomAt
+
+  -- what a replacement at an index may answer and leave
+  abbrev pub ReplacesIfLive : MapState T → ℕ → T → Result T (ReplaceRefusal T ℕ) → MapState T → Type 0
+  ReplacesIfLive = ReplacingIfLive Becomes IsTakenAt LacksRoomAt
 
   -- what a replacement of the item that passes the test may answer and leave
   abbrev pub Replaces : MapState T → (T → Bool) → T → Result T (ReplaceRefusal T ℕ) → MapState T → Type 0

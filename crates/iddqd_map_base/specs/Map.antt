@@ -60,6 +60,12 @@ module _ {T : Type 0} where
   Removes old test (Some item) new = RemovesHit old test item new
   Removes old test None new = HasNoHit old.store test × Stays old new
 
+  -- what a removal at an index may answer and leave: none, and nothing changes, exactly where no item is there
+  abbrev pub RemovesAt : MapState T → ℕ → Option T → MapState T → Type 0
+  RemovesAt old ix (Some item) new =
+      (get old.store ix ≡ Some item) × (new.store ≡ removed old.store ix) × (old.room ≤ new.room)
+  RemovesAt old ix None new = (get old.store ix ≡ None) × (new ≡ old)
+
 -- `alike x y` says that the items share a key
 module _ {T : Type 0} (alike : T → T → Bool) where
   -- No two items share a key. The free indexes are distinct and exactly the vacant ones.

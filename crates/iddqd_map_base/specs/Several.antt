@@ -4,7 +4,7 @@ use Rattle.std.specs.List.{Contains}
 use Rattle.iddqd.specs.Store.{Store, IsFull, get, next_index, inserted, removed, rebound}
 use Rattle.iddqd_sides.specs.Scan.{IsHit, HasNoHit, AnswersScan}
 use Rattle.iddqd_map_base.specs.Map.{MapState, Stays, InsertsAt}
-use Rattle.iddqd_map_base.specs.Calls.{RefusesFull, RefusesMemory, ReplacingAt, Replacing, ChangingBy, Changing}
+use Rattle.iddqd_map_base.specs.Calls.{RefusesFull, RefusesMemory, ReplacingAt, ReplacingIfLive, Replacing, ChangingBy, Changing}
 use Rattle.iddqd_map_base.specs.declared.refusal.OverwriteRefusal.{OverwriteRefusal}
 use Rattle.iddqd_map_base.specs.declared.refusal.OverwriteRefusal.TheVariants.{Full, Memory}
 use Rattle.iddqd_map_base.specs.declared.refusal.ReplaceRefusal.{ReplaceRefusal}
@@ -111,6 +111,10 @@ module _ {T : Type 0} (alike : T → T → Bool) where
       -- what may become of the item at a live index that is to become another one
       abbrev pub ReplacesOneAt : MapState T → ℕ → T → Result T (ReplaceRefusal T C) → MapState T → Type 0
       ReplacesOneAt = ReplacingAt BecomesOne taken LacksRoomFor
+
+      -- what a replacement at an index may answer and leave
+      abbrev pub ReplacesOneIfLive : MapState T → ℕ → T → Result T (ReplaceRefusal T C) → MapState T → Type 0
+      ReplacesOneIfLive = ReplacingIfLive BecomesOne taken LacksRoomFor
 
       -- what a replacement of the item that passes the test may answer and leave
       abbrev pub ReplacesOne : MapState T → (T → Bool) → T → Result T (ReplaceRefusal T C) → MapState T → Type 0

@@ -9,8 +9,8 @@ ghost use Rattle.iddqd.specs.{get, next_index, inserted, removed, room};
 ghost use Rattle.iddqd.specs.LiveItems.{live_items};
 ghost use Rattle.iddqd_hash.specs.Asks.{CanAsk};
 ghost use Rattle.iddqd_sides.specs.Scan.{IsLive, AnswersScan};
-ghost use Rattle.iddqd_map_base.specs.Map.{map_with};
-ghost use Rattle.iddqd_map_base.specs.Calls.{ReplacingAt, Replacing, Changing};
+ghost use Rattle.iddqd_map_base.specs.Map.{map_with, RemovesAt};
+ghost use Rattle.iddqd_map_base.specs.Calls.{ReplacingAt, ReplacingIfLive, Replacing, Changing};
 ghost use Rattle.iddqd_map_base.specs.Retain.{RetainsTo};
 ghost use Rattle.iddqd_map_base.specs.Steps.{removed_one};
 
@@ -130,6 +130,46 @@ pub fn take_found<T, S, X: Tables<T, S>>(
     ensures tables_room { X.spare tables.old ≤ X.spare tables.new }
 {
     take_out(items, tables, state, found?)
+}
+
+/// Takes the item at an index out of the store and the tables, if there is one. It takes no memory.
+pub fn take_at<T, S, X: Tables<T, S>>(
+    items: &mut ItemSet<T>,
+    tables: &mut X,
+    state: &S,
+    ix: ItemIndex,
+) -> Option<T>
+    requires map { X.is_map tables.old state.now items.old.store }
+    ensures map { X.is_map tables.new state.now items.new.store }
+    ensures removes { RemovesAt (map_with items.old (X.spare tables.old)) ix result
+        (map_with items.new (X.spare tables.new)) }
+{
+    if items.get(ix).is_none() {
+        return None;
+    }
+    take_out(items, tables, state, ix)
+}
+
+/// Puts an item in the place of the one at an index, if there is one.
+pub fn replace_at<T, S, X: Tables<T, S>>(
+    items: &mut ItemSet<T>,
+    tables: &mut X,
+    state: &S,
+    known: X::Known,
+    ix: ItemIndex,
+    item: T,
+) -> Result<T, ReplaceRefusal<T, X::Clash>>
+where
+    X::Known: Drop,
+    requires map { X.is_map tables.old state.now items.old.store }
+    ensures map { X.is_map tables.new state.now items.new.store }
+    ensures replaces { ReplacingIfLive X.becomes X.taken X.lacks (map_with items.old (X.spare tables.old)) ix item
+        result (map_with items.new (X.spare tables.new)) }
+{
+    if items.get(ix).is_none() {
+        return Err(ReplaceRefusal::Missing(item));
+    }
+    tables.replace(items, state, known, ix, item)
 }
 
 /// Puts an item in the place of the one that a look-up found.

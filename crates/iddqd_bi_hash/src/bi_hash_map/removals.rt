@@ -1,10 +1,12 @@
 //! Items leave a map. That takes no memory.
 ghost use Rattle.iddqd_sides.specs.Scan.{passes_by};
-ghost use Rattle.iddqd_map_base.specs.Map.{Removes};
+ghost use Rattle.iddqd_map_base.specs.Map.{Removes, RemovesAt};
 
 use super::BiHashMap;
 use super::item::{BiHashItem, First, Second};
+use iddqd::item_index::ItemIndex;
 use iddqd_map_base::of_item::take_item;
+use iddqd_map_base::tables::take_at;
 use iddqd_sides::hashed_query::take_by;
 use iddqd_sides::query::HashQuery;
 use std::hash::BuildHasher;
@@ -28,5 +30,12 @@ impl<T: BiHashItem, S: BuildHasher> BiHashMap<T, S> {
         let ix = take_by::<T, Second, S, Q>(&mut tables.second, &self.items, &self.state, query)?;
         take_item::<T, First, S>(&mut tables.first, &self.items, &self.state, ix);
         self.items.remove(ix)
+    }
+
+    /// Takes the item at an index out of the map, if there is one. It takes no memory.
+    pub fn remove_at(&mut self, ix: ItemIndex) -> Option<T>
+        ensures { RemovesAt self.old ix result self.new }
+    {
+        take_at(&mut self.items, &mut self.tables, &self.state, ix)
     }
 }

@@ -2,15 +2,16 @@
 ghost use Rattle.std.specs.Fn.{FnOnceReturnsAt};
 ghost use Rattle.iddqd_sides.specs.Scan.{passes_by};
 ghost use Rattle.iddqd_map_base.specs.Map.{shares};
-ghost use Rattle.iddqd_map_base.specs.Several.{either_key, both_keys, ReplacesOne, ChangesOne};
+ghost use Rattle.iddqd_map_base.specs.Several.{either_key, both_keys, ReplacesOne, ReplacesOneIfLive, ChangesOne};
 ghost use Rattle.iddqd_bi_hash.specs.BiMap.{AreTaken};
 
 use super::BiHashMap;
 use super::clash::BiClash;
 use super::item::{BiHashItem, First, Second};
 use super::moves::KnownHashes;
+use iddqd::item_index::ItemIndex;
 use iddqd_map_base::refusal::ReplaceRefusal;
-use iddqd_map_base::tables::{change_found, replace_found};
+use iddqd_map_base::tables::{change_found, replace_at, replace_found};
 use iddqd_sides::hashed_query::{find_under, query_hash};
 use iddqd_sides::query::HashQuery;
 use std::hash::BuildHasher;
@@ -71,6 +72,22 @@ impl<T: BiHashItem, S: BuildHasher> BiHashMap<T, S> {
             ix,
             item,
         )
+    }
+
+    /// Puts an item in the place of the one at an index, which is handed back.
+    ///
+    /// Where there is none the item is missing; else as `replace1`.
+    pub fn replace_at(&mut self, ix: ItemIndex, item: T) -> Result<T, ReplaceRefusal<T, BiClash>>
+        ensures { let first = shares T.first_key T.Key1.eq in let second = shares T.second_key T.Key2.eq in
+            ReplacesOneIfLive (either_key first second) (both_keys first second) (AreTaken first second)
+            self.old ix item result self.new }
+    {
+        let known = KnownHashes {
+            first: None,
+            second: None,
+        };
+        let (items, tables) = (&mut self.items, &mut self.tables);
+        replace_at(items, tables, &self.state, known, ix, item)
     }
 
     /// Puts what the closure makes of the item that has the first key in its place, and hands that

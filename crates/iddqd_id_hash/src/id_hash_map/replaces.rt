@@ -2,12 +2,12 @@
 ghost use Rattle.std.specs.Fn.{FnOnceReturnsAt};
 ghost use Rattle.iddqd_sides.specs.Scan.{passes_by};
 ghost use Rattle.iddqd_map_base.specs.Map.{shares};
-ghost use Rattle.iddqd_map_base.specs.Calls.{Replaces, Changes};
+ghost use Rattle.iddqd_map_base.specs.Calls.{Replaces, ReplacesIfLive, Changes};
 
 use super::{IdHashItem, IdHashMap, ItsKey};
 use iddqd::item_index::ItemIndex;
 use iddqd_map_base::refusal::ReplaceRefusal;
-use iddqd_map_base::tables::{change_found, replace_found};
+use iddqd_map_base::tables::{change_found, replace_at, replace_found};
 use iddqd_sides::hashed_query::{find_under, query_hash};
 use iddqd_sides::query::HashQuery;
 use std::hash::BuildHasher;
@@ -38,8 +38,24 @@ impl<T: IdHashItem, S: BuildHasher> IdHashMap<T, S> {
             &mut self.items,
             &mut self.table,
             &self.state,
-            from,
+            Some(from),
             found,
+            item,
+        )
+    }
+
+    /// Puts an item in the place of the one at an index, which is handed back.
+    ///
+    /// Where there is none the item is missing; else as `replace`.
+    pub fn replace_at(&mut self, ix: ItemIndex, item: T) -> Result<T, ReplaceRefusal<T, ItemIndex>>
+        ensures { ReplacesIfLive (shares T.key_of T.Key.eq) self.old ix item result self.new }
+    {
+        replace_at(
+            &mut self.items,
+            &mut self.table,
+            &self.state,
+            None,
+            ix,
             item,
         )
     }
@@ -69,7 +85,7 @@ impl<T: IdHashItem, S: BuildHasher> IdHashMap<T, S> {
             &mut self.items,
             &mut self.table,
             &self.state,
-            from,
+            Some(from),
             found,
             f,
         )

@@ -6,10 +6,10 @@ use iddqd::item_index::ItemIndex;
 use iddqd::item_set::ItemSet;
 use iddqd::map_hash::MapHash;
 use iddqd_hash::hash_table::MapHashTable;
-use iddqd_map_base::of_item::take_item;
+use iddqd_map_base::of_item::{commit_item, take_item};
 use iddqd_map_base::refusal::ReplaceRefusal;
 use iddqd_map_base::tables::Tables;
-use iddqd_sides::hashed_move::{commit_move, plan_move, reserve_move};
+use iddqd_sides::hashed_move::{plan_move, reserve_move};
 use std::alloc::AllocError;
 use std::hash::BuildHasher;
 
@@ -28,7 +28,7 @@ impl<T: IdHashItem, S: BuildHasher> Tables<T, S> for IdTable {
 
     type Clash = ItemIndex;
 
-    type Known = MapHash;
+    type Known = Option<MapHash>;
 
     ghost is_map = { λ table state s. IsIdMap T.IdHashItem.key_of
         (hashing_of T.Key.eq T.Key.hash_input S.BuildHasher S.Hasher.Hasher state) s table.keys };
@@ -49,7 +49,7 @@ impl<T: IdHashItem, S: BuildHasher> Tables<T, S> for IdTable {
         &mut self,
         items: &mut ItemSet<T>,
         state: &S,
-        known: MapHash,
+        known: Option<MapHash>,
         ix: ItemIndex,
         item: T,
     ) -> Result<T, ReplaceRefusal<T, ItemIndex>> {
@@ -61,7 +61,7 @@ impl<T: IdHashItem, S: BuildHasher> Tables<T, S> for IdTable {
         if let Err(AllocError) = reserve_move(table, &plan) {
             return Err(ReplaceRefusal::Memory(item));
         }
-        commit_move(table, known, &plan, ix);
+        commit_item::<T, ItsKey, S>(table, items, state, known, &plan, ix);
         Ok(items.replace(ix, item))
     }
 }

@@ -7,7 +7,7 @@ ghost use Rattle.iddqd_sides.specs.Scan.{IsLive, passes_by};
 ghost use Rattle.iddqd_sides.specs.Ordered.{is_equal};
 ghost use Rattle.iddqd_sides.specs.OrderedIndexing.{Sorts};
 ghost use Rattle.iddqd_map_base.specs.Map.{shares};
-ghost use Rattle.iddqd_map_base.specs.Calls.{ReplacesAt, Replaces, Changes};
+ghost use Rattle.iddqd_map_base.specs.Calls.{ReplacesAt, ReplacesIfLive, Replaces, Changes};
 ghost use Rattle.iddqd_id_ord.specs.OrdMap.{map_of};
 
 use super::{IdOrdItem, IdOrdMap, ItsKey};
@@ -36,6 +36,18 @@ impl<T: IdOrdItem> IdOrdMap<T> {
         let Some(ix) = self.find(query) else {
             return Err(ReplaceRefusal::Missing(item));
         };
+        replace_at(&mut self.items, &mut self.table, ix, item)
+    }
+
+    /// Puts an item in the place of the one at an index, which is handed back.
+    ///
+    /// Where there is none the item is missing; else as `replace`.
+    pub fn replace_at(&mut self, ix: ItemIndex, item: T) -> Result<T, ReplaceRefusal<T, ItemIndex>>
+        ensures { ReplacesIfLive (shares T.key_of (eq_by_cmp T.Key.cmp)) self.old ix item result self.new }
+    {
+        if self.items.get(ix).is_none() {
+            return Err(ReplaceRefusal::Missing(item));
+        }
         replace_at(&mut self.items, &mut self.table, ix, item)
     }
 

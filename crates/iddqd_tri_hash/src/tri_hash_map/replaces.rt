@@ -2,15 +2,16 @@
 ghost use Rattle.std.specs.Fn.{FnOnceReturnsAt};
 ghost use Rattle.iddqd_sides.specs.Scan.{passes_by};
 ghost use Rattle.iddqd_map_base.specs.Map.{shares};
-ghost use Rattle.iddqd_map_base.specs.Several.{ReplacesOne, ChangesOne};
+ghost use Rattle.iddqd_map_base.specs.Several.{ReplacesOne, ReplacesOneIfLive, ChangesOne};
 ghost use Rattle.iddqd_tri_hash.specs.TriMap.{any_key, all_keys, AreTaken};
 
 use super::TriHashMap;
 use super::clash::TriClash;
 use super::item::{First, Second, Third, TriHashItem};
 use super::moves::KnownHashes;
+use iddqd::item_index::ItemIndex;
 use iddqd_map_base::refusal::ReplaceRefusal;
-use iddqd_map_base::tables::{change_found, replace_found};
+use iddqd_map_base::tables::{change_found, replace_at, replace_found};
 use iddqd_sides::hashed_query::{find_under, query_hash};
 use iddqd_sides::query::HashQuery;
 use std::hash::BuildHasher;
@@ -104,6 +105,24 @@ impl<T: TriHashItem, S: BuildHasher> TriHashMap<T, S> {
             ix,
             item,
         )
+    }
+
+    /// Puts an item in the place of the one at an index, which is handed back.
+    ///
+    /// Where there is none the item is missing; else as `replace1`.
+    pub fn replace_at(&mut self, ix: ItemIndex, item: T) -> Result<T, ReplaceRefusal<T, TriClash>>
+        ensures { let first = shares T.first_key T.Key1.eq in let second = shares T.second_key T.Key2.eq in
+            let third = shares T.third_key T.Key3.eq in
+            ReplacesOneIfLive (any_key first second third) (all_keys first second third) (AreTaken first second third)
+            self.old ix item result self.new }
+    {
+        let known = KnownHashes {
+            first: None,
+            second: None,
+            third: None,
+        };
+        let (items, tables) = (&mut self.items, &mut self.tables);
+        replace_at(items, tables, &self.state, known, ix, item)
     }
 
     /// Puts what the closure makes of the item that has the first key in its place, and hands that

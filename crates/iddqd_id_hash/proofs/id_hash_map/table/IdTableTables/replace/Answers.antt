@@ -21,8 +21,8 @@ returns-clause-map g c =
     let state = c.args.state.now in
     let hashing : Hashing _ = hashing_of equal g.T.Key.Hash.hash_input g.S.BuildHasher g.S.Hasher.Hasher state in
     let lawful = IsLawful-from_bounds equal g.T.Key.Hash.hash_input g.S.BuildHasher g.S.Hasher.Hasher state g.met.T.Key.PartialEq.laws g.met.T.Key.Hash.respects_eq in
-    let filed_so = c.commit_move.ensures.moved ∙ ap (λ m. moved m c.args.ix c.in-Ok.plan) c.reserve_move.ensures.contents in
-    let did = IsIdMap-rebound g.T.IdHashItem.key_of hashing c.args.items.now c.replace.new.self c.args.self.now.keys c.commit_move.new.table c.args.ix c.args.item c.replace.result c.in-Ok.plan c.requires.map.valid c.requires.map.indexed lawful c.replace.ensures.value c.in-Ok.ensures c.replace.ensures.rebound filed_so in
+    let filed_so = c.commit_item.ensures.moved ∙ ap (λ m. moved m c.args.ix c.in-Ok.plan) c.reserve_move.ensures.contents in
+    let did = IsIdMap-rebound g.T.IdHashItem.key_of hashing c.args.items.now c.replace.new.self c.args.self.now.keys c.commit_item.new.table c.args.ix c.args.item c.replace.result c.in-Ok.plan c.requires.map.valid c.requires.map.indexed lawful c.replace.ensures.value c.in-Ok.ensures c.replace.ensures.rebound filed_so in
     record { valid = did.0; indexed = did.1 }
 
 pub returns-clause-replaces : goal.returns-clause-replaces
@@ -32,6 +32,6 @@ returns-clause-replaces g c =
     let hashing : Hashing _ = hashing_of equal g.T.Key.Hash.hash_input g.S.BuildHasher g.S.Hasher.Hasher state in
     let lawful = IsLawful-from_bounds equal g.T.Key.Hash.hash_input g.S.BuildHasher g.S.Hasher.Hasher state g.met.T.Key.PartialEq.laws g.met.T.Key.Hash.respects_eq in
     let reserved = c.reserve_move.ensures in
-    let did = c.commit_move.ensures in
-    Becomes-planned (record { key_of = g.T.IdHashItem.key_of; hashing = hashing }) c.args.items.now c.args.self.now.keys c.args.ix c.args.item c.replace.result c.replace.ensures.value c.in-Ok.plan c.replace.new.self c.reserve_move.new.table c.commit_move.new.table c.in-Ok.ensures lawful c.requires.map.indexed c.replace.ensures.rebound
+    let did = c.commit_item.ensures in
+    Becomes-planned (record { key_of = g.T.IdHashItem.key_of; hashing = hashing }) c.args.items.now c.args.self.now.keys c.args.ix c.args.item c.replace.result c.replace.ensures.value c.in-Ok.plan c.replace.new.self c.reserve_move.new.table c.commit_item.new.table c.in-Ok.ensures lawful c.requires.map.indexed c.replace.ensures.rebound
     reserved.untouched did.untouched reserved.room_stays did.memory.one_less
