@@ -45,11 +45,15 @@ impl<T: IdHashItem, S: BuildHasher> IdHashMap<T, S> {
 
     /// Takes memory, so that as many inserts need none, or as many as there can be.
     ///
-    /// Where it is refused the items stay.
+    /// Where there is room already it takes none. Where it is refused the items stay.
     pub fn reserve(&mut self, additional: usize) -> Result<(), AllocError>
         ensures contents { Stays self.old self.new }
         ensures room { OnOk result (min additional (insertable self.old.store) ≤ self.new.room) }
+        ensures had_room { additional ≤ self.old.room → IsOk result × (self.new ≡ self.old) }
     {
+        if additional <= self.room() {
+            return Ok(());
+        }
         self.items.reserve(additional)?;
         self.table.keys.try_reserve(additional)
     }
