@@ -73,6 +73,15 @@ impl<T: BiHashItem> BiHashMap<T, DefaultHashBuilder> {
     {
         BiHashMap::with_hasher(alloc, DefaultHashBuilder::default())
     }
+
+    /// No items, never more slots than the limit, and the default hasher. It takes no memory.
+    ///
+    /// No call changes the limit.
+    pub fn with_limit(alloc: Global, limit: u32) -> BiHashMap<T, DefaultHashBuilder>
+        ensures { result ≡ empty_map limit }
+    {
+        BiHashMap::with_limit_and_hasher(alloc, limit, DefaultHashBuilder::default())
+    }
 }
 
 impl<T: BiHashItem, S: BuildHasher> BiHashMap<T, S> {
@@ -80,13 +89,13 @@ impl<T: BiHashItem, S: BuildHasher> BiHashMap<T, S> {
     pub fn with_hasher(alloc: Global, state: S) -> BiHashMap<T, S>
         ensures { result ≡ empty_map u32.MAX }
     {
-        BiHashMap::with_limit(alloc, state, u32::MAX)
+        BiHashMap::with_limit_and_hasher(alloc, u32::MAX, state)
     }
 
     /// No items, and never more slots than the limit. It takes no memory.
     ///
     /// No call changes the limit.
-    pub fn with_limit(alloc: Global, state: S, limit: u32) -> BiHashMap<T, S>
+    pub fn with_limit_and_hasher(alloc: Global, limit: u32, state: S) -> BiHashMap<T, S>
         ensures { result ≡ empty_map limit }
     {
         BiHashMap {

@@ -98,6 +98,15 @@ impl<T: IdHashItem> IdHashMap<T, DefaultHashBuilder> {
     {
         IdHashMap::with_hasher(alloc, DefaultHashBuilder::default())
     }
+
+    /// No items, never more slots than the limit, and the default hasher. It takes no memory.
+    ///
+    /// No call changes the limit.
+    pub fn with_limit(alloc: Global, limit: u32) -> IdHashMap<T, DefaultHashBuilder>
+        ensures { result ≡ empty_map limit }
+    {
+        IdHashMap::with_limit_and_hasher(alloc, limit, DefaultHashBuilder::default())
+    }
 }
 
 impl<T: IdHashItem, S: BuildHasher> IdHashMap<T, S> {
@@ -105,13 +114,13 @@ impl<T: IdHashItem, S: BuildHasher> IdHashMap<T, S> {
     pub fn with_hasher(alloc: Global, state: S) -> IdHashMap<T, S>
         ensures { result ≡ empty_map u32.MAX }
     {
-        IdHashMap::with_limit(alloc, state, u32::MAX)
+        IdHashMap::with_limit_and_hasher(alloc, u32::MAX, state)
     }
 
     /// No items, and never more slots than the limit. It takes no memory.
     ///
     /// No call changes the limit.
-    pub fn with_limit(alloc: Global, state: S, limit: u32) -> IdHashMap<T, S>
+    pub fn with_limit_and_hasher(alloc: Global, limit: u32, state: S) -> IdHashMap<T, S>
         ensures { result ≡ empty_map limit }
     {
         IdHashMap {

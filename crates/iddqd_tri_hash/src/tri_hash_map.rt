@@ -74,6 +74,15 @@ impl<T: TriHashItem> TriHashMap<T, DefaultHashBuilder> {
     {
         TriHashMap::with_hasher(alloc, DefaultHashBuilder::default())
     }
+
+    /// No items, never more slots than the limit, and the default hasher. It takes no memory.
+    ///
+    /// No call changes the limit.
+    pub fn with_limit(alloc: Global, limit: u32) -> TriHashMap<T, DefaultHashBuilder>
+        ensures { result ≡ empty_map limit }
+    {
+        TriHashMap::with_limit_and_hasher(alloc, limit, DefaultHashBuilder::default())
+    }
 }
 
 impl<T: TriHashItem, S: BuildHasher> TriHashMap<T, S> {
@@ -81,13 +90,13 @@ impl<T: TriHashItem, S: BuildHasher> TriHashMap<T, S> {
     pub fn with_hasher(alloc: Global, state: S) -> TriHashMap<T, S>
         ensures { result ≡ empty_map u32.MAX }
     {
-        TriHashMap::with_limit(alloc, state, u32::MAX)
+        TriHashMap::with_limit_and_hasher(alloc, u32::MAX, state)
     }
 
     /// No items, and never more slots than the limit. It takes no memory.
     ///
     /// No call changes the limit.
-    pub fn with_limit(alloc: Global, state: S, limit: u32) -> TriHashMap<T, S>
+    pub fn with_limit_and_hasher(alloc: Global, limit: u32, state: S) -> TriHashMap<T, S>
         ensures { result ≡ empty_map limit }
     {
         TriHashMap {

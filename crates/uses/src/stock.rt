@@ -1,7 +1,6 @@
 //! Refusals, by what they mean to a caller: a duplicate is merged, and where room was taken ahead memory isn't refused.
 ghost use Rattle.std.specs.Prelude.{◌≡◌, ◌≤◌, OnOk, OnErr};
 
-use iddqd_maps::hash_builder::DefaultHashBuilder;
 use iddqd_maps::id_hash_map::{IdHashItem, IdHashMap};
 use iddqd_maps::item_index::ItemIndex;
 use iddqd_maps::refusal::InsertRefusal;
@@ -74,8 +73,5 @@ fn script(alloc: Global, stock: &mut IdHashMap<Part>) -> Result<String, AllocErr
 
 /// What the calls answer.
 pub fn line(alloc: Global) -> Result<String, AllocError> {
-    script(
-        alloc,
-        &mut IdHashMap::with_limit(alloc, DefaultHashBuilder::default(), 2),
-    )
+    script(alloc, &mut IdHashMap::with_limit(alloc, 2))
 }

@@ -6,17 +6,32 @@ ghost use Rattle.iddqd_map_base.specs.Calls.{Compacts};
 
 use super::tables::BiTables;
 use super::{BiHashItem, BiHashMap};
+use iddqd::hash_builder::DefaultHashBuilder;
 use iddqd::index_remap::IndexRemap;
 use iddqd::item_set::ItemSet;
 use std::alloc::{AllocError, Global};
 use std::hash::BuildHasher;
 
-impl<T: BiHashItem, S: BuildHasher> BiHashMap<T, S> {
-    /// No items, and memory for so many. With 0 it takes none.
+impl<T: BiHashItem> BiHashMap<T, DefaultHashBuilder> {
+    /// No items, memory for so many, and the default hasher. With 0 it takes no memory.
     pub fn with_capacity(
         alloc: Global,
-        state: S,
         capacity: usize,
+    ) -> Result<BiHashMap<T, DefaultHashBuilder>, AllocError>
+        ensures contents { IfOk result (λ m. m.store ≡ empty) }
+        ensures room { IfOk result (λ m. min capacity slot_limit ≤ m.room) }
+        ensures none { capacity ≡ 0 → IsOk result }
+    {
+        BiHashMap::with_capacity_and_hasher(alloc, capacity, DefaultHashBuilder::default())
+    }
+}
+
+impl<T: BiHashItem, S: BuildHasher> BiHashMap<T, S> {
+    /// No items, and memory for so many. With 0 it takes none.
+    pub fn with_capacity_and_hasher(
+        alloc: Global,
+        capacity: usize,
+        state: S,
     ) -> Result<BiHashMap<T, S>, AllocError>
     where
         S: Drop,

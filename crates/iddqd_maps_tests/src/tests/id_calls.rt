@@ -1,6 +1,5 @@
 //! Each call of a map with one key, with ample memory, under two hashers and small limits.
 use super::badges::{Badge, Constant, numbered};
-use iddqd::hash_builder::DefaultHashBuilder;
 use iddqd::internal::ValidateCompact;
 use iddqd::item_index::ItemIndex;
 use iddqd_maps::id_hash_map::IdHashMap;
@@ -110,13 +109,13 @@ fn badges_come_change_and_go(rt: HostRuntime) -> Result<(), Fail> {
     assert_calls(&rt, &mut map)?;
     let mut map = IdHashMap::with_hasher(rt.alloc(), Constant);
     assert_calls(&rt, &mut map)?;
-    let mut map = IdHashMap::with_capacity(rt.alloc(), DefaultHashBuilder::default(), 2)?;
+    let mut map = IdHashMap::with_capacity(rt.alloc(), 2)?;
     assert_calls(&rt, &mut map)?;
     Ok(())
 }
 
 fn within(alloc: Global, limit: u32) -> IdHashMap<Badge> {
-    IdHashMap::with_limit(alloc, DefaultHashBuilder::default(), limit)
+    IdHashMap::with_limit(alloc, limit)
 }
 
 // A map without a slot takes nothing.

@@ -1,7 +1,6 @@
 //! A map with one key beside a plain list of slots.
 use super::badges::{Badge, numbered};
 use super::slots::{Numbers, Slots, index, ix};
-use iddqd::hash_builder::DefaultHashBuilder;
 use iddqd::item_index::ItemIndex;
 use iddqd_maps::id_hash_map::IdHashMap;
 use iddqd_maps::refusal::{InsertRefusal, OverwriteRefusal, ReplaceRefusal};
@@ -202,7 +201,7 @@ fn calls_answer_as_a_list_of_slots(rt: HostRuntime) -> Result<(), Fail> {
         (u32::MAX, 60, 20_000),
         (5, 8, 4_000),
     ] {
-        let mut map = IdHashMap::with_limit(rt.alloc(), DefaultHashBuilder::default(), limit);
+        let mut map = IdHashMap::with_limit(rt.alloc(), limit);
         let mut model = Slots::new(rt.alloc(), limit);
         assert_alike(&rt, &mut map, &mut model, range, calls)?;
     }

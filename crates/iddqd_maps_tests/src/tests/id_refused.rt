@@ -3,7 +3,6 @@
 //! With ample memory each is done. Run by `tools/refused-memory` they show what a refusal leaves: the
 //! map is as it was, and once there is memory the call is done.
 use super::badges::{Badge, numbered};
-use iddqd::hash_builder::DefaultHashBuilder;
 use iddqd::item_index::ItemIndex;
 use iddqd_maps::id_hash_map::IdHashMap;
 use iddqd_maps::refusal::{InsertRefusal, OverwriteRefusal, ReplaceRefusal};
@@ -102,7 +101,7 @@ fn a_reserve_that_memory_refuses_is_done_later(rt: HostRuntime) {
 }
 
 fn roomy(alloc: Global) -> Result<Map, AllocError> {
-    IdHashMap::with_capacity(alloc, DefaultHashBuilder::default(), 20)
+    IdHashMap::with_capacity(alloc, 20)
 }
 
 #[test]

@@ -65,3 +65,33 @@ fn a_reserve_makes_the_room_that_it_tells(rt: HostRuntime) -> Result<(), Fail> {
     assert_cards(&rt, &mut TriHashMap::new(rt.alloc()))?;
     Ok(())
 }
+
+#[test]
+fn badges_are_reserved_within_the_room(rt: HostRuntime) -> Result<(), Fail> {
+    let mut map: IdHashMap<Badge> = IdHashMap::with_capacity(rt.alloc(), 5)?;
+    let room = map.room();
+    assert!(rt; room >= 5 && map.reserve(room).is_ok() && map.room() == room);
+    map.reserve(room.saturating_add(1))?;
+    assert!(rt; map.room() > room);
+    Ok(())
+}
+
+#[test]
+fn passes_are_reserved_within_the_room(rt: HostRuntime) -> Result<(), Fail> {
+    let mut map: BiHashMap<Pass> = BiHashMap::with_capacity(rt.alloc(), 5)?;
+    let room = map.room();
+    assert!(rt; room >= 5 && map.reserve(room).is_ok() && map.room() == room);
+    map.reserve(room.saturating_add(1))?;
+    assert!(rt; map.room() > room);
+    Ok(())
+}
+
+#[test]
+fn cards_are_reserved_within_the_room(rt: HostRuntime) -> Result<(), Fail> {
+    let mut map: TriHashMap<Card> = TriHashMap::with_capacity(rt.alloc(), 5)?;
+    let room = map.room();
+    assert!(rt; room >= 5 && map.reserve(room).is_ok() && map.room() == room);
+    map.reserve(room.saturating_add(1))?;
+    assert!(rt; map.room() > room);
+    Ok(())
+}

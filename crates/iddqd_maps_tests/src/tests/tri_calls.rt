@@ -1,7 +1,6 @@
 //! Each call of a map with three keys, with ample memory, under two hashers and small limits.
 use super::badges::Constant;
 use super::cards::{Card, printed};
-use iddqd::hash_builder::DefaultHashBuilder;
 use iddqd::internal::ValidateCompact;
 use iddqd::item_index::ItemIndex;
 use iddqd_maps::refusal::{InsertRefusal, OverwriteRefusal, ReplaceRefusal};
@@ -219,13 +218,13 @@ fn cards_come_change_and_go(rt: HostRuntime) -> Result<(), Fail> {
     assert_calls(&rt, &mut map)?;
     let mut map = TriHashMap::with_hasher(rt.alloc(), Constant);
     assert_calls(&rt, &mut map)?;
-    let mut map = TriHashMap::with_capacity(rt.alloc(), DefaultHashBuilder::default(), 2)?;
+    let mut map = TriHashMap::with_capacity(rt.alloc(), 2)?;
     assert_calls(&rt, &mut map)?;
     Ok(())
 }
 
 fn within(alloc: Global, limit: u32) -> TriHashMap<Card> {
-    TriHashMap::with_limit(alloc, DefaultHashBuilder::default(), limit)
+    TriHashMap::with_limit(alloc, limit)
 }
 
 // A map without a slot takes nothing.
@@ -292,7 +291,7 @@ fn a_full_map_tells_each_key(rt: HostRuntime) -> Result<(), Fail> {
     let mut map = within(rt.alloc(), 2);
     assert_full(&rt, &mut map);
     assert_full_overwrites(&rt, &mut map);
-    let mut map = TriHashMap::with_limit(rt.alloc(), Constant, 2);
+    let mut map = TriHashMap::with_limit_and_hasher(rt.alloc(), 2, Constant);
     assert_full(&rt, &mut map);
     assert_full_overwrites(&rt, &mut map);
     Ok(())

@@ -1,7 +1,6 @@
 //! A map with three keys beside a plain list of slots.
 use super::cards::{Card, printed};
 use super::slots::{Numbers, Slots, index, ix};
-use iddqd::hash_builder::DefaultHashBuilder;
 use iddqd_maps::refusal::{InsertRefusal, OverwriteRefusal, ReplaceRefusal};
 use iddqd_maps::tri_hash_map::{TriClash, TriHashMap};
 use std::alloc::{AllocError, Global};
@@ -312,7 +311,7 @@ fn calls_answer_as_a_list_of_slots(rt: HostRuntime) -> Result<(), Fail> {
         (u32::MAX, 60, 20_000),
         (5, 8, 4_000),
     ] {
-        let mut map = TriHashMap::with_limit(rt.alloc(), DefaultHashBuilder::default(), limit);
+        let mut map = TriHashMap::with_limit(rt.alloc(), limit);
         let mut model = Slots::new(rt.alloc(), limit);
         assert_alike(&rt, &mut map, &mut model, range, calls)?;
     }

@@ -6,17 +6,32 @@ ghost use Rattle.iddqd_map_base.specs.Calls.{Compacts};
 
 use super::tables::TriTables;
 use super::{TriHashItem, TriHashMap};
+use iddqd::hash_builder::DefaultHashBuilder;
 use iddqd::index_remap::IndexRemap;
 use iddqd::item_set::ItemSet;
 use std::alloc::{AllocError, Global};
 use std::hash::BuildHasher;
 
-impl<T: TriHashItem, S: BuildHasher> TriHashMap<T, S> {
-    /// No items, and memory for so many. With 0 it takes none.
+impl<T: TriHashItem> TriHashMap<T, DefaultHashBuilder> {
+    /// No items, memory for so many, and the default hasher. With 0 it takes no memory.
     pub fn with_capacity(
         alloc: Global,
-        state: S,
         capacity: usize,
+    ) -> Result<TriHashMap<T, DefaultHashBuilder>, AllocError>
+        ensures contents { IfOk result (λ m. m.store ≡ empty) }
+        ensures room { IfOk result (λ m. min capacity slot_limit ≤ m.room) }
+        ensures none { capacity ≡ 0 → IsOk result }
+    {
+        TriHashMap::with_capacity_and_hasher(alloc, capacity, DefaultHashBuilder::default())
+    }
+}
+
+impl<T: TriHashItem, S: BuildHasher> TriHashMap<T, S> {
+    /// No items, and memory for so many. With 0 it takes none.
+    pub fn with_capacity_and_hasher(
+        alloc: Global,
+        capacity: usize,
+        state: S,
     ) -> Result<TriHashMap<T, S>, AllocError>
     where
         S: Drop,

@@ -1,7 +1,7 @@
 use Rattle.std.proofs.Common.{arith, ap}
 use Rattle.iddqd.specs.ItemSet.{SizedStore}
 use Rattle.iddqd_bi_hash.proofs.BiLemmas.{IsBiMap-empty}
-use Rattle.iddqd_bi_hash.proofs.bi_hash_map.BiHashMap.with_limit.Goals as goal
+use Rattle.iddqd_bi_hash.proofs.bi_hash_map.BiHashMap.with_limit_and_hasher.Goals as goal
 
 pub invariant_of-result : goal.invariant_of-result
 invariant_of-result g c =
