@@ -1,7 +1,4 @@
 use Rattle.iddqd_sides.proofs.ordered_query.find_by.Goals as goal
 
-pub find-requires : goal.find-requires
-find-requires g c = c.requires.held
-
 pub returns : goal.returns
 returns g c = c.find.ensures.as_scan c.requires.exact

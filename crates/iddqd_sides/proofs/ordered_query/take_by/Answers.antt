@@ -1,7 +1,4 @@
 use Rattle.iddqd_sides.proofs.ordered_query.take_by.Goals as goal
 
-pub take-requires : goal.take-requires
-take-requires g c = c.requires.held
-
 pub returns-clause-found : goal.returns-clause-found
 returns-clause-found g c = c.take.ensures.found.as_scan c.requires.exact
