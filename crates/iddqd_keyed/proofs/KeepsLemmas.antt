@@ -35,7 +35,7 @@ module _ {T S : Type 0} where
       paired_by _ (IsValid-empty limit named) (filed_holds.Holds-empty T limit) (order_holds.Holds-empty T limit)
 
   module _ (s : State T S) (paired : IsPaired s) where
-    order_held : ordered.Holds s.store s.order
+    pub order_held : ordered.Holds s.store s.order
     order_held = Holds-order s paired
 
     pub IsPaired-cleared : IsPaired (cleared_state s)

@@ -208,6 +208,7 @@ impl<T: KeyedItem, S: BuildHasher> KeyedItems<T, S> {
 
     /// The index of the item with this second key. It makes at most 4 + 2d comparisons, where the
     /// number of items has d binary digits.
+    #[tactic(auto, using(crate::proofs::KeepsLemmas::order_held))]
     pub fn find2(&self, key: &T::Key2) -> Option<ItemIndex>
         ensures paired { IsPaired self.now }
         ensures found { LooksUp (second_side ⟦<Self as Keyed>⟧.keys) self.now key.now result }

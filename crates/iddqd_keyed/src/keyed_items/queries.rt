@@ -44,6 +44,7 @@ impl<T: KeyedItem, S: BuildHasher> KeyedItems<T, S> {
     }
 
     /// The index of the item with the second key for which the query stands. It makes as many comparisons as `find2`.
+    #[tactic(auto, using(crate::proofs::KeepsLemmas::order_held))]
     pub fn find2_by<Q: OrdQuery<T::Key2>>(&self, query: Q) -> Option<ItemIndex>
         ensures { LooksUpBy (second_side ⟦<Self as Keyed>⟧.keys) self.now (is_equal (Q.compare query)) result }
     {
@@ -79,6 +80,7 @@ impl<T: KeyedItem, S: BuildHasher> KeyedItems<T, S> {
     }
 
     /// Removes the item with the second key for which the query stands. It takes no memory.
+    #[tactic(auto, using(crate::proofs::KeepsLemmas::order_held))]
     pub fn remove2_by<Q: OrdQuery<T::Key2>>(&mut self, query: Q) -> Option<(ItemIndex, T)>
         ensures removes { let finds = LooksUpBy (second_side ⟦<Self as Keyed>⟧.keys) self.old (is_equal (Q.compare query)) in
             RemovesFound finds self.old result self.new }

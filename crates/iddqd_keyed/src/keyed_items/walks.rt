@@ -65,6 +65,7 @@ impl<T: KeyedItem, S: BuildHasher> KeyedItems<T, S> {
     /// Where a second key was changed silently, they are those between some two places of the ordered
     /// table. Each query is compared with at most 4 + 2d second keys, where the number of items has d
     /// binary digits. It takes no memory.
+    #[tactic(auto, using(crate::proofs::KeepsLemmas::order_held))]
     pub fn range_by_key2<Q: OrdQuery<T::Key2>>(
         &self,
         lower: Bound<Q>,

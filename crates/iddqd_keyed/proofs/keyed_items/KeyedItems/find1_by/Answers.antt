@@ -4,9 +4,6 @@ use Rattle.iddqd_keyed.specs.Keys.{keys_of}
 use Rattle.iddqd_keyed.proofs.QueryLemmas.{LooksUpBy-hashed}
 use Rattle.iddqd_keyed.proofs.keyed_items.KeyedItems.find1_by.Goals as goal
 
-pub find-requires : goal.find-requires
-find-requires g c = λ ix. (c.self.invariant.filed ix).0
-
 pub returns : goal.returns
 returns g c =
     let query = c.args.query in

@@ -1,8 +1,4 @@
-use Rattle.iddqd_keyed.proofs.KeepsLemmas.{Holds-order}
 use Rattle.iddqd_keyed.proofs.keyed_items.KeyedItems.find2.Goals as goal
-
-pub find-requires : goal.find-requires
-find-requires g c = Holds-order _ c.self.invariant
 
 pub returns-clause-found : goal.returns-clause-found
 returns-clause-found g c = rw (← c.self.view_is) c.find.ensures

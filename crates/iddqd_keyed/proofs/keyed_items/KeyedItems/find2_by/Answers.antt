@@ -1,11 +1,7 @@
 use Rattle.iddqd_sides.specs.OrderedQuery.{compares_as_key}
 use Rattle.iddqd_keyed.specs.Keys.{keys_of}
-use Rattle.iddqd_keyed.proofs.KeepsLemmas.{Holds-order}
 use Rattle.iddqd_keyed.proofs.QueryLemmas.{LooksUpBy-ordered}
 use Rattle.iddqd_keyed.proofs.keyed_items.KeyedItems.find2_by.Goals as goal
-
-pub find-requires : goal.find-requires
-find-requires g c = Holds-order _ c.self.invariant
 
 pub returns : goal.returns
 returns g c =

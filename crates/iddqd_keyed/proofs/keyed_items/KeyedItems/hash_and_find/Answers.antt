@@ -2,9 +2,6 @@ use Rattle.iddqd_keyed.proofs.KeyLemmas.{AreLawful-from_bounds}
 use Rattle.iddqd_keyed.proofs.KeepsLemmas.{LooksUp-hashed}
 use Rattle.iddqd_keyed.proofs.keyed_items.KeyedItems.hash_and_find.Goals as goal
 
-pub find-requires : goal.find-requires
-find-requires g c = λ ix. (c.self.invariant.filed ix).0
-
 pub returns-clause-hash : goal.returns-clause-hash
 returns-clause-hash g c = rw (← c.self.view_is) c.compute_hash-hash.ensures.hash
 

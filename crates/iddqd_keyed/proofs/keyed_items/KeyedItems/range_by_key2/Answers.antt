@@ -1,8 +1,4 @@
-use Rattle.iddqd_keyed.proofs.KeepsLemmas.{Holds-order}
 use Rattle.iddqd_keyed.proofs.keyed_items.KeyedItems.range_by_key2.Goals as goal
-
-pub range-requires : goal.range-requires
-range-requires g c = Holds-order _ c.self.invariant
 
 pub new-requires : goal.new-requires
 new-requires g c = c.range.ensures.live

@@ -2,12 +2,9 @@ use Rattle.std.proofs.Common.{rules, ◌≡◌, None, refl}
 use Rattle.iddqd_sides.specs.OrderedQuery.{compares_as_key}
 use Rattle.iddqd_keyed.proofs.KeyLemmas.{AreLawful-from_bounds}
 use Rattle.iddqd_keyed.specs.Keys.{keys_of}
-use Rattle.iddqd_keyed.proofs.KeepsLemmas.{Holds-order, IsPaired-unbound, Keeps-unbound}
+use Rattle.iddqd_keyed.proofs.KeepsLemmas.{IsPaired-unbound, Keeps-unbound}
 use Rattle.iddqd_keyed.proofs.QueryLemmas.{LooksUpBy-ordered}
 use Rattle.iddqd_keyed.proofs.keyed_items.KeyedItems.remove2_by.Goals as goal
-
-pub take-requires : goal.take-requires
-take-requires g c = Holds-order _ c.self.invariant
 
 pub returns-in_err-ix-clause-removes : goal.returns-in_err-ix-clause-removes
 returns-in_err-ix-clause-removes g c =
