@@ -1,4 +1,5 @@
 //! Maps by their calls, beside a list, and where calls are refused.
+mod at;
 mod badges;
 mod bi_calls;
 mod bi_copies;
