@@ -2,7 +2,6 @@
 use super::badges::{Badge, numbered};
 use super::cards::{Card, printed};
 use super::passes::{Pass, issued};
-use iddqd::hash_builder::DefaultHashBuilder;
 use iddqd::item_index::ItemIndex;
 use iddqd_maps::bi_hash_map::{BiClash, BiHashMap};
 use iddqd_maps::id_hash_map::IdHashMap;
@@ -337,10 +336,7 @@ fn assert_given_back(rt: &impl Abort, map: &mut Badges) {
 
 #[test]
 fn a_refusal_hands_its_item_back(rt: HostRuntime) {
-    assert_given_back(
-        &rt,
-        &mut IdHashMap::with_limit(rt.alloc(), DefaultHashBuilder::default(), 2),
-    );
+    assert_given_back(&rt, &mut IdHashMap::with_limit(rt.alloc(), 2));
     let refusal: InsertRefusal<u32, u32> = InsertRefusal::Memory(5);
     assert!(rt; refusal.into_item() == 5);
     let refusal: OverwriteRefusal<u32> = OverwriteRefusal::Memory(6);
