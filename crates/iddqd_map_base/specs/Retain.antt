@@ -18,8 +18,9 @@ module _ {T : Type 0} where
 
 -- `takes p x` says that x may be asked in the state p, and `ask p x b q` that it may be answered b and leave the state q
 module _ {F T : Type 0} (takes : F → T → Type 0) (ask : F → T → Bool → F → Type 0) where
-  -- each of the items may be asked, and again after any such asks. That this is so where whatever is asked may be is
-  -- granted: it is a lemma, and so a caller whose closure asks for nothing needs no proof.
+  -- Each of the items may be asked, and again after any such asks: it is as strong as `CanAsk`, since the premise that
+  -- it grants, that this holds where everything may be asked in every state, is a lemma (`CanAsk-everywhere`). Said so,
+  -- a search shows it of a closure that requires nothing, and its caller needs no proof.
   abbrev pub MayAsk : F → List T → Type 0
   MayAsk f items = (((p : F) (x : T) → takes p x) → CanAsk takes ask f items) → CanAsk takes ask f items
 
