@@ -29,7 +29,7 @@ use Rattle.iddqd_sides.specs.Scan.{IsLive, IsHit, AnswersScan, AreApart, passes_
 use Rattle.iddqd_sides.specs.Hashed as hashed
 use Rattle.iddqd_sides.specs.Ordered as ordered
 use Rattle.iddqd_sides.specs.Ordered.{Adds}
-use Rattle.iddqd_sides.specs.Indexing.{moved}
+use Rattle.iddqd_sides.specs.HashedMove.{moved}
 use Rattle.iddqd_sides.specs.declared.hashed_move.Move.TheVariants.{To}
 use Rattle.iddqd_sides.proofs.OrderedHoldsLemmas as order_holds
 use Rattle.iddqd_sides.proofs.OrderedPlaceLemmas as order_place

@@ -5,10 +5,6 @@ pub mod PlaceLemmas
 pub mod OrderedFindLemmas
 pub mod OrderedHoldsLemmas
 pub mod OrderedPlaceLemmas
-pub mod IndexingLemmas
-pub mod OrderedEndLemmas
-pub mod OrderedIndexingLemmas
 pub mod OrderedCountLemmas
 pub mod OrderedWalkLemmas
 pub mod OrderedRangeLemmas
-pub mod OrderedMoveLemmas

@@ -21,7 +21,7 @@ use Rattle.iddqd_order.specs.declared.btree_table.asking.Asking.{Asking}
 use Rattle.iddqd_order.specs.declared.btree_table.range.Range.{Range}
 use Rattle.iddqd_sides.specs.OrderedQuery.{IsQuery, is_from, is_up_to, is_between}
 use Rattle.iddqd_sides.specs.Ordered.{Holds, IsInPlace, compared, key_at}
-use Rattle.iddqd_sides.specs.OrderedIndexing.{SortsWithin}
+use Rattle.iddqd_sides.specs.OrderedWalk.{SortsWithin}
 use Rattle.iddqd_sides.specs.OrderedWalk.{WalksWithin}
 use Rattle.iddqd_sides.proofs.OrderedFindLemmas.{answer_at, IsRising-query}
 use Rattle.iddqd_sides.proofs.OrderedWalkLemmas.{IsRunOf-part, Contains-run, IsDistinct-run}

@@ -1,8 +1,7 @@
 pub mod Scan
 pub mod Side
 pub mod Hashed
+pub mod HashedMove
 pub mod Ordered
 pub mod OrderedQuery
-pub mod Indexing
-pub mod OrderedIndexing
 pub mod OrderedWalk

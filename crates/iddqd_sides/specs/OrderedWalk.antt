@@ -1,11 +1,11 @@
 -- What a walk between two bounds of a key gives, and the items at its indexes.
-use Rattle.std.specs.Prelude.{◌≡◌, ◌++◌, ℕ, Bool, List, Option, filter_map, nat_eq}
-use Rattle.std.specs.List.{IsDistinct}
+use Rattle.std.specs.Prelude.{◌≡◌, ◌↔◌, ◌++◌, ℕ, Bool, List, Option, filter_map, nat_eq}
+use Rattle.std.specs.List.{Contains, IsDistinct}
 use Rattle.std.specs.Option.{option_map}
 use Rattle.std.specs.declared.cmp.Ordering.{Ordering}
 use Rattle.iddqd.specs.Store.{Store, get}
+use Rattle.iddqd_sides.specs.Scan.{IsHit, passes_by}
 use Rattle.iddqd_sides.specs.Ordered.{AreLive, IsInPlace}
-use Rattle.iddqd_sides.specs.OrderedIndexing.{SortsWithin}
 
 -- the members of a list that stand beside each other in another one
 pub record IsRunOf (whole run : List ℕ) : Type 0 where
@@ -21,6 +21,13 @@ module _ {T : Type 0} where
   -- those of these indexes that have an item, each with it, in their order
   abbrev pub pairs_at : Store T → List ℕ → List (ℕ × T)
   pairs_at s indexes = filter_map (pair_at s) indexes
+
+-- these are exactly the live indexes whose items' keys pass, sorted by key
+pub record SortsWithin
+    {T K : Type 0} (key_of : T → K) (compare : K → K → Ordering) (within : K → Bool) (s : Store T) (indexes : List ℕ)
+    : Type 0 where
+  pub each : (ix : ℕ) → Contains indexes ix ↔ IsHit s (passes_by key_of within) ix
+  pub placed : IsInPlace key_of compare s indexes
 
 -- What a walk between two bounds gives of a table's list: a run of it, of live indexes, each once; and where the list
 -- is in place, exactly the live indexes whose items' keys are within, sorted by key.

@@ -29,6 +29,13 @@ where
     MapHash::new(state.hash_one(E::key(item)))
 }
 
+/// The hash of a query, and so of each key for which it stands.
+pub fn query_hash<Q: Hash + Copy, S: BuildHasher>(state: &S, query: Q) -> MapHash
+    ensures { result ≡ hash_one S.BuildHasher S.Hasher.Hasher state.now (Q.hash_input query) }
+{
+    MapHash::new(state.hash_one(query))
+}
+
 /// The index under a hash whose item has a key that the query is equivalent to.
 ///
 /// It reads the keys of indexes under that hash alone, of none twice.

@@ -79,8 +79,8 @@ impl<'a, 'b, K, Q: Equivalent<K>> Equivalent<&'b K> for Lent<'a, Q> {
     }
 }
 
-// The key of the item at a live index.
-pub(crate) fn key_at<T, E: KeyOf<T>>(items: &ItemSet<T>, ix: ItemIndex) -> &E::Key
+/// The key of the item at a live index.
+pub fn key_at<T, E: KeyOf<T>>(items: &ItemSet<T>, ix: ItemIndex) -> &E::Key
     requires { IsLive items.now.store ix }
     ensures { IsKeyAt E.key_of items.now.store ix result.now }
 {

@@ -7,11 +7,8 @@
 
 pub mod hashed;
 pub mod hashed_move;
-pub mod hashed_query;
 pub mod key_of;
 pub mod order_query;
 pub mod ordered;
-pub mod ordered_move;
-pub mod ordered_query;
 pub mod ordered_walk;
 pub mod query;

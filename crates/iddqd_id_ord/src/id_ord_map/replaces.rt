@@ -5,7 +5,7 @@ ghost use Rattle.iddqd.specs.{IsValid};
 ghost use Rattle.iddqd_order.specs.{order_of};
 ghost use Rattle.iddqd_sides.specs.Scan.{IsLive, passes_by};
 ghost use Rattle.iddqd_sides.specs.Ordered.{is_equal};
-ghost use Rattle.iddqd_sides.specs.OrderedIndexing.{Sorts};
+ghost use Rattle.iddqd_indexing.specs.OrderedIndexing.{Sorts};
 ghost use Rattle.iddqd_map_base.specs.Map.{shares};
 ghost use Rattle.iddqd_map_base.specs.Calls.{ReplacesAt, ReplacesIfLive, Replaces, Changes};
 ghost use Rattle.iddqd_id_ord.specs.OrdMap.{map_of};
@@ -13,10 +13,10 @@ ghost use Rattle.iddqd_id_ord.specs.OrdMap.{map_of};
 use super::{IdOrdItem, IdOrdMap, ItsKey};
 use iddqd::item_index::ItemIndex;
 use iddqd::item_set::ItemSet;
+use iddqd_indexing::ordered_move::{make_move, plan_move};
 use iddqd_map_base::refusal::ReplaceRefusal;
 use iddqd_order::btree_table::MapBTreeTable;
 use iddqd_sides::order_query::OrdQuery;
-use iddqd_sides::ordered_move::{make_move, plan_move};
 use std::alloc::AllocError;
 
 impl<T: IdOrdItem> IdOrdMap<T> {

@@ -8,9 +8,9 @@ ghost use Rattle.iddqd_id_ord.specs.KeyOrder.{AreInKeyOrder, FindsEnd, IsKeyWalk
 
 use super::{IdOrdItem, IdOrdMap, IntoValues, Iter, ItsKey, Range, Values};
 use iddqd::item_index::ItemIndex;
+use iddqd_indexing::ordered_query::range_by;
 use iddqd_sides::order_query::OrdQuery;
 use iddqd_sides::ordered::take_index;
-use iddqd_sides::ordered_query::range_by;
 use std::fmt;
 use std::ops::Bound;
 

@@ -11,7 +11,7 @@ ghost use Rattle.iddqd_keyed.specs.Queries.{GivesFound, LooksUpBy};
 use super::{Keyed, KeyedItems, remove_item, take_item};
 use crate::keyed_item::{First, KeyedItem, Second};
 use iddqd::item_index::ItemIndex;
-use iddqd_sides::hashed_query::query_hash;
+use iddqd_sides::hashed::query_hash;
 use iddqd_sides::order_query::{OrdQuery, Ranked};
 use iddqd_sides::query::{Asked, HashQuery};
 use iddqd_sides::{hashed, ordered};

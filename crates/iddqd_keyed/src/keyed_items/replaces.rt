@@ -10,7 +10,7 @@ ghost use Rattle.iddqd_hash.specs.{filed, room};
 ghost use Rattle.iddqd_order.specs.{order_of};
 ghost use Rattle.iddqd_sides.specs.Scan.{IsLive, IsKeyAt};
 ghost use Rattle.iddqd_sides.specs.Ordered as ordered_side;
-ghost use Rattle.iddqd_sides.specs.Indexing.{IfMoves, moved};
+ghost use Rattle.iddqd_sides.specs.HashedMove.{IfMoves, moved};
 ghost use Rattle.iddqd_keyed.specs.Sides.{Keeps};
 ghost use Rattle.iddqd_keyed.specs.Replacement.{TellsOther, Replaces, planned, MovesInPlace, Reorders};
 

@@ -2,7 +2,7 @@ use Rattle.std.proofs.Common.{◌∙◌, true, length, sym, ap, subst}
 use Rattle.iddqd.specs.Store.{live_count}
 use Rattle.iddqd_order.specs.Iter.{indexes_left}
 use Rattle.iddqd_order.specs.MapBTreeTable.{order_of}
-use Rattle.iddqd_sides.specs.OrderedIndexing.{SortsWithin}
+use Rattle.iddqd_sides.specs.OrderedWalk.{SortsWithin}
 use Rattle.iddqd_sides.proofs.OrderedCountLemmas.{length-held}
 use Rattle.iddqd_map_base.specs.Map.{MapState}
 use Rattle.iddqd_id_ord.specs.KeyOrder.{IsWalkWithin}

@@ -1,7 +1,7 @@
 use Rattle.std.proofs.Common.{◌∙◌, refl, ap, arith}
 use Rattle.iddqd.proofs.LiveLemmas.{item_at}
 use Rattle.iddqd_sides.specs.Hashed.{Hashing, hashing_of}
-use Rattle.iddqd_sides.specs.Indexing.{moved}
+use Rattle.iddqd_sides.specs.HashedMove.{moved}
 use Rattle.iddqd_sides.proofs.FindLemmas.{IsLawful-from_bounds}
 use Rattle.iddqd_map_base.proofs.TablesLemmas.{Rests-parts}
 use Rattle.iddqd_id_hash.proofs.IdMapLemmas.{IsIdMap-rebound, LacksRoomAt-planned, Becomes-planned}

@@ -1,0 +1,4 @@
+pub mod IndexingLemmas
+pub mod OrderedIndexingLemmas
+pub mod OrderedMoveLemmas
+pub mod OrderedEndLemmas
