@@ -1,7 +1,4 @@
 use Rattle.iddqd_hash.proofs.hash_table.MapHashTable.find_index.Goals as goal
 
-pub find_index_prehashed-requires : goal.find_index_prehashed-requires
-find_index_prehashed-requires g c = rw (c.new-hash.ensures, c.hash_one.ensures) c.requires
-
 pub returns : goal.returns
 returns g c = rw (← c.hash_one.ensures, ← c.new-hash.ensures) c.find_index_prehashed.ensures
