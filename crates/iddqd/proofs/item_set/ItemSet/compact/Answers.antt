@@ -1,4 +1,5 @@
 use Rattle.std.proofs.Common.{sym, arith}
+use Rattle.std.proofs.lemmas.Grind.{common_steps}
 use Rattle.iddqd.proofs.SlotLemmas.{store-is-valid}
 use Rattle.iddqd.proofs.CompactionLemmas.{rank_rises, compacted_same}
 use Rattle.iddqd.proofs.CompactedSlotLemmas.{free_none, free_some}
@@ -30,3 +31,9 @@ returns-clause-remap g c =
 
 pub returns-clause-ranks : goal.returns-clause-ranks
 returns-clause-ranks g c = rank_rises c.args.self.now.store
+
+pub returns-clause-compacted : goal.returns-clause-compacted
+returns-clause-compacted g c = grind (arith, common_steps)
+
+pub returns-clause-capacity : goal.returns-clause-capacity
+returns-clause-capacity g c = grind (arith, common_steps)

@@ -1,4 +1,5 @@
-use Rattle.std.proofs.Common.{Some, sym, ap, ◌∙◌}
+use Rattle.std.proofs.Common.{Some, sym, ap, ◌∙◌, arith}
+use Rattle.std.proofs.lemmas.Grind.{common_steps}
 use Rattle.iddqd.proofs.StoreLemmas.{none_free, first_free}
 use Rattle.iddqd.proofs.item_set.ItemSet.fill.Goals as goal
 
@@ -13,3 +14,9 @@ reuse-requires g c = record {
   room = c.requires.room;
   first = first_free c.args.self.now.store (λ same. c.if-as_u32-slot_count.false (c.as_u32.ensures ∙ c.requires.next ∙ same ∙ sym c.slot_count.ensures.value)) ∙ ap Some (sym c.requires.next);
 }
+
+pub returns-then-as_u32-slot_count-clause-room : goal.returns-then-as_u32-slot_count-clause-room
+returns-then-as_u32-slot_count-clause-room g c = grind (arith, common_steps)
+
+pub returns-then-as_u32-slot_count-clause-slots : goal.returns-then-as_u32-slot_count-clause-slots
+returns-then-as_u32-slot_count-clause-slots g c = grind (arith, common_steps)

@@ -1,5 +1,6 @@
 use Rattle.std.specs.Vec.{vec_capacity}
 use Rattle.std.proofs.Common.{arith}
+use Rattle.std.proofs.lemmas.Grind.{common_steps}
 use Rattle.std.proofs.lemmas.List.{length-map}
 use Rattle.std.proofs.lemmas.Result.{on_ok_weaker}
 use Rattle.iddqd.specs.Slots.{item_of}
@@ -16,3 +17,12 @@ pub returns-clause-room : goal.returns-clause-room
 returns-clause-room g c =
     let valid = store-is-valid c.self.invariant in
     rw c.reserve.ensures.items (on_ok_weaker c.reserve.result (λ fits. room_ahead _ (vec_capacity c.reserve.new.self) c.args.additional valid (omega (arith, fits, length-map c.self.inside.slots.items item_of))) c.reserve.ensures.ok)
+
+pub returns-then-additional-capacity-clause-memory : goal.returns-then-additional-capacity-clause-memory
+returns-then-additional-capacity-clause-memory g c = grind (arith, common_steps)
+
+pub invariant_of-self : goal.invariant_of-self
+invariant_of-self g c = grind (arith, common_steps)
+
+pub returns-clause-memory : goal.returns-clause-memory
+returns-clause-memory g c = grind (arith, common_steps)

@@ -1,4 +1,5 @@
-use Rattle.std.proofs.Common.{rules}
+use Rattle.std.proofs.Common.{rules, arith}
+use Rattle.std.proofs.lemmas.Grind.{common_steps}
 use Rattle.std.specs.Vec.Iter.{into_iter_items}
 use Rattle.iddqd.proofs.WalkLemmas.{last_item_occupied, last_item_vacant}
 use Rattle.iddqd.proofs.item_set.into_values.IntoValuesDoubleEndedIterator.next_back.Goals as goal
@@ -26,3 +27,12 @@ returns-in-Occupied-clause-goes g c =
 pub loop-slot-preserved : goal.loop-slot-preserved
 loop-slot-preserved g c =
     last_item_vacant _ (into_iter_items c.next_back.new.self) _ _ _ (rw c.in_default-slot.is at c.in-Some.ensures.steps) c.loop-slot.invariant
+
+pub returns-clause-steps : goal.returns-clause-steps
+returns-clause-steps g c = grind (arith, common_steps)
+
+pub invariant_of-self-in_default : goal.invariant_of-self-in_default
+invariant_of-self-in_default g c = grind (arith, common_steps)
+
+pub loop-slot-smaller : goal.loop-slot-smaller
+loop-slot-smaller g c = grind (arith, common_steps)

@@ -1,4 +1,5 @@
-use Rattle.std.proofs.Common.{rules}
+use Rattle.std.proofs.Common.{rules, arith}
+use Rattle.std.proofs.lemmas.Grind.{common_steps}
 use Rattle.iddqd.proofs.WalkLemmas.{last_occupied, last_vacant}
 use Rattle.iddqd.proofs.item_set.iter.IterDoubleEndedIterator.next_back.Goals as goal
 
@@ -25,3 +26,6 @@ returns-in-Occupied-clause-goes g c =
 pub loop-slot-preserved : goal.loop-slot-preserved
 loop-slot-preserved g c =
     last_vacant _ c.in-Some.rest.now _ _ _ _ (rw c.in_default-slot.is at c.in-Some.ensures.cases.0) c.loop-slot.invariant
+
+pub returns-clause-steps : goal.returns-clause-steps
+returns-clause-steps g c = grind (arith, common_steps)
