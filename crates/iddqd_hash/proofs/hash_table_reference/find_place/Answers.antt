@@ -1,4 +1,5 @@
-use Rattle.std.proofs.Common.{false, true, refl}
+use Rattle.std.proofs.Common.{false, true, refl, arith}
+use Rattle.std.proofs.lemmas.Grind.{common_steps}
 use Rattle.std.specs.Fn.{TakesAt, CalledAt}
 use Rattle.iddqd_hash.proofs.AskLemmas.{CanAsk-takes, CanAsk-asked}
 use Rattle.iddqd_hash.proofs.UnderLemmas.{Contains-read, FindsPlace-read, AllRefused-read, under_read_other}
@@ -29,3 +30,6 @@ loop-place-preserved g c =
       | else-stored-hash-via-else-stored-hash w ↦
           rw (w.eq-is, under_read_other _ _ _ _ c.loop-place-test.true c.index-pairs-place.is w.if-stored-hash.false) c.loop-place.invariant
     ]
+
+pub returns : goal.returns
+returns g c = grind (arith, common_steps)

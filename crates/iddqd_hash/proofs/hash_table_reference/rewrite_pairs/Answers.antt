@@ -1,4 +1,5 @@
 use Rattle.std.proofs.Common.{◌∙◌, ◌<◌, length, ap, sym, arith}
+use Rattle.std.proofs.lemmas.Grind.{common_steps}
 use Rattle.std.proofs.lemmas.List.{get_or_default}
 use Rattle.std.specs.Fn.{FnReturnsAt}
 use Rattle.iddqd_hash.proofs.RewriteLemmas.{Rewriting-start, Contains-to_rewrite, Rewriting-more, Rewrites-from_rewriting}
@@ -22,3 +23,9 @@ loop-at-preserved g c =
 
 pub returns : goal.returns
 returns g c = Rewrites-from_rewriting _ _ _ c.loop-at.at c.loop-at.auto.pairs (omega arith) c.loop-at.invariant
+
+pub offset_bounds-pairs-at-in-loop-at : goal.offset_bounds-pairs-at-in-loop-at
+offset_bounds-pairs-at-in-loop-at g c = grind (arith, common_steps)
+
+pub offset_bounds-pairs-at : goal.offset_bounds-pairs-at
+offset_bounds-pairs-at g c = grind (arith, common_steps)

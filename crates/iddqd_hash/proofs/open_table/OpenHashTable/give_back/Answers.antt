@@ -1,4 +1,5 @@
-use Rattle.std.proofs.Common.{◌≡◌, ◌∙◌, [], length, ap}
+use Rattle.std.proofs.Common.{◌≡◌, ◌∙◌, [], length, ap, arith}
+use Rattle.std.proofs.lemmas.Grind.{common_steps}
 use Rattle.iddqd_hash.specs.OpenTable.{slots_of, pairs}
 use Rattle.iddqd_hash.proofs.OpenTableLemmas.{entries-opened, HasNoMemory-opened, IsSound-none}
 use Rattle.iddqd_hash.proofs.open_table.OpenHashTable.give_back.Goals as goal
@@ -19,3 +20,6 @@ returns-clause-empty g c =
 
 pub returns-clause-memory : goal.returns-clause-memory
 returns-clause-memory g c = HasNoMemory-opened _ _ (rw c.replace.ensures.after c.new-2.ensures.items)
+
+pub destroy_empty-requires : goal.destroy_empty-requires
+destroy_empty-requires g c = grind (arith, common_steps)

@@ -1,4 +1,5 @@
 use Rattle.std.proofs.Common.{◌≡◌, ◌∙◌, ◌≤◌, ◌<◌, ◌-◌, length, arith}
+use Rattle.std.proofs.lemmas.Grind.{common_steps}
 use Rattle.iddqd_hash.specs.HashTable.{entries, room, capacity}
 use Rattle.iddqd_hash.specs.OpenTable.{limit_of}
 use Rattle.iddqd_hash.proofs.OpenTableLemmas.{entries-opened, capacity-opened, Reserves-placed}
@@ -33,3 +34,9 @@ returns-clause-same_cells g c quarters =
     let counted : c.self.inside.len ≡ length (entries c.args.self.now) = rw (← c.self.view_is, entries-opened) c.self.invariant.counted in
     let kept : c.in_ok-count.count ≡ capacity c.args.self.now = same_count _ _ (same (omega (arith, quarters, held, counted, needed.1, c.len.ensures))) ∙ omega (arith, held, c.len.ensures) in
     capacity-placed _ _ c.place_anew.result _ kept c.place_anew.ensures.refused c.place_anew.ensures.capacity
+
+pub count_for-requires-clause-some : goal.count_for-requires-clause-some
+count_for-requires-clause-some g c = grind (arith, common_steps)
+
+pub count_for-requires-clause-count : goal.count_for-requires-clause-count
+count_for-requires-clause-count g c = grind (arith, common_steps)

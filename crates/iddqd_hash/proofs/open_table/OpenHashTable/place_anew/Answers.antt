@@ -1,4 +1,5 @@
 use Rattle.std.proofs.Common.{rules, ◌≡◌, ◌∙◌, ◌≤◌, None, length, replicate, sym, ap, arith}
+use Rattle.std.proofs.lemmas.Grind.{common_steps}
 use Rattle.std.proofs.lemmas.List.{with_items_is}
 use Rattle.std.proofs.lemmas.List.Sorted.{length_permutation}
 use Rattle.iddqd_hash.specs.OpenTable.{limit_of, slots_of, pairs}
@@ -49,3 +50,6 @@ returns-clause-capacity g c =
     let long : length (slots_of c.move_cells.new.cells) ≡ c.args.count = c.move_cells.ensures.probed.same_length ∙ c.move_cells.auto.tags ∙ c.as_mut_slice.ensures.len ∙ c.in_ok-tags.ensures.len in
     let cells-is = with_items_is c.in_ok-cells.cells c.move_cells.new.cells (c.move_cells.auto.cells ∙ c.as_mut_slice-2.ensures.len) in
     rw (capacity-opened, c.replace.ensures.after, cells-is) long
+
+pub destroy_empty-requires : goal.destroy_empty-requires
+destroy_empty-requires g c = grind (arith, common_steps)

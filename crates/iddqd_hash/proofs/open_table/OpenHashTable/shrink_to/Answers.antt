@@ -1,4 +1,5 @@
 use Rattle.std.proofs.Common.{◌≡◌, ◌≤◌, ◌<◌, inl, inr, [], length, arith}
+use Rattle.std.proofs.lemmas.Grind.{common_steps}
 use Rattle.std.proofs.lemmas.List.{nil_from_length}
 use Rattle.std.proofs.lemmas.List.Sorted.{IsPermutation-refl}
 use Rattle.iddqd_hash.specs.HashTable.{entries, capacity}
@@ -40,3 +41,6 @@ returns-clause-memory g c =
 
 pub place_anew-requires-clause-power : goal.place_anew-requires-clause-power
 place_anew-requires-clause-power g c = elim c.fewer_cells-count.ensures.halved [ inl same ↦ absurd (omega arith) | inr fewer ↦ fewer.power ]
+
+pub fewer_cells-count-requires-clause-count : goal.fewer_cells-count-requires-clause-count
+fewer_cells-count-requires-clause-count g c = grind (arith, common_steps)

@@ -1,4 +1,5 @@
 use Rattle.std.proofs.Common.{◌≡◌, ◌∙◌, ◌≤◌, ◌<◌, ◌-◌, Some, None, length, set, ap, arith, sym}
+use Rattle.std.proofs.lemmas.Grind.{common_steps}
 use Rattle.std.proofs.lemmas.List.{with_items_is, get_or-set_same, length-set}
 use Rattle.std.specs.Vec.{with_items}
 use Rattle.iddqd_hash.specs.OpenTable.{tag_of, limit_of, slots_of, slot_at}
@@ -74,3 +75,6 @@ pub put-requires-clause-free : goal.put-requires-clause-free
 put-requires-clause-free g c =
     let inside : c.free_place-place.result < length c.self.inside.tags.items = rw c.as_slice.ensures.value at c.free_place-place.ensures.free.within in
     rw c.as_mut_slice-2.ensures.value (free_slot _ _ (c.self.invariant.probed.suited c.free_place-place.result inside) (rw c.as_slice.ensures.value at c.free_place-place.ensures.free.free))
+
+pub overflow_add-self : goal.overflow_add-self
+overflow_add-self g c = grind (arith, common_steps)

@@ -1,4 +1,5 @@
 use Rattle.std.proofs.Common.{◌∙◌, ◌+◌, ◌<◌, ◌∷◌, ◌++◌, [], None, length, replicate, take, sym, ap, arith}
+use Rattle.std.proofs.lemmas.Grind.{common_steps}
 use Rattle.std.proofs.lemmas.List.{map-set, take_more_set, take_all, replicate_more}
 use Rattle.iddqd_hash.specs.OpenTable.{slots_of, pair_in}
 use Rattle.iddqd_hash.proofs.OpenTableLemmas.{cells_long}
@@ -14,3 +15,6 @@ pub returns : goal.returns
 returns g c =
     sym (take_all c.loop-at.at (slots_of c.loop-at.cells) (omega (arith, cells_long c.loop-at.cells, c.loop-at.auto.cells)))
     ∙ c.loop-at.invariant ∙ ap (λ n. replicate n None) (omega arith)
+
+pub offset_bounds-cells-at : goal.offset_bounds-cells-at
+offset_bounds-cells-at g c = grind (arith, common_steps)

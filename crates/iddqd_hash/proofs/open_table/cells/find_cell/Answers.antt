@@ -1,5 +1,7 @@
 use Rattle.iddqd_hash.proofs.OpenTableLemmas.{cells_long}
 use Rattle.std.proofs.Common.{◌<◌, ◌≤◌, ◌%◌, ◌+◌, length, true, false, refl, arith}
+use Rattle.std.proofs.Math.Nat.{lt_of_le_of_lt}
+use Rattle.std.proofs.lemmas.Grind.{common_steps}
 use Rattle.std.specs.Fn.{TakesAt, CalledAt}
 use Rattle.iddqd_hash.specs.OpenTable.{slots_of, FindsNext}
 use Rattle.iddqd_hash.proofs.AskLemmas.{CanAsk-takes, CanAsk-asked}
@@ -45,7 +47,7 @@ loop-found-smaller g c =
     let onward = rw is at further in
     let no_more : places_left n c.args.hash place ≤ places_left n c.args.hash ((c.in-Some.place + 1) % n) =
     passed_left (CalledAt g.F.FnMut) _ _ _ _ c.requires.probed c.requires.ends _ _ _ next onward.0 in
-    omega (arith, after, no_more)))
+    lt_of_le_of_lt no_more after))
 
 pub loop-found-preserved : goal.loop-found-preserved
 loop-found-preserved g c =
@@ -83,3 +85,6 @@ returns-then-eq-clause-value g c =
     let finds = rw c.in-Some.is at c.loop-found.invariant.1.2 in
     let inside : c.in-Some.place < length c.args.tags.now = PassesBy-inside _ _ _ _ _ (omega arith) finds.0 in
     value_read c.args.tags.now c.args.cells.now c.in-Some.place _ inside c.index-cells-place.is c.requires.probed _ _ _ finds.1.1 c.value_in-value.ensures
+
+pub next-requires-clause-inside : goal.next-requires-clause-inside
+next-requires-clause-inside g c = grind (arith, common_steps)

@@ -1,4 +1,5 @@
 use Rattle.std.proofs.Common.{◌≡◌, ◌∙◌, ◌<◌, IsSome, true, false, length, slice_index, refl, sym, ap, subst, arith}
+use Rattle.std.proofs.lemmas.Grind.{common_steps}
 use Rattle.std.specs.Fn.{TakesAt, CalledAt}
 use Rattle.iddqd_hash.specs.OpenTable.{slots_of, slot_at, pair_in}
 use Rattle.iddqd_hash.specs.OpenWalk.{IsInSixteens}
@@ -123,3 +124,6 @@ returns-clause-counted g c = c.asking.invariant.4
 
 pub bounds-cells-here : goal.bounds-cells-here
 bounds-cells-here g c = omega (arith, c.next-here.ensures.inside, c.asking.invariant.2.same_length, cells_long c.asking.cells)
+
+pub offset_bounds-cells-here : goal.offset_bounds-cells-here
+offset_bounds-cells-here g c = grind (arith, common_steps)

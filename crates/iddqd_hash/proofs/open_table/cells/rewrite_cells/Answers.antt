@@ -1,4 +1,5 @@
 use Rattle.std.proofs.Common.{◌≡◌, ◌∙◌, ◌<◌, ◌+◌, length, set, refl, sym, ap, subst, arith}
+use Rattle.std.proofs.lemmas.Grind.{common_steps}
 use Rattle.std.proofs.lemmas.List.{map-set}
 use Rattle.std.specs.Fn.{FnReturnsAt}
 use Rattle.iddqd_hash.specs.OpenTable.{slots_of, pair_in}
@@ -42,3 +43,9 @@ returns-clause-rewritten g c =
 
 pub returns-clause-same_hashes : goal.returns-clause-same_hashes
 returns-clause-same_hashes g c = c.loop-at.invariant.same_hashes
+
+pub offset_bounds-cells-at-in-loop-at : goal.offset_bounds-cells-at-in-loop-at
+offset_bounds-cells-at-in-loop-at g c = grind (arith, common_steps)
+
+pub offset_bounds-cells-at : goal.offset_bounds-cells-at
+offset_bounds-cells-at g c = grind (arith, common_steps)

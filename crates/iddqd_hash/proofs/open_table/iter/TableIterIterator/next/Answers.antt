@@ -1,3 +1,4 @@
+use Rattle.std.proofs.lemmas.Grind.{common_steps}
 use Rattle.std.proofs.lemmas.List.{nil_from_length}
 use Rattle.iddqd_hash.proofs.OpenTableLemmas.{cells_long}
 use Rattle.std.proofs.Common.{◌≡◌, ◌∙◌, ◌∷◌, IsSome, length, slice_index_or, sym, ap, subst, arith, rules, ◌<◌}
@@ -56,7 +57,7 @@ bounds-self-inside-here g c = omega (arith, c.next-here.ensures.inside, c.self.i
 pub offset_bounds-self-inside-here : goal.offset_bounds-self-inside-here
 offset_bounds-self-inside-here g c =
     let inside : c.next-here.result < length c.self.inside.cells.now = omega (arith, c.next-here.ensures.inside, c.self.invariant.probed.same_length, cells_long c.self.inside.cells.now) in
-    search rules
+    grind (arith, common_steps)
 
 pub returns-then-self-eq0-clause-steps : goal.returns-then-self-eq0-clause-steps
 returns-then-self-eq0-clause-steps g c =
