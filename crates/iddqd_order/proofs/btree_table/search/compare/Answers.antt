@@ -1,3 +1,5 @@
+use Rattle.std.proofs.Common.{arith}
+use Rattle.std.proofs.lemmas.Grind.{common_steps}
 use Rattle.iddqd_order.proofs.Names.{arith, ◌≡◌, refl, sym, ◌∙◌, ap, Ordering, Less, Equal, Greater, eqb-false, At_once, nat_cmp, ordering_then, None, Some, Askable}
 use Rattle.iddqd_order.proofs.AskLemmas.{asks_one, asks_none, asks_more}
 use Rattle.iddqd_order.proofs.btree_table.search.compare.Goals as goal
@@ -38,3 +40,6 @@ returns-in_default-clause-steady g c xs answer h s =
     let apart = sym c.eq.ensures ∙ c.if-eq.false in
     let told = (rw c.in-Some.is at s).at 0 _ At_once _ (h, eqb-false _ _ apart) _ _ c.ask-else-eq.ensures.answered in
     rw (c.in-Some.is, apart) (then-other _ (nat_cmp c.in-Some.ix c.args.at) c.in_default.not-Equal ∙ ap (λ r. ordering_then r (nat_cmp c.in-Some.ix c.args.at)) (c.read-else-eq.ensures ∙ told))
+
+pub returns-in-Equal-clause-itself : goal.returns-in-Equal-clause-itself
+returns-in-Equal-clause-itself g c = grind (arith, common_steps)

@@ -1,4 +1,5 @@
 use Rattle.std.proofs.Common.{arith}
+use Rattle.std.proofs.lemmas.Grind.{common_steps}
 use Rattle.iddqd_order.proofs.CursorLemmas.{IsAt-whole, IsGap-few, IsLow-from}
 use Rattle.iddqd_order.proofs.btree_table.cursor.Cursor.leave.Goals as goal
 
@@ -18,3 +19,9 @@ returns-clause-stands c =
       at = (IsAt-whole _ _ c.in-Some.node _ _ _ c.in-Some.is e.path e.over.goes e.over.leaf_is c.get-self.ensures).1;
       low = IsLow-from _ _ c.in-Some.node _ _ c.in-Some.is c.low-self.ensures;
     }
+
+pub returns-then-not-ahead-clause-next : goal.returns-then-not-ahead-clause-next
+returns-then-not-ahead-clause-next c = grind (arith, common_steps)
+
+pub returns-clause-next : goal.returns-clause-next
+returns-clause-next c = grind (arith, common_steps)

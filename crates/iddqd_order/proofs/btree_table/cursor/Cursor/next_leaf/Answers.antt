@@ -1,3 +1,5 @@
+use Rattle.std.proofs.Common.{arith}
+use Rattle.std.proofs.lemmas.Grind.{common_steps}
 use Rattle.iddqd_order.proofs.Names.{◌≡◌, ◌<◌, ◌+◌, length, slice_index, arith, rules, refl, row, children, child}
 use Rattle.iddqd_order.proofs.DescentLemmas.{child_is}
 use Rattle.iddqd_order.proofs.CursorLemmas.{NextLow, next-low}
@@ -32,3 +34,6 @@ pub returns-then-place-len-clause-next : goal.returns-then-place-len-clause-next
 returns-then-place-len-clause-next c =
     let item : c.get.result ≡ slice_index (row c.in-Some.low.now) (slice_index c.args.self.now.path 1) = rw c.get-place.ensures at c.get.ensures in
     rw item (stepped c).steps
+
+pub returns-clause-stands : goal.returns-clause-stands
+returns-clause-stands c = grind (arith, common_steps)

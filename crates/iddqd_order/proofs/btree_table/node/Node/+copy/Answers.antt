@@ -1,3 +1,5 @@
+use Rattle.std.proofs.Common.{arith}
+use Rattle.std.proofs.lemmas.Grind.{common_steps}
 use Rattle.iddqd_order.proofs.Names.{rules, ◌≡◌, ◌∙◌, ◌-◌, ◌<◌, ◌≤◌, length, vec_len, sym, ap, arith, take_all, roll-Node, IsCopy, get_or, children}
 use Rattle.std.proofs.lemmas.List.Elements.{all_zip_more, AllZip-get_or, length_all_zip}
 use Rattle.iddqd_order.proofs.MendLemmas.{arity-most}
@@ -39,3 +41,6 @@ returns t c =
     copied c.args.height n (roll-Node _) c.requires (row-roll _ ∙ c.copy-2.ensures) (rw room-roll (omega (arith, arity-most c.args.height 11, c.loop-i.invariant.room)))
     (ap length (children-roll _) ∙ sym (length_all_zip (IsCopy (c.args.height - 1)) (children n) c.loop-i.children.items done))
     (λ j d lt. rw (children-roll _) (AllZip-get_or (IsCopy (c.args.height - 1)) (children n) c.loop-i.children.items j d d done lt))
+
+pub loop-i-init : goal.loop-i-init
+loop-i-init t c = grind (arith, common_steps)

@@ -1,4 +1,5 @@
 use Rattle.std.proofs.Common.{◌∙◌, ◌+◌, arith, sym, rules}
+use Rattle.std.proofs.lemmas.Grind.{common_steps}
 use Rattle.iddqd_order.proofs.RemovalLemmas.{goes-below}
 use Rattle.iddqd_order.proofs.DescentLemmas.{path-here, child_is}
 use Rattle.iddqd_order.proofs.WayLemmas.{stepped-below, ends-here, steps-leaf, ends-leaf, steps-here, steps-below_any, none-is, steps-out, ends-below}
@@ -79,3 +80,12 @@ pub returns-clause-next : goal.returns-clause-next
 returns-clause-next t c =
     let over = c.if-i-len-2.false in let len = c.len-2.ensures.length in
     ends-leaf c.args.height c.args.level c.get-i.result c.args.self.now c.args.path.now c.args.path.now (omega arith) c.get-i.ensures c.requires.holds (search (rules, over))
+
+pub returns-then-i-len-clause-above : goal.returns-then-i-len-clause-above
+returns-then-i-len-clause-above t c = grind (arith, common_steps)
+
+pub returns-then-is_some-clause-above : goal.returns-then-is_some-clause-above
+returns-then-is_some-clause-above t c = grind (arith, common_steps)
+
+pub returns-then-height-level-clause-above : goal.returns-then-height-level-clause-above
+returns-then-height-level-clause-above t c = grind (arith, common_steps)

@@ -1,3 +1,5 @@
+use Rattle.std.proofs.Common.{arith}
+use Rattle.std.proofs.lemmas.Grind.{common_steps}
 use Rattle.iddqd_order.proofs.Names.{◌∙◌, slice_index, arith, refl, rules, ap}
 use Rattle.iddqd_order.proofs.DescentLemmas.{path-here, child_is}
 use Rattle.iddqd_order.proofs.NodeLemmas.{child-within, child-formed, formed-inner, goes-leaf}
@@ -72,3 +74,18 @@ returns-clause-over t c =
     let here = c.edge-row.ensures.above c.args.level (omega arith) ∙ path-here c.step_over.new.path c.set-2.new.self c.args.level _ c.in_default-step_over.ensures.path c.requires.levels c.set-2.ensures.place in
     rw c.get-2.ensures (over-here c.args.ahead c.args.level c.get-place.result (c.in-Some-beside.at, c.in-Some-beside.next) c.args.self.now c.index.result.now _ c.args.path.now _ c.edge-row.new.path
     c.if-level-eq0.false c.requires.formed b c.get-place.ensures (rw c.len-2.ensures.length at c.in-Some-beside.ensures) (c.in_default-step_over.ensures.ended refl) lt is here c.edge-row.ensures.edge)
+
+pub returns-clause-ended : goal.returns-clause-ended
+returns-clause-ended t c = grind (arith, common_steps)
+
+pub returns-in-Some-step_over-clause-above : goal.returns-in-Some-step_over-clause-above
+returns-in-Some-step_over-clause-above t c = grind (arith, common_steps)
+
+pub get-requires-2 : goal.get-requires-2
+get-requires-2 t c = grind (arith, common_steps)
+
+pub returns-in_default-beside-clause-above : goal.returns-in_default-beside-clause-above
+returns-in_default-beside-clause-above t c = grind (arith, common_steps)
+
+pub returns-clause-above : goal.returns-clause-above
+returns-clause-above t c = grind (arith, common_steps)

@@ -1,3 +1,5 @@
+use Rattle.std.proofs.Common.{arith}
+use Rattle.std.proofs.lemmas.Grind.{common_steps}
 use Rattle.iddqd_order.proofs.Names.{◌≡◌, ◌+◌, ◌-◌, ◌*◌, ◌<◌, Ok, Err, length, slice_index, arith, sym, ap, ◌∙◌, subst, rules, Descends, children, child}
 use Rattle.iddqd_order.proofs.NodeLemmas.{child-formed, child-within, path-here, path-above}
 use Rattle.iddqd_order.proofs.DescentLemmas.{Counts, Descends-hit, Descends-leaf, Descends-below, can_ask_row, can_ask_below, child_is}
@@ -65,3 +67,6 @@ loop-i-preserved g c =
           held.rest p end new (λ m up. on m (omega arith) ∙ path-above c.loop-i.path path l i m c.keep_or_set.ensures.place up)
           (Descends-below g.F.FnMut read tie (4 * (l + 1)) c.loop-i.full full l n p end a b new (omega arith) ne held.formed (rw here s) counts (subst (λ z. Descends g.F.FnMut read tie (4 * (l - 1 + 1)) full (l - 1) z b p end new) (same ∙ ap (child n) (sym here)) d));
     }
+
+pub keep_or_set-requires-clause-has_it : goal.keep_or_set-requires-clause-has_it
+keep_or_set-requires-clause-has_it g c = grind (arith, common_steps)

@@ -1,3 +1,5 @@
+use Rattle.std.proofs.Common.{arith}
+use Rattle.std.proofs.lemmas.Grind.{common_steps}
 use Rattle.iddqd_order.proofs.Names.{◌≡◌, ℕ, ◌+◌, ◌-◌, ◌<◌, ◌≤◌, List, length, take, ap, ◌∙◌, arith, length-take, same_lists, copy_within, remove}
 use Rattle.std.proofs.lemmas.List.{places}
 use Rattle.iddqd_order.proofs.btree_table.row.Row.remove.Goals as goal
@@ -12,3 +14,6 @@ returns-clause-items c =
     let full = c.self.invariant.0 in let few = c.self.invariant.1 in let at = c.requires in
     let n = length-take c.self.inside.len c.self.inside.items in
     ap (λ z. take (c.self.inside.len - 1) z) c.copy_within.ensures.after ∙ moved_down c.self.inside.items c.self.inside.len c.args.at (omega arith) (omega arith) ∙ ap (λ z. remove z c.args.at) c.self.view_is
+
+pub returns-clause-value : goal.returns-clause-value
+returns-clause-value c = grind (arith, common_steps)

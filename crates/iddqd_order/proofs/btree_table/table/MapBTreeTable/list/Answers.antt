@@ -1,0 +1,6 @@
+use Rattle.std.proofs.Common.{arith}
+use Rattle.std.proofs.lemmas.Grind.{common_steps}
+use Rattle.iddqd_order.proofs.btree_table.table.MapBTreeTable.list.Goals as goal
+
+pub loop-ix-preserved : goal.loop-ix-preserved
+loop-ix-preserved c = grind (arith, common_steps)
