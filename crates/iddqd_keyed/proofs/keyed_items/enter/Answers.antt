@@ -1,4 +1,5 @@
-use Rattle.std.proofs.Common.{rules, inl, inr, is_err, refl, sym, ◌∙◌, ap}
+use Rattle.std.proofs.Common.{rules, inl, inr, is_err, refl, sym, ◌∙◌, ap, arith}
+use Rattle.std.proofs.lemmas.Grind.{common_steps}
 use Rattle.std.proofs.lemmas.Bool.{false≢true}
 use Rattle.iddqd.specs.Store.{next_index}
 use Rattle.iddqd_order.specs.MapBTreeTable.{order_of}
@@ -60,3 +61,27 @@ returns-in-Err-prepare-clause-refused g c = (refl, λ full. absurd (false≢true
 
 pub returns-clause-not_full : goal.returns-clause-not_full
 returns-clause-not_full g c = λ _ full. absurd (false≢true (ap is_err (c.in-Ok.ensures.full.1 full)))
+
+pub returns-in-Err-Full-clause-items_stay : goal.returns-in-Err-Full-clause-items_stay
+returns-in-Err-Full-clause-items_stay g c = grind (arith, common_steps)
+
+pub returns-clause-index : goal.returns-clause-index
+returns-clause-index g c = grind (arith, common_steps)
+
+pub prepare-requires-clause-assigned : goal.prepare-requires-clause-assigned
+prepare-requires-clause-assigned g c = grind (arith, common_steps)
+
+pub returns-in-Err-Full-clause-refused : goal.returns-in-Err-Full-clause-refused
+returns-in-Err-Full-clause-refused g c = grind (arith, common_steps)
+
+pub returns-clause-stored : goal.returns-clause-stored
+returns-clause-stored g c = grind (arith, common_steps)
+
+pub returns-in-Err-Memory-clause-refused : goal.returns-in-Err-Memory-clause-refused
+returns-in-Err-Memory-clause-refused g c = grind (arith, common_steps)
+
+pub insert_prehashed_unchecked-requires-clause-room : goal.insert_prehashed_unchecked-requires-clause-room
+insert_prehashed_unchecked-requires-clause-room g c = grind (arith, common_steps)
+
+pub returns-in-Err-Memory-clause-items_stay : goal.returns-in-Err-Memory-clause-items_stay
+returns-in-Err-Memory-clause-items_stay g c = grind (arith, common_steps)

@@ -1,4 +1,5 @@
-use Rattle.std.proofs.Common.{◌≡◌, ◌∙◌, true, Some, rules, ap, subst}
+use Rattle.std.proofs.Common.{◌≡◌, ◌∙◌, true, Some, rules, ap, subst, arith}
+use Rattle.std.proofs.lemmas.Grind.{common_steps}
 use Rattle.std.specs.Cmp.{eq_by_cmp_equiv}
 use Rattle.std.proofs.lemmas.Bool.{false≢true}
 use Rattle.iddqd.specs.LiveItems.{live_pairs}
@@ -40,3 +41,6 @@ loop-ix-preserved g c =
     let found : c.find1.result ≡ Some c.in-Some.ix = search (rules, c.ne.ensures, c.if-ne.false) in
     let hit = subst ((first_side keys).Finds c.args.self.now c.key1.result.now) found c.find1.ensures.found.found in
     Checked-next _ _ _ _ _ left (hit.filed ∙ ap (λ k. Some (hash_in keys c.args.self.now k)) c.key1.ensures)
+
+pub returns-clause-in_order : goal.returns-clause-in_order
+returns-clause-in_order g c = grind (arith, common_steps)

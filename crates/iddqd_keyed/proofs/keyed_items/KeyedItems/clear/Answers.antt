@@ -1,3 +1,5 @@
+use Rattle.std.proofs.Common.{arith}
+use Rattle.std.proofs.lemmas.Grind.{common_steps}
 use Rattle.iddqd_keyed.proofs.KeepsLemmas.{IsPaired-cleared, Keeps-cleared}
 use Rattle.iddqd_keyed.proofs.keyed_items.KeyedItems.clear.Goals as goal
 
@@ -9,3 +11,6 @@ pub returns-clause-keeps : goal.returns-clause-keeps
 returns-clause-keeps g c =
     rw (← c.self.view_is, c.clear.ensures.store, c.clear-2.ensures.empty, c.clear-3.ensures)
     (Keeps-cleared _ _ c.self.invariant)
+
+pub returns-clause-cleared : goal.returns-clause-cleared
+returns-clause-cleared g c = grind (arith, common_steps)

@@ -1,4 +1,5 @@
-use Rattle.std.proofs.Common.{◌≡◌, ◌∙◌, map, refl}
+use Rattle.std.proofs.Common.{◌≡◌, ◌∙◌, map, refl, arith}
+use Rattle.std.proofs.lemmas.Grind.{common_steps}
 use Rattle.iddqd.specs.Compaction.{rank}
 use Rattle.iddqd_hash.specs.MapHashTable.{filed, Renames}
 use Rattle.iddqd_order.specs.MapBTreeTable.{order_of}
@@ -59,3 +60,6 @@ returns-clause-keeps g c =
     (Keeps-compacted _ _ c.self.invariant
     (AreLawful-from_bounds g.S.BuildHasher g.S.Hasher.Hasher g.met.T.Key1.PartialEq.laws
     g.met.T.Key1.Hash.respects_eq g.met.T.Key2.Ord.total) _ (named g c))
+
+pub invariant_of-self : goal.invariant_of-self
+invariant_of-self g c = grind (arith, common_steps)

@@ -1,3 +1,5 @@
+use Rattle.std.proofs.Common.{arith}
+use Rattle.std.proofs.lemmas.Grind.{common_steps}
 use Rattle.iddqd_keyed.proofs.KeyLemmas.{AreLawful-from_bounds}
 use Rattle.iddqd_keyed.proofs.KeepsLemmas.{LooksUp-hashed}
 use Rattle.iddqd_keyed.proofs.keyed_items.KeyedItems.hash_and_find.Goals as goal
@@ -11,3 +13,6 @@ returns-clause-found g c =
     (AreLawful-from_bounds {item = g.T.KeyedItem} g.S.BuildHasher g.S.Hasher.Hasher g.met.T.Key1.PartialEq.laws
     g.met.T.Key1.Hash.respects_eq g.met.T.Key2.Ord.total)
     c.args.key.now _ _ c.compute_hash-hash.ensures.hash c.find.ensures
+
+pub returns-clause-paired : goal.returns-clause-paired
+returns-clause-paired g c = grind (arith, common_steps)

@@ -1,4 +1,5 @@
 use Rattle.std.proofs.Common.{◌++◌, ◌∷◌, [], length, sym, ap, ◌∙◌, arith, append_assoc, append-nil}
+use Rattle.std.proofs.lemmas.Grind.{common_steps}
 use Rattle.iddqd_order.specs.Iter.{indexes_left}
 use Rattle.iddqd_keyed.proofs.keyed_items.KeyedItems.indexes.Goals as goal
 
@@ -30,3 +31,9 @@ pub returns-clause-all : goal.returns-clause-all
 returns-clause-all g c =
     let left = ap (λ rest. c.loop-ix.indexes.items ++ rest) c.in-None.ensures.steps.0 in
     sym (append-nil c.loop-ix.indexes.items) ∙ sym left ∙ c.loop-ix.invariant.whole
+
+pub returns-clause-empty : goal.returns-clause-empty
+returns-clause-empty g c = grind (arith, common_steps)
+
+pub returns-clause-paired : goal.returns-clause-paired
+returns-clause-paired g c = grind (arith, common_steps)

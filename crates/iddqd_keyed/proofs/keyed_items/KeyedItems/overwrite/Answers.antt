@@ -1,3 +1,5 @@
+use Rattle.std.proofs.Common.{arith}
+use Rattle.std.proofs.lemmas.Grind.{common_steps}
 use Rattle.iddqd_keyed.proofs.KeyLemmas.{AreLawful-from_bounds}
 use Rattle.iddqd_keyed.proofs.KeepsLemmas.{IsPaired-rebound, KeepsUnlessChanged-rebound}
 use Rattle.iddqd_keyed.proofs.keyed_items.KeyedItems.overwrite.Goals as goal
@@ -14,3 +16,12 @@ returns-clause-keeps g c =
     (KeepsUnlessChanged-rebound _ _ c.self.invariant
     (AreLawful-from_bounds g.S.BuildHasher g.S.Hasher.Hasher g.met.T.Key1.PartialEq.laws
     g.met.T.Key1.Hash.respects_eq g.met.T.Key2.Ord.total) c.args.ix c.args.item _ out.value)
+
+pub returns-then-is_none-clause-keeps : goal.returns-then-is_none-clause-keeps
+returns-then-is_none-clause-keeps g c = grind (arith, common_steps)
+
+pub returns-then-is_none-clause-overwrites : goal.returns-then-is_none-clause-overwrites
+returns-then-is_none-clause-overwrites g c = grind (arith, common_steps)
+
+pub returns-clause-overwrites : goal.returns-clause-overwrites
+returns-clause-overwrites g c = grind (arith, common_steps)

@@ -1,3 +1,5 @@
+use Rattle.std.proofs.Common.{arith}
+use Rattle.std.proofs.lemmas.Grind.{common_steps}
 use Rattle.iddqd_keyed.proofs.KeyLemmas.{AreLawful-from_bounds}
 use Rattle.iddqd_keyed.proofs.KeepsLemmas.{IsPaired-unbound, Keeps-unbound}
 use Rattle.iddqd_keyed.proofs.keyed_items.KeyedItems.remove.Goals as goal
@@ -15,3 +17,9 @@ returns-clause-keeps g c =
     (Keeps-unbound _ _ c.self.invariant
     (AreLawful-from_bounds {item = g.T.KeyedItem} g.S.BuildHasher g.S.Hasher.Hasher g.met.T.Key1.PartialEq.laws
     g.met.T.Key1.Hash.respects_eq g.met.T.Key2.Ord.total) c.args.ix _ out.item)
+
+pub returns-in_err-item-clause-keeps : goal.returns-in_err-item-clause-keeps
+returns-in_err-item-clause-keeps g c = grind (arith, common_steps)
+
+pub returns-clause-removes : goal.returns-clause-removes
+returns-clause-removes g c = grind (arith, common_steps)

@@ -1,4 +1,5 @@
-use Rattle.std.proofs.Common.{rules, ◌≡◌, None, refl}
+use Rattle.std.proofs.Common.{rules, ◌≡◌, None, refl, arith}
+use Rattle.std.proofs.lemmas.Grind.{common_steps}
 use Rattle.iddqd_sides.specs.OrderedQuery.{compares_as_key}
 use Rattle.iddqd_keyed.proofs.KeyLemmas.{AreLawful-from_bounds}
 use Rattle.iddqd_keyed.specs.Keys.{keys_of}
@@ -45,3 +46,6 @@ returns-clause-keeps g c =
     (Keeps-unbound _ _ c.self.invariant
     (AreLawful-from_bounds {item = g.T.KeyedItem} g.S.BuildHasher g.S.Hasher.Hasher g.met.T.Key1.PartialEq.laws
     g.met.T.Key1.Hash.respects_eq g.met.T.Key2.Ord.total) c.in_ok-ix.ix _ out.item)
+
+pub invariant_of-self : goal.invariant_of-self
+invariant_of-self g c = grind (arith, common_steps)

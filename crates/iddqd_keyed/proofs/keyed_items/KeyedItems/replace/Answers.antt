@@ -1,4 +1,5 @@
-use Rattle.std.proofs.Common.{rules, ◌≡◌, ◌⊎◌, inl, inr, Some, None, refl}
+use Rattle.std.proofs.Common.{rules, ◌≡◌, ◌⊎◌, inl, inr, Some, None, refl, arith}
+use Rattle.std.proofs.lemmas.Grind.{common_steps}
 use Rattle.iddqd_sides.specs.Scan.{IsLive}
 use Rattle.iddqd_keyed.specs.Keys.{Keys, keys_of}
 use Rattle.iddqd_keyed.specs.State.{State, state_of}
@@ -90,3 +91,9 @@ returns-clause-replaces g c =
 
 pub returns-clause-keeps : goal.returns-clause-keeps
 returns-clause-keeps g c = rw (← c.self.view_is) (keeps g c)
+
+pub returns-then-is_none-clause-keeps : goal.returns-then-is_none-clause-keeps
+returns-then-is_none-clause-keeps g c = grind (arith, common_steps)
+
+pub returns-then-is_none-clause-replaces : goal.returns-then-is_none-clause-replaces
+returns-then-is_none-clause-replaces g c = grind (arith, common_steps)

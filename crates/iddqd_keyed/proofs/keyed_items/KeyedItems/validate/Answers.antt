@@ -1,4 +1,5 @@
-use Rattle.std.proofs.Common.{◌∙◌, length, IfErr, refl, sym, subst}
+use Rattle.std.proofs.Common.{◌∙◌, length, IfErr, refl, sym, subst, arith}
+use Rattle.std.proofs.lemmas.Grind.{common_steps}
 use Rattle.std.proofs.lemmas.Result.{err_from_is_err_and}
 use Rattle.iddqd.specs.Validation.{Allows, AreAsExpected, IsMemory}
 use Rattle.iddqd_hash.specs.MapHashTable.{indexes_of}
@@ -44,3 +45,12 @@ returns-in_err-of_table-2-clause-by_walks g c = λ walks.
 pub returns-in_err-of_table-2-clause-in_order : goal.returns-in_err-of_table-2-clause-in_order
 returns-in_err-of_table-2-clause-in_order g c = λ ordered.
     Validates-refused (Allows c.args.compactness (length c.args.self.now.store.free)) c.from_residual-in_err-of_table-2.result c.from_residual-in_err-of_table-2.ensures.0 (second_memory g c)
+
+pub returns-in-No-clause-paired : goal.returns-in-No-clause-paired
+returns-in-No-clause-paired g c = grind (arith, common_steps)
+
+pub returns-in-No-clause-by_walks : goal.returns-in-No-clause-by_walks
+returns-in-No-clause-by_walks g c = grind (arith, common_steps)
+
+pub returns-in-Yes-clause-paired : goal.returns-in-Yes-clause-paired
+returns-in-Yes-clause-paired g c = grind (arith, common_steps)
