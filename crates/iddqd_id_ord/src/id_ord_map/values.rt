@@ -1,9 +1,10 @@
 //! The walk over the items of a map.
-ghost use Rattle.std.specs.Prelude.{◌≡◌, Some, IfSome, length};
+ghost use Rattle.std.specs.Prelude.{◌≡◌, ⊤, Some, IfSome, length};
 ghost use Rattle.std.specs.Iterator.{YieldsFirstRef, YieldsLastRef, item_count, at_most, UpTo};
 ghost use Rattle.std.specs.Iterator.SizeHint.{IsWithinCount};
 
 use super::iter::Iter;
+use std::alloc::AllocError;
 use std::fmt;
 use std::iter::{DoubleEndedIterator, ExactSizeIterator, FusedIterator};
 use std::marker::Model;
@@ -64,6 +65,18 @@ impl<'a, T> ExactSizeIterator for Values<'a, T> {
 }
 
 impl<'a, T> FusedIterator for Values<'a, T> {}
+
+impl<'a, T> Clone for Values<'a, T> {
+    ghost is_clone = { λ it copy. copy ≡ it };
+
+    ghost is_infallible = { λ _. ⊤ };
+
+    fn clone(&self) -> Result<Self, AllocError> {
+        Ok(Values {
+            pairs: self.pairs.clone()?,
+        })
+    }
+}
 
 impl<'a, T> fmt::Debug for Values<'a, T> {
     fn fmt<W: fmt::Write>(&self, f: &mut fmt::Formatter<W>) -> fmt::Result {

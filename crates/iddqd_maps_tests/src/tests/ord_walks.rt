@@ -4,8 +4,7 @@ ghost use Rattle.std.specs.Cmp.{nat_cmp_total};
 ghost use Rattle.std.specs.Ordering.{nat_cmp};
 ghost use Rattle.iddqd_sides.specs.OrderedQuery.{IsQuery-key};
 
-use super::badges::numbered;
-use super::ord_calls::Map;
+use super::cards::{Card, printed};
 use iddqd_maps::id_ord_map::{IdOrdItem, IdOrdMap, IntoValues};
 use iddqd_sides::order_query::OrdQuery;
 use std::alloc::Global;
@@ -112,25 +111,25 @@ impl OrdQuery<u32> for Digits {
     }
 }
 
-fn seat(map: &Map, tens: u8, ones: u8) -> Option<u32> {
+fn seat(map: &IdOrdMap<Card>, tens: u8, ones: u8) -> Option<u32> {
     match map.get(Digits { tens, ones }) {
-        Some(badge) => Some(badge.seat),
+        Some(card) => Some(card.seat),
         None => None,
     }
 }
 
-fn assert_digits(rt: &impl Abort, map: &mut Map) {
-    assert!(rt; map.insert_unique(numbered(35, 1)).is_ok());
-    assert!(rt; map.insert_unique(numbered(53, 2)).is_ok());
-    assert!(rt; map.insert_unique(numbered(135, 3)).is_ok());
+fn assert_digits(rt: &impl Abort, map: &mut IdOrdMap<Card>) {
+    assert!(rt; map.insert_unique(printed(35, 1, 0, 0)).is_ok());
+    assert!(rt; map.insert_unique(printed(53, 2, 0, 0)).is_ok());
+    assert!(rt; map.insert_unique(printed(135, 3, 0, 0)).is_ok());
     assert!(rt; seat(map, 3, 5) == Some(1) && seat(map, 5, 3) == Some(2));
     assert!(rt; seat(map, 13, 5) == Some(3) && seat(map, 12, 15) == Some(3));
     assert!(rt; seat(map, 0, 0).is_none() && seat(map, 255, 255).is_none());
     let query = Digits { tens: 5, ones: 3 };
-    assert!(rt; map.replace(query, numbered(36, 4)) == Ok(numbered(53, 2)));
+    assert!(rt; map.replace(query, printed(36, 4, 0, 0)) == Ok(printed(53, 2, 0, 0)));
     assert!(rt; seat(map, 3, 6) == Some(4) && map.remove(query).is_none());
     let query = Digits { tens: 3, ones: 5 };
-    assert!(rt; map.remove(query) == Some(numbered(35, 1)) && map.len() == 2);
+    assert!(rt; map.remove(query) == Some(printed(35, 1, 0, 0)) && map.len() == 2);
 }
 
 #[test]
@@ -138,4 +137,29 @@ fn a_query_of_ones_own_finds_its_key(rt: HostRuntime) -> Result<(), Fail> {
     let mut map = IdOrdMap::new(rt.alloc());
     assert_digits(&rt, &mut map);
     Ok(())
+}
+
+// The number and index of the first card, and of the last one, and how many stand between.
+fn ends(map: &IdOrdMap<Card>) -> Option<[(u32, u32); 2]> {
+    let mut pairs = map.iter();
+    let (first, card) = pairs.next()?;
+    let (last, other) = pairs.next_back()?;
+    if pairs.len() != map.len().saturating_sub(2) {
+        return None;
+    }
+    Some([(card.number, first.as_u32()), (other.number, last.as_u32())])
+}
+
+fn assert_ends(rt: &impl Abort, map: &mut IdOrdMap<Card>) {
+    for number in [5, 9, 1, 7] {
+        assert!(rt; map.insert_unique(printed(number, 0, 0, 0)).is_ok());
+    }
+    assert!(rt; ends(map) == Some([(1, 2), (9, 1)]));
+    assert!(rt; map.pop_last() == Some(printed(9, 0, 0, 0)));
+    assert!(rt; ends(map) == Some([(1, 2), (7, 3)]));
+}
+
+#[test]
+fn a_walk_goes_from_both_ends(rt: HostRuntime) {
+    assert_ends(&rt, &mut IdOrdMap::new(rt.alloc()));
 }
