@@ -1,23 +1,20 @@
+use super::calls::{printed, shown};
 use super::ix;
 use iddqd::hash_builder::DefaultHashBuilder;
 use iddqd::item_index::ItemIndex;
+use std::alloc::{AllocError, Global};
 use std::hash::BuildHasher;
 use std::test::Fail;
 
 const NUMBERS: [u32; 7] = [0, 1, 9, 10, 2147483648, 4294967294, 4294967295];
 
 #[test]
-fn an_index_is_made_for_every_slot_below_the_sentinel(rt: HostRuntime) {
-    assert!(rt; ItemIndex::of_slot(0) == Some(ix(0)));
-    assert!(rt; ItemIndex::of_slot(4294967294) == Some(ItemIndex::MAX_VALID));
-    assert!(rt; ItemIndex::of_slot(4294967295).is_none());
-}
-
-#[test]
 fn the_ends_of_the_range(rt: HostRuntime) {
-    assert!(rt; ItemIndex::default().as_u32() == 0);
-    assert!(rt; ItemIndex::MAX_VALID.as_u32() == 4294967294);
-    assert!(rt; ItemIndex::SENTINEL.as_u32() == 4294967295);
+    let (last, end) = (ItemIndex::MAX_VALID, ItemIndex::SENTINEL);
+    assert!(rt; (last.as_u32(), end.as_u32()) == (4294967294, 4294967295));
+    assert!(rt; ItemIndex::default().as_u32() == 0 && ItemIndex::of_slot(0) == Some(ix(0)));
+    assert!(rt; ItemIndex::of_slot(4294967294) == Some(last));
+    assert!(rt; ItemIndex::of_slot(4294967295).is_none());
 }
 
 // Whether two indexes compare as their numbers do.
@@ -27,30 +24,21 @@ fn compare_as_numbers(a: u32, b: u32) -> bool {
     is_equal && is_ordered && ix(a).partial_cmp(&ix(b)) == a.partial_cmp(&b)
 }
 
-#[test]
-fn an_index_compares_as_its_number(rt: HostRuntime) {
-    for a in &NUMBERS {
-        for b in &NUMBERS {
-            assert!(rt; compare_as_numbers(*a, *b), "{a} and {b}");
-        }
-    }
-}
-
-#[test]
-fn an_index_hashes_as_its_number(rt: HostRuntime) {
+// Whether an index hashes and prints as its number.
+fn is_as_number(alloc: Global, number: u32) -> Result<bool, AllocError> {
     let builder = DefaultHashBuilder::default();
-    for a in &NUMBERS {
-        assert!(rt; builder.hash_one(&ix(*a)) == builder.hash_one(a), "at {a}");
-    }
+    let is_hashed = builder.hash_one(&ix(number)) == builder.hash_one(&number);
+    let text = shown(alloc, &number)?;
+    Ok(is_hashed && shown(alloc, &ix(number))? == text && printed(alloc, &ix(number))? == text)
 }
 
 #[test]
-fn an_index_prints_as_its_number(rt: HostRuntime) -> Result<(), Fail> {
-    for a in &NUMBERS {
-        let index = ix(*a);
-        let text = format!(in rt.alloc(); "{index} {index:?}")?;
-        let want = format!(in rt.alloc(); "{a} {a}")?;
-        assert!(rt; text == want);
+fn an_index_is_as_its_number(rt: HostRuntime) -> Result<(), Fail> {
+    for a in NUMBERS {
+        assert!(rt; is_as_number(rt.alloc(), a)?);
+        for b in NUMBERS {
+            assert!(rt; compare_as_numbers(a, b));
+        }
     }
     Ok(())
 }

@@ -2,9 +2,9 @@
 ghost use Rattle.std.specs.Prelude.{◌≡◌, IfOk, OnOk};
 ghost use Rattle.iddqd.specs.Store.{IsFull};
 
-use super::compaction::{expect_compact, expect_identity};
-use super::{expect_items, expect_room, insert_at, ix, remove};
-use iddqd::item_index::ItemIndex;
+use super::calls::{has_slots, insert, let_go, remove};
+use super::scripts::assert_answers;
+use super::{insert_at, ix};
 use iddqd::item_set::{GrowError, ItemSet};
 use std::alloc::{AllocError, Global};
 use std::process::Abort;
@@ -50,39 +50,47 @@ fn one_item(alloc: Global) -> Result<ItemSet<u32>, GrowError>
     Ok(set)
 }
 
-fn refusal(set: &mut ItemSet<u32>) -> Option<GrowError> {
-    match set.assert_can_grow() {
-        Ok(_) => None,
-        Err(error) => Some(error),
-    }
-}
-
-fn expect_refusal(rt: &impl Abort, set: &mut ItemSet<u32>) {
-    expect_room(rt, set, 0);
-    assert!(rt; refusal(set) == Some(GrowError::Full));
+// Whether the set has no room, and says that it is full.
+fn is_full(rt: &impl Abort, set: &mut ItemSet<u32>) -> bool {
+    set.room() == 0 && let_go(rt, set) == Err(GrowError::Full)
 }
 
 // Inserts items under the indexes from the first on, until the set is full.
-fn fill_up(rt: &impl Abort, set: &mut ItemSet<u32>, limit: u32) -> Result<(), GrowError> {
-    for n in 0..limit {
-        assert!(rt; refusal(set).is_none());
-        insert_at(rt, set, n.saturating_mul(10), n)?;
+pub(super) fn fill_up(
+    rt: &impl Abort,
+    set: &mut ItemSet<u32>,
+    limit: u32,
+) -> Result<(), AllocError> {
+    for at in 0..limit {
+        assert!(rt; !is_full(rt, set));
+        insert_at(rt, set, at.saturating_mul(10), at)?;
     }
-    expect_refusal(rt, set);
-    assert!(rt; set.slot_count() == limit as usize);
+    assert!(rt; is_full(rt, set) && set.slot_count() == limit as usize);
     Ok(())
 }
 
 // A set that was filled up is full again after each removal with an insert.
-fn stays_full(rt: &impl Abort, set: &mut ItemSet<u32>, limit: u32) -> Result<(), GrowError> {
+fn stays_full(rt: &impl Abort, set: &mut ItemSet<u32>, limit: u32) -> Result<(), AllocError> {
     assert!(rt; (set.capacity(), set.room()) == (0, 0));
     fill_up(rt, set, limit)?;
     for at in 0..limit {
-        remove(rt, set, at, at.saturating_mul(10));
-        expect_room(rt, set, 1);
+        let is_removed = remove(set, ix(at)) == Some(at.saturating_mul(10));
+        assert!(rt; is_removed && set.room() == 1);
         insert_at(rt, set, at, at)?;
-        expect_refusal(rt, set);
+        assert!(rt; is_full(rt, set));
     }
+    Ok(())
+}
+
+// Memory past the limit is no room.
+fn reserves_past(rt: &impl Abort, set: &mut ItemSet<u32>, limit: u32) -> Result<(), AllocError> {
+    set.reserve(9)?;
+    assert!(rt; set.capacity() >= 9 && set.room() == limit as usize);
+    fill_up(rt, set, limit)?;
+    set.try_reserve(9)?;
+    assert!(rt; set.capacity() >= 9 && is_full(rt, set));
+    set.shrink_capacity_to_fit()?;
+    assert!(rt; is_full(rt, set));
     Ok(())
 }
 
@@ -90,99 +98,75 @@ fn stays_full(rt: &impl Abort, set: &mut ItemSet<u32>, limit: u32) -> Result<(),
 fn a_set_has_no_more_slots_than_its_limit(rt: HostRuntime) -> Result<(), Fail> {
     for limit in 0..5 {
         stays_full(&rt, &mut ItemSet::with_limit(rt.alloc(), limit), limit)?;
-    }
-    Ok(())
-}
-
-// Memory for nine items was there, and was taken.
-fn expect_nine(rt: &impl Abort, set: &ItemSet<u32>, is_taken: bool) {
-    assert!(rt; is_taken);
-    assert!(rt; set.capacity() >= 9);
-}
-
-fn reserves_past(rt: &impl Abort, set: &mut ItemSet<u32>, limit: u32) -> Result<(), GrowError> {
-    let is_taken = set.reserve(9).is_ok();
-    expect_nine(rt, set, is_taken);
-    expect_room(rt, set, limit as usize);
-    fill_up(rt, set, limit)?;
-    let is_taken = set.try_reserve(9).is_ok();
-    expect_nine(rt, set, is_taken);
-    expect_refusal(rt, set);
-    assert!(rt; set.shrink_capacity_to_fit().is_ok());
-    expect_refusal(rt, set);
-    Ok(())
-}
-
-#[test]
-fn memory_past_the_limit_is_no_room(rt: HostRuntime) -> Result<(), Fail> {
-    for limit in 0..4 {
         reserves_past(&rt, &mut ItemSet::with_limit(rt.alloc(), limit), limit)?;
     }
     Ok(())
 }
 
-fn compacts_at_the_limit(rt: &impl Abort, set: &mut ItemSet<u32>) -> Result<(), AllocError> {
-    remove(rt, set, 0, 0);
-    expect_compact(rt, set, &[ItemIndex::SENTINEL, ix(0)])?;
-    let is_taken = insert_at(rt, set, 30, 1).is_ok();
-    assert!(rt; is_taken, "the memory is there");
-    expect_items(rt, set, &[Some(10), Some(30)]);
-    expect_refusal(rt, set);
-    expect_identity(rt, set)?;
-    expect_refusal(rt, set);
-    Ok(())
-}
+const SCRIPT: &str = "\
+# a compaction keeps the limit
+limit 2
+fill_up 2
+remove 0: Some(0)
+compact: Permuted([4294967295, 0])
+insert 30: 1
+slots: [Some(10), Some(30)]
+room: 0
+let_go: full
+compact: Identity
+new_name 0: Some(0)
+new_name 3: Some(3)
+room: 0
+let_go: full
+# a copy and a clear keep the limit
+limit 2
+fill_up 2
+copy
+swap
+room: 0
+let_go: full
+clear
+fill_up 2
+swap
+room: 0
+let_go: full
+clear
+fill_up 2";
 
 #[test]
-fn compact_keeps_the_limit(rt: HostRuntime) -> Result<(), Fail> {
-    let mut set = ItemSet::with_limit(rt.alloc(), 2);
-    fill_up(&rt, &mut set, 2)?;
-    compacts_at_the_limit(&rt, &mut set)?;
-    Ok(())
-}
-
-fn refill(rt: &impl Abort, set: &mut ItemSet<u32>) -> Result<(), GrowError> {
-    expect_refusal(rt, set);
-    set.clear();
-    fill_up(rt, set, 2)
-}
-
-#[test]
-fn clear_and_clone_keep_the_limit(rt: HostRuntime) -> Result<(), Fail> {
-    let mut set = ItemSet::with_limit(rt.alloc(), 2);
-    fill_up(&rt, &mut set, 2)?;
-    refill(&rt, &mut set.clone()?)?;
-    refill(&rt, &mut set)?;
+fn compact_clear_and_clone_keep_the_limit(rt: HostRuntime) -> Result<(), Fail> {
+    assert_answers(&rt, rt.alloc(), SCRIPT)?;
     Ok(())
 }
 
 #[test]
 fn a_copy_of_a_full_set_is_full(rt: HostRuntime) -> Result<(), Fail> {
     let mut set = one_item(rt.alloc())?;
-    assert!(rt; set.get(ix(0)).copied() == Some(7));
     copy_and_expect_full(&set)?;
     reserve_and_expect_full(&mut set, 9)?;
-    expect_items(&rt, &set, &[Some(7)]);
+    assert!(rt; has_slots(&set, &[Some(7)]));
     Ok(())
 }
 
-// Whatever is refused, a set that isn't full tells want of memory alone, and a full one Full.
+// Inserts an item, if there is room and memory. A set with less than five slots tells want of memory alone, and a full
+// one that it is full, whatever is refused.
+fn is_answered(rt: &impl Abort, set: &mut ItemSet<u32>, item: u32) -> bool {
+    let is_full = set.slot_count() == 5;
+    match insert(rt, set, item) {
+        Ok(_) | Err(GrowError::Memory) => !is_full,
+        Err(GrowError::Full) => is_full,
+    }
+}
+
 #[test]
 fn a_refused_insert_below_the_limit_tells_memory(rt: HostRuntime) {
     let mut set = ItemSet::with_limit(rt.alloc(), 5);
-    for n in 0..12u32 {
-        let slots = set.slot_count();
-        let is_full = slots == 5;
-        match set.assert_can_grow() {
-            Ok(handle) => {
-                assert!(rt; !is_full);
-                handle.insert(n);
-            }
-            Err(GrowError::Full) => assert!(rt; is_full),
-            Err(GrowError::Memory) => assert!(rt; !is_full),
-        }
-        if n == 8 && set.try_reserve(n as usize).is_err() {
-            assert!(rt; set.slot_count() >= slots);
+    for number in 0..12u32 {
+        assert!(rt; is_answered(&rt, &mut set, number));
+        if number == 8 {
+            let slots = set.slot_count();
+            let _ = set.try_reserve(8);
+            assert!(rt; set.slot_count() == slots);
         }
     }
     assert!(rt; set.slot_count() == 5);

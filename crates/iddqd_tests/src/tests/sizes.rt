@@ -3,8 +3,9 @@ ghost use Rattle.std.specs.Prelude.{◌≡◌, ◌+◌, ◌≤◌, length};
 ghost use Rattle.iddqd.specs.Store.{inserted, live_count, next_index};
 ghost use Rattle.iddqd.specs.ItemSet.{room};
 
-use super::compaction::expect_compact;
-use super::{expect_items, expect_room, ix, remove, with_gaps};
+use super::calls::has_slots;
+use super::scripts::assert_answers;
+use super::{ix, with_gaps};
 use iddqd::item_index::ItemIndex;
 use iddqd::item_set::{GrowError, ItemSet};
 use std::alloc::{AllocError, Global};
@@ -51,126 +52,86 @@ fn insert_after_steps(set: &mut ItemSet<u32>, removed: ItemIndex) -> Result<Item
 }
 
 // Inserts tens of these indexes, each of which is to be the next, and none takes memory.
-fn insert_without_memory(rt: &impl Abort, set: &mut ItemSet<u32>, want: &[u32]) {
+pub(super) fn fill(rt: &impl Abort, set: &mut ItemSet<u32>, indexes: &[u32]) {
     let capacity = set.capacity();
-    for at in want {
-        assert!(rt; set.room() > 0, "inserting at {at}");
+    for at in indexes {
+        assert!(rt; set.room() > 0);
         let got = insert_in_room(set, at.saturating_mul(10));
-        assert!(rt; got == ix(*at));
-    }
-    assert!(rt; set.capacity() == capacity);
-}
-
-fn expect_none_taken(rt: &impl Abort, set: &ItemSet<u32>) {
-    assert!(rt; (set.room(), set.capacity()) == (0, 0));
-    assert!(rt; set.is_empty());
-}
-
-// An empty set with room for four.
-fn expect_four_taken(rt: &impl Abort, set: &mut ItemSet<u32>) {
-    assert!(rt; set.room() >= 4);
-    assert!(rt; set.capacity() >= 4);
-    assert!(rt; set.is_empty());
-    insert_without_memory(rt, set, &[0, 1, 2, 3]);
-    assert!(rt; !set.is_empty());
-}
-
-#[test]
-fn a_new_set_has_the_room_that_it_was_made_with(rt: HostRuntime) -> Result<(), Fail> {
-    expect_none_taken(&rt, &ItemSet::new(rt.alloc()));
-    expect_none_taken(&rt, &ItemSet::with_capacity(rt.alloc(), 0)?);
-    expect_four_taken(&rt, &mut ItemSet::with_capacity(rt.alloc(), 4)?);
-    Ok(())
-}
-
-// Six slots, of which three are vacant, with room for six items.
-fn with_room_for_six(rt: &impl Abort, alloc: Global) -> Result<ItemSet<u32>, GrowError> {
-    let mut set = with_gaps(rt, alloc, 6, &[1, 3, 5])?;
-    match set.try_reserve(3) {
-        Ok(()) => Ok(set),
-        Err(AllocError) => Err(GrowError::Memory),
+        assert!(rt; got == ix(*at) && set.capacity() == capacity);
     }
 }
 
-#[test]
-fn as_many_inserts_as_were_reserved_need_no_memory(rt: HostRuntime) -> Result<(), Fail> {
-    let mut set = with_room_for_six(&rt, rt.alloc())?;
-    assert!(rt; set.capacity() >= 9);
-    insert_without_memory(&rt, &mut set, &[5, 3, 1, 6, 7, 8]);
-    assert!(rt; set.len() == 9);
-    Ok(())
-}
+const SCRIPT: &str = "\
+# a new set has the room that it was made with
+new
+room: 0
+memory: 0
+slots: []
+capacity 0
+room: 0
+memory: 0
+slots: []
+capacity 4
+has_room 4: true
+has_memory 4: true
+slots: []
+fill 0 1 2 3
+slots: [Some(0), Some(10), Some(20), Some(30)]
+# as many inserts as were reserved need no memory
+gaps 6 1 3 5
+try_reserve 3
+has_memory 9: true
+fill 5 3 1 6 7 8
+slots: [Some(0), Some(10), Some(20), Some(30), Some(40), Some(50), Some(60), Some(70), Some(80)]
+# a cleared set keeps what was reserved
+gaps 6 1 3 5
+try_reserve 3
+clear
+slots: []
+fill 0 1 2 3 4 5 6 7 8
+# a compacted set keeps what was reserved
+gaps 6 1 3 5
+try_reserve 3
+compact: Permuted([0, 4294967295, 1, 4294967295, 2, 4294967295])
+fill 3 4 5 6 7 8
+# shrinking keeps the slots and what is asked
+capacity 16
+fill 0 1 2
+shrink_to 8
+memory: 8
+slots: [Some(0), Some(10), Some(20)]
+shrink_to 9
+memory: 8
+remove 1: Some(10)
+shrink_to_fit
+memory: 3
+slots: [Some(0), None, Some(20)]
+fill 1
+clear
+shrink_to_fit
+memory: 0";
 
 #[test]
-fn a_cleared_set_keeps_what_was_reserved(rt: HostRuntime) -> Result<(), Fail> {
-    let mut set = with_room_for_six(&rt, rt.alloc())?;
-    set.clear();
-    assert!(rt; set.is_empty());
-    insert_without_memory(&rt, &mut set, &[0, 1, 2, 3, 4, 5, 6, 7, 8]);
-    Ok(())
-}
-
-#[test]
-fn a_compacted_set_keeps_what_was_reserved(rt: HostRuntime) -> Result<(), Fail> {
-    let mut set = with_room_for_six(&rt, rt.alloc())?;
-    let gone = ItemIndex::SENTINEL;
-    let want = [ix(0), gone, ix(1), gone, ix(2), gone];
-    expect_compact(&rt, &mut set, &want)?;
-    insert_without_memory(&rt, &mut set, &[3, 4, 5, 6, 7, 8]);
+fn memory_is_taken_ahead_and_given_back(rt: HostRuntime) -> Result<(), Fail> {
+    assert_answers(&rt, rt.alloc(), SCRIPT)?;
     Ok(())
 }
 
 // Sizes past what a vector can have are refused, and change nothing.
-fn expect_no_such_size(rt: &impl Abort, set: &mut ItemSet<u32>) {
+fn refuses_sizes(set: &mut ItemSet<u32>) -> bool {
     let room = set.room();
-    assert!(rt; set.try_reserve(usize::MAX).is_err());
-    assert!(rt; set.reserve(usize::MAX).is_err());
-    assert!(rt; set.reserve(isize::MAX as usize).is_err());
-    expect_room(rt, set, room);
-    expect_items(rt, set, &[None, Some(10)]);
+    let is_refused = set.try_reserve(usize::MAX).is_err()
+        && set.reserve(usize::MAX).is_err()
+        && set.reserve(isize::MAX as usize).is_err();
+    is_refused && set.room() == room
 }
 
 #[test]
 fn refuses_what_no_vector_can_hold(rt: HostRuntime) -> Result<(), Fail> {
-    expect_no_such_size(&rt, &mut with_gaps(&rt, rt.alloc(), 2, &[0])?);
+    let mut set = with_gaps(&rt, rt.alloc(), 2, &[0])?;
+    assert!(rt; refuses_sizes(&mut set));
+    assert!(rt; has_slots(&set, &[None, Some(10)]));
     assert!(rt; ItemSet::<u32>::with_capacity(rt.alloc(), usize::MAX).is_err());
-    Ok(())
-}
-
-fn shrink_to(
-    rt: &impl Abort,
-    set: &mut ItemSet<u32>,
-    least: usize,
-    want: usize,
-) -> Result<(), AllocError> {
-    set.shrink_capacity_to(least)?;
-    assert!(rt; set.capacity() == want, "shrinking to {least}");
-    Ok(())
-}
-
-fn shrink_to_fit(rt: &impl Abort, set: &mut ItemSet<u32>, want: usize) -> Result<(), AllocError> {
-    set.shrink_capacity_to_fit()?;
-    assert!(rt; set.capacity() == want);
-    Ok(())
-}
-
-// Room for sixteen, of which three are used.
-fn shrinks(rt: &impl Abort, set: &mut ItemSet<u32>) -> Result<(), AllocError> {
-    insert_without_memory(rt, set, &[0, 1, 2]);
-    shrink_to(rt, set, 8, 8)?;
-    expect_items(rt, set, &[Some(0), Some(10), Some(20)]);
-    shrink_to(rt, set, 9, 8)?;
-    remove(rt, set, 1, 10);
-    shrink_to_fit(rt, set, 3)?;
-    expect_items(rt, set, &[Some(0), None, Some(20)]);
-    insert_without_memory(rt, set, &[1]);
-    set.clear();
-    shrink_to_fit(rt, set, 0)
-}
-
-#[test]
-fn shrinking_keeps_the_slots_and_what_is_asked(rt: HostRuntime) -> Result<(), Fail> {
-    shrinks(&rt, &mut ItemSet::with_capacity(rt.alloc(), 16)?)?;
     Ok(())
 }
 
@@ -181,12 +142,9 @@ fn callers_of_sizes(rt: HostRuntime) -> Result<(), Fail> {
     assert!(rt; set.len() == 3);
     insert_all(&mut set, &[30, 40])?;
     assert!(rt; set.len() == 5);
-    expect_items(
-        &rt,
-        &set,
-        &[Some(0), Some(10), Some(20), Some(30), Some(40)],
-    );
+    let items = [Some(0), Some(10), Some(20), Some(30), Some(40)];
+    assert!(rt; has_slots(&set, &items));
     assert!(rt; insert_after_steps(&mut set, ix(4))? == ix(1));
-    expect_items(&rt, &set, &[Some(2), Some(3)]);
+    assert!(rt; has_slots(&set, &[Some(2), Some(3)]));
     Ok(())
 }

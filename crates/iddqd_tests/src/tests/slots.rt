@@ -1,96 +1,128 @@
-use super::{expect_items, expect_room, insert_at, ix, with_gaps};
+//! What slots are given out and freed, read and written.
+use super::scripts::assert_answers;
+use super::{ix, with_gaps};
 use iddqd::item_index::ItemIndex;
-use iddqd::item_set::{GrowError, ItemSet};
-use std::process::Abort;
+use iddqd::item_set::{ItemSet, ItemSlot};
 use std::test::Fail;
 
-fn fill_gaps(rt: &impl Abort, set: &mut ItemSet<u32>) -> Result<(), GrowError> {
-    insert_at(rt, set, 100, 5)?;
-    insert_at(rt, set, 200, 3)?;
-    insert_at(rt, set, 300, 1)?;
-    insert_at(rt, set, 400, 6)
-}
+// A gap is a slot from which the item was removed. The others have ten times their index.
+const SCRIPT: &str = "\
+# freed slots come back, the last freed first
+gaps 6 1 3 5
+remove 5: None
+slots: [Some(0), None, Some(20), None, Some(40), None]
+insert 100: 5
+insert 200: 3
+insert 300: 1
+insert 400: 6
+slots: [Some(0), Some(300), Some(20), Some(200), Some(40), Some(100), Some(400)]
+# a write through a reference changes one item
+gaps 4 2
+write 1 21: Some(10)
+slots: [Some(0), Some(21), None, Some(30)]
+# a replacement gives one index another item
+gaps 4 2
+mark
+replace 1 21: Some(10)
+slots: [Some(0), Some(21), None, Some(30)]
+keeps_places: true
+insert 50: 2
+# a cleared set begins anew in its memory
+gaps 4 2 0
+mark
+clear
+slots: []
+keeps_places: true
+insert 0: 0
+insert 1: 1
+insert 2: 2
+insert 3: 3
+slots: [Some(0), Some(1), Some(2), Some(3)]
+keeps_places: true
+# an index without an item gives none, and no call there changes anything
+gaps 4 2
+mark
+get 2: None
+write 2 9: None
+remove 2: None
+get 4: None
+write 4 9: None
+remove 4: None
+get 4294967294: None
+write 4294967294 9: None
+remove 4294967294: None
+get end: None
+write end 9: None
+remove end: None
+keeps_places: true
+slots: [Some(0), Some(10), None, Some(30)]
+insert 50: 2
+insert 60: 4
+# a handle takes the room for an item
+new
+room: 0
+let_go: 0
+has_room 1: true
+slots: []
+# a handle that is let go leaves the contents
+gaps 4 1
+mark
+let_go: 1
+slots: [Some(0), None, Some(20), Some(30)]
+keeps_places: true
+insert 9: 1
+# the next live index skips vacant slots
+gaps 6 1 3 5
+next_occupied 0: Some(0)
+next_occupied 1: Some(2)
+next_occupied 2: Some(2)
+next_occupied 5: None
+next_occupied 6: None
+next_occupied end: None
+# every item is written by the next live index
+add_one_to_each
+slots: [Some(1), None, Some(21), None, Some(41), None]
+insert 50: 5
+new
+next_occupied 0: None
+# brackets read and write a live index
+gaps 4 1
+double_next 1: Some(40)
+double_next 4: None
+slots: [Some(0), None, Some(40), Some(30)]
+get 4: None";
 
 #[test]
-fn freed_slots_come_back_last_freed_first(rt: HostRuntime) -> Result<(), Fail> {
-    let mut set = with_gaps(&rt, rt.alloc(), 6, &[1, 3, 5])?;
-    assert!(rt; set.remove(ix(5)).is_none());
-    expect_items(&rt, &set, &[Some(0), None, Some(20), None, Some(40), None]);
-    fill_gaps(&rt, &mut set)?;
-    let filled = [0, 300, 20, 200, 40, 100, 400].map(Some);
-    expect_items(&rt, &set, &filled);
+fn slots_are_given_out_and_freed(rt: HostRuntime) -> Result<(), Fail> {
+    assert_answers(&rt, rt.alloc(), SCRIPT)?;
     Ok(())
 }
 
-fn write(rt: &impl Abort, set: &mut ItemSet<u32>, at: u32, item: u32) {
-    match set.get_mut(ix(at)) {
-        Some(old) => *old = item,
-        None => panic!(rt; "no item at {at}"),
+// Of equal live indexes the first is valid.
+fn has_valid(set: &ItemSet<u32>) -> bool {
+    let none: [ItemIndex; 0] = [];
+    set.disjoint_valid([ix(0), ix(0), ix(1), ix(9), ix(2)]) == [true, false, false, false, true]
+        && set.disjoint_valid([ix(4)]) == [true]
+        && set.disjoint_valid([ix(1), ix(1)]) == [false, false]
+        && set.disjoint_valid([ItemIndex::SENTINEL, ix(2)]) == [false, true]
+        && set.disjoint_valid(none).len() == 0
+}
+
+#[test]
+fn the_first_of_equal_live_indexes_is_valid(rt: HostRuntime) -> Result<(), Fail> {
+    let set = with_gaps(&rt, rt.alloc(), 6, &[1, 3, 5])?;
+    assert!(rt; has_valid(&set));
+    Ok(())
+}
+
+#[test]
+fn a_slot_gives_its_item(rt: HostRuntime) {
+    let mut slot = ItemSlot::Occupied(7u32);
+    assert!(rt; slot.is_occupied() && slot.as_ref().copied() == Some(7));
+    if let Some(item) = slot.as_mut() {
+        *item = 8;
     }
-}
-
-#[test]
-fn get_mut_writes_one_item(rt: HostRuntime) -> Result<(), Fail> {
-    let mut set = with_gaps(&rt, rt.alloc(), 4, &[2])?;
-    write(&rt, &mut set, 1, 21);
-    expect_items(&rt, &set, &[Some(0), Some(21), None, Some(30)]);
-    Ok(())
-}
-
-// Gives an index another item, where it is live.
-fn replace(rt: &impl Abort, set: &mut ItemSet<u32>, at: ItemIndex, item: u32, want: u32) {
-    assert!(rt; set.get(at).is_some());
-    assert!(rt; set.replace(at, item) == want);
-}
-
-#[test]
-fn replace_gives_one_index_another_item(rt: HostRuntime) -> Result<(), Fail> {
-    let mut set = with_gaps(&rt, rt.alloc(), 4, &[2])?;
-    let room = set.room();
-    replace(&rt, &mut set, ix(1), 21, 10);
-    expect_items(&rt, &set, &[Some(0), Some(21), None, Some(30)]);
-    expect_room(&rt, &set, room);
-    insert_at(&rt, &mut set, 50, 2)?;
-    Ok(())
-}
-
-fn clear_and_fill(rt: &impl Abort, set: &mut ItemSet<u32>) -> Result<(), GrowError> {
-    let capacity = set.room().saturating_add(set.len());
-    set.clear();
-    expect_items(rt, set, &[]);
-    expect_room(rt, set, capacity);
-    for n in 0..4 {
-        insert_at(rt, set, n, n)?;
-    }
-    expect_items(rt, set, &[Some(0), Some(1), Some(2), Some(3)]);
-    expect_room(rt, set, capacity.saturating_sub(4));
-    Ok(())
-}
-
-#[test]
-fn a_cleared_set_begins_anew_in_its_memory(rt: HostRuntime) -> Result<(), Fail> {
-    clear_and_fill(&rt, &mut with_gaps(&rt, rt.alloc(), 4, &[2, 0])?)?;
-    Ok(())
-}
-
-// Nothing is at the index, and no call there changes anything.
-fn expect_nothing_at(rt: &impl Abort, set: &mut ItemSet<u32>, at: ItemIndex) {
-    let room = set.room();
-    assert!(rt; set.get(at).is_none(), "at {at}");
-    assert!(rt; set.get_mut(at).is_none(), "at {at}");
-    assert!(rt; set.remove(at).is_none(), "at {at}");
-    expect_room(rt, set, room);
-    expect_items(rt, set, &[Some(0), Some(10), None, Some(30)]);
-}
-
-#[test]
-fn an_index_without_item_gives_none_and_changes_nothing(rt: HostRuntime) -> Result<(), Fail> {
-    let mut set = with_gaps(&rt, rt.alloc(), 4, &[2])?;
-    expect_nothing_at(&rt, &mut set, ix(2));
-    expect_nothing_at(&rt, &mut set, ix(4));
-    expect_nothing_at(&rt, &mut set, ItemIndex::MAX_VALID);
-    expect_nothing_at(&rt, &mut set, ItemIndex::SENTINEL);
-    insert_at(&rt, &mut set, 50, 2)?;
-    insert_at(&rt, &mut set, 60, 4)?;
-    Ok(())
+    assert!(rt; slot.as_ref().copied() == Some(8));
+    let mut vacant = ItemSlot::<u32>::Vacant { next: ix(3) };
+    assert!(rt; !vacant.is_occupied() && vacant.as_ref().is_none() && vacant.as_mut().is_none());
 }

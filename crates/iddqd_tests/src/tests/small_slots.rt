@@ -9,67 +9,79 @@ use std::test::Fail;
 // The heads and links that are tried.
 const LINKS: [u32; 5] = [0, 1, 2, 3, u32::MAX];
 
-// The slots by a number in base 6: at each place an item, or one of the links.
-fn slots_by(alloc: Global, count: u32, number: u32) -> Result<Vec<Option<u32>>, AllocError> {
-    let mut slots = Vec::new(alloc);
+// The digits of a number in that base, the least first.
+fn digits(alloc: Global, count: u32, number: u32, base: u32) -> Result<Vec<u32>, AllocError> {
+    let mut digits = Vec::new(alloc);
     let mut rest = number;
     for _ in 0..count {
-        slots.push(LINKS.get((rest % 6) as usize).copied())?;
-        rest /= 6;
+        digits.push(rest.checked_rem(base).unwrap_or(0))?;
+        rest = rest.checked_div(base).unwrap_or(0);
+    }
+    Ok(digits)
+}
+
+// A slot by a digit in base 6: one of the links, or an item.
+fn slot_of(digit: u32) -> ItemSlot<u32> {
+    match LINKS.get(digit as usize) {
+        Some(next) => ItemSlot::Vacant { next: ix(*next) },
+        None => ItemSlot::Occupied(0),
+    }
+}
+
+fn slots_by(alloc: Global, count: u32, number: u32) -> Result<Vec<ItemSlot<u32>>, AllocError> {
+    let mut slots = Vec::new(alloc);
+    for digit in &digits(alloc, count, number, 6)? {
+        slots.push(slot_of(*digit))?;
     }
     Ok(slots)
 }
 
-fn raw(alloc: Global, slots: &[Option<u32>]) -> Result<Vec<ItemSlot<u32>>, AllocError> {
-    let mut list = Vec::new(alloc);
+// The link of a slot, if it is vacant.
+fn link(slots: &[ItemSlot<u32>], at: u32) -> Option<u32> {
+    match slots.get(at as usize) {
+        Some(ItemSlot::Vacant { next }) => Some(next.as_u32()),
+        _ => None,
+    }
+}
+
+fn count_vacant(slots: &[ItemSlot<u32>]) -> usize {
+    let mut vacant = 0usize;
     for slot in slots {
-        list.push(match slot {
-            Some(next) => ItemSlot::Vacant { next: ix(*next) },
-            None => ItemSlot::Occupied(0),
-        })?;
+        vacant = vacant.saturating_add(!slot.is_occupied() as usize);
     }
-    Ok(list)
+    vacant
 }
 
-// A list by a number in base 3.
-fn list_by(alloc: Global, count: u32, number: u32) -> Result<Vec<u32>, AllocError> {
-    let mut list = Vec::new(alloc);
-    let mut rest = number;
-    for _ in 0..count {
-        list.push(rest % 3)?;
-        rest /= 3;
-    }
-    Ok(list)
-}
-
-// Whether the list is the chain from the head, has no index twice and has each vacant slot.
-fn fits(slots: &[Option<u32>], head: u32, list: &[u32]) -> bool {
+// Whether the list is the chain from the head, and has each vacant slot once: as many as there are, no two the same.
+fn fits(slots: &[ItemSlot<u32>], head: u32, list: &[u32]) -> bool {
     let mut next = head;
     for (place, at) in list.iter().enumerate() {
-        let Some(Some(link)) = slots.get(*at as usize) else {
+        let Some(link) = link(slots, *at) else {
             return false;
         };
-        if *at != next || list.iter().take(place).any(|before| before == at) {
+        if *at != next || list.split_at(place).0.contains(at) {
             return false;
         }
-        next = *link;
+        next = link;
     }
-    next == u32::MAX
-        && (0..u32::MAX)
-            .zip(slots)
-            .all(|(at, slot)| slot.is_none() || list.contains(&at))
+    next == u32::MAX && list.len() == count_vacant(slots)
 }
 
 // Whether some list up to three fits.
-fn some_list_fits(lists: &[Vec<u32>], slots: &[Option<u32>], head: u32) -> bool {
-    lists.iter().any(|list| fits(slots, head, list))
+fn some_list_fits(lists: &[Vec<u32>], slots: &[ItemSlot<u32>], head: u32) -> bool {
+    for list in lists {
+        if fits(slots, head, list) {
+            return true;
+        }
+    }
+    false
 }
 
 fn lists(alloc: Global) -> Result<Vec<Vec<u32>>, AllocError> {
     let mut lists = Vec::new(alloc);
     for count in 0..4 {
         for number in 0..3u32.saturating_pow(count) {
-            lists.push(list_by(alloc, count, number)?)?;
+            lists.push(digits(alloc, count, number, 3)?)?;
         }
     }
     Ok(lists)
@@ -89,27 +101,37 @@ fn is_ok(
     }
 }
 
-// Holds both modes against the search, with each head and length, and tells how often parts were sound.
+// Holds both modes against the search, with each length, and tells how often parts were sound.
 fn compare(
     rt: &impl Abort,
     alloc: Global,
-    lists: &[Vec<u32>],
-    slots: &[Option<u32>],
+    has_list: bool,
+    slots: &[ItemSlot<u32>],
+    head: u32,
 ) -> Result<u32, AllocError> {
-    let list = raw(alloc, slots)?;
-    let vacant = slots.iter().flatten().count();
-    let items = slots.len().saturating_sub(vacant);
+    let vacant = count_vacant(slots);
+    let mut sound = 0u32;
+    for len in 0..5u32 {
+        let want = has_list && (len as usize).saturating_add(vacant) == slots.len();
+        let got = is_ok(alloc, slots, head, len, ValidateCompact::NonCompact)?;
+        let compact = is_ok(alloc, slots, head, len, ValidateCompact::Compact)?;
+        assert!(rt; got == want && compact == (want && vacant == 0));
+        sound = sound.saturating_add(want as u32);
+    }
+    Ok(sound)
+}
+
+// The same with each head.
+fn compare_heads(
+    rt: &impl Abort,
+    alloc: Global,
+    lists: &[Vec<u32>],
+    slots: &[ItemSlot<u32>],
+) -> Result<u32, AllocError> {
     let mut sound = 0u32;
     for head in LINKS {
         let has_list = some_list_fits(lists, slots, head);
-        for len in 0..5u32 {
-            let want = has_list && len as usize == items;
-            let got = is_ok(alloc, &list, head, len, ValidateCompact::NonCompact)?;
-            let compact = is_ok(alloc, &list, head, len, ValidateCompact::Compact)?;
-            assert!(rt; got == want);
-            assert!(rt; compact == (want && vacant == 0));
-            sound = sound.saturating_add(want as u32);
-        }
+        sound = sound.saturating_add(compare(rt, alloc, has_list, slots, head)?);
     }
     Ok(sound)
 }
@@ -122,7 +144,7 @@ fn slots_up_to_three_are_sound_where_a_list_is_the_chain(rt: HostRuntime) -> Res
     for count in 0..4 {
         for number in 0..6u32.saturating_pow(count) {
             let slots = slots_by(alloc, count, number)?;
-            sound = sound.saturating_add(compare(&rt, alloc, &lists, &slots)?);
+            sound = sound.saturating_add(compare_heads(&rt, alloc, &lists, &slots)?);
         }
     }
     assert!(rt; sound == 24);
