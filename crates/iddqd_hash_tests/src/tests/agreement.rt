@@ -1,39 +1,42 @@
 //! Both tables give the same answers.
+use super::both::Both;
 use super::holds;
-use super::table::Table;
 use std::alloc::AllocError;
 use std::process::Abort;
 use std::test::Fail;
 
-// Look-ups for each of 31 values under each of eight hashes hit in both, or miss in both.
-fn assert_same_hits(rt: &impl Abort, plain: &Table, open: &Table, call: u32) {
+// Whether look-ups for each of 31 values under each of eight hashes hit in both, or miss in both.
+fn have_same_hits(both: &Both) -> bool {
     for pair in 0..248u32 {
         let (hash, value) = ((pair / 31) as u64, pair % 31);
-        let hit = plain.find(hash, value).0;
-        assert!(rt; hit == open.find(hash, value).0, "{pair} at {call}");
+        if both.plain.find(hash, value).0 != both.open.find(hash, value).0 {
+            return false;
+        }
+    }
+    true
+}
+
+// A removal of one match in three calls, and else an insert, on both. Whether both did it.
+fn change(both: &mut Both, call: u32) -> Result<bool, AllocError> {
+    let (hash, value) = ((call.wrapping_mul(5) % 8) as u64, call.wrapping_mul(7) % 31);
+    if call % 3 == 0 {
+        Ok(both.plain.remove(hash, value) == both.open.remove(hash, value))
+    } else {
+        Ok(both.plain.add(hash, value)? && both.open.add(hash, value)?)
     }
 }
 
-// A removal of one match in three calls, and else an insert, on both.
-fn run_both(rt: &impl Abort, plain: &mut Table, open: &mut Table) -> Result<(), AllocError> {
-    for i in 0..2000u32 {
-        let (hash, value) = ((i * 5 % 8) as u64, i * 7 % 31);
-        if i % 3 == 0 {
-            let removed = plain.remove(hash, value);
-            holds(rt, removed == open.remove(hash, value), i);
-        } else {
-            holds(rt, plain.add(hash, value)? && open.add(hash, value)?, i);
-        }
-        holds(rt, plain.len() == open.len(), i);
-        assert_same_hits(rt, plain, open, i);
+fn run_both(rt: &impl Abort, both: &mut Both) -> Result<(), AllocError> {
+    for call in 0..2000 {
+        let is_done = change(both, call)?;
+        let is_same = both.plain.len() == both.open.len() && have_same_hits(both);
+        holds(rt, is_done && is_same, call);
     }
     Ok(())
 }
 
 #[test]
 fn both_tables_agree(rt: HostRuntime) -> Result<(), Fail> {
-    let mut plain = Table::linear(rt.alloc());
-    let mut open = Table::open(rt.alloc());
-    run_both(&rt, &mut plain, &mut open)?;
+    run_both(&rt, &mut Both::new(rt.alloc()))?;
     Ok(())
 }

@@ -1,52 +1,43 @@
 //! What look-ups ask, and where they end.
-use super::table::Table;
-use std::alloc::AllocError;
-use std::process::Abort;
+use super::script::both_answer;
 use std::test::Fail;
 
 // Three hundred values under one hash, of which the odd ones go and the others are halved.
-fn keeps_the_even(rt: &impl Abort, table: &mut Table) -> Result<(), AllocError> {
-    for value in 0..300 {
-        assert!(rt; table.add(7, value)?);
-    }
-    assert!(rt; table.find(7, 300).1.asks == 300);
-    assert!(rt; table.find(9, 299).1.asks == 0);
-    assert!(rt; table.drop_with(1).asks == 300);
-    assert!(rt; table.len() == 150);
-    let (hit, asked) = table.find(7, 299);
-    assert!(rt; !hit && asked.asks == 150);
-    assert!(rt; table.find(7, 298).0);
-    let room = table.room();
-    assert!(rt; table.halve() == 150);
-    assert!(rt; table.len() == 150 && table.room() == room);
-    let (hit, asked) = table.find(7, 150);
-    assert!(rt; !hit && asked.asks == 150);
-    assert!(rt; table.find(7, 149).0);
-    Ok(())
-}
+const EVEN: &str = "\
+add_below 7 300: 300
+asks 7 300: 300
+asks 9 299: 0
+drop_with 1: 300
+len: 150
+find 7 299: no
+asks 7 299: 150
+find 7 298: yes
+room: noted
+halve: 150
+len: 150
+room: as noted
+find 7 150: no
+asks 7 150: 150
+find 7 149: yes
+";
 
 #[test]
 fn asks_each_once_up_to_the_match(rt: HostRuntime) -> Result<(), Fail> {
-    keeps_the_even(&rt, &mut Table::linear(rt.alloc()))?;
-    keeps_the_even(&rt, &mut Table::open(rt.alloc()))?;
+    both_answer(&rt, rt.alloc(), EVEN)?;
     Ok(())
 }
 
 // The look-up ends at the ask that is answered true, and hits the value that was asked there.
-fn hits_the_second(rt: &impl Abort, table: &mut Table) -> Result<(), AllocError> {
-    for value in 1..4 {
-        assert!(rt; table.add(7, value)?);
-    }
-    let (taken, asked) = table.take_second(7);
-    assert!(rt; asked.asks == 2 && taken == Some(asked.last));
-    assert!(rt; table.len() == 2);
-    assert!(rt; !table.find(7, asked.last).0);
-    Ok(())
-}
+const SECOND: &str = "\
+add 7 1: yes
+add 7 2: yes
+add 7 3: yes
+take_second 7: 2
+len: 2
+";
 
 #[test]
 fn hits_the_value_that_was_accepted(rt: HostRuntime) -> Result<(), Fail> {
-    hits_the_second(&rt, &mut Table::linear(rt.alloc()))?;
-    hits_the_second(&rt, &mut Table::open(rt.alloc()))?;
+    both_answer(&rt, rt.alloc(), SECOND)?;
     Ok(())
 }

@@ -4,16 +4,11 @@ ghost use Rattle.std.specs.List.Sorted.{IsPermutation};
 ghost use Rattle.std.specs.List.{list_any};
 ghost use Rattle.iddqd_hash.specs.HashTable.{entries, under};
 
+use super::changes::insert_linear;
 use iddqd_hash::hash_table_reference::HashTable;
 use std::alloc::AllocError;
 use std::cell::Cell;
 use std::test::Fail;
-
-fn add<T: Drop>(table: &mut HashTable<T>, hash: u64, value: T) -> Result<(), AllocError> {
-    table.try_reserve(1)?;
-    table.insert_unique(hash, value);
-    Ok(())
-}
 
 // Whether a look-up for the value hits: exactly where it stands under the hash.
 fn has<T: Eq>(table: &HashTable<T>, hash: u64, value: &T) -> bool
@@ -30,7 +25,7 @@ fn keep_others(table: &mut HashTable<u32>, value: u32)
 }
 
 // Halves each value under its hash, and counts the calls.
-fn halve(table: &mut HashTable<u32>) -> u32
+pub(crate) fn halve(table: &mut HashTable<u32>) -> u32
     ensures { IsPermutation (map (λ e. (e.0, e.1 / 2)) (entries table.old)) (entries table.new) }
 {
     let calls = Cell::new(0u32);
@@ -41,15 +36,23 @@ fn halve(table: &mut HashTable<u32>) -> u32
     calls.get()
 }
 
+// Adds a value, where memory is there.
+fn add(table: &mut HashTable<u32>, hash: u64, value: u32) -> Result<bool, AllocError> {
+    table.try_reserve(1)?;
+    Ok(insert_linear(table, hash, value))
+}
+
+// Of (7, 10) and (9, 11) the second goes, and the first is halved.
+fn tells_what_is_there(table: &mut HashTable<u32>) -> Result<bool, AllocError> {
+    let is_added = add(table, 7, 10)? && add(table, 9, 11)?;
+    let is_found = has(table, 7, &10) && !has(table, 9, &10);
+    keep_others(table, 11);
+    let is_gone = !has(table, 9, &11);
+    Ok(is_added && is_found && is_gone && halve(table) == 1 && has(table, 7, &5))
+}
+
 #[test]
 fn pure_closures_tell_what_is_there(rt: HostRuntime) -> Result<(), Fail> {
-    let mut table = HashTable::new(rt.alloc());
-    add(&mut table, 7, 10)?;
-    add(&mut table, 9, 11)?;
-    assert!(rt; has(&table, 7, &10) && !has(&table, 9, &10));
-    keep_others(&mut table, 11);
-    assert!(rt; !has(&table, 9, &11));
-    assert!(rt; halve(&mut table) == 1);
-    assert!(rt; has(&table, 7, &5));
+    assert!(rt; tells_what_is_there(&mut HashTable::new(rt.alloc()))?);
     Ok(())
 }

@@ -52,15 +52,6 @@ pub(crate) fn drop_with_open(table: &mut OpenHashTable<u32>, bits: u32) -> Asked
     asked
 }
 
-pub(crate) fn halve_linear(table: &mut HashTable<u32>) -> u32 {
-    let calls = Cell::new(0u32);
-    table.rewrite(|x| {
-        calls.set(calls.get().saturating_add(1));
-        *x / 2
-    });
-    calls.get()
-}
-
 pub(crate) fn halve_open(table: &mut OpenHashTable<u32>) -> u32 {
     let calls = Cell::new(0u32);
     table.rewrite(|x| {

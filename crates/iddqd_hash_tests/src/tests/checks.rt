@@ -34,20 +34,22 @@ fn expect(
     Ok(())
 }
 
+// Of none, and of the indexes 0, 2 and 4.
+fn check_each(
+    rt: &impl Abort,
+    alloc: Global,
+    none: &MapHashTable,
+    even: &MapHashTable,
+) -> Result<(), AllocError> {
+    expect(rt, alloc, none, 0, COMPACT, "ok")?;
+    expect(rt, alloc, even, 2, NON_COMPACT, "expected length 2, was 3")?;
+    expect(rt, alloc, even, 3, NON_COMPACT, "ok")?;
+    let want = "expected value at index 1 to be 1, was 2";
+    expect(rt, alloc, even, 3, COMPACT, want)
+}
+
 fn checks(rt: &impl Abort, alloc: Global) -> Result<(), AllocError> {
-    expect(rt, alloc, &MapHashTable::new(alloc), 0, COMPACT, "ok")?;
-    let even = file_even(alloc)?;
-    expect(rt, alloc, &even, 2, NON_COMPACT, "expected length 2, was 3")?;
-    expect(rt, alloc, &even, 3, NON_COMPACT, "ok")?;
-    expect(
-        rt,
-        alloc,
-        &even,
-        3,
-        COMPACT,
-        "expected value at index 1 to be 1, was 2",
-    )?;
-    Ok(())
+    check_each(rt, alloc, &MapHashTable::new(alloc), &file_even(alloc)?)
 }
 
 #[test]

@@ -3,100 +3,102 @@ ghost use Rattle.std.specs.Prelude.{◌≡◌, IfOk};
 ghost use Rattle.std.specs.List.Sorted.{IsPermutation};
 ghost use Rattle.iddqd_hash.specs.HashTable.{entries};
 
-use super::holds;
+use super::both::Both;
 use super::refused::hash_of;
 use super::table::Table;
 use iddqd_hash::hash_table_reference::HashTable;
 use iddqd_hash::open_table::OpenHashTable;
 use std::alloc::{AllocError, Global};
-use std::process::Abort;
 use std::test::Fail;
 
 // A copy of numbers has the same pairs.
-fn copy_linear(table: &HashTable<u32>) -> Result<HashTable<u32>, AllocError>
+pub(crate) fn copy_linear(table: &HashTable<u32>) -> Result<HashTable<u32>, AllocError>
     ensures { IfOk result (λ copy. IsPermutation (entries table.now) (entries copy)) }
 {
     let copy = table.clone()?;
     Ok(copy)
 }
 
-fn copy_open(table: &OpenHashTable<u32>) -> Result<OpenHashTable<u32>, AllocError>
+pub(crate) fn copy_open(table: &OpenHashTable<u32>) -> Result<OpenHashTable<u32>, AllocError>
     ensures { IfOk result (λ copy. IsPermutation (entries table.now) (entries copy)) }
 {
     let copy = table.clone()?;
     Ok(copy)
-}
-
-impl Table {
-    pub(crate) fn copy(&self) -> Result<Table, AllocError> {
-        match self {
-            Table::Linear(table) => Ok(Table::Linear(copy_linear(table)?)),
-            Table::Open(table) => Ok(Table::Open(copy_open(table)?)),
-        }
-    }
 }
 
 // The values below 50 but for the multiples of five.
-fn fill(rt: &impl Abort, table: &mut Table) -> Result<(), AllocError> {
+fn fill(table: &mut Table) -> Result<bool, AllocError> {
     for value in 0..50 {
-        assert!(rt; table.add(hash_of(value), value)?);
-        assert!(rt; value % 5 > 0 || table.remove(hash_of(value), value));
+        let hash = hash_of(value);
+        if !table.add(hash, value)? || value % 5 == 0 && !table.remove(hash, value) {
+            return Ok(false);
+        }
     }
-    Ok(())
+    Ok(true)
 }
 
-fn assert_same_hits(rt: &impl Abort, table: &Table, copy: &Table) {
+fn have_same_hits(table: &Table, copy: &Table) -> bool {
     for value in 0..60 {
-        let hit = table.find(hash_of(value), value).0;
-        holds(rt, hit == copy.find(hash_of(value), value).0, value);
+        let hash = hash_of(value);
+        if table.find(hash, value).0 != copy.find(hash, value).0 {
+            return false;
+        }
     }
+    true
 }
 
 // Adds 40 values to the copy, and removes what is there of 40 others from its source.
-fn change_apart(rt: &impl Abort, table: &mut Table, copy: &mut Table) -> Result<(), AllocError> {
+fn change_apart(table: &mut Table, copy: &mut Table) -> Result<bool, AllocError> {
     for value in 1..41u32 {
         let added = value + 49;
-        assert!(rt; copy.add(hash_of(added), added)?);
-        assert!(rt; table.remove(hash_of(value), value) == (value % 5 > 0));
+        let is_added = copy.add(hash_of(added), added)?;
+        if !is_added || table.remove(hash_of(value), value) != (value % 5 > 0) {
+            return Ok(false);
+        }
     }
-    Ok(())
+    Ok(true)
 }
 
-fn assert_apart(rt: &impl Abort, table: &Table, copy: &Table) {
+// Whether what was added is in the copy alone, and what was removed gone from its source alone.
+fn are_apart(table: &Table, copy: &Table) -> bool {
     for value in 1..41u32 {
-        let hit = copy.find(hash_of(value), value).0;
-        holds(rt, hit == (value % 5 > 0), value);
         let added = value + 49;
-        holds(rt, !table.find(hash_of(added), added).0, value);
+        let is_kept = copy.find(hash_of(value), value).0 == (value % 5 > 0);
+        if !is_kept || table.find(hash_of(added), added).0 {
+            return false;
+        }
     }
+    true
 }
 
 // What is added to the one, or removed from it, is so there alone.
-fn change_and_stay_apart(
-    rt: &impl Abort,
-    table: &mut Table,
-    copy: &mut Table,
-) -> Result<(), AllocError> {
-    assert!(rt; copy.len() == 40);
-    assert_same_hits(rt, table, copy);
-    change_apart(rt, table, copy)?;
-    assert!(rt; copy.len() == 80 && table.len() == 8);
-    assert_apart(rt, table, copy);
-    Ok(())
+fn stay_apart(table: &mut Table, copy: &mut Table) -> Result<bool, AllocError> {
+    Ok(
+        copy.len() == 40
+            && have_same_hits(table, copy)
+            && change_apart(table, copy)?
+            && copy.len() == 80
+            && table.len() == 8
+            && are_apart(table, copy),
+    )
 }
 
-fn keeps_apart(rt: &impl Abort, alloc: Global, table: &mut Table) -> Result<(), AllocError> {
-    assert!(rt; table.copy()?.has_values(rt, alloc, &[])?);
-    fill(rt, table)?;
+// Whether a copy of none is empty, and one of some values has the same, and stays apart.
+fn keeps_apart(alloc: Global, table: &mut Table) -> Result<bool, AllocError> {
     let mut copy = table.copy()?;
-    assert!(rt; table.has_values_of(rt, alloc, &copy)?);
-    change_and_stay_apart(rt, table, &mut copy)
+    let is_empty = copy.has_between(alloc, 0, 0)?;
+    let is_filled = fill(table)?;
+    copy = table.copy()?;
+    Ok(is_empty && is_filled && table.has_values_of(alloc, &copy)? && stay_apart(table, &mut copy)?)
+}
+
+fn both_keep_apart(alloc: Global, both: &mut Both) -> Result<bool, AllocError> {
+    Ok(keeps_apart(alloc, &mut both.plain)? && keeps_apart(alloc, &mut both.open)?)
 }
 
 #[test]
 fn a_copy_and_its_source_change_apart(rt: HostRuntime) -> Result<(), Fail> {
-    keeps_apart(&rt, rt.alloc(), &mut Table::linear(rt.alloc()))?;
-    keeps_apart(&rt, rt.alloc(), &mut Table::open(rt.alloc()))?;
+    assert!(rt; both_keep_apart(rt.alloc(), &mut Both::new(rt.alloc()))?);
     Ok(())
 }
 
@@ -127,18 +129,26 @@ fn numbered(number: u32) -> Item {
     }
 }
 
+// Whether a copy of four is refused, and its source stays.
+fn linear_is_refused(table: &mut HashTable<Item>) -> Result<bool, AllocError> {
+    for number in 0..4u32 {
+        table.try_reserve(1)?;
+        table.insert_unique(7, numbered(number));
+    }
+    Ok(table.clone().is_err() && table.len() == 4)
+}
+
+fn open_is_refused(table: &mut OpenHashTable<Item>) -> Result<bool, AllocError> {
+    for number in 0..4u32 {
+        table.try_reserve(1)?;
+        table.insert_unique(7, numbered(number));
+    }
+    Ok(table.clone().is_err() && table.len() == 4)
+}
+
 #[test]
 fn a_copy_fails_where_that_of_a_value_does(rt: HostRuntime) -> Result<(), Fail> {
-    let mut plain = HashTable::with_capacity(rt.alloc(), 4)?;
-    let mut open = OpenHashTable::with_capacity(rt.alloc(), 4)?;
-    for number in 0..4u32 {
-        plain.try_reserve(1)?;
-        plain.insert_unique(7, numbered(number));
-        open.try_reserve(1)?;
-        open.insert_unique(7, numbered(number));
-    }
-    assert!(rt; plain.clone().is_err() && open.clone().is_err());
-    assert!(rt; plain.len() == 4);
-    assert!(rt; open.len() == 4);
+    assert!(rt; linear_is_refused(&mut HashTable::with_capacity(rt.alloc(), 4)?)?);
+    assert!(rt; open_is_refused(&mut OpenHashTable::with_capacity(rt.alloc(), 4)?)?);
     Ok(())
 }

@@ -3,16 +3,20 @@ ghost use Rattle.std.specs.Prelude.{◌≡◌, ◌∷◌, if◌then◌else◌, I
 ghost use Rattle.std.specs.List.Sorted.{IsPermutation};
 ghost use Rattle.iddqd_hash.specs.HashTable.{entries};
 
-use super::holds;
+use super::both::both_are;
+use super::script::both_answer;
 use super::table::Table;
 use iddqd_hash::hash_table_reference::{Entry, HashTable};
 use iddqd_hash::open_table::{Entry as OpenEntry, OpenHashTable};
 use std::alloc::AllocError;
-use std::process::Abort;
 use std::test::Fail;
 
 // Adds a value that isn't there under its hash, and tells whether it did.
-fn enter_linear(table: &mut HashTable<u32>, hash: u64, value: u32) -> Result<bool, AllocError>
+pub(crate) fn enter_linear(
+    table: &mut HashTable<u32>,
+    hash: u64,
+    value: u32,
+) -> Result<bool, AllocError>
     ensures entered { IfOk result (λ is_new.
         IsPermutation (if is_new then (hash, value) ∷ entries table.old else entries table.old) (entries table.new)) }
     ensures refused { OnErr result (table.new ≡ table.old) }
@@ -27,7 +31,11 @@ fn enter_linear(table: &mut HashTable<u32>, hash: u64, value: u32) -> Result<boo
     }
 }
 
-fn enter_open(table: &mut OpenHashTable<u32>, hash: u64, value: u32) -> Result<bool, AllocError>
+pub(crate) fn enter_open(
+    table: &mut OpenHashTable<u32>,
+    hash: u64,
+    value: u32,
+) -> Result<bool, AllocError>
     ensures entered { IfOk result (λ is_new.
         IsPermutation (if is_new then (hash, value) ∷ entries table.old else entries table.old) (entries table.new)) }
     ensures refused { OnErr result (table.new ≡ table.old) }
@@ -43,7 +51,11 @@ fn enter_open(table: &mut OpenHashTable<u32>, hash: u64, value: u32) -> Result<b
 }
 
 // Whether a value is there. The entry is let go, and the pairs stay.
-fn look_linear(table: &mut HashTable<u32>, hash: u64, value: u32) -> Result<bool, AllocError>
+pub(crate) fn look_linear(
+    table: &mut HashTable<u32>,
+    hash: u64,
+    value: u32,
+) -> Result<bool, AllocError>
     ensures { IsPermutation (entries table.old) (entries table.new) }
 {
     match table.entry(hash, |x| *x == value) {
@@ -53,7 +65,11 @@ fn look_linear(table: &mut HashTable<u32>, hash: u64, value: u32) -> Result<bool
     }
 }
 
-fn look_open(table: &mut OpenHashTable<u32>, hash: u64, value: u32) -> Result<bool, AllocError>
+pub(crate) fn look_open(
+    table: &mut OpenHashTable<u32>,
+    hash: u64,
+    value: u32,
+) -> Result<bool, AllocError>
     ensures { IsPermutation (entries table.old) (entries table.new) }
 {
     match table.entry(hash, |x| *x == value) {
@@ -64,7 +80,7 @@ fn look_open(table: &mut OpenHashTable<u32>, hash: u64, value: u32) -> Result<bo
 }
 
 // Removes a value where its entry is that of a pair.
-fn take_linear(
+pub(crate) fn take_linear(
     table: &mut HashTable<u32>,
     hash: u64,
     value: u32,
@@ -76,7 +92,7 @@ fn take_linear(
     }
 }
 
-fn take_open(
+pub(crate) fn take_open(
     table: &mut OpenHashTable<u32>,
     hash: u64,
     value: u32,
@@ -88,71 +104,57 @@ fn take_open(
     }
 }
 
-impl Table {
-    pub(crate) fn enter(&mut self, hash: u64, value: u32) -> Result<bool, AllocError> {
-        match self {
-            Table::Linear(table) => enter_linear(table, hash, value),
-            Table::Open(table) => enter_open(table, hash, value),
-        }
-    }
-
-    pub(crate) fn look(&mut self, hash: u64, value: u32) -> Result<bool, AllocError> {
-        match self {
-            Table::Linear(table) => look_linear(table, hash, value),
-            Table::Open(table) => look_open(table, hash, value),
-        }
-    }
-
-    pub(crate) fn take(&mut self, hash: u64, value: u32) -> Result<Option<u32>, AllocError> {
-        match self {
-            Table::Linear(table) => take_linear(table, hash, value),
-            Table::Open(table) => take_open(table, hash, value),
-        }
-    }
-}
-
-// Of (7, 0), (7, 1) and (9, 0) the values other than 1 stay; then 1 is entered again, and 0 is taken.
-fn enters(rt: &impl Abort, table: &mut Table) -> Result<(), AllocError> {
-    for (hash, value) in [(7, 0), (7, 1), (9, 0)] {
-        assert!(rt; table.enter(hash, value)?);
-        assert!(rt; !table.enter(hash, value)?);
-    }
-    assert!(rt; table.len() == 3);
-    assert!(rt; table.drop_with(1).asks == 3 && table.len() == 2);
-    assert!(rt; !table.find(7, 1).0 && !table.look(7, 1)?);
-    assert!(rt; table.len() == 2 && !table.find(7, 1).0);
-    assert!(rt; table.enter(7, 1)? && table.len() == 3 && table.find(7, 1).0);
-    assert!(rt; table.look(9, 0)? && table.len() == 3);
-    assert!(rt; table.take(9, 0)? == Some(0) && table.len() == 2);
-    assert!(rt; table.take(9, 0)?.is_none() && table.find(7, 0).0);
-    Ok(())
-}
+const ENTRIES: &str = "\
+enter 7 0: yes
+enter 7 0: no
+enter 7 1: yes
+enter 7 1: no
+enter 9 0: yes
+enter 9 0: no
+len: 3
+drop_with 1: 3
+len: 2
+find 7 1: no
+look 7 1: no
+len: 2
+find 7 1: no
+enter 7 1: yes
+len: 3
+find 7 1: yes
+look 9 0: yes
+len: 3
+take 9 0: 0
+len: 2
+take 9 0: none
+find 7 0: yes
+";
 
 #[test]
 fn an_entry_is_filled_taken_or_let_go(rt: HostRuntime) -> Result<(), Fail> {
-    enters(&rt, &mut Table::linear(rt.alloc()))?;
-    enters(&rt, &mut Table::open(rt.alloc()))?;
+    both_answer(&rt, rt.alloc(), ENTRIES)?;
     Ok(())
 }
 
-// A vacant entry has its room, so that the insert after it takes no memory.
-fn has_room(rt: &impl Abort, table: &mut Table) -> Result<(), AllocError> {
-    for value in 0..200u32 {
-        holds(rt, !table.look(3, value)? && table.room() > 0, value);
-        let room = table.room();
-        holds(
-            rt,
-            table.enter(3, value)? && table.room() >= room.saturating_sub(1),
-            value,
-        );
+// Enters a value, under one hash for all. Whether a vacant entry had its room, so that the insert took no memory.
+fn enter_in_room(table: &mut Table, value: u32) -> Result<bool, AllocError> {
+    if table.look(3, value)? || table.room() == 0 {
+        return Ok(false);
     }
-    assert!(rt; table.len() == 200);
-    Ok(())
+    let room = table.room();
+    Ok(table.enter(3, value)? && table.room() >= room.saturating_sub(1))
+}
+
+fn have_room(table: &mut Table) -> Result<bool, AllocError> {
+    for value in 0..200 {
+        if !enter_in_room(table, value)? {
+            return Ok(false);
+        }
+    }
+    Ok(table.len() == 200)
 }
 
 #[test]
 fn a_vacant_entry_has_its_room(rt: HostRuntime) -> Result<(), Fail> {
-    has_room(&rt, &mut Table::linear(rt.alloc()))?;
-    has_room(&rt, &mut Table::open(rt.alloc()))?;
+    assert!(rt; both_are(rt.alloc(), have_room)?);
     Ok(())
 }

@@ -5,7 +5,7 @@ ghost use Rattle.std.specs.FinMap as finite;
 ghost use Rattle.iddqd.specs.MapHash.{hash_one};
 ghost use Rattle.iddqd_hash.specs.MapHashTable.{filed, FindsWhere};
 
-use super::indexes::{answer_each, remove_filed};
+use super::index_script::indexes_answer;
 use super::keys::{Constant, Held};
 use iddqd::hash_builder::DefaultHashBuilder;
 use iddqd::item_index::ItemIndex;
@@ -13,7 +13,6 @@ use iddqd::map_hash::Same;
 use iddqd_hash::hash_table::MapHashTable;
 use std::alloc::{AllocError, Global};
 use std::hash::BuildHasher;
-use std::process::Abort;
 use std::test::Fail;
 
 // An index for each key, under the hash of the key.
@@ -76,17 +75,6 @@ fn find_held<S: BuildHasher>(
     )
 }
 
-// Indexes under a constant hasher are told apart by their keys alone, and removed one by one.
-fn removes_one(rt: &impl Abort, table: &mut MapHashTable) {
-    assert!(rt; answer_each(table, 7, false) == (false, 3));
-    assert!(rt; answer_each(table, 7, true) == (true, 1));
-    assert!(rt; answer_each(table, 8, true) == (false, 0));
-    assert!(rt; remove_filed(table, 7, ItemIndex::new(1)));
-    assert!(rt; !remove_filed(table, 7, ItemIndex::new(1)));
-    assert!(rt; table.len() == 2);
-    assert!(rt; answer_each(table, 7, false) == (false, 2));
-}
-
 #[test]
 fn a_constant_hasher_files_all_under_one_hash(rt: HostRuntime) {
     let table = MapHashTable::new(rt.alloc());
@@ -94,14 +82,28 @@ fn a_constant_hasher_files_all_under_one_hash(rt: HostRuntime) {
     assert!(rt; hash.hash() == 7 && hash.is_same_hash(&Constant, 2u32));
 }
 
+// Indexes under a constant hasher are told apart by their keys alone, and removed one by one.
+const ONE_GOES: &str = "\
+len: 3
+asks 7: 3
+hits 7: yes
+asks_to_hit 7: 1
+hits 8: no
+asks_to_hit 8: 0
+take 7 1: yes
+take 7 1: no
+len: 2
+asks 7: 2
+";
+
 #[test]
 fn finds_indexes_under_a_constant_hasher(rt: HostRuntime) -> Result<(), Fail> {
     let keys = [10, 20, 30].as_slice();
     let mut table = file_all(rt.alloc(), &Constant, keys)?;
-    assert!(rt; table.len() == 3);
-    assert!(rt; find_number(&table, &Constant, keys, 20) == Some(ItemIndex::new(1)));
-    assert!(rt; find_number(&table, &Constant, keys, 40).is_none());
-    removes_one(&rt, &mut table);
+    let found = find_number(&table, &Constant, keys, 20);
+    let missed = find_number(&table, &Constant, keys, 40);
+    assert!(rt; found == Some(ItemIndex::new(1)) && missed.is_none());
+    indexes_answer(&rt, &mut table, ONE_GOES)?;
     Ok(())
 }
 
@@ -110,8 +112,9 @@ fn finds_by_a_query_of_another_type(rt: HostRuntime) -> Result<(), Fail> {
     let keys = [10, 20, 30].as_slice();
     let state = DefaultHashBuilder::default();
     let table = file_all(rt.alloc(), &state, keys)?;
+    let found = find_number(&table, &state, keys, 30);
     let held = find_held(&table, &state, keys, 30);
-    assert!(rt; held.is_some() && held == find_number(&table, &state, keys, 30));
-    assert!(rt; find_held(&table, &state, keys, 40).is_none());
+    let missed = find_held(&table, &state, keys, 40);
+    assert!(rt; held.is_some() && held == found && missed.is_none());
     Ok(())
 }

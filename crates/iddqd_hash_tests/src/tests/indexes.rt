@@ -4,8 +4,8 @@ ghost use Rattle.std.specs.Bool.{OnTrue, OnFalse};
 ghost use Rattle.std.specs.FinMap as finite;
 ghost use Rattle.iddqd_hash.specs.MapHashTable.{filed};
 
+use super::index_script::none_answer;
 use iddqd::item_index::ItemIndex;
-use iddqd::map_hash::MapHash;
 use iddqd_hash::hash_table::MapHashTable;
 use std::test::Fail;
 
@@ -36,15 +36,17 @@ pub(crate) fn answer_each(table: &mut MapHashTable, hash: u64, answer: bool) -> 
     (hit, asks)
 }
 
+const BY_INDEX: &str = "\
+file 1 4: yes
+file 2 4294967295: yes
+remove 4: yes
+len: 1
+take 1 4: no
+take 2 4294967295: yes
+";
+
 #[test]
 fn removes_by_index(rt: HostRuntime) -> Result<(), Fail> {
-    let mut table = MapHashTable::new(rt.alloc());
-    table.try_reserve(2)?;
-    table.insert_prehashed_unchecked(MapHash::new(1), ItemIndex::new(4));
-    table.insert_prehashed_unchecked(MapHash::new(2), ItemIndex::SENTINEL);
-    table.remove_by_index(ItemIndex::new(4));
-    assert!(rt; table.len() == 1);
-    assert!(rt; !remove_filed(&mut table, 1, ItemIndex::new(4)));
-    assert!(rt; remove_filed(&mut table, 2, ItemIndex::SENTINEL));
+    none_answer(&rt, rt.alloc(), BY_INDEX)?;
     Ok(())
 }

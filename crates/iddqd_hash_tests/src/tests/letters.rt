@@ -27,56 +27,73 @@ impl Letters {
         Ok(())
     }
 
-    // What a look-up for a letter gives in each.
-    fn find(&self, hash: u64, letter: char) -> (Option<char>, Option<char>) {
+    // Whether a look-up for a letter hits in each, or misses in each.
+    fn find(&self, hash: u64, letter: char, is_there: bool) -> bool {
+        let wanted = if is_there { Some(letter) } else { None };
         let plain = self.plain.find(hash, |x| *x == letter).copied();
         let open = self.open.find(hash, |x| *x == letter).copied();
-        (plain, open)
+        plain == wanted && open == wanted
     }
 
-    // Takes a letter out of each by its entry.
-    fn take(&mut self, hash: u64, letter: char) -> (Option<char>, Option<char>) {
+    // Takes a letter out of each by its entry. Whether it was there.
+    fn take(&mut self, hash: u64, letter: char) -> bool {
         let plain = match self.plain.find_entry(hash, |x| *x == letter) {
-            Ok(entry) => Some(entry.remove()),
-            Err(()) => None,
+            Ok(entry) => entry.remove() == letter,
+            Err(()) => false,
         };
         let open = match self.open.find_entry(hash, |x| *x == letter) {
-            Ok(entry) => Some(entry.remove()),
-            Err(()) => None,
+            Ok(entry) => entry.remove() == letter,
+            Err(()) => false,
         };
-        (plain, open)
+        plain && open
     }
+}
+
+// Of (7, a), (7, b) and (9, a).
+fn finds_its_own(letters: &mut Letters) -> Result<bool, AllocError> {
+    for (hash, letter) in [(7, 'a'), (7, 'b'), (9, 'a')] {
+        letters.add(hash, letter)?;
+    }
+    Ok(letters.find(9, 'b', false) && letters.find(7, 'b', true))
 }
 
 #[test]
 fn a_letter_is_found_under_its_own_hashes(rt: HostRuntime) -> Result<(), Fail> {
-    let mut letters = Letters::new(rt.alloc());
-    for (hash, letter) in [(7, 'a'), (7, 'b'), (9, 'a')] {
+    assert!(rt; finds_its_own(&mut Letters::new(rt.alloc()))?);
+    Ok(())
+}
+
+const OTHERS: [(u64, char); 4] = [
+    (17, 'b'),
+    (33, 'c'),
+    (4294967297, 'd'),
+    (18446744073709551615, 'e'),
+];
+
+fn add_others(letters: &mut Letters) -> Result<(), AllocError> {
+    for (hash, letter) in OTHERS {
         letters.add(hash, letter)?;
     }
-    assert!(rt; letters.find(9, 'b') == (None, None));
-    assert!(rt; letters.find(7, 'b') == (Some('b'), Some('b')));
     Ok(())
+}
+
+fn finds_others(letters: &Letters) -> bool {
+    for (hash, letter) in OTHERS {
+        if !letters.find(hash, letter, true) {
+            return false;
+        }
+    }
+    true
+}
+
+fn finds_once_one_is_taken(letters: &mut Letters) -> Result<bool, AllocError> {
+    letters.add(1, 'a')?;
+    add_others(letters)?;
+    Ok(letters.take(1, 'a') && finds_others(letters) && letters.find(1, 'a', false))
 }
 
 #[test]
 fn letters_are_found_once_another_is_taken(rt: HostRuntime) -> Result<(), Fail> {
-    let others = [
-        (17, 'b'),
-        (33, 'c'),
-        (4294967297, 'd'),
-        (18446744073709551615, 'e'),
-    ];
-    let mut letters = Letters::new(rt.alloc());
-    letters.add(1, 'a')?;
-    for (hash, letter) in others {
-        letters.add(hash, letter)?;
-    }
-    assert!(rt; letters.take(1, 'a') == (Some('a'), Some('a')));
-    for (hash, letter) in others {
-        let found = letters.find(hash, letter);
-        assert!(rt; found == (Some(letter), Some(letter)), "at {hash}");
-    }
-    assert!(rt; letters.find(1, 'a') == (None, None));
+    assert!(rt; finds_once_one_is_taken(&mut Letters::new(rt.alloc()))?);
     Ok(())
 }

@@ -1,8 +1,8 @@
 //! Random sequences of all calls, on both tables side by side.
+use super::both::Both;
+use super::call::Call;
 use super::holds;
-use super::table::Table;
 use std::alloc::{AllocError, Global};
-use std::process::Abort;
 use std::test::Fail;
 
 // Numbers that look random, and are the same in each run.
@@ -18,78 +18,71 @@ impl Generator {
     }
 }
 
-// A call by its number, with a value. Tells a number that both tables answer alike.
-fn call(table: &mut Table, number: u32, value: u32) -> Result<u32, AllocError> {
-    let hash = ((value % 11) as u64).wrapping_mul(0x1000_0000_0000_0003);
+// A call by its number, with a value.
+fn call_of(number: u32, value: u32) -> Call {
+    let hash = hash_of(value);
     match number {
-        0..6 => Ok(table.add(hash, value)? as u32),
-        6..10 => Ok(table.enter(hash, value)? as u32),
-        10..13 => Ok(table.remove(hash, value) as u32),
-        13 => Ok(table.look(hash, value)? as u32),
-        14 => Ok(table.take(hash, value)?.unwrap_or(1000)),
-        15 => Ok(table.find(hash, value).0 as u32),
-        16 => Ok(table.drop_with(value & 3).asks),
-        17 => {
-            table.reserve_all(value as usize)?;
-            Ok(0)
-        }
-        18 => {
-            table.shrink_to(value as usize)?;
-            Ok(1)
-        }
-        19 => {
-            table.shrink_to_fit()?;
-            Ok(2)
-        }
-        20 => {
-            let copy = table.copy()?;
-            *table = copy;
-            Ok(3)
-        }
-        21 => Ok(table.halve()),
-        _ => {
-            table.clear();
-            Ok(4)
-        }
+        0..6 => Call::Add(hash, value),
+        6..10 => Call::Enter(hash, value),
+        10..13 => Call::Remove(hash, value),
+        13 => Call::Look(hash, value),
+        14 => Call::Take(hash, value),
+        15 => Call::Find(hash, value),
+        16 => Call::DropWith(value & 3),
+        17 => Call::Reserve(value as u64),
+        18 => Call::ShrinkTo(value as u64),
+        19 => Call::ShrinkToFit,
+        20 => Call::Copy,
+        21 => Call::Halve,
+        _ => Call::Clear,
     }
 }
 
-fn run(
-    rt: &impl Abort,
+fn hash_of(value: u32) -> u64 {
+    ((value % 11) as u64).wrapping_mul(0x1000_0000_0000_0003)
+}
+
+// Whether both tables answer sixty calls alike.
+fn agree_along(
     alloc: Global,
+    both: &mut Both,
     generator: &mut Generator,
-    sequence: u32,
-) -> Result<(), AllocError> {
-    let mut plain = Table::linear(alloc);
-    let mut open = Table::open(alloc);
+) -> Result<bool, AllocError> {
     for _ in 0..60 {
         let number = generator.below(23);
         let value = generator.below(40);
-        let told = call(&mut plain, number, value)?;
-        assert!(rt;
-            told == call(&mut open, number, value)?,
-            "{number} in {sequence}"
-        );
-        assert!(rt; plain.len() == open.len(), "{number} in {sequence}");
+        if !both.agree(alloc, call_of(number, value))? || both.plain.len() != both.open.len() {
+            return Ok(false);
+        }
     }
-    let (left, right) = (plain.values(rt, alloc)?, open.values(rt, alloc)?);
-    holds(rt, left.as_slice() == right.as_slice(), sequence);
+    Ok(true)
+}
+
+// Whether both tables find the same of the values.
+fn have_same_hits(both: &Both) -> bool {
     for value in 0..40 {
-        let hash = ((value % 11) as u64).wrapping_mul(0x1000_0000_0000_0003);
-        holds(
-            rt,
-            plain.find(hash, value).0 == open.find(hash, value).0,
-            sequence,
-        );
+        let hash = hash_of(value);
+        if both.plain.find(hash, value).0 != both.open.find(hash, value).0 {
+            return false;
+        }
     }
-    Ok(())
+    true
+}
+
+fn run(alloc: Global, generator: &mut Generator) -> Result<bool, AllocError> {
+    let mut both = Both::new(alloc);
+    Ok(
+        agree_along(alloc, &mut both, generator)?
+            && both.plain.has_values_of(alloc, &both.open)?
+            && have_same_hits(&both),
+    )
 }
 
 #[test]
 fn a_thousand_random_sequences_agree(rt: HostRuntime) -> Result<(), Fail> {
     let mut generator = Generator(88172645463325252);
     for sequence in 0..1000 {
-        run(&rt, rt.alloc(), &mut generator, sequence)?;
+        holds(&rt, run(rt.alloc(), &mut generator)?, sequence);
     }
     Ok(())
 }

@@ -52,18 +52,24 @@ fn count_reads_under(
     (found, reads.get())
 }
 
-// Three keys under one hash, in an order that is open: each look-up reads as many as stand up to its own.
+// Whether each look-up reads as many of three keys under one hash, in an order that is open, as stand up to its own.
+fn reads_up_to_the_match(table: &MapHashTable, keys: &[u32]) -> bool
+    requires { (ix : ℕ) → IsSome (finite.get (filed table.now) ix) → ix < length keys.now }
+{
+    let first = count_reads(table, keys, 10).1;
+    let found = count_reads(table, keys, 20);
+    let third = count_reads(table, keys, 30).1;
+    count_reads(table, keys, 40) == (None, 3)
+        && first.saturating_add(found.1).saturating_add(third) == 6
+        && found.0 == Some(ItemIndex::new(1))
+        && count_reads_under(table, 7, keys, 20) == found
+        && count_reads_under(table, 8, keys, 20) == (None, 0)
+}
+
 #[test]
 fn reads_each_key_once_up_to_the_match(rt: HostRuntime) -> Result<(), Fail> {
     let keys = [10, 20, 30];
     let table = file_all(rt.alloc(), &Constant, &keys)?;
-    assert!(rt; count_reads(&table, &keys, 40) == (None, 3));
-    let first = count_reads(&table, &keys, 10).1;
-    let found = count_reads(&table, &keys, 20);
-    let third = count_reads(&table, &keys, 30).1;
-    assert!(rt; first.saturating_add(found.1).saturating_add(third) == 6);
-    assert!(rt; found.0 == Some(ItemIndex::new(1)));
-    assert!(rt; count_reads_under(&table, 7, &keys, 20) == found);
-    assert!(rt; count_reads_under(&table, 8, &keys, 20) == (None, 0));
+    assert!(rt; reads_up_to_the_match(&table, &keys));
     Ok(())
 }

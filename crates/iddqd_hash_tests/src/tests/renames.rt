@@ -3,14 +3,13 @@ ghost use Rattle.std.specs.Prelude.{◌≡◌, ◌⊎◌, ℕ, IfOk, IsSome};
 ghost use Rattle.std.specs.FinMap as finite;
 ghost use Rattle.iddqd_hash.specs.MapHashTable.{filed};
 
-use super::holds;
+use super::index_script::indexes_answer;
 use super::indexes::remove_filed;
 use iddqd::index_remap::IndexRemap;
 use iddqd::item_index::ItemIndex;
 use iddqd::map_hash::MapHash;
 use iddqd_hash::hash_table::MapHashTable;
 use std::alloc::{AllocError, Global};
-use std::process::Abort;
 use std::test::Fail;
 
 // Files the indexes 0, 2 and 4, the first and the last under one hash.
@@ -52,41 +51,43 @@ fn keep_names(table: &mut MapHashTable)
     table.remap_indexes(&IndexRemap::Identity);
 }
 
+fn stays_under_the_identity(table: &mut MapHashTable) -> bool {
+    let room = table.room();
+    keep_names(table);
+    table.len() == 3 && table.room() == room && remove_filed(table, 20, ItemIndex::new(2))
+}
+
 #[test]
 fn keeps_each_name_under_the_identity(rt: HostRuntime) -> Result<(), Fail> {
-    let mut table = file_even(rt.alloc())?;
-    let room = table.room();
-    keep_names(&mut table);
-    assert!(rt; table.len() == 3 && table.room() == room);
-    assert!(rt; remove_filed(&mut table, 20, ItemIndex::new(2)));
+    assert!(rt; stays_under_the_identity(&mut file_even(rt.alloc())?));
     Ok(())
 }
 
 // Each index has its new name under its hash, and none its old one.
-fn assert_renamed(rt: &impl Abort, table: &mut MapHashTable) {
-    for (hash, old) in [(10, 4), (20, 2)] {
-        holds(rt, !remove_filed(table, hash, ItemIndex::new(old)), old);
-    }
-    for (hash, new) in [(10, 0), (20, 1), (10, 2)] {
-        holds(rt, remove_filed(table, hash, ItemIndex::new(new)), new);
-    }
-}
+const RENAMED: &str = "\
+len: 3
+take 10 4: no
+take 20 2: no
+take 10 0: yes
+take 20 1: yes
+take 10 2: yes
+len: 0
+";
 
 #[test]
 fn gives_each_index_its_new_name(rt: HostRuntime) -> Result<(), Fail> {
     let mut table = file_even(rt.alloc())?;
     let room = table.room();
     close_gaps(rt.alloc(), &mut table)?;
-    assert!(rt; table.len() == 3 && table.room() == room);
-    assert_renamed(&rt, &mut table);
-    assert!(rt; table.len() == 0);
+    assert!(rt; table.room() == room);
+    indexes_answer(&rt, &mut table, RENAMED)?;
     Ok(())
 }
 
 #[test]
 fn remaps_an_empty_table(rt: HostRuntime) -> Result<(), Fail> {
+    let names = IndexRemap::Permuted(vec![in rt.alloc(); ItemIndex::SENTINEL]?);
     assert!(rt; remap_none(rt.alloc(), &IndexRemap::Identity).len() == 0);
-    let names = vec![in rt.alloc(); ItemIndex::SENTINEL]?;
-    assert!(rt; remap_none(rt.alloc(), &IndexRemap::Permuted(names)).len() == 0);
+    assert!(rt; remap_none(rt.alloc(), &names).len() == 0);
     Ok(())
 }

@@ -1,54 +1,69 @@
 //! Room that was reserved.
+use super::both::both_are;
 use super::holds;
 use super::table::Table;
-use std::alloc::AllocError;
-use std::process::Abort;
+use std::alloc::{AllocError, Global};
 use std::test::Fail;
 
-// Reserved room serves so many inserts, whatever is removed between them.
-fn keeps_reserved_room(rt: &impl Abort, table: &mut Table) -> Result<(), AllocError> {
-    assert!(rt; table.room() == 0);
-    table.reserve(64)?;
+// Inserts so many values, and removes the multiples of three between them. Whether each call was done.
+fn insert_in_room(table: &mut Table) -> bool {
     for value in 0..64u32 {
         let hash = (value % 5) as u64;
-        holds(rt, table.insert(hash, value), value);
-        holds(rt, value % 3 > 0 || table.remove(hash, value), value);
+        if !table.insert(hash, value) || value % 3 == 0 && !table.remove(hash, value) {
+            return false;
+        }
     }
-    assert!(rt; table.len() == 42);
+    true
+}
+
+// Whether exactly the others are found.
+fn has_the_others(table: &Table) -> bool {
     for value in 0..64u32 {
-        let hit = table.find((value % 5) as u64, value).0;
-        holds(rt, hit == (value % 3 > 0), value);
+        if table.find((value % 5) as u64, value).0 != (value % 3 > 0) {
+            return false;
+        }
     }
+    true
+}
+
+// Reserved room serves so many inserts, whatever is removed between them.
+fn keeps_reserved_room(table: &mut Table) -> Result<bool, AllocError> {
+    let had_none = table.room() == 0;
+    table.try_reserve(64)?;
+    let is_served = insert_in_room(table) && table.len() == 42 && has_the_others(table);
     table.clear();
-    assert!(rt; table.len() == 0 && table.room() >= 64);
-    assert!(rt; table.find(1, 1).1.asks == 0);
-    Ok(())
+    let is_cleared = table.len() == 0 && table.room() >= 64 && table.find(1, 1).1.asks == 0;
+    Ok(had_none && is_served && is_cleared)
 }
 
 #[test]
 fn keeps_room_for_what_was_reserved(rt: HostRuntime) -> Result<(), Fail> {
-    keeps_reserved_room(&rt, &mut Table::linear(rt.alloc()))?;
-    keeps_reserved_room(&rt, &mut Table::open(rt.alloc()))?;
+    assert!(rt; both_are(rt.alloc(), keeps_reserved_room)?);
     Ok(())
 }
 
-// One pair that is put in and taken out again never makes the table larger, whatever room it began with.
-fn churns(rt: &impl Abort, table: &mut Table) -> Result<(), AllocError> {
-    table.reserve(1)?;
+// One pair that is put in and taken out again never makes the table larger.
+fn churns(table: &mut Table) -> Result<bool, AllocError> {
+    table.try_reserve(1)?;
     let room = table.room();
     for call in 0..10000u32 {
-        holds(rt, table.add(call as u64, call)?, call);
-        holds(rt, table.remove(call as u64, call), call);
-        holds(rt, table.room() <= room, call);
+        let is_added = table.add(call as u64, call)?;
+        if !is_added || !table.remove(call as u64, call) || table.room() > room {
+            return Ok(false);
+        }
     }
-    assert!(rt; table.len() == 0);
-    Ok(())
+    Ok(table.len() == 0)
+}
+
+// The same, from that capacity on.
+fn churns_from(alloc: Global, capacity: usize) -> Result<bool, AllocError> {
+    churns(&mut Table::open_for(alloc, capacity)?)
 }
 
 #[test]
 fn one_pair_in_and_out_takes_no_more_cells(rt: HostRuntime) -> Result<(), Fail> {
-    churns(&rt, &mut Table::open_for(rt.alloc(), 14)?)?;
-    churns(&rt, &mut Table::open_for(rt.alloc(), 28)?)?;
-    churns(&rt, &mut Table::open_for(rt.alloc(), 56)?)?;
+    for capacity in [14, 28, 56u32] {
+        holds(&rt, churns_from(rt.alloc(), capacity as usize)?, capacity);
+    }
     Ok(())
 }

@@ -2,8 +2,10 @@
 //!
 //! So few pairs have sixteen cells. The homes of the hashes lie in one to eight cells in a row, the
 //! last of the sixteen among them, so that pairs move past it to the first.
+use super::both::Both;
+use super::holds;
 use super::table::Table;
-use std::alloc::{AllocError, Global};
+use std::alloc::AllocError;
 use std::process::Abort;
 use std::test::Fail;
 
@@ -48,50 +50,45 @@ fn step(table: &mut Table, command: u32, hash: u64, value: u32) -> Result<u32, A
     }
 }
 
-fn assert_same(rt: &impl Abort, plain: &Table, open: &Table, hashes: Hashes, sequence: u32) {
-    assert!(rt; plain.len() == open.len(), "after {sequence:o}");
+// Whether both tables have as many pairs, and a look-up asks the same values of both.
+fn are_same(both: &Both, hashes: Hashes) -> bool {
     for number in 0..3 {
         let hash = hashes.at(number);
-        let (left, right) = (plain.find(hash, 0).1, open.find(hash, 0).1);
-        let is_same = left.asks == right.asks && left.bits == right.bits;
-        assert!(rt; is_same, "{hash} after {sequence:o}");
+        let (left, right) = (both.plain.find(hash, 0).1, both.open.find(hash, 0).1);
+        if left.asks != right.asks || left.bits != right.bits {
+            return false;
+        }
     }
+    both.plain.len() == both.open.len()
+}
+
+// Whether both tables do a command alike.
+fn step_alike(both: &mut Both, command: u32, hash: u64, value: u32) -> Result<bool, AllocError> {
+    let touched = step(&mut both.plain, command, hash, value)?;
+    Ok(touched == step(&mut both.open, command, hash, value)?)
 }
 
 // The octal digits of the number are the commands. A beginning that came before is not looked at again.
-fn assert_agrees(
-    rt: &impl Abort,
-    plain: &mut Table,
-    open: &mut Table,
-    hashes: Hashes,
-    sequence: u32,
-) -> Result<(), AllocError> {
-    plain.clear();
-    open.clear();
+fn agree(both: &mut Both, hashes: Hashes, sequence: u32) -> Result<bool, AllocError> {
+    both.plain.clear();
+    both.open.clear();
     let mut value = 1u32;
     for rest in [32768, 4096, 512, 64, 8, 1] {
         let command = sequence / rest % 8;
-        let hash = hashes.at(command);
-        let touched = step(plain, command, hash, value)?;
-        assert!(rt;
-            touched == step(open, command, hash, value)?,
-            "in {sequence:o}"
-        );
-        if sequence % rest == 0 {
-            assert_same(rt, plain, open, hashes, sequence);
+        let is_alike = step_alike(both, command, hashes.at(command), value)?;
+        if !is_alike || sequence % rest == 0 && !are_same(both, hashes) {
+            return Ok(false);
         }
         value = value.wrapping_mul(2);
     }
-    Ok(())
+    Ok(true)
 }
 
 // The first command is an insert, since a removal or a retain leaves an empty table as it is.
-fn run_all(rt: &impl Abort, alloc: Global, cells: u32) -> Result<(), AllocError> {
-    let mut plain = Table::linear(alloc);
-    let mut open = Table::open(alloc);
+fn run_all(rt: &impl Abort, both: &mut Both, cells: u32) -> Result<(), AllocError> {
     let hashes = hashes_within(cells);
     for sequence in 0..98304u32 {
-        assert_agrees(rt, &mut plain, &mut open, hashes, sequence)?;
+        holds(rt, agree(both, hashes, sequence)?, sequence);
     }
     Ok(())
 }
@@ -99,7 +96,7 @@ fn run_all(rt: &impl Abort, alloc: Global, cells: u32) -> Result<(), AllocError>
 #[test]
 fn each_sequence_over_few_homes_agrees(rt: HostRuntime) -> Result<(), Fail> {
     for cells in 1..5 {
-        run_all(&rt, rt.alloc(), cells)?;
+        run_all(&rt, &mut Both::new(rt.alloc()), cells)?;
     }
     Ok(())
 }
@@ -107,7 +104,7 @@ fn each_sequence_over_few_homes_agrees(rt: HostRuntime) -> Result<(), Fail> {
 #[test]
 fn each_sequence_over_more_homes_agrees(rt: HostRuntime) -> Result<(), Fail> {
     for cells in 5..9 {
-        run_all(&rt, rt.alloc(), cells)?;
+        run_all(&rt, &mut Both::new(rt.alloc()), cells)?;
     }
     Ok(())
 }

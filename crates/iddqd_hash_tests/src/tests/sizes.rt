@@ -1,4 +1,5 @@
 //! Memory that either table takes ahead, and gives back.
+use super::script::answers;
 use super::table::Table;
 use iddqd_hash::hash_table_reference::HashTable;
 use iddqd_hash::open_table::OpenHashTable;
@@ -6,93 +7,90 @@ use std::alloc::{AllocError, Global};
 use std::process::Abort;
 use std::test::Fail;
 
-impl Table {
-    pub(crate) fn linear_for(alloc: Global, capacity: usize) -> Result<Table, AllocError> {
-        Ok(Table::Linear(HashTable::with_capacity(alloc, capacity)?))
-    }
-
-    pub(crate) fn open_for(alloc: Global, capacity: usize) -> Result<Table, AllocError> {
-        Ok(Table::Open(OpenHashTable::with_capacity(alloc, capacity)?))
-    }
-
-    // The call that is named `reserve`.
-    pub(crate) fn reserve_all(&mut self, additional: usize) -> Result<(), AllocError> {
-        match self {
-            Table::Linear(table) => table.reserve(additional),
-            Table::Open(table) => table.reserve(additional),
-        }
-    }
-
-    pub(crate) fn shrink_to(&mut self, least: usize) -> Result<(), AllocError> {
-        match self {
-            Table::Linear(table) => table.shrink_to(least),
-            Table::Open(table) => table.shrink_to(least),
-        }
-    }
-
-    pub(crate) fn shrink_to_fit(&mut self) -> Result<(), AllocError> {
-        match self {
-            Table::Linear(table) => table.shrink_to_fit(),
-            Table::Open(table) => table.shrink_to_fit(),
-        }
-    }
-}
-
 // Room for sixteen, of which three are used and eight are kept.
-fn keeps_eight(rt: &impl Abort, alloc: Global, table: &mut Table) -> Result<(), AllocError> {
-    assert!(rt; table.len() == 0 && table.room() >= 16);
-    for value in 0..3 {
-        assert!(rt; table.insert(1, value));
-    }
-    table.shrink_to(8)?;
-    assert!(rt; table.room() >= 5 && table.len() == 3);
-    table.shrink_to_fit()?;
-    assert!(rt; table.has_values(rt, alloc, &[0, 1, 2])?);
-    let room = table.room();
-    table.shrink_to(18446744073709551615)?;
-    assert!(rt; table.room() == room && table.find(1, 2).0);
-    Ok(())
-}
+const EIGHT: &str = "\
+len: 0
+room: from 16
+insert 1 0: yes
+insert 1 1: yes
+insert 1 2: yes
+shrink_to 8: done
+room: from 5
+len: 3
+shrink_to_fit: done
+has 0 3: yes
+room: noted
+shrink_to 18446744073709551615: done
+room: as noted
+find 1 2: yes
+reserve 100: done
+room: from 100
+";
 
 // Takes room for a hundred more, of which the first hundred go again.
-fn trade_a_hundred(rt: &impl Abort, table: &mut Table) -> Result<(), AllocError> {
-    table.reserve_all(100)?;
-    assert!(rt; table.room() >= 100);
+const LEAST: &str = "\
+shrink_to_fit: done
+room: below 16
+has 100 103: yes
+clear: done
+shrink_to_fit: done
+room: 0
+len: 0
+add 5 5: yes
+find 5 5: yes
+";
+
+// Inserts a hundred values, in the room that there is, and removes the one that came first after each.
+fn trade_a_hundred(table: &mut Table) -> bool {
     for value in 3..103u32 {
         let gone = value.wrapping_sub(3);
         let hash = if gone < 3 { 1 } else { gone as u64 % 9 };
-        assert!(rt; table.insert(value as u64 % 9, value));
-        assert!(rt; table.remove(hash, gone));
+        if !table.insert(value as u64 % 9, value) || !table.remove(hash, gone) {
+            return false;
+        }
     }
-    table.shrink_to_fit()
+    true
 }
 
 fn shrinks(rt: &impl Abort, alloc: Global, table: &mut Table) -> Result<(), AllocError> {
-    keeps_eight(rt, alloc, table)?;
-    trade_a_hundred(rt, table)?;
-    assert!(rt; table.room() < 16);
-    assert!(rt; table.has_values(rt, alloc, &[100, 101, 102])?);
-    table.clear();
-    table.shrink_to_fit()?;
-    assert!(rt; table.room() == 0 && table.len() == 0);
-    assert!(rt; table.add(5, 5)? && table.find(5, 5).0);
+    answers(rt, alloc, table, EIGHT)?;
+    assert!(rt; trade_a_hundred(table));
+    answers(rt, alloc, table, LEAST)
+}
+
+#[test]
+fn a_plain_table_shrinks_to_what_it_needs(rt: HostRuntime) -> Result<(), Fail> {
+    shrinks(&rt, rt.alloc(), &mut Table::linear_for(rt.alloc(), 16)?)?;
     Ok(())
 }
 
 #[test]
-fn a_table_shrinks_to_what_it_needs(rt: HostRuntime) -> Result<(), Fail> {
-    shrinks(&rt, rt.alloc(), &mut Table::linear_for(rt.alloc(), 16)?)?;
+fn a_table_with_open_addressing_shrinks_to_what_it_needs(rt: HostRuntime) -> Result<(), Fail> {
     shrinks(&rt, rt.alloc(), &mut Table::open_for(rt.alloc(), 16)?)?;
     Ok(())
 }
 
+// The room of new tables for so many.
+fn linear_room(alloc: Global, capacity: usize) -> Result<usize, AllocError> {
+    Ok(Table::linear_for(alloc, capacity)?.room())
+}
+
+fn open_room(alloc: Global, capacity: usize) -> Result<usize, AllocError> {
+    Ok(Table::open_for(alloc, capacity)?.room())
+}
+
 #[test]
-fn a_table_for_none_takes_no_memory(rt: HostRuntime) -> Result<(), Fail> {
-    assert!(rt; Table::linear_for(rt.alloc(), 0)?.room() == 0);
-    assert!(rt; Table::open_for(rt.alloc(), 0)?.room() == 0);
-    assert!(rt; Table::linear_for(rt.alloc(), 18446744073709551615).is_err());
-    assert!(rt; Table::open_for(rt.alloc(), 18446744073709551615).is_err());
-    Ok(())
+fn a_table_for_none_takes_no_memory(rt: HostRuntime) {
+    assert_eq!(rt; linear_room(rt.alloc(), 0), Ok(0));
+    assert_eq!(rt; open_room(rt.alloc(), 0), Ok(0));
+    assert_eq!(rt;
+        linear_room(rt.alloc(), 18446744073709551615),
+        Err(AllocError)
+    );
+    assert_eq!(rt;
+        open_room(rt.alloc(), 18446744073709551615),
+        Err(AllocError)
+    );
 }
 
 // A value that can't be let go.

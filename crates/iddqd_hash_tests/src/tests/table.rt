@@ -1,9 +1,12 @@
 //! Either table of values, under the same calls.
 use super::asked::Asked;
+use super::callers::halve;
 use super::changes::{
-    drop_with_linear, drop_with_open, halve_linear, halve_open, insert_linear, insert_open,
-    remove_linear, remove_open,
+    drop_with_linear, drop_with_open, halve_open, insert_linear, insert_open, remove_linear,
+    remove_open,
 };
+use super::copies::{copy_linear, copy_open};
+use super::entries::{enter_linear, enter_open, look_linear, look_open, take_linear, take_open};
 use super::look_ups::{find_linear, find_open, take_second_linear, take_second_open};
 use iddqd_hash::hash_table_reference::HashTable;
 use iddqd_hash::open_table::OpenHashTable;
@@ -25,6 +28,14 @@ impl Table {
         Table::Open(OpenHashTable::new(alloc))
     }
 
+    pub(crate) fn linear_for(alloc: Global, capacity: usize) -> Result<Table, AllocError> {
+        Ok(Table::Linear(HashTable::with_capacity(alloc, capacity)?))
+    }
+
+    pub(crate) fn open_for(alloc: Global, capacity: usize) -> Result<Table, AllocError> {
+        Ok(Table::Open(OpenHashTable::with_capacity(alloc, capacity)?))
+    }
+
     pub(crate) fn len(&self) -> usize {
         match self {
             Table::Linear(table) => table.len(),
@@ -39,7 +50,7 @@ impl Table {
         }
     }
 
-    pub(crate) fn reserve(&mut self, additional: usize) -> Result<(), AllocError> {
+    pub(crate) fn try_reserve(&mut self, additional: usize) -> Result<(), AllocError> {
         match self {
             Table::Linear(table) => table.try_reserve(additional),
             Table::Open(table) => table.try_reserve(additional),
@@ -56,7 +67,7 @@ impl Table {
 
     // Makes room for a pair, and adds it.
     pub(crate) fn add(&mut self, hash: u64, value: u32) -> Result<bool, AllocError> {
-        self.reserve(1)?;
+        self.try_reserve(1)?;
         Ok(self.insert(hash, value))
     }
 
@@ -95,8 +106,60 @@ impl Table {
     // Halves each value, and counts the calls.
     pub(crate) fn halve(&mut self) -> u32 {
         match self {
-            Table::Linear(table) => halve_linear(table),
+            Table::Linear(table) => halve(table),
             Table::Open(table) => halve_open(table),
+        }
+    }
+
+    pub(crate) fn reserve(&mut self, additional: usize) -> Result<(), AllocError> {
+        match self {
+            Table::Linear(table) => table.reserve(additional),
+            Table::Open(table) => table.reserve(additional),
+        }
+    }
+
+    pub(crate) fn shrink_to(&mut self, least: usize) -> Result<(), AllocError> {
+        match self {
+            Table::Linear(table) => table.shrink_to(least),
+            Table::Open(table) => table.shrink_to(least),
+        }
+    }
+
+    pub(crate) fn shrink_to_fit(&mut self) -> Result<(), AllocError> {
+        match self {
+            Table::Linear(table) => table.shrink_to_fit(),
+            Table::Open(table) => table.shrink_to_fit(),
+        }
+    }
+
+    // Adds a value under its hash, if there is none, by an entry. Tells whether it did.
+    pub(crate) fn enter(&mut self, hash: u64, value: u32) -> Result<bool, AllocError> {
+        match self {
+            Table::Linear(table) => enter_linear(table, hash, value),
+            Table::Open(table) => enter_open(table, hash, value),
+        }
+    }
+
+    // Whether a value is there, by an entry that is let go.
+    pub(crate) fn look(&mut self, hash: u64, value: u32) -> Result<bool, AllocError> {
+        match self {
+            Table::Linear(table) => look_linear(table, hash, value),
+            Table::Open(table) => look_open(table, hash, value),
+        }
+    }
+
+    // Removes a value by its entry, if there is one.
+    pub(crate) fn take(&mut self, hash: u64, value: u32) -> Result<Option<u32>, AllocError> {
+        match self {
+            Table::Linear(table) => take_linear(table, hash, value),
+            Table::Open(table) => take_open(table, hash, value),
+        }
+    }
+
+    pub(crate) fn copy(&self) -> Result<Table, AllocError> {
+        match self {
+            Table::Linear(table) => Ok(Table::Linear(copy_linear(table)?)),
+            Table::Open(table) => Ok(Table::Open(copy_open(table)?)),
         }
     }
 

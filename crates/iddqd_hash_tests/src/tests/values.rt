@@ -1,95 +1,95 @@
 //! Walks over the values of either table.
+use super::both::Both;
 use super::table::Table;
 use iddqd_hash::hash_table_reference::HashTable;
 use iddqd_hash::open_table::OpenHashTable;
 use std::alloc::{AllocError, Global};
-use std::process::Abort;
 use std::test::Fail;
 
-// The values of a table, in rising order. Before each step the walk tells how many are left, and once ended it stays
+// Puts the values of a walk into an empty list. Whether the walk tells before each step how many are left, and stays
 // ended.
-fn walked_linear(
-    rt: &impl Abort,
-    alloc: Global,
-    table: &HashTable<u32>,
-) -> Result<Vec<u32>, AllocError> {
+fn walk_linear(table: &HashTable<u32>, values: &mut Vec<u32>) -> Result<bool, AllocError> {
     let mut walk = table.iter();
     let count = table.len();
-    let mut values = Vec::new(alloc);
     for done in 0..count {
         let left = count - done;
-        assert!(rt; walk.len() == left && walk.size_hint() == (left, Some(left)));
+        if walk.len() != left || walk.size_hint() != (left, Some(left)) {
+            return Ok(false);
+        }
         if let Some(value) = walk.next() {
             values.push(*value)?;
         }
     }
-    assert!(rt; walk.next().is_none() && walk.next().is_none() && values.len() == count);
-    values.sort()?;
-    Ok(values)
+    Ok(walk.next().is_none() && walk.next().is_none() && values.len() == count)
 }
 
-fn walked_open(
-    rt: &impl Abort,
-    alloc: Global,
-    table: &OpenHashTable<u32>,
-) -> Result<Vec<u32>, AllocError> {
+fn walk_open(table: &OpenHashTable<u32>, values: &mut Vec<u32>) -> Result<bool, AllocError> {
     let mut walk = table.iter();
     let count = table.len();
-    let mut values = Vec::new(alloc);
     for done in 0..count {
         let left = count - done;
-        assert!(rt; walk.len() == left && walk.size_hint() == (left, Some(left)));
+        if walk.len() != left || walk.size_hint() != (left, Some(left)) {
+            return Ok(false);
+        }
         if let Some(value) = walk.next() {
             values.push(*value)?;
         }
     }
-    assert!(rt; walk.next().is_none() && walk.next().is_none() && values.len() == count);
-    values.sort()?;
-    Ok(values)
+    Ok(walk.next().is_none() && walk.next().is_none() && values.len() == count)
 }
 
 impl Table {
-    // The values, in rising order.
-    pub(crate) fn values(&self, rt: &impl Abort, alloc: Global) -> Result<Vec<u32>, AllocError> {
-        match self {
-            Table::Linear(table) => walked_linear(rt, alloc, table),
-            Table::Open(table) => walked_open(rt, alloc, table),
-        }
+    // Puts the values into an empty list, in rising order. Whether the walk was right.
+    fn put_values(&self, values: &mut Vec<u32>) -> Result<bool, AllocError> {
+        let is_right = match self {
+            Table::Linear(table) => walk_linear(table, values)?,
+            Table::Open(table) => walk_open(table, values)?,
+        };
+        values.sort()?;
+        Ok(is_right)
     }
 
     // Whether exactly these values stand in the table; they are in rising order.
-    pub(crate) fn has_values(
-        &self,
-        rt: &impl Abort,
-        alloc: Global,
-        values: &[u32],
-    ) -> Result<bool, AllocError> {
-        Ok(self.values(rt, alloc)?.as_slice() == values)
+    fn has_values(&self, alloc: Global, values: &[u32]) -> Result<bool, AllocError> {
+        let mut own = Vec::new(alloc);
+        Ok(self.put_values(&mut own)? && own.as_slice() == values)
     }
 
     // Whether another table has the same values.
-    pub(crate) fn has_values_of(
+    pub(crate) fn has_values_of(&self, alloc: Global, other: &Table) -> Result<bool, AllocError> {
+        let mut values = Vec::new(alloc);
+        Ok(other.put_values(&mut values)? && self.has_values(alloc, &values)?)
+    }
+
+    // Whether the table has the values from `first` to before `end`, and no other.
+    pub(crate) fn has_between(
         &self,
-        rt: &impl Abort,
         alloc: Global,
-        other: &Table,
+        first: u32,
+        end: u32,
     ) -> Result<bool, AllocError> {
-        let values = other.values(rt, alloc)?;
-        self.has_values(rt, alloc, values.as_slice())
+        let mut values = Vec::new(alloc);
+        Ok(self.put_values(&mut values)? && values.iter().copied().eq(first..end))
+    }
+
+    // Whether the values are those below 100 that five doesn't divide.
+    fn has_others(&self, alloc: Global) -> Result<bool, AllocError> {
+        let mut values = Vec::new(alloc);
+        Ok(self.put_values(&mut values)? && are_left(&values))
     }
 }
 
 // Adds the values below 100, under few hashes, and removes the multiples of five.
-fn fill(rt: &impl Abort, table: &mut Table) -> Result<(), AllocError> {
+fn fill(table: &mut Table) -> Result<bool, AllocError> {
     for value in 0..100u32 {
         let hash = ((value % 3) as u64).wrapping_mul(0x4000_0000_0000_0005);
-        assert!(rt; table.add(hash, value)?);
-        assert!(rt; value % 5 > 0 || table.remove(hash, value));
+        if !table.add(hash, value)? || value % 5 == 0 && !table.remove(hash, value) {
+            return Ok(false);
+        }
     }
-    Ok(())
+    Ok(true)
 }
 
-// Whether the values are those below 100 that five doesn't divide.
 fn are_left(values: &[u32]) -> bool {
     if values.len() != 80 {
         return false;
@@ -102,18 +102,18 @@ fn are_left(values: &[u32]) -> bool {
     true
 }
 
-fn walks(rt: &impl Abort, alloc: Global, table: &mut Table) -> Result<(), AllocError> {
-    assert!(rt; table.has_values(rt, alloc, &[])?);
-    fill(rt, table)?;
-    assert!(rt; are_left(table.values(rt, alloc)?.as_slice()));
+fn walks(alloc: Global, table: &mut Table) -> Result<bool, AllocError> {
+    let is_right = table.has_between(alloc, 0, 0)? && fill(table)? && table.has_others(alloc)?;
     table.clear();
-    assert!(rt; table.has_values(rt, alloc, &[])?);
-    Ok(())
+    Ok(is_right && table.has_between(alloc, 0, 0)?)
+}
+
+fn both_walk(alloc: Global, both: &mut Both) -> Result<bool, AllocError> {
+    Ok(walks(alloc, &mut both.plain)? && walks(alloc, &mut both.open)?)
 }
 
 #[test]
 fn a_walk_gives_each_value_once(rt: HostRuntime) -> Result<(), Fail> {
-    walks(&rt, rt.alloc(), &mut Table::linear(rt.alloc()))?;
-    walks(&rt, rt.alloc(), &mut Table::open(rt.alloc()))?;
+    assert!(rt; both_walk(rt.alloc(), &mut Both::new(rt.alloc()))?);
     Ok(())
 }
