@@ -1,5 +1,5 @@
 -- Items that share one of several keys, and the removal of some, one after the other.
-use Rattle.std.proofs.Common.{◌≡◌, ◌≢◌, ◌∙◌, ◌⊎◌, inl, inr, ◌↔◌, ◌<◌, ◌≤◌, ◌||◌, ℕ, Bool, true, false, List, [], ◌∷◌, length, map, Option, Some, None, is_some, IsSome, Result, Ok, Err, refl, sym, ap, subst, arith}
+use Rattle.std.proofs.Common.{◌≡◌, ◌≢◌, ◌∙◌, ◌⊎◌, inl, inr, ◌↔◌, ◌<◌, ◌≤◌, ◌||◌, ℕ, Bool, true, false, List, [], ◌∷◌, length, Option, Some, None, is_some, IsSome, Result, Ok, Err, refl, sym, ap, subst, arith}
 use Rattle.std.specs.List.{Contains}
 use Rattle.iddqd.specs.Store.{Store, IsValid, IsFull, get, removed}
 use Rattle.iddqd.specs.declared.item_set.GrowError.{GrowError}

@@ -1,5 +1,5 @@
 -- What becomes of a map in each step of its store and its tables, however many tables there are.
-use Rattle.std.proofs.Common.{◌≡◌, ◌∙◌, ◌⊎◌, inl, inr, ◌↔◌, ◌+◌, ◌≤◌, ◌&&◌, ℕ, Bool, true, false, not, List, Option, Some, None, IsSome, Result, Ok, Err, refl, ap, arith}
+use Rattle.std.proofs.Common.{◌≡◌, ◌∙◌, ◌⊎◌, inl, inr, ◌↔◌, ◌+◌, ◌≤◌, ◌&&◌, ℕ, Bool, true, false, not, List, Option, Some, None, Result, Ok, Err, refl, ap, arith}
 use Rattle.std.specs.List.{Contains}
 use Rattle.std.specs.Option.{IfSome, OnSome}
 use Rattle.std.specs.Result.{result_err}
@@ -18,7 +18,7 @@ use Rattle.iddqd_sides.specs.declared.hashed_move.Move.{Move}
 use Rattle.iddqd_sides.specs.declared.hashed_move.Move.TheVariants.{Stays, To}
 use Rattle.iddqd_sides.proofs.HoldsLemmas.{CanRemap-held, one_name-held}
 use Rattle.iddqd_map_base.specs.Map.{Stays as Rests, Removes, InsertsAt, map_with}
-use Rattle.iddqd_map_base.specs.Several.{AreClashes, OverwritesAt, AnswersOther}
+use Rattle.iddqd_map_base.specs.Several.{OverwritesAt, AnswersOther}
 use Rattle.iddqd_map_base.specs.Steps.{ItemKey, alike_by, CanName, TakesAll}
 use Rattle.iddqd_map_base.proofs.RoomLemmas.{min_stays, min_falls, not_less}
 use Rattle.iddqd_map_base.proofs.SeveralLemmas.{HasNoHit-removed_all}

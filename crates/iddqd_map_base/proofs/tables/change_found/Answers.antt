@@ -1,4 +1,4 @@
-use Rattle.std.proofs.Common.{rules, ◌≡◌, Some, Ok, Err}
+use Rattle.std.proofs.Common.{rules, ◌≡◌, Some, Err}
 use Rattle.std.specs.Fn.{FnOnceReturnsAt}
 use Rattle.iddqd_sides.specs.Scan.{AnswersScan}
 use Rattle.iddqd_map_base.proofs.tables.change_found.Goals as goal
