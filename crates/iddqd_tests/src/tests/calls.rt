@@ -147,5 +147,7 @@ fn expect_sound(set: &ItemSet<u32>) {
 /// What a set answers to a check that asks for no vacant slot. To one that lets them be it never answers an error.
 pub(super) fn validate(alloc: Global, set: &ItemSet<u32>) -> Result<String, AllocError> {
     expect_sound(set);
-    words(alloc, set.validate(ValidateCompact::Compact))
+    let told = words(alloc, set.validate(ValidateCompact::Compact));
+    expect_sound(set);
+    told
 }

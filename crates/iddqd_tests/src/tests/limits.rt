@@ -62,7 +62,7 @@ pub(super) fn fill_up(
     limit: u32,
 ) -> Result<(), AllocError> {
     for at in 0..limit {
-        assert!(rt; !is_full(rt, set));
+        assert!(rt; let_go(rt, set).is_ok());
         insert_at(rt, set, at.saturating_mul(10), at)?;
     }
     assert!(rt; is_full(rt, set) && set.slot_count() == limit as usize);
