@@ -4,10 +4,11 @@ ghost use Rattle.std.specs.Cmp.{nat_cmp_total};
 ghost use Rattle.std.specs.Ordering.{nat_cmp};
 ghost use Rattle.iddqd_sides.specs.OrderedQuery.{IsQuery-key};
 
-use super::cards::{Card, printed};
+use super::cards::{Card, alike, printed};
+use iddqd::item_index::ItemIndex;
 use iddqd_maps::id_ord_map::{IdOrdItem, IdOrdMap, IntoValues};
 use iddqd_sides::order_query::OrdQuery;
-use std::alloc::Global;
+use std::alloc::{AllocError, Global};
 use std::cell::Cell;
 use std::cmp::Ordering;
 use std::process::Abort;
@@ -139,27 +140,54 @@ fn a_query_of_ones_own_finds_its_key(rt: HostRuntime) -> Result<(), Fail> {
     Ok(())
 }
 
-// The number and index of the first card, and of the last one, and how many stand between.
-fn ends(map: &IdOrdMap<Card>) -> Option<[(u32, u32); 2]> {
-    let mut pairs = map.iter();
-    let (first, card) = pairs.next()?;
-    let (last, other) = pairs.next_back()?;
-    if pairs.len() != map.len().saturating_sub(2) {
-        return None;
+// The number of a card, and its index.
+fn told(pair: Option<(ItemIndex, &Card)>) -> Option<(u32, u32)> {
+    match pair {
+        Some((ix, card)) => Some((card.number, ix.as_u32())),
+        None => None,
     }
-    Some([(card.number, first.as_u32()), (other.number, last.as_u32())])
+}
+
+// What the first card and the last one tell, and how many stand between.
+fn ends(map: &IdOrdMap<Card>) -> (Option<(u32, u32)>, Option<(u32, u32)>, usize) {
+    let mut pairs = map.iter();
+    let first = told(pairs.next());
+    let last = told(pairs.next_back());
+    (first, last, pairs.len())
 }
 
 fn assert_ends(rt: &impl Abort, map: &mut IdOrdMap<Card>) {
     for number in [5, 9, 1, 7] {
         assert!(rt; map.insert_unique(printed(number, 0, 0, 0)).is_ok());
     }
-    assert!(rt; ends(map) == Some([(1, 2), (9, 1)]));
+    assert!(rt; ends(map) == (Some((1, 2)), Some((9, 1)), 2));
     assert!(rt; map.pop_last() == Some(printed(9, 0, 0, 0)));
-    assert!(rt; ends(map) == Some([(1, 2), (7, 3)]));
+    assert!(rt; ends(map) == (Some((1, 2)), Some((7, 3)), 1));
 }
 
 #[test]
 fn a_walk_goes_from_both_ends(rt: HostRuntime) {
     assert_ends(&rt, &mut IdOrdMap::new(rt.alloc()));
+}
+
+// A copy of a walk goes on where the walk stands, and alone.
+fn assert_copied(rt: &impl Abort, map: &IdOrdMap<Card>) -> Result<(), AllocError> {
+    let mut walk = map.iter();
+    walk.next();
+    let mut copy = walk.clone()?;
+    assert!(rt; told(copy.next()) == Some((2, 1)) && told(copy.next()) == Some((3, 0)));
+    assert!(rt; told(walk.next()) == Some((2, 1)) && copy.len() == 0);
+    let mut values = map.values().clone()?;
+    assert!(rt; values.next().copied() == Some(alike(1)) && values.len() == 2);
+    Ok(())
+}
+
+#[test]
+fn a_walk_is_cloned(rt: HostRuntime) -> Result<(), Fail> {
+    let mut map = IdOrdMap::new(rt.alloc());
+    for number in [3, 2, 1] {
+        assert!(rt; map.insert_unique(alike(number)).is_ok());
+    }
+    assert_copied(&rt, &map)?;
+    Ok(())
 }
