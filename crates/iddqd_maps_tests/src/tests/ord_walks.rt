@@ -5,8 +5,7 @@ ghost use Rattle.std.specs.Ordering.{nat_cmp};
 ghost use Rattle.iddqd_sides.specs.OrderedQuery.{IsQuery-key};
 
 use super::cards::{Card, alike, printed};
-use iddqd::item_index::ItemIndex;
-use iddqd_maps::id_ord_map::{IdOrdItem, IdOrdMap, IntoValues};
+use iddqd_maps::id_ord_map::{IdOrdItem, IdOrdMap, IntoValues, Iter};
 use iddqd_sides::order_query::OrdQuery;
 use std::alloc::{AllocError, Global};
 use std::cell::Cell;
@@ -140,29 +139,36 @@ fn a_query_of_ones_own_finds_its_key(rt: HostRuntime) -> Result<(), Fail> {
     Ok(())
 }
 
-// The number of a card, and its index.
-fn told(pair: Option<(ItemIndex, &Card)>) -> Option<(u32, u32)> {
-    match pair {
-        Some((ix, card)) => Some((card.number, ix.as_u32())),
-        None => None,
+// The number of the next card and its index, or zeros at the end.
+fn step(walk: &mut Iter<'_, Card>) -> (u32, u32) {
+    match walk.next() {
+        Some((ix, card)) => (card.number, ix.as_u32()),
+        None => (0, 0),
     }
 }
 
-// What the first card and the last one tell, and how many stand between.
-fn ends(map: &IdOrdMap<Card>) -> (Option<(u32, u32)>, Option<(u32, u32)>, usize) {
-    let mut pairs = map.iter();
-    let first = told(pairs.next());
-    let last = told(pairs.next_back());
-    (first, last, pairs.len())
+fn step_back(walk: &mut Iter<'_, Card>) -> (u32, u32) {
+    match walk.next_back() {
+        Some((ix, card)) => (card.number, ix.as_u32()),
+        None => (0, 0),
+    }
+}
+
+// The first card and the last one, and how many stand between.
+fn ends(map: &IdOrdMap<Card>) -> ((u32, u32), (u32, u32), usize) {
+    let mut walk = map.iter();
+    let first = step(&mut walk);
+    let last = step_back(&mut walk);
+    (first, last, walk.len())
 }
 
 fn assert_ends(rt: &impl Abort, map: &mut IdOrdMap<Card>) {
     for number in [5, 9, 1, 7] {
         assert!(rt; map.insert_unique(printed(number, 0, 0, 0)).is_ok());
     }
-    assert!(rt; ends(map) == (Some((1, 2)), Some((9, 1)), 2));
+    assert!(rt; ends(map) == ((1, 2), (9, 1), 2));
     assert!(rt; map.pop_last() == Some(printed(9, 0, 0, 0)));
-    assert!(rt; ends(map) == (Some((1, 2)), Some((7, 3)), 1));
+    assert!(rt; ends(map) == ((1, 2), (7, 3), 1));
 }
 
 #[test]
@@ -173,10 +179,10 @@ fn a_walk_goes_from_both_ends(rt: HostRuntime) {
 // A copy of a walk goes on where the walk stands, and alone.
 fn assert_copied(rt: &impl Abort, map: &IdOrdMap<Card>) -> Result<(), AllocError> {
     let mut walk = map.iter();
-    walk.next();
+    step(&mut walk);
     let mut copy = walk.clone()?;
-    assert!(rt; told(copy.next()) == Some((2, 1)) && told(copy.next()) == Some((3, 0)));
-    assert!(rt; told(walk.next()) == Some((2, 1)) && copy.len() == 0);
+    assert!(rt; step(&mut copy) == (2, 1) && step(&mut copy) == (3, 0));
+    assert!(rt; step(&mut walk) == (2, 1) && copy.len() == 0);
     let mut values = map.values().clone()?;
     assert!(rt; values.next().copied() == Some(alike(1)) && values.len() == 2);
     Ok(())
