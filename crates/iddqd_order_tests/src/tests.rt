@@ -8,7 +8,6 @@ use std::alloc::{AllocError, Global};
 use std::cmp::Ordering;
 use std::process::Abort;
 
-mod answers;
 mod asks;
 mod bounds;
 mod callers;
@@ -20,7 +19,6 @@ mod entries;
 mod keys;
 mod lying;
 mod moves;
-mod printed;
 mod ranges;
 mod refused;
 mod remaps;
@@ -29,9 +27,6 @@ mod sequences;
 mod thousand;
 mod trees;
 mod walk;
-
-use answers::Answers;
-use asks::Asked;
 
 // Whether the index is stored.
 fn is_stored(table: &MapBTreeTable, ix: ItemIndex) -> bool
@@ -49,36 +44,45 @@ fn is_whole(table: &MapBTreeTable) -> bool {
     count == table.len()
 }
 
-// The length of a table that isn't too long.
-fn len_of(table: &MapBTreeTable) -> u32 {
-    u32::try_from(table.len()).unwrap_or(u32::MAX)
-}
-
-// Adds an index that isn't stored where the answers lead, and says how often it was asked.
-fn add(
+// Adds an index where the answers lead. It is not stored yet.
+fn insert_by<F: FnMut(ItemIndex) -> Ordering>(
     rt: &impl Abort,
     table: &mut MapBTreeTable,
     ix: u32,
-    how: Answers,
-) -> Result<u32, AllocError> {
+    answer: F,
+) -> Result<(), AllocError>
+    requires { (f : F) (x : _) → F.pre f x }
+{
     let ix = ItemIndex::new(ix);
     assert!(rt; ix != ItemIndex::SENTINEL);
     assert!(rt; !is_stored(table, ix));
-    let mut asks = 0u32;
-    let mut asking = Asking::new(|at: ItemIndex| {
-        asks = asks.wrapping_add(1);
-        how.answer(asks, at)
-    });
+    let mut asking = Asking::new(answer);
     table.prepare_insert_by(ix, &mut asking)?.insert();
+    Ok(())
+}
+
+// Adds an index by these answers in turn, and says how often it was asked.
+fn insert_told(
+    rt: &impl Abort,
+    table: &mut MapBTreeTable,
+    ix: u32,
+    odd: Ordering,
+    even: Ordering,
+) -> Result<u32, AllocError> {
+    let mut asks = 0u32;
+    insert_by(rt, table, ix, |_| {
+        asks = asks.wrapping_add(1);
+        if asks % 2 == 1 { odd } else { even }
+    })?;
     Ok(asks)
 }
 
-// Removes an index by the answers, and says whether it was found and how often it was asked.
-fn remove(table: &mut MapBTreeTable, ix: u32, how: Answers) -> (bool, u32) {
+// Removes an index by these answers in turn, and says whether it was found and how often it was asked.
+fn remove_told(table: &mut MapBTreeTable, ix: u32, odd: Ordering, even: Ordering) -> (bool, u32) {
     let mut asks = 0u32;
-    let mut asking = Asking::new(|at: ItemIndex| {
+    let mut asking = Asking::new(|_: ItemIndex| {
         asks = asks.wrapping_add(1);
-        how.answer(asks, at)
+        if asks % 2 == 1 { odd } else { even }
     });
     let is_removed = table
         .prepare_remove_by(ItemIndex::new(ix), &mut asking)
@@ -86,23 +90,22 @@ fn remove(table: &mut MapBTreeTable, ix: u32, how: Answers) -> (bool, u32) {
     (is_removed, asks)
 }
 
-// Finds by the answers, and says what it asked.
-fn find(table: &MapBTreeTable, how: Answers) -> (Option<ItemIndex>, Asked) {
-    let mut asked = Asked::new();
-    let mut asking = Asking::new(|at: ItemIndex| {
-        let answer = how.answer(asked.asks.wrapping_add(1), at);
-        asked.count(answer == Ordering::Equal);
-        answer
+// Finds by these answers in turn, and says how often it was asked.
+fn find_told(table: &MapBTreeTable, odd: Ordering, even: Ordering) -> (Option<ItemIndex>, u32) {
+    let mut asks = 0u32;
+    let mut asking = Asking::new(|_: ItemIndex| {
+        asks = asks.wrapping_add(1);
+        if asks % 2 == 1 { odd } else { even }
     });
     let found = table.find_by(&mut asking);
-    (found, asked)
+    (found, asks)
 }
 
 // A table in that order.
 fn table_of(rt: &impl Abort, alloc: Global, indexes: &[u32]) -> Result<MapBTreeTable, AllocError> {
     let mut table = MapBTreeTable::new(alloc);
     for ix in indexes {
-        add(rt, &mut table, *ix, Answers::always(Ordering::Greater))?;
+        insert_told(rt, &mut table, *ix, Ordering::Greater, Ordering::Greater)?;
     }
     Ok(table)
 }
@@ -116,7 +119,7 @@ fn filled(
 ) -> Result<MapBTreeTable, AllocError> {
     let mut table = MapBTreeTable::new(alloc);
     for ix in 0..len {
-        add(rt, &mut table, ix, Answers::always(answer))?;
+        insert_told(rt, &mut table, ix, answer, answer)?;
     }
     Ok(table)
 }
@@ -136,16 +139,4 @@ fn has_order(table: &MapBTreeTable, expected: &[u32]) -> bool {
         }
     }
     walk.next().is_none()
-}
-
-// Whether the table has the numbers below `count` in their order, and no other.
-fn counts_up(table: &MapBTreeTable, count: u32) -> bool {
-    let mut next = 0u32;
-    for ix in table.iter() {
-        if ix.as_u32() != next {
-            return false;
-        }
-        next = next.saturating_add(1);
-    }
-    next == count && table.len() == count as usize
 }

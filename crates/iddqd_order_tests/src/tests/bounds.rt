@@ -1,12 +1,10 @@
 //! Walks between two bounds, from both ends, beside plain numbers.
 ghost use Rattle.std.specs.Prelude.{◌<◌};
 
-use super::answers::{Answers, answer_of};
-use super::{add, bound, filled, len_of};
+use super::{bound, filled, insert_by};
 use iddqd::item_index::ItemIndex;
 use iddqd::map_hash::Same;
 use iddqd_order::btree_table::{Asking, MapBTreeTable, Range};
-use std::alloc::AllocError;
 use std::cmp::Ordering;
 use std::ops::Bound;
 use std::process::Abort;
@@ -15,7 +13,7 @@ use std::test::Fail;
 static NONE: u32 = 0;
 
 // The key of an index: three indexes have one.
-pub(super) fn key_of(keys: &[u32], ix: ItemIndex) -> &u32 {
+fn key_of(keys: &[u32], ix: ItemIndex) -> &u32 {
     match keys.get((ix.as_u32() / 3) as usize) {
         Some(key) => key,
         None => &NONE,
@@ -71,94 +69,79 @@ fn gives(mut walk: Range<'_>, first: u32, behind: u32, turn: u32) -> bool
     walk.next().is_none() && walk.next_back().is_none() && walk.next().is_none()
 }
 
-// Walks by two keys within bounds of those kinds, so many steps a turn. Whether it gives what lies between, and asked
-// little enough.
-fn is_walked(
+// Walks by two keys within bounds of those kinds, and counts the asks.
+fn walk_by_keys(
+    rt: &impl Abort,
     table: &MapBTreeTable,
     keys: &[u32],
     lower: (u32, u32),
     upper: (u32, u32),
-    turn: u32,
-) -> bool
-    requires { 0 < turn }
-{
-    let len = len_of(table);
-    let mut asks = 0u32;
-    let mut asking = Asking::new(|ix: ItemIndex| {
-        asks = asks.wrapping_add(1);
-        key_of(keys, ix)
-    });
-    let (low, high) = (Same(&lower.1), Same(&upper.1));
-    let walk = table.range(
-        bound_of(lower.0, &low),
-        bound_of(upper.0, &high),
-        &mut asking,
-    );
+    len: u32,
+) {
     let first = first_within(lower.0, lower.1, len);
     let behind = first_behind(upper.0, upper.1, len);
-    gives(walk, first, behind, turn) && asks <= bound(table.len()).saturating_mul(2)
-}
-
-// A walk between two answers, and how often each was asked.
-fn range_by(table: &MapBTreeTable, lower: Answers, upper: Answers) -> (Range<'_>, u32, u32) {
-    let mut asks = 0u32;
-    let mut low = Asking::new(|at: ItemIndex| {
-        asks = asks.wrapping_add(1);
-        lower.answer(asks, at)
-    });
-    let mut turns = 0u32;
-    let mut high = Asking::new(|at: ItemIndex| {
-        turns = turns.wrapping_add(1);
-        upper.answer(turns, at)
-    });
-    let walk = table.range_by(&mut low, &mut high);
-    (walk, asks, turns)
+    for turn in 1..4 {
+        let mut asks = 0u32;
+        let mut asking = Asking::new(|ix: ItemIndex| {
+            asks = asks.wrapping_add(1);
+            key_of(keys, ix)
+        });
+        let (low, high) = (Same(&lower.1), Same(&upper.1));
+        let walk = table.range(
+            bound_of(lower.0, &low),
+            bound_of(upper.0, &high),
+            &mut asking,
+        );
+        assert!(rt; gives(walk, first, behind, turn));
+        assert!(rt; asks <= bound(table.len()).saturating_mul(2));
+    }
 }
 
 // The same by answers: a lower bound that is included, and an upper one that is.
-fn is_walked_by_answers(table: &MapBTreeTable, from: u32, to: u32) -> bool {
-    let len = len_of(table);
-    let (walk, _, _) = range_by(table, Answers::Key(from), Answers::Key(to));
-    gives(
-        walk,
-        first_within(0, from, len),
-        first_behind(0, to, len),
-        2,
-    )
+fn walk_by_answers(rt: &impl Abort, table: &MapBTreeTable, from: u32, to: u32, len: u32) {
+    let mut lower = Asking::new(|ix: ItemIndex| from.cmp(&(ix.as_u32() / 3)));
+    let mut upper = Asking::new(|ix: ItemIndex| to.cmp(&(ix.as_u32() / 3)));
+    let walk = table.range_by(&mut lower, &mut upper);
+    assert!(rt;
+        gives(
+            walk,
+            first_within(0, from, len),
+            first_behind(0, to, len),
+            2
+        )
+    );
 }
 
-// Whether walks by two keys give what lies between, within bounds of all kinds, and by turns of one to three steps.
-fn is_walked_by_kinds(table: &MapBTreeTable, keys: &[u32], from: u32, to: u32) -> bool {
-    for number in 0..27u32 {
-        let (lower, upper, turn) = (number / 9, number / 3 % 3, number % 3 + 1);
-        if !is_walked(table, keys, (lower, from), (upper, to), turn) {
-            return false;
+fn walk_by_kinds(
+    rt: &impl Abort,
+    table: &MapBTreeTable,
+    keys: &[u32],
+    from: u32,
+    to: u32,
+    len: u32,
+) {
+    for lower in 0..3 {
+        for upper in 0..3 {
+            walk_by_keys(rt, table, keys, (lower, from), (upper, to), len);
         }
     }
-    is_walked_by_answers(table, from, to)
-}
-
-fn is_walked_between(table: &MapBTreeTable, keys: &[u32]) -> bool {
-    let last = len_of(table) / 3;
-    is_walked_by_kinds(table, keys, 0, last)
-        && is_walked_by_kinds(table, keys, last / 2, last / 2)
-        && is_walked_by_kinds(table, keys, last / 3, last / 2 + 1)
-        && is_walked_by_kinds(table, keys, last / 2 + 1, last / 3)
-        && is_walked_by_kinds(table, keys, last + 1, 0)
-}
-
-fn walk_each(rt: &impl Abort, table: &mut MapBTreeTable, keys: &[u32]) -> Result<(), AllocError> {
-    for len in 0..301 {
-        assert!(rt; table.len() == len as usize && is_walked_between(table, keys));
-        add(rt, table, len, Answers::Number(len))?;
-    }
-    Ok(())
+    walk_by_answers(rt, table, from, to, len);
 }
 
 #[test]
 fn a_walk_between_keys_gives_what_is_within_both(rt: HostRuntime) -> Result<(), Fail> {
     let keys = Vec::from_iter(rt.alloc(), 0..102u32)?;
-    walk_each(&rt, &mut MapBTreeTable::new(rt.alloc()), &keys)?;
+    let mut table = MapBTreeTable::new(rt.alloc());
+    for len in 0..301u32 {
+        let last = len / 3;
+        walk_by_kinds(&rt, &table, &keys, 0, last, len);
+        walk_by_kinds(&rt, &table, &keys, last / 2, last / 2, len);
+        walk_by_kinds(&rt, &table, &keys, last / 3, last / 2 + 1, len);
+        walk_by_kinds(&rt, &table, &keys, last / 2 + 1, last / 3, len);
+        walk_by_kinds(&rt, &table, &keys, last + 1, 0, len);
+        let ix = ItemIndex::new(len);
+        insert_by(&rt, &mut table, len, |at| ix.cmp(&at))?;
+    }
     Ok(())
 }
 
@@ -184,25 +167,32 @@ fn follow(mut walk: Range<'_>, mut back: Range<'_>, len: u32) -> bool {
     last < len && back.next_back().is_none()
 }
 
-// Whether walks between lying answers give what stands together, and ask little enough.
-fn are_together(rt: &impl Abort, table: &MapBTreeTable) -> bool {
-    let most = bound(table.len());
-    for number in 0..9u32 {
-        let (odd, even) = (answer_of(number / 3), answer_of(number % 3));
-        let (lower, upper) = (Answers::ByTurns(odd, even), Answers::ByThirds(even, odd));
-        let (walk, asks, turns) = range_by(table, lower, upper);
-        let back = walk.clone().expect(rt, "a copy");
-        if !follow(walk, back, len_of(table)) || asks > most || turns > most {
-            return false;
-        }
-    }
-    true
+fn walk_told(rt: &impl Abort, table: &MapBTreeTable, len: u32, odd: Ordering, even: Ordering) {
+    let mut asks = 0u32;
+    let mut lower = Asking::new(|_: ItemIndex| {
+        asks = asks.wrapping_add(1);
+        if asks % 2 == 1 { odd } else { even }
+    });
+    let mut turns = 0u32;
+    let mut upper = Asking::new(|_: ItemIndex| {
+        turns = turns.wrapping_add(1);
+        if turns % 3 == 1 { even } else { odd }
+    });
+    let walk = table.range_by(&mut lower, &mut upper);
+    let back = walk.clone().expect(rt, "a copy");
+    assert!(rt; follow(walk, back, len));
+    assert!(rt; asks <= bound(table.len()) && turns <= bound(table.len()));
 }
 
 #[test]
 fn a_walk_between_lying_answers_gives_what_stands_together(rt: HostRuntime) -> Result<(), Fail> {
     for len in 0..301 {
-        assert!(rt; are_together(&rt, &filled(&rt, rt.alloc(), len, Ordering::Greater)?));
+        let table = filled(&rt, rt.alloc(), len, Ordering::Greater)?;
+        for odd in [Ordering::Less, Ordering::Equal, Ordering::Greater] {
+            for even in [Ordering::Less, Ordering::Equal, Ordering::Greater] {
+                walk_told(&rt, &table, len, odd, even);
+            }
+        }
     }
     Ok(())
 }

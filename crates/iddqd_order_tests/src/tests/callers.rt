@@ -143,32 +143,20 @@ fn rename_in_order(table: &mut MapBTreeTable, remap: &IndexRemap)
     table.remap_indexes(remap);
 }
 
-// Both inserts are prepared before either commits. Whether both tables have the index then.
-fn add_three(one: &mut MapBTreeTable, other: &mut MapBTreeTable) -> Result<bool, AllocError> {
-    let mut first = Asking::new(|_: ItemIndex| Ordering::Equal);
-    let mut second = Asking::new(|_: ItemIndex| Ordering::Equal);
-    let ix = ItemIndex::new(3);
-    if one.contains_index(ix) || other.contains_index(ix) {
-        return Ok(false);
-    }
-    let prepared_first = one.prepare_insert_by(ix, &mut first)?;
-    let prepared_second = other.prepare_insert_by(ix, &mut second)?;
-    prepared_first.insert();
-    prepared_second.insert();
-    Ok(has_order(one, &[3]) && has_order(other, &[3]))
-}
-
-// The same of two tables in one place.
-fn add_three_to_both(two: &mut Two) -> Result<bool, AllocError> {
-    add_three(&mut two.first, &mut two.second)
-}
-
 #[test]
 fn two_prepared_inserts_stand_before_either_commits(rt: HostRuntime) -> Result<(), Fail> {
     let mut two = Two {
         first: MapBTreeTable::new(rt.alloc()),
         second: MapBTreeTable::new(rt.alloc()),
     };
-    assert!(rt; add_three_to_both(&mut two)?);
+    let mut first = Asking::new(|_: ItemIndex| Ordering::Equal);
+    let mut second = Asking::new(|_: ItemIndex| Ordering::Equal);
+    let ix = ItemIndex::new(3);
+    let prepared_first = two.first.prepare_insert_by(ix, &mut first)?;
+    let prepared_second = two.second.prepare_insert_by(ix, &mut second)?;
+    prepared_first.insert();
+    prepared_second.insert();
+    assert!(rt; has_order(&two.first, &[3]));
+    assert!(rt; has_order(&two.second, &[3]));
     Ok(())
 }

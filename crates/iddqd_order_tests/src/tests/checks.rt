@@ -34,28 +34,29 @@ fn expect(
     Ok(())
 }
 
-// Of dense indexes, and of some with gaps.
-fn check_each(
-    rt: &impl Abort,
-    alloc: Global,
-    dense: &MapBTreeTable,
-    gaps: &MapBTreeTable,
-) -> Result<(), AllocError> {
-    let want = "expected length 2, was 3";
-    expect(rt, alloc, dense, 2, NON_COMPACT, want)?;
-    expect(rt, alloc, dense, 3, COMPACT, "ok")?;
-    expect(rt, alloc, gaps, 3, NON_COMPACT, "ok")?;
-    let want = "value at index 1 should be 1, was 2";
-    expect(rt, alloc, gaps, 3, COMPACT, want)
-}
-
-fn check_gaps(rt: &impl Abort, alloc: Global, dense: &MapBTreeTable) -> Result<(), AllocError> {
-    check_each(rt, alloc, dense, &table_of(rt, alloc, &[4, 0, 2])?)
-}
-
 fn checks(rt: &impl Abort, alloc: Global) -> Result<(), AllocError> {
     expect(rt, alloc, &MapBTreeTable::new(alloc), 0, COMPACT, "ok")?;
-    check_gaps(rt, alloc, &table_of(rt, alloc, &[2, 0, 1])?)
+    let dense = table_of(rt, alloc, &[2, 0, 1])?;
+    expect(
+        rt,
+        alloc,
+        &dense,
+        2,
+        NON_COMPACT,
+        "expected length 2, was 3",
+    )?;
+    expect(rt, alloc, &dense, 3, COMPACT, "ok")?;
+    let gaps = table_of(rt, alloc, &[4, 0, 2])?;
+    expect(rt, alloc, &gaps, 3, NON_COMPACT, "ok")?;
+    expect(
+        rt,
+        alloc,
+        &gaps,
+        3,
+        COMPACT,
+        "value at index 1 should be 1, was 2",
+    )?;
+    Ok(())
 }
 
 #[test]

@@ -1,8 +1,7 @@
 //! Walks and searches of tables of one to four levels, beside plain lists.
-use super::answers::Answers;
-use super::{add, bound, counts_up, filled, find, remove};
+use super::{bound, filled, find_told, insert_by, insert_told, remove_told};
 use iddqd::item_index::ItemIndex;
-use iddqd_order::btree_table::{Iter, MapBTreeTable};
+use iddqd_order::btree_table::{Asking, MapBTreeTable};
 use std::alloc::{AllocError, Global};
 use std::cmp::Ordering;
 use std::process::Abort;
@@ -50,20 +49,15 @@ fn numbers(alloc: Global, len: u32) -> Result<Vec<u32>, AllocError> {
 #[test]
 fn a_walk_gives_all_in_order(rt: HostRuntime) -> Result<(), Fail> {
     for (len, _) in &LEVELS {
-        let expected = numbers(rt.alloc(), *len)?;
-        let table = filled(&rt, rt.alloc(), *len, Ordering::Greater)?;
-        assert!(rt; walks_along(&table, &expected));
-    }
-    Ok(())
-}
-
-#[test]
-fn a_walk_gives_all_in_falling_order(rt: HostRuntime) -> Result<(), Fail> {
-    for (len, _) in &LEVELS {
         let mut expected = numbers(rt.alloc(), *len)?;
+        assert!(rt;
+            walks_along(
+                &filled(&rt, rt.alloc(), *len, Ordering::Greater)?,
+                &expected
+            )
+        );
         expected.reverse();
-        let table = filled(&rt, rt.alloc(), *len, Ordering::Less)?;
-        assert!(rt; walks_along(&table, &expected));
+        assert!(rt; walks_along(&filled(&rt, rt.alloc(), *len, Ordering::Less)?, &expected));
     }
     Ok(())
 }
@@ -73,89 +67,64 @@ fn mixed(rt: &impl Abort, alloc: Global, len: u32) -> Result<MapBTreeTable, Allo
     let mut table = MapBTreeTable::new(alloc);
     for step in 0..len {
         let ix = step.wrapping_mul(311) % 701;
-        add(rt, &mut table, ix, Answers::Number(ix))?;
+        insert_by(rt, &mut table, ix, |at| ItemIndex::new(ix).cmp(&at))?;
     }
     Ok(table)
-}
-
-// Removes the numbers below 701 one by one. Whether the walks give what is left.
-fn walks_while_removed(table: &mut MapBTreeTable, expected: &mut Vec<u32>) -> bool {
-    for step in 0..701u32 {
-        let gone = step.wrapping_mul(97) % 701;
-        expected.retain(|number| *number != gone);
-        if !remove(table, gone, Answers::Number(gone)).0 {
-            return false;
-        }
-        if (step % 50 == 0 || step > 660) && !walks_along(table, expected) {
-            return false;
-        }
-    }
-    true
 }
 
 #[test]
 fn a_walk_gives_what_removals_left(rt: HostRuntime) -> Result<(), Fail> {
     let mut table = mixed(&rt, rt.alloc(), 701)?;
     let mut expected = numbers(rt.alloc(), 701)?;
-    assert!(rt; counts_up(&table, 701));
-    assert!(rt; walks_while_removed(&mut table, &mut expected));
+    assert!(rt; walks_along(&table, &expected));
+    for step in 0..701u32 {
+        let gone = step.wrapping_mul(97) % 701;
+        let mut asking = Asking::new(|at: ItemIndex| ItemIndex::new(gone).cmp(&at));
+        assert!(rt;
+            table
+                .prepare_remove_by(ItemIndex::new(gone), &mut asking)
+                .remove()
+        );
+        expected.retain(|number| *number != gone);
+        if step % 50 == 0 || step > 660 {
+            assert!(rt; walks_along(&table, &expected));
+        }
+    }
     Ok(())
-}
-
-// Takes a step of a walk that has so many indexes behind it. Whether its copies go on as it does.
-fn steps_as_copies(walk: &mut Iter<'_>, done: u32) -> Result<bool, AllocError> {
-    let mut again = walk.clone()?;
-    let next = Some(ItemIndex::new(done));
-    let is_right = again.next() == next && again.len() == 700usize.saturating_sub(done as usize);
-    Ok(is_right && walk.next() == next && again.next() == walk.clone()?.next())
 }
 
 #[test]
 fn a_walk_may_be_cloned_at_each_place(rt: HostRuntime) -> Result<(), Fail> {
     let table = mixed(&rt, rt.alloc(), 701)?;
     let mut walk = table.iter();
-    for done in 0..701u32 {
-        assert!(rt; steps_as_copies(&mut walk, done)?);
+    for left in 0..701u32 {
+        let mut again = walk.clone()?;
+        let next = Some(ItemIndex::new(left));
+        assert!(rt; again.next() == next);
+        assert!(rt; again.len() == 700 - left as usize);
+        assert!(rt; walk.next() == next);
+        assert!(rt; again.next() == walk.clone()?.next());
     }
     Ok(())
-}
-
-// Whether a find, a removal and an insert of a new index by the answers miss, and ask at most so often.
-fn asks_at_most(
-    rt: &impl Abort,
-    table: &mut MapBTreeTable,
-    how: Answers,
-    new: u32,
-    most: u32,
-) -> Result<bool, AllocError> {
-    let (found, asked) = find(table, how);
-    let (is_removed, asks) = remove(table, new, how);
-    let is_missed = found.is_none() && !is_removed && asked.asks <= most && asks <= most;
-    let is_within = asked.asks <= bound(table.len());
-    let mut copy = table.clone()?;
-    Ok(is_missed && is_within && add(rt, &mut copy, new, how)? <= most)
-}
-
-fn each_asks_at_most(
-    rt: &impl Abort,
-    table: &mut MapBTreeTable,
-    new: u32,
-    most: u32,
-) -> Result<bool, AllocError> {
-    for number in 0..4 {
-        if !asks_at_most(rt, table, Answers::strict(number), new, most)? {
-            return Ok(false);
-        }
-    }
-    Ok(true)
 }
 
 #[test]
 fn a_search_asks_four_times_a_level(rt: HostRuntime) -> Result<(), Fail> {
     for (len, levels) in &LEVELS {
         let mut table = filled(&rt, rt.alloc(), *len, Ordering::Greater)?;
-        let most = levels.wrapping_mul(4);
-        assert!(rt; each_asks_at_most(&rt, &mut table, *len, most)?);
+        for odd in [Ordering::Less, Ordering::Greater] {
+            for even in [Ordering::Less, Ordering::Greater] {
+                let (found, asks) = find_told(&table, odd, even);
+                assert!(rt; found.is_none());
+                assert!(rt; asks <= levels.wrapping_mul(4) && asks <= bound(*len as usize));
+                let (is_removed, asks) = remove_told(&mut table, *len, odd, even);
+                assert!(rt; !is_removed);
+                assert!(rt; asks <= levels.wrapping_mul(4));
+                let mut copy = table.clone()?;
+                let asks = insert_told(&rt, &mut copy, *len, odd, even)?;
+                assert!(rt; asks <= levels.wrapping_mul(4));
+            }
+        }
     }
     Ok(())
 }

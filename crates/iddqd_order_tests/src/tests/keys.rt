@@ -59,69 +59,43 @@ fn is_order_of_six(code: u32) -> bool {
     seen == 63
 }
 
-// Adds six indexes in that order. Whether they stand in the order of their keys.
-fn adds_six(rt: &impl Abort, table: &mut MapBTreeTable, code: u32) -> Result<bool, AllocError> {
-    for place in 0..6 {
-        insert(rt, table, digit(code, place))?;
-    }
-    Ok(has_order(table, &[0, 1, 2, 3, 4, 5]))
-}
-
-// Whether an index is found by its key, and removed.
-fn finds_and_removes(table: &mut MapBTreeTable, ix: u32) -> bool {
-    let (found, asked) = find(table, *key_of(ix));
-    let is_found = found.is_some() && asked.after_hit == 0 && asked.asks <= bound(table.len());
-    is_found && remove(table, ix)
-}
-
-fn removes_six(table: &mut MapBTreeTable, code: u32) -> bool {
-    for place in 0..6 {
-        if !finds_and_removes(table, digit(code, place)) {
-            return false;
-        }
-    }
-    table.len() == 0
-}
-
-// How many orders of six there are, of which each is as it should be.
-fn count_orders(rt: &impl Abort, table: &mut MapBTreeTable) -> Result<u32, AllocError> {
-    let mut orders = 0u32;
-    for code in 0..46656 {
-        if is_order_of_six(code) {
-            orders = orders.wrapping_add(1);
-            assert!(rt; adds_six(rt, table, code)? && removes_six(table, code));
-        }
-    }
-    Ok(orders)
-}
-
 #[test]
 fn all_orders_of_six_keys(rt: HostRuntime) -> Result<(), Fail> {
-    assert!(rt; count_orders(&rt, &mut MapBTreeTable::new(rt.alloc()))? == 720);
-    Ok(())
-}
-
-fn add_four(rt: &impl Abort, table: &mut MapBTreeTable) -> Result<(), AllocError> {
-    for ix in [3, 0, 5, 4] {
-        insert(rt, table, ix)?;
-    }
-    Ok(())
-}
-
-// Whether finds by keys that no index has miss.
-fn misses(table: &MapBTreeTable) -> bool {
-    for key in [0, 20, 35, 99] {
-        if find(table, key).0.is_some() {
-            return false;
+    let mut orders = 0u32;
+    for code in 0..46656 {
+        if !is_order_of_six(code) {
+            continue;
         }
+        orders = orders.wrapping_add(1);
+        let mut table = MapBTreeTable::new(rt.alloc());
+        for place in 0..6 {
+            insert(&rt, &mut table, digit(code, place))?;
+        }
+        assert!(rt; has_order(&table, &[0, 1, 2, 3, 4, 5]));
+        for place in 0..6 {
+            let ix = digit(code, place);
+            let (found, asked) = find(&table, *key_of(ix));
+            assert!(rt; found.is_some());
+            assert!(rt; asked.after_hit == 0);
+            assert!(rt; asked.asks <= bound(table.len()));
+            assert!(rt; remove(&mut table, ix));
+        }
+        assert!(rt; table.len() == 0);
     }
-    find(table, 30).0 == Some(ItemIndex::new(3))
+    assert!(rt; orders == 720);
+    Ok(())
 }
 
 #[test]
 fn a_find_misses_a_key_that_no_index_has(rt: HostRuntime) -> Result<(), Fail> {
     let mut table = MapBTreeTable::new(rt.alloc());
-    add_four(&rt, &mut table)?;
-    assert!(rt; misses(&table) && !remove(&mut table, 1));
+    for ix in [3, 0, 5, 4] {
+        insert(&rt, &mut table, ix)?;
+    }
+    assert!(rt; find(&table, 30).0 == Some(ItemIndex::new(3)));
+    for key in [0, 20, 35, 99] {
+        assert!(rt; find(&table, key).0.is_none());
+    }
+    assert!(rt; !remove(&mut table, 1));
     Ok(())
 }

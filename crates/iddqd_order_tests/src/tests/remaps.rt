@@ -3,8 +3,7 @@ ghost use Rattle.std.specs.Prelude.{◌≡◌, ℕ, IsTrue, IfSome, All, Contain
 ghost use Rattle.iddqd.specs.Compaction.{CanRemap, remapped};
 ghost use Rattle.iddqd_order.specs.MapBTreeTable.{order_of};
 
-use super::answers::Answers;
-use super::{add, has_order, table_of};
+use super::{has_order, insert_told, table_of};
 use iddqd::index_remap::IndexRemap;
 use iddqd::item_index::ItemIndex;
 use iddqd_order::btree_table::MapBTreeTable;
@@ -74,95 +73,41 @@ fn remap_of(alloc: Global, names: &[u32]) -> Result<IndexRemap, AllocError> {
     ))
 }
 
-// A table in the one order has the other one under new names.
-fn assert_renamed(
-    rt: &impl Abort,
-    alloc: Global,
-    order: &[u32],
-    remap: &IndexRemap,
-    wanted: &[u32],
-) -> Result<(), AllocError> {
-    let mut table = table_of(rt, alloc, order)?;
-    rename(rt, &mut table, remap);
-    assert!(rt; has_order(&table, wanted));
-    Ok(())
-}
-
-// The same under the names of the old indexes in turn.
-fn assert_named(
-    rt: &impl Abort,
-    alloc: Global,
-    order: &[u32],
-    names: &[u32],
-    wanted: &[u32],
-) -> Result<(), AllocError> {
-    assert_renamed(rt, alloc, order, &remap_of(alloc, names)?, wanted)
-}
-
 #[test]
 fn each_index_gets_its_name_in_its_place(rt: HostRuntime) -> Result<(), Fail> {
-    assert_named(&rt, rt.alloc(), &[0, 2, 4], &[0, S, 1, S, 2], &[0, 1, 2])?;
-    assert_named(&rt, rt.alloc(), &[4, 0, 2], &[0, S, 1, S, 2], &[2, 0, 1])?;
+    let remap = remap_of(rt.alloc(), &[0, S, 1, S, 2])?;
+    let mut rising = table_of(&rt, rt.alloc(), &[0, 2, 4])?;
+    rename(&rt, &mut rising, &remap);
+    assert!(rt; has_order(&rising, &[0, 1, 2]));
+    let mut turned = table_of(&rt, rt.alloc(), &[4, 0, 2])?;
+    rename(&rt, &mut turned, &remap);
+    assert!(rt; has_order(&turned, &[2, 0, 1]));
     Ok(())
 }
 
 #[test]
 fn names_may_fall(rt: HostRuntime) -> Result<(), Fail> {
-    assert_named(&rt, rt.alloc(), &[1, 3, 0], &[3, 1, S, 0], &[1, 0, 3])?;
+    let mut table = table_of(&rt, rt.alloc(), &[1, 3, 0])?;
+    rename(&rt, &mut table, &remap_of(rt.alloc(), &[3, 1, S, 0])?);
+    assert!(rt; has_order(&table, &[1, 0, 3]));
     Ok(())
 }
 
 #[test]
 fn an_empty_table_stays_empty(rt: HostRuntime) -> Result<(), Fail> {
-    assert_named(&rt, rt.alloc(), &[], &[S, 0], &[])?;
-    assert_named(&rt, rt.alloc(), &[], &[], &[])?;
+    let mut table = MapBTreeTable::new(rt.alloc());
+    rename(&rt, &mut table, &remap_of(rt.alloc(), &[S, 0])?);
+    rename(&rt, &mut table, &remap_of(rt.alloc(), &[])?);
+    assert!(rt; table.len() == 0);
     Ok(())
 }
 
 #[test]
 fn identity_changes_nothing(rt: HostRuntime) -> Result<(), Fail> {
-    assert_renamed(
-        &rt,
-        rt.alloc(),
-        &[4, 0, 2],
-        &IndexRemap::Identity,
-        &[4, 0, 2],
-    )?;
+    let mut table = table_of(&rt, rt.alloc(), &[4, 0, 2])?;
+    rename(&rt, &mut table, &IndexRemap::Identity);
+    assert!(rt; has_order(&table, &[4, 0, 2]));
     Ok(())
-}
-
-// The names that fall from `len` on, of even indexes alone.
-fn falling_names(alloc: Global, len: u32) -> Result<IndexRemap, AllocError> {
-    let mut names = Vec::new(alloc);
-    for step in 0..len {
-        names.push(ItemIndex::new(len - 1 - step))?;
-        names.push(ItemIndex::SENTINEL)?;
-    }
-    Ok(IndexRemap::Permuted(names))
-}
-
-fn add_evens(rt: &impl Abort, table: &mut MapBTreeTable, len: u32) -> Result<(), AllocError> {
-    for step in 0..len {
-        add(
-            rt,
-            table,
-            step.wrapping_mul(2),
-            Answers::always(Ordering::Greater),
-        )?;
-    }
-    Ok(())
-}
-
-// Whether the table has the numbers below `len` in falling order, and no other.
-fn counts_down(table: &MapBTreeTable, len: u32) -> bool {
-    let mut left = len;
-    for ix in table.iter() {
-        left = left.saturating_sub(1);
-        if ix.as_u32() != left {
-            return false;
-        }
-    }
-    left == 0 && table.len() == len as usize
 }
 
 // Falling names, in a root alone, below one inner node and below inner nodes of two levels.
@@ -170,9 +115,17 @@ fn counts_down(table: &MapBTreeTable, len: u32) -> bool {
 fn names_at_each_depth(rt: HostRuntime) -> Result<(), Fail> {
     for len in [11u32, 60, 300] {
         let mut table = MapBTreeTable::new(rt.alloc());
-        add_evens(&rt, &mut table, len)?;
-        rename(&rt, &mut table, &falling_names(rt.alloc(), len)?);
-        assert!(rt; counts_down(&table, len));
+        let mut names = Vec::new(rt.alloc());
+        let mut expected = Vec::new(rt.alloc());
+        for step in 0..len {
+            let ix = step.wrapping_mul(2);
+            insert_told(&rt, &mut table, ix, Ordering::Greater, Ordering::Greater)?;
+            names.push(len - 1 - step)?;
+            names.push(S)?;
+            expected.push(len - 1 - step)?;
+        }
+        rename(&rt, &mut table, &remap_of(rt.alloc(), &names)?);
+        assert!(rt; has_order(&table, &expected));
     }
     Ok(())
 }

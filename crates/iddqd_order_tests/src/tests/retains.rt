@@ -1,32 +1,28 @@
 //! What `retain` asks and keeps.
-use super::answers::Answers;
-use super::{add, filled, has_order, is_whole, len_of, table_of};
+use super::{filled, has_order, table_of};
 use iddqd::item_index::ItemIndex;
 use iddqd_order::btree_table::MapBTreeTable;
-use std::alloc::AllocError;
+use std::alloc::{AllocError, Global};
 use std::cmp::Ordering;
 use std::process::Abort;
 use std::test::Fail;
 
-// Drops the index 2, and tells what was asked: a digit an ask, behind a first one.
-fn drop_two(table: &mut MapBTreeTable) -> u32 {
+#[test]
+fn each_index_is_asked_about_once_in_order(rt: HostRuntime) -> Result<(), Fail> {
+    let mut table = table_of(&rt, rt.alloc(), &[0, 2, 1])?;
+    // A digit an ask, behind a first one.
     let mut asked = 1u32;
     table.retain(|ix| {
         asked = asked.wrapping_mul(10).wrapping_add(ix.as_u32());
         ix != ItemIndex::new(2)
     });
-    asked
-}
-
-#[test]
-fn each_index_is_asked_about_once_in_order(rt: HostRuntime) -> Result<(), Fail> {
-    let mut table = table_of(&rt, rt.alloc(), &[0, 2, 1])?;
-    assert!(rt; drop_two(&mut table) == 1021 && has_order(&table, &[0, 1]));
+    assert!(rt; asked == 1021);
+    assert!(rt; has_order(&table, &[0, 1]));
     Ok(())
 }
 
-// Keeps the indexes that seven divides. Whether it asks of a thousand, in order.
-fn keep_sevenths(table: &mut MapBTreeTable) -> bool {
+// Keeps the indexes that seven divides, of a table that has those below 1000 in order.
+fn keep_sevenths(rt: &impl Abort, table: &mut MapBTreeTable) {
     let mut asks = 0u32;
     let mut is_in_order = true;
     table.retain(|ix| {
@@ -34,79 +30,59 @@ fn keep_sevenths(table: &mut MapBTreeTable) -> bool {
         asks = asks.wrapping_add(1);
         ix.as_u32() % 7 == 0
     });
-    is_in_order && asks == 1000
-}
-
-// Whether the table has the numbers below 1000 that seven divides, in order.
-fn has_sevenths(table: &MapBTreeTable) -> bool {
+    assert!(rt; is_in_order);
+    assert!(rt; asks == 1000);
+    assert!(rt; table.len() == 143);
     let mut expected = 0u32;
     for ix in table.iter() {
-        if ix.as_u32() != expected {
-            return false;
-        }
+        assert!(rt; ix.as_u32() == expected);
         expected = expected.wrapping_add(7);
     }
-    expected == 1001 && table.len() == 143
+    assert!(rt; expected == 1001);
+}
+
+// The indexes below 1000 in order, added from the highest down.
+fn fallen(rt: &impl Abort, alloc: Global) -> Result<MapBTreeTable, AllocError> {
+    let mut table = MapBTreeTable::new(alloc);
+    for step in 0..1000 {
+        super::insert_told(rt, &mut table, 999 - step, Ordering::Less, Ordering::Less)?;
+    }
+    Ok(table)
 }
 
 #[test]
 fn a_seventh_of_a_thousand(rt: HostRuntime) -> Result<(), Fail> {
-    let mut table = filled(&rt, rt.alloc(), 1000, Ordering::Greater)?;
-    assert!(rt; keep_sevenths(&mut table) && has_sevenths(&table));
+    keep_sevenths(&rt, &mut filled(&rt, rt.alloc(), 1000, Ordering::Greater)?);
+    keep_sevenths(&rt, &mut fallen(&rt, rt.alloc())?);
     Ok(())
 }
 
-// Adds the indexes below 1000 from the highest down, so that they stand in order.
-fn fall(rt: &impl Abort, table: &mut MapBTreeTable) -> Result<(), AllocError> {
-    for step in 0..1000 {
-        add(rt, table, 999 - step, Answers::always(Ordering::Less))?;
-    }
-    Ok(())
-}
-
-#[test]
-fn a_seventh_of_a_thousand_that_were_added_from_the_highest_down(
-    rt: HostRuntime,
-) -> Result<(), Fail> {
-    let mut table = MapBTreeTable::new(rt.alloc());
-    fall(&rt, &mut table)?;
-    assert!(rt; keep_sevenths(&mut table) && has_sevenths(&table));
-    Ok(())
-}
-
-// Keeps the indexes that have one of the bits, and tells how often it asked.
-pub(super) fn keep_with(table: &mut MapBTreeTable, bits: u32) -> u32 {
+// Keeps those of which one bit is set, of so many indexes.
+fn keep_by_bit(rt: &impl Abort, alloc: Global, len: u32, bit: u32) -> Result<(), AllocError> {
+    let mut table = filled(rt, alloc, len, Ordering::Greater)?;
     let mut asks = 0u32;
     table.retain(|ix| {
         asks = asks.wrapping_add(1);
-        ix.as_u32() & bits != 0
+        ix.as_u32() & bit != 0
     });
-    asks
-}
-
-// Whether the table has the numbers below `len` that have one of the bits, in order.
-fn has_those_with(table: &MapBTreeTable, len: u32, bits: u32) -> bool {
-    let mut walk = table.iter();
+    let mut expected = Vec::new(alloc);
     for ix in 0..len {
-        if ix & bits != 0 && walk.next() != Some(ItemIndex::new(ix)) {
-            return false;
+        if ix & bit != 0 {
+            expected.push(ix)?;
         }
     }
-    walk.len() == 0 && walk.next().is_none() && is_whole(table)
-}
-
-fn keeps_those_with(table: &mut MapBTreeTable, bits: u32) -> bool {
-    let len = len_of(table);
-    keep_with(table, bits) == len && has_those_with(table, len, bits)
+    assert!(rt; asks == len);
+    assert!(rt; table.len() == expected.len());
+    assert!(rt; has_order(&table, &expected));
+    Ok(())
 }
 
 // From one level to four; all go, all stay, every other one, long runs.
 #[test]
 fn what_is_kept_at_each_depth(rt: HostRuntime) -> Result<(), Fail> {
     for len in [0u32, 1, 11, 12, 88, 89, 300, 700] {
-        for bits in [0u32, 1, 2, 16, 64, 512, u32::MAX] {
-            let mut table = filled(&rt, rt.alloc(), len, Ordering::Greater)?;
-            assert!(rt; table.len() == len as usize && keeps_those_with(&mut table, bits));
+        for bit in [0u32, 1, 2, 16, 64, 512, u32::MAX] {
+            keep_by_bit(&rt, rt.alloc(), len, bit)?;
         }
     }
     Ok(())

@@ -1,8 +1,7 @@
 //! A thousand indexes that are their own keys, added from the lowest up and from the highest down.
-use super::answers::Answers;
-use super::{add, find, remove};
+use super::insert_by;
 use iddqd::item_index::ItemIndex;
-use iddqd_order::btree_table::MapBTreeTable;
+use iddqd_order::btree_table::{Asking, MapBTreeTable};
 use std::alloc::{AllocError, Global};
 use std::process::Abort;
 use std::test::Fail;
@@ -11,7 +10,7 @@ fn thousand(rt: &impl Abort, alloc: Global, is_rising: bool) -> Result<MapBTreeT
     let mut table = MapBTreeTable::new(alloc);
     for step in 0..1000 {
         let ix = if is_rising { step } else { 999 - step };
-        add(rt, &mut table, ix, Answers::Number(ix))?;
+        insert_by(rt, &mut table, ix, |at| ItemIndex::new(ix).cmp(&at))?;
     }
     Ok(table)
 }
@@ -28,33 +27,38 @@ fn gives(table: &MapBTreeTable, first: u32, step: u32) -> bool {
     expected == first.wrapping_add(1000)
 }
 
-// Whether a search finds each index, and asks at most 24 times.
-fn finds_each(table: &MapBTreeTable) -> bool {
-    for ix in 0..1000 {
-        let (found, asked) = find(table, Answers::Number(ix));
-        if found != Some(ItemIndex::new(ix)) || asked.asks > 24 {
-            return false;
-        }
-    }
-    true
+// Whether a search finds the index, and asks at most 24 times.
+fn finds(table: &MapBTreeTable, ix: u32) -> bool {
+    let sought = ItemIndex::new(ix);
+    let mut asks = 0u32;
+    let mut asking = Asking::new(|at: ItemIndex| {
+        asks = asks.wrapping_add(1);
+        sought.cmp(&at)
+    });
+    let is_found = table.find_by(&mut asking) == Some(sought);
+    is_found && asks <= 24
 }
 
-// Whether a search finds every other index and removes it, and asks at most 24 times.
-fn removes_each(table: &mut MapBTreeTable) -> bool {
-    for half in 0..500u32 {
-        let (is_removed, asks) = remove(table, half * 2, Answers::Number(half * 2));
-        if !is_removed || asks > 24 {
-            return false;
-        }
-    }
-    true
+// Whether a search finds the index and removes it, and asks at most 24 times.
+fn removes(table: &mut MapBTreeTable, ix: u32) -> bool {
+    let sought = ItemIndex::new(ix);
+    let mut asks = 0u32;
+    let mut asking = Asking::new(|at: ItemIndex| {
+        asks = asks.wrapping_add(1);
+        sought.cmp(&at)
+    });
+    let is_removed = table.prepare_remove_by(sought, &mut asking).remove();
+    is_removed && asks <= 24
 }
 
 #[test]
 fn each_of_a_thousand_is_found(rt: HostRuntime) -> Result<(), Fail> {
     for is_rising in [true, false] {
         let table = thousand(&rt, rt.alloc(), is_rising)?;
-        assert!(rt; gives(&table, 0, 1) && finds_each(&table));
+        assert!(rt; gives(&table, 0, 1));
+        for ix in 0..1000 {
+            assert!(rt; finds(&table, ix), "at {ix}");
+        }
     }
     Ok(())
 }
@@ -63,7 +67,10 @@ fn each_of_a_thousand_is_found(rt: HostRuntime) -> Result<(), Fail> {
 fn every_other_of_a_thousand_is_removed(rt: HostRuntime) -> Result<(), Fail> {
     for is_rising in [true, false] {
         let mut table = thousand(&rt, rt.alloc(), is_rising)?;
-        assert!(rt; removes_each(&mut table) && gives(&table, 1, 2));
+        for half in 0..500u32 {
+            assert!(rt; removes(&mut table, half * 2), "the half {half}");
+        }
+        assert!(rt; gives(&table, 1, 2));
     }
     Ok(())
 }

@@ -10,9 +10,9 @@
 //! | `removal_from_the_middle` | indexes of inner nodes and of the root |
 //! | `each_sequence_of_seven_steps` | each sequence of up to seven inserts and removals, from no index, from a full root, and from two leaves |
 //! | `a_hundred_thousand_random_steps` | all of them in any order, at up to three levels |
-use super::answers::Answers;
-use super::{add, has_order, is_whole, remove};
-use iddqd_order::btree_table::MapBTreeTable;
+use super::{has_order, insert_by, is_whole};
+use iddqd::item_index::ItemIndex;
+use iddqd_order::btree_table::{Asking, MapBTreeTable};
 use std::alloc::{AllocError, Global};
 use std::process::Abort;
 use std::test::Fail;
@@ -37,10 +37,18 @@ impl Pair {
         match self.list.binary_search(&ix) {
             Ok(place) => {
                 self.list.remove(place);
-                assert!(rt; remove(&mut self.table, ix, Answers::Number(ix)).0);
+                let sought = ItemIndex::new(ix);
+                let mut asking = Asking::new(|stored: ItemIndex| sought.cmp(&stored));
+                let removal = self.table.prepare_remove_by(sought, &mut asking);
+                assert!(rt; removal.remove());
             }
             Err(place) => {
-                add(rt, &mut self.table, ix, Answers::Number(ix))?;
+                insert_by(
+                    rt,
+                    &mut self.table,
+                    ix,
+                    |stored| ItemIndex::new(ix).cmp(&stored),
+                )?;
                 let _ = self.list.insert(place, ix);
             }
         }
@@ -49,48 +57,32 @@ impl Pair {
 
     // Looks at how many indexes a walk gives, and at every sixteenth step at the order.
     fn look(&self, rt: &impl Abort, step: u32) {
-        let is_right = is_whole(&self.table)
-            && (step % 16 > 0 || has_order(&self.table, &self.list));
-        assert!(rt; is_right);
-    }
-
-    // Adds or removes each index below `len`, from the lowest up or from the highest down.
-    fn turn_each(&mut self, rt: &impl Abort, len: u32, is_rising: bool) -> Result<(), AllocError> {
-        for step in 0..len {
-            self.turn(rt, if is_rising { step } else { len - 1 - step })?;
-            self.look(rt, step);
+        assert!(rt; is_whole(&self.table));
+        if step % 16 == 0 {
+            assert!(rt; has_order(&self.table, &self.list));
         }
-        Ok(())
-    }
-
-    // Adds or removes each index below `len`, from the middle on.
-    fn turn_middle(&mut self, rt: &impl Abort, len: u32) -> Result<(), AllocError> {
-        for step in 0..len / 2 {
-            self.turn(rt, len / 2 + step)?;
-            self.turn(rt, len / 2 - 1 - step)?;
-            self.look(rt, step);
-        }
-        Ok(())
     }
 }
 
-// Adds so many indexes from the lowest up or from the highest down, and removes them in the same order.
-fn come_and_go(
-    rt: &impl Abort,
-    pair: &mut Pair,
-    len: u32,
-    is_rising: bool,
-) -> Result<(), AllocError> {
-    pair.turn_each(rt, len, is_rising)?;
-    pair.turn_each(rt, len, is_rising)?;
-    assert!(rt; pair.table.len() == 0);
-    Ok(())
+// A table of so many indexes, added from the lowest up or from the highest down.
+fn filled(rt: &impl Abort, alloc: Global, len: u32, is_rising: bool) -> Result<Pair, AllocError> {
+    let mut pair = Pair::new(alloc);
+    for step in 0..len {
+        pair.turn(rt, if is_rising { step } else { len - 1 - step })?;
+        pair.look(rt, step);
+    }
+    Ok(pair)
 }
 
 #[test]
 fn removal_from_the_front(rt: HostRuntime) -> Result<(), Fail> {
     for len in [11, 60, 300, 2000] {
-        come_and_go(&rt, &mut Pair::new(rt.alloc()), len, true)?;
+        let mut pair = filled(&rt, rt.alloc(), len, true)?;
+        for ix in 0..len {
+            pair.turn(&rt, ix)?;
+            pair.look(&rt, ix);
+        }
+        assert!(rt; pair.table.len() == 0);
     }
     Ok(())
 }
@@ -98,37 +90,36 @@ fn removal_from_the_front(rt: HostRuntime) -> Result<(), Fail> {
 #[test]
 fn removal_from_the_back(rt: HostRuntime) -> Result<(), Fail> {
     for len in [11, 60, 300, 2000] {
-        come_and_go(&rt, &mut Pair::new(rt.alloc()), len, false)?;
+        let mut pair = filled(&rt, rt.alloc(), len, false)?;
+        for step in 0..len {
+            pair.turn(&rt, len - 1 - step)?;
+            pair.look(&rt, step);
+        }
+        assert!(rt; pair.table.len() == 0);
     }
-    Ok(())
-}
-
-fn leave_from_the_middle(rt: &impl Abort, pair: &mut Pair, len: u32) -> Result<(), AllocError> {
-    pair.turn_each(rt, len, true)?;
-    pair.turn_middle(rt, len)?;
-    assert!(rt; pair.table.len() == 0);
     Ok(())
 }
 
 #[test]
 fn removal_from_the_middle(rt: HostRuntime) -> Result<(), Fail> {
     for len in [10, 60, 300, 2000] {
-        leave_from_the_middle(&rt, &mut Pair::new(rt.alloc()), len)?;
-    }
-    Ok(())
-}
-
-// Adds so many even indexes.
-fn add_evens(rt: &impl Abort, pair: &mut Pair, len: u32) -> Result<(), AllocError> {
-    for step in 0..len {
-        pair.turn(rt, step.wrapping_mul(2))?;
+        let mut pair = filled(&rt, rt.alloc(), len, true)?;
+        for step in 0..len / 2 {
+            pair.turn(&rt, len / 2 + step)?;
+            pair.turn(&rt, len / 2 - 1 - step)?;
+            pair.look(&rt, step);
+        }
+        assert!(rt; pair.table.len() == 0);
     }
     Ok(())
 }
 
 // Seven steps, each at one of four indexes, from a table of so many even indexes.
-fn run(rt: &impl Abort, pair: &mut Pair, len: u32, sequence: u32) -> Result<(), AllocError> {
-    add_evens(rt, pair, len)?;
+fn run(rt: &impl Abort, alloc: Global, len: u32, sequence: u32) -> Result<(), AllocError> {
+    let mut pair = Pair::new(alloc);
+    for step in 0..len {
+        pair.turn(rt, step.wrapping_mul(2))?;
+    }
     let mut rest = sequence;
     for _ in 0..7 {
         let ix = match rest % 4 {
@@ -148,24 +139,20 @@ fn run(rt: &impl Abort, pair: &mut Pair, len: u32, sequence: u32) -> Result<(), 
 fn each_sequence_of_seven_steps(rt: HostRuntime) -> Result<(), Fail> {
     for len in [0, 11, 12] {
         for sequence in 0..16_384 {
-            run(&rt, &mut Pair::new(rt.alloc()), len, sequence)?;
+            run(&rt, rt.alloc(), len, sequence)?;
         }
-    }
-    Ok(())
-}
-
-fn run_at_random(rt: &impl Abort, pair: &mut Pair) -> Result<(), AllocError> {
-    let mut random = 1u32;
-    for step in 0..100_000 {
-        random = random.wrapping_mul(1_664_525).wrapping_add(1_013_904_223);
-        pair.turn(rt, random / 65_536 % 600)?;
-        pair.look(rt, step);
     }
     Ok(())
 }
 
 #[test]
 fn a_hundred_thousand_random_steps(rt: HostRuntime) -> Result<(), Fail> {
-    run_at_random(&rt, &mut Pair::new(rt.alloc()))?;
+    let mut pair = Pair::new(rt.alloc());
+    let mut random = 1u32;
+    for step in 0..100_000 {
+        random = random.wrapping_mul(1_664_525).wrapping_add(1_013_904_223);
+        pair.turn(&rt, random / 65_536 % 600)?;
+        pair.look(&rt, step);
+    }
     Ok(())
 }
