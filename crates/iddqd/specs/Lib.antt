@@ -12,6 +12,7 @@ pub mod MapHashLaws
 pub mod Clones
 pub mod Compaction
 pub mod Validation
+pub mod OrDash
 -- what a caller's clauses cite, from one place
 pub use Rattle.iddqd.specs.Store.{sentinel, slot_limit, get, slot_count, live_count, next_index, IsFull, IsValid}
 pub use Rattle.iddqd.specs.Store.{empty, empty_within, cleared, inserted, removed, rebound}
@@ -25,3 +26,4 @@ pub use Rattle.iddqd.specs.MapHashLaws.{equal_in, greater_before_in}
 pub use Rattle.iddqd.specs.Compaction.{rank, compacted, new_name, numbers, remapped, CanRemap, IsRemapOf}
 pub use Rattle.iddqd.specs.Validation.{Allows, IsSoundIn, AreSound, AreSoundInOrder, AreAsExpected, Validates}
 pub use Rattle.iddqd.specs.Validation.{Tells, not_compact_text, error_text}
+pub use Rattle.iddqd.specs.OrDash.{index_or_dash}

@@ -144,3 +144,21 @@ impl fmt::Debug for ItemIndex {
         fmt::Debug::fmt(&self.0, f)
     }
 }
+
+/// An index that may be lacking, printed as a dash where it is.
+#[derive(Clone, Copy)]
+pub struct OrDash(pub Option<ItemIndex>);
+
+impl fmt::Display for OrDash {
+    ghost use Rattle.std.specs.Prelude.{Some};
+    ghost use Rattle.iddqd.specs.OrDash.{index_or_dash};
+
+    ghost output = { λ index. Some (index_or_dash index.0) };
+
+    fn fmt<W: fmt::Write>(&self, f: &mut fmt::Formatter<W>) -> fmt::Result {
+        match self.0 {
+            Some(ix) => write!(f, "{ix}"),
+            None => write!(f, "-"),
+        }
+    }
+}

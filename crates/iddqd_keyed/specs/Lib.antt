@@ -24,7 +24,7 @@ pub use Rattle.iddqd_keyed.specs.Keys.{keys_of}
 pub use Rattle.iddqd_keyed.specs.State.{empty_state, empty_state_within, cleared_state, unbound, Compacts, IsPaired}
 pub use Rattle.iddqd_keyed.specs.Sides.{hash_in, has, first_side, second_side, IsExact, LooksUp, AsScan}
 pub use Rattle.iddqd_keyed.specs.Sides.{FirstKeysInOrder, SecondKeysInOrder, InOrder, Keeps, KeepsUnlessChanged}
-pub use Rattle.iddqd_keyed.specs.Refusal.{index_or_dash, refusal_text, replace_refusal_text}
+pub use Rattle.iddqd_keyed.specs.Refusal.{refusal_text, replace_refusal_text}
 pub use Rattle.iddqd_keyed.specs.Machine.{StoresAt, Inserts, TellsAsScan, Removes, RemovesBy, Overwrites, Answers, Step}
 pub use Rattle.iddqd_keyed.specs.Run.{IsSilentChange}
 pub use Rattle.iddqd_keyed.specs.Queries.{LooksUpBy, GivesFound}

@@ -1,15 +1,10 @@
 -- The words of the refusals.
-use Rattle.std.specs.Prelude.{ℕ, List, ◌++◌, Option, Some, None, codes}
-use Rattle.std.specs.Fmt.{decimal}
+use Rattle.std.specs.Prelude.{ℕ, List, ◌++◌, codes}
+use Rattle.iddqd.specs.OrDash.{index_or_dash}
 use Rattle.iddqd_keyed.specs.declared.keyed_items.InsertRefusal.{InsertRefusal}
 use Rattle.iddqd_keyed.specs.declared.keyed_items.InsertRefusal.TheVariants.{Duplicate, Full, Memory}
 use Rattle.iddqd_keyed.specs.declared.keyed_items.replaces.ReplaceRefusal.{ReplaceRefusal}
 use Rattle.iddqd_keyed.specs.declared.keyed_items.replaces.ReplaceRefusal.TheVariants.{Missing, Duplicate as Taken, Memory as Refused}
-
--- an index in digits, or a dash
-abbrev pub index_or_dash : Option ℕ → List ℕ
-index_or_dash None = codes "-"
-index_or_dash (Some ix) = decimal ix
 
 -- why an item was not taken, in words
 abbrev pub refusal_text : {T : Type 0} → InsertRefusal T → List ℕ

@@ -32,7 +32,7 @@ mod walks;
 use crate::command::{Command, Reply};
 use crate::keyed_item::{First, KeyedItem, Second};
 use iddqd::index_remap::IndexRemap;
-use iddqd::item_index::ItemIndex;
+use iddqd::item_index::{ItemIndex, OrDash};
 use iddqd::item_set::{GrowError, ItemSet};
 use iddqd::map_hash::MapHash;
 use iddqd_hash::hash_table::MapHashTable;
@@ -110,24 +110,6 @@ impl<T> fmt::Display for InsertRefusal<T> {
 }
 
 impl<T: fmt::Debug + Drop> Error for InsertRefusal<T> {}
-
-// An index, printed as a dash where there is none.
-#[derive(Clone, Copy)]
-struct OrDash(Option<ItemIndex>);
-
-impl fmt::Display for OrDash {
-    ghost use Rattle.std.specs.Prelude.{Some};
-    ghost use Rattle.iddqd_keyed.specs.Refusal.{index_or_dash};
-
-    ghost output = { λ index. Some (index_or_dash index.0) };
-
-    fn fmt<W: fmt::Write>(&self, f: &mut fmt::Formatter<W>) -> fmt::Result {
-        match self.0 {
-            Some(ix) => write!(f, "{ix}"),
-            None => write!(f, "-"),
-        }
-    }
-}
 
 /// The keys of a collection's items, as its clauses speak of them.
 pub trait Keyed {

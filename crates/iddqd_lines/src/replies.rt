@@ -4,7 +4,8 @@ ghost use Rattle.std.specs.Fmt.{decimal};
 ghost use Rattle.std.specs.List.{flat_map};
 ghost use Rattle.iddqd_lines.specs.Line.{line_feed, record_text, found_text, removed_text, overwritten_text};
 ghost use Rattle.iddqd_lines.specs.Line.{walk_text, remap_text, text_of};
-ghost use Rattle.iddqd_keyed.specs.{index_or_dash, refusal_text};
+ghost use Rattle.iddqd.specs.{index_or_dash};
+ghost use Rattle.iddqd_keyed.specs.{refusal_text};
 ghost use Rattle.iddqd_lines.specs.Replies.{Sends, spaced, spaced_name};
 
 use crate::digits::{Digits, MAX_DIGITS};

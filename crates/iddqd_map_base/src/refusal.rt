@@ -74,15 +74,14 @@ impl<T, C: Drop> ReplaceRefusal<T, C> {
     }
 }
 
-impl<T, C> fmt::Display for InsertRefusal<T, C> {
-    ghost use Rattle.std.specs.Prelude.{Some};
+impl<T, C: fmt::Display> fmt::Display for InsertRefusal<T, C> {
     ghost use Rattle.iddqd_map_base.specs.Refusal.{insert_refusal_text};
 
-    ghost output = { λ refusal. Some (insert_refusal_text refusal) };
+    ghost output = { insert_refusal_text C.output };
 
     fn fmt<W: fmt::Write>(&self, f: &mut fmt::Formatter<W>) -> fmt::Result {
         match self {
-            InsertRefusal::Duplicate { .. } => write!(f, "duplicate"),
+            InsertRefusal::Duplicate { at, .. } => write!(f, "duplicate {at}"),
             InsertRefusal::Full(_) => write!(f, "full"),
             InsertRefusal::Memory(_) => write!(f, "no memory"),
         }
@@ -103,23 +102,22 @@ impl<T> fmt::Display for OverwriteRefusal<T> {
     }
 }
 
-impl<T, C> fmt::Display for ReplaceRefusal<T, C> {
-    ghost use Rattle.std.specs.Prelude.{Some};
+impl<T, C: fmt::Display> fmt::Display for ReplaceRefusal<T, C> {
     ghost use Rattle.iddqd_map_base.specs.Refusal.{replace_refusal_text};
 
-    ghost output = { λ refusal. Some (replace_refusal_text refusal) };
+    ghost output = { replace_refusal_text C.output };
 
     fn fmt<W: fmt::Write>(&self, f: &mut fmt::Formatter<W>) -> fmt::Result {
         match self {
             ReplaceRefusal::Missing(_) => write!(f, "missing"),
-            ReplaceRefusal::Duplicate { .. } => write!(f, "duplicate"),
+            ReplaceRefusal::Duplicate { at, .. } => write!(f, "duplicate {at}"),
             ReplaceRefusal::Memory(_) => write!(f, "no memory"),
         }
     }
 }
 
-impl<T: fmt::Debug + Drop, C: fmt::Debug + Drop> Error for InsertRefusal<T, C> {}
+impl<T: fmt::Debug + Drop, C: fmt::Debug + fmt::Display + Drop> Error for InsertRefusal<T, C> {}
 
 impl<T: fmt::Debug + Drop> Error for OverwriteRefusal<T> {}
 
-impl<T: fmt::Debug + Drop, C: fmt::Debug + Drop> Error for ReplaceRefusal<T, C> {}
+impl<T: fmt::Debug + Drop, C: fmt::Debug + fmt::Display + Drop> Error for ReplaceRefusal<T, C> {}

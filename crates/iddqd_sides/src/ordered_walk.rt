@@ -2,7 +2,7 @@
 //!
 //! It goes along the table, and reads each item from the store. It is generic over the item alone, so
 //! each collection over an ordered side lends it as its own, whether its keys may change untold or not.
-ghost use Rattle.std.specs.Prelude.{◌≡◌};
+ghost use Rattle.std.specs.Prelude.{◌≡◌, ⊤};
 ghost use Rattle.std.specs.Iterator.{YieldsFirstBy, YieldsLastBy, item_count};
 ghost use Rattle.iddqd_order.specs.Range.{indexes_ahead};
 ghost use Rattle.iddqd_sides.specs.Ordered.{AreLive};
@@ -11,6 +11,7 @@ ghost use Rattle.iddqd_sides.specs.OrderedWalk.{pairs_at};
 use iddqd::item_index::ItemIndex;
 use iddqd::item_set::ItemSet;
 use iddqd_order::btree_table;
+use std::alloc::AllocError;
 use std::fmt;
 use std::iter::{DoubleEndedIterator, FusedIterator};
 use std::marker::Model;
@@ -72,6 +73,19 @@ impl<'a, T> DoubleEndedIterator for Range<'a, T> {
 }
 
 impl<'a, T> FusedIterator for Range<'a, T> {}
+
+impl<'a, T> Clone for Range<'a, T> {
+    ghost is_clone = { λ walk copy. copy ≡ walk };
+
+    ghost is_infallible = { λ _. ⊤ };
+
+    fn clone(&self) -> Result<Self, AllocError> {
+        Ok(Range {
+            indexes: self.indexes.clone()?,
+            items: self.items,
+        })
+    }
+}
 
 impl<'a, T> fmt::Debug for Range<'a, T> {
     fn fmt<W: fmt::Write>(&self, f: &mut fmt::Formatter<W>) -> fmt::Result {

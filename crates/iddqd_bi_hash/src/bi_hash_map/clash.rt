@@ -1,9 +1,12 @@
 //! What a refused item is told of those that have its keys.
 ghost use Rattle.std.specs.Prelude.{◌⊎◌, ◌↔◌, IsTrue, IsSome};
 
-use iddqd::item_index::ItemIndex;
+use iddqd::item_index::{ItemIndex, OrDash};
+use std::fmt;
 
 /// For each key of an item the index of the other item that has it, if one has.
+///
+/// It prints as `0 -`.
 #[derive(Clone, Copy, Debug, PartialEq, Eq)]
 pub struct BiClash {
     /// Where the first key is.
@@ -18,5 +21,16 @@ impl BiClash {
         ensures { IsTrue result ↔ (IsSome self.now.key1 ⊎ IsSome self.now.key2) }
     {
         self.key1.is_some() || self.key2.is_some()
+    }
+}
+
+impl fmt::Display for BiClash {
+    ghost use Rattle.std.specs.Prelude.{◌++◌, codes, Some};
+    ghost use Rattle.iddqd.specs.{index_or_dash};
+
+    ghost output = { λ clash. Some (index_or_dash clash.key1 ++ codes " " ++ index_or_dash clash.key2) };
+
+    fn fmt<W: fmt::Write>(&self, f: &mut fmt::Formatter<W>) -> fmt::Result {
+        write!(f, "{} {}", OrDash(self.key1), OrDash(self.key2))
     }
 }

@@ -14,9 +14,9 @@ ghost use Rattle.iddqd_sides.specs.HashedMove.{IfMoves, moved};
 ghost use Rattle.iddqd_keyed.specs.Sides.{Keeps};
 ghost use Rattle.iddqd_keyed.specs.Replacement.{TellsOther, Replaces, planned, MovesInPlace, Reorders};
 
-use super::{Keyed, KeyedItems, OrDash};
+use super::{Keyed, KeyedItems};
 use crate::keyed_item::{First, KeyedItem};
-use iddqd::item_index::ItemIndex;
+use iddqd::item_index::{ItemIndex, OrDash};
 use iddqd::item_set::ItemSet;
 use iddqd::map_hash::MapHash;
 use iddqd_hash::hash_table::MapHashTable;
