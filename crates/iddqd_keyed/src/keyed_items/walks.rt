@@ -1,5 +1,5 @@
 //! Walks over the items, by rising index and in the order of their second keys. No walk takes memory.
-ghost use Rattle.std.specs.Prelude.{◌≡◌, [], Some, IfSome, IsOk, IfOk, length};
+ghost use Rattle.std.specs.Prelude.{◌≡◌, ⊤, [], Some, IfSome, IsOk, IfOk, length};
 ghost use Rattle.std.specs.Iterator.{YieldsFirstRef, YieldsLastRef, item_count, at_most, UpTo};
 ghost use Rattle.std.specs.Iterator.SizeHint.{IsWithinCount};
 ghost use Rattle.std.specs.Range.Bound.{bound_map};
@@ -161,6 +161,19 @@ impl<'a, T> ExactSizeIterator for ValuesByKey2<'a, T> {
 }
 
 impl<'a, T> FusedIterator for ValuesByKey2<'a, T> {}
+
+impl<'a, T> Clone for ValuesByKey2<'a, T> {
+    ghost is_clone = { λ walk copy. copy ≡ walk };
+
+    ghost is_infallible = { λ _. ⊤ };
+
+    fn clone(&self) -> Result<Self, AllocError> {
+        Ok(ValuesByKey2 {
+            items: self.items,
+            order: self.order.clone()?,
+        })
+    }
+}
 
 impl<'a, T> fmt::Debug for ValuesByKey2<'a, T> {
     fn fmt<W: fmt::Write>(&self, f: &mut fmt::Formatter<W>) -> fmt::Result {
