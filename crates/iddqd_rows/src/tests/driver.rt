@@ -26,6 +26,11 @@ pub(super) fn ix(number: u32) -> ItemIndex {
     ItemIndex::new(number)
 }
 
+/// The index of the slot of that number.
+pub(super) fn index(number: usize) -> ItemIndex {
+    ItemIndex::new(u32::try_from(number).unwrap_or(u32::MAX))
+}
+
 pub(super) fn record(first: u32, second: u32) -> Record {
     Record {
         first,

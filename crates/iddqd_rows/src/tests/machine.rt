@@ -2,7 +2,7 @@
 //!
 //! It keeps lists and goes over them from end to end. To it the hash of a first key is the key, so the
 //! driver beside it has the hasher `Own`.
-use super::model::index;
+use super::driver::index;
 use iddqd::item_index::ItemIndex;
 use iddqd_keyed::command::{Command, Reply};
 use iddqd_keyed::keyed_items::InsertRefusal;

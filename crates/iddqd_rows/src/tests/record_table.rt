@@ -89,8 +89,9 @@ fn three_records(rt: &impl Abort, alloc: Global) -> Items {
     items
 }
 
-fn assert_walks(rt: &impl Abort, items: &Items) {
+fn assert_walks(rt: &impl Abort, items: &Items) -> Result<(), AllocError> {
     let mut values = items.values_by_key2();
+    let copy = values.clone()?;
     assert!(rt; values.len() == 3);
     assert!(rt; matches!(values.next(), Some(item) if *item == record(2, 10)));
     assert!(rt; matches!(values.next_back(), Some(item) if *item == record(1, 30)));
@@ -100,6 +101,8 @@ fn assert_walks(rt: &impl Abort, items: &Items) {
     assert!(rt;
         matches!(pairs.next_back(), Some((at, item)) if at == ix(2) && *item == record(3, 20))
     );
+    assert!(rt; copy.len() == 3);
+    Ok(())
 }
 
 fn assert_gets(rt: &impl Abort, items: &Items) {
@@ -109,10 +112,11 @@ fn assert_gets(rt: &impl Abort, items: &Items) {
 }
 
 #[test]
-fn values_go_by_second_keys_from_both_ends(rt: HostRuntime) {
+fn values_go_by_second_keys_from_both_ends(rt: HostRuntime) -> Result<(), Fail> {
     let items = three_records(&rt, rt.alloc());
-    assert_walks(&rt, &items);
+    assert_walks(&rt, &items)?;
     assert_gets(&rt, &items);
+    Ok(())
 }
 
 // An index, the keys of the record that it is to have, and what is answered.

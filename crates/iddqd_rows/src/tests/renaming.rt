@@ -1,6 +1,6 @@
 //! What a compaction tells and leaves, by the machine.
+use super::driver::index;
 use super::machine::Machine;
-use super::model::index;
 use iddqd::index_remap::IndexRemap;
 use iddqd::item_index::ItemIndex;
 use std::alloc::AllocError;

@@ -1,6 +1,6 @@
 //! What scans of the live items answer, and when the driver is to answer just so.
+use super::driver::index;
 use super::machine::Machine;
-use super::model::index;
 use iddqd::item_index::ItemIndex;
 use iddqd_keyed::command::{Command, Reply};
 use iddqd_keyed::keyed_items::InsertRefusal;

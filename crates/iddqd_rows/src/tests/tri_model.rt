@@ -1,8 +1,7 @@
 //! Items with three keys beside a plain list of slots.
 use super::commands::Numbers;
-use super::driver::ix;
+use super::driver::{index, ix};
 use super::holds;
-use super::model::index;
 use super::tri::{Answer, Trio, find1, find2, find3, get, insert, remove};
 use iddqd::hash_builder::DefaultHashBuilder;
 use iddqd::item_index::ItemIndex;

@@ -2,9 +2,9 @@
 use super::calls::{find1, find2, get, step, walk};
 use super::commands::copy_of;
 use super::counted::Own;
+use super::driver::index;
 use super::holds;
 use super::machine::Machine;
-use super::model::index;
 use super::scans::{is_in_order, scan1, scan2, scanned, sorted_scan};
 use iddqd::item_index::ItemIndex;
 use iddqd_keyed::command::{Command, Reply};
