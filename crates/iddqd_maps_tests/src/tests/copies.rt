@@ -72,24 +72,53 @@ len: count 2
 find number 4: none
 ";
 
+// The same of the second keys.
+const SEATS_COPIED: &str = "\
+find seat 11: at 0
+find seat 13: at 2
+find seat 14: at 1
+";
+
+const SEATS_LEFT: &str = "\
+find seat 11: at 0
+find seat 14: none
+";
+
 // A copy has the same cards under the same indexes, with the same free ones, and changes alone.
-fn assert_copies(rt: &impl Abort, map: &mut impl Copies) -> Result<(), AllocError> {
+fn assert_copies(
+    rt: &impl Abort,
+    map: &mut impl Copies,
+    seats_copied: &str,
+    seats_left: &str,
+) -> Result<(), AllocError> {
     assert_script(rt, map, THREE);
     assert_script(rt, map, GAP);
     let mut copy = map.copy()?;
     assert!(rt; copy.is_same(map) && map.is_same(&copy));
     assert_script(rt, &mut copy, COPIED);
+    assert_script(rt, &mut copy, seats_copied);
     assert!(rt; !copy.is_same(map) && !map.is_same(&copy));
     assert_script(rt, map, LEFT);
+    assert_script(rt, map, seats_left);
     Ok(())
 }
 
 #[test]
 fn a_clone_has_the_same_cards(rt: HostRuntime) -> Result<(), Fail> {
-    assert_copies(&rt, &mut IdHashMap::new(rt.alloc()))?;
-    assert_copies(&rt, &mut IdOrdMap::new(rt.alloc()))?;
-    assert_copies(&rt, &mut BiHashMap::new(rt.alloc()))?;
-    assert_copies(&rt, &mut TriHashMap::new(rt.alloc()))?;
+    assert_copies(&rt, &mut IdHashMap::new(rt.alloc()), "", "")?;
+    assert_copies(&rt, &mut IdOrdMap::new(rt.alloc()), "", "")?;
+    assert_copies(
+        &rt,
+        &mut BiHashMap::new(rt.alloc()),
+        SEATS_COPIED,
+        SEATS_LEFT,
+    )?;
+    assert_copies(
+        &rt,
+        &mut TriHashMap::new(rt.alloc()),
+        SEATS_COPIED,
+        SEATS_LEFT,
+    )?;
     Ok(())
 }
 
@@ -126,6 +155,9 @@ fn assert_same<M: Copies>(rt: &impl Abort, map: &mut M, other: &mut M) {
     assert!(rt; !are_same(map, other));
     assert_script(rt, other, "insert 4 14 24 0: at 0");
     assert!(rt; !are_same(map, other));
+    assert_script(rt, other, "remove number 4: card 4 14 24 0");
+    assert_script(rt, map, "remove number 3: card 3 13 23 0");
+    assert!(rt; are_same(map, other));
 }
 
 #[test]

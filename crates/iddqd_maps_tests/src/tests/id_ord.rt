@@ -42,7 +42,7 @@ fn retain(map: &mut Map, of: u32) -> Reply {
 
 fn walk(map: &Map) -> Reply {
     let mut told = Numbers::new();
-    for (_, card) in map.iter() {
+    for (_, card) in map {
         told.push(card.number);
     }
     Reply::Told(told)

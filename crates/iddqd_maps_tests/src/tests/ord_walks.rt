@@ -6,10 +6,12 @@ ghost use Rattle.iddqd_sides.specs.OrderedQuery.{IsQuery-key};
 
 use super::cards::{Card, alike, printed};
 use iddqd_maps::id_ord_map::{IdOrdItem, IdOrdMap, IntoValues, Iter};
+use iddqd_maps::item_index::ItemIndex;
 use iddqd_sides::order_query::OrdQuery;
 use std::alloc::{AllocError, Global};
 use std::cell::Cell;
 use std::cmp::Ordering;
+use std::ops::Bound;
 use std::process::Abort;
 use std::test::Fail;
 
@@ -163,6 +165,7 @@ fn ends(map: &IdOrdMap<Card>) -> ((u32, u32), (u32, u32), usize) {
 }
 
 fn assert_ends(rt: &impl Abort, map: &mut IdOrdMap<Card>) {
+    assert!(rt; ends(map) == ((0, 0), (0, 0), 0));
     for number in [5, 9, 1, 7] {
         assert!(rt; map.insert_unique(printed(number, 0, 0, 0)).is_ok());
     }
@@ -185,7 +188,23 @@ fn assert_copied(rt: &impl Abort, map: &IdOrdMap<Card>) -> Result<(), AllocError
     assert!(rt; step(&mut walk) == (2, 1) && copy.len() == 0);
     let mut values = map.values().clone()?;
     assert!(rt; values.next().copied() == Some(alike(1)) && values.len() == 2);
+    assert_range_copied(rt, map)
+}
+
+fn assert_range_copied(rt: &impl Abort, map: &IdOrdMap<Card>) -> Result<(), AllocError> {
+    let mut walk = map.range(Bound::Included(&2), Bound::Unbounded);
+    let mut copy = walk.clone()?;
+    assert!(rt; number(copy.next()) == 2 && number(copy.next_back()) == 3);
+    assert!(rt; number(walk.next()) == 2 && number(copy.next()) == 0);
     Ok(())
+}
+
+// The number of a card that a walk gives, or 0 at its end.
+fn number(step: Option<(ItemIndex, &Card)>) -> u32 {
+    match step {
+        Some((_, card)) => card.number,
+        None => 0,
+    }
 }
 
 #[test]

@@ -3,7 +3,7 @@
 //! With ample memory each is done. Run by `tools/refused-memory` they show what a refusal leaves: the map is as it was,
 //! and once there is memory the call is done.
 use super::calls::{Call, Calls, Copies, Numbers, Reply};
-use super::cards::{Card, Which, alike};
+use super::cards::{Card, Which, alike, printed};
 use super::lines::assert_script;
 use iddqd::item_index::ItemIndex;
 use iddqd_maps::bi_hash_map::BiHashMap;
@@ -53,13 +53,17 @@ fn answers(map: &mut impl Calls, call: Call, want: Reply) -> bool {
 fn fill(rt: &impl Abort, map: &mut impl Calls, end: u32) {
     for number in 0..end {
         assert!(rt; answers(map, Call::Insert(alike(number)), Reply::At(at(number))));
+        assert!(rt; !answers(map, Call::Has(Which::Number, number), Reply::Is(false)));
     }
 }
 
-// More cards come, by the other insert.
+// More cards come, by the other insert, and displace each other.
 fn overfill(rt: &impl Abort, map: &mut impl Calls, end: u32) {
     for number in 20..end {
+        let card = printed(number, number, number, 0);
         let want = Reply::Displaced(at(number), [None; 3]);
+        assert!(rt; answers(map, Call::Overwrite(card), want));
+        let want = Reply::Displaced(at(number), [Some(card), None, None]);
         assert!(rt; answers(map, Call::Overwrite(alike(number)), want));
     }
 }
@@ -180,15 +184,15 @@ fn a_clone_that_memory_refuses_is_made_later(rt: HostRuntime) {
 }
 
 fn one(alloc: Global) -> bool {
-    IdHashMap::<Card>::with_capacity(alloc, 20).is_ok()
+    IdHashMap::<Card>::with_capacity(alloc, 20).is_ok_and(|map| map.is_empty())
 }
 
 fn two(alloc: Global) -> bool {
-    BiHashMap::<Card>::with_capacity(alloc, 20).is_ok()
+    BiHashMap::<Card>::with_capacity(alloc, 20).is_ok_and(|map| map.is_empty())
 }
 
 fn three(alloc: Global) -> bool {
-    TriHashMap::<Card>::with_capacity(alloc, 20).is_ok()
+    TriHashMap::<Card>::with_capacity(alloc, 20).is_ok_and(|map| map.is_empty())
 }
 
 #[test]

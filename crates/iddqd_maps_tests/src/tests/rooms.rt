@@ -1,6 +1,7 @@
 //! How many inserts maps have memory for.
 use super::calls::{Call, Calls, Reply};
 use super::cards::{Card, Which, alike};
+use super::lines::assert_script;
 use iddqd::internal::ValidateCompact;
 use iddqd_maps::bi_hash_map::BiHashMap;
 use iddqd_maps::id_hash_map::IdHashMap;
@@ -17,13 +18,14 @@ fn room(rt: &impl Abort, map: &mut impl Calls) -> usize {
 }
 
 // As many cards as were reserved for come in, and each takes the room of one; shrunken, the map has room for none.
-fn assert_room(rt: &impl Abort, map: &mut impl Calls) {
+fn assert_room(rt: &impl Abort, map: &mut impl Calls, which: Which) {
     assert!(rt; room(rt, map) == 0 && map.answer(&Call::Reserve(20)) == Reply::Done);
     for number in 0..20 {
         let before = room(rt, map);
         assert!(rt; before.saturating_add(number as usize) >= 20);
         assert!(rt; matches!(map.answer(&Call::Insert(alike(number))), Reply::At(_)));
         assert!(rt; room(rt, map).saturating_add(1) == before);
+        assert!(rt; map.answer(&Call::Get(which, number)) == Reply::Card(alike(number)));
     }
     assert!(rt; map.answer(&Call::Shrink) == Reply::Done && room(rt, map) == 0);
     assert!(rt; map.answer(&Call::Remove(Which::Number, 0)) == Reply::Card(alike(0)));
@@ -32,9 +34,9 @@ fn assert_room(rt: &impl Abort, map: &mut impl Calls) {
 
 #[test]
 fn a_reserve_makes_the_room_that_it_tells(rt: HostRuntime) {
-    assert_room(&rt, &mut IdHashMap::new(rt.alloc()));
-    assert_room(&rt, &mut BiHashMap::new(rt.alloc()));
-    assert_room(&rt, &mut TriHashMap::new(rt.alloc()));
+    assert_room(&rt, &mut IdHashMap::new(rt.alloc()), Which::Number);
+    assert_room(&rt, &mut BiHashMap::new(rt.alloc()), Which::Seat);
+    assert_room(&rt, &mut TriHashMap::new(rt.alloc()), Which::Code);
 }
 
 // A reserve within the room takes nothing, and one above it takes some.
@@ -59,6 +61,18 @@ fn insert(map: &mut impl Calls, number: u32) -> bool {
     matches!(map.answer(&Call::Insert(alike(number))), Reply::At(_))
 }
 
+const SHRUNK: &str = "\
+walk: told 1 2 3 4
+find number 3: at 0
+validate gaps: yes
+insert 6 6 6 6: at 4
+";
+
+const EMPTIED: &str = "\
+insert 7 7 7 7: at 0
+walk: told 7
+";
+
 // What is there stays, and the memory left is that of the slots.
 fn assert_shrunk(rt: &impl Abort, map: &mut IdOrdMap<Card>) {
     for number in [3, 4, 2, 1, 5] {
@@ -66,10 +80,10 @@ fn assert_shrunk(rt: &impl Abort, map: &mut IdOrdMap<Card>) {
     }
     assert!(rt; map.capacity() > 5 && map.remove(&5).is_some());
     assert!(rt; map.shrink_to_fit().is_ok() && map.capacity() == 5);
-    assert!(rt; map.len() == 4 && insert(map, 6));
+    assert_script(rt, map, SHRUNK);
     map.clear();
     assert!(rt; map.capacity() == 5 && map.shrink_to_fit().is_ok() && map.capacity() == 0);
-    assert!(rt; insert(map, 7));
+    assert_script(rt, map, EMPTIED);
 }
 
 #[test]
@@ -91,10 +105,20 @@ fn assert_many(rt: &impl Abort, map: &mut impl Calls, of: u32, left: usize) {
     }
 }
 
+// Those are in order.
+fn assert_many_in_order(rt: &impl Abort, map: &mut IdOrdMap<Card>, of: u32, left: usize) {
+    assert_many(rt, map, of, left);
+    let mut want = 0;
+    for card in map.values() {
+        assert!(rt; card.number == want);
+        want = want.saturating_add(of);
+    }
+}
+
 #[test]
 fn a_retain_of_many_leaves_a_sound_map(rt: HostRuntime) {
     for (of, left) in [(1, 1000), (2, 500), (3, 334), (10, 100), (999, 2)] {
-        assert_many(&rt, &mut IdOrdMap::new(rt.alloc()), of, left);
+        assert_many_in_order(&rt, &mut IdOrdMap::new(rt.alloc()), of, left);
         assert_many(&rt, &mut IdHashMap::new(rt.alloc()), of, left);
     }
 }

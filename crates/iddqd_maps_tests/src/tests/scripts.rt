@@ -87,6 +87,25 @@ insert 8 5 5 5: at 0
 ";
 
 #[test]
+fn cards_come_change_and_go_under_one_hash(rt: HostRuntime) {
+    assert_script(
+        &rt,
+        &mut IdHashMap::with_hasher(rt.alloc(), Constant),
+        FIRST_KEY,
+    );
+    assert_script(
+        &rt,
+        &mut BiHashMap::with_hasher(rt.alloc(), Constant),
+        FIRST_KEY,
+    );
+    assert_script(
+        &rt,
+        &mut TriHashMap::with_hasher(rt.alloc(), Constant),
+        FIRST_KEY,
+    );
+}
+
+#[test]
 fn cards_come_change_and_go_by_their_first_key(rt: HostRuntime) -> Result<(), Fail> {
     assert_all(&rt, rt.alloc(), u32::MAX, FIRST_KEY);
     assert_script(
@@ -212,9 +231,39 @@ reserve 3: done
 retain 1: told 4 2
 ";
 
+// What goes leaves the other tables too.
+const RETAINED_SEATS: &str = "\
+insert 4 14 24 0: at 0
+insert 3 13 23 0: at 1
+insert 2 12 22 0: at 2
+insert 1 11 21 0: at 3
+retain 2: told 4 3 2 1
+find seat 14: at 0
+find seat 12: at 2
+find seat 13: none
+find seat 11: none
+overwrite 5 13 25 0: stands 3
+find number 5: at 3
+find seat 13: at 3
+";
+
+const RETAINED_CODES: &str = "\
+insert 1 3 5 0: at 0
+insert 2 4 6 0: at 1
+retain 2: told 1 2
+len: count 1
+find seat 4: at 1
+find code 6: at 1
+has number 1: no
+has seat 3: no
+has code 5: no
+";
+
 #[test]
 fn a_retain_asks_by_rising_index(rt: HostRuntime) {
     assert_hashed(&rt, rt.alloc(), u32::MAX, RETAINED);
+    assert_several(&rt, rt.alloc(), u32::MAX, RETAINED_SEATS);
+    assert_three(&rt, rt.alloc(), u32::MAX, RETAINED_CODES);
 }
 
 const TWO_KEYS: &str = "\

@@ -1,13 +1,13 @@
 //! What maps and refusals print and hand back.
 use super::cards::{Card, alike, printed};
 use iddqd::item_index::ItemIndex;
-use iddqd_maps::bi_hash_map::BiHashMap;
+use iddqd_maps::bi_hash_map::{BiClash, BiHashMap};
 use iddqd_maps::id_hash_map::IdHashMap;
 use iddqd_maps::id_ord_map::IdOrdMap;
 use iddqd_maps::refusal::{InsertRefusal, OverwriteRefusal, ReplaceRefusal};
-use iddqd_maps::tri_hash_map::TriHashMap;
+use iddqd_maps::tri_hash_map::{TriClash, TriHashMap};
 use std::alloc::{AllocError, Global};
-use std::fmt::Debug;
+use std::fmt::{Debug, Display};
 use std::process::Abort;
 use std::test::Fail;
 
@@ -79,6 +79,37 @@ fn refusals_print_their_words(rt: HostRuntime) -> Result<(), Fail> {
     let memory = OverwriteRefusal::Memory(1);
     let text = format!(in rt.alloc(); "{full}, {missing}, {memory}")?;
     assert!(rt; text.as_str() == "full, missing, no memory");
+    Ok(())
+}
+
+// What a duplicate prints whose keys are there.
+fn assert_tells(
+    rt: &impl Abort,
+    alloc: Global,
+    at: &(impl Display + Copy),
+    want: &str,
+) -> Result<(), AllocError> {
+    let text = format!(in alloc; "{}", InsertRefusal::Duplicate { item: (), at: *at })?;
+    assert!(rt; text.as_str() == want);
+    let text = format!(in alloc; "{}", ReplaceRefusal::Duplicate { item: (), at: *at })?;
+    assert!(rt; text.as_str() == want);
+    Ok(())
+}
+
+#[test]
+fn a_duplicate_prints_where_its_keys_are(rt: HostRuntime) -> Result<(), Fail> {
+    let (one, other) = (ItemIndex::new(1), ItemIndex::new(20));
+    assert_tells(&rt, rt.alloc(), &one, "duplicate 1")?;
+    let key1 = Some(one);
+    let two = BiClash { key1, key2: None };
+    assert_tells(&rt, rt.alloc(), &two, "duplicate 1 -")?;
+    let key3 = Some(other);
+    let three = TriClash {
+        key1: None,
+        key2: key1,
+        key3,
+    };
+    assert_tells(&rt, rt.alloc(), &three, "duplicate - 1 20")?;
     Ok(())
 }
 
