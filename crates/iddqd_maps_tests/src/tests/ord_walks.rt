@@ -5,8 +5,7 @@ ghost use Rattle.std.specs.Ordering.{nat_cmp};
 ghost use Rattle.iddqd_sides.specs.OrderedQuery.{IsQuery-key};
 
 use super::cards::{Card, alike, printed};
-use iddqd_maps::id_ord_map::{IdOrdItem, IdOrdMap, IntoValues, Iter};
-use iddqd_maps::item_index::ItemIndex;
+use iddqd_maps::id_ord_map::{IdOrdItem, IdOrdMap, IntoValues, Iter, Range};
 use iddqd_sides::order_query::OrdQuery;
 use std::alloc::{AllocError, Global};
 use std::cell::Cell;
@@ -191,20 +190,20 @@ fn assert_copied(rt: &impl Abort, map: &IdOrdMap<Card>) -> Result<(), AllocError
     assert_range_copied(rt, map)
 }
 
-fn assert_range_copied(rt: &impl Abort, map: &IdOrdMap<Card>) -> Result<(), AllocError> {
-    let mut walk = map.range(Bound::Included(&2), Bound::Unbounded);
-    let mut copy = walk.clone()?;
-    assert!(rt; number(copy.next()) == 2 && number(copy.next_back()) == 3);
-    assert!(rt; number(walk.next()) == 2 && number(copy.next()) == 0);
-    Ok(())
-}
-
-// The number of a card that a walk gives, or 0 at its end.
-fn number(step: Option<(ItemIndex, &Card)>) -> u32 {
-    match step {
+// The number of the next card of a range, or 0 at its end.
+fn next_number(walk: &mut Range<'_, Card>) -> u32 {
+    match walk.next() {
         Some((_, card)) => card.number,
         None => 0,
     }
+}
+
+fn assert_range_copied(rt: &impl Abort, map: &IdOrdMap<Card>) -> Result<(), AllocError> {
+    let mut walk = map.range(Bound::Included(&2), Bound::Unbounded);
+    let mut copy = walk.clone()?;
+    assert!(rt; next_number(&mut copy) == 2 && next_number(&mut copy) == 3);
+    assert!(rt; next_number(&mut walk) == 2 && next_number(&mut copy) == 0);
+    Ok(())
 }
 
 #[test]
