@@ -16,15 +16,21 @@ fn a_find_in_nothing_asks_nothing(rt: HostRuntime) {
 #[test]
 fn a_find_in_a_thousand_asks_at_most_24_times(rt: HostRuntime) -> Result<(), Fail> {
     let table = filled(&rt, rt.alloc(), 1000, Ordering::Greater)?;
-    assert!(rt; bound(1000) == 24);
+    assert!(rt; bound(1000) == 24 && asks_at_most(&table, 24));
+    Ok(())
+}
+
+// Whether finds that don't hit ask at most so often, whatever they are answered in turn.
+fn asks_at_most(table: &MapBTreeTable, most: u32) -> bool {
     for odd in [Ordering::Less, Ordering::Greater] {
         for even in [Ordering::Less, Ordering::Greater] {
-            let (found, asks) = find_told(&table, odd, even);
-            assert!(rt; found.is_none());
-            assert!(rt; 0 < asks && asks <= 24);
+            let (found, asks) = find_told(table, odd, even);
+            if found.is_some() || asks == 0 || asks > most {
+                return false;
+            }
         }
     }
-    Ok(())
+    true
 }
 
 // What a find asked: all its asks, and those after an answer that was Equal.
@@ -57,17 +63,23 @@ impl Asked {
 fn a_find_asks_nothing_after_its_hit(rt: HostRuntime) -> Result<(), Fail> {
     let table = filled(&rt, rt.alloc(), 100, Ordering::Greater)?;
     for sought in 0..100 {
-        let mut asked = Asked::new();
-        let mut asking = Asking::new(|ix: ItemIndex| {
-            let answer = sought.cmp(&ix.as_u32());
-            asked.count(answer == Ordering::Equal);
-            answer
-        });
-        assert!(rt; table.find_by(&mut asking) == Some(ItemIndex::new(sought)));
-        assert!(rt; asked.after_hit == 0);
-        assert!(rt; asked.asks <= 18);
+        let (found, asked) = find_asked(&table, sought);
+        assert!(rt; found == Some(ItemIndex::new(sought)));
+        assert!(rt; asked.after_hit == 0 && asked.asks <= 18);
     }
     Ok(())
+}
+
+// Finds a number, and says what was asked.
+fn find_asked(table: &MapBTreeTable, sought: u32) -> (Option<ItemIndex>, Asked) {
+    let mut asked = Asked::new();
+    let mut asking = Asking::new(|ix: ItemIndex| {
+        let answer = sought.cmp(&ix.as_u32());
+        asked.count(answer == Ordering::Equal);
+        answer
+    });
+    let found = table.find_by(&mut asking);
+    (found, asked)
 }
 
 #[test]

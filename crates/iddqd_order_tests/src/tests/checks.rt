@@ -1,7 +1,6 @@
 //! What a table is answered, by its length and mode.
 use super::table_of;
 use iddqd::internal::{TableValidationError, ValidateCompact, ValidateRefusal};
-use iddqd_order::btree_table::MapBTreeTable;
 use std::alloc::{AllocError, Global};
 use std::process::Abort;
 use std::test::Fail;
@@ -21,41 +20,26 @@ fn words(
     }
 }
 
-fn expect(
-    rt: &impl Abort,
-    alloc: Global,
-    table: &MapBTreeTable,
-    expected: usize,
-    mode: ValidateCompact,
-    want: &str,
-) -> Result<(), AllocError> {
-    let told = words(alloc, table.validate(expected, mode))?;
-    assert!(rt; told.as_str() == want, "{told}");
-    Ok(())
-}
-
-fn checks(rt: &impl Abort, alloc: Global) -> Result<(), AllocError> {
-    expect(rt, alloc, &MapBTreeTable::new(alloc), 0, COMPACT, "ok")?;
-    let dense = table_of(rt, alloc, &[2, 0, 1])?;
-    expect(
-        rt,
-        alloc,
-        &dense,
-        2,
-        NON_COMPACT,
-        "expected length 2, was 3",
-    )?;
-    expect(rt, alloc, &dense, 3, COMPACT, "ok")?;
-    let gaps = table_of(rt, alloc, &[4, 0, 2])?;
-    expect(rt, alloc, &gaps, 3, NON_COMPACT, "ok")?;
-    expect(
-        rt,
-        alloc,
-        &gaps,
+// The indexes of a table in order, the length that it is asked for, the mode, and the answer.
+const CHECKS: [(&[u32], usize, ValidateCompact, &str); 5] = [
+    (&[], 0, COMPACT, "ok"),
+    (&[2, 0, 1], 2, NON_COMPACT, "expected length 2, was 3"),
+    (&[2, 0, 1], 3, COMPACT, "ok"),
+    (&[4, 0, 2], 3, NON_COMPACT, "ok"),
+    (
+        &[4, 0, 2],
         3,
         COMPACT,
         "value at index 1 should be 1, was 2",
-    )?;
+    ),
+];
+
+fn checks(rt: &impl Abort, alloc: Global) -> Result<(), AllocError> {
+    for (indexes, expected, mode, want) in CHECKS {
+        let table = table_of(rt, alloc, indexes)?;
+        let told = words(alloc, table.validate(expected, mode))?;
+        assert!(rt; told.as_str() == want, "{told}");
+    }
     Ok(())
 }
 

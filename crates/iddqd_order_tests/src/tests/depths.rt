@@ -108,22 +108,37 @@ fn a_walk_may_be_cloned_at_each_place(rt: HostRuntime) -> Result<(), Fail> {
     Ok(())
 }
 
+// Each search of the table by these answers in turn asks at most so often; none hits.
+fn assert_asks(
+    rt: &impl Abort,
+    table: &mut MapBTreeTable,
+    len: u32,
+    most: u32,
+    [odd, even]: [Ordering; 2],
+) -> Result<(), AllocError> {
+    let (found, asks) = find_told(table, odd, even);
+    assert!(rt; found.is_none() && asks <= most && asks <= bound(len as usize));
+    let (is_removed, asks) = remove_told(table, len, odd, even);
+    assert!(rt; !is_removed && asks <= most);
+    let mut copy = table.clone()?;
+    assert!(rt; insert_told(rt, &mut copy, len, odd, even)? <= most);
+    Ok(())
+}
+
+// What is answered in turn.
+static ANSWERS: [[Ordering; 2]; 4] = [
+    [Ordering::Less, Ordering::Less],
+    [Ordering::Less, Ordering::Greater],
+    [Ordering::Greater, Ordering::Less],
+    [Ordering::Greater, Ordering::Greater],
+];
+
 #[test]
 fn a_search_asks_four_times_a_level(rt: HostRuntime) -> Result<(), Fail> {
     for (len, levels) in &LEVELS {
         let mut table = filled(&rt, rt.alloc(), *len, Ordering::Greater)?;
-        for odd in [Ordering::Less, Ordering::Greater] {
-            for even in [Ordering::Less, Ordering::Greater] {
-                let (found, asks) = find_told(&table, odd, even);
-                assert!(rt; found.is_none());
-                assert!(rt; asks <= levels.wrapping_mul(4) && asks <= bound(*len as usize));
-                let (is_removed, asks) = remove_told(&mut table, *len, odd, even);
-                assert!(rt; !is_removed);
-                assert!(rt; asks <= levels.wrapping_mul(4));
-                let mut copy = table.clone()?;
-                let asks = insert_told(&rt, &mut copy, *len, odd, even)?;
-                assert!(rt; asks <= levels.wrapping_mul(4));
-            }
+        for answers in &ANSWERS {
+            assert_asks(&rt, &mut table, *len, levels.wrapping_mul(4), *answers)?;
         }
     }
     Ok(())
