@@ -98,16 +98,16 @@ fn assert_tells(
 
 #[test]
 fn a_duplicate_prints_where_its_keys_are(rt: HostRuntime) -> Result<(), Fail> {
-    let (one, other) = (ItemIndex::new(1), ItemIndex::new(20));
-    assert_tells(&rt, rt.alloc(), &one, "duplicate 1")?;
-    let key1 = Some(one);
-    let two = BiClash { key1, key2: None };
+    assert_tells(&rt, rt.alloc(), &ItemIndex::new(1), "duplicate 1")?;
+    let two = BiClash {
+        key1: Some(ItemIndex::new(1)),
+        key2: None,
+    };
     assert_tells(&rt, rt.alloc(), &two, "duplicate 1 -")?;
-    let key3 = Some(other);
     let three = TriClash {
         key1: None,
-        key2: key1,
-        key3,
+        key2: Some(ItemIndex::new(1)),
+        key3: Some(ItemIndex::new(20)),
     };
     assert_tells(&rt, rt.alloc(), &three, "duplicate - 1 20")?;
     Ok(())
