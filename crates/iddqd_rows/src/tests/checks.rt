@@ -1,14 +1,9 @@
-//! Checks of keyed items, and what a refusal of memory leaves of them.
+//! Checks of keyed items.
 ghost use Rattle.std.specs.Prelude.{◌+◌, ◌%◌, ◌^◌};
 ghost use Rattle.std.specs.List.{fold};
 
 use super::answers::assert_answers;
-use super::calls::remove;
-use super::driver::{Items, ix, no_items};
-use super::holds;
 use super::lines::serve_whole;
-use super::refused::{assert_holds, insert_next, nth};
-use iddqd::internal::{ValidateChaos, ValidateCompact, ValidateRefusal};
 use std::hash::{BuildHasher, Hasher};
 use std::process::Abort;
 use std::test::Fail;
@@ -54,47 +49,6 @@ validate compact no: KeyedItems index 0 is not found by its first key
 fn a_check_looks_first_keys_up(rt: HostRuntime) -> Result<(), Fail> {
     assert_answers(&rt, rt.alloc(), Sum(0), FIRST_KEY)?;
     Ok(())
-}
-
-const COMPACT: ValidateCompact = ValidateCompact::Compact;
-
-const NON_COMPACT: ValidateCompact = ValidateCompact::NonCompact;
-
-// Whether a check finds nothing wrong, as far as it has memory.
-fn passes(items: &Items, compactness: ValidateCompact, chaos: ValidateChaos) -> bool {
-    match items.validate(compactness, chaos) {
-        Ok(()) | Err(ValidateRefusal::Memory(_)) => true,
-        Err(ValidateRefusal::Invalid(_)) => false,
-    }
-}
-
-fn assert_passes(rt: &impl Abort, items: &Items) {
-    for chaos in [ValidateChaos::Yes, ValidateChaos::No] {
-        holds(rt, passes(items, COMPACT, chaos), &chaos);
-        holds(rt, passes(items, NON_COMPACT, chaos), &chaos);
-    }
-}
-
-#[test]
-fn a_refused_check_of_items_changes_nothing(rt: HostRuntime) {
-    let mut items = no_items(rt.alloc());
-    let mut taken = 0;
-    for _ in 0..20 {
-        taken = insert_next(&rt, &mut items, taken);
-        assert_passes(&rt, &items);
-        assert_holds(&rt, &items, 0, taken);
-    }
-}
-
-#[test]
-fn a_refused_check_of_a_vacant_slot_never_passes(rt: HostRuntime) {
-    let mut items = no_items(rt.alloc());
-    if insert_next(&rt, &mut items, 0) == 1 {
-        assert!(rt; remove(&mut items, ix(0)) == Some((ix(0), nth(0))));
-        let answer = items.validate(COMPACT, ValidateChaos::Yes);
-        assert!(rt; answer.is_err());
-        assert!(rt; passes(&items, NON_COMPACT, ValidateChaos::Yes));
-    }
 }
 
 // What the lines may be answered: all is taken, or one request for memory is refused.

@@ -72,22 +72,6 @@ impl Generator {
     }
 }
 
-/// The same command once more.
-pub(super) fn copy_of(command: &Command<Record>) -> Command<Record> {
-    match command {
-        Command::Insert(item) => Command::Insert(*item),
-        Command::Find1(key) => Command::Find1(*key),
-        Command::Find2(key) => Command::Find2(*key),
-        Command::Remove(ix) => Command::Remove(*ix),
-        Command::Remove1(key) => Command::Remove1(*key),
-        Command::Remove2(key) => Command::Remove2(*key),
-        Command::Overwrite(ix, item) => Command::Overwrite(*ix, *item),
-        Command::Compact => Command::Compact,
-        Command::Clear => Command::Clear,
-        Command::Walk => Command::Walk,
-    }
-}
-
 // The words of a command: how many numbers stand behind its verb, and these.
 fn words(command: &Command<Record>) -> (&'static str, usize, [u32; 4]) {
     match command {

@@ -18,10 +18,6 @@ pub(super) fn no_items(alloc: Global) -> Items {
     KeyedItems::new(alloc, DefaultHashBuilder::default())
 }
 
-pub(super) fn items_within(alloc: Global, limit: u32) -> Items {
-    KeyedItems::with_limit(alloc, DefaultHashBuilder::default(), limit)
-}
-
 pub(super) fn ix(number: u32) -> ItemIndex {
     ItemIndex::new(number)
 }

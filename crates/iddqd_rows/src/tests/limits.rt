@@ -1,12 +1,7 @@
 //! The driver where there are no more slots than a limit.
 use super::answers::assert_answers_within;
-use super::calls::{find1, insert};
 use super::collisions::Constant;
-use super::driver::{Items, items_within, ix, record};
-use super::holds;
 use iddqd::hash_builder::DefaultHashBuilder;
-use iddqd_keyed::command::Reply;
-use iddqd_keyed::keyed_items::InsertRefusal;
 use std::alloc::{AllocError, Global};
 use std::process::Abort;
 use std::test::Fail;
@@ -63,35 +58,4 @@ fn a_full_store_refuses_an_insert(rt: HostRuntime) -> Result<(), Fail> {
     assert_within(&rt, rt.alloc(), 2, TWO_SLOTS)?;
     assert_within(&rt, rt.alloc(), 2, COMPACTED_AND_CLEARED)?;
     Ok(())
-}
-
-// Inserts one more, and tells how many there are now. A full store says so whatever memory is refused, and one with
-// place never does.
-fn insert_next(rt: &impl Abort, items: &mut Items, taken: u32, limit: u32) -> u32 {
-    let item = record(taken, taken);
-    let reply = insert(items, item);
-    if taken < limit && reply == Reply::Inserted(ix(taken)) {
-        return taken.saturating_add(1);
-    }
-    let refusal = if taken == limit {
-        InsertRefusal::Full(item)
-    } else {
-        InsertRefusal::Memory(item)
-    };
-    let is_refused = reply == Reply::Refused(refusal);
-    holds(rt, is_refused, &(taken, limit));
-    holds(rt, find1(items, taken).is_none(), &(taken, limit));
-    taken
-}
-
-#[test]
-fn a_refused_insert_into_a_full_store_tells_full(rt: HostRuntime) {
-    for limit in 0..12u32 {
-        let mut items = items_within(rt.alloc(), limit);
-        let mut taken = 0;
-        for _ in 0..16 {
-            taken = insert_next(&rt, &mut items, taken, limit);
-        }
-        assert!(rt; items.len() == taken as usize);
-    }
 }

@@ -60,43 +60,6 @@ fn a_walk_goes_on_over_many_blocks(rt: HostRuntime) -> Result<(), Fail> {
     Ok(())
 }
 
-// Removals of every other one of the records, by its index, and their replies.
-fn put_removals(input: &mut String, want: &mut String, count: u32) -> Result<(), AllocError> {
-    for half in 0..count / 2 {
-        let n = half.wrapping_mul(2);
-        writeln!(input, "remove {n}")?;
-        writeln!(want, "{n} {n} {n} 7")?;
-    }
-    Ok(())
-}
-
-// The reply to a compaction where every other one of so many indexes is vacant.
-fn put_halved(text: &mut String, count: u32) -> Result<(), AllocError> {
-    text.push_str("permuted")?;
-    for n in 0..count / 2 {
-        write!(text, " - {n}")?;
-    }
-    text.push_str("\n")
-}
-
-// Inserts 3000 records, removes every other one by its index, and compacts twice. The first compaction's
-// reply is longer than a block.
-fn long_compaction(alloc: Global) -> Result<(String, String), AllocError> {
-    let (mut input, mut want) = inserts(alloc, 3000, true)?;
-    put_removals(&mut input, &mut want, 3000)?;
-    put_halved(&mut want, 3000)?;
-    input.push_str("compact\nget1 2999\ncompact\n")?;
-    want.push_str("1499 2999 2999 7\nidentity\n")?;
-    Ok((input, want))
-}
-
-#[test]
-fn a_compaction_goes_on_over_many_blocks(rt: HostRuntime) -> Result<(), Fail> {
-    let (input, want) = long_compaction(rt.alloc())?;
-    assert_replies(&rt, rt.alloc(), input.as_str(), want.as_str());
-    Ok(())
-}
-
 #[test]
 fn input_and_replies_go_on_over_many_blocks(rt: HostRuntime) -> Result<(), Fail> {
     let (input, want) = inserts(rt.alloc(), 2000, true)?;

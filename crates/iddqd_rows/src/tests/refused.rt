@@ -2,7 +2,7 @@
 //!
 //! With ample memory each insert is done. Run by `tools/refused-memory` they show what a
 //! refusal leaves. What they do between the calls takes no memory.
-use super::calls::{find1, find2, get, insert, remove, remove1, remove2};
+use super::calls::{find1, find2, get, insert, remove};
 use super::driver::{Items, ix, no_items, record};
 use super::holds;
 use iddqd::item_index::ItemIndex;
@@ -11,8 +11,8 @@ use iddqd_keyed::keyed_items::InsertRefusal;
 use iddqd_lines::record::Record;
 use std::process::Abort;
 
-/// The record with that index: the later it is inserted, the earlier it is in a walk.
-pub(super) fn nth(number: u32) -> Record {
+// The record with that index: the later it is inserted, the earlier it is in a walk.
+fn nth(number: u32) -> Record {
     record(number, 1000u32.saturating_sub(number))
 }
 
@@ -35,8 +35,8 @@ fn walks_down(items: &Items, start: u32, end: u32) -> bool {
     number == start
 }
 
-/// The records from `start` to before `end` are there, by each call, and neither of their neighbours.
-pub(super) fn assert_holds(rt: &impl Abort, items: &Items, start: u32, end: u32) {
+// The records from `start` to before `end` are there, by each call, and neither of their neighbours.
+fn assert_holds(rt: &impl Abort, items: &Items, start: u32, end: u32) {
     holds(rt, walks_down(items, start, end), &(start, end));
     assert!(rt; items.len() == end.saturating_sub(start) as usize);
     for number in start..end {
@@ -48,8 +48,8 @@ pub(super) fn assert_holds(rt: &impl Abort, items: &Items, start: u32, end: u32)
     }
 }
 
-/// Inserts the next record, and tells how many there are now.
-pub(super) fn insert_next(rt: &impl Abort, items: &mut Items, taken: u32) -> u32 {
+// Inserts the next record, and tells how many there are now.
+fn insert_next(rt: &impl Abort, items: &mut Items, taken: u32) -> u32 {
     let item = nth(taken);
     let reply = insert(items, item);
     if reply == Reply::Inserted(ix(taken)) {
@@ -84,32 +84,6 @@ fn an_insert_that_memory_refuses_changes_nothing(rt: HostRuntime) {
         assert_duplicates(&rt, &mut items, taken);
         assert_holds(&rt, &items, 0, taken);
     }
-}
-
-// Whether the record is removed by one of the three calls.
-fn removes(items: &mut Items, number: u32) -> bool {
-    let item = nth(number);
-    let removed = match number % 3 {
-        0 => remove(items, ix(number)),
-        1 => remove1(items, item.first),
-        _ => remove2(items, item.second),
-    };
-    removed == Some((ix(number), item))
-}
-
-#[test]
-fn a_removal_needs_no_memory(rt: HostRuntime) {
-    let mut items = no_items(rt.alloc());
-    let mut taken = 0;
-    for _ in 0..100 {
-        taken = insert_next(&rt, &mut items, taken);
-    }
-    for number in 0..taken {
-        assert_holds(&rt, &items, number, taken);
-        holds(&rt, removes(&mut items, number), &number);
-        holds(&rt, !removes(&mut items, number), &number);
-    }
-    assert_holds(&rt, &items, taken, taken);
 }
 
 // Gives the index 0 a record with other keys, and removes it.
