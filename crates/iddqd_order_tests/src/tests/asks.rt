@@ -33,53 +33,29 @@ fn asks_at_most(table: &MapBTreeTable, most: u32) -> bool {
     true
 }
 
-// What a find asked: all its asks, and those after an answer that was Equal.
-#[derive(Clone, Copy)]
-pub(super) struct Asked {
-    pub(super) asks: u32,
-    is_hit: bool,
-    pub(super) after_hit: u32,
-}
-
-impl Asked {
-    pub(super) fn new() -> Asked {
-        Asked {
-            asks: 0,
-            is_hit: false,
-            after_hit: 0,
-        }
-    }
-
-    pub(super) fn count(&mut self, is_equal: bool) {
-        self.asks = self.asks.wrapping_add(1);
-        if self.is_hit {
-            self.after_hit = self.after_hit.wrapping_add(1);
-        }
-        self.is_hit = self.is_hit || is_equal;
-    }
-}
-
 #[test]
 fn a_find_asks_nothing_after_its_hit(rt: HostRuntime) -> Result<(), Fail> {
     let table = filled(&rt, rt.alloc(), 100, Ordering::Greater)?;
     for sought in 0..100 {
-        let (found, asked) = find_asked(&table, sought);
+        let (found, asks) = find_asked(&table, sought);
         assert!(rt; found == Some(ItemIndex::new(sought)));
-        assert!(rt; asked.after_hit == 0 && asked.asks <= 18);
+        assert!(rt; asks == 1);
     }
     Ok(())
 }
 
-// Finds a number, and says what was asked.
-fn find_asked(table: &MapBTreeTable, sought: u32) -> (Option<ItemIndex>, Asked) {
-    let mut asked = Asked::new();
+// Finds a number, and says how often it asked from the first Equal answer on.
+fn find_asked(table: &MapBTreeTable, sought: u32) -> (Option<ItemIndex>, u32) {
+    let mut asks = 0u32;
     let mut asking = Asking::new(|ix: ItemIndex| {
         let answer = sought.cmp(&ix.as_u32());
-        asked.count(answer == Ordering::Equal);
+        if answer == Ordering::Equal || 0 < asks {
+            asks = asks.wrapping_add(1);
+        }
         answer
     });
     let found = table.find_by(&mut asking);
-    (found, asked)
+    (found, asks)
 }
 
 #[test]

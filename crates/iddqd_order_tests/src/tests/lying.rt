@@ -1,5 +1,5 @@
 //! Answers that fit no order.
-use super::{bound, filled, find_told, has_order, insert_by, insert_told, is_stored, remove_told};
+use super::{bound, filled, has_order, insert_by, insert_told, is_stored, remove_told};
 use iddqd::item_index::ItemIndex;
 use iddqd_order::btree_table::{Asking, MapBTreeTable};
 use std::alloc::{AllocError, Global};
@@ -31,15 +31,6 @@ fn equal_answers_go_by_the_index(rt: HostRuntime) -> Result<(), Fail> {
     assert!(rt; has_order(&table, &[0, 1, 2, 3, 100]));
     insert_told(&rt, &mut table, 50, Ordering::Less, Ordering::Less)?;
     assert!(rt; has_order(&table, &[50, 0, 1, 2, 3, 100]));
-    Ok(())
-}
-
-#[test]
-fn an_equal_answer_is_a_hit(rt: HostRuntime) -> Result<(), Fail> {
-    let table = falling(&rt, rt.alloc())?;
-    let (found, asks) = find_told(&table, Ordering::Equal, Ordering::Equal);
-    assert!(rt; found.is_some());
-    assert!(rt; asks == 1);
     Ok(())
 }
 

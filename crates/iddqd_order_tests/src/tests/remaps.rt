@@ -3,12 +3,11 @@ ghost use Rattle.std.specs.Prelude.{◌≡◌, ℕ, IsTrue, IfSome, All, Contain
 ghost use Rattle.iddqd.specs.Compaction.{CanRemap, remapped};
 ghost use Rattle.iddqd_order.specs.MapBTreeTable.{order_of};
 
-use super::{has_order, insert_told, table_of};
+use super::{has_order, table_of};
 use iddqd::index_remap::IndexRemap;
 use iddqd::item_index::ItemIndex;
 use iddqd_order::btree_table::MapBTreeTable;
 use std::alloc::{AllocError, Global};
-use std::cmp::Ordering;
 use std::process::Abort;
 use std::test::Fail;
 
@@ -82,50 +81,5 @@ fn each_index_gets_its_name_in_its_place(rt: HostRuntime) -> Result<(), Fail> {
     let mut turned = table_of(&rt, rt.alloc(), &[4, 0, 2])?;
     rename(&rt, &mut turned, &remap);
     assert!(rt; has_order(&turned, &[2, 0, 1]));
-    Ok(())
-}
-
-#[test]
-fn names_may_fall(rt: HostRuntime) -> Result<(), Fail> {
-    let mut table = table_of(&rt, rt.alloc(), &[1, 3, 0])?;
-    rename(&rt, &mut table, &remap_of(rt.alloc(), &[3, 1, S, 0])?);
-    assert!(rt; has_order(&table, &[1, 0, 3]));
-    Ok(())
-}
-
-#[test]
-fn an_empty_table_stays_empty(rt: HostRuntime) -> Result<(), Fail> {
-    let mut table = MapBTreeTable::new(rt.alloc());
-    rename(&rt, &mut table, &remap_of(rt.alloc(), &[S, 0])?);
-    rename(&rt, &mut table, &remap_of(rt.alloc(), &[])?);
-    assert!(rt; table.len() == 0);
-    Ok(())
-}
-
-#[test]
-fn identity_changes_nothing(rt: HostRuntime) -> Result<(), Fail> {
-    let mut table = table_of(&rt, rt.alloc(), &[4, 0, 2])?;
-    rename(&rt, &mut table, &IndexRemap::Identity);
-    assert!(rt; has_order(&table, &[4, 0, 2]));
-    Ok(())
-}
-
-// Falling names, in a root alone, below one inner node and below inner nodes of two levels.
-#[test]
-fn names_at_each_depth(rt: HostRuntime) -> Result<(), Fail> {
-    for len in [11u32, 60, 300] {
-        let mut table = MapBTreeTable::new(rt.alloc());
-        let mut names = Vec::new(rt.alloc());
-        let mut expected = Vec::new(rt.alloc());
-        for step in 0..len {
-            let ix = step.wrapping_mul(2);
-            insert_told(&rt, &mut table, ix, Ordering::Greater, Ordering::Greater)?;
-            names.push(len - 1 - step)?;
-            names.push(S)?;
-            expected.push(len - 1 - step)?;
-        }
-        rename(&rt, &mut table, &remap_of(rt.alloc(), &names)?);
-        assert!(rt; has_order(&table, &expected));
-    }
     Ok(())
 }

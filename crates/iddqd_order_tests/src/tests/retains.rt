@@ -1,9 +1,8 @@
 //! What `retain` asks and keeps.
-use super::{filled, has_order, table_of};
+use super::thousand::thousand;
+use super::{has_order, table_of};
 use iddqd::item_index::ItemIndex;
 use iddqd_order::btree_table::MapBTreeTable;
-use std::alloc::{AllocError, Global};
-use std::cmp::Ordering;
 use std::process::Abort;
 use std::test::Fail;
 
@@ -41,49 +40,9 @@ fn keep_sevenths(rt: &impl Abort, table: &mut MapBTreeTable) {
     assert!(rt; expected == 1001);
 }
 
-// The indexes below 1000 in order, added from the highest down.
-fn fallen(rt: &impl Abort, alloc: Global) -> Result<MapBTreeTable, AllocError> {
-    let mut table = MapBTreeTable::new(alloc);
-    for step in 0..1000 {
-        super::insert_told(rt, &mut table, 999 - step, Ordering::Less, Ordering::Less)?;
-    }
-    Ok(table)
-}
-
 #[test]
 fn a_seventh_of_a_thousand(rt: HostRuntime) -> Result<(), Fail> {
-    keep_sevenths(&rt, &mut filled(&rt, rt.alloc(), 1000, Ordering::Greater)?);
-    keep_sevenths(&rt, &mut fallen(&rt, rt.alloc())?);
-    Ok(())
-}
-
-// Keeps those of which one bit is set, of so many indexes.
-fn keep_by_bit(rt: &impl Abort, alloc: Global, len: u32, bit: u32) -> Result<(), AllocError> {
-    let mut table = filled(rt, alloc, len, Ordering::Greater)?;
-    let mut asks = 0u32;
-    table.retain(|ix| {
-        asks = asks.wrapping_add(1);
-        ix.as_u32() & bit != 0
-    });
-    let mut expected = Vec::new(alloc);
-    for ix in 0..len {
-        if ix & bit != 0 {
-            expected.push(ix)?;
-        }
-    }
-    assert!(rt; asks == len);
-    assert!(rt; table.len() == expected.len());
-    assert!(rt; has_order(&table, &expected));
-    Ok(())
-}
-
-// From one level to four; all go, all stay, every other one, long runs.
-#[test]
-fn what_is_kept_at_each_depth(rt: HostRuntime) -> Result<(), Fail> {
-    for len in [0u32, 1, 11, 12, 88, 89, 300, 700] {
-        for bit in [0u32, 1, 2, 16, 64, 512, u32::MAX] {
-            keep_by_bit(&rt, rt.alloc(), len, bit)?;
-        }
-    }
+    keep_sevenths(&rt, &mut thousand(&rt, rt.alloc(), true)?);
+    keep_sevenths(&rt, &mut thousand(&rt, rt.alloc(), false)?);
     Ok(())
 }

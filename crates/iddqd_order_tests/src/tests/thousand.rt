@@ -6,7 +6,12 @@ use std::alloc::{AllocError, Global};
 use std::process::Abort;
 use std::test::Fail;
 
-fn thousand(rt: &impl Abort, alloc: Global, is_rising: bool) -> Result<MapBTreeTable, AllocError> {
+// Such a table.
+pub(super) fn thousand(
+    rt: &impl Abort,
+    alloc: Global,
+    is_rising: bool,
+) -> Result<MapBTreeTable, AllocError> {
     let mut table = MapBTreeTable::new(alloc);
     for step in 0..1000 {
         let ix = if is_rising { step } else { 999 - step };

@@ -1,20 +1,26 @@
 //! The calls that ask nothing.
-use super::{has_order, insert_told, is_whole, table_of};
+use super::table_of;
 use iddqd::item_index::ItemIndex;
-use iddqd_order::btree_table::{Asking, MapBTreeTable};
+use iddqd_order::btree_table::{Asking, Iter, MapBTreeTable};
 use std::cmp::Ordering;
-use std::process::Abort;
 use std::test::Fail;
+
+// Whether the table tells of the indexes 2, 0 and 1.
+fn tells_of_three(table: &MapBTreeTable) -> bool {
+    table.len() == 3
+        && !table.is_empty()
+        && table.first() == Some(ItemIndex::new(2))
+        && table.last() == Some(ItemIndex::new(1))
+        && table.contains_index(ItemIndex::new(0))
+        && !table.contains_index(ItemIndex::new(3))
+}
 
 #[test]
 fn a_table_shows_its_order(rt: HostRuntime) -> Result<(), Fail> {
-    let empty = MapBTreeTable::new(rt.alloc());
-    assert!(rt; empty.first().is_none() && empty.last().is_none());
-    assert!(rt; empty.is_empty());
-    let table = table_of(&rt, rt.alloc(), &[2, 0, 1])?;
-    assert!(rt; !table.is_empty());
-    assert!(rt; table.first() == Some(ItemIndex::new(2)));
-    assert!(rt; table.last() == Some(ItemIndex::new(1)));
+    let mut table = table_of(&rt, rt.alloc(), &[2, 0, 1])?;
+    assert!(rt; tells_of_three(&table));
+    table.clear();
+    assert!(rt; table.is_empty() && table.first().is_none() && table.last().is_none());
     Ok(())
 }
 
@@ -29,38 +35,23 @@ fn a_table_prints_its_order(rt: HostRuntime) -> Result<(), Fail> {
     Ok(())
 }
 
-#[test]
-fn the_walk_removes_its_index_alone(rt: HostRuntime) -> Result<(), Fail> {
-    let mut table = table_of(&rt, rt.alloc(), &[2, 0, 1])?;
-    table.remove_exact(ItemIndex::new(0));
-    assert!(rt; has_order(&table, &[2, 1]));
-    table.remove_exact(ItemIndex::new(7));
-    assert!(rt; table.len() == 2);
-    Ok(())
+// Whether the walk gives 2, 0 and 1, tells how many are left, and stays ended.
+fn ends_meet(mut walk: Iter<'_>) -> bool {
+    walk.len() == 3
+        && walk.next() == Some(ItemIndex::new(2))
+        && walk.next_back() == Some(ItemIndex::new(1))
+        && walk.size_hint() == (1, Some(1))
+        && walk.next() == Some(ItemIndex::new(0))
+        && walk.next_back().is_none()
+        && walk.next().is_none()
+        && walk.len() == 0
 }
 
 #[test]
-fn a_cleared_table_is_empty(rt: HostRuntime) -> Result<(), Fail> {
-    let mut table = table_of(&rt, rt.alloc(), &[2, 0, 1])?;
-    table.clear();
-    assert!(rt; table.len() == 0);
-    assert!(rt; table.first().is_none());
-    Ok(())
-}
-
-#[test]
-fn a_walk_counts_down_and_stays_ended(rt: HostRuntime) -> Result<(), Fail> {
+fn the_ends_of_a_walk_meet(rt: HostRuntime) -> Result<(), Fail> {
     let table = table_of(&rt, rt.alloc(), &[2, 0, 1])?;
-    let mut walk = table.iter();
-    assert!(rt; walk.next() == Some(ItemIndex::new(2)));
-    let mut again = walk.clone()?;
-    for (left, expected) in [(2, Some(0)), (1, Some(1)), (0, None), (0, None)] {
-        assert!(rt; walk.len() == left);
-        assert!(rt; walk.size_hint() == (left, Some(left)));
-        assert!(rt; walk.next() == expected.map(ItemIndex::new));
-    }
-    assert!(rt; again.len() == 2);
-    assert!(rt; again.next() == Some(ItemIndex::new(0)));
+    let walk = table.iter();
+    assert!(rt; ends_meet(walk.clone()?) && ends_meet(walk));
     Ok(())
 }
 
@@ -85,48 +76,4 @@ fn a_prepared_insert_that_is_let_go_changes_nothing(rt: HostRuntime) -> Result<(
     }
     assert!(rt; table.len() == 1);
     Ok(())
-}
-
-fn counts_up(table: &MapBTreeTable) -> bool {
-    let mut expected = 0u32;
-    for ix in table.iter() {
-        if ix != ItemIndex::new(expected) {
-            return false;
-        }
-        expected = expected.wrapping_add(1);
-    }
-    true
-}
-
-// Adds an index behind all others, if memory is there, and answers how many there are then.
-fn add_behind(rt: &impl Abort, table: &mut MapBTreeTable, ix: u32) -> u32 {
-    let is_added = insert_told(rt, table, ix, Ordering::Greater, Ordering::Greater).is_ok();
-    let len = if is_added { ix.wrapping_add(1) } else { ix };
-    assert!(rt; table.len() == len as usize);
-    len
-}
-
-// Where memory is refused, the table has what it had, in its order.
-#[test]
-fn a_refused_insert_changes_nothing(rt: HostRuntime) {
-    let mut table = MapBTreeTable::new(rt.alloc());
-    let mut expected = 0u32;
-    for _ in 0..40 {
-        expected = add_behind(&rt, &mut table, expected);
-        assert!(rt; counts_up(&table));
-    }
-    assert!(rt; 39 <= expected);
-}
-
-// Added in rising order, an index goes through full nodes alone where the tree gets another level.
-#[test]
-fn a_refused_insert_over_full_nodes_changes_nothing(rt: HostRuntime) {
-    let mut table = MapBTreeTable::new(rt.alloc());
-    let mut expected = 0u32;
-    for _ in 0..700 {
-        expected = add_behind(&rt, &mut table, expected);
-        assert!(rt; is_whole(&table));
-    }
-    assert!(rt; counts_up(&table));
-    assert!(rt; 699 <= expected);
 }

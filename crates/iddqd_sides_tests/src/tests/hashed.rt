@@ -1,26 +1,22 @@
 //! Each call of a hashed side, by the key itself and by a query that isn't a key.
-ghost use Rattle.std.specs.Prelude.{◌≡◌, IsOk, IfOk, OnOk, OnErr};
-ghost use Rattle.iddqd.specs.{IsFull, IsValid, inserted, next_index};
+ghost use Rattle.iddqd.specs.{IsValid};
 ghost use Rattle.iddqd_hash.specs.{filed};
-ghost use Rattle.iddqd_sides.specs.Scan.{AnswersScan, passes_by};
-ghost use Rattle.iddqd_sides.specs.Hashed.{Holds, IsExact, hashing_of};
+ghost use Rattle.iddqd_sides.specs.Hashed.{Holds};
 
 use iddqd::hash_builder::DefaultHashBuilder;
 use iddqd::item_index::ItemIndex;
-use iddqd::item_set::{GrowError, ItemSet};
+use iddqd::item_set::ItemSet;
 use iddqd::map_hash::{Equivalent, MapHash};
 use iddqd_hash::hash_table::MapHashTable;
 use iddqd_sides::hashed;
 use iddqd_sides::key_of::{ByKey, KeyOf};
 use std::alloc::AllocError;
-use std::hash::{BuildHasher, Hash};
 use std::process::Abort;
 use std::test::Fail;
 
-#[derive(Clone, Copy, Debug, PartialEq, Eq)]
+#[derive(Drop)]
 pub(super) struct Badge {
     pub(super) number: u32,
-    pub(super) seat: u8,
 }
 
 // Names the number of a badge.
@@ -38,7 +34,7 @@ impl KeyOf<Badge> for Number {
 
 // A query that holds a key.
 #[derive(Drop)]
-pub(super) struct Held<K>(pub(super) K);
+struct Held<K>(K);
 
 impl<K: Eq> Equivalent<K> for Held<K> {
     ghost equivalent = { λ q k. K.eq q.0 k };
@@ -48,56 +44,32 @@ impl<K: Eq> Equivalent<K> for Held<K> {
     }
 }
 
-// A look-up by the key itself: of an exact side a scan.
-fn find_key<T, E, S: BuildHasher>(
-    table: &MapHashTable,
-    items: &ItemSet<T>,
-    state: &S,
-    key: &E::Key,
-) -> Option<ItemIndex>
-where
-    E: KeyOf<T>,
-    E::Key: Eq + Hash,
-    requires { Holds items.now.store (filed table.now) }
-    ensures { let hashing = hashing_of E.Key.eq E.Key.hash_input S.BuildHasher S.Hasher.Hasher state.now in
-        IsExact E.key_of hashing items.now.store (filed table.now)
-        → AnswersScan items.now.store (passes_by E.key_of (E.Key.eq key.now)) result }
-{
-    let hash = table.compute_hash(state, key);
-    hashed::find::<T, E, ByKey<E::Key>>(table, items, hash, &ByKey(key))
-}
-
-// Stores a badge under the next index.
-fn enter(items: &mut ItemSet<Badge>, badge: Badge) -> Result<ItemIndex, GrowError>
-    ensures index { IfOk result (λ ix. ix ≡ next_index items.old.store) }
-    ensures stored { OnOk result (items.new.store ≡ inserted items.old.store badge) }
-    ensures not_full { IsOk result → IsFull items.old.store → ⊥ }
-    ensures refused { OnErr result (items.new.store ≡ items.old.store) }
-{
-    match items.assert_can_grow() {
-        Ok(handle) => Ok(handle.insert(badge)),
-        Err(refusal) => Err(refusal),
-    }
-}
-
-// Stores a badge, without a look at its number.
-fn put(
-    items: &mut ItemSet<Badge>,
-    table: &mut MapHashTable,
-    badge: Badge,
-) -> Result<ItemIndex, GrowError>
+// Stores a badge, without a look at its number. None where memory is refused.
+fn put(items: &mut ItemSet<Badge>, table: &mut MapHashTable, badge: Badge) -> Option<ItemIndex>
     requires valid { IsValid items.old.store }
     requires holds { Holds items.old.store (filed table.old) }
     ensures valid { IsValid items.new.store }
     ensures holds { Holds items.new.store (filed table.new) }
 {
     if let Err(AllocError) = table.try_reserve(1) {
-        return Err(GrowError::Memory);
+        return None;
     }
     let hash = hash_of(table, badge.number);
-    let ix = enter(items, badge)?;
+    let handle = match items.assert_can_grow() {
+        Ok(handle) => handle,
+        Err(_) => return None,
+    };
+    let ix = handle.insert(badge);
     table.insert_prehashed_unchecked(hash, ix);
-    Ok(ix)
+    Some(ix)
+}
+
+// The index of the badge with a number.
+fn find(items: &ItemSet<Badge>, table: &MapHashTable, number: u32) -> Option<ItemIndex>
+    requires { Holds items.now.store (filed table.now) }
+{
+    let hash = hash_of(table, number);
+    hashed::find::<Badge, Number, ByKey<u32>>(table, items, hash, &ByKey(&number))
 }
 
 // Removes the badge that a query finds.
@@ -131,38 +103,25 @@ fn hash_of(table: &MapHashTable, number: u32) -> MapHash {
 }
 
 // Two badges are found, and removed, one by its number and one by its index under another number.
-fn comes_and_goes(
-    rt: &impl Abort,
-    items: &mut ItemSet<Badge>,
-    table: &mut MapHashTable,
-) -> Result<(), GrowError>
+fn comes_and_goes(rt: &impl Abort, items: &mut ItemSet<Badge>, table: &mut MapHashTable)
     requires valid { IsValid items.old.store }
     requires holds { Holds items.old.store (filed table.old) }
 {
-    let badge = Badge { number: 7, seat: 1 };
-    let other = Badge { number: 9, seat: 2 };
-    let first = put(items, table, badge)?;
-    let second = put(items, table, other)?;
-    let state = DefaultHashBuilder::default();
-    assert!(rt;
-        find_key::<Badge, Number, DefaultHashBuilder>(table, items, &state, &9) == Some(second)
-    );
-    assert!(rt;
-        find_key::<Badge, Number, DefaultHashBuilder>(table, items, &state, &7) == Some(first)
-    );
-    assert!(rt; find_key::<Badge, Number, DefaultHashBuilder>(table, items, &state, &8) == None);
-    assert!(rt; remove_held(items, table, 8) == None);
-    assert!(rt; remove_held(items, table, 9) == Some(other));
-    assert!(rt; remove(items, table, 8, second) == None);
-    assert!(rt; remove(items, table, 8, first) == Some(badge));
+    let (first, second) = (ItemIndex::new(0), ItemIndex::new(1));
+    assert!(rt; put(items, table, Badge { number: 7 }) == Some(first));
+    assert!(rt; put(items, table, Badge { number: 9 }) == Some(second));
+    assert!(rt; find(items, table, 9) == Some(second) && find(items, table, 8).is_none());
+    assert!(rt; remove_held(items, table, 8).is_none());
+    assert!(rt; remove_held(items, table, 9).is_some());
+    assert!(rt; remove(items, table, 8, second).is_none());
+    assert!(rt; remove(items, table, 8, first).is_some());
     assert!(rt; table.len() == 0);
-    Ok(())
 }
 
 #[test]
 fn badges_come_and_go(rt: HostRuntime) -> Result<(), Fail> {
     let mut items = ItemSet::new(rt.alloc());
     let mut table = MapHashTable::new(rt.alloc());
-    assert!(rt; comes_and_goes(&rt, &mut items, &mut table).is_ok());
+    comes_and_goes(&rt, &mut items, &mut table);
     Ok(())
 }
