@@ -1,4 +1,4 @@
-//! Each call of a hashed side, by the key itself and by a query that isn't a key.
+//! Each call of a hashed side over a small store, by the key itself and by a query that isn't a key.
 ghost use Rattle.iddqd.specs.{IsValid};
 ghost use Rattle.iddqd_hash.specs.{filed};
 ghost use Rattle.iddqd_sides.specs.Hashed.{Holds};

@@ -1,6 +1,6 @@
 use Rattle.iddqd_hash.specs.MapHashTable.{filed}
 use Rattle.iddqd_sides.proofs.HoldsLemmas.{Holds-removed}
-use Rattle.iddqd_sides_tests.proofs.tests.hashed.remove_held.Goals as goal
+use Rattle.iddqd_rows.proofs.tests.hashed.remove_held.Goals as goal
 
 pub returns : goal.returns
 returns c =

@@ -7,8 +7,8 @@ use Rattle.iddqd.proofs.StoreLemmas.{IsValid-inserted}
 use Rattle.iddqd_hash.specs.MapHashTable.{filed}
 use Rattle.iddqd_sides.proofs.HoldsLemmas.{next_unfiled, Holds-inserted}
 use Rattle.iddqd_sides.specs.Hashed.{Holds}
-use Rattle.iddqd_sides_tests.specs.declared.tests.hashed.Badge.{Badge}
-use Rattle.iddqd_sides_tests.proofs.tests.hashed.put.Goals as goal
+use Rattle.iddqd_rows.specs.declared.tests.hashed.Badge.{Badge}
+use Rattle.iddqd_rows.proofs.tests.hashed.put.Goals as goal
 
 pub insert_prehashed_unchecked-requires-clause-new : goal.insert_prehashed_unchecked-requires-clause-new
 insert_prehashed_unchecked-requires-clause-new c =

@@ -1,6 +1,6 @@
 use Rattle.iddqd_order.specs.MapBTreeTable.{order_of}
 use Rattle.iddqd_sides.proofs.OrderedHoldsLemmas.{Holds-removed}
-use Rattle.iddqd_sides_tests.proofs.tests.ordered.remove_found.Goals as goal
+use Rattle.iddqd_rows.proofs.tests.ordered.remove_found.Goals as goal
 
 pub returns : goal.returns
 returns c =

@@ -1,4 +1,4 @@
-//! Each call of an ordered side.
+//! Each call of an ordered side over a small store.
 ghost use Rattle.iddqd.specs.{IsValid};
 ghost use Rattle.iddqd_order.specs.{order_of};
 ghost use Rattle.iddqd_sides.specs.Ordered.{Holds};

@@ -7,8 +7,8 @@ use Rattle.iddqd_order.specs.PreparedBTreeInsert.{Prepared, table_of, index_of, 
 use Rattle.iddqd_order.specs.declared.btree_table.entry.VacantEntry.{VacantEntry}
 use Rattle.iddqd_sides.specs.Ordered.{Adds, Holds}
 use Rattle.iddqd_sides.proofs.OrderedHoldsLemmas.{next_absent, Holds-inserted}
-use Rattle.iddqd_sides_tests.specs.declared.tests.hashed.Badge.{Badge}
-use Rattle.iddqd_sides_tests.proofs.tests.ordered.put.Goals as goal
+use Rattle.iddqd_rows.specs.declared.tests.hashed.Badge.{Badge}
+use Rattle.iddqd_rows.proofs.tests.ordered.put.Goals as goal
 
 pub prepare-requires-clause-absent : goal.prepare-requires-clause-absent
 prepare-requires-clause-absent c =

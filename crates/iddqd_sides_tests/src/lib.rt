@@ -1,5 +1,0 @@
-//! Tests of sides.
-#![tactic(auto)]
-
-#[cfg(test)]
-mod tests;

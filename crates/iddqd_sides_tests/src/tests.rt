@@ -1,3 +1,0 @@
-//! Sides over a small store.
-mod hashed;
-mod ordered;
