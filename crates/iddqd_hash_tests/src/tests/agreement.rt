@@ -1,15 +1,19 @@
 //! Both tables give the same answers.
-use super::both::Both;
+use super::callers::{add, has};
+use super::changes::{add_open, remove_linear, remove_open};
 use super::holds;
+use super::look_ups::find_open;
+use iddqd_hash::hash_table_reference::HashTable;
+use iddqd_hash::open_table::OpenHashTable;
 use std::alloc::AllocError;
 use std::process::Abort;
 use std::test::Fail;
 
 // Whether look-ups for each of 31 values under each of eight hashes hit in both, or miss in both.
-fn have_same_hits(both: &Both) -> bool {
+fn have_same_hits(plain: &HashTable<u32>, open: &OpenHashTable<u32>) -> bool {
     for pair in 0..248u32 {
         let (hash, value) = ((pair / 31) as u64, pair % 31);
-        if both.plain.find(hash, value).0 != both.open.find(hash, value).0 {
+        if has(plain, hash, &value) != find_open(open, hash, value).0.is_some() {
             return false;
         }
     }
@@ -17,19 +21,27 @@ fn have_same_hits(both: &Both) -> bool {
 }
 
 // A removal of one match in three calls, and else an insert, on both. Whether both did it.
-fn change(both: &mut Both, call: u32) -> Result<bool, AllocError> {
+fn change(
+    plain: &mut HashTable<u32>,
+    open: &mut OpenHashTable<u32>,
+    call: u32,
+) -> Result<bool, AllocError> {
     let (hash, value) = ((call.wrapping_mul(5) % 8) as u64, call.wrapping_mul(7) % 31);
     if call % 3 == 0 {
-        Ok(both.plain.remove(hash, value) == both.open.remove(hash, value))
+        Ok(remove_linear(plain, hash, value) == remove_open(open, hash, value))
     } else {
-        Ok(both.plain.add(hash, value)? && both.open.add(hash, value)?)
+        Ok(add(plain, hash, value)? && add_open(open, hash, value)?)
     }
 }
 
-fn run_both(rt: &impl Abort, both: &mut Both) -> Result<(), AllocError> {
+fn run_both(
+    rt: &impl Abort,
+    plain: &mut HashTable<u32>,
+    open: &mut OpenHashTable<u32>,
+) -> Result<(), AllocError> {
     for call in 0..2000 {
-        let is_done = change(both, call)?;
-        let is_same = both.plain.len() == both.open.len() && have_same_hits(both);
+        let is_done = change(plain, open, call)?;
+        let is_same = plain.len() == open.len() && have_same_hits(plain, open);
         holds(rt, is_done && is_same, call);
     }
     Ok(())
@@ -37,6 +49,7 @@ fn run_both(rt: &impl Abort, both: &mut Both) -> Result<(), AllocError> {
 
 #[test]
 fn both_tables_agree(rt: HostRuntime) -> Result<(), Fail> {
-    run_both(&rt, &mut Both::new(rt.alloc()))?;
+    let mut plain = HashTable::new(rt.alloc());
+    run_both(&rt, &mut plain, &mut OpenHashTable::new(rt.alloc()))?;
     Ok(())
 }

@@ -1,17 +1,19 @@
-//! What the contract of a table gives to callers with pure closures.
+//! The plain table: each call once. What the contract gives to callers with pure closures.
 ghost use Rattle.std.specs.Prelude.{◌≡◌, ◌==◌, ◌/◌, not, filter, map};
 ghost use Rattle.std.specs.List.Sorted.{IsPermutation};
 ghost use Rattle.std.specs.List.{list_any};
 ghost use Rattle.iddqd_hash.specs.HashTable.{entries, under};
 
 use super::changes::insert_linear;
+use super::copies::copy_linear;
+use super::entries::enter_linear;
 use iddqd_hash::hash_table_reference::HashTable;
 use std::alloc::AllocError;
 use std::cell::Cell;
 use std::test::Fail;
 
 // Whether a look-up for the value hits: exactly where it stands under the hash.
-fn has<T: Eq>(table: &HashTable<T>, hash: u64, value: &T) -> bool
+pub(crate) fn has<T: Eq>(table: &HashTable<T>, hash: u64, value: &T) -> bool
     ensures { result ≡ list_any (λ x. T.eq x value.now) (under hash (entries table.now)) }
 {
     table.find(hash, |x| *x == *value).is_some()
@@ -25,7 +27,7 @@ fn keep_others(table: &mut HashTable<u32>, value: u32)
 }
 
 // Halves each value under its hash, and counts the calls.
-pub(crate) fn halve(table: &mut HashTable<u32>) -> u32
+fn halve(table: &mut HashTable<u32>) -> u32
     ensures { IsPermutation (map (λ e. (e.0, e.1 / 2)) (entries table.old)) (entries table.new) }
 {
     let calls = Cell::new(0u32);
@@ -37,7 +39,7 @@ pub(crate) fn halve(table: &mut HashTable<u32>) -> u32
 }
 
 // Adds a value, where memory is there.
-fn add(table: &mut HashTable<u32>, hash: u64, value: u32) -> Result<bool, AllocError> {
+pub(crate) fn add(table: &mut HashTable<u32>, hash: u64, value: u32) -> Result<bool, AllocError> {
     table.try_reserve(1)?;
     Ok(insert_linear(table, hash, value))
 }
@@ -54,5 +56,30 @@ fn tells_what_is_there(table: &mut HashTable<u32>) -> Result<bool, AllocError> {
 #[test]
 fn pure_closures_tell_what_is_there(rt: HostRuntime) -> Result<(), Fail> {
     assert!(rt; tells_what_is_there(&mut HashTable::new(rt.alloc()))?);
+    Ok(())
+}
+
+// One value is entered and walked to. Room for a hundred is taken, and most of it given back.
+fn resizes(table: &mut HashTable<u32>) -> Result<bool, AllocError> {
+    let is_new = enter_linear(table, 7, 5)? && !enter_linear(table, 7, 5)?;
+    table.reserve(100)?;
+    let has_room = table.room() >= 100;
+    table.shrink_to(8)?;
+    let has_less = table.room() >= 7 && table.room() < 100;
+    table.shrink_to_fit()?;
+    Ok(is_new && has_room && has_less && table.iter().next() == Some(&5))
+}
+
+// A copy has the value still, once the table is cleared.
+fn is_copied(table: &mut HashTable<u32>) -> Result<bool, AllocError> {
+    let copy = copy_linear(table)?;
+    table.clear();
+    Ok(table.len() == 0 && copy.len() == 1 && has(&copy, 7, &5))
+}
+
+#[test]
+fn a_plain_table_is_resized_and_copied(rt: HostRuntime) -> Result<(), Fail> {
+    let mut table = HashTable::with_capacity(rt.alloc(), 2)?;
+    assert!(rt; resizes(&mut table)? && is_copied(&mut table)?);
     Ok(())
 }

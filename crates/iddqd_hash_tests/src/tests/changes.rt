@@ -1,7 +1,7 @@
 //! Inserts, removals and changes of all values, of either table.
-use super::asked::Asked;
 use iddqd_hash::hash_table_reference::HashTable;
 use iddqd_hash::open_table::OpenHashTable;
+use std::alloc::AllocError;
 use std::cell::Cell;
 
 pub(crate) fn insert_linear(table: &mut HashTable<u32>, hash: u64, value: u32) -> bool {
@@ -20,6 +20,16 @@ pub(crate) fn insert_open(table: &mut OpenHashTable<u32>, hash: u64, value: u32)
     true
 }
 
+// Makes room for a pair, and adds it.
+pub(crate) fn add_open(
+    table: &mut OpenHashTable<u32>,
+    hash: u64,
+    value: u32,
+) -> Result<bool, AllocError> {
+    table.try_reserve(1)?;
+    Ok(insert_open(table, hash, value))
+}
+
 pub(crate) fn remove_linear(table: &mut HashTable<u32>, hash: u64, value: u32) -> bool {
     match table.find_entry(hash, |x| *x == value) {
         Ok(entry) => entry.remove() == value,
@@ -29,29 +39,22 @@ pub(crate) fn remove_linear(table: &mut HashTable<u32>, hash: u64, value: u32) -
 
 pub(crate) fn remove_open(table: &mut OpenHashTable<u32>, hash: u64, value: u32) -> bool {
     match table.find_entry(hash, |x| *x == value) {
-        Ok(entry) => entry.remove() == value,
+        Ok(entry) => *entry.get() == value && entry.remove() == value,
         Err(()) => false,
     }
 }
 
-pub(crate) fn drop_with_linear(table: &mut HashTable<u32>, bits: u32) -> Asked {
-    let mut asked = Asked::new();
+// Keeps the values that have none of the bits, and tells how often it asked.
+pub(crate) fn drop_with_open(table: &mut OpenHashTable<u32>, bits: u32) -> u32 {
+    let mut asks = 0u32;
     table.retain(|x| {
-        asked.note(*x);
+        asks = asks.saturating_add(1);
         *x & bits == 0
     });
-    asked
+    asks
 }
 
-pub(crate) fn drop_with_open(table: &mut OpenHashTable<u32>, bits: u32) -> Asked {
-    let mut asked = Asked::new();
-    table.retain(|x| {
-        asked.note(*x);
-        *x & bits == 0
-    });
-    asked
-}
-
+// Halves each value, and counts the calls.
 pub(crate) fn halve_open(table: &mut OpenHashTable<u32>) -> u32 {
     let calls = Cell::new(0u32);
     table.rewrite(|x| {

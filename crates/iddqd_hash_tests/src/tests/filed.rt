@@ -5,8 +5,7 @@ ghost use Rattle.std.specs.FinMap as finite;
 ghost use Rattle.iddqd.specs.MapHash.{hash_one};
 ghost use Rattle.iddqd_hash.specs.MapHashTable.{filed, FindsWhere};
 
-use super::index_script::indexes_answer;
-use super::keys::{Constant, Held};
+use super::keys::Constant;
 use iddqd::hash_builder::DefaultHashBuilder;
 use iddqd::item_index::ItemIndex;
 use iddqd::map_hash::Same;
@@ -54,27 +53,6 @@ fn find_number<S: BuildHasher>(
     )
 }
 
-// The same by a query that isn't a key.
-fn find_held<S: BuildHasher>(
-    table: &MapHashTable,
-    state: &S,
-    keys: &[u32],
-    number: u32,
-) -> Option<ItemIndex>
-    requires { (ix : ℕ) → IsSome (finite.get (filed table.now) ix) → ix < length keys.now }
-    ensures { FindsWhere (λ ix. number == slice_index keys.now ix)
-        (hash_one S.BuildHasher S.Hasher.Hasher state.now (fed.u32 number)) (filed table.now) result }
-{
-    table.find_index(
-        state,
-        &Held(number),
-        |ix: ItemIndex|
-            requires { ix < length keys.now }
-            ensures { result.now ≡ slice_index keys.entry.now ix }
-        { &keys[ix.as_u32() as usize] },
-    )
-}
-
 #[test]
 fn a_constant_hasher_files_all_under_one_hash(rt: HostRuntime) {
     let table = MapHashTable::new(rt.alloc());
@@ -82,39 +60,13 @@ fn a_constant_hasher_files_all_under_one_hash(rt: HostRuntime) {
     assert!(rt; hash.hash() == 7 && hash.is_same_hash(&Constant, 2u32));
 }
 
-// Indexes under a constant hasher are told apart by their keys alone, and removed one by one.
-const ONE_GOES: &str = "\
-len: 3
-asks 7: 3
-hits 7: yes
-asks_to_hit 7: 1
-hits 8: no
-asks_to_hit 8: 0
-take 7 1: yes
-take 7 1: no
-len: 2
-asks 7: 2
-";
-
 #[test]
-fn finds_indexes_under_a_constant_hasher(rt: HostRuntime) -> Result<(), Fail> {
-    let keys = [10, 20, 30].as_slice();
-    let mut table = file_all(rt.alloc(), &Constant, keys)?;
-    let found = find_number(&table, &Constant, keys, 20);
-    let missed = find_number(&table, &Constant, keys, 40);
-    assert!(rt; found == Some(ItemIndex::new(1)) && missed.is_none());
-    indexes_answer(&rt, &mut table, ONE_GOES)?;
-    Ok(())
-}
-
-#[test]
-fn finds_by_a_query_of_another_type(rt: HostRuntime) -> Result<(), Fail> {
+fn finds_an_index_by_its_key(rt: HostRuntime) -> Result<(), Fail> {
     let keys = [10, 20, 30].as_slice();
     let state = DefaultHashBuilder::default();
     let table = file_all(rt.alloc(), &state, keys)?;
     let found = find_number(&table, &state, keys, 30);
-    let held = find_held(&table, &state, keys, 30);
-    let missed = find_held(&table, &state, keys, 40);
-    assert!(rt; held.is_some() && held == found && missed.is_none());
+    let missed = find_number(&table, &state, keys, 40);
+    assert!(rt; found == Some(ItemIndex::new(2)) && missed.is_none());
     Ok(())
 }

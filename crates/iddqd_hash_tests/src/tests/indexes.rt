@@ -1,13 +1,11 @@
-//! Removals from the table of indexes, and what its look-ups ask.
+//! Removals from the table of indexes.
 ghost use Rattle.std.specs.Prelude.{◌≡◌, ◌≢◌, Some};
 ghost use Rattle.std.specs.Bool.{OnTrue, OnFalse};
 ghost use Rattle.std.specs.FinMap as finite;
 ghost use Rattle.iddqd_hash.specs.MapHashTable.{filed};
 
-use super::index_script::none_answer;
 use iddqd::item_index::ItemIndex;
 use iddqd_hash::hash_table::MapHashTable;
-use std::test::Fail;
 
 // Removes the index where it is filed under the hash.
 pub(crate) fn remove_filed(table: &mut MapHashTable, hash: u64, ix: ItemIndex) -> bool
@@ -24,29 +22,11 @@ pub(crate) fn remove_filed(table: &mut MapHashTable, hash: u64, ix: ItemIndex) -
     }
 }
 
-// A look-up that gives the same answer at each index under the hash: whether it hits, and the number of its asks.
-pub(crate) fn answer_each(table: &mut MapHashTable, hash: u64, answer: bool) -> (bool, u32) {
-    let mut asks = 0u32;
-    let hit = table
-        .find_entry_by_hash(hash, |_| {
-            asks = asks.saturating_add(1);
-            answer
-        })
-        .is_ok();
-    (hit, asks)
-}
-
-const BY_INDEX: &str = "\
-file 1 4: yes
-file 2 4294967295: yes
-remove 4: yes
-len: 1
-take 1 4: no
-take 2 4294967295: yes
-";
-
-#[test]
-fn removes_by_index(rt: HostRuntime) -> Result<(), Fail> {
-    none_answer(&rt, rt.alloc(), BY_INDEX)?;
-    Ok(())
+// Removes the index where it is filed at all, and tells whether it was.
+pub(crate) fn remove(table: &mut MapHashTable, ix: ItemIndex) -> bool {
+    if !table.contains_index(ix) {
+        return false;
+    }
+    table.remove_by_index(ix);
+    true
 }

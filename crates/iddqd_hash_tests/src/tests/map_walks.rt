@@ -1,13 +1,12 @@
-//! Walks over the table of indexes, and `retain`.
+//! Walks over the table of indexes, `retain`, and copies.
 use super::filed::file_all;
-use iddqd::hash_builder::DefaultHashBuilder;
-use iddqd::item_index::ItemIndex;
+use super::keys::Constant;
 use iddqd_hash::hash_table::MapHashTable;
 use std::alloc::{AllocError, Global};
 use std::test::Fail;
 
 // Keeps every second index, and tells how many it asked of and their sum.
-pub(crate) fn keep_odd(table: &mut MapHashTable) -> (u32, u32) {
+fn keep_odd(table: &mut MapHashTable) -> (u32, u32) {
     let mut asks = 0u32;
     let mut sum = 0u32;
     table.retain(|ix| {
@@ -37,39 +36,23 @@ fn put_numbers(table: &MapHashTable, numbers: &mut Vec<u32>) -> Result<bool, All
 }
 
 // Whether exactly these indexes are filed; they are in rising order.
-pub(crate) fn has_numbers(
-    alloc: Global,
-    table: &MapHashTable,
-    wanted: &[u32],
-) -> Result<bool, AllocError> {
+fn has_numbers(alloc: Global, table: &MapHashTable, wanted: &[u32]) -> Result<bool, AllocError> {
     let mut numbers = Vec::new(alloc);
     Ok(put_numbers(table, &mut numbers)? && numbers.as_slice() == wanted)
 }
 
-// Whether of the first six indexes four are filed.
-fn contains_four(table: &MapHashTable) -> bool {
-    for number in 0..6 {
-        if table.contains_index(ItemIndex::new(number)) != (number < 4) {
-            return false;
-        }
-    }
-    true
-}
-
-fn walks(alloc: Global, table: &mut MapHashTable) -> Result<bool, AllocError> {
-    Ok(
-        has_numbers(alloc, table, &[0, 1, 2, 3])?
-            && contains_four(table)
-            && keep_odd(table) == (4, 6)
-            && has_numbers(alloc, table, &[1, 3])?
-            && !table.contains_index(ItemIndex::new(0)),
-    )
+// A copy keeps what its source has lost, and the other way round.
+fn changes_apart(alloc: Global, table: &mut MapHashTable) -> Result<bool, AllocError> {
+    let mut copy = table.clone()?;
+    let is_asked = keep_odd(&mut copy) == (3, 3);
+    let is_kept = has_numbers(alloc, table, &[0, 1, 2])?;
+    table.clear();
+    Ok(is_asked && is_kept && table.len() == 0 && has_numbers(alloc, &copy, &[1])?)
 }
 
 #[test]
-fn a_walk_gives_each_index_once(rt: HostRuntime) -> Result<(), Fail> {
-    let state = DefaultHashBuilder::default();
-    let mut table = file_all(rt.alloc(), &state, &[10, 20, 30, 40])?;
-    assert!(rt; walks(rt.alloc(), &mut table)?);
+fn a_copy_of_indexes_changes_apart(rt: HostRuntime) -> Result<(), Fail> {
+    let mut table = file_all(rt.alloc(), &Constant, &[10, 20, 30])?;
+    assert!(rt; changes_apart(rt.alloc(), &mut table)?);
     Ok(())
 }

@@ -1,6 +1,6 @@
 //! Printed forms.
-use super::filed::file_all;
-use super::keys::Constant;
+use super::renames::file_even;
+use iddqd::internal::ValidateCompact;
 use iddqd::item_index::ItemIndex;
 use iddqd_hash::hash_table::{HashedIndex, MapHashTable};
 use iddqd_hash::hash_table_reference::HashTable;
@@ -51,42 +51,31 @@ fn print_open(
 }
 
 #[test]
-fn prints_a_linear_table(rt: HostRuntime) -> Result<(), Fail> {
+fn prints_either_table(rt: HostRuntime) -> Result<(), Fail> {
     print_linear(&rt, rt.alloc(), &mut HashTable::new(rt.alloc()))?;
-    Ok(())
-}
-
-#[test]
-fn prints_a_table_with_open_addressing(rt: HostRuntime) -> Result<(), Fail> {
     print_open(&rt, rt.alloc(), &mut OpenHashTable::new(rt.alloc()))?;
     Ok(())
 }
 
-#[test]
-fn prints_a_table_of_indexes(rt: HostRuntime) -> Result<(), Fail> {
-    let want = "MapHashTable { table: OpenHashTable { len: 0, cells: 0, used: 0 } }";
-    expect(&rt, rt.alloc(), &MapHashTable::new(rt.alloc()), want)?;
-    Ok(())
-}
-
-#[test]
-fn prints_an_index_with_its_hash(rt: HostRuntime) -> Result<(), Fail> {
+// A table of the indexes 0, 2 and 4, a walk, an index and what checks answer.
+fn print_indexes(rt: &impl Abort, alloc: Global, table: &MapHashTable) -> Result<(), AllocError> {
     let index = HashedIndex {
         ix: ItemIndex::new(3),
         hash: 9,
     };
-    expect(&rt, rt.alloc(), &index, "HashedIndex { ix: 3, hash: 9 }")?;
-    Ok(())
+    let want = "(MapHashTable { table: OpenHashTable { len: 3, cells: 16, used: 3 } }, \
+        Indexes { remaining: 3 }, HashedIndex { ix: 3, hash: 9 })";
+    expect(rt, alloc, &(table, table.indexes(), index), want)?;
+    let short = table.validate(2, ValidateCompact::NonCompact).err();
+    let whole = table.validate(3, ValidateCompact::NonCompact).err();
+    let compact = table.validate(3, ValidateCompact::Compact).err();
+    let want = "(Some(Invalid(TableValidationError(\"expected length 2, was 3\"))), None, \
+        Some(Invalid(TableValidationError(\"expected value at index 1 to be 1, was 2\"))))";
+    expect(rt, alloc, &(short, whole, compact), want)
 }
 
 #[test]
-fn prints_a_walk_over_indexes(rt: HostRuntime) -> Result<(), Fail> {
-    let table = file_all(rt.alloc(), &Constant, &[10])?;
-    expect(
-        &rt,
-        rt.alloc(),
-        &table.indexes(),
-        "Indexes { remaining: 1 }",
-    )?;
+fn prints_a_table_of_indexes_and_its_checks(rt: HostRuntime) -> Result<(), Fail> {
+    print_indexes(&rt, rt.alloc(), &file_even(rt.alloc())?)?;
     Ok(())
 }

@@ -11,26 +11,8 @@ use iddqd_hash::hash_table::MapHashTable;
 use std::cell::Cell;
 use std::test::Fail;
 
-// An index whose key is the number, and how many keys the look-up read.
-fn count_reads(table: &MapHashTable, keys: &[u32], number: u32) -> (Option<ItemIndex>, u32)
-    requires { (ix : ℕ) → IsSome (finite.get (filed table.now) ix) → ix < length keys.now }
-{
-    let reads = Cell::new(0u32);
-    let found = table.find_index(
-        &Constant,
-        &Same(&number),
-        |ix: ItemIndex|
-            requires { ix < length keys.now }
-        {
-            reads.set(reads.get().saturating_add(1));
-            &keys[ix.as_u32() as usize]
-        },
-    );
-    (found, reads.get())
-}
-
-// As `count_reads`, under a hash that is given.
-fn count_reads_under(
+// An index under the hash whose key is the number, and how many keys the look-up read.
+fn count_reads(
     table: &MapHashTable,
     hash: u64,
     keys: &[u32],
@@ -56,14 +38,13 @@ fn count_reads_under(
 fn reads_up_to_the_match(table: &MapHashTable, keys: &[u32]) -> bool
     requires { (ix : ℕ) → IsSome (finite.get (filed table.now) ix) → ix < length keys.now }
 {
-    let first = count_reads(table, keys, 10).1;
-    let found = count_reads(table, keys, 20);
-    let third = count_reads(table, keys, 30).1;
-    count_reads(table, keys, 40) == (None, 3)
+    let first = count_reads(table, 7, keys, 10).1;
+    let found = count_reads(table, 7, keys, 20);
+    let third = count_reads(table, 7, keys, 30).1;
+    count_reads(table, 7, keys, 40) == (None, 3)
         && first.saturating_add(found.1).saturating_add(third) == 6
         && found.0 == Some(ItemIndex::new(1))
-        && count_reads_under(table, 7, keys, 20) == found
-        && count_reads_under(table, 8, keys, 20) == (None, 0)
+        && count_reads(table, 8, keys, 20) == (None, 0)
 }
 
 #[test]

@@ -3,8 +3,7 @@ ghost use Rattle.std.specs.Prelude.{◌≡◌, ◌⊎◌, ℕ, IfOk, IsSome};
 ghost use Rattle.std.specs.FinMap as finite;
 ghost use Rattle.iddqd_hash.specs.MapHashTable.{filed};
 
-use super::index_script::indexes_answer;
-use super::indexes::remove_filed;
+use super::indexes::{remove, remove_filed};
 use iddqd::index_remap::IndexRemap;
 use iddqd::item_index::ItemIndex;
 use iddqd::map_hash::MapHash;
@@ -35,59 +34,21 @@ fn close_gaps(alloc: Global, table: &mut MapHashTable) -> Result<(), AllocError>
     Ok(())
 }
 
-// An empty table stays empty, under any remap.
-fn remap_none(alloc: Global, remap: &IndexRemap) -> MapHashTable
-    ensures { filed result ≡ finite.empty }
-{
-    let mut table = MapHashTable::new(alloc);
-    table.remap_indexes(remap);
-    table
+// Each index has its new name under its hash, and goes.
+fn has_new_names(table: &mut MapHashTable) -> bool {
+    table.len() == 3
+        && remove_filed(table, 10, ItemIndex::new(0))
+        && remove_filed(table, 20, ItemIndex::new(1))
+        && !remove_filed(table, 20, ItemIndex::new(2))
+        && remove(table, ItemIndex::new(2))
+        && !remove(table, ItemIndex::new(4))
+        && table.len() == 0
 }
-
-// A table whose indexes keep their names stays as it is.
-fn keep_names(table: &mut MapHashTable)
-    ensures { filed table.new ≡ filed table.old }
-{
-    table.remap_indexes(&IndexRemap::Identity);
-}
-
-fn stays_under_the_identity(table: &mut MapHashTable) -> bool {
-    let room = table.room();
-    keep_names(table);
-    table.len() == 3 && table.room() == room && remove_filed(table, 20, ItemIndex::new(2))
-}
-
-#[test]
-fn keeps_each_name_under_the_identity(rt: HostRuntime) -> Result<(), Fail> {
-    assert!(rt; stays_under_the_identity(&mut file_even(rt.alloc())?));
-    Ok(())
-}
-
-// Each index has its new name under its hash, and none its old one.
-const RENAMED: &str = "\
-len: 3
-take 10 4: no
-take 20 2: no
-take 10 0: yes
-take 20 1: yes
-take 10 2: yes
-len: 0
-";
 
 #[test]
 fn gives_each_index_its_new_name(rt: HostRuntime) -> Result<(), Fail> {
     let mut table = file_even(rt.alloc())?;
-    let room = table.room();
     close_gaps(rt.alloc(), &mut table)?;
-    assert!(rt; table.room() == room);
-    indexes_answer(&rt, &mut table, RENAMED)?;
-    Ok(())
-}
-
-#[test]
-fn remaps_an_empty_table(rt: HostRuntime) -> Result<(), Fail> {
-    let names = IndexRemap::Permuted(vec![in rt.alloc(); ItemIndex::SENTINEL]?);
-    assert!(rt; remap_none(rt.alloc(), &IndexRemap::Identity).len() == 0);
-    assert!(rt; remap_none(rt.alloc(), &names).len() == 0);
+    assert!(rt; has_new_names(&mut table));
     Ok(())
 }

@@ -33,18 +33,6 @@ pub(super) fn get(set: &ItemSet<u32>, at: ItemIndex) -> Option<u32> {
     set.get(at).copied()
 }
 
-pub(super) fn remove(set: &mut ItemSet<u32>, at: ItemIndex) -> Option<u32> {
-    set.remove(at)
-}
-
-/// Writes over the item at an index, and gives what was there.
-pub(super) fn write(set: &mut ItemSet<u32>, at: ItemIndex, item: u32) -> Option<u32> {
-    let place = set.get_mut(at)?;
-    let old = *place;
-    *place = item;
-    Some(old)
-}
-
 /// Gives an index another item, where it is live.
 pub(super) fn replace(set: &mut ItemSet<u32>, at: ItemIndex, item: u32) -> Option<u32> {
     if set.get(at).is_some() {
@@ -93,18 +81,6 @@ pub(super) fn slots(
     Ok(slots)
 }
 
-/// Whether the items of all slots are these.
-pub(super) fn has_slots(set: &ItemSet<u32>, want: &[Option<u32>]) -> bool {
-    let mut items = 0usize;
-    for (number, item) in (0..u32::MAX).zip(want) {
-        if get(set, ix(number)) != *item {
-            return false;
-        }
-        items = items.saturating_add(item.is_some() as usize);
-    }
-    set.slot_count() == want.len() && set.len() == items
-}
-
 /// The new name that a compaction gave an index, if it did.
 pub(super) fn new_name(names: &IndexRemap, old: ItemIndex) -> Option<ItemIndex> {
     if names.can_remap(old) {
@@ -136,18 +112,11 @@ pub(super) fn words<E: Display + Drop>(
     }
 }
 
-// A caller, proved from the contract: a set is sound, so nothing is refused.
-fn expect_sound(set: &ItemSet<u32>) {
+/// What a set answers to a check that asks for no vacant slot. A set is sound, so to one that lets them be it never
+/// answers an error, as its contract proves.
+pub(super) fn validate(alloc: Global, set: &ItemSet<u32>) -> Result<String, AllocError> {
     match set.validate(ValidateCompact::NonCompact) {
-        Ok(()) => {}
+        Ok(()) => words(alloc, set.validate(ValidateCompact::Compact)),
         Err(_) => unreachable!(),
     }
-}
-
-/// What a set answers to a check that asks for no vacant slot. To one that lets them be it never answers an error.
-pub(super) fn validate(alloc: Global, set: &ItemSet<u32>) -> Result<String, AllocError> {
-    expect_sound(set);
-    let told = words(alloc, set.validate(ValidateCompact::Compact));
-    expect_sound(set);
-    told
 }

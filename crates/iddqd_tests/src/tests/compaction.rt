@@ -1,8 +1,4 @@
-use super::calls::{get, new_name};
 use super::scripts::assert_answers;
-use super::{gapped, is_gap, ix};
-use iddqd::item_set::{IndexRemap, ItemSet};
-use std::alloc::AllocError;
 use std::test::Fail;
 
 // The name 4294967295 is that of an index which was vacant.
@@ -45,42 +41,5 @@ compact: Identity";
 #[test]
 fn a_compaction_renames_what_is_there(rt: HostRuntime) -> Result<(), Fail> {
     assert_answers(&rt, rt.alloc(), SCRIPT)?;
-    Ok(())
-}
-
-// How many items were left, if each stands at its rank, which is its new name.
-fn ranks(set: &ItemSet<u32>, names: &IndexRemap, gaps: u32) -> Option<u32> {
-    let mut rank = 0u32;
-    for at in 0..6 {
-        let name = new_name(names, ix(at));
-        if is_gap(gaps, at) {
-            if name.is_some() {
-                return None;
-            }
-        } else {
-            if name != Some(ix(rank)) || get(set, ix(rank)) != Some(at.saturating_mul(10)) {
-                return None;
-            }
-            rank = rank.saturating_add(1);
-        }
-    }
-    Some(rank)
-}
-
-// Whether a compaction of these gaps among six slots gives the ranks, and leaves the room.
-fn compacts(set: &mut ItemSet<u32>, gaps: u32) -> Result<bool, AllocError> {
-    let room = set.room();
-    let names = set.compact()?;
-    let live = ranks(set, &names, gaps).map(|live| live as usize);
-    let is_dense = live == Some(set.len()) && set.slot_count() == set.len();
-    Ok(is_dense && names.is_identity() == (gaps == 0) && set.room() == room)
-}
-
-#[test]
-fn every_choice_of_gaps_gives_the_ranks(rt: HostRuntime) -> Result<(), Fail> {
-    for gaps in 0..64u32 {
-        let is_right = compacts(&mut gapped(&rt, rt.alloc(), 6, gaps)?, gaps)?;
-        assert!(rt; is_right);
-    }
     Ok(())
 }

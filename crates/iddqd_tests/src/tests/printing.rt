@@ -1,5 +1,5 @@
 use super::calls::{printed, shown};
-use super::scripts::{assert_answers, assert_told};
+use super::scripts::assert_told;
 use super::{ix, with_gaps};
 use iddqd::internal::{
     TableValidationError, ValidateChaos, ValidateCompact, ValidateRefusal, ValidationError,
@@ -22,60 +22,36 @@ pub(super) fn assert_prints<T: Debug>(
     Ok(())
 }
 
-const SETS: &str = "\
-# a new set
-new
-set: ItemSet { len: 0, slots: 0, free_head: 4294967295 }
-# a set with a vacant slot
-gaps 2 0
-set: ItemSet { len: 1, slots: 2, free_head: 0 }
-# new names
-compact: Permuted([4294967295, 0])
-compact: Identity";
-
-#[test]
-fn sets_print(rt: HostRuntime) -> Result<(), Fail> {
-    assert_answers(&rt, rt.alloc(), SETS)?;
-    Ok(())
-}
-
-#[test]
-fn slots_and_answers_print(rt: HostRuntime) -> Result<(), Fail> {
+// Slots, refusals, hashes and indexes.
+fn assert_parts_print(rt: &impl Abort, alloc: Global) -> Result<(), AllocError> {
     let slots = [ItemSlot::Occupied(10), ItemSlot::Vacant { next: ix(7) }];
     let refusals = (GrowError::Full, GrowError::Memory);
     let all = (slots, refusals, MapHash::new(7));
     let want = "([Occupied(10), Vacant { next: 7 }], (Full, Memory), MapHash { hash: 7 })";
-    assert_prints(&rt, rt.alloc(), &all, want)?;
+    assert_prints(rt, alloc, &all, want)?;
+    let told = shown(alloc, &ix(4294967294))?;
+    assert_told(rt, told.as_str(), "4294967294", "showing");
     Ok(())
 }
 
 #[test]
-fn modes_print(rt: HostRuntime) -> Result<(), Fail> {
-    let (compact, gaps) = (ValidateCompact::Compact, ValidateCompact::NonCompact);
-    let (yes, no) = (ValidateChaos::Yes, ValidateChaos::No);
-    assert!(rt; compact != gaps && yes != no);
-    let all = (compact, gaps, yes, no);
-    assert_prints(&rt, rt.alloc(), &all, "(Compact, NonCompact, Yes, No)")?;
+fn parts_and_modes_print(rt: HostRuntime) -> Result<(), Fail> {
+    assert_parts_print(&rt, rt.alloc())?;
+    let modes = (ValidateCompact::Compact, ValidateCompact::NonCompact);
+    let all = (modes, ValidateChaos::Yes, ValidateChaos::No);
+    assert_prints(&rt, rt.alloc(), &all, "((Compact, NonCompact), Yes, No)")?;
     Ok(())
 }
 
+// Of two sets with the same items, the second is consumed.
 fn assert_walks_print(
-    rt: &impl Abort,
-    alloc: Global,
-    set: &ItemSet<u32>,
-) -> Result<(), AllocError> {
-    let mut pairs = set.iter();
-    pairs.next();
-    let want = "(Iter { remaining: 1 }, Values { remaining: 2 })";
-    assert_prints(rt, alloc, &(pairs, set.values()), want)
-}
-
-fn assert_owned_print(
     rt: &impl Abort,
     alloc: Global,
     set: ItemSet<u32>,
     other: ItemSet<u32>,
 ) -> Result<(), AllocError> {
+    let want = "(Iter { remaining: 2 }, Values { remaining: 2 })";
+    assert_prints(rt, alloc, &(set.iter(), set.values()), want)?;
     let all = (set.into_values(), other.into_consuming());
     let want = "(IntoValues { remaining: 2 }, ConsumingItemSet { slots: 3 })";
     assert_prints(rt, alloc, &all, want)
@@ -84,9 +60,8 @@ fn assert_owned_print(
 #[test]
 fn walks_print(rt: HostRuntime) -> Result<(), Fail> {
     let set = with_gaps(&rt, rt.alloc(), 3, &[1])?;
-    assert_walks_print(&rt, rt.alloc(), &set)?;
     let other = with_gaps(&rt, rt.alloc(), 3, &[1])?;
-    assert_owned_print(&rt, rt.alloc(), set, other)?;
+    assert_walks_print(&rt, rt.alloc(), set, other)?;
     Ok(())
 }
 

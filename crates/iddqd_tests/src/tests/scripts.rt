@@ -4,12 +4,10 @@
 //! no colon, and a line that begins with `#` is a title. `end` is the number of `SENTINEL`. Where memory is refused
 //! the script ends.
 use super::calls::{
-    add_one_to_each, double_next, get, insert, let_go, new_name, printed, remove, replace, slots,
-    validate, write,
+    add_one_to_each, double_next, get, insert, let_go, new_name, printed, replace, slots, validate,
 };
 use super::checks::{self, ITEM};
 use super::clones::copy_of;
-use super::limits::fill_up;
 use super::sizes::fill;
 use super::{ix, with_gaps};
 use iddqd::item_index::ItemIndex;
@@ -26,32 +24,23 @@ struct Desk {
     other: ItemSet<u32>,
     // What the last compaction told.
     names: IndexRemap,
-    // How many items were there or had room when `mark` was called.
-    mark: usize,
-}
-
-fn number_in(word: &str) -> u32 {
-    match word {
-        "end" => u32::MAX,
-        "item" => ITEM,
-        _ => word.parse().unwrap_or(7777777),
-    }
 }
 
 fn numbers_in(alloc: Global, text: &str) -> Result<Vec<u32>, AllocError> {
     let mut numbers = Vec::new(alloc);
     for word in text.split_whitespace() {
-        numbers.push(number_in(word))?;
+        numbers.push(match word {
+            "end" => u32::MAX,
+            "item" => ITEM,
+            _ => word.parse().unwrap_or(7777777),
+        })?;
     }
     Ok(numbers)
 }
 
-pub(super) fn first(numbers: &[u32]) -> u32 {
-    numbers.first().copied().unwrap_or(7777777)
-}
-
-pub(super) fn second(numbers: &[u32]) -> u32 {
-    numbers.get(1).copied().unwrap_or(7777777)
+/// The number at a place.
+pub(super) fn number_at(numbers: &[u32], place: usize) -> u32 {
+    numbers.get(place).copied().unwrap_or(7777777)
 }
 
 /// The numbers behind so many.
@@ -75,7 +64,7 @@ fn begun(
     verb: &str,
     numbers: &[u32],
 ) -> Result<ItemSet<u32>, AllocError> {
-    let number = first(numbers);
+    let number = number_at(numbers, 0);
     match verb {
         "new" => Ok(ItemSet::new(alloc)),
         "limit" => Ok(ItemSet::with_limit(alloc, number)),
@@ -85,10 +74,6 @@ fn begun(
     }
 }
 
-fn places(set: &ItemSet<u32>) -> usize {
-    set.room().saturating_add(set.len())
-}
-
 // A call that answers nothing. Whether it is one.
 fn change(
     rt: &impl Abort,
@@ -96,7 +81,7 @@ fn change(
     verb: &str,
     numbers: &[u32],
 ) -> Result<bool, AllocError> {
-    let least = first(numbers) as usize;
+    let least = number_at(numbers, 0) as usize;
     match verb {
         "clear" => set.clear(),
         "reserve" => set.reserve(least)?,
@@ -104,7 +89,6 @@ fn change(
         "shrink_to" => set.shrink_capacity_to(least)?,
         "shrink_to_fit" => set.shrink_capacity_to_fit()?,
         "fill" => fill(rt, set, numbers),
-        "fill_up" => fill_up(rt, set, first(numbers))?,
         "add_one_to_each" => add_one_to_each(set),
         _ => return Ok(false),
     }
@@ -119,12 +103,11 @@ fn told(
     verb: &str,
     numbers: &[u32],
 ) -> Result<Option<String>, AllocError> {
-    let (at, item) = (ix(first(numbers)), second(numbers));
+    let (at, item) = (ix(number_at(numbers, 0)), number_at(numbers, 1));
     let told = match verb {
         "insert" => grown(alloc, insert(rt, set, at.as_u32())),
         "let_go" => grown(alloc, let_go(rt, set)),
-        "remove" => printed(alloc, &remove(set, at)),
-        "write" => printed(alloc, &write(set, at, item)),
+        "remove" => printed(alloc, &set.remove(at)),
         "replace" => printed(alloc, &replace(set, at, item)),
         "double_next" => printed(alloc, &double_next(set, at)),
         _ => return read(rt, alloc, set, verb, at.as_u32()),
@@ -160,46 +143,6 @@ impl Desk {
             set: ItemSet::new(alloc),
             other: ItemSet::new(alloc),
             names: IndexRemap::Identity,
-            mark: 0,
-        }
-    }
-
-    fn copy(&mut self) -> Result<(), AllocError> {
-        self.other = copy_of(&self.set)?;
-        Ok(())
-    }
-
-    fn compact(&mut self) -> Result<(), AllocError> {
-        self.names = self.set.compact()?;
-        Ok(())
-    }
-
-    // A call that takes more than the set. Whether it is one.
-    fn change(
-        &mut self,
-        rt: &impl Abort,
-        alloc: Global,
-        verb: &str,
-        numbers: &[u32],
-    ) -> Result<bool, AllocError> {
-        match verb {
-            "new" | "limit" | "capacity" | "gaps" => self.set = begun(rt, alloc, verb, numbers)?,
-            "copy" => self.copy()?,
-            "swap" => mem::swap(&mut self.set, &mut self.other),
-            "mark" => self.mark = places(&self.set),
-            "compact" => self.compact()?,
-            _ => return Ok(false),
-        }
-        Ok(true)
-    }
-
-    // What the last compaction told, and whether the places are as many as they were.
-    fn told(&self, alloc: Global, verb: &str, numbers: &[u32]) -> Result<String, AllocError> {
-        match verb {
-            "compact" => printed(alloc, &self.names),
-            "new_name" => printed(alloc, &new_name(&self.names, ix(first(numbers)))),
-            "keeps_places" => printed(alloc, &(places(&self.set) == self.mark)),
-            _ => Ok(String::new(alloc)),
         }
     }
 
@@ -211,11 +154,20 @@ impl Desk {
         verb: &str,
         numbers: &[u32],
     ) -> Result<String, AllocError> {
-        if self.change(rt, alloc, verb, numbers)? || verb == "new_name" || verb == "keeps_places" {
-            self.told(alloc, verb, numbers)
-        } else {
-            told_of_set(rt, alloc, &mut self.set, verb, numbers)
+        match verb {
+            "new" | "limit" | "capacity" | "gaps" => self.set = begun(rt, alloc, verb, numbers)?,
+            "copy" => self.other = copy_of(&self.set)?,
+            "swap" => mem::swap(&mut self.set, &mut self.other),
+            "compact" => {
+                self.names = self.set.compact()?;
+                return printed(alloc, &self.names);
+            }
+            "new_name" => {
+                return printed(alloc, &new_name(&self.names, ix(number_at(numbers, 0))));
+            }
+            _ => return told_of_set(rt, alloc, &mut self.set, verb, numbers),
         }
+        Ok(String::new(alloc))
     }
 }
 
@@ -242,39 +194,17 @@ pub(super) fn assert_told(rt: &impl Abort, told: &str, want: &str, line: &str) {
     assert!(rt; told == want, "{told} to {line}");
 }
 
-// The text before the first of these, and what is behind it.
-fn halves<'a>(text: &'a str, between: &str) -> (&'a str, &'a str) {
-    match text.split_once(between) {
-        Some(halves) => halves,
-        None => (text, ""),
-    }
-}
-
 fn assert_line(
     rt: &impl Abort,
     alloc: Global,
     desk: &mut Desk,
     line: &str,
 ) -> Result<(), AllocError> {
-    let (call, want) = halves(line, ": ");
-    let (verb, rest) = halves(call, " ");
+    let (call, want) = line.split_once(": ").unwrap_or((line, ""));
+    let (verb, rest) = call.split_once(' ').unwrap_or((call, ""));
     let numbers = numbers_in(alloc, rest)?;
     let told = desk.answer(rt, alloc, verb, &numbers)?;
     assert_told(rt, told.as_str(), want, line);
-    Ok(())
-}
-
-fn assert_lines(
-    rt: &impl Abort,
-    alloc: Global,
-    desk: &mut Desk,
-    script: &str,
-) -> Result<(), AllocError> {
-    for line in script.lines() {
-        if !line.starts_with("# ") {
-            assert_line(rt, alloc, desk, line)?;
-        }
-    }
     Ok(())
 }
 
@@ -285,5 +215,10 @@ pub(super) fn assert_answers(
     script: &str,
 ) -> Result<(), AllocError> {
     let mut desk = Desk::new(alloc);
-    assert_lines(rt, alloc, &mut desk, script)
+    for line in script.lines() {
+        if !line.starts_with("# ") {
+            assert_line(rt, alloc, &mut desk, line)?;
+        }
+    }
+    Ok(())
 }

@@ -1,14 +1,13 @@
-//! Memory taken ahead and given back. The first functions are callers, proved from the contracts alone.
-ghost use Rattle.std.specs.Prelude.{◌≡◌, ◌+◌, ◌≤◌, length};
-ghost use Rattle.iddqd.specs.Store.{inserted, live_count, next_index};
+//! Memory taken ahead and given back. The first function is a caller, proved from the contract alone.
+ghost use Rattle.std.specs.Prelude.{◌≡◌, ◌+◌, ◌≤◌};
+ghost use Rattle.iddqd.specs.Store.{inserted, next_index};
 ghost use Rattle.iddqd.specs.ItemSet.{room};
 
-use super::calls::has_slots;
+use super::calls::get;
 use super::scripts::assert_answers;
 use super::{ix, with_gaps};
 use iddqd::item_index::ItemIndex;
 use iddqd::item_set::{GrowError, ItemSet};
-use std::alloc::{AllocError, Global};
 use std::process::Abort;
 use std::test::Fail;
 
@@ -24,31 +23,6 @@ fn insert_in_room(set: &mut ItemSet<u32>, item: u32) -> ItemIndex
         Err(GrowError::Full) => unreachable!(),
         Err(GrowError::Memory) => unreachable!(),
     }
-}
-
-// Takes the memory of all items before it inserts the first.
-fn insert_all(set: &mut ItemSet<u32>, items: &[u32]) -> Result<(), AllocError>
-    requires { live_count set.old.store + length items.now ≤ set.old.store.limit }
-    ensures { set.new.store.limit ≡ set.old.store.limit }
-{
-    set.try_reserve(items.len())?;
-    for item in items {
-        insert_in_room(set, *item);
-    }
-    Ok(())
-}
-
-// Takes memory for two items, and inserts them after steps that lose none of it.
-fn insert_after_steps(set: &mut ItemSet<u32>, removed: ItemIndex) -> Result<ItemIndex, AllocError>
-    requires { live_count set.old.store + 2 ≤ set.old.store.limit }
-{
-    set.try_reserve(2)?;
-    set.remove(removed);
-    set.compact()?;
-    insert_in_room(set, 1);
-    set.clear();
-    insert_in_room(set, 2);
-    Ok(insert_in_room(set, 3))
 }
 
 // Inserts tens of these indexes, each of which is to be the next, and none takes memory.
@@ -77,6 +51,9 @@ has_memory 4: true
 slots: []
 fill 0 1 2 3
 slots: [Some(0), Some(10), Some(20), Some(30)]
+new
+reserve 9
+has_memory 9: true
 # as many inserts as were reserved need no memory
 gaps 6 1 3 5
 try_reserve 3
@@ -130,21 +107,7 @@ fn refuses_sizes(set: &mut ItemSet<u32>) -> bool {
 fn refuses_what_no_vector_can_hold(rt: HostRuntime) -> Result<(), Fail> {
     let mut set = with_gaps(&rt, rt.alloc(), 2, &[0])?;
     assert!(rt; refuses_sizes(&mut set));
-    assert!(rt; has_slots(&set, &[None, Some(10)]));
+    assert!(rt; set.slot_count() == 2 && set.len() == 1 && get(&set, ix(1)) == Some(10));
     assert!(rt; ItemSet::<u32>::with_capacity(rt.alloc(), usize::MAX).is_err());
-    Ok(())
-}
-
-#[test]
-fn callers_of_sizes(rt: HostRuntime) -> Result<(), Fail> {
-    let mut set = ItemSet::new(rt.alloc());
-    insert_all(&mut set, &[0, 10, 20])?;
-    assert!(rt; set.len() == 3);
-    insert_all(&mut set, &[30, 40])?;
-    assert!(rt; set.len() == 5);
-    let items = [Some(0), Some(10), Some(20), Some(30), Some(40)];
-    assert!(rt; has_slots(&set, &items));
-    assert!(rt; insert_after_steps(&mut set, ix(4))? == ix(1));
-    assert!(rt; has_slots(&set, &[Some(2), Some(3)]));
     Ok(())
 }

@@ -16,45 +16,30 @@ insert 200: 3
 insert 300: 1
 insert 400: 6
 slots: [Some(0), Some(300), Some(20), Some(200), Some(40), Some(100), Some(400)]
-# a write through a reference changes one item
-gaps 4 2
-write 1 21: Some(10)
-slots: [Some(0), Some(21), None, Some(30)]
 # a replacement gives one index another item
 gaps 4 2
-mark
 replace 1 21: Some(10)
 slots: [Some(0), Some(21), None, Some(30)]
-keeps_places: true
 insert 50: 2
 # a cleared set begins anew in its memory
 gaps 4 2 0
-mark
 clear
 slots: []
-keeps_places: true
 insert 0: 0
 insert 1: 1
 insert 2: 2
 insert 3: 3
 slots: [Some(0), Some(1), Some(2), Some(3)]
-keeps_places: true
 # an index without an item gives none, and no call there changes anything
 gaps 4 2
-mark
 get 2: None
-write 2 9: None
 remove 2: None
 get 4: None
-write 4 9: None
 remove 4: None
 get 4294967294: None
-write 4294967294 9: None
 remove 4294967294: None
 get end: None
-write end 9: None
 remove end: None
-keeps_places: true
 slots: [Some(0), Some(10), None, Some(30)]
 insert 50: 2
 insert 60: 4
@@ -66,10 +51,8 @@ has_room 1: true
 slots: []
 # a handle that is let go leaves the contents
 gaps 4 1
-mark
 let_go: 1
 slots: [Some(0), None, Some(20), Some(30)]
-keeps_places: true
 insert 9: 1
 # the next live index skips vacant slots
 gaps 6 1 3 5
@@ -90,7 +73,12 @@ gaps 4 1
 double_next 1: Some(40)
 double_next 4: None
 slots: [Some(0), None, Some(40), Some(30)]
-get 4: None";
+get 4: None
+# sets print how many items and slots they have, and the first vacant slot
+new
+set: ItemSet { len: 0, slots: 0, free_head: 4294967295 }
+gaps 2 0
+set: ItemSet { len: 1, slots: 2, free_head: 0 }";
 
 #[test]
 fn slots_are_given_out_and_freed(rt: HostRuntime) -> Result<(), Fail> {

@@ -36,14 +36,6 @@ fn slots_by(alloc: Global, count: u32, number: u32) -> Result<Vec<ItemSlot<u32>>
     Ok(slots)
 }
 
-// The link of a slot, if it is vacant.
-fn link(slots: &[ItemSlot<u32>], at: u32) -> Option<u32> {
-    match slots.get(at as usize) {
-        Some(ItemSlot::Vacant { next }) => Some(next.as_u32()),
-        _ => None,
-    }
-}
-
 fn count_vacant(slots: &[ItemSlot<u32>]) -> usize {
     let mut vacant = 0usize;
     for slot in slots {
@@ -56,13 +48,13 @@ fn count_vacant(slots: &[ItemSlot<u32>]) -> usize {
 fn fits(slots: &[ItemSlot<u32>], head: u32, list: &[u32]) -> bool {
     let mut next = head;
     for (place, at) in list.iter().enumerate() {
-        let Some(link) = link(slots, *at) else {
+        let Some(ItemSlot::Vacant { next: link }) = slots.get(*at as usize) else {
             return false;
         };
         if *at != next || list.split_at(place).0.contains(at) {
             return false;
         }
-        next = link;
+        next = link.as_u32();
     }
     next == u32::MAX && list.len() == count_vacant(slots)
 }
