@@ -1,5 +1,5 @@
 //! Room that was reserved.
-use super::changes::{insert_open, remove_open};
+use super::changes::{add_open, insert_open, remove_open};
 use iddqd_hash::open_table::OpenHashTable;
 use std::alloc::AllocError;
 use std::test::Fail;
@@ -24,5 +24,26 @@ fn keeps_reserved_room(table: &mut OpenHashTable<u32>) -> Result<bool, AllocErro
 #[test]
 fn keeps_room_for_what_was_reserved(rt: HostRuntime) -> Result<(), Fail> {
     assert!(rt; keeps_reserved_room(&mut OpenHashTable::new(rt.alloc()))?);
+    Ok(())
+}
+
+// Puts one pair in and takes it out again, so often. Whether that never made the table larger.
+fn churns(table: &mut OpenHashTable<u32>) -> Result<bool, AllocError> {
+    let room = table.room();
+    for call in 0..10000u32 {
+        let is_added = add_open(table, call as u64, call)?;
+        if !is_added || !remove_open(table, call as u64, call) || table.room() > room {
+            return Ok(false);
+        }
+    }
+    Ok(table.len() == 0)
+}
+
+#[test]
+fn one_pair_in_and_out_takes_no_more_cells(rt: HostRuntime) -> Result<(), Fail> {
+    for capacity in [14, 28] {
+        let mut table = OpenHashTable::with_capacity(rt.alloc(), capacity)?;
+        assert!(rt; churns(&mut table)?);
+    }
     Ok(())
 }
