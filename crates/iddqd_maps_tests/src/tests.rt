@@ -1,20 +1,16 @@
 //! Maps by their calls, beside a list, and where calls are refused.
 mod bi_hash;
-mod bi_names;
 mod calls;
 mod cards;
 mod copies;
 mod id_hash;
 mod id_ord;
-mod lines;
+mod limits;
 mod models;
-mod names;
 mod ord_names;
 mod ord_searches;
 mod ord_walks;
 mod refused;
-mod rooms;
-mod scripts;
 mod slices;
 mod slots;
 mod tri_hash;

@@ -1,15 +1,13 @@
 //! The calls of a map with two keys.
 use super::calls::{
-    Call, Calls, End, Numbers, Reply, card, changed, checked, compacted, displaced, done, index,
-    inserted, replaced,
+    Call, Calls, End, Reply, changed, checked, compacted, displaced, done, inserted,
 };
 use super::cards::{Card, Which};
+use super::id_hash::{walked, walked_back};
 use iddqd::item_index::ItemIndex;
 use iddqd_maps::bi_hash_map::BiHashMap;
 use iddqd_maps::refusal::OverwriteRefusal;
 use std::hash::BuildHasher;
-
-type Map<S> = BiHashMap<Card, S>;
 
 // What an insert that overwrites displaced, with no third item.
 fn in_list(
@@ -19,120 +17,49 @@ fn in_list(
     Ok((ix, [one, other, None]))
 }
 
-fn insert<S: BuildHasher>(map: &mut Map<S>, item: Card) -> Reply {
-    inserted(item, map.insert_unique(item))
-}
-
-fn overwrite<S: BuildHasher>(map: &mut Map<S>, item: Card) -> Reply {
-    displaced(item, in_list(map.insert_overwrite(item)))
-}
-
-fn replace<S: BuildHasher>(map: &mut Map<S>, which: Which, key: u32, item: Card) -> Reply {
-    match which {
-        Which::Number => replaced(item, map.replace1(&key, item)),
-        Which::Seat => replaced(item, map.replace2(&key, item)),
-        Which::Code => Reply::NoCall,
-    }
-}
-
-fn replace_at<S: BuildHasher>(map: &mut Map<S>, ix: ItemIndex, item: Card) -> Reply {
-    replaced(item, map.replace_at(ix, item))
-}
-
-fn change1<S: BuildHasher>(map: &mut Map<S>, key: u32, which: Which, new: u32) -> Reply {
-    changed(map.change1(&key, |was| was.renewed(which, new)))
-}
-
-fn change2<S: BuildHasher>(map: &mut Map<S>, key: u32, which: Which, new: u32) -> Reply {
-    changed(map.change2(&key, |was| was.renewed(which, new)))
-}
-
-fn retain<S: BuildHasher>(map: &mut Map<S>, of: u32) -> Reply {
-    let mut asked = Numbers::new();
-    map.retain(|card| {
-        asked.push(card.number);
-        card.number.is_multiple_of(of)
-    });
-    Reply::Told(asked)
-}
-
-fn walk<S: BuildHasher>(map: &Map<S>) -> Reply {
-    let mut told = Numbers::new();
-    for (_, card) in map.iter() {
-        told.push(card.number);
-    }
-    Reply::Told(told)
-}
-
-fn walk_back<S: BuildHasher>(map: &Map<S>) -> Reply {
-    let mut told = Numbers::new();
-    for card in map.values().rev() {
-        told.push(card.number);
-    }
-    Reply::Told(told)
-}
-
-fn remove<S: BuildHasher>(map: &mut Map<S>, which: Which, key: u32) -> Reply {
-    match which {
-        Which::Number => card(map.remove1(&key)),
-        Which::Seat => card(map.remove2(&key)),
-        Which::Code => Reply::NoCall,
-    }
-}
-
-// The look-ups.
-fn look<S: BuildHasher>(map: &Map<S>, call: &Call) -> Reply {
+// The calls that read.
+fn read<S: BuildHasher>(map: &BiHashMap<Card, S>, call: &Call) -> Reply {
     match call {
-        Call::Find(Which::Number, key) => index(map.find1(key)),
-        Call::Find(Which::Seat, key) => index(map.find2(key)),
-        Call::Get(Which::Number, key) => card(map.get1(key).copied()),
-        Call::Get(Which::Seat, key) => card(map.get2(key).copied()),
+        Call::Find(Which::Number, key) => Reply::At(map.find1(key)),
+        Call::Find(Which::Seat, key) => Reply::At(map.find2(key)),
+        Call::Get(Which::Number, key) => Reply::Card(map.get1(key).copied()),
+        Call::Get(Which::Seat, key) => Reply::Card(map.get2(key).copied()),
         Call::Has(Which::Number, key) => Reply::Is(map.contains_key1(key)),
         Call::Has(Which::Seat, key) => Reply::Is(map.contains_key2(key)),
-        _ => Reply::NoCall,
-    }
-}
-
-// The other calls that read.
-fn read<S: BuildHasher>(map: &Map<S>, call: &Call) -> Reply {
-    match call {
-        Call::GetAt(ix) => card(map.get_at(*ix).copied()),
+        Call::GetAt(ix) => Reply::Card(map.get_at(*ix).copied()),
         Call::Len => Reply::Count(map.len()),
-        Call::Walk(End::First) => walk(map),
-        Call::Walk(End::Last) => walk_back(map),
+        Call::Walk(End::First) => walked(map.iter()),
+        Call::Walk(End::Last) => walked_back(map.values()),
         Call::Validate(compactness) => checked(map.validate(*compactness)),
-        _ => look(map, call),
-    }
-}
-
-// The calls that speak of no item.
-fn tidy<S: BuildHasher>(map: &mut Map<S>, call: &Call) -> Reply {
-    match call {
-        Call::Compact => compacted(map.compact()),
-        Call::Clear => {
-            map.clear();
-            Reply::Done
-        }
-        Call::Shrink => done(map.shrink_to_fit()),
-        Call::Reserve(additional) => done(map.reserve(*additional as usize)),
-        Call::Room => Reply::Count(map.room()),
-        _ => read(map, call),
+        _ => Reply::NoCall,
     }
 }
 
 impl<S: BuildHasher> Calls for BiHashMap<Card, S> {
     fn answer(&mut self, call: &Call) -> Reply {
         match *call {
-            Call::Insert(item) => insert(self, item),
-            Call::Overwrite(item) => overwrite(self, item),
-            Call::Remove(which, key) => remove(self, which, key),
-            Call::RemoveAt(ix) => card(self.remove_at(ix)),
-            Call::Replace(which, key, item) => replace(self, which, key, item),
-            Call::ReplaceAt(ix, item) => replace_at(self, ix, item),
-            Call::Change(Which::Number, key, which, new) => change1(self, key, which, new),
-            Call::Change(Which::Seat, key, which, new) => change2(self, key, which, new),
-            Call::Retain(of) => retain(self, of),
-            _ => tidy(self, call),
+            Call::Insert(item) => inserted(self.insert_unique(item)),
+            Call::Overwrite(item) => displaced(in_list(self.insert_overwrite(item))),
+            Call::Remove(Which::Number, key) => Reply::Card(self.remove1(&key)),
+            Call::Remove(Which::Seat, key) => Reply::Card(self.remove2(&key)),
+            Call::RemoveAt(ix) => Reply::Card(self.remove_at(ix)),
+            Call::Replace(Which::Number, key, item) => changed(self.replace1(&key, item).map(Some)),
+            Call::Replace(Which::Seat, key, item) => changed(self.replace2(&key, item).map(Some)),
+            Call::ReplaceAt(ix, item) => changed(self.replace_at(ix, item).map(Some)),
+            Call::Change(Which::Number, key) => changed(self.change1(&key, Card::renewed)),
+            Call::Change(Which::Seat, key) => changed(self.change2(&key, Card::renewed)),
+            Call::Retain => {
+                self.retain(Card::is_even);
+                Reply::Done
+            }
+            Call::Compact => compacted(self.compact()),
+            Call::Clear => {
+                self.clear();
+                Reply::Done
+            }
+            Call::Shrink => done(self.shrink_to_fit()),
+            Call::Reserve(additional) => done(self.reserve(additional as usize)),
+            _ => read(self, call),
         }
     }
 }

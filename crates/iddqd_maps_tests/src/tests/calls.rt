@@ -1,4 +1,4 @@
-//! Calls of maps of cards, and what they answer, as values: so each map's calls are proved once, and tests are scripts.
+//! Calls of maps of cards, and what they answer, as values: so each map's calls are proved once.
 use super::cards::{Card, Which};
 use iddqd::index_remap::IndexRemap;
 use iddqd::internal::{ValidateCompact, ValidateRefusal, ValidationError};
@@ -22,10 +22,10 @@ pub(super) enum Call {
     RemoveAt(ItemIndex),
     Replace(Which, u32, Card),
     ReplaceAt(ItemIndex, Card),
-    /// Gives the card with the former key the latter, and counts a visit.
-    Change(Which, u32, Which, u32),
-    /// Keeps the cards whose number is a multiple.
-    Retain(u32),
+    /// Renews the card with the key.
+    Change(Which, u32),
+    /// Keeps the cards whose number is even.
+    Retain,
     Len,
     /// Tells the cards, from either end.
     Walk(End),
@@ -33,8 +33,6 @@ pub(super) enum Call {
     Clear,
     Shrink,
     Reserve(u32),
-    /// For how many inserts there is memory.
-    Room,
     Validate(ValidateCompact),
     /// The card at an end of the order.
     Outermost(End),
@@ -51,11 +49,10 @@ pub(super) enum End {
 }
 
 /// What a call answers.
-#[derive(Clone, Copy, Debug, PartialEq, Eq)]
+#[derive(Clone, Copy, PartialEq, Eq)]
 pub(super) enum Reply {
-    None,
-    Card(Card),
-    At(ItemIndex),
+    Card(Option<Card>),
+    At(Option<ItemIndex>),
     /// Where an item stands, and what it displaced.
     Displaced(ItemIndex, [Option<Card>; 3]),
     /// Which cards have its keys.
@@ -66,43 +63,25 @@ pub(super) enum Reply {
     Memory,
     Is(bool),
     Count(usize),
-    /// Numbers of cards, one after the other.
-    Told(Numbers),
+    /// Numbers of cards, one after the other, as one.
+    Told(u64),
     Done,
     /// The map has no such call.
     NoCall,
 }
 
-/// A list of numbers as one.
-#[derive(Clone, Copy, Debug, PartialEq, Eq)]
-pub(super) struct Numbers(u64);
+/// No number told.
+pub(super) const NOTHING: u64 = 1;
 
-impl Numbers {
-    /// No number.
-    pub(super) fn new() -> Numbers {
-        Numbers(1)
-    }
-
-    /// One more number.
-    pub(super) fn push(&mut self, number: u32) {
-        self.0 = self
-            .0
-            .wrapping_mul(1_000_003)
-            .wrapping_add(u64::from(number));
-    }
+/// One more number told behind others.
+pub(super) fn tell(told: u64, number: u32) -> u64 {
+    told.wrapping_mul(1_000_003).wrapping_add(u64::from(number))
 }
 
 /// What answers calls: a map, or a model of one.
 pub(super) trait Calls {
     /// Does what the call says.
     fn answer(&mut self, call: &Call) -> Reply;
-}
-
-/// Maps that are cloned and compared.
-pub(super) trait Copies: Calls + Drop {
-    fn copy(&self) -> Result<Self, AllocError>;
-
-    fn is_same(&self, other: &Self) -> bool;
 }
 
 /// Where keys of a refused item are.
@@ -128,71 +107,33 @@ impl Clash for TriClash {
     }
 }
 
-// Answers as replies. A refusal for memory hands back the item that was given.
+// Answers as replies.
 
-fn no_memory(item: Card, back: Card) -> Reply {
-    if item == back {
-        Reply::Memory
-    } else {
-        Reply::Card(back)
-    }
-}
-
-pub(super) fn inserted<C: Clash>(
-    item: Card,
-    answer: Result<ItemIndex, InsertRefusal<Card, C>>,
-) -> Reply {
+pub(super) fn inserted<C: Clash>(answer: Result<ItemIndex, InsertRefusal<Card, C>>) -> Reply {
     match answer {
-        Ok(ix) => Reply::At(ix),
+        Ok(ix) => Reply::At(Some(ix)),
         Err(InsertRefusal::Duplicate { item, at }) => Reply::Duplicate(item, at.indexes()),
         Err(InsertRefusal::Full(back)) => Reply::Full(back),
-        Err(InsertRefusal::Memory(back)) => no_memory(item, back),
+        Err(InsertRefusal::Memory(_)) => Reply::Memory,
     }
 }
 
 pub(super) fn displaced(
-    item: Card,
     answer: Result<(ItemIndex, [Option<Card>; 3]), OverwriteRefusal<Card>>,
 ) -> Reply {
     match answer {
         Ok(stands) => Reply::Displaced(stands.0, stands.1),
         Err(OverwriteRefusal::Full(back)) => Reply::Full(back),
-        Err(OverwriteRefusal::Memory(back)) => no_memory(item, back),
-    }
-}
-
-pub(super) fn replaced<C: Clash>(
-    item: Card,
-    answer: Result<Card, ReplaceRefusal<Card, C>>,
-) -> Reply {
-    match answer {
-        Ok(was) => Reply::Card(was),
-        Err(ReplaceRefusal::Missing(back)) => Reply::Missing(back),
-        Err(ReplaceRefusal::Duplicate { item, at }) => Reply::Duplicate(item, at.indexes()),
-        Err(ReplaceRefusal::Memory(back)) => no_memory(item, back),
+        Err(OverwriteRefusal::Memory(_)) => Reply::Memory,
     }
 }
 
 pub(super) fn changed<C: Clash>(answer: Result<Option<Card>, ReplaceRefusal<Card, C>>) -> Reply {
     match answer {
-        Ok(was) => card(was),
+        Ok(was) => Reply::Card(was),
         Err(ReplaceRefusal::Missing(back)) => Reply::Missing(back),
         Err(ReplaceRefusal::Duplicate { item, at }) => Reply::Duplicate(item, at.indexes()),
         Err(ReplaceRefusal::Memory(_)) => Reply::Memory,
-    }
-}
-
-pub(super) fn card(answer: Option<Card>) -> Reply {
-    match answer {
-        Some(card) => Reply::Card(card),
-        None => Reply::None,
-    }
-}
-
-pub(super) fn index(answer: Option<ItemIndex>) -> Reply {
-    match answer {
-        Some(ix) => Reply::At(ix),
-        None => Reply::None,
     }
 }
 

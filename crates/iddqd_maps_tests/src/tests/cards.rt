@@ -49,16 +49,22 @@ impl Card {
         }
     }
 
-    /// The card with another such key, used once more.
-    pub(super) fn renewed(&self, which: Which, key: u32) -> Card {
+    /// The card used once more, and with another key: how often it was used says which one and what it becomes.
+    pub(super) fn renewed(&self) -> Card {
         let mut card = *self;
         card.visits = card.visits.wrapping_add(1);
-        match which {
-            Which::Number => card.number = key,
-            Which::Seat => card.seat = key,
-            Which::Code => card.code = key,
+        let key = self.visits / 3;
+        match self.visits % 3 {
+            0 => card.number = key,
+            1 => card.seat = key,
+            _ => card.code = key,
         }
         card
+    }
+
+    /// Whether its number is even.
+    pub(super) fn is_even(&self) -> bool {
+        self.number.is_multiple_of(2)
     }
 }
 

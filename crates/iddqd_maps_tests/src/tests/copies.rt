@@ -1,7 +1,7 @@
 //! Maps that are cloned and compared.
-use super::calls::{Call, Calls, Copies, Reply};
-use super::cards::{Card, printed};
-use super::lines::assert_script;
+use super::calls::{Call, Calls, Reply};
+use super::cards::{Card, Which, alike, printed};
+use iddqd::item_index::ItemIndex;
 use iddqd_maps::bi_hash_map::BiHashMap;
 use iddqd_maps::id_hash_map::IdHashMap;
 use iddqd_maps::id_ord_map::IdOrdMap;
@@ -10,176 +10,43 @@ use std::alloc::AllocError;
 use std::process::Abort;
 use std::test::Fail;
 
-impl Copies for IdHashMap<Card> {
-    fn copy(&self) -> Result<IdHashMap<Card>, AllocError> {
-        self.clone()
-    }
-
-    fn is_same(&self, other: &IdHashMap<Card>) -> bool {
-        *self == *other
-    }
-}
-
-impl Copies for IdOrdMap<Card> {
-    fn copy(&self) -> Result<IdOrdMap<Card>, AllocError> {
-        self.clone()
-    }
-
-    fn is_same(&self, other: &IdOrdMap<Card>) -> bool {
-        *self == *other
-    }
-}
-
-impl Copies for BiHashMap<Card> {
-    fn copy(&self) -> Result<BiHashMap<Card>, AllocError> {
-        self.clone()
-    }
-
-    fn is_same(&self, other: &BiHashMap<Card>) -> bool {
-        *self == *other
-    }
-}
-
-impl Copies for TriHashMap<Card> {
-    fn copy(&self) -> Result<TriHashMap<Card>, AllocError> {
-        self.clone()
-    }
-
-    fn is_same(&self, other: &TriHashMap<Card>) -> bool {
-        *self == *other
-    }
-}
-
-const THREE: &str = "\
-insert 1 11 21 0: at 0
-insert 2 12 22 0: at 1
-insert 3 13 23 0: at 2
-";
-
-const GAP: &str = "\
-remove number 2: card 2 12 22 0
-";
-
-const COPIED: &str = "\
-len: count 2
-find number 1: at 0
-find number 3: at 2
-insert 4 14 24 0: at 1
-";
-
-const LEFT: &str = "\
-len: count 2
-find number 4: none
-";
-
-// The same of the second keys.
-const SEATS_COPIED: &str = "\
-find seat 11: at 0
-find seat 13: at 2
-find seat 14: at 1
-";
-
-const SEATS_LEFT: &str = "\
-find seat 11: at 0
-find seat 14: none
-";
-
-// A copy has the same cards under the same indexes, with the same free ones, and changes alone.
-fn assert_copies(
+// A copy has the same cards under the same indexes, with the same free ones, and changes alone. Maps are the same by
+// their cards, whatever their indexes.
+fn assert_copies<M: Calls + Clone + PartialEq + Drop>(
     rt: &impl Abort,
-    map: &mut impl Copies,
-    seats_copied: &str,
-    seats_left: &str,
+    map: &mut M,
+    other: &mut M,
 ) -> Result<(), AllocError> {
-    assert_script(rt, map, THREE);
-    assert_script(rt, map, GAP);
-    let mut copy = map.copy()?;
-    assert!(rt; copy.is_same(map) && map.is_same(&copy));
-    assert_script(rt, &mut copy, COPIED);
-    assert_script(rt, &mut copy, seats_copied);
-    assert!(rt; !copy.is_same(map) && !map.is_same(&copy));
-    assert_script(rt, map, LEFT);
-    assert_script(rt, map, seats_left);
+    for number in 0..3 {
+        map.answer(&Call::Insert(alike(number)));
+    }
+    map.answer(&Call::Remove(Which::Number, 1));
+    let mut copy = map.clone()?;
+    assert!(rt; copy == *map && *map == copy);
+    let free = Reply::At(Some(ItemIndex::new(1)));
+    assert!(rt; copy.answer(&Call::Insert(alike(4))) == free);
+    assert!(rt; copy != *map && *map != copy);
+    assert!(rt; map.answer(&Call::Find(Which::Number, 4)) == Reply::At(None));
+    for number in [2, 0] {
+        assert!(rt; *other != *map);
+        other.answer(&Call::Insert(alike(number)));
+    }
+    assert!(rt; *other == *map);
+    other.answer(&Call::Overwrite(printed(0, 0, 0, 7)));
+    assert!(rt; *other != *map);
     Ok(())
 }
 
 #[test]
 fn a_clone_has_the_same_cards(rt: HostRuntime) -> Result<(), Fail> {
-    assert_copies(&rt, &mut IdHashMap::new(rt.alloc()), "", "")?;
-    assert_copies(&rt, &mut IdOrdMap::new(rt.alloc()), "", "")?;
-    assert_copies(
+    let alloc = rt.alloc();
+    assert_copies::<IdHashMap<Card>>(&rt, &mut IdHashMap::new(alloc), &mut IdHashMap::new(alloc))?;
+    assert_copies::<IdOrdMap<Card>>(&rt, &mut IdOrdMap::new(alloc), &mut IdOrdMap::new(alloc))?;
+    assert_copies::<BiHashMap<Card>>(&rt, &mut BiHashMap::new(alloc), &mut BiHashMap::new(alloc))?;
+    assert_copies::<TriHashMap<Card>>(
         &rt,
-        &mut BiHashMap::new(rt.alloc()),
-        SEATS_COPIED,
-        SEATS_LEFT,
-    )?;
-    assert_copies(
-        &rt,
-        &mut TriHashMap::new(rt.alloc()),
-        SEATS_COPIED,
-        SEATS_LEFT,
+        &mut TriHashMap::new(alloc),
+        &mut TriHashMap::new(alloc),
     )?;
     Ok(())
-}
-
-const OTHERWISE: &str = "\
-insert 3 13 23 0: at 0
-insert 1 11 21 0: at 1
-insert 2 12 22 0: at 2
-";
-
-fn are_same<M: Copies>(one: &M, other: &M) -> bool {
-    let is_same = one.is_same(other);
-    is_same == other.is_same(one) && is_same
-}
-
-// Maps are the same by their cards, whatever their indexes.
-fn assert_same<M: Copies>(rt: &impl Abort, map: &mut M, other: &mut M) {
-    assert!(rt; are_same(map, other));
-    assert_script(rt, map, THREE);
-    assert!(rt; !are_same(map, other));
-    assert_script(rt, other, OTHERWISE);
-    assert!(rt; are_same(map, other));
-    for card in [
-        printed(1, 11, 21, 7),
-        printed(1, 19, 21, 0),
-        printed(1, 11, 29, 0),
-    ] {
-        assert!(rt; matches!(other.answer(&Call::Overwrite(card)), Reply::Displaced(_, _)));
-        assert!(rt; !are_same(map, other));
-        let card = printed(1, 11, 21, 0);
-        assert!(rt; matches!(other.answer(&Call::Overwrite(card)), Reply::Displaced(_, _)));
-        assert!(rt; are_same(map, other));
-    }
-    assert_script(rt, other, "remove number 3: card 3 13 23 0");
-    assert!(rt; !are_same(map, other));
-    assert_script(rt, other, "insert 4 14 24 0: at 0");
-    assert!(rt; !are_same(map, other));
-    assert_script(rt, other, "remove number 4: card 4 14 24 0");
-    assert_script(rt, map, "remove number 3: card 3 13 23 0");
-    assert!(rt; are_same(map, other));
-}
-
-#[test]
-fn maps_are_the_same_by_their_cards(rt: HostRuntime) {
-    assert_same(
-        &rt,
-        &mut IdHashMap::new(rt.alloc()),
-        &mut IdHashMap::new(rt.alloc()),
-    );
-    assert_same(
-        &rt,
-        &mut IdOrdMap::new(rt.alloc()),
-        &mut IdOrdMap::new(rt.alloc()),
-    );
-    assert_same(
-        &rt,
-        &mut BiHashMap::new(rt.alloc()),
-        &mut BiHashMap::new(rt.alloc()),
-    );
-    assert_same(
-        &rt,
-        &mut TriHashMap::new(rt.alloc()),
-        &mut TriHashMap::new(rt.alloc()),
-    );
 }

@@ -34,13 +34,12 @@ impl Random {
         self.below(self.range)
     }
 
-    fn index(&mut self) -> ItemIndex {
-        ItemIndex::new(self.key())
-    }
-
     fn card(&mut self) -> Card {
         let (number, seat) = (self.key(), self.key());
-        printed(number, seat, self.key(), self.below(1000))
+        let code = self.key();
+        // so that a card that is renewed has keys of the range
+        let visits = self.range.saturating_mul(3);
+        printed(number, seat, code, self.below(visits))
     }
 
     // A key that this map has.
@@ -73,7 +72,8 @@ impl Random {
         match self.below(16) {
             0..=2 => Call::Compact,
             3 => Call::Clear,
-            4..=6 => Call::Retain(self.below(3).saturating_add(1)),
+            4..=5 => Call::Retain,
+            6 => Call::Reserve(self.key()),
             7 => Call::Shrink,
             8 => Call::Validate(ValidateCompact::Compact),
             9 => Call::Validate(ValidateCompact::NonCompact),
@@ -96,7 +96,7 @@ impl Random {
         match self.below(10) {
             0..=1 => Call::Remove(which, key),
             2..=3 => Call::Replace(which, key, self.card()),
-            4..=5 => Call::Change(which, key, self.which(kind), self.key()),
+            4..=5 => Call::Change(which, key),
             6..=7 => Call::Find(which, key),
             8 => Call::Get(which, key),
             _ => Call::Has(which, key),
@@ -107,9 +107,9 @@ impl Random {
         match self.below(100) {
             0..=32 => Call::Insert(self.card()),
             33..=41 => Call::Overwrite(self.card()),
-            42..=45 => Call::RemoveAt(self.index()),
-            46..=49 => Call::ReplaceAt(self.index(), self.card()),
-            50..=51 => Call::GetAt(self.index()),
+            42..=45 => Call::RemoveAt(ItemIndex::new(self.key())),
+            46..=49 => Call::ReplaceAt(ItemIndex::new(self.key()), self.card()),
+            50..=51 => Call::GetAt(ItemIndex::new(self.key())),
             52..=53 => Call::Len,
             54..=57 => self.tidy(),
             58..=67 if kind.is_sorted() => self.ordered(),
@@ -134,7 +134,7 @@ fn are_alike(map: &mut impl Calls, model: &mut Slots, range: u32) -> bool {
 
 // So many calls, over that many keys.
 fn assert_alike(rt: &impl Abort, map: &mut impl Calls, mut model: Slots, range: u32, calls: u32) {
-    let kind = model.kind();
+    let kind = model.kind;
     let mut random = Random {
         state: u64::from(range),
         range,
@@ -144,7 +144,7 @@ fn assert_alike(rt: &impl Abort, map: &mut impl Calls, mut model: Slots, range: 
         let reply = map.answer(&call);
         assert!(rt;
             reply == model.answer(&call) && reply != Reply::Memory,
-            "call {turn}: {reply:?}"
+            "call {turn}"
         );
         assert!(rt; turn % 50 != 0 || are_alike(map, &mut model, range));
     }

@@ -1,6 +1,8 @@
 //! What maps and refusals print and hand back.
-use super::cards::{Card, alike, printed};
+use super::calls::{Call, Calls};
+use super::cards::{Card, Constant, printed};
 use iddqd::item_index::ItemIndex;
+use iddqd::item_set::IntoValues;
 use iddqd_maps::bi_hash_map::{BiClash, BiHashMap};
 use iddqd_maps::id_hash_map::IdHashMap;
 use iddqd_maps::id_ord_map::IdOrdMap;
@@ -11,65 +13,58 @@ use std::fmt::{Debug, Display};
 use std::process::Abort;
 use std::test::Fail;
 
-// What is printed for debugging.
-fn assert_prints(
+// The map with one more card, whose keys count up from this number.
+fn holding<M: Calls>(mut map: M, number: u32) -> M {
+    let seat = number.wrapping_add(1);
+    let code = number.wrapping_add(2);
+    map.answer(&Call::Insert(printed(number, seat, code, 9)));
+    map
+}
+
+// What is printed for debugging of a map.
+fn assert_prints<M: Debug + Drop>(
     rt: &impl Abort,
     alloc: Global,
-    value: &impl Debug,
+    map: M,
     want: &str,
 ) -> Result<(), AllocError> {
-    let text = format!(in alloc; "{value:?}")?;
+    let text = format!(in alloc; "{map:?}")?;
     assert!(rt; text.as_str() == want);
     Ok(())
 }
 
 #[test]
-fn a_map_with_one_key_prints_and_gives_its_cards(rt: HostRuntime) -> Result<(), Fail> {
-    let mut map = IdHashMap::new(rt.alloc());
-    assert!(rt; map.insert_unique(printed(1, 2, 3, 4)).is_ok());
-    let want = "{1: Card { number: 1, seat: 2, code: 3, visits: 4 }}";
-    assert_prints(&rt, rt.alloc(), &map, want)?;
-    let mut left = map.into_values();
-    assert!(rt; left.next() == Some(printed(1, 2, 3, 4)) && left.next().is_none());
-    Ok(())
-}
-
-#[test]
-fn a_map_in_order_prints_and_gives_its_cards(rt: HostRuntime) -> Result<(), Fail> {
-    let mut map = IdOrdMap::new(rt.alloc());
-    assert_prints(&rt, rt.alloc(), &map, "{}")?;
-    assert!(rt; map.insert_unique(alike(2)).is_ok() && map.insert_unique(alike(1)).is_ok());
+fn maps_print_their_cards(rt: HostRuntime) -> Result<(), Fail> {
+    let alloc = rt.alloc();
+    let map = holding(IdHashMap::<Card>::new(alloc), 1);
+    let want = "{1: Card { number: 1, seat: 2, code: 3, visits: 9 }}";
+    assert_prints(&rt, alloc, map, want)?;
+    let map = holding(holding(IdOrdMap::<Card>::new(alloc), 2), 1);
     let want =
-        "{1: Card { number: 1, seat: 1, code: 1, visits: 1 }, 2: Card { number: 2, seat: 2, code: 2, visits: 2 }}";
-    assert_prints(&rt, rt.alloc(), &map, want)?;
-    let mut left = map.into_values();
-    assert!(rt; left.len() == 2 && left.next_back() == Some(alike(2)));
-    assert!(rt; left.next() == Some(alike(1)) && left.next().is_none());
+        "{1: Card { number: 1, seat: 2, code: 3, visits: 9 }, 2: Card { number: 2, seat: 3, code: 4, visits: 9 }}";
+    assert_prints(&rt, alloc, map, want)?;
+    let map = holding(BiHashMap::<Card>::new(alloc), 1);
+    let want = "{{k1: 1, k2: 2}: Card { number: 1, seat: 2, code: 3, visits: 9 }}";
+    assert_prints(&rt, alloc, map, want)?;
+    let map = holding(TriHashMap::<Card>::new(alloc), 1);
+    let want = "{{k1: 1, k2: 2, k3: 3}: Card { number: 1, seat: 2, code: 3, visits: 9 }}";
+    assert_prints(&rt, alloc, map, want)?;
     Ok(())
 }
 
-#[test]
-fn a_map_with_two_keys_prints_and_gives_its_cards(rt: HostRuntime) -> Result<(), Fail> {
-    let mut map = BiHashMap::new(rt.alloc());
-    assert!(rt; map.insert_unique(printed(1, 2, 3, 4)).is_ok());
-    let want = "{{k1: 1, k2: 2}: Card { number: 1, seat: 2, code: 3, visits: 4 }}";
-    assert_prints(&rt, rt.alloc(), &map, want)?;
-    assert!(rt; map.iter().len() == 1 && map.values().len() == 1);
-    let mut left = map.into_values();
-    assert!(rt; left.next() == Some(printed(1, 2, 3, 4)) && left.next().is_none());
-    Ok(())
+// Whether the only card is handed over.
+fn is_given(mut left: IntoValues<Card>) -> bool {
+    left.next() == Some(printed(1, 2, 3, 9)) && left.next().is_none()
 }
 
 #[test]
-fn a_map_with_three_keys_prints_and_gives_its_cards(rt: HostRuntime) -> Result<(), Fail> {
-    let mut map = TriHashMap::new(rt.alloc());
-    assert!(rt; map.insert_unique(printed(1, 2, 3, 4)).is_ok());
-    let want = "{{k1: 1, k2: 2, k3: 3}: Card { number: 1, seat: 2, code: 3, visits: 4 }}";
-    assert_prints(&rt, rt.alloc(), &map, want)?;
-    assert!(rt; map.iter().len() == 1 && map.values().len() == 1);
-    let mut left = map.into_values();
-    assert!(rt; left.next() == Some(printed(1, 2, 3, 4)) && left.next().is_none());
-    Ok(())
+fn maps_give_their_cards(rt: HostRuntime) {
+    let map = holding(IdHashMap::with_hasher(rt.alloc(), Constant), 1);
+    assert!(rt; !map.is_empty() && is_given(map.into_values()));
+    let map = holding(BiHashMap::with_hasher(rt.alloc(), Constant), 1);
+    assert!(rt; !map.is_empty() && is_given(map.into_values()));
+    let map = holding(TriHashMap::with_hasher(rt.alloc(), Constant), 1);
+    assert!(rt; !map.is_empty() && is_given(map.into_values()));
 }
 
 #[test]
@@ -113,32 +108,8 @@ fn a_duplicate_prints_where_its_keys_are(rt: HostRuntime) -> Result<(), Fail> {
     Ok(())
 }
 
-// What comes back of a card that isn't taken.
-
-fn not_inserted(map: &mut IdHashMap<Card>, item: Card) -> Option<Card> {
-    Some(map.insert_unique(item).err()?.into_item())
-}
-
-fn not_taken(map: &mut IdHashMap<Card>, item: Card) -> Option<Card> {
-    Some(map.insert_overwrite(item).err()?.into_item())
-}
-
-fn not_replaced(map: &mut IdHashMap<Card>, ix: ItemIndex, item: Card) -> Option<Card> {
-    Some(map.replace_at(ix, item).err()?.into_item())
-}
-
-fn assert_given_back(rt: &impl Abort, map: &mut IdHashMap<Card>) {
-    let (one, two, three) = (alike(1), alike(2), alike(3));
-    assert!(rt; not_inserted(map, one).is_none() && not_taken(map, two).is_none());
-    assert!(rt; not_inserted(map, one) == Some(one) && not_inserted(map, three) == Some(three));
-    assert!(rt; not_taken(map, three) == Some(three));
-    assert!(rt; not_replaced(map, ItemIndex::new(0), two) == Some(two));
-    assert!(rt; not_replaced(map, ItemIndex::new(7), two) == Some(two));
-}
-
 #[test]
 fn a_refusal_hands_its_item_back(rt: HostRuntime) {
-    assert_given_back(&rt, &mut IdHashMap::with_limit(rt.alloc(), 2));
     let refusal: InsertRefusal<u32, u32> = InsertRefusal::Memory(5);
     assert!(rt; refusal.into_item() == 5);
     let refusal: OverwriteRefusal<u32> = OverwriteRefusal::Memory(6);
