@@ -44,13 +44,14 @@ pub(crate) fn add(table: &mut HashTable<u32>, hash: u64, value: u32) -> Result<b
     Ok(insert_linear(table, hash, value))
 }
 
-// Of (7, 10) and (9, 11) the second goes, and the first is halved.
+// Of (7, 10), (7, 11) and (9, 10) the second goes, and the others are halved.
 fn tells_what_is_there(table: &mut HashTable<u32>) -> Result<bool, AllocError> {
-    let is_added = add(table, 7, 10)? && add(table, 9, 11)?;
-    let is_found = has(table, 7, &10) && !has(table, 9, &10);
+    let is_added = add(table, 7, 10)? && add(table, 7, 11)? && add(table, 9, 10)?;
+    let is_found = has(table, 7, &11) && !has(table, 9, &11);
     keep_others(table, 11);
-    let is_gone = !has(table, 9, &11);
-    Ok(is_added && is_found && is_gone && halve(table) == 1 && has(table, 7, &5))
+    let is_gone = !has(table, 7, &11) && has(table, 7, &10);
+    let is_halved = halve(table) == 2 && has(table, 7, &5) && has(table, 9, &5);
+    Ok(is_added && is_found && is_gone && is_halved)
 }
 
 #[test]
@@ -59,27 +60,40 @@ fn pure_closures_tell_what_is_there(rt: HostRuntime) -> Result<(), Fail> {
     Ok(())
 }
 
-// One value is entered and walked to. Room for a hundred is taken, and most of it given back.
-fn resizes(table: &mut HashTable<u32>) -> Result<bool, AllocError> {
+// Enters three values. The first is not entered twice.
+fn enters(table: &mut HashTable<u32>) -> Result<bool, AllocError> {
     let is_new = enter_linear(table, 7, 5)? && !enter_linear(table, 7, 5)?;
-    table.reserve(100)?;
-    let has_room = table.room() >= 100;
-    table.shrink_to(8)?;
-    let has_less = table.room() >= 7 && table.room() < 100;
-    table.shrink_to_fit()?;
-    Ok(is_new && has_room && has_less && table.iter().next() == Some(&5))
+    Ok(is_new && enter_linear(table, 7, 6)? && enter_linear(table, 9, 5)?)
 }
 
-// A copy has the value still, once the table is cleared.
+// Room is given back and taken, but for more than any vector can hold.
+fn resizes(table: &mut HashTable<u32>) -> Result<bool, AllocError> {
+    table.shrink_to(8)?;
+    let has_less = table.room() >= 5;
+    table.reserve(100)?;
+    let has_room = table.room() >= 100;
+    let is_refused = table.try_reserve(18446744073709551615) == Err(AllocError);
+    table.shrink_to_fit()?;
+    Ok(has_less && has_room && is_refused && table.room() < 100)
+}
+
+// A walk over three tells how many are left.
+fn is_counted(table: &HashTable<u32>) -> bool {
+    let mut walk = table.iter();
+    walk.size_hint() == (3, Some(3)) && walk.next().is_some() && walk.len() == 2
+}
+
+// A copy has the values still, once the table is cleared.
 fn is_copied(table: &mut HashTable<u32>) -> Result<bool, AllocError> {
     let copy = copy_linear(table)?;
     table.clear();
-    Ok(table.len() == 0 && copy.len() == 1 && has(&copy, 7, &5))
+    Ok(table.len() == 0 && copy.len() == 3 && has(&copy, 7, &5) && has(&copy, 9, &5))
 }
 
 #[test]
 fn a_plain_table_is_resized_and_copied(rt: HostRuntime) -> Result<(), Fail> {
-    let mut table = HashTable::with_capacity(rt.alloc(), 2)?;
-    assert!(rt; resizes(&mut table)? && is_copied(&mut table)?);
+    let mut table = HashTable::with_capacity(rt.alloc(), 16)?;
+    assert!(rt; enters(&mut table)? && resizes(&mut table)?);
+    assert!(rt; is_counted(&table) && is_copied(&mut table)?);
     Ok(())
 }

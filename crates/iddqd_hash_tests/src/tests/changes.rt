@@ -32,7 +32,7 @@ pub(crate) fn add_open(
 
 pub(crate) fn remove_linear(table: &mut HashTable<u32>, hash: u64, value: u32) -> bool {
     match table.find_entry(hash, |x| *x == value) {
-        Ok(entry) => entry.remove() == value,
+        Ok(entry) => *entry.get() == value && entry.remove() == value,
         Err(()) => false,
     }
 }

@@ -43,3 +43,54 @@ fn a_copy_and_its_source_change_apart(rt: HostRuntime) -> Result<(), Fail> {
     changes_apart(&rt, &mut OpenHashTable::new(rt.alloc()))?;
     Ok(())
 }
+
+// A number whose copy may be refused.
+#[derive(Drop)]
+struct Item {
+    number: u32,
+    is_refused: bool,
+}
+
+impl Clone for Item {
+    fn clone(&self) -> Result<Item, AllocError> {
+        if self.is_refused {
+            return Err(AllocError);
+        }
+        Ok(Item {
+            number: self.number,
+            is_refused: false,
+        })
+    }
+}
+
+// The copy of the third one is refused.
+fn numbered(number: u32) -> Item {
+    Item {
+        number,
+        is_refused: number == 2,
+    }
+}
+
+// Whether a copy of four is refused, and its source stays.
+fn linear_is_refused(table: &mut HashTable<Item>) -> Result<bool, AllocError> {
+    for number in 0..4u32 {
+        table.try_reserve(1)?;
+        table.insert_unique(7, numbered(number));
+    }
+    Ok(table.clone().is_err() && table.len() == 4)
+}
+
+fn open_is_refused(table: &mut OpenHashTable<Item>) -> Result<bool, AllocError> {
+    for number in 0..4u32 {
+        table.try_reserve(1)?;
+        table.insert_unique(7, numbered(number));
+    }
+    Ok(table.clone().is_err() && table.len() == 4)
+}
+
+#[test]
+fn a_copy_fails_where_that_of_a_value_does(rt: HostRuntime) -> Result<(), Fail> {
+    assert!(rt; linear_is_refused(&mut HashTable::with_capacity(rt.alloc(), 4)?)?);
+    assert!(rt; open_is_refused(&mut OpenHashTable::with_capacity(rt.alloc(), 4)?)?);
+    Ok(())
+}

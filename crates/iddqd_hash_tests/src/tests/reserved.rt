@@ -15,10 +15,13 @@ fn insert_in_room(table: &mut OpenHashTable<u32>) -> bool {
     true
 }
 
-// Reserved room serves so many inserts, whatever is removed between them.
+// Reserved room serves so many inserts, whatever is removed between them, and stays once the table is cleared.
 fn keeps_reserved_room(table: &mut OpenHashTable<u32>) -> Result<bool, AllocError> {
+    let had_none = table.room() == 0;
     table.try_reserve(64)?;
-    Ok(insert_in_room(table) && table.len() == 42)
+    let is_served = insert_in_room(table) && table.len() == 42;
+    table.clear();
+    Ok(had_none && is_served && table.len() == 0 && table.room() >= 64)
 }
 
 #[test]

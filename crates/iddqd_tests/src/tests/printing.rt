@@ -29,8 +29,8 @@ fn assert_parts_print(rt: &impl Abort, alloc: Global) -> Result<(), AllocError> 
     let all = (slots, refusals, MapHash::new(7));
     let want = "([Occupied(10), Vacant { next: 7 }], (Full, Memory), MapHash { hash: 7 })";
     assert_prints(rt, alloc, &all, want)?;
-    let told = shown(alloc, &ix(4294967294))?;
-    assert_told(rt, told.as_str(), "4294967294", "showing");
+    let told = format!(in alloc; "{}, {}", GrowError::Full, GrowError::Memory)?;
+    assert_told(rt, told.as_str(), "full, no memory", "showing");
     Ok(())
 }
 
@@ -38,6 +38,7 @@ fn assert_parts_print(rt: &impl Abort, alloc: Global) -> Result<(), AllocError> 
 fn parts_and_modes_print(rt: HostRuntime) -> Result<(), Fail> {
     assert_parts_print(&rt, rt.alloc())?;
     let modes = (ValidateCompact::Compact, ValidateCompact::NonCompact);
+    assert!(rt; modes.0 != modes.1 && ValidateChaos::Yes != ValidateChaos::No);
     let all = (modes, ValidateChaos::Yes, ValidateChaos::No);
     assert_prints(&rt, rt.alloc(), &all, "((Compact, NonCompact), Yes, No)")?;
     Ok(())
