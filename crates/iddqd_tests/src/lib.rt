@@ -1,5 +1,9 @@
-//! Tests of the store, its walks, sizes and copies, and of the queries.
+//! Tests of the store, of the tables of hashes and of the ordered table.
 #![tactic(auto)]
 
 #[cfg(test)]
-mod tests;
+mod hash_tables;
+#[cfg(test)]
+mod ordered_table;
+#[cfg(test)]
+mod store;

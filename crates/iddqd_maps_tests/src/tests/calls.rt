@@ -2,11 +2,12 @@
 use super::cards::{Card, Which};
 use iddqd::index_remap::IndexRemap;
 use iddqd::internal::{ValidateCompact, ValidateRefusal, ValidationError};
-use iddqd::item_index::ItemIndex;
+use iddqd::item_index::{ItemIndex, OrDash};
 use iddqd_maps::bi_hash_map::BiClash;
 use iddqd_maps::refusal::{InsertRefusal, OverwriteRefusal, ReplaceRefusal};
 use iddqd_maps::tri_hash_map::TriClash;
 use std::alloc::AllocError;
+use std::fmt;
 use std::ops::Bound;
 
 /// A call of a map. A key is told with which it is.
@@ -68,6 +69,46 @@ pub(super) enum Reply {
     Done,
     /// The map has no such call.
     NoCall,
+}
+
+// A card, behind a word.
+fn write_card<W: fmt::Write>(f: &mut fmt::Formatter<W>, word: &str, card: &Card) -> fmt::Result {
+    write!(f, "{word} {} {} {} {}", card.number, card.seat, card.code, card.visits)
+}
+
+/// Its words. A card is its four numbers.
+impl fmt::Display for Reply {
+    fn fmt<W: fmt::Write>(&self, f: &mut fmt::Formatter<W>) -> fmt::Result {
+        match self {
+            Reply::Card(Some(card)) => write_card(f, "card", card),
+            Reply::At(Some(at)) => write!(f, "at {at}"),
+            Reply::Card(None) | Reply::At(None) => write!(f, "none"),
+            Reply::Displaced(at, were) => {
+                write!(f, "at {at}")?;
+                for was in were {
+                    if let Some(card) = was {
+                        write_card(f, " for", card)?;
+                    }
+                }
+                Ok(())
+            }
+            Reply::Duplicate(_, [one, two, three]) => write!(
+                f,
+                "duplicate {} {} {}",
+                OrDash(*one),
+                OrDash(*two),
+                OrDash(*three)
+            ),
+            Reply::Full(_) => write!(f, "full"),
+            Reply::Missing(_) => write!(f, "missing"),
+            Reply::Memory => write!(f, "no memory"),
+            Reply::Is(is_so) => write!(f, "{is_so}"),
+            Reply::Count(count) => write!(f, "{count}"),
+            Reply::Told(told) => write!(f, "told {told}"),
+            Reply::Done => write!(f, "done"),
+            Reply::NoCall => write!(f, "no call"),
+        }
+    }
 }
 
 /// No number told.

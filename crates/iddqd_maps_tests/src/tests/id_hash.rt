@@ -43,7 +43,7 @@ fn read<S: BuildHasher>(map: &IdHashMap<Card, S>, call: &Call) -> Reply {
         Call::Has(Which::Number, key) => Reply::Is(map.contains_key(key)),
         Call::GetAt(ix) => Reply::Card(map.get_at(*ix).copied()),
         Call::Len => Reply::Count(map.len()),
-        Call::Walk(End::First) => walked(map.iter()),
+        Call::Walk(End::First) => walked(map.into_iter()),
         Call::Walk(End::Last) => walked_back(map.values()),
         Call::Validate(compactness) => checked(map.validate(*compactness)),
         _ => Reply::NoCall,

@@ -2,7 +2,7 @@
 use super::calls::{Call, Calls};
 use super::cards::{Card, Constant, printed};
 use iddqd::item_index::ItemIndex;
-use iddqd::item_set::IntoValues;
+use iddqd::item_set::{IntoValues, Iter};
 use iddqd_maps::bi_hash_map::{BiClash, BiHashMap};
 use iddqd_maps::id_hash_map::IdHashMap;
 use iddqd_maps::id_ord_map::IdOrdMap;
@@ -10,6 +10,7 @@ use iddqd_maps::refusal::{InsertRefusal, OverwriteRefusal, ReplaceRefusal};
 use iddqd_maps::tri_hash_map::{TriClash, TriHashMap};
 use std::alloc::{AllocError, Global};
 use std::fmt::{Debug, Display};
+use std::ops::Bound;
 use std::process::Abort;
 use std::test::Fail;
 
@@ -52,9 +53,40 @@ fn maps_print_their_cards(rt: HostRuntime) -> Result<(), Fail> {
     Ok(())
 }
 
+// What walks print for debugging.
+fn assert_walks_print(
+    rt: &impl Abort,
+    alloc: Global,
+    map: &IdOrdMap<Card>,
+) -> Result<(), AllocError> {
+    assert_prints(rt, alloc, map.iter(), "Iter { remaining: 1 }")?;
+    assert_prints(rt, alloc, map.values(), "Values { remaining: 1 }")?;
+    let walk = map.range(Bound::Included(&2), Bound::Unbounded);
+    assert_prints(rt, alloc, walk, "Range")
+}
+
+#[test]
+fn walks_in_order_print_what_remains(rt: HostRuntime) -> Result<(), Fail> {
+    let alloc = rt.alloc();
+    let map = holding(IdOrdMap::<Card>::new(alloc), 1);
+    assert_walks_print(&rt, alloc, &map)?;
+    let want = "IntoValues { remaining: 1 }";
+    assert_prints(&rt, alloc, map.into_values(), want)?;
+    Ok(())
+}
+
 // Whether the only card is handed over.
 fn is_given(mut left: IntoValues<Card>) -> bool {
     left.next() == Some(printed(1, 2, 3, 9)) && left.next().is_none()
+}
+
+// Whether the only card is lent.
+fn is_lent(mut walk: Iter<'_, Card>) -> bool {
+    let is_first = match walk.next() {
+        Some((at, card)) => at == ItemIndex::new(0) && *card == printed(1, 2, 3, 9),
+        None => false,
+    };
+    is_first && walk.next().is_none()
 }
 
 #[test]
@@ -68,12 +100,24 @@ fn maps_give_their_cards(rt: HostRuntime) {
 }
 
 #[test]
+fn maps_are_walked_by_a_loop(rt: HostRuntime) {
+    let map = holding(IdHashMap::<Card>::new(rt.alloc()), 1);
+    assert!(rt; is_lent(map.iter()) && is_given(map.into_iter()));
+    let map = holding(BiHashMap::<Card>::new(rt.alloc()), 1);
+    assert!(rt; is_lent(map.iter()) && is_given(map.into_iter()));
+    let map = holding(TriHashMap::<Card>::new(rt.alloc()), 1);
+    assert!(rt; is_lent(map.iter()) && is_given(map.into_iter()));
+}
+
+#[test]
 fn refusals_print_their_words(rt: HostRuntime) -> Result<(), Fail> {
     let full: InsertRefusal<u32, ItemIndex> = InsertRefusal::Full(1);
     let missing: ReplaceRefusal<u32, ItemIndex> = ReplaceRefusal::Missing(1);
     let memory = OverwriteRefusal::Memory(1);
     let text = format!(in rt.alloc(); "{full}, {missing}, {memory}")?;
     assert!(rt; text.as_str() == "full, missing, no memory");
+    let text = format!(in rt.alloc(); "{full:?}, {missing:?}, {memory:?}")?;
+    assert!(rt; text.as_str() == "Full(1), Missing(1), Memory(1)");
     Ok(())
 }
 

@@ -4,7 +4,7 @@ use super::driver::{Items, ix, no_items, record};
 use super::told::assert_told;
 use iddqd::hash_builder::DefaultHashBuilder;
 use iddqd_keyed::keyed_item::KeyedItem;
-use iddqd_keyed::keyed_items::{KeyedItems, ReplaceRefusal};
+use iddqd_keyed::keyed_items::{InsertRefusal, KeyedItems, ReplaceRefusal};
 use iddqd_lines::record::Record;
 use std::alloc::{AllocError, Global};
 use std::process::Abort;
@@ -89,8 +89,10 @@ fn three_records(rt: &impl Abort, alloc: Global) -> Items {
     items
 }
 
-fn assert_walks(rt: &impl Abort, items: &Items) -> Result<(), AllocError> {
+fn assert_walks(rt: &impl Abort, alloc: Global, items: &Items) -> Result<(), AllocError> {
     let mut values = items.values_by_key2();
+    let told = printed(alloc, &values)?;
+    assert_told(rt, &told, "ValuesByKey2 { remaining: 3 }", "values_by_key2");
     let copy = values.clone()?;
     assert!(rt; values.len() == 3);
     assert!(rt; matches!(values.next(), Some(item) if *item == record(2, 10)));
@@ -114,7 +116,7 @@ fn assert_gets(rt: &impl Abort, items: &Items) {
 #[test]
 fn values_go_by_second_keys_from_both_ends(rt: HostRuntime) -> Result<(), Fail> {
     let items = three_records(&rt, rt.alloc());
-    assert_walks(&rt, &items)?;
+    assert_walks(&rt, rt.alloc(), &items)?;
     assert_gets(&rt, &items);
     Ok(())
 }
@@ -186,8 +188,13 @@ fn a_replacement_mends_a_silent_change(rt: HostRuntime) -> Result<(), Fail> {
 }
 
 #[test]
-fn refusals_to_replace_print(rt: HostRuntime) -> Result<(), Fail> {
-    let told = format!(in rt.alloc(); "{}", ReplaceRefusal::Memory(record(1, 10)))?;
-    assert_told(&rt, &told, "no memory", "Memory");
+fn refusals_print_the_words_of_the_program(rt: HostRuntime) -> Result<(), Fail> {
+    let duplicate = InsertRefusal::Duplicate {
+        item: record(1, 10),
+        first: Some(ix(0)),
+        second: None,
+    };
+    let told = format!(in rt.alloc(); "{}, {duplicate}", ReplaceRefusal::Memory(record(1, 10)))?;
+    assert_told(&rt, &told, "no memory, duplicate 0 -", "refusals");
     Ok(())
 }

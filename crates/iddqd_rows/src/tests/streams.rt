@@ -199,21 +199,6 @@ impl Served {
         let is_so = self.told == told && self.replies.as_slice() == replies;
         is_so && self.early == 0 && self.late == 0
     }
-
-    /// Whether no read came too early and no call too late, and of the replies to all lines it wrote what it
-    /// owes: all; where a read failed, those to the lines that it was given; where a write failed, a beginning.
-    pub(super) fn is_owed(&self, all: &[u8]) -> bool {
-        let replies = self.replies.as_slice();
-        let is_enough = match self.told {
-            Ok(()) => replies.len() == all.len(),
-            Err(ServeFault::Read) => {
-                let is_whole = replies.last().is_none_or(|byte| *byte == b'\n');
-                is_whole && count_lines(replies) == self.given
-            }
-            Err(ServeFault::Write) => replies.len() < all.len(),
-        };
-        is_enough && all.starts_with(replies) && self.early == 0 && self.late == 0
-    }
 }
 
 pub(super) fn serve_in_steps(alloc: Global, streams: Streams<'_>) -> Served {

@@ -236,62 +236,6 @@ fn refusals_print_their_words(rt: HostRuntime) -> Result<(), Fail> {
     Ok(())
 }
 
-type Items = TriItems<Trio, DefaultHashBuilder>;
-
-// The item with that number: no two share a key.
-fn nth(number: u32) -> Trio {
-    Trio(number, number.wrapping_add(1000), number.wrapping_add(2000))
-}
-
-// Whether all calls find that item at the index, and nothing of another at its keys.
-fn is_held(items: &Items, item: Trio, at: Option<ItemIndex>) -> bool {
-    let is_found = find1(items, item.0) == at && find2(items, item.1) == at;
-    is_found && find3(items, item.2) == at && at.is_none_or(|at| get(items, at) == Some(item))
-}
-
-// The items of the numbers below are held, each at its number, and not the next.
-fn assert_holds(rt: &impl Abort, items: &Items, taken: u32) {
-    assert!(rt; items.len() == taken as usize);
-    for number in 0..taken {
-        holds(rt, is_held(items, nth(number), Some(ix(number))), &number);
-    }
-    holds(rt, is_held(items, nth(taken), None), &taken);
-}
-
-// Inserts the next item, and tells how many there are then.
-fn insert_next(rt: &impl Abort, items: &mut Items, taken: u32) -> u32 {
-    let item = nth(taken);
-    let answer = insert(items, item);
-    if answer == Ok((ix(taken), [None, None, None])) {
-        return taken.saturating_add(1);
-    }
-    holds(rt, answer == Err(TriRefusal::Memory(item)), &taken);
-    taken
-}
-
-// An item over one that shares all keys, which takes its place, or else nothing changes.
-fn insert_again(rt: &impl Abort, items: &mut Items, number: u32) {
-    let item = nth(number);
-    let answer = insert(items, item);
-    let is_replaced = answer == Ok((ix(number), [Some(item), None, None]));
-    let is_refused = answer == Err(TriRefusal::Memory(item));
-    holds(rt, is_replaced || is_refused, &number);
-}
-
-#[test]
-fn refused_memory_hands_the_item_back_and_changes_nothing(rt: HostRuntime) {
-    let mut items = TriItems::new(rt.alloc(), DefaultHashBuilder::default());
-    let mut taken = 0;
-    for _ in 0..40 {
-        taken = insert_next(&rt, &mut items, taken);
-        assert_holds(&rt, &items, taken);
-        for number in 0..taken {
-            insert_again(&rt, &mut items, number);
-        }
-        assert_holds(&rt, &items, taken);
-    }
-}
-
 // Three keys that count.
 #[derive(Drop)]
 struct Counted(First, First, First);
@@ -374,6 +318,8 @@ fn each_key_of_an_item_is_hashed_once(rt: HostRuntime) -> Result<(), Fail> {
     Ok(())
 }
 
+type Items = TriItems<Trio, DefaultHashBuilder>;
+
 // A query that holds a number.
 #[derive(PartialEq, Eq, Hash, Drop)]
 struct Held(u32);
@@ -388,8 +334,14 @@ impl Equivalent<u32> for Held {
     }
 }
 
-fn find_held(items: &Items, key: u32) -> Option<ItemIndex> {
-    items.find1_by(&Held(key))
+// Where it is a first, a second, a third key.
+fn find_held(items: &Items, key: u32) -> [Option<ItemIndex>; 3] {
+    let query = Held(key);
+    [
+        items.find1_by(&query),
+        items.find2_by(&query),
+        items.find3_by(&query),
+    ]
 }
 
 #[test]
@@ -397,6 +349,8 @@ fn a_query_that_is_no_key_finds_its_item(rt: HostRuntime) {
     let mut items = TriItems::new(rt.alloc(), DefaultHashBuilder::default());
     let answer = insert(&mut items, Trio(7, 8, 9));
     assert!(rt; answer.is_ok());
-    assert!(rt; find_held(&items, 7) == Some(ix(0)));
-    assert!(rt; find_held(&items, 8).is_none());
+    assert!(rt; find_held(&items, 7) == [Some(ix(0)), None, None]);
+    assert!(rt; find_held(&items, 8) == [None, Some(ix(0)), None]);
+    assert!(rt; find_held(&items, 9) == [None, None, Some(ix(0))]);
+    assert!(rt; find_held(&items, 1) == [None; 3]);
 }

@@ -1,5 +1,0 @@
-//! Tests of the ordered table.
-#![tactic(auto)]
-
-#[cfg(test)]
-mod tests;
