@@ -9,7 +9,7 @@ use Rattle.iddqd_hash.specs.HashTable.{room as table_room}
 use Rattle.iddqd_hash.specs.MapHashTable.{filed}
 use Rattle.iddqd_sides.specs.Scan.{AnswersScan}
 use Rattle.iddqd_sides.specs.Hashed.{hashing_of}
-use Rattle.iddqd_indexing.specs.Indexing.{Indexes}
+use Rattle.iddqd_map_base.specs.Indexing.{Indexes}
 use Rattle.iddqd_map_base.specs.Map.{MapState, map_with}
 use Rattle.iddqd_map_base.specs.Several.{either_key, both_keys, AnswersOther}
 use Rattle.iddqd_map_base.specs.Steps.{ItemKey, alike_by}

@@ -13,10 +13,10 @@ use Rattle.iddqd_hash.specs.MapHashTable.{filed}
 use Rattle.iddqd_sides.specs.Scan.{IsLive, HasNoHit, AnswersScan}
 use Rattle.iddqd_sides.specs.Hashed.{Hashing, IsLawful}
 use Rattle.iddqd_sides.specs.HashedMove.{IfStays, LacksRoom, moved}
-use Rattle.iddqd_indexing.specs.Indexing.{Indexes, Plans, shares_key}
+use Rattle.iddqd_map_base.specs.Indexing.{Indexes, Plans, shares_key}
 use Rattle.iddqd_sides.specs.declared.hashed_move.Move.{Move}
 use Rattle.iddqd_sides.specs.declared.hashed_move.Move.TheVariants.{Stays, To}
-use Rattle.iddqd_indexing.proofs.IndexingLemmas.{Indexes-removed, Indexes-inserted, Indexes-rebound}
+use Rattle.iddqd_map_base.proofs.IndexingLemmas.{Indexes-removed, Indexes-inserted, Indexes-rebound}
 use Rattle.iddqd_map_base.specs.Map.{MapState, Stays as Rests, IsOnly}
 use Rattle.iddqd_map_base.specs.Calls.{Becomes, LacksRoomAt}
 use Rattle.iddqd_map_base.specs.Steps.{ItemKey, alike_by}

@@ -6,7 +6,7 @@ use Rattle.iddqd_hash.specs.HashTable.{Table, room as table_room}
 use Rattle.iddqd_hash.specs.MapHashTable.{filed}
 use Rattle.iddqd_sides.specs.Scan.{AnswersScan}
 use Rattle.iddqd_sides.specs.Hashed.{Hashing}
-use Rattle.iddqd_indexing.specs.Indexing.{Indexes}
+use Rattle.iddqd_map_base.specs.Indexing.{Indexes}
 use Rattle.iddqd_map_base.specs.Map.{MapState, map_with}
 
 -- the one item that shares a key with this one is at this index

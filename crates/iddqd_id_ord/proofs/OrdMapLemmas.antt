@@ -11,8 +11,8 @@ use Rattle.iddqd.specs.declared.item_set.GrowError.TheVariants.{Full as NoPlace,
 use Rattle.iddqd_order.specs.MapBTreeTable.{without}
 use Rattle.iddqd_sides.specs.Scan.{HasNoHit, AnswersScan}
 use Rattle.iddqd_sides.specs.Ordered.{AddsInPlace}
-use Rattle.iddqd_indexing.specs.OrderedIndexing.{Sorts, has_key}
-use Rattle.iddqd_indexing.proofs.OrderedIndexingLemmas.{Sorts-removed, Sorts-inserted, Sorts-kept}
+use Rattle.iddqd_map_base.specs.OrderedIndexing.{Sorts, has_key}
+use Rattle.iddqd_map_base.proofs.OrderedIndexingLemmas.{Sorts-removed, Sorts-inserted, Sorts-kept}
 use Rattle.iddqd_map_base.specs.Map.{MapState, Stays, IsMap, IsOnly, FindsItem, Removes, shares}
 use Rattle.iddqd_map_base.specs.Calls.{Inserts}
 use Rattle.iddqd_map_base.specs.Refusal.{refusal_of}

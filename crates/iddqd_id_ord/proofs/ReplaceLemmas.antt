@@ -5,9 +5,9 @@ use Rattle.std.specs.Ordering.{eq_by_cmp}
 use Rattle.iddqd.specs.Store.{get}
 use Rattle.iddqd.specs.ItemSet.{SizedStore, with_item}
 use Rattle.iddqd_sides.specs.Scan.{IsHit, AnswersScan}
-use Rattle.iddqd_indexing.specs.OrderedIndexing.{Sorts, PlansOrClashes}
-use Rattle.iddqd_indexing.specs.declared.ordered_move.Move.{Move}
-use Rattle.iddqd_indexing.specs.declared.ordered_move.Move.TheVariants.{Stays, Moves}
+use Rattle.iddqd_map_base.specs.OrderedIndexing.{Sorts, PlansOrClashes}
+use Rattle.iddqd_map_base.specs.declared.ordered_move.Move.{Move}
+use Rattle.iddqd_map_base.specs.declared.ordered_move.Move.TheVariants.{Stays, Moves}
 use Rattle.iddqd_map_base.specs.Map.{MapState, shares}
 use Rattle.iddqd_map_base.specs.Calls.{Becomes, LacksRoomAt, ReplacesAt, Replaces}
 use Rattle.iddqd_map_base.specs.declared.refusal.ReplaceRefusal.{ReplaceRefusal}

@@ -19,7 +19,7 @@ use Rattle.iddqd_order.specs.Retain.{Retains}
 use Rattle.iddqd_order.proofs.IndexListLemmas.{IsDistinct-filter}
 use Rattle.iddqd_sides.specs.Scan.{IsLive}
 use Rattle.iddqd_sides.specs.Ordered.{AreLive, Holds}
-use Rattle.iddqd_indexing.specs.OrderedIndexing.{Sorts}
+use Rattle.iddqd_map_base.specs.OrderedIndexing.{Sorts}
 use Rattle.iddqd_sides.proofs.OrderedPlaceLemmas.{IsInPlace-alike}
 use Rattle.iddqd_map_base.specs.Several.{removed_all}
 use Rattle.iddqd_map_base.specs.Retain.{kept_of, refused_of}

@@ -17,7 +17,7 @@ use Rattle.iddqd_sides.specs.Scan.{IsLive}
 use Rattle.iddqd_sides.specs.Side.{IsApart}
 use Rattle.iddqd_sides.specs.Ordered.{AreLive, key_at}
 use Rattle.iddqd_sides.specs.OrderedWalk.{SortsWithin}
-use Rattle.iddqd_indexing.specs.OrderedIndexing.{Sorts}
+use Rattle.iddqd_map_base.specs.OrderedIndexing.{Sorts}
 use Rattle.iddqd_id_ord.specs.KeyOrder.{IsWalkWithin}
 use Rattle.iddqd_id_ord.specs.Pairs.{pair_at, pairs_at, items_at}
 

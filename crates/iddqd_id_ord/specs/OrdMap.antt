@@ -4,7 +4,7 @@ use Rattle.std.specs.declared.cmp.Ordering.{Ordering}
 use Rattle.iddqd.specs.Store.{Store, IsValid}
 use Rattle.iddqd.specs.ItemSet.{SizedStore}
 use Rattle.iddqd_sides.specs.Scan.{AnswersScan}
-use Rattle.iddqd_indexing.specs.OrderedIndexing.{Sorts}
+use Rattle.iddqd_map_base.specs.OrderedIndexing.{Sorts}
 use Rattle.iddqd_map_base.specs.Map.{MapState}
 
 -- the one item that shares a key with this one is at this index

@@ -8,7 +8,7 @@ use Rattle.std.proofs.lemmas.List.Sums.{sum_by-cons}
 use Rattle.iddqd.specs.Store.{Store, IsValid, get}
 use Rattle.iddqd.specs.Clones.{IsItemClone, IsStoreClone}
 use Rattle.iddqd_sides.specs.Hashed.{Hashing, IsLawful}
-use Rattle.iddqd_indexing.specs.Indexing.{Indexes}
+use Rattle.iddqd_map_base.specs.Indexing.{Indexes}
 
 module _ {T : Type 0} (is_clone : T → T → Type 0) where
   clone_at : (items copies : List (Option T)) (ix : ℕ) → AllZip (IsItemClone is_clone) items copies → IsItemClone is_clone (get_or items ix None) (get_or copies ix None)

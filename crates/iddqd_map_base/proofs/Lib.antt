@@ -1,3 +1,7 @@
+pub mod IndexingLemmas
+pub mod OrderedIndexingLemmas
+pub mod OrderedMoveLemmas
+pub mod OrderedEndLemmas
 pub mod RoomLemmas
 pub mod TablesLemmas
 pub mod CountLemmas

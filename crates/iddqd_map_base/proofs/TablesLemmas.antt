@@ -13,7 +13,7 @@ use Rattle.iddqd_hash.specs.MapHashTable.{filed}
 use Rattle.iddqd_sides.specs.Scan.{IsLive, IsHit, HasNoHit, AnswersScan}
 use Rattle.iddqd_sides.specs.Hashed.{Holds, IsLawful}
 use Rattle.iddqd_sides.specs.HashedMove.{IfStays, LacksRoom}
-use Rattle.iddqd_indexing.specs.Indexing.{Indexes, Plans, PlansOrClashes}
+use Rattle.iddqd_map_base.specs.Indexing.{Indexes, Plans, PlansOrClashes}
 use Rattle.iddqd_sides.specs.declared.hashed_move.Move.{Move}
 use Rattle.iddqd_sides.specs.declared.hashed_move.Move.TheVariants.{Stays, To}
 use Rattle.iddqd_sides.proofs.HoldsLemmas.{CanRemap-held, one_name-held}

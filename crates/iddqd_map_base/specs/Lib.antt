@@ -1,3 +1,5 @@
+pub mod Indexing
+pub mod OrderedIndexing
 pub mod Map
 pub mod Calls
 pub mod Several

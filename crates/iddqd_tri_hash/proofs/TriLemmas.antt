@@ -17,7 +17,7 @@ use Rattle.iddqd_sides.specs.Scan.{IsLive, IsHit, HasNoHit, AnswersScan}
 use Rattle.iddqd_sides.specs.Hashed.{IsLawful}
 use Rattle.iddqd_sides.proofs.FindLemmas.{IsLawful-from_bounds}
 use Rattle.iddqd_sides.proofs.HoldsLemmas.{next_unfiled}
-use Rattle.iddqd_indexing.proofs.IndexingLemmas.{Indexes-empty, Indexes-cleared, Indexes-removed, Indexes-inserted, Indexes-compacted, Indexes-rebound}
+use Rattle.iddqd_map_base.proofs.IndexingLemmas.{Indexes-empty, Indexes-cleared, Indexes-removed, Indexes-inserted, Indexes-compacted, Indexes-rebound}
 use Rattle.iddqd_map_base.specs.Several.{either_key, BecomesOne, LacksRoomFor}
 use Rattle.iddqd_map_base.specs.Steps.{alike_by}
 use Rattle.iddqd_map_base.proofs.CloneLemmas.{IsValid-cloned, Indexes-cloned}

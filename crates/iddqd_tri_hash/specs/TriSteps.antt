@@ -5,7 +5,7 @@ use Rattle.iddqd.specs.Store.{Store}
 use Rattle.iddqd_hash.specs.HashTable.{room}
 use Rattle.iddqd_hash.specs.MapHashTable.{filed}
 use Rattle.iddqd_sides.specs.HashedMove.{IfMoves, IfStays, LacksRoom, moved}
-use Rattle.iddqd_indexing.specs.Indexing.{Plans}
+use Rattle.iddqd_map_base.specs.Indexing.{Plans}
 use Rattle.iddqd_map_base.specs.Steps.{alike_by, IsShrunk}
 use Rattle.iddqd_tri_hash.specs.TriMap.{TriKeys, AreTaken}
 use Rattle.iddqd_tri_hash.specs.declared.tri_hash_map.clash.TriClash.{TriClash}

@@ -31,7 +31,7 @@ pub use clones::TriHashClone;
 use iddqd::hash_builder::DefaultHashBuilder;
 use iddqd::item_index::ItemIndex;
 use iddqd::item_set::ItemSet;
-use iddqd_indexing::hashed_query::find_by;
+use iddqd_map_base::hashed_query::find_by;
 use iddqd_sides::query::HashQuery;
 pub use item::{First, Second, Third, TriHashItem};
 use std::alloc::Global;

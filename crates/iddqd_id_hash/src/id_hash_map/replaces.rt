@@ -6,7 +6,7 @@ ghost use Rattle.iddqd_map_base.specs.Calls.{Replaces, ReplacesIfLive, Changes};
 
 use super::{IdHashItem, IdHashMap, ItsKey};
 use iddqd::item_index::ItemIndex;
-use iddqd_indexing::hashed_query::find_under;
+use iddqd_map_base::hashed_query::find_under;
 use iddqd_map_base::refusal::ReplaceRefusal;
 use iddqd_map_base::tables::{change_found, replace_at, replace_found};
 use iddqd_sides::hashed::query_hash;

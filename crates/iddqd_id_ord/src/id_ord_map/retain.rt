@@ -11,7 +11,7 @@ ghost use Rattle.iddqd_hash.specs.Asks.{CanAsk};
 ghost use Rattle.iddqd_map_base.specs.Retain.{MayAsk};
 ghost use Rattle.iddqd_order.specs.{order_of};
 ghost use Rattle.iddqd_sides.specs.Ordered.{Holds};
-ghost use Rattle.iddqd_indexing.specs.OrderedIndexing.{Sorts};
+ghost use Rattle.iddqd_map_base.specs.OrderedIndexing.{Sorts};
 ghost use Rattle.iddqd_id_ord.specs.KeyOrder.{IsKeyWalk};
 ghost use Rattle.iddqd_id_ord.specs.Pairs.{pairs_at};
 ghost use Rattle.iddqd_id_ord.specs.Retain.{RetainsAlong, RetainsAlongTo};

@@ -8,7 +8,7 @@ ghost use Rattle.iddqd_id_ord.specs.KeyOrder.{AreInKeyOrder, FindsEnd, IsKeyWalk
 
 use super::{IdOrdItem, IdOrdMap, IntoValues, Iter, ItsKey, Range, Values};
 use iddqd::item_index::ItemIndex;
-use iddqd_indexing::ordered_query::range_by;
+use iddqd_map_base::ordered_query::range_by;
 use iddqd_sides::order_query::OrdQuery;
 use iddqd_sides::ordered::take_index;
 use std::fmt;

@@ -5,7 +5,7 @@ ghost use Rattle.iddqd_map_base.specs.Map.{Removes, RemovesAt};
 use super::TriHashMap;
 use super::item::{First, Second, Third, TriHashItem};
 use iddqd::item_index::ItemIndex;
-use iddqd_indexing::hashed_query::take_by;
+use iddqd_map_base::hashed_query::take_by;
 use iddqd_map_base::of_item::take_item;
 use iddqd_map_base::tables::take_at;
 use iddqd_sides::query::HashQuery;

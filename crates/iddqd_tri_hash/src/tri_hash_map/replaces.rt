@@ -10,7 +10,7 @@ use super::clash::TriClash;
 use super::item::{First, Second, Third, TriHashItem};
 use super::moves::KnownHashes;
 use iddqd::item_index::ItemIndex;
-use iddqd_indexing::hashed_query::find_under;
+use iddqd_map_base::hashed_query::find_under;
 use iddqd_map_base::refusal::ReplaceRefusal;
 use iddqd_map_base::tables::{change_found, replace_at, replace_found};
 use iddqd_sides::hashed::query_hash;

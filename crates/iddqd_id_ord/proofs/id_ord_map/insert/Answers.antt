@@ -4,7 +4,7 @@ use Rattle.iddqd.specs.Store.{next_index}
 use Rattle.iddqd_order.specs.Entry.{entry_index}
 use Rattle.iddqd_order.specs.MapBTreeTable.{order_of}
 use Rattle.iddqd_sides.specs.Scan.{HasNoHit, AnswersScan}
-use Rattle.iddqd_indexing.specs.OrderedIndexing.{has_key}
+use Rattle.iddqd_map_base.specs.OrderedIndexing.{has_key}
 use Rattle.iddqd_sides.proofs.OrderedHoldsLemmas.{next_absent}
 use Rattle.iddqd_sides.proofs.OrderedPlaceLemmas.{AddsInPlace-prepared}
 use Rattle.iddqd_map_base.specs.Map.{shares}

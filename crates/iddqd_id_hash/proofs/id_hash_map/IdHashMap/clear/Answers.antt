@@ -1,6 +1,6 @@
 use Rattle.iddqd.proofs.StoreLemmas.{IsValid-empty}
 use Rattle.iddqd_hash.specs.MapHashTable.{filed}
-use Rattle.iddqd_indexing.proofs.IndexingLemmas.{Indexes-cleared}
+use Rattle.iddqd_map_base.proofs.IndexingLemmas.{Indexes-cleared}
 use Rattle.iddqd_id_hash.proofs.id_hash_map.IdHashMap.clear.Goals as goal
 
 pub invariant_of-self : goal.invariant_of-self

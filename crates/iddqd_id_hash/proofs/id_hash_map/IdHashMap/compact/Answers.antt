@@ -1,7 +1,7 @@
 use Rattle.iddqd.proofs.CompactionLemmas.{IsValid-compacted}
 use Rattle.iddqd_hash.specs.MapHashTable.{filed}
 use Rattle.iddqd_sides.proofs.HoldsLemmas.{CanRemap-held, one_name-held, Renames-by_rank}
-use Rattle.iddqd_indexing.proofs.IndexingLemmas.{Indexes-compacted}
+use Rattle.iddqd_map_base.proofs.IndexingLemmas.{Indexes-compacted}
 use Rattle.iddqd_id_hash.proofs.id_hash_map.IdHashMap.compact.Goals as goal
 
 pub remap_indexes-requires-clause-can_remap : goal.remap_indexes-requires-clause-can_remap

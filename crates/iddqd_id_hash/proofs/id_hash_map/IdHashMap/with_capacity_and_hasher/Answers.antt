@@ -1,7 +1,7 @@
 use Rattle.std.proofs.Common.{arith}
 use Rattle.iddqd.specs.Store.{slot_limit}
 use Rattle.iddqd.proofs.StoreLemmas.{IsValid-empty}
-use Rattle.iddqd_indexing.proofs.IndexingLemmas.{Indexes-empty}
+use Rattle.iddqd_map_base.proofs.IndexingLemmas.{Indexes-empty}
 use Rattle.iddqd_id_hash.proofs.id_hash_map.IdHashMap.with_capacity_and_hasher.Goals as goal
 
 pub invariant_of-result : goal.invariant_of-result

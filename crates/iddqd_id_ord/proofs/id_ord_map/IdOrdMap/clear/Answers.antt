@@ -1,6 +1,6 @@
 use Rattle.iddqd.proofs.StoreLemmas.{IsValid-empty}
 use Rattle.iddqd_order.specs.MapBTreeTable.{order_of}
-use Rattle.iddqd_indexing.proofs.OrderedIndexingLemmas.{Sorts-cleared}
+use Rattle.iddqd_map_base.proofs.OrderedIndexingLemmas.{Sorts-cleared}
 use Rattle.iddqd_id_ord.proofs.id_ord_map.IdOrdMap.clear.Goals as goal
 
 pub invariant_of-self : goal.invariant_of-self

@@ -3,7 +3,7 @@ use Rattle.iddqd.specs.Compaction.{rank}
 use Rattle.iddqd.proofs.CompactionLemmas.{IsValid-compacted}
 use Rattle.iddqd_order.specs.MapBTreeTable.{order_of}
 use Rattle.iddqd_sides.proofs.OrderedHoldsLemmas.{CanRemap-held, one_name-held, map-by_rank}
-use Rattle.iddqd_indexing.proofs.OrderedIndexingLemmas.{Sorts-compacted}
+use Rattle.iddqd_map_base.proofs.OrderedIndexingLemmas.{Sorts-compacted}
 use Rattle.iddqd_id_ord.proofs.id_ord_map.IdOrdMap.compact.Goals as goal
 
 pub remap_indexes-requires-clause-can_remap : goal.remap_indexes-requires-clause-can_remap

@@ -2,7 +2,7 @@ use Rattle.std.proofs.Common.{sym, ap, subst}
 use Rattle.std.specs.Option.{option_copied}
 use Rattle.std.specs.declared.cmp.Ordering.TheVariants.{Less}
 use Rattle.iddqd_order.specs.MapBTreeTable.{order_of}
-use Rattle.iddqd_indexing.proofs.OrderedEndLemmas.{HasLeastKey-first}
+use Rattle.iddqd_map_base.proofs.OrderedEndLemmas.{HasLeastKey-first}
 use Rattle.iddqd_map_base.specs.Map.{MapState}
 use Rattle.iddqd_id_ord.specs.KeyOrder.{FindsEnd}
 use Rattle.iddqd_id_ord.proofs.EndLemmas.{nothing_first, IsEnd-at, FindsEnd-none, FindsEnd-found}

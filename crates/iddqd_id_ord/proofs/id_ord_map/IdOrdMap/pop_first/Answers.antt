@@ -1,7 +1,7 @@
 use Rattle.std.proofs.Common.{sym, subst}
 use Rattle.std.specs.declared.cmp.Ordering.TheVariants.{Less}
 use Rattle.iddqd_order.specs.MapBTreeTable.{order_of}
-use Rattle.iddqd_indexing.proofs.OrderedEndLemmas.{live_at_place, HasLeastKey-first}
+use Rattle.iddqd_map_base.proofs.OrderedEndLemmas.{live_at_place, HasLeastKey-first}
 use Rattle.iddqd_map_base.specs.Map.{MapState}
 use Rattle.iddqd_id_ord.specs.KeyOrder.{IsEnd, PopsEnd}
 use Rattle.iddqd_id_ord.specs.OrdMap.{map_of}

@@ -1,6 +1,6 @@
 use Rattle.std.proofs.Common.{arith}
 use Rattle.iddqd.proofs.StoreLemmas.{IsValid-empty}
-use Rattle.iddqd_indexing.proofs.OrderedIndexingLemmas.{Sorts-empty}
+use Rattle.iddqd_map_base.proofs.OrderedIndexingLemmas.{Sorts-empty}
 use Rattle.iddqd_id_ord.proofs.id_ord_map.IdOrdMap.with_limit.Goals as goal
 
 pub invariant_of-result : goal.invariant_of-result

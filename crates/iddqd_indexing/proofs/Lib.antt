@@ -1,4 +1,0 @@
-pub mod IndexingLemmas
-pub mod OrderedIndexingLemmas
-pub mod OrderedMoveLemmas
-pub mod OrderedEndLemmas

@@ -1,2 +1,0 @@
-pub mod Indexing
-pub mod OrderedIndexing
