@@ -1,8 +1,8 @@
 /* Loaded before the C library, this counts the requests for memory of a program that was built by Rattle, which asks by
    malloc and realloc alone, and refuses some of them.
 
-   A request of MARK bytes is a mark, and is always granted. Where MARKED is set, only requests between the first mark
-   and the second are counted. REFUSE=N refuses the N-th of those that are counted, REFUSE=N+ each from the N-th on.
+   A request of MARK bytes is a mark, and is always granted. Only requests between the first mark and the second are
+   counted. REFUSE=N refuses the N-th of those that are counted, REFUSE=N+ each from the N-th on.
    When the program ends, a line on standard error tells the marks, the requests that were counted, those refused, and
    the blocks that were never given back. */
 #define _GNU_SOURCE
@@ -16,14 +16,13 @@
 
 static unsigned long marks, counted, refused, from;
 static long kept;
-static int is_marked, is_all;
+static int is_all;
 
 __attribute__((constructor)) static void begin(void) {
     const char *word = getenv("REFUSE");
     char *end = "";
     from = word ? strtoul(word, &end, 10) : 0;
     is_all = *end == '+';
-    is_marked = getenv("MARKED") != NULL;
 }
 
 __attribute__((destructor)) static void tell(void) {
@@ -38,7 +37,7 @@ static int is_refused(size_t size) {
         ++marks;
         return 0;
     }
-    if (is_marked && marks != 1) return 0;
+    if (marks != 1) return 0;
     ++counted;
     if (!from || (is_all ? counted < from : counted != from)) return 0;
     ++refused;
