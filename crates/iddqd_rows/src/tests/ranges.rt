@@ -2,7 +2,9 @@
 use super::calls::printed;
 use super::driver::{Items, ix, no_items, record};
 use super::told::assert_told;
-use std::alloc::Global;
+use iddqd::item_index::ItemIndex;
+use iddqd_lines::record::Record;
+use std::alloc::{AllocError, Global};
 use std::ops::Bound;
 use std::process::Abort;
 use std::test::Fail;
@@ -17,15 +19,28 @@ fn five_records(rt: &impl Abort, alloc: Global) -> Items {
     items
 }
 
+// The index and the second key of what a walk gives.
+fn told(given: Option<(ItemIndex, &Record)>) -> Option<(u32, u32)> {
+    match given {
+        Some((at, item)) => Some((at.as_u32(), item.second)),
+        None => None,
+    }
+}
+
+fn assert_meets(rt: &impl Abort, alloc: Global, items: &Items) -> Result<(), AllocError> {
+    let mut walk = items.range_by_key2(Bound::Excluded(&10), Bound::Included(&220));
+    assert!(rt; told(walk.next()) == Some((1, 80)));
+    assert!(rt; told(walk.next_back()) == Some((3, 220)));
+    assert!(rt; told(walk.next_back()) == Some((2, 150)));
+    assert!(rt; told(walk.next()).is_none() && told(walk.next_back()).is_none());
+    assert!(rt; told(walk.next()).is_none());
+    assert_told(rt, &printed(alloc, &walk)?, "Range", "{:?}");
+    Ok(())
+}
+
 #[test]
 fn the_ends_of_a_range_meet(rt: HostRuntime) -> Result<(), Fail> {
     let items = five_records(&rt, rt.alloc());
-    let mut walk = items.range_by_key2(Bound::Excluded(&10), Bound::Included(&220));
-    assert!(rt; matches!(walk.next(), Some((at, item)) if at == ix(1) && item.second == 80));
-    assert!(rt; matches!(walk.next_back(), Some((at, item)) if at == ix(3) && item.second == 220));
-    assert!(rt; matches!(walk.next_back(), Some((at, item)) if at == ix(2) && item.second == 150));
-    assert!(rt; walk.next().is_none() && walk.next_back().is_none());
-    assert!(rt; walk.next().is_none());
-    assert_told(&rt, &printed(rt.alloc(), &walk)?, "Range", "{:?}");
+    assert_meets(&rt, rt.alloc(), &items)?;
     Ok(())
 }

@@ -83,10 +83,18 @@ fn clerks_are_found_by_lent_texts(rt: HostRuntime) -> Result<(), Fail> {
 
 fn three_records(rt: &impl Abort, alloc: Global) -> Items {
     let mut items = no_items(alloc);
-    assert!(rt; items.insert(record(1, 30)).is_ok());
-    assert!(rt; items.insert(record(2, 10)).is_ok());
-    assert!(rt; items.insert(record(3, 20)).is_ok());
+    for (first, second) in [(1, 30), (2, 10), (3, 20)] {
+        assert!(rt; items.insert(record(first, second)).is_ok());
+    }
     items
+}
+
+// The second key of what a walk gives.
+fn second(given: Option<&Record>) -> Option<u32> {
+    match given {
+        Some(item) => Some(item.second),
+        None => None,
+    }
 }
 
 fn assert_walks(rt: &impl Abort, alloc: Global, items: &Items) -> Result<(), AllocError> {
@@ -95,22 +103,24 @@ fn assert_walks(rt: &impl Abort, alloc: Global, items: &Items) -> Result<(), All
     assert_told(rt, &told, "ValuesByKey2 { remaining: 3 }", "values_by_key2");
     let copy = values.clone()?;
     assert!(rt; values.len() == 3);
-    assert!(rt; matches!(values.next(), Some(item) if *item == record(2, 10)));
-    assert!(rt; matches!(values.next_back(), Some(item) if *item == record(1, 30)));
-    assert!(rt; matches!(values.next(), Some(item) if *item == record(3, 20)));
-    assert!(rt; values.next().is_none() && values.next_back().is_none());
-    let mut pairs = items.iter();
-    assert!(rt;
-        matches!(pairs.next_back(), Some((at, item)) if at == ix(2) && *item == record(3, 20))
-    );
-    assert!(rt; copy.len() == 3);
+    assert!(rt; second(values.next()) == Some(10) && second(values.next_back()) == Some(30));
+    assert!(rt; second(values.next()) == Some(20) && second(values.next()).is_none());
+    assert!(rt; values.next_back().is_none() && copy.len() == 3);
     Ok(())
 }
 
+// The last index of all, and the second key of its record.
+fn last(items: &Items) -> Option<(u32, u32)> {
+    match items.iter().next_back() {
+        Some((at, item)) => Some((at.as_u32(), item.second)),
+        None => None,
+    }
+}
+
 fn assert_gets(rt: &impl Abort, items: &Items) {
-    assert!(rt; matches!(items.get1(&3), Some(item) if *item == record(3, 20)));
-    assert!(rt; matches!(items.get2(&10), Some(item) if *item == record(2, 10)));
+    assert!(rt; second(items.get1(&3)) == Some(20) && second(items.get2(&10)) == Some(10));
     assert!(rt; items.get1(&20).is_none() && items.get2(&3).is_none());
+    assert!(rt; last(items) == Some((2, 20)));
 }
 
 #[test]
@@ -167,24 +177,30 @@ fn assert_replaced(rt: &impl Abort, alloc: Global, items: &mut Items) -> Result<
     Ok(())
 }
 
+fn assert_found(rt: &impl Abort, items: &Items) {
+    assert!(rt; items.find1(&1) == Some(ix(0)) && items.find2(&15) == Some(ix(0)));
+    assert!(rt; items.find1(&5).is_none() && items.find2(&30).is_none());
+}
+
 #[test]
 fn a_replacement_is_told_to_both_tables(rt: HostRuntime) -> Result<(), Fail> {
     let mut items = three_records(&rt, rt.alloc());
     assert_replaced(&rt, rt.alloc(), &mut items)?;
-    assert!(rt; items.find1(&1) == Some(ix(0)) && items.find2(&15) == Some(ix(0)));
-    assert!(rt; items.find1(&5).is_none() && items.find2(&30).is_none());
+    assert_found(&rt, &items);
     Ok(())
 }
 
 // An index whose keys were changed silently is found again once a replacement tells both tables.
-#[test]
-fn a_replacement_mends_a_silent_change(rt: HostRuntime) -> Result<(), Fail> {
-    let mut items = three_records(&rt, rt.alloc());
+fn assert_mends(rt: &impl Abort, items: &mut Items) {
     assert!(rt; items.overwrite(ix(1), record(9, 99)).is_ok());
     assert!(rt; items.find1(&9).is_none() && items.find2(&99).is_none());
     assert!(rt; items.replace(ix(1), record(9, 99)).is_ok());
     assert!(rt; items.find1(&9) == Some(ix(1)) && items.find2(&99) == Some(ix(1)));
-    Ok(())
+}
+
+#[test]
+fn a_replacement_mends_a_silent_change(rt: HostRuntime) {
+    assert_mends(&rt, &mut three_records(&rt, rt.alloc()));
 }
 
 #[test]
