@@ -11,12 +11,12 @@ ghost use Rattle.iddqd_sides.specs.HashedMove.{IfMoves, IfStays, moved};
 ghost use Rattle.iddqd_map_base.specs.Indexing.{Indexes};
 ghost use Rattle.iddqd_map_base.specs.Map.{shares};
 
+use crate::hashed_query::find_under;
 use iddqd::internal::{ValidateCompact, ValidateRefusal, ValidationError};
 use iddqd::item_index::ItemIndex;
 use iddqd::item_set::ItemSet;
 use iddqd::map_hash::MapHash;
 use iddqd_hash::hash_table::MapHashTable;
-use crate::hashed_query::find_under;
 use iddqd_sides::hashed::{hash_of, take_index};
 use iddqd_sides::hashed_move::{Move, commit_move};
 use iddqd_sides::key_of::KeyOf;

@@ -1,4 +1,4 @@
-//! Maps by their calls, beside a list, and where calls are refused.
+//! Maps by scripts of their calls, and under other keys, queries and hashers.
 mod bi_hash;
 mod calls;
 mod cards;

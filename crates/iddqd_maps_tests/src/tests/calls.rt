@@ -73,7 +73,11 @@ pub(super) enum Reply {
 
 // A card, behind a word.
 fn write_card<W: fmt::Write>(f: &mut fmt::Formatter<W>, word: &str, card: &Card) -> fmt::Result {
-    write!(f, "{word} {} {} {} {}", card.number, card.seat, card.code, card.visits)
+    write!(
+        f,
+        "{word} {} {} {} {}",
+        card.number, card.seat, card.code, card.visits
+    )
 }
 
 /// Its words. A card is its four numbers.

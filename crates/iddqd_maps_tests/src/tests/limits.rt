@@ -117,14 +117,54 @@ insert 1 1 1 1: at 0
 #[test]
 fn a_full_map_takes_a_card_that_clashes(rt: HostRuntime) -> Result<(), Fail> {
     let alloc = rt.alloc();
-    assert_script(&rt, alloc, &mut IdHashMap::<Card>::with_limit(alloc, 0), NO_SLOT)?;
-    assert_script(&rt, alloc, &mut IdHashMap::<Card>::with_limit(alloc, 1), ONE_SLOT)?;
-    assert_script(&rt, alloc, &mut IdOrdMap::<Card>::with_limit(alloc, 0), NO_SLOT)?;
-    assert_script(&rt, alloc, &mut IdOrdMap::<Card>::with_limit(alloc, 1), ONE_SLOT)?;
-    assert_script(&rt, alloc, &mut BiHashMap::<Card>::with_limit(alloc, 0), NO_SLOT)?;
-    assert_script(&rt, alloc, &mut BiHashMap::<Card>::with_limit(alloc, 1), ONE_SLOT)?;
-    assert_script(&rt, alloc, &mut TriHashMap::<Card>::with_limit(alloc, 0), NO_SLOT)?;
-    assert_script(&rt, alloc, &mut TriHashMap::<Card>::with_limit(alloc, 1), ONE_SLOT)?;
+    assert_script(
+        &rt,
+        alloc,
+        &mut IdHashMap::<Card>::with_limit(alloc, 0),
+        NO_SLOT,
+    )?;
+    assert_script(
+        &rt,
+        alloc,
+        &mut IdHashMap::<Card>::with_limit(alloc, 1),
+        ONE_SLOT,
+    )?;
+    assert_script(
+        &rt,
+        alloc,
+        &mut IdOrdMap::<Card>::with_limit(alloc, 0),
+        NO_SLOT,
+    )?;
+    assert_script(
+        &rt,
+        alloc,
+        &mut IdOrdMap::<Card>::with_limit(alloc, 1),
+        ONE_SLOT,
+    )?;
+    assert_script(
+        &rt,
+        alloc,
+        &mut BiHashMap::<Card>::with_limit(alloc, 0),
+        NO_SLOT,
+    )?;
+    assert_script(
+        &rt,
+        alloc,
+        &mut BiHashMap::<Card>::with_limit(alloc, 1),
+        ONE_SLOT,
+    )?;
+    assert_script(
+        &rt,
+        alloc,
+        &mut TriHashMap::<Card>::with_limit(alloc, 0),
+        NO_SLOT,
+    )?;
+    assert_script(
+        &rt,
+        alloc,
+        &mut TriHashMap::<Card>::with_limit(alloc, 1),
+        ONE_SLOT,
+    )?;
     Ok(())
 }
 

@@ -34,7 +34,12 @@ fn call_of_one(rt: &impl Abort, word: &str, numbers: &[u32]) -> Call {
         2 => Which::Seat,
         _ => Which::Code,
     };
-    let other = printed(at(numbers, 2), at(numbers, 3), at(numbers, 4), at(numbers, 5));
+    let other = printed(
+        at(numbers, 2),
+        at(numbers, 3),
+        at(numbers, 4),
+        at(numbers, 5),
+    );
     match word {
         "find" => Call::Find(which, second),
         "get" => Call::Get(which, second),
