@@ -11,7 +11,7 @@ use Rattle.iddqd_sides.specs.Hashed.{Hashing, IsLawful}
 use Rattle.iddqd_map_base.specs.Indexing.{Indexes}
 
 module _ {T : Type 0} (is_clone : T → T → Type 0) where
-  clone_at : (items copies : List (Option T)) (ix : ℕ) → AllZip (IsItemClone is_clone) items copies → IsItemClone is_clone (get_or items ix None) (get_or copies ix None)
+  pub clone_at : (items copies : List (Option T)) (ix : ℕ) → AllZip (IsItemClone is_clone) items copies → IsItemClone is_clone (get_or items ix None) (get_or copies ix None)
   clone_at [] [] ix all = refl
   clone_at [] (c ∷ copies) ix all = absurd all
   clone_at (item ∷ items) [] ix all = absurd all
@@ -30,13 +30,13 @@ module _ {T : Type 0} (is_clone : T → T → Type 0) where
       rw all.0.1 (omega (arith, count_of_clones items copies all.1, sum_by-cons one (Some item) items, sum_by-cons one (Some all.0.0) copies))
 
   -- an index that is live in a clone has the clone of an item
-  record WasCloned (s : Store T) (ix : ℕ) (y : T) : Type 0 where
-    item : T
-    live : get s ix ≡ Some item
-    cloned : is_clone item y
+  pub record WasCloned (s : Store T) (ix : ℕ) (y : T) : Type 0 where
+    pub item : T
+    pub live : get s ix ≡ Some item
+    pub cloned : is_clone item y
 
   module _ (s copy : Store T) (is : IsStoreClone is_clone s copy) where
-    was_cloned : (ix : ℕ) (y : T) → get copy ix ≡ Some y → WasCloned s ix y
+    pub was_cloned : (ix : ℕ) (y : T) → get copy ix ≡ Some y → WasCloned s ix y
     was_cloned ix y live = by (get s ix) refl (clone_at s.items copy.items ix is.items)
       where
         by : (o : Option T) → get s ix ≡ o → IsItemClone is_clone o (get copy ix) → WasCloned s ix y
@@ -46,7 +46,7 @@ module _ {T : Type 0} (is_clone : T → T → Type 0) where
             let same : other ≡ y = cc in
             record { item = item; live = was; cloned = subst (is_clone item) same cloned }
 
-    live_alike : (ix : ℕ) → is_some (get copy ix) ≡ is_some (get s ix)
+    pub live_alike : (ix : ℕ) → is_some (get copy ix) ≡ is_some (get s ix)
     live_alike ix = by (get s ix) (get copy ix) (clone_at s.items copy.items ix is.items)
       where
         by : (o c : Option T) → IsItemClone is_clone o c → is_some c ≡ is_some o
