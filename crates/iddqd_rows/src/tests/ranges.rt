@@ -2,8 +2,8 @@
 use super::calls::printed;
 use super::driver::{Items, ix, no_items, record};
 use super::told::assert_told;
-use iddqd::item_index::ItemIndex;
 use iddqd_lines::record::Record;
+use iddqd_sides::ordered_walk::Range;
 use std::alloc::{AllocError, Global};
 use std::ops::Bound;
 use std::process::Abort;
@@ -19,9 +19,17 @@ fn five_records(rt: &impl Abort, alloc: Global) -> Items {
     items
 }
 
-// The index and the second key of what a walk gives.
-fn told(given: Option<(ItemIndex, &Record)>) -> Option<(u32, u32)> {
-    match given {
+// The index and the second key of what the walk gives next.
+fn step(walk: &mut Range<'_, Record>) -> Option<(u32, u32)> {
+    match walk.next() {
+        Some((at, item)) => Some((at.as_u32(), item.second)),
+        None => None,
+    }
+}
+
+// The same from its other end.
+fn step_back(walk: &mut Range<'_, Record>) -> Option<(u32, u32)> {
+    match walk.next_back() {
         Some((at, item)) => Some((at.as_u32(), item.second)),
         None => None,
     }
@@ -29,11 +37,11 @@ fn told(given: Option<(ItemIndex, &Record)>) -> Option<(u32, u32)> {
 
 fn assert_meets(rt: &impl Abort, alloc: Global, items: &Items) -> Result<(), AllocError> {
     let mut walk = items.range_by_key2(Bound::Excluded(&10), Bound::Included(&220));
-    assert!(rt; told(walk.next()) == Some((1, 80)));
-    assert!(rt; told(walk.next_back()) == Some((3, 220)));
-    assert!(rt; told(walk.next_back()) == Some((2, 150)));
-    assert!(rt; told(walk.next()).is_none() && told(walk.next_back()).is_none());
-    assert!(rt; told(walk.next()).is_none());
+    assert!(rt; step(&mut walk) == Some((1, 80)));
+    assert!(rt; step_back(&mut walk) == Some((3, 220)));
+    assert!(rt; step_back(&mut walk) == Some((2, 150)));
+    assert!(rt; step(&mut walk).is_none() && step_back(&mut walk).is_none());
+    assert!(rt; step(&mut walk).is_none());
     assert_told(rt, &printed(alloc, &walk)?, "Range", "{:?}");
     Ok(())
 }
