@@ -204,12 +204,24 @@ get 3 20: card 1 1002 20 2
 #[test]
 fn a_full_map_tells_each_key(rt: HostRuntime) -> Result<(), Fail> {
     let alloc = rt.alloc();
-    let mut map = BiHashMap::with_limit_and_hasher(alloc, 2, Constant);
-    assert_script(&rt, alloc, &mut map, SEATS_OF_TWO)?;
-    let mut map = TriHashMap::<Card>::with_limit(alloc, 2);
-    assert_script(&rt, alloc, &mut map, SEATS_OF_TWO)?;
-    let mut map = TriHashMap::with_limit_and_hasher(alloc, 2, Constant);
-    assert_script(&rt, alloc, &mut map, CODES_OF_TWO)?;
+    assert_script(
+        &rt,
+        alloc,
+        &mut BiHashMap::<Card, Constant>::with_limit_and_hasher(alloc, 2, Constant),
+        SEATS_OF_TWO,
+    )?;
+    assert_script(
+        &rt,
+        alloc,
+        &mut TriHashMap::<Card>::with_limit(alloc, 2),
+        SEATS_OF_TWO,
+    )?;
+    assert_script(
+        &rt,
+        alloc,
+        &mut TriHashMap::<Card, Constant>::with_limit_and_hasher(alloc, 2, Constant),
+        CODES_OF_TWO,
+    )?;
     Ok(())
 }
 
@@ -249,8 +261,12 @@ fn a_map_goes_by_each_key(rt: HostRuntime) -> Result<(), Fail> {
     assert_script(&rt, alloc, &mut BiHashMap::<Card>::new(alloc), BY_SEAT)?;
     assert_script(&rt, alloc, &mut TriHashMap::<Card>::new(alloc), BY_SEAT)?;
     assert_script(&rt, alloc, &mut TriHashMap::<Card>::new(alloc), BY_CODE)?;
-    let mut map = IdHashMap::with_limit_and_hasher(alloc, 9, Constant);
-    assert_script(&rt, alloc, &mut map, EACH_CALL)?;
+    assert_script(
+        &rt,
+        alloc,
+        &mut IdHashMap::<Card, Constant>::with_limit_and_hasher(alloc, 9, Constant),
+        EACH_CALL,
+    )?;
     Ok(())
 }
 
