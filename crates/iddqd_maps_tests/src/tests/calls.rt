@@ -96,15 +96,18 @@ impl fmt::Display for Reply {
                 }
                 Ok(())
             }
-            Reply::Duplicate(_, [one, two, three]) => write!(
-                f,
-                "duplicate {} {} {}",
-                OrDash(*one),
-                OrDash(*two),
-                OrDash(*three)
-            ),
-            Reply::Full(_) => write!(f, "full"),
-            Reply::Missing(_) => write!(f, "missing"),
+            Reply::Duplicate(back, [one, two, three]) => {
+                write!(
+                    f,
+                    "duplicate {} {} {}",
+                    OrDash(*one),
+                    OrDash(*two),
+                    OrDash(*three)
+                )?;
+                write_card(f, " of", back)
+            }
+            Reply::Full(back) => write_card(f, "full", back),
+            Reply::Missing(back) => write_card(f, "missing", back),
             Reply::Memory => write!(f, "no memory"),
             Reply::Is(is_so) => write!(f, "{is_so}"),
             Reply::Count(count) => write!(f, "{count}"),

@@ -34,9 +34,9 @@ overwrite 7 7 7 7: at 0
 replace 1 5 6 6 6 6: card 5 5 5 5
 find 1 5: none
 find 1 6: at 1
-replace 1 5 8 8 8 8: missing
+replace 1 5 8 8 8 8: missing 8 8 8 8
 replace_at 1 4 4 4 0: card 6 6 6 6
-replace_at 9 8 8 8 8: missing
+replace_at 9 8 8 8 8: missing 8 8 8 8
 change 1 4: card 4 4 4 0
 change 1 4: none
 get 1 0: card 0 4 4 1
@@ -95,17 +95,17 @@ fn a_map_in_order_goes_by_its_keys(rt: HostRuntime) -> Result<(), Fail> {
 }
 
 const NO_SLOT: &str = "\
-insert 1 1 1 1: full
-overwrite 1 1 1 1: full
-replace 1 1 1 1 1 1: missing
+insert 1 1 1 1: full 1 1 1 1
+overwrite 1 1 1 1: full 1 1 1 1
+replace 1 1 1 1 1 1: missing 1 1 1 1
 len: 0
 ";
 
 // A card that clashes takes the place of the only one, and a walk removes the last.
 const ONE_SLOT: &str = "\
 overwrite 1 1 1 1: at 0
-insert 3 3 3 3: full
-overwrite 3 3 3 3: full
+insert 3 3 3 3: full 3 3 3 3
+overwrite 3 3 3 3: full 3 3 3 3
 overwrite 1 4 4 4: at 0 for 1 1 1 1
 replace 1 1 3 3 3 3: card 1 4 4 4
 has 1 1: false
@@ -173,12 +173,12 @@ fn a_full_map_takes_a_card_that_clashes(rt: HostRuntime) -> Result<(), Fail> {
 const SEATS_OF_TWO: &str = "\
 insert 1 10 1000 0: at 0
 insert 2 20 2000 0: at 1
-insert 1 20 1002 2: duplicate 0 1 -
-replace 1 1 1 20 1002 2: duplicate - 1 -
-replace 2 20 1 20 1002 2: duplicate 0 - -
+insert 1 20 1002 2: duplicate 0 1 - of 1 20 1002 2
+replace 1 1 1 20 1002 2: duplicate - 1 - of 1 20 1002 2
+replace 2 20 1 20 1002 2: duplicate 0 - - of 1 20 1002 2
 replace 1 1 1 10 1007 7: card 1 10 1000 0
 replace 2 10 1 10 1000 0: card 1 10 1007 7
-overwrite 4 40 4003 3: full
+overwrite 4 40 4003 3: full 4 40 4003 3
 overwrite 3 20 3001 1: at 1 for 2 20 2000 0
 overwrite 1 20 1002 2: at 1 for 1 10 1000 0 for 3 20 3001 1
 overwrite 4 40 4003 3: at 0
@@ -189,12 +189,12 @@ get 2 20: card 1 20 1002 2
 const CODES_OF_TWO: &str = "\
 insert 1 1000 10 0: at 0
 insert 2 2000 20 0: at 1
-insert 1 1002 20 2: duplicate 0 - 1
-replace 1 1 1 1002 20 2: duplicate - - 1
-replace 3 20 1 1002 20 2: duplicate 0 - -
+insert 1 1002 20 2: duplicate 0 - 1 of 1 1002 20 2
+replace 1 1 1 1002 20 2: duplicate - - 1 of 1 1002 20 2
+replace 3 20 1 1002 20 2: duplicate 0 - - of 1 1002 20 2
 replace 1 1 1 1007 10 7: card 1 1000 10 0
 replace 3 10 1 1000 10 0: card 1 1007 10 7
-overwrite 4 4003 40 3: full
+overwrite 4 4003 40 3: full 4 4003 40 3
 overwrite 3 3001 20 1: at 1 for 2 2000 20 0
 overwrite 1 1002 20 2: at 1 for 1 1000 10 0 for 3 3001 20 1
 overwrite 4 4003 40 3: at 0
@@ -208,6 +208,12 @@ fn a_full_map_tells_each_key(rt: HostRuntime) -> Result<(), Fail> {
         &rt,
         alloc,
         &mut BiHashMap::<Card, Constant>::with_limit_and_hasher(alloc, 2, Constant),
+        SEATS_OF_TWO,
+    )?;
+    assert_script(
+        &rt,
+        alloc,
+        &mut BiHashMap::<Card>::with_limit(alloc, 2),
         SEATS_OF_TWO,
     )?;
     assert_script(
@@ -264,8 +270,8 @@ fn a_map_goes_by_each_key(rt: HostRuntime) -> Result<(), Fail> {
     assert_script(
         &rt,
         alloc,
-        &mut IdHashMap::<Card, Constant>::with_limit_and_hasher(alloc, 9, Constant),
-        EACH_CALL,
+        &mut IdHashMap::<Card, Constant>::with_limit_and_hasher(alloc, 1, Constant),
+        ONE_SLOT,
     )?;
     Ok(())
 }
