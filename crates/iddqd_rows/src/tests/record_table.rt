@@ -89,38 +89,32 @@ fn three_records(rt: &impl Abort, alloc: Global) -> Items {
     items
 }
 
-// The second key of what a walk gives.
-fn second(given: Option<&Record>) -> Option<u32> {
-    match given {
-        Some(item) => Some(item.second),
-        None => None,
-    }
-}
-
 fn assert_walks(rt: &impl Abort, alloc: Global, items: &Items) -> Result<(), AllocError> {
     let mut values = items.values_by_key2();
     let told = printed(alloc, &values)?;
     assert_told(rt, &told, "ValuesByKey2 { remaining: 3 }", "values_by_key2");
     let copy = values.clone()?;
     assert!(rt; values.len() == 3);
-    assert!(rt; second(values.next()) == Some(10) && second(values.next_back()) == Some(30));
-    assert!(rt; second(values.next()) == Some(20) && second(values.next()).is_none());
+    assert!(rt; values.next().copied() == Some(record(2, 10)));
+    assert!(rt; values.next_back().copied() == Some(record(1, 30)));
+    assert!(rt; values.next().copied() == Some(record(3, 20)) && values.next().is_none());
     assert!(rt; values.next_back().is_none() && copy.len() == 3);
     Ok(())
 }
 
-// The last index of all, and the second key of its record.
-fn last(items: &Items) -> Option<(u32, u32)> {
+// The last index of all, and its record.
+fn last(items: &Items) -> Option<(u32, Record)> {
     match items.iter().next_back() {
-        Some((at, item)) => Some((at.as_u32(), item.second)),
+        Some((at, item)) => Some((at.as_u32(), *item)),
         None => None,
     }
 }
 
 fn assert_gets(rt: &impl Abort, items: &Items) {
-    assert!(rt; second(items.get1(&3)) == Some(20) && second(items.get2(&10)) == Some(10));
+    assert!(rt; items.get1(&3).copied() == Some(record(3, 20)));
+    assert!(rt; items.get2(&10).copied() == Some(record(2, 10)));
     assert!(rt; items.get1(&20).is_none() && items.get2(&3).is_none());
-    assert!(rt; last(items) == Some((2, 20)));
+    assert!(rt; last(items) == Some((2, record(3, 20))));
 }
 
 #[test]
