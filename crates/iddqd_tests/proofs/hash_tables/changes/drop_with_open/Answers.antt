@@ -1,6 +1,0 @@
-use Rattle.std.proofs.Common.{rules}
-use Rattle.iddqd_hash.proofs.AskLemmas.{CanAsk-everywhere}
-use Rattle.iddqd_tests.proofs.hash_tables.changes.drop_with_open.Goals as goal
-
-pub retain-requires : goal.retain-requires
-retain-requires c = CanAsk-everywhere _ _ _ _ (λ s x. search rules)

@@ -1,6 +1,0 @@
-use Rattle.std.proofs.Common.{rules}
-use Rattle.iddqd_hash.proofs.AskLemmas.{CanAsk-everywhere}
-use Rattle.iddqd_tests.proofs.hash_tables.look_ups.take_second_open.Goals as goal
-
-pub find_entry-found-requires : goal.find_entry-found-requires
-find_entry-found-requires c = CanAsk-everywhere _ _ _ _ (λ s x. search rules)
