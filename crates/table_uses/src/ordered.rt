@@ -1,0 +1,165 @@
+//! Callers of the table of indexes in an order.
+ghost use Rattle.std.specs.Prelude.{◌≡◌, ◌≢◌, ℕ, ◌<◌, None, Some, All, Contains, IfSome, IsNone, IfOk, OnOk, OnErr, insert, length, slice_index, IsTrue, false};
+ghost use Rattle.std.specs.Ordering.{nat_cmp};
+ghost use Rattle.std.specs.declared.cmp.Ordering.{Ordering};
+ghost use Rattle.std.specs.declared.cmp.Ordering.TheVariants.{Less};
+ghost use Rattle.iddqd.specs.Compaction.{CanRemap, remapped};
+ghost use Rattle.iddqd_order.specs.KeyOrder.{IsInKeyOrder};
+ghost use Rattle.iddqd_order.specs.MapBTreeTable.{order_of, without, sentinel};
+ghost use Rattle.iddqd_order.specs.PreparedBTreeMove.{PutsIn};
+ghost use Rattle.iddqd_order.specs.Search.{CanSearch, IsSteadyRising, with_ties, IsPlace};
+
+use iddqd::index_remap::IndexRemap;
+use iddqd::item_index::ItemIndex;
+use iddqd::map_hash::Same;
+use iddqd_order::btree_table::{Asking, Entry, MapBTreeTable};
+use std::alloc::AllocError;
+use std::cmp::Ordering;
+
+/// The index of a number, in a table that is in order by the numbers at its indexes: none exactly where none has it.
+pub fn find_number(table: &MapBTreeTable, numbers: &[u32], sought: u32) -> Option<ItemIndex>
+    requires live { All (λ ix. ix < length numbers.now) (order_of table.now) }
+    requires in_order { IsInKeyOrder nat_cmp (slice_index numbers.now) (order_of table.now) }
+    ensures hit { IfSome result (λ ix. slice_index numbers.now ix ≡ sought) }
+    ensures miss { IsNone result →
+        All (λ ix. slice_index numbers.now ix ≢ sought) (order_of table.now) }
+{
+    let mut asking = Asking::new(
+        |ix: ItemIndex|
+            requires { ix < length numbers.now }
+            ensures { result.now ≡ slice_index numbers.entry.now ix }
+        { &numbers[ix.as_u32() as usize] },
+    );
+    table.find_index(&Same(&sought), &mut asking)
+}
+
+/// Adds an index where the answers lead. If they rise, it is put there in order, equal ones by their indexes.
+pub fn add_by<F: FnMut(ItemIndex) -> Ordering>(
+    table: &mut MapBTreeTable,
+    ix: ItemIndex,
+    asking: &mut Asking<F>,
+) -> Result<(), AllocError>
+    requires assigned { ix ≢ sentinel }
+    requires absent { Contains (order_of table.old) ix → ⊥ }
+    requires can_ask { CanSearch F.FnMut (order_of table.old) (Some ix) asking.old }
+    ensures added { OnOk result ((at : ℕ) × (order_of table.new ≡ insert (order_of table.old) at ix)) }
+    ensures refused { OnErr result (order_of table.new ≡ order_of table.old) }
+    ensures place { (answer : ℕ → Ordering) →
+        IsSteadyRising F.FnMut (order_of table.old) (Some ix) (λ r. r) answer asking.old →
+        OnOk result ((at : ℕ) × IsPlace (with_ties (Some ix) answer) (order_of table.old) at
+        × (order_of table.new ≡ insert (order_of table.old) at ix)) }
+{
+    table.prepare_insert_by(ix, asking)?.insert();
+    Ok(())
+}
+
+/// Adds an index where the answers lead, if they meet none, and tells whether it did.
+pub fn add_if_new<F: FnMut(ItemIndex) -> Ordering>(
+    table: &mut MapBTreeTable,
+    ix: ItemIndex,
+    asking: &mut Asking<F>,
+) -> Result<bool, AllocError>
+    requires assigned { ix ≢ sentinel }
+    requires absent { Contains (order_of table.old) ix → ⊥ }
+    requires can_ask { CanSearch F.FnMut (order_of table.old) None asking.old }
+    ensures added { IfOk result (λ is_new. IsTrue is_new →
+        (at : ℕ) × (order_of table.new ≡ insert (order_of table.old) at ix)) }
+    ensures kept { IfOk result (λ is_new. is_new ≡ false → table.new ≡ table.old) }
+    ensures refused { OnErr result (order_of table.new ≡ order_of table.old) }
+    ensures place { (answer : ℕ → Ordering) →
+        IsSteadyRising F.FnMut (order_of table.old) None (λ r. r) answer asking.old →
+        IfOk result (λ is_new. IsTrue is_new → (at : ℕ) × IsPlace answer (order_of table.old) at
+        × (order_of table.new ≡ insert (order_of table.old) at ix)) }
+{
+    match table.entry_by(asking) {
+        Entry::Occupied(_entry) => Ok(false),
+        Entry::Vacant(entry) => {
+            entry.prepare(ix)?.insert();
+            Ok(true)
+        }
+    }
+}
+
+/// Both inserts are prepared before either commits: so both tables gain the index, or neither.
+pub fn add_to_both<F: FnMut(ItemIndex) -> Ordering, G: FnMut(ItemIndex) -> Ordering>(
+    one: &mut MapBTreeTable,
+    other: &mut MapBTreeTable,
+    ix: ItemIndex,
+    first: &mut Asking<F>,
+    second: &mut Asking<G>,
+) -> Result<(), AllocError>
+    requires assigned { ix ≢ sentinel }
+    requires absent_first { Contains (order_of one.old) ix → ⊥ }
+    requires absent_second { Contains (order_of other.old) ix → ⊥ }
+    requires can_ask_first { CanSearch F.FnMut (order_of one.old) (Some ix) first.old }
+    requires can_ask_second { CanSearch G.FnMut (order_of other.old) (Some ix) second.old }
+    ensures first { OnOk result ((at : ℕ) × (order_of one.new ≡ insert (order_of one.old) at ix)) }
+    ensures second { OnOk result ((at : ℕ) × (order_of other.new ≡ insert (order_of other.old) at ix)) }
+    ensures refused { OnErr result ((order_of one.new ≡ order_of one.old) × (order_of other.new ≡ order_of other.old)) }
+{
+    let prepared_first = one.prepare_insert_by(ix, first)?;
+    let prepared_second = other.prepare_insert_by(ix, second)?;
+    prepared_first.insert();
+    prepared_second.insert();
+    Ok(())
+}
+
+/// Moves a stored index from where `leaving` leads to where `entering` does.
+pub fn move_by<F: FnMut(ItemIndex) -> Ordering, G: FnMut(ItemIndex) -> Ordering>(
+    table: &mut MapBTreeTable,
+    ix: ItemIndex,
+    leaving: &mut Asking<F>,
+    entering: &mut Asking<G>,
+) -> Result<(), AllocError>
+    requires stored { Contains (order_of table.old) ix }
+    requires can_leave { CanSearch F.FnMut (order_of table.old) (Some ix) leaving.old }
+    requires can_enter { CanSearch G.FnMut (order_of table.old) (Some ix) entering.old }
+    ensures moved { OnOk result
+        (PutsIn G.FnMut (λ r. r) (without (order_of table.old) ix) ix entering.old (order_of table.new)) }
+    ensures refused { OnErr result (order_of table.new ≡ order_of table.old) }
+{
+    table.prepare_move(ix)?.commit_by(leaving, entering);
+    Ok(())
+}
+
+/// Removes the index, and tells whether the answers led to it: if they rise, they do so wherever it is stored.
+pub fn take_by<F: FnMut(ItemIndex) -> Ordering>(
+    table: &mut MapBTreeTable,
+    ix: ItemIndex,
+    asking: &mut Asking<F>,
+) -> bool
+    requires { CanSearch F.FnMut (order_of table.old) (Some ix) asking.old }
+    ensures stored { IsTrue result → Contains (order_of table.old) ix }
+    ensures taken { IsTrue result → order_of table.new ≡ without (order_of table.old) ix }
+    ensures kept { result ≡ false → order_of table.new ≡ order_of table.old }
+    ensures rising { (answer : ℕ → Ordering) →
+        IsSteadyRising F.FnMut (order_of table.old) (Some ix) (λ r. r) answer asking.old →
+        Contains (order_of table.old) ix → IsTrue result }
+{
+    table.prepare_remove_by(ix, asking).remove()
+}
+
+/// Names that rise with their indexes leave a table in order, where each name has its index's key.
+pub fn rename_in_order(table: &mut MapBTreeTable, remap: &IndexRemap)
+    requires named { (ix : ℕ) → Contains (order_of table.old) ix → CanRemap remap.now ix }
+    requires rising { (i j : ℕ) → Contains (order_of table.old) i → Contains (order_of table.old) j →
+        i < j → remapped remap.now i < remapped remap.now j }
+    ensures { (key new_key : ℕ → ℕ) →
+        ((ix : ℕ) → Contains (order_of table.old) ix → new_key (remapped remap.now ix) ≡ key ix) →
+        IsInKeyOrder nat_cmp key (order_of table.old) → IsInKeyOrder nat_cmp new_key (order_of table.new) }
+{
+    table.remap_indexes(remap);
+}
+
+/// The first index that stands behind what is sought, if the answers rise.
+pub fn first_after<F: FnMut(ItemIndex) -> Ordering>(
+    table: &MapBTreeTable,
+    asking: &mut Asking<F>,
+) -> Option<ItemIndex>
+    requires { CanSearch F.FnMut (order_of table.now) None asking.old }
+    ensures hit { (answer : ℕ → Ordering) →
+        IsSteadyRising F.FnMut (order_of table.now) None (λ r. r) answer asking.old →
+        IfSome result (λ ix. answer ix ≡ Less) }
+{
+    table.iter_after_by(asking).next()
+}
