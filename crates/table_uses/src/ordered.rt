@@ -1,13 +1,13 @@
 //! Callers of the table of indexes in an order.
-ghost use Rattle.std.specs.Prelude.{◌≡◌, ◌≢◌, ℕ, ◌<◌, None, Some, All, Contains, IfSome, IsNone, IfOk, OnOk, OnErr, insert, length, slice_index, IsTrue, false};
+ghost use Rattle.std.specs.Prelude.{◌≡◌, ◌≢◌, ℕ, ◌<◌, None, Some, All, Contains, MatchOption, IfSome, IsNone, IfOk, OnOk, OnErr, insert, length, slice_index, IsTrue, false};
 ghost use Rattle.std.specs.Ordering.{nat_cmp};
 ghost use Rattle.std.specs.declared.cmp.Ordering.{Ordering};
-ghost use Rattle.std.specs.declared.cmp.Ordering.TheVariants.{Less};
+ghost use Rattle.std.specs.declared.cmp.Ordering.TheVariants.{Less, Equal};
 ghost use Rattle.iddqd.specs.Compaction.{CanRemap, remapped};
 ghost use Rattle.iddqd_order.specs.KeyOrder.{IsInKeyOrder};
 ghost use Rattle.iddqd_order.specs.MapBTreeTable.{order_of, without, sentinel};
 ghost use Rattle.iddqd_order.specs.PreparedBTreeMove.{PutsIn};
-ghost use Rattle.iddqd_order.specs.Search.{CanSearch, IsSteadyRising, with_ties, IsPlace};
+ghost use Rattle.iddqd_order.specs.Search.{CanSearch, IsSteady, IsSteadyRising, with_ties, IsPlace};
 
 use iddqd::index_remap::IndexRemap;
 use iddqd::item_index::ItemIndex;
@@ -66,6 +66,10 @@ pub fn add_if_new<F: FnMut(ItemIndex) -> Ordering>(
         (at : ℕ) × (order_of table.new ≡ insert (order_of table.old) at ix)) }
     ensures kept { IfOk result (λ is_new. is_new ≡ false → table.new ≡ table.old) }
     ensures refused { OnErr result (order_of table.new ≡ order_of table.old) }
+    ensures met { (answer : ℕ → Ordering) →
+        IsSteady F.FnMut (order_of table.old) None (λ r. r) answer asking.old →
+        IfOk result (λ is_new. is_new ≡ false →
+        (met : ℕ) × Contains (order_of table.old) met × (answer met ≡ Equal)) }
     ensures place { (answer : ℕ → Ordering) →
         IsSteadyRising F.FnMut (order_of table.old) None (λ r. r) answer asking.old →
         IfOk result (λ is_new. IsTrue is_new → (at : ℕ) × IsPlace answer (order_of table.old) at
@@ -151,15 +155,15 @@ pub fn rename_in_order(table: &mut MapBTreeTable, remap: &IndexRemap)
     table.remap_indexes(remap);
 }
 
-/// The first index that stands behind what is sought, if the answers rise.
+/// The first index that stands behind what is sought, if the answers rise: none exactly where none does.
 pub fn first_after<F: FnMut(ItemIndex) -> Ordering>(
     table: &MapBTreeTable,
     asking: &mut Asking<F>,
 ) -> Option<ItemIndex>
     requires { CanSearch F.FnMut (order_of table.now) None asking.old }
-    ensures hit { (answer : ℕ → Ordering) →
+    ensures { (answer : ℕ → Ordering) →
         IsSteadyRising F.FnMut (order_of table.now) None (λ r. r) answer asking.old →
-        IfSome result (λ ix. answer ix ≡ Less) }
+        MatchOption result (All (λ ix. answer ix ≢ Less) (order_of table.now)) (λ ix. answer ix ≡ Less) }
 {
     table.iter_after_by(asking).next()
 }

@@ -1,5 +1,6 @@
 //! Callers of a store.
-ghost use Rattle.std.specs.Prelude.{◌≡◌, ◌+◌, ◌≤◌, IfOk, OnOk};
+ghost use Rattle.std.specs.Prelude.{◌≡◌, ◌+◌, ◌≤◌, IfOk, IfErr, OnOk};
+ghost use Rattle.iddqd.specs.declared.item_set.GrowError.TheVariants.{Memory};
 ghost use Rattle.iddqd.specs.Store.{IsFull, inserted, next_index};
 ghost use Rattle.iddqd.specs.ItemSet.{room};
 
@@ -17,7 +18,8 @@ pub fn copy_of(set: &ItemSet<u32>) -> Result<ItemSet<u32>, AllocError>
 
 /// A set of one slot that has an item.
 pub fn one_item(alloc: Global) -> Result<ItemSet<u32>, GrowError>
-    ensures { IfOk result (λ set. IsFull set.store) }
+    ensures full { IfOk result (λ set. IsFull set.store) }
+    ensures refused { IfErr result (λ error. error ≡ Memory) }
 {
     let mut set = ItemSet::with_limit(alloc, 1);
     set.assert_can_grow()?.insert(7);

@@ -52,6 +52,7 @@ pub fn copy_open(table: &OpenHashTable<u32>) -> Result<OpenHashTable<u32>, Alloc
 
 /// Adds a value that isn't there under its hash, and tells whether it did.
 pub fn enter_linear(table: &mut HashTable<u32>, hash: u64, value: u32) -> Result<bool, AllocError>
+    ensures new { IfOk result (λ is_new. is_new ≡ not (list_any (λ x. x == value) (under hash (entries table.old)))) }
     ensures entered { IfOk result (λ is_new.
         IsPermutation (if is_new then (hash, value) ∷ entries table.old else entries table.old) (entries table.new)) }
     ensures refused { OnErr result (table.new ≡ table.old) }
@@ -67,6 +68,7 @@ pub fn enter_linear(table: &mut HashTable<u32>, hash: u64, value: u32) -> Result
 }
 
 pub fn enter_open(table: &mut OpenHashTable<u32>, hash: u64, value: u32) -> Result<bool, AllocError>
+    ensures new { IfOk result (λ is_new. is_new ≡ not (list_any (λ x. x == value) (under hash (entries table.old)))) }
     ensures entered { IfOk result (λ is_new.
         IsPermutation (if is_new then (hash, value) ∷ entries table.old else entries table.old) (entries table.new)) }
     ensures refused { OnErr result (table.new ≡ table.old) }

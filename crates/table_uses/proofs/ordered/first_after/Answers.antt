@@ -1,4 +1,5 @@
-use Rattle.std.proofs.Common.{arith, refl, sym, subst, ◌∙◌, ◌≡◌, ℕ, zero, suc, None, Some, Option, MatchOption, IfSome, List, [], ◌∷◌, drop}
+use Rattle.std.proofs.Common.{arith, refl, sym, ap, subst, ◌∙◌, ◌≡◌, ◌≢◌, ◌-◌, ℕ, zero, suc, None, Some, Option, MatchOption, All, List, [], ◌∷◌, length, drop, get_or}
+use Rattle.std.proofs.lemmas.List.{length-drop, get_or_default}
 use Rattle.std.specs.Ordering.{ordering_then}
 use Rattle.std.specs.declared.cmp.Ordering.{Ordering}
 use Rattle.std.specs.declared.cmp.Ordering.TheVariants.{Less, Equal, Greater}
@@ -26,11 +27,18 @@ first_less a (y ∷ ys) (suc i) x rest p is =
       less_from = λ k le lt. p.less_from (suc k) (omega arith) (omega arith);
     }) is
 
-hit_first : (a : ℕ → Ordering) (xs : List ℕ) (place : ℕ) (r : Option ℕ) (old new : List ℕ) → IsPlace (λ ix. ordering_then (a ix) Greater) xs place → old ≡ drop place xs → MatchOption r ((old ≡ []) × (new ≡ [])) (λ x. old ≡ x ∷ new) → IfSome r (λ ix. a ix ≡ Less)
-hit_first a xs place None old new p is gives = tt
-hit_first a xs place (Some x) old new p is gives = first_less a xs place x new p (sym is ∙ gives)
+-- before the place none is
+none_less : (a : ℕ → Ordering) (xs : List ℕ) (place : ℕ) → IsPlace (λ ix. ordering_then (a ix) Greater) xs place → drop place xs ≡ [] → All (λ ix. a ix ≢ Less) xs
+none_less a xs place p over k d lt less =
+    let left : length xs - place ≡ 0 = sym (length-drop place xs) ∙ ap length over in
+    let before : ordering_then (a (get_or xs k 0)) Greater ≡ Greater = p.greater_before k (omega (arith, left, lt)) in
+    let here : a (get_or xs k 0) ≡ Less = subst (λ z. a z ≡ Less) (get_or_default xs k d 0 lt) less in
+    let never : Less ≡ Greater = subst (λ z. ordering_then z Greater ≡ Greater) here before in
+    cc
+
+met_first : (a : ℕ → Ordering) (xs : List ℕ) (place : ℕ) (r : Option ℕ) (old new : List ℕ) → IsPlace (λ ix. ordering_then (a ix) Greater) xs place → old ≡ drop place xs → MatchOption r ((old ≡ []) × (new ≡ [])) (λ x. old ≡ x ∷ new) → MatchOption r (All (λ ix. a ix ≢ Less) xs) (λ ix. a ix ≡ Less)
+met_first a xs place None old new p is gives = none_less a xs place p (sym is ∙ gives.0)
+met_first a xs place (Some x) old new p is gives = first_less a xs place x new p (sym is ∙ gives)
 
 pub returns : goal.returns
-returns g c = record {
-  hit = λ answer rises. hit_first answer (order_of c.args.table.now) c.iter_after_by.ensures.place c.next.result _ _ (c.iter_after_by.ensures.bound answer rises) c.iter_after_by.ensures.ahead c.next.ensures.steps;
-}
+returns g c answer rises = met_first answer (order_of c.args.table.now) c.iter_after_by.ensures.place c.next.result _ _ (c.iter_after_by.ensures.bound answer rises) c.iter_after_by.ensures.ahead c.next.ensures.steps
