@@ -1,0 +1,55 @@
+"""What the scripts of tools/ read of the repository: its crates, and where a type stands."""
+
+import glob
+import os
+import re
+
+TOP = os.path.realpath(os.path.join(os.path.dirname(os.path.abspath(__file__)), ".."))
+
+# The types that callers hold.
+MAPS = ["IdHashMap", "IdOrdMap", "BiHashMap", "TriHashMap", "KeyedItems", "TriItems"]
+
+
+def read(path):
+    with open(path, encoding="utf-8") as file:
+        return file.read()
+
+
+def crates_in(path):
+    """The lines of a crates.txt: each crate with those that it names."""
+    lines = (line.partition("#")[0] for line in read(path).split("\n"))
+    return {name.split()[0]: named.split() for name, colon, named in (line.partition(":") for line in lines) if colon}
+
+
+def below(names, crates):
+    """These crates and all that they stand on, lowest first, in the order of crates.txt."""
+    found = set()
+
+    def add(name):
+        if name in crates and name not in found:
+            found.add(name)
+            for low in crates[name]:
+                add(low)
+
+    for name in names:
+        add(name)
+    return [name for name in crates if name in found]
+
+
+def sources_of(crate):
+    """The source files of a crate."""
+    return sorted(glob.glob(f"{TOP}/crates/{crate}/src/**/*.rt", recursive=True))
+
+
+def file_of(name):
+    """The one file of the crates that defines this public struct."""
+    found = [path for path in glob.glob(f"{TOP}/crates/*/src/**/*.rt", recursive=True)
+             if re.search(rf"^pub struct {name}\b", read(path), re.M)]
+    if len(found) != 1:
+        raise SystemExit(f"{len(found)} files define a public struct {name}")
+    return found[0]
+
+
+def crate_of(path):
+    """The crate of a file."""
+    return os.path.relpath(path, f"{TOP}/crates").split(os.sep)[0]
