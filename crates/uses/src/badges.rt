@@ -1,6 +1,6 @@
 //! Two unique keys, each found by its hash.
 use iddqd_maps::bi_hash_map::{BiClash, BiHashItem, BiHashMap};
-use iddqd_maps::refusal::InsertRefusal;
+use iddqd_maps::refusal::{InsertRefusal, ReplaceRefusal};
 use std::alloc::{AllocError, Global};
 
 /// A badge. Numbers are unique, and so are the holders' names.
@@ -60,12 +60,59 @@ pub fn number(badges: &BiHashMap<Badge>, holder: &str) -> Option<u32> {
     }
 }
 
+/// Gives a badge another holder, and tells who had it, if there is such a badge.
+pub fn hand_on(
+    badges: &mut BiHashMap<Badge>,
+    number: u32,
+    holder: String,
+) -> Result<Option<String>, &'static str> {
+    match badges.change1(&number, |_| Badge { number, holder }) {
+        Ok(Some(badge)) => Ok(Some(badge.holder)),
+        Ok(None) => Ok(None),
+        Err(refusal) => Err(reason(&refusal)),
+    }
+}
+
+/// Gives somebody's badge another number, and tells which it had, if there is such a badge.
+pub fn renumber(
+    alloc: Global,
+    badges: &mut BiHashMap<Badge>,
+    holder: &str,
+    number: u32,
+) -> Result<Result<Option<u32>, &'static str>, AllocError> {
+    let name = String::from_str(alloc, holder)?;
+    Ok(
+        match badges.change2(
+            holder,
+            |_| Badge {
+                number,
+                holder: name,
+            },
+        ) {
+            Ok(Some(badge)) => Ok(Some(badge.number)),
+            Ok(None) => Ok(None),
+            Err(refusal) => Err(reason(&refusal)),
+        },
+    )
+}
+
+// Why a badge stays as it was.
+fn reason(refusal: &ReplaceRefusal<Badge, BiClash>) -> &'static str {
+    match refusal {
+        ReplaceRefusal::Missing(_) => "there is no such badge",
+        ReplaceRefusal::Duplicate { at, .. } => taken(at),
+        ReplaceRefusal::Memory(_) => "no memory",
+    }
+}
+
 fn script(alloc: Global, badges: &mut BiHashMap<Badge>) -> Result<String, AllocError> {
     let first = hand_out(badges, 7, String::from_str(alloc, "ada")?);
     let second = hand_out(badges, 7, String::from_str(alloc, "bo")?);
     let third = hand_out(badges, 8, String::from_str(alloc, "ada")?);
-    let held = number(badges, "ada");
-    format!(in alloc; "badges: {first}, {second}, {third}, {held:?}")
+    let fourth = hand_on(badges, 7, String::from_str(alloc, "bo")?);
+    let fifth = renumber(alloc, badges, "bo", 9)?;
+    let held = number(badges, "bo");
+    format!(in alloc; "badges: {first}, {second}, {third}, {fourth:?}, {fifth:?}, {held:?}")
 }
 
 /// What the calls answer.

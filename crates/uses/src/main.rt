@@ -8,6 +8,7 @@ mod leases;
 mod registry;
 mod routes;
 mod scores;
+mod seats;
 mod stock;
 mod users;
 mod words;
@@ -34,6 +35,7 @@ fn print_all(rt: &(impl Print + RandomSource), alloc: Global) -> io::Result<()> 
     print(rt, words::line(alloc))?;
     print(rt, badges::line(alloc))?;
     print(rt, leases::line(alloc))?;
+    print(rt, seats::line(alloc))?;
     print(rt, registry::line(alloc))
 }
 

@@ -1,0 +1,12 @@
+//! `KeyedItems`, by scripts of calls.
+pub(crate) mod calls;
+mod checks;
+mod compaction;
+mod comparisons;
+mod counted;
+pub(crate) mod hashers;
+mod inserts;
+mod limits;
+pub(crate) mod pair;
+pub(crate) mod script;
+mod silent;
