@@ -2,7 +2,7 @@ use Rattle.std.proofs.Common.{◌≡◌, ◌++◌, ◌∷◌, [], ◌∙◌, ap,
 use Rattle.std.proofs.lemmas.List.Elements.{All-push}
 use Rattle.iddqd.specs.Compaction.{remapped}
 use Rattle.iddqd_order.specs.Iter.{indexes_left}
-use Rattle.tables.proofs.ordered_table.remaps.has_own_name.Goals as goal
+use Rattle.iddqd_examples.proofs.ordered_table.names.has_own_name.Goals as goal
 
 pub loop-other-preserved : goal.loop-other-preserved
 loop-other-preserved c =

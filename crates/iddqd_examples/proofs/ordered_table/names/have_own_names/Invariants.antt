@@ -2,7 +2,7 @@ use Rattle.std.proofs.Common.{◌≡◌, ◌++◌, All}
 use Rattle.iddqd.specs.Compaction.{CanRemap, remapped}
 use Rattle.iddqd_order.specs.Iter.{indexes_left}
 use Rattle.iddqd_order.specs.MapBTreeTable.{order_of}
-use Rattle.tables.proofs.ordered_table.remaps.have_own_names.Given as goal
+use Rattle.iddqd_examples.proofs.ordered_table.names.have_own_names.Given as goal
 
 abbrev pub invariant-loop-ix : goal.invariant-loop-ix
 invariant-loop-ix l =

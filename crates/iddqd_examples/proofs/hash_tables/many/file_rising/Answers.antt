@@ -1,7 +1,7 @@
 use Rattle.std.proofs.Common.{◌≡◌, false, true, arith}
 use Rattle.std.specs.FinMap as finite
 use Rattle.iddqd_hash.proofs.FiledLemmas.{AllBelow-fresh, AllBelow-insert}
-use Rattle.tables.proofs.hash_tables.many.file_rising.Goals as goal
+use Rattle.iddqd_examples.proofs.hash_tables.many.file_rising.Goals as goal
 
 pub insert_prehashed_unchecked-requires-clause-new : goal.insert_prehashed_unchecked-requires-clause-new
 insert_prehashed_unchecked-requires-clause-new c =

@@ -2,7 +2,7 @@ use Rattle.std.proofs.Common.{ℕ, ◌<◌, ◌≤◌, ◌+◌, IsSome}
 use Rattle.std.specs.FinMap as finite
 use Rattle.iddqd_hash.specs.HashTable.{room}
 use Rattle.iddqd_hash.specs.MapHashTable.{filed}
-use Rattle.tables.proofs.hash_tables.many.file_rising.Given as goal
+use Rattle.iddqd_examples.proofs.hash_tables.many.file_rising.Given as goal
 
 abbrev pub invariant-loop-number : goal.invariant-loop-number
 invariant-loop-number l =

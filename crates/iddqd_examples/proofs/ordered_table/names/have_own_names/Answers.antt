@@ -3,7 +3,7 @@ use Rattle.std.proofs.lemmas.List.Elements.{All-push}
 use Rattle.iddqd.specs.Compaction.{CanRemap, remapped}
 use Rattle.iddqd_order.specs.Iter.{indexes_left}
 use Rattle.iddqd_order.specs.MapBTreeTable.{order_of}
-use Rattle.tables.proofs.ordered_table.remaps.have_own_names.Goals as goal
+use Rattle.iddqd_examples.proofs.ordered_table.names.have_own_names.Goals as goal
 
 pub loop-ix-preserved : goal.loop-ix-preserved
 loop-ix-preserved c =
