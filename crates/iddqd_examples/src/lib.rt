@@ -1,9 +1,20 @@
-//! Examples of the calls with the answers that each must have. They are tests, so the library is empty without them.
+//! Each worked example of the specification as a test, and a caller of each public call that no other crate makes.
+//!
+//! The gate proves the tests, which shows that callers can meet the conditions of the calls, and runs them, which shows
+//! that the calls answer as the examples say. The library itself is empty.
 #![tactic(auto)]
 
 #[cfg(test)]
+mod checks;
+#[cfg(test)]
 mod driver;
 #[cfg(test)]
+mod hash_tables;
+#[cfg(test)]
 mod lines;
+#[cfg(test)]
+mod ordered_table;
+#[cfg(test)]
+mod store;
 #[cfg(test)]
 mod tri;

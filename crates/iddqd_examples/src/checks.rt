@@ -1,0 +1,20 @@
+//! The checks of raw parts: the first one that fails is told in words.
+mod indexes;
+mod printed;
+mod slots;
+
+use iddqd::internal::ValidateRefusal;
+use std::alloc::{AllocError, Global};
+use std::fmt::Display;
+
+// What a check tells, which is `ok` where the parts are sound.
+fn words<E: Display + Drop>(
+    alloc: Global,
+    answer: Result<(), ValidateRefusal<E>>,
+) -> Result<String, AllocError> {
+    match answer {
+        Ok(()) => String::from_str(alloc, "ok"),
+        Err(ValidateRefusal::Invalid(error)) => format!(in alloc; "{error}"),
+        Err(ValidateRefusal::Memory(error)) => Err(error),
+    }
+}
