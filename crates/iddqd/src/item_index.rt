@@ -28,7 +28,7 @@ impl Model for ItemIndex {
 }
 
 impl ItemIndex {
-    /// The largest index that can be assigned to an item.
+    /// The largest index that can be assigned to an item: the one before `SENTINEL`.
     pub const MAX_VALID: ItemIndex = ItemIndex(4294967294);
 
     /// The end of the chain of vacant slots. No item has it.
@@ -52,7 +52,7 @@ impl ItemIndex {
     pub fn of_slot(slots: usize) -> Option<ItemIndex>
         ensures { SomeIff result (slots < sentinel) slots }
     {
-        if slots < ItemIndex::SENTINEL.0 as usize {
+        if slots <= ItemIndex::MAX_VALID.0 as usize {
             Some(ItemIndex(slots as u32))
         } else {
             None
