@@ -1,5 +1,7 @@
 -- What becomes of a map in each step of its store and its tables, however many tables there are.
 use Rattle.std.proofs.Common.{◌≡◌, ◌∙◌, ◌⊎◌, inl, inr, ◌↔◌, ◌+◌, ◌≤◌, ◌&&◌, ℕ, Bool, true, false, not, List, Option, Some, None, Result, Ok, Err, refl, ap, arith}
+use Rattle.std.specs.Borrow.{Bor}
+use Rattle.std.specs.Fn.{Once}
 use Rattle.std.specs.List.{Contains}
 use Rattle.std.specs.Option.{IfSome, OnSome}
 use Rattle.std.specs.Result.{result_err}
@@ -18,6 +20,7 @@ use Rattle.iddqd_sides.specs.declared.hashed_move.Move.{Move}
 use Rattle.iddqd_sides.specs.declared.hashed_move.Move.TheVariants.{Stays, To}
 use Rattle.iddqd_sides.proofs.HoldsLemmas.{CanRemap-held, one_name-held}
 use Rattle.iddqd_map_base.specs.Map.{Stays as Rests, Removes, InsertsAt, map_with}
+use Rattle.iddqd_map_base.specs.Calls.{MayChange}
 use Rattle.iddqd_map_base.specs.Several.{OverwritesAt, AnswersOther}
 use Rattle.iddqd_map_base.specs.Steps.{ItemKey, alike_by, CanName, TakesAll}
 use Rattle.iddqd_map_base.proofs.RoomLemmas.{min_stays, min_falls, not_less}
@@ -30,6 +33,11 @@ hit_live s test ix scan = let (item, live, passed) = (scan ix).1 refl in live_at
 pub live_found : {T : Type 0} (s : Store T) (test : T → Bool) (found : Option ℕ) → AnswersScan s test found → IfSome found (IsLive s)
 live_found s test None scan = tt
 live_found s test (Some ix) scan = hit_live s test ix scan
+
+-- a closure that may be called at the item that passes may be called at the one that a scan found
+pub callable_found : {F T R : Type 0} (g : Once F (Bor T × Unit {0}) R) (f : F) (s : Store T) (test : T → Bool) (found : Option ℕ) → AnswersScan s test found → MayChange g f s test → IfSome found (λ ix. (item : Bor T) → get s ix ≡ Some item.now → g.pre f (item, tt))
+callable_found g f s test None scan may = tt
+callable_found g f s test (Some ix) scan may = λ item live. may item (ix, record { live = live; only = scan })
 
 -- what is left once the item at a live index was removed
 pub store_left : {T : Type 0} (old new : SizedStore T) (ix : ℕ) (r : Option T) → IsLive old.store ix → r ≡ get old.store ix → OnSome r (new ≡ record old { store = removed old.store ix }) → new.store ≡ removed old.store ix

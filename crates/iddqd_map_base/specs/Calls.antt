@@ -1,15 +1,21 @@
 -- What the calls of a map that change items may answer, and what they leave.
 use Rattle.std.specs.Prelude.{◌≡◌, ◌≢◌, ◌≤◌, ◌+◌, ℕ, Bool, true, not, Option, Some, None, Result, Ok, Err}
+use Rattle.std.specs.Borrow.{Bor}
+use Rattle.std.specs.Fn.{Once}
 use Rattle.iddqd.specs.Store.{Store, IsFull, get, rebound}
 use Rattle.iddqd.specs.Compaction.{compacted}
 use Rattle.iddqd_sides.specs.Scan.{IsLive, IsHit, HasNoHit, AnswersScan}
-use Rattle.iddqd_map_base.specs.Map.{MapState, Stays, IsOnly, InsertsAt}
+use Rattle.iddqd_map_base.specs.Map.{MapState, Stays, IsOnly, FindsItem, InsertsAt}
 use Rattle.iddqd_map_base.specs.declared.refusal.InsertRefusal.{InsertRefusal}
 use Rattle.iddqd_map_base.specs.declared.refusal.InsertRefusal.TheVariants.{Duplicate, Full, Memory}
 use Rattle.iddqd_map_base.specs.declared.refusal.OverwriteRefusal.{OverwriteRefusal}
 use Rattle.iddqd_map_base.specs.declared.refusal.OverwriteRefusal.TheVariants.{Full as NoSlot, Memory as NoMemory}
 use Rattle.iddqd_map_base.specs.declared.refusal.ReplaceRefusal.{ReplaceRefusal}
 use Rattle.iddqd_map_base.specs.declared.refusal.ReplaceRefusal.TheVariants.{Missing, Duplicate as Taken, Memory as Refused}
+
+-- f may be called at a `&` to the item that passes the test, if one does
+abbrev pub MayChange : {F T R : Type 0} → Once F (Bor T × Unit {0}) R → F → Store T → (T → Bool) → Type 0
+MayChange {F} {T} g f s test = (item : Bor T) → FindsItem s test (Some item.now) → g.pre f (item, tt)
 
 -- the contents are compacted, and no room is lost
 pub record Compacts {T : Type 0} (old new : MapState T) : Type 0 where

@@ -6,4 +6,5 @@ pub mod Several
 pub mod Refusal
 pub mod Retain
 pub mod Equality
+pub mod Validation
 pub mod Steps

@@ -1,5 +1,5 @@
 //! A table by one key of an item that is at hand, whose hash may have been computed before.
-ghost use Rattle.std.specs.Prelude.{◌≡◌, ◌≤◌, IsSome};
+ghost use Rattle.std.specs.Prelude.{◌≡◌, ◌≤◌, IsSome, IfErr};
 ghost use Rattle.std.specs.FinMap as finite;
 ghost use Rattle.iddqd.specs.Validation.{AreAsExpected};
 ghost use Rattle.iddqd.specs.{Validates};
@@ -10,6 +10,7 @@ ghost use Rattle.iddqd_sides.specs.Hashed.{hashing_of};
 ghost use Rattle.iddqd_sides.specs.HashedMove.{IfMoves, IfStays, moved};
 ghost use Rattle.iddqd_map_base.specs.Indexing.{Indexes};
 ghost use Rattle.iddqd_map_base.specs.Map.{shares};
+ghost use Rattle.iddqd_map_base.specs.Validation.{NamesTable};
 
 use crate::hashed_query::find_under;
 use iddqd::internal::{ValidateCompact, ValidateRefusal, ValidationError};
@@ -88,14 +89,16 @@ where
     }
 }
 
-/// Whether a table has as many indexes as there are items; in `Compact`, whether they are those from 0 on.
+/// Whether a table has as many indexes as there are items; in `Compact`, whether they are those from 0 on. An error has
+/// the table's name.
 pub fn validate_table(
     name: &'static str,
     table: &MapHashTable,
     len: usize,
     compactness: ValidateCompact,
 ) -> Result<(), ValidateRefusal<ValidationError>>
-    ensures { Validates (AreAsExpected compactness len (indexes_of (filed table.now))) result }
+    ensures validates { Validates (AreAsExpected compactness len (indexes_of (filed table.now))) result }
+    ensures named { IfErr result (NamesTable name.entry.now) }
 {
     match table.validate(len, compactness) {
         Ok(()) => Ok(()),

@@ -3,6 +3,7 @@
 //! A map says what its tables mean, takes an index out of them, and files one anew where its item becomes
 //! another one. What a closure keeps, and what becomes of an item that was looked up, is said here once.
 ghost use Rattle.std.specs.Prelude.{◌≡◌, ◌+◌, ◌≤◌, Bool, IsSome, IfSome};
+ghost use Rattle.std.specs.Borrow.{Bor};
 ghost use Rattle.std.specs.Option.{option_and_then};
 ghost use Rattle.std.specs.Fn.{TakesAt, CalledAt, FnOnceReturnsAt};
 ghost use Rattle.iddqd.specs.{get, next_index, inserted, removed, room};
@@ -196,7 +197,7 @@ where
     }
 }
 
-/// Puts what the closure makes of the item that a look-up found in its place; or answers none.
+/// Puts what the closure makes of the item that a look-up found in its place; or answers none, and calls it not.
 pub fn change_found<T, S, X: Tables<T, S>, F: FnOnce(&T) -> T>(
     items: &mut ItemSet<T>,
     tables: &mut X,
@@ -207,7 +208,7 @@ pub fn change_found<T, S, X: Tables<T, S>, F: FnOnce(&T) -> T>(
 ) -> Result<Option<T>, ReplaceRefusal<T, X::Clash>>
 where
     X::Known: Drop,
-    requires callable { F.IsAlwaysCallable f }
+    requires callable { IfSome found (λ ix. (item : Bor T) → get items.old.store ix ≡ Some item.now → F.pre f item) }
     requires live { IfSome found (IsLive items.old.store) }
     requires map { X.is_map tables.old state.now items.old.store }
     ensures map { X.is_map tables.new state.now items.new.store }

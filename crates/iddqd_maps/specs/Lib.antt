@@ -1,6 +1,7 @@
 -- what callers' clauses cite, from one place
 pub use Rattle.iddqd.specs.Store
 pub use Rattle.iddqd.specs.LiveItems
+pub use Rattle.iddqd.specs.Validation
 pub use Rattle.iddqd_sides.specs.Scan
 pub use Rattle.iddqd_map_base.specs.Map
 pub use Rattle.iddqd_map_base.specs.Calls

@@ -4,11 +4,15 @@
 //! gives a stored item another key without telling the tables, so a look-up always answers as a scan
 //! of all items would.
 //!
-//! What callers name of the crates below, indexes, hashers and queries, is handed on here.
+//! What callers name of the crates below, indexes, hashers, queries, refusals and what `validate` takes and answers, is
+//! handed on here.
 #![tactic(auto)]
 
 pub use iddqd::{
     hash_builder as hash_builder, index_remap as index_remap, item_index as item_index,
+};
+pub use iddqd::internal::{
+    TableValidationError, ValidateCompact, ValidateRefusal, ValidationError,
 };
 pub use iddqd_bi_hash::bi_hash_map as bi_hash_map;
 pub use iddqd_id_hash::id_hash_map as id_hash_map;

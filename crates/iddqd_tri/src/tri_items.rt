@@ -2,7 +2,8 @@
 //!
 //! The items stand in the store alone, and the tables read keys from it. No call changes a key of a
 //! stored item, so each table has each live index under the hash of its key now, and a look-up
-//! answers as a scan would.
+//! answers as a scan would. Each call that makes or changes a collection says in clauses of its own
+//! that this holds, though the type keeps it, so that a caller's proof needs the calls' clauses alone.
 //!
 //! An item that shares keys with others takes their place. Its clashes are found, then all memory is
 //! taken, and only then are they removed.
@@ -85,14 +86,16 @@ impl<T: TriItem, S: BuildHasher> TriKeyed for TriItems<T, S> {
 impl<T: TriItem, S: BuildHasher> TriItems<T, S> {
     /// No items, and slots for as many as there are indexes but `SENTINEL`. It takes no memory.
     pub fn new(alloc: Global, state: S) -> TriItems<T, S>
-        ensures { result ≡ empty_tri_state u32.MAX state }
+        ensures empty { result ≡ empty_tri_state u32.MAX state }
+        ensures state { IsTriState ⟦<Self as TriKeyed>⟧.keys result }
     {
         TriItems::with_limit(alloc, state, u32::MAX)
     }
 
     /// No items, and never more slots than the limit. It takes no memory.
     pub fn with_limit(alloc: Global, state: S, limit: u32) -> TriItems<T, S>
-        ensures { result ≡ empty_tri_state limit state }
+        ensures empty { result ≡ empty_tri_state limit state }
+        ensures state { IsTriState ⟦<Self as TriKeyed>⟧.keys result }
     {
         TriItems {
             items: ItemSet::with_limit(alloc, limit),
@@ -172,7 +175,9 @@ impl<T: TriItem, S: BuildHasher> TriItems<T, S> {
 
     /// Removes the item at an index, if it is live. It takes no memory.
     pub fn remove(&mut self, ix: ItemIndex) -> Option<T>
-        ensures { RemovesItem self.old ix result self.new }
+        ensures removes { RemovesItem self.old ix result self.new }
+        ensures state_before { IsTriState ⟦<Self as TriKeyed>⟧.keys self.old }
+        ensures state_after { IsTriState ⟦<Self as TriKeyed>⟧.keys self.new }
     {
         take_item(&mut self.items, &mut self.tables, &self.state, ix)
     }
@@ -187,7 +192,9 @@ impl<T: TriItem, S: BuildHasher> TriItems<T, S> {
         &mut self,
         item: T,
     ) -> Result<(ItemIndex, [Option<T>; 3]), TriRefusal<T>>
-        ensures { Overwriting ⟦<Self as TriKeyed>⟧.keys self.old item result self.new }
+        ensures overwrites { Overwriting ⟦<Self as TriKeyed>⟧.keys self.old item result self.new }
+        ensures state_before { IsTriState ⟦<Self as TriKeyed>⟧.keys self.old }
+        ensures state_after { IsTriState ⟦<Self as TriKeyed>⟧.keys self.new }
     {
         let hashes = TriHashes::of(&self.state, &item);
         let clashes = self.clashes(&item, &hashes);

@@ -2,6 +2,7 @@
 ghost use Rattle.std.specs.Fn.{FnOnceReturnsAt};
 ghost use Rattle.iddqd_sides.specs.Scan.{passes_by};
 ghost use Rattle.iddqd_map_base.specs.Map.{shares};
+ghost use Rattle.iddqd_map_base.specs.Calls.{MayChange};
 ghost use Rattle.iddqd_map_base.specs.Several.{either_key, both_keys, ReplacesOne, ReplacesOneIfLive, ChangesOne};
 ghost use Rattle.iddqd_bi_hash.specs.BiMap.{AreTaken};
 
@@ -94,13 +95,13 @@ impl<T: BiHashItem, S: BuildHasher> BiHashMap<T, S> {
     /// Puts what the closure makes of the item that has the first key in its place, and hands that
     /// item back; or answers none, where no item has it.
     ///
-    /// Else as `replace1`.
+    /// The closure is called at most once, and not at all where no item has the key. Else as `replace1`.
     pub fn change1<Q: HashQuery<T::Key1>, F: FnOnce(&T) -> T>(
         &mut self,
         query: Q,
         f: F,
     ) -> Result<Option<T>, ReplaceRefusal<T, BiClash>>
-        requires { F.IsAlwaysCallable f }
+        requires { MayChange F.FnOnce f self.old.store (passes_by T.first_key (Q.stands_for query)) }
         ensures { let first = shares T.first_key T.Key1.eq in let second = shares T.second_key T.Key2.eq in
             ChangesOne (either_key first second) (both_keys first second) (AreTaken first second)
             (FnOnceReturnsAt F.FnOnce f) self.old (passes_by T.first_key (Q.stands_for query)) result self.new }
@@ -128,7 +129,7 @@ impl<T: BiHashItem, S: BuildHasher> BiHashMap<T, S> {
         query: Q,
         f: F,
     ) -> Result<Option<T>, ReplaceRefusal<T, BiClash>>
-        requires { F.IsAlwaysCallable f }
+        requires { MayChange F.FnOnce f self.old.store (passes_by T.second_key (Q.stands_for query)) }
         ensures { let first = shares T.first_key T.Key1.eq in let second = shares T.second_key T.Key2.eq in
             ChangesOne (either_key first second) (both_keys first second) (AreTaken first second)
             (FnOnceReturnsAt F.FnOnce f) self.old (passes_by T.second_key (Q.stands_for query)) result self.new }

@@ -2,7 +2,7 @@
 ghost use Rattle.std.specs.Fn.{FnOnceReturnsAt};
 ghost use Rattle.iddqd_sides.specs.Scan.{passes_by};
 ghost use Rattle.iddqd_map_base.specs.Map.{shares};
-ghost use Rattle.iddqd_map_base.specs.Calls.{Replaces, ReplacesIfLive, Changes};
+ghost use Rattle.iddqd_map_base.specs.Calls.{Replaces, ReplacesIfLive, Changes, MayChange};
 
 use super::{IdHashItem, IdHashMap, ItsKey};
 use iddqd::item_index::ItemIndex;
@@ -64,13 +64,13 @@ impl<T: IdHashItem, S: BuildHasher> IdHashMap<T, S> {
     /// Puts what the closure makes of the item that has the key in its place, and hands that item
     /// back; or answers none, where no item has it.
     ///
-    /// Else as `replace`.
+    /// The closure is called at most once, and not at all where no item has the key. Else as `replace`.
     pub fn change<Q: HashQuery<T::Key>, F: FnOnce(&T) -> T>(
         &mut self,
         query: Q,
         f: F,
     ) -> Result<Option<T>, ReplaceRefusal<T, ItemIndex>>
-        requires { F.IsAlwaysCallable f }
+        requires { MayChange F.FnOnce f self.old.store (passes_by T.key_of (Q.stands_for query)) }
         ensures { Changes (shares T.key_of T.Key.eq) (FnOnceReturnsAt F.FnOnce f) self.old
             (passes_by T.key_of (Q.stands_for query)) result self.new }
     {

@@ -7,7 +7,7 @@ ghost use Rattle.iddqd_sides.specs.Scan.{IsLive, passes_by};
 ghost use Rattle.iddqd_sides.specs.Ordered.{is_equal};
 ghost use Rattle.iddqd_map_base.specs.OrderedIndexing.{Sorts};
 ghost use Rattle.iddqd_map_base.specs.Map.{shares};
-ghost use Rattle.iddqd_map_base.specs.Calls.{ReplacesAt, ReplacesIfLive, Replaces, Changes};
+ghost use Rattle.iddqd_map_base.specs.Calls.{ReplacesAt, ReplacesIfLive, Replaces, Changes, MayChange};
 ghost use Rattle.iddqd_id_ord.specs.OrdMap.{map_of};
 
 use super::{IdOrdItem, IdOrdMap, ItsKey};
@@ -54,13 +54,13 @@ impl<T: IdOrdItem> IdOrdMap<T> {
     /// Puts what the closure makes of the item that has the key in its place, and hands that item
     /// back; or answers none, where no item has it.
     ///
-    /// Else as `replace`.
+    /// The closure is called at most once, and not at all where no item has the key. Else as `replace`.
     pub fn change<Q: OrdQuery<T::Key>, F: FnOnce(&T) -> T>(
         &mut self,
         query: Q,
         f: F,
     ) -> Result<Option<T>, ReplaceRefusal<T, ItemIndex>>
-        requires { F.IsAlwaysCallable f }
+        requires { MayChange F.FnOnce f self.old.store (passes_by T.key_of (is_equal (Q.compare query))) }
         ensures { Changes (shares T.key_of (eq_by_cmp T.Key.cmp)) (FnOnceReturnsAt F.FnOnce f) self.old
             (passes_by T.key_of (is_equal (Q.compare query))) result self.new }
     {

@@ -13,9 +13,9 @@ returns-in-Err-clause-allows g c =
 pub returns-in-Err-validate_table-clause-allows : goal.returns-in-Err-validate_table-clause-allows
 returns-in-Err-validate_table-clause-allows g c =
     subst (λ (m : MapState _). Validates (Allows c.args.compactness (length m.store.free)) (Err c.in-Err-validate_table.refusal)) c.self.view_is
-    (Validates-table c.self.inside.items.store (filed c.self.inside.tables.first) c.len-len.result c.args.compactness c.self.invariant.first.held c.self.invariant.valid c.len-len.ensures (c.in_default.ensures.allows.0 refl) (Err c.in-Err-validate_table.refusal) c.in-Err-validate_table.ensures)
+    (Validates-table c.self.inside.items.store (filed c.self.inside.tables.first) c.len-len.result c.args.compactness c.self.invariant.first.held c.self.invariant.valid c.len-len.ensures (c.in_default.ensures.allows.0 refl) (Err c.in-Err-validate_table.refusal) c.in-Err-validate_table.ensures.validates)
 
 pub returns-clause-allows : goal.returns-clause-allows
 returns-clause-allows g c =
     rw (← c.self.view_is)
-    (Validates-table c.self.inside.items.store (filed c.self.inside.tables.second) c.len-len.result c.args.compactness c.self.invariant.second.held c.self.invariant.valid c.len-len.ensures (c.in_default.ensures.allows.0 refl) c.validate_table-2.result c.validate_table-2.ensures)
+    (Validates-table c.self.inside.items.store (filed c.self.inside.tables.second) c.len-len.result c.args.compactness c.self.invariant.second.held c.self.invariant.valid c.len-len.ensures (c.in_default.ensures.allows.0 refl) c.validate_table-2.result c.validate_table-2.ensures.validates)

@@ -13,4 +13,4 @@ returns-in-Err-clause-allows g c =
 pub returns-clause-allows : goal.returns-clause-allows
 returns-clause-allows g c =
     rw (← c.self.view_is)
-    (Validates-table c.self.inside.items.store (filed c.self.inside.table.keys) c.len.result c.args.compactness c.self.invariant.indexed.held c.self.invariant.valid c.len.ensures (c.in_default.ensures.allows.0 refl) c.validate_table.result c.validate_table.ensures)
+    (Validates-table c.self.inside.items.store (filed c.self.inside.table.keys) c.len.result c.args.compactness c.self.invariant.indexed.held c.self.invariant.valid c.len.ensures (c.in_default.ensures.allows.0 refl) c.validate_table.result c.validate_table.ensures.validates)

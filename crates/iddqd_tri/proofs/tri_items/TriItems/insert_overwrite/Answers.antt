@@ -43,10 +43,13 @@ apart g c =
 pub invariant_of-self : goal.invariant_of-self
 invariant_of-self g c = (apart g c).0
 
-pub returns-then-is_empty : goal.returns-then-is_empty
-returns-then-is_empty g c =
+pub returns-then-is_empty-clause-overwrites : goal.returns-then-is_empty-clause-overwrites
+returns-then-is_empty-clause-overwrites g c =
     let keys : TriKeys _ _ _ _ _ = tri_keys_of g.T.TriItem g.T.Key1.PartialEq.eq g.T.Key1.Hash.hash_input g.T.Key2.PartialEq.eq g.T.Key2.Hash.hash_input g.T.Key3.PartialEq.eq g.T.Key3.Hash.hash_input g.S.BuildHasher g.S.Hasher.Hasher in
     subst (λ t. Overwriting keys t c.args.item c.insert_apart.result (tri_state_of c.self.inside.state c.insert_apart.new.items.store c.insert_apart.new.tables)) c.self.view_is (apart g c).1
+
+pub returns-then-is_empty-clause-state_after : goal.returns-then-is_empty-clause-state_after
+returns-then-is_empty-clause-state_after g c = (apart g c).0
 
 -- what the call leaves, and what it answers
 over : (g : _) (c : After-replace_clashes g) → let keys : TriKeys _ _ _ _ _ = tri_keys_of g.T.TriItem g.T.Key1.PartialEq.eq g.T.Key1.Hash.hash_input g.T.Key2.PartialEq.eq g.T.Key2.Hash.hash_input g.T.Key3.PartialEq.eq g.T.Key3.Hash.hash_input g.S.BuildHasher g.S.Hasher.Hasher in let was = tri_state_of c.self.inside.state c.self.inside.items.store c.self.inside.tables in let is = tri_state_of c.self.inside.state c.replace_clashes.new.items.store c.replace_clashes.new.tables in IsTriState keys is × Overwriting keys was c.args.item c.replace_clashes.result is
@@ -73,7 +76,10 @@ over g c =
 pub invariant_of-self-2 : goal.invariant_of-self-2
 invariant_of-self-2 g c = (over g c).0
 
-pub returns : goal.returns
-returns g c =
+pub returns-clause-overwrites : goal.returns-clause-overwrites
+returns-clause-overwrites g c =
     let keys : TriKeys _ _ _ _ _ = tri_keys_of g.T.TriItem g.T.Key1.PartialEq.eq g.T.Key1.Hash.hash_input g.T.Key2.PartialEq.eq g.T.Key2.Hash.hash_input g.T.Key3.PartialEq.eq g.T.Key3.Hash.hash_input g.S.BuildHasher g.S.Hasher.Hasher in
     subst (λ t. Overwriting keys t c.args.item c.replace_clashes.result (tri_state_of c.self.inside.state c.replace_clashes.new.items.store c.replace_clashes.new.tables)) c.self.view_is (over g c).1
+
+pub returns-clause-state_after : goal.returns-clause-state_after
+returns-clause-state_after g c = (over g c).0
