@@ -13,7 +13,9 @@ mod OpenAheadLemmas
 mod OpenLaneLemmas
 mod OpenLookupLemmas
 mod OpenMoveLemmas
+mod OpenPastFullLemmas
 mod OpenRetainLemmas
+mod OpenRebuildLemmas
 mod OpenSkipLemmas
 mod OpenSlotLemmas
 mod OpenTableLemmas

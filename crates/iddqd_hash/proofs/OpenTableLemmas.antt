@@ -91,6 +91,21 @@ some_empty (suc tag ∷ tags) less =
     let rest = some_empty tags (omega (arith, used-cons (suc tag) tags, used_one (suc tag) (omega arith))) in
     (suc rest.0, omega (arith, rest.1), rest.2)
 
+-- each pair stands in a cell that counts as used
+pairs_used : {T : Type 0} (tags : List ℕ) (slots : List (Option (ℕ × T))) → length slots ≡ length tags → ((place : ℕ) → place < length tags → Suits (slice_index tags place) (slot_at slots place)) → length (pairs slots) ≤ count_by is_used tags
+pairs_used [] [] same suited = omega arith
+pairs_used [] (slot ∷ slots) same suited = absurd (omega arith)
+pairs_used (tag ∷ tags) [] same suited = absurd (omega arith)
+pairs_used {T} (tag ∷ tags) (slot ∷ slots) same suited =
+    by_slot slot (suited 0 (omega arith)) (used-cons tag tags) (pairs_used tags slots (omega arith) (λ place below. suited (suc place) (omega arith)))
+  where
+    by_slot : (slot : Option (ℕ × T)) → Suits tag slot → count_by is_used (tag ∷ tags) ≡ used_count tag + count_by is_used tags → length (pairs slots) ≤ count_by is_used tags → length (pairs (slot ∷ slots)) ≤ count_by is_used (tag ∷ tags)
+    by_slot None is counts rest = omega (arith, counts, rest)
+    by_slot (Some pair) is counts rest =
+        let some : 0 < tag = omega arith in
+        let one : used_count tag ≡ 1 = used_one tag some in
+        omega (arith, counts, rest)
+
 -- where there are cells
 module _ {T : Type 0} (tags : List ℕ) (slots : List (Option (ℕ × T))) (len used : ℕ) (sound : IsSound tags slots len used) where
   pub power_from : 0 < length tags → IsPowerOfTwo (length tags)
@@ -98,6 +113,10 @@ module _ {T : Type 0} (tags : List ℕ) (slots : List (Option (ℕ × T))) (len 
 
   pub empty_from : 0 < length tags → HasEmpty tags
   empty_from some = some_empty tags (omega (arith, sound.marked, sound.limited))
+
+  -- not more pairs stand in the cells than may
+  pub fits_from : length (pairs slots) ≤ limit_of (length tags)
+  fits_from = omega (arith, sound.marked, sound.limited, pairs_used tags slots sound.probed.same_length sound.probed.suited)
 
 module _ {T : Type 0} where
   pub IsSound-none : (tags : List ℕ) (cells : List (Cell T)) → tags ≡ [] → cells ≡ [] → IsSound tags (slots_of cells) 0 0

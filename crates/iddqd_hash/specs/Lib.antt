@@ -4,6 +4,7 @@ pub mod Entries
 pub mod HashTable
 pub mod MapHashTable
 pub mod MapHashTableEntry
+pub mod OpenRebuild
 pub mod OpenTable
 pub mod OpenWalk
 pub mod OpenTableSizes

@@ -29,12 +29,13 @@ ghost use Rattle.std.specs.Fn.{TakesAt, CalledAt, FnReturnsAt};
 ghost use Rattle.iddqd_hash.specs.Asks.{CanAsk, LooksUp, HitsPair, FindsPlace, Misses, Keeps};
 ghost use Rattle.iddqd_hash.specs.HashTable.{entries, room, capacity, pair_at, under, values, Rewrites, HasNoMemory, KeepsMemory, UsesRoom, Reserves};
 ghost use Rattle.iddqd_hash.specs.OpenTable.{limit_of, IsPowerOfTwo};
-ghost use Rattle.iddqd_hash.specs.OpenTableSizes.{KeepsCells};
+ghost use Rattle.iddqd_hash.specs.OpenTableSizes.{KeepsCells, NeedsNoCells};
 
 use crate::open_table::cells::{
     Cell, clear_cells, clear_tags, empty_cells, find_cell, move_cells, put, retain_cells,
     rewrite_cells, take, value_in,
 };
+use crate::open_table::rebuild::rebuild;
 use crate::open_table::tags::{count_for, free_place, limit_of};
 use crate::table_entry::{self, PairCells};
 use std::alloc::{AllocError, Global};
@@ -47,6 +48,7 @@ mod entry;
 mod iter;
 mod lanes;
 mod places;
+mod rebuild;
 mod sizes;
 mod tags;
 
@@ -154,12 +156,13 @@ impl<T> OpenHashTable<T> {
     /// Makes room for `additional` more pairs.
     ///
     /// An `AllocError` means that memory was refused, or that no vector can hold so many; the table
-    /// stays as it was. It stays so too, and takes no memory, where there is room for so many. It has as many cells
-    /// as before where all the pairs are three quarters of what these may hold, or fewer.
+    /// stays as it was. It stays so too, and takes no memory, where there is room for so many. Where all the pairs
+    /// are three quarters of what the cells may hold, or fewer, it has as many cells as before, and takes no memory.
     pub fn try_reserve(&mut self, additional: usize) -> Result<(), AllocError>
         ensures contents { IsPermutation (entries self.old) (entries self.new) }
         ensures memory { Reserves additional self.old result self.new }
         ensures same_cells { KeepsCells (length (entries self.old) + additional) self.old self.new }
+        ensures succeeds { NeedsNoCells (length (entries self.old) + additional) self.old result }
     {
         if additional <= self.room() {
             return Ok(());
@@ -287,10 +290,27 @@ impl<T> OpenHashTable<T> {
         ensures contents { IsPermutation (entries self.old) (entries self.new) }
         ensures memory { Reserves additional self.old result self.new }
         ensures same_cells { KeepsCells (length (entries self.old) + additional) self.old self.new }
+        ensures succeeds { NeedsNoCells (length (entries self.old) + additional) self.old result }
     {
+        let current = self.tags.len();
         let needed = self.len.checked_add(additional).ok_or(AllocError)?;
-        let count = count_for(self.tags.len(), needed).ok_or(AllocError)?;
+        let count = count_for(current, needed).ok_or(AllocError)?;
+        if count == current {
+            self.rebuild_in_place();
+            return Ok(());
+        }
         self.place_anew(count)
+    }
+
+    // Places every pair anew in the same cells, so that no mark is left, and takes no memory.
+    fn rebuild_in_place(&mut self)
+        requires { 0 < capacity self.old }
+        ensures contents { IsPermutation (entries self.old) (entries self.new) }
+        ensures room { room self.new ≡ limit_of (capacity self.old) - length (entries self.old) }
+        ensures capacity { capacity self.new ≡ capacity self.old }
+    {
+        rebuild(self.tags.as_mut_slice(), self.cells.as_mut_slice());
+        self.used = self.len;
     }
 
     // Moves every pair into so many new cells.

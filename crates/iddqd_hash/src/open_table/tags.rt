@@ -4,7 +4,8 @@
 //! full, and the tag has the top seven bits of the hash. A walk goes from the home of a hash by steps of
 //! one, the first place after the last, up to an empty cell.
 ghost use Rattle.std.specs.Prelude.{◌≡◌, ◌+◌, ◌*◌, ◌<◌, ◌≤◌, ◌%◌, ◌⊎◌, Some, length, IfSome};
-ghost use Rattle.iddqd_hash.specs.OpenTable.{tag_of, limit_of, IsPowerOfTwo, HasEmpty, Skips, IsFree, IsReached};
+ghost use Rattle.iddqd_hash.specs.OpenTable.{tag_of, limit_of, IsPowerOfTwo, HasEmpty, Skips, IsFree};
+ghost use Rattle.iddqd_hash.specs.OpenRebuild.{IsPastFull};
 
 use crate::open_table::lanes::{run_of_full, run_of_others};
 
@@ -41,7 +42,7 @@ pub fn free_place(tags: &[u8], hash: u64) -> usize
     requires power { IsPowerOfTwo (length tags.now) }
     requires ends { HasEmpty tags.now }
     ensures free { IsFree tags.now result }
-    ensures reached { IsReached tags.now hash result }
+    ensures past_full { IsPastFull tags.now hash result }
 {
     free_from(tags, hash, first_place(tags, hash))
 }
@@ -52,7 +53,7 @@ pub fn free_near_home(tags: &[u8], hash: u64) -> usize
     requires power { IsPowerOfTwo (length tags.now) }
     requires ends { HasEmpty tags.now }
     ensures free { IsFree tags.now result }
-    ensures reached { IsReached tags.now hash result }
+    ensures past_full { IsPastFull tags.now hash result }
 {
     free_from(tags, hash, home_of(hash, tags.len()))
 }
@@ -61,10 +62,10 @@ pub fn free_near_home(tags: &[u8], hash: u64) -> usize
 fn free_from(tags: &[u8], hash: u64, from: usize) -> usize
     requires power { IsPowerOfTwo (length tags.now) }
     requires ends { HasEmpty tags.now }
-    requires reached { IsReached tags.now hash from }
+    requires past_full { IsPastFull tags.now hash from }
     requires inside { from < length tags.now }
     ensures free { IsFree tags.now result }
-    ensures reached { IsReached tags.now hash result }
+    ensures past_full { IsPastFull tags.now hash result }
 {
     let count = tags.len();
     let mut at = from;
@@ -77,7 +78,7 @@ fn free_from(tags: &[u8], hash: u64, from: usize) -> usize
 // The home, or a place behind it with only full ones before.
 fn first_place(tags: &[u8], hash: u64) -> usize
     requires power { IsPowerOfTwo (length tags.now) }
-    ensures { IsReached tags.now hash result }
+    ensures { IsPastFull tags.now hash result }
 {
     let home = home_of(hash, tags.len());
     if tags.len() > LARGE {
@@ -91,7 +92,7 @@ fn first_place(tags: &[u8], hash: u64) -> usize
 fn past_full(tags: &[u8], at: usize) -> usize
     requires power { IsPowerOfTwo (length tags.now) }
     requires inside { at < length tags.now }
-    ensures { IsReached tags.now at result }
+    ensures { IsPastFull tags.now at result }
 {
     (at + run_of_full(tags, at)) & (tags.len() - 1)
 }

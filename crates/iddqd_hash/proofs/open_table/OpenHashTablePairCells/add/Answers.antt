@@ -3,6 +3,7 @@ use Rattle.std.proofs.lemmas.Grind.{common_steps}
 use Rattle.std.proofs.lemmas.List.{with_items_is, get_or-set_same, length-set}
 use Rattle.std.specs.Vec.{with_items}
 use Rattle.iddqd_hash.specs.OpenTable.{tag_of, limit_of, slots_of, slot_at}
+use Rattle.iddqd_hash.proofs.OpenPastFullLemmas.{IsReached-past_full}
 use Rattle.iddqd_hash.proofs.OpenSlotLemmas.{length_pairs, pairs-put, free_slot}
 use Rattle.iddqd_hash.proofs.OpenTableLemmas.{entries-opened, pair_at-opened, room-opened, power_from, empty_from, was_empty_counts, IsSound-put, UsesRoom-opened, cells_long}
 use Rattle.iddqd_hash.proofs.open_table.OpenHashTablePairCells.add.Goals as goal
@@ -36,7 +37,7 @@ invariant_of-self g c =
     let counts = was_empty_counts tags.items place c.index.result.now inside c.index.ensures in
     rw (tags-is, slots-is)
     (IsSound-put tags.items (slots_of cells.items) c.self.inside.len c.self.inside.used c.self.invariant place c.args.hash c.args.value _ inside
-    (rw c.as_slice.ensures.value at c.free_place-place.ensures.free.free) (rw c.as_slice.ensures.value at c.free_place-place.ensures.reached) (omega (arith, counts)) (omega (arith, counts, room, same)))
+    (rw c.as_slice.ensures.value at c.free_place-place.ensures.free.free) (IsReached-past_full _ _ _ (rw c.as_slice.ensures.value at c.free_place-place.ensures.past_full)) (omega (arith, counts)) (omega (arith, counts, room, same)))
 
 pub returns-clause-pair : goal.returns-clause-pair
 returns-clause-pair g c =

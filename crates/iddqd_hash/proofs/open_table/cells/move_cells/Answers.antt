@@ -2,6 +2,7 @@ use Rattle.std.proofs.Common.{◌≡◌, ◌∙◌, ◌<◌, ℕ, ◌+◌, ◌^�
 use Rattle.std.proofs.lemmas.List.{map_push, nil_from_length}
 use Rattle.std.specs.Option.{option_map}
 use Rattle.iddqd_hash.specs.OpenTable.{slots_of, pair_in}
+use Rattle.iddqd_hash.proofs.OpenPastFullLemmas.{IsReached-past_full}
 use Rattle.iddqd_hash.proofs.OpenSlotLemmas.{free_slot}
 use Rattle.iddqd_hash.proofs.OpenTableLemmas.{cells_long, pow_some}
 use Rattle.iddqd_hash.proofs.OpenMoveLemmas.{Moving-start, Moving-room, Moving-skip, Moving-put, Moving-end}
@@ -46,7 +47,7 @@ moving-preserved-in-Some-value g c =
     (Moving-put _ _ _ _ c.moving.invariant (slots_of rest) c.free_near_home-place.result c.in-Some.cell.hash c.in-Some-value.value
     (ap slots_of c.in-Some.ensures.items ∙ map_push pair_in rest c.in-Some.cell
     ∙ ap (λ o. slots_of rest ++ option_map {U = ℕ × g.row.T.Denot} (λ value. (c.in-Some.cell.hash, value)) o ∷ []) c.in-Some-value.is)
-    free.within free.free c.free_near_home-place.ensures.reached)
+    free.within free.free (IsReached-past_full _ _ _ c.free_near_home-place.ensures.past_full))
 
 pub returns-clause-moved : goal.returns-clause-moved
 returns-clause-moved g c =

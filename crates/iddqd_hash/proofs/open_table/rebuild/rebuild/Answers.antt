@@ -1,0 +1,23 @@
+use Rattle.std.proofs.Common.{◌≢◌, slice_index, arith}
+use borrow.Author.Count.{below_more}
+use Rattle.std.proofs.lemmas.List.Sorted.{IsPermutation-trans, length_permutation}
+use Rattle.iddqd_hash.specs.OpenRebuild.{pending}
+use Rattle.iddqd_hash.proofs.OpenRebuildLemmas.{IsPartlyPlaced-counted, IsProbed-rebuilt}
+use Rattle.iddqd_hash.proofs.open_table.rebuild.rebuild.Goals as goal
+
+pub place_pending-requires-clause-fits : goal.place_pending-requires-clause-fits
+place_pending-requires-clause-fits g c = omega (arith, length_permutation _ _ c.loop-at.invariant.moved, c.requires.fits)
+
+pub returns-clause-probed : goal.returns-clause-probed
+returns-clause-probed g c = IsProbed-rebuilt _ _ c.loop-at.at c.loop-at.invariant.partly_placed (omega arith) c.loop-at.invariant.not_pending
+
+pub returns-clause-unmarked : goal.returns-clause-unmarked
+returns-clause-unmarked g c = IsPartlyPlaced-counted _ _ c.loop-at.invariant.partly_placed
+
+pub loop-at-preserved : goal.loop-at-preserved
+loop-at-preserved g c = record {
+  partly_placed = c.place_pending.ensures.partly_placed;
+  moved = IsPermutation-trans _ _ _ c.loop-at.invariant.moved c.place_pending.ensures.moved;
+  not_pending = below_more (λ k. slice_index c.place_pending.new.tags k ≢ pending) c.loop-at.at
+      (λ k below is. c.loop-at.invariant.not_pending k below (c.place_pending.ensures.no_more k is)) c.place_pending.ensures.not_pending;
+}

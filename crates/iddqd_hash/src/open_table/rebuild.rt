@@ -1,0 +1,119 @@
+//! Rebuilds a table in the cells that it has: every pair is placed anew, and no mark is left. No memory is taken.
+//!
+//! First the tag of every full cell becomes `PENDING`, and every mark becomes the tag of an empty cell. Then each pending
+//! pair is taken out of its cell and put into the first cell from its home that is empty or pending. If that cell is
+//! pending, its own pair is taken out in exchange and placed next.
+//!
+//! A placed pair never moves again, and a walk from its home comes to it past placed pairs alone: this is what
+//! `IsPartlyPlaced` says. Each exchange leaves one pending tag fewer, so the exchanges end. The full hashes are kept beside
+//! the values, so no value is looked at.
+ghost use Rattle.std.specs.Prelude.{◌≡◌, ◌≢◌, ◌<◌, ◌≤◌, ℕ, count_by, Some, None, IsSome, length, slice_index, slice_set};
+ghost use Rattle.std.specs.List.Sorted.{IsPermutation};
+ghost use Rattle.iddqd_hash.specs.OpenTable.{tag_of, limit_of, is_used, slots_of, slot_at, pairs, IsPowerOfTwo, IsProbed};
+ghost use Rattle.iddqd_hash.specs.OpenRebuild.{pending, IsPartlyPlaced, NoMorePending};
+
+use crate::open_table::cells::{Cell, put};
+use crate::open_table::tags::{free_place, tag_of};
+use std::mem;
+
+// The tag of a cell whose pair isn't placed yet. It is that of a mark, since no cell is marked during a rebuild.
+const PENDING: u8 = 1;
+
+/// Places every pair anew in the same cells, and leaves no mark. It costs a walk over the cells, and one from the home of
+/// each pair.
+pub fn rebuild<T>(tags: &mut [u8], cells: &mut [Cell<T>])
+    requires power { IsPowerOfTwo (length tags.old) }
+    requires probed { IsProbed tags.old (slots_of cells.old) }
+    requires fits { length (pairs (slots_of cells.old)) ≤ limit_of (length tags.old) }
+    ensures moved { IsPermutation (pairs (slots_of cells.old)) (pairs (slots_of cells.new)) }
+    ensures probed { IsProbed tags.new (slots_of cells.new) }
+    ensures unmarked { count_by is_used tags.new ≡ length (pairs (slots_of cells.new)) }
+{
+    reset_tags(tags);
+    for at in 0..tags.len() {
+        if tags[at] != PENDING {
+            continue;
+        }
+        place_pending(tags, cells, at);
+    }
+}
+
+// Makes every full cell pending, and every marked one empty.
+fn reset_tags(tags: &mut [u8])
+    ensures full { (k : ℕ) → 128 ≤ slice_index tags.old k → slice_index tags.new k ≡ pending }
+    ensures others { (k : ℕ) → slice_index tags.old k < 128 → slice_index tags.new k ≡ 0 }
+{
+    for at in 0..tags.len() {
+        tags[at] = reset_tag(tags[at]);
+    }
+}
+
+// What the tag of a cell becomes.
+fn reset_tag(tag: u8) -> u8
+    ensures full { 128 ≤ tag → result ≡ pending }
+    ensures others { tag < 128 → result ≡ 0 }
+{
+    if tag >= 128 { PENDING } else { 0 }
+}
+
+// Places the pair of a pending cell, and then each pair whose cell the one before took.
+fn place_pending<T>(tags: &mut [u8], cells: &mut [Cell<T>], at: usize)
+    requires power { IsPowerOfTwo (length tags.old) }
+    requires partly_placed { IsPartlyPlaced tags.old (slots_of cells.old) }
+    requires fits { length (pairs (slots_of cells.old)) ≤ limit_of (length tags.old) }
+    requires inside { at < length tags.old }
+    requires pending { slice_index tags.old at ≡ pending }
+    ensures moved { IsPermutation (pairs (slots_of cells.old)) (pairs (slots_of cells.new)) }
+    ensures partly_placed { IsPartlyPlaced tags.new (slots_of cells.new) }
+    ensures not_pending { slice_index tags.new at ≢ pending }
+    ensures no_more { NoMorePending tags.old tags.new }
+{
+    let (mut hash, mut value) = take_unmarked(tags, cells, at);
+    let mut place = free_place(tags, hash);
+    'placing: while tags[place] == PENDING {
+        (hash, value) = replace_pair(tags, cells, place, hash, value);
+        place = free_place(tags, hash);
+    }
+    put(tags, cells, place, hash, value);
+}
+
+// Takes a pair out of its cell, which is empty then.
+fn take_unmarked<T>(tags: &mut [u8], cells: &mut [Cell<T>], place: usize) -> (u64, T)
+    requires inside { place < length tags.old }
+    requires same_length { length cells.old ≡ length tags.old }
+    requires full { IsSome (slot_at (slots_of cells.old) place) }
+    ensures pair { slot_at (slots_of cells.old) place ≡ Some result }
+    ensures tags { tags.new ≡ slice_set tags.old place 0 }
+    ensures slots { slots_of cells.new ≡ slice_set (slots_of cells.old) place None }
+{
+    tags[place] = 0;
+    let cell = &mut cells[place];
+    match cell.value.take() {
+        Some(value) => (cell.hash, value),
+        None => unreachable!(),
+    }
+}
+
+// Puts a pair into a cell, and takes out the one that stood there.
+fn replace_pair<T>(
+    tags: &mut [u8],
+    cells: &mut [Cell<T>],
+    place: usize,
+    hash: u64,
+    value: T,
+) -> (u64, T)
+    requires inside { place < length tags.old }
+    requires same_length { length cells.old ≡ length tags.old }
+    requires full { IsSome (slot_at (slots_of cells.old) place) }
+    ensures pair { slot_at (slots_of cells.old) place ≡ Some result }
+    ensures tags { tags.new ≡ slice_set tags.old place (tag_of hash) }
+    ensures slots { slots_of cells.new ≡ slice_set (slots_of cells.old) place (Some (hash, value)) }
+{
+    tags[place] = tag_of(hash);
+    let cell = &mut cells[place];
+    let hash = mem::replace(&mut cell.hash, hash);
+    match cell.value.replace(value) {
+        Some(value) => (hash, value),
+        None => unreachable!(),
+    }
+}
