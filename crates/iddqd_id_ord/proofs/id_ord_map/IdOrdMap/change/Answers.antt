@@ -17,6 +17,11 @@ index-requires g c =
     let (item, live, _) = (c.in-Some.ensures c.in-Some.ix).1 refl in
     subst (λ (m : MapState _). IsLive m.store c.in-Some.ix) (sym c.self.view_is) (live_at c.args.self.now.store c.in-Some.ix item live)
 
+pub f-item-requires : goal.f-item-requires
+f-item-requires g c =
+    let live = subst (λ (m : MapState _). get m.store c.in-Some.ix ≡ Some c.index.result.now) c.self.view_is c.index.ensures in
+    c.requires c.index.result (c.in-Some.ix, record { live = live; only = c.in-Some.ensures })
+
 pub returns-in_err-was : goal.returns-in_err-was
 returns-in_err-was g c =
     let alike = shares g.T.IdOrdItem.key_of (eq_by_cmp g.T.Key.Ord.cmp) in
