@@ -1,13 +1,14 @@
 -- For callers of maps: what a look-up found passes the test; once the item with a key was removed, none has it; and
 -- `retain` leaves no more items than there were.
-use Rattle.std.proofs.Common.{◌≡◌, ◌≢◌, ◌∙◌, ◌≤◌, ℕ, zero, suc, Bool, true, List, [], ◌∷◌, slice_set, Option, Some, None, is_some, refl, sym, subst, arith}
+use Rattle.std.proofs.Common.{◌≡◌, ◌≤◌, ℕ, zero, suc, Bool, true, List, [], ◌∷◌, slice_set, Option, Some, None, is_some, cond, refl, sym, subst, arith}
 use Rattle.std.specs.List.{count_by}
+use Rattle.std.proofs.lemmas.List.Sums.{sum_by-cons}
 use Rattle.iddqd.specs.Store.{Store, get, live_count, removed}
-use Rattle.iddqd_sides.specs.Scan.{IsHit, HasNoHit, AnswersScan}
-use Rattle.iddqd_sides.proofs.ScanLemmas.{live_before, HasNoHit-hit_removed}
-use Rattle.iddqd_map_base.specs.Map.{MapState, FindsItem, IsMap, Removes, RemovesAt}
+use Rattle.iddqd_sides.specs.Scan.{HasNoHit, AnswersScan}
+use Rattle.iddqd_sides.proofs.ScanLemmas.{HasNoHit-hit_removed}
+use Rattle.iddqd_map_base.specs.Map.{MapState, FindsItem, Removes}
 use Rattle.iddqd_map_base.specs.Several.{removed_all}
-use Rattle.iddqd_map_base.specs.Retain.{Retains}
+use Rattle.iddqd_map_base.specs.Retain.{Retains, refused_of}
 use Rattle.iddqd_id_ord.specs.Retain.{RetainsAlong}
 
 module _ {T : Type 0} (s : Store T) (test : T → Bool) where
@@ -37,22 +38,20 @@ module _ {T : Type 0} (old new : MapState T) where
   none_left test (Some item) removes =
       subst (λ s. HasNoHit s test) (sym removes.left) (HasNoHit-hit_removed old.store test removes.ix removes.hit.only)
 
-  -- after a removal at an index no item shares a key with the one that was there
-  pub none_left_at : (alike : T → T → Bool) (ix : ℕ) (item : T) → IsMap alike old.store → RemovesAt old ix (Some item) new → HasNoHit new.store (alike item)
-  none_left_at alike ix item is_map removes = subst (λ s. HasNoHit s (alike item)) (sym removes.1) none
-    where
-      none : HasNoHit (removed old.store ix) (alike item)
-      none j (other, live, shares) =
-          let was = live_before old.store ix j item other removes.0 live in
-          was.0 (sym (is_map.apart ix j item other removes.0 was.1 shares))
-
 -- a slot less
 fewer_set : {T : Type 0} (slots : List (Option T)) (ix : ℕ) → count_by is_some (slice_set slots ix None) ≤ count_by is_some slots
 fewer_set [] ix = omega arith
-fewer_set (None ∷ slots) zero = omega arith
-fewer_set (Some item ∷ slots) zero = omega arith
-fewer_set (None ∷ slots) (suc ix) = fewer_set slots ix
-fewer_set (Some item ∷ slots) (suc ix) = let less = fewer_set slots ix in omega (arith, less)
+fewer_set {T} (slot ∷ slots) zero =
+    let left = sum_by-cons (λ (o : Option T). cond (is_some o) 1 0) None slots in
+    let all = sum_by-cons (λ o. cond (is_some o) 1 0) slot slots in
+    let less : count_by {X = Option T} is_some (None ∷ slots) ≤ count_by is_some (slot ∷ slots) = omega (arith, left, all) in
+    less
+fewer_set {T} (slot ∷ slots) (suc ix) =
+    let left = sum_by-cons (λ (o : Option T). cond (is_some o) 1 0) slot (slice_set slots ix None) in
+    let all = sum_by-cons (λ o. cond (is_some o) 1 0) slot slots in
+    let fewer = fewer_set slots ix in
+    let less : count_by is_some (slot ∷ slice_set slots ix None) ≤ count_by is_some (slot ∷ slots) = omega (arith, left, all, fewer) in
+    less
 
 fewer_all : {T : Type 0} (s : Store T) (indexes : List ℕ) → live_count (removed_all s indexes) ≤ live_count s
 fewer_all s [] = omega arith
@@ -63,9 +62,9 @@ fewer_all s (ix ∷ rest) =
 
 module _ {F T : Type 0} (ask : F → T → Bool → F → Type 0) (f : F) (old new : MapState T) where
   -- `retain` leaves no more items than there were
-  pub Retains-fewer : Retains ask f old new → live_count new.store ≤ live_count old.store
-  Retains-fewer retains = subst (λ s. live_count s ≤ live_count old.store) (sym retains.retained.left) (fewer_all old.store _)
+  pub retains_fewer : Retains ask f old new → live_count new.store ≤ live_count old.store
+  retains_fewer retains = subst (λ s. live_count s ≤ live_count old.store) (sym retains.retained.left) (fewer_all old.store (refused_of retains.retained.asks))
 
   -- nor does that of a map in order
-  pub RetainsAlong-fewer : (is_walk : Store T → List (ℕ × T) → Type 0) → RetainsAlong is_walk ask f old new → live_count new.store ≤ live_count old.store
-  RetainsAlong-fewer is_walk retains = subst (λ s. live_count s ≤ live_count old.store) (sym retains.retained.left) (fewer_all old.store _)
+  pub retains_along_fewer : (is_walk : Store T → List (ℕ × T) → Type 0) → RetainsAlong is_walk ask f old new → live_count new.store ≤ live_count old.store
+  retains_along_fewer is_walk retains = subst (λ s. live_count s ≤ live_count old.store) (sym retains.retained.left) (fewer_all old.store (refused_of retains.retained.asks))

@@ -8,11 +8,11 @@
 //! handed on here.
 #![tactic(auto)]
 
-pub use iddqd::{
-    hash_builder as hash_builder, index_remap as index_remap, item_index as item_index,
-};
 pub use iddqd::internal::{
     TableValidationError, ValidateCompact, ValidateRefusal, ValidationError,
+};
+pub use iddqd::{
+    hash_builder as hash_builder, index_remap as index_remap, item_index as item_index,
 };
 pub use iddqd_bi_hash::bi_hash_map as bi_hash_map;
 pub use iddqd_id_hash::id_hash_map as id_hash_map;
