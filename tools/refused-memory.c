@@ -46,7 +46,7 @@ static void refuse_in_turn(void) {
             }
             waitpid(child, &status, 0);
             if (status) {
-                dprintf(2, "memory: failed with request %u%s refused\n", at, row ? " and all after it" : "");
+                dprintf(2, "memory: request %u%s: failed after %u refusals\n", at, row ? " and all after it" : "", *refused);
                 _exit(1);
             }
             if (!*refused) break;
