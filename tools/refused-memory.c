@@ -1,9 +1,10 @@
-/* Refuses memory to a test of tools/refused, each request in turn. `rt try` links this into the tests.
+/* Makes each allocation of a test of tools/refused fail in turn. `rt try` links this file into the tests.
 
-   A test has one call between two marks, which are requests of MARK bytes. At the first mark it forks, once for each
-   request: in the N-th child the N-th request after the mark is refused, and with -DFROM in a second row of children
-   all that follow it too. A child has to pass the test and to free each block. The last one is refused nothing.
-   The test then goes on with all of its memory, and says how many refusals its children stood. */
+   A test makes its call between two marks, which are allocations of MARK bytes. At the first mark it forks a child for
+   each allocation that follows. In the N-th child the N-th allocation after the mark fails; with -DFROM a second row of
+   children lets all allocations after the N-th fail too. Each child has to pass the test and to free all of its memory.
+   A row ends with the first child in which no allocation is left to fail. The test itself then runs on with all of its
+   memory, and reports how many failed allocations its children stood. */
 #include <errno.h>
 #include <fcntl.h>
 #include <stdio.h>
@@ -19,33 +20,33 @@ enum { ROWS = 2 };
 enum { ROWS = 1 };
 #endif
 
-/* The address sanitizer calls the first of each pair in place of the second, which is its own, if a program has it. */
+/* Where a program defines the first of each pair, the address sanitizer calls it in place of its own, the second. */
 void *__interceptor_malloc(size_t), *___interceptor_malloc(size_t);
 void *__interceptor_realloc(void *, size_t), *___interceptor_realloc(void *, size_t);
 void __interceptor_free(void *), ___interceptor_free(void *);
 
 static unsigned marks, requests, stood;
-static unsigned first;    /* In a child: the first request that is refused. */
-static int with_rest;     /* In a child: whether all after it are refused too. */
-static unsigned *refused; /* How many were refused in the child, which shares this with its parent. */
-static long blocks;       /* How many are held. */
+static long blocks;       /* allocated and not freed */
+static unsigned first;    /* in a child: the number of the first allocation that fails */
+static int with_rest;     /* in a child: whether all after it fail too */
+static unsigned *refused; /* how many failed in the child, in memory that it shares with the test */
 
 static void refuse_in_turn(void) {
     refused = mmap(NULL, sizeof *refused, PROT_READ | PROT_WRITE, MAP_SHARED | MAP_ANONYMOUS, -1, 0);
-    for (int rest = 0; rest < ROWS; ++rest)
+    for (int row = 0; row < ROWS; ++row)
         for (unsigned at = 1;; ++at) {
             *refused = 0;
             int status = -1, child = fork();
             if (!child) {
                 first = at;
-                with_rest = rest;
+                with_rest = row;
                 alarm(60);
                 dup2(open("/dev/null", O_WRONLY), 1);
                 return;
             }
             waitpid(child, &status, 0);
             if (status) {
-                dprintf(2, "memory: failed with request %u%s refused\n", at, rest ? " and all after it" : "");
+                dprintf(2, "memory: request %u%s: failed after %u refusals\n", at, row ? " and all after it" : "", *refused);
                 _exit(1);
             }
             if (!*refused) break;
@@ -54,13 +55,13 @@ static void refuse_in_turn(void) {
 }
 
 __attribute__((constructor)) static void begin(void) {
-    blocks = 0; /* Of those of the address sanitizer none is freed. */
+    blocks = 0; /* Without those of the address sanitizer, which frees none. */
 }
 
 __attribute__((destructor)) static void end(void) {
     if (!marks) return;
     if (marks != 2 || blocks) {
-        dprintf(2, "memory: %u marks, %ld blocks were not freed\n", marks, blocks);
+        dprintf(2, "memory: %u marks, %ld blocks not freed\n", marks, blocks);
         _exit(1);
     }
     if (!first) dprintf(2, "memory: %u refusals stood\n", stood);
