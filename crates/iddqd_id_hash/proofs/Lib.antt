@@ -1,1 +1,2 @@
 pub mod IdMapLemmas
+pub mod ModifyLemmas

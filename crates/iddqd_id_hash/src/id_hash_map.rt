@@ -17,6 +17,7 @@ mod checks;
 mod clones;
 mod equality;
 mod memory;
+mod modifies;
 mod replaces;
 mod retain;
 mod table;

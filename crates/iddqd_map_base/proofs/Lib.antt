@@ -9,3 +9,4 @@ pub mod SeveralLemmas
 pub mod RetainLemmas
 pub mod EqualityLemmas
 pub mod CloneLemmas
+pub mod ModifyLemmas

@@ -2,6 +2,7 @@ pub mod Indexing
 pub mod OrderedIndexing
 pub mod Map
 pub mod Calls
+pub mod Modify
 pub mod Several
 pub mod Refusal
 pub mod Retain

@@ -5,3 +5,4 @@ pub mod HashedMove
 pub mod Ordered
 pub mod OrderedQuery
 pub mod OrderedWalk
+pub mod KeyKeeping

@@ -1,0 +1,27 @@
+-- What a closure that is given a `&mut` to a stored item has to keep, and what it leaves.
+use Rattle.std.specs.Prelude.{◌≡◌, ℕ, Some}
+use Rattle.std.specs.Borrow.{MutBor}
+use Rattle.std.specs.Fn.{Once, FnOnceReturnsAtMut}
+use Rattle.iddqd.specs.Store.{Store, get, rebound}
+
+-- both keys of an item, or more where one of these gives several
+abbrev pub pair_keys : {T K1 K2 : Type 0} → (T → K1) → (T → K2) → T → K1 × K2
+pair_keys first second item = (first item, second item)
+
+module _ {F T R : Type 0} (g : Once F (MutBor T × Unit {0}) (R × (MutBor T × Unit {0}))) (f : F) where
+  -- f may be called at a `&mut` to an item of which `IsThere` holds, and leaves an item with the same key; or keys, where
+  -- `key` gives a tuple of several
+  abbrev pub KeepsKey : {K : Type 0} → (T → K) → (T → Type 0) → Type 0
+  KeepsKey key IsThere =
+      (item : MutBor T)
+      → IsThere item.now
+      → g.pre f (item, tt)
+      × ((result : R) (left : MutBor T) → g.post f (item, tt) (result, (left, tt)) → key left.now ≡ key item.now)
+
+  -- f was called at a `&mut` to the item at the index, and what f left stands there; no other item changed
+  pub record ModifiesItem (old : Store T) (ix : ℕ) (result : R) (new : Store T) : Type 0 where
+    pub was : T
+    pub is : T
+    pub live : get old ix ≡ Some was
+    pub called : FnOnceReturnsAtMut g f was result is
+    pub left : new ≡ rebound old ix is
