@@ -5,7 +5,7 @@
 //! of all items would.
 //!
 //! What callers name of the crates below, indexes, hashers, queries, refusals and what `validate` takes and answers, is
-//! handed on here.
+//! re-exported here.
 #![tactic(auto)]
 
 pub use iddqd::internal::{
