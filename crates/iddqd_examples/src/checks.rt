@@ -6,6 +6,7 @@ mod slots;
 use iddqd::internal::ValidateRefusal;
 use std::alloc::{AllocError, Global};
 use std::fmt::Display;
+use std::process::Abort;
 
 // What a check tells, which is `ok` where the parts are sound.
 fn words<E: Display + Drop>(
@@ -17,4 +18,9 @@ fn words<E: Display + Drop>(
         Err(ValidateRefusal::Invalid(error)) => format!(in alloc; "{error}"),
         Err(ValidateRefusal::Memory(error)) => Err(error),
     }
+}
+
+// What is told is what is wanted.
+fn assert_words(rt: &impl Abort, told: &str, want: &str) {
+    assert!(rt; told == want, "{told}");
 }

@@ -1,5 +1,5 @@
 //! Checks of the indexes of a table.
-use super::words;
+use super::{assert_words, words};
 use iddqd::internal::{ValidateCompact, validate_hash_indexes, validate_ordered_indexes};
 use iddqd::item_index::ItemIndex;
 use std::alloc::{AllocError, Global};
@@ -43,12 +43,12 @@ fn told_of(alloc: Global, (table, numbers, expected, mode, _): Case) -> Result<S
 fn assert_told(rt: &impl Abort, alloc: Global, cases: &[Case]) -> Result<(), AllocError> {
     for case in cases {
         let told = told_of(alloc, *case)?;
-        assert!(rt; told.as_str() == case.4, "{told}");
+        assert_words(rt, told.as_str(), case.4);
     }
     Ok(())
 }
 
-const LENGTHS: [Case; 2] = [
+static LENGTHS: [Case; 2] = [
     (
         Table::Hash,
         &[0],
@@ -71,7 +71,7 @@ fn a_wrong_number_of_indexes_is_told(rt: HostRuntime) -> Result<(), Fail> {
     Ok(())
 }
 
-const TWICE: [Case; 3] = [
+static TWICE: [Case; 3] = [
     (
         Table::Hash,
         &[0, 0, 2],
@@ -101,7 +101,7 @@ fn an_index_that_stands_twice_is_told(rt: HostRuntime) -> Result<(), Fail> {
     Ok(())
 }
 
-const GAPS: [Case; 5] = [
+static GAPS: [Case; 5] = [
     (
         Table::Hash,
         &[0, 0, 2],
@@ -145,7 +145,7 @@ fn a_gap_is_told_in_compact_mode(rt: HostRuntime) -> Result<(), Fail> {
     Ok(())
 }
 
-const SENTINELS: [Case; 3] = [
+static SENTINELS: [Case; 3] = [
     (Table::Hash, &[0, END], 2, NON_COMPACT, "ok"),
     (
         Table::Ordered,

@@ -1,4 +1,5 @@
 //! What the error of a table prints.
+use super::assert_words;
 use iddqd::internal::{TableValidationError, ValidationError};
 use std::test::Fail;
 
@@ -11,6 +12,6 @@ fn an_error_of_a_table_names_the_table(rt: HostRuntime) -> Result<(), Fail> {
     };
     let told = format!(in rt.alloc(); "{error}")?;
     let want = "validation error in table first: expected length 2, was 1";
-    assert!(rt; told.as_str() == want, "{told}");
+    assert_words(&rt, told.as_str(), want);
     Ok(())
 }

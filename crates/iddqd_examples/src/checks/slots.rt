@@ -1,5 +1,5 @@
 //! Checks of slots and of the chain of vacant ones.
-use super::words;
+use super::{assert_words, words};
 use iddqd::internal::{ValidateCompact, validate_slots};
 use iddqd::item_index::ItemIndex;
 use iddqd::item_set::{ItemSet, ItemSlot};
@@ -15,15 +15,19 @@ const ITEM: Option<u32> = None;
 
 const LAST: Option<u32> = Some(u32::MAX);
 
+fn slot_of(link: Option<u32>) -> ItemSlot<u32> {
+    match link {
+        Some(next) => ItemSlot::Vacant {
+            next: ItemIndex::new(next),
+        },
+        None => ItemSlot::Occupied(0),
+    }
+}
+
 fn slots_of(alloc: Global, links: &[Option<u32>]) -> Result<Vec<ItemSlot<u32>>, AllocError> {
     let mut slots = Vec::new(alloc);
     for link in links {
-        slots.push(match link {
-            Some(next) => ItemSlot::Vacant {
-                next: ItemIndex::new(*next),
-            },
-            None => ItemSlot::Occupied(0),
-        })?;
+        slots.push(slot_of(*link))?;
     }
     Ok(slots)
 }
@@ -47,12 +51,12 @@ fn assert_told(
 ) -> Result<(), AllocError> {
     for case in cases {
         let told = told_of(alloc, *case, mode)?;
-        assert!(rt; told.as_str() == case.3, "{told}");
+        assert_words(rt, told.as_str(), case.3);
     }
     Ok(())
 }
 
-const CYCLES: [Case; 3] = [
+static CYCLES: [Case; 3] = [
     (
         &[Some(0)],
         0,
@@ -79,7 +83,7 @@ fn a_chain_that_comes_back_is_told(rt: HostRuntime) -> Result<(), Fail> {
     Ok(())
 }
 
-const STRAYS: [Case; 6] = [
+static STRAYS: [Case; 6] = [
     (
         &[ITEM, LAST],
         0,
@@ -114,7 +118,7 @@ fn a_chain_that_leaves_the_vacant_slots_is_told(rt: HostRuntime) -> Result<(), F
     Ok(())
 }
 
-const MISCOUNTED: [Case; 1] = [(
+static MISCOUNTED: [Case; 1] = [(
     &[ITEM],
     u32::MAX,
     2,
@@ -127,9 +131,9 @@ fn a_wrong_number_of_items_is_told(rt: HostRuntime) -> Result<(), Fail> {
     Ok(())
 }
 
-const SOUND: [Case; 1] = [(&[LAST, ITEM, Some(0)], 2, 1, "ok")];
+static SOUND: [Case; 1] = [(&[LAST, ITEM, Some(0)], 2, 1, "ok")];
 
-const NOT_COMPACT: [Case; 1] = [(
+static NOT_COMPACT: [Case; 1] = [(
     &[LAST, ITEM, Some(0)],
     2,
     1,
@@ -157,9 +161,7 @@ fn told_of_a_gap(alloc: Global, set: &mut ItemSet<u32>) -> Result<String, AllocE
 #[test]
 fn a_set_with_a_vacant_slot_is_not_compact(rt: HostRuntime) -> Result<(), Fail> {
     let told = told_of_a_gap(rt.alloc(), &mut ItemSet::new(rt.alloc()))?;
-    assert!(rt;
-        told.as_str() == "ItemSet is not compact: 1 vacant slots",
-        "{told}"
-    );
+    let want = "ItemSet is not compact: 1 vacant slots";
+    assert_words(&rt, told.as_str(), want);
     Ok(())
 }

@@ -30,8 +30,13 @@ fn enters_and_takes_open(table: &mut OpenHashTable<u32>) -> Result<bool, AllocEr
 }
 
 #[test]
-fn a_value_is_dropped_entered_and_taken(rt: HostRuntime) -> Result<(), Fail> {
+fn the_plain_table_drops_enters_and_takes_a_value(rt: HostRuntime) -> Result<(), Fail> {
     assert!(rt; enters_and_takes_linear(&mut HashTable::new(rt.alloc()))?);
+    Ok(())
+}
+
+#[test]
+fn the_open_table_drops_enters_and_takes_a_value(rt: HostRuntime) -> Result<(), Fail> {
     assert!(rt; enters_and_takes_open(&mut OpenHashTable::new(rt.alloc()))?);
     Ok(())
 }

@@ -21,8 +21,13 @@ fn finds_under_hash_open(table: &mut OpenHashTable<u32>) -> Result<bool, AllocEr
 }
 
 #[test]
-fn a_value_is_found_under_its_own_hash(rt: HostRuntime) -> Result<(), Fail> {
+fn the_plain_table_finds_a_value_under_its_own_hash(rt: HostRuntime) -> Result<(), Fail> {
     assert!(rt; finds_under_hash_linear(&mut HashTable::new(rt.alloc()))?);
+    Ok(())
+}
+
+#[test]
+fn the_open_table_finds_a_value_under_its_own_hash(rt: HostRuntime) -> Result<(), Fail> {
     assert!(rt; finds_under_hash_open(&mut OpenHashTable::new(rt.alloc()))?);
     Ok(())
 }

@@ -41,8 +41,13 @@ fn refuses_any_vector_open(table: &mut OpenHashTable<u32>) -> Result<bool, Alloc
 }
 
 #[test]
-fn more_than_a_vector_can_hold_is_refused(rt: HostRuntime) -> Result<(), Fail> {
+fn the_plain_table_refuses_what_no_vector_can_hold(rt: HostRuntime) -> Result<(), Fail> {
     assert!(rt; refuses_any_vector_linear(&mut HashTable::new(rt.alloc()))?);
+    Ok(())
+}
+
+#[test]
+fn the_open_table_refuses_what_no_vector_can_hold(rt: HostRuntime) -> Result<(), Fail> {
     assert!(rt; refuses_any_vector_open(&mut OpenHashTable::new(rt.alloc()))?);
     Ok(())
 }
@@ -64,8 +69,13 @@ fn shrinks_to_eight_open(table: &mut OpenHashTable<u32>) -> Result<bool, AllocEr
 }
 
 #[test]
-fn a_table_shrinks_to_what_is_asked(rt: HostRuntime) -> Result<(), Fail> {
+fn the_plain_table_shrinks_to_what_is_asked(rt: HostRuntime) -> Result<(), Fail> {
     assert!(rt; shrinks_to_eight_linear(&mut HashTable::with_capacity(rt.alloc(), 16)?)?);
+    Ok(())
+}
+
+#[test]
+fn the_open_table_shrinks_to_what_is_asked(rt: HostRuntime) -> Result<(), Fail> {
     assert!(rt; shrinks_to_eight_open(&mut OpenHashTable::with_capacity(rt.alloc(), 16)?)?);
     Ok(())
 }

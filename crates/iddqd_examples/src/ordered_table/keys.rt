@@ -38,9 +38,31 @@ fn inserts_by_key(table: &mut MapBTreeTable) -> Result<bool, AllocError> {
     Ok(has_order(table, &[0, 1, 5, 3, 7]))
 }
 
+// The index that a find by the key hits.
+fn find(table: &MapBTreeTable, sought: u32) -> Option<ItemIndex> {
+    let mut asking = Asking::new(key_of);
+    table.find_index(&Same(&sought), &mut asking)
+}
+
+fn remove(table: &mut MapBTreeTable, number: u32) -> bool {
+    let ix = ItemIndex::new(number);
+    let mut asking = Asking::new(key_of);
+    table.prepare_remove(ix, &key_of(ix), &mut asking).remove()
+}
+
+// Whether searches by key hit the indexes that are there, of which 5 is removed.
+fn searches_by_key(table: &mut MapBTreeTable) -> bool {
+    find(table, 40) == Some(ItemIndex::new(3))
+        && find(table, 30).is_none()
+        && remove(table, 5)
+        && !remove(table, 4)
+        && has_order(table, &[0, 1, 3, 7])
+}
+
 #[test]
 fn equal_keys_stand_by_their_indexes(rt: HostRuntime) -> Result<(), Fail> {
-    assert!(rt; inserts_by_key(&mut MapBTreeTable::new(rt.alloc()))?);
+    let mut table = MapBTreeTable::new(rt.alloc());
+    assert!(rt; inserts_by_key(&mut table)? && searches_by_key(&mut table));
     Ok(())
 }
 

@@ -1,6 +1,7 @@
 //! Copies of a set.
 use super::{has, insert, inserts, ix, removes};
-use iddqd::item_set::{GrowError, ItemSet};
+use iddqd::index_remap::IndexRemap;
+use iddqd::item_set::{GrowError, ItemSet, ItemSlot};
 use std::alloc::AllocError;
 use std::test::Fail;
 
@@ -30,5 +31,13 @@ fn copies_the_limit(set: &mut ItemSet<u32>) -> Result<bool, AllocError> {
 #[test]
 fn a_copy_of_a_full_set_is_full(rt: HostRuntime) -> Result<(), Fail> {
     assert!(rt; copies_the_limit(&mut ItemSet::with_limit(rt.alloc(), 1))?);
+    Ok(())
+}
+
+#[test]
+fn slots_and_new_names_are_copied(rt: HostRuntime) -> Result<(), Fail> {
+    assert!(rt; ItemSlot::Occupied(7u32).clone()?.as_ref().copied() == Some(7));
+    let remap = IndexRemap::Permuted(vec![in rt.alloc(); ix(1), ix(0)]?);
+    assert!(rt; remap.clone()? == remap);
     Ok(())
 }

@@ -66,7 +66,7 @@ fn refuses_any_vector(set: &mut ItemSet<u32>) -> bool {
 }
 
 #[test]
-fn more_than_a_vector_can_hold_is_refused(rt: HostRuntime) {
+fn a_set_refuses_what_no_vector_can_hold(rt: HostRuntime) {
     assert!(rt; refuses_any_vector(&mut ItemSet::new(rt.alloc())));
 }
 
