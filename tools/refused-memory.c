@@ -46,7 +46,8 @@ static void refuse_in_turn(void) {
             }
             waitpid(child, &status, 0);
             if (status) {
-                dprintf(2, "memory: request %u%s: failed after %u refusals\n", at, row ? " and all after it" : "", *refused);
+                const char *rest = row ? " and all after it" : "";
+                dprintf(2, "memory: request %u%s: failed after %u refusals\n", at, rest, *refused);
                 _exit(1);
             }
             if (!*refused) break;
