@@ -8,6 +8,7 @@ mod linear;
 mod many;
 mod map;
 mod open;
+mod plain;
 mod sizes;
 
 const A: u32 = 97;

@@ -1,5 +1,6 @@
 //! The ordered table: where an index goes, and how often a search asks.
 mod asks;
+mod hashes;
 mod keys;
 mod lying;
 mod names;

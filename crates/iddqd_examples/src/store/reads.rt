@@ -76,3 +76,19 @@ fn has_first_live(set: &mut ItemSet<u32>) -> bool {
 fn the_first_of_equal_live_indexes_is_valid(rt: HostRuntime) {
     assert!(rt; has_first_live(&mut ItemSet::new(rt.alloc())));
 }
+
+// Whether the brackets read and write the next live index from 1 on.
+fn doubles_the_next_item(set: &mut ItemSet<u32>) -> bool {
+    let is_made = has_gaps(set);
+    let Some(at) = set.next_occupied(ix(1)) else {
+        return false;
+    };
+    let item = set[at];
+    set[at] = item.saturating_mul(2);
+    is_made && at == ix(2) && set[at] == 40
+}
+
+#[test]
+fn brackets_read_and_write_a_live_index(rt: HostRuntime) {
+    assert!(rt; doubles_the_next_item(&mut ItemSet::new(rt.alloc())));
+}
