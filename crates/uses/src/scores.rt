@@ -1,4 +1,7 @@
 //! A map in the order of its keys: its ends, and the items whose keys are between two bounds.
+ghost use Rattle.std.specs.Prelude.{◌≤◌};
+ghost use Rattle.iddqd_maps.specs.Store.{live_count};
+
 use iddqd_maps::id_ord_map::{IdOrdItem, IdOrdMap};
 use std::alloc::{AllocError, Global};
 use std::ops::Bound;
@@ -29,7 +32,15 @@ pub fn points(scores: &IdOrdMap<Score>, from: u32, below: u32) -> u32 {
     sum
 }
 
-fn script(scores: &mut IdOrdMap<Score>) -> (u32, Option<u32>) {
+/// Forgets the scores of the hours before one, and tells how many are left.
+pub fn forget_before(scores: &mut IdOrdMap<Score>, hour: u32) -> usize
+    ensures { result ≤ live_count scores.old.store }
+{
+    scores.retain(|score| score.hour >= hour);
+    scores.len()
+}
+
+fn script(scores: &mut IdOrdMap<Score>) -> (u32, Option<u32>, usize) {
     for hour in [9, 7, 8] {
         let _ = scores.insert_unique(Score {
             hour,
@@ -40,11 +51,11 @@ fn script(scores: &mut IdOrdMap<Score>) -> (u32, Option<u32>) {
         Some(score) => Some(score.hour),
         None => None,
     };
-    (points(scores, 8, 10), first)
+    (points(scores, 8, 10), first, forget_before(scores, 8))
 }
 
 /// What the calls answer.
 pub fn line(alloc: Global) -> Result<String, AllocError> {
-    let (sum, first) = script(&mut IdOrdMap::new(alloc));
-    format!(in alloc; "scores: {sum}, {first:?}")
+    let (sum, first, left) = script(&mut IdOrdMap::new(alloc));
+    format!(in alloc; "scores: {sum}, {first:?}, {left}")
 }

@@ -1,9 +1,10 @@
 //! Refusals, by what they mean to a caller: a duplicate is merged, and where room was taken ahead memory isn't refused.
-ghost use Rattle.std.specs.Prelude.{◌≡◌, ◌≤◌, OnOk, OnErr};
+ghost use Rattle.std.specs.Prelude.{◌≡◌, ◌≤◌, length, IfSome, OnOk, OnErr};
 
 use iddqd_maps::id_hash_map::{IdHashItem, IdHashMap};
 use iddqd_maps::item_index::ItemIndex;
 use iddqd_maps::refusal::InsertRefusal;
+use iddqd_maps::{ValidateCompact, ValidateRefusal, ValidationError};
 use std::alloc::{AllocError, Global};
 
 /// So many parts of a kind.
@@ -64,11 +65,45 @@ pub fn merge(stock: &mut IdHashMap<Part>, part: Part) -> Result<(), Part> {
     }
 }
 
+/// The part of a kind, which has that kind.
+pub fn part_of_kind(stock: &IdHashMap<Part>, kind: u32) -> Option<Part>
+    ensures { IfSome result (λ part. part.kind ≡ kind) }
+{
+    stock.get(&kind).copied()
+}
+
+/// Takes one part of a kind: whether there was one. The closure may be called where one is alone.
+pub fn take_one(stock: &mut IdHashMap<Part>, kind: u32) -> bool {
+    let Some(part) = stock.get(&kind) else {
+        return false;
+    };
+    if part.count == 0 {
+        return false;
+    }
+    let taken = stock.change(
+        &kind,
+        |was: &Part| Part {
+            kind: was.kind,
+            count: was.count - 1,
+        },
+    );
+    taken.is_ok()
+}
+
+/// Whether the parts stand under the indexes from 0 on, or why not.
+pub fn check(stock: &IdHashMap<Part>) -> Result<(), ValidateRefusal<ValidationError>>
+    ensures { OnOk result (length stock.now.store.free ≡ 0) }
+{
+    stock.validate(ValidateCompact::Compact)
+}
+
 fn script(alloc: Global, stock: &mut IdHashMap<Part>) -> Result<String, AllocError> {
     let first = merge(stock, Part { kind: 4, count: 2 });
     let second = merge(stock, Part { kind: 4, count: 3 });
-    let count = stock.get(&4).copied();
-    format!(in alloc; "stock: {first:?}, {second:?}, {count:?}")
+    let count = part_of_kind(stock, 4);
+    let taken = (take_one(stock, 4), take_one(stock, 5));
+    let is_dense = check(stock).is_ok();
+    format!(in alloc; "stock: {first:?}, {second:?}, {count:?}, {taken:?}, {is_dense}")
 }
 
 /// What the calls answer.

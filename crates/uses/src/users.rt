@@ -1,5 +1,5 @@
 //! Items whose key is a text of their own. A text that is lent looks them up, so none is copied for it.
-ghost use Rattle.std.specs.Prelude.{◌≡◌, ℕ, MatchOption, filter};
+ghost use Rattle.std.specs.Prelude.{◌≡◌, ◌≤◌, ℕ, MatchOption, filter};
 ghost use Rattle.iddqd_maps.specs.LiveItems.{live_pairs};
 ghost use Rattle.iddqd_maps.specs.Map.{IsOnly};
 ghost use Rattle.iddqd_maps.specs.Scan.{HasNoHit};
@@ -61,11 +61,19 @@ pub fn rename(users: &mut IdHashMap<User>, from: &str, to: String) -> &'static s
     }
 }
 
+/// Lets the user with this name go, if there is one. Then there is none.
+pub fn leave(users: &mut IdHashMap<User>, name: &str)
+    ensures { HasNoHit users.new.store (is_named name.now) }
+{
+    users.remove(name);
+}
+
 /// Lets those users go who never logged in, and tells how many stay.
 pub fn forget_idle(users: &mut IdHashMap<User>) -> usize
     ensures stay { live_pairs users.new.store
         ≡ filter (λ pair. has_logged_in pair.1) (live_pairs users.old.store) }
     ensures count { result ≡ live_count users.new.store }
+    ensures fewer { result ≤ live_count users.old.store }
 {
     users.retain(|user| user.logins != 0);
     users.len()
@@ -80,7 +88,9 @@ fn script(alloc: Global, users: &mut IdHashMap<User>) -> Result<String, AllocErr
         logins(users, "bo").is_some(),
     );
     let active = forget_idle(users);
-    format!(in alloc; "users: {first}, {second}, {third}, {found:?}, {active}")
+    leave(users, "bo");
+    let left = users.len();
+    format!(in alloc; "users: {first}, {second}, {third}, {found:?}, {active}, {left}")
 }
 
 /// What the calls answer.
