@@ -3,6 +3,7 @@ use iddqd_keyed::keyed_item::KeyedItem;
 use iddqd_keyed::keyed_items::{KeyedItems, ReplaceRefusal};
 use iddqd_maps::hash_builder::DefaultHashBuilder;
 use std::alloc::{AllocError, Global};
+use std::ops::Bound;
 
 /// A guest. Names are unique, and so are arrivals.
 #[derive(Drop)]
@@ -68,6 +69,21 @@ pub fn names(alloc: Global, guests: &Guests) -> Result<String, AllocError> {
     Ok(names)
 }
 
+/// How many guests came from one time on, up to another one.
+pub fn came_within(guests: &Guests, from: u32, below: u32) -> usize {
+    guests
+        .range_by_key2(Bound::Included(&from), Bound::Excluded(&below))
+        .count()
+}
+
+/// Lets a guest go, and tells when the guest came.
+pub fn leave(guests: &mut Guests, name: &str) -> Option<u32> {
+    match guests.remove1_by(name) {
+        Some((_, guest)) => Some(guest.arrival),
+        None => None,
+    }
+}
+
 fn script(alloc: Global, guests: &mut Guests) -> Result<String, AllocError> {
     for (name, arrival) in [("ada", 30), ("bo", 10), ("cy", 20)] {
         let name = String::from_str(alloc, name)?;
@@ -77,7 +93,9 @@ fn script(alloc: Global, guests: &mut Guests) -> Result<String, AllocError> {
     let told = set_arrival(alloc, guests, "bo", 40)?;
     let refused = set_arrival(alloc, guests, "cy", 40)?;
     let is = names(alloc, guests)?;
-    format!(in alloc; "guests:{was}, {told}, {refused},{is}")
+    let late = came_within(guests, 25, 50);
+    let left = leave(guests, "ada");
+    format!(in alloc; "guests:{was}, {told}, {refused},{is}, {late}, {left:?}")
 }
 
 /// What the calls answer.

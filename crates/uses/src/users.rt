@@ -61,14 +61,14 @@ pub fn rename(users: &mut IdHashMap<User>, from: &str, to: String) -> &'static s
     }
 }
 
-/// Lets the user with this name go, if there is one. Then there is none.
+/// Removes the user with this name, if there is one. Then there is none.
 pub fn leave(users: &mut IdHashMap<User>, name: &str)
     ensures { HasNoHit users.new.store (is_named name.now) }
 {
     users.remove(name);
 }
 
-/// Lets those users go who never logged in, and tells how many stay.
+/// Removes the users who never logged in, and returns how many stay.
 pub fn forget_idle(users: &mut IdHashMap<User>) -> usize
     ensures stay { live_pairs users.new.store
         ≡ filter (λ pair. has_logged_in pair.1) (live_pairs users.old.store) }

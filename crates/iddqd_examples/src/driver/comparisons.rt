@@ -36,8 +36,8 @@ fn answer(
 // The index of the item that was removed, if its keys are the number.
 fn removed(removed: Option<(ItemIndex, Item)>, number: u32) -> Option<ItemIndex> {
     match removed {
-        Some((ix, item)) if item.has(number) => Some(ix),
-        _ => None,
+        Some((ix, item)) => item.has(number).then_some(ix),
+        None => None,
     }
 }
 

@@ -29,13 +29,6 @@ pub(crate) fn ix(number: u32) -> ItemIndex {
     ItemIndex::new(number)
 }
 
-#[derive(Drop)]
-enum Call {
-    Command(Command<Pair>),
-    Get(ItemIndex),
-    Validate(ValidateCompact, ValidateChaos),
-}
-
 /// The call of a line, and its answer.
 pub(crate) fn halves<'a>(rt: &impl Abort, line: &'a str) -> (&'a str, &'a str) {
     match line.split_once(": ") {
@@ -69,14 +62,14 @@ fn numbers(rt: &impl Abort, text: &str) -> [u32; 3] {
     numbers
 }
 
-// The check in these modes.
-fn check(rt: &impl Abort, modes: &str) -> Call {
-    match modes {
-        "compact yes" => Call::Validate(ValidateCompact::Compact, ValidateChaos::Yes),
-        "compact no" => Call::Validate(ValidateCompact::Compact, ValidateChaos::No),
-        "gaps yes" => Call::Validate(ValidateCompact::NonCompact, ValidateChaos::Yes),
-        "gaps no" => Call::Validate(ValidateCompact::NonCompact, ValidateChaos::No),
-        _ => panic!(rt; "{modes} are no modes"),
+// The modes of a check.
+fn modes(rt: &impl Abort, words: &str) -> (ValidateCompact, ValidateChaos) {
+    match words {
+        "compact yes" => (ValidateCompact::Compact, ValidateChaos::Yes),
+        "compact no" => (ValidateCompact::Compact, ValidateChaos::No),
+        "gaps yes" => (ValidateCompact::NonCompact, ValidateChaos::Yes),
+        "gaps no" => (ValidateCompact::NonCompact, ValidateChaos::No),
+        _ => panic!(rt; "{words} are no modes"),
     }
 }
 
@@ -97,15 +90,9 @@ fn command(rt: &impl Abort, call: &str) -> Command<Pair> {
     }
 }
 
-fn parse(rt: &impl Abort, call: &str) -> Call {
-    if let Some(modes) = call.strip_prefix("validate ") {
-        return check(rt, modes);
-    }
-    if call.starts_with("get ") {
-        let (_, [number, _, _]) = words(rt, call);
-        return Call::Get(ix(number));
-    }
-    Call::Command(command(rt, call))
+// Whether the call is one that a command makes.
+fn is_command(call: &str) -> bool {
+    !call.starts_with("get ") && !call.starts_with("validate ")
 }
 
 // What the call of that name answers to the command.
@@ -133,16 +120,22 @@ pub(crate) fn printed<T: Debug>(alloc: Global, value: &T) -> Result<String, Allo
     format!(in alloc; "{value:?}")
 }
 
+// What the call answers, printed.
 fn answer<S: BuildHasher>(
+    rt: &impl Abort,
     alloc: Global,
     items: &mut KeyedItems<Pair, S>,
-    call: Call,
+    call: &str,
 ) -> Result<String, AllocError> {
-    match call {
-        Call::Command(command) => printed(alloc, &reply(alloc, items, command)?),
-        Call::Get(ix) => printed(alloc, &get(items, ix)),
-        Call::Validate(compactness, chaos) => validate(alloc, items, compactness, chaos),
+    if let Some(words) = call.strip_prefix("validate ") {
+        let (compactness, chaos) = modes(rt, words);
+        return validate(alloc, items, compactness, chaos);
     }
+    if !is_command(call) {
+        let (_, [number, _, _]) = words(rt, call);
+        return printed(alloc, &get(items, ix(number)));
+    }
+    printed(alloc, &reply(alloc, items, command(rt, call))?)
 }
 
 /// The answer is the one that the line wants.
@@ -159,19 +152,10 @@ pub(super) fn assert_calls<S: BuildHasher>(
 ) -> Result<(), AllocError> {
     for line in script.lines() {
         let (call, want) = halves(rt, line);
-        let answer = answer(alloc, items, parse(rt, call))?;
+        let answer = answer(rt, alloc, items, call)?;
         assert_answer(rt, &answer, want, line);
     }
     Ok(())
-}
-
-// The command of the line, where its call has one.
-fn command_of(rt: &impl Abort, line: &str) -> Option<Command<Pair>> {
-    let (call, _) = halves(rt, line);
-    match parse(rt, call) {
-        Call::Command(command) => Some(command),
-        Call::Get(_) | Call::Validate(_, _) => None,
-    }
 }
 
 fn commands(
@@ -181,8 +165,9 @@ fn commands(
 ) -> Result<Vec<Command<Pair>>, AllocError> {
     let mut commands = Vec::new(alloc);
     for line in script.lines() {
-        if let Some(command) = command_of(rt, line) {
-            commands.push(command)?;
+        let (call, _) = halves(rt, line);
+        if is_command(call) {
+            commands.push(command(rt, call))?;
         }
     }
     Ok(commands)
@@ -196,13 +181,13 @@ fn assert_replies(
 ) -> Result<(), AllocError> {
     let mut replies = replies.iter();
     for line in script.lines() {
-        if command_of(rt, line).is_none() {
+        let (call, want) = halves(rt, line);
+        if !is_command(call) {
             continue;
         }
         let Some(reply) = replies.next() else {
             panic!(rt; "no reply to {line}");
         };
-        let (_, want) = halves(rt, line);
         assert_answer(rt, &printed(alloc, reply)?, want, line);
     }
     assert!(rt; replies.next().is_none());
