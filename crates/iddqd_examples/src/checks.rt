@@ -1,6 +1,5 @@
 //! The checks of raw parts: the first one that fails is told in words.
 mod indexes;
-mod printed;
 mod slots;
 
 use iddqd::internal::ValidateRefusal;
