@@ -1,3 +1,4 @@
 pub mod BiLemmas
 pub mod ClashLemmas
 pub mod BiEqualityLemmas
+pub mod ModifyLemmas
