@@ -139,7 +139,7 @@ module _ {O : Type 0} (g : sink.Ghosts O) (hasher : BuildHasherDefault FoldHashe
       }
 
   -- all whole lines that were read are
-  failed_read : (input : List ℕ) (left : Option (List ℕ)) (seen : List ℕ) (new : Moment (BuildHasherDefault FoldHasher) O) (kept : List ℕ) → Consumes (Some input) left seen → Feeds default_hash g start [] seen (Ok tt) new kept → new.waits ≡ [] → ServesUntil (Err Read) input left (g.written output) (g.written new.output)
+  failed_read : (input : List ℕ) (left : Option (List ℕ)) (seen : List ℕ) (new : Moment (BuildHasherDefault FoldHasher) O) (kept : Option (List ℕ)) → Consumes (Some input) left seen → Feeds default_hash g start [] seen (Ok tt) new kept → new.waits ≡ [] → ServesUntil (Err Read) input left (g.written output) (g.written new.output)
   failed_read input left seen new kept taken f none =
       let o = f.obeys in
       let keeps = f.keeps in
@@ -174,41 +174,41 @@ module _ {O : Type 0} (g : sink.Ghosts O) (hasher : BuildHasherDefault FoldHashe
       }
 
   -- and so where the bytes that were read end them
-  failed_feed : (e : Unit {0}) (input : List ℕ) (left : Option (List ℕ)) (seen : List ℕ) (new : Moment (BuildHasherDefault FoldHasher) O) (kept : List ℕ) → Consumes (Some input) left seen → Feeds default_hash g start [] seen (Err e) new kept → ServesUntil (Err Write) input left (g.written output) (g.written new.output)
+  failed_feed : (e : Unit {0}) (input : List ℕ) (left : Option (List ℕ)) (seen : List ℕ) (new : Moment (BuildHasherDefault FoldHasher) O) (kept : Option (List ℕ)) → Consumes (Some input) left seen → Feeds default_hash g start [] seen (Err e) new kept → ServesUntil (Err Write) input left (g.written output) (g.written new.output)
   failed_feed e input left seen new kept taken f =
       let r = Consumes-rest input left seen taken in
       failed_write e input left f.done (lines_of (f.left ++ r.0)) new f.obeys
       (ap lines_of (r.1 ∙ ap (λ l. l ++ r.0) f.bytes_are ∙ append_assoc (ended f.done) f.left r.0) ∙ lines_of-ended f.done (f.left ++ r.0) f.each_one_line)
 
   -- where the line that had begun is answered too, all lines are
-  all_lines : (input : List ℕ) (left after : Option (List ℕ)) (count : ℕ) (now new : Moment (BuildHasherDefault FoldHasher) O) (kept : List ℕ) (r : Result (Unit {0}) (Unit {0})) → Reads default_hash g start input left count now kept → Consumes left after [] → IsAtEnd after → ((line : List ℕ) → IsKept kept line → Obeys default_hash g now (lines_of line) r new) → Obeys default_hash g start (lines_of input) r new
+  all_lines : (input : List ℕ) (left after : Option (List ℕ)) (count : ℕ) (now new : Moment (BuildHasherDefault FoldHasher) O) (kept : Option (List ℕ)) (r : Result (Unit {0}) (Unit {0})) → Reads default_hash g start input left count now kept → Consumes left after [] → IsAtEnd after → ((line : List ℕ) → IsKept kept line → Obeys default_hash g now (lines_of line) r new) → Obeys default_hash g start (lines_of input) r new
   all_lines input left after count now new kept r reads taken at_end finishes =
       let f = reads.feeds in
       let all : input ≡ ended f.done ++ f.left = Consumes-all input after (reads.seen ++ []) (Consumes-trans (Some input) left after reads.seen [] reads.taken taken) at_end ∙ append-nil reads.seen ∙ f.bytes_are in
       let lines : lines_of input ≡ f.done ++ lines_of f.left = ap lines_of all ∙ lines_of-ended f.done f.left f.each_one_line in
       subst (λ ls. Obeys default_hash g start ls r new) (sym lines) (Obeys-append default_hash g start now new f.done (lines_of f.left) r f.obeys (finishes f.left f.keeps))
 
-  pub ends : (told left after : Option (List ℕ)) (count : ℕ) (now new : Moment (BuildHasherDefault FoldHasher) O) (kept : List ℕ) → IfSome told (λ bytes. Reads default_hash g start bytes left count now kept) → Consumes left after [] → IsAtEnd after → ((line : List ℕ) → IsKept kept line → Obeys default_hash g now (lines_of line) (Ok tt) new) → new.waits ≡ [] → IfSome told (λ bytes. ServesUntil (Ok tt) bytes after (g.written output) (g.written new.output))
+  pub ends : (told left after : Option (List ℕ)) (count : ℕ) (now new : Moment (BuildHasherDefault FoldHasher) O) (kept : Option (List ℕ)) → IfSome told (λ bytes. Reads default_hash g start bytes left count now kept) → Consumes left after [] → IsAtEnd after → ((line : List ℕ) → IsKept kept line → Obeys default_hash g now (lines_of line) (Ok tt) new) → new.waits ≡ [] → IfSome told (λ bytes. ServesUntil (Ok tt) bytes after (g.written output) (g.written new.output))
   ends None left after count now new kept reads taken at_end finishes none = tt
   ends (Some input) left after count now new kept reads taken at_end finishes none =
       end_of_input input after new (all_lines input left after count now new kept (Ok tt) reads taken at_end finishes) none
 
-  pub ends_at_finish : (e : Unit {0}) (told left after : Option (List ℕ)) (count : ℕ) (now new : Moment (BuildHasherDefault FoldHasher) O) (kept : List ℕ) → IfSome told (λ bytes. Reads default_hash g start bytes left count now kept) → Consumes left after [] → IsAtEnd after → ((line : List ℕ) → IsKept kept line → Obeys default_hash g now (lines_of line) (Err e) new) → IfSome told (λ bytes. ServesUntil (Err Write) bytes after (g.written output) (g.written new.output))
+  pub ends_at_finish : (e : Unit {0}) (told left after : Option (List ℕ)) (count : ℕ) (now new : Moment (BuildHasherDefault FoldHasher) O) (kept : Option (List ℕ)) → IfSome told (λ bytes. Reads default_hash g start bytes left count now kept) → Consumes left after [] → IsAtEnd after → ((line : List ℕ) → IsKept kept line → Obeys default_hash g now (lines_of line) (Err e) new) → IfSome told (λ bytes. ServesUntil (Err Write) bytes after (g.written output) (g.written new.output))
   ends_at_finish e None left after count now new kept reads taken at_end finishes = tt
   ends_at_finish e (Some input) left after count now new kept reads taken at_end finishes =
       failed_write e input after (lines_of input) [] new (all_lines input left after count now new kept (Err e) reads taken at_end finishes) (sym (append-nil (lines_of input)))
 
-  pub ends_at_read : (told left after : Option (List ℕ)) (count : ℕ) (now : Moment (BuildHasherDefault FoldHasher) O) (kept : List ℕ) → IfSome told (λ bytes. Reads default_hash g start bytes left count now kept) → Keeps left after → now.waits ≡ [] → IfSome told (λ bytes. ServesUntil (Err Read) bytes after (g.written output) (g.written now.output))
+  pub ends_at_read : (told left after : Option (List ℕ)) (count : ℕ) (now : Moment (BuildHasherDefault FoldHasher) O) (kept : Option (List ℕ)) → IfSome told (λ bytes. Reads default_hash g start bytes left count now kept) → Keeps left after → now.waits ≡ [] → IfSome told (λ bytes. ServesUntil (Err Read) bytes after (g.written output) (g.written now.output))
   ends_at_read None left after count now kept reads none_taken none = tt
   ends_at_read (Some input) left after count now kept reads none_taken none =
       failed_read input after reads.seen now kept (Consumes-kept (Some input) left after reads.seen reads.taken none_taken) reads.feeds none
 
-  pub ends_at_flush : (e : Unit {0}) (told left : Option (List ℕ)) (count : ℕ) (now : Moment (BuildHasherDefault FoldHasher) O) (kept : List ℕ) (last : O) (waits : List ℕ) → IfSome told (λ bytes. Reads default_hash g start bytes left count now kept) → Sends {E = Unit {0}} g now.output now.waits [] (Err e) last waits → IfSome told (λ bytes. ServesUntil (Err Write) bytes left (g.written output) (g.written last))
+  pub ends_at_flush : (e : Unit {0}) (told left : Option (List ℕ)) (count : ℕ) (now : Moment (BuildHasherDefault FoldHasher) O) (kept : Option (List ℕ)) (last : O) (waits : List ℕ) → IfSome told (λ bytes. Reads default_hash g start bytes left count now kept) → Sends {E = Unit {0}} g now.output now.waits [] (Err e) last waits → IfSome told (λ bytes. ServesUntil (Err Write) bytes left (g.written output) (g.written last))
   ends_at_flush e None left count now kept last waits reads flushed = tt
   ends_at_flush e (Some input) left count now kept last waits reads flushed =
       failed_feed e input left reads.seen (moment now.items last waits) kept reads.taken (Feeds-flush default_hash g start now [] reads.seen kept last waits (Err e) reads.feeds flushed)
 
-  pub ends_at_feed : (e : Unit {0}) (told left after : Option (List ℕ)) (count : ℕ) (now new : Moment (BuildHasherDefault FoldHasher) O) (kept last bytes : List ℕ) → IfSome told (λ all. Reads default_hash g start all left count now kept) → Consumes left after bytes → ((line : List ℕ) → IsKept kept line → Feeds default_hash g now line bytes (Err e) new last) → IfSome told (λ all. ServesUntil (Err Write) all after (g.written output) (g.written new.output))
+  pub ends_at_feed : (e : Unit {0}) (told left after : Option (List ℕ)) (count : ℕ) (now new : Moment (BuildHasherDefault FoldHasher) O) (kept last : Option (List ℕ)) (bytes : List ℕ) → IfSome told (λ all. Reads default_hash g start all left count now kept) → Consumes left after bytes → ((line : List ℕ) → IsKept kept line → Feeds default_hash g now line bytes (Err e) new last) → IfSome told (λ all. ServesUntil (Err Write) all after (g.written output) (g.written new.output))
   ends_at_feed e None left after count now new kept last bytes reads taken fed = tt
   ends_at_feed e (Some input) left after count now new kept last bytes reads taken fed =
       let f = reads.feeds in
@@ -216,7 +216,7 @@ module _ {O : Type 0} (g : sink.Ghosts O) (hasher : BuildHasherDefault FoldHashe
       (Feeds-append default_hash g start now new [] reads.seen bytes kept last (Err e) f (fed f.left f.keeps))
 
 -- so many reads that the bytes are too many
-pub fails_late : {S O : Type 0} (hash : S → ℕ → ℕ) (g : sink.Ghosts O) (old : Moment S O) (told left : Option (List ℕ)) (count : ℕ) (now : Moment S O) (kept : List ℕ) (reading writing : Bool) → IfSome told (λ bytes. Reads hash g old bytes left count now kept) → most_reads ≤ count → writing ≡ false → FailsAt (Err Read) told reading writing
+pub fails_late : {S O : Type 0} (hash : S → ℕ → ℕ) (g : sink.Ghosts O) (old : Moment S O) (told left : Option (List ℕ)) (count : ℕ) (now : Moment S O) (kept : Option (List ℕ)) (reading writing : Bool) → IfSome told (λ bytes. Reads hash g old bytes left count now kept) → most_reads ≤ count → writing ≡ false → FailsAt (Err Read) told reading writing
 fails_late hash g old None left count now kept reading writing reads late not_failed = (tt, not_failed)
 fails_late hash g old (Some input) left count now kept reading writing reads late not_failed =
     let r = Consumes-rest input left reads.seen reads.taken in

@@ -1,37 +1,27 @@
 -- How much of a line is kept.
-use Rattle.std.proofs.Common.{◌≡◌, ◌++◌, ◌-◌, ◌<◌, ◌≤◌, ◌⊎◌, ℕ, zero, suc, min, List, [], ◌∷◌, length, take, refl, sym, ap, ◌∙◌, inl, inr, arith, length-append, append-nil, take_all}
-use Rattle.std.proofs.lemmas.Bool.{cases_lt}
-use Rattle.std.proofs.lemmas.List.{length-take-le}
+use Rattle.std.proofs.Common.{◌≡◌, ◌++◌, ◌<◌, ℕ, Bool, true, false, cond, List, length, nat_le, Some, None, refl, sym, arith, length-append}
+use Rattle.std.specs.Option.{option_and_then}
+use Rattle.std.proofs.lemmas.Bool.Decides.{nat_tests}
+use Rattle.iddqd_lines.specs.Line.{max_line}
+use Rattle.iddqd_lines.specs.Serve.{kept_of}
 
--- the kept beginning of a line and more bytes
-pub take-kept : (n : ℕ) (xs ys : List ℕ) → take n (take n xs ++ ys) ≡ take n (xs ++ ys)
-take-kept zero xs ys = refl
-take-kept (suc n) [] ys = refl
-take-kept (suc n) (x ∷ xs) ys = ap (λ l. x ∷ l) (take-kept n xs ys)
+kept_of-long : (line : List ℕ) → 128 < length line → kept_of line ≡ None
+kept_of-long line long = let fits : nat_le (length line) max_line ≡ false = grind (arith, nat_tests, long) in rw fits refl
 
-pub take-take : (n : ℕ) (xs : List ℕ) → take n (take n xs) ≡ take n xs
-take-take n xs = ap (take n) (sym (append-nil (take n xs))) ∙ take-kept n xs [] ∙ ap (take n) (append-nil xs)
+-- a line and more bytes: what is kept of both goes by what is kept of the line
+pub kept_of-append : (line more : List ℕ) → option_and_then (λ begun. kept_of (begun ++ more)) (kept_of line) ≡ kept_of (line ++ more)
+kept_of-append line more = by_length (nat_le (length line) max_line) refl
+  where
+    by_length : (fits : Bool) → nat_le (length line) max_line ≡ fits → option_and_then (λ begun. kept_of (begun ++ more)) (cond fits (Some line) None) ≡ kept_of (line ++ more)
+    by_length true is = refl
+    by_length false is =
+        let long : 128 < length line = grind (arith, nat_tests, is) in
+        sym (kept_of-long (line ++ more) (omega (arith, long, length-append line more)))
 
--- what is taken of a list and more behind it
-take-append : (n : ℕ) (xs ys : List ℕ) → length xs ≤ n → take n (xs ++ ys) ≡ xs ++ take (n - length xs) ys
-take-append n [] ys fits = ap (λ k. take k ys) (omega arith)
-take-append zero (x ∷ xs) ys fits = absurd (omega arith)
-take-append (suc n) (x ∷ xs) ys fits = ap (λ l. x ∷ l) (take-append n xs ys (omega arith) ∙ ap (λ k. xs ++ take k ys) (omega arith))
-
-module _ (block : List ℕ) (len : ℕ) (old bytes : List ℕ) (most i : ℕ) (told : length block ≡ 129) (small : len ≤ 129) (view : take len block ≡ old) (bound : most ≡ min (length bytes) (129 - len)) where
-  old_length : length old ≡ len
-  old_length = ap length (sym view) ∙ length-take-le len block (omega arith)
-
-  pub kept_fits : i < length (take most bytes) → length (old ++ take i (take most bytes)) < 129
-  kept_fits within =
-      omega (arith, length-append old (take i (take most bytes)), length-take-le i (take most bytes) (omega arith), length-take-le most bytes (omega arith), old_length)
-
-  pub kept_all : length (take most bytes) ≤ i → old ++ take i (take most bytes) ≡ take 129 (old ++ bytes)
-  kept_all past =
-      let all : take i (take most bytes) ≡ take most bytes = take_all i (take most bytes) past in
-      let whole : take 129 (old ++ bytes) ≡ old ++ take (129 - length old) bytes = take-append 129 old bytes (omega (arith, old_length)) in
-      ap (λ l. old ++ l) (all ∙ same (cases_lt (length bytes) (129 - len))) ∙ sym whole
-    where
-      same : ((length bytes < 129 - len) ⊎ (129 - len ≤ length bytes)) → take most bytes ≡ take (129 - length old) bytes
-      same (inl short) = take_all most bytes (omega arith) ∙ sym (take_all (129 - length old) bytes (omega (arith, old_length)))
-      same (inr long) = let equal : most ≡ 129 - length old = omega (arith, old_length) in ap (λ k. take k bytes) equal
+-- a line of which all is kept is that
+pub kept_of-some : (line out : List ℕ) → kept_of line ≡ Some out → line ≡ out
+kept_of-some line out is = by_length (nat_le (length line) max_line) is
+  where
+    by_length : (fits : Bool) → cond fits (Some line) None ≡ Some out → line ≡ out
+    by_length true same = cc
+    by_length false same = absurd (cc)

@@ -1,22 +1,21 @@
 -- Numbers and words of a line.
-use Rattle.std.proofs.Common.{◌≡◌, ◌&&◌, ◌+◌, ◌*◌, ◌-◌, ◌^◌, ◌<◌, ◌≤◌, ◌⊎◌, ℕ, Bool, true, false, cond, List, [], ◌∷◌, ◌++◌, length, take, drop, get_or, nat_lt, nat_le, Option, Some, None, codes, refl, sym, ap, ◌∙◌, inl, inr, arith, take_all, length-append}
+use Rattle.std.proofs.Common.{◌≡◌, ◌&&◌, ◌+◌, ◌*◌, ◌-◌, ◌^◌, ◌<◌, ◌≤◌, ℕ, Bool, true, false, cond, List, [], ◌∷◌, ◌++◌, length, take, drop, get_or, nat_lt, nat_le, Option, Some, None, codes, refl, sym, ap, arith, length-append}
 use Rattle.std.specs.List.{list_all, slice_split}
 use Rattle.std.specs.Option.{option_map, option_and_then}
 use Rattle.std.specs.Char.{is_ascii_digit, digit_value}
 use Rattle.std.specs.Fmt.{decimal}
 use Rattle.std.specs.Str.{bytes_eq}
 use Rattle.std.specs.Str.Parse.{digits_value, digits_value_after}
-use Rattle.std.proofs.lemmas.Bool.{cases_lt}
 use Rattle.std.proofs.lemmas.Bool.Decides.{nat_tests, same_from_decides}
 use Rattle.std.proofs.lemmas.Slice.Eq.{bytes_eq-Decides}
 use Rattle.std.proofs.lemmas.Fmt.{length-decimal-le}
-use Rattle.std.proofs.lemmas.List.{take-append-drop, length-take-le}
+use Rattle.std.proofs.lemmas.List.{take-append-drop}
 use Rattle.std.proofs.lemmas.Int.Digits.{digits_value_more}
 use Rattle.std.proofs.lemmas.List.Folds.{list_all_more}
 use Rattle.std.proofs.lemmas.List.Splits.{length-slice_split}
 use Rattle.iddqd.specs.Validation.{not_compact_text}
 use Rattle.iddqd_lines.specs.Line.{max_line, is_space, number_of, numbers_of, only, command_for, request_of}
-use Rattle.iddqd_lines.specs.declared.line_buffer.TheConstants.{KEPT}
+use Rattle.iddqd_lines.specs.Serve.{kept_of}
 
 -- three tests and what they choose
 chosen : (a b c : Bool) (x : Option ℕ) → a ≡ true → b ≡ true → c ≡ true → cond ((a && b) && c) x None ≡ x
@@ -115,24 +114,19 @@ not_four_numbers verb a b c word rest is not_one = rw (← is) (by_numbers (numb
     by_numbers (Some (n ∷ m ∷ ns)) some not_one = refl
 
 -- what is too long for a line is no request
-long_line : (line : List ℕ) → KEPT ≤ length line → request_of line ≡ None
-long_line line long =
-    let over : nat_le (length line) max_line ≡ false = grind (arith, nat_tests, long) in
+long_line : (line : List ℕ) → nat_le (length line) max_line ≡ false → request_of line ≡ None
+long_line line over =
+    let long : max_line < length line = grind (arith, nat_tests, over) in
     let other : bytes_eq line (codes "validate") ≡ false = same_from_decides (bytes_eq line (codes "validate")) false (bytes_eq-Decides line (codes "validate")) ((λ never. absurd (cc)), (λ same. absurd (omega (arith, ap length same)))) in
-    rw (other, over)
+    rw (other, over) refl
 
--- a request goes by the bytes of its line that are kept
-pub request_of-kept : (kept whole : List ℕ) → take KEPT kept ≡ take KEPT whole → request_of kept ≡ request_of whole
-request_of-kept kept whole same = by_length (cases_lt (length kept) KEPT) (cases_lt (length whole) KEPT)
+-- a request goes by what is kept of its line
+pub request_of-kept : (line : List ℕ) → option_and_then request_of (kept_of line) ≡ request_of line
+request_of-kept line = by_length (nat_le (length line) max_line) refl
   where
-    kept_length : length (take KEPT kept) ≡ length (take KEPT whole)
-    kept_length = ap length same
-
-    by_length : ((length kept < KEPT) ⊎ (KEPT ≤ length kept)) → ((length whole < KEPT) ⊎ (KEPT ≤ length whole)) → request_of kept ≡ request_of whole
-    by_length (inl short) (inl also_short) = ap request_of (sym (take_all KEPT kept (omega arith)) ∙ same ∙ take_all KEPT whole (omega arith))
-    by_length (inl short) (inr long) = absurd (omega (arith, kept_length, length-take-le KEPT whole long, ap length (take_all KEPT kept (omega arith))))
-    by_length (inr long) (inl short) = absurd (omega (arith, kept_length, length-take-le KEPT kept long, ap length (take_all KEPT whole (omega arith))))
-    by_length (inr long) (inr also_long) = long_line kept long ∙ sym (long_line whole also_long)
+    by_length : (fits : Bool) → nat_le (length line) max_line ≡ fits → option_and_then request_of (cond fits (Some line) None) ≡ request_of line
+    by_length true is = refl
+    by_length false is = sym (long_line line is)
 
 -- what is said of vacant slots is short
 pub short_text : (vacant : ℕ) → vacant < 10 ^ 10 → length (not_compact_text vacant) < 64

@@ -1,7 +1,7 @@
 -- How the answers to lines join, over all reads of an input.
-use Rattle.std.proofs.Common.{◌≡◌, ◌≢◌, ◌==◌, ◌+◌, ◌<◌, ◌≤◌, true, false, true≢false, Result, Ok, Err, OnOk, IsErr, ℕ, zero, suc, Option, Some, None, IfSome, MatchOption, List, [], ◌∷◌, ◌++◌, length, take, codes, refl, sym, ap, subst, ◌∙◌, append_assoc, append-nil, arith, length-append}
-use borrow.Author.Tests.{eqb-true}
+use Rattle.std.proofs.Common.{◌≡◌, ◌≢◌, ◌==◌, ◌+◌, ◌<◌, ◌≤◌, false, Result, Ok, Err, OnOk, IsErr, ℕ, zero, suc, Option, Some, None, IfSome, MatchOption, List, [], ◌∷◌, ◌++◌, length, codes, refl, sym, ap, subst, ◌∙◌, append_assoc, append-nil, arith, length-append}
 use Rattle.std.specs.Io.KnownBytes.{Consumes}
+use Rattle.std.specs.Option.{option_and_then}
 use Rattle.std.proofs.lemmas.List.Elements.{All-append, All-nil, All-cons}
 use Rattle.std.proofs.lemmas.List.Splits.{slice_split_none}
 use Rattle.iddqd_keyed.specs.State.{State, empty_state}
@@ -9,26 +9,33 @@ use Rattle.iddqd_lines.specs.Line.{line_feed, is_line_feed, lines_of, without_em
 use Rattle.iddqd_lines.specs.Split.{HasNo, IsCut}
 use Rattle.iddqd_lines.specs.Replies.{Sends}
 use Rattle.iddqd_lines.specs.Program.{AnswersRequest, Line, Serves}
-use Rattle.iddqd_lines.specs.Serve.{Moment, moment, ended, IsKept, Tells, Obeys, Feeds}
+use Rattle.iddqd_lines.specs.Serve.{Moment, moment, ended, kept_of, IsKept, Tells, Obeys, Feeds}
 use Rattle.iddqd_keyed.specs.declared.command.Command.{Command}
 use Rattle.iddqd_lines.specs.declared.line.Request.{Request}
-use Rattle.iddqd_lines.specs.declared.line_buffer.TheConstants.{KEPT}
 use Rattle.iddqd_lines.specs.declared.record.Record.{Record}
 use Rattle.iddqd_lines.specs.declared.sink.Sink as sink
 use Rattle.iddqd_lines.proofs.ByteLemmas.{Sends-put, Sends-then, Sends-last, Consumes-trans}
 use Rattle.iddqd_lines.proofs.LineLemmas.{request_of-kept}
-use Rattle.iddqd_lines.proofs.LineBufferLemmas.{take-kept, take-take}
+use Rattle.iddqd_lines.proofs.LineBufferLemmas.{kept_of-append, kept_of-some}
+
+-- the request that a line is which had begun and goes on
+pub request_of-more : (kept : Option (List ℕ)) (line more : List ℕ) → kept ≡ kept_of line → option_and_then request_of (option_and_then (λ begun. kept_of (begun ++ more)) kept) ≡ request_of (line ++ more)
+request_of-more kept line more is = rw (is, kept_of-append line more) (request_of-kept (line ++ more))
+
+-- that of a line which has begun
+pub request_of-begun : (kept : Option (List ℕ)) (line : List ℕ) → kept ≡ kept_of line → option_and_then request_of kept ≡ request_of line
+request_of-begun kept line is = rw is (request_of-kept line)
 
 module _ {S : Type 0} (hash : S → ℕ → ℕ) where
   -- a request's line is answered
-  pub Line-request : (old new : State Record S) (kept line out : List ℕ) (request : Request (Command Record ℕ ℕ)) → take KEPT kept ≡ take KEPT line → Some request ≡ request_of kept → AnswersRequest hash old out new request → Line hash old line out new
-  Line-request old new kept line out request same is answers =
-      subst (λ o. MatchOption o ((out ≡ codes "bad line") × (new ≡ old)) (AnswersRequest hash old out new)) (is ∙ request_of-kept kept line same) answers
+  pub Line-request : (old new : State Record S) (line out : List ℕ) (request : Request (Command Record ℕ ℕ)) → Some request ≡ request_of line → AnswersRequest hash old out new request → Line hash old line out new
+  Line-request old new line out request is answers =
+      subst (λ o. MatchOption o ((out ≡ codes "bad line") × (new ≡ old)) (AnswersRequest hash old out new)) is answers
 
   -- and so is any other
-  pub Line-other : (old : State Record S) (kept line : List ℕ) → take KEPT kept ≡ take KEPT line → None ≡ request_of kept → Line hash old line (codes "bad line") old
-  Line-other old kept line same is =
-      subst (λ o. MatchOption o ((codes "bad line" ≡ codes "bad line") × (old ≡ old)) (AnswersRequest hash old (codes "bad line") old)) (is ∙ request_of-kept kept line same) (refl, refl)
+  pub Line-other : (old : State Record S) (line : List ℕ) → None ≡ request_of line → Line hash old line (codes "bad line") old
+  Line-other old line is =
+      subst (λ o. MatchOption o ((codes "bad line" ≡ codes "bad line") × (old ≡ old)) (AnswersRequest hash old (codes "bad line") old)) is (refl, refl)
 
   -- some lines, and then others
   pub Serves-append : (old mid new : State Record S) (lines more : List (List ℕ)) (bytes rest : List ℕ) → Serves hash old lines bytes mid → Serves hash mid more rest new → Serves hash old (lines ++ more) (bytes ++ rest) new
@@ -59,9 +66,9 @@ module _ {S O : Type 0} (hash : S → ℕ → ℕ) (g : sink.Ghosts O) where
       record { out = out ++ line_feed ∷ []; serves = (out, new.items, [], answers, refl, (refl, refl)); sends = sends }
 
   -- a line's request is answered
-  pub Obeys-request : (old new : Moment S O) (kept line : List ℕ) (request : Request (Command Record ℕ ℕ)) (r : Result (Unit {0}) (Unit {0})) → take KEPT kept ≡ take KEPT line → Some request ≡ request_of kept → Tells hash g old request r new → Obeys hash g old (line ∷ []) r new
-  Obeys-request old new kept line request r same is tells =
-      Obeys-line old new line tells.out r (Line-request hash old.items new.items kept line tells.out request same is tells.answers) tells.sends
+  pub Obeys-request : (old new : Moment S O) (line : List ℕ) (request : Request (Command Record ℕ ℕ)) (r : Result (Unit {0}) (Unit {0})) → Some request ≡ request_of line → Tells hash g old request r new → Obeys hash g old (line ∷ []) r new
+  Obeys-request old new line request r is tells =
+      Obeys-line old new line tells.out r (Line-request hash old.items new.items line tells.out request is tells.answers) tells.sends
 
   -- some lines, and then others
   pub Obeys-append : (old mid new : Moment S O) (lines more : List (List ℕ)) (r : Result (Unit {0}) (Unit {0})) → Obeys hash g old lines (Ok tt) mid → Obeys hash g mid more r new → Obeys hash g old (lines ++ more) r new
@@ -89,23 +96,21 @@ module _ {S O : Type 0} (hash : S → ℕ → ℕ) (g : sink.Ghosts O) where
       }
 
   -- where no line has begun, there is none to answer at the end
-  pub Obeys-unbegun : (old : Moment S O) (output : O) (waits : List ℕ) (r : Result (Unit {0}) (Unit {0})) (kept line : List ℕ) → (length kept == 0) ≡ true → Sends g old.output old.waits [] r output waits → IsKept kept line → Obeys hash g old (lines_of line) r (moment old.items output waits)
-  Obeys-unbegun old output waits r kept [] none flushed keeps = Obeys-flush old old [] output waits r (Obeys-none old) flushed
-  Obeys-unbegun old output waits r [] (b ∷ bs) none flushed keeps = let no : [] ≡ take KEPT (b ∷ bs) = keeps.bytes in absurd (cc)
-  Obeys-unbegun old output waits r (x ∷ xs) (b ∷ bs) none flushed keeps = absurd (omega (arith, eqb-true (length (x ∷ xs)) 0 none))
+  pub Obeys-unbegun : (old : Moment S O) (output : O) (waits : List ℕ) (r : Result (Unit {0}) (Unit {0})) (kept : Option (List ℕ)) (line : List ℕ) → kept ≡ Some [] → Sends g old.output old.waits [] r output waits → IsKept kept line → Obeys hash g old (lines_of line) r (moment old.items output waits)
+  Obeys-unbegun old output waits r kept line none flushed keeps =
+      let no_line : line ≡ [] = kept_of-some line [] (sym keeps.bytes ∙ none) in
+      subst (λ l. Obeys hash g old (lines_of l) r (moment old.items output waits)) (sym no_line) (Obeys-flush old old [] output waits r (Obeys-none old) flushed)
 
   -- and where one has, it is the line
-  pub Obeys-begun : (old new : Moment S O) (r : Result (Unit {0}) (Unit {0})) (kept line : List ℕ) → (length kept == 0) ≡ false → ((whole : List ℕ) → take KEPT kept ≡ take KEPT whole → Obeys hash g old (whole ∷ []) r new) → IsKept kept line → Obeys hash g old (lines_of line) r new
-  Obeys-begun old new r kept [] some obeys keeps =
-      let none : length kept ≡ 0 = ap length keeps.bytes in
-      absurd (true≢false (ap (λ n. n == 0) (sym none) ∙ some))
+  pub Obeys-begun : (old new : Moment S O) (r : Result (Unit {0}) (Unit {0})) (kept : Option (List ℕ)) (line : List ℕ) → (kept ≡ Some [] → ⊥) → Obeys hash g old (line ∷ []) r new → IsKept kept line → Obeys hash g old (lines_of line) r new
+  Obeys-begun old new r kept [] some obeys keeps = absurd (some keeps.bytes)
   Obeys-begun old new r kept (b ∷ bs) some obeys keeps =
       let line : List ℕ = b ∷ bs in
       let whole : lines_of line ≡ line ∷ [] = ap without_empty_last (slice_split_none is_line_feed line keeps.one_line) in
-      subst (λ ls. Obeys hash g old ls r new) (sym whole) (obeys line (ap (take KEPT) keeps.bytes ∙ take-take KEPT line))
+      subst (λ ls. Obeys hash g old ls r new) (sym whole) obeys
 
   -- some bytes, and then others
-  pub Feeds-append : (old next new : Moment S O) (partial bytes more kept last : List ℕ) (r : Result (Unit {0}) (Unit {0})) (f : Feeds hash g old partial bytes (Ok tt) next kept) → Feeds hash g next f.left more r new last → Feeds hash g old partial (bytes ++ more) r new last
+  pub Feeds-append : (old next new : Moment S O) (partial bytes more : List ℕ) (kept last : Option (List ℕ)) (r : Result (Unit {0}) (Unit {0})) (f : Feeds hash g old partial bytes (Ok tt) next kept) → Feeds hash g next f.left more r new last → Feeds hash g old partial (bytes ++ more) r new last
   Feeds-append old next new partial bytes more kept last r f h =
       record {
         done = f.done ++ h.done;
@@ -119,7 +124,7 @@ module _ {S O : Type 0} (hash : S → ℕ → ℕ) (g : sink.Ghosts O) where
       }
 
   -- and then what waits is written
-  pub Feeds-flush : (old now : Moment S O) (partial bytes kept : List ℕ) (output : O) (waits : List ℕ) (r : Result (Unit {0}) (Unit {0})) → Feeds hash g old partial bytes (Ok tt) now kept → Sends g now.output now.waits [] r output waits → Feeds hash g old partial bytes r (moment now.items output waits) kept
+  pub Feeds-flush : (old now : Moment S O) (partial bytes : List ℕ) (kept : Option (List ℕ)) (output : O) (waits : List ℕ) (r : Result (Unit {0}) (Unit {0})) → Feeds hash g old partial bytes (Ok tt) now kept → Sends g now.output now.waits [] r output waits → Feeds hash g old partial bytes r (moment now.items output waits) kept
   Feeds-flush old now partial bytes kept output waits r f flushed =
       record { done = f.done; left = f.left; bytes_are = f.bytes_are; each_one_line = f.each_one_line; keeps = on_ok _ r f.keeps; obeys = Obeys-flush old now f.done output waits r f.obeys flushed }
     where
@@ -128,7 +133,7 @@ module _ {S O : Type 0} (hash : S → ℕ → ℕ) (g : sink.Ghosts O) where
       on_ok P (Err e) p = tt
 
   -- before the first byte
-  pub Feeds-none : (old : Moment S O) (partial kept : List ℕ) → IsKept kept partial → Feeds hash g old partial [] (Ok tt) old kept
+  pub Feeds-none : (old : Moment S O) (partial : List ℕ) (kept : Option (List ℕ)) → IsKept kept partial → Feeds hash g old partial [] (Ok tt) old kept
   Feeds-none old partial kept keeps =
       record {
         done = [];
@@ -140,7 +145,7 @@ module _ {S O : Type 0} (hash : S → ℕ → ℕ) (g : sink.Ghosts O) where
       }
 
   -- a line that ends
-  Feeds-end : (old new : Moment S O) (partial end after last : List ℕ) (r : Result (Unit {0}) (Unit {0})) → HasNo line_feed partial → HasNo line_feed end → Obeys hash g old ((partial ++ end) ∷ []) r new → OnOk r (IsKept last after) → Feeds hash g old partial (end ++ line_feed ∷ after) r new last
+  Feeds-end : (old new : Moment S O) (partial end after : List ℕ) (last : Option (List ℕ)) (r : Result (Unit {0}) (Unit {0})) → HasNo line_feed partial → HasNo line_feed end → Obeys hash g old ((partial ++ end) ∷ []) r new → OnOk r (IsKept last after) → Feeds hash g old partial (end ++ line_feed ∷ after) r new last
   Feeds-end old new partial end after last r one_line more obeys keeps =
       record {
         done = (partial ++ end) ∷ [];
@@ -152,7 +157,7 @@ module _ {S O : Type 0} (hash : S → ℕ → ℕ) (g : sink.Ghosts O) where
       }
 
   -- a line that goes on
-  Feeds-begin : (old : Moment S O) (partial bytes kept : List ℕ) → HasNo line_feed partial → HasNo line_feed bytes → kept ≡ take KEPT (partial ++ bytes) → Feeds hash g old partial bytes (Ok tt) old kept
+  Feeds-begin : (old : Moment S O) (partial bytes : List ℕ) (kept : Option (List ℕ)) → HasNo line_feed partial → HasNo line_feed bytes → kept ≡ kept_of (partial ++ bytes) → Feeds hash g old partial bytes (Ok tt) old kept
   Feeds-begin old partial bytes kept one_line more is =
       record {
         done = [];
@@ -164,16 +169,16 @@ module _ {S O : Type 0} (hash : S → ℕ → ℕ) (g : sink.Ghosts O) where
       }
 
   -- one line more, and where a write failed the bytes behind it
-  pub Feeds-line : (old next new : Moment S O) (partial seen kept last rest end after behind : List ℕ) (r : Result (Unit {0}) (Unit {0})) → Feeds hash g old partial seen (Ok tt) next kept → IsCut line_feed rest end after → ((line : List ℕ) → kept ≡ take KEPT line → Obeys hash g next ((line ++ end) ∷ []) r new) → OnOk r (IsKept last behind) → Feeds hash g old partial (seen ++ (end ++ line_feed ∷ behind)) r new last
+  pub Feeds-line : (old next new : Moment S O) (partial seen : List ℕ) (kept last : Option (List ℕ)) (rest end after behind : List ℕ) (r : Result (Unit {0}) (Unit {0})) → Feeds hash g old partial seen (Ok tt) next kept → IsCut line_feed rest end after → ((line : List ℕ) → kept ≡ kept_of line → Obeys hash g next ((line ++ end) ∷ []) r new) → OnOk r (IsKept last behind) → Feeds hash g old partial (seen ++ (end ++ line_feed ∷ behind)) r new last
   Feeds-line old next new partial seen kept last rest end after behind r f cut obeys forgets =
       let keeps = f.keeps in
       Feeds-append old next new partial seen (end ++ line_feed ∷ behind) kept last r f (Feeds-end next new f.left end behind last r keeps.one_line cut.first (obeys f.left keeps.bytes) forgets)
 
   -- the bytes behind the last line feed
-  pub Feeds-rest : (old next : Moment S O) (partial seen kept last rest : List ℕ) → Feeds hash g old partial seen (Ok tt) next kept → HasNo line_feed rest → last ≡ take KEPT (kept ++ rest) → Feeds hash g old partial (seen ++ rest) (Ok tt) next last
+  pub Feeds-rest : (old next : Moment S O) (partial seen : List ℕ) (kept last : Option (List ℕ)) (rest : List ℕ) → Feeds hash g old partial seen (Ok tt) next kept → HasNo line_feed rest → last ≡ option_and_then (λ begun. kept_of (begun ++ rest)) kept → Feeds hash g old partial (seen ++ rest) (Ok tt) next last
   Feeds-rest old next partial seen kept last rest f none is =
       let keeps = f.keeps in
-      Feeds-append old next next partial seen rest kept last (Ok tt) f (Feeds-begin next f.left rest last keeps.one_line none (is ∙ ap (λ k. take KEPT (k ++ rest)) keeps.bytes ∙ take-kept KEPT f.left rest))
+      Feeds-append old next next partial seen rest kept last (Ok tt) f (Feeds-begin next f.left rest last keeps.one_line none (is ∙ ap (λ k. option_and_then (λ begun. kept_of (begun ++ rest)) k) keeps.bytes ∙ kept_of-append f.left rest))
 
 -- what holds where all went well, where it didn't
 pub on_failed : (P : Type 0) (r : Result (Unit {0}) (Unit {0})) → IsErr r → OnOk r P
@@ -186,11 +191,11 @@ some_bytes zero m not_none same = absurd (not_none refl)
 some_bytes (suc n) m not_none same = omega (arith, same)
 
 -- a forgotten line
-pub kept_none : (last : List ℕ) → last ≡ [] → IsKept last []
+pub kept_none : (last : Option (List ℕ)) → last ≡ Some [] → IsKept last []
 kept_none last none = record { bytes = none; one_line = HasNo-nil }
 
 -- what the loop over reads keeps after so many reads, of the bytes that the source told at first
-pub record Reads {S O : Type 0} (hash : S → ℕ → ℕ) (g : sink.Ghosts O) (old : Moment S O) (bytes : List ℕ) (left : Option (List ℕ)) (count : ℕ) (now : Moment S O) (kept : List ℕ) : Type 0 where
+pub record Reads {S O : Type 0} (hash : S → ℕ → ℕ) (g : sink.Ghosts O) (old : Moment S O) (bytes : List ℕ) (left : Option (List ℕ)) (count : ℕ) (now : Moment S O) (kept : Option (List ℕ)) : Type 0 where
   pub seen : List ℕ
   pub taken : Consumes (Some bytes) left seen
   pub counted : count ≤ length seen
@@ -198,13 +203,13 @@ pub record Reads {S O : Type 0} (hash : S → ℕ → ℕ) (g : sink.Ghosts O) (
 
 module _ {S O : Type 0} (hash : S → ℕ → ℕ) (g : sink.Ghosts O) where
   -- before the first read
-  pub Reads-none : (left : Option (List ℕ)) (hasher : S) (items : State Record S) (output : O) (kept waits : List ℕ) → items ≡ empty_state hasher → kept ≡ [] → waits ≡ [] → IfSome left (λ bytes. Reads hash g (moment (empty_state items.hasher) output []) bytes left 0 (moment items output waits) kept)
+  pub Reads-none : (left : Option (List ℕ)) (hasher : S) (items : State Record S) (output : O) (kept : Option (List ℕ)) (waits : List ℕ) → items ≡ empty_state hasher → kept ≡ Some [] → waits ≡ [] → IfSome left (λ bytes. Reads hash g (moment (empty_state items.hasher) output []) bytes left 0 (moment items output waits) kept)
   Reads-none left hasher items output kept waits none no_line no_reply = by_left left
     where
       feeds : Feeds hash g (moment (empty_state items.hasher) output []) [] [] (Ok tt) (moment items output waits) kept
       feeds =
           subst (λ i. Feeds hash g (moment (empty_state i.hasher) output []) [] [] (Ok tt) (moment i output waits) kept) (sym none)
-          (rw (no_line, no_reply) (Feeds-none hash g (moment (empty_state hasher) output []) [] [] (kept_none [] refl)))
+          (rw (no_line, no_reply) (Feeds-none hash g (moment (empty_state hasher) output []) [] (Some []) (kept_none (Some []) refl)))
 
       by_left : (left : Option (List ℕ)) → IfSome left (λ bytes. Reads hash g (moment (empty_state items.hasher) output []) bytes left 0 (moment items output waits) kept)
       by_left None = tt
@@ -212,13 +217,13 @@ module _ {S O : Type 0} (hash : S → ℕ → ℕ) (g : sink.Ghosts O) where
 
 module _ {S O : Type 0} (hash : S → ℕ → ℕ) (g : sink.Ghosts O) (old : Moment S O) where
   -- a write of what waits sends nothing new
-  pub Reads-flush : (told left : Option (List ℕ)) (count : ℕ) (now : Moment S O) (kept : List ℕ) (output : O) (waits : List ℕ) → IfSome told (λ bytes. Reads hash g old bytes left count now kept) → Sends {E = Unit {0}} g now.output now.waits [] (Ok tt) output waits → IfSome told (λ bytes. Reads hash g old bytes left count (moment now.items output waits) kept)
+  pub Reads-flush : (told left : Option (List ℕ)) (count : ℕ) (now : Moment S O) (kept : Option (List ℕ)) (output : O) (waits : List ℕ) → IfSome told (λ bytes. Reads hash g old bytes left count now kept) → Sends {E = Unit {0}} g now.output now.waits [] (Ok tt) output waits → IfSome told (λ bytes. Reads hash g old bytes left count (moment now.items output waits) kept)
   Reads-flush None left count now kept output waits r flushed = tt
   Reads-flush (Some bytes) left count now kept output waits r flushed =
       record { seen = r.seen; taken = r.taken; counted = r.counted; feeds = Feeds-flush hash g old now [] r.seen kept output waits (Ok tt) r.feeds flushed }
 
   -- a read of some bytes, and these are fed
-  pub Reads-more : (told left after : Option (List ℕ)) (count : ℕ) (now new : Moment S O) (kept last bytes : List ℕ) → IfSome told (λ all. Reads hash g old all left count now kept) → Consumes left after bytes → 0 < length bytes → ((line : List ℕ) → IsKept kept line → Feeds hash g now line bytes (Ok tt) new last) → IfSome told (λ all. Reads hash g old all after (count + 1) new last)
+  pub Reads-more : (told left after : Option (List ℕ)) (count : ℕ) (now new : Moment S O) (kept last : Option (List ℕ)) (bytes : List ℕ) → IfSome told (λ all. Reads hash g old all left count now kept) → Consumes left after bytes → 0 < length bytes → ((line : List ℕ) → IsKept kept line → Feeds hash g now line bytes (Ok tt) new last) → IfSome told (λ all. Reads hash g old all after (count + 1) new last)
   Reads-more None left after count now new kept last bytes r taken some fed = tt
   Reads-more (Some all) left after count now new kept last bytes r taken some fed =
       let f = r.feeds in

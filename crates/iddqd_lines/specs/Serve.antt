@@ -1,14 +1,13 @@
 -- How `serve` goes on, from some bytes of its input to the next. No public clause cites this module.
-use Rattle.std.specs.Prelude.{◌≡◌, ℕ, List, [], ◌∷◌, ◌++◌, All, Result, OnOk, take}
+use Rattle.std.specs.Prelude.{◌≡◌, ℕ, List, [], ◌∷◌, ◌++◌, All, Option, Some, None, Result, OnOk, length, nat_le, if◌then◌else◌}
 use Rattle.iddqd_keyed.specs.State.{State}
-use Rattle.iddqd_lines.specs.Line.{line_feed}
+use Rattle.iddqd_lines.specs.Line.{line_feed, max_line}
 use Rattle.iddqd_lines.specs.Split.{HasNo}
 use Rattle.iddqd_lines.specs.Program.{AnswersRequest, Serves}
 use Rattle.iddqd_lines.specs.Replies.{Sends}
 use Rattle.iddqd_lines.specs.declared.sink.Sink as sink
 use Rattle.iddqd_keyed.specs.declared.command.Command.{Command}
 use Rattle.iddqd_lines.specs.declared.line.Request.{Request}
-use Rattle.iddqd_lines.specs.declared.line_buffer.TheConstants.{KEPT}
 use Rattle.iddqd_lines.specs.declared.record.Record.{Record}
 
 -- these lines, each with its line feed
@@ -16,9 +15,13 @@ abbrev pub ended : List (List ℕ) → List ℕ
 ended [] = []
 ended (line ∷ lines) = line ++ line_feed ∷ ended lines
 
--- of a line that has begun, these first bytes are kept
-pub record IsKept (kept partial : List ℕ) : Type 0 where
-  pub bytes : kept ≡ take KEPT partial
+-- what is kept of a line: all of it, or none where it has more bytes than a request may have
+abbrev pub kept_of : List ℕ → Option (List ℕ)
+kept_of line = if nat_le (length line) max_line then Some line else None
+
+-- this is kept of a line that has begun
+pub record IsKept (kept : Option (List ℕ)) (partial : List ℕ) : Type 0 where
+  pub bytes : kept ≡ kept_of partial
   pub one_line : HasNo line_feed partial
 
 -- the items, the sink, and the bytes that wait to be written
@@ -46,7 +49,7 @@ module _ {S O : Type 0} (hash : S → ℕ → ℕ) (g : sink.Ghosts O) (old : Mo
 
   -- A line had begun. These further bytes end some lines, which are answered, and begin another, which is kept where all
   -- went well.
-  pub record Feeds (partial bytes : List ℕ) (result : Result (Unit {0}) (Unit {0})) (new : Moment S O) (kept : List ℕ)
+  pub record Feeds (partial bytes : List ℕ) (result : Result (Unit {0}) (Unit {0})) (new : Moment S O) (kept : Option (List ℕ))
       : Type 0 where
     pub done : List (List ℕ)
     pub left : List ℕ

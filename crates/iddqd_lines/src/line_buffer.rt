@@ -1,79 +1,78 @@
 //! The line that has begun.
-ghost use Rattle.std.specs.Prelude.{◌≡◌, ◌==◌, ◌<◌, ◌++◌, ◌∷◌, [], length, take};
+ghost use Rattle.std.specs.Prelude.{◌≡◌, ◌↔◌, ◌++◌, [], Some, None, IsTrue, MatchOption};
+ghost use Rattle.std.specs.Option.{option_and_then};
+ghost use Rattle.iddqd_lines.specs.Serve.{kept_of};
 
 use crate::line::MAX_LINE;
 use std::marker::Model;
 
-/// One more than a line may have, so that a longer line is seen to be longer.
-pub(crate) const KEPT: usize = MAX_LINE + 1;
-
-/// The first bytes of a line that goes on in the next block, at most `KEPT` of them. The others are
-/// forgotten.
+/// The beginning of a line that goes on in the next block: at most its first `MAX_LINE` bytes, and whether it has more.
+///
+/// A longer line is no request, so its other bytes are forgotten. A contract sees the line so far, or none once it is
+/// longer than `MAX_LINE`.
 #[derive(Drop)]
 pub(crate) struct LineBuffer {
-    bytes: [u8; KEPT],
+    bytes: [u8; MAX_LINE],
     len: usize,
+    has_more: bool,
 }
 
 impl Model for LineBuffer {
-    ghost use Rattle.std.specs.Prelude.{List, ℕ, take, ◌≤◌};
-    ghost use Rattle.iddqd_lines.specs.declared.line_buffer.TheConstants.{KEPT};
+    ghost use Rattle.std.specs.Prelude.{List, ℕ, Option, Some, None, IsTrue, take, ◌≡◌, ◌≤◌, if◌then◌else◌};
+    ghost use Rattle.iddqd_lines.specs.declared.line.TheConstants.{MAX_LINE};
 
-    ghost Value = { List ℕ };
+    ghost Value = { Option (List ℕ) };
 
-    ghost view = { λ l. take l.len l.bytes };
+    ghost view = { λ l. if l.has_more then None else Some (take l.len l.bytes) };
 
-    ghost invariant = { λ l. l.len ≤ KEPT };
+    ghost invariant = { λ l. (l.len ≤ MAX_LINE) × (IsTrue l.has_more → l.len ≡ MAX_LINE) };
 }
 
 impl LineBuffer {
     /// No byte.
     pub(crate) fn new() -> LineBuffer
-        ensures { result ≡ [] }
+        ensures { result ≡ Some [] }
     {
         LineBuffer {
-            bytes: [0; KEPT],
+            bytes: [0; MAX_LINE],
             len: 0,
+            has_more: false,
         }
     }
 
     /// Whether no line has begun.
     pub(crate) fn is_empty(&self) -> bool
-        ensures { result ≡ (length self.now == 0) }
+        ensures { IsTrue result ↔ (self.now ≡ Some []) }
     {
         self.len == 0
     }
 
-    /// The bytes that are kept.
-    pub(crate) fn as_slice(&self) -> &[u8]
-        ensures { result.now ≡ self.now }
+    /// The line so far, or none once it is longer than `MAX_LINE`.
+    pub(crate) fn whole(&self) -> Option<&[u8]>
+        ensures { MatchOption result (self.now ≡ None) (λ line. self.now ≡ Some line.now) }
     {
-        &self.bytes[..self.len]
+        if self.has_more {
+            return None;
+        }
+        Some(&self.bytes[..self.len])
     }
 
     /// Forgets the line.
     pub(crate) fn clear(&mut self)
-        ensures { self.new ≡ [] }
+        ensures { self.new ≡ Some [] }
     {
         self.len = 0;
+        self.has_more = false;
     }
 
     /// Goes on with these bytes.
     pub(crate) fn extend(&mut self, bytes: &[u8])
-        ensures { self.new ≡ take KEPT (self.old ++ bytes.now) }
+        ensures { self.new ≡ option_and_then (λ line. kept_of (line ++ bytes.now)) self.old }
     {
-        let room = KEPT - self.len;
-        let kept = &bytes[..bytes.len().min(room)];
-        for byte in kept {
-            self.put(*byte);
-        }
-    }
-
-    fn put(&mut self, byte: u8)
-        requires { length self.old < KEPT }
-        ensures { self.new ≡ self.old ++ byte ∷ [] }
-    {
-        self.bytes[self.len] = byte;
-        self.len += 1;
+        let kept = bytes.len().min(MAX_LINE - self.len);
+        let end = self.len + kept;
+        self.bytes[self.len..end].copy_from_slice(&bytes[..kept]);
+        self.len = end;
+        self.has_more |= kept < bytes.len();
     }
 }

@@ -1,22 +1,23 @@
 //! The program: lines in, replies out.
 //!
 //! The input is read and the replies are written in blocks of fixed size, so the loop takes no memory
-//! of its own. A line that ends in the block that it began in is read where it stands; of one that
-//! goes on in the next block, a beginning is kept.
+//! of its own. A line that ends in the block that it began in is read where it stands. Of one that goes
+//! on in the next block the first 128 bytes are kept, as many as a request may have, and whether there
+//! were more.
 //!
 //! Replies are written where the block has no room for one more, before each read, and at the end: so a
-//! person who types sees each answer at once, and a pipe gets large writes. Of a line that goes on 129
-//! bytes are kept, one more than a line may have, so that a longer one is seen to be longer.
-ghost use Rattle.std.specs.Prelude.{◌≡◌, ◌∷◌, ◌++◌, [], List, ℕ, ◌<◌, length, take, OnOk, IfSome, false};
+//! person who types sees each answer at once, and a pipe gets large writes.
+ghost use Rattle.std.specs.Prelude.{◌≡◌, ◌∷◌, ◌++◌, [], List, ℕ, ◌<◌, length, Some, OnOk, IfSome, false};
+ghost use Rattle.std.specs.Option.{option_and_then};
 ghost use Rattle.iddqd_keyed.specs.State.{empty_state};
-ghost use Rattle.iddqd_lines.specs.Line.{lines_of};
+ghost use Rattle.iddqd_lines.specs.Line.{lines_of, request_of};
 ghost use Rattle.iddqd_lines.specs.Program.{hash_u32, IsDefaultHasher, ServesUntil, FailsAt};
-ghost use Rattle.iddqd_lines.specs.Serve.{moment, IsKept, Obeys, Feeds, Tells};
+ghost use Rattle.iddqd_lines.specs.Serve.{moment, kept_of, IsKept, Obeys, Feeds, Tells};
 ghost use Rattle.iddqd_lines.specs.declared.line.Request.TheVariants.{Run, Validate};
 ghost use Rattle.iddqd_lines.specs.Stream.{FailsOnErr};
 
 use crate::line::{LINE_FEED, Request, named_index, parse};
-use crate::line_buffer::{KEPT, LineBuffer};
+use crate::line_buffer::LineBuffer;
 use crate::record::Record;
 use crate::replies::Replies;
 use crate::sink::Sink;
@@ -118,7 +119,7 @@ fn serve_blocks<I: Source, O: Sink>(
 ) -> Result<(), ServeFault>
     requires hasher { IsDefaultHasher items.old.hasher }
     requires no_item { items.old ≡ empty_state items.old.hasher }
-    requires no_line { partial.old ≡ [] }
+    requires no_line { partial.old ≡ Some [] }
     requires no_reply { replies.old ≡ [] }
     requires room { 0 < length block.old }
     requires reads { I.has_failed input.old ≡ false }
@@ -135,7 +136,7 @@ fn serve_blocks<I: Source, O: Sink>(
             return Err(ServeFault::Read);
         };
         if count == 0 {
-            let Ok(()) = finish(items, partial.as_slice(), replies, output) else {
+            let Ok(()) = finish(items, partial, replies, output) else {
                 return Err(ServeFault::Write);
             };
             return Ok(());
@@ -185,15 +186,15 @@ fn end_line<S: BuildHasher, O: Sink>(
     ensures obeys { let hash = hash_u32 S.BuildHasher S.Hasher.Hasher in
         let old = moment items.old output.old replies.old in
         let new = moment items.new output.new replies.new in
-        (line : List ℕ) → partial.old ≡ take KEPT line → Obeys hash O.Sink old ((line ++ end.now) ∷ []) result new }
-    ensures forgets { OnOk result (partial.new ≡ []) }
+        (line : List ℕ) → partial.old ≡ kept_of line → Obeys hash O.Sink old ((line ++ end.now) ∷ []) result new }
+    ensures forgets { OnOk result (partial.new ≡ Some []) }
     ensures failed { FailsOnErr (O.has_failed output.old) result (O.has_failed output.new) }
 {
     if partial.is_empty() {
-        return obey(items, end, replies, output);
+        return obey(items, parse(end), replies, output);
     }
     partial.extend(end);
-    obey(items, partial.as_slice(), replies, output)?;
+    obey(items, request_in(partial), replies, output)?;
     partial.clear();
     Ok(())
 }
@@ -201,39 +202,45 @@ fn end_line<S: BuildHasher, O: Sink>(
 // At the end of the input: obeys the line that has begun, where one has, and writes all replies.
 fn finish<S: BuildHasher, O: Sink>(
     items: &mut KeyedItems<Record, S>,
-    partial: &[u8],
+    last: &LineBuffer,
     replies: &mut Replies,
     output: &mut O,
 ) -> Result<(), ()>
     ensures obeys { let hash = hash_u32 S.BuildHasher S.Hasher.Hasher in
         let old = moment items.old output.old replies.old in
         let new = moment items.new output.new replies.new in
-        (line : List ℕ) → IsKept partial.now line → Obeys hash O.Sink old (lines_of line) result new }
+        (line : List ℕ) → IsKept last.now line → Obeys hash O.Sink old (lines_of line) result new }
     ensures none_waits { OnOk result (replies.new ≡ []) }
     ensures failed { FailsOnErr (O.has_failed output.old) result (O.has_failed output.new) }
 {
-    if partial.is_empty() {
+    if last.is_empty() {
         return replies.flush(output);
     }
-    obey(items, partial, replies, output)?;
+    obey(items, request_in(last), replies, output)?;
     replies.flush(output)
 }
 
-// Answers a line. Of a longer line than a command's, what stands behind the bytes that are kept may be
-// left out.
+// The request that the line so far is, if it is one.
+fn request_in(partial: &LineBuffer) -> Option<Request<Command<Record>>>
+    ensures { result ≡ option_and_then request_of partial.now }
+{
+    parse(partial.whole()?)
+}
+
+// Answers a line that is this request. One that is no request is a bad line.
 fn obey<S: BuildHasher, O: Sink>(
     items: &mut KeyedItems<Record, S>,
-    line: &[u8],
+    request: Option<Request<Command<Record>>>,
     replies: &mut Replies,
     output: &mut O,
 ) -> Result<(), ()>
     ensures obeys { let hash = hash_u32 S.BuildHasher S.Hasher.Hasher in
         let old = moment items.old output.old replies.old in
         let new = moment items.new output.new replies.new in
-        (whole : List ℕ) → take KEPT line.now ≡ take KEPT whole → Obeys hash O.Sink old (whole ∷ []) result new }
+        (line : List ℕ) → request ≡ request_of line → Obeys hash O.Sink old (line ∷ []) result new }
     ensures failed { FailsOnErr (O.has_failed output.old) result (O.has_failed output.new) }
 {
-    let Some(request) = parse(line) else {
+    let Some(request) = request else {
         return replies.put_line(b"bad line", output);
     };
     match request {

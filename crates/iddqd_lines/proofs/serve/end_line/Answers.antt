@@ -1,16 +1,18 @@
-use Rattle.std.proofs.Common.{◌++◌, take, ap, ◌∙◌}
-use Rattle.iddqd_lines.specs.declared.line_buffer.TheConstants.{KEPT}
-use Rattle.iddqd_lines.proofs.LineBufferLemmas.{take-take, take-kept}
-use Rattle.iddqd_lines.proofs.ServeLemmas.{Obeys-fails}
+use Rattle.std.proofs.Common.{[], ◌++◌, sym, ◌∙◌}
+use Rattle.iddqd_lines.proofs.LineBufferLemmas.{kept_of-some}
+use Rattle.iddqd_lines.proofs.ServeLemmas.{Obeys-fails, request_of-more}
 use Rattle.iddqd_lines.proofs.serve.end_line.Goals as goal
+
+pub returns-then-is_empty-clause-obeys : goal.returns-then-is_empty-clause-obeys
+returns-then-is_empty-clause-obeys g c = λ line kept.
+    let none = kept_of-some line [] (sym kept ∙ c.is_empty.ensures.0 c.if-is_empty.true) in
+    rw none (c.obey.ensures.obeys c.args.end.now c.parse.ensures)
 
 pub returns-in_err-obey-clause-obeys : goal.returns-in_err-obey-clause-obeys
 returns-in_err-obey-clause-obeys g c = λ line kept.
-    let whole = ap (λ l. take KEPT (l ++ c.args.end.now)) kept ∙ take-kept KEPT line c.args.end.now in
     Obeys-fails _ g.O.Sink _ _ _ _ c.from_residual.result c.from_residual.ensures.0
-    (c.in_err-obey.ensures.obeys (line ++ c.args.end.now) (rw (c.as_slice.ensures, c.extend.ensures) (take-take KEPT _ ∙ whole)))
+    (c.in_err-obey.ensures.obeys (line ++ c.args.end.now) (rw (c.request_in.ensures, c.extend.ensures) (request_of-more _ line c.args.end.now kept)))
 
 pub returns-clause-obeys : goal.returns-clause-obeys
 returns-clause-obeys g c = λ line kept.
-    let whole = ap (λ l. take KEPT (l ++ c.args.end.now)) kept ∙ take-kept KEPT line c.args.end.now in
-    c.in_ok-obey.ensures.obeys (line ++ c.args.end.now) (rw (c.as_slice.ensures, c.extend.ensures) (take-take KEPT _ ∙ whole))
+    c.in_ok-obey.ensures.obeys (line ++ c.args.end.now) (rw (c.request_in.ensures, c.extend.ensures) (request_of-more _ line c.args.end.now kept))

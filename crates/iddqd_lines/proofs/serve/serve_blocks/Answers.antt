@@ -40,7 +40,7 @@ returns-then-count-eq0-clause-serves g c =
     let zero = c.if-count-eq0.true in
     let nothing = rw zero at read.0 in
     ends g.O.Sink _ c.requires.hasher c.args.output.now _ _ (g.I.Source.left c.read.new.self) _ _ _ c.reads.partial flushed nothing (read.1 zero (omega arith))
-    (λ line keeps. c.in-Ok-finish.ensures.obeys line (rw c.as_slice.ensures keeps)) c.in-Ok-finish.ensures.none_waits
+    c.in-Ok-finish.ensures.obeys c.in-Ok-finish.ensures.none_waits
 
 pub returns-in_default-finish-clause-serves : goal.returns-in_default-finish-clause-serves
 returns-in_default-finish-clause-serves g c =
@@ -49,7 +49,7 @@ returns-in_default-finish-clause-serves g c =
     let zero = c.if-count-eq0.true in
     let nothing = rw zero at read.0 in
     ends_at_finish g.O.Sink _ c.requires.hasher c.args.output.now _ _ _ (g.I.Source.left c.read.new.self) _ _ _ c.reads.partial flushed nothing (read.1 zero (omega arith))
-    (λ line keeps. c.in_default-finish.ensures.obeys line (rw c.as_slice.ensures keeps))
+    c.in_default-finish.ensures.obeys
 
 pub returns-in_default-feed-clause-serves : goal.returns-in_default-feed-clause-serves
 returns-in_default-feed-clause-serves g c =
