@@ -12,7 +12,7 @@ use std::process::Abort;
 use std::test::Fail;
 
 /// Three keys.
-#[derive(Clone, Copy, Debug, PartialEq, Eq)]
+#[derive(Clone, Copy, Debug)]
 struct Trio(u32, u32, u32);
 
 impl TriItem for Trio {

@@ -1,9 +1,10 @@
 //! How often calls compare keys among a thousand items.
-use super::counted::{Counts, Item, Own, first_of, item_of, second_of};
+use super::counted::{Counts, Item, NONE, Own, first_of, item_of, second_of};
 use super::script::ix;
 use iddqd::item_index::ItemIndex;
 use iddqd_keyed::keyed_items::KeyedItems;
 use std::alloc::AllocError;
+use std::cell::Cell;
 use std::process::Abort;
 use std::rc::Rc;
 use std::test::Fail;
@@ -21,7 +22,7 @@ enum Call {
 
 // The index that the call answers.
 fn answer(
-    counts: &Rc<Counts>,
+    counts: &Rc<Cell<Counts>>,
     items: &mut Items,
     call: Call,
 ) -> Result<Option<ItemIndex>, AllocError> {
@@ -53,7 +54,7 @@ const CALLS: [(Call, Option<u32>, u32, u32); 6] = [
 
 fn insert_thousand(
     rt: &impl Abort,
-    counts: &Rc<Counts>,
+    counts: &Rc<Cell<Counts>>,
     items: &mut Items,
 ) -> Result<(), AllocError> {
     for number in 0..1000 {
@@ -63,11 +64,15 @@ fn insert_thousand(
     Ok(())
 }
 
-fn assert_calls(rt: &impl Abort, counts: &Rc<Counts>, items: &mut Items) -> Result<(), AllocError> {
+fn assert_calls(
+    rt: &impl Abort,
+    counts: &Rc<Cell<Counts>>,
+    items: &mut Items,
+) -> Result<(), AllocError> {
     for (call, want, most_first, most_second) in CALLS {
-        counts.take();
+        counts.set(NONE);
         let is_right = answer(counts, items, call)? == want.map(ix);
-        let taken = counts.take();
+        let taken = counts.get();
         let is_few = taken.is_within(most_first, most_second);
         assert!(rt; is_right && is_few, "{taken:?} at {call:?}");
     }
@@ -76,7 +81,7 @@ fn assert_calls(rt: &impl Abort, counts: &Rc<Counts>, items: &mut Items) -> Resu
 
 #[test]
 fn calls_among_a_thousand_items_compare_few_keys(rt: HostRuntime) -> Result<(), Fail> {
-    let counts = Rc::new(rt.alloc(), Counts::new())?;
+    let counts = Rc::new(rt.alloc(), Cell::new(NONE))?;
     let mut items = KeyedItems::new(rt.alloc(), Own(0));
     insert_thousand(&rt, &counts, &mut items)?;
     assert_calls(&rt, &counts, &mut items)?;

@@ -45,56 +45,32 @@ impl BuildHasher for Own {
 }
 
 /// How often first keys were compared, and second keys by equality and by order.
-#[derive(Drop)]
-pub(super) struct Counts {
-    first_equal: Cell<u32>,
-    second_equal: Cell<u32>,
-    second_order: Cell<u32>,
-}
-
-impl Counts {
-    pub(super) fn new() -> Counts {
-        Counts {
-            first_equal: Cell::new(0),
-            second_equal: Cell::new(0),
-            second_order: Cell::new(0),
-        }
-    }
-
-    /// The counts since the last time.
-    pub(super) fn take(&self) -> Taken {
-        Taken {
-            first_equal: self.first_equal.replace(0),
-            second_equal: self.second_equal.replace(0),
-            second_order: self.second_order.replace(0),
-        }
-    }
-}
-
-/// What was counted.
 #[derive(Clone, Copy, Debug)]
-pub(super) struct Taken {
+pub(super) struct Counts {
     first_equal: u32,
     second_equal: u32,
     second_order: u32,
 }
 
-impl Taken {
+/// Nothing was compared.
+pub(super) const NONE: Counts = Counts {
+    first_equal: 0,
+    second_equal: 0,
+    second_order: 0,
+};
+
+impl Counts {
     /// First keys were compared at most so often, and second keys by their order alone, at most so often.
     pub(super) fn is_within(&self, most_first: u32, most_second: u32) -> bool {
         self.first_equal <= most_first && self.second_order <= most_second && self.second_equal == 0
     }
 }
 
-fn count(cell: &Cell<u32>) {
-    cell.set(cell.get().saturating_add(1));
-}
-
 /// A first key: its value is the number alone.
 #[derive(Drop)]
 pub(super) struct First {
     number: u32,
-    counts: Rc<Counts>,
+    counts: Rc<Cell<Counts>>,
 }
 
 impl PartialEq for First {
@@ -103,7 +79,11 @@ impl PartialEq for First {
     ghost laws = { Prim.search (comparing, rules) };
 
     fn eq(&self, other: &First) -> bool {
-        count(&self.counts.first_equal);
+        let counts = self.counts.get();
+        self.counts.set(Counts {
+            first_equal: counts.first_equal.saturating_add(1),
+            ..counts
+        });
         self.number == other.number
     }
 }
@@ -126,7 +106,7 @@ impl Hash for First {
 #[derive(Drop)]
 pub(super) struct Second {
     number: u32,
-    counts: Rc<Counts>,
+    counts: Rc<Cell<Counts>>,
 }
 
 impl PartialEq for Second {
@@ -135,7 +115,11 @@ impl PartialEq for Second {
     ghost laws = { Prim.search (comparing, rules) };
 
     fn eq(&self, other: &Second) -> bool {
-        count(&self.counts.second_equal);
+        let counts = self.counts.get();
+        self.counts.set(Counts {
+            second_equal: counts.second_equal.saturating_add(1),
+            ..counts
+        });
         self.number == other.number
     }
 }
@@ -154,7 +138,11 @@ impl Ord for Second {
     ghost matches_eq = { Prim.search (comparing, rules) };
 
     fn cmp(&self, other: &Second) -> Ordering {
-        count(&self.counts.second_order);
+        let counts = self.counts.get();
+        self.counts.set(Counts {
+            second_order: counts.second_order.saturating_add(1),
+            ..counts
+        });
         self.number.cmp(&other.number)
     }
 }
@@ -201,18 +189,18 @@ impl KeyedItem for Item {
 }
 
 /// The item whose keys are both the number.
-pub(super) fn item_of(counts: &Rc<Counts>, number: u32) -> Result<Item, AllocError> {
+pub(super) fn item_of(counts: &Rc<Cell<Counts>>, number: u32) -> Result<Item, AllocError> {
     let first = first_of(counts, number)?;
     let second = second_of(counts, number)?;
     Ok(Item { first, second })
 }
 
-pub(super) fn first_of(counts: &Rc<Counts>, number: u32) -> Result<First, AllocError> {
+pub(super) fn first_of(counts: &Rc<Cell<Counts>>, number: u32) -> Result<First, AllocError> {
     let counts = counts.clone()?;
     Ok(First { number, counts })
 }
 
-pub(super) fn second_of(counts: &Rc<Counts>, number: u32) -> Result<Second, AllocError> {
+pub(super) fn second_of(counts: &Rc<Cell<Counts>>, number: u32) -> Result<Second, AllocError> {
     let counts = counts.clone()?;
     Ok(Second { number, counts })
 }

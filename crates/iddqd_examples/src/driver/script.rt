@@ -63,13 +63,13 @@ fn numbers(rt: &impl Abort, text: &str) -> [u32; 3] {
 }
 
 // The modes of a check.
-fn modes(rt: &impl Abort, words: &str) -> (ValidateCompact, ValidateChaos) {
-    match words {
+fn modes(rt: &impl Abort, names: &str) -> (ValidateCompact, ValidateChaos) {
+    match names {
         "compact yes" => (ValidateCompact::Compact, ValidateChaos::Yes),
         "compact no" => (ValidateCompact::Compact, ValidateChaos::No),
         "gaps yes" => (ValidateCompact::NonCompact, ValidateChaos::Yes),
         "gaps no" => (ValidateCompact::NonCompact, ValidateChaos::No),
-        _ => panic!(rt; "{words} are no modes"),
+        _ => panic!(rt; "{names} are no modes"),
     }
 }
 
@@ -90,7 +90,7 @@ fn command(rt: &impl Abort, call: &str) -> Command<Pair> {
     }
 }
 
-// Whether the call is one that a command makes.
+// Whether there is a command for the call.
 fn is_command(call: &str) -> bool {
     !call.starts_with("get ") && !call.starts_with("validate ")
 }
@@ -127,8 +127,8 @@ fn answer<S: BuildHasher>(
     items: &mut KeyedItems<Pair, S>,
     call: &str,
 ) -> Result<String, AllocError> {
-    if let Some(words) = call.strip_prefix("validate ") {
-        let (compactness, chaos) = modes(rt, words);
+    if let Some(names) = call.strip_prefix("validate ") {
+        let (compactness, chaos) = modes(rt, names);
         return validate(alloc, items, compactness, chaos);
     }
     if !is_command(call) {

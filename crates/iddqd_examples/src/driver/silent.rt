@@ -1,6 +1,5 @@
 //! Items whose keys change without the tables being updated.
 use super::hashers::Constant;
-use super::pair::Pair;
 use super::script::{assert_calls, assert_script, assert_within};
 use iddqd_keyed::keyed_items::KeyedItems;
 use std::alloc::{AllocError, Global};
@@ -124,14 +123,10 @@ insert 9 90: Inserted(2)
 validate gaps yes: ok
 ";
 
-fn assert_parts(
-    rt: &impl Abort,
-    alloc: Global,
-    items: &mut KeyedItems<Pair, Constant>,
-    parts: &[&str],
-) -> Result<(), AllocError> {
+fn assert_parts(rt: &impl Abort, alloc: Global, parts: &[&str]) -> Result<(), AllocError> {
+    let mut items = KeyedItems::new(alloc, Constant);
     for part in parts {
-        assert_calls(rt, alloc, items, part)?;
+        assert_calls(rt, alloc, &mut items, part)?;
     }
     Ok(())
 }
@@ -148,9 +143,8 @@ fn items_of_one_hash_whose_keys_changed_in_any_order_are_removed(
         [OVERWRITE_2, OVERWRITE_0, OVERWRITE_1],
         [OVERWRITE_2, OVERWRITE_1, OVERWRITE_0],
     ] {
-        let mut items = KeyedItems::new(rt.alloc(), Constant);
         let parts = [INSERTS, first, second, third, REMOVALS];
-        assert_parts(&rt, rt.alloc(), &mut items, parts.as_slice())?;
+        assert_parts(&rt, rt.alloc(), parts.as_slice())?;
     }
     Ok(())
 }

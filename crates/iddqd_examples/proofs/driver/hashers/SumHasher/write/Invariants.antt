@@ -1,6 +1,6 @@
 use Rattle.std.proofs.Common.{◌≡◌, ◌+◌, ◌%◌, ◌^◌, take}
 use Rattle.std.specs.List.{fold}
-use Rattle.iddqd_examples.proofs.driver.hashers.Sum.write.Given as goal
+use Rattle.iddqd_examples.proofs.driver.hashers.SumHasher.write.Given as goal
 
 -- the sum of the bytes so far
 abbrev pub invariant-loop-byte : goal.invariant-loop-byte

@@ -1,7 +1,7 @@
 use Rattle.std.proofs.Common.{◌≡◌, ◌+◌, ◌%◌, ◌^◌, ℕ, get_or, take}
 use Rattle.std.specs.List.{fold}
 use Rattle.std.proofs.lemmas.List.Sums.{fold_more}
-use Rattle.iddqd_examples.proofs.driver.hashers.Sum.write.Goals as goal
+use Rattle.iddqd_examples.proofs.driver.hashers.SumHasher.write.Goals as goal
 
 abbrev added : ℕ → ℕ → ℕ
 added sum byte = (sum + byte) % 2 ^ 64
