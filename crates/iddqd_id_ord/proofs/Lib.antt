@@ -6,3 +6,4 @@ pub mod TakeLemmas
 pub mod CloneLemmas
 pub mod EqualityLemmas
 pub mod RetainLemmas
+pub mod ModifyLemmas

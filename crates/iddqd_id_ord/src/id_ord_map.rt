@@ -21,6 +21,7 @@ mod clones;
 mod equality;
 mod into_values;
 mod iter;
+mod modifies;
 mod range;
 mod replaces;
 mod retain;
