@@ -9,6 +9,7 @@ mod CopyLemmas
 mod IndexLemmas
 mod LowestBitLemmas
 mod MapHashTableLemmas
+mod OpenAddLemmas
 mod OpenAheadLemmas
 mod OpenLaneLemmas
 mod OpenLookupLemmas

@@ -1,5 +1,5 @@
 -- How a bag of hashes and indexes makes a map, and what a look-up in the one says of the other.
-use Rattle.std.proofs.Common.{not, eqb-true, eq-eqb, ◌≡◌, ◌==◌, ℕ, Bool, true, false, cond, List, [], ◌∷◌, map, filter, length, Option, Some, None, refl, sym, ap, subst, ◌∙◌, arith}
+use Rattle.std.proofs.Common.{not, eqb-true, eq-eqb, ◌≡◌, ◌==◌, ◌+◌, ◌-◌, ◌<◌, ℕ, Bool, true, false, cond, List, [], ◌∷◌, map, filter, length, Option, Some, None, IsSome, refl, sym, ap, subst, ◌∙◌, arith}
 use Rattle.std.specs.List.{IsDistinct, AllByRecursion}
 use Rattle.std.specs.List.Sorted.{IsPermutation}
 use Rattle.std.specs.Ordering.{nat_cmp, eq_by_cmp, is_eq}
@@ -247,3 +247,17 @@ module _ (ix : ℕ) where
   distinct_kept es new moved apart =
       let kept = distinct_others es apart in
       (distinct_moved _ _ moved kept, sym (filed_moved _ _ moved kept) ∙ filed_others es)
+
+-- a removed index leaves one pair fewer
+pub removed_len : (es new : List (ℕ × ℕ)) (ix : ℕ) → IsDistinctlyFiled es → IsDistinctlyFiled new → filed_from new ≡ finite.remove (filed_from es) ix → IsSome (finite.get (filed_from es) ix) → length new + 1 ≡ length es
+removed_len es new ix apart apart_new gone here =
+    let long = finite.len (filed_from es) in
+    let fewer : finite.len (finite.remove (filed_from es) ix) ≡ finite.len (filed_from es) - 1 =
+    finite.len-remove nat_cmp_total (filed_from es) ix ∙ ap (λ b. cond b (long - 1) long) here in
+    omega (arith, len_filed es apart, len_filed new apart_new, ap finite.len gone, fewer, some es here)
+  where
+    some : (es : List (ℕ × ℕ)) → IsSome (finite.get (filed_from es) ix) → 0 < length es
+    some [] here =
+        let none : finite.get (filed_from []) ix ≡ None = finite.get-from_entries nat_cmp_total (map turned []) ix in
+        absurd (let never = rw none at here in cc)
+    some (e ∷ es) here = omega arith

@@ -1,31 +1,36 @@
 -- What is read of a table with open addressing, and what it keeps.
 use lib.Dec.{eqb}
 use mir.Val.{bool_byte}
-use Rattle.std.proofs.Common.{not, inl, inr, ◌⊎◌, Bool, true, false, cond, ◌≡◌, ◌∙◌, ℕ, zero, suc, ◌+◌, ◌-◌, ◌^◌, ◌<◌, ◌≤◌, List, [], ◌∷◌, Option, Some, None, IfSome, Result, Ok, Err, OnOk, OnErr, length, replicate, set, get_or, slice_get, slice_index, count_by, refl, sym, ap, subst, arith}
+use Rattle.std.proofs.Common.{not, inl, inr, ◌⊎◌, Bool, true, false, cond, ◌≡◌, ◌∙◌, ℕ, zero, suc, ◌+◌, ◌-◌, ◌^◌, ◌<◌, ◌≤◌, List, [], ◌∷◌, Option, Some, None, IfSome, Result, Ok, Err, OnOk, OnErr, length, max, replicate, set, get_or, slice_get, slice_index, count_by, refl, sym, ap, subst, arith}
 use Rattle.std.proofs.lemmas.List.{length-set, length-map, length-replicate, nil_from_length, get_or_default, get_or-map}
-use Rattle.std.proofs.lemmas.List.Sorted.{IsPermutation-refl}
+use Rattle.std.proofs.lemmas.List.Sorted.{IsPermutation-refl, length_permutation}
+use Rattle.std.specs.List.Sorted.{IsPermutation}
 use Rattle.std.proofs.lemmas.Nat.{pow_pos}
 use Rattle.std.specs.Option.{option_flatten, option_map}
 use Rattle.iddqd_hash.specs.Asks.{FindsPlace, HitsPair, Misses}
-use Rattle.iddqd_hash.specs.HashTable.{Table, entries, pair_at, under, room, capacity, HasNoMemory, KeepsMemory, UsesRoom, Reserves}
+use Rattle.iddqd_hash.specs.HashTable.{Table, entries, pair_at, under, room, capacity, memory, HasNoMemory, KeepsMemory, UsesRoom}
+use Rattle.iddqd_hash.specs.Sizes.{most_cells, Reserves}
 use Rattle.iddqd_hash.specs.declared.open_table.cells.Cell.{Cell}
-use Rattle.iddqd_hash.specs.OpenTable.{tag_of, limit_of, is_used, slot_at, slots_of, hashes_of, pair_in, pairs, Suits, HasEmpty, IsPowerOfTwo, IsReached, IsProbed, IsSound, opened}
+use Rattle.iddqd_hash.specs.OpenTable.{tag_of, limit_of, usable_of, is_used, slot_at, slots_of, hashes_of, pair_in, pairs, Suits, HasEmpty, IsPowerOfTwo, IsReached, IsProbed, IsSound, opened}
 use Rattle.iddqd_hash.proofs.OpenSlotLemmas.{IsProbed-put, IsProbed-taken, IsProbed-empty, length-put, length-taken, used-set, used_one, used_count, used-cons, unused, pairs-empty, free_slot, IsProbed-rewritten, length-rewritten}
 
-module _ {T : Type 0} (slots : List (Option (ℕ × T))) (used : ℕ) where
-  pub entries-opened : entries (opened slots used) ≡ pairs slots
+module _ {T : Type 0} (slots : List (Option (ℕ × T))) where
+  pub entries-opened : entries (opened slots) ≡ pairs slots
   unfolding entries opened
   entries-opened = refl
 
-  pub room-opened : room (opened slots used) ≡ limit_of (length slots) - used
+  pub room-opened : room (opened slots) ≡ usable_of (length slots) - length (pairs slots)
   unfolding room opened
   room-opened = refl
 
-  pub capacity-opened : capacity (opened slots used) ≡ length slots
-  unfolding capacity opened
-  capacity-opened = refl
+  pub memory-opened : memory (opened slots) ≡ length slots
+  unfolding memory opened
+  memory-opened = refl
 
-  pub pair_at-opened : (place : ℕ) → pair_at (opened slots used) place ≡ slot_at slots place
+  pub capacity-opened : length (pairs slots) ≤ usable_of (length slots) → capacity (opened slots) ≡ usable_of (length slots)
+  capacity-opened fits = rw (entries-opened, room-opened) (omega arith)
+
+  pub pair_at-opened : (place : ℕ) → pair_at (opened slots) place ≡ slot_at slots place
   unfolding pair_at opened
   pair_at-opened place = flattened slots place
     where
@@ -35,37 +40,43 @@ module _ {T : Type 0} (slots : List (Option (ℕ × T))) (used : ℕ) where
       flattened (Some pair ∷ slots) zero = refl
       flattened (slot ∷ slots) (suc place) = flattened slots place
 
-module _ {T : Type 0} (old new : List (Option (ℕ × T))) (before after : ℕ) (same : length new ≡ length old) where
-  pub KeepsMemory-opened : after ≤ before → KeepsMemory (opened old before) (opened new after)
-  KeepsMemory-opened less =
+module _ {T : Type 0} (old new : List (Option (ℕ × T))) (same : length new ≡ length old) (fits : length (pairs old) ≤ usable_of (length old)) where
+  pub KeepsMemory-opened : length (pairs new) ≤ length (pairs old) → KeepsMemory (opened old) (opened new)
+  KeepsMemory-opened fewer =
       record {
         room_stays = rw (room-opened old, room-opened new, same) (omega arith);
-        same_capacity = rw (capacity-opened old, capacity-opened new) same;
+        same_capacity = rw (entries-opened old, entries-opened new, room-opened old, room-opened new, same) (omega arith);
+        same_memory = rw (memory-opened old, memory-opened new) same;
       }
 
-  pub UsesRoom-opened : after ≤ before + 1 → UsesRoom (opened old before) (opened new after)
-  UsesRoom-opened less =
+  pub UsesRoom-opened : length (pairs new) ≡ length (pairs old) + 1 → length (pairs old) < usable_of (length old) → UsesRoom (opened old) (opened new)
+  UsesRoom-opened more some =
       record {
         one_less = rw (room-opened old, room-opened new, same) (omega arith);
-        same_capacity = rw (capacity-opened old, capacity-opened new) same;
+        same_capacity = rw (entries-opened old, entries-opened new, room-opened old, room-opened new, same) (omega arith);
+        same_memory = rw (memory-opened old, memory-opened new) same;
       }
 
-pub HasNoMemory-opened : {T : Type 0} (cells : List (Cell T)) (used : ℕ) → cells ≡ [] → HasNoMemory (opened (slots_of cells) used)
-HasNoMemory-opened cells used none =
+-- all room is there where no pair is left
+pub KeepsMemory-cleared : {T : Type 0} (old new : Table T) → KeepsMemory old new → entries new ≡ [] → room new ≡ capacity old
+KeepsMemory-cleared old new kept none = omega (arith, kept.same_capacity, ap length none)
+
+pub HasNoMemory-opened : {T : Type 0} (cells : List (Cell T)) → cells ≡ [] → HasNoMemory (opened (slots_of cells))
+HasNoMemory-opened cells none =
     record {
-      no_room = room-opened (slots_of cells) used ∙ ap (λ xs. limit_of (length (slots_of xs)) - used) none ∙ omega arith;
-      no_cell = capacity-opened (slots_of cells) used ∙ ap (λ xs. length (slots_of xs)) none;
+      no_room = room-opened (slots_of cells) ∙ ap (λ xs. usable_of (length (slots_of xs)) - length (pairs (slots_of xs))) none;
+      no_cell = memory-opened (slots_of cells) ∙ ap (λ xs. length (slots_of xs)) none;
     }
 
 -- a place that is found in slots
-pub FindsPlace-opened : {F T : Type 0} (ask : F → T → Bool → F → Type 0) (f : F) (hash : ℕ) (xs : List T) (slots : List (Option (ℕ × T))) (used : ℕ) (r : Option ℕ) → FindsPlace ask f hash xs (slot_at slots) r → FindsPlace ask f hash xs (pair_at (opened slots used)) r
-FindsPlace-opened ask f hash xs slots used None finds = finds
-FindsPlace-opened ask f hash xs slots used (Some place) finds = subst (λ o. HitsPair ask f hash xs o) (sym (pair_at-opened slots used place)) finds
+pub FindsPlace-opened : {F T : Type 0} (ask : F → T → Bool → F → Type 0) (f : F) (hash : ℕ) (xs : List T) (slots : List (Option (ℕ × T))) (r : Option ℕ) → FindsPlace ask f hash xs (slot_at slots) r → FindsPlace ask f hash xs (pair_at (opened slots)) r
+FindsPlace-opened ask f hash xs slots None finds = finds
+FindsPlace-opened ask f hash xs slots (Some place) finds = subst (λ o. HitsPair ask f hash xs o) (sym (pair_at-opened slots place)) finds
 
 -- what is said of the pair that it hit, if it hit one
-pub IfSome-opened : {T V : Type 0} (value : V → T) (hash : ℕ) (slots : List (Option (ℕ × T))) (used : ℕ) (r : Option (ℕ × V)) → IfSome r (λ found. slot_at slots found.0 ≡ Some (hash, value found.1)) → IfSome r (λ found. pair_at (opened slots used) found.0 ≡ Some (hash, value found.1))
-IfSome-opened value hash slots used None is = tt
-IfSome-opened value hash slots used (Some found) is = pair_at-opened slots used found.0 ∙ is
+pub IfSome-opened : {T V : Type 0} (value : V → T) (hash : ℕ) (slots : List (Option (ℕ × T))) (r : Option (ℕ × V)) → IfSome r (λ found. slot_at slots found.0 ≡ Some (hash, value found.1)) → IfSome r (λ found. pair_at (opened slots) found.0 ≡ Some (hash, value found.1))
+IfSome-opened value hash slots None is = tt
+IfSome-opened value hash slots (Some found) is = pair_at-opened slots found.0 ∙ is
 
 -- a look-up where there is no cell
 pub Misses-nothing : {F T : Type 0} (ask : F → T → Bool → F → Type 0) (f : F) (hash : ℕ) (slots : List (Option (ℕ × T))) → length slots ≡ 0 → Misses ask f (under hash (pairs slots))
@@ -115,8 +126,18 @@ module _ {T : Type 0} (tags : List ℕ) (slots : List (Option (ℕ × T))) (len 
   empty_from some = some_empty tags (omega (arith, sound.marked, sound.limited))
 
   -- not more pairs stand in the cells than may
-  pub fits_from : length (pairs slots) ≤ limit_of (length tags)
-  fits_from = omega (arith, sound.marked, sound.limited, pairs_used tags slots sound.probed.same_length sound.probed.suited)
+  pub fits_from : length (pairs slots) ≤ usable_of (length slots)
+  fits_from = rw sound.probed.same_length (omega (arith, sound.counted, sound.fits))
+
+  -- where there is room, fewer pairs stand in the cells than may
+  pub room_of : 1 ≤ room (opened slots) → len < usable_of (length tags)
+  room_of some =
+      let more : 1 ≤ usable_of (length slots) - length (pairs slots) = rw room-opened at some in
+      omega (arith, more, sound.counted, sound.probed.same_length)
+
+  -- where no cell is full or marked, there is no pair
+  pub unused_empty : used ≡ 0 → pairs slots ≡ []
+  unused_empty none = nil_from_length (pairs slots) (omega (arith, sound.marked, pairs_used tags slots sound.probed.same_length sound.probed.suited))
 
 module _ {T : Type 0} where
   pub IsSound-none : (tags : List ℕ) (cells : List (Cell T)) → tags ≡ [] → cells ≡ [] → IsSound tags (slots_of cells) 0 0
@@ -128,6 +149,7 @@ module _ {T : Type 0} where
             count = inl refl;
             probed = IsProbed-empty 0;
             counted = refl;
+            fits = omega arith;
             marked = refl;
             limited = omega arith;
           }
@@ -148,13 +170,14 @@ module _ {T : Type 0} where
           count = same_power place 1;
           probed = IsProbed-taken tags slots sound.probed place inside;
           counted = omega (arith, sound.counted);
+          fits = omega (arith, sound.fits, length-set tags place 1);
           marked = omega (arith, sound.marked);
           limited = omega (arith, sound.limited, length-set tags place 1);
         }
 
     -- a pair that was put into a free cell, which was empty or marked
-    pub IsSound-put : (place hash : ℕ) (value : T) (now : ℕ) → place < length tags → slice_index tags place < 128 → IsReached tags hash place → now + used_count (slice_index tags place) ≡ used + 1 → now ≤ limit_of (length tags) → IsSound (set tags place (tag_of hash)) (set slots place (Some (hash, value))) (len + 1) now
-    IsSound-put place hash value now inside small reached counts limited =
+    pub IsSound-put : (place hash : ℕ) (value : T) (now : ℕ) → place < length tags → slice_index tags place < 128 → IsReached tags hash place → now + used_count (slice_index tags place) ≡ used + 1 → now ≤ limit_of (length tags) → len < usable_of (length tags) → IsSound (set tags place (tag_of hash)) (set slots place (Some (hash, value))) (len + 1) now
+    IsSound-put place hash value now inside small reached counts limited some =
         let within : place < length slots = omega (arith, sound.probed.same_length) in
         let free : slot_at slots place ≡ None = free_slot (slice_index tags place) (slot_at slots place) (sound.probed.suited place inside) small in
         let more = length-put slots place (hash, value) within free in
@@ -164,6 +187,7 @@ module _ {T : Type 0} where
           count = same_power place (tag_of hash);
           probed = IsProbed-put tags slots sound.probed place inside hash value reached;
           counted = omega (arith, sound.counted);
+          fits = rw (length-set tags place (tag_of hash)) (omega arith);
           marked = omega (arith, sound.marked);
           limited = rw (length-set tags place (tag_of hash)) limited;
         }
@@ -175,19 +199,33 @@ module _ {T : Type 0} where
         count = rw same sound.count;
         probed = probed;
         counted = omega (arith, sound.counted);
+        fits = rw same (omega (arith, sound.fits));
         marked = sound.marked ∙ sym marked;
         limited = rw same sound.limited;
       }
 
   -- a table with the pairs that it had, after they were placed anew
-  pub IsSound-placed : (tags : List ℕ) (slots : List (Option (ℕ × T))) (len : ℕ) → IsPowerOfTwo (length tags) → IsProbed tags slots → count_by is_used tags ≡ length (pairs slots) → len ≡ length (pairs slots) → len ≤ limit_of (length tags) → IsSound tags slots len len
+  pub IsSound-placed : (tags : List ℕ) (slots : List (Option (ℕ × T))) (len : ℕ) → IsPowerOfTwo (length tags) → IsProbed tags slots → count_by is_used tags ≡ length (pairs slots) → len ≡ length (pairs slots) → len ≤ usable_of (length tags) → IsSound tags slots len len
   IsSound-placed tags slots len power probed marked counted fits =
       record {
         count = inr power;
         probed = probed;
         counted = counted;
+        fits = fits;
         marked = counted ∙ sym marked;
-        limited = fits;
+        limited = omega (arith, fits);
+      }
+
+  -- a table with the pairs that it had, in the same cells, fewer of which are full or marked than may
+  pub IsSound-rebuilt : (tags now_tags : List ℕ) (slots now_slots : List (Option (ℕ × T))) (len used now : ℕ) → IsSound tags slots len used → length now_tags ≡ length tags → IsProbed now_tags now_slots → IsPermutation (pairs slots) (pairs now_slots) → now ≡ count_by is_used now_tags → now < limit_of (length tags) → IsSound now_tags now_slots len now
+  IsSound-rebuilt tags now_tags slots now_slots len used now sound same probed moved marked limited =
+      record {
+        count = rw same sound.count;
+        probed = probed;
+        counted = omega (arith, sound.counted, length_permutation _ _ moved);
+        fits = rw same sound.fits;
+        marked = marked;
+        limited = rw same (omega (arith, limited));
       }
 
   -- cells that are all empty
@@ -198,6 +236,7 @@ module _ {T : Type 0} where
         count = rw (length-replicate {A = ℕ} (length tags) 0) sound.count;
         probed = IsProbed-empty (length tags);
         counted = sym (ap length (pairs-empty (length tags)));
+        fits = omega arith;
         marked = sym (unused (length tags));
         limited = omega arith;
       })
@@ -209,6 +248,7 @@ module _ {T : Type 0} where
         count = sound.count;
         probed = IsProbed-rewritten tags slots now sound.probed same;
         counted = sound.counted ∙ sym (length-rewritten slots now same);
+        fits = sound.fits;
         marked = sound.marked;
         limited = sound.limited;
       }
@@ -225,20 +265,22 @@ pub same_value : {T : Type 0} (cells : List (Cell T)) (at : ℕ) (d e : Cell T) 
 same_value {T} cells at d e o inside is = ap (λ (c : Cell T). c.value) (get_or_default cells at e d inside) ∙ is
 
 -- a table whose pairs were placed anew, since there was less room than was asked for
-pub Reserves-placed : {T A E : Type 0} (additional : ℕ) (old new : Table T) (r : Result A E) (limit count : ℕ) → room old < additional → additional ≤ limit - length (entries old) → capacity old ≤ count → OnErr r (new ≡ old) → OnOk r (room new ≡ limit - length (entries old)) → OnOk r (capacity new ≡ count) → Reserves additional old r new
-Reserves-placed additional old new (Ok x) limit count short enough more refused roomy cells =
+pub Reserves-placed : {T A E : Type 0} (additional : ℕ) (old new : Table T) (r : Result A E) (usable count : ℕ) → room old < additional → additional ≤ usable - length (entries old) → memory old ≤ count → count ≤ most_cells (length (entries old) + additional) → OnErr r (new ≡ old) → OnOk r (room new ≡ usable - length (entries old)) → OnOk r (memory new ≡ count) → Reserves additional old r new
+Reserves-placed additional old new (Ok x) usable count short enough more few refused roomy cells =
     record {
       reserved = omega arith;
       refused = tt;
       had_room = λ had. absurd (omega arith);
       room_stays = omega arith;
-      capacity_stays = omega arith;
+      memory_stays = omega arith;
+      few = omega arith;
     }
-Reserves-placed additional old new (Err e) limit count short enough more refused roomy cells =
+Reserves-placed additional old new (Err e) usable count short enough more few refused roomy cells =
     record {
       reserved = tt;
       refused = refused;
       had_room = λ had. absurd (omega arith);
       room_stays = subst (λ t. room old ≤ room t) (sym refused) (omega arith);
-      capacity_stays = subst (λ t. capacity old ≤ capacity t) (sym refused) (omega arith);
+      memory_stays = subst (λ t. memory old ≤ memory t) (sym refused) (omega arith);
+      few = subst (λ t. memory t ≤ max (memory old) (most_cells (length (entries old) + additional))) (sym refused) (omega arith);
     }

@@ -1,15 +1,15 @@
 -- Memory that is taken ahead and given back, of both tables.
 use Rattle.std.proofs.Common.{arith, ◌≡◌, ◌∙◌, ◌+◌, ◌-◌, ◌*◌, ◌^◌, ◌<◌, ◌≤◌, ◌/◌, inr, ℕ, zero, suc, List, [], ◌∷◌, ◌++◌, Option, Some, None, length, replicate, min, max, Result, Ok, Err, IsOk, OnOk, OnErr, refl, sym, ap, subst}
 use Rattle.std.proofs.lemmas.List.{length-replicate, length-append, map_push, nil_from_length}
-use Rattle.std.proofs.lemmas.Nat.{pow-add}
+use Rattle.std.proofs.lemmas.Nat.{pow-add, pow_pos}
 use Rattle.std.specs.Option.{option_map, unwrap_or}
 use Rattle.iddqd_hash.specs.declared.open_table.cells.Cell.{Cell}
-use Rattle.iddqd_hash.specs.HashTable.{Table, room, capacity, listed}
-use Rattle.iddqd_hash.specs.OpenTable.{limit_of, opened, pair_in, pairs, slots_of, IsPowerOfTwo, IsSound}
+use Rattle.iddqd_hash.specs.HashTable.{Table, room, memory, listed}
+use Rattle.iddqd_hash.specs.OpenTable.{usable_of, opened, pair_in, pairs, slots_of, IsPowerOfTwo, IsSound}
 use Rattle.iddqd_hash.specs.Sizes.{most_cells, TakesRoom, Shrinks}
-use Rattle.iddqd_hash.proofs.CellLemmas.{room-listed, capacity-listed, HasNoMemory-listed}
+use Rattle.iddqd_hash.proofs.CellLemmas.{room-listed, memory-listed, HasNoMemory-listed}
 use Rattle.iddqd_hash.proofs.OpenSlotLemmas.{IsProbed-empty, pairs-empty, pairs-push, unused}
-use Rattle.iddqd_hash.proofs.OpenTableLemmas.{room-opened}
+use Rattle.iddqd_hash.proofs.OpenTableLemmas.{room-opened, memory-opened}
 
 module _ {T : Type 0} where
   -- an empty list, in memory for so many pairs
@@ -17,6 +17,7 @@ module _ {T : Type 0} where
   TakesRoom-listed n es spare held roomy same =
       record {
         roomy = rw room-listed (omega arith);
+        few = rw memory-listed (omega arith);
         succeeds = λ none. refl;
         no_memory = λ none. HasNoMemory-listed es spare held (omega arith) (omega arith);
       }
@@ -25,10 +26,10 @@ module _ {T : Type 0} where
     pub Shrinks-listed : {A E : Type 0} (r : Result A E) → OnOk r (holds ≤ max least len) → OnErr r (max least len < holds) → (max least len ≡ 0 → holds ≡ 0) → Shrinks least len (listed es (held - counted) held) r (listed now_es (holds - now) holds)
     Shrinks-listed r shrunk refused frees =
         record {
-          never_more = rw (capacity-listed now_es, capacity-listed es) less;
+          never_more = rw (memory-listed now_es, memory-listed es) less;
           room_stays = rw (room-listed es, room-listed now_es) (omega arith);
-          shrunk = rw (capacity-listed now_es) (few r shrunk);
-          refused = rw (capacity-listed now_es) refused;
+          shrunk = rw (memory-listed now_es) (few r shrunk);
+          refused = rw (memory-listed now_es) refused;
           succeeds = λ none. served r refused (frees none);
         }
       where
@@ -48,41 +49,35 @@ module _ {T : Type 0} where
         count = rw (length-replicate {A = ℕ} n 0) (inr power);
         probed = IsProbed-empty n;
         counted = sym (ap length (pairs-empty n));
+        fits = omega arith;
         marked = sym (unused n);
         limited = omega arith;
       })
 
-  pub TakesRoom-opened : {E : Type 0} (n : ℕ) (slots : List (Option (ℕ × T))) → 0 < n → n ≤ limit_of (length slots) → TakesRoom {E = E} n (Ok (opened slots 0))
-  TakesRoom-opened n slots some fits =
+  pub TakesRoom-opened : {E : Type 0} (n : ℕ) (slots : List (Option (ℕ × T))) → 0 < n → pairs slots ≡ [] → n ≤ usable_of (length slots) → length slots ≤ most_cells n → TakesRoom {E = E} n (Ok (opened slots))
+  TakesRoom-opened n slots some none fits few =
       record {
-        roomy = rw room-opened (omega arith);
+        roomy = rw (room-opened, none) (omega arith);
+        few = rw memory-opened few;
         succeeds = λ none. refl;
         no_memory = λ none. absurd (omega arith);
       }
 
   -- a table that is as it was, and one whose pairs were placed in fewer cells
-  pub Shrinks-same : {A E : Type 0} (least len : ℕ) (t : Table T) (x : A) → capacity t ≤ most_cells (max least len) → Shrinks {E = E} least len t (Ok x) t
+  pub Shrinks-same : {A E : Type 0} (least len : ℕ) (t : Table T) (x : A) → memory t ≤ most_cells (max least len) → Shrinks {E = E} least len t (Ok x) t
   Shrinks-same least len t x few = record { never_more = omega arith; room_stays = omega arith; shrunk = few; refused = tt; succeeds = λ none. refl }
 
-  pub Shrinks-placed : {A E : Type 0} (least len : ℕ) (old new : Table T) (r : Result A E) (count : ℕ) → 0 < max least len → max least len ≤ limit_of count → count < capacity old → count ≤ most_cells (max least len) → OnErr r (new ≡ old) → OnOk r (room new ≡ limit_of count - len) → OnOk r (capacity new ≡ count) → Shrinks least len old r new
+  pub Shrinks-placed : {A E : Type 0} (least len : ℕ) (old new : Table T) (r : Result A E) (count : ℕ) → 0 < max least len → max least len ≤ usable_of count → count < memory old → count ≤ most_cells (max least len) → OnErr r (new ≡ old) → OnOk r (room new ≡ usable_of count - len) → OnOk r (memory new ≡ count) → Shrinks least len old r new
   Shrinks-placed least len old new (Ok x) count some fits fewer few refused roomy cells =
       record { never_more = omega arith; room_stays = omega arith; shrunk = omega arith; refused = tt; succeeds = λ none. refl }
   Shrinks-placed least len old new (Err e) count some fits fewer few refused roomy cells =
       record {
-        never_more = subst (λ t. capacity t ≤ capacity old) (sym refused) (omega arith);
+        never_more = subst (λ t. memory t ≤ memory old) (sym refused) (omega arith);
         room_stays = subst (λ t. min (room old) (least - len) ≤ room t) (sym refused) (omega arith);
         shrunk = tt;
-        refused = subst (λ t. max least len < capacity t) (sym refused) (omega arith);
+        refused = subst (λ t. max least len < memory t) (sym refused) (omega arith);
         succeeds = λ none. absurd (omega arith);
       }
-
--- a table whose pairs were placed in as many cells as it had, or that is as it was
-pub capacity-placed : {T A E : Type 0} (old new : Table T) (r : Result A E) (count : ℕ) → count ≡ capacity old → OnErr r (new ≡ old) → OnOk r (capacity new ≡ count) → capacity new ≡ capacity old
-capacity-placed old new (Ok x) count same refused cells = cells ∙ same
-capacity-placed old new (Err e) count same refused cells = ap capacity refused
-
-pub same_count : (a b : ℕ) → Some a ≡ Some b → a ≡ b
-same_count a b same = ap (λ o. unwrap_or o a) same
 
 pub half_power : (count : ℕ) → IsPowerOfTwo count → 16 < count → IsPowerOfTwo (count / 2)
 half_power count (zero, is) more = absurd (omega arith)
@@ -90,6 +85,16 @@ half_power count (suc k, is) more =
     let same : suc k + 4 ≡ 1 + (k + 4) = omega arith in
     let twice : count ≡ 2 ^ 1 * 2 ^ (k + 4) = is ∙ ap (λ n. 2 ^ n) same ∙ pow-add 2 1 (k + 4) in
     (k, omega arith)
+
+-- so many cells are few where half of them would be too few
+pub few_halved : (count needed : ℕ) → IsPowerOfTwo count → 0 < needed → (16 < count → usable_of (count / 2) < needed) → count ≤ most_cells needed
+few_halved count needed (zero, is) some tried = omega (arith, is)
+few_halved count needed (suc k, is) some tried =
+    let same : suc k + 4 ≡ 5 + k = omega arith in
+    let many : count ≡ 2 ^ 5 * 2 ^ k = is ∙ ap (λ n. 2 ^ n) same ∙ pow-add 2 5 k in
+    let some_cell : 0 < 2 ^ k = pow_pos k in
+    let short : usable_of (count / 2) < needed = tried (omega arith) in
+    omega arith
 
 -- cells with no pair, of which the last is let go
 module _ {T : Type 0} (cells rest : List (Cell T)) (cell : Cell T) (split : cells ≡ rest ++ cell ∷ []) (none : pairs (slots_of cells) ≡ []) where

@@ -1,7 +1,8 @@
 -- What an entry without a pair has of a reserve.
 use Rattle.std.proofs.Common.{◌≡◌, ◌≤◌, ℕ, Ok, Err, refl, arith}
 use Rattle.iddqd_hash.specs.Entries.{IsVacancy}
-use Rattle.iddqd_hash.specs.HashTable.{Table, Reserves, room}
+use Rattle.iddqd_hash.specs.HashTable.{Table, room}
+use Rattle.iddqd_hash.specs.Sizes.{Reserves}
 
 -- once room for one was made, an entry has it
 pub IsVacancy-reserved : {T A E : Type 0} (hash : ℕ) (old new : Table T) (done : A) → Reserves {E = E} 1 old (Ok done) new → IsVacancy hash old hash new
@@ -11,7 +12,7 @@ IsVacancy-reserved hash old new done made =
       roomy = made.reserved;
       had_room = λ had. (made.had_room had).1;
       room_stays = made.room_stays;
-      capacity_stays = made.capacity_stays;
+      memory_stays = made.memory_stays;
     }
 
 -- where room for one was refused there was none

@@ -1,6 +1,6 @@
 -- What an entry without a pair says of its table.
 use Rattle.std.specs.Prelude.{◌≡◌, ◌≤◌, ℕ}
-use Rattle.iddqd_hash.specs.HashTable.{Table, room, capacity}
+use Rattle.iddqd_hash.specs.HashTable.{Table, room, memory}
 
 module _ {T : Type 0} where
   -- a vacant entry under this hash, in this table: where there was room, the table is as it was; else room was made
@@ -9,4 +9,4 @@ module _ {T : Type 0} where
     pub roomy : 1 ≤ room new
     pub had_room : 1 ≤ room old → new ≡ old
     pub room_stays : room old ≤ room new
-    pub capacity_stays : capacity old ≤ capacity new
+    pub memory_stays : memory old ≤ memory new

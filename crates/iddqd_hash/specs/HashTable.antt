@@ -1,5 +1,5 @@
 -- What a contract sees of a table of values under hashes.
-use Rattle.std.specs.Prelude.{◌≡◌, ◌==◌, ◌+◌, ◌≤◌, ℕ, List, Option, Some, Result, IsOk, OnOk, OnErr, map, filter, refl, slice_get, ◌∷◌}
+use Rattle.std.specs.Prelude.{◌≡◌, ◌==◌, ◌+◌, ◌≤◌, ℕ, List, Option, Some, length, map, filter, refl, slice_get, ◌∷◌}
 use Rattle.std.specs.Coded.{Coded, code_by, coded×, coded_ℕ, coded_list, coded_option}
 use Rattle.std.specs.List.{AllZip, filter_map}
 use Rattle.std.specs.List.Sorted.{IsPermutation}
@@ -10,7 +10,7 @@ use Rattle.std.specs.Option.{option_flatten, option_map}
 pub record Table (T : Type 0) : Type 0 where
   pub cells : List (Option (ℕ × T))
   pub spare : ℕ
-  pub capacity : ℕ
+  pub memory : ℕ
 
 -- a table is stored as the tuple of its fields
 abbrev pub table_code : {T : Type 0} → Coded T → Coded (Table T)
@@ -18,14 +18,14 @@ table_code {T} code =
     code_by
     (List (Option (ℕ × T)) × (ℕ × ℕ))
     (coded× (coded_list (coded_option (coded× coded_ℕ code))) (coded× coded_ℕ coded_ℕ))
-    (λ t. (t.cells, (t.spare, t.capacity)))
-    (λ p. record { cells = p.0; spare = p.1.0; capacity = p.1.1 })
+    (λ t. (t.cells, (t.spare, t.memory)))
+    (λ p. record { cells = p.0; spare = p.1.0; memory = p.1.1 })
     (λ _. refl)
 
 module _ {T : Type 0} where
   -- these pairs, each in a cell, with room for so many more in memory for so many cells
   unfoldable pub listed : List (ℕ × T) → ℕ → ℕ → Table T
-  listed es spare held = record { cells = map Some es; spare = spare; capacity = held }
+  listed es spare held = record { cells = map Some es; spare = spare; memory = held }
 
   -- the pairs that stand in the cells, as a bag: clauses compare it by `IsPermutation`
   unfoldable pub entries : Table T → List (ℕ × T)
@@ -44,8 +44,12 @@ module _ {T : Type 0} where
   room t = t.spare
 
   -- how many cells the memory holds
-  unfoldable pub capacity : Table T → ℕ
-  capacity t = t.capacity
+  unfoldable pub memory : Table T → ℕ
+  memory t = t.memory
+
+  -- how many pairs the table can hold without more memory
+  abbrev pub capacity : Table T → ℕ
+  capacity t = length (entries t) + room t
 
   -- the values of the pairs
   abbrev pub values : List (ℕ × T) → List T
@@ -71,24 +75,16 @@ module _ {T : Type 0} where
   -- a table that takes no memory
   pub record HasNoMemory (t : Table T) : Type 0 where
     pub no_room : room t ≡ 0
-    pub no_cell : capacity t ≡ 0
+    pub no_cell : memory t ≡ 0
 
-  -- no memory was taken or given back, and no room lost
+  -- no memory was taken or given back, as many pairs can be held as before, and no room was lost
   pub record KeepsMemory (old new : Table T) : Type 0 where
     pub room_stays : room old ≤ room new
     pub same_capacity : capacity new ≡ capacity old
+    pub same_memory : memory new ≡ memory old
 
-  -- no memory was taken or given back, and the room of one pair may be gone
+  -- no memory was taken or given back, as many pairs can be held as before, and the room of one pair was used
   pub record UsesRoom (old new : Table T) : Type 0 where
-    pub one_less : room old ≤ room new + 1
+    pub one_less : room old ≡ room new + 1
     pub same_capacity : capacity new ≡ capacity old
-
-  -- Room was made for so many pairs more, or else nothing changed. Where there was room, it succeeds and nothing
-  -- changed.
-  pub record Reserves {A E : Type 0} (additional : ℕ) (old : Table T) (result : Result A E) (new : Table T)
-      : Type 0 where
-    pub reserved : OnOk result (additional ≤ room new)
-    pub refused : OnErr result (new ≡ old)
-    pub had_room : additional ≤ room old → IsOk result × (new ≡ old)
-    pub room_stays : room old ≤ room new
-    pub capacity_stays : capacity old ≤ capacity new
+    pub same_memory : memory new ≡ memory old

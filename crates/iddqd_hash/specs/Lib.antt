@@ -15,5 +15,5 @@ pub use Rattle.iddqd.specs.Compaction
 pub use Rattle.iddqd.specs.MapHash
 pub use Rattle.iddqd.specs.Compaction.{remapped, CanRemap}
 pub use Rattle.iddqd.specs.MapHash.{hash_one}
-pub use Rattle.iddqd_hash.specs.HashTable.{entries, values, under, capacity, room}
+pub use Rattle.iddqd_hash.specs.HashTable.{entries, values, under, capacity, memory, room}
 pub use Rattle.iddqd_hash.specs.MapHashTable.{filed, indexes_of, indexes_under, IsDistinctlyFiled, FindsWhere, Unfiles, Renames}

@@ -14,6 +14,10 @@ tag_of hash = hash / 2 ^ 57 + 128
 abbrev pub limit_of : ℕ → ℕ
 limit_of count = count / 8 * 7
 
+-- how many pairs so many cells may hold: thirteen of sixteen
+abbrev pub usable_of : ℕ → ℕ
+usable_of count = count / 16 * 13
+
 -- a power of two from 16 on
 abbrev pub IsPowerOfTwo : ℕ → Type 0
 IsPowerOfTwo count = (k : ℕ) × (count ≡ 2 ^ (k + 4))
@@ -109,14 +113,15 @@ module _ {T : Type 0} where
       (place : ℕ) × PassesBy tags slots hash from place × (slice_index tags place ≡ 0)
 
   -- What a table with open addressing keeps of its tags, its slots, the number of pairs and that of the cells that are
-  -- full or marked. Where there are cells, at least one of eight is empty.
+  -- full or marked. Where there are cells, at least one of eight is empty, and at most thirteen of sixteen have a pair.
   pub record IsSound (tags : List ℕ) (slots : List (Option (ℕ × T))) (len used : ℕ) : Type 0 where
     pub count : (length tags ≡ 0) ⊎ IsPowerOfTwo (length tags)
     pub probed : IsProbed tags slots
     pub counted : len ≡ length (pairs slots)
+    pub fits : len ≤ usable_of (length tags)
     pub marked : used ≡ count_by is_used tags
     pub limited : used ≤ limit_of (length tags)
 
-  -- what a contract sees of slots, so many of which are full or marked
-  unfoldable pub opened : List (Option (ℕ × T)) → ℕ → Table T
-  opened slots used = record { cells = slots; spare = limit_of (length slots) - used; capacity = length slots }
+  -- what a contract sees of slots: marks make no difference
+  unfoldable pub opened : List (Option (ℕ × T)) → Table T
+  opened slots = record { cells = slots; spare = usable_of (length slots) - length (pairs slots); memory = length slots }

@@ -11,12 +11,13 @@
 //! An insert hashes its key once: it looks up under the hash that it files the index under.
 //! `remove_by_index` is a `retain` over all, in the place of a walk of its own. A clone copies cells as
 //! memory, since an index is `Copy`.
-ghost use Rattle.std.specs.Prelude.{◌≡◌, ◌≤◌, ℕ, Contains, Some, None, IsTrue, IsSome, IfOk, OnErr};
+ghost use Rattle.std.specs.Prelude.{◌≡◌, ◌+◌, ◌≤◌, ℕ, Contains, Some, None, IsTrue, IsSome, IfOk, OnErr};
 ghost use Rattle.std.specs.FinMap as finite;
 ghost use Rattle.iddqd.specs.Compaction.{CanRemap, remapped};
 ghost use Rattle.iddqd.specs.MapHash.{hash_one};
 ghost use Rattle.iddqd_hash.specs.Asks.{CanAsk, LooksUp, HitsPair, Misses};
-ghost use Rattle.iddqd_hash.specs.HashTable.{room, pair_at, HasNoMemory, KeepsMemory, UsesRoom, Reserves};
+ghost use Rattle.iddqd_hash.specs.HashTable.{room, capacity, pair_at, HasNoMemory, KeepsMemory, UsesRoom};
+ghost use Rattle.iddqd_hash.specs.Sizes.{Reserves};
 ghost use Rattle.iddqd_hash.specs.MapHashTable.{filed, indexes_under, AsksKey, Renames, Unfiles};
 
 mod copies;
@@ -104,6 +105,14 @@ impl MapHashTable {
         ensures { result ≡ room self.now }
     {
         self.table.room()
+    }
+
+    /// How many indexes the table can hold without more memory.
+    pub fn capacity(&self) -> usize
+        ensures value { result ≡ capacity self.now }
+        ensures room { result ≡ finite.len (filed self.now) + room self.now }
+    {
+        self.table.capacity()
     }
 
     /// Makes room for `additional` more indexes.
@@ -216,6 +225,7 @@ impl MapHashTable {
         requires { IsSome (finite.get (filed self.old) ix) }
         ensures removed { filed self.new ≡ finite.remove (filed self.old) ix }
         ensures memory { KeepsMemory self.old self.new }
+        ensures room { room self.new ≡ room self.old + 1 }
     {
         self.table.retain(|at| *at != ix);
     }
@@ -224,6 +234,7 @@ impl MapHashTable {
     pub fn clear(&mut self)
         ensures empty { filed self.new ≡ finite.empty }
         ensures memory { KeepsMemory self.old self.new }
+        ensures room { room self.new ≡ capacity self.old }
     {
         self.table.clear();
     }
@@ -258,6 +269,7 @@ impl MapHashTable {
         requires { IsSome (pair_at self.old place) }
         ensures removed { Unfiles self.old (pair_at self.old place) self.new }
         ensures memory { KeepsMemory self.old self.new }
+        ensures room { room self.new ≡ room self.old + 1 }
     {
         self.table.take_at(place);
     }
@@ -277,6 +289,7 @@ impl<'a> OccupiedEntry<'a> {
     pub fn remove(self)
         ensures removed { Unfiles (entry_table self.entry) (entry_pair self.entry) self.exit.0.now }
         ensures memory { KeepsMemory (entry_table self.entry) self.exit.0.now }
+        ensures room { room self.exit.0.now ≡ room (entry_table self.entry) + 1 }
     {
         let place = self.place;
         self.table.remove_at(place);

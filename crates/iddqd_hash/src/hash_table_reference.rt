@@ -12,7 +12,8 @@ ghost use Rattle.std.specs.List.Sorted.{IsPermutation};
 ghost use Rattle.std.specs.List.{Contains};
 ghost use Rattle.std.specs.Fn.{TakesAt, CalledAt, FnReturnsAt};
 ghost use Rattle.iddqd_hash.specs.Asks.{CanAsk, LooksUp, HitsPair, FindsPlace, Misses, Keeps, KeepsTo};
-ghost use Rattle.iddqd_hash.specs.HashTable.{entries, room, under, values, Rewrites, HasNoMemory, KeepsMemory, UsesRoom, Reserves};
+ghost use Rattle.iddqd_hash.specs.HashTable.{entries, room, capacity, under, values, Rewrites, HasNoMemory, KeepsMemory, UsesRoom};
+ghost use Rattle.iddqd_hash.specs.Sizes.{Reserves};
 
 mod copies;
 mod entry;
@@ -99,7 +100,14 @@ impl<T> HashTable<T> {
     pub fn room(&self) -> usize
         ensures { result ≡ room self.now }
     {
-        self.pairs.capacity() - self.pairs.len()
+        self.capacity() - self.len()
+    }
+
+    /// How many pairs the table can hold without more memory.
+    pub fn capacity(&self) -> usize
+        ensures { result ≡ capacity self.now }
+    {
+        self.pairs.capacity()
     }
 
     /// Makes room for `additional` more pairs.
@@ -113,7 +121,11 @@ impl<T> HashTable<T> {
         if additional <= self.room() {
             return Ok(());
         }
-        self.pairs.try_reserve(additional)
+        let len = self.pairs.len();
+        let needed = len.checked_add(additional).ok_or(AllocError)?;
+        // At least twice as many, so that pairs which are added one by one are moved seldom.
+        let wanted = needed.max(self.pairs.capacity().saturating_mul(2));
+        self.pairs.try_reserve_exact(wanted - len)
     }
 
     /// A value under `hash` at which `eq` answers `true`.
@@ -198,6 +210,7 @@ impl<T> HashTable<T> {
         T: Drop,
         ensures empty { entries self.new ≡ [] }
         ensures memory { KeepsMemory self.old self.new }
+        ensures room { room self.new ≡ capacity self.old }
     {
         self.pairs.clear();
     }

@@ -7,10 +7,13 @@
 //! pairs whose hashes share the low bits costs n * n / 2 steps. The contracts are those of
 //! [`HashTable`](crate::hash_table_reference::HashTable).
 //!
-//! Marks go when the table is placed anew: at the same size where at most three quarters of the
-//! limit are needed, else at twice the size, so that a table near its limit isn't placed anew again
-//! and again. With seven eighths in the place of three quarters a removal with an insert took 114
-//! ns at 100,000 entries, not 81. Tags stand apart from cells, since at 1,000 entries a miss took
+//! At most thirteen of sixteen cells have a pair, and at most seven of eight are full or marked. Where an
+//! insert finds so many in use, the pairs are first placed anew in the same cells, and no mark is left:
+//! so the capacity doesn't depend on what was removed. One cell of sixteen is then free to be filled,
+//! so that a table near its capacity isn't rebuilt again and again. More pairs take twice as many cells.
+//! Thirteen of sixteen keeps 100,000 pairs in 131,072 cells, which three of four would double.
+//!
+//! Tags stand apart from cells, since at 1,000 entries a miss took
 //! 1.4 times hashbrown's time so, and 7.7 times in one vector of cells. Up to 65536 cells a walk
 //! begins with sixteen tags, which spares a branch guessed wrong: at 1,000 a hit took 2.1 times
 //! hashbrown's time without that, and 1.7 with it. Past them it begins with the home's tag alone,
@@ -18,8 +21,8 @@
 //! 1.5 times as long.
 //!
 //! An insert writes its cell unread, since safe code would load the cell to drop what stood there: the
-//! one `unsafe` line. `grow` and `later_match` stand apart, so that what runs mostly is short enough
-//! for the caller's loop. A walk keeps the full ones of its sixteen places as bits. A clone copies tags
+//! one `unsafe` line. `grow`, `rebuild` and `later_match` stand apart, so that what runs mostly is short
+//! enough for the caller's loop, and an insert is put there: called, it took an eighth more instructions. A walk keeps the full ones of its sixteen places as bits. A clone copies tags
 //! and cells in place, marks too, so that no hash is looked at.
 ghost use Rattle.std.specs.Prelude.{◌≡◌, ◌∷◌, ◌≤◌, ◌<◌, ◌+◌, ◌-◌, [], Some, length, option_copied, IfOk, IfSome, OnOk, OnErr};
 ghost use Rattle.std.specs.List.Sorted.{IsPermutation};
@@ -27,16 +30,16 @@ ghost use Rattle.std.specs.List.{Contains};
 ghost use Rattle.std.specs.Option.{option_map};
 ghost use Rattle.std.specs.Fn.{TakesAt, CalledAt, FnReturnsAt};
 ghost use Rattle.iddqd_hash.specs.Asks.{CanAsk, LooksUp, HitsPair, FindsPlace, Misses, Keeps};
-ghost use Rattle.iddqd_hash.specs.HashTable.{entries, room, capacity, pair_at, under, values, Rewrites, HasNoMemory, KeepsMemory, UsesRoom, Reserves};
-ghost use Rattle.iddqd_hash.specs.OpenTable.{limit_of, IsPowerOfTwo};
-ghost use Rattle.iddqd_hash.specs.OpenTableSizes.{KeepsCells, NeedsNoCells};
+ghost use Rattle.iddqd_hash.specs.HashTable.{entries, room, capacity, memory, pair_at, under, values, Rewrites, HasNoMemory, KeepsMemory, UsesRoom};
+ghost use Rattle.iddqd_hash.specs.Sizes.{Reserves};
+ghost use Rattle.iddqd_hash.specs.OpenTable.{usable_of, IsPowerOfTwo};
 
 use crate::open_table::cells::{
     Cell, clear_cells, clear_tags, empty_cells, find_cell, move_cells, put, retain_cells,
     rewrite_cells, take, value_in,
 };
-use crate::open_table::rebuild::rebuild;
-use crate::open_table::tags::{count_for, free_place, limit_of};
+use crate::open_table::rebuild::rebuild_at_limit;
+use crate::open_table::tags::{count_for, free_place, usable_of};
 use crate::table_entry::{self, PairCells};
 use std::alloc::{AllocError, Global};
 use std::marker::Model;
@@ -77,7 +80,7 @@ impl<T> Model for OpenHashTable<T> {
 
     ghost coded = { table_code T.code };
 
-    ghost view = { λ s. opened (slots_of s.cells.items) s.used };
+    ghost view = { λ s. opened (slots_of s.cells.items) };
 
     ghost invariant = { λ s. IsSound s.tags.items (slots_of s.cells.items) s.len s.used };
 }
@@ -104,7 +107,14 @@ impl<T> PairCells for OpenHashTable<T> {
         take(self.tags.as_mut_slice(), self.cells.as_mut_slice(), place)
     }
 
+    #[inline(always)]
     fn add(&mut self, hash: u64, value: T) -> usize {
+        self.used = rebuild_at_limit(
+            self.tags.as_mut_slice(),
+            self.cells.as_mut_slice(),
+            self.used,
+            self.len,
+        );
         let place = free_place(self.tags.as_slice(), hash);
         let was_empty = self.tags[place] == 0;
         self.used += was_empty as usize;
@@ -149,20 +159,23 @@ impl<T> OpenHashTable<T> {
     pub fn room(&self) -> usize
         ensures { result ≡ room self.now }
     {
-        let limit = limit_of(self.tags.len());
-        limit - self.used
+        self.capacity() - self.len
+    }
+
+    /// How many pairs the table can hold without more memory.
+    pub fn capacity(&self) -> usize
+        ensures { result ≡ capacity self.now }
+    {
+        usable_of(self.tags.len())
     }
 
     /// Makes room for `additional` more pairs.
     ///
     /// An `AllocError` means that memory was refused, or that no vector can hold so many; the table
-    /// stays as it was. It stays so too, and takes no memory, where there is room for so many. Where all the pairs
-    /// are three quarters of what the cells may hold, or fewer, it has as many cells as before, and takes no memory.
+    /// stays as it was. It stays so too, and takes no memory, where there is room for so many.
     pub fn try_reserve(&mut self, additional: usize) -> Result<(), AllocError>
         ensures contents { IsPermutation (entries self.old) (entries self.new) }
         ensures memory { Reserves additional self.old result self.new }
-        ensures same_cells { KeepsCells (length (entries self.old) + additional) self.old self.new }
-        ensures succeeds { NeedsNoCells (length (entries self.old) + additional) self.old result }
     {
         if additional <= self.room() {
             return Ok(());
@@ -207,6 +220,9 @@ impl<T> OpenHashTable<T> {
     }
 
     /// Adds a pair, and takes no memory.
+    ///
+    /// Where no more cells may be full or marked, it first costs a walk over all cells, which leaves no mark.
+    #[inline(always)]
     pub fn insert_unique(&mut self, hash: u64, value: T) -> OccupiedEntry<'_, T>
         requires { 1 ≤ room self.old }
         ensures pair { entry_pair result ≡ Some (hash, value) }
@@ -254,14 +270,15 @@ impl<T> OpenHashTable<T> {
         rewrite_cells(self.cells.as_mut_slice(), f);
     }
 
-    /// Removes every pair, and keeps the memory. Without a pair it looks at no cell.
+    /// Removes every pair, and keeps the memory. Without a pair or a mark it looks at no cell.
     pub fn clear(&mut self)
     where
         T: Drop,
         ensures empty { entries self.new ≡ [] }
         ensures memory { KeepsMemory self.old self.new }
+        ensures room { room self.new ≡ capacity self.old }
     {
-        if self.len == 0 {
+        if self.used == 0 {
             return;
         }
         clear_tags(self.tags.as_mut_slice());
@@ -289,38 +306,20 @@ impl<T> OpenHashTable<T> {
         requires { room self.old < additional }
         ensures contents { IsPermutation (entries self.old) (entries self.new) }
         ensures memory { Reserves additional self.old result self.new }
-        ensures same_cells { KeepsCells (length (entries self.old) + additional) self.old self.new }
-        ensures succeeds { NeedsNoCells (length (entries self.old) + additional) self.old result }
     {
-        let current = self.tags.len();
         let needed = self.len.checked_add(additional).ok_or(AllocError)?;
-        let count = count_for(current, needed).ok_or(AllocError)?;
-        if count == current {
-            self.rebuild_in_place();
-            return Ok(());
-        }
+        let count = count_for(needed).ok_or(AllocError)?;
         self.place_anew(count)
-    }
-
-    // Places every pair anew in the same cells, so that no mark is left, and takes no memory.
-    fn rebuild_in_place(&mut self)
-        requires { 0 < capacity self.old }
-        ensures contents { IsPermutation (entries self.old) (entries self.new) }
-        ensures room { room self.new ≡ limit_of (capacity self.old) - length (entries self.old) }
-        ensures capacity { capacity self.new ≡ capacity self.old }
-    {
-        rebuild(self.tags.as_mut_slice(), self.cells.as_mut_slice());
-        self.used = self.len;
     }
 
     // Moves every pair into so many new cells.
     fn place_anew(&mut self, count: usize) -> Result<(), AllocError>
         requires power { IsPowerOfTwo count }
-        requires fits { length (entries self.old) ≤ limit_of count }
+        requires fits { length (entries self.old) ≤ usable_of count }
         ensures contents { IsPermutation (entries self.old) (entries self.new) }
         ensures refused { OnErr result (self.new ≡ self.old) }
-        ensures room { OnOk result (room self.new ≡ limit_of count - length (entries self.old)) }
-        ensures capacity { OnOk result (capacity self.new ≡ count) }
+        ensures room { OnOk result (room self.new ≡ usable_of count - length (entries self.old)) }
+        ensures memory { OnOk result (memory self.new ≡ count) }
     {
         let alloc = *self.cells.allocator();
         let mut tags = vec![in alloc; 0u8; count]?;

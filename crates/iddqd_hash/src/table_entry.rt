@@ -2,7 +2,7 @@
 //!
 //! A table names them by aliases, and has its own `find_entry` and `entry`: so callers import no
 //! trait, and where the lender is a type parameter, the check proves no clause on what it ends as.
-ghost use Rattle.std.specs.Prelude.{◌≡◌, ◌∷◌, ◌≤◌, Some, IsSome};
+ghost use Rattle.std.specs.Prelude.{◌≡◌, ◌∷◌, ◌+◌, ◌≤◌, Some, IsSome};
 ghost use Rattle.std.specs.List.Sorted.{IsPermutation};
 ghost use Rattle.std.specs.Fn.{TakesAt, CalledAt};
 ghost use Rattle.iddqd_hash.specs.Asks.{CanAsk, FindsPlace};
@@ -30,7 +30,8 @@ pub trait PairCells {
     fn take_at(&mut self, place: usize) -> Self::Value
         requires { IsSome (pair_at (seen self.old) place) }
         ensures removed { TakesOut (seen self.old) (pair_at (seen self.old) place) result (seen self.new) }
-        ensures memory { KeepsMemory (seen self.old) (seen self.new) };
+        ensures memory { KeepsMemory (seen self.old) (seen self.new) }
+        ensures room { room (seen self.new) ≡ room (seen self.old) + 1 };
 
     /// Adds a pair, and returns its cell. No memory is taken.
     fn add(&mut self, hash: u64, value: Self::Value) -> usize
@@ -79,6 +80,7 @@ impl<'a, C: PairCells> OccupiedEntry<'a, C> {
     pub fn remove(self) -> C::Value
         ensures removed { TakesOut (entry_table self.entry) (entry_pair self.entry) result (C.seen self.exit.0.now) }
         ensures memory { KeepsMemory (entry_table self.entry) (C.seen self.exit.0.now) }
+        ensures room { room (C.seen self.exit.0.now) ≡ room (entry_table self.entry) + 1 }
     {
         let place = self.place;
         self.table.take_at(place)

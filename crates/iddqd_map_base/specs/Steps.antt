@@ -7,7 +7,7 @@ use Rattle.std.specs.FinMap.{FinMap}
 use Rattle.iddqd.specs.Store.{Store, get, removed}
 use Rattle.iddqd.specs.Compaction.{CanRemap, remapped}
 use Rattle.iddqd.specs.declared.index_remap.IndexRemap.{IndexRemap}
-use Rattle.iddqd_hash.specs.HashTable.{Table, capacity}
+use Rattle.iddqd_hash.specs.HashTable.{Table, memory}
 use Rattle.iddqd_hash.specs.MapHashTable.{filed}
 use Rattle.iddqd_hash.specs.Sizes.{most_cells}
 use Rattle.iddqd_sides.specs.Hashed.{Hashing}
@@ -25,7 +25,7 @@ alike_by key = shares key.key_of key.hashing.equal
 
 -- a table has no more cells than a shrunken one keeps for its indexes
 abbrev pub IsShrunk : Table ℕ → Type 0
-IsShrunk table = capacity table ≤ most_cells (finite.len (filed table))
+IsShrunk table = memory table ≤ most_cells (finite.len (filed table))
 
 -- each index of the map has a new name, and no two have one
 pub record CanName (remap : IndexRemap) (m : FinMap nat_cmp ℕ) : Type 0 where

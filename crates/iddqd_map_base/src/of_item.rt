@@ -4,7 +4,7 @@ ghost use Rattle.std.specs.FinMap as finite;
 ghost use Rattle.iddqd.specs.Validation.{AreAsExpected};
 ghost use Rattle.iddqd.specs.{Validates};
 ghost use Rattle.iddqd_hash.specs.{filed, indexes_of};
-ghost use Rattle.iddqd_hash.specs.HashTable.{room, KeepsMemory, UsesRoom};
+ghost use Rattle.iddqd_hash.specs.HashTable.{room, KeepsMemory};
 ghost use Rattle.iddqd_sides.specs.Scan.{IsLive, AnswersScan};
 ghost use Rattle.iddqd_sides.specs.Hashed.{hashing_of};
 ghost use Rattle.iddqd_sides.specs.HashedMove.{IfMoves, IfStays, moved};
@@ -77,7 +77,7 @@ where
     requires filed { IsSome (finite.get (filed table.old) ix) }
     requires roomy { IfMoves plan.now (λ _. 1 ≤ room table.old) }
     ensures moved { filed table.new ≡ moved (filed table.old) ix plan.now }
-    ensures memory { UsesRoom table.old table.new }
+    ensures memory { KeepsMemory table.old table.new }
     ensures untouched { IfStays plan.now (table.new ≡ table.old) }
 {
     if let Move::To(_) = plan {

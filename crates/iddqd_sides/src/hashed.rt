@@ -3,10 +3,10 @@
 //! The hasher's state belongs to the collection, since several sides may share one; so each call is
 //! handed the hash, and a key is hashed once. An insert takes the table's own `try_reserve` and
 //! `insert_prehashed_unchecked`.
-ghost use Rattle.std.specs.Prelude.{◌≡◌, IsSome};
+ghost use Rattle.std.specs.Prelude.{◌≡◌, ◌+◌, IsSome};
 ghost use Rattle.std.specs.FinMap as finite;
 ghost use Rattle.iddqd.specs.MapHash.{hash_one};
-ghost use Rattle.iddqd_hash.specs.HashTable.{KeepsMemory};
+ghost use Rattle.iddqd_hash.specs.HashTable.{room, KeepsMemory};
 ghost use Rattle.iddqd_hash.specs.{filed};
 ghost use Rattle.iddqd_sides.specs.Scan.{IsLive, IsKeyAt};
 ghost use Rattle.iddqd_sides.specs.Hashed.{AreLive, AsksAt, LooksUp, Takes};
@@ -99,6 +99,7 @@ pub fn take_index(table: &mut MapHashTable, hash: MapHash, ix: ItemIndex)
     requires { IsSome (finite.get (filed table.old) ix) }
     ensures taken { filed table.new ≡ finite.remove (filed table.old) ix }
     ensures memory { KeepsMemory table.old table.new }
+    ensures room { room table.new ≡ room table.old + 1 }
 {
     let found = table.find_entry_by_hash(hash.hash(), |at| at == ix);
     match found {

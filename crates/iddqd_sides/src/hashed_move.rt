@@ -5,7 +5,7 @@
 ghost use Rattle.std.specs.Prelude.{◌≡◌, ◌≤◌, ℕ, IsSome, OnOk, OnErr};
 ghost use Rattle.std.specs.FinMap as finite;
 ghost use Rattle.iddqd_hash.specs.{filed, room};
-ghost use Rattle.iddqd_hash.specs.HashTable.{UsesRoom};
+ghost use Rattle.iddqd_hash.specs.HashTable.{KeepsMemory};
 ghost use Rattle.iddqd_sides.specs.HashedMove.{IfMoves, IfStays, LacksRoom, moved};
 
 use crate::hashed;
@@ -44,7 +44,7 @@ pub fn commit_move(table: &mut MapHashTable, from: MapHash, plan: &Move, ix: Ite
     requires filed { IsSome (finite.get (filed table.old) ix) }
     requires roomy { IfMoves plan.now (λ _. 1 ≤ room table.old) }
     ensures moved { filed table.new ≡ moved (filed table.old) ix plan.now }
-    ensures memory { UsesRoom table.old table.new }
+    ensures memory { KeepsMemory table.old table.new }
     ensures untouched { IfStays plan.now (table.new ≡ table.old) }
 {
     if let Move::To(to) = plan {

@@ -1,9 +1,8 @@
 //! Memory that a table of indexes takes ahead, and gives back.
 ghost use Rattle.std.specs.Prelude.{◌≡◌, IfOk};
 ghost use Rattle.std.specs.FinMap as finite;
-ghost use Rattle.iddqd_hash.specs.HashTable.{Reserves};
 ghost use Rattle.iddqd_hash.specs.MapHashTable.{filed};
-ghost use Rattle.iddqd_hash.specs.Sizes.{TakesRoom, Shrinks};
+ghost use Rattle.iddqd_hash.specs.Sizes.{Reserves, TakesRoom, Shrinks};
 
 use super::MapHashTable;
 use crate::open_table::OpenHashTable;

@@ -1,8 +1,8 @@
 //! Memory that a linear table takes ahead, and gives back.
 ghost use Rattle.std.specs.Prelude.{◌≡◌, [], length, IfOk};
 ghost use Rattle.std.specs.List.Sorted.{IsPermutation};
-ghost use Rattle.iddqd_hash.specs.HashTable.{entries, Reserves};
-ghost use Rattle.iddqd_hash.specs.Sizes.{TakesRoom, Shrinks};
+ghost use Rattle.iddqd_hash.specs.HashTable.{entries};
+ghost use Rattle.iddqd_hash.specs.Sizes.{Reserves, TakesRoom, Shrinks};
 
 use super::HashTable;
 use std::alloc::{AllocError, Global};

@@ -13,15 +13,38 @@ ghost use Rattle.iddqd_hash.specs.OpenTable.{tag_of, limit_of, is_used, slots_of
 ghost use Rattle.iddqd_hash.specs.OpenRebuild.{pending, IsPartlyPlaced, NoMorePending};
 
 use crate::open_table::cells::{Cell, put};
-use crate::open_table::tags::{free_place, tag_of};
+use crate::open_table::tags::{free_place, limit_of, tag_of};
 use std::mem;
 
 // The tag of a cell whose pair isn't placed yet. It is that of a mark, since no cell is marked during a rebuild.
 const PENDING: u8 = 1;
 
-/// Places every pair anew in the same cells, and leaves no mark. It costs a walk over the cells, and one from the home of
-/// each pair.
-pub fn rebuild<T>(tags: &mut [u8], cells: &mut [Cell<T>])
+/// Rebuilds a table where no more cells may be full or marked. Returns how many are then.
+///
+/// So a pair that is added next finds an empty cell that it may fill, or a mark.
+pub fn rebuild_at_limit<T>(tags: &mut [u8], cells: &mut [Cell<T>], used: usize, len: usize) -> usize
+    requires power { IsPowerOfTwo (length tags.old) }
+    requires probed { IsProbed tags.old (slots_of cells.old) }
+    requires used { used ≡ count_by is_used tags.old }
+    requires len { len ≡ length (pairs (slots_of cells.old)) }
+    requires fits { len < limit_of (length tags.old) }
+    ensures moved { IsPermutation (pairs (slots_of cells.old)) (pairs (slots_of cells.new)) }
+    ensures probed { IsProbed tags.new (slots_of cells.new) }
+    ensures used { result ≡ count_by is_used tags.new }
+    ensures limited { result < limit_of (length tags.old) }
+{
+    if used < limit_of(tags.len()) {
+        return used;
+    }
+    rebuild(tags, cells);
+    len
+}
+
+// Places every pair anew in the same cells, and leaves no mark. It costs a walk over the cells, and one from the home of
+// each pair.
+#[cold]
+#[inline(never)]
+fn rebuild<T>(tags: &mut [u8], cells: &mut [Cell<T>])
     requires power { IsPowerOfTwo (length tags.old) }
     requires probed { IsProbed tags.old (slots_of cells.old) }
     requires fits { length (pairs (slots_of cells.old)) ≤ limit_of (length tags.old) }

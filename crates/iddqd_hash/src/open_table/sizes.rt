@@ -1,14 +1,14 @@
 //! Memory that a table with open addressing takes ahead, and gives back.
 ghost use Rattle.std.specs.Prelude.{◌≡◌, ◌⊎◌, ◌<◌, ◌≤◌, [], length, IfOk, vec_len};
 ghost use Rattle.std.specs.List.Sorted.{IsPermutation};
-ghost use Rattle.iddqd_hash.specs.HashTable.{entries, HasNoMemory, Reserves};
-ghost use Rattle.iddqd_hash.specs.OpenTable.{limit_of, pairs, slots_of, IsPowerOfTwo};
+ghost use Rattle.iddqd_hash.specs.HashTable.{entries, HasNoMemory};
+ghost use Rattle.iddqd_hash.specs.OpenTable.{pairs, slots_of, IsPowerOfTwo};
 ghost use Rattle.iddqd_hash.specs.OpenTableSizes.{FewerCells};
-ghost use Rattle.iddqd_hash.specs.Sizes.{most_cells, TakesRoom, Shrinks};
+ghost use Rattle.iddqd_hash.specs.Sizes.{Reserves, most_cells, TakesRoom, Shrinks};
 
 use super::OpenHashTable;
 use super::cells::{Cell, empty_cells};
-use super::tags::{count_for, limit_of};
+use super::tags::{count_for, usable_of};
 use std::alloc::{AllocError, Global};
 use std::mem;
 
@@ -21,7 +21,7 @@ impl<T> OpenHashTable<T> {
         if capacity == 0 {
             return Ok(OpenHashTable::new(alloc));
         }
-        let count = count_for(0, capacity).ok_or(AllocError)?;
+        let count = count_for(capacity).ok_or(AllocError)?;
         let tags = vec![in alloc; 0u8; count]?;
         let cells = empty_cells(alloc, count)?;
         Ok(OpenHashTable {
@@ -115,7 +115,7 @@ fn fewer_cells(current: usize, needed: usize) -> usize
     ensures few { result ≤ most_cells needed }
 {
     let mut count = current;
-    while count > 16 && needed <= limit_of(count / 2) {
+    while count > 16 && needed <= usable_of(count / 2) {
         count /= 2;
     }
     count

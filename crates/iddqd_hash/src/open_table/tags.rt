@@ -3,9 +3,10 @@
 //! A tag is 0 where its cell is empty and 1 where a pair was removed from it. From 128 on the cell is
 //! full, and the tag has the top seven bits of the hash. A walk goes from the home of a hash by steps of
 //! one, the first place after the last, up to an empty cell.
-ghost use Rattle.std.specs.Prelude.{◌≡◌, ◌+◌, ◌*◌, ◌<◌, ◌≤◌, ◌%◌, ◌⊎◌, Some, length, IfSome};
-ghost use Rattle.iddqd_hash.specs.OpenTable.{tag_of, limit_of, IsPowerOfTwo, HasEmpty, Skips, IsFree};
+ghost use Rattle.std.specs.Prelude.{◌≡◌, ◌+◌, ◌<◌, ◌≤◌, ◌%◌, length, IfSome};
+ghost use Rattle.iddqd_hash.specs.OpenTable.{tag_of, limit_of, usable_of, IsPowerOfTwo, HasEmpty, Skips, IsFree};
 ghost use Rattle.iddqd_hash.specs.OpenRebuild.{IsPastFull};
+ghost use Rattle.iddqd_hash.specs.Sizes.{most_cells};
 
 use crate::open_table::lanes::{run_of_full, run_of_others};
 
@@ -113,33 +114,23 @@ pub fn limit_of(count: usize) -> usize
     count / 8 * 7
 }
 
-/// How many cells a table of `current` ones takes for so many pairs, if so many can be.
-///
-/// As many as it has where the pairs are three quarters of its limit or fewer, so that removed pairs give way; else at
-/// least twice as many.
-pub fn count_for(current: usize, needed: usize) -> Option<usize>
-    requires count { (current ≡ 0) ⊎ IsPowerOfTwo current }
-    requires some { 0 < needed }
-    ensures power { IfSome result (λ count. IsPowerOfTwo count) }
-    ensures fits { IfSome result (λ count. needed ≤ limit_of count) }
-    ensures no_fewer { IfSome result (λ count. current ≤ count) }
-    ensures same { 4 * needed ≤ 3 * limit_of current → result ≡ Some current }
+/// How many pairs so many cells may hold: thirteen of sixteen.
+pub fn usable_of(count: usize) -> usize
+    ensures { result ≡ usable_of count }
 {
-    let limit = limit_of(current);
-    if needed <= limit - limit.div_ceil(4) {
-        return Some(current);
-    }
-    least_count(needed.max(limit + 1))
+    count / 16 * 13
 }
 
-// The least number of cells of which so many may be full.
-fn least_count(needed: usize) -> Option<usize>
+/// The least number of cells that may hold so many pairs, if so many can be.
+pub fn count_for(needed: usize) -> Option<usize>
+    requires { 0 < needed }
     ensures power { IfSome result (λ count. IsPowerOfTwo count) }
-    ensures fits { IfSome result (λ count. needed ≤ limit_of count) }
+    ensures fits { IfSome result (λ count. needed ≤ usable_of count) }
+    ensures few { IfSome result (λ count. count ≤ most_cells needed) }
 {
     for exponent in 4..60u32 {
         let count = 1usize << exponent;
-        if needed <= limit_of(count) {
+        if needed <= usable_of(count) {
             return Some(count);
         }
     }

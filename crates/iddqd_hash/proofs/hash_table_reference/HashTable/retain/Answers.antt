@@ -9,4 +9,4 @@ pub returns-clause-kept : goal.returns-clause-kept
 returns-clause-kept g c = rw (← c.self.view_is, entries-listed, entries-listed) (record { last = _; kept = c.retain_pairs.ensures.kept })
 
 pub returns-clause-memory : goal.returns-clause-memory
-returns-clause-memory g c = rw (← c.self.view_is) (KeepsMemory-listed _ _ _ _ _ _ c.retain_pairs.ensures.capacity (omega arith))
+returns-clause-memory g c = rw (← c.self.view_is) (KeepsMemory-listed _ _ _ _ _ _ c.retain_pairs.ensures.capacity (omega arith) (omega arith))

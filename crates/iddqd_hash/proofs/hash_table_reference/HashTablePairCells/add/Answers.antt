@@ -17,4 +17,6 @@ returns-clause-added g c =
     rw (← c.self.view_is, entries-listed, entries-listed, c.push_reserved.ensures.items) (IsPermutation-sym _ _ (IsPermutation-to_front _ _))
 
 pub returns-clause-memory : goal.returns-clause-memory
-returns-clause-memory g c = rw (← c.self.view_is) (UsesRoom-listed _ _ _ _ _ _ c.push_reserved.ensures.capacity (omega arith))
+returns-clause-memory g c =
+    let room : 1 ≤ vec_capacity c.self.inside.pairs - vec_len c.self.inside.pairs = rw (← c.self.view_is, room-listed) at c.requires in
+    rw (← c.self.view_is) (UsesRoom-listed _ _ _ _ _ _ c.push_reserved.ensures.capacity (omega arith) (omega arith))

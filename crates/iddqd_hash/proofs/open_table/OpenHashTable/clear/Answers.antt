@@ -1,9 +1,9 @@
-use Rattle.std.proofs.Common.{◌≡◌, ◌∙◌, None, length, replicate, ap, sym, arith}
-use Rattle.std.proofs.lemmas.List.{with_items_is, nil_from_length}
+use Rattle.std.proofs.Common.{◌≡◌, ◌∙◌, [], None, length, replicate, ap, sym, arith}
+use Rattle.std.proofs.lemmas.List.{with_items_is}
 use Rattle.iddqd_hash.specs.HashTable.{entries}
 use Rattle.iddqd_hash.specs.OpenTable.{slots_of}
 use Rattle.iddqd_hash.proofs.OpenSlotLemmas.{pairs-empty}
-use Rattle.iddqd_hash.proofs.OpenTableLemmas.{entries-opened, cells_long, IsSound-cleared, KeepsMemory-opened}
+use Rattle.iddqd_hash.proofs.OpenTableLemmas.{entries-opened, cells_long, fits_from, unused_empty, IsSound-cleared, KeepsMemory-opened, KeepsMemory-cleared}
 use Rattle.iddqd_hash.proofs.open_table.OpenHashTable.clear.Goals as goal
 
 pub invariant_of-self : goal.invariant_of-self
@@ -25,9 +25,15 @@ returns-clause-memory g c =
     let cells-is = with_items_is c.self.inside.cells c.clear_cells.new.cells (c.clear_cells.auto.cells ∙ c.as_mut_slice-2.ensures.len) in
     let long : length (slots_of c.clear_cells.new.cells) ≡ length (slots_of c.self.inside.cells.items) =
     cells_long c.clear_cells.new.cells ∙ c.clear_cells.auto.cells ∙ ap length c.as_mut_slice-2.ensures.value ∙ sym (cells_long c.self.inside.cells.items) in
-    rw (← c.self.view_is) (KeepsMemory-opened _ _ _ _ (rw cells-is long) (omega arith))
+    rw (← c.self.view_is) (KeepsMemory-opened _ _ (rw cells-is long) (fits_from _ _ _ _ c.self.invariant) (rw (cells-is, c.clear_cells.ensures) (omega (arith, ap length (pairs-empty {T = g.row.T.Denot} (length c.as_mut_slice-2.result.now))))))
 
 pub returns-then-self-eq0-clause-empty : goal.returns-then-self-eq0-clause-empty
-returns-then-self-eq0-clause-empty g c =
-    let counted : c.self.inside.len ≡ length (entries c.args.self.now) = rw (← c.self.view_is, entries-opened) c.self.invariant.counted in
-    nil_from_length _ (omega arith)
+returns-then-self-eq0-clause-empty g c = rw (← c.self.view_is, entries-opened) (unused_empty _ _ _ _ c.self.invariant (omega arith))
+
+pub returns-clause-room : goal.returns-clause-room
+returns-clause-room g c = KeepsMemory-cleared _ _ (returns-clause-memory g c) (returns-clause-empty g c)
+
+pub returns-then-self-eq0-clause-room : goal.returns-then-self-eq0-clause-room
+returns-then-self-eq0-clause-room g c =
+    let none : entries c.args.self.now ≡ [] = rw (← c.self.view_is, entries-opened) (unused_empty _ _ _ _ c.self.invariant (omega arith)) in
+    omega (arith, ap length none)

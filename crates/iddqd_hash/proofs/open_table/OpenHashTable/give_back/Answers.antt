@@ -16,10 +16,10 @@ invariant_of-self g c =
 pub returns-clause-empty : goal.returns-clause-empty
 returns-clause-empty g c =
     let none : c.replace.new.dest.items ≡ [] = rw c.replace.ensures.after c.new-2.ensures.items in
-    entries-opened _ _ ∙ ap (λ cells. pairs (slots_of cells)) none
+    entries-opened _ ∙ ap (λ cells. pairs (slots_of cells)) none
 
 pub returns-clause-memory : goal.returns-clause-memory
-returns-clause-memory g c = HasNoMemory-opened _ _ (rw c.replace.ensures.after c.new-2.ensures.items)
+returns-clause-memory g c = HasNoMemory-opened _ (rw c.replace.ensures.after c.new-2.ensures.items)
 
 pub destroy_empty-requires : goal.destroy_empty-requires
 destroy_empty-requires g c = grind (arith, common_steps)

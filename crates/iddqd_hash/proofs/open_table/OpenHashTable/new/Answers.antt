@@ -7,7 +7,7 @@ pub invariant_of-result : goal.invariant_of-result
 invariant_of-result g c = IsSound-none _ _ c.new.ensures.items c.new-2.ensures.items
 
 pub returns-clause-empty : goal.returns-clause-empty
-returns-clause-empty g c = entries-opened _ _ ∙ ap (λ cells. pairs (slots_of cells)) c.new-2.ensures.items
+returns-clause-empty g c = entries-opened _ ∙ ap (λ cells. pairs (slots_of cells)) c.new-2.ensures.items
 
 pub returns-clause-memory : goal.returns-clause-memory
-returns-clause-memory g c = HasNoMemory-opened _ _ c.new-2.ensures.items
+returns-clause-memory g c = HasNoMemory-opened _ c.new-2.ensures.items

@@ -2,8 +2,8 @@ use Rattle.std.proofs.Common.{rules, ◌≡◌, ◌∙◌, ◌≤◌, None, leng
 use Rattle.std.proofs.lemmas.Grind.{common_steps}
 use Rattle.std.proofs.lemmas.List.{with_items_is}
 use Rattle.std.proofs.lemmas.List.Sorted.{length_permutation}
-use Rattle.iddqd_hash.specs.OpenTable.{limit_of, slots_of, pairs}
-use Rattle.iddqd_hash.proofs.OpenTableLemmas.{entries-opened, room-opened, capacity-opened, IsSound-placed}
+use Rattle.iddqd_hash.specs.OpenTable.{usable_of, slots_of, pairs}
+use Rattle.iddqd_hash.proofs.OpenTableLemmas.{entries-opened, room-opened, memory-opened, IsSound-placed}
 use Rattle.iddqd_hash.proofs.open_table.OpenHashTable.place_anew.Goals as goal
 
 pub move_cells-requires-clause-power : goal.move_cells-requires-clause-power
@@ -21,12 +21,13 @@ move_cells-requires-clause-no_pair g c =
 
 pub move_cells-requires-clause-fits : goal.move_cells-requires-clause-fits
 move_cells-requires-clause-fits g c =
-    rw (c.as_mut_slice.ensures.len ∙ c.in_ok-tags.ensures.len) (rw (← c.self.view_is, entries-opened) at c.requires.fits)
+    let fits : length (pairs (slots_of c.self.inside.cells.items)) ≤ usable_of c.args.count = rw (← c.self.view_is, entries-opened) at c.requires.fits in
+    rw (c.as_mut_slice.ensures.len ∙ c.in_ok-tags.ensures.len) (omega (arith, fits))
 
 pub invariant_of-self : goal.invariant_of-self
 invariant_of-self g c =
     let long : length c.move_cells.new.tags ≡ c.args.count = c.move_cells.auto.tags ∙ c.as_mut_slice.ensures.len ∙ c.in_ok-tags.ensures.len in
-    let fits : length (pairs (slots_of c.self.inside.cells.items)) ≤ limit_of c.args.count = rw (← c.self.view_is, entries-opened) at c.requires.fits in
+    let fits : length (pairs (slots_of c.self.inside.cells.items)) ≤ usable_of c.args.count = rw (← c.self.view_is, entries-opened) at c.requires.fits in
     let tags-is = with_items_is c.in_ok-tags.tags c.move_cells.new.tags (c.move_cells.auto.tags ∙ c.as_mut_slice.ensures.len) in
     let cells-is = with_items_is c.in_ok-cells.cells c.move_cells.new.cells (c.move_cells.auto.cells ∙ c.as_mut_slice-2.ensures.len) in
     let same = length_permutation _ _ c.move_cells.ensures.moved in
@@ -43,13 +44,13 @@ pub returns-clause-room : goal.returns-clause-room
 returns-clause-room g c =
     let long : length (slots_of c.move_cells.new.cells) ≡ c.args.count = c.move_cells.ensures.probed.same_length ∙ c.move_cells.auto.tags ∙ c.as_mut_slice.ensures.len ∙ c.in_ok-tags.ensures.len in
     let cells-is = with_items_is c.in_ok-cells.cells c.move_cells.new.cells (c.move_cells.auto.cells ∙ c.as_mut_slice-2.ensures.len) in
-    rw (← c.self.view_is, entries-opened, room-opened, c.replace.ensures.after, cells-is) (omega (arith, long, c.self.invariant.counted))
+    rw (← c.self.view_is, entries-opened, room-opened, c.replace.ensures.after, cells-is) (omega (arith, long, c.self.invariant.counted, length_permutation _ _ c.move_cells.ensures.moved))
 
-pub returns-clause-capacity : goal.returns-clause-capacity
-returns-clause-capacity g c =
+pub returns-clause-memory : goal.returns-clause-memory
+returns-clause-memory g c =
     let long : length (slots_of c.move_cells.new.cells) ≡ c.args.count = c.move_cells.ensures.probed.same_length ∙ c.move_cells.auto.tags ∙ c.as_mut_slice.ensures.len ∙ c.in_ok-tags.ensures.len in
     let cells-is = with_items_is c.in_ok-cells.cells c.move_cells.new.cells (c.move_cells.auto.cells ∙ c.as_mut_slice-2.ensures.len) in
-    rw (capacity-opened, c.replace.ensures.after, cells-is) long
+    rw (memory-opened, c.replace.ensures.after, cells-is) long
 
 pub destroy_empty-requires : goal.destroy_empty-requires
 destroy_empty-requires g c = grind (arith, common_steps)

@@ -2,7 +2,7 @@ use Rattle.std.proofs.Common.{◌≡◌, ◌∙◌, length, ap, sym, arith}
 use Rattle.std.proofs.lemmas.List.{with_items_is}
 use Rattle.iddqd_hash.specs.OpenTable.{slots_of}
 use Rattle.iddqd_hash.proofs.OpenAheadLemmas.{IsInSixteens-count}
-use Rattle.iddqd_hash.proofs.OpenTableLemmas.{entries-opened, cells_long, IsSound-retained, KeepsMemory-opened}
+use Rattle.iddqd_hash.proofs.OpenTableLemmas.{entries-opened, cells_long, fits_from, IsSound-retained, KeepsMemory-opened}
 use Rattle.iddqd_hash.proofs.open_table.OpenHashTable.retain.Goals as goal
 
 pub retain_cells-removed-requires-clause-probed : goal.retain_cells-removed-requires-clause-probed
@@ -42,4 +42,5 @@ returns-clause-memory g c =
     let cells-is = with_items_is c.self.inside.cells c.retain_cells-removed.new.cells (c.retain_cells-removed.auto.cells ∙ c.as_mut_slice-2.ensures.len) in
     let long : length (slots_of c.retain_cells-removed.new.cells) ≡ length (slots_of c.self.inside.cells.items) =
     cells_long c.retain_cells-removed.new.cells ∙ c.retain_cells-removed.auto.cells ∙ ap length c.as_mut_slice-2.ensures.value ∙ sym (cells_long c.self.inside.cells.items) in
-    rw (← c.self.view_is) (KeepsMemory-opened _ _ _ _ (rw cells-is long) (omega arith))
+    let counted = rw c.as_mut_slice-2.ensures.value at c.retain_cells-removed.ensures.counted in
+    rw (← c.self.view_is) (KeepsMemory-opened _ _ (rw cells-is long) (fits_from _ _ _ _ c.self.invariant) (rw cells-is (omega (arith, counted))))

@@ -3,7 +3,8 @@ use Rattle.std.proofs.lemmas.List.{with_items_is, nil_from_length}
 use Rattle.iddqd_hash.specs.HashTable.{entries}
 use Rattle.iddqd_hash.proofs.CopyLemmas.{Rewrites-cloned}
 use Rattle.iddqd_hash.specs.OpenTable.{slots_of, hashes_of}
-use Rattle.iddqd_hash.proofs.OpenTableLemmas.{entries-opened, cells_long, IsSound-rewritten, KeepsMemory-opened}
+use Rattle.iddqd_hash.proofs.OpenSlotLemmas.{length-rewritten}
+use Rattle.iddqd_hash.proofs.OpenTableLemmas.{entries-opened, cells_long, fits_from, IsSound-rewritten, KeepsMemory-opened}
 use Rattle.iddqd_hash.proofs.open_table.OpenHashTable.rewrite.Goals as goal
 
 pub rewrite_cells-requires : goal.rewrite_cells-requires
@@ -24,7 +25,9 @@ returns-clause-memory g c =
     let cells-is = with_items_is c.self.inside.cells c.rewrite_cells.new.cells (c.rewrite_cells.auto.cells ∙ c.as_mut_slice.ensures.len) in
     let long : length (slots_of c.rewrite_cells.new.cells) ≡ length (slots_of c.self.inside.cells.items) =
     cells_long c.rewrite_cells.new.cells ∙ c.rewrite_cells.auto.cells ∙ ap length c.as_mut_slice.ensures.value ∙ sym (cells_long c.self.inside.cells.items) in
-    rw (← c.self.view_is) (KeepsMemory-opened _ _ _ _ (rw cells-is long) (omega arith))
+    let same = c.rewrite_cells.ensures.same_hashes ∙ ap (λ cells. hashes_of (slots_of cells)) c.as_mut_slice.ensures.value in
+    let kept = length-rewritten (slots_of c.self.inside.cells.items) (slots_of c.rewrite_cells.new.cells) same in
+    rw (← c.self.view_is) (KeepsMemory-opened _ _ (rw cells-is long) (fits_from _ _ _ _ c.self.invariant) (rw cells-is (omega (arith, kept))))
 
 pub returns-then-self-eq0-clause-rewritten : goal.returns-then-self-eq0-clause-rewritten
 returns-then-self-eq0-clause-rewritten g c =

@@ -1,6 +1,14 @@
-use Rattle.std.proofs.Common.{arith}
-use Rattle.iddqd_hash.proofs.OpenTableLemmas.{room-opened}
+use Rattle.std.proofs.Common.{◌≡◌, length, arith}
+use Rattle.iddqd_hash.specs.HashTable.{entries}
+use Rattle.iddqd_hash.proofs.OpenTableLemmas.{entries-opened}
 use Rattle.iddqd_hash.proofs.open_table.OpenHashTable.room.Goals as goal
 
+pub overflow_sub-result : goal.overflow_sub-result
+overflow_sub-result g c =
+    let counted : c.self.inside.len ≡ length (entries c.args.self.now) = rw (← c.self.view_is, entries-opened) c.self.invariant.counted in
+    omega (arith, counted, c.capacity.ensures)
+
 pub returns : goal.returns
-returns g c = rw (← c.self.view_is, room-opened, c.self.invariant.probed.same_length) (omega arith)
+returns g c =
+    let counted : c.self.inside.len ≡ length (entries c.args.self.now) = rw (← c.self.view_is, entries-opened) c.self.invariant.counted in
+    omega (arith, counted, c.capacity.ensures)

@@ -2,9 +2,9 @@ use Rattle.std.proofs.Common.{◌≡◌, ◌≤◌, ◌<◌, inl, inr, [], lengt
 use Rattle.std.proofs.lemmas.Grind.{common_steps}
 use Rattle.std.proofs.lemmas.List.{nil_from_length}
 use Rattle.std.proofs.lemmas.List.Sorted.{IsPermutation-refl}
-use Rattle.iddqd_hash.specs.HashTable.{entries, capacity}
-use Rattle.iddqd_hash.specs.OpenTable.{limit_of}
-use Rattle.iddqd_hash.proofs.OpenTableLemmas.{entries-opened, capacity-opened}
+use Rattle.iddqd_hash.specs.HashTable.{entries, memory}
+use Rattle.iddqd_hash.specs.OpenTable.{usable_of}
+use Rattle.iddqd_hash.proofs.OpenTableLemmas.{entries-opened, memory-opened}
 use Rattle.iddqd_hash.proofs.SizeLemmas.{Shrinks-same, Shrinks-placed}
 use Rattle.iddqd_hash.proofs.open_table.OpenHashTable.shrink_to.Goals as goal
 
@@ -22,7 +22,7 @@ returns-then-needed-eq0-clause-contents g c =
 pub returns-then-count-len-clause-memory : goal.returns-then-count-len-clause-memory
 returns-then-count-len-clause-memory g c =
     let counted : c.self.inside.len ≡ length (entries c.args.self.now) = rw (← c.self.view_is, entries-opened) c.self.invariant.counted in
-    let held : capacity c.args.self.now ≡ length c.self.inside.tags.items = rw (← c.self.view_is, capacity-opened) c.self.invariant.probed.same_length in
+    let held : memory c.args.self.now ≡ length c.self.inside.tags.items = rw (← c.self.view_is, memory-opened) c.self.invariant.probed.same_length in
     Shrinks-same c.args.least (length (entries c.args.self.now)) c.args.self.now _ (omega (arith, c.fewer_cells-count.ensures.few))
 
 pub place_anew-requires-clause-fits : goal.place_anew-requires-clause-fits
@@ -33,11 +33,11 @@ place_anew-requires-clause-fits g c =
 pub returns-clause-memory : goal.returns-clause-memory
 returns-clause-memory g c =
     let counted : c.self.inside.len ≡ length (entries c.args.self.now) = rw (← c.self.view_is, entries-opened) c.self.invariant.counted in
-    let held : capacity c.args.self.now ≡ length c.self.inside.tags.items = rw (← c.self.view_is, capacity-opened) c.self.invariant.probed.same_length in
-    let fits : c.max-needed.result ≤ limit_of c.fewer_cells-count.result = elim c.fewer_cells-count.ensures.halved [ inl same ↦ absurd (omega arith) | inr fewer ↦ fewer.fits ] in
+    let held : memory c.args.self.now ≡ length c.self.inside.tags.items = rw (← c.self.view_is, memory-opened) c.self.invariant.probed.same_length in
+    let fits : c.max-needed.result ≤ usable_of c.fewer_cells-count.result = elim c.fewer_cells-count.ensures.halved [ inl same ↦ absurd (omega arith) | inr fewer ↦ fewer.fits ] in
     let fewer : c.fewer_cells-count.result < length c.self.inside.tags.items = elim c.fewer_cells-count.ensures.halved [ inl same ↦ absurd (omega arith) | inr fewer ↦ omega (arith, fewer.fewer) ] in
     Shrinks-placed c.args.least (length (entries c.args.self.now)) c.args.self.now _ c.place_anew.result c.fewer_cells-count.result (omega arith) (omega arith) (omega arith) (omega (arith, c.fewer_cells-count.ensures.few))
-    c.place_anew.ensures.refused c.place_anew.ensures.room c.place_anew.ensures.capacity
+    c.place_anew.ensures.refused c.place_anew.ensures.room c.place_anew.ensures.memory
 
 pub place_anew-requires-clause-power : goal.place_anew-requires-clause-power
 place_anew-requires-clause-power g c = elim c.fewer_cells-count.ensures.halved [ inl same ↦ absurd (omega arith) | inr fewer ↦ fewer.power ]

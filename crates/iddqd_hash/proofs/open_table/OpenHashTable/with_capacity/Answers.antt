@@ -1,6 +1,7 @@
-use Rattle.std.proofs.Common.{rules, ◌≡◌, ◌≤◌, ◌∙◌, None, length, ap, arith}
+use Rattle.std.proofs.Common.{rules, ◌≡◌, ◌≤◌, ◌∙◌, [], None, length, ap, arith}
 use Rattle.std.proofs.lemmas.List.{length-replicate}
-use Rattle.iddqd_hash.specs.OpenTable.{limit_of, slots_of, pairs, IsPowerOfTwo}
+use Rattle.iddqd_hash.specs.OpenTable.{usable_of, slots_of, pairs, IsPowerOfTwo}
+use Rattle.iddqd_hash.specs.Sizes.{most_cells}
 use Rattle.iddqd_hash.proofs.OpenSlotLemmas.{pairs-empty}
 use Rattle.iddqd_hash.proofs.OpenTableLemmas.{entries-opened}
 use Rattle.iddqd_hash.proofs.SizeLemmas.{IsSound-empty, TakesRoom-opened}
@@ -12,10 +13,12 @@ invariant_of-result g c =
     IsSound-empty _ _ c.in_ok-count.count (c.in_ok-tags.ensures.items_if_clones_equal (λ y same. search rules)) c.in_ok-cells.ensures power
 
 pub returns-clause-empty : goal.returns-clause-empty
-returns-clause-empty g c = entries-opened _ _ ∙ ap pairs c.in_ok-cells.ensures ∙ pairs-empty c.in_ok-count.count
+returns-clause-empty g c = entries-opened _ ∙ ap pairs c.in_ok-cells.ensures ∙ pairs-empty c.in_ok-count.count
 
 pub returns-clause-memory : goal.returns-clause-memory
 returns-clause-memory g c =
-    let fits : c.args.capacity ≤ limit_of c.in_ok-count.count = rw c.in_ok-count.ensures.ok_part at c.count_for.ensures.fits in
+    let fits : c.args.capacity ≤ usable_of c.in_ok-count.count = rw c.in_ok-count.ensures.ok_part at c.count_for.ensures.fits in
     let long : length (slots_of c.in_ok-cells.cells.items) ≡ c.in_ok-count.count = ap length c.in_ok-cells.ensures ∙ length-replicate c.in_ok-count.count None in
-    TakesRoom-opened c.args.capacity (slots_of c.in_ok-cells.cells.items) (omega arith) (rw long fits)
+    let few : c.in_ok-count.count ≤ most_cells c.args.capacity = rw c.in_ok-count.ensures.ok_part at c.count_for.ensures.few in
+    let none : pairs (slots_of c.in_ok-cells.cells.items) ≡ [] = ap pairs c.in_ok-cells.ensures ∙ pairs-empty c.in_ok-count.count in
+    TakesRoom-opened c.args.capacity (slots_of c.in_ok-cells.cells.items) (omega arith) none (rw long fits) (rw long few)

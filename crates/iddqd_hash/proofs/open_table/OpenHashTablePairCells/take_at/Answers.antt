@@ -5,7 +5,7 @@ use Rattle.std.specs.Vec.{with_items}
 use Rattle.iddqd_hash.specs.HashTable.{value_of}
 use Rattle.iddqd_hash.specs.OpenTable.{slots_of, slot_at}
 use Rattle.iddqd_hash.proofs.OpenSlotLemmas.{some_inside, some_is, length-taken, pairs-taken}
-use Rattle.iddqd_hash.proofs.OpenTableLemmas.{entries-opened, pair_at-opened, cells_long, IsSound-taken, KeepsMemory-opened}
+use Rattle.iddqd_hash.proofs.OpenTableLemmas.{entries-opened, pair_at-opened, room-opened, cells_long, fits_from, IsSound-taken, KeepsMemory-opened}
 use Rattle.iddqd_hash.proofs.open_table.OpenHashTablePairCells.take_at.Goals as goal
 
 pub overflow_sub-self : goal.overflow_sub-self
@@ -57,7 +57,7 @@ returns-clause-removed g c =
     rw (← c.self.view_is)
     (record {
       hash = pair.0.0;
-      is_pair = pair_at-opened _ _ _ ∙ full;
+      is_pair = pair_at-opened _ _ ∙ full;
       others_stay = rw (entries-opened, entries-opened, slots-is) (pairs-taken (slots_of cells.items) c.args.place _ inside full);
     })
 
@@ -66,4 +66,18 @@ returns-clause-memory g c =
     let cells = c.self.inside.cells in
     let slots-is : slots_of (with_items cells c.take.new.cells).items ≡ set (slots_of cells.items) c.args.place None =
     ap slots_of (with_items_is cells c.take.new.cells (c.take.auto.cells ∙ c.as_mut_slice-2.ensures.len)) ∙ c.take.ensures.slots ∙ ap (λ xs. set (slots_of xs) c.args.place None) c.as_mut_slice-2.ensures.value in
-    rw (← c.self.view_is) (KeepsMemory-opened _ _ _ _ (ap length slots-is ∙ length-set (slots_of cells.items) c.args.place None) (omega arith))
+    let some : IsSome (slot_at (slots_of c.self.inside.cells.items) c.args.place) = rw (← c.self.view_is, pair_at-opened) at c.requires in
+    let pair = some_is _ some in
+    let fewer = length-taken (slots_of c.self.inside.cells.items) c.args.place pair.0 (some_inside _ _ some) pair.1 in
+    rw (← c.self.view_is) (KeepsMemory-opened _ _ (ap length slots-is ∙ length-set (slots_of cells.items) c.args.place None) (fits_from _ _ _ _ c.self.invariant) (rw slots-is (omega (arith, fewer))))
+
+pub returns-clause-room : goal.returns-clause-room
+returns-clause-room g c =
+    let cells = c.self.inside.cells in
+    let slots-is : slots_of (with_items cells c.take.new.cells).items ≡ set (slots_of cells.items) c.args.place None =
+    ap slots_of (with_items_is cells c.take.new.cells (c.take.auto.cells ∙ c.as_mut_slice-2.ensures.len)) ∙ c.take.ensures.slots ∙ ap (λ xs. set (slots_of xs) c.args.place None) c.as_mut_slice-2.ensures.value in
+    let some : IsSome (slot_at (slots_of c.self.inside.cells.items) c.args.place) = rw (← c.self.view_is, pair_at-opened) at c.requires in
+    let pair = some_is _ some in
+    let fewer = length-taken (slots_of c.self.inside.cells.items) c.args.place pair.0 (some_inside _ _ some) pair.1 in
+    let fits = fits_from _ _ _ _ c.self.invariant in
+    rw (← c.self.view_is, room-opened, room-opened, slots-is, length-set) (omega (arith, fewer, fits))

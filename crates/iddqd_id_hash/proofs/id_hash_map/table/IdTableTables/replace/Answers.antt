@@ -34,4 +34,4 @@ returns-clause-replaces g c =
     let reserved = c.reserve_move.ensures in
     let did = c.commit_item.ensures in
     Becomes-planned (record { key_of = g.T.IdHashItem.key_of; hashing = hashing }) c.args.items.now c.args.self.now.keys c.args.ix c.args.item c.replace.result c.replace.ensures.value c.in-Ok.plan c.replace.new.self c.reserve_move.new.table c.commit_item.new.table c.in-Ok.ensures lawful c.requires.map.indexed c.replace.ensures.rebound
-    reserved.untouched did.untouched reserved.room_stays did.memory.one_less
+    reserved.untouched did.untouched reserved.room_stays (omega (arith, did.memory.room_stays))
