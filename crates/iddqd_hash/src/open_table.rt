@@ -22,8 +22,9 @@
 //!
 //! An insert writes its cell unread, since safe code would load the cell to drop what stood there: the
 //! one `unsafe` line. `grow`, `rebuild` and `later_match` stand apart, so that what runs mostly is short
-//! enough for the caller's loop, and an insert is put there: called, it took an eighth more instructions. A walk keeps the full ones of its sixteen places as bits. A clone copies tags
-//! and cells in place, marks too, so that no hash is looked at.
+//! enough for the caller's loop, and an insert is inlined there: called, it took an eighth more
+//! instructions. A walk keeps the full ones of its sixteen places as bits. A clone copies tags and cells
+//! in place, marks too, so that no hash is looked at.
 ghost use Rattle.std.specs.Prelude.{◌≡◌, ◌∷◌, ◌≤◌, ◌<◌, ◌+◌, ◌-◌, [], Some, length, option_copied, IfOk, IfSome, OnOk, OnErr};
 ghost use Rattle.std.specs.List.Sorted.{IsPermutation};
 ghost use Rattle.std.specs.List.{Contains};
