@@ -2,6 +2,7 @@
 #![tactic(auto)]
 
 mod badges;
+mod calendar;
 mod guests;
 mod hashers;
 mod leases;
@@ -34,6 +35,7 @@ fn print_all(rt: &(impl Print + RandomSource), alloc: Global) -> io::Result<()> 
     print(rt, words::line(alloc))?;
     print(rt, badges::line(alloc))?;
     print(rt, leases::line(alloc))?;
+    print(rt, calendar::line(alloc))?;
     print(rt, registry::line(alloc))
 }
 
