@@ -1,1 +1,2 @@
 pub mod RegistryLemmas
+pub mod CalendarLemmas

@@ -1,3 +1,4 @@
 pub mod Users
 pub mod RouteLaws
 pub mod Registry
+pub mod Calendar

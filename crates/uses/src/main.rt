@@ -2,6 +2,7 @@
 #![tactic(auto)]
 
 mod badges;
+mod calendar;
 mod guests;
 mod hashers;
 mod leases;
@@ -36,6 +37,7 @@ fn print_all(rt: &(impl Print + RandomSource), alloc: Global) -> io::Result<()> 
     print(rt, badges::line(alloc))?;
     print(rt, leases::line(alloc))?;
     print(rt, seats::line(alloc))?;
+    print(rt, calendar::line(alloc))?;
     print(rt, registry::line(alloc))
 }
 

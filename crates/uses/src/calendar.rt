@@ -1,0 +1,162 @@
+//! Keyed items whose keys no call changes silently, so that each look-up answers as a scan of all items would.
+//!
+//! A clause of `KeyedItems` says that only where its tables are in order. The ghost fields of `Calendar` say that they
+//! are: each call here keeps that, and rests on it, so no clause here has that condition.
+ghost use Rattle.std.specs.Prelude.{◌≡◌, ◌≢◌, ◌↔◌, Some, Err, OnOk, OnErr};
+ghost use Rattle.std.specs.Ordering.{nat_cmp};
+ghost use Rattle.std.proofs.Props.{props};
+ghost use Rattle.iddqd_keyed.specs.Store.{inserted};
+ghost use Rattle.iddqd_keyed.specs.{IsExact, first_side, second_side, items_at};
+ghost use Rattle.uses.specs.Calendar.{IsBooked, IsTaken};
+ghost use Rattle.uses.specs.declared.calendar.Appointment.{Appointment};
+ghost use Rattle.uses.specs.declared.calendar.BookingError.TheVariants.{Taken};
+
+use iddqd_keyed::keyed_item::KeyedItem;
+use iddqd_keyed::keyed_items::{InsertRefusal, Keyed, KeyedItems, ValuesByKey2};
+use iddqd_maps::hash_builder::DefaultHashBuilder;
+use std::alloc::{AllocError, Global};
+
+/// An appointment. Numbers are unique, and no two start at the same minute.
+#[derive(Clone, Copy, Debug, PartialEq, Eq)]
+pub struct Appointment {
+    pub number: u32,
+    pub start: u32,
+    pub minutes: u32,
+}
+
+impl KeyedItem for Appointment {
+    type Key1 = u32;
+
+    type Key2 = u32;
+
+    ghost first_key = { λ appointment. appointment.number };
+
+    ghost second_key = { λ appointment. appointment.start };
+
+    fn key1(&self) -> &u32 {
+        &self.number
+    }
+
+    fn key2(&self) -> &u32 {
+        &self.start
+    }
+}
+
+/// Appointments by their numbers, and in the order of their starts.
+#[derive(Drop)]
+pub struct Calendar {
+    pub booked: KeyedItems<Appointment, DefaultHashBuilder>,
+    ghost by_number: { IsExact (first_side ⟦<KeyedItems<Appointment, DefaultHashBuilder> as Keyed>⟧.keys) booked },
+    ghost by_start: { IsExact (second_side ⟦<KeyedItems<Appointment, DefaultHashBuilder> as Keyed>⟧.keys) booked } by { Prim.hlevel props },
+}
+
+/// Why an appointment wasn't booked.
+#[derive(Clone, Copy, Debug, PartialEq, Eq)]
+pub enum BookingError {
+    /// Another one has its number or its start.
+    Taken,
+    /// There are as many as there are indexes.
+    Full,
+    /// There is no memory.
+    Memory,
+}
+
+impl Calendar {
+    /// No appointments. It takes no memory.
+    pub fn new(alloc: Global) -> Calendar
+        ensures { (a : Appointment) → IsBooked result.booked.store a → ⊥ }
+    {
+        Calendar {
+            booked: KeyedItems::new(alloc, DefaultHashBuilder::default()),
+        }
+    }
+
+    /// Books an appointment, unless its number or its start is taken.
+    pub fn book(&mut self, appointment: Appointment) -> Result<(), BookingError>
+        ensures taken { (result ≡ Err Taken) ↔ IsTaken self.old.booked.store appointment }
+        ensures booked { OnOk result (self.new.booked.store ≡ inserted self.old.booked.store appointment) }
+        ensures unchanged { OnErr result (self.new.booked ≡ self.old.booked) }
+    {
+        match self.booked.insert(appointment) {
+            Ok(_) => Ok(()),
+            Err(InsertRefusal::Duplicate { .. }) => Err(BookingError::Taken),
+            Err(InsertRefusal::Full(_)) => Err(BookingError::Full),
+            Err(InsertRefusal::Memory(_)) => Err(BookingError::Memory),
+        }
+    }
+
+    /// The appointment with this number, exactly where there is one.
+    pub fn numbered(&self, number: u32) -> Option<Appointment>
+        ensures { (a : Appointment) → (result ≡ Some a) ↔ (IsBooked self.now.booked.store a × (a.number ≡ number)) }
+    {
+        match self.booked.get1(&number) {
+            Some(appointment) => Some(*appointment),
+            None => None,
+        }
+    }
+
+    /// The appointment that starts then, exactly where there is one.
+    pub fn starting(&self, start: u32) -> Option<Appointment>
+        ensures { (a : Appointment) → (result ≡ Some a) ↔ (IsBooked self.now.booked.store a × (a.start ≡ start)) }
+    {
+        match self.booked.get2(&start) {
+            Some(appointment) => Some(*appointment),
+            None => None,
+        }
+    }
+
+    /// Cancels the appointment with this number, and hands it back. The others stay.
+    pub fn cancel(&mut self, number: u32) -> Option<Appointment>
+        ensures cancelled { (a : Appointment) →
+            (result ≡ Some a) ↔ (IsBooked self.old.booked.store a × (a.number ≡ number)) }
+        ensures others { (a : Appointment) →
+            IsBooked self.new.booked.store a ↔ (IsBooked self.old.booked.store a × (a.number ≢ number)) }
+    {
+        match self.booked.remove1(&number) {
+            Some((_, appointment)) => Some(appointment),
+            None => None,
+        }
+    }
+
+    /// The appointments in the order of their starts.
+    pub fn agenda(&self) -> ValuesByKey2<'_, Appointment>
+        ensures items { result ≡ items_at self.now.booked.store self.now.booked.order }
+        ensures sorted { let side = second_side ⟦<KeyedItems<Appointment, DefaultHashBuilder> as Keyed>⟧.keys in
+            side.Lists self.now.booked.store self.now.booked.order }
+    {
+        self.booked.values_by_key2()
+    }
+}
+
+// The numbers in the order of the starts, each behind a space.
+fn numbers(alloc: Global, calendar: &Calendar) -> Result<String, AllocError> {
+    let mut numbers = String::new(alloc);
+    for appointment in calendar.agenda() {
+        numbers.push_str(" ")?;
+        numbers.push_str(&appointment.number.to_string(alloc)?)?;
+    }
+    Ok(numbers)
+}
+
+fn script(alloc: Global, calendar: &mut Calendar) -> Result<String, AllocError> {
+    let mut answers = [Ok(()); 4];
+    for (i, (number, start)) in [(7, 900), (8, 840), (7, 930), (9, 840)]
+        .into_iter()
+        .enumerate()
+    {
+        answers[i] = calendar.book(Appointment {
+            number,
+            start,
+            minutes: 30,
+        });
+    }
+    let order = numbers(alloc, calendar)?;
+    let cancelled = calendar.cancel(8).is_some();
+    let found = (calendar.numbered(7).is_some(), calendar.starting(840));
+    format!(in alloc; "calendar: {answers:?},{order}, {cancelled}, {found:?}")
+}
+
+/// What the calls answer.
+pub fn line(alloc: Global) -> Result<String, AllocError> {
+    script(alloc, &mut Calendar::new(alloc))
+}
