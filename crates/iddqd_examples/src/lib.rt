@@ -1,7 +1,7 @@
-//! Each worked example of the specification as a test, and a caller of each public call that no other crate makes.
+//! Each worked example of the specification is a test, and so is a caller of each call that no other crate makes.
 //!
-//! The gate proves the tests, which shows that callers can meet the conditions of the calls, and runs them, which shows
-//! that the calls answer as the examples say. The library itself is empty.
+//! The gate proves the tests, which shows that callers can meet the conditions of the calls. It also runs them, which
+//! shows that the calls answer as the examples say. The library itself is empty.
 #![tactic(auto)]
 
 #[cfg(test)]

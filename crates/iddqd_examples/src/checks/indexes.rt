@@ -12,15 +12,8 @@ const NON_COMPACT: ValidateCompact = ValidateCompact::NonCompact;
 
 const END: u32 = u32::MAX;
 
-// Which table has the indexes.
-#[derive(Clone, Copy)]
-enum Table {
-    Hash,
-    Ordered,
-}
-
 // The indexes of a table, how many there should be, the mode, and what is told.
-type Case = (Table, &'static [u32], usize, ValidateCompact, &'static str);
+type Case = (&'static [u32], usize, ValidateCompact, &'static str);
 
 fn indexes_of(alloc: Global, numbers: &[u32]) -> Result<Vec<ItemIndex>, AllocError> {
     let mut indexes = Vec::new(alloc);
@@ -30,64 +23,69 @@ fn indexes_of(alloc: Global, numbers: &[u32]) -> Result<Vec<ItemIndex>, AllocErr
     Ok(indexes)
 }
 
-fn told_of(alloc: Global, (table, numbers, expected, mode, _): Case) -> Result<String, AllocError> {
+fn told_of_hashed(
+    alloc: Global,
+    numbers: &[u32],
+    expected: usize,
+    mode: ValidateCompact,
+) -> Result<String, AllocError> {
     let indexes = indexes_of(alloc, numbers)?;
-    let answer = match table {
-        Table::Hash => validate_hash_indexes(alloc, &indexes, expected, mode),
-        Table::Ordered => validate_ordered_indexes(alloc, &indexes, expected, mode),
-    };
-    words(alloc, answer)
+    words(
+        alloc,
+        validate_hash_indexes(alloc, &indexes, expected, mode),
+    )
 }
 
-// Each check tells what is wanted.
-fn assert_told(rt: &impl Abort, alloc: Global, cases: &[Case]) -> Result<(), AllocError> {
-    for case in cases {
-        let told = told_of(alloc, *case)?;
-        assert_words(rt, told.as_str(), case.4);
+fn told_of_ordered(
+    alloc: Global,
+    numbers: &[u32],
+    expected: usize,
+    mode: ValidateCompact,
+) -> Result<String, AllocError> {
+    let indexes = indexes_of(alloc, numbers)?;
+    words(
+        alloc,
+        validate_ordered_indexes(alloc, &indexes, expected, mode),
+    )
+}
+
+// Each check of a hash table's indexes tells what is wanted.
+fn assert_hashed(rt: &impl Abort, alloc: Global, cases: &[Case]) -> Result<(), AllocError> {
+    for (numbers, expected, mode, want) in cases {
+        let told = told_of_hashed(alloc, numbers, *expected, *mode)?;
+        assert_words(rt, told.as_str(), want);
     }
     Ok(())
 }
 
-static LENGTHS: [Case; 2] = [
-    (
-        Table::Hash,
-        &[0],
-        2,
-        NON_COMPACT,
-        "expected length 2, was 1",
-    ),
-    (
-        Table::Ordered,
-        &[END],
-        0,
-        NON_COMPACT,
-        "expected length 0, was 1",
-    ),
-];
-
-#[test]
-fn a_wrong_number_of_indexes_is_told(rt: HostRuntime) -> Result<(), Fail> {
-    assert_told(&rt, rt.alloc(), &LENGTHS)?;
+// The same of an ordered table's.
+fn assert_ordered(rt: &impl Abort, alloc: Global, cases: &[Case]) -> Result<(), AllocError> {
+    for (numbers, expected, mode, want) in cases {
+        let told = told_of_ordered(alloc, numbers, *expected, *mode)?;
+        assert_words(rt, told.as_str(), want);
+    }
     Ok(())
 }
 
-static TWICE: [Case; 3] = [
+static SHORT: [Case; 1] = [(&[0], 2, NON_COMPACT, "expected length 2, was 1")];
+
+static LONG: [Case; 1] = [(&[END], 0, NON_COMPACT, "expected length 0, was 1")];
+
+#[test]
+fn a_wrong_number_of_indexes_is_told(rt: HostRuntime) -> Result<(), Fail> {
+    assert_hashed(&rt, rt.alloc(), &SHORT)?;
+    assert_ordered(&rt, rt.alloc(), &LONG)?;
+    Ok(())
+}
+
+static HASHED_TWICE: [Case; 2] = [
     (
-        Table::Hash,
         &[0, 0, 2],
         3,
         NON_COMPACT,
         "expected 3 values with no duplicates, but only found 2 values (unique values: [0, 2])",
     ),
     (
-        Table::Hash,
-        &[END, END],
-        2,
-        NON_COMPACT,
-        "expected 2 values with no duplicates, but only found 1 values (unique values: [4294967295])",
-    ),
-    (
-        Table::Ordered,
         &[END, END],
         2,
         NON_COMPACT,
@@ -95,43 +93,29 @@ static TWICE: [Case; 3] = [
     ),
 ];
 
+static ORDERED_TWICE: [Case; 1] = [(
+    &[END, END],
+    2,
+    NON_COMPACT,
+    "expected 2 values with no duplicates, but only found 1 values (unique values: [4294967295])",
+)];
+
 #[test]
 fn an_index_that_stands_twice_is_told(rt: HostRuntime) -> Result<(), Fail> {
-    assert_told(&rt, rt.alloc(), &TWICE)?;
+    assert_hashed(&rt, rt.alloc(), &HASHED_TWICE)?;
+    assert_ordered(&rt, rt.alloc(), &ORDERED_TWICE)?;
     Ok(())
 }
 
-static GAPS: [Case; 5] = [
+static HASHED_GAPS: [Case; 3] = [
     (
-        Table::Hash,
         &[0, 0, 2],
         3,
         COMPACT,
         "expected value at index 1 to be 1, was 0",
     ),
+    (&[1], 1, COMPACT, "expected value at index 0 to be 0, was 1"),
     (
-        Table::Ordered,
-        &[0, 0, 2],
-        3,
-        COMPACT,
-        "value at index 1 should be 1, was 0",
-    ),
-    (
-        Table::Hash,
-        &[1],
-        1,
-        COMPACT,
-        "expected value at index 0 to be 0, was 1",
-    ),
-    (
-        Table::Ordered,
-        &[1],
-        1,
-        COMPACT,
-        "value at index 0 should be 0, was 1",
-    ),
-    (
-        Table::Hash,
         &[0, END],
         2,
         COMPACT,
@@ -139,23 +123,33 @@ static GAPS: [Case; 5] = [
     ),
 ];
 
+static ORDERED_GAPS: [Case; 2] = [
+    (
+        &[0, 0, 2],
+        3,
+        COMPACT,
+        "value at index 1 should be 1, was 0",
+    ),
+    (&[1], 1, COMPACT, "value at index 0 should be 0, was 1"),
+];
+
 #[test]
 fn a_gap_is_told_in_compact_mode(rt: HostRuntime) -> Result<(), Fail> {
-    assert_told(&rt, rt.alloc(), &GAPS)?;
+    assert_hashed(&rt, rt.alloc(), &HASHED_GAPS)?;
+    assert_ordered(&rt, rt.alloc(), &ORDERED_GAPS)?;
     Ok(())
 }
 
-static SENTINELS: [Case; 3] = [
-    (Table::Hash, &[0, END], 2, NON_COMPACT, "ok"),
+static HASHED_SENTINEL: [Case; 1] = [(&[0, END], 2, NON_COMPACT, "ok")];
+
+static ORDERED_SENTINEL: [Case; 2] = [
     (
-        Table::Ordered,
         &[0, END],
         2,
         COMPACT,
         "sentinel value should not be stored in map",
     ),
     (
-        Table::Ordered,
         &[0, END],
         2,
         NON_COMPACT,
@@ -165,6 +159,7 @@ static SENTINELS: [Case; 3] = [
 
 #[test]
 fn no_ordered_table_stores_the_sentinel(rt: HostRuntime) -> Result<(), Fail> {
-    assert_told(&rt, rt.alloc(), &SENTINELS)?;
+    assert_hashed(&rt, rt.alloc(), &HASHED_SENTINEL)?;
+    assert_ordered(&rt, rt.alloc(), &ORDERED_SENTINEL)?;
     Ok(())
 }

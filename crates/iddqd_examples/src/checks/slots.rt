@@ -34,7 +34,9 @@ fn slots_of(alloc: Global, links: &[Option<u32>]) -> Result<Vec<ItemSlot<u32>>, 
 
 fn told_of(
     alloc: Global,
-    (links, head, len, _): Case,
+    links: &[Option<u32>],
+    head: u32,
+    len: u32,
     mode: ValidateCompact,
 ) -> Result<String, AllocError> {
     let slots = slots_of(alloc, links)?;
@@ -49,9 +51,9 @@ fn assert_told(
     cases: &[Case],
     mode: ValidateCompact,
 ) -> Result<(), AllocError> {
-    for case in cases {
-        let told = told_of(alloc, *case, mode)?;
-        assert_words(rt, told.as_str(), case.3);
+    for (links, head, len, want) in cases {
+        let told = told_of(alloc, links, *head, *len, mode)?;
+        assert_words(rt, told.as_str(), want);
     }
     Ok(())
 }
