@@ -69,11 +69,13 @@ pub fn names(alloc: Global, guests: &Guests) -> Result<String, AllocError> {
     Ok(names)
 }
 
-/// How many guests came from one time on, up to another one.
-pub fn came_within(guests: &Guests, from: u32, below: u32) -> usize {
-    guests
-        .range_by_key2(Bound::Included(&from), Bound::Excluded(&below))
-        .count()
+/// The last to come of the guests who came from one time on, up to another one.
+pub fn last_within(guests: &Guests, from: u32, below: u32) -> Option<u32> {
+    let mut within = guests.range_by_key2(Bound::Included(&from), Bound::Excluded(&below));
+    match within.next_back() {
+        Some((_, guest)) => Some(guest.arrival),
+        None => None,
+    }
 }
 
 /// Lets a guest go, and tells when the guest came.
@@ -93,9 +95,9 @@ fn script(alloc: Global, guests: &mut Guests) -> Result<String, AllocError> {
     let told = set_arrival(alloc, guests, "bo", 40)?;
     let refused = set_arrival(alloc, guests, "cy", 40)?;
     let is = names(alloc, guests)?;
-    let late = came_within(guests, 25, 50);
+    let late = last_within(guests, 15, 40);
     let left = leave(guests, "ada");
-    format!(in alloc; "guests:{was}, {told}, {refused},{is}, {late}, {left:?}")
+    format!(in alloc; "guests:{was}, {told}, {refused},{is}, {late:?}, {left:?}")
 }
 
 /// What the calls answer.

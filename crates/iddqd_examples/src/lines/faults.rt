@@ -2,6 +2,8 @@
 use super::replies::{DENSE, DENSE_REPLIES};
 use super::streams::{StepSink, StepSource};
 use iddqd_lines::serve::{ServeFault, serve};
+use iddqd_lines::sink::Sink;
+use iddqd_lines::source::Source;
 use std::alloc::Global;
 use std::process::Abort;
 
@@ -14,6 +16,7 @@ fn assert_served(
     want: (Result<(), ServeFault>, &str),
 ) {
     let (end, text) = want;
+    assert!(rt; !source.failed() && !sink.failed());
     let answer = serve(alloc, source, sink);
     assert!(rt; answer == end, "{answer:?}");
     let replies = sink.taken();
