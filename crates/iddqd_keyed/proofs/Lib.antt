@@ -7,3 +7,4 @@ pub mod ValidationLemmas
 pub mod QueryLemmas
 pub mod WalkLemmas
 pub mod ReplacementLemmas
+pub mod ModifyLemmas

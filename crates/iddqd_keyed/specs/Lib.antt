@@ -8,6 +8,7 @@ pub mod Validation
 pub mod Queries
 pub mod Walks
 pub mod Replacement
+pub mod Modify
 -- what a caller's clauses cite, from one place: of the crates below, and of this one
 pub use Rattle.iddqd.specs.Store
 pub use Rattle.iddqd.specs.Compaction
@@ -20,6 +21,7 @@ pub use Rattle.iddqd.specs.Compaction.{rank, IsRemapOf}
 pub use Rattle.iddqd_order.specs.Iter.{indexes_left}
 pub use Rattle.iddqd_sides.specs.Scan.{IsLive, AnswersScan}
 pub use Rattle.iddqd_sides.specs.OrderedWalk.{WalksWithin, pairs_at}
+pub use Rattle.iddqd_sides.specs.KeyKeeping.{KeepsKey, ModifiesItem, pair_keys}
 pub use Rattle.iddqd_keyed.specs.Keys.{keys_of}
 pub use Rattle.iddqd_keyed.specs.State.{empty_state, empty_state_within, cleared_state, unbound, Compacts, IsPaired}
 pub use Rattle.iddqd_keyed.specs.Sides.{hash_in, has, first_side, second_side, IsExact, LooksUp, AsScan}
@@ -30,3 +32,4 @@ pub use Rattle.iddqd_keyed.specs.Run.{IsSilentChange}
 pub use Rattle.iddqd_keyed.specs.Queries.{LooksUpBy, GivesFound}
 pub use Rattle.iddqd_keyed.specs.Walks.{items_at, RangesWithin}
 pub use Rattle.iddqd_keyed.specs.Replacement.{TellsOther, Becomes, Replaces}
+pub use Rattle.iddqd_keyed.specs.Modify.{ModifiesAt, ModifiesFound}

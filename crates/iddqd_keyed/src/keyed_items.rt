@@ -24,6 +24,7 @@ ghost use Rattle.iddqd_keyed.specs.Sides.{first_side, second_side, finds_told, h
 ghost use Rattle.iddqd_keyed.specs.Machine.{Refuses, Inserts, TellsAsScan, Removes, RemovesBy, Overwrites, Step};
 ghost use Rattle.iddqd_keyed.specs.Run.{Run};
 
+mod modifies;
 mod queries;
 mod replaces;
 mod validation;

@@ -1,0 +1,14 @@
+use Rattle.iddqd_keyed.specs.Keys.{keys_of}
+use Rattle.iddqd_keyed.specs.Sides.{second_side, LooksUp}
+use Rattle.iddqd_keyed.proofs.ModifyLemmas.{ModifiesFound-hit}
+use Rattle.iddqd_keyed.proofs.keyed_items.KeyedItems.modify2.Goals as goal
+
+pub modify_at-requires : goal.modify_at-requires
+modify_at-requires g c = λ p live. c.requires p (c.in_ok-find2.field-0, c.in_ok-find2.ensures.found, live)
+
+pub returns-clause-modifies : goal.returns-clause-modifies
+returns-clause-modifies g c =
+    let keys = keys_of g.T.KeyedItem g.T.Key1.PartialEq.eq g.T.Key1.Hash.hash_input g.T.Key2.Ord.cmp g.S.BuildHasher g.S.Hasher.Hasher in
+    let finds = LooksUp (second_side keys) c.args.self.now c.args.key.now in
+    let found = c.in_ok-find2.ensures.found in
+    ModifiesFound-hit g.F.FnOnce c.args.f finds _ c.args.self.now c.in_ok-find2.field-0 c.modify_at.result c.modify_at.new.self found found.found c.modify_at.ensures.modifies
