@@ -35,20 +35,20 @@ pub fn hand_out(badges: &mut BiHashMap<Badge>, number: u32, holder: String) -> &
         Err(refusal) => refusal,
     };
     match &refusal {
-        InsertRefusal::Duplicate {
-            at: BiClash {
-                key1: Some(_),
-                key2: Some(_),
-            },
-            ..
-        } => "both are taken",
-        InsertRefusal::Duplicate {
-            at: BiClash { key1: Some(_), .. },
-            ..
-        } => "the number is taken",
-        InsertRefusal::Duplicate { .. } => "the holder has one",
+        InsertRefusal::Duplicate { at, .. } => taken(at),
         InsertRefusal::Full(_) => "there are too many badges",
         InsertRefusal::Memory(_) => "no memory",
+    }
+}
+
+// Which keys are taken, of which one is.
+fn taken(at: &BiClash) -> &'static str {
+    if at.key1.is_none() {
+        "the holder has one"
+    } else if at.key2.is_none() {
+        "the number is taken"
+    } else {
+        "both are taken"
     }
 }
 
