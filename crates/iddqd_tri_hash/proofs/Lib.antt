@@ -1,3 +1,4 @@
 pub mod TriLemmas
 pub mod TriClashLemmas
 pub mod TriEqualityLemmas
+pub mod ModifyLemmas

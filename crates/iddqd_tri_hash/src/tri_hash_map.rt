@@ -17,6 +17,7 @@ mod equality;
 mod inserts;
 mod item;
 mod memory;
+mod modifies;
 mod moves;
 mod prints;
 mod removals;
