@@ -1,9 +1,9 @@
 -- What a look-up that misses says of appointments.
-use Rattle.std.proofs.Common.{◌≡◌, ◌∙◌, ◌⊎◌, inl, inr, ◌↔◌, ◌==◌, ℕ, Bool, true, Option, Some, None, sym, arith}
+use Rattle.std.proofs.Common.{◌≡◌, ◌∙◌, inl, inr, ◌↔◌, ◌==◌, ℕ, true, Some, None, arith}
 use Rattle.std.specs.Ordering.{nat_cmp, eq_by_cmp}
 use Rattle.std.specs.Cmp.{unsigned_tied}
 use Rattle.std.proofs.lemmas.Bool.Decides.{nat_tests}
-use Rattle.iddqd_keyed.specs.Store.{Store, get}
+use Rattle.iddqd_keyed.specs.Store.{Store}
 use Rattle.iddqd_keyed.specs.Scan.{HasNoHit}
 use Rattle.uses.specs.declared.calendar.Appointment.{Appointment}
 use Rattle.uses.specs.Calendar.{IsBooked, IsTaken}

@@ -34,6 +34,7 @@ pub fn hand_out(badges: &mut BiHashMap<Badge>, number: u32, holder: String) -> &
         Ok(_) => return "handed out",
         Err(refusal) => refusal,
     };
+    // By reference, since the check covers no pattern that moves parts of `at` and the item out at once.
     match &refusal {
         InsertRefusal::Duplicate { at, .. } => taken(at),
         InsertRefusal::Full(_) => "there are too many badges",

@@ -1,9 +1,9 @@
-//! Keyed items whose keys no call changes silently, so that each look-up answers as a scan of all items would.
+//! Keyed items whose tables are always in order, as two ghost fields say, so that no clause has to ask for it.
 //!
-//! A clause of `KeyedItems` says that only where its tables are in order. The ghost fields of `Calendar` say that they
-//! are: each call here keeps that, and rests on it, so no clause here has that condition.
+//! `KeyedItems` promises exact answers only while no `overwrite` has changed a key. `Calendar` never calls `overwrite`.
+//! Its ghost fields say that both tables are in order: `new` starts so, and each call keeps it. So a look-up here finds
+//! an appointment exactly where there is one, and a booking is refused exactly where a key is taken.
 ghost use Rattle.std.specs.Prelude.{◌≡◌, ◌≢◌, ◌↔◌, Some, Err, OnOk, OnErr};
-ghost use Rattle.std.specs.Ordering.{nat_cmp};
 ghost use Rattle.std.proofs.Props.{props};
 ghost use Rattle.iddqd_keyed.specs.Store.{inserted};
 ghost use Rattle.iddqd_keyed.specs.{IsExact, first_side, second_side, items_at};
@@ -42,12 +42,14 @@ impl KeyedItem for Appointment {
     }
 }
 
+type Appointments = KeyedItems<Appointment, DefaultHashBuilder>;
+
 /// Appointments by their numbers, and in the order of their starts.
 #[derive(Drop)]
 pub struct Calendar {
-    pub booked: KeyedItems<Appointment, DefaultHashBuilder>,
-    ghost by_number: { IsExact (first_side ⟦<KeyedItems<Appointment, DefaultHashBuilder> as Keyed>⟧.keys) booked },
-    ghost by_start: { IsExact (second_side ⟦<KeyedItems<Appointment, DefaultHashBuilder> as Keyed>⟧.keys) booked } by { Prim.hlevel props },
+    pub booked: Appointments,
+    ghost by_number: { IsExact (first_side ⟦<Appointments as Keyed>⟧.keys) booked },
+    ghost by_start: { IsExact (second_side ⟦<Appointments as Keyed>⟧.keys) booked } by { Prim.hlevel props },
 }
 
 /// Why an appointment wasn't booked.
@@ -121,7 +123,7 @@ impl Calendar {
     /// The appointments in the order of their starts.
     pub fn agenda(&self) -> ValuesByKey2<'_, Appointment>
         ensures items { result ≡ items_at self.now.booked.store self.now.booked.order }
-        ensures sorted { let side = second_side ⟦<KeyedItems<Appointment, DefaultHashBuilder> as Keyed>⟧.keys in
+        ensures sorted { let side = second_side ⟦<Appointments as Keyed>⟧.keys in
             side.Lists self.now.booked.store self.now.booked.order }
     {
         self.booked.values_by_key2()
