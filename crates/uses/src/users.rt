@@ -4,7 +4,7 @@ ghost use Rattle.iddqd_maps.specs.LiveItems.{live_pairs};
 ghost use Rattle.iddqd_maps.specs.Map.{IsOnly};
 ghost use Rattle.iddqd_maps.specs.Scan.{HasNoHit};
 ghost use Rattle.iddqd_maps.specs.Store.{live_count};
-ghost use Rattle.uses.specs.Users.{is_named, has_logged_in};
+ghost use Rattle.uses.specs.Users.{is_named, has_logged_in, CountsLogins};
 
 use iddqd_maps::id_hash_map::{IdHashItem, IdHashMap};
 use iddqd_maps::refusal::{InsertRefusal, ReplaceRefusal};
@@ -59,6 +59,18 @@ pub fn rename(users: &mut IdHashMap<User>, from: &str, to: String) -> &'static s
         Err(ReplaceRefusal::Duplicate { .. }) => "the name is taken",
         Err(ReplaceRefusal::Memory(_)) => "no memory",
     }
+}
+
+/// Counts a login of the user with this name, and answers how many they are then; none exactly where there is no such
+/// user.
+pub fn log_in(users: &mut IdHashMap<User>, name: &str) -> Option<u32>
+    ensures { let named = is_named name.now in MatchOption result (HasNoHit users.old.store named)
+        (λ count. CountsLogins named count users.old users.new) }
+{
+    users.modify(name, |user| {
+        user.logins = user.logins.saturating_add(1);
+        user.logins
+    })
 }
 
 /// Removes the user with this name, if there is one. Then there is none.
