@@ -3,8 +3,10 @@ pub use Rattle.iddqd.specs.Store
 pub use Rattle.iddqd.specs.LiveItems
 pub use Rattle.iddqd.specs.Validation
 pub use Rattle.iddqd_sides.specs.Scan
+pub use Rattle.iddqd_sides.specs.KeyKeeping
 pub use Rattle.iddqd_map_base.specs.Map
 pub use Rattle.iddqd_map_base.specs.Calls
+pub use Rattle.iddqd_map_base.specs.Modify
 pub use Rattle.iddqd_map_base.specs.Several
 pub use Rattle.iddqd_map_base.specs.Retain
 pub use Rattle.iddqd_map_base.specs.Equality
