@@ -2,4 +2,3 @@ pub mod Users
 pub mod RouteLaws
 pub mod Registry
 pub mod Calendar
-pub mod Sessions

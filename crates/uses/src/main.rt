@@ -10,7 +10,6 @@ mod registry;
 mod routes;
 mod scores;
 mod seats;
-mod sessions;
 mod stock;
 mod users;
 mod words;
@@ -39,7 +38,6 @@ fn print_all(rt: &(impl Print + RandomSource), alloc: Global) -> io::Result<()> 
     print(rt, leases::line(alloc))?;
     print(rt, seats::line(alloc))?;
     print(rt, calendar::line(alloc))?;
-    print(rt, sessions::line(alloc))?;
     print(rt, registry::line(alloc))
 }
 

