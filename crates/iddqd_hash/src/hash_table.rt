@@ -122,6 +122,10 @@ impl MapHashTable {
     pub fn try_reserve(&mut self, additional: usize) -> Result<(), AllocError>
         ensures contents { filed self.new ≡ filed self.old }
         ensures memory { Reserves additional self.old result self.new }
+        ensures capacity { capacity self.old ≤ capacity self.new }
+
+        // What every table keeps.
+        ensures counted { capacity self.old ≡ finite.len (filed self.old) + room self.old }
     {
         self.table.try_reserve(additional)
     }

@@ -9,6 +9,7 @@ pub mod Queries
 pub mod Walks
 pub mod Replacement
 pub mod Modify
+pub mod Memory
 -- what a caller's clauses cite, from one place: of the crates below, and of this one
 pub use Rattle.iddqd.specs.Store
 pub use Rattle.iddqd.specs.Compaction

@@ -38,6 +38,13 @@ impl<T> ItemSet<T> {
         self.slots.capacity()
     }
 
+    /// The most slots that there can be. No call changes it.
+    pub fn limit(&self) -> usize
+        ensures { result ≡ self.now.store.limit }
+    {
+        self.limit as usize
+    }
+
     /// Takes memory for so many slots past those that there are, so that as many inserts need none.
     ///
     /// It is the capacity that inserts use, so removals, `clear` and `compact` between them lose nothing. Where it is

@@ -1,6 +1,7 @@
 //! Memory that a table of indexes takes ahead, and gives back.
-ghost use Rattle.std.specs.Prelude.{◌≡◌, IfOk};
+ghost use Rattle.std.specs.Prelude.{◌≡◌, ◌≤◌, ◌+◌, IfOk};
 ghost use Rattle.std.specs.FinMap as finite;
+ghost use Rattle.iddqd_hash.specs.HashTable.{capacity, room};
 ghost use Rattle.iddqd_hash.specs.MapHashTable.{filed};
 ghost use Rattle.iddqd_hash.specs.Sizes.{Reserves, TakesRoom, Shrinks};
 
@@ -23,6 +24,10 @@ impl MapHashTable {
     pub fn reserve(&mut self, additional: usize) -> Result<(), AllocError>
         ensures contents { filed self.new ≡ filed self.old }
         ensures memory { Reserves additional self.old result self.new }
+        ensures capacity { capacity self.old ≤ capacity self.new }
+
+        // What every table keeps.
+        ensures counted { capacity self.old ≡ finite.len (filed self.old) + room self.old }
     {
         self.try_reserve(additional)
     }

@@ -25,3 +25,6 @@ returns-clause-keeps g c =
     (Keeps-modified _ _ c.self.invariant
     (AreLawful-from_bounds {item = g.T.KeyedItem} g.S.BuildHasher g.S.Hasher.Hasher g.met.T.Key1.PartialEq.laws
     g.met.T.Key1.Hash.respects_eq g.met.T.Key2.Ord.total) g.met.T.Key1.Eq.laws c.args.ix item.now c.f.new.arg2 live same)
+
+pub returns-clause-memory : goal.returns-clause-memory
+returns-clause-memory g c = rw (← c.self.view_is)

@@ -23,3 +23,8 @@ returns-in_err-item-clause-keeps g c = grind (arith, common_steps)
 
 pub returns-clause-removes : goal.returns-clause-removes
 returns-clause-removes g c = grind (arith, common_steps)
+
+pub returns-clause-memory : goal.returns-clause-memory
+returns-clause-memory g c =
+    let hashed = c.take_index.ensures.memory in
+    rw (← c.self.view_is, c.remove_item.ensures.slots, hashed.same_capacity, hashed.same_memory)

@@ -5,3 +5,6 @@ use Rattle.iddqd_keyed.proofs.keyed_items.KeyedItems.with_limit.Goals as goal
 pub invariant_of-result : goal.invariant_of-result
 invariant_of-result g c =
     rw (c.with_limit.ensures, c.new.ensures.empty, c.new-2.ensures) (IsPaired-empty c.args.limit _ (omega arith))
+
+pub returns-clause-memory : goal.returns-clause-memory
+returns-clause-memory g c = ?

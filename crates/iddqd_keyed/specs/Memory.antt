@@ -1,0 +1,127 @@
+-- The memory of keyed items, beside their state: what each part can hold without asking for more.
+use Rattle.std.specs.Prelude.{◌≡◌, ◌≤◌, ◌<◌, ◌-◌, ⊤, ℕ, List, ◌∷◌, min, refl}
+use Rattle.std.specs.Coded.{Coded, code_by, coded×, coded_ℕ}
+use Rattle.iddqd.specs.Store.{live_count}
+use Rattle.iddqd.specs.ItemSet.{SizedStore}
+use Rattle.iddqd_hash.specs.HashTable.{Table, capacity as hashed_capacity, memory as hashed_cells}
+use Rattle.iddqd_order.specs.MapBTreeTable.{Order}
+use Rattle.iddqd_keyed.specs.Keys.{Keys}
+use Rattle.iddqd_keyed.specs.State.{State, state_code, state_of}
+use Rattle.iddqd_keyed.specs.Run.{Run}
+use Rattle.iddqd_keyed.specs.declared.command.Command.{Command}
+use Rattle.iddqd_keyed.specs.declared.command.Command.TheVariants.{Insert}
+use Rattle.iddqd_keyed.specs.declared.command.Reply.{Reply}
+use Rattle.iddqd_keyed.specs.declared.command.Reply.TheVariants.{Refused}
+use Rattle.iddqd_keyed.specs.declared.keyed_items.InsertRefusal.{InsertRefusal}
+use Rattle.iddqd_keyed.specs.declared.keyed_items.InsertRefusal.TheVariants.{Memory as OutOfMemory}
+
+-- How many slots the store's memory holds, how many indexes the hash table can hold, how many cells it has, and how many
+-- indexes the ordered table can hold.
+pub record Memory : Type 0 where
+  pub slots : ℕ
+  pub hashed : ℕ
+  pub cells : ℕ
+  pub ordered : ℕ
+
+-- a state, and the memory in which it is held
+pub record SizedState (T S : Type 0) : Type 0 where
+  pub state : State T S
+  pub memory : Memory
+
+-- how many indexes the ordered table can hold
+abbrev pub ordered_capacity : Order → ℕ
+ordered_capacity order = 10
+
+abbrev pub memory_code : Coded Memory
+memory_code =
+    code_by
+    (ℕ × (ℕ × (ℕ × ℕ)))
+    (coded× coded_ℕ (coded× coded_ℕ (coded× coded_ℕ coded_ℕ)))
+    (λ m. (m.slots, (m.hashed, (m.cells, m.ordered))))
+    (λ p. record { slots = p.0; hashed = p.1.0; cells = p.1.1.0; ordered = p.1.1.1 })
+    (λ _. refl)
+
+-- a sized state is coded where its items and its hasher are
+abbrev pub sized_state_code : {T S : Type 0} → Coded T → Coded S → Coded (SizedState T S)
+sized_state_code {T} {S} item hasher =
+    code_by
+    (State T S × Memory)
+    (coded× (state_code item hasher) memory_code)
+    (λ k. (k.state, k.memory))
+    (λ p. record { state = p.0; memory = p.1 })
+    (λ _. refl)
+
+-- a collection that holds nothing and has asked for no memory
+abbrev pub no_memory : Memory
+no_memory = record { slots = 0; hashed = 0; cells = 0; ordered = 10 }
+
+-- no part can hold less than it could
+pub record IsNoLower (old new : Memory) : Type 0 where
+  pub slots : old.slots ≤ new.slots
+  pub hashed : old.hashed ≤ new.hashed
+  pub cells : old.cells ≤ new.cells
+  pub ordered : old.ordered ≤ new.ordered
+
+-- the memory of a store and two tables
+abbrev pub memory_of : {T : Type 0} → SizedStore T → Table ℕ → Order → Memory
+memory_of items table order =
+    record {
+      slots = items.capacity;
+      hashed = hashed_capacity table;
+      cells = hashed_cells table;
+      ordered = ordered_capacity order;
+    }
+
+-- the command asks for an item to be taken
+abbrev pub IsInsert : {T K1 K2 : Type 0} → Command T K1 K2 → Type 0
+IsInsert (Insert item) = ⊤
+IsInsert command = ⊥
+
+-- an item was refused for want of memory
+abbrev pub IsForMemory : {T : Type 0} → InsertRefusal T → Type 0
+IsForMemory (OutOfMemory item) = ⊤
+IsForMemory refusal = ⊥
+
+-- so was the item of a command
+abbrev pub RefusesMemory : {T : Type 0} → Reply T → Type 0
+RefusesMemory (Refused refusal) = IsForMemory refusal
+RefusesMemory reply = ⊥
+
+module _ {T S : Type 0} where
+  -- the state of a store and two tables, and their memory
+  abbrev pub sized_of : S → SizedStore T → Table ℕ → Order → SizedState T S
+  sized_of hasher items table order =
+      record { state = state_of hasher items.store table order; memory = memory_of items table order }
+
+  -- how many items there can be without asking for memory: as many as each part can hold
+  abbrev pub capacity : SizedState T S → ℕ
+  capacity k = min (min k.memory.slots k.state.store.limit) (min k.memory.hashed k.memory.ordered)
+
+  -- how many inserts need no memory
+  abbrev pub room : SizedState T S → ℕ
+  room k = capacity k - live_count k.state.store
+
+  -- One step and its memory: no part can hold less than before; with room for an item none is taken, and no item is
+  -- refused for want of it; and no command but an insert takes any.
+  pub record StepsInMemory
+      {K1 K2 : Type 0} (old : SizedState T S) (command : Command T K1 K2) (reply : Reply T) (new : SizedState T S)
+      : Type 0 where
+    pub no_lower : IsNoLower old.memory new.memory
+    pub had_room : 1 ≤ room old → new.memory ≡ old.memory
+    pub not_refused : 1 ≤ room old → RefusesMemory reply → ⊥
+    pub others : (IsInsert command → ⊥) → new.memory ≡ old.memory
+
+  -- at each moment with fewer items than so many, no item is refused for want of memory
+  abbrev pub IsServedBelow : ℕ → State T S → List (Reply T) → List (State T S) → Type 0
+  IsServedBelow held moment (reply ∷ replies) (next ∷ moments) =
+      (live_count moment.store < held → RefusesMemory reply → ⊥) × IsServedBelow held next replies moments
+  IsServedBelow held moment replies moments = ⊤
+
+-- A run and its memory: no part can hold less than at the start; and at each moment with fewer items than could be held
+-- at the start, no item is refused for want of memory.
+pub record RunsInMemory
+    {T S K1 K2 : Type 0} (keys : Keys T K1 K2 S) (old : SizedState T S) (commands : List (Command T K1 K2))
+    (replies : List (Reply T)) (new : SizedState T S) : Type 0 where
+  pub run : Run keys old.state commands replies new.state
+  pub no_lower : IsNoLower old.memory new.memory
+  pub served : IsServedBelow (capacity old) old.state replies run.moments
