@@ -38,7 +38,7 @@ use Rattle.iddqd_sides.specs.Side.{ChangesAt}
 use Rattle.iddqd_keyed.specs.Keys.{Keys, first_hashing}
 use Rattle.iddqd_keyed.specs.State.{State, IsPaired}
 use Rattle.iddqd_keyed.specs.Sides.{hash_in, first_side, second_side, LooksUp, Keeps}
-use Rattle.iddqd_keyed.specs.Replacement.{TellsOther, Becomes, HasNewKey, Replaces, planned, MovesInPlace, Reorders}
+use Rattle.iddqd_keyed.specs.Replacement.{TellsOther, Becomes, HasNewSecondKey, Replaces, planned, MovesInPlace, Reorders}
 use Rattle.iddqd_keyed.specs.declared.keyed_items.replaces.ReplaceRefusal.{ReplaceRefusal}
 use Rattle.iddqd_keyed.specs.declared.keyed_items.replaces.ReplaceRefusal.TheVariants.{Memory}
 use Rattle.iddqd_keyed.proofs.KeyLemmas.{AreLawful}
@@ -322,7 +322,7 @@ module _
   Reordered = Reorders keys.second keys.compare_second s.store ix item at2 s.order order
 
   abbrev Refused : ReplaceRefusal T → Type 0
-  Refused refusal = (refusal ≡ Memory item) × ((at1 ≡ None) ⊎ (at2 ≡ None))
+  Refused refusal = (refusal ≡ Memory item) × (at2 ≡ None)
 
   became : (was : T) → get s.store ix ≡ Some was → store ≡ rebound s.store ix item → Refiled → Reordered → Becomes keys s ix item was is × Keeps keys s is
   became was there stored refiled reordered = rw stored (
@@ -333,9 +333,8 @@ module _
   same : store ≡ s.store → filed ≡ s.filed → order ≡ s.order → is ≡ s
   same items hashes indexes = rw (items, hashes, indexes) refl
 
-  new_key : (at1 ≡ None) ⊎ (at2 ≡ None) → HasNewKey keys s item
-  new_key (inl none) = inl (subst ((first_side keys).Finds s (keys.first item)) none first.found)
-  new_key (inr none) = inr (subst ((second_side keys).Finds s (keys.second item)) none second.found)
+  new_key : at2 ≡ None → HasNewSecondKey keys s item
+  new_key none = subst ((second_side keys).Finds s (keys.second item)) none second.found
 
   pub Replaces-rebound :
       (r : Result T (ReplaceRefusal T)) → IfOk r (λ was. get s.store ix ≡ Some was)

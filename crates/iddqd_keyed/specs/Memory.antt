@@ -1,10 +1,12 @@
 -- The memory of keyed items, beside their state: what each part can hold without asking for more.
-use Rattle.std.specs.Prelude.{◌≡◌, ◌≤◌, ◌<◌, ◌-◌, ⊤, ℕ, List, ◌∷◌, min, refl}
+use Rattle.std.specs.Prelude.{◌≡◌, ◌≤◌, ◌<◌, ◌-◌, ⊤, ℕ, List, ◌∷◌, length, Result, IfErr, min, refl}
+use Rattle.std.specs.FinMap as finite
 use Rattle.std.specs.Coded.{Coded, code_by, coded×, coded_ℕ}
 use Rattle.iddqd.specs.Store.{live_count}
-use Rattle.iddqd.specs.ItemSet.{SizedStore}
+use Rattle.iddqd.specs.ItemSet.{SizedStore, room as set_room}
 use Rattle.iddqd_hash.specs.HashTable.{Table, capacity as hashed_capacity, memory as hashed_cells}
-use Rattle.iddqd_order.specs.MapBTreeTable.{Order}
+use Rattle.iddqd_hash.specs.MapHashTable.{filed}
+use Rattle.iddqd_order.specs.MapBTreeTable.{Order, order_of}
 use Rattle.iddqd_keyed.specs.Keys.{Keys}
 use Rattle.iddqd_keyed.specs.State.{State, state_code, state_of}
 use Rattle.iddqd_keyed.specs.Run.{Run}
@@ -86,6 +88,22 @@ IsForMemory refusal = ⊥
 abbrev pub RefusesMemory : {T : Type 0} → Reply T → Type 0
 RefusesMemory (Refused refusal) = IsForMemory refusal
 RefusesMemory reply = ⊥
+
+-- What an insert leaves of the memory: no part can hold less than before, and the ordered table as much; nothing is
+-- taken where the item is refused for another reason than memory; and with room none is taken, and none refused.
+pub record InsertsInMemory {T : Type 0} (has_room : Type 0) (old : Memory) (result : Result ℕ (InsertRefusal T)) (new : Memory)
+    : Type 0 where
+  pub no_lower : IsNoLower old new
+  pub same_ordered : new.ordered ≡ old.ordered
+  pub refused_early : IfErr result (λ refusal. (IsForMemory refusal → ⊥) → new ≡ old)
+  pub had_room : has_room → new ≡ old
+  pub not_refused : has_room → IfErr result (λ refusal. IsForMemory refusal → ⊥)
+
+-- each part has room for one more item: of the tables their capacity is more than they hold
+pub record HasRoomInParts {T : Type 0} (items : SizedStore T) (table : Table ℕ) (order : Order) : Type 0 where
+  pub slots : 1 ≤ set_room items
+  pub hashed : finite.len (filed table) < hashed_capacity table
+  pub ordered : length (order_of order) < ordered_capacity order
 
 module _ {T S : Type 0} where
   -- the state of a store and two tables, and their memory

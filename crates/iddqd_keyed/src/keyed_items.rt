@@ -11,7 +11,7 @@
 //! An insert is one search of the ordered table, which tells a duplicate, or else the place. Each call
 //! that obeys a command says that its states are paired, though the type does, so that `step` and `run`
 //! are proved from the calls' clauses alone.
-ghost use Rattle.std.specs.Prelude.{◌≡◌, ◌↔◌, ◌≤◌, ◌+◌, [], None, IsTrue, IsSome, IsOk, IfOk, OnOk, IfErr, OnErr, option_copied};
+ghost use Rattle.std.specs.Prelude.{◌≡◌, ◌↔◌, ◌≤◌, ◌+◌, [], None, IsTrue, IsSome, OnSome, IsOk, IfOk, OnOk, IfErr, OnErr, option_copied};
 ghost use Rattle.std.specs.FinMap as finite;
 ghost use Rattle.iddqd.specs.{get, live_count, next_index, inserted, removed, IsFull, IsValid, IsRemapOf};
 ghost use Rattle.iddqd_hash.specs.{filed};
@@ -23,7 +23,7 @@ ghost use Rattle.iddqd_keyed.specs.State.{empty_state, empty_state_within, clear
 ghost use Rattle.iddqd_keyed.specs.Sides.{first_side, second_side, finds_told, hash_in, LooksUp, IsExact, Keeps, KeepsUnlessChanged};
 ghost use Rattle.iddqd_keyed.specs.Machine.{Refuses, Inserts, TellsAsScan, Removes, RemovesBy, Overwrites, Step};
 ghost use Rattle.iddqd_keyed.specs.Run.{Run};
-ghost use Rattle.iddqd_keyed.specs.Memory.{no_memory, room, IsNoLower, IsForMemory, StepsInMemory, RunsInMemory};
+ghost use Rattle.iddqd_keyed.specs.Memory.{no_memory, capacity, room, memory_of, ordered_capacity, HasRoomInParts, InsertsInMemory, StepsInMemory, RunsInMemory};
 
 mod modifies;
 mod queries;
@@ -209,13 +209,7 @@ impl<T: KeyedItem, S: BuildHasher> KeyedItems<T, S> {
         ensures inserts { Inserts ⟦<Self as Keyed>⟧.keys self.old.state item result self.new.state }
         ensures tells { TellsAsScan ⟦<Self as Keyed>⟧.keys self.old.state item result }
         ensures keeps { Keeps ⟦<Self as Keyed>⟧.keys self.old.state self.new.state }
-        ensures no_lower { IsNoLower self.old.memory self.new.memory }
-        ensures ordered { self.new.memory.ordered ≡ self.old.memory.ordered }
-        ensures early { IfErr result (λ refusal. (IsForMemory refusal → ⊥) → self.new.memory ≡ self.old.memory) }
-
-        // With room it takes no memory, so none can be refused.
-        ensures had_room { 1 ≤ room self.old → self.new.memory ≡ self.old.memory }
-        ensures not_refused { 1 ≤ room self.old → IfErr result (λ refusal. IsForMemory refusal → ⊥) }
+        ensures memory { InsertsInMemory (1 ≤ room self.old) self.old.memory result self.new.memory }
         ensures room { OnOk result (1 ≤ room self.old → room self.old ≡ room self.new + 1) }
     {
         let (hash, first) = self.hash_and_find(item.key1());
@@ -229,6 +223,8 @@ impl<T: KeyedItem, S: BuildHasher> KeyedItems<T, S> {
         ensures live { IsSome result ↔ IsLive self.old.state.store ix }
         ensures keeps { Keeps ⟦<Self as Keyed>⟧.keys self.old.state self.new.state }
         ensures memory { self.new.memory ≡ self.old.memory }
+        ensures room { OnSome result
+            (live_count self.old.state.store ≤ capacity self.old → room self.new ≡ room self.old + 1) }
     {
         let item = self.items.get(ix)?;
         let hash = hashed::hash_of::<T, First, S>(&self.state, item);
@@ -380,6 +376,8 @@ fn remove_item<T: KeyedItem>(order: &mut MapBTreeTable, items: &mut ItemSet<T>, 
     ensures item { get items.old.store ix ≡ Some result }
     ensures removed { items.new.store ≡ removed items.old.store ix }
     ensures taken { order_of order.new ≡ without (order_of order.old) ix }
+    ensures slots { items.new.capacity ≡ items.old.capacity }
+    ensures ordered { ordered_capacity order.new ≡ ordered_capacity order.old }
 {
     ordered::take_index::<T, Second>(order, items, ix);
     take_item(items, ix)
@@ -390,6 +388,7 @@ fn take_item<T>(items: &mut ItemSet<T>, ix: ItemIndex) -> T
     requires { IsLive items.old.store ix }
     ensures item { get items.old.store ix ≡ Some result }
     ensures removed { items.new.store ≡ removed items.old.store ix }
+    ensures slots { items.new.capacity ≡ items.old.capacity }
 {
     match items.remove(ix) {
         Some(item) => item,
@@ -425,6 +424,9 @@ fn enter<T: KeyedItem>(
     ensures items_stay { OnErr result (items.new.store ≡ items.old.store) }
     ensures hashes_stay { OnErr result (filed table.new ≡ filed table.old) }
     ensures order_stays { OnErr result (order_of order.new ≡ order_of order.old) }
+    ensures memory { let has_room = HasRoomInParts items.old table.old order.old in
+        let was = memory_of items.old table.old order.old in
+        InsertsInMemory has_room was result (memory_of items.new table.new order.new) }
 {
     let query = ByKey(item.key2());
     let vacant = match ordered::entry::<T, Second, ByKey<T::Key2>>(order, items, &query) {

@@ -2,7 +2,7 @@
 //!
 //! A query stands for a key: a `&str` for a `String`, say, so that none is copied for a look-up. In every state it is
 //! answered as each key is for which it stands, so its clauses speak of that key's side alone.
-ghost use Rattle.std.specs.Prelude.{option_copied};
+ghost use Rattle.std.specs.Prelude.{◌≡◌, option_copied};
 ghost use Rattle.iddqd_sides.specs.Ordered.{is_equal};
 ghost use Rattle.iddqd_keyed.specs.Sides.{first_side, second_side, Keeps, LooksUp};
 ghost use Rattle.iddqd_keyed.specs.Machine.{RemovesFound};

@@ -4,7 +4,7 @@
 //! is taken out of the table, wherever it stands there, and goes where the new key belongs. So the call works after
 //! silent changes too. The ordered table takes its memory while the old item still stands everywhere; the hash table
 //! needs none.
-ghost use Rattle.std.specs.Prelude.{◌≡◌, ◌≤◌, Some, IsSome, IfOk, OnOk, IfErr, OnErr};
+ghost use Rattle.std.specs.Prelude.{◌≡◌, ◌≤◌, length, Some, IsSome, IsOk, IfOk, OnOk, IfErr, OnErr};
 ghost use Rattle.std.specs.FinMap as finite;
 ghost use Rattle.iddqd.specs.{get, live_count, rebound};
 ghost use Rattle.iddqd_hash.specs.{filed};
@@ -14,7 +14,7 @@ ghost use Rattle.iddqd_sides.specs.Scan.{IsLive, IsKeyAt};
 ghost use Rattle.iddqd_sides.specs.Ordered as ordered_side;
 ghost use Rattle.iddqd_sides.specs.HashedMove.{moved};
 ghost use Rattle.iddqd_keyed.specs.Sides.{Keeps};
-ghost use Rattle.iddqd_keyed.specs.Memory.{memory_of};
+ghost use Rattle.iddqd_keyed.specs.Memory.{memory_of, ordered_capacity};
 ghost use Rattle.iddqd_keyed.specs.Replacement.{TellsOther, Replaces, IsForMemory, planned, MovesInPlace, Reorders};
 
 use super::{Keyed, KeyedItems};
@@ -150,6 +150,7 @@ fn rebind<T: KeyedItem, S: BuildHasher>(
     ensures hashes_stay { OnErr result (filed table.new ≡ filed table.old) }
     ensures order_stays { OnErr result (order_of order.new ≡ order_of order.old) }
     ensures memory { memory_of items.new table.new order.new ≡ memory_of items.old table.old order.old }
+    ensures roomy { length (order_of order.old) ≤ ordered_capacity order.old → IsOk result }
 {
     let plan = plan_of(found.hash, found.at1);
     if let Err(AllocError) = reorder(order, items, found.at2, ix, &item) {
@@ -203,6 +204,8 @@ fn reorder<T: KeyedItem>(
         OnOk result (reorders (order_of order.old) (order_of order.new)) }
     ensures refused { OnErr result (found ≡ None) }
     ensures stays { OnErr result (order_of order.new ≡ order_of order.old) }
+    ensures memory { ordered_capacity order.new ≡ ordered_capacity order.old }
+    ensures roomy { length (order_of order.old) ≤ ordered_capacity order.old → IsOk result }
 {
     match found {
         Some(_) => Ok(()),
@@ -223,6 +226,8 @@ fn move_in_order<T: KeyedItem>(
     ensures moved { let moves = MovesInPlace T.KeyedItem.second_key T.Key2.cmp items.now.store ix item.now in
         OnOk result (moves (order_of order.old) (order_of order.new)) }
     ensures stays { OnErr result (order_of order.new ≡ order_of order.old) }
+    ensures memory { ordered_capacity order.new ≡ ordered_capacity order.old }
+    ensures roomy { length (order_of order.old) ≤ ordered_capacity order.old → IsOk result }
 {
     let (old_key, new_key) = (key2_at(items, ix), item.key2());
     let mut asking = Asking::new(

@@ -11,13 +11,13 @@ use Rattle.iddqd_keyed.proofs.keyed_items.KeyedItems.replace.Goals as goal
 
 pub returns-then-is_some-clause-replaces : goal.returns-then-is_some-clause-replaces
 returns-then-is_some-clause-replaces g c =
-    let live : IsLive c.args.self.now.store c.args.ix = search (rules, c.get.ensures, c.if-is_none.false) in
+    let live : IsLive c.args.self.now.state.store c.args.ix = search (rules, c.get.ensures, c.if-is_none.false) in
     let item = c.args.item in
     let keys : Keys g.row.T.Denot g.row.T-Key1.Denot g.row.T-Key2.Denot g.row.S.Denot =
     keys_of g.T.KeyedItem g.T.Key1.PartialEq.eq g.T.Key1.Hash.hash_input g.T.Key2.Ord.cmp g.S.BuildHasher g.S.Hasher.Hasher in
     record {
-      first = λ _. TellsOther-found (LooksUp (first_side keys) c.args.self.now (keys.first item)) c.hash_and_find-hash.result.1 c.args.ix _ (rw c.key1.ensures at c.hash_and_find-hash.ensures.found) c.other_than-first.ensures;
-      second = λ _. TellsOther-found (LooksUp (second_side keys) c.args.self.now (keys.second item)) c.find2-at2.result c.args.ix _ (rw c.key2.ensures at c.find2-at2.ensures.found) c.other_than-second.ensures;
+      first = λ _. TellsOther-found (LooksUp (first_side keys) c.args.self.now.state (keys.first item)) c.hash_and_find-hash.result.1 c.args.ix _ (rw c.key1.ensures at c.hash_and_find-hash.ensures.found) c.other_than-first.ensures;
+      second = λ _. TellsOther-found (LooksUp (second_side keys) c.args.self.now.state (keys.second item)) c.find2-at2.result c.args.ix _ (rw c.key2.ensures at c.find2-at2.ensures.found) c.other_than-second.ensures;
       replaced = tt;
       refused = (
         refl,
