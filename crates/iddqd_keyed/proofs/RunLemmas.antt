@@ -26,7 +26,7 @@ module _ {T S K1 K2 : Type 0} (keys : Keys T K1 K2 S) where
   IsStepChain-push (Next_step first rest) step = Next_step first (IsStepChain-push rest step)
 
   -- along a chain from a paired state, each moment is paired
-  paired_along :
+  pub paired_along :
       {old new : State T S} {commands : List (Command T K1 K2)} {replies : List (Reply T)} {moments : List (State T S)}
       → IsStepChain keys old commands replies moments new → IsPaired old → All IsPaired (old ∷ moments)
   paired_along {old = old} No_step was = All-cons IsPaired old [] was (All-nil IsPaired)
@@ -41,7 +41,7 @@ module _ {T S K1 K2 : Type 0} (keys : Keys T K1 K2 S) where
       (bare : (s : State T S) → IsPaired s → IsEmpty s → Holds s)
       (steps : (old new : State T S) (command : Command T K1 K2) (reply : Reply T) → Step keys old command reply new
       → Holds old → Exact old.store command reply × ((Changed old command → ⊥) → Holds new)) where
-    exact_along :
+    pub exact_along :
         (is_quiet : Type 0) {old new : State T S} {commands : List (Command T K1 K2)} {replies : List (Reply T)}
         {moments : List (State T S)} → IsStepChain keys old commands replies moments new → (is_quiet → Holds old)
         → IsExactFrom Changed Holds Exact is_quiet old commands replies moments
@@ -55,7 +55,7 @@ module _ {T S K1 K2 : Type 0} (keys : Keys T K1 K2 S) where
           ]),
         )
 
-    exact_from_start :
+    pub exact_from_start :
         {old new : State T S} {commands : List (Command T K1 K2)} {replies : List (Reply T)}
         {moments : List (State T S)} → IsStepChain keys old commands replies moments new → IsPaired old
         → IsExactWhereQuiet Changed Holds Exact old commands replies moments
@@ -111,7 +111,7 @@ module _ {T S K1 K2 : Type 0} (keys : Keys T K1 K2 S) where
   limit_stays old new (Remove2 key) (Removed (Some (ix, item))) did = ap (λ (s : State T S). s.store.limit) did.1.1
   limit_stays old new (Remove2 key) (Removed None) did = ap (λ (s : State T S). s.store.limit) did.1
   limit_stays old new (Overwrite ix item) (Overwritten (Ok was)) did = ap (λ (s : State T S). s.store.limit) did.1
-  limit_stays old new (Overwrite ix item) (Overwritten (Err back)) did = ap (λ (s : State T S). s.store.limit) did.1.1
+  limit_stays old new (Overwrite ix item) (Overwritten (Err back)) did = ap (λ (s : State T S). s.store.limit) did.2
   limit_stays old new Compact (Compacted remap) did = ap (λ (s : State T S). s.store.limit) did.1.state
   limit_stays old new Compact NoMemory did = ap (λ (s : State T S). s.store.limit) did.1
   limit_stays old new Clear Cleared did = ap (λ (s : State T S). s.store.limit) did
@@ -128,13 +128,13 @@ module _ {T S K1 K2 : Type 0} (keys : Keys T K1 K2 S) where
       limit_stays_along rest ∙ limit_stays old next command reply step.answers
 
   IsServedBelow-push :
-      (held : ℕ) {old mid new : State T S} {commands : List (Command T K1 K2)} {replies : List (Reply T)}
-      {moments : List (State T S)} (reply : Reply T) → IsStepChain keys old commands replies moments mid
+      (held : ℕ) {old mid : State T S} {commands : List (Command T K1 K2)} {replies : List (Reply T)}
+      {moments : List (State T S)} (reply : Reply T) (new : State T S) → IsStepChain keys old commands replies moments mid
       → IsServedBelow held old replies moments → (live_count mid.store < held → RefusesMemory reply → ⊥)
       → IsServedBelow held old (replies ++ reply ∷ []) (moments ++ new ∷ [])
-  IsServedBelow-push held reply No_step served last = (last, tt)
-  IsServedBelow-push held reply (Next_step step rest) served last =
-      (served.0, IsServedBelow-push held reply rest served.1 last)
+  IsServedBelow-push held reply new No_step served last = (last, tt)
+  IsServedBelow-push held reply new (Next_step step rest) served last =
+      (served.0, IsServedBelow-push held reply new rest served.1 last)
 
   -- where there was room at first, there still is
   room_still : (old mid : SizedState T S) → mid.state.store.limit ≡ old.state.store.limit
@@ -148,8 +148,8 @@ module _ {T S K1 K2 : Type 0} (keys : Keys T K1 K2 S) where
       → IsStepChain keys old.state commands replies moments mid.state → IsNoLower old.memory mid.memory
       → IsServedBelow (capacity old) old.state replies moments → StepsInMemory mid command reply new
       → IsServedBelow (capacity old) old.state (replies ++ reply ∷ []) (moments ++ new.state ∷ [])
-  IsServedBelow-step {old = old} {mid = mid} {reply = reply} chain no_lower served step =
-      IsServedBelow-push (capacity old) reply chain served
+  IsServedBelow-step {old = old} {mid = mid} {new = new} {reply = reply} chain no_lower served step =
+      IsServedBelow-push (capacity old) reply new.state chain served
       (λ fewer. step.not_refused (room_still old mid (limit_stays_along chain) no_lower fewer))
 
   pub RunsInMemory-from_chain :

@@ -41,7 +41,7 @@ module _ {T S K1 K2 : Type 0} (old new : SizedState T S) where
 
   -- of an insert
   pub StepsInMemory-inserted :
-      (item : T) (ix : ℕ) → InsertsInMemory (1 ≤ room old) old.memory (Ok ix) new.memory
+      (item : T) (ix : ℕ) → InsertsInMemory {T = T} (1 ≤ room old) old.memory (Ok ix) new.memory
       → StepsInMemory {K1 = K1} {K2 = K2} old (Insert item) (Inserted ix) new
   StepsInMemory-inserted item ix did = record {
     no_lower = did.no_lower;
@@ -51,7 +51,7 @@ module _ {T S K1 K2 : Type 0} (old new : SizedState T S) where
   }
 
   pub StepsInMemory-refused :
-      (item : T) (refusal : InsertRefusal T) → InsertsInMemory (1 ≤ room old) old.memory (Err refusal) new.memory
+      (item : T) (refusal : InsertRefusal T) → InsertsInMemory {T = T} (1 ≤ room old) old.memory (Err refusal) new.memory
       → StepsInMemory {K1 = K1} {K2 = K2} old (Insert item) (Refused refusal) new
   StepsInMemory-refused item refusal did = record {
     no_lower = did.no_lower;
