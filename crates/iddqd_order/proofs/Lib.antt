@@ -5,6 +5,7 @@ mod CursorLemmas
 mod DescentLemmas
 mod DigitLemmas
 pub mod IndexListLemmas
+mod InnerLemmas
 pub mod InsertLemmas
 pub mod KeyOrderLemmas
 pub mod MemberLemmas

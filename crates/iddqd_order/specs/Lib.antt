@@ -15,6 +15,7 @@ pub mod PreparedBTreeMove
 pub mod PreparedBTreeRemove
 pub mod Range
 pub mod Removal
+pub mod Reserve
 pub mod Retain
 pub mod Row
 pub mod Search

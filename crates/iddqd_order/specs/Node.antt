@@ -1,6 +1,6 @@
 -- What a node of the tree represents, and what holds of it. A tree is read with its height: h levels of
 -- inner nodes above the leaves.
-use Rattle.std.specs.Prelude.{◌≡◌, ℕ, zero, suc, ◌+◌, ◌<◌, ◌≤◌, List, [], ◌∷◌, ◌++◌, All, length, map, slice_index, slice_index_or, vec_capacity, Vec, Bool, true, false, nat_eq, if◌then◌else◌}
+use Rattle.std.specs.Prelude.{◌≡◌, ℕ, zero, suc, ◌+◌, ◌<◌, ◌≤◌, List, [], ◌∷◌, ◌++◌, All, length, map, sum_by, slice_index, slice_index_or, vec_capacity, Vec, Bool, true, false, nat_eq, if◌then◌else◌}
 use Rattle.std.specs.List.{insert}
 use Rattle.std.specs.declared.alloc.Global.{Global}
 use Rattle.iddqd_order.specs.declared.btree_table.node.Node.{Node}
@@ -48,6 +48,11 @@ after (suc i) (x ∷ xs) (k ∷ ks) = after i xs ks
 unfoldable pub flat : ℕ → Node → List ℕ
 flat zero n = row n
 flat (suc h) n = weave (row n) (map (λ k. flat h k) (children n))
+
+-- how many inner nodes a tree has, each of which owns one block
+unfoldable pub inners : ℕ → Node → ℕ
+inners zero n = 0
+inners (suc h) n = suc (sum_by (λ k. inners h k) (children n))
 
 -- at most eleven indexes, and no child
 pub record IsLeaf (n : Node) : Type 0 where

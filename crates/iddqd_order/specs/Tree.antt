@@ -4,12 +4,17 @@ use Rattle.std.specs.List.{IsDistinct}
 use Rattle.std.specs.Coded.{×_prop, →_prop, Unit-prop, le_prop}
 use Rattle.iddqd.specs.Compaction.{sentinel}
 use Rattle.iddqd_order.specs.declared.btree_table.node.Node.{Node}
-use Rattle.iddqd_order.specs.Node.{row, child, flat, IsFormed, Fits, Passes, Reaches, spot, FullBelow, IsFullBelow}
+use Rattle.iddqd_order.specs.Node.{row, child, flat, inners, IsFormed, Fits, Passes, Reaches, spot, FullBelow, IsFullBelow}
 
 -- its indexes, in order
 abbrev pub in_order : Option Node → ℕ → List ℕ
 in_order None h = []
 in_order (Some n) h = flat h n
+
+-- how many inner nodes it has
+abbrev pub inners_in : Option Node → ℕ → ℕ
+inners_in None h = 0
+inners_in (Some n) h = inners h n
 
 -- the root has an index, and there are at most twelve levels
 abbrev pub IsTree : Option Node → ℕ → Type 0

@@ -25,6 +25,7 @@ pub mod range;
 mod reading;
 mod removal;
 mod renaming;
+mod reserve;
 mod retain;
 mod row;
 mod search;
