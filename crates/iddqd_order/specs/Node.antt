@@ -122,8 +122,9 @@ IsFullBelow k (suc h) n p = FullBelow k (suc h) n × IsFullBelow k h (child n (s
 abbrev pub IsSpare : Vec Node Global → Type 0
 IsSpare s = (s.items ≡ []) × (12 ≤ vec_capacity s)
 
--- the index x was put in where the path goes, and the node is as it has to be
-pub record IsPut (h : ℕ) (old new : Node) (p : List ℕ) (x : ℕ) : Type 0 where
+-- the index x was put in where the path goes, with so many more inner nodes, and the node is as it has to be
+pub record IsPut (h : ℕ) (old new : Node) (p : List ℕ) (x more : ℕ) : Type 0 where
   pub items : flat h new ≡ insert (flat h old) (place h old p) x
   pub formed : IsFormed h new
   pub longer : length (row old) ≤ length (row new)
+  pub inner : inners h new ≡ inners h old + more

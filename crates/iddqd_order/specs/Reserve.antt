@@ -1,5 +1,5 @@
 -- The blocks that a table keeps beside its tree.
-use Rattle.std.specs.Prelude.{◌≡◌, ◌+◌, ◌-◌, ◌*◌, ◌/◌, ◌≤◌, ℕ, List, All, refl, length, vec_len, vec_capacity, Vec}
+use Rattle.std.specs.Prelude.{◌≡◌, ◌-◌, ◌≤◌, ℕ, List, All, refl, length, vec_len, vec_capacity, Vec}
 use Rattle.std.specs.Coded.{Coded, code_by, coded×, coded_ℕ}
 use Rattle.std.specs.declared.alloc.Global.{Global}
 use Rattle.iddqd_order.specs.declared.btree_table.node.Node.{Node}
@@ -27,10 +27,6 @@ spare r = r.reserved - r.inners
 -- the most blocks that can be reserved: those of a tree with as many indexes as there can be
 abbrev pub most_blocks : ℕ
 most_blocks = 143165577
-
--- how many inner nodes a tree of so many indexes has at most
-abbrev pub needed_blocks : ℕ → ℕ
-needed_blocks indexes = (indexes + 19) / 30
 
 -- the parts of a reserve: so many empty blocks, with places for all that are reserved
 pub record IsReserve (blocks : Vec (Vec Node Global) Global) (inners reserved : ℕ) : Type 0 where

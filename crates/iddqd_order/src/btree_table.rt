@@ -16,6 +16,7 @@ pub mod entry;
 pub mod into_iter;
 pub mod iter;
 pub mod key_order;
+mod memory;
 mod node;
 mod path;
 pub mod prepared_insert;
