@@ -20,6 +20,7 @@ mod ReckoningLemmas
 mod RemovalLemmas
 pub mod RenameLemmas
 mod RetainLemmas
+mod RoomLemmas
 mod SearchLemmas
 pub mod TableLemmas
 pub mod TreeLemmas
