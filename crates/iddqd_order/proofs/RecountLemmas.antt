@@ -1,6 +1,5 @@
 -- How many inner nodes a removal, and what mends nodes, leave.
-use Rattle.iddqd_order.proofs.Names.{◌≡◌, ◌≢◌, ◌∙◌, ℕ, zero, suc, ◌+◌, ◌-◌, ◌<◌, ◌≤◌, List, [], ◌∷◌, ◌++◌, length, set, get_or, remove, min, refl, ap, sym, arith, sub-one, length-set, Node, Some, children, nil_from_length, length_push, IsEmptied}
-unfoldable use Rattle.iddqd_order.proofs.Names.{IsFormed}
+use Rattle.iddqd_order.proofs.Names.{◌≡◌, ◌≢◌, ◌∙◌, ℕ, zero, suc, ◌+◌, ◌-◌, ◌<◌, ◌≤◌, List, [], ◌∷◌, ◌++◌, length, set, get_or, remove, min, refl, ap, sym, arith, sub-one, length-set, Node, Some, children, room, IsFormed}
 use Rattle.std.proofs.lemmas.List.Edits.{length-remove}
 use Rattle.std.proofs.lemmas.List.Sums.{sum_by-set, sum_by-remove, sum_by-append, sum_by-cons, get_or-le-sum_by}
 unfoldable use Rattle.iddqd_order.specs.Node.{inners}
@@ -53,15 +52,31 @@ pub children-some : (h : ℕ) (n : Node) → IsFormed h n → min 1 (length (chi
 children-some zero n f = omega (arith, (formed-sized zero n f).0.count)
 children-some (suc h) n f = omega (arith, (formed-sized (suc h) n f).0.count)
 
+pub children-room : (h : ℕ) (n : Node) → IsFormed h n → 0 < length (children n) → 12 ≤ room n
+children-room zero n f some = absurd (omega (arith, (formed-sized zero n f).0.count))
+children-room (suc h) n f some = (formed-sized (suc h) n f).0.has_room
+
 -- below a node that is counted fewer are
 pub child-counted : (h i : ℕ) (n g : Node) → h ≢ 0 → i < length (children n) → g ≡ get_or (children n) i g → inners (h - 1) g + 1 ≤ inners h n
 child-counted h i n g ne lt is = omega (arith, inners-inner h n ne, get_or-le-sum_by (λ k. inners (h - 1) k) (children n) i g lt, ap (inners (h - 1)) is)
 
--- the i-th child was changed, and then the children were mended
-pub recounted : (h i : ℕ) (old new g k : Node) (new_ks : List Node) (r s t : Reserved) → h ≢ 0 → i < length (children old) → g ≡ get_or (children old) i g → Recounts r s (inners (h - 1) g) (inners (h - 1) k)
-    → Recounts s t (inners_of (h - 1) (set (children old) i k)) (inners_of (h - 1) new_ks) → children new ≡ new_ks → Recounts r t (inners h old) (inners h new)
-recounted h i old new g k new_ks r s t ne lt is a b e = record {
-  inners = omega (arith, a.inners, b.inners, inners-inner h old ne, inners-inner h new ne, sum_by-set (λ k. inners (h - 1) k) (children old) i k g lt, ap (inners (h - 1)) is, ap (inners_of (h - 1)) e);
+-- nothing was counted before, and nothing is now
+pub unchanged : {was now : ℕ} (r : Reserved) → was ≡ 0 → now ≡ 0 → Recounts r r was now
+unchanged r e f = record { inners = omega arith; reserved = refl }
+
+-- the i-th child of a node was changed
+pub recounted-below : (h i : ℕ) (old g k : Node) (r s : Reserved) → h ≢ 0 → i < length (children old) → g ≡ get_or (children old) i g → Recounts r s (inners (h - 1) g) (inners (h - 1) k)
+    → Recounts r s (inners h old) (suc (inners_of (h - 1) (set (children old) i k)))
+recounted-below h i old g k r s ne lt is a = record {
+  inners = omega (arith, a.inners, inners-inner h old ne, sum_by-set (λ k. inners (h - 1) k) (children old) i k g lt, ap (inners (h - 1)) is);
+  reserved = a.reserved;
+}
+
+-- and then its children were mended
+pub recounted-mended : (h : ℕ) (old new : Node) (ks new_ks : List Node) (r s t : Reserved) → h ≢ 0 → Recounts r s (inners h old) (suc (inners_of (h - 1) ks)) → Recounts s t (inners_of (h - 1) ks) (inners_of (h - 1) new_ks) → children new ≡ new_ks
+    → Recounts r t (inners h old) (inners h new)
+recounted-mended h old new ks new_ks r s t ne a b e = record {
+  inners = omega (arith, a.inners, b.inners, inners-inner h new ne, ap (inners_of (h - 1)) e);
   reserved = b.reserved ∙ a.reserved;
 }
 
@@ -78,13 +93,3 @@ inners-each h (k ∷ ks) [] count each = absurd (omega arith)
 inners-each h (k ∷ ks) (l ∷ ls) count each =
     let rest = inners-each h ks ls (omega arith) (λ j d lt. each (suc j) d (omega arith)) in
     omega (arith, rest, each 0 k (omega arith), sum_by-cons (λ k. inners h k) k ks, sum_by-cons (λ k. inners h k) l ls)
-
--- the root was let go, and its only child is the new one
-pub inners-lowered : (h : ℕ) (n : Node) (left : List Node) (k : Node) → IsEmptied (Some n) h → children n ≡ left ++ k ∷ [] → inners h n ≡ suc (inners (h - 1) k)
-unfolding inners IsFormed
-inners-lowered zero n left k e is = absurd (omega (arith, ap length e.0.childless, ap length is, length_push left k))
-inners-lowered (suc h) n left k e is =
-    let none = ap length e.1 in
-    let alone : left ≡ [] = nil_from_length left (omega (arith, ap length is, length_push left k, e.0.0.one_more)) in
-    let one : children n ≡ k ∷ [] = is ∙ ap (λ z. z ++ k ∷ []) alone in
-    rw sub-one (omega (arith, ap (inners_of h) one, sum_by-cons (λ k. inners h k) k []))
