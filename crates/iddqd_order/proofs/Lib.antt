@@ -17,6 +17,7 @@ mod NodeRenameLemmas
 mod PartLemmas
 mod RangeLemmas
 mod ReckoningLemmas
+mod RecountLemmas
 mod RemovalLemmas
 pub mod RenameLemmas
 mod RetainLemmas

@@ -9,6 +9,7 @@
 //! The count of asks is ghost data, which two proofs by hand make and no other may touch.
 pub mod asking;
 mod blocks;
+mod clearing;
 mod copies;
 mod cursor;
 mod descent;
