@@ -9,6 +9,7 @@ ghost use Rattle.iddqd_order.specs.Search.{CanSearch, SearchAsks, IsSteadyRising
 
 use crate::btree_table::asking::Asking;
 use crate::btree_table::blocks::Blocks;
+use crate::btree_table::clearing::clear_in;
 use crate::btree_table::copies::copy_of;
 use crate::btree_table::cursor::Cursor;
 use crate::btree_table::into_iter::IntoIter;
@@ -179,7 +180,13 @@ impl MapBTreeTable {
         ensures kept { Retains F.FnMut f (order_of self.old) (order_of self.new) }
         ensures memory { capacity self.new ≡ capacity self.old }
     {
-        let (height, len) = retain_in(&mut self.root, self.height, self.len, &mut f);
+        let (height, len) = retain_in(
+            &mut self.root,
+            self.height,
+            self.len,
+            &mut f,
+            &mut self.reserve,
+        );
         self.height = height;
         self.len = len;
     }
@@ -203,7 +210,7 @@ impl MapBTreeTable {
         ensures empty { order_of self.new ≡ [] }
         ensures memory { capacity self.new ≡ capacity self.old }
     {
-        self.root = None;
+        clear_in(&mut self.root, self.height, &mut self.reserve, self.alloc);
         self.height = 0;
         self.len = 0;
     }
@@ -617,7 +624,7 @@ impl MapBTreeTable {
         ensures lower { self.new.height ≤ self.old.height }
         ensures reserved { self.new.reserved ≡ self.old.reserved }
     {
-        self.height = take_out(&mut self.root, self.height, path, level);
+        self.height = take_out(&mut self.root, self.height, path, level, &mut self.reserve);
         self.len -= 1;
     }
 }
