@@ -44,7 +44,7 @@ pub struct VacantEntry<'a> {
     pub(super) full: usize,
     ghost goes: { GoesIn table.now.root table.now.height path } by { ReachesIn-prop true 0 table.now.root table.now.height path },
     ghost full_nodes: { FullIn full table.now.root table.now.height path } by { FullIn-prop full table.now.root table.now.height path },
-    ghost levels: { full ≤ 12 },
+    ghost levels: { full ≤ table.now.height + 1 },
 }
 
 impl MapBTreeTable {
@@ -163,7 +163,10 @@ impl<'a> VacantEntry<'a> {
             IfOk result (λ p. prepared_insert.blocks_of p ≡ 0) }
     {
         let VacantEntry { table, path, full } = self;
-        let blocks = table.take_blocks(full)?;
+        let blocks = match table.take_blocks(full) {
+            Ok(blocks) => blocks,
+            Err(AllocError) => return Err(AllocError),
+        };
         Ok(PreparedBTreeInsert {
             table,
             path,

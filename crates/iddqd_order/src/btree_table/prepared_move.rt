@@ -50,7 +50,10 @@ impl MapBTreeTable {
             IfOk result (λ p. prepared_move.blocks_of p ≡ 0) }
     {
         self.stores_no_sentinel();
-        let blocks = self.take_move_blocks()?;
+        let blocks = match self.take_move_blocks() {
+            Ok(blocks) => blocks,
+            Err(AllocError) => return Err(AllocError),
+        };
         Ok(PreparedBTreeMove {
             table: self,
             ix,

@@ -1,5 +1,5 @@
 //! The table: a tree of distinct indexes, searched from the root down.
-ghost use Rattle.std.specs.Prelude.{◌≡◌, ◌≢◌, ◌↔◌, ℕ, ◌+◌, ◌-◌, ◌<◌, ◌≤◌, [], length, map, slice_get, slice_index, is_some, IfOk, IsOk, IsSome, Contains, insert, IsTrue, false, Some, None};
+ghost use Rattle.std.specs.Prelude.{◌≡◌, ◌≢◌, ◌↔◌, ℕ, ◌+◌, ◌-◌, ◌<◌, ◌≤◌, List, [], length, map, slice_get, slice_index, is_some, IfOk, IsOk, IsSome, Contains, insert, IsTrue, false, Some, None};
 ghost use Rattle.std.specs.declared.cmp.Ordering.{Ordering};
 ghost use Rattle.iddqd.specs.Compaction.{CanRemap, remapped};
 ghost use Rattle.iddqd_order.specs.Descent.{EndsIn};
@@ -332,7 +332,10 @@ impl MapBTreeTable {
             IfOk result (λ p. prepared_insert.blocks_of p ≡ 0) }
     {
         let (path, full) = self.find_gap(ix, asking, how);
-        let blocks = self.take_blocks(full)?;
+        let blocks = match self.take_blocks(full) {
+            Ok(blocks) => blocks,
+            Err(AllocError) => return Err(AllocError),
+        };
         Ok(PreparedBTreeInsert {
             table: self,
             path,
@@ -402,7 +405,12 @@ impl MapBTreeTable {
 
     // The memory of an insert through so many full nodes, beyond the spare blocks.
     pub(super) fn take_blocks(&self, full: usize) -> Result<Blocks, AllocError>
+        requires full { (path : List ℕ) × GoesIn self.now.root self.now.height path
+            × FullIn full self.now.root self.now.height path }
+        requires levels { full ≤ self.now.height + 1 }
         ensures blocks { IfOk result (λ blocks. blocks ≡ fresh_for self.now full) }
+        ensures few { fresh_for self.now full ≤ 12 }
+        ensures roomy { length (order_of self.now) < capacity self.now → fresh_for self.now full ≡ 0 }
         ensures none { fresh_for self.now full ≡ 0 → IsOk result }
     {
         let count = if full > self.height {
