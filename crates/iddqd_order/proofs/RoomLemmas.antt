@@ -6,6 +6,7 @@ use Rattle.std.proofs.lemmas.List.Elements.{All-head, All-tail}
 use Rattle.std.proofs.lemmas.List.Sums.{sum_by-cons}
 use Rattle.iddqd_order.specs.declared.btree_table.node.Node.{Node}
 use Rattle.iddqd_order.specs.Node.{row, children, child, weave, flat, inners, IsFormed, Passes, Goes, IsFullBelow}
+use Rattle.iddqd_order.specs.MapBTreeTable.{Order, order_of, capacity, move_blocks}
 use Rattle.iddqd_order.specs.Tree.{in_order, inners_in, IsTree, GoesIn, FullIn, blocks_for}
 use Rattle.iddqd_order.proofs.InnerLemmas.{wide, inners-below, inners-root}
 use Rattle.iddqd_order.proofs.InsertLemmas.{all_full}
@@ -79,3 +80,13 @@ pub none-fresh : (r : Option Node) (h blocks k : ℕ) (p : List ℕ) → IsTree 
     → blocks_for h k - (blocks - inners_in r h) ≡ 0
 none-fresh None h blocks k p t g full le lt = rw (t, full) (omega arith)
 none-fresh (Some n) h blocks k p t g full le lt = let w = root-full h k n p t.0 t.1 g le full in omega arith
+
+-- up to the capacity a move takes no block, and past it one for each level and one for a new root
+pub move-none : (t : Order) → length (order_of t) ≤ capacity t → move_blocks t ≡ 0
+move-none t le = let b : nat_lt (capacity t) (length (order_of t)) ≡ false = le-ltb (capacity t) (length (order_of t)) le in rw b
+
+pub move-most : (t : Order) → capacity t < length (order_of t) → move_blocks t ≡ t.height + 1
+move-most t lt = let b : nat_lt (capacity t) (length (order_of t)) ≡ true = lt-ltb (capacity t) (length (order_of t)) lt in rw b
+
+pub move-few : (t : Order) → t.height ≤ 11 → move_blocks t ≤ 12
+move-few t low = elim (cases_lt (capacity t) (length (order_of t))) [ inl lt ↦ omega (arith, move-most t lt) | inr le ↦ omega (arith, move-none t le) ]

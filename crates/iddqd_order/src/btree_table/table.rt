@@ -392,8 +392,9 @@ impl MapBTreeTable {
     // The memory of a move: none up to the capacity, and else what any insert into a tree of this height can need.
     pub(super) fn take_move_blocks(&self) -> Result<Blocks, AllocError>
         ensures blocks { IfOk result (λ blocks. blocks ≡ move_blocks self.now) }
+        ensures few { move_blocks self.now ≤ 12 }
+        ensures roomy { length (order_of self.now) ≤ capacity self.now → move_blocks self.now ≡ 0 }
         ensures none { move_blocks self.now ≡ 0 → IsOk result }
-        ensures few { self.now.height ≤ 11 }
     {
         let count = if self.len > self.capacity() {
             self.height + 1
