@@ -6,10 +6,11 @@ use Rattle.std.proofs.lemmas.List.Elements.{All-head, All-tail}
 use Rattle.std.proofs.lemmas.List.Sums.{sum_by-cons}
 use Rattle.iddqd_order.specs.declared.btree_table.node.Node.{Node}
 use Rattle.iddqd_order.specs.Node.{row, children, child, weave, flat, inners, IsFormed, Passes, Goes, IsFullBelow}
-use Rattle.iddqd_order.specs.MapBTreeTable.{Order, order_of, capacity, move_blocks}
+use Rattle.iddqd_order.specs.MapBTreeTable.{Order, order_of, capacity, spare_blocks, move_blocks}
 use Rattle.iddqd_order.specs.Tree.{in_order, inners_in, IsTree, GoesIn, FullIn, blocks_for}
 use Rattle.iddqd_order.proofs.InnerLemmas.{wide, inners-below, inners-root}
 use Rattle.iddqd_order.proofs.InsertLemmas.{all_full}
+use Rattle.iddqd_order.proofs.TableLemmas.{few_blocks}
 
 -- children that have five indexes or more beyond thirty for each inner node, and one that has `more` beyond these
 wide-more : (f : Node → List ℕ) (g : Node → ℕ) (xs : List ℕ) (ns : List Node) (i more : ℕ) (d : Node) → length ns ≡ length xs + 1 → All (λ n. 30 * g n + 5 ≤ length (f n)) ns → i < length ns
@@ -90,3 +91,13 @@ move-most t lt = let b : nat_lt (capacity t) (length (order_of t)) ≡ true = lt
 
 pub move-few : (t : Order) → t.height ≤ 11 → move_blocks t ≤ 12
 move-few t low = elim (cases_lt (capacity t) (length (order_of t))) [ inl lt ↦ omega (arith, move-most t lt) | inr le ↦ omega (arith, move-none t le) ]
+
+-- what an insert takes is there: below the capacity beside the tree, and else in the blocks of a move
+pub enough-blocks : (t : Order) (k blocks : ℕ) (p : List ℕ) → IsTree t.root t.height → GoesIn t.root t.height p → FullIn k t.root t.height p → k ≤ t.height + 1 → (capacity t ≤ length (order_of t) → t.height < blocks)
+    → blocks_for t.height k ≤ spare_blocks t + blocks
+unfolding order_of capacity
+enough-blocks t k blocks p tree goes full le most =
+    elim (cases_lt (length (order_of t)) (capacity t)) [
+      | inl lt ↦ omega (arith, none-fresh t.root t.height t.reserved k p tree goes full le lt)
+      | inr ge ↦ (let all = most ge in omega (arith, few_blocks t.height k le))
+    ]
