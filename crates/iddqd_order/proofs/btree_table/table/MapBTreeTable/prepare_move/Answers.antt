@@ -1,5 +1,6 @@
 use Rattle.std.proofs.Common.{refl, ◌∙◌}
 use Rattle.iddqd_order.specs.PreparedBTreeMove.{index_of, blocks_of}
+use Rattle.iddqd_order.proofs.MoveLemmas.{without-fewer}
 use Rattle.iddqd_order.proofs.btree_table.table.MapBTreeTable.prepare_move.Goals as goal
 
 pub returns : goal.returns
@@ -16,3 +17,6 @@ returns c =
         no_blocks = λ le. taken.blocks ∙ taken.roomy le;
       },
     )
+
+pub invariant_of-result-clause-stored : goal.invariant_of-result-clause-stored
+invariant_of-result-clause-stored c = without-fewer _ _ c.requires
