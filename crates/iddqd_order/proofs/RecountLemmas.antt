@@ -1,11 +1,11 @@
 -- How many inner nodes a removal, and what mends nodes, leave.
-use Rattle.iddqd_order.proofs.Names.{◌≡◌, ◌≢◌, ◌∙◌, ℕ, zero, suc, ◌+◌, ◌-◌, ◌<◌, ◌≤◌, List, [], ◌∷◌, ◌++◌, length, set, get_or, remove, min, refl, ap, sym, arith, sub-one, length-set, Node, Some, children, room, IsFormed}
+use Rattle.iddqd_order.proofs.Names.{◌≡◌, ◌≢◌, ◌∙◌, ℕ, zero, suc, ◌+◌, ◌-◌, ◌<◌, ◌≤◌, List, [], ◌∷◌, ◌++◌, length, set, get_or, remove, min, refl, ap, arith, sub-one, length-set, Node, children, room, IsFormed}
 use Rattle.std.proofs.lemmas.List.Edits.{length-remove}
 use Rattle.std.proofs.lemmas.List.Sums.{sum_by-set, sum_by-remove, sum_by-append, sum_by-cons, get_or-le-sum_by}
 unfoldable use Rattle.iddqd_order.specs.Node.{inners}
 use Rattle.iddqd_order.specs.Removal.{inners_of, Recounts}
 use Rattle.iddqd_order.specs.Reserve.{Reserved}
-use Rattle.iddqd_order.proofs.MendLemmas.{IsSized, formed-sized}
+use Rattle.iddqd_order.proofs.MendLemmas.{formed-sized}
 
 pub inners-leaf : (h : ℕ) (n : Node) → h ≡ 0 → inners h n ≡ 0
 unfolding inners
