@@ -1,5 +1,5 @@
 //! Memory that a table of indexes takes ahead, and gives back.
-ghost use Rattle.std.specs.Prelude.{◌≡◌, ◌≤◌, ◌+◌, IfOk};
+ghost use Rattle.std.specs.Prelude.{◌≡◌, ◌≤◌, ◌+◌, min, max, IfOk};
 ghost use Rattle.std.specs.FinMap as finite;
 ghost use Rattle.iddqd_hash.specs.HashTable.{capacity, room};
 ghost use Rattle.iddqd_hash.specs.MapHashTable.{filed};
@@ -38,6 +38,7 @@ impl MapHashTable {
     pub fn shrink_to_fit(&mut self) -> Result<(), AllocError>
         ensures contents { filed self.new ≡ filed self.old }
         ensures memory { Shrinks 0 (finite.len (filed self.old)) self.old result self.new }
+        ensures capacity { min (capacity self.old) (finite.len (filed self.old)) ≤ capacity self.new }
     {
         self.shrink_to(0)
     }
@@ -48,6 +49,7 @@ impl MapHashTable {
     pub fn shrink_to(&mut self, least: usize) -> Result<(), AllocError>
         ensures contents { filed self.new ≡ filed self.old }
         ensures memory { Shrinks least (finite.len (filed self.old)) self.old result self.new }
+        ensures capacity { min (capacity self.old) (max least (finite.len (filed self.old))) ≤ capacity self.new }
     {
         self.table.shrink_to(least)
     }
