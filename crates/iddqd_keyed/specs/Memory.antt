@@ -1,12 +1,14 @@
 -- The memory of keyed items, beside their state: what each part can hold without asking for more.
-use Rattle.std.specs.Prelude.{◌≡◌, ◌≤◌, ◌<◌, ◌-◌, ⊤, ℕ, List, ◌∷◌, length, Result, IfErr, min, refl}
+use Rattle.std.specs.Prelude.{◌≡◌, ◌≤◌, ◌<◌, ◌-◌, ◌+◌, ⊤, ℕ, List, ◌∷◌, length, Result, IsOk, OnOk, IfErr, min, max, refl}
 use Rattle.std.specs.FinMap as finite
 use Rattle.std.specs.Coded.{Coded, code_by, coded×, coded_ℕ}
-use Rattle.iddqd.specs.Store.{live_count}
+use Rattle.iddqd.specs.Store.{live_count, slot_count}
 use Rattle.iddqd.specs.ItemSet.{SizedStore, room as set_room}
 use Rattle.iddqd_hash.specs.HashTable.{Table, capacity as hashed_capacity, memory as hashed_cells}
+use Rattle.iddqd.specs.Sizes.{insertable}
 use Rattle.iddqd_hash.specs.MapHashTable.{filed}
-use Rattle.iddqd_order.specs.MapBTreeTable.{Order, order_of}
+use Rattle.iddqd_hash.specs.Sizes.{most_cells}
+use Rattle.iddqd_order.specs.MapBTreeTable.{Order, order_of, capacity as ordered_capacity, capacity_for}
 use Rattle.iddqd_keyed.specs.Keys.{Keys}
 use Rattle.iddqd_keyed.specs.State.{State, state_code, state_of}
 use Rattle.iddqd_keyed.specs.Run.{Run}
@@ -30,10 +32,6 @@ pub record SizedState (T S : Type 0) : Type 0 where
   pub state : State T S
   pub memory : Memory
 
--- how many indexes the ordered table can hold
-abbrev pub ordered_capacity : Order → ℕ
-ordered_capacity order = 10
-
 abbrev pub memory_code : Coded Memory
 memory_code =
     code_by
@@ -53,7 +51,7 @@ sized_state_code {T} {S} item hasher =
     (λ p. record { state = p.0; memory = p.1 })
     (λ _. refl)
 
--- a collection that holds nothing and has asked for no memory
+-- what a collection has that holds nothing and has asked for no memory
 abbrev pub no_memory : Memory
 no_memory = record { slots = 0; hashed = 0; cells = 0; ordered = 10 }
 
@@ -105,6 +103,13 @@ pub record HasRoomInParts {T : Type 0} (items : SizedStore T) (table : Table ℕ
   pub hashed : finite.len (filed table) < hashed_capacity table
   pub ordered : length (order_of order) < ordered_capacity order
 
+-- memory that is made for so many items: no part has more than these need
+pub record IsMadeFor (items : ℕ) (memory : Memory) : Type 0 where
+  pub slots : memory.slots ≡ items
+  pub hashed : items ≤ memory.hashed
+  pub cells : memory.cells ≤ most_cells items
+  pub ordered : memory.ordered ≡ capacity_for items
+
 module _ {T S : Type 0} where
   -- the state of a store and two tables, and their memory
   abbrev pub sized_of : S → SizedStore T → Table ℕ → Order → SizedState T S
@@ -118,6 +123,36 @@ module _ {T S : Type 0} where
   -- how many inserts need no memory
   abbrev pub room : SizedState T S → ℕ
   room k = capacity k - live_count k.state.store
+
+  -- how many more items a reserve of so many is for: no more than the limit leaves
+  abbrev pub reservable : ℕ → SizedState T S → ℕ
+  reservable additional k = min additional (insertable k.state.store)
+
+  -- What a reserve leaves: the contents; no part can hold less than before; at Ok there is room for so many more items,
+  -- or for as many as the limit leaves; where there was, nothing changes; and the tables have no more than so many need.
+  pub record ReservesInMemory {E : Type 0}
+      (additional : ℕ) (old : SizedState T S) (result : Result (Unit {0}) E) (new : SizedState T S) : Type 0 where
+    pub contents : new.state ≡ old.state
+    pub no_lower : IsNoLower old.memory new.memory
+    pub reserved : OnOk result (reservable additional old ≤ room new)
+    pub had_room : reservable additional old ≤ room old → IsOk result × (new ≡ old)
+    pub few_cells :
+        new.memory.cells ≤ max old.memory.cells (most_cells (live_count old.state.store + reservable additional old))
+    pub few_blocks :
+        new.memory.ordered
+        ≤ max old.memory.ordered (capacity_for (live_count old.state.store + reservable additional old))
+
+  -- What a shrink to so many items leaves: the contents, and the capacity for as many, or for those that there are. At Ok
+  -- no part has more than that needs; of the store each slot stays, the vacant ones too.
+  pub record ShrinksInMemory {E : Type 0}
+      (least : ℕ) (old : SizedState T S) (result : Result (Unit {0}) E) (new : SizedState T S) : Type 0 where
+    pub contents : new.state ≡ old.state
+    pub never_less : min (capacity old) (max least (live_count old.state.store)) ≤ capacity new
+    pub slots : OnOk result (new.memory.slots ≡ min old.memory.slots (max least (slot_count old.state.store)))
+    pub cells : OnOk result (new.memory.cells ≤ most_cells (max least (live_count old.state.store)))
+    pub blocks :
+        new.memory.ordered ≡ min old.memory.ordered (capacity_for (max least (live_count old.state.store)))
+    pub never_more : (new.memory.slots ≤ old.memory.slots) × (new.memory.cells ≤ old.memory.cells)
 
   -- One step and its memory: no part can hold less than before; with room for an item none is taken, and no item is
   -- refused for want of it; and no command but an insert takes any.

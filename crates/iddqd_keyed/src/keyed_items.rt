@@ -16,6 +16,7 @@ ghost use Rattle.std.specs.FinMap as finite;
 ghost use Rattle.iddqd.specs.{get, live_count, next_index, inserted, removed, IsFull, IsValid, IsRemapOf};
 ghost use Rattle.iddqd_hash.specs.{filed};
 ghost use Rattle.iddqd_order.specs.{indexes_left, order_of, without};
+ghost use Rattle.iddqd_order.specs.MapBTreeTable.{capacity as ordered_capacity};
 ghost use Rattle.iddqd_sides.specs.Scan.{IsLive};
 ghost use Rattle.iddqd_sides.specs.Ordered as ordered_side;
 ghost use Rattle.iddqd_keyed.specs.Keys.{keys_of};
@@ -23,8 +24,9 @@ ghost use Rattle.iddqd_keyed.specs.State.{empty_state, empty_state_within, clear
 ghost use Rattle.iddqd_keyed.specs.Sides.{first_side, second_side, finds_told, hash_in, LooksUp, IsExact, Keeps, KeepsUnlessChanged};
 ghost use Rattle.iddqd_keyed.specs.Machine.{Refuses, Inserts, TellsAsScan, Removes, RemovesBy, Overwrites, Step};
 ghost use Rattle.iddqd_keyed.specs.Run.{Run};
-ghost use Rattle.iddqd_keyed.specs.Memory.{no_memory, capacity, room, memory_of, ordered_capacity, HasRoomInParts, InsertsInMemory, StepsInMemory, RunsInMemory};
+ghost use Rattle.iddqd_keyed.specs.Memory.{no_memory, capacity, room, memory_of, HasRoomInParts, InsertsInMemory, StepsInMemory, RunsInMemory};
 
+mod memory;
 mod modifies;
 mod queries;
 mod replaces;

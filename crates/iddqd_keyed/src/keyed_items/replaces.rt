@@ -10,11 +10,12 @@ ghost use Rattle.iddqd.specs.{get, live_count, rebound};
 ghost use Rattle.iddqd_hash.specs.{filed};
 ghost use Rattle.iddqd_hash.specs.HashTable.{KeepsMemory};
 ghost use Rattle.iddqd_order.specs.{order_of};
+ghost use Rattle.iddqd_order.specs.MapBTreeTable.{capacity as ordered_capacity};
 ghost use Rattle.iddqd_sides.specs.Scan.{IsLive, IsKeyAt};
 ghost use Rattle.iddqd_sides.specs.Ordered as ordered_side;
 ghost use Rattle.iddqd_sides.specs.HashedMove.{moved};
 ghost use Rattle.iddqd_keyed.specs.Sides.{Keeps};
-ghost use Rattle.iddqd_keyed.specs.Memory.{memory_of, ordered_capacity};
+ghost use Rattle.iddqd_keyed.specs.Memory.{memory_of};
 ghost use Rattle.iddqd_keyed.specs.Replacement.{TellsOther, Replaces, IsForMemory, planned, MovesInPlace, Reorders};
 
 use super::{Keyed, KeyedItems};

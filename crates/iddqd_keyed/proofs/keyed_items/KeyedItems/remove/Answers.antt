@@ -29,7 +29,7 @@ returns-clause-removes g c = grind (arith, common_steps)
 pub returns-clause-memory : goal.returns-clause-memory
 returns-clause-memory g c =
     let hashed = c.take_index.ensures.memory in
-    rw (← c.self.view_is, c.remove_item.ensures.slots, hashed.same_capacity, hashed.same_memory)
+    rw (← c.self.view_is, c.remove_item.ensures.slots, hashed.same_capacity, hashed.same_memory, c.remove_item.ensures.ordered)
 
 pub returns-clause-room : goal.returns-clause-room
 returns-clause-room g c =
@@ -40,4 +40,4 @@ returns-clause-room g c =
     rw (← c.self.view_is)
     (room-removed whole left c.self.invariant c.args.ix (Some c.remove_item.result)
     (out.item, rw (out.removed, c.take_index.ensures.taken, out.taken))
-    (rw (out.slots, hashed.same_capacity, hashed.same_memory)))
+    (rw (out.slots, hashed.same_capacity, hashed.same_memory, c.remove_item.ensures.ordered)))

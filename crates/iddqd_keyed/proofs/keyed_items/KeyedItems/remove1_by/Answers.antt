@@ -54,4 +54,4 @@ invariant_of-self g c = grind (arith, common_steps)
 pub returns-clause-memory : goal.returns-clause-memory
 returns-clause-memory g c =
     let hashed = c.in_ok-ix.ensures.memory in
-    rw (← c.self.view_is, c.remove_item.ensures.slots, hashed.same_capacity, hashed.same_memory)
+    rw (← c.self.view_is, c.remove_item.ensures.slots, hashed.same_capacity, hashed.same_memory, c.remove_item.ensures.ordered)

@@ -5,7 +5,8 @@ use Rattle.iddqd_keyed.specs.Keys.{Keys, keys_of}
 use Rattle.iddqd_keyed.specs.State.{State, state_of}
 use Rattle.iddqd_keyed.specs.Sides.{LooksUp, Keeps, first_side, second_side}
 use Rattle.iddqd_keyed.proofs.KeyLemmas.{AreLawful, AreLawful-from_bounds}
-use Rattle.iddqd_keyed.proofs.ReplacementLemmas.{TellsOther-found, Replaces-rebound, Keeps-rebound}
+use Rattle.iddqd_keyed.proofs.MemoryLemmas.{length-order}
+use Rattle.iddqd_keyed.proofs.ReplacementLemmas.{not_for_memory, TellsOther-found, Replaces-rebound, Keeps-rebound}
 use Rattle.iddqd_keyed.proofs.keyed_items.KeyedItems.replace.Goals.{After-rebind, then-is_some-via-then-is_some, then-is_some-via-else-is_some+then-is_some-2}
 use Rattle.iddqd_keyed.proofs.keyed_items.KeyedItems.replace.Goals as goal
 
@@ -88,6 +89,11 @@ returns-clause-replaces g c =
     (Replaces-rebound (keys g c) (was g c) c.self.invariant (lawful g c) c.args.ix c.args.item _ _ (own1 g c) (own2 g c)
     (first g c) (second g c) (live g c) _ _ _ c.rebind.result
     out.was out.stored filed out.placed out.refused out.items_stay out.hashes_stay out.order_stays)
+
+pub returns-clause-not_refused : goal.returns-clause-not_refused
+returns-clause-not_refused g c =
+    let count = length-order (was g c) c.self.invariant in
+    rw (← c.self.view_is) (λ within. not_for_memory c.rebind.result (c.rebind.ensures.roomy (omega (arith, count, within))))
 
 pub returns-clause-keeps : goal.returns-clause-keeps
 returns-clause-keeps g c = rw (← c.self.view_is) (keeps g c)

@@ -6,11 +6,11 @@ use Rattle.iddqd_keyed.proofs.keyed_items.KeyedItems.with_limit.Goals as goal
 
 pub invariant_of-result : goal.invariant_of-result
 invariant_of-result g c =
-    rw (c.with_limit.ensures, c.new.ensures.empty, c.new-2.ensures) (IsPaired-empty c.args.limit _ (omega arith))
+    rw (c.with_limit.ensures, c.new.ensures.empty, c.new-2.ensures.empty) (IsPaired-empty c.args.limit _ (omega arith))
 
 pub returns-clause-memory : goal.returns-clause-memory
 returns-clause-memory g c =
     let none = length-entries_of_none c.new.result c.new.ensures.empty in
     let bare = c.new.ensures.memory in
     let held : hashed_capacity c.new.result ≡ 0 = omega (arith, none, bare.no_room) in
-    rw (c.with_limit.ensures, held, bare.no_cell)
+    rw (c.with_limit.ensures, held, bare.no_cell, c.new-2.ensures.memory)
