@@ -1,5 +1,5 @@
 -- What becomes of the memory of a store and two tables, and what room each part has.
-use Rattle.std.proofs.Common.{◌≡◌, ◌∙◌, ◌<◌, ◌≤◌, ◌+◌, ◌-◌, ◌⊎◌, inl, inr, ℕ, suc, Bool, true, false, cond, List, [], ◌∷◌, length, map, Option, Some, None, Result, Ok, Err, IfOk, OnOk, OnSome, IfErr, refl, sym, ap, subst, arith, min, max, length-set}
+use Rattle.std.proofs.Common.{◌≡◌, ◌∙◌, ◌<◌, ◌≤◌, ◌+◌, ◌-◌, inl, inr, ℕ, suc, Bool, true, false, cond, List, [], ◌∷◌, length, map, Option, Some, None, Result, Ok, Err, IfOk, OnOk, OnSome, refl, sym, ap, subst, arith, min, max, length-set}
 use Rattle.std.specs.Ordering.{nat_cmp}
 use Rattle.std.specs.FinMap as finite
 use Rattle.std.specs.FinMap.{FinMap}
@@ -8,7 +8,7 @@ use Rattle.std.proofs.lemmas.Bool.{cases_lt}
 use Rattle.std.proofs.lemmas.Cmp.{tied_itself}
 use Rattle.std.proofs.lemmas.List.{length_push, length-map}
 use Rattle.iddqd.specs.Store.{Store, IsValid, IsFull, get, live_count, slot_count, inserted, removed}
-use Rattle.iddqd.specs.ItemSet.{SizedStore, room as set_room}
+use Rattle.iddqd.specs.ItemSet.{SizedStore}
 use Rattle.iddqd.proofs.StoreLemmas.{IsValid-inserted, IsValid-removed}
 use Rattle.iddqd_hash.specs.HashTable.{Table, entries, capacity as hashed_capacity, memory as hashed_cells, room as hashed_room}
 use Rattle.iddqd_hash.specs.MapHashTable.{filed, filed_from, turned, indexes_of}
@@ -20,9 +20,8 @@ use Rattle.iddqd_sides.proofs.OrderedCountLemmas.{length-held}
 use Rattle.iddqd_keyed.specs.Keys.{Keys}
 use Rattle.iddqd_keyed.specs.State.{State, IsPaired}
 use Rattle.iddqd_keyed.specs.Machine.{Removes, StoresAt}
-use Rattle.iddqd_keyed.specs.Memory.{Memory, SizedState, IsNoLower, IsForMemory, InsertsInMemory, HasRoomInParts, ReservesInMemory, ShrinksInMemory, sized_of, memory_of, capacity, room, reservable}
+use Rattle.iddqd_keyed.specs.Memory.{Memory, SizedState, IsNoLower, InsertsInMemory, HasRoomInParts, ReservesInMemory, ShrinksInMemory, sized_of, capacity, room, reservable}
 use Rattle.iddqd_keyed.specs.declared.keyed_items.InsertRefusal.{InsertRefusal}
-use Rattle.iddqd_keyed.specs.declared.keyed_items.InsertRefusal.TheVariants.{Memory as OutOfMemory}
 use Rattle.iddqd_keyed.proofs.KeepsLemmas.{Holds-order}
 use Rattle.iddqd_keyed.proofs.ValidationLemmas.{filed_held}
 

@@ -2,7 +2,7 @@ use Rattle.std.proofs.Common.{◌≡◌, Some, refl, sym}
 use Rattle.std.specs.Fn.{FnOnceReturnsAtMut}
 use Rattle.iddqd.specs.Store.{get}
 use Rattle.iddqd_keyed.proofs.KeyLemmas.{AreLawful-from_bounds}
-use Rattle.iddqd_keyed.proofs.KeepsLemmas.{IsPaired-rebound, Keeps-same}
+use Rattle.iddqd_keyed.proofs.KeepsLemmas.{IsPaired-rebound}
 use Rattle.iddqd_keyed.proofs.ModifyLemmas.{Keeps-modified}
 use Rattle.iddqd_keyed.proofs.keyed_items.KeyedItems.modify_at.Goals as goal
 

@@ -1,6 +1,4 @@
-use Rattle.std.proofs.Common.{◌≡◌, rules, ℕ, Result, Ok, Err, OnOk, min, max, refl, arith}
-use Rattle.iddqd.specs.Store.{slot_count}
-use Rattle.iddqd_hash.specs.HashTable.{capacity as hashed_capacity, memory as hashed_cells}
+use Rattle.std.proofs.Common.{rules, Result, Ok, Err, OnOk, refl, arith}
 use Rattle.iddqd_keyed.proofs.MemoryLemmas.{ShrinksInMemory-from_parts}
 use Rattle.iddqd_keyed.proofs.keyed_items.KeyedItems.shrink_to.Goals as goal
 
