@@ -29,8 +29,8 @@ module _ {T : Type 0} where
     pub refused : OnErr result (new ≡ old)
     pub fitted : slot_count old.store + additional ≤ old.capacity → IsOk result × (new ≡ old)
 
-  -- The capacity falls to so many slots, or to those that there are where these are more. Else it stays above that. The
-  -- contents stay in either case.
+  -- The capacity falls to so many slots, or to those that there are where these are more. Else it stays above that, and
+  -- this can't be where no slot is to be kept. The contents stay in either case.
   pub record Shrinks {A E : Type 0} (least : ℕ)
       (old : SizedStore T) (result : Result A E) (new : SizedStore T) : Type 0 where
     pub contents : new.store ≡ old.store
@@ -38,3 +38,4 @@ module _ {T : Type 0} where
     pub never_less : min old.capacity (max least (slot_count old.store)) ≤ new.capacity
     pub shrunk : OnOk result (new.capacity ≡ min old.capacity (max least (slot_count old.store)))
     pub refused : OnErr result (max least (slot_count old.store) < new.capacity)
+    pub succeeds : max least (slot_count old.store) ≡ 0 → IsOk result

@@ -1,6 +1,6 @@
 //! How many slots a set's memory holds, and how it is taken ahead and given back.
 ghost use Rattle.std.specs.Prelude.{◌≡◌, ◌<◌, ◌≤◌, ◌==◌, min, IsOk, IfOk, OnOk, OnErr};
-ghost use Rattle.iddqd.specs.Store.{empty, slot_count, live_count};
+ghost use Rattle.iddqd.specs.Store.{slot_limit, empty, slot_count, live_count};
 ghost use Rattle.iddqd.specs.ItemSet.{room};
 ghost use Rattle.iddqd.specs.Sizes.{insertable, grown, ReservesSlots, Shrinks};
 
@@ -28,6 +28,14 @@ impl<T> ItemSet<T> {
         ensures { result ≡ (live_count self.now.store == 0) }
     {
         self.len == 0
+    }
+
+    /// The most slots that there can be.
+    pub fn limit(&self) -> usize
+        ensures value { result ≡ self.now.store.limit }
+        ensures bound { result ≤ slot_limit }
+    {
+        self.limit as usize
     }
 
     /// How many slots the memory holds.
