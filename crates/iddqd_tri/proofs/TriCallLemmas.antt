@@ -128,21 +128,12 @@ module _ {T K1 K2 K3 S : Type 0} (keys : TriKeys T K1 K2 K3 S) where
         refuses (Err (Memory back)) refused = (refused.0, (λ _. refused.1), refl)
 
     -- an insert over some clashes
-    pub inserted_over : (clashes : List ℕ) (x : ℕ) (rest : List ℕ) → clashes ≡ x ∷ rest → AreClashes keys s.store item clashes → (r : Result (ℕ × List (Option T)) (TriRefusal T)) (store : Store T) (maps : Maps) → IfOk r (λ p. p.0 ≡ next_index (removed_all s.store clashes)) → IfOk r (λ p. p.1 ≡ padded 3 (map (get s.store) clashes)) → OnOk r (store ≡ inserted (removed_all s.store clashes) item) → OnOk r (maps ≡ maps_with (maps_without_all s.maps clashes) (next_index (removed_all s.store clashes)) (hashes_in keys s.hasher item)) → IfErr r (λ e. e ≡ Memory item) → OnErr r (store ≡ s.store) → OnErr r (maps ≡ s.maps) → IsTriState keys (record s { store = store; maps = maps }) × Overwriting keys s item r (record s { store = store; maps = maps })
-    inserted_over clashes x rest some are r store maps index values stored entered refused items_stay maps_stay =
-        overwritten clashes are r store maps (ok r not_full) (ok r place) index values stored entered (refuses r refused) items_stay maps_stay
+    pub inserted_over : (clashes : List ℕ) (x : ℕ) (rest : List ℕ) → clashes ≡ x ∷ rest → AreClashes keys s.store item clashes → (r : ℕ × List (Option T)) (store : Store T) (maps : Maps) → r.0 ≡ next_index (removed_all s.store clashes) → r.1 ≡ padded 3 (map (get s.store) clashes) → store ≡ inserted (removed_all s.store clashes) item → maps ≡ maps_with (maps_without_all s.maps clashes) (next_index (removed_all s.store clashes)) (hashes_in keys s.hasher item) → IsTriState keys (record s { store = store; maps = maps }) × Overwriting keys s item (Ok r) (record s { store = store; maps = maps })
+    inserted_over clashes x rest some are r store maps index values stored entered =
+        overwritten clashes are (Ok r) store maps not_full place index values stored entered tt tt tt
       where
         not_full : IsFull (removed_all s.store clashes) → ⊥
         not_full = rw some (not_full_after s.store x rest)
 
         place : HasNoClash keys s.store item → IsFull s.store → ⊥
         place none full = none x ((are.each x).0 (rw some (contains_head x rest)))
-
-        ok : {P : Type 0} (r : Result (ℕ × List (Option T)) (TriRefusal T)) → P → OnOk r P
-        ok (Ok p) is = is
-        ok (Err e) is = tt
-
-        refuses : (r : Result (ℕ × List (Option T)) (TriRefusal T)) → IfErr r (λ e. e ≡ Memory item) → IfErr r (λ e. RefusesItem keys s item e s)
-        refuses (Ok p) refused = tt
-        refuses (Err (Full back)) refused = absurd (cc)
-        refuses (Err (Memory back)) refused = let same : back ≡ item = cc in (same, place, refl)

@@ -1,4 +1,4 @@
-use Rattle.std.proofs.Common.{rules, ◌≡◌, subst}
+use Rattle.std.proofs.Common.{rules, ◌≡◌, Ok, subst}
 use Rattle.std.specs.Result.{OnOk}
 use Rattle.iddqd.specs.Store.{next_index}
 use Rattle.iddqd_tri.specs.Clashes.{clashing}
@@ -46,13 +46,13 @@ invariant_of-self g c = (apart g c).0
 pub returns-then-is_empty-clause-overwrites : goal.returns-then-is_empty-clause-overwrites
 returns-then-is_empty-clause-overwrites g c =
     let keys : TriKeys _ _ _ _ _ = tri_keys_of g.T.TriItem g.T.Key1.PartialEq.eq g.T.Key1.Hash.hash_input g.T.Key2.PartialEq.eq g.T.Key2.Hash.hash_input g.T.Key3.PartialEq.eq g.T.Key3.Hash.hash_input g.S.BuildHasher g.S.Hasher.Hasher in
-    subst (λ t. Overwriting keys t c.args.item c.insert_apart.result (tri_state_of c.self.inside.state c.insert_apart.new.items.store c.insert_apart.new.tables)) c.self.view_is (apart g c).1
+    subst (λ t. Overwriting keys t.state c.args.item c.insert_apart.result (tri_state_of c.self.inside.state c.insert_apart.new.items.store c.insert_apart.new.tables)) c.self.view_is (apart g c).1
 
 pub returns-then-is_empty-clause-state_after : goal.returns-then-is_empty-clause-state_after
 returns-then-is_empty-clause-state_after g c = (apart g c).0
 
 -- what the call leaves, and what it answers
-over : (g : _) (c : After-replace_clashes g) → let keys : TriKeys _ _ _ _ _ = tri_keys_of g.T.TriItem g.T.Key1.PartialEq.eq g.T.Key1.Hash.hash_input g.T.Key2.PartialEq.eq g.T.Key2.Hash.hash_input g.T.Key3.PartialEq.eq g.T.Key3.Hash.hash_input g.S.BuildHasher g.S.Hasher.Hasher in let was = tri_state_of c.self.inside.state c.self.inside.items.store c.self.inside.tables in let is = tri_state_of c.self.inside.state c.replace_clashes.new.items.store c.replace_clashes.new.tables in IsTriState keys is × Overwriting keys was c.args.item c.replace_clashes.result is
+over : (g : _) (c : After-replace_clashes g) → let keys : TriKeys _ _ _ _ _ = tri_keys_of g.T.TriItem g.T.Key1.PartialEq.eq g.T.Key1.Hash.hash_input g.T.Key2.PartialEq.eq g.T.Key2.Hash.hash_input g.T.Key3.PartialEq.eq g.T.Key3.Hash.hash_input g.S.BuildHasher g.S.Hasher.Hasher in let was = tri_state_of c.self.inside.state c.self.inside.items.store c.self.inside.tables in let is = tri_state_of c.self.inside.state c.replace_clashes.new.items.store c.replace_clashes.new.tables in IsTriState keys is × Overwriting keys was c.args.item (Ok c.replace_clashes.result) is
 over g c =
     let keys : TriKeys _ _ _ _ _ = tri_keys_of g.T.TriItem g.T.Key1.PartialEq.eq g.T.Key1.Hash.hash_input g.T.Key2.PartialEq.eq g.T.Key2.Hash.hash_input g.T.Key3.PartialEq.eq g.T.Key3.Hash.hash_input g.S.BuildHasher g.S.Hasher.Hasher in
     let s = tri_state_of c.self.inside.state c.self.inside.items.store c.self.inside.tables in
@@ -64,14 +64,12 @@ over g c =
     let are = AreClashes-listed keys s.store item a b d c.clashes-clashes.ensures.ordered found in
     let lawful = AreLawful-from_bounds g.T.TriItem _ _ _ _ _ _ g.S.BuildHasher g.S.Hasher.Hasher c.self.inside.state g.met.T.Key1.PartialEq.laws g.met.T.Key1.Hash.respects_eq g.met.T.Key2.PartialEq.laws g.met.T.Key2.Hash.respects_eq g.met.T.Key3.PartialEq.laws g.met.T.Key3.Hash.respects_eq in
     let did = c.replace_clashes.ensures in
-    let r = c.replace_clashes.result in
-    let store = c.replace_clashes.new.items.store in
     let maps = maps_of c.replace_clashes.new.tables in
     let clashes = clashing c.clashes-clashes.result in
     let left = removed_all s.store clashes in
-    let entered = subst (λ h. OnOk r (maps ≡ maps_with (maps_without_all s.maps clashes) (next_index left) h)) c.of-hashes.ensures did.entered in
+    let entered = subst (λ h. maps ≡ maps_with (maps_without_all s.maps clashes) (next_index left) h) c.of-hashes.ensures did.entered in
     let (x, rest, some) = some_listed a b d (λ none. let is = c.is_empty.ensures.1 none in let not = c.if-is_empty.false in cc) in
-    inserted_over keys s item lawful c.self.invariant clashes x rest some are r store maps did.index did.values did.stored entered did.refused did.items_stay did.tables_stay
+    inserted_over keys s item lawful c.self.invariant clashes x rest some are c.replace_clashes.result c.replace_clashes.new.items.store maps did.index did.values did.stored entered
 
 pub invariant_of-self-2 : goal.invariant_of-self-2
 invariant_of-self-2 g c = (over g c).0
@@ -79,7 +77,28 @@ invariant_of-self-2 g c = (over g c).0
 pub returns-clause-overwrites : goal.returns-clause-overwrites
 returns-clause-overwrites g c =
     let keys : TriKeys _ _ _ _ _ = tri_keys_of g.T.TriItem g.T.Key1.PartialEq.eq g.T.Key1.Hash.hash_input g.T.Key2.PartialEq.eq g.T.Key2.Hash.hash_input g.T.Key3.PartialEq.eq g.T.Key3.Hash.hash_input g.S.BuildHasher g.S.Hasher.Hasher in
-    subst (λ t. Overwriting keys t c.args.item c.replace_clashes.result (tri_state_of c.self.inside.state c.replace_clashes.new.items.store c.replace_clashes.new.tables)) c.self.view_is (over g c).1
+    subst (λ t. Overwriting keys t.state c.args.item (Ok c.replace_clashes.result) (tri_state_of c.self.inside.state c.replace_clashes.new.items.store c.replace_clashes.new.tables)) c.self.view_is (over g c).1
 
 pub returns-clause-state_after : goal.returns-clause-state_after
 returns-clause-state_after g c = (over g c).0
+
+pub returns-clause-over_others : goal.returns-clause-over_others
+returns-clause-over_others g c = λ ix clash. ?
+
+pub returns-clause-in_room : goal.returns-clause-in_room
+returns-clause-in_room g c = ?
+
+pub returns-clause-grows : goal.returns-clause-grows
+returns-clause-grows g c = ?
+
+pub returns-then-is_empty-clause-over_others : goal.returns-then-is_empty-clause-over_others
+returns-then-is_empty-clause-over_others g c = ?
+
+pub returns-then-is_empty-clause-in_room : goal.returns-then-is_empty-clause-in_room
+returns-then-is_empty-clause-in_room g c = ?
+
+pub returns-then-is_empty-clause-grows : goal.returns-then-is_empty-clause-grows
+returns-then-is_empty-clause-grows g c = ?
+
+pub returns-then-is_empty-clause-needed : goal.returns-then-is_empty-clause-needed
+returns-then-is_empty-clause-needed g c = ?
