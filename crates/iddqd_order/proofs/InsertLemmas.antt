@@ -1,5 +1,9 @@
 -- What an insert leaves of a node.
 use Rattle.iddqd_order.proofs.Names.{IsChild, IsPut, ◌≡◌, ◌≢◌, ℕ, zero, suc, ◌+◌, ◌-◌, ◌<◌, ◌≤◌, true, List, [], ◌∷◌, ◌++◌, length, set, get_or, slice_index, refl, ap, sym, ◌∙◌, arith, inl, inr, All, cases_lt, insert, length-append, length-set, length-map, length-insert, get_or_default, map-set, map-append, All-set, Node, row, children, child, room, weave, before, flat, IsInner, IsFormed, Goes, place, IsFullBelow, IsCut}
+use Rattle.std.proofs.lemmas.List.Sums.{sum_by-set, sum_by-insert, sum_by-append}
+use Rattle.iddqd_order.specs.Node.{inners}
+use Rattle.iddqd_order.specs.Removal.{inners_of}
+use Rattle.iddqd_order.proofs.RecountLemmas.{inners-leaf, inners-inner}
 use Rattle.iddqd_order.proofs.WeaveLemmas.{All-front, All-back, edited, widened, weave-append}
 use Rattle.iddqd_order.proofs.NodeLemmas.{AreChildren, GoesDown, goes-below, lists, lists-at, lists-one_more, formed-leaf, leaf-formed, flat-leaf, goes-leaf, place-leaf, formed-within, formed-inner, inner-formed, flat-inner, full-on, full-here, map-insert, All-insert}
 
@@ -52,10 +56,17 @@ pub record Cut (h : ℕ) (old new : Node) (m : ℕ) (up : Node) (p : List ℕ) (
   pub items : flat h new ++ m ∷ flat h up ≡ insert (flat h old) (place h old p) x
   pub low : (5 ≤ length (row new)) × IsFormed h new
   pub high : (5 ≤ length (row up)) × IsFormed h up
+  pub inner : inners h new + inners h up ≡ inners h old + h
+
+-- the inner nodes below, where k stands in the place of the child that the path takes
+inners_set : (h : ℕ) (old : Node) (p : List ℕ) (i : ℕ) (g k : Node) → IsTaken h old p i g → inners_of (h - 1) (set (children old) i k) + inners (h - 1) g ≡ inners_of (h - 1) (children old) + inners (h - 1) k
+inners_set h old p i g k t =
+    let b = taken h old p i g t in
+    omega (arith, sum_by-set (λ k. inners (h - 1) k) (children old) i k g b.here, ap (inners (h - 1)) t.is)
 
 -- the child that the path takes got the index: k stands in its place
-pub put_below : (h : ℕ) (old new : Node) (p : List ℕ) (x : ℕ) (i : ℕ) (g k : Node) → IsTaken h old p i g → IsPut (h - 1) g k p x
-    → row new ≡ row old → children new ≡ set (children old) i k → 12 ≤ room new → IsPut h old new p x
+pub put_below : {more : ℕ} (h : ℕ) (old new : Node) (p : List ℕ) (x : ℕ) (i : ℕ) (g k : Node) → IsTaken h old p i g → IsPut (h - 1) g k p x more
+    → row new ≡ row old → children new ≡ set (children old) i k → 12 ≤ room new → IsPut h old new p x more
 put_below h old new p x i g k t d er ek rm =
     let b = taken h old p i g t in
     let f : Node → List ℕ = λ k. flat (h - 1) k in
@@ -72,11 +83,12 @@ put_below h old new p x i g k t d er ek rm =
       items = rw (flat-inner h new t.inner, er, e1, flat-inner h old t.inner, b.place_is) e2;
       formed = inner-formed h new t.inner (record { within = rw er few; one_more = rw er (omega arith); has_room = rm }) (rw ek (All-set (IsChild (h - 1)) (children old) i k (k_least, d.formed) b.below));
       longer = rw er (omega arith);
+      inner = let e = d.inner in omega (arith, inners-inner h new t.inner, inners-inner h old t.inner, ap (inners_of (h - 1)) ek, inners_set h old p i g k t);
     }
 
 -- the child was cut in two, and the node had room for the upper part
 pub put_here : (h : ℕ) (old new : Node) (p : List ℕ) (x : ℕ) (i : ℕ) (g k : Node) (m : ℕ) (u : Node) → IsTaken h old p i g → Cut (h - 1) g k m u p x
-    → length (row old) < 11 → row new ≡ insert (row old) i m → children new ≡ insert (set (children old) i k) (i + 1) u → 12 ≤ room new → IsPut h old new p x
+    → length (row old) < 11 → row new ≡ insert (row old) i m → children new ≡ insert (set (children old) i k) (i + 1) u → 12 ≤ room new → IsPut h old new p x (h - 1)
 put_here h old new p x i g k m u t d lt er ek rm =
     let b = taken h old p i g t in
     let f : Node → List ℕ = λ k. flat (h - 1) k in
@@ -94,6 +106,7 @@ put_here h old new p x i g k m u t d lt er ek rm =
       items = rw (flat-inner h new t.inner, er, e1, flat-inner h old t.inner, b.place_is) e2;
       formed = inner-formed h new t.inner (record { within = omega arith; one_more = omega arith; has_room = rm }) (rw ek (All-insert (IsChild (h - 1)) (set (children old) i k) (i + 1) u (All-set (IsChild (h - 1)) (children old) i k d.low b.below) d.high));
       longer = omega arith;
+      inner = let e = d.inner in omega (arith, inners-inner h new t.inner, inners-inner h old t.inner, ap (inners_of (h - 1)) ek, sum_by-insert (λ k. inners (h - 1) k) (set (children old) i k) (i + 1) u, inners_set h old p i g k t);
     }
 
 -- both parts of a row that was cut have five indexes or six
@@ -135,6 +148,7 @@ cut_here h old new m2 up p x i g k m u t d c ek lk rm ru =
       items = rw (flat-inner h new t.inner, flat-inner h up t.inner, flat-inner h old t.inner, b.place_is) (sym e3 ∙ e4 ∙ e2);
       low = (sizes.0, inner-formed h new t.inner (record { within = omega arith; one_more = lk; has_room = rm }) (All-front (IsChild (h - 1)) (children new) (children up) every));
       high = (sizes.2, inner-formed h up t.inner (record { within = omega arith; one_more = omega arith; has_room = ru }) (All-back (IsChild (h - 1)) (children new) (children up) every));
+      inner = let e = d.inner in let deep = t.inner in omega (arith, inners-inner h new t.inner, inners-inner h up t.inner, inners-inner h old t.inner, ap (inners_of (h - 1)) ek, sum_by-append (λ k. inners (h - 1) k) (children new) (children up), sum_by-insert (λ k. inners (h - 1) k) (set (children old) i k) (i + 1) u, inners_set h old p i g k t);
     }
 
 -- the place of a path in a leaf
@@ -143,7 +157,7 @@ leaf_place h n p e g = rw e (goes-leaf h n p e g)
 
 -- at a leaf with room
 pub put_leaf : (h : ℕ) (old new : Node) (p : List ℕ) (i x : ℕ) → h ≡ 0 → IsFormed h old → Goes h old p → i ≡ slice_index p h → length (row old) < 11
-    → row new ≡ insert (row old) i x → children new ≡ children old → IsPut h old new p x
+    → row new ≡ insert (row old) i x → children new ≡ children old → IsPut h old new p x 0
 put_leaf h old new p i x e f g at lt er ek =
     let l = formed-leaf h old e f in
     let le : i ≤ length (row old) = rw at (leaf_place h old p e g) in
@@ -152,6 +166,7 @@ put_leaf h old new p i x e f g at lt er ek =
       items = rw (flat-leaf h new e, flat-leaf h old e, place-leaf h old p e) (er ∙ ap (λ z. insert (row old) z x) (at ∙ ap (slice_index p) e));
       formed = leaf-formed h new e (record { within = omega arith; childless = ek ∙ l.childless });
       longer = omega arith;
+      inner = omega (arith, inners-leaf h new e, inners-leaf h old e);
     }
 
 -- at a full leaf
@@ -164,6 +179,7 @@ cut_leaf h old new m up p i x e f g at c ek eu =
       items = rw (flat-leaf h new e, flat-leaf h up e, flat-leaf h old e, place-leaf h old p e) (c.is ∙ ap (λ z. insert (row old) z x) (at ∙ ap (slice_index p) e));
       low = (sizes.0, leaf-formed h new e (record { within = omega arith; childless = ek ∙ l.childless }));
       high = (sizes.2, leaf-formed h up e (record { within = omega arith; childless = eu }));
+      inner = omega (arith, inners-leaf h new e, inners-leaf h up e, inners-leaf h old e);
     }
 
 -- the levels below the node are full as far as they have to be

@@ -5,6 +5,7 @@ mod CursorLemmas
 mod DescentLemmas
 mod DigitLemmas
 pub mod IndexListLemmas
+mod InnerLemmas
 pub mod InsertLemmas
 pub mod KeyOrderLemmas
 pub mod MemberLemmas
@@ -16,9 +17,11 @@ mod NodeRenameLemmas
 mod PartLemmas
 mod RangeLemmas
 mod ReckoningLemmas
+mod RecountLemmas
 mod RemovalLemmas
 pub mod RenameLemmas
 mod RetainLemmas
+mod RoomLemmas
 mod SearchLemmas
 pub mod TableLemmas
 pub mod TreeLemmas

@@ -16,7 +16,7 @@ unfoldable pub use Rattle.iddqd_order.specs.Node.{IsFormed, IsFullBelow, flat, s
 pub use Rattle.iddqd_order.specs.Removal.{IsChild, IsEmptied, IsMended, MayLackOne}
 pub use Rattle.iddqd_order.specs.Row.{IsCut}
 pub use Rattle.iddqd_order.specs.Search.{Askable, CanSearch, Finds, IsPlace, IsRising, IsSteadyRising, Searches, SearchesWithin, with_ties}
-pub use Rattle.iddqd_order.specs.Tree.{GoesIn, HoldsIn, IsTree, in_order, place_in, spot_in, FullIn, IsTable, ReachesIn, blocks_for}
+pub use Rattle.iddqd_order.specs.Tree.{GoesIn, HoldsIn, IsTree, in_order, inners_in, place_in, spot_in, FullIn, IsTable, ReachesIn, blocks_for}
 pub use Rattle.iddqd_order.specs.Ways.{IsWay, SamePlaces, StepsOn}
 pub use Rattle.iddqd_order.specs.declared.btree_table.asking.Asking.{Asking}
 pub use Rattle.iddqd_order.specs.declared.btree_table.node.Node.{Node}

@@ -3,6 +3,8 @@ use Rattle.iddqd_order.proofs.Names.{◌≡◌, ◌≢◌, ℕ, ◌+◌, ◌-◌
 use Rattle.std.proofs.lemmas.List.{map-id}
 use Rattle.iddqd_order.proofs.WeaveLemmas.{All-front, All-back, apart}
 use Rattle.iddqd_order.proofs.NodeLemmas.{lists, lists-one_more, formed-inner, flat-inner}
+use Rattle.iddqd_order.specs.Node.{inners}
+use Rattle.iddqd_order.proofs.RecountLemmas.{inners-alike}
 use Rattle.iddqd_order.proofs.MendLemmas.{arity, IsSized, formed-sized, sized-formed, flat-sized}
 
 -- what holds of all woven together holds of the indexes and of each list
@@ -32,6 +34,7 @@ pub record IsRenamed (f : ℕ → ℕ) (h : ℕ) (old new : Node) : Type 0 where
   pub formed : IsFormed h new
   pub same_length : length (row new) ≡ length (row old)
   pub items : flat h new ≡ map f (flat h old)
+  pub inners : inners h new ≡ inners h old
 
 -- a node whose own indexes and whose children have new names
 pub renamed : (f : ℕ → ℕ) (h : ℕ) (old new : Node) → IsFormed h old → row new ≡ map f (row old) → arity h 11 ≤ room new → length (children new) ≡ length (children old)
@@ -51,6 +54,7 @@ renamed f h old new fo er has_room count each =
       formed = sized-formed h new s (λ j d lt. let e = each j d (omega arith) in let five = (a.1 j d (omega arith)).0 in let long = e.same_length in (omega arith, e.formed));
       same_length = rows;
       items = flat-sized h new s ∙ (λ j. weave (er j) (below j)) ∙ sym (weave-map f (row old) olds) ∙ ap (map f) (sym (flat-sized h old a.0));
+      inners = inners-alike h old new count (λ j d lt. (each j d lt).inners);
     }
 
 -- a node whose row and children are copies
@@ -58,8 +62,8 @@ pub copied : (h : ℕ) (n m : Node) → IsFormed h n → row m ≡ row n → ari
     → ((j : ℕ) (d : Node) → j < length (children n) → IsCopy (h - 1) (get_or (children n) j d) (get_or (children m) j d)) → IsCopy h n m
 copied h n m fn er has_room count each =
     let r = renamed (λ x. x) h n m fn (er ∙ sym (map-id (row n))) has_room count
-    (λ j d lt. let c = each j d lt in record { formed = c.formed; same_length = c.same_length; items = c.items ∙ sym (map-id (flat (h - 1) (get_or (children n) j d))) }) in
-    record { formed = r.formed; same_length = r.same_length; items = r.items ∙ map-id (flat h n) }
+    (λ j d lt. let c = each j d lt in record { formed = c.formed; same_length = c.same_length; items = c.items ∙ sym (map-id (flat (h - 1) (get_or (children n) j d))); inners = c.inners }) in
+    record { formed = r.formed; same_length = r.same_length; items = r.items ∙ map-id (flat h n); inners = r.inners }
 
 -- the first i children have new names, and so has the row
 pub record AreRenamed (f : ℕ → ℕ) (h i : ℕ) (old now : Node) : Type 0 where

@@ -1,5 +1,8 @@
 -- What a removal below a node leaves of the node.
 use Rattle.iddqd_order.proofs.Names.{get_or_default, ◌≡◌, ◌≢◌, ℕ, zero, suc, ◌+◌, ◌-◌, ◌<◌, ◌≤◌, List, [], ◌∷◌, ◌++◌, length, take, drop, set, get_or, remove, slice_index, refl, ap, sym, ◌∙◌, subst, arith, sub-one, length-set, get_or-set_same, get_or-set_other, All, vec_capacity, Option, Some, None, IsSome, ◌↔◌, option_to_list, map, length-map, map-set, length_push, nil_from_length, append-nil, take_more, take_all, drop_all, length-remove, Node, Node-F, roll-Node, row, children, child, room, weave, before, flat, IsInner, IsFormed, Holds, spot, IsChild, MayLackOne, IsMended, IsEmptied, in_order, IsTree}
+use Rattle.iddqd_order.specs.Tree.{inners_in}
+use Rattle.std.specs.List.{sum_by}
+unfoldable use Rattle.iddqd_order.specs.Node.{inners}
 pub use Rattle.iddqd_order.proofs.NodeLemmas.{GoesBelow, goes-below, holds-leaf, holds-at, holds-level, holds-below, spot-leaf, spot-at, spot-below, spot-within}
 use Rattle.iddqd_order.proofs.NodeLemmas.{lists, lists-one_more, lists-at, child-within, formed-leaf, leaf-formed, flat-leaf, formed-inner, inner-formed, flat-inner, room-roll}
 use Rattle.iddqd_order.proofs.WeaveLemmas.{index_place}
@@ -200,30 +203,47 @@ child-before h i n g ne le f is_g =
 pub room-kept : (n : Node) (r : Node-F Node) → vec_capacity r.children ≡ room n → room n ≤ room (roll-Node r)
 room-kept n r e = let s = room-roll r in omega arith
 
--- the only child of a root without indexes is a tree of one level less, and holds the same
-pub record IsLowered (h : ℕ) (n : Node) (r : Option Node) : Type 0 where
-  pub tree : IsTree r (h - 1)
-  pub items : in_order r (h - 1) ≡ flat h n
+-- a root without indexes or children
+pub record IsBare (h : ℕ) (r : Option Node) : Type 0 where
+  pub items : in_order r h ≡ []
+  pub inners : inners_in r h ≡ 0
 
-pub lowered : (h : ℕ) (n : Node) (left : List Node) (r : Option Node) → IsEmptied (Some n) h → children n ≡ left ++ option_to_list r → IsSome r ↔ (0 < length (children n)) → IsLowered h n r
-unfolding IsFormed flat
-lowered zero n left None e is some = record { tree = omega arith; items = sym e.1 }
-lowered zero n left (Some k) e is some =
-    let a : length (children n) ≡ 0 = ap length e.0.childless in
-    let b : 0 < length (children n) = some.0 refl in
-    absurd (omega arith)
-lowered (suc h) n left None e is some =
+pub bare : (h : ℕ) (r : Option Node) (n : Node) → Some n ≡ r → IsEmptied r h → length (children n) ≡ 0 → IsBare h r
+unfolding IsFormed flat inners
+bare h None n s e none = absurd (cc)
+bare zero (Some m) n s e none = record { items = e.1; inners = refl }
+bare (suc h) (Some m) n s e none =
+    let same : n ≡ m = cc in
+    absurd (omega (arith, ap (λ z. length (children z)) same, e.0.0.one_more))
+
+-- the only child of a root without indexes is a tree of one level less, and holds the same
+pub record IsLowered (h : ℕ) (r : Option Node) (n : Node) (left : List Node) (k : Node) : Type 0 where
+  pub alone : left ≡ []
+  pub has_room : 12 ≤ room n
+  pub inners : inners_in r h ≡ inners (h - 1) k + 1
+  pub tree : IsTree (Some k) (h - 1)
+  pub items : flat (h - 1) k ≡ in_order r h
+
+pub lowered : (h : ℕ) (r : Option Node) (n : Node) (left : List Node) (k : Node) → Some n ≡ r → IsEmptied r h → children n ≡ left ++ k ∷ [] → IsLowered h r n left k
+unfolding IsFormed flat inners
+lowered h None n left k s e is = absurd (cc)
+lowered zero (Some m) n left k s e is =
+    let same : m ≡ n = cc in
+    absurd (omega (arith, ap length e.0.childless, ap (λ z. length (children z)) same, ap length is, length_push left k))
+lowered (suc h) (Some m) n left k s e is =
+    let same : m ≡ n = cc in
     let o = e.0.0.one_more in
-    cc (some.1 (omega arith))
-lowered (suc h) n left (Some k) e is some =
-    let o = e.0.0.one_more in
-    let none : length (row n) ≡ 0 = ap length e.1 in
-    let l : length (children n) ≡ length left + 1 = ap length is ∙ length_push left k in
+    let none : length (row m) ≡ 0 = ap length e.1 in
+    let was : children m ≡ left ++ k ∷ [] = ap children same ∙ is in
+    let l : length (children m) ≡ length left + 1 = ap length was ∙ length_push left k in
     let alone : left ≡ [] = nil_from_length left (omega arith) in
-    let one : children n ≡ k ∷ [] = is ∙ ap (λ z. z ++ k ∷ []) alone in
+    let one : children m ≡ k ∷ [] = was ∙ ap (λ z. z ++ k ∷ []) alone in
     let c : IsChild h k = subst (λ z. All (IsChild h) z) one e.0.1 0 k (omega arith) in
     let five = c.0 in let high = e.2 in
     record {
+      alone = alone;
+      has_room = subst (λ z. 12 ≤ room z) same e.0.0.has_room;
+      inners = rw sub-one (omega (arith, ap (sum_by (λ k. inners h k)) one));
       tree = rw sub-one (c.1, omega arith, omega arith);
-      items = rw sub-one (sym (ap (λ z. weave z (map (λ k. flat h k) (children n))) e.1 ∙ ap (λ z. weave [] (map (λ k. flat h k) z)) one));
+      items = rw sub-one (sym (ap (λ z. weave z (map (λ k. flat h k) (children m))) e.1 ∙ ap (λ z. weave [] (map (λ k. flat h k) z)) one));
     }

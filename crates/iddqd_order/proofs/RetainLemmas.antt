@@ -10,7 +10,7 @@ use Rattle.iddqd_order.specs.Asks.{At_once, One_more, CanAsk}
 use Rattle.iddqd_order.specs.declared.btree_table.node.Node.{Node}
 use Rattle.iddqd_order.specs.MapBTreeTable.{sentinel}
 use Rattle.iddqd_order.specs.Retain.{RetainsTo}
-use Rattle.iddqd_order.specs.Tree.{in_order, IsTree, IsTable}
+use Rattle.iddqd_order.specs.Tree.{in_order, inners_in, IsTree, IsTable}
 use Rattle.iddqd_order.proofs.IndexListLemmas.{Contains-at}
 use Rattle.std.proofs.lemmas.Map.Made.{IsDistinct-keys_filter}
 use Rattle.iddqd_order.proofs.AskLemmas.{CanAsk-later}
@@ -78,12 +78,13 @@ all_kept P asks all =
     let each : All (λ (a : ℕ × Bool). P a.0) asks = λ j d lt. subst P (get_or-map (λ (a : ℕ × Bool). a.0) asks j d d.0 lt) (all j d.0 (omega (arith, length-map asks (λ (a : ℕ × Bool). a.0)))) in
     All-map P (λ (a : ℕ × Bool). a.0) (filter (λ (a : ℕ × Bool). a.1) asks) (All-filter (λ (a : ℕ × Bool). a.1) (λ (a : ℕ × Bool). P a.0) asks each)
 
-pub IsTable-retained : {F : Type 0} (g : Mut F (ℕ × Unit {0}) Bool) (f last : F) (r : Option Node) (h n : ℕ) (s : Option Node) (k m : ℕ) → IsTable r h n → IsTree s k → m ≡ length (in_order s k)
-    → RetainsTo g f (in_order r h) (in_order s k) last → IsTable s k m
-IsTable-retained g f last r h n s k m t tree counted kept =
+pub IsTable-retained : {F : Type 0} {q o : ℕ} (g : Mut F (ℕ × Unit {0}) Bool) (f last : F) (r : Option Node) (h n : ℕ) (s : Option Node) (k m : ℕ) → IsTable r h n q → IsTree s k → m ≡ length (in_order s k)
+    → RetainsTo g f (in_order r h) (in_order s k) last → o ≡ inners_in s k → IsTable s k m o
+IsTable-retained g f last r h n s k m t tree counted kept inner =
     record {
       tree = tree;
       counted = counted;
       distinct = subst (IsDistinct nat_eq) (sym kept.kept) (IsDistinct-keys_filter nat_eq (λ (a : ℕ × Bool). a.1) kept.asks (subst (IsDistinct nat_eq) (sym kept.each_once) t.distinct));
       assigned = subst (All (λ ix. ix < sentinel)) (sym kept.kept) (all_kept (λ ix. ix < sentinel) kept.asks (subst (All (λ ix. ix < sentinel)) (sym kept.each_once) t.assigned));
+      inners = inner;
     }

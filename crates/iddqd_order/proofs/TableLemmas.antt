@@ -1,5 +1,5 @@
 -- What a table's calls leave of its parts.
-use Rattle.iddqd_order.proofs.Names.{◌≡◌, ◌≢◌, ℕ, ◌+◌, ◌-◌, ◌*◌, ◌<◌, ◌≤◌, List, [], length, get_or, map, slice_index, refl, ap, ◌∙◌, arith, Option, Some, None, Result, Err, Bool, true, false, nat_lt, if◌then◌else◌, All, Contains, not, ◌==◌, Ordering, insert, remove, length-insert, length-remove, length-map, All-nil, All-weaker, All-filter, All-map, Contains-get_or, IfErr-weaker, cases_lt, inl, inr, CanRemap, remapped, IndexRemap, Mut, Asking, Node, Descends, EndsIn, in_order, IsTree, IsTable, IsFullBelow, GoesIn, place_in, HoldsIn, spot_in, blocks_for, order_of, IsIndexList, without, sentinel, Askable, Searches}
+use Rattle.iddqd_order.proofs.Names.{◌≡◌, ◌≢◌, ℕ, ◌+◌, ◌-◌, ◌*◌, ◌<◌, ◌≤◌, List, [], length, get_or, map, slice_index, refl, ap, sym, ◌∙◌, arith, Option, Some, None, Result, Err, Bool, true, false, nat_lt, if◌then◌else◌, All, Contains, not, ◌==◌, Ordering, insert, remove, length-insert, length-remove, length-map, All-nil, All-weaker, All-filter, All-map, Contains-get_or, IfErr-weaker, cases_lt, inl, inr, CanRemap, remapped, IndexRemap, Mut, Asking, Node, Descends, EndsIn, in_order, inners_in, IsTree, IsTable, IsFullBelow, GoesIn, place_in, HoldsIn, spot_in, blocks_for, order_of, IsIndexList, without, sentinel, Askable, Searches}
 use Rattle.iddqd_order.proofs.AskLemmas.{asks_more, asks_none}
 use Rattle.iddqd_order.proofs.NodeLemmas.{All-insert}
 use Rattle.iddqd_order.proofs.IndexListLemmas.{IsIndexList-nil, IsDistinct-insert, IsDistinct-filter, remove-distinct}
@@ -9,14 +9,14 @@ use Rattle.iddqd_order.proofs.RenameLemmas.{IsIndexList-remapped}
 use Rattle.iddqd_order.proofs.TreeLemmas.{spot_in-within}
 
 -- no index at all
-pub IsTable-none : IsTable None 0 0
-IsTable-none = record { tree = refl; counted = refl; distinct = IsIndexList-nil.distinct; assigned = All-nil (λ ix. ix < sentinel) }
+pub IsTable-none : IsTable None 0 0 0
+IsTable-none = record { tree = refl; counted = refl; distinct = IsIndexList-nil.distinct; assigned = All-nil (λ ix. ix < sentinel); inners = refl }
 
-pub index_list : (r : Option Node) (h n : ℕ) → IsTable r h n → IsIndexList (in_order r h)
+pub index_list : {q : ℕ} (r : Option Node) (h n : ℕ) → IsTable r h n q → IsIndexList (in_order r h)
 index_list r h n t = record { distinct = t.distinct; assigned = All-weaker (λ ix. ix < sentinel) (λ ix. ix ≢ sentinel) (λ ix lt e. absurd (omega arith)) (in_order r h) t.assigned }
 
 -- an index has 32 bits, so there are no more
-pub few : (r : Option Node) (h n : ℕ) → IsTable r h n → n < 4294967296
+pub few : {q : ℕ} (r : Option Node) (h n : ℕ) → IsTable r h n q → n < 4294967296
 few r h n t = let most = few_indexes sentinel (in_order r h) t.distinct t.assigned in let counted = t.counted in omega arith
 
 -- at most one block for each of twelve levels
@@ -41,15 +41,15 @@ module _ {F R : Type 0} (g : Mut F (ℕ × Unit {0}) R) (read : R → Ordering) 
   }
 
   -- without a root it asks nothing
-  pub EndsIn-none : (h : ℕ) (p : List ℕ) (a : Asking F) → EndsIn g read sought (record { root = None; height = h }) a p (Err 0) a
+  pub EndsIn-none : (h blocks : ℕ) (p : List ℕ) (a : Asking F) → EndsIn g read sought (record { root = None; height = h; reserved = blocks }) a p (Err 0) a
   unfolding order_of
-  EndsIn-none h p a = record { searches = Searches-nil a; reaches = omega arith; full_below = tt; level = (omega arith, omega arith) }
+  EndsIn-none h blocks p a = record { searches = Searches-nil a; reaches = omega arith; full_below = refl; level = (omega arith, omega arith) }
 
   -- and else it is a walk down from the root
-  pub EndsIn-root : {limit : ℕ} (h : ℕ) (n : Node) (p : List ℕ) (end : Result ℕ ℕ) (a b : Asking F) → limit ≤ 4 * (h + 1) + 2 → IsTree (Some n) h → Descends g read sought limit (h + 1) h n a p end b
-      → EndsIn g read sought (record { root = Some n; height = h }) a p end b
+  pub EndsIn-root : {limit : ℕ} (h blocks : ℕ) (n : Node) (p : List ℕ) (end : Result ℕ ℕ) (a b : Asking F) → limit ≤ 4 * (h + 1) + 2 → IsTree (Some n) h → Descends g read sought limit (h + 1) h n a p end b
+      → EndsIn g read sought (record { root = Some n; height = h; reserved = blocks }) a p end b
   unfolding order_of
-  EndsIn-root h n p end a b le t d = record {
+  EndsIn-root h blocks n p end a b le t d = record {
     searches = SearchesWithin-more g read sought (let asks = reckoning h n t.0 t.1 in omega arith) d.searches;
     reaches = d.reaches;
     full_below = IfErr-weaker end _ (λ k. IsFullBelow k h n p) (λ k q. q.0) d.lower_end;
@@ -57,9 +57,9 @@ module _ {F R : Type 0} (g : Mut F (ℕ × Unit {0}) R) (read : R → Ordering) 
   }
 
 -- the indexes with one more
-pub IsTable-put : (r : Option Node) (h n : ℕ) (p : List ℕ) (ix : ℕ) (s : Option Node) (k : ℕ) → IsTable r h n → GoesIn r h p → (Contains (in_order r h) ix → ⊥) → ix < sentinel
-    → IsTree s k → in_order s k ≡ insert (in_order r h) (place_in r h p) ix → IsTable s k (n + 1)
-IsTable-put r h n p ix s k t goes absent small tree items =
+pub IsTable-put : {q o : ℕ} (r : Option Node) (h n : ℕ) (p : List ℕ) (ix : ℕ) (s : Option Node) (k : ℕ) → IsTable r h n q → GoesIn r h p → (Contains (in_order r h) ix → ⊥) → ix < sentinel
+    → IsTree s k → in_order s k ≡ insert (in_order r h) (place_in r h p) ix → o ≡ inners_in s k → IsTable s k (n + 1) o
+IsTable-put r h n p ix s k t goes absent small tree items inner =
     let xs : List ℕ = in_order r h in
     let more = length-insert xs (place_in r h p) ix (spot_in-within true 0 r h p t.tree goes) in
     let counted = t.counted in
@@ -69,17 +69,18 @@ IsTable-put r h n p ix s k t goes absent small tree items =
       counted = omega arith;
       distinct = rw items (IsDistinct-insert xs (place_in r h p) ix absent t.distinct);
       assigned = rw items (All-insert (λ ix. ix < sentinel) xs (place_in r h p) ix t.assigned small);
+      inners = inner;
     }
 
 -- the indexes without one
-pub record Shorter (r : Option Node) (h n : ℕ) (ix : ℕ) (s : Option Node) (k : ℕ) : Type 0 where
+pub record Shorter (r : Option Node) (h n : ℕ) (ix : ℕ) (s : Option Node) (k o : ℕ) : Type 0 where
   pub items : in_order s k ≡ without (in_order r h) ix
   pub some : 1 ≤ n
-  pub table : IsTable s k (n - 1)
+  pub table : IsTable s k (n - 1) o
 
-pub shorter : (r : Option Node) (h n : ℕ) (l : ℕ) (p : List ℕ) (ix : ℕ) (s : Option Node) (k : ℕ) → IsTable r h n → HoldsIn l r h p → slice_index (in_order r h) (spot_in l r h p) ≡ ix
-    → IsTree s k → in_order s k ≡ remove (in_order r h) (spot_in l r h p) → Shorter r h n ix s k
-shorter r h n l p ix s k t held there tree items =
+pub shorter : {q o : ℕ} (r : Option Node) (h n : ℕ) (l : ℕ) (p : List ℕ) (ix : ℕ) (s : Option Node) (k : ℕ) → IsTable r h n q → HoldsIn l r h p → slice_index (in_order r h) (spot_in l r h p) ≡ ix
+    → IsTree s k → in_order s k ≡ remove (in_order r h) (spot_in l r h p) → o ≡ inners_in s k → Shorter r h n ix s k o
+shorter r h n l p ix s k t held there tree items inner =
     let xs : List ℕ = in_order r h in
     let at : ℕ = spot_in l r h p in
     let within : at < length xs = spot_in-within false l r h p t.tree held in
@@ -95,16 +96,17 @@ shorter r h n l p ix s k t held there tree items =
         counted = omega arith;
         distinct = rw same (IsDistinct-filter (λ j. not (j == ix)) xs t.distinct);
         assigned = rw same (All-filter (λ j. not (j == ix)) (λ j. j < sentinel) xs t.assigned);
+        inners = inner;
       };
     }
 
 -- the indexes with new names
-pub IsTable-renamed : (r : Option Node) (h n : ℕ) (s : Option Node) (remap : IndexRemap) → IsTable r h n
+pub IsTable-renamed : {q : ℕ} (r : Option Node) (h n : ℕ) (s : Option Node) (remap : IndexRemap) → IsTable r h n q
     → ((ix : ℕ) → Contains (in_order r h) ix → CanRemap remap ix)
     → ((i j : ℕ) → Contains (in_order r h) i → Contains (in_order r h) j → remapped remap i ≡ remapped remap j → i ≡ j)
     → ((ix : ℕ) → ix < 4294967296 → CanRemap remap ix → remapped remap ix < 4294967296)
-    → IsTree s h → in_order s h ≡ map (remapped remap) (in_order r h) → IsTable s h n
-IsTable-renamed r h n s remap t can unshared fits tree items =
+    → IsTree s h → in_order s h ≡ map (remapped remap) (in_order r h) → inners_in s h ≡ inners_in r h → IsTable s h n q
+IsTable-renamed r h n s remap t can unshared fits tree items inner =
     let xs : List ℕ = in_order r h in
     let named : IsIndexList (map (remapped remap) xs) = IsIndexList-remapped remap xs can unshared (index_list r h n t) in
     let small : All (λ ix. ix < 4294967296) (map (remapped remap) xs) =
@@ -113,4 +115,4 @@ IsTable-renamed r h n s remap t can unshared fits tree items =
     let counted = t.counted in
     let len = ap length items in
     let same = length-map xs (remapped remap) in
-    record { tree = tree; counted = omega arith; distinct = rw items named.distinct; assigned = rw items assigned }
+    record { tree = tree; counted = omega arith; distinct = rw items named.distinct; assigned = rw items assigned; inners = t.inners ∙ sym inner }

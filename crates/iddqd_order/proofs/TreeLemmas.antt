@@ -3,6 +3,10 @@ use Rattle.iddqd_order.proofs.Names.{Bool, true, GoesIn, place_in, Fits, Reaches
 use Rattle.iddqd_order.proofs.NodeLemmas.{AreChildren, leaf-formed, flat-leaf, inner-formed, flat-inner, place-within, spot-within}
 use Rattle.iddqd_order.proofs.InsertLemmas.{Cut}
 use Rattle.iddqd_order.proofs.ReckoningLemmas.{twelve_levels}
+use Rattle.std.proofs.lemmas.List.Sums.{sum_by-cons}
+use Rattle.iddqd_order.specs.Node.{inners}
+use Rattle.iddqd_order.specs.Removal.{inners_of}
+use Rattle.iddqd_order.proofs.RecountLemmas.{inners-inner}
 
 -- a root at level h, and the indexes of its tree
 pub record IsRoot (h : ℕ) (n : Node) (xs : List ℕ) : Type 0 where
@@ -36,6 +40,16 @@ new_root h old lower new m upper p x f g c er ek rm small =
     let one : 1 ≤ length (row new) = omega arith in
     let len : length (flat (h + 1) new) ≤ 4294967296 = rw items (omega (arith, length-insert (flat h old) (place h old p) x (place-within h old p f g))) in
     record { low = twelve_levels (h + 1) new formed one len; formed = formed; root = one; items = items }
+
+-- it takes a block for each level, and one for the new root
+pub new_root-inners : (h : ℕ) (old lower new : Node) (m : ℕ) (upper : Node) (p : List ℕ) (x : ℕ) → Cut h old lower m upper p x → children new ≡ lower ∷ upper ∷ [] → inners (h + 1) new ≡ inners h old + h + 1
+new_root-inners h old lower new m upper p x c ek =
+    let ne : h + 1 ≢ 0 = λ z. absurd (omega arith) in
+    let same : h + 1 - 1 ≡ h = omega arith in
+    let below : inners_of (h + 1 - 1) (children new) ≡ inners h lower + inners h upper =
+    rw (same, ek) (omega (arith, sum_by-cons (λ k. inners h k) lower (upper ∷ []), sum_by-cons (λ k. inners h k) upper [])) in
+    let inner = c.inner in
+    omega (arith, inners-inner (h + 1) new ne)
 
 -- a tree has at most twelve levels
 pub IsTree-low : (r : Option Node) (h : ℕ) → IsTree r h → h ≤ 11

@@ -15,16 +15,18 @@ pub mod PreparedBTreeMove
 pub mod PreparedBTreeRemove
 pub mod Range
 pub mod Removal
+pub mod Reserve
 pub mod Retain
 pub mod Row
 pub mod Search
+pub mod Sizes
 pub mod State
 pub mod Tree
 pub mod Ways
 -- what a caller's clauses cite, from one place: of the crate below, and of this one
 pub use Rattle.iddqd.specs.Compaction
 pub use Rattle.iddqd.specs.Compaction.{remapped, CanRemap}
-pub use Rattle.iddqd_order.specs.MapBTreeTable.{order_of, without}
+pub use Rattle.iddqd_order.specs.MapBTreeTable.{order_of, without, capacity, room, needed_blocks, capacity_for}
 pub use Rattle.iddqd_order.specs.KeyOrder.{IsInKeyOrder}
 pub use Rattle.iddqd_order.specs.Search.{CanSearch, IsSteadyRising, with_ties, IsPlace}
 pub use Rattle.iddqd_order.specs.Iter.{indexes_left}

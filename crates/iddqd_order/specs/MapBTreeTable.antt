@@ -1,21 +1,42 @@
 -- What a contract sees of a `MapBTreeTable`.
-use Rattle.std.specs.Prelude.{◌≡◌, ◌≢◌, ◌<◌, ℕ, List, Option, ◌==◌, nat_eq, not, filter, All, length, slice_index, Some, None, ⊤, false}
+use Rattle.std.specs.Prelude.{◌≡◌, ◌≢◌, ◌<◌, ◌+◌, ◌-◌, ◌*◌, ◌/◌, ℕ, List, Option, ◌==◌, nat_eq, nat_lt, if◌then◌else◌, not, filter, All, length, slice_index, Some, None, ⊤, false}
 use Rattle.std.specs.List.{IsDistinct}
 use Rattle.std.specs.Option.{ForSome}
 use Rattle.std.specs.Coded.{×_prop, Unit-prop}
 use native.Mathlib.Nat.{ℕ_set}
 use Rattle.iddqd_order.specs.declared.btree_table.node.Node.{Node}
-use Rattle.iddqd_order.specs.Tree.{in_order, HoldsIn, spot_in, ReachesIn-prop}
+use Rattle.iddqd_order.specs.Tree.{in_order, inners_in, blocks_for, HoldsIn, spot_in, ReachesIn-prop}
 pub use Rattle.iddqd.specs.Compaction.{sentinel}
 
--- the tree: its root, and the levels above its leaves
+-- the tree, its root and the levels above its leaves, and how many blocks are reserved for its inner nodes
 pub record Order : Type 0 where
   pub root : Option Node
   pub height : ℕ
+  pub reserved : ℕ
 
 -- the indexes in their order
 unfoldable pub order_of : Order → List ℕ
 order_of t = in_order t.root t.height
+
+-- how many indexes so many blocks always suffice for
+abbrev pub capacity_of : ℕ → ℕ
+capacity_of blocks = 30 * blocks + 10
+
+-- how many blocks the most inner nodes of so many indexes take
+abbrev pub needed_blocks : ℕ → ℕ
+needed_blocks indexes = (indexes + 19) / 30
+
+-- the capacity of a table that is made for so many indexes
+abbrev pub capacity_for : ℕ → ℕ
+capacity_for indexes = capacity_of (needed_blocks indexes)
+
+-- how many indexes the table can hold without asking for memory, whatever is added and removed
+unfoldable pub capacity : Order → ℕ
+capacity t = capacity_of t.reserved
+
+-- how many more it can hold, and 0 where it holds more than that already
+abbrev pub room : Order → ℕ
+room t = capacity t - length (order_of t)
 
 -- distinct indexes, each of which can be assigned
 pub record IsIndexList (xs : List ℕ) : Type 0 where
@@ -29,6 +50,18 @@ without xs ix = filter (λ j. not (j == ix)) xs
 -- if there is a place, the index stands there
 abbrev pub StandsAt : List ℕ → ℕ → Option ℕ → Type 0
 StandsAt xs ix place = ForSome place (λ i. (i < length xs) × (slice_index xs i ≡ ix))
+
+-- how many empty blocks lie beside the tree
+abbrev pub spare_blocks : Order → ℕ
+spare_blocks t = t.reserved - inners_in t.root t.height
+
+-- how many blocks an insert through so many full nodes takes beyond those
+abbrev pub fresh_for : Order → ℕ → ℕ
+fresh_for t full = blocks_for t.height full - spare_blocks t
+
+-- how many blocks a move takes: none up to the capacity, and else one for each level and one for a new root
+abbrev pub move_blocks : Order → ℕ
+move_blocks t = if nat_lt (capacity t) (length (order_of t)) then t.height + 1 else 0
 
 -- if there is a way, a path and a level, it goes to the index
 abbrev pub LeadsTo : Order → ℕ → Option (List ℕ × ℕ) → Type 0

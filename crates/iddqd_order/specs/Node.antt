@@ -1,6 +1,6 @@
 -- What a node of the tree represents, and what holds of it. A tree is read with its height: h levels of
 -- inner nodes above the leaves.
-use Rattle.std.specs.Prelude.{◌≡◌, ℕ, zero, suc, ◌+◌, ◌<◌, ◌≤◌, List, [], ◌∷◌, ◌++◌, All, length, map, slice_index, slice_index_or, vec_capacity, Vec, Bool, true, false, nat_eq, if◌then◌else◌}
+use Rattle.std.specs.Prelude.{◌≡◌, ℕ, zero, suc, ◌+◌, ◌<◌, ◌≤◌, List, [], ◌∷◌, ◌++◌, All, length, map, sum_by, slice_index, slice_index_or, vec_capacity, Vec, Bool, true, false, nat_eq, if◌then◌else◌}
 use Rattle.std.specs.List.{insert}
 use Rattle.std.specs.declared.alloc.Global.{Global}
 use Rattle.iddqd_order.specs.declared.btree_table.node.Node.{Node}
@@ -48,6 +48,11 @@ after (suc i) (x ∷ xs) (k ∷ ks) = after i xs ks
 unfoldable pub flat : ℕ → Node → List ℕ
 flat zero n = row n
 flat (suc h) n = weave (row n) (map (λ k. flat h k) (children n))
+
+-- how many inner nodes a tree has, each of which owns one block
+unfoldable pub inners : ℕ → Node → ℕ
+inners zero n = 0
+inners (suc h) n = suc (sum_by (λ k. inners h k) (children n))
 
 -- at most eleven indexes, and no child
 pub record IsLeaf (n : Node) : Type 0 where
@@ -117,8 +122,9 @@ IsFullBelow k (suc h) n p = FullBelow k (suc h) n × IsFullBelow k h (child n (s
 abbrev pub IsSpare : Vec Node Global → Type 0
 IsSpare s = (s.items ≡ []) × (12 ≤ vec_capacity s)
 
--- the index x was put in where the path goes, and the node is as it has to be
-pub record IsPut (h : ℕ) (old new : Node) (p : List ℕ) (x : ℕ) : Type 0 where
+-- the index x was put in where the path goes, with so many more inner nodes, and the node is as it has to be
+pub record IsPut (h : ℕ) (old new : Node) (p : List ℕ) (x more : ℕ) : Type 0 where
   pub items : flat h new ≡ insert (flat h old) (place h old p) x
   pub formed : IsFormed h new
   pub longer : length (row old) ≤ length (row new)
+  pub inner : inners h new ≡ inners h old + more

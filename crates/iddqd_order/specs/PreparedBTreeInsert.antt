@@ -31,9 +31,9 @@ place_of p = place_in p.table.now.root p.table.now.height p.path
 unfoldable pub blocks_of : Prepared → ℕ
 blocks_of p = p.blocks
 
--- where memory was refused, the table has the indexes that it had
+-- where memory was refused, the table is as it was
 abbrev pub rests_if_refused : {E : Type 0} → MutBor Order → Result Prepared E → Fml
-rests_if_refused t r = RestsIfErr the_row t (λ p. p.table.ghost_name) r (λ n. order_of n ≡ order_of t.now)
+rests_if_refused t r = RestsIfErr the_row t (λ p. p.table.ghost_name) r (λ n. n ≡ t.now)
 
 -- an insert of ix among the indexes xs is prepared, by answers that are so read: nothing is added yet,
 -- and if the answers rise ix will stand where Greater ends

@@ -26,9 +26,9 @@ index_of p = p.ix
 unfoldable pub blocks_of : PreparedMove → ℕ
 blocks_of p = p.blocks
 
--- where memory was refused, the table has the indexes that it had
+-- where memory was refused, the table is as it was
 abbrev pub rests_if_refused : {E : Type 0} → MutBor Order → Result PreparedMove E → Fml
-rests_if_refused t r = RestsIfErr the_row t (λ p. p.table.ghost_name) r (λ n. order_of n ≡ order_of t.now)
+rests_if_refused t r = RestsIfErr the_row t (λ p. p.table.ghost_name) r (λ n. n ≡ t.now)
 
 -- a move of ix among the indexes xs is prepared, and nothing is moved yet
 pub record PreparesMove (xs : List ℕ) (ix : ℕ) (p : PreparedMove) : Type 0 where

@@ -1,7 +1,8 @@
 -- What the removal of an index leaves of a node.
-use Rattle.std.specs.Prelude.{◌≡◌, ◌≢◌, ℕ, ◌+◌, ◌<◌, ◌≤◌, List, [], All, Option, Some, None, length, map, slice_index_or}
+use Rattle.std.specs.Prelude.{◌≡◌, ◌≢◌, ℕ, ◌+◌, ◌<◌, ◌≤◌, List, [], All, Option, Some, None, length, map, sum_by, slice_index_or}
 use Rattle.iddqd_order.specs.declared.btree_table.node.Node.{Node}
-use Rattle.iddqd_order.specs.Node.{row, weave, flat, IsFormed}
+use Rattle.iddqd_order.specs.Node.{row, weave, flat, inners, IsFormed}
+use Rattle.iddqd_order.specs.Reserve.{Reserved}
 
 -- a node below another one, over h levels
 abbrev pub IsChild : ℕ → Node → Type 0
@@ -23,6 +24,15 @@ pub record IsMended (h : ℕ) (xs : List ℕ) (ks : List Node) (new_xs : List �
   pub one_more : length new_ks ≡ length new_xs + 1
   pub below : All (IsChild h) new_ks
   pub items : weave new_xs (map (λ k. flat h k) new_ks) ≡ weave xs (map (λ k. flat h k) ks)
+
+-- how many inner nodes the trees below these nodes have
+abbrev pub inners_of : ℕ → List Node → ℕ
+inners_of h ks = sum_by (λ k. inners h k) ks
+
+-- a part of the tree had `was` inner nodes and has `now`, and the reserve has counted the change
+pub record Recounts (r new : Reserved) (was now : ℕ) : Type 0 where
+  pub inners : new.inners + was ≡ r.inners + now
+  pub reserved : new.reserved ≡ r.reserved
 
 -- a root without indexes
 abbrev pub IsEmptied : Option Node → ℕ → Type 0

@@ -1,15 +1,21 @@
 -- What a table's tree holds: the tree below a root, or nothing.
-use Rattle.std.specs.Prelude.{◌≡◌, ℕ, zero, suc, ◌<◌, ◌≤◌, List, [], All, length, slice_index, Option, Some, None, nat_eq, nat_lt, if◌then◌else◌, ◌-◌, ⊤, Bool, true, false}
+use Rattle.std.specs.Prelude.{◌≡◌, ℕ, zero, suc, ◌<◌, ◌≤◌, List, [], All, length, slice_index, Option, Some, None, nat_eq, nat_lt, if◌then◌else◌, ◌-◌, Bool, true, false}
 use Rattle.std.specs.List.{IsDistinct}
-use Rattle.std.specs.Coded.{×_prop, →_prop, Unit-prop, le_prop}
+use Rattle.std.specs.Coded.{×_prop, →_prop, le_prop}
+use native.Mathlib.Nat.{ℕ_set}
 use Rattle.iddqd.specs.Compaction.{sentinel}
 use Rattle.iddqd_order.specs.declared.btree_table.node.Node.{Node}
-use Rattle.iddqd_order.specs.Node.{row, child, flat, IsFormed, Fits, Passes, Reaches, spot, FullBelow, IsFullBelow}
+use Rattle.iddqd_order.specs.Node.{row, child, flat, inners, IsFormed, Fits, Passes, Reaches, spot, FullBelow, IsFullBelow}
 
 -- its indexes, in order
 abbrev pub in_order : Option Node → ℕ → List ℕ
 in_order None h = []
 in_order (Some n) h = flat h n
+
+-- how many inner nodes it has
+abbrev pub inners_in : Option Node → ℕ → ℕ
+inners_in None h = 0
+inners_in (Some n) h = inners h n
 
 -- the root has an index, and there are at most twelve levels
 abbrev pub IsTree : Option Node → ℕ → Type 0
@@ -39,7 +45,7 @@ place_in r h p = spot_in 0 r h p
 
 -- the nodes on a path at levels below k are full, and the one at level k isn't
 abbrev pub FullIn : ℕ → Option Node → ℕ → List ℕ → Type 0
-FullIn k None h p = ⊤
+FullIn k None h p = k ≡ 0
 FullIn k (Some n) h p = IsFullBelow k h n p
 
 -- how many blocks an insert takes that goes through so many full nodes: one for each full inner node, which it
@@ -47,12 +53,13 @@ FullIn k (Some n) h p = IsFullBelow k h n p
 abbrev pub blocks_for : ℕ → ℕ → ℕ
 blocks_for height full = if nat_lt height full then full else full - 1
 
--- a table's parts: a tree of distinct indexes below `SENTINEL`, and their number
-pub record IsTable (root : Option Node) (height len : ℕ) : Type 0 where
+-- a table's parts: a tree of distinct indexes below `SENTINEL`, and the numbers of its indexes and its inner nodes
+pub record IsTable (root : Option Node) (height len inner_nodes : ℕ) : Type 0 where
   pub tree : IsTree root height
   pub counted : len ≡ length (in_order root height)
   pub distinct : IsDistinct nat_eq (in_order root height)
   pub assigned : All (λ ix. ix < sentinel) (in_order root height)
+  pub inners : inner_nodes ≡ inners_in root height
 
 FullBelow-prop : (k l : ℕ) (n : Node) → IsProp (FullBelow k l n)
 FullBelow-prop k l n = ×_prop (→_prop le_prop) (→_prop le_prop)
@@ -63,7 +70,7 @@ IsFullBelow-prop k zero n p = FullBelow-prop k 0 n
 IsFullBelow-prop k (suc h) n p = ×_prop (FullBelow-prop k (suc h) n) (IsFullBelow-prop k h _ _)
 
 pub FullIn-prop : (k : ℕ) (r : Option Node) (h : ℕ) (p : List ℕ) → IsProp (FullIn k r h p)
-FullIn-prop k None h p = Unit-prop
+FullIn-prop k None h p = ℕ_set _ _
 FullIn-prop k (Some n) h p = IsFullBelow-prop k h n p
 
 Fits-prop : (gap : Bool) (i count : ℕ) → IsProp (Fits gap i count)

@@ -9,6 +9,7 @@
 //! The count of asks is ghost data, which two proofs by hand make and no other may touch.
 pub mod asking;
 mod blocks;
+mod clearing;
 mod copies;
 mod cursor;
 mod descent;
@@ -16,6 +17,7 @@ pub mod entry;
 pub mod into_iter;
 pub mod iter;
 pub mod key_order;
+mod memory;
 mod node;
 mod path;
 pub mod prepared_insert;
@@ -25,6 +27,7 @@ pub mod range;
 mod reading;
 mod removal;
 mod renaming;
+mod reserve;
 mod retain;
 mod row;
 mod search;

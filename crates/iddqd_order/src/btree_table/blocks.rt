@@ -1,5 +1,5 @@
 //! Memory for the inner nodes that an insert adds.
-ghost use Rattle.std.specs.Prelude.{◌≡◌, ℕ, ◌+◌, ◌<◌, IfOk};
+ghost use Rattle.std.specs.Prelude.{◌≡◌, ℕ, ◌+◌, ◌<◌, IfOk, IsOk};
 ghost use Rattle.iddqd_order.specs.Node.{IsSpare};
 
 use crate::btree_table::node::Node;
@@ -36,7 +36,8 @@ impl HoldsBlocks for Blocks {
 impl Blocks {
     // So many blocks, and no memory where none is wanted. Refused, it lets go of those that it took.
     pub fn new(count: usize, alloc: Global) -> Result<Blocks, AllocError>
-        ensures { IfOk result (λ blocks. blocks ≡ count) }
+        ensures count { IfOk result (λ blocks. blocks ≡ count) }
+        ensures none { count ≡ 0 → IsOk result }
     {
         if count == 0 {
             return Ok(Blocks {

@@ -2,8 +2,8 @@
 //!
 //! An entry keeps the way that its search went, so a removal, or an insert at the place, asks nothing.
 //! Equal answers are a hit, so no order of two indexes is needed to find a vacant place.
-ghost use Rattle.std.specs.Prelude.{false, true, ◌≡◌, ◌≢◌, ◌+◌, ◌≤◌, None, IfOk, Contains};
-ghost use Rattle.iddqd_order.specs.MapBTreeTable.{order_of, without, sentinel};
+ghost use Rattle.std.specs.Prelude.{false, true, ◌≡◌, ◌≢◌, ◌+◌, ◌<◌, ◌≤◌, None, IsOk, IfOk, Contains, length};
+ghost use Rattle.iddqd_order.specs.MapBTreeTable.{order_of, capacity, without, sentinel};
 ghost use Rattle.iddqd_order.specs.Search.{CanSearch};
 ghost use Rattle.iddqd_order.specs.Tree.{GoesIn, FullIn, HoldsIn, ReachesIn-prop, FullIn-prop};
 
@@ -44,7 +44,7 @@ pub struct VacantEntry<'a> {
     pub(super) full: usize,
     ghost goes: { GoesIn table.now.root table.now.height path } by { ReachesIn-prop true 0 table.now.root table.now.height path },
     ghost full_nodes: { FullIn full table.now.root table.now.height path } by { FullIn-prop full table.now.root table.now.height path },
-    ghost levels: { full ≤ 12 },
+    ghost levels: { full ≤ table.now.height + 1 },
 }
 
 impl MapBTreeTable {
@@ -127,6 +127,7 @@ impl<'a> OccupiedEntry<'a> {
         ensures index { result ≡ entry_index self.entry }
         ensures removed { order_of self.exit.0.now
             ≡ without (order_of (occupied_table self.entry).now) (entry_index self.entry) }
+        ensures memory { capacity self.exit.0.now ≡ capacity (occupied_table self.entry).now }
     {
         let path = self.path;
         let level = self.level;
@@ -143,8 +144,9 @@ impl<'a> VacantEntry<'a> {
 
     /// Takes the memory of an insert of `ix` at the place. It asks nothing.
     ///
-    /// It answers `AllocError` where memory was refused; the contents then stay. Where the index
-    /// doesn't belong at the place, later searches may walk past it.
+    /// It answers `AllocError` where memory was refused; the contents then stay. Below the capacity it takes
+    /// no memory, and is never refused. Where the index doesn't belong at the place, later searches may walk
+    /// past it.
     #[tactic(auto, unfolding(crate::specs::MapBTreeTable::order_of))]
     pub fn prepare(self, ix: ItemIndex) -> Result<PreparedBTreeInsert<'a>, AllocError>
         requires assigned { ix ≢ sentinel }
@@ -153,9 +155,18 @@ impl<'a> VacantEntry<'a> {
         ensures same_reference { IfOk result
             (λ p. (prepared_insert.table_of p).ghost_name ≡ (vacant_table self.entry).ghost_name) }
         ensures prepared { IfOk result (FillsEntry self.entry ix) }
+        ensures memory { IfOk result
+            (λ p. capacity (prepared_insert.table_of p).now ≡ capacity (vacant_table self.entry).now) }
+        ensures roomy { length (order_of (vacant_table self.entry).now) < capacity (vacant_table self.entry).now →
+            IsOk result }
+        ensures no_blocks { length (order_of (vacant_table self.entry).now) < capacity (vacant_table self.entry).now →
+            IfOk result (λ p. prepared_insert.blocks_of p ≡ 0) }
     {
         let VacantEntry { table, path, full } = self;
-        let blocks = table.take_blocks(full)?;
+        let blocks = match table.take_blocks(full) {
+            Ok(blocks) => blocks,
+            Err(AllocError) => return Err(AllocError),
+        };
         Ok(PreparedBTreeInsert {
             table,
             path,

@@ -1,11 +1,13 @@
 //! A node of the tree, and the insert into one.
-ghost use Rattle.std.specs.Prelude.{◌≡◌, ℕ, ◌+◌, ◌<◌, ◌≤◌, List, [], ◌∷◌, ◌++◌, length, take, drop, slice_index, vec_len, vec_capacity};
+ghost use Rattle.std.specs.Prelude.{◌≡◌, ℕ, ◌+◌, ◌-◌, ◌<◌, ◌≤◌, List, [], ◌∷◌, ◌++◌, length, take, drop, slice_index, vec_len, vec_capacity};
 ghost use Rattle.std.specs.List.{insert};
-ghost use Rattle.iddqd_order.specs.Node.{row, flat, IsFormed, Goes, place, IsFullBelow, IsPut, IsSpare};
+ghost use Rattle.iddqd_order.specs.Node.{row, flat, inners, IsFormed, Goes, place, IsFullBelow, IsPut, IsSpare};
+ghost use Rattle.iddqd_order.specs.Reserve.{spare};
 ghost use Rattle.iddqd_order.specs.Row.{IsCut};
 
 use crate::btree_table::blocks::Blocks;
 use crate::btree_table::path::Path;
+use crate::btree_table::reserve::Reserve;
 use crate::btree_table::row::Row;
 use iddqd::item_index::ItemIndex;
 use std::alloc::Global;
@@ -104,7 +106,7 @@ impl Node {
         requires formed { IsFormed height self.old }
         requires goes { Goes height self.old path.now }
         requires room { IsFullBelow 0 height self.old path.now }
-        ensures { IsPut height self.old self.new path.now ix }
+        ensures { IsPut height self.old self.new path.now ix 0 }
     {
         let i = path.get(height);
         if height == 0 {
@@ -115,14 +117,16 @@ impl Node {
     }
 
     // Puts an index where the path goes: the nodes below level `full` are full and are cut in two,
-    // and the one at that level takes what they give up. It takes no memory but the blocks.
+    // and the one at that level takes what they give up. It takes no memory but the blocks, those of the
+    // reserve first.
     pub fn put_above(
         &mut self,
         height: usize,
         full: usize,
         path: &Path,
         ix: ItemIndex,
-        blocks: &mut Blocks,
+        reserve: &mut Reserve,
+        fresh: &mut Blocks,
         alloc: Global,
     )
         requires low { height ≤ 11 }
@@ -131,38 +135,47 @@ impl Node {
         requires formed { IsFormed height self.old }
         requires goes { Goes height self.old path.now }
         requires full { IsFullBelow full height self.old path.now }
-        requires enough { full ≤ blocks.old + 1 }
-        ensures { IsPut height self.old self.new path.now ix }
+        requires enough { full ≤ (spare reserve.old + fresh.old) + 1 }
+        requires fits { reserve.old.inners + full ≤ 4294967296 }
+        ensures put { IsPut height self.old self.new path.now ix (full - 1) }
+        ensures counted { reserve.new.inners + 1 ≡ reserve.old.inners + full }
+        ensures reserved { reserve.new.reserved ≡ reserve.old.reserved }
     {
         let i = path.get(height);
         if height > full {
-            self.children[i].put_above(height - 1, full, path, ix, blocks, alloc)
+            self.children[i].put_above(height - 1, full, path, ix, reserve, fresh, alloc)
         } else {
-            let (middle, after) = self.children[i].cut(height - 1, path, ix, blocks, alloc);
+            let (middle, after) = self.children[i].cut(height - 1, path, ix, reserve, fresh, alloc);
             put_between(&mut self.row, &mut self.children, i, middle, after)
         }
     }
 
     // Puts an index where the path goes, through full nodes alone, and cuts each of them in two: the
-    // index and the node that come after this one are answered. It takes no memory but the blocks.
+    // index and the node that come after this one are answered. It takes no memory but the blocks, those of
+    // the reserve first.
     pub fn cut(
         &mut self,
         height: usize,
         path: &Path,
         ix: ItemIndex,
-        blocks: &mut Blocks,
+        reserve: &mut Reserve,
+        fresh: &mut Blocks,
         alloc: Global,
     ) -> (ItemIndex, Node)
         requires low { height ≤ 11 }
         requires formed { IsFormed height self.old }
         requires goes { Goes height self.old path.now }
         requires full { IsFullBelow (height + 1) height self.old path.now }
-        requires enough { height ≤ blocks.old }
+        requires enough { height ≤ spare reserve.old + fresh.old }
+        requires fits { reserve.old.inners + height ≤ 4294967296 }
         ensures items { flat height self.new ++ result.0 ∷ flat height result.1
             ≡ insert (flat height self.old) (place height self.old path.now) ix }
         ensures low { (5 ≤ length (row self.new)) × IsFormed height self.new }
         ensures high { (5 ≤ length (row result.1)) × IsFormed height result.1 }
-        ensures left { blocks.new + height ≡ blocks.old }
+        ensures inner { inners height self.new + inners height result.1 ≡ inners height self.old + height }
+        ensures counted { reserve.new.inners ≡ reserve.old.inners + height }
+        ensures reserved { reserve.new.reserved ≡ reserve.old.reserved }
+        ensures left { (spare reserve.new + fresh.new) + height ≡ spare reserve.old + fresh.old }
     {
         let i = path.get(height);
         if height == 0 {
@@ -175,8 +188,8 @@ impl Node {
                 },
             );
         }
-        let (middle, after) = self.children[i].cut(height - 1, path, ix, blocks, alloc);
-        let mut children = blocks.take();
+        let (middle, after) = self.children[i].cut(height - 1, path, ix, reserve, fresh, alloc);
+        let mut children = reserve.take(fresh);
         let (middle, row) = cut_inner(
             &mut self.row,
             &mut self.children,

@@ -1,12 +1,12 @@
 //! An insert whose place is found and whose memory is taken.
 //!
 //! It walks down first, since only the walk's end tells how many blocks are wanted: one for each inner
-//! node that will be cut, and one for a new root. A refusal gives all back, and so does an insert that
-//! is let go. The blocks are of a type parameter, since a check follows no loan in a struct that owns
+//! node that will be cut, and one for a new root. It takes those that the table has not spare beside its
+//! tree, which stay there until the insert. A refusal gives all back, and so does an insert that is let go. The blocks are of a type parameter, since a check follows no loan in a struct that owns
 //! memory by itself.
 ghost use Rattle.std.specs.Prelude.{true, ◌≡◌, ◌≢◌, insert, Contains};
-ghost use Rattle.iddqd_order.specs.MapBTreeTable.{order_of, sentinel};
-ghost use Rattle.iddqd_order.specs.Tree.{GoesIn, FullIn, blocks_for, ReachesIn-prop, FullIn-prop};
+ghost use Rattle.iddqd_order.specs.MapBTreeTable.{order_of, capacity, fresh_for, sentinel};
+ghost use Rattle.iddqd_order.specs.Tree.{GoesIn, FullIn, ReachesIn-prop, FullIn-prop};
 
 use crate::btree_table::blocks::{Blocks, HoldsBlocks};
 use crate::btree_table::path::Path;
@@ -25,7 +25,7 @@ pub struct PreparedBTreeInsert<'a, B: HoldsBlocks = Blocks> {
     pub(super) blocks: B,
     ghost goes: { GoesIn table.now.root table.now.height path } by { ReachesIn-prop true 0 table.now.root table.now.height path },
     ghost full_nodes: { FullIn full table.now.root table.now.height path } by { FullIn-prop full table.now.root table.now.height path },
-    ghost as_many: { B.count blocks ≡ blocks_for table.now.height full },
+    ghost as_many: { B.count blocks ≡ fresh_for table.now full },
     ghost absent: { Contains (order_of table.now) ix → ⊥ },
     ghost assigned: { ix ≢ sentinel },
 }
@@ -39,6 +39,7 @@ impl<'a> PreparedBTreeInsert<'a> {
         ensures same_reference { result.ghost_name ≡ (table_of self.entry).ghost_name }
         ensures inserted { order_of result.now
             ≡ insert (order_of (table_of self.entry).now) (place_of self.entry) (index_of self.entry) }
+        ensures memory { capacity result.now ≡ capacity (table_of self.entry).now }
     {
         let PreparedBTreeInsert {
             table,

@@ -1,12 +1,13 @@
 //! A move of a stored index whose memory is taken.
 //!
 //! Both searches come at the commit: in between a caller can change what its closures read, such as the
-//! item at the index. So the prepare takes as many blocks as any insert into a tree of that height can
-//! need, one for each inner node and one for a new root.
-ghost use Rattle.std.specs.Prelude.{true, ◌≡◌, ◌≢◌, ◌+◌, ◌*◌, ◌<◌, ◌≤◌, Some, IfOk, Contains, length};
+//! item at the index. Up to the capacity it takes no block, since one index fewer stands when it is put in
+//! again. Past it the prepare takes as many blocks as any insert into a tree of that height can need, one
+//! for each inner node on a path and one for a new root.
+ghost use Rattle.std.specs.Prelude.{true, ◌≡◌, ◌≢◌, ◌*◌, ◌<◌, ◌≤◌, Some, IsOk, IfOk, Contains, length};
 ghost use Rattle.iddqd_order.specs.Asks.{AsksWithin};
 ghost use Rattle.iddqd_order.specs.Digits.{bound};
-ghost use Rattle.iddqd_order.specs.MapBTreeTable.{order_of, sentinel, without};
+ghost use Rattle.iddqd_order.specs.MapBTreeTable.{order_of, capacity, spare_blocks, move_blocks, sentinel, without};
 ghost use Rattle.iddqd_order.specs.Search.{Askable, CanSearch, SearchAsks};
 
 use crate::btree_table::asking::Asking;
@@ -24,7 +25,7 @@ pub struct PreparedBTreeMove<'a, B: HoldsBlocks = Blocks> {
     table: &'a mut MapBTreeTable,
     ix: ItemIndex,
     blocks: B,
-    ghost as_many: { B.count blocks ≡ table.now.height + 1 },
+    ghost as_many: { B.count blocks ≡ move_blocks table.now },
     ghost assigned: { ix ≢ sentinel },
 }
 
@@ -36,15 +37,23 @@ impl MapBTreeTable {
 
     /// Takes the memory of a move of a stored index to any place. It asks nothing.
     ///
-    /// It answers `AllocError` where memory was refused; the contents then stay.
+    /// It answers `AllocError` where memory was refused; the contents then stay. Up to the capacity it takes no
+    /// memory, and is never refused.
     pub fn prepare_move(&mut self, ix: ItemIndex) -> Result<PreparedBTreeMove<'_>, AllocError>
         requires { Contains (order_of self.old) ix }
         ensures* unchanged { sem 𝓛 (rests_if_refused self.entry result) }
         ensures same_reference { IfOk result (λ p. (prepared_move.table_of p).ghost_name ≡ self.entry.ghost_name) }
         ensures prepared { IfOk result (PreparesMove (order_of self.old) ix) }
+        ensures memory { IfOk result (λ p. capacity (prepared_move.table_of p).now ≡ capacity self.old) }
+        ensures roomy { length (order_of self.old) ≤ capacity self.old → IsOk result }
+        ensures no_blocks { length (order_of self.old) ≤ capacity self.old →
+            IfOk result (λ p. prepared_move.blocks_of p ≡ 0) }
     {
         self.stores_no_sentinel();
-        let blocks = self.take_most_blocks()?;
+        let blocks = match self.take_move_blocks() {
+            Ok(blocks) => blocks,
+            Err(AllocError) => return Err(AllocError),
+        };
         Ok(PreparedBTreeMove {
             table: self,
             ix,
@@ -62,6 +71,7 @@ impl MapBTreeTable {
         requires { CanSearch F.FnMut (order_of self.old) (Some ix) asking.old }
         ensures left { order_of self.new ≡ without (order_of self.old) ix }
         ensures lower { self.new.height ≤ self.old.height }
+        ensures reserved { self.new.reserved ≡ self.old.reserved }
         ensures asked { SearchAsks F.FnMut (order_of self.old) (Some ix) asking.old asking.new }
     {
         let way = self.find_way(ix, asking, how);
@@ -81,9 +91,10 @@ impl MapBTreeTable {
         requires assigned { ix ≢ sentinel }
         requires absent { Contains (order_of self.old) ix → ⊥ }
         requires can_ask { CanSearch F.FnMut (order_of self.old) (Some ix) asking.old }
-        requires enough { self.old.height < blocks }
+        requires enough { capacity self.old ≤ length (order_of self.old) → self.old.height < blocks }
         ensures asked { SearchAsks F.FnMut (order_of self.old) (Some ix) asking.old asking.new }
         ensures entered { PutsIn F.FnMut (H.reading how.now) (order_of self.old) ix asking.old (order_of self.new) }
+        ensures reserved { self.new.reserved ≡ self.old.reserved }
     {
         let (path, full) = self.find_gap(ix, asking, how);
         self.insert_at(&path, full, ix, blocks);
@@ -114,6 +125,7 @@ impl<'a> PreparedBTreeMove<'a> {
             (Some (index_of self.entry)) entering.old entering.new }
         ensures moved { PutsIn G.FnMut (λ r. r) (without (order_of (table_of self.entry).now) (index_of self.entry))
             (index_of self.entry) entering.old (order_of result.now) }
+        ensures memory { capacity result.now ≡ capacity (table_of self.entry).now }
     {
         let PreparedBTreeMove { table, ix, blocks } = self;
         table.leave(ix, leaving, &AsOrdering);
@@ -141,6 +153,7 @@ impl<'a> PreparedBTreeMove<'a> {
         ensures moved { PutsIn F.FnMut (K.cmp new_key.now)
             (without (order_of (table_of self.entry).now) (index_of self.entry)) (index_of self.entry)
             asking.old (order_of result.now) }
+        ensures memory { capacity result.now ≡ capacity (table_of self.entry).now }
     {
         let PreparedBTreeMove { table, ix, blocks } = self;
         table.leave(ix, asking, &ByKey(old_key));

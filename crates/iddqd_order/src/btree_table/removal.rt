@@ -2,40 +2,55 @@
 //!
 //! It mends on the way back: a child left with four takes an index from a neighbour, or becomes one with
 //! it. A walk before it, for a leaf that keeps five, saved a hundredth of a random removal.
-ghost use Rattle.std.specs.Prelude.{◌≡◌, ◌↔◌, ℕ, ◌+◌, ◌<◌, ◌≤◌, [], ◌∷◌, ◌++◌, length, slice_index_or, option_to_list, vec_capacity, IsSome};
+//!
+//! Where two inner nodes become one, the block of the second goes to the reserve.
+ghost use Rattle.std.specs.Prelude.{◌≡◌, ◌↔◌, ℕ, ◌+◌, ◌<◌, ◌≤◌, [], ◌∷◌, ◌++◌, length, slice_index_or, option_to_list, vec_capacity, IsSome, min};
 ghost use Rattle.std.specs.List.{remove};
 ghost use Rattle.iddqd_order.specs.declared.btree_table.node.Node.{Node};
-ghost use Rattle.iddqd_order.specs.Node.{row, children, room, row as row_of, flat, IsFormed, Holds, spot};
-ghost use Rattle.iddqd_order.specs.Removal.{MayLackOne, IsMended, IsEmptied};
-ghost use Rattle.iddqd_order.specs.Tree.{in_order, IsTree, HoldsIn, spot_in};
+ghost use Rattle.iddqd_order.specs.Node.{row, children, room, row as row_of, flat, inners, IsFormed, Holds, spot};
+ghost use Rattle.iddqd_order.specs.Removal.{MayLackOne, IsMended, IsEmptied, inners_of, Recounts};
+ghost use Rattle.iddqd_order.specs.Tree.{in_order, inners_in, IsTree, HoldsIn, spot_in};
 
 use crate::btree_table::node::Node;
 use crate::btree_table::path::Path;
+use crate::btree_table::reserve::Reserve;
 use crate::btree_table::row::{LEAST, Row};
 use iddqd::item_index::ItemIndex;
 
 // Takes out the index to which the path goes at the level, and answers the new height. It takes no
 // memory.
-pub fn take_out(root: &mut Option<Node>, height: usize, path: &Path, level: usize) -> usize
+pub fn take_out(
+    root: &mut Option<Node>,
+    height: usize,
+    path: &Path,
+    level: usize,
+    reserve: &mut Reserve,
+) -> usize
     requires tree { IsTree root.old height }
     requires holds { HoldsIn level root.old height path.now }
+    requires inners { reserve.old.inners ≡ inners_in root.old height }
+    ensures inners { reserve.new.inners ≡ inners_in root.new result }
+    ensures reserved { reserve.new.reserved ≡ reserve.old.reserved }
     ensures lower { result ≤ height }
     ensures tree { IsTree root.new result }
     ensures items { in_order root.new result
         ≡ remove (in_order root.old height) (spot_in level root.old height path.now) }
 {
     if let Some(node) = root {
-        node.remove(height, path, level);
+        node.remove(height, path, level, reserve);
         if node.row.len() > 0 {
             return height;
         }
     }
-    lower(root, height)
+    lower(root, height, reserve)
 }
 
 // Lets go of a root without indexes: its only child, if there is one, is the new root.
-pub fn lower(root: &mut Option<Node>, height: usize) -> usize
-    requires { IsEmptied root.old height }
+pub fn lower(root: &mut Option<Node>, height: usize, reserve: &mut Reserve) -> usize
+    requires emptied { IsEmptied root.old height }
+    requires inners { reserve.old.inners ≡ inners_in root.old height }
+    ensures inners { reserve.new.inners ≡ inners_in root.new result }
+    ensures reserved { reserve.new.reserved ≡ reserve.old.reserved }
     ensures lower { result ≤ height }
     ensures tree { IsTree root.new result }
     ensures items { in_order root.new result ≡ in_order root.old height }
@@ -43,18 +58,24 @@ pub fn lower(root: &mut Option<Node>, height: usize) -> usize
     let Some(Node { mut children, .. }) = root.take() else {
         return height;
     };
-    *root = children.pop();
+    let Some(child) = children.pop() else {
+        return 0;
+    };
+    *root = Some(child);
+    reserve.give(children);
     height.saturating_sub(1)
 }
 
 impl Node {
     // Takes out the index to which the path goes at the level. The node may be left with one index
     // less.
-    pub fn remove(&mut self, height: usize, path: &Path, level: usize)
+    pub fn remove(&mut self, height: usize, path: &Path, level: usize, reserve: &mut Reserve)
         requires low { height ≤ 11 }
         requires some { 1 ≤ length (row self.old) }
         requires formed { IsFormed height self.old }
         requires holds { Holds level height self.old path.now }
+        requires counted { inners height self.old ≤ reserve.old.inners }
+        ensures counted { Recounts reserve.old reserve.new (inners height self.old) (inners height self.new) }
         ensures items { flat height self.new ≡ remove (flat height self.old) (spot level height self.old path.now) }
         ensures formed { IsFormed height self.new }
         ensures fewer { length (row self.old) ≤ length (row self.new) + 1 }
@@ -65,18 +86,20 @@ impl Node {
             return;
         }
         if height == level {
-            let last = self.children[i].remove_last(height - 1);
+            let last = self.children[i].remove_last(height - 1, reserve);
             self.row.set(i, last);
         } else {
-            self.children[i].remove(height - 1, path, level);
+            self.children[i].remove(height - 1, path, level, reserve);
         }
-        mend(&mut self.row, &mut self.children, i);
+        mend(&mut self.row, &mut self.children, i, reserve);
     }
 
     // Takes out the last index of all. The node may be left with one index less.
-    pub fn remove_last(&mut self, height: usize) -> ItemIndex
+    pub fn remove_last(&mut self, height: usize, reserve: &mut Reserve) -> ItemIndex
         requires some { 1 ≤ length (row self.old) }
         requires formed { IsFormed height self.old }
+        requires counted { inners height self.old ≤ reserve.old.inners }
+        ensures counted { Recounts reserve.old reserve.new (inners height self.old) (inners height self.new) }
         ensures items { flat height self.old ≡ flat height self.new ++ result ∷ [] }
         ensures formed { IsFormed height self.new }
         ensures fewer { length (row self.old) ≤ length (row self.new) + 1 }
@@ -85,8 +108,8 @@ impl Node {
         if height == 0 {
             return self.row.remove(count - 1);
         }
-        let last = self.children[count].remove_last(height - 1);
-        mend(&mut self.row, &mut self.children, count);
+        let last = self.children[count].remove_last(height - 1, reserve);
+        mend(&mut self.row, &mut self.children, count, reserve);
         last
     }
 
@@ -146,52 +169,67 @@ impl Node {
         }
     }
 
-    // Puts an index and all of another node after the others.
-    fn join(&mut self, middle: ItemIndex, other: Node)
+    // Puts an index and all of another node after the others. The other's block, if it has children,
+    // goes to the reserve.
+    fn join(&mut self, middle: ItemIndex, other: Node, reserve: &mut Reserve)
         requires fits { length (row self.old) + length (row other) ≤ 10 }
         requires room { length (children self.old) + length (children other) ≤ room self.old }
+        requires block { 0 < length (children other) → 12 ≤ room other }
+        requires some { 1 ≤ reserve.old.inners }
         ensures row { row self.new ≡ row self.old ++ middle ∷ row other }
         ensures children { children self.new ≡ children self.old ++ children other }
         ensures room { room self.old ≤ room self.new }
+        ensures given { reserve.new.inners + min 1 (length (children other)) ≡ reserve.old.inners }
+        ensures reserved { reserve.new.reserved ≡ reserve.old.reserved }
     {
         let Node { row, mut children } = other;
         self.row.push(middle);
         self.row.append(&row);
+        if children.is_empty() {
+            return;
+        }
         let _ = self.children.append(&mut children);
+        reserve.give(children);
     }
 }
 
 // Mends the i-th child where it has one index too few.
-fn mend(row: &mut Row, children: &mut Vec<Node>, i: usize)
-    requires { (h : ℕ) × MayLackOne h i row.old children.old.items }
+fn mend(row: &mut Row, children: &mut Vec<Node>, i: usize, reserve: &mut Reserve)
+    requires lacks { (h : ℕ) × MayLackOne h i row.old children.old.items }
+    requires some { 1 ≤ reserve.old.inners }
     ensures mended { (h : ℕ) → MayLackOne h i row.old children.old.items →
         IsMended h row.old children.old.items row.new children.new.items }
+    ensures counted { (h : ℕ) → MayLackOne h i row.old children.old.items →
+        Recounts reserve.old reserve.new (inners_of h children.old.items) (inners_of h children.new.items) }
     ensures capacity { vec_capacity children.new ≡ vec_capacity children.old }
 {
     if children[i].row.len() < LEAST {
-        fill_up(row, children, i);
+        fill_up(row, children, i, reserve);
     }
 }
 
 // Gives the i-th child an index from a child beside it, or makes the two one child.
 #[inline(never)]
-fn fill_up(row: &mut Row, children: &mut Vec<Node>, i: usize)
+fn fill_up(row: &mut Row, children: &mut Vec<Node>, i: usize, reserve: &mut Reserve)
     requires lacks { (h : ℕ) × MayLackOne h i row.old children.old.items }
     requires poor { (d : Node) → length (row_of (slice_index_or children.old.items i d)) < 5 }
+    requires some { 1 ≤ reserve.old.inners }
     ensures mended { (h : ℕ) → MayLackOne h i row.old children.old.items →
         IsMended h row.old children.old.items row.new children.new.items }
+    ensures counted { (h : ℕ) → MayLackOne h i row.old children.old.items →
+        Recounts reserve.old reserve.new (inners_of h children.old.items) (inners_of h children.new.items) }
     ensures capacity { vec_capacity children.new ≡ vec_capacity children.old }
 {
     if i > 0 {
         if children[i - 1].row.len() > LEAST {
             borrow_left(row, children, i - 1);
         } else {
-            merge(row, children, i - 1);
+            merge(row, children, i - 1, reserve);
         }
     } else if children[1].row.len() > LEAST {
         borrow_right(row, children, 0);
     } else {
-        merge(row, children, 0);
+        merge(row, children, 0, reserve);
     }
 }
 
@@ -203,6 +241,7 @@ fn borrow_left(row: &mut Row, children: &mut Vec<Node>, left: usize)
     requires poor { (d : Node) → length (row_of (slice_index_or children.old.items (left + 1) d)) < 5 }
     ensures mended { (h : ℕ) → MayLackOne h (left + 1) row.old children.old.items →
         IsMended h row.old children.old.items row.new children.new.items }
+    ensures inners { (h : ℕ) → inners_of h children.new.items ≡ inners_of h children.old.items }
     ensures capacity { vec_capacity children.new ≡ vec_capacity children.old }
 {
     let (last, moved) = children[left].take_last();
@@ -220,6 +259,7 @@ fn borrow_right(row: &mut Row, children: &mut Vec<Node>, left: usize)
     requires poor { (d : Node) → length (row_of (slice_index_or children.old.items left d)) < 5 }
     ensures mended { (h : ℕ) → MayLackOne h left row.old children.old.items →
         IsMended h row.old children.old.items row.new children.new.items }
+    ensures inners { (h : ℕ) → inners_of h children.new.items ≡ inners_of h children.old.items }
     ensures capacity { vec_capacity children.new ≡ vec_capacity children.old }
 {
     let (first, moved) = children[left + 1].take_first();
@@ -229,16 +269,19 @@ fn borrow_right(row: &mut Row, children: &mut Vec<Node>, left: usize)
 }
 
 // Makes two children and the index between them one child.
-fn merge(row: &mut Row, children: &mut Vec<Node>, left: usize)
+fn merge(row: &mut Row, children: &mut Vec<Node>, left: usize, reserve: &mut Reserve)
     requires lacks { (h : ℕ) × ((i : ℕ) × ((left ≤ i) × ((i ≤ left + 1) × MayLackOne h i row.old children.old.items))) }
     requires within { left < length row.old }
     requires few { (d : Node) → length (row_of (slice_index_or children.old.items left d))
         + length (row_of (slice_index_or children.old.items (left + 1) d)) ≤ 10 }
+    requires some { 1 ≤ reserve.old.inners }
     ensures mended { (h i : ℕ) → left ≤ i → i ≤ left + 1 → MayLackOne h i row.old children.old.items →
         IsMended h row.old children.old.items row.new children.new.items }
+    ensures counted { (h i : ℕ) → left ≤ i → i ≤ left + 1 → MayLackOne h i row.old children.old.items →
+        Recounts reserve.old reserve.new (inners_of h children.old.items) (inners_of h children.new.items) }
     ensures capacity { vec_capacity children.new ≡ vec_capacity children.old }
 {
     let middle = row.remove(left);
     let other = children.remove(left + 1);
-    children[left].join(middle, other);
+    children[left].join(middle, other, reserve);
 }

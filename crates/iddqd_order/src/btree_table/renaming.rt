@@ -1,8 +1,8 @@
 //! New names for the indexes of a tree, each in its place.
 ghost use Rattle.std.specs.Prelude.{◌≡◌, ◌≤◌, ℕ, length, map, All, vec_capacity};
 ghost use Rattle.iddqd.specs.Compaction.{CanRemap, remapped};
-ghost use Rattle.iddqd_order.specs.Node.{row, flat, IsFormed};
-ghost use Rattle.iddqd_order.specs.Tree.{in_order, IsTree};
+ghost use Rattle.iddqd_order.specs.Node.{row, flat, inners, IsFormed};
+ghost use Rattle.iddqd_order.specs.Tree.{in_order, inners_in, IsTree};
 
 use crate::btree_table::node::Node;
 use crate::btree_table::row::Row;
@@ -14,6 +14,7 @@ pub fn rename_in(root: &mut Option<Node>, height: usize, remap: &IndexRemap)
     requires can_remap { All (CanRemap remap.now) (in_order root.old height) }
     ensures tree { IsTree root.new height }
     ensures items { in_order root.new height ≡ map (remapped remap.now) (in_order root.old height) }
+    ensures inners { inners_in root.new height ≡ inners_in root.old height }
 {
     if let Some(node) = root {
         node.rename(height, remap);
@@ -28,6 +29,7 @@ impl Node {
         ensures formed { IsFormed height self.new }
         ensures same_length { length (row self.new) ≡ length (row self.old) }
         ensures items { flat height self.new ≡ map (remapped remap.now) (flat height self.old) }
+        ensures inners { inners height self.new ≡ inners height self.old }
     {
         rename_row(&mut self.row, remap);
         if height == 0 {

@@ -8,12 +8,13 @@
 //! of the time where half stay, and a quarter where all do.
 ghost use Rattle.std.specs.Prelude.{◌≡◌, ℕ, ◌+◌, ◌-◌, ◌≤◌, length, take, Contains};
 ghost use Rattle.iddqd_order.specs.Asks.{CanAsk};
-ghost use Rattle.iddqd_order.specs.Node.{row, flat, IsFormed};
+ghost use Rattle.iddqd_order.specs.Node.{row, flat, inners, IsFormed};
 ghost use Rattle.iddqd_order.specs.Retain.{RetainsTo};
-ghost use Rattle.iddqd_order.specs.Tree.{in_order, IsTree};
+ghost use Rattle.iddqd_order.specs.Tree.{in_order, inners_in, IsTree};
 
 use crate::btree_table::node::Node;
 use crate::btree_table::removal::lower;
+use crate::btree_table::reserve::Reserve;
 use crate::btree_table::ways::Way;
 use iddqd::item_index::ItemIndex;
 
@@ -24,19 +25,23 @@ pub fn retain_in<F: FnMut(ItemIndex) -> bool>(
     height: usize,
     len: usize,
     f: &mut F,
+    reserve: &mut Reserve,
 ) -> (usize, usize)
     requires tree { IsTree root.old height }
     requires counted { len ≡ length (in_order root.old height) }
+    requires inners { reserve.old.inners ≡ inners_in root.old height }
     requires can_ask { CanAsk F.FnMut (Contains (in_order root.old height)) f.old }
     ensures tree { IsTree root.new result.0 }
     ensures counted { result.1 ≡ length (in_order root.new result.0) }
+    ensures inners { reserve.new.inners ≡ inners_in root.new result.0 }
+    ensures reserved { reserve.new.reserved ≡ reserve.old.reserved }
     ensures kept { RetainsTo F.FnMut f.old (in_order root.old height) (in_order root.new result.0) f.new }
 {
     let mut kept = 0;
     if let Some(node) = root {
         kept = gather(node, height, len, f);
     }
-    (cut_off(root, height, len - kept), kept)
+    (cut_off(root, height, len - kept, reserve), kept)
 }
 
 // Moves the indexes at which `f` answers true to the front, in their order, and says how many they
@@ -55,6 +60,7 @@ fn gather<F: FnMut(ItemIndex) -> bool>(
     ensures formed { IsFormed height root.new }
     ensures some { 1 ≤ length (row root.new) }
     ensures counted { length (flat height root.new) ≡ len }
+    ensures inners { inners height root.new ≡ inners height root.old }
     ensures within { result ≤ len }
     ensures kept { RetainsTo F.FnMut f.old (flat height root.old) (take result (flat height root.new)) f.new }
 {
@@ -70,32 +76,38 @@ fn gather<F: FnMut(ItemIndex) -> bool>(
 }
 
 // Takes out the last indexes, so many, and answers the new height.
-fn cut_off(root: &mut Option<Node>, height: usize, count: usize) -> usize
+fn cut_off(root: &mut Option<Node>, height: usize, count: usize, reserve: &mut Reserve) -> usize
     requires tree { IsTree root.old height }
     requires within { count ≤ length (in_order root.old height) }
+    requires inners { reserve.old.inners ≡ inners_in root.old height }
+    ensures inners { reserve.new.inners ≡ inners_in root.new result }
+    ensures reserved { reserve.new.reserved ≡ reserve.old.reserved }
     ensures tree { IsTree root.new result }
     ensures items { in_order root.new result
         ≡ take (length (in_order root.old height) - count) (in_order root.old height) }
 {
     let mut new_height = height;
     for _i in 0..count {
-        new_height = take_last(root, new_height);
+        new_height = take_last(root, new_height, reserve);
     }
     new_height
 }
 
 // Takes out the last index, and answers the new height. It takes no memory.
-fn take_last(root: &mut Option<Node>, height: usize) -> usize
+fn take_last(root: &mut Option<Node>, height: usize, reserve: &mut Reserve) -> usize
     requires tree { IsTree root.old height }
     requires some { 1 ≤ length (in_order root.old height) }
+    requires inners { reserve.old.inners ≡ inners_in root.old height }
+    ensures inners { reserve.new.inners ≡ inners_in root.new result }
+    ensures reserved { reserve.new.reserved ≡ reserve.old.reserved }
     ensures tree { IsTree root.new result }
     ensures items { in_order root.new result ≡ take (length (in_order root.old height) - 1) (in_order root.old height) }
 {
     if let Some(node) = root {
-        node.remove_last(height);
+        node.remove_last(height, reserve);
         if node.row.len() > 0 {
             return height;
         }
     }
-    lower(root, height)
+    lower(root, height, reserve)
 }

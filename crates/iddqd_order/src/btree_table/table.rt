@@ -1,14 +1,15 @@
 //! The table: a tree of distinct indexes, searched from the root down.
-ghost use Rattle.std.specs.Prelude.{◌≡◌, ◌≢◌, ◌↔◌, ℕ, ◌+◌, ◌-◌, ◌<◌, ◌≤◌, [], length, map, slice_get, slice_index, is_some, IfOk, IsOk, IsSome, Contains, insert, IsTrue, false, Some, None};
+ghost use Rattle.std.specs.Prelude.{◌≡◌, ◌≢◌, ◌↔◌, ℕ, ◌+◌, ◌-◌, ◌<◌, ◌≤◌, List, [], length, map, slice_get, slice_index, is_some, IfOk, IsOk, IsSome, Contains, insert, IsTrue, false, Some, None};
 ghost use Rattle.std.specs.declared.cmp.Ordering.{Ordering};
 ghost use Rattle.iddqd.specs.Compaction.{CanRemap, remapped};
 ghost use Rattle.iddqd_order.specs.Descent.{EndsIn};
-ghost use Rattle.iddqd_order.specs.MapBTreeTable.{order_of, without, sentinel, IsIndexList, LeadsTo};
+ghost use Rattle.iddqd_order.specs.MapBTreeTable.{order_of, capacity, spare_blocks, fresh_for, move_blocks, without, sentinel, IsIndexList, LeadsTo};
 ghost use Rattle.iddqd_order.specs.Tree.{IsTree, GoesIn, place_in, FullIn, HoldsIn, spot_in, blocks_for};
 ghost use Rattle.iddqd_order.specs.Search.{CanSearch, SearchAsks, IsSteadyRising, IsPlace, Finds, with_ties};
 
 use crate::btree_table::asking::Asking;
 use crate::btree_table::blocks::Blocks;
+use crate::btree_table::clearing::clear_in;
 use crate::btree_table::copies::copy_of;
 use crate::btree_table::cursor::Cursor;
 use crate::btree_table::into_iter::IntoIter;
@@ -20,6 +21,7 @@ use crate::btree_table::prepared_remove::PreparedBTreeRemove;
 use crate::btree_table::reading::{AsOrdering, ByKey, ByQuery, Reads};
 use crate::btree_table::removal::take_out;
 use crate::btree_table::renaming::rename_in;
+use crate::btree_table::reserve::Reserve;
 use crate::btree_table::retain::retain_in;
 use crate::btree_table::state::State;
 use crate::btree_table::tree::put_in;
@@ -38,15 +40,19 @@ use std::marker::Model;
 /// A contract sees the list by `order_of`. The closures that order it may answer anything: each
 /// call keeps the list distinct, changes no index but its own, and asks about stored indexes alone,
 /// at most 4 plus twice the number of binary digits of the length. No call but the three prepares of
-/// an insert, that of a move, `clone` and `validate` can be refused memory.
+/// an insert, that of a move, `with_capacity`, the two that reserve, `clone` and `validate` can be refused
+/// memory. The capacity is how many indexes it holds without any: `new` makes it ten, and no call changes
+/// it but those that reserve and those that shrink.
 #[derive(Drop)]
 pub struct MapBTreeTable {
     root: Option<Node>,
     // The levels above the leaves.
     height: usize,
-    len: usize,
+    pub(super) len: usize,
+    // The empty blocks beside the tree.
+    pub(super) reserve: Reserve,
     state: State,
-    alloc: Global,
+    pub(super) alloc: Global,
 }
 
 impl Model for MapBTreeTable {
@@ -59,9 +65,9 @@ impl Model for MapBTreeTable {
 
     ghost coded = { Prim.hlevel (codes, node.the_row.coded) };
 
-    ghost view = { λ t. record { root = t.root; height = t.height } };
+    ghost view = { λ t. record { root = t.root; height = t.height; reserved = t.reserve.reserved } };
 
-    ghost invariant = { λ t. IsTable t.root t.height t.len };
+    ghost invariant = { λ t. IsTable t.root t.height t.len t.reserve.inners };
 }
 
 #[tactic(auto, unfolding(crate::specs::MapBTreeTable::order_of))]
@@ -79,14 +85,16 @@ impl MapBTreeTable {
     ghost use Rattle.std.specs.Hash.BuildHasherDefault.{initial_hasher};
     ghost use Rattle.std.specs.Hash.FoldHasher.{initial};
 
-    /// The empty table. It takes no memory.
+    /// The empty table. It takes no memory, and holds ten indexes without any.
     pub fn new(alloc: Global) -> MapBTreeTable
-        ensures { order_of result ≡ [] }
+        ensures empty { order_of result ≡ [] }
+        ensures memory { capacity result ≡ 10 }
     {
         MapBTreeTable {
             root: None,
             height: 0,
             len: 0,
+            reserve: Reserve::new(alloc),
             state: State::new(),
             alloc,
         }
@@ -169,9 +177,16 @@ impl MapBTreeTable {
     /// is kept is moved at most once, and each step costs at most as much as a search.
     pub fn retain<F: FnMut(ItemIndex) -> bool>(&mut self, mut f: F)
         requires { CanAsk F.FnMut (Contains (order_of self.old)) f }
-        ensures { Retains F.FnMut f (order_of self.old) (order_of self.new) }
+        ensures kept { Retains F.FnMut f (order_of self.old) (order_of self.new) }
+        ensures memory { capacity self.new ≡ capacity self.old }
     {
-        let (height, len) = retain_in(&mut self.root, self.height, self.len, &mut f);
+        let (height, len) = retain_in(
+            &mut self.root,
+            self.height,
+            self.len,
+            &mut f,
+            &mut self.reserve,
+        );
         self.height = height;
         self.len = len;
     }
@@ -190,11 +205,12 @@ impl MapBTreeTable {
         MapHash::new(self.state().hash_one(key))
     }
 
-    /// Removes all indexes. It takes no memory.
+    /// Removes all indexes. It takes no memory, and keeps the blocks that are reserved.
     pub fn clear(&mut self)
-        ensures { order_of self.new ≡ [] }
+        ensures empty { order_of self.new ≡ [] }
+        ensures memory { capacity self.new ≡ capacity self.old }
     {
-        self.root = None;
+        clear_in(&mut self.root, self.height, &mut self.reserve, self.alloc);
         self.height = 0;
         self.len = 0;
     }
@@ -248,7 +264,7 @@ impl MapBTreeTable {
     /// the indexes.
     ///
     /// It asks at most `4 + 2 * digits(len)` times, and answers `AllocError` where memory was
-    /// refused; the contents then stay.
+    /// refused; the contents then stay. Below the capacity it takes no memory, and is never refused.
     pub fn prepare_insert_by<F: FnMut(ItemIndex) -> Ordering>(
         &mut self,
         ix: ItemIndex,
@@ -261,6 +277,10 @@ impl MapBTreeTable {
         ensures same_reference { IfOk result (λ p. (prepared_insert.table_of p).ghost_name ≡ self.entry.ghost_name) }
         ensures asked { SearchAsks F.FnMut (order_of self.old) (Some ix) asking.old asking.new }
         ensures prepared { IfOk result (PreparesInsert F.FnMut (λ r. r) (order_of self.old) ix asking.old) }
+        ensures memory { IfOk result (λ p. capacity (prepared_insert.table_of p).now ≡ capacity self.old) }
+        ensures roomy { length (order_of self.old) < capacity self.old → IsOk result }
+        ensures no_blocks { length (order_of self.old) < capacity self.old →
+            IfOk result (λ p. prepared_insert.blocks_of p ≡ 0) }
     {
         self.prepare(ix, asking, &AsOrdering)
     }
@@ -269,7 +289,7 @@ impl MapBTreeTable {
     /// the asking answers. Equal ones are ordered by the indexes.
     ///
     /// It asks at most `4 + 2 * digits(len)` times, and answers `AllocError` where memory was
-    /// refused; the contents then stay.
+    /// refused; the contents then stay. Below the capacity it takes no memory, and is never refused.
     pub fn prepare_insert<K: Ord + Drop, Q: Comparable<K>, F: FnMut(ItemIndex) -> K>(
         &mut self,
         ix: ItemIndex,
@@ -284,6 +304,10 @@ impl MapBTreeTable {
         ensures asked { SearchAsks F.FnMut (order_of self.old) (Some ix) asking.old asking.new }
         ensures prepared { IfOk result
             (PreparesInsert F.FnMut (Q.compare query.now) (order_of self.old) ix asking.old) }
+        ensures memory { IfOk result (λ p. capacity (prepared_insert.table_of p).now ≡ capacity self.old) }
+        ensures roomy { length (order_of self.old) < capacity self.old → IsOk result }
+        ensures no_blocks { length (order_of self.old) < capacity self.old →
+            IfOk result (λ p. prepared_insert.blocks_of p ≡ 0) }
     {
         self.prepare(ix, asking, &ByQuery(query))
     }
@@ -302,9 +326,16 @@ impl MapBTreeTable {
         ensures same_reference { IfOk result (λ p. (prepared_insert.table_of p).ghost_name ≡ self.entry.ghost_name) }
         ensures asked { SearchAsks F.FnMut (order_of self.old) (Some ix) asking.old asking.new }
         ensures prepared { IfOk result (PreparesInsert F.FnMut (H.reading how.now) (order_of self.old) ix asking.old) }
+        ensures memory { IfOk result (λ p. capacity (prepared_insert.table_of p).now ≡ capacity self.old) }
+        ensures roomy { length (order_of self.old) < capacity self.old → IsOk result }
+        ensures no_blocks { length (order_of self.old) < capacity self.old →
+            IfOk result (λ p. prepared_insert.blocks_of p ≡ 0) }
     {
         let (path, full) = self.find_gap(ix, asking, how);
-        let blocks = self.take_blocks(full)?;
+        let blocks = match self.take_blocks(full) {
+            Ok(blocks) => blocks,
+            Err(AllocError) => return Err(AllocError),
+        };
         Ok(PreparedBTreeInsert {
             table: self,
             path,
@@ -358,24 +389,36 @@ impl MapBTreeTable {
         (path, end)
     }
 
-    // The memory that any insert into a tree of this height can need.
-    pub(super) fn take_most_blocks(&self) -> Result<Blocks, AllocError>
-        ensures blocks { IfOk result (λ blocks. blocks ≡ self.now.height + 1) }
+    // The memory of a move: none up to the capacity, and else what any insert into a tree of this height can need.
+    pub(super) fn take_move_blocks(&self) -> Result<Blocks, AllocError>
+        ensures blocks { IfOk result (λ blocks. blocks ≡ move_blocks self.now) }
+        ensures none { move_blocks self.now ≡ 0 → IsOk result }
         ensures few { self.now.height ≤ 11 }
     {
-        Blocks::new(self.height + 1, self.alloc)
+        let count = if self.len > self.capacity() {
+            self.height + 1
+        } else {
+            0
+        };
+        Blocks::new(count, self.alloc)
     }
 
-    // The memory of an insert through so many full nodes.
+    // The memory of an insert through so many full nodes, beyond the spare blocks.
     pub(super) fn take_blocks(&self, full: usize) -> Result<Blocks, AllocError>
-        ensures { IfOk result (λ blocks. blocks ≡ blocks_for self.now.height full) }
+        requires full { (path : List ℕ) × GoesIn self.now.root self.now.height path
+            × FullIn full self.now.root self.now.height path }
+        requires levels { full ≤ self.now.height + 1 }
+        ensures blocks { IfOk result (λ blocks. blocks ≡ fresh_for self.now full) }
+        ensures few { fresh_for self.now full ≤ 12 }
+        ensures roomy { length (order_of self.now) < capacity self.now → fresh_for self.now full ≡ 0 }
+        ensures none { fresh_for self.now full ≡ 0 → IsOk result }
     {
         let count = if full > self.height {
             full
         } else {
             full.saturating_sub(1)
         };
-        Blocks::new(count, self.alloc)
+        Blocks::new(count.saturating_sub(self.reserve.spare()), self.alloc)
     }
 
     /// Searches for a stored index by the answers, to remove it. Equal ones are ordered by the
@@ -474,7 +517,8 @@ impl MapBTreeTable {
     /// Removes the index, if it is stored, by a walk along the list. It asks nothing and takes no
     /// memory. The others keep their order.
     pub fn remove_exact(&mut self, ix: ItemIndex)
-        ensures { order_of self.new ≡ without (order_of self.old) ix }
+        ensures removed { order_of self.new ≡ without (order_of self.old) ix }
+        ensures memory { capacity self.new ≡ capacity self.old }
     {
         self.remove_by_walk(ix)
     }
@@ -483,6 +527,7 @@ impl MapBTreeTable {
     pub(super) fn remove_by_walk(&mut self, ix: ItemIndex)
         ensures removed { order_of self.new ≡ without (order_of self.old) ix }
         ensures lower { self.new.height ≤ self.old.height }
+        ensures reserved { self.new.reserved ≡ self.old.reserved }
     {
         let way = self.locate(ix);
         self.remove_found(ix, &way);
@@ -494,7 +539,8 @@ impl MapBTreeTable {
         requires can_remap { (ix : ℕ) → Contains (order_of self.old) ix → CanRemap remap.now ix }
         requires distinct { (i j : ℕ) → Contains (order_of self.old) i → Contains (order_of self.old) j →
             remapped remap.now i ≡ remapped remap.now j → i ≡ j }
-        ensures { order_of self.new ≡ map (remapped remap.now) (order_of self.old) }
+        ensures renamed { order_of self.new ≡ map (remapped remap.now) (order_of self.old) }
+        ensures memory { capacity self.new ≡ capacity self.old }
     {
         if remap.is_identity() {
             return;
@@ -534,19 +580,30 @@ impl MapBTreeTable {
         (&self.root, self.height)
     }
 
-    // Adds `ix` where the path goes, through so many full nodes at its lower end.
-    pub(super) fn insert_at(&mut self, path: &Path, full: usize, ix: ItemIndex, blocks: Blocks)
+    // Adds `ix` where the path goes, through so many full nodes at its lower end. It takes the spare blocks first.
+    pub(super) fn insert_at(&mut self, path: &Path, full: usize, ix: ItemIndex, mut fresh: Blocks)
         requires goes { GoesIn self.old.root self.old.height path.now }
         requires full { FullIn full self.old.root self.old.height path.now }
-        requires enough { blocks_for self.old.height full ≤ blocks }
+        requires enough { blocks_for self.old.height full ≤ spare_blocks self.old + fresh }
         requires absent { Contains (order_of self.old) ix → ⊥ }
         requires assigned { ix ≢ sentinel }
-        ensures { order_of self.new ≡ insert (order_of self.old) (place_in self.old.root self.old.height path.now) ix }
+        ensures inserted { order_of self.new
+            ≡ insert (order_of self.old) (place_in self.old.root self.old.height path.now) ix }
+        ensures reserved { self.new.reserved ≡ self.old.reserved }
     {
         let _number = ix.as_u32();
         let height = self.height;
         let alloc = self.alloc;
-        self.height = put_in(&mut self.root, height, path, full, ix, blocks, alloc);
+        self.height = put_in(
+            &mut self.root,
+            height,
+            path,
+            full,
+            ix,
+            &mut self.reserve,
+            &mut fresh,
+            alloc,
+        );
         self.len += 1;
     }
 
@@ -557,6 +614,7 @@ impl MapBTreeTable {
         ensures removed { IsTrue result → order_of self.new ≡ without (order_of self.old) ix }
         ensures kept { result ≡ false → self.new ≡ self.old }
         ensures lower { self.new.height ≤ self.old.height }
+        ensures reserved { self.new.reserved ≡ self.old.reserved }
     {
         match way {
             Some((path, level)) => {
@@ -572,22 +630,24 @@ impl MapBTreeTable {
         requires { LeadsTo self.old ix (Some (path.now, level)) }
         ensures removed { order_of self.new ≡ without (order_of self.old) ix }
         ensures lower { self.new.height ≤ self.old.height }
+        ensures reserved { self.new.reserved ≡ self.old.reserved }
     {
-        self.height = take_out(&mut self.root, self.height, path, level);
+        self.height = take_out(&mut self.root, self.height, path, level, &mut self.reserve);
         self.len -= 1;
     }
 }
 
-// Where memory is refused, the nodes copied so far are let go.
+// The copy reserves nothing. Where memory is refused, the nodes copied so far are let go.
 #[tactic(auto, unfolding(crate::specs::MapBTreeTable::order_of))]
 impl Clone for MapBTreeTable {
-    ghost is_clone = { λ table copy. order_of copy ≡ order_of table };
+    ghost is_clone = { λ table copy. (order_of copy ≡ order_of table) × (capacity copy ≡ 10) };
 
     fn clone(&self) -> Result<MapBTreeTable, AllocError> {
         Ok(MapBTreeTable {
             root: copy_of(&self.root, self.height, self.alloc)?,
             height: self.height,
             len: self.len,
+            reserve: self.reserve.for_copy(self.alloc),
             state: self.state,
             alloc: self.alloc,
         })

@@ -1,36 +1,42 @@
 //! The insert into a tree: a root, or none.
 ghost use Rattle.std.specs.Prelude.{◌≡◌, ◌+◌, ◌<◌, ◌≤◌, [], ◌∷◌, length};
 ghost use Rattle.std.specs.List.{insert};
-ghost use Rattle.iddqd_order.specs.Node.{row, children, room, flat, IsFormed, Goes, place, IsFullBelow, IsSpare};
-ghost use Rattle.iddqd_order.specs.Tree.{in_order, IsTree, GoesIn, place_in, FullIn, blocks_for};
+ghost use Rattle.iddqd_order.specs.Node.{row, children, room, flat, inners, IsFormed, Goes, place, IsFullBelow, IsSpare};
+ghost use Rattle.iddqd_order.specs.Reserve.{spare};
+ghost use Rattle.iddqd_order.specs.Tree.{in_order, inners_in, IsTree, GoesIn, place_in, FullIn, blocks_for};
 
 use crate::btree_table::blocks::Blocks;
 use crate::btree_table::node::Node;
 use crate::btree_table::path::Path;
+use crate::btree_table::reserve::Reserve;
 use crate::btree_table::row::Row;
 use iddqd::item_index::ItemIndex;
 use std::alloc::Global;
 use std::mem;
 
 // Puts an index where the path goes, through `full` full nodes at its lower end, and answers the new
-// height. It takes no memory but the blocks.
+// height. It takes no memory but the blocks, those of the reserve first.
 pub fn put_in(
     root: &mut Option<Node>,
     height: usize,
     path: &Path,
     full: usize,
     ix: ItemIndex,
-    mut blocks: Blocks,
+    reserve: &mut Reserve,
+    fresh: &mut Blocks,
     alloc: Global,
 ) -> usize
     requires tree { IsTree root.old height }
     requires goes { GoesIn root.old height path.now }
     requires full { FullIn full root.old height path.now }
     requires fits { length (in_order root.old height) < 4294967296 }
-    requires enough { blocks_for height full ≤ blocks }
+    requires enough { blocks_for height full ≤ spare reserve.old + fresh.old }
+    requires inners { reserve.old.inners ≡ inners_in root.old height }
     ensures tree { IsTree root.new result }
     ensures items { in_order root.new result
         ≡ insert (in_order root.old height) (place_in root.old height path.now) ix }
+    ensures inners { reserve.new.inners ≡ inners_in root.new result }
+    ensures reserved { reserve.new.reserved ≡ reserve.old.reserved }
 {
     match root {
         None => {
@@ -45,7 +51,7 @@ pub fn put_in(
                 node.put_in_leaf(height, path, ix);
                 height
             } else {
-                put_and_cut(node, height, path, full, ix, &mut blocks, alloc)
+                put_and_cut(node, height, path, full, ix, reserve, fresh, alloc)
             }
         }
     }
@@ -59,7 +65,8 @@ fn put_and_cut(
     path: &Path,
     full: usize,
     ix: ItemIndex,
-    blocks: &mut Blocks,
+    reserve: &mut Reserve,
+    fresh: &mut Blocks,
     alloc: Global,
 ) -> usize
     requires low { height ≤ 11 }
@@ -69,18 +76,21 @@ fn put_and_cut(
     requires full { IsFullBelow full height node.old path.now }
     requires root { 1 ≤ length (row node.old) }
     requires fits { length (flat height node.old) < 4294967296 }
-    requires enough { blocks_for height full ≤ blocks.old }
+    requires enough { blocks_for height full ≤ spare reserve.old + fresh.old }
+    requires inners { reserve.old.inners ≡ inners height node.old }
     ensures low { result ≤ 11 }
     ensures formed { IsFormed result node.new }
     ensures root { 1 ≤ length (row node.new) }
     ensures items { flat result node.new ≡ insert (flat height node.old) (place height node.old path.now) ix }
+    ensures inners { reserve.new.inners ≡ inners result node.new }
+    ensures reserved { reserve.new.reserved ≡ reserve.old.reserved }
 {
     if full <= height {
-        node.put_above(height, full, path, ix, blocks, alloc);
+        node.put_above(height, full, path, ix, reserve, fresh, alloc);
         return height;
     }
-    let (middle, upper) = node.cut(height, path, ix, blocks, alloc);
-    let children = blocks.take();
+    let (middle, upper) = node.cut(height, path, ix, reserve, fresh, alloc);
+    let children = reserve.take(fresh);
     grow(node, middle, upper, children);
     height + 1
 }

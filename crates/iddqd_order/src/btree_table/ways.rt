@@ -2,7 +2,7 @@
 //!
 //! A way holds no reference, so the tree may change its indexes between two steps.
 ghost use Rattle.std.specs.Prelude.{◌≡◌, ℕ, ◌+◌, ◌<◌, ◌≤◌, length, [], slice_index, slice_set, None};
-ghost use Rattle.iddqd_order.specs.Node.{row, flat, IsFormed, Holds, spot};
+ghost use Rattle.iddqd_order.specs.Node.{row, flat, inners, IsFormed, Holds, spot};
 ghost use Rattle.iddqd_order.specs.Ways.{IsWay, StepsOn, SamePlaces};
 
 use crate::btree_table::node::Node;
@@ -59,6 +59,7 @@ impl Way {
         ensures items { flat height root.new ≡ slice_set (flat height root.old) self.old.place ix }
         ensures formed { IsFormed height root.new }
         ensures same_length { length (row root.new) ≡ length (row root.old) }
+        ensures inners { inners height root.new ≡ inners height root.old }
         ensures same_places { SamePlaces height root.old root.new }
         ensures way { IsWay height root.new self.new }
         ensures place { self.new.place ≡ self.old.place + 1 }
@@ -129,6 +130,7 @@ impl Node {
             ≡ slice_set (flat height self.old) (spot level height self.old path.now) ix }
         ensures formed { IsFormed height self.new }
         ensures same_length { length (row self.new) ≡ length (row self.old) }
+        ensures inners { inners height self.new ≡ inners height self.old }
         ensures same_places { SamePlaces height self.old self.new }
     {
         let i = path.get(height);

@@ -1,5 +1,6 @@
 use Rattle.iddqd_order.proofs.Names.{◌≡◌, ◌+◌, ◌∙◌, get_or, arith, rules, get_or-set_other}
 use Rattle.iddqd_order.proofs.MendLemmas.{neighbours, room-for-one, moved-right}
+use Rattle.iddqd_order.proofs.RecountLemmas.{inners-moved, inners-two_set}
 use Rattle.iddqd_order.proofs.btree_table.removal.borrow_left.Goals as goal
 
 pub put_first-requires-clause-room : goal.put_first-requires-clause-room
@@ -17,3 +18,9 @@ returns-clause-mended c h f =
     let n = neighbours h c.args.left (c.args.left + 1) _ _ l r (omega arith) (omega arith) (omega arith) f (search rules) right in
     rw c.set.ensures (moved-right h c.args.left c.args.row.now c.args.children.now.items l r c.take_last-last.new.self c.put_first.new.self c.get-middle.result c.take_last-last.result.0 c.take_last-last.result.1 n
     (rw n.left (c.requires.more l)) (rw right (c.requires.poor r)) (search rules) (record { left = last.row; right = first.row; left_children = last.children; right_children = first.children }) last.child last.room first.room)
+
+pub returns-clause-inners : goal.returns-clause-inners
+returns-clause-inners c h =
+    let l = c.index_mut.result.now in let r = c.index_mut-2.result.now in let f = c.requires.lacks.1 in let here = f.here in
+    inners-two_set h c.args.left (c.args.left + 1) c.args.children.now.items l r c.take_last-last.new.self c.put_first.new.self (omega arith) (omega arith) (search rules) (search rules)
+    (inners-moved h l r c.take_last-last.new.self c.put_first.new.self _ c.take_last-last.ensures.children c.put_first.ensures.children)

@@ -16,3 +16,9 @@ returns-then-len-gt-LEAST-2-clause-mended c h f =
 
 pub returns-else-len-gt-LEAST-2-clause-mended : goal.returns-else-len-gt-LEAST-2-clause-mended
 returns-else-len-gt-LEAST-2-clause-mended c h f = c.merge-else-len-gt-LEAST-2.ensures.mended h c.args.i (omega arith) (omega arith) f
+
+pub returns-else-len-gt-LEAST-clause-counted : goal.returns-else-len-gt-LEAST-clause-counted
+returns-else-len-gt-LEAST-clause-counted c h f = c.merge.ensures.counted h c.args.i (omega arith) (omega arith) f
+
+pub returns-else-len-gt-LEAST-2-clause-counted : goal.returns-else-len-gt-LEAST-2-clause-counted
+returns-else-len-gt-LEAST-2-clause-counted c h f = c.merge-else-len-gt-LEAST-2.ensures.counted h c.args.i (omega arith) (omega arith) f

@@ -1,14 +1,35 @@
-use Rattle.iddqd_order.proofs.Names.{◌<◌, ◌∙◌, IsSome, ◌↔◌, length, ap, sym, subst, rules, children, IsEmptied, in_order}
-use Rattle.iddqd_order.proofs.RemovalLemmas.{IsLowered, lowered}
+use Rattle.iddqd_order.proofs.Names.{◌∙◌, sym, arith, rules, ◌≡◌, length, children}
+use Rattle.iddqd_order.proofs.RemovalLemmas.{IsBare, bare, IsLowered, lowered}
 use Rattle.iddqd_order.proofs.btree_table.removal.lower.Goals as goal
 
-left : (c : goal.After-drop-children) → IsLowered c.args.height c.in-Some.field-0 c.pop.result
+bared : (c : goal.After-drop-children) → IsBare c.args.height c.args.root.now
+bared c = bare c.args.height c.args.root.now c.in-Some.field-0 c.in-Some.ensures.value c.requires.emptied (search rules)
+
+pub returns-in_default-pop-clause-inners : goal.returns-in_default-pop-clause-inners
+returns-in_default-pop-clause-inners c = rw c.take.ensures.after (omega (arith, (bared c).inners))
+
+pub returns-in_default-pop-clause-items : goal.returns-in_default-pop-clause-items
+returns-in_default-pop-clause-items c = rw c.take.ensures.after (sym (bared c).items)
+
+pub give-requires-clause-block : goal.give-requires-clause-block
+give-requires-clause-block c =
+    let l = lowered c.args.height c.args.root.now c.in-Some.field-0 c.pop.new.self.items c.in-Some-pop.child c.in-Some.ensures.value c.requires.emptied c.in-Some-pop.ensures.items in
+    (l.alone, search (rules, l.has_room))
+
+pub give-requires-clause-some : goal.give-requires-clause-some
+give-requires-clause-some c =
+    let l = lowered c.args.height c.args.root.now c.in-Some.field-0 c.pop.new.self.items c.in-Some-pop.child c.in-Some.ensures.value c.requires.emptied c.in-Some-pop.ensures.items in
+    omega (arith, l.inners)
+
+left : (c : goal.After-saturating_sub) → IsLowered c.args.height c.args.root.now c.in-Some.field-0 c.pop.new.self.items c.in-Some-pop.child
 left c =
-    let some : IsSome c.pop.result ↔ (0 < length (children c.in-Some.field-0)) = search (rules, c.pop.ensures.variant) in
-    lowered c.args.height c.in-Some.field-0 _ c.pop.result (subst (λ r. IsEmptied r c.args.height) (sym c.in-Some.ensures.value) c.requires) c.pop.ensures.items some
+    lowered c.args.height c.args.root.now c.in-Some.field-0 c.pop.new.self.items c.in-Some-pop.child c.in-Some.ensures.value c.requires.emptied c.in-Some-pop.ensures.items
+
+pub returns-clause-inners : goal.returns-clause-inners
+returns-clause-inners c = rw c.saturating_sub.ensures (omega (arith, (left c).inners))
 
 pub returns-clause-tree : goal.returns-clause-tree
 returns-clause-tree c = rw c.saturating_sub.ensures (left c).tree
 
 pub returns-clause-items : goal.returns-clause-items
-returns-clause-items c = rw c.saturating_sub.ensures ((left c).items ∙ ap (λ r. in_order r c.args.height) c.in-Some.ensures.value)
+returns-clause-items c = rw c.saturating_sub.ensures (left c).items

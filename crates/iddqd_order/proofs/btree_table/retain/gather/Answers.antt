@@ -1,4 +1,4 @@
-use Rattle.std.proofs.Common.{rules, ◌≡◌, true, false, refl, sym, arith, drop-set-lt}
+use Rattle.std.proofs.Common.{rules, ◌≡◌, ◌∙◌, true, false, refl, sym, arith, drop-set-lt}
 use Rattle.std.proofs.lemmas.List.{append-nil}
 use Rattle.std.proofs.lemmas.Grind.{take-set_at}
 use Rattle.iddqd_order.specs.Asks.{At_once}
@@ -14,6 +14,7 @@ loop-from-init g c =
     record {
       formed = c.requires.formed;
       some = c.requires.some;
+      inners = refl;
       from = IsWay-first c.args.height c.args.root.now c.first-from.result c.requires.formed c.requires.some c.requires.levels r.path r.places r.level r.place;
       to = IsWay-first c.args.height c.args.root.now c.first-to.result c.requires.formed c.requires.some c.requires.levels w.path w.places w.level w.place;
       gathers = gathers-none g.F.FnMut c.args.f.now (flat c.args.height c.args.root.now) c.first-from.result.place c.first-to.result.place r.place w.place c.requires.can_ask;
@@ -31,6 +32,7 @@ loop-from-preserved g c =
     record {
       formed = i.formed;
       some = i.some;
+      inners = i.inners;
       from = c.step-ix.ensures.way;
       to = i.to;
       gathers = gathers-next g.F.FnMut c.step-ix.result c.f.result c.step-ix.new.self.place c.loop-from.to.place (flat c.args.height c.loop-from.root) c.f.new.self i.gathers (omega arith) c.step-ix.ensures.index c.f.ensures c.step-ix.ensures.place
@@ -46,6 +48,7 @@ loop-from-preserved-then-f g c =
     record {
       formed = put.formed;
       some = omega arith;
+      inners = put.inners ∙ i.inners;
       from = IsWay-same c.args.height c.loop-from.root c.put.new.root c.step-ix.new.self put.same_places c.step-ix.ensures.way;
       to = put.way;
       gathers = gathers-next g.F.FnMut c.step-ix.result c.f.result c.step-ix.new.self.place c.put.new.self.place (flat c.args.height c.put.new.root) c.f.new.self i.gathers (omega arith) c.step-ix.ensures.index c.f.ensures c.step-ix.ensures.place

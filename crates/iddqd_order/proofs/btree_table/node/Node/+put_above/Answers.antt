@@ -12,7 +12,7 @@ pub put_above-requires : goal.put_above-requires
 put_above-requires t c =
     let k = is_taken c.args.height _ _ _ c.index_mut.result.now (λ e. absurd (omega arith)) c.requires.formed c.requires.goes c.get-i.ensures c.index_mut.ensures.value in
     let b = taken _ _ _ _ _ k in let more = c.if-height-full.true in
-    (omega arith, (omega arith, (c.requires.some, (omega arith, (b.formed, (b.goes, (full_child _ _ _ _ _ _ k c.requires.full, c.requires.enough)))))))
+    (omega arith, (omega arith, (c.requires.some, (omega arith, (b.formed, (b.goes, (full_child _ _ _ _ _ _ k c.requires.full, (c.requires.enough, c.requires.fits))))))))
 
 pub index_mut-requires-else-height-full : goal.index_mut-requires-else-height-full
 index_mut-requires-else-height-full t c =
@@ -22,10 +22,10 @@ index_mut-requires-else-height-full t c =
 
 pub cut-middle-requires : goal.cut-middle-requires
 cut-middle-requires t c =
-    let some = c.requires.some in let not_all = c.requires.not_all in let here = c.if-height-full.false in let enough = c.requires.enough in
+    let some = c.requires.some in let not_all = c.requires.not_all in let here = c.if-height-full.false in let enough = c.requires.enough in let fits = c.requires.fits in
     let k = is_taken c.args.height _ _ _ c.index_mut-else-height-full.result.now (λ e. absurd (omega arith)) c.requires.formed c.requires.goes c.get-i.ensures c.index_mut-else-height-full.ensures.value in
     let b = taken _ _ _ _ _ k in
-    record { low = omega arith; formed = b.formed; goes = b.goes; full = all_full _ (c.args.height - 1 + 1) _ _ _ (omega arith) (omega arith) (full_child _ _ _ _ _ _ k c.requires.full); enough = omega arith }
+    record { low = omega arith; formed = b.formed; goes = b.goes; full = all_full _ (c.args.height - 1 + 1) _ _ _ (omega arith) (omega arith) (full_child _ _ _ _ _ _ k c.requires.full); enough = omega arith; fits = omega arith }
 
 pub put_between-requires : goal.put_between-requires
 put_between-requires t c =
@@ -36,16 +36,17 @@ put_between-requires t c =
     let count : vec_len (out-Node c.args.self.now).children ≡ length (row c.args.self.now) + 1 = search (rules, one) in
     record { within = rw out-roll-Node (omega arith); room = rw out-roll-Node room; one_more = simp out-roll-Node count; has_room = simp out-roll-Node b.node.has_room }
 
-pub returns-then-height-full : goal.returns-then-height-full
-returns-then-height-full t c =
+pub returns-then-height-full-clause-put : goal.returns-then-height-full-clause-put
+returns-then-height-full-clause-put t c =
     let k = is_taken c.args.height _ _ _ c.index_mut.result.now (λ e. absurd (omega arith)) c.requires.formed c.requires.goes c.get-i.ensures c.index_mut.ensures.value in
-    put_below c.args.height c.args.self.now (roll-Node _) c.args.path.now c.args.ix c.get-i.result c.index_mut.result.now c.put_above.new.self k c.put_above.ensures
+    put_below c.args.height c.args.self.now (roll-Node _) c.args.path.now c.args.ix c.get-i.result c.index_mut.result.now c.put_above.new.self k c.put_above.ensures.put
     (row-roll _) (children-roll _) (room-from _ (taken _ _ _ _ _ k).node.has_room)
 
-pub returns-else-height-full : goal.returns-else-height-full
-returns-else-height-full t c =
+pub returns-else-height-full-clause-put : goal.returns-else-height-full-clause-put
+returns-else-height-full-clause-put t c =
     let some = c.requires.some in let not_all = c.requires.not_all in let last = c.if-height-full.false in
     let k = is_taken c.args.height _ _ _ c.index_mut-else-height-full.result.now (λ e. absurd (omega arith)) c.requires.formed c.requires.goes c.get-i.ensures c.index_mut-else-height-full.ensures.value in
     let e = simp out-roll-Node at c.put_between.ensures in
-    put_here c.args.height c.args.self.now (roll-Node _) c.args.path.now c.args.ix c.get-i.result c.index_mut-else-height-full.result.now c.cut-middle.new.self c.cut-middle.result.0 c.cut-middle.result.1 k
-    (record { items = c.cut-middle.ensures.items; low = c.cut-middle.ensures.low; high = c.cut-middle.ensures.high }) ((full-here _ _ _ _ c.requires.full).1 (omega arith)) (row-roll _ ∙ e.row) (children-roll _ ∙ e.children) (room-from _ e.has_room)
+    let level : c.args.full - 1 ≡ c.args.height - 1 = omega arith in
+    rw level (put_here c.args.height c.args.self.now (roll-Node _) c.args.path.now c.args.ix c.get-i.result c.index_mut-else-height-full.result.now c.cut-middle.new.self c.cut-middle.result.0 c.cut-middle.result.1 k
+    (record { items = c.cut-middle.ensures.items; low = c.cut-middle.ensures.low; high = c.cut-middle.ensures.high; inner = c.cut-middle.ensures.inner }) ((full-here _ _ _ _ c.requires.full).1 (omega arith)) (row-roll _ ∙ e.row) (children-roll _ ∙ e.children) (room-from _ e.has_room))

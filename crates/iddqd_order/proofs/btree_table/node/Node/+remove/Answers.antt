@@ -1,6 +1,9 @@
-use Rattle.iddqd_order.proofs.Names.{rules, ℕ, ◌-◌, remove, slice_index, arith, ap, ◌∙◌, roll-Node, out-roll-Node, row, children, room, flat, spot}
+use Rattle.iddqd_order.proofs.Names.{rules, ℕ, suc, ◌-◌, remove, slice_index, arith, ap, ◌∙◌, roll-Node, out-roll-Node, row, children, room, flat, spot}
 use Rattle.iddqd_order.proofs.NodeLemmas.{row-roll, children-roll, room-roll}
 use Rattle.iddqd_order.proofs.RemovalLemmas.{holds-leaf, holds-level, goes-below, ends-inner, child-below, child-before, remade-leaf, TookNow, took-now, took-below, took-here, remade, room-kept}
+use Rattle.iddqd_order.specs.Node.{inners}
+use Rattle.iddqd_order.specs.Removal.{inners_of, Recounts}
+use Rattle.iddqd_order.proofs.RecountLemmas.{child-counted, inners-leaf, unchanged, recounted-below, recounted-mended}
 use Rattle.iddqd_order.proofs.btree_table.node.Node.+remove.Goals as goal
 use Rattle.iddqd_order.proofs.btree_table.node.Node.+remove.Goals.{then-height-level, else-height-level}
 
@@ -12,7 +15,7 @@ remove-requires t c =
 pub returns-then-height-eq0 : goal.returns-then-height-eq0
 returns-then-height-eq0 t c =
     let k = remade-leaf c.args.level c.args.height c.get-i.result c.args.self.now (roll-Node _) c.args.path.now c.if-height-eq0.true c.get-i.ensures c.requires.formed c.requires.holds (row-roll _ ∙ c.remove.ensures.items) (children-roll _) in
-    record { items = k.items; formed = k.formed; fewer = k.fewer }
+    record { items = k.items; formed = k.formed; fewer = k.fewer; counted = unchanged c.args.reserve.now (inners-leaf c.args.height c.args.self.now c.if-height-eq0.true) (inners-leaf c.args.height (roll-Node _) c.if-height-eq0.true) }
 
 pub index_mut-requires : goal.index_mut-requires
 index_mut-requires t c =
@@ -20,10 +23,12 @@ index_mut-requires t c =
 
 pub remove_last-last-requires : goal.remove_last-last-requires
 remove_last-last-requires t c =
-    let at = (ends-inner c.args.height c.args.level c.get-i.result c.args.self.now c.args.path.now c.if-height-eq0.false c.if-height-level.true c.get-i.ensures c.requires.formed c.requires.holds).within in
+    let e = ends-inner c.args.height c.args.level c.get-i.result c.args.self.now c.args.path.now c.if-height-eq0.false c.if-height-level.true c.get-i.ensures c.requires.formed c.requires.holds in
+    let at = e.within in
     let b = child-before c.args.height c.get-i.result c.args.self.now c.index_mut.result.now c.if-height-eq0.false (omega arith) c.requires.formed (search rules) in
     let five = b.1.0 in
-    record { some = omega arith; formed = b.1.1 }
+    let k = child-counted c.args.height c.get-i.result c.args.self.now c.index_mut.result.now c.if-height-eq0.false e.here (search rules) in
+    record { some = omega arith; formed = b.1.1; counted = omega (arith, k, c.requires.counted) }
 
 pub set-requires : goal.set-requires
 set-requires t c =
@@ -38,10 +43,13 @@ pub remove-requires-else-height-level : goal.remove-requires-else-height-level
 remove-requires-else-height-level t c =
     let b = child-below c.args.level c.args.height c.get-i.result c.args.self.now c.index_mut-else-height-level.result.now c.args.path.now c.if-height-eq0.false c.if-height-level.false c.get-i.ensures c.requires.formed c.requires.holds (search rules) in
     let five = b.formed.0 in
-    (omega arith, (omega arith, (omega arith, (b.formed.1, b.holds))))
+    let le = holds-level c.args.level c.args.height c.args.self.now c.args.path.now c.requires.holds in
+    let here = (goes-below c.args.height c.args.level c.get-i.result c.args.self.now c.args.path.now (omega arith) c.get-i.ensures c.requires.formed c.requires.holds).here in
+    let k = child-counted c.args.height c.get-i.result c.args.self.now c.index_mut-else-height-level.result.now c.if-height-eq0.false here (search rules) in
+    (omega arith, (omega arith, (omega arith, (b.formed.1, (b.holds, omega (arith, k, c.requires.counted))))))
 
 -- what is mended, on both ways
-took : (t : ℕ) (c : goal.After-mend-arg-2-1 t) → TookNow c.args.height c.get-i.result c.args.self.now c.if-height-level.self (remove (flat c.args.height c.args.self.now) (spot c.args.level c.args.height c.args.self.now c.args.path.now))
+took : (t : ℕ) (c : goal.After-mend-arg-3-1 t) → TookNow c.args.height c.get-i.result c.args.self.now c.if-height-level.self (remove (flat c.args.height c.args.self.now) (spot c.args.level c.args.height c.args.self.now c.args.path.now))
 took t c =
     elim c.if-height-level.branch [
       | then-height-level w ↦
@@ -55,11 +63,31 @@ took t c =
           took-now c.args.height c.get-i.result c.args.self.now c.if-height-level.self _ _ _ k (ap row w.self-is ∙ row-roll _) (ap children w.self-is ∙ children-roll _) (ap room w.self-is ∙ room-roll _))
     ]
 
+below : (t : ℕ) (c : goal.After-mend-arg-3-1 t) → Recounts c.args.reserve.now c.if-height-level.reserve (inners c.args.height c.args.self.now) (suc (inners_of (c.args.height - 1) (children c.if-height-level.self)))
+below t c =
+    elim c.if-height-level.branch [
+      | then-height-level w ↦
+          (let e = ends-inner c.args.height c.args.level c.get-i.result c.args.self.now c.args.path.now c.if-height-eq0.false w.if-height-level.true c.get-i.ensures c.requires.formed c.requires.holds in
+          rw (ap children w.self-is ∙ children-roll _ ∙ children-roll _, w.reserve-is)
+          (recounted-below c.args.height c.get-i.result c.args.self.now w.index_mut.result.now w.remove_last-last.new.self c.args.reserve.now w.remove_last-last.new.reserve c.if-height-eq0.false e.here (search rules) w.remove_last-last.ensures.counted))
+      | else-height-level w ↦
+          (let le = holds-level c.args.level c.args.height c.args.self.now c.args.path.now c.requires.holds in
+          let other = w.if-height-level.false in
+          let here = (goes-below c.args.height c.args.level c.get-i.result c.args.self.now c.args.path.now (omega arith) c.get-i.ensures c.requires.formed c.requires.holds).here in
+          rw (ap children w.self-is ∙ children-roll _, w.reserve-is)
+          (recounted-below c.args.height c.get-i.result c.args.self.now w.index_mut-else-height-level.result.now w.remove-else-height-level.new.self c.args.reserve.now w.remove-else-height-level.new.reserve c.if-height-eq0.false here (search rules) w.remove-else-height-level.ensures.counted))
+    ]
+
 pub mend-requires : goal.mend-requires
-mend-requires t c = (c.args.height - 1, (took t c).took.may_lack)
+mend-requires t c = record { lacks = (c.args.height - 1, (took t c).took.may_lack); some = omega (arith, c.requires.counted, (below t c).inners) }
 
 pub returns : goal.returns
 returns t c =
     let k = took t c.before in
     let m = remade c.args.height c.get-i.result c.args.self.now (roll-Node _) _ _ _ _ _ k.took (c.mend.ensures.mended (c.args.height - 1) k.took.may_lack) (row-roll _) (children-roll _) (room-kept c.args.self.now _ (c.mend.ensures.capacity ∙ k.room_is)) in
-    record { items = m.items; formed = m.formed; fewer = m.fewer }
+    record {
+      items = m.items;
+      formed = m.formed;
+      fewer = m.fewer;
+      counted = recounted-mended c.args.height c.args.self.now (roll-Node _) (children c.if-height-level.self) c.mend.new.children.items c.args.reserve.now c.if-height-level.reserve c.mend.new.reserve c.if-height-eq0.false (below t c.before) (c.mend.ensures.counted (c.args.height - 1) k.took.may_lack) (children-roll _);
+    }

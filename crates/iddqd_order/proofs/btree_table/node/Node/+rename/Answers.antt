@@ -12,7 +12,7 @@ returns-then-height-eq0 t c =
     let none = ap length (formed-leaf c.args.height c.args.self.now c.if-height-eq0.true c.requires.formed).childless in
     let r = renamed (remapped c.args.remap.now) c.args.height c.args.self.now (roll-Node (record { row = c.rename_row.new.row; children = (out-Node c.args.self.now).children })) c.requires.formed (row-roll _ ∙ c.rename_row.ensures) (rw room-roll (formed-sized c.args.height c.args.self.now c.requires.formed).0.has_room)
     (ap length (children-roll _)) (λ j d lt. absurd (omega arith)) in
-    record { formed = r.formed; same_length = r.same_length; items = r.items }
+    record { formed = r.formed; same_length = r.same_length; items = r.items; inners = r.inners }
 
 pub rename-requires : goal.rename-requires
 rename-requires t c =
@@ -25,4 +25,4 @@ returns t c =
     let i = c.loop-i.invariant in
     let r = renamed (remapped c.args.remap.now) c.args.height c.args.self.now c.loop-i.self c.requires.formed i.row_is (omega (arith, (formed-sized c.args.height c.args.self.now c.requires.formed).0.has_room, i.room_is)) i.length_is
     (λ j d lt. i.done j d (search (rules, out-roll-Node)) lt) in
-    record { formed = r.formed; same_length = r.same_length; items = r.items }
+    record { formed = r.formed; same_length = r.same_length; items = r.items; inners = r.inners }

@@ -15,4 +15,4 @@ invariant_of-self c =
     let small = c.as_u32-number.type_inv in
     let assigned = c.requires.assigned in
     let put = c.put_in-self-inside.ensures in
-    IsTable-put _ _ _ _ _ _ _ c.self.invariant (rw (← c.self.view_is) at c.requires.goes) (rw (← c.self.view_is) at c.requires.absent) (omega arith) put.tree put.items
+    IsTable-put _ _ _ _ _ _ _ c.self.invariant (rw (← c.self.view_is) at c.requires.goes) (rw (← c.self.view_is) at c.requires.absent) (omega arith) put.tree put.items put.inners

@@ -1,17 +1,22 @@
-use Rattle.std.proofs.Common.{refl}
+use Rattle.std.proofs.Common.{refl, ◌∙◌}
 use Rattle.iddqd_order.specs.PreparedBTreeInsert.{place_of, index_of, blocks_of}
-use Rattle.iddqd_order.proofs.TableLemmas.{few_blocks}
 use Rattle.iddqd_order.proofs.btree_table.table.MapBTreeTable.prepare.Goals as goal
+
+pub take_blocks-requires-clause-full : goal.take_blocks-requires-clause-full
+take_blocks-requires-clause-full g c = let gap = c.find_gap-path.ensures in (_, gap.goes, gap.full)
 
 pub returns : goal.returns
 unfolding place_of index_of blocks_of
 returns g c =
-    let gap = c.find_gap-path.ensures in (
+    let gap = c.find_gap-path.ensures in let taken = c.in-Ok.ensures in (
       (refl, λ w. refl, tt),
       record {
         unchanged = tt;
         same_reference = refl;
         asked = gap.asked;
-        prepared = record { table = refl; index = refl; within = gap.within; few_blocks = rw c.in_ok-blocks.ensures (few_blocks _ _ gap.levels.1); place = gap.place };
+        prepared = record { table = refl; index = refl; within = gap.within; few_blocks = rw taken.blocks taken.few; place = gap.place };
+        memory = refl;
+        roomy = λ _. refl;
+        no_blocks = λ lt. taken.blocks ∙ taken.roomy lt;
       },
     )

@@ -10,4 +10,4 @@ pub invariant_of-self : goal.invariant_of-self
 unfolding order_of
 invariant_of-self c =
     IsTable-renamed _ _ _ _ c.args.remap.now c.self.invariant (rw (← c.self.view_is) at c.requires.can_remap) (rw (← c.self.view_is) at c.requires.distinct)
-    c.names_fit.ensures c.rename_in.ensures.tree c.rename_in.ensures.items
+    c.names_fit.ensures c.rename_in.ensures.tree c.rename_in.ensures.items c.rename_in.ensures.inners

@@ -6,16 +6,16 @@ pub overflow_sub-self : goal.overflow_sub-self
 unfolding order_of
 overflow_sub-self c =
     let way = rw (← c.self.view_is) at c.requires in let taken = c.take_out-self-inside.ensures in
-    (shorter _ _ _ _ _ _ _ _ c.self.invariant way.0 way.1 taken.tree taken.items).some
+    (shorter _ _ _ _ _ _ _ _ c.self.invariant way.0 way.1 taken.tree taken.items taken.inners).some
 
 pub invariant_of-self : goal.invariant_of-self
 unfolding order_of
 invariant_of-self c =
     let way = rw (← c.self.view_is) at c.requires in let taken = c.take_out-self-inside.ensures in
-    (shorter _ _ _ _ _ _ _ _ c.self.invariant way.0 way.1 taken.tree taken.items).table
+    (shorter _ _ _ _ _ _ _ _ c.self.invariant way.0 way.1 taken.tree taken.items taken.inners).table
 
 pub returns-clause-removed : goal.returns-clause-removed
 unfolding order_of
 returns-clause-removed c =
     let way = rw (← c.self.view_is) at c.requires in let taken = c.take_out-self-inside.ensures in
-    rw (← c.self.view_is) (shorter _ _ _ _ _ _ _ _ c.self.invariant way.0 way.1 taken.tree taken.items).items
+    rw (← c.self.view_is) (shorter _ _ _ _ _ _ _ _ c.self.invariant way.0 way.1 taken.tree taken.items taken.inners).items

@@ -3,4 +3,4 @@ use Rattle.iddqd_order.proofs.btree_table.table.MapBTreeTable.retain.Goals as go
 
 pub invariant_of-self : goal.invariant_of-self
 invariant_of-self g c =
-    IsTable-retained g.F.FnMut c.args.f _ _ _ _ _ _ _ c.self.invariant c.retain_in-height.ensures.tree c.retain_in-height.ensures.counted c.retain_in-height.ensures.kept
+    IsTable-retained g.F.FnMut c.args.f _ _ _ _ _ _ _ c.self.invariant c.retain_in-height.ensures.tree c.retain_in-height.ensures.counted c.retain_in-height.ensures.kept c.retain_in-height.ensures.inners

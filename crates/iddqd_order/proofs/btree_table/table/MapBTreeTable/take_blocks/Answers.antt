@@ -1,0 +1,19 @@
+use Rattle.iddqd_order.proofs.Names.{◌≤◌, arith, order_of, IsTree}
+use Rattle.iddqd_order.specs.MapBTreeTable.{capacity}
+use Rattle.iddqd_order.proofs.RoomLemmas.{none-fresh}
+use Rattle.iddqd_order.proofs.TableLemmas.{few_blocks}
+use Rattle.iddqd_order.proofs.TreeLemmas.{IsTree-low}
+use Rattle.iddqd_order.proofs.btree_table.table.MapBTreeTable.take_blocks.Goals as goal
+
+pub returns-clause-few : goal.returns-clause-few
+returns-clause-few c =
+    let low : c.args.self.now.height ≤ 11 = rw (← c.self.view_is) (IsTree-low _ _ c.self.invariant.tree) in
+    let most = few_blocks c.args.self.now.height c.args.full c.requires.levels in
+    omega arith
+
+pub returns-clause-roomy : goal.returns-clause-roomy
+unfolding order_of capacity
+returns-clause-roomy c lt =
+    let way = c.requires.full in
+    let tree : IsTree c.args.self.now.root c.args.self.now.height = rw (← c.self.view_is) c.self.invariant.tree in
+    none-fresh _ _ c.args.self.now.reserved c.args.full way.0 tree way.1 way.2 c.requires.levels lt

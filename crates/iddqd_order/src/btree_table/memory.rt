@@ -1,0 +1,84 @@
+//! Blocks that a table takes ahead, and gives back.
+//!
+//! A table made for n indexes never needs another block while it has no more, whatever is added and removed
+//! in between. It grows past that by asking for memory, and then has no room until enough is removed.
+ghost use Rattle.std.specs.Prelude.{◌≡◌, ◌<◌, ◌≤◌};
+ghost use Rattle.iddqd_order.specs.MapBTreeTable.{capacity, room};
+ghost use Rattle.iddqd_order.specs.Sizes.{TakesRoom, Reserves, Shrinks};
+
+use crate::btree_table::reserve::needed_blocks;
+use crate::btree_table::table::MapBTreeTable;
+use std::alloc::{AllocError, Global};
+
+// There are no more indexes than those below `SENTINEL`.
+const MOST_INDEXES: usize = 4294967295;
+
+#[tactic(auto, unfolding(crate::specs::MapBTreeTable::order_of, crate::specs::MapBTreeTable::capacity))]
+impl MapBTreeTable {
+    /// An empty table that holds so many indexes without asking for memory. For up to ten it takes none.
+    ///
+    /// `AllocError` means that memory was refused, or that there can't be so many indexes.
+    pub fn with_capacity(alloc: Global, capacity: usize) -> Result<MapBTreeTable, AllocError>
+        ensures { TakesRoom capacity result }
+    {
+        let mut table = MapBTreeTable::new(alloc);
+        table.try_reserve(capacity)?;
+        Ok(table)
+    }
+
+    /// How many indexes the table can hold without asking for memory. It may hold more.
+    pub fn capacity(&self) -> usize
+        ensures { result ≡ capacity self.now }
+    {
+        self.reserve.capacity()
+    }
+
+    /// How many more indexes the table can hold without asking for memory: none where it holds more than its
+    /// capacity.
+    pub fn room(&self) -> usize
+        ensures { result ≡ room self.now }
+    {
+        self.capacity().saturating_sub(self.len)
+    }
+
+    /// The same as `try_reserve`, under the name that it has where it can't be refused.
+    pub fn reserve(&mut self, additional: usize) -> Result<(), AllocError>
+        ensures { Reserves additional self.old result self.new }
+    {
+        self.try_reserve(additional)
+    }
+
+    /// Makes room for `additional` more indexes: the capacity is raised to that of the blocks which all of them need.
+    ///
+    /// `AllocError` means that memory was refused, or that there can't be so many indexes; the table then stays as it
+    /// was. It stays so too, and takes no memory, where there is room for so many.
+    pub fn try_reserve(&mut self, additional: usize) -> Result<(), AllocError>
+        ensures { Reserves additional self.old result self.new }
+    {
+        if additional <= self.room() {
+            return Ok(());
+        }
+        if additional > MOST_INDEXES - self.len {
+            return Err(AllocError);
+        }
+        self.reserve
+            .raise(needed_blocks(self.len + additional), self.alloc)
+    }
+
+    /// Gives back the blocks that the indexes don't need.
+    pub fn shrink_to_fit(&mut self)
+        ensures { Shrinks 0 self.old self.new }
+    {
+        self.shrink_to(0)
+    }
+
+    /// Gives back the blocks that so many indexes don't need, or those that there are where these are more.
+    pub fn shrink_to(&mut self, least: usize)
+        ensures { Shrinks least self.old self.new }
+    {
+        let indexes = least.max(self.len);
+        if indexes < self.capacity() {
+            self.reserve.lower(needed_blocks(indexes));
+        }
+    }
+}

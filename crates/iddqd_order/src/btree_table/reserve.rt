@@ -1,0 +1,186 @@
+//! The empty blocks that a table keeps beside its tree, so that it holds what it was made for without asking for
+//! memory.
+//!
+//! With R blocks reserved there are never fewer than R in the tree and beside it: a split takes a block from here
+//! first, and a merge gives one back where fewer than R would be left. Growth takes blocks beyond these, and never
+//! changes R.
+ghost use Rattle.std.specs.Prelude.{◌≡◌, ◌+◌, ◌-◌, ◌<◌, ◌≤◌, [], ◌++◌, All, length, min, max, OnOk, OnErr, vec_len, vec_capacity};
+ghost use Rattle.iddqd_order.specs.MapBTreeTable.{needed_blocks, capacity_of};
+ghost use Rattle.iddqd_order.specs.Node.{IsSpare};
+ghost use Rattle.iddqd_order.specs.Reserve.{spare, most_blocks};
+
+use crate::btree_table::blocks::Blocks;
+use crate::btree_table::node::Node;
+use crate::btree_table::row::CAPACITY;
+use std::alloc::{AllocError, Global};
+use std::marker::Model;
+
+// So many indexes a block does for at least: each inner node but the root has six children or more and five indexes,
+// and each child has five.
+const INDEXES_OF_A_BLOCK: usize = 30;
+
+// So many indexes need no block: eleven may.
+const FREE_INDEXES: usize = 10;
+
+/// How many blocks so many indexes need at most.
+pub fn needed_blocks(indexes: usize) -> usize
+    requires { indexes < 4294967296 }
+    ensures value { result ≡ needed_blocks indexes }
+    ensures few { result ≤ most_blocks }
+{
+    (indexes + (INDEXES_OF_A_BLOCK - FREE_INDEXES - 1)) / INDEXES_OF_A_BLOCK
+}
+
+// Adds so many empty blocks, for which there is room. Refused, it lets go of those that it took.
+fn add_blocks(blocks: &mut Vec<Vec<Node>>, count: usize, alloc: Global) -> Result<(), AllocError>
+    requires room { vec_len blocks.old + count ≤ vec_capacity blocks.old }
+    requires empty { All IsSpare blocks.old.items }
+    ensures empty { All IsSpare blocks.new.items }
+    ensures added { OnOk result (vec_len blocks.new ≡ vec_len blocks.old + count) }
+    ensures refused { OnErr result (vec_len blocks.new ≡ vec_len blocks.old) }
+    ensures capacity { vec_capacity blocks.new ≡ vec_capacity blocks.old }
+{
+    let kept = blocks.len();
+    let wanted = kept + count;
+    while blocks.len() < wanted {
+        match Vec::with_capacity(alloc, CAPACITY + 1) {
+            Ok(block) => blocks.push_reserved(block),
+            Err(AllocError) => {
+                blocks.truncate(kept);
+                return Err(AllocError);
+            }
+        }
+    }
+    Ok(())
+}
+
+/// Empty blocks, each with room for the children of one node, and the count of those in the tree.
+#[derive(Drop)]
+pub struct Reserve {
+    blocks: Vec<Vec<Node>>,
+    // How many inner nodes the tree has.
+    inners: usize,
+    // How many blocks there are at least, in the tree and here.
+    reserved: usize,
+}
+
+impl Model for Reserve {
+    ghost use Rattle.std.specs.Prelude.{vec_len, vec_capacity, All};
+    ghost use Rattle.iddqd_order.specs.Node.{IsSpare};
+    ghost use Rattle.iddqd_order.specs.Reserve.{Reserved, reserved_code, IsReserve};
+
+    ghost Value = { Reserved };
+
+    ghost coded = { reserved_code };
+
+    ghost view = { λ r. record { inners = r.inners; reserved = r.reserved } };
+
+    ghost invariant = { λ r. IsReserve r.blocks r.inners r.reserved };
+}
+
+impl Reserve {
+    /// No block and no inner node. It takes no memory.
+    pub fn new(alloc: Global) -> Reserve
+        ensures { result ≡ record { inners = 0; reserved = 0 } }
+    {
+        Reserve {
+            blocks: Vec::new(alloc),
+            inners: 0,
+            reserved: 0,
+        }
+    }
+
+    /// The reserve beside a copy of the tree: no block. It takes no memory.
+    pub fn for_copy(&self, alloc: Global) -> Reserve
+        ensures { result ≡ record { inners = self.now.inners; reserved = 0 } }
+    {
+        Reserve {
+            blocks: Vec::new(alloc),
+            inners: self.inners,
+            reserved: 0,
+        }
+    }
+
+    /// How many blocks are reserved.
+    pub fn reserved(&self) -> usize
+        ensures value { result ≡ self.now.reserved }
+        ensures few { result ≤ most_blocks }
+    {
+        self.reserved
+    }
+
+    /// How many empty blocks there are.
+    pub fn spare(&self) -> usize
+        ensures { result ≡ spare self.now }
+    {
+        self.blocks.len()
+    }
+
+    /// A block for one more inner node: one of these, or else one of the fresh ones.
+    pub fn take(&mut self, fresh: &mut Blocks) -> Vec<Node>
+        requires some { 0 < spare self.old + fresh.old }
+        requires fits { self.old.inners < 4294967296 }
+        ensures block { IsSpare result }
+        ensures one_more { self.new.inners ≡ self.old.inners + 1 }
+        ensures reserved { self.new.reserved ≡ self.old.reserved }
+        ensures left { (spare self.new + fresh.new) + 1 ≡ spare self.old + fresh.old }
+    {
+        self.inners += 1;
+        if self.blocks.is_empty() {
+            fresh.take()
+        } else {
+            self.blocks.take_last()
+        }
+    }
+
+    /// Takes back the block of an inner node that is no more, and lets go of it where enough are left.
+    pub fn give(&mut self, block: Vec<Node>)
+        requires block { IsSpare block }
+        requires some { 1 ≤ self.old.inners }
+        ensures one_less { self.new.inners + 1 ≡ self.old.inners }
+        ensures reserved { self.new.reserved ≡ self.old.reserved }
+    {
+        self.inners -= 1;
+        if self.inners < self.reserved {
+            self.blocks.push_reserved(block);
+        }
+    }
+
+    /// How many indexes so many blocks always suffice for.
+    pub fn capacity(&self) -> usize
+        ensures { result ≡ capacity_of self.now.reserved }
+    {
+        self.reserved * INDEXES_OF_A_BLOCK + FREE_INDEXES
+    }
+
+    /// Reserves so many blocks, or as many as are reserved where these are more: it takes those that tree and list
+    /// lack, and places for all. Refused, it gives back all that it took.
+    pub fn raise(&mut self, reserved: usize, alloc: Global) -> Result<(), AllocError>
+        requires few { reserved ≤ most_blocks }
+        ensures inners { self.new.inners ≡ self.old.inners }
+        ensures raised { OnOk result (self.new.reserved ≡ max self.old.reserved reserved) }
+        ensures refused { OnErr result (self.new ≡ self.old) }
+    {
+        if reserved <= self.reserved {
+            return Ok(());
+        }
+        let len = self.blocks.len();
+        let spare = reserved.saturating_sub(self.inners);
+        self.blocks.reserve_exact(reserved - len)?;
+        add_blocks(&mut self.blocks, spare - len, alloc)?;
+        self.reserved = reserved;
+        Ok(())
+    }
+
+    /// Reserves no more than so many blocks: it gives back those beyond, and the memory of their places.
+    pub fn lower(&mut self, reserved: usize)
+        ensures inners { self.new.inners ≡ self.old.inners }
+        ensures lowered { self.new.reserved ≡ min self.old.reserved reserved }
+    {
+        if reserved < self.reserved {
+            self.blocks.truncate(reserved.saturating_sub(self.inners));
+            self.blocks.shrink_to(reserved);
+            self.reserved = reserved;
+        }
+    }
+}
