@@ -1,5 +1,5 @@
 -- What a removal below a node leaves of the node.
-use Rattle.iddqd_order.proofs.Names.{get_or_default, ◌≡◌, ◌≢◌, ℕ, zero, suc, ◌+◌, ◌-◌, ◌<◌, ◌≤◌, List, [], ◌∷◌, ◌++◌, length, take, drop, set, get_or, remove, slice_index, refl, ap, sym, ◌∙◌, subst, arith, sub-one, length-set, get_or-set_same, get_or-set_other, All, vec_capacity, Option, Some, None, IsSome, ◌↔◌, option_to_list, map, length-map, map-set, length_push, nil_from_length, append-nil, take_more, take_all, drop_all, length-remove, Node, Node-F, roll-Node, row, children, child, room, weave, before, flat, IsInner, IsFormed, Holds, spot, IsChild, MayLackOne, IsMended, IsEmptied, in_order, IsTree}
+use Rattle.iddqd_order.proofs.Names.{get_or_default, ◌≡◌, ◌≢◌, ℕ, zero, suc, ◌+◌, ◌-◌, ◌<◌, ◌≤◌, List, [], ◌∷◌, ◌++◌, length, take, drop, set, get_or, remove, slice_index, refl, ap, sym, ◌∙◌, subst, arith, sub-one, length-set, get_or-set_same, get_or-set_other, All, vec_capacity, Option, Some, None, map, length-map, map-set, length_push, nil_from_length, append-nil, take_more, take_all, drop_all, length-remove, Node, Node-F, roll-Node, row, children, child, room, weave, before, flat, IsInner, IsFormed, Holds, spot, IsChild, MayLackOne, IsMended, IsEmptied, in_order, IsTree}
 use Rattle.iddqd_order.specs.Tree.{inners_in}
 use Rattle.std.specs.List.{sum_by}
 unfoldable use Rattle.iddqd_order.specs.Node.{inners}

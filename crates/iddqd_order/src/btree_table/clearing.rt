@@ -1,6 +1,6 @@
 //! The removal of all indexes, which takes no memory.
 //!
-//! Where blocks are reserved, those of the tree go to the reserve until it has all, and are let go from then on.
+//! The blocks of the tree go to the reserve, which keeps as many as it lacks and drops the others.
 ghost use Rattle.std.specs.Prelude.{◌≡◌, ◌+◌, ◌≤◌, None};
 ghost use Rattle.iddqd_order.specs.Node.{inners, IsFormed};
 ghost use Rattle.iddqd_order.specs.Tree.{inners_in, IsTree};
@@ -9,7 +9,7 @@ use crate::btree_table::node::Node;
 use crate::btree_table::reserve::Reserve;
 use std::alloc::Global;
 
-// Lets go of all nodes. It takes no memory.
+// Drops all nodes. Where nothing is reserved, no block has to be kept, and the tree is dropped as it is.
 pub fn clear_in(root: &mut Option<Node>, height: usize, reserve: &mut Reserve, alloc: Global)
     requires tree { IsTree root.old height }
     requires inners { reserve.old.inners ≡ inners_in root.old height }
@@ -28,7 +28,7 @@ pub fn clear_in(root: &mut Option<Node>, height: usize, reserve: &mut Reserve, a
 }
 
 impl Node {
-    // Lets go of the node and of all below it, and hands over the block of each inner node.
+    // Drops the node and all below it. The block of each inner node goes to the reserve.
     fn dissolve(self, height: usize, reserve: &mut Reserve)
         requires formed { IsFormed height self }
         requires counted { inners height self ≤ reserve.old.inners }

@@ -45,7 +45,8 @@ pub fn take_out(
     lower(root, height, reserve)
 }
 
-// Lets go of a root without indexes: its only child, if there is one, is the new root.
+// Lets go of a root without indexes. Its only child, if there is one, is the new root, and its block goes to
+// the reserve.
 pub fn lower(root: &mut Option<Node>, height: usize, reserve: &mut Reserve) -> usize
     requires emptied { IsEmptied root.old height }
     requires inners { reserve.old.inners ≡ inners_in root.old height }

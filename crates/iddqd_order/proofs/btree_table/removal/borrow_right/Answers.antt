@@ -1,4 +1,4 @@
-use Rattle.iddqd_order.proofs.Names.{sym, ◌≡◌, ◌+◌, ◌∙◌, get_or, arith, rules, get_or-set_other}
+use Rattle.iddqd_order.proofs.Names.{◌≡◌, ◌+◌, ◌∙◌, get_or, arith, rules, get_or-set_other}
 use Rattle.iddqd_order.proofs.MendLemmas.{neighbours, room-for-one, moved-left}
 use Rattle.iddqd_order.proofs.RecountLemmas.{inners-moved, inners-two_set}
 use Rattle.iddqd_order.proofs.btree_table.removal.borrow_right.Goals as goal

@@ -1,4 +1,4 @@
-use Rattle.iddqd_order.proofs.Names.{◌∙◌, sym, arith, rules, ◌≡◌, length, children}
+use Rattle.iddqd_order.proofs.Names.{sym, arith, rules}
 use Rattle.iddqd_order.proofs.RemovalLemmas.{IsBare, bare, IsLowered, lowered}
 use Rattle.iddqd_order.proofs.btree_table.removal.lower.Goals as goal
 

@@ -1,4 +1,4 @@
-use Rattle.iddqd_order.proofs.Names.{◌≡◌, ◌∙◌, ◌-◌, ◌+◌, ◌<◌, [], ◌∷◌, ap, refl, subst, arith, rules, All, nil_from_length, IsChild}
+use Rattle.iddqd_order.proofs.Names.{◌≡◌, ◌∙◌, ◌-◌, [], ◌∷◌, ap, refl, subst, arith, rules, All, nil_from_length, IsChild}
 use Rattle.std.proofs.lemmas.List.Sums.{sum_by_push}
 use Rattle.iddqd_order.specs.Node.{inners}
 use Rattle.iddqd_order.specs.Removal.{inners_of}
