@@ -17,6 +17,7 @@ use iddqd_maps::{ValidateCompact, ValidateRefusal, ValidationError};
 use std::alloc::{AllocError, Global};
 
 type Board = IdOrdMap<Score>;
+
 type Replaced = Result<Score, ReplaceRefusal<Score, ItemIndex>>;
 
 /// A board of at most so many scores.
@@ -157,10 +158,13 @@ pub fn move_to(
     ensures was { IfOk result (FindsItem board.old.store (λ score. eq_by_cmp nat_cmp hour score.hour)) }
     ensures refused { OnErr result (board.new.store ≡ board.old.store) }
 {
-    board.change(&hour, |score| Score {
-        hour: other,
-        ..*score
-    })
+    board.change(
+        &hour,
+        |score| Score {
+            hour: other,
+            ..*score
+        },
+    )
 }
 
 /// Takes the score of an hour.

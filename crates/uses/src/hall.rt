@@ -18,7 +18,9 @@ use iddqd_maps::{ValidateCompact, ValidateRefusal, ValidationError};
 use std::alloc::{AllocError, Global};
 
 type Hall = TriHashMap<Seat>;
+
 type Hashed = TriHashMap<Seat, Base31>;
+
 type Replaced = Result<Seat, ReplaceRefusal<Seat, TriClash>>;
 
 /// No seats, and a limit to how many there can be.

@@ -43,7 +43,9 @@ impl BiHashItem for Locker {
 }
 
 type Lockers = BiHashMap<Locker>;
+
 type Hashed = BiHashMap<Locker, Base31>;
+
 type Replaced = Result<Locker, ReplaceRefusal<Locker, BiClash>>;
 
 /// Lockers within a limit.
