@@ -1,5 +1,6 @@
 -- What the calls of items with three keys answer and leave, from what their steps promise.
 use Rattle.std.proofs.Common.{◌≡◌, inl, inr, ◌↔◌, ℕ, Bool, List, [], ◌∷◌, map, Option, Some, None, Result, Ok, Err, refl, sym, subst}
+use Rattle.std.specs.List.{Contains}
 use Rattle.std.specs.Option.{OnSome, IfNone}
 use Rattle.std.specs.Ordering.{nat_cmp}
 use Rattle.std.specs.FinMap.{FinMap}
@@ -68,6 +69,10 @@ module _ {T K1 K2 K3 S : Type 0} (keys : TriKeys T K1 K2 K3 S) where
     rising = IsRising-listed a b c ordered;
     at_most_three = at_most_three a b c ordered;
   }
+
+  -- where there are none, the item clashes with none
+  pub HasNoClash-none : (s : Store T) (item : T) (clashes : List ℕ) → clashes ≡ [] → AreClashes keys s item clashes → HasNoClash keys s item
+  HasNoClash-none s item clashes none are = λ ix clash. contains_none ix (subst (λ cs. Contains cs ix) none ((are.each ix).1 clash))
 
   -- the removal of an index, if it is live
   pub IsTriState-taken : (hasher : S) (old new : SizedStore T) (tables after : TriTables) (ix : ℕ) (r : Option T) → r ≡ get old.store ix → OnSome r (new.store ≡ removed old.store ix) → OnSome r (maps_of after ≡ maps_without (maps_of tables) ix) → IfNone r (new ≡ old) → IfNone r (after ≡ tables) → IsTriState keys (tri_state_of hasher old.store tables) → IsTriState keys (tri_state_of hasher new.store after)

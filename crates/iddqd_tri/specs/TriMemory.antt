@@ -1,7 +1,7 @@
 -- What a contract sees of the memory of items with three keys, beside their state, and what calls do with it.
 use Rattle.std.specs.Prelude.{◌≡◌, ◌⊎◌, ◌+◌, ◌-◌, ◌*◌, ◌<◌, ◌≤◌, ℕ, min, max, Result, OnOk, OnErr, IsOk, refl}
 use Rattle.std.specs.Coded.{Coded, code_by, coded×, coded_ℕ}
-use Rattle.iddqd.specs.Store.{slot_count, live_count}
+use Rattle.iddqd.specs.Store.{live_count}
 use Rattle.iddqd_hash.specs.Sizes.{most_cells}
 use Rattle.iddqd_tri.specs.TriKeys.{Three, TriKeys}
 use Rattle.iddqd_tri.specs.TriState.{TriState, tri_state_code, HasNoClash}

@@ -301,8 +301,7 @@ impl<T: TriItem, S: BuildHasher> TriItems<T, S> {
     {
         let slots = self.items.shrink_capacity_to(least);
         let tables = self.tables.shrink_to(least);
-        slots?;
-        tables
+        slots.and(tables)
     }
 }
 
