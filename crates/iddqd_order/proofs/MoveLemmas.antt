@@ -1,11 +1,14 @@
 -- An index that is taken out of a list and put in again: what may be asked in between, and what was.
-use Rattle.iddqd_order.proofs.Names.{◌≡◌, ◌*◌, ◌≤◌, ◌==◌, ℕ, Bool, true, false, not, List, length, refl, sym, ◌∙◌, arith, IsTrue, is_some, ◌↔◌, Option, Some, Contains, Ordering, Mut, Asking, AsksWithin, Askable, CanSearch, bound, without, order_of, Order}
+use Rattle.iddqd_order.proofs.Names.{◌≡◌, ◌*◌, ◌<◌, ◌≤◌, ◌==◌, ℕ, Bool, true, false, not, List, [], ◌∷◌, length, refl, sym, ap, ◌∙◌, arith, cases_eq, inl, inr, nat_tests, IsTrue, is_some, ◌↔◌, Option, Some, Contains, Ordering, Mut, Asking, AsksWithin, Askable, CanSearch, bound, without, order_of, Order}
 use Rattle.std.proofs.lemmas.List.Filters.{length-filter_both}
 use Rattle.iddqd_order.specs.PreparedBTreeMove.{PutsIn}
 use Rattle.iddqd_order.specs.Search.{SearchAsks}
 use Rattle.iddqd_order.proofs.AskLemmas.{After-wider, CanAsk-fewer, CanAsk-later, Steady-later, asks_more, asks_then, asks_wider}
 use Rattle.iddqd_order.proofs.DigitLemmas.{digits-mono}
 use Rattle.iddqd_order.proofs.IndexListLemmas.{without-missing}
+use Rattle.iddqd.proofs.StoreLemmas.{contains_cases}
+use Rattle.iddqd_order.specs.MapBTreeTable.{capacity, move_blocks}
+use Rattle.iddqd_order.proofs.RoomLemmas.{move-most}
 use Rattle.iddqd_order.proofs.MemberLemmas.{contains-without, contains-from_without}
 
 pub absent-without : (xs : List ℕ) (ix : ℕ) → Contains (without xs ix) ix → ⊥
@@ -27,6 +30,31 @@ fewer xs ix =
     let both = length-filter_both (λ (j : ℕ). not (j == ix)) (λ j. j == ix) (λ j. opposite (j == ix)) xs in
     let less = digits-mono (length (without xs ix)) (length xs) (omega arith) in
     omega arith
+
+-- an index that is taken out was one of them
+pub without-fewer : (xs : List ℕ) (ix : ℕ) → Contains xs ix → length (without xs ix) < length xs
+without-fewer [] ix held = let lt = held.1 in absurd (omega arith)
+without-fewer (x ∷ xs) ix held =
+    elim (cases_eq x ix) [
+      | inl same ↦
+          (let out : not (x == ix) ≡ false = grind (arith, nat_tests) in
+          rw out (omega (arith, length-filter_both (λ (j : ℕ). not (j == ix)) (λ j. j == ix) (λ j. opposite (j == ix)) xs)))
+      | inr other ↦
+          (let kept : not (x == ix) ≡ true = grind (arith, nat_tests) in
+          elim (contains_cases x ix xs held) [
+            | inl same ↦ absurd (other same)
+            | inr below ↦ rw kept (omega (arith, without-fewer xs ix below))
+          ])
+    ]
+
+-- the blocks of a move do for the insert, since one index fewer stands then
+pub move-enough : (old mid : Order) (ix blocks : ℕ) → length (without (order_of old) ix) < length (order_of old) → order_of mid ≡ without (order_of old) ix → mid.height ≤ old.height → mid.reserved ≡ old.reserved
+    → blocks ≡ move_blocks old → capacity mid ≤ length (order_of mid) → mid.height < blocks
+unfolding capacity
+move-enough old mid ix blocks fewer left lower reserved taken full =
+    let len = ap length left in
+    let past : capacity old < length (order_of old) = omega arith in
+    omega (arith, move-most old past)
 
 module _ {F R : Type 0} (g : Mut F (ℕ × Unit {0}) R) (xs : List ℕ) (ix : ℕ) where
   abbrev among : ℕ → Type 0

@@ -1,14 +1,16 @@
 -- An insert below the capacity needs no more blocks than are reserved.
-use Rattle.std.proofs.Common.{All, ◌≡◌, ◌≢◌, ℕ, zero, suc, ◌+◌, ◌-◌, ◌*◌, ◌<◌, ◌≤◌, List, [], ◌∷◌, ◌++◌, Bool, true, false, nat_lt, Option, Some, None, length, map, sum_by, get_or, slice_index, arith, refl, inl, inr}
+use Rattle.std.proofs.Common.{All, ◌≡◌, ℕ, zero, suc, ◌+◌, ◌-◌, ◌*◌, ◌<◌, ◌≤◌, List, [], ◌∷◌, true, false, nat_lt, Option, Some, None, length, map, sum_by, get_or, slice_index, arith, inl, inr}
 use Rattle.std.proofs.lemmas.Bool.{cases_lt, lt-ltb, le-ltb}
 use Rattle.std.proofs.lemmas.List.{length-append}
 use Rattle.std.proofs.lemmas.List.Elements.{All-head, All-tail}
 use Rattle.std.proofs.lemmas.List.Sums.{sum_by-cons}
 use Rattle.iddqd_order.specs.declared.btree_table.node.Node.{Node}
 use Rattle.iddqd_order.specs.Node.{row, children, child, weave, flat, inners, IsFormed, Passes, Goes, IsFullBelow}
+use Rattle.iddqd_order.specs.MapBTreeTable.{Order, order_of, capacity, spare_blocks, move_blocks}
 use Rattle.iddqd_order.specs.Tree.{in_order, inners_in, IsTree, GoesIn, FullIn, blocks_for}
 use Rattle.iddqd_order.proofs.InnerLemmas.{wide, inners-below, inners-root}
 use Rattle.iddqd_order.proofs.InsertLemmas.{all_full}
+use Rattle.iddqd_order.proofs.TableLemmas.{few_blocks}
 
 -- children that have five indexes or more beyond thirty for each inner node, and one that has `more` beyond these
 wide-more : (f : Node → List ℕ) (g : Node → ℕ) (xs : List ℕ) (ns : List Node) (i more : ℕ) (d : Node) → length ns ≡ length xs + 1 → All (λ n. 30 * g n + 5 ≤ length (f n)) ns → i < length ns
@@ -79,3 +81,23 @@ pub none-fresh : (r : Option Node) (h blocks k : ℕ) (p : List ℕ) → IsTree 
     → blocks_for h k - (blocks - inners_in r h) ≡ 0
 none-fresh None h blocks k p t g full le lt = rw (t, full) (omega arith)
 none-fresh (Some n) h blocks k p t g full le lt = let w = root-full h k n p t.0 t.1 g le full in omega arith
+
+-- up to the capacity a move takes no block, and past it one for each level and one for a new root
+pub move-none : (t : Order) → length (order_of t) ≤ capacity t → move_blocks t ≡ 0
+move-none t le = let b : nat_lt (capacity t) (length (order_of t)) ≡ false = le-ltb (capacity t) (length (order_of t)) le in rw b
+
+pub move-most : (t : Order) → capacity t < length (order_of t) → move_blocks t ≡ t.height + 1
+move-most t lt = let b : nat_lt (capacity t) (length (order_of t)) ≡ true = lt-ltb (capacity t) (length (order_of t)) lt in rw b
+
+pub move-few : (t : Order) → t.height ≤ 11 → move_blocks t ≤ 12
+move-few t low = elim (cases_lt (capacity t) (length (order_of t))) [ inl lt ↦ omega (arith, move-most t lt) | inr le ↦ omega (arith, move-none t le) ]
+
+-- what an insert takes is there: below the capacity beside the tree, and else in the blocks of a move
+pub enough-blocks : (t : Order) (k blocks : ℕ) (p : List ℕ) → IsTree t.root t.height → GoesIn t.root t.height p → FullIn k t.root t.height p → k ≤ t.height + 1 → (capacity t ≤ length (order_of t) → t.height < blocks)
+    → blocks_for t.height k ≤ spare_blocks t + blocks
+unfolding order_of capacity
+enough-blocks t k blocks p tree goes full le most =
+    elim (cases_lt (length (order_of t)) (capacity t)) [
+      | inl lt ↦ omega (arith, none-fresh t.root t.height t.reserved k p tree goes full le lt)
+      | inr ge ↦ (let all = most ge in omega (arith, few_blocks t.height k le))
+    ]

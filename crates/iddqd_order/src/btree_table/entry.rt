@@ -122,7 +122,7 @@ impl<'a> OccupiedEntry<'a> {
 
     /// Removes the index, and hands it back. It asks nothing and takes no memory. The others keep
     /// their order.
-    #[tactic(auto, unfolding(crate::specs::Entry::entry_index, crate::specs::MapBTreeTable::order_of))]
+    #[tactic(auto, unfolding(crate::specs::Entry::entry_index, crate::specs::MapBTreeTable::order_of, crate::specs::MapBTreeTable::capacity))]
     pub fn remove(self) -> ItemIndex
         ensures index { result ≡ entry_index self.entry }
         ensures removed { order_of self.exit.0.now

@@ -77,7 +77,7 @@ impl MapBTreeTable {
         ensures { Shrinks least self.old self.new }
     {
         let indexes = least.max(self.len);
-        if indexes < self.capacity() {
+        if indexes < self.reserve.capacity() {
             self.reserve.lower(needed_blocks(indexes));
         }
     }

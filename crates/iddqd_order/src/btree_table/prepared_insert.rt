@@ -34,7 +34,7 @@ impl<'a> PreparedBTreeInsert<'a> {
     ghost use Rattle.iddqd_order.specs.PreparedBTreeInsert.{table_of, place_of, index_of};
 
     /// Adds the index at its place, and hands the table back. The others keep their order.
-    #[tactic(auto, unfolding(crate::specs::PreparedBTreeInsert::place_of, crate::specs::PreparedBTreeInsert::index_of))]
+    #[tactic(auto, unfolding(crate::specs::PreparedBTreeInsert::place_of, crate::specs::PreparedBTreeInsert::index_of, crate::specs::MapBTreeTable::capacity))]
     pub fn insert(self) -> &'a mut MapBTreeTable
         ensures same_reference { result.ghost_name ≡ (table_of self.entry).ghost_name }
         ensures inserted { order_of result.now

@@ -26,6 +26,7 @@ pub struct PreparedBTreeMove<'a, B: HoldsBlocks = Blocks> {
     ix: ItemIndex,
     blocks: B,
     ghost as_many: { B.count blocks ≡ move_blocks table.now },
+    ghost stored: { length (without (order_of table.now) ix) < length (order_of table.now) },
     ghost assigned: { ix ≢ sentinel },
 }
 
@@ -110,7 +111,7 @@ impl<'a> PreparedBTreeMove<'a> {
     /// `leaving` leads to the old place, and `entering` to the new one among the others. Neither is asked
     /// about the index itself, each at most `4 + 2 * digits(len)` times. Where `leaving` leads past the
     /// index, a walk that asks nothing finds it.
-    #[tactic(auto, unfolding(crate::specs::PreparedBTreeMove::index_of))]
+    #[tactic(auto, unfolding(crate::specs::PreparedBTreeMove::index_of, crate::specs::MapBTreeTable::capacity))]
     pub fn commit_by<F: FnMut(ItemIndex) -> Ordering, G: FnMut(ItemIndex) -> Ordering>(
         self,
         leaving: &mut Asking<F>,
@@ -139,7 +140,7 @@ impl<'a> PreparedBTreeMove<'a> {
     /// The asking answers the keys of the others, and isn't asked about the index itself. It is asked at
     /// most `4 + 2 * digits(len)` times for each key. Where the old key leads past the index, a walk that
     /// asks nothing finds it.
-    #[tactic(auto, unfolding(crate::specs::PreparedBTreeMove::index_of))]
+    #[tactic(auto, unfolding(crate::specs::PreparedBTreeMove::index_of, crate::specs::MapBTreeTable::capacity))]
     pub fn commit<K: Ord + Drop, F: FnMut(ItemIndex) -> K>(
         self,
         old_key: &K,

@@ -33,7 +33,7 @@ impl<'a> PreparedBTreeRemove<'a> {
 
     /// Removes the index, if the search found it, and says whether it did. The others keep their
     /// order.
-    #[tactic(auto, unfolding(crate::specs::PreparedBTreeRemove::is_found, crate::specs::PreparedBTreeRemove::index_of))]
+    #[tactic(auto, unfolding(crate::specs::PreparedBTreeRemove::is_found, crate::specs::PreparedBTreeRemove::index_of, crate::specs::MapBTreeTable::capacity))]
     pub fn remove(self) -> bool
         ensures found { result ≡ is_found self.entry }
         ensures removed { IsTrue result →

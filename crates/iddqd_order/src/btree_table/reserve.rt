@@ -24,7 +24,7 @@ const FREE_INDEXES: usize = 10;
 
 /// How many blocks so many indexes need at most.
 pub fn needed_blocks(indexes: usize) -> usize
-    requires { indexes < 4294967296 }
+    requires { indexes ≤ capacity_of most_blocks }
     ensures value { result ≡ needed_blocks indexes }
     ensures few { result ≤ most_blocks }
 {
@@ -148,7 +148,8 @@ impl Reserve {
 
     /// How many indexes so many blocks always suffice for.
     pub fn capacity(&self) -> usize
-        ensures { result ≡ capacity_of self.now.reserved }
+        ensures value { result ≡ capacity_of self.now.reserved }
+        ensures few { result ≤ capacity_of most_blocks }
     {
         self.reserved * INDEXES_OF_A_BLOCK + FREE_INDEXES
     }

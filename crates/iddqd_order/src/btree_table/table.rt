@@ -70,7 +70,7 @@ impl Model for MapBTreeTable {
     ghost invariant = { λ t. IsTable t.root t.height t.len t.reserve.inners };
 }
 
-#[tactic(auto, unfolding(crate::specs::MapBTreeTable::order_of))]
+#[tactic(auto, unfolding(crate::specs::MapBTreeTable::order_of, crate::specs::MapBTreeTable::capacity))]
 impl MapBTreeTable {
     ghost use Rattle.std.specs.Borrow.{sem};
     ghost use Rattle.iddqd_order.specs.Asks.{CanAsk};
@@ -354,6 +354,7 @@ impl MapBTreeTable {
     ) -> (Path, usize)
         requires absent { Contains (order_of self.now) ix → ⊥ }
         requires can_ask { CanSearch F.FnMut (order_of self.now) (Some ix) asking.old }
+        ensures tree { IsTree self.now.root self.now.height }
         ensures goes { GoesIn self.now.root self.now.height result.0 }
         ensures full { FullIn result.1 self.now.root self.now.height result.0 }
         ensures levels { (result.1 ≤ self.now.height + 1) × (result.1 ≤ 12) }
@@ -363,6 +364,7 @@ impl MapBTreeTable {
             IsSteadyRising F.FnMut (order_of self.now) (Some ix) (H.reading how.now) answer asking.old →
             IsPlace (with_ties (Some ix) answer) (order_of self.now) (place_in self.now.root self.now.height result.0) }
     {
+        let _root = &self.root;
         let (path, end) = self.descend(asking, how, &Some(ix));
         match end {
             Ok(_) => unreachable!(),
@@ -392,8 +394,9 @@ impl MapBTreeTable {
     // The memory of a move: none up to the capacity, and else what any insert into a tree of this height can need.
     pub(super) fn take_move_blocks(&self) -> Result<Blocks, AllocError>
         ensures blocks { IfOk result (λ blocks. blocks ≡ move_blocks self.now) }
+        ensures few { move_blocks self.now ≤ 12 }
+        ensures roomy { length (order_of self.now) ≤ capacity self.now → move_blocks self.now ≡ 0 }
         ensures none { move_blocks self.now ≡ 0 → IsOk result }
-        ensures few { self.now.height ≤ 11 }
     {
         let count = if self.len > self.capacity() {
             self.height + 1
@@ -638,7 +641,7 @@ impl MapBTreeTable {
 }
 
 // The copy reserves nothing. Where memory is refused, the nodes copied so far are let go.
-#[tactic(auto, unfolding(crate::specs::MapBTreeTable::order_of))]
+#[tactic(auto, unfolding(crate::specs::MapBTreeTable::order_of, crate::specs::MapBTreeTable::capacity))]
 impl Clone for MapBTreeTable {
     ghost is_clone = { λ table copy. (order_of copy ≡ order_of table) × (capacity copy ≡ 10) };
 

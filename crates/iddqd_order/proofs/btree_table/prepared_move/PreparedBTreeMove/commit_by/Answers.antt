@@ -1,5 +1,5 @@
 use Rattle.iddqd_order.specs.PreparedBTreeMove.{index_of}
-use Rattle.iddqd_order.proofs.MoveLemmas.{absent-without, can-enter}
+use Rattle.iddqd_order.proofs.MoveLemmas.{absent-without, move-enough, can-enter}
 use Rattle.iddqd_order.proofs.btree_table.prepared_move.PreparedBTreeMove.commit_by.Goals as goal
 
 pub enter_anew-requires-clause-absent : goal.enter_anew-requires-clause-absent
@@ -16,3 +16,8 @@ returns-clause-entered g c = rw c.leave.ensures.left at c.enter_anew.ensures.ask
 pub returns-clause-moved : goal.returns-clause-moved
 unfolding index_of
 returns-clause-moved g c = rw c.leave.ensures.left at c.enter_anew.ensures.entered
+
+pub enter_anew-requires-clause-enough : goal.enter_anew-requires-clause-enough
+enter_anew-requires-clause-enough g c full =
+    let left = c.leave.ensures in
+    move-enough c.args.self.table.now _ c.args.self.ix _ c.args.self.stored left.left left.lower left.reserved c.args.self.as_many full

@@ -11,6 +11,7 @@ pub returns : goal.returns
 returns g c =
     let e = rw c.in-Err.is at c.descend-path.ensures in
     record {
+      tree = rw (← c.self.view_is) c.self.invariant.tree;
       goes = e.reaches;
       full = e.full_below;
       levels = e.level;

@@ -1,9 +1,15 @@
-use Rattle.std.proofs.Common.{arith}
+use Rattle.std.proofs.Common.{◌≤◌, arith}
+use Rattle.iddqd_order.proofs.RoomLemmas.{move-few, move-none}
 use Rattle.iddqd_order.proofs.TreeLemmas.{IsTree-low}
 use Rattle.iddqd_order.proofs.btree_table.table.MapBTreeTable.take_move_blocks.Goals as goal
 
-pub overflow_add-self-inside : goal.overflow_add-self-inside
-overflow_add-self-inside c = let low = IsTree-low _ _ c.self.invariant.tree in omega arith
+pub overflow_add-count : goal.overflow_add-count
+overflow_add-count c = let low = IsTree-low _ _ c.self.invariant.tree in omega arith
 
 pub returns-clause-few : goal.returns-clause-few
-returns-clause-few c = rw (← c.self.view_is) (IsTree-low _ _ c.self.invariant.tree)
+returns-clause-few c =
+    let low : c.args.self.now.height ≤ 11 = rw (← c.self.view_is) (IsTree-low _ _ c.self.invariant.tree) in
+    move-few c.args.self.now low
+
+pub returns-clause-roomy : goal.returns-clause-roomy
+returns-clause-roomy c le = move-none c.args.self.now le
