@@ -3,6 +3,7 @@ use crate::driver::hashers::Constant;
 use crate::driver::script::{assert_answer, halves, ix, printed, words};
 use iddqd::hash_builder::DefaultHashBuilder;
 use iddqd::item_index::ItemIndex;
+use iddqd_sides::key_of::ByKey;
 use iddqd_tri::tri_item::TriItem;
 use iddqd_tri::tri_items::TriItems;
 use iddqd_tri::tri_refusal::TriRefusal;
@@ -177,5 +178,26 @@ get 2: Some(Trio(3, 3, 3))
 #[test]
 fn an_item_without_a_conflict_leaves_the_others_found(rt: HostRuntime) -> Result<(), Fail> {
     assert_within(&rt, rt.alloc(), u32::MAX, NO_CONFLICT)?;
+    Ok(())
+}
+
+// Where a number is as each key, found by a query.
+fn find_by<S: BuildHasher>(items: &TriItems<Trio, S>, number: u32) -> [Option<ItemIndex>; 3] {
+    let query = ByKey(&number);
+    [
+        items.find1_by(&query),
+        items.find2_by(&query),
+        items.find3_by(&query),
+    ]
+}
+
+#[test]
+fn a_query_finds_an_item_by_each_key(rt: HostRuntime) -> Result<(), Fail> {
+    let mut items = TriItems::new(rt.alloc(), DefaultHashBuilder::default());
+    assert!(rt; items.is_empty());
+    assert!(rt; insert(&mut items, Trio(7, 8, 9)).is_ok());
+    assert!(rt; find_by(&items, 7) == [Some(ix(0)), None, None]);
+    assert!(rt; find_by(&items, 8) == [None, Some(ix(0)), None]);
+    assert!(rt; find_by(&items, 9) == [None, None, Some(ix(0))]);
     Ok(())
 }

@@ -1,6 +1,8 @@
--- For callers of maps: what a look-up found passes the test; once the item with a key was removed, none has it; and
--- `retain` leaves no more items than there were.
+-- For callers of maps: what a look-up found passes the test; once the item with a key was removed, none has it; what each
+-- call of a closure leaves holds of an item that was modified by it; and `retain` leaves no more items than there were.
 use Rattle.std.proofs.Common.{◌≡◌, ◌≤◌, ℕ, zero, suc, Bool, true, List, [], ◌∷◌, slice_set, Option, Some, None, is_some, cond, refl, sym, subst, arith}
+use Rattle.std.specs.Borrow.{MutBor}
+use Rattle.std.specs.Fn.{Once, FnOnceReturnsAtMut}
 use Rattle.std.specs.List.{count_by}
 use Rattle.std.proofs.lemmas.List.Sums.{sum_by-cons}
 use Rattle.iddqd.specs.Store.{Store, get, live_count, removed}
@@ -37,6 +39,14 @@ module _ {T : Type 0} (old new : MapState T) where
   none_left test None removes = subst (λ s. HasNoHit s test) (sym removes.1.store) removes.0
   none_left test (Some item) removes =
       subst (λ s. HasNoHit s test) (sym removes.left) (HasNoHit-hit_removed old.store test removes.ix removes.hit.only)
+
+-- each call of the closure at an item answers and leaves what `Leaves was result is` says
+module _ {F T R : Type 0} (g : Once F (MutBor T × Unit {0}) (R × (MutBor T × Unit {0}))) (f : F) (Leaves : T → R → T → Type 0) (leaves : (item left : MutBor T) (result : R) → g.post f (item, tt) (result, (left, tt)) → Leaves item.now result left.now) where
+  -- so this holds of an item that was modified by it
+  pub called_leaves : (was is : T) (result : R) → FnOnceReturnsAtMut g f was result is → Leaves was result is
+  called_leaves was is result called =
+      let at_shown = subst (λ item. Leaves called.shown.now result item) called.leaves (leaves called.shown called.left result called.met) in
+      subst (λ item. Leaves item result is) called.shows at_shown
 
 -- a slot less
 fewer_set : {T : Type 0} (slots : List (Option T)) (ix : ℕ) → count_by is_some (slice_set slots ix None) ≤ count_by is_some slots

@@ -1,6 +1,8 @@
 -- what callers' clauses cite, from one place
 pub use Rattle.iddqd.specs.Store
 pub use Rattle.iddqd.specs.LiveItems
+pub use Rattle.iddqd.specs.Sizes
+pub use Rattle.iddqd.specs.Compaction
 pub use Rattle.iddqd.specs.Validation
 pub use Rattle.iddqd_sides.specs.Scan
 pub use Rattle.iddqd_sides.specs.KeyKeeping

@@ -4,8 +4,8 @@
 //! gives a stored item another key without telling the tables, so a look-up always answers as a scan
 //! of all items would.
 //!
-//! What callers name of the crates below, indexes, hashers, queries, refusals and what `validate` takes and answers, is
-//! re-exported here.
+//! What callers name of the crates below, indexes, iterators, hashers, queries, refusals and what `validate` takes and
+//! answers, is re-exported here.
 #![tactic(auto)]
 
 pub use iddqd::internal::{
@@ -13,6 +13,7 @@ pub use iddqd::internal::{
 };
 pub use iddqd::{
     hash_builder as hash_builder, index_remap as index_remap, item_index as item_index,
+    item_set as item_set,
 };
 pub use iddqd_bi_hash::bi_hash_map as bi_hash_map;
 pub use iddqd_id_hash::id_hash_map as id_hash_map;

@@ -2,10 +2,15 @@
 #![tactic(auto)]
 
 mod badges;
+mod board;
 mod calendar;
+mod depot;
+mod diary;
 mod guests;
+mod hall;
 mod hashers;
 mod leases;
+mod lockers;
 mod registry;
 mod routes;
 mod scores;

@@ -12,6 +12,7 @@ pub struct Seat {
     pub place: u32,
     pub guest: u32,
     pub ticket: u32,
+    pub is_paid: bool,
 }
 
 impl TriHashItem for Seat {
@@ -95,6 +96,7 @@ fn script(alloc: Global, seats: &mut TriHashMap<Seat>) -> Result<String, AllocEr
             place,
             guest,
             ticket,
+            is_paid: false,
         });
     }
     let given = outcome(&give_to(seats, 1, 11));

@@ -1,10 +1,10 @@
 //! Items whose key is a text of their own. A text that is lent looks them up, so none is copied for it.
-ghost use Rattle.std.specs.Prelude.{◌≡◌, ◌≤◌, ℕ, MatchOption, OnSome, filter};
+ghost use Rattle.std.specs.Prelude.{◌≡◌, ◌≤◌, ℕ, MatchOption, filter};
 ghost use Rattle.iddqd_maps.specs.LiveItems.{live_pairs};
 ghost use Rattle.iddqd_maps.specs.Map.{IsOnly};
 ghost use Rattle.iddqd_maps.specs.Scan.{HasNoHit};
 ghost use Rattle.iddqd_maps.specs.Store.{live_count};
-ghost use Rattle.uses.specs.Users.{is_named, has_logged_in};
+ghost use Rattle.uses.specs.Users.{is_named, has_logged_in, LogsIn};
 
 use iddqd_maps::id_hash_map::{IdHashItem, IdHashMap};
 use iddqd_maps::refusal::{InsertRefusal, ReplaceRefusal};
@@ -61,9 +61,11 @@ pub fn rename(users: &mut IdHashMap<User>, from: &str, to: String) -> &'static s
     }
 }
 
-/// Counts a login of the user with this name, and returns how many they are then, if there is such a user.
+/// Counts a login of the user with this name, and returns how many they are then; none exactly where there is no such
+/// user.
 pub fn log_in(users: &mut IdHashMap<User>, name: &str) -> Option<u32>
-    ensures { OnSome result (users.new.room ≡ users.old.room) }
+    ensures { let named = is_named name.now in MatchOption result (HasNoHit users.old.store named)
+        (λ count. LogsIn named count users.old users.new) }
 {
     users.modify(name, |user| {
         user.logins = user.logins.saturating_add(1);

@@ -10,4 +10,4 @@ remap_indexes-requires-clause-distinct c = unshared-from_rising (remapped c.args
 
 pub returns : goal.returns
 returns c key new_key keeps sorted =
-    rw c.remap_indexes.ensures (IsInKeyOrder-renamed nat_cmp_total key new_key (remapped c.args.remap.now) (order_of c.args.table.now) keeps c.requires.rising sorted)
+    rw c.remap_indexes.ensures.renamed (IsInKeyOrder-renamed nat_cmp_total key new_key (remapped c.args.remap.now) (order_of c.args.table.now) keeps c.requires.rising sorted)

@@ -16,6 +16,12 @@ returns-clause-contents c = rw (← c.self.view_is) (sym (filed_moved _ _ c.try_
 pub returns-clause-memory : goal.returns-clause-memory
 returns-clause-memory c = rw (← c.self.view_is) c.try_reserve.ensures.memory
 
+pub returns-clause-few : goal.returns-clause-few
+unfolding filed
+returns-clause-few c =
+    let long : length (entries c.self.inside.table) ≡ finite.len (filed_from (entries c.self.inside.table)) = len_filed _ c.self.invariant in
+    rw (← c.self.view_is, ← long) c.try_reserve.ensures.memory.few
+
 pub returns-clause-capacity : goal.returns-clause-capacity
 returns-clause-capacity c =
     let moved = length_permutation _ _ c.try_reserve.ensures.contents in

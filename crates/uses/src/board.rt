@@ -1,0 +1,196 @@
+//! A board of scores: the calls of a map in order that `scores` and `words` don't make, and what each promises.
+ghost use Rattle.std.specs.Prelude.{◌≡◌, ◌≤◌, ◌↔◌, ℕ, false, true, length, Some, None, IfOk, IfSome, OnOk, OnErr};
+ghost use Rattle.std.specs.Ordering.{nat_cmp, eq_by_cmp};
+ghost use Rattle.std.specs.declared.cmp.Ordering.TheVariants.{Less, Greater};
+ghost use Rattle.iddqd_maps.specs.Compaction.{compacted};
+ghost use Rattle.iddqd_maps.specs.KeyOrder.{AreInKeyOrder, FindsEnd, IsKeyWalk};
+ghost use Rattle.iddqd_maps.specs.Map.{FindsItem, empty_map};
+ghost use Rattle.iddqd_maps.specs.Scan.{AnswersScan, HasNoHit};
+ghost use Rattle.iddqd_maps.specs.Store.{cleared, get, rebound, slot_count};
+ghost use Rattle.uses.specs.declared.scores.Score.{Score};
+
+use crate::scores::Score;
+use iddqd_maps::id_ord_map::{IdOrdMap, IntoValues, Iter, Values};
+use iddqd_maps::item_index::ItemIndex;
+use iddqd_maps::refusal::{OverwriteRefusal, ReplaceRefusal};
+use iddqd_maps::{ValidateCompact, ValidateRefusal, ValidationError};
+use std::alloc::{AllocError, Global};
+
+type Board = IdOrdMap<Score>;
+
+type Replaced = Result<Score, ReplaceRefusal<Score, ItemIndex>>;
+
+/// A board of at most so many scores.
+pub fn within(alloc: Global, limit: u32) -> Board
+    ensures { result ≡ empty_map limit }
+{
+    IdOrdMap::with_limit(alloc, limit)
+}
+
+/// Closes the gaps, gives back the memory past the scores, and tells how many slots there is memory for.
+pub fn pack(board: &mut Board) -> Result<usize, AllocError>
+    ensures scores { OnOk result (board.new.store ≡ compacted board.old.store) }
+    ensures memory { IfOk result (λ capacity. slot_count board.new.store ≤ capacity) }
+{
+    board.compact()?;
+    board.shrink_to_fit()?;
+    Ok(board.capacity())
+}
+
+/// Forgets all scores, and tells that none is left.
+pub fn clear_out(board: &mut Board) -> bool
+    ensures scores { board.new.store ≡ cleared board.old.store }
+    ensures empty { result ≡ true }
+{
+    board.clear();
+    board.is_empty()
+}
+
+/// Whether no slot is vacant, or why not.
+pub fn check(board: &Board) -> Result<(), ValidateRefusal<ValidationError>>
+    ensures { OnOk result (length board.now.store.free ≡ 0) }
+{
+    board.validate(ValidateCompact::Compact)
+}
+
+/// Whether there is a score of an hour.
+pub fn has_hour(board: &Board, hour: u32) -> bool
+    ensures { (result ≡ false) ↔ HasNoHit board.now.store (λ score. eq_by_cmp nat_cmp hour score.hour) }
+{
+    board.contains_key(&hour)
+}
+
+/// The index of the score of an hour.
+pub fn place(board: &Board, hour: u32) -> Option<ItemIndex>
+    ensures { AnswersScan board.now.store (λ score. eq_by_cmp nat_cmp hour score.hour) result }
+{
+    board.find(&hour)
+}
+
+/// The score of an hour.
+pub fn of_hour(board: &Board, hour: u32) -> Option<Score>
+    ensures { FindsItem board.now.store (λ score. eq_by_cmp nat_cmp hour score.hour) result }
+{
+    board.get(&hour).copied()
+}
+
+/// The score at an index.
+pub fn score_at(board: &Board, ix: ItemIndex) -> Option<Score>
+    ensures { result ≡ get board.now.store ix }
+{
+    board.get_at(ix).copied()
+}
+
+/// The score of the last hour.
+pub fn latest(board: &Board) -> Option<Score>
+    ensures { FindsEnd (λ score. score.hour) nat_cmp Greater board.now.store result }
+{
+    board.last().copied()
+}
+
+/// The indexes with their scores, by rising hour.
+pub fn places(board: &Board) -> Iter<'_, Score>
+    ensures { IsKeyWalk (λ score. score.hour) nat_cmp board.now.store result }
+{
+    board.iter()
+}
+
+/// The scores, by rising hour.
+pub fn scores(board: &Board) -> Values<'_, Score>
+    ensures { AreInKeyOrder (λ score. score.hour) nat_cmp board.now.store result }
+{
+    board.values()
+}
+
+/// The scores by value, by rising hour.
+pub fn into_scores(board: Board) -> IntoValues<Score>
+    ensures { AreInKeyOrder (λ score. score.hour) nat_cmp board.store result }
+{
+    board.into_values()
+}
+
+/// Sets the score of its hour, and hands back what that was.
+pub fn set(
+    board: &mut Board,
+    score: Score,
+) -> Result<(ItemIndex, Option<Score>), OverwriteRefusal<Score>>
+    ensures { OnErr result (board.new.store ≡ board.old.store) }
+{
+    board.insert_overwrite(score)
+}
+
+/// Gives the score of an hour so many points, if there is one.
+pub fn mark(board: &mut Board, hour: u32, points: u32) -> Option<()>
+    ensures { IfSome result (λ _. (ix : ℕ) × (was : Score) × (get board.old.store ix ≡ Some was)
+        × (board.new.store ≡ rebound board.old.store ix (record was { points = points }))) }
+{
+    board.modify(&hour, |score| score.points = points)
+}
+
+/// Gives the score at an index so many points, if there is one.
+pub fn mark_at(board: &mut Board, ix: ItemIndex, points: u32) -> Option<()>
+    ensures { IfSome result (λ _. (was : Score) × (get board.old.store ix ≡ Some was)
+        × (board.new.store ≡ rebound board.old.store ix (record was { points = points }))) }
+{
+    board.modify_at(ix, |score| score.points = points)
+}
+
+/// Puts a score in the place of that of an hour, which is handed back.
+pub fn exchange(board: &mut Board, hour: u32, score: Score) -> Replaced
+    ensures { OnErr result (board.new.store ≡ board.old.store) }
+{
+    board.replace(&hour, score)
+}
+
+/// Puts a score in the place of that at an index, which is handed back.
+pub fn exchange_at(board: &mut Board, ix: ItemIndex, score: Score) -> Replaced
+    ensures { IfOk result (λ was. get board.old.store ix ≡ Some was) }
+{
+    board.replace_at(ix, score)
+}
+
+/// Moves the score of an hour to another one, and hands back what it was; none exactly where there is no such score.
+pub fn move_to(
+    board: &mut Board,
+    hour: u32,
+    other: u32,
+) -> Result<Option<Score>, ReplaceRefusal<Score, ItemIndex>>
+    ensures was { IfOk result (FindsItem board.old.store (λ score. eq_by_cmp nat_cmp hour score.hour)) }
+    ensures refused { OnErr result (board.new.store ≡ board.old.store) }
+{
+    board.change(
+        &hour,
+        |score| Score {
+            hour: other,
+            ..*score
+        },
+    )
+}
+
+/// Takes the score of an hour.
+pub fn take(board: &mut Board, hour: u32) -> Option<Score>
+    ensures { FindsItem board.old.store (λ score. eq_by_cmp nat_cmp hour score.hour) result }
+{
+    board.remove(&hour)
+}
+
+/// Takes the score at an index.
+pub fn take_at(board: &mut Board, ix: ItemIndex) -> Option<Score>
+    ensures { result ≡ get board.old.store ix }
+{
+    board.remove_at(ix)
+}
+
+/// Takes the score of the first hour.
+pub fn take_first(board: &mut Board) -> Option<Score>
+    ensures { FindsEnd (λ score. score.hour) nat_cmp Less board.old.store result }
+{
+    board.pop_first()
+}
+
+/// Takes the score of the last hour.
+pub fn take_last(board: &mut Board) -> Option<Score>
+    ensures { FindsEnd (λ score. score.hour) nat_cmp Greater board.old.store result }
+{
+    board.pop_last()
+}

@@ -1,0 +1,142 @@
+//! A depot of parts: the calls of a map with one key that `users` and `stock` don't make, and what each promises.
+ghost use Rattle.std.specs.Prelude.{◌≡◌, ◌≤◌, ◌==◌, ◌↔◌, ℕ, false, true, min, Some, IfOk, OnOk, OnErr, IfSome};
+ghost use Rattle.iddqd_maps.specs.Compaction.{compacted};
+ghost use Rattle.iddqd_maps.specs.LiveItems.{live_items, live_pairs};
+ghost use Rattle.iddqd_maps.specs.Map.{empty_map};
+ghost use Rattle.iddqd_maps.specs.Scan.{HasNoHit};
+ghost use Rattle.iddqd_maps.specs.Sizes.{insertable};
+ghost use Rattle.iddqd_maps.specs.Store.{cleared, get, rebound, slot_limit};
+ghost use Rattle.uses.specs.declared.stock.Part.{Part};
+
+use crate::hashers::Base31;
+use crate::stock::Part;
+use iddqd_maps::id_hash_map::IdHashMap;
+use iddqd_maps::item_index::ItemIndex;
+use iddqd_maps::item_set::{IntoValues, Iter, Values};
+use iddqd_maps::refusal::{OverwriteRefusal, ReplaceRefusal};
+use std::alloc::{AllocError, Global};
+
+type Depot = IdHashMap<Part>;
+
+/// A depot with room for so many kinds, or for as many as there are indexes.
+pub fn with_room(alloc: Global, kinds: usize) -> Result<Depot, AllocError>
+    ensures { IfOk result (λ depot. min kinds slot_limit ≤ depot.room) }
+{
+    IdHashMap::with_capacity(alloc, kinds)
+}
+
+/// The same under a hasher of one's own.
+pub fn hashed_with_room(
+    alloc: Global,
+    kinds: usize,
+    hasher: Base31,
+) -> Result<IdHashMap<Part, Base31>, AllocError>
+    ensures { IfOk result (λ depot. min kinds slot_limit ≤ depot.room) }
+{
+    IdHashMap::with_capacity_and_hasher(alloc, kinds, hasher)
+}
+
+/// A depot for at most so many kinds, under a hasher of one's own.
+pub fn hashed_within(alloc: Global, limit: u32, hasher: Base31) -> IdHashMap<Part, Base31>
+    ensures { result ≡ empty_map limit }
+{
+    IdHashMap::with_limit_and_hasher(alloc, limit, hasher)
+}
+
+/// Makes room for so many more kinds, and tells how many can come without memory.
+pub fn make_room(depot: &mut Depot, more: usize) -> Result<usize, AllocError>
+    ensures { IfOk result (λ room. min more (insertable depot.old.store) ≤ room) }
+{
+    depot.reserve(more)?;
+    Ok(depot.room())
+}
+
+/// Closes the gaps, and gives back all memory that the parts don't need.
+pub fn pack(depot: &mut Depot) -> Result<(), AllocError>
+    ensures parts { OnOk result (depot.new.store ≡ compacted depot.old.store) }
+    ensures memory { OnOk result (depot.new.room ≡ 0) }
+{
+    depot.compact()?;
+    depot.shrink_to_fit()
+}
+
+/// Forgets all parts, and tells that none is left.
+pub fn clear_out(depot: &mut Depot) -> bool
+    ensures parts { depot.new.store ≡ cleared depot.old.store }
+    ensures memory { depot.old.room ≤ depot.new.room }
+    ensures empty { result ≡ true }
+{
+    depot.clear();
+    depot.is_empty()
+}
+
+/// Whether there are parts of a kind.
+pub fn has_kind(depot: &Depot, kind: u32) -> bool
+    ensures { (result ≡ false) ↔ HasNoHit depot.now.store (λ part. kind == part.kind) }
+{
+    depot.contains_key(&kind)
+}
+
+/// The part at an index.
+pub fn part_at(depot: &Depot, ix: ItemIndex) -> Option<Part>
+    ensures { result ≡ get depot.now.store ix }
+{
+    depot.get_at(ix).copied()
+}
+
+/// Sets how many parts of a kind there are, and hands back what there were.
+pub fn set(
+    depot: &mut Depot,
+    part: Part,
+) -> Result<(ItemIndex, Option<Part>), OverwriteRefusal<Part>>
+    ensures { OnErr result (depot.new.store ≡ depot.old.store) }
+{
+    depot.insert_overwrite(part)
+}
+
+/// Sets how many parts there are at an index, if there are any.
+pub fn count_at(depot: &mut Depot, ix: ItemIndex, count: u32) -> Option<()>
+    ensures { IfSome result (λ _. (was : Part) × (get depot.old.store ix ≡ Some was)
+        × (depot.new.store ≡ rebound depot.old.store ix (record was { count = count }))) }
+{
+    depot.modify_at(ix, |part| part.count = count)
+}
+
+/// Puts another part in the place of that at an index, which is handed back.
+pub fn exchange_at(
+    depot: &mut Depot,
+    ix: ItemIndex,
+    part: Part,
+) -> Result<Part, ReplaceRefusal<Part, ItemIndex>>
+    ensures { IfOk result (λ was. get depot.old.store ix ≡ Some was) }
+{
+    depot.replace_at(ix, part)
+}
+
+/// Takes the part at an index, if there is one.
+pub fn take_at(depot: &mut Depot, ix: ItemIndex) -> Option<Part>
+    ensures { result ≡ get depot.old.store ix }
+{
+    depot.remove_at(ix)
+}
+
+/// The indexes with their parts.
+pub fn places(depot: &Depot) -> Iter<'_, Part>
+    ensures { result ≡ live_pairs depot.now.store }
+{
+    depot.iter()
+}
+
+/// The parts, in the order of their indexes.
+pub fn parts(depot: &Depot) -> Values<'_, Part>
+    ensures { result ≡ live_items depot.now.store }
+{
+    depot.values()
+}
+
+/// The parts by value, in the order of their indexes.
+pub fn into_parts(depot: Depot) -> IntoValues<Part>
+    ensures { result ≡ live_items depot.store }
+{
+    depot.into_values()
+}

@@ -1,0 +1,250 @@
+//! A hall of seats: the calls of a map with three keys that `seats` and `leases` don't make, and what each promises.
+ghost use Rattle.std.specs.Prelude.{◌≡◌, ◌≤◌, ◌==◌, ◌↔◌, ℕ, false, true, length, min, Some, IfOk, IfSome, OnOk, OnErr};
+ghost use Rattle.iddqd_maps.specs.Compaction.{compacted};
+ghost use Rattle.iddqd_maps.specs.LiveItems.{live_items, live_pairs};
+ghost use Rattle.iddqd_maps.specs.Map.{FindsItem, empty_map};
+ghost use Rattle.iddqd_maps.specs.Scan.{AnswersScan, HasNoHit};
+ghost use Rattle.iddqd_maps.specs.Sizes.{insertable};
+ghost use Rattle.iddqd_maps.specs.Store.{cleared, get, live_count, rebound, slot_limit};
+ghost use Rattle.uses.specs.declared.seats.Seat.{Seat};
+
+use crate::hashers::Base31;
+use crate::seats::Seat;
+use iddqd_maps::item_index::ItemIndex;
+use iddqd_maps::item_set::{IntoValues, Iter, Values};
+use iddqd_maps::refusal::ReplaceRefusal;
+use iddqd_maps::tri_hash_map::{TriClash, TriHashMap};
+use iddqd_maps::{ValidateCompact, ValidateRefusal, ValidationError};
+use std::alloc::{AllocError, Global};
+
+type Hall = TriHashMap<Seat>;
+
+type Hashed = TriHashMap<Seat, Base31>;
+
+type Replaced = Result<Seat, ReplaceRefusal<Seat, TriClash>>;
+
+/// No seats, and a limit to how many there can be.
+pub fn within(alloc: Global, limit: u32) -> Hall
+    ensures { result ≡ empty_map limit }
+{
+    TriHashMap::with_limit(alloc, limit)
+}
+
+/// The same under a hasher of one's own.
+pub fn hashed_within(alloc: Global, limit: u32, hasher: Base31) -> Hashed
+    ensures { result ≡ empty_map limit }
+{
+    TriHashMap::with_limit_and_hasher(alloc, limit, hasher)
+}
+
+/// No seats under a hasher of one's own.
+pub fn hashed(alloc: Global, hasher: Base31) -> Hashed
+    ensures { result ≡ empty_map slot_limit }
+{
+    TriHashMap::with_hasher(alloc, hasher)
+}
+
+/// No seats, and room for so many, or for as many as there are indexes.
+pub fn with_room(alloc: Global, count: usize) -> Result<Hall, AllocError>
+    ensures { IfOk result (λ hall. min count slot_limit ≤ hall.room) }
+{
+    TriHashMap::with_capacity(alloc, count)
+}
+
+/// The same under a hasher of one's own.
+pub fn hashed_with_room(alloc: Global, count: usize, hasher: Base31) -> Result<Hashed, AllocError>
+    ensures { IfOk result (λ hall. min count slot_limit ≤ hall.room) }
+{
+    TriHashMap::with_capacity_and_hasher(alloc, count, hasher)
+}
+
+/// Makes room for so many more seats, and tells how many can come without memory.
+pub fn make_room(hall: &mut Hall, more: usize) -> Result<usize, AllocError>
+    ensures { IfOk result (λ room. min more (insertable hall.old.store) ≤ room) }
+{
+    hall.reserve(more)?;
+    Ok(hall.room())
+}
+
+/// Closes the gaps, and gives back all memory that the seats don't need.
+pub fn pack(hall: &mut Hall) -> Result<(), AllocError>
+    ensures seats { OnOk result (hall.new.store ≡ compacted hall.old.store) }
+    ensures memory { OnOk result (hall.new.room ≡ 0) }
+{
+    hall.compact()?;
+    hall.shrink_to_fit()
+}
+
+/// Forgets all seats, and tells that none is left.
+pub fn clear_out(hall: &mut Hall) -> bool
+    ensures seats { hall.new.store ≡ cleared hall.old.store }
+    ensures memory { hall.old.room ≤ hall.new.room }
+    ensures empty { result ≡ true }
+{
+    hall.clear();
+    hall.is_empty()
+}
+
+/// Whether no slot is vacant, or why not.
+pub fn check(hall: &Hall) -> Result<(), ValidateRefusal<ValidationError>>
+    ensures { OnOk result (length hall.now.store.free ≡ 0) }
+{
+    hall.validate(ValidateCompact::Compact)
+}
+
+/// Keeps the seats that are paid, and tells how many they are.
+pub fn keep_paid(hall: &mut Hall) -> usize
+    ensures { result ≡ live_count hall.new.store }
+{
+    hall.retain(|seat| seat.is_paid);
+    hall.len()
+}
+
+/// Whether a seat has this place, whether one has this guest, and whether one has this ticket.
+pub fn are_taken(hall: &Hall, place: u32, guest: u32, ticket: u32) -> (bool, bool, bool)
+    ensures place { (result.0 ≡ false) ↔ HasNoHit hall.now.store (λ seat. place == seat.place) }
+    ensures guest { (result.1 ≡ false) ↔ HasNoHit hall.now.store (λ seat. guest == seat.guest) }
+    ensures ticket { (result.2 ≡ false) ↔ HasNoHit hall.now.store (λ seat. ticket == seat.ticket) }
+{
+    (
+        hall.contains_key1(&place),
+        hall.contains_key2(&guest),
+        hall.contains_key3(&ticket),
+    )
+}
+
+/// The indexes of the seats with this place, this guest and this ticket.
+pub fn indexes(hall: &Hall, place: u32, guest: u32, ticket: u32) -> TriClash
+    ensures place { AnswersScan hall.now.store (λ seat. place == seat.place) result.key1 }
+    ensures guest { AnswersScan hall.now.store (λ seat. guest == seat.guest) result.key2 }
+    ensures ticket { AnswersScan hall.now.store (λ seat. ticket == seat.ticket) result.key3 }
+{
+    TriClash {
+        key1: hall.find1(&place),
+        key2: hall.find2(&guest),
+        key3: hall.find3(&ticket),
+    }
+}
+
+/// The seat at a place.
+pub fn seat(hall: &Hall, place: u32) -> Option<Seat>
+    ensures { FindsItem hall.now.store (λ seat. place == seat.place) result }
+{
+    hall.get1(&place).copied()
+}
+
+/// The seat at an index.
+pub fn seat_at(hall: &Hall, ix: ItemIndex) -> Option<Seat>
+    ensures { result ≡ get hall.now.store ix }
+{
+    hall.get_at(ix).copied()
+}
+
+/// The indexes with their seats.
+pub fn numbered(hall: &Hall) -> Iter<'_, Seat>
+    ensures { result ≡ live_pairs hall.now.store }
+{
+    hall.iter()
+}
+
+/// The seats, in the order of their indexes.
+pub fn all(hall: &Hall) -> Values<'_, Seat>
+    ensures { result ≡ live_items hall.now.store }
+{
+    hall.values()
+}
+
+/// The seats by value, in the order of their indexes.
+pub fn into_all(hall: Hall) -> IntoValues<Seat>
+    ensures { result ≡ live_items hall.store }
+{
+    hall.into_values()
+}
+
+/// Notes that the seat at a place is paid, if there is one.
+pub fn pay(hall: &mut Hall, place: u32) -> Option<()>
+    ensures { IfSome result (λ _. (ix : ℕ) × (was : Seat) × (get hall.old.store ix ≡ Some was)
+        × (hall.new.store ≡ rebound hall.old.store ix (record was { is_paid = true }))) }
+{
+    hall.modify1(&place, |seat| seat.is_paid = true)
+}
+
+/// The same of the seat of a guest.
+pub fn pay_for(hall: &mut Hall, guest: u32) -> Option<()>
+    ensures { IfSome result (λ _. (ix : ℕ) × (was : Seat) × (get hall.old.store ix ≡ Some was)
+        × (hall.new.store ≡ rebound hall.old.store ix (record was { is_paid = true }))) }
+{
+    hall.modify2(&guest, |seat| seat.is_paid = true)
+}
+
+/// The same of the seat of a ticket.
+pub fn pay_ticket(hall: &mut Hall, ticket: u32) -> Option<()>
+    ensures { IfSome result (λ _. (ix : ℕ) × (was : Seat) × (get hall.old.store ix ≡ Some was)
+        × (hall.new.store ≡ rebound hall.old.store ix (record was { is_paid = true }))) }
+{
+    hall.modify3(&ticket, |seat| seat.is_paid = true)
+}
+
+/// The same of the seat at an index.
+pub fn pay_at(hall: &mut Hall, ix: ItemIndex) -> Option<()>
+    ensures { IfSome result (λ _. (was : Seat) × (get hall.old.store ix ≡ Some was)
+        × (hall.new.store ≡ rebound hall.old.store ix (record was { is_paid = true }))) }
+{
+    hall.modify_at(ix, |seat| seat.is_paid = true)
+}
+
+/// Puts a seat in the place of that at a place, which is handed back.
+pub fn exchange(hall: &mut Hall, place: u32, seat: Seat) -> Replaced
+    ensures { OnErr result (hall.new.store ≡ hall.old.store) }
+{
+    hall.replace1(&place, seat)
+}
+
+/// Puts a seat in the place of that of a guest, which is handed back.
+pub fn exchange_of(hall: &mut Hall, guest: u32, seat: Seat) -> Replaced
+    ensures { OnErr result (hall.new.store ≡ hall.old.store) }
+{
+    hall.replace2(&guest, seat)
+}
+
+/// Puts a seat in the place of that of a ticket, which is handed back.
+pub fn exchange_ticket(hall: &mut Hall, ticket: u32, seat: Seat) -> Replaced
+    ensures { OnErr result (hall.new.store ≡ hall.old.store) }
+{
+    hall.replace3(&ticket, seat)
+}
+
+/// Puts a seat in the place of that at an index, which is handed back.
+pub fn exchange_at(hall: &mut Hall, ix: ItemIndex, seat: Seat) -> Replaced
+    ensures { IfOk result (λ was. get hall.old.store ix ≡ Some was) }
+{
+    hall.replace_at(ix, seat)
+}
+
+/// Takes the seat at a place out.
+pub fn take(hall: &mut Hall, place: u32) -> Option<Seat>
+    ensures { FindsItem hall.old.store (λ seat. place == seat.place) result }
+{
+    hall.remove1(&place)
+}
+
+/// Takes the seat of a guest out.
+pub fn take_of(hall: &mut Hall, guest: u32) -> Option<Seat>
+    ensures { FindsItem hall.old.store (λ seat. guest == seat.guest) result }
+{
+    hall.remove2(&guest)
+}
+
+/// Takes the seat of a ticket out.
+pub fn take_ticket(hall: &mut Hall, ticket: u32) -> Option<Seat>
+    ensures { FindsItem hall.old.store (λ seat. ticket == seat.ticket) result }
+{
+    hall.remove3(&ticket)
+}
+
+/// Takes the seat at an index out.
+pub fn take_at(hall: &mut Hall, ix: ItemIndex) -> Option<Seat>
+    ensures { result ≡ get hall.old.store ix }
+{
+    hall.remove_at(ix)
+}

@@ -1,0 +1,259 @@
+//! Lockers and their holders: the calls of a map with two keys that `badges` doesn't make, and what each promises.
+ghost use Rattle.std.specs.Prelude.{◌≡◌, ◌≤◌, ◌==◌, ◌↔◌, ℕ, false, true, length, min, Some, IfOk, IfSome, OnOk, OnErr};
+ghost use Rattle.iddqd_maps.specs.Compaction.{compacted};
+ghost use Rattle.iddqd_maps.specs.LiveItems.{live_items, live_pairs};
+ghost use Rattle.iddqd_maps.specs.Map.{FindsItem, empty_map};
+ghost use Rattle.iddqd_maps.specs.Scan.{AnswersScan, HasNoHit};
+ghost use Rattle.iddqd_maps.specs.Sizes.{insertable};
+ghost use Rattle.iddqd_maps.specs.Store.{cleared, get, live_count, rebound, slot_limit};
+ghost use Rattle.uses.specs.declared.lockers.Locker.{Locker};
+
+use crate::hashers::Base31;
+use iddqd_maps::bi_hash_map::{BiClash, BiHashItem, BiHashMap};
+use iddqd_maps::item_index::ItemIndex;
+use iddqd_maps::item_set::{IntoValues, Iter, Values};
+use iddqd_maps::refusal::{OverwriteRefusal, ReplaceRefusal};
+use iddqd_maps::{ValidateCompact, ValidateRefusal, ValidationError};
+use std::alloc::{AllocError, Global};
+
+/// A locker. No two have the same number or the same holder.
+#[derive(Clone, Copy)]
+pub struct Locker {
+    pub number: u32,
+    pub holder: u32,
+    pub opened: u32,
+}
+
+impl BiHashItem for Locker {
+    type Key1 = u32;
+
+    type Key2 = u32;
+
+    ghost first_key = { λ locker. locker.number };
+
+    ghost second_key = { λ locker. locker.holder };
+
+    fn key1(&self) -> &u32 {
+        &self.number
+    }
+
+    fn key2(&self) -> &u32 {
+        &self.holder
+    }
+}
+
+type Lockers = BiHashMap<Locker>;
+
+type Hashed = BiHashMap<Locker, Base31>;
+
+type Replaced = Result<Locker, ReplaceRefusal<Locker, BiClash>>;
+
+/// Lockers within a limit.
+pub fn within(alloc: Global, limit: u32) -> Lockers
+    ensures { result ≡ empty_map limit }
+{
+    BiHashMap::with_limit(alloc, limit)
+}
+
+/// The same under a hasher of one's own.
+pub fn hashed_within(alloc: Global, limit: u32, hasher: Base31) -> Hashed
+    ensures { result ≡ empty_map limit }
+{
+    BiHashMap::with_limit_and_hasher(alloc, limit, hasher)
+}
+
+/// Lockers under a hasher of one's own.
+pub fn hashed(alloc: Global, hasher: Base31) -> Hashed
+    ensures { result ≡ empty_map slot_limit }
+{
+    BiHashMap::with_hasher(alloc, hasher)
+}
+
+/// No lockers, and room for so many, or for as many as there are indexes.
+pub fn with_room(alloc: Global, count: usize) -> Result<Lockers, AllocError>
+    ensures { IfOk result (λ lockers. min count slot_limit ≤ lockers.room) }
+{
+    BiHashMap::with_capacity(alloc, count)
+}
+
+/// The same under a hasher of one's own.
+pub fn hashed_with_room(alloc: Global, count: usize, hasher: Base31) -> Result<Hashed, AllocError>
+    ensures { IfOk result (λ lockers. min count slot_limit ≤ lockers.room) }
+{
+    BiHashMap::with_capacity_and_hasher(alloc, count, hasher)
+}
+
+/// Makes room for so many more lockers, and tells how many can come without memory.
+pub fn make_room(lockers: &mut Lockers, more: usize) -> Result<usize, AllocError>
+    ensures { IfOk result (λ room. min more (insertable lockers.old.store) ≤ room) }
+{
+    lockers.reserve(more)?;
+    Ok(lockers.room())
+}
+
+/// Closes the gaps, and gives back all memory that the lockers don't need.
+pub fn pack(lockers: &mut Lockers) -> Result<(), AllocError>
+    ensures lockers { OnOk result (lockers.new.store ≡ compacted lockers.old.store) }
+    ensures memory { OnOk result (lockers.new.room ≡ 0) }
+{
+    lockers.compact()?;
+    lockers.shrink_to_fit()
+}
+
+/// Forgets all lockers, and tells that none is left.
+pub fn clear_out(lockers: &mut Lockers) -> bool
+    ensures lockers { lockers.new.store ≡ cleared lockers.old.store }
+    ensures memory { lockers.old.room ≤ lockers.new.room }
+    ensures empty { result ≡ true }
+{
+    lockers.clear();
+    lockers.is_empty()
+}
+
+/// Whether no slot is vacant, or why not.
+pub fn check(lockers: &Lockers) -> Result<(), ValidateRefusal<ValidationError>>
+    ensures { OnOk result (length lockers.now.store.free ≡ 0) }
+{
+    lockers.validate(ValidateCompact::Compact)
+}
+
+/// Keeps the lockers that were opened, and tells how many they are.
+pub fn keep_opened(lockers: &mut Lockers) -> usize
+    ensures { result ≡ live_count lockers.new.store }
+{
+    lockers.retain(|locker| locker.opened != 0);
+    lockers.len()
+}
+
+/// Whether there is a locker of this number, and whether somebody has one.
+pub fn are_taken(lockers: &Lockers, number: u32, holder: u32) -> (bool, bool)
+    ensures number { (result.0 ≡ false) ↔ HasNoHit lockers.now.store (λ locker. number == locker.number) }
+    ensures holder { (result.1 ≡ false) ↔ HasNoHit lockers.now.store (λ locker. holder == locker.holder) }
+{
+    (
+        lockers.contains_key1(&number),
+        lockers.contains_key2(&holder),
+    )
+}
+
+/// The indexes of the locker of this number and of that of a holder.
+pub fn places(lockers: &Lockers, number: u32, holder: u32) -> BiClash
+    ensures number { AnswersScan lockers.now.store (λ locker. number == locker.number) result.key1 }
+    ensures holder { AnswersScan lockers.now.store (λ locker. holder == locker.holder) result.key2 }
+{
+    BiClash {
+        key1: lockers.find1(&number),
+        key2: lockers.find2(&holder),
+    }
+}
+
+/// The locker of this number.
+pub fn numbered(lockers: &Lockers, number: u32) -> Option<Locker>
+    ensures { FindsItem lockers.now.store (λ locker. number == locker.number) result }
+{
+    lockers.get1(&number).copied()
+}
+
+/// The locker at an index.
+pub fn locker_at(lockers: &Lockers, ix: ItemIndex) -> Option<Locker>
+    ensures { result ≡ get lockers.now.store ix }
+{
+    lockers.get_at(ix).copied()
+}
+
+/// The indexes with their lockers.
+pub fn row(lockers: &Lockers) -> Iter<'_, Locker>
+    ensures { result ≡ live_pairs lockers.now.store }
+{
+    lockers.iter()
+}
+
+/// The lockers, in the order of their indexes.
+pub fn all(lockers: &Lockers) -> Values<'_, Locker>
+    ensures { result ≡ live_items lockers.now.store }
+{
+    lockers.values()
+}
+
+/// The lockers by value, in the order of their indexes.
+pub fn into_all(lockers: Lockers) -> IntoValues<Locker>
+    ensures { result ≡ live_items lockers.store }
+{
+    lockers.into_values()
+}
+
+/// Hands a locker out, and takes those back that have its number or its holder.
+pub fn hand_over(
+    lockers: &mut Lockers,
+    locker: Locker,
+) -> Result<(ItemIndex, [Option<Locker>; 2]), OverwriteRefusal<Locker>>
+    ensures { OnErr result (lockers.new.store ≡ lockers.old.store) }
+{
+    lockers.insert_overwrite(locker)
+}
+
+/// Notes when the locker of this number was opened, if there is one.
+pub fn open(lockers: &mut Lockers, number: u32, time: u32) -> Option<()>
+    ensures { IfSome result (λ _. (ix : ℕ) × (was : Locker) × (get lockers.old.store ix ≡ Some was)
+        × (lockers.new.store ≡ rebound lockers.old.store ix (record was { opened = time }))) }
+{
+    lockers.modify1(&number, |locker| locker.opened = time)
+}
+
+/// The same of the locker that somebody has.
+pub fn open_by(lockers: &mut Lockers, holder: u32, time: u32) -> Option<()>
+    ensures { IfSome result (λ _. (ix : ℕ) × (was : Locker) × (get lockers.old.store ix ≡ Some was)
+        × (lockers.new.store ≡ rebound lockers.old.store ix (record was { opened = time }))) }
+{
+    lockers.modify2(&holder, |locker| locker.opened = time)
+}
+
+/// The same of the locker at an index.
+pub fn open_at(lockers: &mut Lockers, ix: ItemIndex, time: u32) -> Option<()>
+    ensures { IfSome result (λ _. (was : Locker) × (get lockers.old.store ix ≡ Some was)
+        × (lockers.new.store ≡ rebound lockers.old.store ix (record was { opened = time }))) }
+{
+    lockers.modify_at(ix, |locker| locker.opened = time)
+}
+
+/// Puts a locker in the place of that of a number, which is handed back.
+pub fn exchange(lockers: &mut Lockers, number: u32, locker: Locker) -> Replaced
+    ensures { OnErr result (lockers.new.store ≡ lockers.old.store) }
+{
+    lockers.replace1(&number, locker)
+}
+
+/// Puts a locker in the place of that of a holder, which is handed back.
+pub fn exchange_of(lockers: &mut Lockers, holder: u32, locker: Locker) -> Replaced
+    ensures { OnErr result (lockers.new.store ≡ lockers.old.store) }
+{
+    lockers.replace2(&holder, locker)
+}
+
+/// Puts a locker in the place of that at an index, which is handed back.
+pub fn exchange_at(lockers: &mut Lockers, ix: ItemIndex, locker: Locker) -> Replaced
+    ensures { IfOk result (λ was. get lockers.old.store ix ≡ Some was) }
+{
+    lockers.replace_at(ix, locker)
+}
+
+/// Takes the locker of this number out.
+pub fn take(lockers: &mut Lockers, number: u32) -> Option<Locker>
+    ensures { FindsItem lockers.old.store (λ locker. number == locker.number) result }
+{
+    lockers.remove1(&number)
+}
+
+/// Takes the locker of a holder out.
+pub fn take_of(lockers: &mut Lockers, holder: u32) -> Option<Locker>
+    ensures { FindsItem lockers.old.store (λ locker. holder == locker.holder) result }
+{
+    lockers.remove2(&holder)
+}
+
+/// Takes the locker at an index out.
+pub fn take_at(lockers: &mut Lockers, ix: ItemIndex) -> Option<Locker>
+    ensures { result ≡ get lockers.old.store ix }
+{
+    lockers.remove_at(ix)
+}
