@@ -16,66 +16,66 @@ type Diary = KeyedItems<Appointment, DefaultHashBuilder>;
 
 /// How many appointments there are.
 pub fn count(diary: &Diary) -> usize
-    ensures { result ≡ live_count diary.now.store }
+    ensures { result ≡ live_count diary.now.state.store }
 {
     diary.len()
 }
 
 /// Whether there is none.
 pub fn is_free(diary: &Diary) -> bool
-    ensures { IsTrue result ↔ (live_count diary.now.store ≡ 0) }
+    ensures { IsTrue result ↔ (live_count diary.now.state.store ≡ 0) }
 {
     diary.is_empty()
 }
 
 /// The indexes with their appointments.
 pub fn pages(diary: &Diary) -> Iter<'_, Appointment>
-    ensures { result ≡ live_pairs diary.now.store }
+    ensures { result ≡ live_pairs diary.now.state.store }
 {
     diary.iter()
 }
 
 /// The index of an appointment that starts then.
 pub fn page(diary: &Diary, start: u32) -> Option<ItemIndex>
-    ensures { IfSome result (IsHit diary.now.store (λ a. eq_by_cmp nat_cmp start a.start)) }
+    ensures { IfSome result (IsHit diary.now.state.store (λ a. eq_by_cmp nat_cmp start a.start)) }
 {
     diary.find2_by(&start)
 }
 
 /// An appointment that starts then.
 pub fn starting(diary: &Diary, start: u32) -> Option<Appointment>
-    ensures { IfSome result (λ a. (ix : ℕ) × (get diary.now.store ix ≡ Some a)) }
+    ensures { IfSome result (λ a. (ix : ℕ) × (get diary.now.state.store ix ≡ Some a)) }
 {
     diary.get2_by(&start).copied()
 }
 
 /// Takes an appointment out that starts then.
 pub fn cancel(diary: &mut Diary, start: u32) -> Option<(ItemIndex, Appointment)>
-    ensures { IfSome result (λ taken. get diary.old.store taken.0 ≡ Some taken.1) }
+    ensures { IfSome result (λ taken. get diary.old.state.store taken.0 ≡ Some taken.1) }
 {
     diary.remove2_by(&start)
 }
 
 /// Lets the appointment with this number take so long, if there is one.
 pub fn extend(diary: &mut Diary, number: u32, minutes: u32) -> Option<()>
-    ensures { IfSome result (λ _. (ix : ℕ) × (was : Appointment) × (get diary.old.store ix ≡ Some was)
-        × (diary.new.store ≡ rebound diary.old.store ix (record was { minutes = minutes }))) }
+    ensures { IfSome result (λ _. (ix : ℕ) × (was : Appointment) × (get diary.old.state.store ix ≡ Some was)
+        × (diary.new.state.store ≡ rebound diary.old.state.store ix (record was { minutes = minutes }))) }
 {
     diary.modify1(&number, |appointment| appointment.minutes = minutes)
 }
 
 /// The same of the one that starts then.
 pub fn extend_starting(diary: &mut Diary, start: u32, minutes: u32) -> Option<()>
-    ensures { IfSome result (λ _. (ix : ℕ) × (was : Appointment) × (get diary.old.store ix ≡ Some was)
-        × (diary.new.store ≡ rebound diary.old.store ix (record was { minutes = minutes }))) }
+    ensures { IfSome result (λ _. (ix : ℕ) × (was : Appointment) × (get diary.old.state.store ix ≡ Some was)
+        × (diary.new.state.store ≡ rebound diary.old.state.store ix (record was { minutes = minutes }))) }
 {
     diary.modify2(&start, |appointment| appointment.minutes = minutes)
 }
 
 /// The same of the one at an index.
 pub fn extend_at(diary: &mut Diary, ix: ItemIndex, minutes: u32) -> Option<()>
-    ensures { IfSome result (λ _. (was : Appointment) × (get diary.old.store ix ≡ Some was)
-        × (diary.new.store ≡ rebound diary.old.store ix (record was { minutes = minutes }))) }
+    ensures { IfSome result (λ _. (was : Appointment) × (get diary.old.state.store ix ≡ Some was)
+        × (diary.new.state.store ≡ rebound diary.old.state.store ix (record was { minutes = minutes }))) }
 {
     diary.modify_at(ix, |appointment| appointment.minutes = minutes)
 }
