@@ -1,16 +1,18 @@
 //! A diary of appointments: the calls of keyed items that `calendar` and `guests` don't make, and what each promises.
-ghost use Rattle.std.specs.Prelude.{◌≡◌, ◌↔◌, ℕ, IsTrue, Some, IfSome};
+ghost use Rattle.std.specs.Prelude.{◌≡◌, ◌↔◌, ◌≤◌, ℕ, IsTrue, Some, IfSome, IfOk, OnOk, min};
 ghost use Rattle.std.specs.Ordering.{nat_cmp, eq_by_cmp};
 ghost use Rattle.iddqd_maps.specs.LiveItems.{live_pairs};
 ghost use Rattle.iddqd_keyed.specs.Scan.{IsHit};
 ghost use Rattle.iddqd_keyed.specs.Store.{get, live_count, rebound};
+ghost use Rattle.iddqd_keyed.specs.{capacity, room, reservable};
 ghost use Rattle.uses.specs.declared.calendar.Appointment.{Appointment};
 
 use crate::calendar::Appointment;
-use iddqd_keyed::keyed_items::KeyedItems;
+use iddqd_keyed::keyed_items::{InsertRefusal, KeyedItems};
 use iddqd_maps::hash_builder::DefaultHashBuilder;
 use iddqd_maps::item_index::ItemIndex;
 use iddqd_maps::item_set::Iter;
+use std::alloc::{AllocError, Global};
 
 type Diary = KeyedItems<Appointment, DefaultHashBuilder>;
 
@@ -78,4 +80,65 @@ pub fn extend_at(diary: &mut Diary, ix: ItemIndex, minutes: u32) -> Option<()>
         × (diary.new.state.store ≡ rebound diary.old.state.store ix (record was { minutes = minutes }))) }
 {
     diary.modify_at(ix, |appointment| appointment.minutes = minutes)
+}
+
+/// An empty diary with room for so many appointments.
+pub fn with_room(alloc: Global, appointments: u32) -> Result<Diary, AllocError>
+    ensures { IfOk result (λ diary. appointments ≤ room diary) }
+{
+    KeyedItems::with_capacity(alloc, DefaultHashBuilder::default(), appointments as usize)
+}
+
+/// How many appointments it can hold without asking for memory.
+pub fn size(diary: &Diary) -> usize
+    ensures { result ≡ capacity diary.now }
+{
+    diary.capacity()
+}
+
+/// How many more it can hold without asking for memory.
+pub fn left(diary: &Diary) -> usize
+    ensures { result ≡ room diary.now }
+{
+    diary.room()
+}
+
+/// Whether an appointment was booked, where there is room: it takes no memory, and is refused none.
+pub fn book(diary: &mut Diary, appointment: Appointment) -> bool
+    requires { 1 ≤ room diary.old }
+    ensures { diary.new.memory ≡ diary.old.memory }
+{
+    match diary.insert(appointment) {
+        Ok(_) => true,
+        Err(InsertRefusal::Memory(_)) => unreachable!(),
+        Err(_) => false,
+    }
+}
+
+/// Makes room for so many more appointments.
+pub fn widen(diary: &mut Diary, more: usize) -> Result<(), AllocError>
+    ensures { OnOk result (reservable more diary.old ≤ room diary.new) }
+{
+    diary.reserve(more)
+}
+
+/// The same, as another call says it.
+pub fn try_widen(diary: &mut Diary, more: usize) -> Result<(), AllocError>
+    ensures { diary.new.state ≡ diary.old.state }
+{
+    diary.try_reserve(more)
+}
+
+/// Gives back the memory that the appointments don't need.
+pub fn trim(diary: &mut Diary) -> Result<(), AllocError>
+    ensures { diary.new.state ≡ diary.old.state }
+{
+    diary.shrink_to_fit()
+}
+
+/// The same, but keeps what it can hold up to so many.
+pub fn trim_to(diary: &mut Diary, least: usize) -> Result<(), AllocError>
+    ensures { min (capacity diary.old) least ≤ capacity diary.new }
+{
+    diary.shrink_to(least)
 }
