@@ -5,11 +5,11 @@ use Rattle.iddqd_keyed.proofs.keyed_items.KeyedItems.clear.Goals as goal
 
 pub invariant_of-self : goal.invariant_of-self
 invariant_of-self g c =
-    rw (c.clear.ensures.store, c.clear-2.ensures.empty, c.clear-3.ensures) (IsPaired-cleared _ c.self.invariant)
+    rw (c.clear.ensures.store, c.clear-2.ensures.empty, c.clear-3.ensures.empty) (IsPaired-cleared _ c.self.invariant)
 
 pub returns-clause-keeps : goal.returns-clause-keeps
 returns-clause-keeps g c =
-    rw (← c.self.view_is, c.clear.ensures.store, c.clear-2.ensures.empty, c.clear-3.ensures)
+    rw (← c.self.view_is, c.clear.ensures.store, c.clear-2.ensures.empty, c.clear-3.ensures.empty)
     (Keeps-cleared _ _ c.self.invariant)
 
 pub returns-clause-cleared : goal.returns-clause-cleared

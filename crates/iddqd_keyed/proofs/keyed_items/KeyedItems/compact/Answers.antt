@@ -40,7 +40,7 @@ listed : (g : _) (c : After-remap_indexes-2 g)
     → order_of c.remap_indexes-2.new.self ≡ map (rank c.self.inside.items.store) (order_of c.self.inside.order)
 listed g c =
     let was = c.self.invariant in
-    c.remap_indexes-2.ensures
+    c.remap_indexes-2.ensures.renamed
     ∙ order_holds.map-by_rank _ _ (Holds-order _ was) c.in_ok-remap.remap was.valid c.in_ok-remap.ensures.remap
 
 pub invariant_of-self-2 : goal.invariant_of-self-2

@@ -4,4 +4,4 @@ use Rattle.iddqd_keyed.proofs.keyed_items.KeyedItems.with_limit.Goals as goal
 
 pub invariant_of-result : goal.invariant_of-result
 invariant_of-result g c =
-    rw (c.with_limit.ensures, c.new.ensures.empty, c.new-2.ensures) (IsPaired-empty c.args.limit _ (omega arith))
+    rw (c.with_limit.ensures, c.new.ensures.empty, c.new-2.ensures.empty) (IsPaired-empty c.args.limit _ (omega arith))
