@@ -8,9 +8,10 @@
 //! list at each change. Searches go by halves, since an ask costs what the caller's comparison costs.
 //! The count of asks is ghost data, which two proofs by hand make and no other may touch.
 //!
-//! Each inner node owns one block of memory. A tree of n indexes has at most `(n + 19) / 30` inner nodes, since each but
-//! the root has at least six children and five indexes. So with R blocks reserved, in the tree and beside it, no insert
-//! up to `30 * R + 10` indexes needs another one, whatever was added and removed: this is the capacity.
+//! Each inner node owns one block of memory. A tree of n indexes has at most `(n + 19) / 30` inner nodes,
+//! since each but the root has at least six children and five indexes. So with R blocks reserved, in the
+//! tree and beside it, no insert up to `30 * R + 10` indexes needs another one, whatever was added and
+//! removed: this is the capacity.
 pub mod asking;
 mod blocks;
 mod clearing;

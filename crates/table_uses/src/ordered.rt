@@ -5,7 +5,7 @@ ghost use Rattle.std.specs.declared.cmp.Ordering.{Ordering};
 ghost use Rattle.std.specs.declared.cmp.Ordering.TheVariants.{Less, Equal};
 ghost use Rattle.iddqd.specs.Compaction.{CanRemap, remapped};
 ghost use Rattle.iddqd_order.specs.KeyOrder.{IsInKeyOrder};
-ghost use Rattle.iddqd_order.specs.MapBTreeTable.{order_of, without, sentinel};
+ghost use Rattle.iddqd_order.specs.MapBTreeTable.{order_of, capacity, without, sentinel};
 ghost use Rattle.iddqd_order.specs.PreparedBTreeMove.{PutsIn};
 ghost use Rattle.iddqd_order.specs.Search.{CanSearch, IsSteady, IsSteadyRising, with_ties, IsPlace};
 
@@ -51,6 +51,27 @@ pub fn add_by<F: FnMut(ItemIndex) -> Ordering>(
 {
     table.prepare_insert_by(ix, asking)?.insert();
     Ok(())
+}
+
+/// Adds an index where there is room for it, which can't be refused.
+pub fn add_in_room<F: FnMut(ItemIndex) -> Ordering>(
+    table: &mut MapBTreeTable,
+    ix: ItemIndex,
+    asking: &mut Asking<F>,
+)
+    requires assigned { ix ≢ sentinel }
+    requires absent { Contains (order_of table.old) ix → ⊥ }
+    requires can_ask { CanSearch F.FnMut (order_of table.old) (Some ix) asking.old }
+    requires room { length (order_of table.old) < capacity table.old }
+    ensures added { (at : ℕ) × (order_of table.new ≡ insert (order_of table.old) at ix) }
+    ensures memory { capacity table.new ≡ capacity table.old }
+{
+    match table.prepare_insert_by(ix, asking) {
+        Ok(prepared) => {
+            prepared.insert();
+        }
+        Err(AllocError) => unreachable!(),
+    }
 }
 
 /// Adds an index where the answers lead, if they meet none, and tells whether it did.

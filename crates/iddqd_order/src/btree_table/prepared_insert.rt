@@ -2,8 +2,9 @@
 //!
 //! It walks down first, since only the walk's end tells how many blocks are wanted: one for each inner
 //! node that will be cut, and one for a new root. It takes those that the table has not spare beside its
-//! tree, which stay there until the insert. A refusal gives all back, and so does an insert that is let go. The blocks are of a type parameter, since a check follows no loan in a struct that owns
-//! memory by itself.
+//! tree; the spare ones stay there until the insert. A refusal gives all back, and so does an insert that is
+//! let go. The blocks are of a type parameter, since a check follows no loan in a struct that owns memory by
+//! itself.
 ghost use Rattle.std.specs.Prelude.{true, ◌≡◌, ◌≢◌, insert, Contains};
 ghost use Rattle.iddqd_order.specs.MapBTreeTable.{order_of, capacity, fresh_for, sentinel};
 ghost use Rattle.iddqd_order.specs.Tree.{GoesIn, FullIn, ReachesIn-prop, FullIn-prop};

@@ -15,11 +15,11 @@ use crate::btree_table::row::CAPACITY;
 use std::alloc::{AllocError, Global};
 use std::marker::Model;
 
-// So many indexes a block does for at least: each inner node but the root has six children or more and five indexes,
-// and each child has five.
+// An inner node below the root has six children or more, of five indexes each at least. So each one more comes with
+// thirty indexes more.
 const INDEXES_OF_A_BLOCK: usize = 30;
 
-// So many indexes need no block: eleven may.
+// So many indexes need no inner node: the root alone holds them.
 const FREE_INDEXES: usize = 10;
 
 /// How many blocks so many indexes need at most.

@@ -9,5 +9,5 @@ invariant_of-self g c =
     let o = c.self.invariant in
     record {
       valid = rw c.clear.ensures.store (IsValid-empty s.limit o.valid.named);
-      sorted = rw (c.clear.ensures.store, c.clear-2.ensures) (Sorts-cleared _ _ s (order_of c.self.inside.table) o.sorted);
+      sorted = rw (c.clear.ensures.store, c.clear-2.ensures.empty) (Sorts-cleared _ _ s (order_of c.self.inside.table) o.sorted);
     }

@@ -22,7 +22,7 @@ invariant_of-self-2 g c =
     let order = order_of c.self.inside.table in
     let o = c.self.invariant in
     let named : order_of c.remap_indexes.new.self ≡ map (rank s) order =
-    c.remap_indexes.ensures ∙ map-by_rank s order o.sorted.held c.in_ok-remap.remap o.valid c.in_ok-remap.ensures.remap in
+    c.remap_indexes.ensures.renamed ∙ map-by_rank s order o.sorted.held c.in_ok-remap.remap o.valid c.in_ok-remap.ensures.remap in
     record {
       valid = rw c.in_ok-remap.ensures.compacted (IsValid-compacted s o.valid);
       sorted = rw (c.in_ok-remap.ensures.compacted, named) (Sorts-compacted _ _ s order o.sorted g.met.T.Key.Ord.total);

@@ -6,5 +6,5 @@ use Rattle.iddqd_id_ord.proofs.id_ord_map.IdOrdMap.with_limit.Goals as goal
 pub invariant_of-result : goal.invariant_of-result
 invariant_of-result g c = record {
   valid = rw c.with_limit.ensures (IsValid-empty c.args.limit (omega arith));
-  sorted = rw (c.with_limit.ensures, c.new.ensures) (Sorts-empty _ _ c.args.limit);
+  sorted = rw (c.with_limit.ensures, c.new.ensures.empty) (Sorts-empty _ _ c.args.limit);
 }
