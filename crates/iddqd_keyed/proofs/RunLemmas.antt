@@ -1,7 +1,7 @@
 -- How a run goes on by one step, and what holds at its quiet moments.
 use Rattle.std.proofs.Common.{◌≡◌, ◌∙◌, ◌<◌, ◌≤◌, ℕ, List, [], ◌∷◌, ◌++◌, Some, None, Ok, Err, inl, inr, refl, ap, arith}
 use Rattle.std.specs.List.{All}
-use Rattle.std.proofs.lemmas.List.Elements.{All-cons, All-nil}
+use Rattle.std.proofs.lemmas.List.Elements.{All-cons, All-nil, All-head, All-tail}
 use Rattle.iddqd.specs.Store.{Store, live_count}
 use Rattle.iddqd_keyed.specs.Keys.{Keys}
 use Rattle.iddqd_keyed.specs.State.{State, IsPaired, IsEmpty}
@@ -163,3 +163,24 @@ module _ {T S K1 K2 : Type 0} (keys : Keys T K1 K2 S) where
     no_lower = no_lower;
     served = served;
   }
+
+  -- For callers: where at each moment there are fewer items than could be held at the start, no item of a run is refused
+  -- for want of memory.
+  none_refused_along :
+      (held : ℕ) {old new : State T S} {commands : List (Command T K1 K2)} {replies : List (Reply T)}
+      {moments : List (State T S)} → IsStepChain keys old commands replies moments new
+      → IsServedBelow held old replies moments → All (λ s. live_count s.store < held) (old ∷ moments)
+      → All (λ reply. RefusesMemory reply → ⊥) replies
+  none_refused_along held No_step served fewer = All-nil (λ reply. RefusesMemory reply → ⊥)
+  none_refused_along held {old = old}
+      (Next_step {next = next} {reply = reply} {replies = replies} {moments = moments} step rest) served fewer =
+      let below = λ (s : State T S). live_count s.store < held in
+      All-cons (λ reply. RefusesMemory reply → ⊥) reply replies (served.0 (All-head below old (next ∷ moments) fewer))
+      (none_refused_along held rest served.1 (All-tail below old (next ∷ moments) fewer))
+
+  pub none_refused :
+      (old new : SizedState T S) (commands : List (Command T K1 K2)) (replies : List (Reply T))
+      (ran : RunsInMemory keys old commands replies new)
+      → All (λ s. live_count s.store < capacity old) (old.state ∷ ran.run.moments)
+      → All (λ reply. RefusesMemory reply → ⊥) replies
+  none_refused old new commands replies ran fewer = none_refused_along (capacity old) ran.run.steps ran.served fewer
