@@ -52,3 +52,25 @@ returns-clause-sorted g c =
     (λ k. ap (λ key. compare key k) c.key.ensures) c.in-Vacant.vacant c.in-Ok-prepare.prepared c.next_index.result _
     (ap order_of c.in-Vacant.ensures.table) c.in-Vacant.ensures.entered.1 c.in-Ok-prepare.ensures.prepared
     (c.next_index.ensures.index ∙ ap next_index c.in-Ok.ensures.contents) (search (rules, c.insert.ensures)))
+
+pub returns-in-Err-prepare-clause-inserts : goal.returns-in-Err-prepare-clause-inserts
+returns-in-Err-prepare-clause-inserts g c =
+    let none = subst (λ k. HasNoHit c.args.items.now.store (has_key g.T.IdOrdItem.key_of g.T.Key.Ord.cmp k)) c.key.ensures c.in-Vacant.ensures.entered.0 in
+    record {
+      given_back = refl;
+      no_clash = none;
+      not_full = λ is. (let r = c.in-Ok.ensures.full.1 is in cc);
+      no_room = omega arith;
+      unchanged = record { store = search rules; room_stays = omega arith };
+    }
+
+pub returns-clause-inserts : goal.returns-clause-inserts
+returns-clause-inserts g c =
+    let none = subst (λ k. HasNoHit c.args.items.now.store (has_key g.T.IdOrdItem.key_of g.T.Key.Ord.cmp k)) c.key.ensures c.in-Vacant.ensures.entered.0 in
+    record {
+      no_clash = none;
+      not_full = λ is. (let r = c.in-Ok.ensures.full.1 is in cc);
+      index = search rules;
+      stored = search rules;
+      room = omega arith;
+    }
