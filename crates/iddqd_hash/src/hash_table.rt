@@ -123,6 +123,10 @@ impl MapHashTable {
         ensures contents { filed self.new ≡ filed self.old }
         ensures memory { Reserves additional self.old result self.new }
         ensures few { memory self.new ≤ max (memory self.old) (most_cells (finite.len (filed self.old) + additional)) }
+        ensures capacity { capacity self.old ≤ capacity self.new }
+
+        // What every table keeps.
+        ensures counted { capacity self.old ≡ finite.len (filed self.old) + room self.old }
     {
         self.table.try_reserve(additional)
     }

@@ -8,3 +8,4 @@ pub mod QueryLemmas
 pub mod WalkLemmas
 pub mod ReplacementLemmas
 pub mod ModifyLemmas
+pub mod MemoryLemmas

@@ -1,5 +1,5 @@
 -- A live index that is given another item, in the store and in both tables: what it leaves paired, in place and exact.
-use Rattle.std.proofs.Common.{◌≡◌, ◌∙◌, ◌⊎◌, inl, inr, ◌↔◌, ◌==◌, ◌<◌, ◌≤◌, ℕ, zero, suc, Bool, true, false, not, cond, List, [], ◌∷◌, length, get_or, insert, Option, Some, None, IsSome, option_map, Result, Ok, Err, IfOk, OnOk, IfErr, OnErr, refl, sym, ap, subst, arith, Ordering}
+use Rattle.std.proofs.Common.{◌≡◌, ◌∙◌, ◌⊎◌, inl, inr, ◌↔◌, ◌==◌, ◌<◌, ◌≤◌, ℕ, zero, suc, Bool, true, false, not, cond, List, [], ◌∷◌, length, get_or, insert, Option, Some, None, IsSome, option_map, Result, Ok, Err, IsOk, IfOk, OnOk, IfErr, OnErr, refl, sym, ap, subst, arith, Ordering}
 use Rattle.std.specs.Borrow.{Bor}
 use Rattle.std.specs.Fn.{Mut}
 use Rattle.std.specs.List.{Contains}
@@ -9,7 +9,7 @@ use Rattle.std.specs.Cmp.{IsTotalOrder, eq_by_cmp_equiv}
 use Rattle.std.specs.Cmp.Lexicographic.{options_total}
 use Rattle.std.specs.FinMap as finite
 use Rattle.std.specs.FinMap.{FinMap}
-use Rattle.std.proofs.lemmas.Bool.{cases_eq}
+use Rattle.std.proofs.lemmas.Bool.{cases_eq, false≢true}
 use Rattle.std.proofs.lemmas.Cmp.{nat_cmp_total}
 use Rattle.std.proofs.lemmas.List.Kept.{IsStrictlySortedBy-filter}
 use Rattle.iddqd.specs.Store.{Store, get, rebound}
@@ -38,7 +38,7 @@ use Rattle.iddqd_sides.specs.Side.{ChangesAt}
 use Rattle.iddqd_keyed.specs.Keys.{Keys, first_hashing}
 use Rattle.iddqd_keyed.specs.State.{State, IsPaired}
 use Rattle.iddqd_keyed.specs.Sides.{hash_in, first_side, second_side, LooksUp, Keeps}
-use Rattle.iddqd_keyed.specs.Replacement.{TellsOther, Becomes, HasNewKey, Replaces, planned, MovesInPlace, Reorders}
+use Rattle.iddqd_keyed.specs.Replacement.{TellsOther, IsForMemory, Becomes, HasNewSecondKey, Replaces, planned, MovesInPlace, Reorders}
 use Rattle.iddqd_keyed.specs.declared.keyed_items.replaces.ReplaceRefusal.{ReplaceRefusal}
 use Rattle.iddqd_keyed.specs.declared.keyed_items.replaces.ReplaceRefusal.TheVariants.{Memory}
 use Rattle.iddqd_keyed.proofs.KeyLemmas.{AreLawful}
@@ -51,6 +51,11 @@ pub TellsOther-found : (finds : Option ℕ → Type 0) (found : Option ℕ) (ix 
 TellsOther-found finds found ix None is (inl none) = inl (subst finds none is)
 TellsOther-found finds found ix None is (inr itself) = inr (subst finds itself is)
 TellsOther-found finds found ix (Some at) is tells = (subst finds tells.0 is, tells.1)
+
+-- what was done was not refused memory
+pub not_for_memory : {T : Type 0} (r : Result T (ReplaceRefusal T)) → IsOk r → IfErr r (λ refusal. IsForMemory refusal → ⊥)
+not_for_memory (Ok was) ok = tt
+not_for_memory (Err refusal) ok = absurd (false≢true ok)
 
 -- where no other index is told, an answer of a scan leaves no other one
 pub no_other-scan : {T : Type 0} (s : Store T) (test : T → Bool) (ix : ℕ) (r : Option ℕ) → (r ≡ None) ⊎ (r ≡ Some ix) → AnswersScan s test r → (j : ℕ) → IsHit s test j → j ≡ ix
@@ -322,7 +327,7 @@ module _
   Reordered = Reorders keys.second keys.compare_second s.store ix item at2 s.order order
 
   abbrev Refused : ReplaceRefusal T → Type 0
-  Refused refusal = (refusal ≡ Memory item) × ((at1 ≡ None) ⊎ (at2 ≡ None))
+  Refused refusal = (refusal ≡ Memory item) × (at2 ≡ None)
 
   became : (was : T) → get s.store ix ≡ Some was → store ≡ rebound s.store ix item → Refiled → Reordered → Becomes keys s ix item was is × Keeps keys s is
   became was there stored refiled reordered = rw stored (
@@ -333,9 +338,8 @@ module _
   same : store ≡ s.store → filed ≡ s.filed → order ≡ s.order → is ≡ s
   same items hashes indexes = rw (items, hashes, indexes) refl
 
-  new_key : (at1 ≡ None) ⊎ (at2 ≡ None) → HasNewKey keys s item
-  new_key (inl none) = inl (subst ((first_side keys).Finds s (keys.first item)) none first.found)
-  new_key (inr none) = inr (subst ((second_side keys).Finds s (keys.second item)) none second.found)
+  new_key : at2 ≡ None → HasNewSecondKey keys s item
+  new_key none = subst ((second_side keys).Finds s (keys.second item)) none second.found
 
   pub Replaces-rebound :
       (r : Result T (ReplaceRefusal T)) → IfOk r (λ was. get s.store ix ≡ Some was)

@@ -1,15 +1,18 @@
 -- How a run goes on by one step, and what holds at its quiet moments.
-use Rattle.std.proofs.Common.{List, [], ◌∷◌, ◌++◌, inl, inr}
+use Rattle.std.proofs.Common.{◌≡◌, ◌∙◌, ◌<◌, ◌≤◌, ℕ, List, [], ◌∷◌, ◌++◌, Some, None, Ok, Err, inl, inr, refl, ap, arith}
 use Rattle.std.specs.List.{All}
 use Rattle.std.proofs.lemmas.List.Elements.{All-cons, All-nil}
-use Rattle.iddqd.specs.Store.{Store}
+use Rattle.iddqd.specs.Store.{Store, live_count}
 use Rattle.iddqd_keyed.specs.Keys.{Keys}
 use Rattle.iddqd_keyed.specs.State.{State, IsPaired, IsEmpty}
 use Rattle.iddqd_keyed.specs.Sides.{IsExact, InOrder, Changes, AsScan, first_side, second_side}
-use Rattle.iddqd_keyed.specs.Machine.{Step}
+use Rattle.iddqd_keyed.specs.Machine.{Answers, Step}
 use Rattle.iddqd_keyed.specs.Run.{Run, IsStepChain, No_step, Next_step, IsQuietAfter, IsExactFrom, IsExactWhereQuiet, IsSilentChange, AnswersAsScan}
+use Rattle.iddqd_keyed.specs.Memory.{SizedState, IsNoLower, StepsInMemory, RefusesMemory, IsServedBelow, RunsInMemory, capacity, room}
 use Rattle.iddqd_keyed.specs.declared.command.Command.{Command}
+use Rattle.iddqd_keyed.specs.declared.command.Command.TheVariants.{Insert, Find1, Find2, Remove, Remove1, Remove2, Overwrite, Compact, Clear, Walk}
 use Rattle.iddqd_keyed.specs.declared.command.Reply.{Reply}
+use Rattle.iddqd_keyed.specs.declared.command.Reply.TheVariants.{Inserted, Refused, Found, Removed, Overwritten, Compacted, Cleared, Walked, NoMemory}
 use Rattle.iddqd_keyed.proofs.KeepsLemmas.{FirstKeysInOrder-bare, SecondKeysInOrder-bare}
 
 module _ {T S K1 K2 : Type 0} (keys : Keys T K1 K2 S) where
@@ -23,7 +26,7 @@ module _ {T S K1 K2 : Type 0} (keys : Keys T K1 K2 S) where
   IsStepChain-push (Next_step first rest) step = Next_step first (IsStepChain-push rest step)
 
   -- along a chain from a paired state, each moment is paired
-  paired_along :
+  pub paired_along :
       {old new : State T S} {commands : List (Command T K1 K2)} {replies : List (Reply T)} {moments : List (State T S)}
       → IsStepChain keys old commands replies moments new → IsPaired old → All IsPaired (old ∷ moments)
   paired_along {old = old} No_step was = All-cons IsPaired old [] was (All-nil IsPaired)
@@ -38,7 +41,7 @@ module _ {T S K1 K2 : Type 0} (keys : Keys T K1 K2 S) where
       (bare : (s : State T S) → IsPaired s → IsEmpty s → Holds s)
       (steps : (old new : State T S) (command : Command T K1 K2) (reply : Reply T) → Step keys old command reply new
       → Holds old → Exact old.store command reply × ((Changed old command → ⊥) → Holds new)) where
-    exact_along :
+    pub exact_along :
         (is_quiet : Type 0) {old new : State T S} {commands : List (Command T K1 K2)} {replies : List (Reply T)}
         {moments : List (State T S)} → IsStepChain keys old commands replies moments new → (is_quiet → Holds old)
         → IsExactFrom Changed Holds Exact is_quiet old commands replies moments
@@ -52,14 +55,14 @@ module _ {T S K1 K2 : Type 0} (keys : Keys T K1 K2 S) where
           ]),
         )
 
-    exact_from_start :
+    pub exact_from_start :
         {old new : State T S} {commands : List (Command T K1 K2)} {replies : List (Reply T)}
         {moments : List (State T S)} → IsStepChain keys old commands replies moments new → IsPaired old
         → IsExactWhereQuiet Changed Holds Exact old commands replies moments
     exact_from_start {old = old} chain paired =
         exact_along _ chain (λ now. elim now [ inl none ↦ bare old paired none | inr holds ↦ holds ])
 
-  pub Run-from_chain :
+  unfoldable pub Run-from_chain :
       {old new : State T S} {commands : List (Command T K1 K2)} {replies : List (Reply T)} {moments : List (State T S)}
       → IsStepChain keys old commands replies moments new → IsPaired old → Run keys old commands replies new
   Run-from_chain {moments = moments} chain paired =
@@ -90,3 +93,73 @@ module _ {T S K1 K2 : Type 0} (keys : Keys T K1 K2 S) where
             (step.second_keys.as_scan o, λ none. (step.second_keys.keeps none).exact o))
             chain paired;
       }
+
+-- ---- the memory of a run
+
+module _ {T S K1 K2 : Type 0} (keys : Keys T K1 K2 S) where
+  -- no command changes how many slots there can be
+  limit_stays : (old new : State T S) (command : Command T K1 K2) (reply : Reply T) → Answers keys old command reply new
+      → new.store.limit ≡ old.store.limit
+  limit_stays old new (Insert item) (Inserted ix) did = ap (λ (s : State T S). s.store.limit) did.stored.state
+  limit_stays old new (Insert item) (Refused refusal) did = ap (λ (s : State T S). s.store.limit) did.unchanged
+  limit_stays old new (Find1 key) (Found found) did = ap (λ (s : State T S). s.store.limit) did.1
+  limit_stays old new (Find2 key) (Found found) did = ap (λ (s : State T S). s.store.limit) did.1
+  limit_stays old new (Remove ix) (Removed (Some (at, item))) did = ap (λ (s : State T S). s.store.limit) did.1.1
+  limit_stays old new (Remove ix) (Removed None) did = ap (λ (s : State T S). s.store.limit) did.1
+  limit_stays old new (Remove1 key) (Removed (Some (ix, item))) did = ap (λ (s : State T S). s.store.limit) did.1.1
+  limit_stays old new (Remove1 key) (Removed None) did = ap (λ (s : State T S). s.store.limit) did.1
+  limit_stays old new (Remove2 key) (Removed (Some (ix, item))) did = ap (λ (s : State T S). s.store.limit) did.1.1
+  limit_stays old new (Remove2 key) (Removed None) did = ap (λ (s : State T S). s.store.limit) did.1
+  limit_stays old new (Overwrite ix item) (Overwritten (Ok was)) did = ap (λ (s : State T S). s.store.limit) did.1
+  limit_stays old new (Overwrite ix item) (Overwritten (Err back)) did = ap (λ (s : State T S). s.store.limit) did.2
+  limit_stays old new Compact (Compacted remap) did = ap (λ (s : State T S). s.store.limit) did.1.state
+  limit_stays old new Compact NoMemory did = ap (λ (s : State T S). s.store.limit) did.1
+  limit_stays old new Clear Cleared did = ap (λ (s : State T S). s.store.limit) did
+  limit_stays old new Walk (Walked indexes) did = ap (λ (s : State T S). s.store.limit) did.1
+  limit_stays old new Walk NoMemory did = ap (λ (s : State T S). s.store.limit) did.1
+  limit_stays old new command reply did = absurd did
+
+  -- along a chain either
+  limit_stays_along :
+      {old new : State T S} {commands : List (Command T K1 K2)} {replies : List (Reply T)} {moments : List (State T S)}
+      → IsStepChain keys old commands replies moments new → new.store.limit ≡ old.store.limit
+  limit_stays_along No_step = refl
+  limit_stays_along {old = old} (Next_step {next = next} {command = command} {reply = reply} step rest) =
+      limit_stays_along rest ∙ limit_stays old next command reply step.answers
+
+  IsServedBelow-push :
+      (held : ℕ) {old mid : State T S} {commands : List (Command T K1 K2)} {replies : List (Reply T)}
+      {moments : List (State T S)} (reply : Reply T) (new : State T S) → IsStepChain keys old commands replies moments mid
+      → IsServedBelow held old replies moments → (live_count mid.store < held → RefusesMemory reply → ⊥)
+      → IsServedBelow held old (replies ++ reply ∷ []) (moments ++ new ∷ [])
+  IsServedBelow-push held reply new No_step served last = (last, tt)
+  IsServedBelow-push held reply new (Next_step step rest) served last =
+      (served.0, IsServedBelow-push held reply new rest served.1 last)
+
+  -- where there was room at first, there still is
+  room_still : (old mid : SizedState T S) → mid.state.store.limit ≡ old.state.store.limit
+      → IsNoLower old.memory mid.memory → live_count mid.state.store < capacity old → 1 ≤ room mid
+  room_still old mid limit no_lower fewer = rw limit (omega (arith, no_lower))
+
+  -- one more step in memory
+  pub IsServedBelow-step :
+      {old mid new : SizedState T S} {commands : List (Command T K1 K2)} {replies : List (Reply T)}
+      {moments : List (State T S)} {command : Command T K1 K2} {reply : Reply T}
+      → IsStepChain keys old.state commands replies moments mid.state → IsNoLower old.memory mid.memory
+      → IsServedBelow (capacity old) old.state replies moments → StepsInMemory mid command reply new
+      → IsServedBelow (capacity old) old.state (replies ++ reply ∷ []) (moments ++ new.state ∷ [])
+  IsServedBelow-step {old = old} {mid = mid} {new = new} {reply = reply} chain no_lower served step =
+      IsServedBelow-push (capacity old) reply new.state chain served
+      (λ fewer. step.not_refused (room_still old mid (limit_stays_along chain) no_lower fewer))
+
+  pub RunsInMemory-from_chain :
+      {old new : SizedState T S} {commands : List (Command T K1 K2)} {replies : List (Reply T)}
+      {moments : List (State T S)} → IsStepChain keys old.state commands replies moments new.state
+      → IsPaired old.state → IsNoLower old.memory new.memory
+      → IsServedBelow (capacity old) old.state replies moments → RunsInMemory keys old commands replies new
+  unfolding Run-from_chain
+  RunsInMemory-from_chain {moments = moments} chain paired no_lower served = record {
+    run = Run-from_chain keys {moments = moments} chain paired;
+    no_lower = no_lower;
+    served = served;
+  }

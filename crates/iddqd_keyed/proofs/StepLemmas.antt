@@ -1,10 +1,16 @@
--- One step of the keyed machine, from what the call that it makes answers and leaves.
+-- One step of the keyed machine and its memory, from what the call that it makes answers and leaves.
+use Rattle.std.proofs.Common.{◌≡◌, ◌≤◌, ℕ, Ok, Err}
 use Rattle.iddqd_keyed.specs.Keys.{Keys}
 use Rattle.iddqd_keyed.specs.State.{State}
 use Rattle.iddqd_keyed.specs.Sides.{first_side, second_side, IsExact, AsScan, Keeps}
 use Rattle.iddqd_keyed.specs.Machine.{Answers, Step}
 use Rattle.iddqd_keyed.specs.declared.command.Command.{Command}
+use Rattle.iddqd_keyed.specs.Memory.{SizedState, InsertsInMemory, StepsInMemory, RefusesMemory, room}
+use Rattle.iddqd_keyed.specs.declared.command.Command.TheVariants.{Insert}
 use Rattle.iddqd_keyed.specs.declared.command.Reply.{Reply}
+use Rattle.iddqd_keyed.specs.declared.command.Reply.TheVariants.{Inserted, Refused}
+use Rattle.iddqd_keyed.specs.declared.keyed_items.InsertRefusal.{InsertRefusal}
+use Rattle.iddqd_keyed.proofs.MemoryLemmas.{IsNoLower-same}
 
 -- a step that keeps what a call keeps
 pub Step-keeping : {T S K1 K2 : Type 0} (keys : Keys T K1 K2 S) (old new : State T S) (command : Command T K1 K2)
@@ -18,3 +24,38 @@ Step-keeping keys old new command reply keeps answers first second = record {
   first_keys = record { keeps = λ _. keeps.first_keys; as_scan = first };
   second_keys = record { keeps = λ _. keeps.second_keys; as_scan = second };
 }
+
+-- ---- the memory of a step
+
+module _ {T S K1 K2 : Type 0} (old new : SizedState T S) where
+  -- of a command that keeps it and is no insert that was refused
+  pub StepsInMemory-kept :
+      (command : Command T K1 K2) (reply : Reply T) → new.memory ≡ old.memory → (RefusesMemory reply → ⊥)
+      → StepsInMemory old command reply new
+  StepsInMemory-kept command reply same other = record {
+    no_lower = IsNoLower-same old.memory new.memory same;
+    had_room = λ _. same;
+    not_refused = λ _. other;
+    others = λ _. same;
+  }
+
+  -- of an insert
+  pub StepsInMemory-inserted :
+      (item : T) (ix : ℕ) → InsertsInMemory {T = T} (1 ≤ room old) old.memory (Ok ix) new.memory
+      → StepsInMemory {K1 = K1} {K2 = K2} old (Insert item) (Inserted ix) new
+  StepsInMemory-inserted item ix did = record {
+    no_lower = did.no_lower;
+    had_room = did.had_room;
+    not_refused = λ _ never. never;
+    others = λ other. absurd (other tt);
+  }
+
+  pub StepsInMemory-refused :
+      (item : T) (refusal : InsertRefusal T) → InsertsInMemory {T = T} (1 ≤ room old) old.memory (Err refusal) new.memory
+      → StepsInMemory {K1 = K1} {K2 = K2} old (Insert item) (Refused refusal) new
+  StepsInMemory-refused item refusal did = record {
+    no_lower = did.no_lower;
+    had_room = did.had_room;
+    not_refused = did.not_refused;
+    others = λ other. absurd (other tt);
+  }

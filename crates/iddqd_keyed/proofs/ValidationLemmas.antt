@@ -107,7 +107,7 @@ module _ (m : FinMap nat_cmp ℕ) where
 
 module _ {T S : Type 0} (s : State T S) (paired : IsPaired s) where
   -- the filed indexes are the live ones, each once
-  filed_held : ordered.Holds s.store (indexes_of s.filed)
+  pub filed_held : ordered.Holds s.store (indexes_of s.filed)
   filed_held = record {
     each = λ ix. (
       λ here. (paired.filed ix).0 ((listed-index s.filed ix).0 here),

@@ -9,6 +9,7 @@ pub mod Queries
 pub mod Walks
 pub mod Replacement
 pub mod Modify
+pub mod Memory
 -- what a caller's clauses cite, from one place: of the crates below, and of this one
 pub use Rattle.iddqd.specs.Store
 pub use Rattle.iddqd.specs.Compaction
@@ -33,3 +34,6 @@ pub use Rattle.iddqd_keyed.specs.Queries.{LooksUpBy, GivesFound}
 pub use Rattle.iddqd_keyed.specs.Walks.{items_at, RangesWithin}
 pub use Rattle.iddqd_keyed.specs.Replacement.{TellsOther, Becomes, Replaces}
 pub use Rattle.iddqd_keyed.specs.Modify.{ModifiesAt, ModifiesFound}
+pub use Rattle.iddqd_keyed.specs.Memory.{Memory, SizedState, no_memory, capacity, room, reservable, IsNoLower, IsMadeFor}
+pub use Rattle.iddqd_keyed.specs.Memory.{IsForMemory, InsertsInMemory, ReservesInMemory, ShrinksInMemory}
+pub use Rattle.iddqd_keyed.specs.Memory.{RefusesMemory, IsServedBelow, StepsInMemory, RunsInMemory}

@@ -1,5 +1,5 @@
 -- What a replacement that is told to both tables may answer and leave.
-use Rattle.std.specs.Prelude.{◌≡◌, ◌≢◌, ◌⊎◌, ℕ, List, Option, Some, None, IsSome, Result, Err, IfOk, IfErr, OnErr}
+use Rattle.std.specs.Prelude.{◌≡◌, ◌≢◌, ◌⊎◌, ⊤, ℕ, List, Option, Some, None, IsSome, Result, Err, IfOk, IfErr, OnErr}
 use Rattle.std.specs.FinMap as finite
 use Rattle.std.specs.declared.cmp.Ordering.{Ordering}
 use Rattle.iddqd.specs.Store.{Store, get, rebound}
@@ -18,6 +18,11 @@ use Rattle.iddqd_keyed.specs.declared.keyed_items.replaces.ReplaceRefusal.TheVar
 abbrev pub others_told : {T : Type 0} → Result T (ReplaceRefusal T) → Option ℕ × Option ℕ
 others_told (Err (Duplicate back first second)) = (first, second)
 others_told result = (None, None)
+
+-- an item didn't become another one for want of memory
+abbrev pub IsForMemory : {T : Type 0} → ReplaceRefusal T → Type 0
+IsForMemory (Memory back) = ⊤
+IsForMemory refusal = ⊥
 
 -- What is told of a look-up of a key that an index is to have: another index that it hit, or none, where it missed or
 -- hit this one. `finds` says what the look-up may answer.
@@ -42,18 +47,17 @@ module _ {T S K1 K2 : Type 0} (keys : Keys T K1 K2 S) where
     pub others : without new.order ix ≡ without old.order ix
     pub state : new ≡ rebound_state old ix item new.order
 
-  -- the look-up of one of the item's keys missed, so that an index which is to have it has to move in that table
-  abbrev pub HasNewKey : State T S → T → Type 0
-  HasNewKey old item =
-      (first_side keys).Finds old (keys.first item) None ⊎ (second_side keys).Finds old (keys.second item) None
+  -- the look-up of the item's second key missed, so that an index which is to have it has to move in the ordered table
+  abbrev pub HasNewSecondKey : State T S → T → Type 0
+  HasNewSecondKey old item = (second_side keys).Finds old (keys.second item) None
 
-  -- The item comes back: the index isn't live, or another one has one of the keys, or the index has to move and memory
-  -- was refused.
+  -- The item comes back: the index isn't live, or another one has one of the keys, or the index has to move in the
+  -- ordered table and memory was refused.
   abbrev pub RefusesReplacing : State T S → ℕ → T → ReplaceRefusal T → Type 0
   RefusesReplacing old ix item (Missing back) = (back ≡ item) × (get old.store ix ≡ None)
   RefusesReplacing old ix item (Duplicate back first second) =
       (back ≡ item) × IsLive old.store ix × (IsSome first ⊎ IsSome second)
-  RefusesReplacing old ix item (Memory back) = (back ≡ item) × IsLive old.store ix × HasNewKey old item
+  RefusesReplacing old ix item (Memory back) = (back ≡ item) × IsLive old.store ix × HasNewSecondKey old item
 
   -- What a replacement may answer and leave: of a live index, what is told of other ones is what the look-ups of the
   -- keys may answer; the item stands there, or it comes back and nothing changes.

@@ -11,11 +11,12 @@
 //! An insert is one search of the ordered table, which tells a duplicate, or else the place. Each call
 //! that obeys a command says that its states are paired, though the type does, so that `step` and `run`
 //! are proved from the calls' clauses alone.
-ghost use Rattle.std.specs.Prelude.{◌≡◌, ◌↔◌, [], None, IsTrue, IsSome, IsOk, IfOk, OnOk, IfErr, OnErr, option_copied};
+ghost use Rattle.std.specs.Prelude.{◌≡◌, ◌↔◌, ◌≤◌, ◌+◌, [], None, IsTrue, IsSome, OnSome, IsOk, IfOk, OnOk, IfErr, OnErr, option_copied};
 ghost use Rattle.std.specs.FinMap as finite;
 ghost use Rattle.iddqd.specs.{get, live_count, next_index, inserted, removed, IsFull, IsValid, IsRemapOf};
 ghost use Rattle.iddqd_hash.specs.{filed};
 ghost use Rattle.iddqd_order.specs.{indexes_left, order_of, without};
+ghost use Rattle.iddqd_order.specs.MapBTreeTable.{capacity as ordered_capacity};
 ghost use Rattle.iddqd_sides.specs.Scan.{IsLive};
 ghost use Rattle.iddqd_sides.specs.Ordered as ordered_side;
 ghost use Rattle.iddqd_keyed.specs.Keys.{keys_of};
@@ -23,7 +24,9 @@ ghost use Rattle.iddqd_keyed.specs.State.{empty_state, empty_state_within, clear
 ghost use Rattle.iddqd_keyed.specs.Sides.{first_side, second_side, finds_told, hash_in, LooksUp, IsExact, Keeps, KeepsUnlessChanged};
 ghost use Rattle.iddqd_keyed.specs.Machine.{Refuses, Inserts, TellsAsScan, Removes, RemovesBy, Overwrites, Step};
 ghost use Rattle.iddqd_keyed.specs.Run.{Run};
+ghost use Rattle.iddqd_keyed.specs.Memory.{no_memory, capacity, room, memory_of, HasRoomInParts, InsertsInMemory, StepsInMemory, RunsInMemory};
 
+mod memory;
 mod modifies;
 mod queries;
 mod replaces;
@@ -65,15 +68,14 @@ pub struct KeyedItems<T: KeyedItem, S: BuildHasher> {
 }
 
 impl<T: KeyedItem, S: BuildHasher> Model for KeyedItems<T, S> {
-    ghost use Rattle.iddqd_keyed.specs.State.{State, state_code};
-
-    ghost Value = { State T S };
-
-    ghost coded = { state_code T.code S.code };
-
     ghost use Rattle.iddqd_keyed.specs.State.{state_of, IsPaired};
+    ghost use Rattle.iddqd_keyed.specs.Memory.{SizedState, sized_state_code, sized_of};
 
-    ghost view = { λ k. state_of k.state k.items.store k.filed k.order };
+    ghost Value = { SizedState T S };
+
+    ghost coded = { sized_state_code T.code S.code };
+
+    ghost view = { λ k. sized_of k.state k.items k.filed k.order };
 
     ghost invariant = { λ k. IsPaired (state_of k.state k.items.store k.filed k.order) };
 }
@@ -136,7 +138,8 @@ impl<T: KeyedItem, S: BuildHasher> Keyed for KeyedItems<T, S> {
 impl<T: KeyedItem, S: BuildHasher> KeyedItems<T, S> {
     /// No items, and slots for as many as there are indexes but `SENTINEL`. It takes no memory.
     pub fn new(alloc: Global, state: S) -> KeyedItems<T, S>
-        ensures { result ≡ empty_state state }
+        ensures state { result.state ≡ empty_state state }
+        ensures memory { result.memory ≡ no_memory }
     {
         KeyedItems::with_limit(alloc, state, u32::MAX)
     }
@@ -145,7 +148,8 @@ impl<T: KeyedItem, S: BuildHasher> KeyedItems<T, S> {
     ///
     /// No command changes the limit: `clear` and `compact` keep it.
     pub fn with_limit(alloc: Global, state: S, limit: u32) -> KeyedItems<T, S>
-        ensures { result ≡ empty_state_within limit state }
+        ensures state { result.state ≡ empty_state_within limit state }
+        ensures memory { result.memory ≡ no_memory }
     {
         KeyedItems {
             items: ItemSet::with_limit(alloc, limit),
@@ -158,24 +162,24 @@ impl<T: KeyedItem, S: BuildHasher> KeyedItems<T, S> {
 
     /// The number of items.
     pub fn len(&self) -> usize
-        ensures value { result ≡ live_count self.now.store }
+        ensures value { result ≡ live_count self.now.state.store }
 
         // What every value keeps.
-        ensures paired { IsPaired self.now }
+        ensures paired { IsPaired self.now.state }
     {
         self.items.len()
     }
 
     /// Whether there is no item.
     pub fn is_empty(&self) -> bool
-        ensures { IsTrue result ↔ (live_count self.now.store ≡ 0) }
+        ensures { IsTrue result ↔ (live_count self.now.state.store ≡ 0) }
     {
         self.items.is_empty()
     }
 
     /// The item at an index, if it is live.
     pub fn get(&self, ix: ItemIndex) -> Option<&T>
-        ensures { option_copied result ≡ get self.now.store ix }
+        ensures { option_copied result ≡ get self.now.state.store ix }
     {
         self.items.get(ix)
     }
@@ -183,8 +187,8 @@ impl<T: KeyedItem, S: BuildHasher> KeyedItems<T, S> {
     /// The index of the item with this first key. It compares the key with those of the same hash
     /// alone.
     pub fn find1(&self, key: &T::Key1) -> Option<ItemIndex>
-        ensures paired { IsPaired self.now }
-        ensures found { LooksUp (first_side ⟦<Self as Keyed>⟧.keys) self.now key.now result }
+        ensures paired { IsPaired self.now.state }
+        ensures found { LooksUp (first_side ⟦<Self as Keyed>⟧.keys) self.now.state key.now result }
     {
         self.hash_and_find(key).1
     }
@@ -193,8 +197,8 @@ impl<T: KeyedItem, S: BuildHasher> KeyedItems<T, S> {
     /// number of items has d binary digits.
     #[tactic(auto, using(crate::proofs::KeepsLemmas::order_held))]
     pub fn find2(&self, key: &T::Key2) -> Option<ItemIndex>
-        ensures paired { IsPaired self.now }
-        ensures found { LooksUp (second_side ⟦<Self as Keyed>⟧.keys) self.now key.now result }
+        ensures paired { IsPaired self.now.state }
+        ensures found { LooksUp (second_side ⟦<Self as Keyed>⟧.keys) self.now.state key.now result }
     {
         ordered::find::<T, Second, ByKey<T::Key2>>(&self.order, &self.items, &ByKey(key))
     }
@@ -204,9 +208,11 @@ impl<T: KeyedItem, S: BuildHasher> KeyedItems<T, S> {
     /// A duplicate is told even where the store is full or no memory is left, and a full store even
     /// where no memory is left. A refusal hands the item back and changes nothing.
     pub fn insert(&mut self, item: T) -> Result<ItemIndex, InsertRefusal<T>>
-        ensures inserts { Inserts ⟦<Self as Keyed>⟧.keys self.old item result self.new }
-        ensures tells { TellsAsScan ⟦<Self as Keyed>⟧.keys self.old item result }
-        ensures keeps { Keeps ⟦<Self as Keyed>⟧.keys self.old self.new }
+        ensures inserts { Inserts ⟦<Self as Keyed>⟧.keys self.old.state item result self.new.state }
+        ensures tells { TellsAsScan ⟦<Self as Keyed>⟧.keys self.old.state item result }
+        ensures keeps { Keeps ⟦<Self as Keyed>⟧.keys self.old.state self.new.state }
+        ensures memory { InsertsInMemory (1 ≤ room self.old) self.old.memory result self.new.memory }
+        ensures room { OnOk result (1 ≤ room self.old → room self.old ≡ room self.new + 1) }
     {
         let (hash, first) = self.hash_and_find(item.key1());
         let (items, filed, order) = (&mut self.items, &mut self.filed, &mut self.order);
@@ -215,9 +221,12 @@ impl<T: KeyedItem, S: BuildHasher> KeyedItems<T, S> {
 
     /// Removes the item at an index, if it is live, whatever its keys are now. It takes no memory.
     pub fn remove(&mut self, ix: ItemIndex) -> Option<T>
-        ensures removes { Removes self.old ix result self.new }
-        ensures live { IsSome result ↔ IsLive self.old.store ix }
-        ensures keeps { Keeps ⟦<Self as Keyed>⟧.keys self.old self.new }
+        ensures removes { Removes self.old.state ix result self.new.state }
+        ensures live { IsSome result ↔ IsLive self.old.state.store ix }
+        ensures keeps { Keeps ⟦<Self as Keyed>⟧.keys self.old.state self.new.state }
+        ensures memory { self.new.memory ≡ self.old.memory }
+        ensures room { OnSome result
+            (live_count self.old.state.store ≤ capacity self.old → room self.new ≡ room self.old + 1) }
     {
         let item = self.items.get(ix)?;
         let hash = hashed::hash_of::<T, First, S>(&self.state, item);
@@ -227,16 +236,18 @@ impl<T: KeyedItem, S: BuildHasher> KeyedItems<T, S> {
 
     /// Removes the item with this first key. It takes no memory.
     pub fn remove1(&mut self, key: &T::Key1) -> Option<(ItemIndex, T)>
-        ensures removes { RemovesBy (first_side ⟦<Self as Keyed>⟧.keys) self.old key.now result self.new }
-        ensures keeps { Keeps ⟦<Self as Keyed>⟧.keys self.old self.new }
+        ensures removes { RemovesBy (first_side ⟦<Self as Keyed>⟧.keys) self.old.state key.now result self.new.state }
+        ensures keeps { Keeps ⟦<Self as Keyed>⟧.keys self.old.state self.new.state }
+        ensures memory { self.new.memory ≡ self.old.memory }
     {
         self.remove1_by(key)
     }
 
     /// Removes the item with this second key. It takes no memory.
     pub fn remove2(&mut self, key: &T::Key2) -> Option<(ItemIndex, T)>
-        ensures removes { RemovesBy (second_side ⟦<Self as Keyed>⟧.keys) self.old key.now result self.new }
-        ensures keeps { Keeps ⟦<Self as Keyed>⟧.keys self.old self.new }
+        ensures removes { RemovesBy (second_side ⟦<Self as Keyed>⟧.keys) self.old.state key.now result self.new.state }
+        ensures keeps { Keeps ⟦<Self as Keyed>⟧.keys self.old.state self.new.state }
+        ensures memory { self.new.memory ≡ self.old.memory }
     {
         self.remove2_by(key)
     }
@@ -248,8 +259,9 @@ impl<T: KeyedItem, S: BuildHasher> KeyedItems<T, S> {
     /// that it has and in its place in the order. Look-ups may then miss the new keys, but never hit a
     /// wrong one, and the index can still be removed. It takes no memory.
     pub fn overwrite(&mut self, ix: ItemIndex, item: T) -> Result<T, T>
-        ensures overwrites { Overwrites self.old ix item result self.new }
-        ensures keeps { KeepsUnlessChanged ⟦<Self as Keyed>⟧.keys self.old ix item self.new }
+        ensures overwrites { Overwrites self.old.state ix item result self.new.state }
+        ensures keeps { KeepsUnlessChanged ⟦<Self as Keyed>⟧.keys self.old.state ix item self.new.state }
+        ensures memory { self.new.memory ≡ self.old.memory }
     {
         if self.items.get(ix).is_none() {
             return Err(item);
@@ -263,10 +275,11 @@ impl<T: KeyedItem, S: BuildHasher> KeyedItems<T, S> {
     /// vacant it is `Identity` and takes no memory. Else it takes the memory of one index a slot,
     /// before an item moves; where that is refused nothing changes.
     pub fn compact(&mut self) -> Result<IndexRemap, AllocError>
-        ensures compacts { IfOk result (λ remap. IsRemapOf self.old.store remap × Compacts self.old self.new) }
-        ensures refused { OnErr result (self.new ≡ self.old) }
-        ensures dense { self.old.store.free ≡ [] → IsOk result }
-        ensures keeps { Keeps ⟦<Self as Keyed>⟧.keys self.old self.new }
+        ensures compacts { IfOk result (λ remap. IsRemapOf self.old.state.store remap × Compacts self.old.state self.new.state) }
+        ensures refused { OnErr result (self.new.state ≡ self.old.state) }
+        ensures dense { self.old.state.store.free ≡ [] → IsOk result }
+        ensures keeps { Keeps ⟦<Self as Keyed>⟧.keys self.old.state self.new.state }
+        ensures memory { self.new.memory ≡ self.old.memory }
     {
         let remap = self.items.compact()?;
         self.filed.remap_indexes(&remap);
@@ -276,8 +289,9 @@ impl<T: KeyedItem, S: BuildHasher> KeyedItems<T, S> {
 
     /// Forgets all items and all slots, so that the next index is 0. It takes no memory.
     pub fn clear(&mut self)
-        ensures cleared { self.new ≡ cleared_state self.old }
-        ensures keeps { Keeps ⟦<Self as Keyed>⟧.keys self.old self.new }
+        ensures cleared { self.new.state ≡ cleared_state self.old.state }
+        ensures keeps { Keeps ⟦<Self as Keyed>⟧.keys self.old.state self.new.state }
+        ensures memory { self.new.memory ≡ self.old.memory }
     {
         self.items.clear();
         self.filed.clear();
@@ -286,7 +300,8 @@ impl<T: KeyedItem, S: BuildHasher> KeyedItems<T, S> {
 
     /// Obeys one command.
     pub fn step(&mut self, command: Command<T>) -> Reply<T>
-        ensures { Step ⟦<Self as Keyed>⟧.keys self.old command result self.new }
+        ensures step { Step ⟦<Self as Keyed>⟧.keys self.old.state command result self.new.state }
+        ensures memory { StepsInMemory self.old command result self.new }
     {
         match command {
             Command::Insert(item) => match self.insert(item) {
@@ -323,7 +338,9 @@ impl<T: KeyedItem, S: BuildHasher> KeyedItems<T, S> {
     /// nothing is done and the commands come back; with no command that never happens.
     pub fn run(&mut self, commands: Vec<Command<T>>) -> Result<Vec<Reply<T>>, Vec<Command<T>>>
         ensures run { let keys = ⟦<Self as Keyed>⟧.keys in
-            IfOk result (λ replies. Run keys self.old commands.items replies.items self.new) }
+            IfOk result (λ replies. Run keys self.old.state commands.items replies.items self.new.state) }
+        ensures memory { let keys = ⟦<Self as Keyed>⟧.keys in
+            IfOk result (λ replies. RunsInMemory keys self.old commands.items replies.items self.new) }
         ensures refused { IfErr result (λ back. (back.items ≡ commands.items) × (self.new ≡ self.old)) }
         ensures empty { commands.items ≡ [] → IsOk result }
     {
@@ -341,9 +358,9 @@ impl<T: KeyedItem, S: BuildHasher> KeyedItems<T, S> {
 impl<T: KeyedItem, S: BuildHasher> KeyedItems<T, S> {
     // The hash of a first key, and the index of the item with it.
     fn hash_and_find(&self, key: &T::Key1) -> (MapHash, Option<ItemIndex>)
-        ensures paired { IsPaired self.now }
-        ensures hash { result.0 ≡ hash_in ⟦<Self as Keyed>⟧.keys self.now key.now }
-        ensures found { LooksUp (first_side ⟦<Self as Keyed>⟧.keys) self.now key.now result.1 }
+        ensures paired { IsPaired self.now.state }
+        ensures hash { result.0 ≡ hash_in ⟦<Self as Keyed>⟧.keys self.now.state key.now }
+        ensures found { LooksUp (first_side ⟦<Self as Keyed>⟧.keys) self.now.state key.now result.1 }
     {
         let hash = self.filed.compute_hash(&self.state, key);
         let query = ByKey(key);
@@ -361,6 +378,8 @@ fn remove_item<T: KeyedItem>(order: &mut MapBTreeTable, items: &mut ItemSet<T>, 
     ensures item { get items.old.store ix ≡ Some result }
     ensures removed { items.new.store ≡ removed items.old.store ix }
     ensures taken { order_of order.new ≡ without (order_of order.old) ix }
+    ensures slots { items.new.capacity ≡ items.old.capacity }
+    ensures ordered { ordered_capacity order.new ≡ ordered_capacity order.old }
 {
     ordered::take_index::<T, Second>(order, items, ix);
     take_item(items, ix)
@@ -371,6 +390,7 @@ fn take_item<T>(items: &mut ItemSet<T>, ix: ItemIndex) -> T
     requires { IsLive items.old.store ix }
     ensures item { get items.old.store ix ≡ Some result }
     ensures removed { items.new.store ≡ removed items.old.store ix }
+    ensures slots { items.new.capacity ≡ items.old.capacity }
 {
     match items.remove(ix) {
         Some(item) => item,
@@ -406,6 +426,9 @@ fn enter<T: KeyedItem>(
     ensures items_stay { OnErr result (items.new.store ≡ items.old.store) }
     ensures hashes_stay { OnErr result (filed table.new ≡ filed table.old) }
     ensures order_stays { OnErr result (order_of order.new ≡ order_of order.old) }
+    ensures memory { let has_room = HasRoomInParts items.old table.old order.old in
+        let was = memory_of items.old table.old order.old in
+        InsertsInMemory has_room was result (memory_of items.new table.new order.new) }
 {
     let query = ByKey(item.key2());
     let vacant = match ordered::entry::<T, Second, ByKey<T::Key2>>(order, items, &query) {

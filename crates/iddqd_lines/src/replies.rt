@@ -96,7 +96,7 @@ impl Replies {
         reply: &Reply<Record>,
         output: &mut O,
     ) -> Result<(), ()>
-        ensures { let text = text_of items.now.store named reply.now in
+        ensures { let text = text_of items.now.state.store named reply.now in
             Sends O.Sink output.old self.old (text ++ line_feed ∷ []) result output.new self.new }
     {
         self.make_room(output)?;
@@ -115,7 +115,7 @@ impl Replies {
     ) -> Result<(), ()>
         requires { length self.old + MAX_REPLY ≤ BLOCK }
         ensures room { OnOk result (length self.new < BLOCK) }
-        ensures sends { let text = text_of items.now.store named reply.now in
+        ensures sends { let text = text_of items.now.state.store named reply.now in
             Sends O.Sink output.old self.old text result output.new self.new }
     {
         match reply {
@@ -217,7 +217,7 @@ impl Replies {
     // The index that was found and its record, if there is one.
     fn put_found<S: BuildHasher>(&mut self, items: &KeyedItems<Record, S>, found: Option<ItemIndex>)
         requires { length self.old + MAX_REPLY ≤ BLOCK }
-        ensures text { self.new ≡ self.old ++ found_text items.now.store found }
+        ensures text { self.new ≡ self.old ++ found_text items.now.state.store found }
         ensures grows { length self.new < length self.old + MAX_REPLY }
     {
         let Some(ix) = found else {

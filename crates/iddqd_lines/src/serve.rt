@@ -117,8 +117,8 @@ fn serve_blocks<I: Source, O: Sink>(
     input: &mut I,
     output: &mut O,
 ) -> Result<(), ServeFault>
-    requires hasher { IsDefaultHasher items.old.hasher }
-    requires no_item { items.old ≡ empty_state items.old.hasher }
+    requires hasher { IsDefaultHasher items.old.state.hasher }
+    requires no_item { items.old.state ≡ empty_state items.old.state.hasher }
     requires no_line { partial.old ≡ Some [] }
     requires no_reply { replies.old ≡ [] }
     requires room { 0 < length block.old }
@@ -161,8 +161,8 @@ fn feed<S: BuildHasher, O: Sink>(
     output: &mut O,
 ) -> Result<(), ()>
     ensures feeds { let hash = hash_u32 S.BuildHasher S.Hasher.Hasher in
-        let old = moment items.old output.old replies.old in
-        let new = moment items.new output.new replies.new in
+        let old = moment items.old.state output.old replies.old in
+        let new = moment items.new.state output.new replies.new in
         (line : List ℕ) → IsKept partial.old line → Feeds hash O.Sink old line bytes.now result new partial.new }
     ensures failed { FailsOnErr (O.has_failed output.old) result (O.has_failed output.new) }
 {
@@ -184,8 +184,8 @@ fn end_line<S: BuildHasher, O: Sink>(
     output: &mut O,
 ) -> Result<(), ()>
     ensures obeys { let hash = hash_u32 S.BuildHasher S.Hasher.Hasher in
-        let old = moment items.old output.old replies.old in
-        let new = moment items.new output.new replies.new in
+        let old = moment items.old.state output.old replies.old in
+        let new = moment items.new.state output.new replies.new in
         (line : List ℕ) → partial.old ≡ kept_of line → Obeys hash O.Sink old ((line ++ end.now) ∷ []) result new }
     ensures forgets { OnOk result (partial.new ≡ Some []) }
     ensures failed { FailsOnErr (O.has_failed output.old) result (O.has_failed output.new) }
@@ -207,8 +207,8 @@ fn finish<S: BuildHasher, O: Sink>(
     output: &mut O,
 ) -> Result<(), ()>
     ensures obeys { let hash = hash_u32 S.BuildHasher S.Hasher.Hasher in
-        let old = moment items.old output.old replies.old in
-        let new = moment items.new output.new replies.new in
+        let old = moment items.old.state output.old replies.old in
+        let new = moment items.new.state output.new replies.new in
         (line : List ℕ) → IsKept last.now line → Obeys hash O.Sink old (lines_of line) result new }
     ensures none_waits { OnOk result (replies.new ≡ []) }
     ensures failed { FailsOnErr (O.has_failed output.old) result (O.has_failed output.new) }
@@ -235,8 +235,8 @@ fn obey<S: BuildHasher, O: Sink>(
     output: &mut O,
 ) -> Result<(), ()>
     ensures obeys { let hash = hash_u32 S.BuildHasher S.Hasher.Hasher in
-        let old = moment items.old output.old replies.old in
-        let new = moment items.new output.new replies.new in
+        let old = moment items.old.state output.old replies.old in
+        let new = moment items.new.state output.new replies.new in
         (line : List ℕ) → request ≡ request_of line → Obeys hash O.Sink old (line ∷ []) result new }
     ensures failed { FailsOnErr (O.has_failed output.old) result (O.has_failed output.new) }
 {
@@ -256,8 +256,8 @@ fn run<S: BuildHasher, O: Sink>(
     replies: &mut Replies,
     output: &mut O,
 ) -> Result<(), ()>
-    ensures { let old = moment items.old output.old replies.old in
-        let new = moment items.new output.new replies.new in
+    ensures { let old = moment items.old.state output.old replies.old in
+        let new = moment items.new.state output.new replies.new in
         Tells (hash_u32 S.BuildHasher S.Hasher.Hasher) O.Sink old (Run command) result new }
 {
     let named = named_index(&command);
@@ -271,8 +271,8 @@ fn check<S: BuildHasher, O: Sink>(
     replies: &mut Replies,
     output: &mut O,
 ) -> Result<(), ()>
-    ensures { let old = moment items.now output.old replies.old in
-        let new = moment items.now output.new replies.new in
+    ensures { let old = moment items.now.state output.old replies.old in
+        let new = moment items.now.state output.new replies.new in
         Tells (hash_u32 S.BuildHasher S.Hasher.Hasher) O.Sink old Validate result new }
 {
     match items.validate(ValidateCompact::Compact, ValidateChaos::Yes) {

@@ -1,8 +1,10 @@
 //! What has to become of a live index that is given an item that may have another key: by one look-up of
 //! the new key, and none where the key stays.
-ghost use Rattle.iddqd_hash.specs.{filed};
+ghost use Rattle.std.specs.Prelude.{◌≡◌, ◌≤◌, OnOk, OnErr};
+ghost use Rattle.iddqd_hash.specs.{filed, room};
 ghost use Rattle.iddqd_sides.specs.Scan.{IsLive};
 ghost use Rattle.iddqd_sides.specs.Hashed.{hashing_of};
+ghost use Rattle.iddqd_sides.specs.HashedMove.{IfMoves, IfStays, LacksRoom};
 ghost use Rattle.iddqd_map_base.specs.Indexing.{Indexes, PlansOrClashes};
 
 use iddqd::item_index::ItemIndex;
@@ -11,6 +13,7 @@ use iddqd_hash::hash_table::MapHashTable;
 use iddqd_sides::hashed::{self, hash_of};
 use iddqd_sides::hashed_move::Move;
 use iddqd_sides::key_of::{ByKey, KeyOf, key_at};
+use std::alloc::AllocError;
 use std::hash::{BuildHasher, Hash};
 
 /// What has to become of a live index that is given this item; or the index of another item that has
@@ -43,5 +46,19 @@ where
     match hashed::find::<T, E, ByKey<E::Key>>(table, items, hash, &ByKey(key)) {
         Some(at) => Err(at),
         None => Ok(Move::To(hash)),
+    }
+}
+
+/// Makes the room for a move. Where none has to be made no memory is taken.
+pub fn reserve_move(table: &mut MapHashTable, plan: &Move) -> Result<(), AllocError>
+    ensures contents { filed table.new ≡ filed table.old }
+    ensures roomy { OnOk result (IfMoves plan.now (λ _. 1 ≤ room table.new)) }
+    ensures room_stays { room table.old ≤ room table.new }
+    ensures refused { OnErr result (LacksRoom plan.now table.old) }
+    ensures untouched { IfStays plan.now (table.new ≡ table.old) }
+{
+    match plan {
+        Move::To(_) => table.try_reserve(1),
+        Move::Stays => Ok(()),
     }
 }

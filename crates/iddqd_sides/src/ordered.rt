@@ -9,7 +9,7 @@
 //! No query needs a premise: by the laws of `Comparable` it stands for one key.
 ghost use Rattle.std.specs.Prelude.{◌≡◌};
 ghost use Rattle.std.specs.Range.Bound.{bound_map};
-ghost use Rattle.iddqd_order.specs.{entry_table, indexes_ahead, order_of, without};
+ghost use Rattle.iddqd_order.specs.{capacity, entry_table, indexes_ahead, order_of, without};
 ghost use Rattle.iddqd_sides.specs.Scan.{IsLive, IsKeyAt};
 ghost use Rattle.iddqd_sides.specs.Ordered.{AreLive, Enters, Holds, LooksUp, Takes};
 ghost use Rattle.iddqd_sides.specs.OrderedQuery.{is_between};
@@ -76,6 +76,7 @@ where
     requires { Holds items.now.store (order_of table.old) }
     ensures found { LooksUp E.key_of E.Key.cmp items.now.store (order_of table.old) (Q.compare query.now) result }
     ensures taken { Takes (order_of table.old) result (order_of table.new) }
+    ensures memory { capacity table.new ≡ capacity table.old }
 {
     match entry::<T, E, Q>(table, items, query) {
         Entry::Occupied(entry) => Some(entry.remove()),
@@ -91,7 +92,8 @@ where
     E::Key: Ord,
     requires live { IsLive items.now.store ix }
     requires stored { AreLive items.now.store (order_of table.old) }
-    ensures { order_of table.new ≡ without (order_of table.old) ix }
+    ensures taken { order_of table.new ≡ without (order_of table.old) ix }
+    ensures memory { capacity table.new ≡ capacity table.old }
 {
     let key = key_at::<T, E>(items, ix);
     let mut asking = Asking::new(

@@ -48,8 +48,8 @@ type Appointments = KeyedItems<Appointment, DefaultHashBuilder>;
 #[derive(Drop)]
 pub struct Calendar {
     pub booked: Appointments,
-    ghost by_number: { IsExact (first_side ⟦<Appointments as Keyed>⟧.keys) booked },
-    ghost by_start: { IsExact (second_side ⟦<Appointments as Keyed>⟧.keys) booked } by { Prim.hlevel props },
+    ghost by_number: { IsExact (first_side ⟦<Appointments as Keyed>⟧.keys) booked.state },
+    ghost by_start: { IsExact (second_side ⟦<Appointments as Keyed>⟧.keys) booked.state } by { Prim.hlevel props },
 }
 
 /// Why an appointment wasn't booked.
@@ -66,7 +66,7 @@ pub enum BookingError {
 impl Calendar {
     /// No appointments. It takes no memory.
     pub fn new(alloc: Global) -> Calendar
-        ensures { (a : Appointment) → IsBooked result.booked.store a → ⊥ }
+        ensures { (a : Appointment) → IsBooked result.booked.state.store a → ⊥ }
     {
         Calendar {
             booked: KeyedItems::new(alloc, DefaultHashBuilder::default()),
@@ -75,9 +75,9 @@ impl Calendar {
 
     /// Books an appointment, unless its number or its start is taken.
     pub fn book(&mut self, appointment: Appointment) -> Result<(), BookingError>
-        ensures taken { (result ≡ Err Taken) ↔ IsTaken self.old.booked.store appointment }
-        ensures booked { OnOk result (self.new.booked.store ≡ inserted self.old.booked.store appointment) }
-        ensures unchanged { OnErr result (self.new.booked ≡ self.old.booked) }
+        ensures taken { (result ≡ Err Taken) ↔ IsTaken self.old.booked.state.store appointment }
+        ensures booked { OnOk result (self.new.booked.state.store ≡ inserted self.old.booked.state.store appointment) }
+        ensures unchanged { OnErr result (self.new.booked.state ≡ self.old.booked.state) }
     {
         match self.booked.insert(appointment) {
             Ok(_) => Ok(()),
@@ -89,7 +89,7 @@ impl Calendar {
 
     /// The appointment with this number, exactly where there is one.
     pub fn numbered(&self, number: u32) -> Option<Appointment>
-        ensures { (a : Appointment) → (result ≡ Some a) ↔ (IsBooked self.now.booked.store a × (a.number ≡ number)) }
+        ensures { (a : Appointment) → (result ≡ Some a) ↔ (IsBooked self.now.booked.state.store a × (a.number ≡ number)) }
     {
         match self.booked.get1(&number) {
             Some(appointment) => Some(*appointment),
@@ -99,7 +99,7 @@ impl Calendar {
 
     /// The appointment that starts then, exactly where there is one.
     pub fn starting(&self, start: u32) -> Option<Appointment>
-        ensures { (a : Appointment) → (result ≡ Some a) ↔ (IsBooked self.now.booked.store a × (a.start ≡ start)) }
+        ensures { (a : Appointment) → (result ≡ Some a) ↔ (IsBooked self.now.booked.state.store a × (a.start ≡ start)) }
     {
         match self.booked.get2(&start) {
             Some(appointment) => Some(*appointment),
@@ -110,9 +110,9 @@ impl Calendar {
     /// Cancels the appointment with this number, and hands it back. The others stay.
     pub fn cancel(&mut self, number: u32) -> Option<Appointment>
         ensures cancelled { (a : Appointment) →
-            (result ≡ Some a) ↔ (IsBooked self.old.booked.store a × (a.number ≡ number)) }
+            (result ≡ Some a) ↔ (IsBooked self.old.booked.state.store a × (a.number ≡ number)) }
         ensures others { (a : Appointment) →
-            IsBooked self.new.booked.store a ↔ (IsBooked self.old.booked.store a × (a.number ≢ number)) }
+            IsBooked self.new.booked.state.store a ↔ (IsBooked self.old.booked.state.store a × (a.number ≢ number)) }
     {
         match self.booked.remove1(&number) {
             Some((_, appointment)) => Some(appointment),
@@ -122,9 +122,9 @@ impl Calendar {
 
     /// The appointments in the order of their starts.
     pub fn agenda(&self) -> ValuesByKey2<'_, Appointment>
-        ensures items { result ≡ items_at self.now.booked.store self.now.booked.order }
+        ensures items { result ≡ items_at self.now.booked.state.store self.now.booked.state.order }
         ensures sorted { let side = second_side ⟦<Appointments as Keyed>⟧.keys in
-            side.Lists self.now.booked.store self.now.booked.order }
+            side.Lists self.now.booked.state.store self.now.booked.state.order }
     {
         self.booked.values_by_key2()
     }

@@ -1,81 +1,144 @@
 //! A diary of appointments: the calls of keyed items that `calendar` and `guests` don't make, and what each promises.
-ghost use Rattle.std.specs.Prelude.{◌≡◌, ◌↔◌, ℕ, IsTrue, Some, IfSome};
+ghost use Rattle.std.specs.Prelude.{◌≡◌, ◌↔◌, ◌≤◌, ℕ, IsTrue, Some, IfSome, IfOk, OnOk, min};
 ghost use Rattle.std.specs.Ordering.{nat_cmp, eq_by_cmp};
 ghost use Rattle.iddqd_maps.specs.LiveItems.{live_pairs};
 ghost use Rattle.iddqd_keyed.specs.Scan.{IsHit};
 ghost use Rattle.iddqd_keyed.specs.Store.{get, live_count, rebound};
+ghost use Rattle.iddqd_keyed.specs.{capacity, room, reservable};
 ghost use Rattle.uses.specs.declared.calendar.Appointment.{Appointment};
 
 use crate::calendar::Appointment;
-use iddqd_keyed::keyed_items::KeyedItems;
+use iddqd_keyed::keyed_items::{InsertRefusal, KeyedItems};
 use iddqd_maps::hash_builder::DefaultHashBuilder;
 use iddqd_maps::item_index::ItemIndex;
 use iddqd_maps::item_set::Iter;
+use std::alloc::{AllocError, Global};
 
 type Diary = KeyedItems<Appointment, DefaultHashBuilder>;
 
 /// How many appointments there are.
 pub fn count(diary: &Diary) -> usize
-    ensures { result ≡ live_count diary.now.store }
+    ensures { result ≡ live_count diary.now.state.store }
 {
     diary.len()
 }
 
 /// Whether there is none.
 pub fn is_free(diary: &Diary) -> bool
-    ensures { IsTrue result ↔ (live_count diary.now.store ≡ 0) }
+    ensures { IsTrue result ↔ (live_count diary.now.state.store ≡ 0) }
 {
     diary.is_empty()
 }
 
 /// The indexes with their appointments.
 pub fn pages(diary: &Diary) -> Iter<'_, Appointment>
-    ensures { result ≡ live_pairs diary.now.store }
+    ensures { result ≡ live_pairs diary.now.state.store }
 {
     diary.iter()
 }
 
 /// The index of an appointment that starts then.
 pub fn page(diary: &Diary, start: u32) -> Option<ItemIndex>
-    ensures { IfSome result (IsHit diary.now.store (λ a. eq_by_cmp nat_cmp start a.start)) }
+    ensures { IfSome result (IsHit diary.now.state.store (λ a. eq_by_cmp nat_cmp start a.start)) }
 {
     diary.find2_by(&start)
 }
 
 /// An appointment that starts then.
 pub fn starting(diary: &Diary, start: u32) -> Option<Appointment>
-    ensures { IfSome result (λ a. (ix : ℕ) × (get diary.now.store ix ≡ Some a)) }
+    ensures { IfSome result (λ a. (ix : ℕ) × (get diary.now.state.store ix ≡ Some a)) }
 {
     diary.get2_by(&start).copied()
 }
 
 /// Takes an appointment out that starts then.
 pub fn cancel(diary: &mut Diary, start: u32) -> Option<(ItemIndex, Appointment)>
-    ensures { IfSome result (λ taken. get diary.old.store taken.0 ≡ Some taken.1) }
+    ensures { IfSome result (λ taken. get diary.old.state.store taken.0 ≡ Some taken.1) }
 {
     diary.remove2_by(&start)
 }
 
 /// Lets the appointment with this number take so long, if there is one.
 pub fn extend(diary: &mut Diary, number: u32, minutes: u32) -> Option<()>
-    ensures { IfSome result (λ _. (ix : ℕ) × (was : Appointment) × (get diary.old.store ix ≡ Some was)
-        × (diary.new.store ≡ rebound diary.old.store ix (record was { minutes = minutes }))) }
+    ensures { IfSome result (λ _. (ix : ℕ) × (was : Appointment) × (get diary.old.state.store ix ≡ Some was)
+        × (diary.new.state.store ≡ rebound diary.old.state.store ix (record was { minutes = minutes }))) }
 {
     diary.modify1(&number, |appointment| appointment.minutes = minutes)
 }
 
 /// The same of the one that starts then.
 pub fn extend_starting(diary: &mut Diary, start: u32, minutes: u32) -> Option<()>
-    ensures { IfSome result (λ _. (ix : ℕ) × (was : Appointment) × (get diary.old.store ix ≡ Some was)
-        × (diary.new.store ≡ rebound diary.old.store ix (record was { minutes = minutes }))) }
+    ensures { IfSome result (λ _. (ix : ℕ) × (was : Appointment) × (get diary.old.state.store ix ≡ Some was)
+        × (diary.new.state.store ≡ rebound diary.old.state.store ix (record was { minutes = minutes }))) }
 {
     diary.modify2(&start, |appointment| appointment.minutes = minutes)
 }
 
 /// The same of the one at an index.
 pub fn extend_at(diary: &mut Diary, ix: ItemIndex, minutes: u32) -> Option<()>
-    ensures { IfSome result (λ _. (was : Appointment) × (get diary.old.store ix ≡ Some was)
-        × (diary.new.store ≡ rebound diary.old.store ix (record was { minutes = minutes }))) }
+    ensures { IfSome result (λ _. (was : Appointment) × (get diary.old.state.store ix ≡ Some was)
+        × (diary.new.state.store ≡ rebound diary.old.state.store ix (record was { minutes = minutes }))) }
 {
     diary.modify_at(ix, |appointment| appointment.minutes = minutes)
+}
+
+/// An empty diary with room for so many appointments.
+pub fn with_room(alloc: Global, appointments: u32) -> Result<Diary, AllocError>
+    ensures { IfOk result (λ diary. appointments ≤ room diary) }
+{
+    KeyedItems::with_capacity(alloc, DefaultHashBuilder::default(), appointments as usize)
+}
+
+/// How many appointments it can hold without asking for memory.
+pub fn size(diary: &Diary) -> usize
+    ensures { result ≡ capacity diary.now }
+{
+    diary.capacity()
+}
+
+/// How many more it can hold without asking for memory.
+pub fn left(diary: &Diary) -> usize
+    ensures { result ≡ room diary.now }
+{
+    diary.room()
+}
+
+/// Whether an appointment was booked, where there is room: it takes no memory, and is refused none.
+pub fn book(diary: &mut Diary, appointment: Appointment) -> bool
+    requires { 1 ≤ room diary.old }
+    ensures { diary.new.memory ≡ diary.old.memory }
+{
+    match diary.insert(appointment) {
+        Ok(_) => true,
+        Err(InsertRefusal::Memory(_)) => unreachable!(),
+        Err(_) => false,
+    }
+}
+
+/// Makes room for so many more appointments.
+pub fn widen(diary: &mut Diary, more: usize) -> Result<(), AllocError>
+    ensures { OnOk result (reservable more diary.old ≤ room diary.new) }
+{
+    diary.reserve(more)
+}
+
+/// The same, as another call says it.
+pub fn try_widen(diary: &mut Diary, more: usize) -> Result<(), AllocError>
+    ensures { diary.new.state ≡ diary.old.state }
+{
+    diary.try_reserve(more)
+}
+
+/// Gives back the memory that the appointments don't need.
+pub fn trim(diary: &mut Diary) -> Result<(), AllocError>
+    ensures { diary.new.state ≡ diary.old.state }
+{
+    diary.shrink_to_fit()
+}
+
+/// The same, but keeps what it can hold up to so many.
+pub fn trim_to(diary: &mut Diary, least: usize) -> Result<(), AllocError>
+    ensures { min (capacity diary.old) least ≤ capacity diary.new }
+{
+    diary.shrink_to(least)
 }

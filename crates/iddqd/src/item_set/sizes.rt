@@ -30,7 +30,7 @@ impl<T> ItemSet<T> {
         self.len == 0
     }
 
-    /// The most slots that there can be.
+    /// The most slots that there can be. No call changes it.
     pub fn limit(&self) -> usize
         ensures value { result ≡ self.now.store.limit }
         ensures bound { result ≤ slot_limit }

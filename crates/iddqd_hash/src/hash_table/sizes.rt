@@ -1,9 +1,9 @@
 //! Memory that a table of indexes takes ahead, and gives back.
-ghost use Rattle.std.specs.Prelude.{◌≡◌, ◌+◌, ◌≤◌, max, IfOk};
+ghost use Rattle.std.specs.Prelude.{◌≡◌, ◌+◌, ◌≤◌, min, max, IfOk};
 ghost use Rattle.std.specs.FinMap as finite;
+ghost use Rattle.iddqd_hash.specs.HashTable.{capacity, room, memory};
 ghost use Rattle.iddqd_hash.specs.MapHashTable.{filed};
 ghost use Rattle.iddqd_hash.specs.Sizes.{most_cells, Reserves, TakesRoom, Shrinks};
-ghost use Rattle.iddqd_hash.specs.HashTable.{memory};
 
 use super::MapHashTable;
 use crate::open_table::OpenHashTable;
@@ -25,6 +25,10 @@ impl MapHashTable {
         ensures contents { filed self.new ≡ filed self.old }
         ensures memory { Reserves additional self.old result self.new }
         ensures few { memory self.new ≤ max (memory self.old) (most_cells (finite.len (filed self.old) + additional)) }
+        ensures capacity { capacity self.old ≤ capacity self.new }
+
+        // What every table keeps.
+        ensures counted { capacity self.old ≡ finite.len (filed self.old) + room self.old }
     {
         self.try_reserve(additional)
     }
@@ -35,6 +39,7 @@ impl MapHashTable {
     pub fn shrink_to_fit(&mut self) -> Result<(), AllocError>
         ensures contents { filed self.new ≡ filed self.old }
         ensures memory { Shrinks 0 (finite.len (filed self.old)) self.old result self.new }
+        ensures capacity { min (capacity self.old) (finite.len (filed self.old)) ≤ capacity self.new }
     {
         self.shrink_to(0)
     }
@@ -45,6 +50,7 @@ impl MapHashTable {
     pub fn shrink_to(&mut self, least: usize) -> Result<(), AllocError>
         ensures contents { filed self.new ≡ filed self.old }
         ensures memory { Shrinks least (finite.len (filed self.old)) self.old result self.new }
+        ensures capacity { min (capacity self.old) (max least (finite.len (filed self.old))) ≤ capacity self.new }
     {
         self.table.shrink_to(least)
     }

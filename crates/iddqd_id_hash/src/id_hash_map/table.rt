@@ -6,11 +6,10 @@ use iddqd::item_index::ItemIndex;
 use iddqd::item_set::ItemSet;
 use iddqd::map_hash::MapHash;
 use iddqd_hash::hash_table::MapHashTable;
-use iddqd_map_base::hashed_plan::plan_move;
+use iddqd_map_base::hashed_plan::{plan_move, reserve_move};
 use iddqd_map_base::of_item::{commit_item, take_item};
 use iddqd_map_base::refusal::ReplaceRefusal;
 use iddqd_map_base::tables::Tables;
-use iddqd_sides::hashed_move::reserve_move;
 use std::alloc::AllocError;
 use std::hash::BuildHasher;
 

@@ -19,9 +19,10 @@ impl<T: KeyedItem, S: BuildHasher> KeyedItems<T, S> {
     /// the call hashes and compares no key, and takes no memory. To change a key, use `replace`.
     pub fn modify_at<R, F: FnOnce(&mut T) -> R>(&mut self, ix: ItemIndex, f: F) -> Option<R>
         requires { let keys = pair_keys T.first_key T.second_key in
-            KeepsKey F.FnOnce f keys (λ item. get self.old.store ix ≡ Some item) }
-        ensures modifies { ModifiesAt F.FnOnce f self.old ix result self.new }
-        ensures keeps { Keeps ⟦<Self as Keyed>⟧.keys self.old self.new }
+            KeepsKey F.FnOnce f keys (λ item. get self.old.state.store ix ≡ Some item) }
+        ensures modifies { ModifiesAt F.FnOnce f self.old.state ix result self.new.state }
+        ensures keeps { Keeps ⟦<Self as Keyed>⟧.keys self.old.state self.new.state }
+        ensures memory { self.new.memory ≡ self.old.memory }
     {
         let item = self.items.get_mut(ix)?;
         Some(f(item))
@@ -31,11 +32,12 @@ impl<T: KeyedItem, S: BuildHasher> KeyedItems<T, S> {
     /// none, and doesn't call it, where the look-up misses. Else as `modify_at`.
     pub fn modify1<R, F: FnOnce(&mut T) -> R>(&mut self, key: &T::Key1, f: F) -> Option<R>
         requires { let keys = pair_keys T.first_key T.second_key in
-            let finds = LooksUp (first_side ⟦<Self as Keyed>⟧.keys) self.old key.now in
-            KeepsKey F.FnOnce f keys (λ item. GivesFound self.old.store finds (Some item)) }
-        ensures modifies { let finds = LooksUp (first_side ⟦<Self as Keyed>⟧.keys) self.old key.now in
-            ModifiesFound F.FnOnce f finds self.old result self.new }
-        ensures keeps { Keeps ⟦<Self as Keyed>⟧.keys self.old self.new }
+            let finds = LooksUp (first_side ⟦<Self as Keyed>⟧.keys) self.old.state key.now in
+            KeepsKey F.FnOnce f keys (λ item. GivesFound self.old.state.store finds (Some item)) }
+        ensures modifies { let finds = LooksUp (first_side ⟦<Self as Keyed>⟧.keys) self.old.state key.now in
+            ModifiesFound F.FnOnce f finds self.old.state result self.new.state }
+        ensures keeps { Keeps ⟦<Self as Keyed>⟧.keys self.old.state self.new.state }
+        ensures memory { self.new.memory ≡ self.old.memory }
     {
         self.modify_at(self.find1(key)?, f)
     }
@@ -44,11 +46,12 @@ impl<T: KeyedItem, S: BuildHasher> KeyedItems<T, S> {
     /// none, and doesn't call it, where the look-up misses. Else as `modify_at`.
     pub fn modify2<R, F: FnOnce(&mut T) -> R>(&mut self, key: &T::Key2, f: F) -> Option<R>
         requires { let keys = pair_keys T.first_key T.second_key in
-            let finds = LooksUp (second_side ⟦<Self as Keyed>⟧.keys) self.old key.now in
-            KeepsKey F.FnOnce f keys (λ item. GivesFound self.old.store finds (Some item)) }
-        ensures modifies { let finds = LooksUp (second_side ⟦<Self as Keyed>⟧.keys) self.old key.now in
-            ModifiesFound F.FnOnce f finds self.old result self.new }
-        ensures keeps { Keeps ⟦<Self as Keyed>⟧.keys self.old self.new }
+            let finds = LooksUp (second_side ⟦<Self as Keyed>⟧.keys) self.old.state key.now in
+            KeepsKey F.FnOnce f keys (λ item. GivesFound self.old.state.store finds (Some item)) }
+        ensures modifies { let finds = LooksUp (second_side ⟦<Self as Keyed>⟧.keys) self.old.state key.now in
+            ModifiesFound F.FnOnce f finds self.old.state result self.new.state }
+        ensures keeps { Keeps ⟦<Self as Keyed>⟧.keys self.old.state self.new.state }
+        ensures memory { self.new.memory ≡ self.old.memory }
     {
         self.modify_at(self.find2(key)?, f)
     }

@@ -2,17 +2,21 @@
 //!
 //! Each new key is looked up once. Where that hits the index itself its table stays as it is; where it misses, the index
 //! is taken out of the table, wherever it stands there, and goes where the new key belongs. So the call works after
-//! silent changes too. All memory is taken while the old item still stands everywhere.
-ghost use Rattle.std.specs.Prelude.{◌≡◌, ◌≤◌, ◌⊎◌, Some, IsSome, IfOk, OnOk, IfErr, OnErr};
+//! silent changes too. The ordered table takes its memory while the old item still stands everywhere; the hash table
+//! needs none.
+ghost use Rattle.std.specs.Prelude.{◌≡◌, ◌≤◌, length, Some, IsSome, IsOk, IfOk, OnOk, IfErr, OnErr};
 ghost use Rattle.std.specs.FinMap as finite;
-ghost use Rattle.iddqd.specs.{get, rebound};
-ghost use Rattle.iddqd_hash.specs.{filed, room};
+ghost use Rattle.iddqd.specs.{get, live_count, rebound};
+ghost use Rattle.iddqd_hash.specs.{filed};
+ghost use Rattle.iddqd_hash.specs.HashTable.{KeepsMemory};
 ghost use Rattle.iddqd_order.specs.{order_of};
+ghost use Rattle.iddqd_order.specs.MapBTreeTable.{capacity as ordered_capacity};
 ghost use Rattle.iddqd_sides.specs.Scan.{IsLive, IsKeyAt};
 ghost use Rattle.iddqd_sides.specs.Ordered as ordered_side;
-ghost use Rattle.iddqd_sides.specs.HashedMove.{IfMoves, moved};
+ghost use Rattle.iddqd_sides.specs.HashedMove.{moved};
 ghost use Rattle.iddqd_keyed.specs.Sides.{Keeps};
-ghost use Rattle.iddqd_keyed.specs.Replacement.{TellsOther, Replaces, planned, MovesInPlace, Reorders};
+ghost use Rattle.iddqd_keyed.specs.Memory.{memory_of};
+ghost use Rattle.iddqd_keyed.specs.Replacement.{TellsOther, Replaces, IsForMemory, planned, MovesInPlace, Reorders};
 
 use super::{Keyed, KeyedItems};
 use crate::keyed_item::{First, KeyedItem};
@@ -22,7 +26,7 @@ use iddqd::map_hash::MapHash;
 use iddqd_hash::hash_table::MapHashTable;
 use iddqd_order::btree_table::{Asking, MapBTreeTable};
 use iddqd_sides::hashed;
-use iddqd_sides::hashed_move::{Move, commit_move, reserve_move};
+use iddqd_sides::hashed_move::{Move, commit_move};
 use std::alloc::AllocError;
 use std::error::Error;
 use std::fmt;
@@ -39,7 +43,7 @@ pub enum ReplaceRefusal<T> {
         first: Option<ItemIndex>,
         second: Option<ItemIndex>,
     },
-    /// No other item has one of the keys, one of them is new to the index, and memory was refused.
+    /// No other item has one of the keys, the second one is new to the index, and memory was refused to the ordered table.
     Memory(T),
 }
 
@@ -66,12 +70,18 @@ impl<T: KeyedItem, S: BuildHasher> KeyedItems<T, S> {
     /// Puts an item in the place of the one at a live index, which is handed back, and tells both tables.
     ///
     /// The index stays, and each table is in order then where it was before. The item may have other keys, but none that
-    /// another item has. A refusal hands it back and changes nothing. Where both keys stay no memory is taken.
+    /// another item has. A refusal hands it back and changes nothing.
+    ///
+    /// The hash table needs no memory for a new key: the removal of the old entry leaves the room. Nor does the ordered
+    /// table while it holds no more indexes than its capacity; past that a new second key may be refused memory.
     ///
     /// `overwrite` tells neither table, and takes any item.
     pub fn replace(&mut self, ix: ItemIndex, item: T) -> Result<T, ReplaceRefusal<T>>
-        ensures replaces { Replaces ⟦<Self as Keyed>⟧.keys self.old ix item result self.new }
-        ensures keeps { Keeps ⟦<Self as Keyed>⟧.keys self.old self.new }
+        ensures replaces { Replaces ⟦<Self as Keyed>⟧.keys self.old.state ix item result self.new.state }
+        ensures keeps { Keeps ⟦<Self as Keyed>⟧.keys self.old.state self.new.state }
+        ensures memory { self.new.memory ≡ self.old.memory }
+        ensures not_refused { live_count self.old.state.store ≤ self.old.memory.ordered
+            → IfErr result (λ refusal. IsForMemory refusal → ⊥) }
     {
         if self.items.get(ix).is_none() {
             return Err(ReplaceRefusal::Missing(item));
@@ -136,16 +146,14 @@ fn rebind<T: KeyedItem, S: BuildHasher>(
     ensures filed { OnOk result (filed table.new ≡ moved (filed table.old) ix (planned found.hash found.at1)) }
     ensures placed { let reorders = Reorders T.KeyedItem.second_key T.Key2.cmp items.old.store ix item found.at2 in
         OnOk result (reorders (order_of order.old) (order_of order.new)) }
-    ensures refused { IfErr result (λ refusal.
-        (refusal ≡ ReplaceRefusal.Memory item) × ((found.at1 ≡ None) ⊎ (found.at2 ≡ None))) }
+    ensures refused { IfErr result (λ refusal. (refusal ≡ ReplaceRefusal.Memory item) × (found.at2 ≡ None)) }
     ensures items_stay { OnErr result (items.new.store ≡ items.old.store) }
     ensures hashes_stay { OnErr result (filed table.new ≡ filed table.old) }
     ensures order_stays { OnErr result (order_of order.new ≡ order_of order.old) }
+    ensures memory { memory_of items.new table.new order.new ≡ memory_of items.old table.old order.old }
+    ensures roomy { length (order_of order.old) ≤ ordered_capacity order.old → IsOk result }
 {
     let plan = plan_of(found.hash, found.at1);
-    if let Err(AllocError) = reserve_move(table, &plan) {
-        return Err(ReplaceRefusal::Memory(item));
-    }
     if let Err(AllocError) = reorder(order, items, found.at2, ix, &item) {
         return Err(ReplaceRefusal::Memory(item));
     }
@@ -173,8 +181,8 @@ fn refile<T: KeyedItem, S: BuildHasher>(
 )
     requires live { IsLive items.now.store ix }
     requires filed { IsSome (finite.get (filed table.old) ix) }
-    requires roomy { IfMoves plan.now (λ _. 1 ≤ room table.old) }
-    ensures { filed table.new ≡ moved (filed table.old) ix plan.now }
+    ensures moved { filed table.new ≡ moved (filed table.old) ix plan.now }
+    ensures memory { KeepsMemory table.old table.new }
 {
     if let Move::To(_) = plan {
         let from = hashed::hash_of::<T, First, S>(state, &items[ix]);
@@ -197,6 +205,8 @@ fn reorder<T: KeyedItem>(
         OnOk result (reorders (order_of order.old) (order_of order.new)) }
     ensures refused { OnErr result (found ≡ None) }
     ensures stays { OnErr result (order_of order.new ≡ order_of order.old) }
+    ensures memory { ordered_capacity order.new ≡ ordered_capacity order.old }
+    ensures roomy { length (order_of order.old) ≤ ordered_capacity order.old → IsOk result }
 {
     match found {
         Some(_) => Ok(()),
@@ -217,6 +227,8 @@ fn move_in_order<T: KeyedItem>(
     ensures moved { let moves = MovesInPlace T.KeyedItem.second_key T.Key2.cmp items.now.store ix item.now in
         OnOk result (moves (order_of order.old) (order_of order.new)) }
     ensures stays { OnErr result (order_of order.new ≡ order_of order.old) }
+    ensures memory { ordered_capacity order.new ≡ ordered_capacity order.old }
+    ensures roomy { length (order_of order.old) ≤ ordered_capacity order.old → IsOk result }
 {
     let (old_key, new_key) = (key2_at(items, ix), item.key2());
     let mut asking = Asking::new(

@@ -35,21 +35,21 @@ impl<T: KeyedItem, S: BuildHasher> KeyedItems<T, S> {
         compactness: ValidateCompact,
         chaos: ValidateChaos,
     ) -> Result<(), ValidateRefusal<ValidationError>>
-        ensures paired { IsPaired self.now }
+        ensures paired { IsPaired self.now.state }
 
         // In every state it is Ok only where the mode allows the vacant slots, and says so where it doesn't.
-        ensures allowed { IsOk result → Allows compactness (length self.now.store.free) }
-        ensures not_compact { (Allows compactness (length self.now.store.free) → ⊥)
-            → IfErr result (Tells (not_compact_text (length self.now.store.free))) }
+        ensures allowed { IsOk result → Allows compactness (length self.now.state.store.free) }
+        ensures not_compact { (Allows compactness (length self.now.state.store.free) → ⊥)
+            → IfErr result (Tells (not_compact_text (length self.now.state.store.free))) }
 
         // By walks, and where the keys are in order, it is Ok exactly there, memory aside.
         ensures by_walks { chaos ≡ ValidateChaos.Yes
-            → Validates (Allows compactness (length self.now.store.free)) result }
-        ensures in_order { InOrder ⟦<Self as Keyed>⟧.keys self.now
-            → Validates (Allows compactness (length self.now.store.free)) result }
+            → Validates (Allows compactness (length self.now.state.store.free)) result }
+        ensures in_order { InOrder ⟦<Self as Keyed>⟧.keys self.now.state
+            → Validates (Allows compactness (length self.now.state.store.free)) result }
 
         // By keys it is Ok only where each index is filed under the hash of its first key.
-        ensures by_keys { chaos ≡ ValidateChaos.No → IsOk result → (first_side ⟦<Self as Keyed>⟧.keys).IsInPlace self.now }
+        ensures by_keys { chaos ≡ ValidateChaos.No → IsOk result → (first_side ⟦<Self as Keyed>⟧.keys).IsInPlace self.now.state }
     {
         self.items.validate(compactness)?;
         let len = self.items.len();
@@ -65,8 +65,8 @@ impl<T: KeyedItem, S: BuildHasher> KeyedItems<T, S> {
 
     // Whether each item is found by the keys that it has now.
     fn check_found(&self) -> Result<(), ValidateRefusal<ValidationError>>
-        ensures by_keys { IsOk result → (first_side ⟦<Self as Keyed>⟧.keys).IsInPlace self.now }
-        ensures in_order { InOrder ⟦<Self as Keyed>⟧.keys self.now → IfErr result IsMemory }
+        ensures by_keys { IsOk result → (first_side ⟦<Self as Keyed>⟧.keys).IsInPlace self.now.state }
+        ensures in_order { InOrder ⟦<Self as Keyed>⟧.keys self.now.state → IfErr result IsMemory }
     {
         for (ix, item) in self.items.iter() {
             if self.find1(item.key1()) != Some(ix) {

@@ -28,9 +28,9 @@ use std::ops::Bound;
 impl<T: KeyedItem, S: BuildHasher> KeyedItems<T, S> {
     /// The live indexes with their items, by rising index.
     pub fn iter(&self) -> item_set::Iter<'_, T>
-        ensures pairs { result ≡ live_pairs self.now.store }
-        ensures len { length result ≡ live_count self.now.store }
-        ensures walk { IsWalkOf self.now.store result }
+        ensures pairs { result ≡ live_pairs self.now.state.store }
+        ensures len { length result ≡ live_count self.now.state.store }
+        ensures walk { IsWalkOf self.now.state.store result }
     {
         self.items.iter()
     }
@@ -38,20 +38,20 @@ impl<T: KeyedItem, S: BuildHasher> KeyedItems<T, S> {
     /// The indexes in the order of the ordered table: by second key, where none was changed silently.
     /// It takes no memory.
     pub fn walk(&self) -> btree_table::Iter<'_>
-        ensures order { indexes_left result ≡ self.now.order }
-        ensures paired { IsPaired self.now }
+        ensures order { indexes_left result ≡ self.now.state.order }
+        ensures paired { IsPaired self.now.state }
         ensures as_scan { let side = second_side ⟦<Self as Keyed>⟧.keys in
-            IsExact side self.now → side.Lists self.now.store (indexes_left result) }
+            IsExact side self.now.state → side.Lists self.now.state.store (indexes_left result) }
     {
         self.order.iter()
     }
 
     /// The items in the order of the ordered table: by second key, where none was changed silently.
     pub fn values_by_key2(&self) -> ValuesByKey2<'_, T>
-        ensures items { result ≡ items_at self.now.store self.now.order }
-        ensures len { length result ≡ live_count self.now.store }
+        ensures items { result ≡ items_at self.now.state.store self.now.state.order }
+        ensures len { length result ≡ live_count self.now.state.store }
         ensures as_scan { let side = second_side ⟦<Self as Keyed>⟧.keys in
-            IsExact side self.now → side.Lists self.now.store self.now.order }
+            IsExact side self.now.state → side.Lists self.now.state.store self.now.state.order }
     {
         ValuesByKey2 {
             items: &self.items,
@@ -72,7 +72,7 @@ impl<T: KeyedItem, S: BuildHasher> KeyedItems<T, S> {
         upper: Bound<Q>,
     ) -> Range<'_, T>
         ensures { let within = is_between (bound_map Q.compare lower) (bound_map Q.compare upper) in
-            RangesWithin ⟦<Self as Keyed>⟧.keys within self.now result }
+            RangesWithin ⟦<Self as Keyed>⟧.keys within self.now.state result }
     {
         let (order, items) = (&self.order, &self.items);
         Range::new(
@@ -83,9 +83,9 @@ impl<T: KeyedItem, S: BuildHasher> KeyedItems<T, S> {
 
     // The indexes in the order of the ordered table, in memory of their own.
     pub(super) fn indexes(&self) -> Result<Vec<ItemIndex>, AllocError>
-        ensures paired { IsPaired self.now }
-        ensures all { IfOk result (λ indexes. indexes.items ≡ self.now.order) }
-        ensures empty { self.now.order ≡ [] → IsOk result }
+        ensures paired { IsPaired self.now.state }
+        ensures all { IfOk result (λ indexes. indexes.items ≡ self.now.state.order) }
+        ensures empty { self.now.state.order ≡ [] → IsOk result }
     {
         let walk = self.walk();
         let mut indexes = Vec::with_capacity(self.alloc, walk.len())?;

@@ -11,9 +11,9 @@ use super::tables::TriTables;
 use iddqd::item_index::ItemIndex;
 use iddqd::item_set::ItemSet;
 use iddqd::map_hash::MapHash;
-use iddqd_map_base::hashed_plan::plan_move;
+use iddqd_map_base::hashed_plan::{plan_move, reserve_move};
 use iddqd_map_base::of_item::commit_item;
-use iddqd_sides::hashed_move::{Move, reserve_move};
+use iddqd_sides::hashed_move::Move;
 use std::alloc::AllocError;
 use std::hash::BuildHasher;
 

@@ -85,3 +85,26 @@ insert_prehashed_unchecked-requires-clause-room g c = grind (arith, common_steps
 
 pub returns-in-Err-Memory-clause-items_stay : goal.returns-in-Err-Memory-clause-items_stay
 returns-in-Err-Memory-clause-items_stay g c = grind (arith, common_steps)
+
+pub returns-clause-first : goal.returns-clause-first
+returns-clause-first g c = search (rules, c.is_some.ensures, c.if-is_some.false)
+
+pub returns-clause-memory : goal.returns-clause-memory
+returns-clause-memory g c =
+    let grown = c.in-Ok.ensures in
+    let slots = c.insert-ix.ensures.inserted in
+    let hashed = c.try_reserve.ensures in
+    let used = c.insert_prehashed_unchecked.ensures.memory in
+    let ordered = c.insert.ensures.memory in
+    record {
+      no_lower = record {
+        slots = grind (arith, common_steps);
+        hashed = omega (arith, hashed.capacity, used.same_capacity);
+        cells = omega (arith, hashed.memory.memory_stays, used.same_memory);
+        ordered = grind (arith, common_steps);
+      };
+      same_ordered = grind (arith, common_steps);
+      refused_early = tt;
+      had_room = λ parts. grind (arith, common_steps);
+      not_refused = λ _. tt;
+    }

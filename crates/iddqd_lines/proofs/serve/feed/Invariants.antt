@@ -10,8 +10,8 @@ invariant-loop-end g l = record {
     seen : List ℕ;
     seen_and_rest : l.fn.bytes ≡ seen ++ l.rest;
     feeds :
-        let old = moment l.fn.items l.fn.output l.fn.replies in
-        let now = moment l.items l.output l.replies in
+        let old = moment l.fn.items.state l.fn.output l.fn.replies in
+        let now = moment l.items.state l.output l.replies in
         Feeds (hash_u32 g.S.BuildHasher g.S.Hasher.Hasher) g.O.Sink old line seen (Ok tt) now l.partial;
   };
   writing : g.O.Sink.has_failed l.output ≡ g.O.Sink.has_failed l.fn.output;

@@ -4,11 +4,11 @@ use Rattle.iddqd_lines.proofs.serve.run.Goals as goal
 
 pub returns : goal.returns
 returns g c = record {
-  out = text_of c.step-reply.new.self.store c.named_index-named.result c.step-reply.result;
+  out = text_of c.step-reply.new.self.state.store c.named_index-named.result c.step-reply.result;
   answers = record {
     reply = c.step-reply.result;
-    step = c.step-reply.ensures;
-    text = ap (λ named. text_of c.step-reply.new.self.store named c.step-reply.result) c.named_index-named.ensures;
+    step = c.step-reply.ensures.step;
+    text = ap (λ named. text_of c.step-reply.new.self.state.store named c.step-reply.result) c.named_index-named.ensures;
   };
   sends = c.put_reply.ensures;
 }

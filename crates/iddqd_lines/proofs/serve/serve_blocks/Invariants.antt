@@ -9,8 +9,8 @@ use Rattle.iddqd_lines.proofs.serve.serve_blocks.Given as goal
 abbrev pub invariant-reads : goal.invariant-reads
 invariant-reads g l = record {
   reads :
-      let old = moment (empty_state l.fn.items.hasher) l.fn.output [] in
-      let now = moment l.items l.output l.replies in
+      let old = moment (empty_state l.fn.items.state.hasher) l.fn.output [] in
+      let now = moment l.items.state l.output l.replies in
       let left = g.I.Source.left in
       IfSome (left l.fn.input) (λ bytes. Reads default_hash g.O.Sink old bytes (left l.input) l.counter now l.partial);
   reading : g.I.Source.has_failed l.input ≡ false;

@@ -1,5 +1,6 @@
-use Rattle.std.proofs.Common.{◌≡◌, length, sym}
+use Rattle.std.proofs.Common.{◌≡◌, length, sym, arith}
 use Rattle.std.specs.FinMap as finite
+use Rattle.std.proofs.lemmas.List.Sorted.{length_permutation}
 use Rattle.iddqd_hash.specs.HashTable.{entries}
 use Rattle.iddqd_hash.specs.MapHashTable.{filed, filed_from}
 use Rattle.iddqd_hash.proofs.MapHashTableLemmas.{distinct_moved, filed_moved, len_filed}
@@ -20,3 +21,15 @@ unfolding filed
 returns-clause-few c =
     let long : length (entries c.self.inside.table) ≡ finite.len (filed_from (entries c.self.inside.table)) = len_filed _ c.self.invariant in
     rw (← c.self.view_is, ← long) c.try_reserve.ensures.memory.few
+
+pub returns-clause-capacity : goal.returns-clause-capacity
+returns-clause-capacity c =
+    let moved = length_permutation _ _ c.try_reserve.ensures.contents in
+    let stays = c.try_reserve.ensures.memory.room_stays in
+    rw (← c.self.view_is) (omega (arith, moved, stays))
+
+pub returns-clause-counted : goal.returns-clause-counted
+unfolding filed
+returns-clause-counted c =
+    let long : length (entries c.self.inside.table) ≡ finite.len (filed_from (entries c.self.inside.table)) = len_filed _ c.self.invariant in
+    rw (← c.self.view_is, ← long)

@@ -36,7 +36,7 @@ at_end g c =
 pub invariant_of-self : goal.invariant_of-self
 invariant_of-self g c =
     let (item, end) = at_end g c in
-    IsOrdMap-removed _ _ g.met.T.Key.Ord.total c.self.inside.items c.remove.new.self (order_of c.self.inside.table) (order_of c.take_index.new.table) c.self.invariant c.in_ok-ix.ix item c.remove.result end.live c.remove.ensures.value c.remove.ensures.removed c.take_index.ensures
+    IsOrdMap-removed _ _ g.met.T.Key.Ord.total c.self.inside.items c.remove.new.self (order_of c.self.inside.table) (order_of c.take_index.new.table) c.self.invariant c.in_ok-ix.ix item c.remove.result end.live c.remove.ensures.value c.remove.ensures.removed c.take_index.ensures.taken
 
 pub returns : goal.returns
 returns g c =

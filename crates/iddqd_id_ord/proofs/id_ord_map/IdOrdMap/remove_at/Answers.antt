@@ -9,4 +9,4 @@ pub invariant_of-self : goal.invariant_of-self
 invariant_of-self g c =
     let here : IsLive c.self.inside.items.store c.args.ix = search rules in
     let (item, live) = item_at c.self.inside.items.store c.args.ix here in
-    IsOrdMap-removed _ _ g.met.T.Key.Ord.total c.self.inside.items c.remove.new.self (order_of c.self.inside.table) (order_of c.take_index.new.table) c.self.invariant c.args.ix item c.remove.result live c.remove.ensures.value c.remove.ensures.removed c.take_index.ensures
+    IsOrdMap-removed _ _ g.met.T.Key.Ord.total c.self.inside.items c.remove.new.self (order_of c.self.inside.table) (order_of c.take_index.new.table) c.self.invariant c.args.ix item c.remove.result live c.remove.ensures.value c.remove.ensures.removed c.take_index.ensures.taken

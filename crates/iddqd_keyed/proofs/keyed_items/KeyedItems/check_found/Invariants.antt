@@ -9,4 +9,4 @@ use Rattle.iddqd_keyed.proofs.keyed_items.KeyedItems.check_found.Given as goal
 abbrev pub invariant-loop-ix : goal.invariant-loop-ix
 invariant-loop-ix g l =
     let keys : Keys _ _ _ _ = keys_of g.T.KeyedItem g.T.Key1.PartialEq.eq g.T.Key1.Hash.hash_input g.T.Key2.Ord.cmp g.S.BuildHasher g.S.Hasher.Hasher in
-    Checked l.self.store (λ ix item. finite.get l.self.filed ix ≡ Some (hash_in keys l.self (keys.first item))) l.ix-iterator
+    Checked l.self.state.store (λ ix item. finite.get l.self.state.filed ix ≡ Some (hash_in keys l.self.state (keys.first item))) l.ix-iterator

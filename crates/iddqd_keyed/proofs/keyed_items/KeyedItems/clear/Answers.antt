@@ -14,3 +14,8 @@ returns-clause-keeps g c =
 
 pub returns-clause-cleared : goal.returns-clause-cleared
 returns-clause-cleared g c = grind (arith, common_steps)
+
+pub returns-clause-memory : goal.returns-clause-memory
+returns-clause-memory g c =
+    let hashed = c.clear-2.ensures.memory in
+    rw (← c.self.view_is, c.clear.ensures.capacity, hashed.same_capacity, hashed.same_memory, c.clear-3.ensures.memory)

@@ -63,3 +63,8 @@ returns-clause-keeps g c =
 
 pub invariant_of-self : goal.invariant_of-self
 invariant_of-self g c = grind (arith, common_steps)
+
+pub returns-clause-memory : goal.returns-clause-memory
+returns-clause-memory g c =
+    let hashed = c.remap_indexes.ensures.memory in
+    rw (← c.self.view_is, c.in_ok-remap.ensures.capacity, hashed.same_capacity, hashed.same_memory, c.remap_indexes-2.ensures.memory)

@@ -1,5 +1,6 @@
-use Rattle.std.proofs.Common.{arith}
+use Rattle.std.proofs.Common.{ap, arith}
 use Rattle.std.proofs.lemmas.Grind.{common_steps}
+use Rattle.iddqd_keyed.specs.Memory.{SizedState}
 use Rattle.iddqd_keyed.proofs.KeyLemmas.{AreLawful-from_bounds}
 use Rattle.iddqd_keyed.proofs.KeepsLemmas.{LooksUp-hashed}
 use Rattle.iddqd_keyed.proofs.keyed_items.KeyedItems.hash_and_find.Goals as goal
@@ -9,7 +10,7 @@ returns-clause-hash g c = rw (← c.self.view_is) c.compute_hash-hash.ensures.ha
 
 pub returns-clause-found : goal.returns-clause-found
 returns-clause-found g c =
-    LooksUp-hashed _ _ _ c.self.view_is
+    LooksUp-hashed _ _ _ (ap (λ (k : SizedState _ _). k.state) c.self.view_is)
     (AreLawful-from_bounds {item = g.T.KeyedItem} g.S.BuildHasher g.S.Hasher.Hasher g.met.T.Key1.PartialEq.laws
     g.met.T.Key1.Hash.respects_eq g.met.T.Key2.Ord.total)
     c.args.key.now _ _ c.compute_hash-hash.ensures.hash c.find.ensures

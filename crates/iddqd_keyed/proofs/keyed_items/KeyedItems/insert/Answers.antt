@@ -6,6 +6,8 @@ use Rattle.iddqd_keyed.specs.Sides.{LooksUp, Keeps, first_side, finds_told}
 use Rattle.iddqd_keyed.specs.Machine.{StoresAt}
 use Rattle.iddqd_keyed.proofs.KeyLemmas.{AreLawful-from_bounds}
 use Rattle.iddqd_keyed.proofs.KeepsLemmas.{Holds-order}
+use Rattle.iddqd_keyed.specs.Memory.{sized_of}
+use Rattle.iddqd_keyed.proofs.MemoryLemmas.{InsertsInMemory-where, HasRoomInParts-from_room, room-inserted}
 use Rattle.iddqd_keyed.proofs.InsertLemmas.{StoresAt-from_parts, same-from_parts, Keeps-from_stored}
 use Rattle.iddqd_sides.proofs.HoldsLemmas.{next_unfiled}
 use Rattle.iddqd_keyed.proofs.keyed_items.KeyedItems.insert.Goals.{After-enter}
@@ -77,3 +79,20 @@ returns-clause-tells g c =
 
 pub returns-clause-keeps : goal.returns-clause-keeps
 returns-clause-keeps g c = rw (← c.self.view_is) (keeps g c)
+
+pub returns-clause-memory : goal.returns-clause-memory
+returns-clause-memory g c =
+    rw (← c.self.view_is)
+    (InsertsInMemory-where
+    (HasRoomInParts-from_room c.self.inside.state c.self.inside.items c.self.inside.filed c.self.inside.order c.self.invariant)
+    c.enter.ensures.memory)
+
+pub returns-clause-room : goal.returns-clause-room
+returns-clause-room g c =
+    let whole = sized_of c.self.inside.state c.self.inside.items c.self.inside.filed c.self.inside.order in
+    let left = sized_of c.self.inside.state c.enter.new.items c.enter.new.table c.enter.new.order in
+    rw (← c.self.view_is)
+    (room-inserted whole left c.self.invariant (keys g c) c.args.item c.enter.result (stored g c)
+    (InsertsInMemory-where
+    (HasRoomInParts-from_room c.self.inside.state c.self.inside.items c.self.inside.filed c.self.inside.order c.self.invariant)
+    c.enter.ensures.memory))

@@ -9,6 +9,6 @@ modify_at-requires g c = λ p live. c.requires p (c.in_ok-find2.field-0, c.in_ok
 pub returns-clause-modifies : goal.returns-clause-modifies
 returns-clause-modifies g c =
     let keys = keys_of g.T.KeyedItem g.T.Key1.PartialEq.eq g.T.Key1.Hash.hash_input g.T.Key2.Ord.cmp g.S.BuildHasher g.S.Hasher.Hasher in
-    let finds = LooksUp (second_side keys) c.args.self.now c.args.key.now in
+    let finds = LooksUp (second_side keys) c.args.self.now.state c.args.key.now in
     let found = c.in_ok-find2.ensures.found in
-    ModifiesFound-hit g.F.FnOnce c.args.f finds _ c.args.self.now c.in_ok-find2.field-0 c.modify_at.result c.modify_at.new.self found found.found c.modify_at.ensures.modifies
+    ModifiesFound-hit g.F.FnOnce c.args.f finds _ c.args.self.now.state c.in_ok-find2.field-0 c.modify_at.result c.modify_at.new.self.state found found.found c.modify_at.ensures.modifies

@@ -2,7 +2,7 @@ use Rattle.std.proofs.Common.{◌≡◌, Some, refl, sym}
 use Rattle.std.specs.Fn.{FnOnceReturnsAtMut}
 use Rattle.iddqd.specs.Store.{get}
 use Rattle.iddqd_keyed.proofs.KeyLemmas.{AreLawful-from_bounds}
-use Rattle.iddqd_keyed.proofs.KeepsLemmas.{IsPaired-rebound, Keeps-same}
+use Rattle.iddqd_keyed.proofs.KeepsLemmas.{IsPaired-rebound}
 use Rattle.iddqd_keyed.proofs.ModifyLemmas.{Keeps-modified}
 use Rattle.iddqd_keyed.proofs.keyed_items.KeyedItems.modify_at.Goals as goal
 
@@ -25,3 +25,6 @@ returns-clause-keeps g c =
     (Keeps-modified _ _ c.self.invariant
     (AreLawful-from_bounds {item = g.T.KeyedItem} g.S.BuildHasher g.S.Hasher.Hasher g.met.T.Key1.PartialEq.laws
     g.met.T.Key1.Hash.respects_eq g.met.T.Key2.Ord.total) g.met.T.Key1.Eq.laws c.args.ix item.now c.f.new.arg2 live same)
+
+pub returns-clause-memory : goal.returns-clause-memory
+returns-clause-memory g c = rw (← c.self.view_is)

@@ -25,3 +25,6 @@ returns-then-is_none-clause-overwrites g c = grind (arith, common_steps)
 
 pub returns-clause-overwrites : goal.returns-clause-overwrites
 returns-clause-overwrites g c = grind (arith, common_steps)
+
+pub returns-clause-memory : goal.returns-clause-memory
+returns-clause-memory g c = rw (← c.self.view_is, c.replace.ensures.rebound)

@@ -1,5 +1,7 @@
-use Rattle.std.proofs.Common.{arith}
+use Rattle.std.proofs.Common.{Some, arith}
 use Rattle.std.proofs.lemmas.Grind.{common_steps}
+use Rattle.iddqd_keyed.specs.Memory.{sized_of}
+use Rattle.iddqd_keyed.proofs.MemoryLemmas.{room-removed}
 use Rattle.iddqd_keyed.proofs.KeyLemmas.{AreLawful-from_bounds}
 use Rattle.iddqd_keyed.proofs.KeepsLemmas.{IsPaired-unbound, Keeps-unbound}
 use Rattle.iddqd_keyed.proofs.keyed_items.KeyedItems.remove.Goals as goal
@@ -23,3 +25,19 @@ returns-in_err-item-clause-keeps g c = grind (arith, common_steps)
 
 pub returns-clause-removes : goal.returns-clause-removes
 returns-clause-removes g c = grind (arith, common_steps)
+
+pub returns-clause-memory : goal.returns-clause-memory
+returns-clause-memory g c =
+    let hashed = c.take_index.ensures.memory in
+    rw (← c.self.view_is, c.remove_item.ensures.slots, hashed.same_capacity, hashed.same_memory, c.remove_item.ensures.ordered)
+
+pub returns-clause-room : goal.returns-clause-room
+returns-clause-room g c =
+    let whole = sized_of c.self.inside.state c.self.inside.items c.self.inside.filed c.self.inside.order in
+    let left = sized_of c.self.inside.state c.remove_item.new.items c.take_index.new.table c.remove_item.new.order in
+    let out = c.remove_item.ensures in
+    let hashed = c.take_index.ensures.memory in
+    rw (← c.self.view_is)
+    (room-removed whole left c.self.invariant c.args.ix (Some c.remove_item.result)
+    (out.item, rw (out.removed, c.take_index.ensures.taken, out.taken))
+    (rw (out.slots, hashed.same_capacity, hashed.same_memory, c.remove_item.ensures.ordered)))

@@ -2,6 +2,7 @@ use Rattle.std.proofs.Common.{rules, ◌≡◌, ◌∙◌, Some, None, refl, ap,
 use Rattle.std.proofs.lemmas.Grind.{common_steps}
 use Rattle.iddqd.specs.MapHash.{hash_one}
 use Rattle.iddqd_keyed.specs.Keys.{keys_of}
+use Rattle.iddqd_keyed.specs.Memory.{SizedState}
 use Rattle.iddqd_keyed.proofs.KeyLemmas.{AreLawful-from_bounds}
 use Rattle.iddqd_keyed.proofs.KeepsLemmas.{IsPaired-unbound, Keeps-unbound}
 use Rattle.iddqd_keyed.proofs.QueryLemmas.{LooksUpBy-hashed}
@@ -15,10 +16,10 @@ returns-in_err-ix-clause-removes g c =
     let hash = hash_one g.S.BuildHasher g.S.Hasher.Hasher c.self.inside.state in
     let looked = LooksUpBy-hashed
     (keys_of g.T.KeyedItem g.T.Key1.PartialEq.eq g.T.Key1.Hash.hash_input g.T.Key2.Ord.cmp g.S.BuildHasher
-    g.S.Hasher.Hasher) _ _ c.self.view_is (g.Q.HashQuery.stands_for query) _ None
+    g.S.Hasher.Hasher) _ _ (ap (λ (k : SizedState _ _). k.state) c.self.view_is) (g.Q.HashQuery.stands_for query) _ None
     (λ key passed. c.query_hash-hash.ensures ∙ ap hash (laws.same_hash query key passed))
     (laws.same_key query) c.in_err-ix.ensures.found in
-    rw none (looked, rw c.in_err-ix.ensures.taken c.self.view_is)
+    rw none (looked, rw (← c.self.view_is, c.in_err-ix.ensures.taken) refl)
 
 pub invariant_of-self-2 : goal.invariant_of-self-2
 invariant_of-self-2 g c =
@@ -34,7 +35,7 @@ returns-clause-removes g c =
     let hash = hash_one g.S.BuildHasher g.S.Hasher.Hasher c.self.inside.state in
     let looked = LooksUpBy-hashed
     (keys_of g.T.KeyedItem g.T.Key1.PartialEq.eq g.T.Key1.Hash.hash_input g.T.Key2.Ord.cmp g.S.BuildHasher
-    g.S.Hasher.Hasher) _ _ c.self.view_is (g.Q.HashQuery.stands_for query) _ (Some c.in_ok-ix.ix)
+    g.S.Hasher.Hasher) _ _ (ap (λ (k : SizedState _ _). k.state) c.self.view_is) (g.Q.HashQuery.stands_for query) _ (Some c.in_ok-ix.ix)
     (λ key passed. c.query_hash-hash.ensures ∙ ap hash (laws.same_hash query key passed))
     (laws.same_key query) c.in_ok-ix.ensures.found in
     (looked, rw (← c.self.view_is, out.removed, c.in_ok-ix.ensures.taken, out.taken) (out.item, refl))
@@ -49,3 +50,8 @@ returns-clause-keeps g c =
 
 pub invariant_of-self : goal.invariant_of-self
 invariant_of-self g c = grind (arith, common_steps)
+
+pub returns-clause-memory : goal.returns-clause-memory
+returns-clause-memory g c =
+    let hashed = c.in_ok-ix.ensures.memory in
+    rw (← c.self.view_is, c.remove_item.ensures.slots, hashed.same_capacity, hashed.same_memory, c.remove_item.ensures.ordered)

@@ -49,3 +49,8 @@ returns-clause-keeps g c =
 
 pub invariant_of-self : goal.invariant_of-self
 invariant_of-self g c = grind (arith, common_steps)
+
+pub returns-clause-memory : goal.returns-clause-memory
+returns-clause-memory g c =
+    let hashed = c.take_index.ensures.memory in
+    rw (← c.self.view_is, c.take_item-item.ensures.slots, hashed.same_capacity, hashed.same_memory, c.in_ok-ix.ensures.memory)

@@ -5,19 +5,20 @@ use Rattle.iddqd_keyed.specs.Keys.{Keys, keys_of}
 use Rattle.iddqd_keyed.specs.State.{State, state_of}
 use Rattle.iddqd_keyed.specs.Sides.{LooksUp, Keeps, first_side, second_side}
 use Rattle.iddqd_keyed.proofs.KeyLemmas.{AreLawful, AreLawful-from_bounds}
-use Rattle.iddqd_keyed.proofs.ReplacementLemmas.{TellsOther-found, Replaces-rebound, Keeps-rebound}
+use Rattle.iddqd_keyed.proofs.MemoryLemmas.{length-order}
+use Rattle.iddqd_keyed.proofs.ReplacementLemmas.{not_for_memory, TellsOther-found, Replaces-rebound, Keeps-rebound}
 use Rattle.iddqd_keyed.proofs.keyed_items.KeyedItems.replace.Goals.{After-rebind, then-is_some-via-then-is_some, then-is_some-via-else-is_some+then-is_some-2}
 use Rattle.iddqd_keyed.proofs.keyed_items.KeyedItems.replace.Goals as goal
 
 pub returns-then-is_some-clause-replaces : goal.returns-then-is_some-clause-replaces
 returns-then-is_some-clause-replaces g c =
-    let live : IsLive c.args.self.now.store c.args.ix = search (rules, c.get.ensures, c.if-is_none.false) in
+    let live : IsLive c.args.self.now.state.store c.args.ix = search (rules, c.get.ensures, c.if-is_none.false) in
     let item = c.args.item in
     let keys : Keys g.row.T.Denot g.row.T-Key1.Denot g.row.T-Key2.Denot g.row.S.Denot =
     keys_of g.T.KeyedItem g.T.Key1.PartialEq.eq g.T.Key1.Hash.hash_input g.T.Key2.Ord.cmp g.S.BuildHasher g.S.Hasher.Hasher in
     record {
-      first = λ _. TellsOther-found (LooksUp (first_side keys) c.args.self.now (keys.first item)) c.hash_and_find-hash.result.1 c.args.ix _ (rw c.key1.ensures at c.hash_and_find-hash.ensures.found) c.other_than-first.ensures;
-      second = λ _. TellsOther-found (LooksUp (second_side keys) c.args.self.now (keys.second item)) c.find2-at2.result c.args.ix _ (rw c.key2.ensures at c.find2-at2.ensures.found) c.other_than-second.ensures;
+      first = λ _. TellsOther-found (LooksUp (first_side keys) c.args.self.now.state (keys.first item)) c.hash_and_find-hash.result.1 c.args.ix _ (rw c.key1.ensures at c.hash_and_find-hash.ensures.found) c.other_than-first.ensures;
+      second = λ _. TellsOther-found (LooksUp (second_side keys) c.args.self.now.state (keys.second item)) c.find2-at2.result c.args.ix _ (rw c.key2.ensures at c.find2-at2.ensures.found) c.other_than-second.ensures;
       replaced = tt;
       refused = (
         refl,
@@ -88,6 +89,11 @@ returns-clause-replaces g c =
     (Replaces-rebound (keys g c) (was g c) c.self.invariant (lawful g c) c.args.ix c.args.item _ _ (own1 g c) (own2 g c)
     (first g c) (second g c) (live g c) _ _ _ c.rebind.result
     out.was out.stored filed out.placed out.refused out.items_stay out.hashes_stay out.order_stays)
+
+pub returns-clause-not_refused : goal.returns-clause-not_refused
+returns-clause-not_refused g c =
+    let count = length-order (was g c) c.self.invariant in
+    rw (← c.self.view_is) (λ within. not_for_memory c.rebind.result (c.rebind.ensures.roomy (omega (arith, count, within))))
 
 pub returns-clause-keeps : goal.returns-clause-keeps
 returns-clause-keeps g c = rw (← c.self.view_is) (keeps g c)

@@ -21,11 +21,11 @@ first_memory g c =
 
 pub returns-in_err-of_table-clause-by_walks : goal.returns-in_err-of_table-clause-by_walks
 returns-in_err-of_table-clause-by_walks g c = λ walks.
-    Validates-refused (Allows c.args.compactness (length c.args.self.now.store.free)) c.from_residual-in_err-of_table.result c.from_residual-in_err-of_table.ensures.0 (first_memory g c)
+    Validates-refused (Allows c.args.compactness (length c.args.self.now.state.store.free)) c.from_residual-in_err-of_table.result c.from_residual-in_err-of_table.ensures.0 (first_memory g c)
 
 pub returns-in_err-of_table-clause-in_order : goal.returns-in_err-of_table-clause-in_order
 returns-in_err-of_table-clause-in_order g c = λ ordered.
-    Validates-refused (Allows c.args.compactness (length c.args.self.now.store.free)) c.from_residual-in_err-of_table.result c.from_residual-in_err-of_table.ensures.0 (first_memory g c)
+    Validates-refused (Allows c.args.compactness (length c.args.self.now.state.store.free)) c.from_residual-in_err-of_table.result c.from_residual-in_err-of_table.ensures.0 (first_memory g c)
 
 -- and so is the ordered table
 second_memory : (g : _) (c : After-from_residual-in_err-of_table-2 g) → IfErr c.from_residual-in_err-of_table-2.result IsMemory
@@ -40,11 +40,11 @@ second_memory g c =
 
 pub returns-in_err-of_table-2-clause-by_walks : goal.returns-in_err-of_table-2-clause-by_walks
 returns-in_err-of_table-2-clause-by_walks g c = λ walks.
-    Validates-refused (Allows c.args.compactness (length c.args.self.now.store.free)) c.from_residual-in_err-of_table-2.result c.from_residual-in_err-of_table-2.ensures.0 (second_memory g c)
+    Validates-refused (Allows c.args.compactness (length c.args.self.now.state.store.free)) c.from_residual-in_err-of_table-2.result c.from_residual-in_err-of_table-2.ensures.0 (second_memory g c)
 
 pub returns-in_err-of_table-2-clause-in_order : goal.returns-in_err-of_table-2-clause-in_order
 returns-in_err-of_table-2-clause-in_order g c = λ ordered.
-    Validates-refused (Allows c.args.compactness (length c.args.self.now.store.free)) c.from_residual-in_err-of_table-2.result c.from_residual-in_err-of_table-2.ensures.0 (second_memory g c)
+    Validates-refused (Allows c.args.compactness (length c.args.self.now.state.store.free)) c.from_residual-in_err-of_table-2.result c.from_residual-in_err-of_table-2.ensures.0 (second_memory g c)
 
 pub returns-in-No-clause-paired : goal.returns-in-No-clause-paired
 returns-in-No-clause-paired g c = grind (arith, common_steps)

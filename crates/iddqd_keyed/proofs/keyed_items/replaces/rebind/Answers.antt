@@ -5,9 +5,6 @@ use Rattle.iddqd_keyed.proofs.keyed_items.replaces.rebind.Goals as goal
 pub returns-in-Err-clause-refused : goal.returns-in-Err-clause-refused
 returns-in-Err-clause-refused g c = grind (arith, common_steps)
 
-pub returns-in-Err-reorder-clause-refused : goal.returns-in-Err-reorder-clause-refused
-returns-in-Err-reorder-clause-refused g c = grind (arith, common_steps)
-
 pub returns-clause-filed : goal.returns-clause-filed
 returns-clause-filed g c = grind (arith, common_steps)
 

@@ -8,7 +8,7 @@ unfolding IsStrictlySortedBy
 nothing_sorted compare = tt
 
 pub invariant_of-result-clause-by_number : goal.invariant_of-result-clause-by_number
-invariant_of-result-clause-by_number c = rw c.new.ensures (record { placed = λ ix item live. absurd (cc); apart = λ i j x y live other alike. absurd (cc) })
+invariant_of-result-clause-by_number c = rw c.new.ensures.state (record { placed = λ ix item live. absurd (cc); apart = λ i j x y live other alike. absurd (cc) })
 
 pub invariant_of-result-clause-by_start : goal.invariant_of-result-clause-by_start
-invariant_of-result-clause-by_start c = rw c.new.ensures (record { placed = nothing_sorted _; apart = λ i j x y live other alike. absurd (cc) })
+invariant_of-result-clause-by_start c = rw c.new.ensures.state (record { placed = nothing_sorted _; apart = λ i j x y live other alike. absurd (cc) })
