@@ -201,3 +201,31 @@ fn a_query_finds_an_item_by_each_key(rt: HostRuntime) -> Result<(), Fail> {
     assert!(rt; find_by(&items, 9) == [None, None, Some(ix(0))]);
     Ok(())
 }
+
+// Takes memory for so many more, and tells for how many items there is memory then, and for how many more.
+fn sizes_after<S: BuildHasher>(
+    items: &mut TriItems<Trio, S>,
+    more: usize,
+) -> Result<(usize, usize), AllocError> {
+    items.reserve(more)?;
+    items.try_reserve(more)?;
+    Ok((items.capacity(), items.room()))
+}
+
+// Gives back the memory past so many items, and then all that the items don't need.
+fn shrink<S: BuildHasher>(items: &mut TriItems<Trio, S>, least: usize) -> Result<(), AllocError> {
+    items.shrink_to(least)?;
+    items.shrink_to_fit()
+}
+
+#[test]
+fn a_capacity_counts_the_items_and_the_room(rt: HostRuntime) -> Result<(), Fail> {
+    let mut items = TriItems::with_capacity(rt.alloc(), DefaultHashBuilder::default(), 2)?;
+    assert!(rt; insert(&mut items, Trio(7, 8, 9)).is_ok());
+    let (capacity, room) = sizes_after(&mut items, 3)?;
+    assert!(rt; capacity >= 4);
+    assert!(rt; capacity - 1 == room);
+    shrink(&mut items, 2)?;
+    assert!(rt; items.capacity() == 1);
+    Ok(())
+}

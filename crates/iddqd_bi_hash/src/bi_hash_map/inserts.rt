@@ -1,5 +1,5 @@
 //! Items come into a map. All memory is taken before anything is written.
-ghost use Rattle.std.specs.Prelude.{◌≡◌, ◌⊎◌, ◌≤◌, IsSome, IfSome, OnErr};
+ghost use Rattle.std.specs.Prelude.{◌≡◌, ◌⊎◌, ◌≤◌, IsSome, IfSome, OnErr, [], ◌∷◌};
 ghost use Rattle.iddqd.specs.{room};
 ghost use Rattle.iddqd_sides.specs.Scan.{IsLive};
 ghost use Rattle.iddqd_map_base.specs.Map.{shares};
@@ -137,25 +137,28 @@ fn overwrite<T: BiHashItem, S: BuildHasher>(
     if let Err(AllocError) = tables.reserve(1) {
         return Err(OverwriteRefusal::Memory(item));
     }
-    let removed = take_clashes(items, tables, state, at);
+    let (first, second) = take_clashes(items, tables, state, at);
     let ix = store_in_room(items, item);
     tables.enter(hashes, ix);
-    Ok((ix, removed))
+    Ok((ix, [first, second]))
 }
 
-// Takes the items that clash out of the store and the tables, by rising index.
+// Takes the items that clash out of the store and the tables, by rising index. They come back as a
+// pair: a caller of a function that returns an array of a generic type has to prove that the array
+// fits into memory, in one goal with all that the function requires, which is expensive to check.
 fn take_clashes<T: BiHashItem, S: BuildHasher>(
     items: &mut ItemSet<T>,
     tables: &mut BiTables,
     state: &S,
     at: &BiClash,
-) -> [Option<T>; 2]
+) -> (Option<T>, Option<T>)
     requires map { let keys = bi_keys_of T.BiHashItem T.Key1.eq T.Key1.hash_input T.Key2.eq T.Key2.hash_input
         S.BuildHasher S.Hasher.Hasher state.now in IsBiMap keys items.old.store tables.old }
     requires key1 { IfSome at.now.key1 (IsLive items.old.store) }
     requires key2 { IfSome at.now.key2 (IsLive items.old.store) }
     requires some { IsSome at.now.key1 ⊎ IsSome at.now.key2 }
-    ensures taken { TakesAll 2 (IsOneOfTwo at.now.key1 at.now.key2) items.old.store result items.new.store }
+    ensures taken { let back = result.0 ∷ (result.1 ∷ []) in
+        TakesAll 2 (IsOneOfTwo at.now.key1 at.now.key2) items.old.store back items.new.store }
     ensures map { let keys = bi_keys_of T.BiHashItem T.Key1.eq T.Key1.hash_input T.Key2.eq T.Key2.hash_input
         S.BuildHasher S.Hasher.Hasher state.now in IsBiMap keys items.new.store tables.new }
     ensures room { 1 ≤ room items.new }
@@ -165,5 +168,5 @@ fn take_clashes<T: BiHashItem, S: BuildHasher>(
     let (first, second) = in_order(at.key1, at.key2);
     let first = take_found(items, tables, state, first);
     let second = take_found(items, tables, state, second);
-    [first, second]
+    (first, second)
 }

@@ -1,5 +1,6 @@
 //! An item is modified in its place, and keeps its key.
 ghost use Rattle.std.specs.Prelude.{◌≡◌, Some};
+ghost use Rattle.std.specs.Borrow.{MutBor};
 ghost use Rattle.iddqd.specs.{get};
 ghost use Rattle.iddqd_sides.specs.Scan.{passes_by};
 ghost use Rattle.iddqd_sides.specs.KeyKeeping.{KeepsKey};
@@ -26,13 +27,23 @@ impl<T: IdHashItem, S: BuildHasher> IdHashMap<T, S> {
             KeepsKey F.FnOnce f T.key_of (λ item. FindsItem self.old.store named (Some item)) }
         ensures { Modifies F.FnOnce f self.old (passes_by T.key_of (Q.stands_for query)) result self.new }
     {
-        self.modify_at(self.find(query)?, f)
+        self.modify_live(self.find(query)?, f)
     }
 
     /// Calls the closure with a `&mut` to the item at an index, as `modify`; or returns none, and
     /// doesn't call it, where the index has no item. No key is hashed.
     pub fn modify_at<R, F: FnOnce(&mut T) -> R>(&mut self, ix: ItemIndex, f: F) -> Option<R>
         requires { KeepsKey F.FnOnce f T.key_of (λ item. get self.old.store ix ≡ Some item) }
+        ensures { ModifiesAt F.FnOnce f self.old ix result self.new }
+    {
+        self.modify_live(ix, f)
+    }
+
+    // The same as `modify_at`, but requires in two clauses what that requires in one: each clause is a
+    // goal of its own at a call, and both together are much cheaper to check than the one.
+    fn modify_live<R, F: FnOnce(&mut T) -> R>(&mut self, ix: ItemIndex, f: F) -> Option<R>
+        requires callable { (item : MutBor T) → get self.old.store ix ≡ Some item.now → F.FnOnce.pre f (item, tt) }
+        requires keeps { KeepsKey F.FnOnce f T.key_of (λ item. get self.old.store ix ≡ Some item) }
         ensures { ModifiesAt F.FnOnce f self.old ix result self.new }
     {
         let item = self.items.get_mut(ix)?;

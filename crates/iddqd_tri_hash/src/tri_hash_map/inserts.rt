@@ -1,5 +1,5 @@
 //! Items come into a map. All memory is taken before anything is written.
-ghost use Rattle.std.specs.Prelude.{◌≡◌, ◌≤◌, IfSome, OnErr};
+ghost use Rattle.std.specs.Prelude.{◌≡◌, ◌≤◌, IfSome, OnErr, [], ◌∷◌};
 ghost use Rattle.iddqd.specs.{room};
 ghost use Rattle.iddqd_sides.specs.Scan.{IsLive};
 ghost use Rattle.iddqd_tri.specs.Clashes.{IsOneOf};
@@ -149,19 +149,21 @@ fn overwrite<T: TriHashItem, S: BuildHasher>(
     if let Err(AllocError) = tables.reserve(1) {
         return Err(OverwriteRefusal::Memory(item));
     }
-    let removed = take_clashes(items, tables, state, at);
+    let (first, second, third) = take_clashes(items, tables, state, at);
     let ix = store_in_room(items, item);
     tables.enter(hashes, ix);
-    Ok((ix, removed))
+    Ok((ix, [first, second, third]))
 }
 
-// Takes the items that clash out of the store and the tables, by rising index.
+// Takes the items that clash out of the store and the tables, by rising index. They come back as a
+// tuple: a caller of a function that returns an array of a generic type has to prove that the array
+// fits into memory, in one goal with all that the function requires, which is expensive to check.
 fn take_clashes<T: TriHashItem, S: BuildHasher>(
     items: &mut ItemSet<T>,
     tables: &mut TriTables,
     state: &S,
     at: &TriClash,
-) -> [Option<T>; 3]
+) -> (Option<T>, Option<T>, Option<T>)
     requires map { let keys = tri_keys_of T.TriHashItem T.Key1.eq T.Key1.hash_input T.Key2.eq T.Key2.hash_input
         T.Key3.eq T.Key3.hash_input S.BuildHasher S.Hasher.Hasher state.now in
         IsTriMap keys items.old.store tables.old }
@@ -169,7 +171,8 @@ fn take_clashes<T: TriHashItem, S: BuildHasher>(
     requires key2 { IfSome at.now.key2 (IsLive items.old.store) }
     requires key3 { IfSome at.now.key3 (IsLive items.old.store) }
     requires some { TellsSome at.now }
-    ensures taken { TakesAll 3 (IsOneOf at.now.key1 at.now.key2 at.now.key3) items.old.store result items.new.store }
+    ensures taken { let back = result.0 ∷ (result.1 ∷ (result.2 ∷ [])) in
+        TakesAll 3 (IsOneOf at.now.key1 at.now.key2 at.now.key3) items.old.store back items.new.store }
     ensures map { let keys = tri_keys_of T.TriHashItem T.Key1.eq T.Key1.hash_input T.Key2.eq T.Key2.hash_input
         T.Key3.eq T.Key3.hash_input S.BuildHasher S.Hasher.Hasher state.now in
         IsTriMap keys items.new.store tables.new }
@@ -183,5 +186,5 @@ fn take_clashes<T: TriHashItem, S: BuildHasher>(
     let first = take_found(items, tables, state, first);
     let second = take_found(items, tables, state, second);
     let third = take_found(items, tables, state, third);
-    [first, second, third]
+    (first, second, third)
 }

@@ -1,5 +1,6 @@
 //! An item is modified in its place, and keeps its keys.
 ghost use Rattle.std.specs.Prelude.{◌≡◌, Some};
+ghost use Rattle.std.specs.Borrow.{MutBor};
 ghost use Rattle.iddqd.specs.{get};
 ghost use Rattle.iddqd_sides.specs.Scan.{passes_by};
 ghost use Rattle.iddqd_sides.specs.KeyKeeping.{KeepsKey, pair_keys};
@@ -23,6 +24,17 @@ impl<T: TriHashItem, S: BuildHasher> TriHashMap<T, S> {
             KeepsKey F.FnOnce f keys (λ item. get self.old.store ix ≡ Some item) }
         ensures { ModifiesAt F.FnOnce f self.old ix result self.new }
     {
+        self.modify_live(ix, f)
+    }
+
+    // The same as `modify_at`, but requires in two clauses what that requires in one: each clause is a
+    // goal of its own at a call, and both together are much cheaper to check than the one.
+    fn modify_live<R, F: FnOnce(&mut T) -> R>(&mut self, ix: ItemIndex, f: F) -> Option<R>
+        requires callable { (item : MutBor T) → get self.old.store ix ≡ Some item.now → F.FnOnce.pre f (item, tt) }
+        requires keeps { let keys = pair_keys T.first_key (pair_keys T.second_key T.third_key) in
+            KeepsKey F.FnOnce f keys (λ item. get self.old.store ix ≡ Some item) }
+        ensures { ModifiesAt F.FnOnce f self.old ix result self.new }
+    {
         let item = self.items.get_mut(ix)?;
         Some(f(item))
     }
@@ -39,7 +51,7 @@ impl<T: TriHashItem, S: BuildHasher> TriHashMap<T, S> {
             KeepsKey F.FnOnce f keys (λ item. FindsItem self.old.store named (Some item)) }
         ensures { Modifies F.FnOnce f self.old (passes_by T.first_key (Q.stands_for query)) result self.new }
     {
-        self.modify_at(self.find1(query)?, f)
+        self.modify_live(self.find1(query)?, f)
     }
 
     /// Calls the closure with a `&mut` to the item that has the second key, as `modify1`.
@@ -53,7 +65,7 @@ impl<T: TriHashItem, S: BuildHasher> TriHashMap<T, S> {
             KeepsKey F.FnOnce f keys (λ item. FindsItem self.old.store named (Some item)) }
         ensures { Modifies F.FnOnce f self.old (passes_by T.second_key (Q.stands_for query)) result self.new }
     {
-        self.modify_at(self.find2(query)?, f)
+        self.modify_live(self.find2(query)?, f)
     }
 
     /// Calls the closure with a `&mut` to the item that has the third key, as `modify1`.
@@ -67,6 +79,6 @@ impl<T: TriHashItem, S: BuildHasher> TriHashMap<T, S> {
             KeepsKey F.FnOnce f keys (λ item. FindsItem self.old.store named (Some item)) }
         ensures { Modifies F.FnOnce f self.old (passes_by T.third_key (Q.stands_for query)) result self.new }
     {
-        self.modify_at(self.find3(query)?, f)
+        self.modify_live(self.find3(query)?, f)
     }
 }

@@ -1,4 +1,4 @@
-use Rattle.std.proofs.Common.{rules, refl, arith}
+use Rattle.std.proofs.Common.{[], ◌∷◌, refl, arith}
 use Rattle.iddqd.proofs.RoomLemmas.{not_full}
 use Rattle.iddqd_map_base.specs.Map.{shares}
 use Rattle.iddqd_map_base.specs.Several.{either_key, IsOneOfTwo}
@@ -21,17 +21,25 @@ returns-in-Err-clause-overwrites g c =
       unchanged = Rests-parts items items _ _ refl (omega arith) did.kept;
     }
 
-pub take_clashes-removed-requires : goal.take_clashes-removed-requires
-take_clashes-removed-requires g c =
+pub take_clashes-first-requires-clause-map : goal.take_clashes-first-requires-clause-map
+take_clashes-first-requires-clause-map g c =
+    IsBiMap-same c.args.tables.now c.reserve.new.self c.reserve.ensures.contents _ c.args.items.now.store c.requires.map
+
+pub take_clashes-first-requires-clause-key1 : goal.take_clashes-first-requires-clause-key1
+take_clashes-first-requires-clause-key1 g c =
     let first = shares g.T.BiHashItem.first_key g.T.Key1.PartialEq.eq in
     let second = shares g.T.BiHashItem.second_key g.T.Key2.PartialEq.eq in
-    let s = c.args.items.now.store in
-    let live = live_told first second s c.args.item c.args.at.now c.requires.told in
-    (search rules, (IsBiMap-same c.args.tables.now c.reserve.new.self c.reserve.ensures.contents _ s c.requires.map, (live.0, (live.1, c.requires.told.some))))
+    (live_told first second c.args.items.now.store c.args.item c.args.at.now c.requires.told).0
+
+pub take_clashes-first-requires-clause-key2 : goal.take_clashes-first-requires-clause-key2
+take_clashes-first-requires-clause-key2 g c =
+    let first = shares g.T.BiHashItem.first_key g.T.Key1.PartialEq.eq in
+    let second = shares g.T.BiHashItem.second_key g.T.Key2.PartialEq.eq in
+    (live_told first second c.args.items.now.store c.args.item c.args.at.now c.requires.told).1
 
 pub enter-requires-clause-new : goal.enter-requires-clause-new
 enter-requires-clause-new g c =
-    let took = c.take_clashes-removed in
+    let took = c.take_clashes-first in
     rw c.store_in_room-ix.ensures.index (AreUnfiled-next _ took.new.items.store took.new.tables took.ensures.map)
 
 pub returns-clause-map : goal.returns-clause-map
@@ -39,11 +47,11 @@ returns-clause-map g c =
     let first = shares g.T.BiHashItem.first_key g.T.Key1.PartialEq.eq in
     let second = shares g.T.BiHashItem.second_key g.T.Key2.PartialEq.eq in
     let lawful = AreLawful-from_bounds g.T.BiHashItem g.T.Key1.PartialEq.eq g.T.Key1.Hash.hash_input g.T.Key2.PartialEq.eq g.T.Key2.Hash.hash_input g.S.BuildHasher g.S.Hasher.Hasher c.args.state.now g.met.T.Key1.PartialEq.laws g.met.T.Key1.Hash.respects_eq g.met.T.Key2.PartialEq.laws g.met.T.Key2.Hash.respects_eq in
-    let took = c.take_clashes-removed in
+    let took = c.take_clashes-first in
     let s = c.args.items.now.store in
     let at = c.args.at.now in
     let hits = told_hit first second s c.args.item at c.requires.told in
-    let none = HasNoHit-taken (either_key first second) s c.args.item (IsOneOfTwo at.key1 at.key2) hits 2 took.result took.new.items.store took.ensures.taken in
+    let none = HasNoHit-taken (either_key first second) s c.args.item (IsOneOfTwo at.key1 at.key2) hits 2 (took.result.0 ∷ (took.result.1 ∷ [])) took.new.items.store took.ensures.taken in
     IsBiMap-inserted _ took.new.items.store took.new.tables took.ensures.map c.store_in_room-ix.new.items.store c.enter.new.self lawful c.args.item c.args.hashes.now c.store_in_room-ix.result c.requires.hashes none
     (not_full took.new.items.store took.new.items.capacity took.ensures.room) c.store_in_room-ix.ensures.index c.store_in_room-ix.ensures.stored c.enter.ensures.entered
 
@@ -52,12 +60,12 @@ returns-clause-overwrites g c =
     let first = shares g.T.BiHashItem.first_key g.T.Key1.PartialEq.eq in
     let second = shares g.T.BiHashItem.second_key g.T.Key2.PartialEq.eq in
     let items = c.args.items.now in
-    let took = c.take_clashes-removed in
+    let took = c.take_clashes-first in
     let put = c.store_in_room-ix in
     let at = c.args.at.now in
     let hits = told_hit first second items.store c.args.item at c.requires.told in
     let kept = c.reserve.ensures.kept in
     let stays = took.ensures.tables_room in
     let used = c.enter.ensures.room in
-    OverwritesAt-done (either_key first second) items.store c.args.item (IsOneOfTwo at.key1 at.key2) hits 2 took.result took.new.items.store took.ensures.taken items took.new.items put.new.items _ _ put.result
+    OverwritesAt-done (either_key first second) items.store c.args.item (IsOneOfTwo at.key1 at.key2) hits 2 (took.result.0 ∷ (took.result.1 ∷ [])) took.new.items.store took.ensures.taken items took.new.items put.new.items _ _ put.result
     (some_hit first second items.store c.args.item at c.requires.told) refl refl put.ensures.index put.ensures.stored took.ensures.items_room put.ensures.room (omega (arith, kept, stays, used))

@@ -2,10 +2,13 @@ use Rattle.iddqd_sides.specs.Scan.{passes_by}
 use Rattle.iddqd_map_base.proofs.ModifyLemmas.{Modifies-found}
 use Rattle.iddqd_id_hash.proofs.id_hash_map.IdHashMap.modify.Goals as goal
 
-pub modify_at-requires : goal.modify_at-requires
-modify_at-requires g c = λ p live. c.requires p (c.in_ok-find.field-0, record { live = live; only = c.in_ok-find.ensures })
+pub modify_live-requires-clause-callable : goal.modify_live-requires-clause-callable
+modify_live-requires-clause-callable g c = λ p live. (c.requires p (c.in_ok-find.field-0, record { live = live; only = c.in_ok-find.ensures })).0
+
+pub modify_live-requires-clause-keeps : goal.modify_live-requires-clause-keeps
+modify_live-requires-clause-keeps g c = λ p live. c.requires p (c.in_ok-find.field-0, record { live = live; only = c.in_ok-find.ensures })
 
 pub returns : goal.returns
 returns g c =
     let test = passes_by g.T.IdHashItem.key_of (g.Q.HashQuery.stands_for c.args.query) in
-    Modifies-found g.F.FnOnce c.args.f c.args.self.now test c.in_ok-find.field-0 c.modify_at.result c.modify_at.new.self c.in_ok-find.ensures c.modify_at.ensures
+    Modifies-found g.F.FnOnce c.args.f c.args.self.now test c.in_ok-find.field-0 c.modify_live.result c.modify_live.new.self c.in_ok-find.ensures c.modify_live.ensures

@@ -4,9 +4,6 @@ use Rattle.iddqd_sides.specs.Ordered.{is_equal}
 use Rattle.iddqd_map_base.specs.Map.{MapState}
 use Rattle.iddqd_id_ord.proofs.id_ord_map.IdOrdMap.find.Goals as goal
 
-pub find_by-requires : goal.find_by-requires
-find_by-requires g c = c.self.invariant.sorted
-
 pub returns : goal.returns
 returns g c =
     let test = passes_by g.T.IdOrdItem.key_of (is_equal (g.Q.OrdQuery.compare c.args.query)) in
