@@ -18,7 +18,7 @@ pub use Rattle.iddqd.specs.Store.{sentinel, slot_limit, get, slot_count, live_co
 pub use Rattle.iddqd.specs.Store.{empty, empty_within, cleared, inserted, removed, rebound}
 pub use Rattle.iddqd.specs.ItemSet.{room, with_item, KeepsOthers, GrowsIfDense}
 pub use Rattle.iddqd.specs.LiveItems.{live_items, live_pairs}
-pub use Rattle.iddqd.specs.Sizes.{ReservesSlots, Shrinks, insertable}
+pub use Rattle.iddqd.specs.Sizes.{ReservesSlots, Shrinks, insertable, grown, doubled}
 pub use Rattle.iddqd.specs.GrowError.{grow_error_text}
 pub use Rattle.iddqd.specs.GrowHandle.{handle_set, handle_store, handle_lender}
 pub use Rattle.iddqd.specs.MapHash.{hash_one}

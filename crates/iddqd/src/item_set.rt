@@ -19,6 +19,7 @@ ghost use Rattle.std.specs.Option.{option_copied_mut};
 ghost use Rattle.std.specs.Borrow.{sem, Lends, RestsIfErr};
 ghost use Rattle.iddqd.specs.Store.{sentinel, get, slot_count, live_count, next_index, IsFull, IsValid, empty, empty_within, cleared, inserted, removed};
 ghost use Rattle.iddqd.specs.ItemSet.{room, with_item, KeepsOthers, GrowsIfDense};
+ghost use Rattle.iddqd.specs.Sizes.{doubled};
 ghost use Rattle.iddqd.specs.Compaction.{rank, compacted, new_name, numbers, IsRemapOf};
 
 mod clones;
@@ -43,6 +44,9 @@ pub use values::Values;
 
 /// The most slots that any set can have: one for each index but `SENTINEL`.
 const MAX_SLOTS: u32 = 4294967295;
+
+/// How many slots an insert into a set without memory takes memory for.
+const FIRST_SLOTS: usize = 4;
 
 /// A place of the set.
 #[derive(Debug, Drop)]
@@ -226,7 +230,8 @@ impl<T> ItemSet<T> {
     /// Takes the room for one more item, so that the insert through the handle can't fail.
     ///
     /// `Full` comes exactly where the set is full, also where no memory is left. `Memory` comes only
-    /// where memory was needed. A handle that is let go leaves the items and indexes as they were.
+    /// where memory was needed: then it is taken for twice as many slots, or for four, but for none
+    /// past the limit. A handle that is dropped leaves the items and indexes as they were.
     pub fn assert_can_grow(&mut self) -> Result<GrowHandle<'_, T>, GrowError>
         ensures* refused { sem 𝓛
             (RestsIfErr (the_row T.row) self.entry handle_lender result (λ last. last ≡ self.old)) }
@@ -234,6 +239,7 @@ impl<T> ItemSet<T> {
         ensures contents { IfOk result (λ h. handle_store h ≡ self.old.store) }
         ensures capacity { IfOk result (λ h. self.old.capacity ≤ (handle_set h).capacity) }
         ensures kept { IfOk result (λ h. 1 ≤ room self.old → handle_set h ≡ self.old) }
+        ensures grown { IfOk result (λ h. room self.old ≡ 0 → (handle_set h).capacity ≡ doubled self.old) }
         ensures full { (result ≡ Err GrowError.Full) ↔ IsFull self.old.store }
         ensures memory { result ≡ Err GrowError.Memory → room self.old ≡ 0 }
     {
@@ -386,6 +392,7 @@ impl<T> ItemSet<T> {
         ensures contents { OnOk result (self.new.store ≡ self.old.store) }
         ensures capacity { OnOk result (self.old.capacity ≤ self.new.capacity) }
         ensures kept { OnOk result (1 ≤ room self.old → self.new ≡ self.old) }
+        ensures grown { OnOk result (room self.old ≡ 0 → self.new.capacity ≡ doubled self.old) }
         ensures refused { OnErr result (self.new ≡ self.old) }
         ensures full { (result ≡ Err GrowError.Full) ↔ IsFull self.old.store }
         ensures memory { result ≡ Err GrowError.Memory → room self.old ≡ 0 }
@@ -393,13 +400,12 @@ impl<T> ItemSet<T> {
         if self.room() > 0 {
             return Ok(());
         }
-        if self.slots.len() == self.limit as usize {
+        let limit = self.limit as usize;
+        if self.slots.len() == limit {
             return Err(GrowError::Full);
         }
-        match self.slots.reserve(1) {
-            Ok(()) => Ok(()),
-            Err(_) => Err(GrowError::Memory),
-        }
+        let needed = (self.slots.len() + 1).max(FIRST_SLOTS).min(limit);
+        self.grow(needed).map_err(|_| GrowError::Memory)
     }
 
     fn next_index(&self) -> ItemIndex

@@ -1,5 +1,5 @@
 -- A pair that is added to a table with open addressing, which is rebuilt first where it has to be.
-use Rattle.std.proofs.Common.{◌≡◌, ◌∙◌, ℕ, ◌+◌, ◌<◌, ◌≤◌, List, ◌∷◌, Option, Some, None, length, set, slice_index, count_by, arith}
+use Rattle.std.proofs.Common.{◌≡◌, ℕ, ◌+◌, ◌<◌, List, ◌∷◌, Option, Some, None, length, set, slice_index, count_by, arith}
 use Rattle.std.proofs.lemmas.List.Sorted.{IsPermutation-trans, IsPermutation-cons, length_permutation}
 use Rattle.std.specs.List.Sorted.{IsPermutation}
 use Rattle.iddqd_hash.specs.OpenTable.{tag_of, limit_of, usable_of, is_used, slot_at, pairs, IsFree, IsProbed, IsSound}

@@ -2,7 +2,7 @@
 use Rattle.std.proofs.Common.{arith, ◌≡◌, ◌∙◌, ◌+◌, ◌-◌, ◌*◌, ◌^◌, ◌<◌, ◌≤◌, ◌/◌, inr, ℕ, zero, suc, List, [], ◌∷◌, ◌++◌, Option, Some, None, length, replicate, min, max, Result, Ok, Err, IsOk, OnOk, OnErr, refl, sym, ap, subst}
 use Rattle.std.proofs.lemmas.List.{length-replicate, length-append, map_push, nil_from_length}
 use Rattle.std.proofs.lemmas.Nat.{pow-add, pow_pos}
-use Rattle.std.specs.Option.{option_map, unwrap_or}
+use Rattle.std.specs.Option.{option_map}
 use Rattle.iddqd_hash.specs.declared.open_table.cells.Cell.{Cell}
 use Rattle.iddqd_hash.specs.HashTable.{Table, room, memory, listed}
 use Rattle.iddqd_hash.specs.OpenTable.{usable_of, opened, pair_in, pairs, slots_of, IsPowerOfTwo, IsSound}

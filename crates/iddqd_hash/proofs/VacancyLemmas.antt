@@ -13,6 +13,7 @@ IsVacancy-reserved hash old new done made =
       had_room = λ had. (made.had_room had).1;
       room_stays = made.room_stays;
       memory_stays = made.memory_stays;
+      few = made.few;
     }
 
 -- where room for one was refused there was none

@@ -11,13 +11,13 @@
 //! An insert hashes its key once: it looks up under the hash that it files the index under.
 //! `remove_by_index` is a `retain` over all, in the place of a walk of its own. A clone copies cells as
 //! memory, since an index is `Copy`.
-ghost use Rattle.std.specs.Prelude.{◌≡◌, ◌+◌, ◌≤◌, ℕ, Contains, Some, None, IsTrue, IsSome, IfOk, OnErr};
+ghost use Rattle.std.specs.Prelude.{◌≡◌, ◌+◌, ◌≤◌, ℕ, max, Contains, Some, None, IsTrue, IsSome, IfOk, OnErr};
 ghost use Rattle.std.specs.FinMap as finite;
 ghost use Rattle.iddqd.specs.Compaction.{CanRemap, remapped};
 ghost use Rattle.iddqd.specs.MapHash.{hash_one};
 ghost use Rattle.iddqd_hash.specs.Asks.{CanAsk, LooksUp, HitsPair, Misses};
-ghost use Rattle.iddqd_hash.specs.HashTable.{room, capacity, pair_at, HasNoMemory, KeepsMemory, UsesRoom};
-ghost use Rattle.iddqd_hash.specs.Sizes.{Reserves};
+ghost use Rattle.iddqd_hash.specs.HashTable.{room, capacity, memory, pair_at, HasNoMemory, KeepsMemory, UsesRoom};
+ghost use Rattle.iddqd_hash.specs.Sizes.{most_cells, Reserves};
 ghost use Rattle.iddqd_hash.specs.MapHashTable.{filed, indexes_under, AsksKey, Renames, Unfiles};
 
 mod copies;
@@ -122,6 +122,7 @@ impl MapHashTable {
     pub fn try_reserve(&mut self, additional: usize) -> Result<(), AllocError>
         ensures contents { filed self.new ≡ filed self.old }
         ensures memory { Reserves additional self.old result self.new }
+        ensures few { memory self.new ≤ max (memory self.old) (most_cells (finite.len (filed self.old) + additional)) }
     {
         self.table.try_reserve(additional)
     }

@@ -8,3 +8,4 @@ pub mod OrderedPlaceLemmas
 pub mod OrderedCountLemmas
 pub mod OrderedWalkLemmas
 pub mod OrderedRangeLemmas
+pub mod HashedCountLemmas

@@ -1,3 +1,4 @@
 pub mod ClashLemmas
+pub mod TriMemoryLemmas
 pub mod TriLemmas
 pub mod TriCallLemmas

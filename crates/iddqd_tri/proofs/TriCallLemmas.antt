@@ -1,5 +1,6 @@
 -- What the calls of items with three keys answer and leave, from what their steps promise.
 use Rattle.std.proofs.Common.{◌≡◌, inl, inr, ◌↔◌, ℕ, Bool, List, [], ◌∷◌, map, Option, Some, None, Result, Ok, Err, refl, sym, subst}
+use Rattle.std.specs.List.{Contains}
 use Rattle.std.specs.Option.{OnSome, IfNone}
 use Rattle.std.specs.Ordering.{nat_cmp}
 use Rattle.std.specs.FinMap.{FinMap}
@@ -69,6 +70,10 @@ module _ {T K1 K2 K3 S : Type 0} (keys : TriKeys T K1 K2 K3 S) where
     at_most_three = at_most_three a b c ordered;
   }
 
+  -- where there are none, the item clashes with none
+  pub HasNoClash-none : (s : Store T) (item : T) (clashes : List ℕ) → clashes ≡ [] → AreClashes keys s item clashes → HasNoClash keys s item
+  HasNoClash-none s item clashes none are = λ ix clash. contains_none ix (subst (λ cs. Contains cs ix) none ((are.each ix).1 clash))
+
   -- the removal of an index, if it is live
   pub IsTriState-taken : (hasher : S) (old new : SizedStore T) (tables after : TriTables) (ix : ℕ) (r : Option T) → r ≡ get old.store ix → OnSome r (new.store ≡ removed old.store ix) → OnSome r (maps_of after ≡ maps_without (maps_of tables) ix) → IfNone r (new ≡ old) → IfNone r (after ≡ tables) → IsTriState keys (tri_state_of hasher old.store tables) → IsTriState keys (tri_state_of hasher new.store after)
   IsTriState-taken hasher old new tables after ix None is removed taken same_items same_tables o = rw (same_items, same_tables) o
@@ -128,21 +133,12 @@ module _ {T K1 K2 K3 S : Type 0} (keys : TriKeys T K1 K2 K3 S) where
         refuses (Err (Memory back)) refused = (refused.0, (λ _. refused.1), refl)
 
     -- an insert over some clashes
-    pub inserted_over : (clashes : List ℕ) (x : ℕ) (rest : List ℕ) → clashes ≡ x ∷ rest → AreClashes keys s.store item clashes → (r : Result (ℕ × List (Option T)) (TriRefusal T)) (store : Store T) (maps : Maps) → IfOk r (λ p. p.0 ≡ next_index (removed_all s.store clashes)) → IfOk r (λ p. p.1 ≡ padded 3 (map (get s.store) clashes)) → OnOk r (store ≡ inserted (removed_all s.store clashes) item) → OnOk r (maps ≡ maps_with (maps_without_all s.maps clashes) (next_index (removed_all s.store clashes)) (hashes_in keys s.hasher item)) → IfErr r (λ e. e ≡ Memory item) → OnErr r (store ≡ s.store) → OnErr r (maps ≡ s.maps) → IsTriState keys (record s { store = store; maps = maps }) × Overwriting keys s item r (record s { store = store; maps = maps })
-    inserted_over clashes x rest some are r store maps index values stored entered refused items_stay maps_stay =
-        overwritten clashes are r store maps (ok r not_full) (ok r place) index values stored entered (refuses r refused) items_stay maps_stay
+    pub inserted_over : (clashes : List ℕ) (x : ℕ) (rest : List ℕ) → clashes ≡ x ∷ rest → AreClashes keys s.store item clashes → (r : ℕ × List (Option T)) (store : Store T) (maps : Maps) → r.0 ≡ next_index (removed_all s.store clashes) → r.1 ≡ padded 3 (map (get s.store) clashes) → store ≡ inserted (removed_all s.store clashes) item → maps ≡ maps_with (maps_without_all s.maps clashes) (next_index (removed_all s.store clashes)) (hashes_in keys s.hasher item) → IsTriState keys (record s { store = store; maps = maps }) × Overwriting keys s item (Ok r) (record s { store = store; maps = maps })
+    inserted_over clashes x rest some are r store maps index values stored entered =
+        overwritten clashes are (Ok r) store maps not_full place index values stored entered tt tt tt
       where
         not_full : IsFull (removed_all s.store clashes) → ⊥
         not_full = rw some (not_full_after s.store x rest)
 
         place : HasNoClash keys s.store item → IsFull s.store → ⊥
         place none full = none x ((are.each x).0 (rw some (contains_head x rest)))
-
-        ok : {P : Type 0} (r : Result (ℕ × List (Option T)) (TriRefusal T)) → P → OnOk r P
-        ok (Ok p) is = is
-        ok (Err e) is = tt
-
-        refuses : (r : Result (ℕ × List (Option T)) (TriRefusal T)) → IfErr r (λ e. e ≡ Memory item) → IfErr r (λ e. RefusesItem keys s item e s)
-        refuses (Ok p) refused = tt
-        refuses (Err (Full back)) refused = absurd (cc)
-        refuses (Err (Memory back)) refused = let same : back ≡ item = cc in (same, place, refl)

@@ -1,5 +1,6 @@
 pub mod TriKeys
 pub mod TriState
+pub mod TriMemory
 pub mod TriRefusal
 pub mod Clashes
 pub mod TriTables
@@ -12,5 +13,6 @@ pub use Rattle.iddqd.specs.Store.{get, live_count, next_index, IsFull}
 pub use Rattle.iddqd_tri.specs.TriKeys.{tri_keys_of, hashing_in, shares}
 pub use Rattle.iddqd_tri.specs.TriState.{empty_tri_state, unbound, unbound_all, bound}
 pub use Rattle.iddqd_tri.specs.TriState.{IsTriState, HasNoClash, AreClashes}
+pub use Rattle.iddqd_tri.specs.TriMemory.{no_memory, capacity, room, reaching, Grows, Shrinks, ReservesItems, NeedsMemory}
 pub use Rattle.iddqd_tri.specs.TriCalls.{padded, FindsOne, RemovesItem, Overwriting}
 pub use Rattle.iddqd_tri.specs.TriRefusal.{tri_refusal_text}

@@ -1,11 +1,13 @@
 -- The three tables of items with three keys, beside their store: what they hold, their room, and single steps.
-use Rattle.std.specs.Prelude.{◌≡◌, ◌≤◌, ℕ, Option, Some, None, IsSome}
+use Rattle.std.specs.Prelude.{◌≡◌, ◌⊎◌, ◌+◌, ◌<◌, ◌≤◌, ℕ, max, Option, Some, None, IsSome, Result}
 use Rattle.std.specs.FinMap as finite
 use Rattle.iddqd.specs.Store.{Store, removed}
-use Rattle.iddqd_hash.specs.HashTable.{room}
+use Rattle.iddqd.specs.ItemSet.{SizedStore}
+use Rattle.iddqd_hash.specs.HashTable.{Table, room, memory}
 use Rattle.iddqd_hash.specs.MapHashTable.{filed}
 use Rattle.iddqd_tri.specs.TriKeys.{Three}
 use Rattle.iddqd_tri.specs.TriState.{Maps, TriState, maps_without}
+use Rattle.iddqd_tri.specs.TriMemory.{TableMemory, TriMemory, SizedTri, TableGrows, TableShrinks}
 use Rattle.iddqd_tri.specs.declared.tri_tables.TriTables.{TriTables}
 use Rattle.iddqd_tri.specs.declared.tri_tables.TriHashes.{TriHashes}
 
@@ -20,11 +22,55 @@ tri_state_of hasher store tables = record { hasher = hasher; store = store; maps
 abbrev pub hashes_of : TriHashes → Three ℕ
 hashes_of h = record { first = h.first; second = h.second; third = h.third }
 
--- an insert into any of the tables needs no memory
-pub record HasRoom (t : TriTables) : Type 0 where
-  pub first : 1 ≤ room t.first
-  pub second : 1 ≤ room t.second
-  pub third : 1 ≤ room t.third
+-- the memory of a table: it can hold as many indexes as it has, and as it has room for
+abbrev pub table_memory : Table ℕ → TableMemory
+table_memory t = record { capacity = finite.len (filed t) + room t; cells = memory t }
+
+-- the memory of each table
+abbrev pub tables_memory : TriTables → Three TableMemory
+tables_memory t =
+    record { first = table_memory t.first; second = table_memory t.second; third = table_memory t.third }
+
+-- the memory of a store and three tables
+abbrev pub memory_of : {T : Type 0} → SizedStore T → TriTables → TriMemory
+memory_of items tables = record { slots = items.capacity; tables = tables_memory tables }
+
+-- the state of a hasher, a store and three tables, and the memory
+abbrev pub sized_tri_of : {T S : Type 0} → S → SizedStore T → TriTables → SizedTri T S
+sized_tri_of hasher items tables =
+    record { state = tri_state_of hasher items.store tables; memory = memory_of items tables }
+
+-- so many inserts into each of the tables need no memory
+pub record HaveRoom (n : ℕ) (t : TriTables) : Type 0 where
+  pub first : n ≤ room t.first
+  pub second : n ≤ room t.second
+  pub third : n ≤ room t.third
+
+-- each of the maps has so many indexes
+pub record HaveLen (n : ℕ) (maps : Maps) : Type 0 where
+  pub first : finite.len maps.first ≡ n
+  pub second : finite.len maps.second ≡ n
+  pub third : finite.len maps.third ≡ n
+
+-- each table took at most what it needs for so many more
+pub record TablesGrow (additional : ℕ) (old new : TriTables) : Type 0 where
+  pub first : TableGrows (finite.len (filed old.first) + additional) (table_memory old.first) (table_memory new.first)
+  pub second : TableGrows (finite.len (filed old.second) + additional) (table_memory old.second) (table_memory new.second)
+  pub third : TableGrows (finite.len (filed old.third) + additional) (table_memory old.third) (table_memory new.third)
+
+-- each table gave back what it doesn't need for so many
+pub record TablesShrink {A E : Type 0} (least : ℕ) (old : TriTables) (result : Result A E) (new : TriTables) : Type 0 where
+  pub first : TableShrinks (max least (finite.len (filed old.first))) (table_memory old.first) result (table_memory new.first)
+  pub second : TableShrinks (max least (finite.len (filed old.second))) (table_memory old.second) result (table_memory new.second)
+  pub third : TableShrinks (max least (finite.len (filed old.third))) (table_memory old.third) result (table_memory new.third)
+
+-- the table has more cells than so many need, or than its own indexes where these are more
+abbrev pub HasMore : ℕ → Table ℕ → Type 0
+HasMore least t = max least (finite.len (filed t)) < memory t
+
+-- some table has
+abbrev pub SomeHasMore : ℕ → TriTables → Type 0
+SomeHasMore least t = HasMore least t.first ⊎ (HasMore least t.second ⊎ HasMore least t.third)
 
 -- each table has the index
 pub record AreFiled (maps : Maps) (ix : ℕ) : Type 0 where

@@ -5,23 +5,27 @@
 //! answers as a scan would. Each call that makes or changes a collection says in clauses of its own
 //! that this holds, though the type keeps it, so that a caller's proof needs the calls' clauses alone.
 //!
-//! An item that shares keys with others takes their place. Its clashes are found, then all memory is
-//! taken, and only then are they removed.
-ghost use Rattle.std.specs.Prelude.{◌≡◌, ◌↔◌, ℕ, IsTrue, option_copied};
-ghost use Rattle.iddqd.specs.{get, hash_one, live_count};
+//! An item that shares keys with others takes their place, and this needs no memory: each of the others leaves a
+//! slot and a place in each table. Where no other shares a key, all memory is taken before anything is written.
+//!
+//! What a clause sees is the state and beside it the memory, so a call that takes none and gives none back is one
+//! equation.
+ghost use Rattle.std.specs.Prelude.{◌≡◌, ◌↔◌, ◌+◌, ◌≤◌, ℕ, min, max, IsTrue, IsOk, IfOk, Err, option_copied};
+ghost use Rattle.iddqd.specs.{get, hash_one, slot_count, live_count};
 ghost use Rattle.iddqd_sides.specs.Scan.{IsLive};
 ghost use Rattle.iddqd_sides.specs.Hashed.{AreLive, LooksUp};
 ghost use Rattle.iddqd_hash.specs.{filed};
 ghost use Rattle.iddqd_tri.specs.Clashes.{AreInOrder, IsOneOf};
 ghost use Rattle.iddqd_tri.specs.TriKeys.{TriKeys, tri_keys_of, hashes_in};
 ghost use Rattle.iddqd_tri.specs.TriState.{empty_tri_state, IsTriState, ClashesAt};
+ghost use Rattle.iddqd_tri.specs.TriMemory.{no_memory, capacity, room, Grows, Shrinks, ReservesItems, NeedsMemory};
 ghost use Rattle.iddqd_tri.specs.TriTables.{hashes_of};
 ghost use Rattle.iddqd_tri.specs.TriCalls.{FindsKey, FindsOne, RemovesItem, Overwriting};
 
 use crate::clashes::Clashes;
 use crate::tri_item::{First, Second, Third, TriItem};
 use crate::tri_refusal::TriRefusal;
-use crate::tri_steps::{insert_apart, replace_clashes, take_item};
+use crate::tri_steps::{insert_apart, replace_clashes, reserve_slots, take_item};
 use crate::tri_tables::{TriHashes, TriTables};
 use iddqd::item_index::ItemIndex;
 use iddqd::item_set::ItemSet;
@@ -29,7 +33,7 @@ use iddqd::map_hash::{Equivalent, MapHash};
 use iddqd_hash::hash_table::MapHashTable;
 use iddqd_sides::hashed;
 use iddqd_sides::key_of::{ByKey, KeyOf};
-use std::alloc::Global;
+use std::alloc::{AllocError, Global};
 use std::hash::{BuildHasher, Hash};
 use std::marker::Model;
 
@@ -43,17 +47,17 @@ pub struct TriItems<T: TriItem, S: BuildHasher> {
 }
 
 impl<T: TriItem, S: BuildHasher> Model for TriItems<T, S> {
-    ghost use Rattle.iddqd_tri.specs.TriState.{TriState, tri_state_code};
+    ghost use Rattle.iddqd_tri.specs.TriMemory.{SizedTri, sized_tri_code};
 
-    ghost Value = { TriState T S };
+    ghost Value = { SizedTri T S };
 
-    ghost coded = { tri_state_code T.code S.code };
+    ghost coded = { sized_tri_code T.code S.code };
 
     ghost use Rattle.iddqd_tri.specs.TriKeys.{tri_keys_of};
     ghost use Rattle.iddqd_tri.specs.TriState.{IsTriState};
-    ghost use Rattle.iddqd_tri.specs.TriTables.{tri_state_of};
+    ghost use Rattle.iddqd_tri.specs.TriTables.{tri_state_of, sized_tri_of};
 
-    ghost view = { λ t. tri_state_of t.state t.items.store t.tables };
+    ghost view = { λ t. sized_tri_of t.state t.items t.tables };
 
     ghost invariant = { λ t.
         IsTriState (tri_keys_of T.TriItem T.Key1.eq T.Key1.hash_input T.Key2.eq T.Key2.hash_input
@@ -86,16 +90,18 @@ impl<T: TriItem, S: BuildHasher> TriKeyed for TriItems<T, S> {
 impl<T: TriItem, S: BuildHasher> TriItems<T, S> {
     /// No items, and slots for as many as there are indexes but `SENTINEL`. It takes no memory.
     pub fn new(alloc: Global, state: S) -> TriItems<T, S>
-        ensures empty { result ≡ empty_tri_state u32.MAX state }
-        ensures state { IsTriState ⟦<Self as TriKeyed>⟧.keys result }
+        ensures empty { result.state ≡ empty_tri_state u32.MAX state }
+        ensures memory { result.memory ≡ no_memory }
+        ensures state { IsTriState ⟦<Self as TriKeyed>⟧.keys result.state }
     {
         TriItems::with_limit(alloc, state, u32::MAX)
     }
 
     /// No items, and never more slots than the limit. It takes no memory.
     pub fn with_limit(alloc: Global, state: S, limit: u32) -> TriItems<T, S>
-        ensures empty { result ≡ empty_tri_state limit state }
-        ensures state { IsTriState ⟦<Self as TriKeyed>⟧.keys result }
+        ensures empty { result.state ≡ empty_tri_state limit state }
+        ensures memory { result.memory ≡ no_memory }
+        ensures state { IsTriState ⟦<Self as TriKeyed>⟧.keys result.state }
     {
         TriItems {
             items: ItemSet::with_limit(alloc, limit),
@@ -106,78 +112,79 @@ impl<T: TriItem, S: BuildHasher> TriItems<T, S> {
 
     /// The number of items.
     pub fn len(&self) -> usize
-        ensures value { result ≡ live_count self.now.store }
+        ensures value { result ≡ live_count self.now.state.store }
 
         // What every value keeps.
-        ensures state { IsTriState ⟦<Self as TriKeyed>⟧.keys self.now }
+        ensures state { IsTriState ⟦<Self as TriKeyed>⟧.keys self.now.state }
     {
         self.items.len()
     }
 
     /// Whether there is no item.
     pub fn is_empty(&self) -> bool
-        ensures { IsTrue result ↔ (live_count self.now.store ≡ 0) }
+        ensures { IsTrue result ↔ (live_count self.now.state.store ≡ 0) }
     {
         self.items.is_empty()
     }
 
     /// The item at an index, if it is live.
     pub fn get(&self, ix: ItemIndex) -> Option<&T>
-        ensures { option_copied result ≡ get self.now.store ix }
+        ensures { option_copied result ≡ get self.now.state.store ix }
     {
         self.items.get(ix)
     }
 
     /// The index of the item that has this first key. It compares it with keys of the same hash alone.
     pub fn find1(&self, key: &T::Key1) -> Option<ItemIndex>
-        ensures { FindsKey ⟦<Self as TriKeyed>⟧.keys.first self.now key.now result }
+        ensures { FindsKey ⟦<Self as TriKeyed>⟧.keys.first self.now.state key.now result }
     {
         self.find1_by(&ByKey(key))
     }
 
     /// The index of the item that has this second key.
     pub fn find2(&self, key: &T::Key2) -> Option<ItemIndex>
-        ensures { FindsKey ⟦<Self as TriKeyed>⟧.keys.second self.now key.now result }
+        ensures { FindsKey ⟦<Self as TriKeyed>⟧.keys.second self.now.state key.now result }
     {
         self.find2_by(&ByKey(key))
     }
 
     /// The index of the item that has this third key.
     pub fn find3(&self, key: &T::Key3) -> Option<ItemIndex>
-        ensures { FindsKey ⟦<Self as TriKeyed>⟧.keys.third self.now key.now result }
+        ensures { FindsKey ⟦<Self as TriKeyed>⟧.keys.third self.now.state key.now result }
     {
         self.find3_by(&ByKey(key))
     }
 
     /// The index of the item whose first key the query is equivalent to. The query has to hash as that key does.
     pub fn find1_by<Q: Hash + Equivalent<T::Key1>>(&self, query: &Q) -> Option<ItemIndex>
-        ensures { let hash = hash_one S.BuildHasher S.Hasher.Hasher self.now.hasher (Q.hash_input query.now) in
-            FindsOne ⟦<Self as TriKeyed>⟧.keys.first self.now hash (Q.equivalent query.now) result }
+        ensures { let hash = hash_one S.BuildHasher S.Hasher.Hasher self.now.state.hasher (Q.hash_input query.now) in
+            FindsOne ⟦<Self as TriKeyed>⟧.keys.first self.now.state hash (Q.equivalent query.now) result }
     {
         find_query::<T, First, S, Q>(&self.tables.first, &self.items, &self.state, query)
     }
 
     /// The index of the item whose second key the query is equivalent to, as `find1_by`.
     pub fn find2_by<Q: Hash + Equivalent<T::Key2>>(&self, query: &Q) -> Option<ItemIndex>
-        ensures { let hash = hash_one S.BuildHasher S.Hasher.Hasher self.now.hasher (Q.hash_input query.now) in
-            FindsOne ⟦<Self as TriKeyed>⟧.keys.second self.now hash (Q.equivalent query.now) result }
+        ensures { let hash = hash_one S.BuildHasher S.Hasher.Hasher self.now.state.hasher (Q.hash_input query.now) in
+            FindsOne ⟦<Self as TriKeyed>⟧.keys.second self.now.state hash (Q.equivalent query.now) result }
     {
         find_query::<T, Second, S, Q>(&self.tables.second, &self.items, &self.state, query)
     }
 
     /// The index of the item whose third key the query is equivalent to, as `find1_by`.
     pub fn find3_by<Q: Hash + Equivalent<T::Key3>>(&self, query: &Q) -> Option<ItemIndex>
-        ensures { let hash = hash_one S.BuildHasher S.Hasher.Hasher self.now.hasher (Q.hash_input query.now) in
-            FindsOne ⟦<Self as TriKeyed>⟧.keys.third self.now hash (Q.equivalent query.now) result }
+        ensures { let hash = hash_one S.BuildHasher S.Hasher.Hasher self.now.state.hasher (Q.hash_input query.now) in
+            FindsOne ⟦<Self as TriKeyed>⟧.keys.third self.now.state hash (Q.equivalent query.now) result }
     {
         find_query::<T, Third, S, Q>(&self.tables.third, &self.items, &self.state, query)
     }
 
     /// Removes the item at an index, if it is live. It takes no memory.
     pub fn remove(&mut self, ix: ItemIndex) -> Option<T>
-        ensures removes { RemovesItem self.old ix result self.new }
-        ensures state_before { IsTriState ⟦<Self as TriKeyed>⟧.keys self.old }
-        ensures state_after { IsTriState ⟦<Self as TriKeyed>⟧.keys self.new }
+        ensures removes { RemovesItem self.old.state ix result self.new.state }
+        ensures memory { self.new.memory ≡ self.old.memory }
+        ensures state_before { IsTriState ⟦<Self as TriKeyed>⟧.keys self.old.state }
+        ensures state_after { IsTriState ⟦<Self as TriKeyed>⟧.keys self.new.state }
     {
         take_item(&mut self.items, &mut self.tables, &self.state, ix)
     }
@@ -185,16 +192,25 @@ impl<T: TriItem, S: BuildHasher> TriItems<T, S> {
     /// Takes an item, and removes those that share a key with it, at most three, which it hands back
     /// by rising index from the first place on.
     ///
-    /// Where none does, the store may be full, or else refuse memory. Either way each table may refuse
-    /// it, before anything is removed. A refusal hands the item back and changes nothing. The item's
-    /// keys are hashed once each, and so are those of the removed ones.
+    /// Where it removes one it takes no memory, and nothing is refused. Where it removes none, the store may be full,
+    /// or else memory is refused where there is no room. A refusal hands the item back and leaves the others, and
+    /// gives back no memory that was there. The item's keys are hashed once each, and so are those of the removed ones.
     pub fn insert_overwrite(
         &mut self,
         item: T,
     ) -> Result<(ItemIndex, [Option<T>; 3]), TriRefusal<T>>
-        ensures overwrites { Overwriting ⟦<Self as TriKeyed>⟧.keys self.old item result self.new }
-        ensures state_before { IsTriState ⟦<Self as TriKeyed>⟧.keys self.old }
-        ensures state_after { IsTriState ⟦<Self as TriKeyed>⟧.keys self.new }
+        ensures overwrites { Overwriting ⟦<Self as TriKeyed>⟧.keys self.old.state item result self.new.state }
+        ensures state_before { IsTriState ⟦<Self as TriKeyed>⟧.keys self.old.state }
+        ensures state_after { IsTriState ⟦<Self as TriKeyed>⟧.keys self.new.state }
+
+        // Memory is taken only where no item gives way and there is no room, and no more than one item needs.
+        ensures over_others { (ix : ℕ) → ClashesAt ⟦<Self as TriKeyed>⟧.keys self.old.state.store item ix
+            → self.new.memory ≡ self.old.memory }
+        ensures in_room { 1 ≤ room self.old → self.new.memory ≡ self.old.memory }
+        ensures grows { let s = self.old.state.store in
+            Grows s.limit (live_count s + 1) self.old.memory self.new.memory }
+        ensures needed { (back : T) → result ≡ Err (TriRefusal.Memory back)
+            → NeedsMemory ⟦<Self as TriKeyed>⟧.keys self.old item }
     {
         let hashes = TriHashes::of(&self.state, &item);
         let clashes = self.clashes(&item, &hashes);
@@ -202,17 +218,100 @@ impl<T: TriItem, S: BuildHasher> TriItems<T, S> {
         if clashes.is_empty() {
             return insert_apart(items, tables, item, hashes);
         }
-        replace_clashes(items, tables, &self.state, item, hashes, clashes)
+        Ok(replace_clashes(items, tables, &self.state, item, hashes, clashes))
+    }
+}
+
+/// Memory that is taken ahead, and given back.
+impl<T: TriItem, S: BuildHasher> TriItems<T, S> {
+    /// No items, and memory for so many, or for as many as there are indexes but `SENTINEL`. With 0 it takes none.
+    ///
+    /// An `AllocError` means that memory was refused.
+    pub fn with_capacity(
+        alloc: Global,
+        state: S,
+        capacity: usize,
+    ) -> Result<TriItems<T, S>, AllocError>
+    where
+        S: Drop,
+        ensures empty { IfOk result (λ t. t.state ≡ empty_tri_state u32.MAX state) }
+        ensures state { IfOk result (λ t. IsTriState ⟦<Self as TriKeyed>⟧.keys t.state) }
+        ensures room { IfOk result (λ t. min capacity u32.MAX ≤ room t) }
+        ensures few { IfOk result (λ t. Grows u32.MAX (min capacity u32.MAX) no_memory t.memory) }
+        ensures none { capacity ≡ 0 → IsOk result }
+    {
+        let mut items = TriItems::new(alloc, state);
+        items.reserve(capacity)?;
+        Ok(items)
+    }
+
+    /// How many items there can be without more memory.
+    pub fn capacity(&self) -> usize
+        ensures { result ≡ capacity self.now }
+    {
+        let slots = self.items.capacity().min(self.items.limit());
+        slots.min(self.tables.capacity())
+    }
+
+    /// How many inserts need no memory.
+    pub fn room(&self) -> usize
+        ensures { result ≡ room self.now }
+    {
+        self.capacity().saturating_sub(self.len())
+    }
+
+    /// Takes memory, so that as many inserts need none, or as many as there can be.
+    ///
+    /// Where there is room already it takes none. A refusal leaves the items, and gives back no memory that was there;
+    /// what the parts before had taken stays theirs.
+    pub fn reserve(&mut self, additional: usize) -> Result<(), AllocError>
+        ensures memory { ReservesItems additional self.old result self.new }
+    {
+        let len = self.items.len();
+        let more = additional.min(self.items.limit() - len);
+        reserve_slots(&mut self.items, len + more)?;
+        self.tables.reserve(more)
+    }
+
+    /// The same as `reserve`, under the name that it has where `reserve` can't be refused.
+    pub fn try_reserve(&mut self, additional: usize) -> Result<(), AllocError>
+        ensures memory { ReservesItems additional self.old result self.new }
+    {
+        self.reserve(additional)
+    }
+
+    /// Gives back the memory that the slots and the tables don't need. Vacant slots stay.
+    ///
+    /// Where smaller memory is refused the items stay, and the other parts give theirs back still.
+    pub fn shrink_to_fit(&mut self) -> Result<(), AllocError>
+        ensures state { self.new.state ≡ self.old.state }
+        ensures memory { let s = self.old.state.store in
+            Shrinks (slot_count s) (live_count s) self.old.memory result self.new.memory }
+    {
+        self.shrink_to(0)
+    }
+
+    /// Gives back the memory that so many items don't need, or those that there are where these are more.
+    ///
+    /// Where smaller memory is refused the items stay, and the other parts give theirs back still.
+    pub fn shrink_to(&mut self, least: usize) -> Result<(), AllocError>
+        ensures state { self.new.state ≡ self.old.state }
+        ensures memory { let s = self.old.state.store in
+            Shrinks (max least (slot_count s)) (max least (live_count s)) self.old.memory result self.new.memory }
+    {
+        let slots = self.items.shrink_capacity_to(least);
+        let tables = self.tables.shrink_to(least);
+        slots.and(tables)
     }
 }
 
 impl<T: TriItem, S: BuildHasher> TriItems<T, S> {
     // The indexes whose items share a key with this one, by its hashes, which were computed before.
     fn clashes(&self, item: &T, hashes: &TriHashes) -> Clashes
-        requires { hashes_of hashes.now ≡ hashes_in ⟦<Self as TriKeyed>⟧.keys self.now.hasher item.now }
+        requires { hashes_of hashes.now ≡ hashes_in ⟦<Self as TriKeyed>⟧.keys self.now.state.hasher item.now }
         ensures ordered { AreInOrder result.first result.second result.third }
         ensures clashes { (ix : ℕ) → IsOneOf result.first result.second result.third ix
-            ↔ ClashesAt ⟦<Self as TriKeyed>⟧.keys self.now.store item.now ix }
+            ↔ ClashesAt ⟦<Self as TriKeyed>⟧.keys self.now.state.store item.now ix }
     {
         let (tables, items) = (&self.tables, &self.items);
         Clashes::of(

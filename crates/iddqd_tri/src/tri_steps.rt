@@ -1,15 +1,16 @@
 //! The steps that the store and the three tables of items with three keys take together.
 //!
-//! They are lent apart, since a step has to tell what room it leaves, which is no part of what a
-//! collection tells. Without a clash the store's handle is held while the tables take memory; with one
-//! the first removal makes the room.
+//! They are lent apart, since a step has to say which room each of them has left. Without a clash the store's
+//! handle is held while the tables take memory. With one the first removal makes the room in the store and in
+//! each table, so no memory is taken and nothing can be refused.
 ghost use Rattle.std.specs.Prelude.{◌≡◌, ◌≤◌, ◌+◌, ℕ, [], map, Some, None, IsSome, IsOk, IfOk, OnOk, IfErr, OnErr, OnSome, IfSome, IfNone};
 ghost use Rattle.std.specs.Option.{option_and_then};
-ghost use Rattle.iddqd.specs.{get, room, next_index, inserted, removed, IsFull, IsValid};
+ghost use Rattle.iddqd.specs.{get, room, live_count, next_index, inserted, removed, IsFull, IsValid};
 ghost use Rattle.iddqd_sides.specs.Scan.{IsLive};
 ghost use Rattle.iddqd_tri.specs.Clashes.{AreInOrder, IsOneOf, clashing};
 ghost use Rattle.iddqd_tri.specs.TriState.{maps_without, maps_with, maps_without_all, removed_all, HoldLive};
-ghost use Rattle.iddqd_tri.specs.TriTables.{maps_of, hashes_of, HasRoom, maps_without_one, removed_one};
+ghost use Rattle.iddqd_tri.specs.TriMemory.{SlotsGrow};
+ghost use Rattle.iddqd_tri.specs.TriTables.{maps_of, hashes_of, memory_of, tables_memory, HaveRoom, TablesGrow, maps_without_one, removed_one};
 ghost use Rattle.iddqd_tri.specs.TriCalls.{padded, HasNoPlace};
 
 use crate::clashes::Clashes;
@@ -35,8 +36,9 @@ pub(crate) fn take_item<T: TriItem, S: BuildHasher>(
     ensures taken { OnSome result (maps_of tables.new ≡ maps_without (maps_of tables.old) ix) }
     ensures items_stay { IfNone result (items.new ≡ items.old) }
     ensures tables_stay { IfNone result (tables.new ≡ tables.old) }
+    ensures memory { memory_of items.new tables.new ≡ memory_of items.old tables.old }
     ensures room { OnSome result (room items.new ≡ room items.old + 1) }
-    ensures tables_room { HasRoom tables.old → HasRoom tables.new }
+    ensures tables_room { OnSome result (HaveRoom 1 tables.new) }
 {
     let item = items.get(ix)?;
     let hashes = TriHashes::of(state, item);
@@ -57,9 +59,11 @@ fn take_clash<T: TriItem, S: BuildHasher>(
     ensures removed { items.new.store ≡ removed_one items.old.store ix }
     ensures taken { maps_of tables.new ≡ maps_without_one (maps_of tables.old) ix }
     ensures held { HoldLive items.new.store (maps_of tables.new) }
+    ensures memory { memory_of items.new tables.new ≡ memory_of items.old tables.old }
     ensures room { IsSome ix → 1 ≤ room items.new }
     ensures room_stays { room items.old ≤ room items.new }
-    ensures tables_room { HasRoom tables.old → HasRoom tables.new }
+    ensures tables_room { IsSome ix → HaveRoom 1 tables.new }
+    ensures tables_room_stays { HaveRoom 1 tables.old → HaveRoom 1 tables.new }
 {
     take_item(items, tables, state, ix?)
 }
@@ -78,8 +82,9 @@ fn take_clashes<T: TriItem, S: BuildHasher>(
     ensures removed { items.new.store ≡ removed_all items.old.store (clashing clashes) }
     ensures taken { maps_of tables.new ≡ maps_without_all (maps_of tables.old) (clashing clashes) }
     ensures held { HoldLive items.new.store (maps_of tables.new) }
+    ensures memory { memory_of items.new tables.new ≡ memory_of items.old tables.old }
     ensures room { IsSome clashes.first → 1 ≤ room items.new }
-    ensures tables_room { HasRoom tables.old → HasRoom tables.new }
+    ensures tables_room { IsSome clashes.first → HaveRoom 1 tables.new }
 {
     let first = take_clash(items, tables, state, clashes.first);
     let second = take_clash(items, tables, state, clashes.second);
@@ -91,12 +96,26 @@ fn take_clashes<T: TriItem, S: BuildHasher>(
 fn store_in_room<T>(items: &mut ItemSet<T>, item: T) -> ItemIndex
     requires { 1 ≤ room items.old }
     ensures index { result ≡ next_index items.old.store }
-    ensures stored { items.new.store ≡ inserted items.old.store item }
+    ensures stored { items.new ≡ record items.old { store = inserted items.old.store item } }
 {
     match items.assert_can_grow() {
         Ok(handle) => handle.insert(item),
         Err(_) => unreachable!(),
     }
+}
+
+/// Takes memory for so many slots, where there aren't as many.
+pub(crate) fn reserve_slots<T>(items: &mut ItemSet<T>, wanted: usize) -> Result<(), AllocError>
+    requires { wanted ≤ items.old.store.limit }
+    ensures contents { items.new.store ≡ items.old.store }
+    ensures memory { SlotsGrow items.old.store.limit wanted items.old.capacity items.new.capacity }
+    ensures reserved { OnOk result (wanted ≤ items.new.capacity) }
+    ensures had_room { wanted ≤ items.old.capacity → IsOk result }
+{
+    if wanted <= items.capacity() {
+        return Ok(());
+    }
+    items.reserve(wanted - items.slot_count())
 }
 
 /// Stores an item that clashes with none, and enters its index under the hashes. All memory is taken
@@ -118,13 +137,18 @@ pub(crate) fn insert_apart<T: TriItem>(
     ensures refused { IfErr result (HasNoPlace items.old.store item) }
     ensures items_stay { OnErr result (items.new.store ≡ items.old.store) }
     ensures tables_stay { OnErr result (maps_of tables.new ≡ maps_of tables.old) }
+    ensures slots { let live = live_count items.old.store in
+        SlotsGrow items.old.store.limit (live + 1) items.old.capacity items.new.capacity }
+    ensures memory { TablesGrow 1 tables.old tables.new }
+    ensures needed { (back : T) → result ≡ Err (TriRefusal.Memory back)
+        → 1 ≤ room items.old → HaveRoom 1 tables.old → ⊥ }
 {
     let handle = match items.assert_can_grow() {
         Ok(handle) => handle,
         Err(GrowError::Full) => return Err(TriRefusal::Full(item)),
         Err(GrowError::Memory) => return Err(TriRefusal::Memory(item)),
     };
-    if let Err(AllocError) = tables.reserve() {
+    if let Err(AllocError) = tables.reserve(1) {
         return Err(TriRefusal::Memory(item));
     }
     let ix = handle.insert(item);
@@ -132,8 +156,7 @@ pub(crate) fn insert_apart<T: TriItem>(
     Ok((ix, [None, None, None]))
 }
 
-/// Takes the items that clash with an item, stores it and enters its index under the hashes; or hands
-/// it back where memory is refused, before anything is removed. The store takes none.
+/// Takes the items that clash with an item, stores it and enters its index under the hashes. It takes no memory.
 pub(crate) fn replace_clashes<T: TriItem, S: BuildHasher>(
     items: &mut ItemSet<T>,
     tables: &mut TriTables,
@@ -141,28 +164,22 @@ pub(crate) fn replace_clashes<T: TriItem, S: BuildHasher>(
     item: T,
     hashes: TriHashes,
     clashes: Clashes,
-) -> Result<(ItemIndex, [Option<T>; 3]), TriRefusal<T>>
+) -> (ItemIndex, [Option<T>; 3])
     requires valid { IsValid items.old.store }
     requires held { HoldLive items.old.store (maps_of tables.old) }
     requires ordered { AreInOrder clashes.first clashes.second clashes.third }
     requires live { (ix : ℕ) → IsOneOf clashes.first clashes.second clashes.third ix → IsLive items.old.store ix }
     requires some { IsSome clashes.first }
-    ensures index { IfOk result (λ r. r.0 ≡ next_index (removed_all items.old.store (clashing clashes))) }
-    ensures values { IfOk result (λ r. r.1 ≡ padded 3 (map (get items.old.store) (clashing clashes))) }
-    ensures stored { OnOk result (items.new.store
-        ≡ inserted (removed_all items.old.store (clashing clashes)) item) }
+    ensures index { result.0 ≡ next_index (removed_all items.old.store (clashing clashes)) }
+    ensures values { result.1 ≡ padded 3 (map (get items.old.store) (clashing clashes)) }
+    ensures stored { items.new.store ≡ inserted (removed_all items.old.store (clashing clashes)) item }
     ensures entered { let left = removed_all items.old.store (clashing clashes) in
-        OnOk result (maps_of tables.new
-        ≡ maps_with (maps_without_all (maps_of tables.old) (clashing clashes)) (next_index left) (hashes_of hashes)) }
-    ensures refused { IfErr result (λ refusal. refusal ≡ TriRefusal.Memory item) }
-    ensures items_stay { OnErr result (items.new.store ≡ items.old.store) }
-    ensures tables_stay { OnErr result (maps_of tables.new ≡ maps_of tables.old) }
+        maps_of tables.new
+        ≡ maps_with (maps_without_all (maps_of tables.old) (clashing clashes)) (next_index left) (hashes_of hashes) }
+    ensures memory { memory_of items.new tables.new ≡ memory_of items.old tables.old }
 {
-    if let Err(AllocError) = tables.reserve() {
-        return Err(TriRefusal::Memory(item));
-    }
     let removed = take_clashes(items, tables, state, clashes);
     let ix = store_in_room(items, item);
     tables.enter(hashes, ix);
-    Ok((ix, removed))
+    (ix, removed)
 }

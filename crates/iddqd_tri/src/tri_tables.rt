@@ -1,8 +1,9 @@
 //! The three tables of items with three keys: each step is one of each table.
-ghost use Rattle.std.specs.Prelude.{◌≡◌, OnOk};
+ghost use Rattle.std.specs.Prelude.{◌≡◌, ◌≤◌, OnOk, OnErr, IsOk};
 ghost use Rattle.iddqd_tri.specs.TriKeys.{tri_keys_of, hashes_in};
 ghost use Rattle.iddqd_tri.specs.TriState.{no_maps, maps_without, maps_with};
-ghost use Rattle.iddqd_tri.specs.TriTables.{maps_of, hashes_of, HasRoom, AreFiled, AreUnfiled};
+ghost use Rattle.iddqd_tri.specs.TriMemory.{no_memory, least_capacity};
+ghost use Rattle.iddqd_tri.specs.TriTables.{maps_of, hashes_of, tables_memory, HaveRoom, AreFiled, AreUnfiled, HaveLen, TablesGrow, TablesShrink, SomeHasMore};
 
 use crate::tri_item::{First, Second, Third, TriItem};
 use iddqd::item_index::ItemIndex;
@@ -46,7 +47,8 @@ impl TriHashes {
 impl TriTables {
     /// Empty tables, which take no memory.
     pub(crate) fn new(alloc: Global) -> TriTables
-        ensures { maps_of result ≡ no_maps }
+        ensures maps { maps_of result ≡ no_maps }
+        ensures memory { tables_memory result ≡ no_memory.tables }
     {
         TriTables {
             first: MapHashTable::new(alloc),
@@ -55,21 +57,48 @@ impl TriTables {
         }
     }
 
-    /// Makes room for one more index in each table, from the first to the third.
-    pub(crate) fn reserve(&mut self) -> Result<(), AllocError>
-        ensures contents { maps_of self.new ≡ maps_of self.old }
-        ensures room { OnOk result (HasRoom self.new) }
+    /// How many indexes each table can hold without more memory.
+    pub(crate) fn capacity(&self) -> usize
+        ensures { result ≡ least_capacity (tables_memory self.now) }
     {
-        self.first.try_reserve(1)?;
-        self.second.try_reserve(1)?;
-        self.third.try_reserve(1)
+        let later = self.second.capacity().min(self.third.capacity());
+        self.first.capacity().min(later)
+    }
+
+    /// Makes room for so many more indexes in each table, from the first to the third.
+    pub(crate) fn reserve(&mut self, additional: usize) -> Result<(), AllocError>
+        ensures contents { maps_of self.new ≡ maps_of self.old }
+        ensures memory { TablesGrow additional self.old self.new }
+        ensures room { OnOk result (HaveRoom additional self.new) }
+        ensures had_room { HaveRoom additional self.old → IsOk result }
+    {
+        self.first.try_reserve(additional)?;
+        self.second.try_reserve(additional)?;
+        self.third.try_reserve(additional)
+    }
+
+    /// Gives back the memory that so many indexes don't need, or those that there are. A table that is refused smaller
+    /// memory doesn't keep the others from giving back theirs.
+    pub(crate) fn shrink_to(&mut self, least: usize) -> Result<(), AllocError>
+        ensures contents { maps_of self.new ≡ maps_of self.old }
+        ensures memory { TablesShrink least self.old result self.new }
+        ensures refused { OnErr result (SomeHasMore least self.new) }
+        ensures succeeds { least ≡ 0 → HaveLen 0 (maps_of self.old) → IsOk result }
+    {
+        let first = self.first.shrink_to(least);
+        let second = self.second.shrink_to(least);
+        let third = self.third.shrink_to(least);
+        first?;
+        second?;
+        third
     }
 
     /// Enters an index under a hash in each table. It takes no memory.
     pub(crate) fn enter(&mut self, hashes: TriHashes, ix: ItemIndex)
-        requires room { HasRoom self.old }
+        requires room { HaveRoom 1 self.old }
         requires new { AreUnfiled (maps_of self.old) ix }
-        ensures { maps_of self.new ≡ maps_with (maps_of self.old) ix (hashes_of hashes) }
+        ensures entered { maps_of self.new ≡ maps_with (maps_of self.old) ix (hashes_of hashes) }
+        ensures memory { tables_memory self.new ≡ tables_memory self.old }
     {
         self.first.insert_prehashed_unchecked(hashes.first, ix);
         self.second.insert_prehashed_unchecked(hashes.second, ix);
@@ -81,7 +110,8 @@ impl TriTables {
     pub(crate) fn take(&mut self, hashes: TriHashes, ix: ItemIndex)
         requires { AreFiled (maps_of self.old) ix }
         ensures taken { maps_of self.new ≡ maps_without (maps_of self.old) ix }
-        ensures room { HasRoom self.old → HasRoom self.new }
+        ensures memory { tables_memory self.new ≡ tables_memory self.old }
+        ensures room { HaveRoom 1 self.new }
     {
         hashed::take_index(&mut self.first, hashes.first, ix);
         hashed::take_index(&mut self.second, hashes.second, ix);

@@ -1,8 +1,8 @@
 //! How many slots a set's memory holds, and how it is taken ahead and given back.
-ghost use Rattle.std.specs.Prelude.{◌≡◌, ◌≤◌, ◌==◌, min, IsOk, IfOk, OnOk};
-ghost use Rattle.iddqd.specs.Store.{empty, slot_count, live_count};
+ghost use Rattle.std.specs.Prelude.{◌≡◌, ◌<◌, ◌≤◌, ◌==◌, min, IsOk, IfOk, OnOk, OnErr};
+ghost use Rattle.iddqd.specs.Store.{slot_limit, empty, slot_count, live_count};
 ghost use Rattle.iddqd.specs.ItemSet.{room};
-ghost use Rattle.iddqd.specs.Sizes.{insertable, ReservesSlots, Shrinks};
+ghost use Rattle.iddqd.specs.Sizes.{insertable, grown, ReservesSlots, Shrinks};
 
 use super::{ItemSet, MAX_SLOTS};
 use crate::item_index::ItemIndex;
@@ -30,6 +30,14 @@ impl<T> ItemSet<T> {
         self.len == 0
     }
 
+    /// The most slots that there can be.
+    pub fn limit(&self) -> usize
+        ensures value { result ≡ self.now.store.limit }
+        ensures bound { result ≤ slot_limit }
+    {
+        self.limit as usize
+    }
+
     /// How many slots the memory holds.
     pub fn capacity(&self) -> usize
         ensures value { result ≡ self.now.capacity }
@@ -42,15 +50,18 @@ impl<T> ItemSet<T> {
     ///
     /// It is the capacity that inserts use, so removals, `clear` and `compact` between them lose nothing. Where it is
     /// refused, or where no vector can hold so many, nothing changes. Memory may be taken past the limit of the
-    /// set, where it is no room. It grows as the vector does, which at least doubles.
+    /// set, where it is no room. It is taken for twice as many slots as before where that is more, but then for none past the
+    /// limit.
     pub fn reserve(&mut self, additional: usize) -> Result<(), AllocError>
         ensures memory { ReservesSlots additional self.old result self.new }
         ensures room { OnOk result (min additional (insertable self.new.store) ≤ room self.new) }
     {
-        if additional <= self.slots.capacity() - self.slots.len() {
+        let len = self.slots.len();
+        if additional <= self.slots.capacity() - len {
             return Ok(());
         }
-        self.slots.reserve(additional)
+        let needed = len.checked_add(additional).ok_or(AllocError)?;
+        self.grow(needed)
     }
 
     /// The same as `reserve`, under the name that it has where `reserve` can't be refused.
@@ -82,5 +93,18 @@ impl<T> ItemSet<T> {
             return Err(AllocError);
         }
         Ok(())
+    }
+
+    // Takes memory for so many slots, or for twice as many as it holds where these are more. The doubling stops at the
+    // limit.
+    pub(super) fn grow(&mut self, needed: usize) -> Result<(), AllocError>
+        requires { self.old.capacity < needed }
+        ensures contents { self.new.store ≡ self.old.store }
+        ensures grown { OnOk result (self.new.capacity ≡ grown needed self.old) }
+        ensures refused { OnErr result (self.new ≡ self.old) }
+    {
+        let twice = self.slots.capacity().saturating_mul(2);
+        let wanted = twice.min(self.limit as usize).max(needed);
+        self.slots.reserve_exact(wanted - self.slots.len())
     }
 }

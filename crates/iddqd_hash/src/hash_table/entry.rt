@@ -23,7 +23,7 @@ pub enum Entry<'a> {
     Vacant(VacantEntry<'a>),
 }
 
-/// Room for one index under a hash. An entry that is let go leaves the indexes as they were.
+/// Room for one index under a hash. An entry that is dropped leaves the indexes as they were.
 #[derive(Drop)]
 pub struct VacantEntry<'a> {
     table: &'a mut MapHashTable,

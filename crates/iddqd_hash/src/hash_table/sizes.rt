@@ -1,8 +1,9 @@
 //! Memory that a table of indexes takes ahead, and gives back.
-ghost use Rattle.std.specs.Prelude.{◌≡◌, IfOk};
+ghost use Rattle.std.specs.Prelude.{◌≡◌, ◌+◌, ◌≤◌, max, IfOk};
 ghost use Rattle.std.specs.FinMap as finite;
 ghost use Rattle.iddqd_hash.specs.MapHashTable.{filed};
-ghost use Rattle.iddqd_hash.specs.Sizes.{Reserves, TakesRoom, Shrinks};
+ghost use Rattle.iddqd_hash.specs.Sizes.{most_cells, Reserves, TakesRoom, Shrinks};
+ghost use Rattle.iddqd_hash.specs.HashTable.{memory};
 
 use super::MapHashTable;
 use crate::open_table::OpenHashTable;
@@ -23,6 +24,7 @@ impl MapHashTable {
     pub fn reserve(&mut self, additional: usize) -> Result<(), AllocError>
         ensures contents { filed self.new ≡ filed self.old }
         ensures memory { Reserves additional self.old result self.new }
+        ensures few { memory self.new ≤ max (memory self.old) (most_cells (finite.len (filed self.old) + additional)) }
     {
         self.try_reserve(additional)
     }

@@ -1,5 +1,6 @@
 //! Copies of a table with open addressing.
-ghost use Rattle.std.specs.Prelude.{◌≡◌, IfOk};
+ghost use Rattle.std.specs.Prelude.{◌≡◌, ◌≤◌, IfOk, MatchResult};
+ghost use Rattle.iddqd_hash.specs.HashTable.{entries, memory, Rewrites};
 
 use super::OpenHashTable;
 use super::cells::Cell;
@@ -44,14 +45,18 @@ impl<T: Copy> OpenHashTable<T> {
     }
 }
 
-// Each pair keeps its place, so no hash is looked at. Where memory is refused, the clones made so far are let go.
+/// A copy has no more cells than the table. Each pair keeps its place, so no hash is looked at. Where memory is refused, the
+/// clones made so far are dropped.
 impl<T: Clone> Clone for OpenHashTable<T> {
     ghost use Rattle.iddqd_hash.specs.HashTable.{entries, Rewrites};
 
     // A clone of each value under the hash of that value, and no other.
     ghost is_clone = { λ t copy. Rewrites T.is_clone (entries t) (entries copy) };
 
-    fn clone(&self) -> Result<OpenHashTable<T>, AllocError> {
+    fn clone(&self) -> Result<OpenHashTable<T>, AllocError>
+        ensures cases { MatchResult result (λ copy. Rewrites T.is_clone (entries self.now) (entries copy)) (λ _. ¬ ⊥) }
+        ensures memory { IfOk result (λ copy. memory copy ≤ memory self.now) }
+    {
         let alloc = *self.tags.allocator();
         Ok(OpenHashTable {
             tags: Vec::from_slice(alloc, self.tags.as_slice())?,

@@ -16,13 +16,11 @@ returns-then-additional-capacity-clause-room g c =
 pub returns-clause-room : goal.returns-clause-room
 returns-clause-room g c =
     let valid = store-is-valid c.self.invariant in
-    rw c.reserve.ensures.items (on_ok_weaker c.reserve.result (λ fits. room_ahead _ (vec_capacity c.reserve.new.self) c.args.additional valid (omega (arith, fits, length-map c.self.inside.slots.items item_of))) c.reserve.ensures.ok)
+    let new = c.grow.new.self in
+    on_ok_weaker c.grow.result (λ grew. room_ahead new.store new.capacity c.args.additional (rw (c.grow.ensures.contents, ← c.self.view_is) valid) (grind (arith, common_steps, grew, length-map c.self.inside.slots.items item_of))) c.grow.ensures.grown
 
 pub returns-then-additional-capacity-clause-memory : goal.returns-then-additional-capacity-clause-memory
 returns-then-additional-capacity-clause-memory g c = grind (arith, common_steps)
-
-pub invariant_of-self : goal.invariant_of-self
-invariant_of-self g c = grind (arith, common_steps)
 
 pub returns-clause-memory : goal.returns-clause-memory
 returns-clause-memory g c = grind (arith, common_steps)

@@ -5,11 +5,5 @@ use Rattle.iddqd.proofs.item_set.ItemSet.reserve_one.Goals as goal
 pub returns-clause-full : goal.returns-clause-full
 returns-clause-full g c = grind (arith, common_steps)
 
-pub returns-then-len-self-clause-full : goal.returns-then-len-self-clause-full
-returns-then-len-self-clause-full g c = grind (arith, common_steps)
-
-pub invariant_of-self : goal.invariant_of-self
-invariant_of-self g c = grind (arith, common_steps)
-
 pub returns-clause-room : goal.returns-clause-room
 returns-clause-room g c = grind (arith, common_steps)

@@ -1,6 +1,8 @@
-use Rattle.std.proofs.Common.{sym}
-use Rattle.iddqd_hash.specs.MapHashTable.{filed}
-use Rattle.iddqd_hash.proofs.MapHashTableLemmas.{distinct_moved, filed_moved}
+use Rattle.std.proofs.Common.{◌≡◌, length, sym}
+use Rattle.std.specs.FinMap as finite
+use Rattle.iddqd_hash.specs.HashTable.{entries}
+use Rattle.iddqd_hash.specs.MapHashTable.{filed, filed_from}
+use Rattle.iddqd_hash.proofs.MapHashTableLemmas.{distinct_moved, filed_moved, len_filed}
 use Rattle.iddqd_hash.proofs.hash_table.MapHashTable.try_reserve.Goals as goal
 
 pub invariant_of-self : goal.invariant_of-self
@@ -12,3 +14,9 @@ returns-clause-contents c = rw (← c.self.view_is) (sym (filed_moved _ _ c.try_
 
 pub returns-clause-memory : goal.returns-clause-memory
 returns-clause-memory c = rw (← c.self.view_is) c.try_reserve.ensures.memory
+
+pub returns-clause-few : goal.returns-clause-few
+unfolding filed
+returns-clause-few c =
+    let long : length (entries c.self.inside.table) ≡ finite.len (filed_from (entries c.self.inside.table)) = len_filed _ c.self.invariant in
+    rw (← c.self.view_is, ← long) c.try_reserve.ensures.memory.few

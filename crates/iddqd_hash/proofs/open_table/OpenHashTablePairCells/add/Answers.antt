@@ -1,8 +1,7 @@
-use Rattle.std.proofs.Common.{◌≡◌, ◌∙◌, ◌≤◌, ◌<◌, ◌-◌, Some, None, length, set, ap, arith, sym}
+use Rattle.std.proofs.Common.{◌≡◌, ◌∙◌, Some, None, length, set, ap, arith, sym}
 use Rattle.std.proofs.lemmas.List.{with_items_is, get_or-set_same, length-set}
 use Rattle.std.specs.Vec.{with_items}
 use Rattle.iddqd_hash.specs.OpenTable.{tag_of, slots_of, IsFree}
-use Rattle.iddqd_hash.specs.OpenRebuild.{IsPastFull}
 use Rattle.iddqd_hash.proofs.OpenAddLemmas.{Roomy, Roomy-rebuilt, add-free, add-within, add-sound, add-pairs, add-counted}
 use Rattle.iddqd_hash.proofs.OpenSlotLemmas.{length_pairs}
 use Rattle.iddqd_hash.proofs.OpenTableLemmas.{entries-opened, pair_at-opened, power_from, empty_from, fits_from, room_of, was_empty_counts, UsesRoom-opened, cells_long}

@@ -13,12 +13,12 @@ returns-clause-clashes g c = λ ix.
     let s = tri_state_of c.self.inside.state c.self.inside.items.store c.self.inside.tables in
     let item = c.args.item.now in
     let lawful = AreLawful-from_bounds g.T.TriItem _ _ _ _ _ _ g.S.BuildHasher g.S.Hasher.Hasher s.hasher g.met.T.Key1.PartialEq.laws g.met.T.Key1.Hash.respects_eq g.met.T.Key2.PartialEq.laws g.met.T.Key2.Hash.respects_eq g.met.T.Key3.PartialEq.laws g.met.T.Key3.Hash.respects_eq in
-    let hashed = c.requires ∙ ap (λ t. hashes_in keys t.hasher item) (sym c.self.view_is) in
+    let hashed = c.requires ∙ ap (λ t. hashes_in keys t.state.hasher item) (sym c.self.view_is) in
     let o = c.self.invariant in
     let found = ClashesAt-found keys s.store item ix _ _ _
     (shares_found keys.first s _ o.first item _ _ lawful.first (ap (λ (h : Three _). h.first) hashed) c.find_key.ensures ix)
     (shares_found keys.second s _ o.second item _ _ lawful.second (ap (λ (h : Three _). h.second) hashed) c.find_key-2.ensures ix)
     (shares_found keys.third s _ o.third item _ _ lawful.third (ap (λ (h : Three _). h.third) hashed) c.find_key-3.ensures ix) in
     let same = c.of.ensures.same ix in
-    subst (λ t. IsOneOf c.of.result.first c.of.result.second c.of.result.third ix ↔ ClashesAt keys t.store item ix) c.self.view_is
+    subst (λ t. IsOneOf c.of.result.first c.of.result.second c.of.result.third ix ↔ ClashesAt keys t.state.store item ix) c.self.view_is
     (λ here. found.0 (same.0 here), λ clash. same.1 (found.1 clash))

@@ -1,14 +1,17 @@
-use Rattle.std.proofs.Common.{rules, ◌≡◌, subst}
+use Rattle.std.proofs.Common.{rules, ◌≡◌, ◌∙◌, ◌+◌, ◌≤◌, Ok, Err, sym, ap, subst, arith}
 use Rattle.std.specs.Result.{OnOk}
-use Rattle.iddqd.specs.Store.{next_index}
+use Rattle.iddqd.specs.Store.{next_index, live_count}
 use Rattle.iddqd_tri.specs.Clashes.{clashing}
 use Rattle.iddqd_tri.specs.TriKeys.{TriKeys, tri_keys_of}
-use Rattle.iddqd_tri.specs.TriState.{IsTriState, removed_all, maps_with, maps_without_all}
-use Rattle.iddqd_tri.specs.TriTables.{maps_of, tri_state_of}
+use Rattle.iddqd_tri.specs.TriState.{IsTriState, HasNoClash, removed_all, maps_with, maps_without_all}
+use Rattle.iddqd_tri.specs.TriMemory.{SizedTri, Grows, room}
+use Rattle.iddqd_tri.specs.declared.tri_refusal.TriRefusal.TheVariants.{Memory}
+use Rattle.iddqd_tri.specs.TriTables.{maps_of, tri_state_of, memory_of, sized_tri_of}
 use Rattle.iddqd_tri.specs.TriCalls.{Overwriting}
 use Rattle.iddqd_tri.proofs.ClashLemmas.{none_listed, some_listed, some_there}
 use Rattle.iddqd_tri.proofs.TriLemmas.{AreLawful-from_bounds}
-use Rattle.iddqd_tri.proofs.TriCallLemmas.{ClashesAt-live, AreClashes-listed, inserted_apart, inserted_over}
+use Rattle.iddqd_tri.proofs.TriCallLemmas.{ClashesAt-live, AreClashes-listed, HasNoClash-none, inserted_apart, inserted_over}
+use Rattle.iddqd_tri.proofs.TriMemoryLemmas.{Grows-parts, Grows-none, Grows-same, HaveRoom-held, set_room-held}
 use Rattle.iddqd_tri.proofs.tri_items.TriItems.insert_overwrite.Goals.{After-insert_apart, After-replace_clashes}
 use Rattle.iddqd_tri.proofs.tri_items.TriItems.insert_overwrite.Goals as goal
 
@@ -46,13 +49,13 @@ invariant_of-self g c = (apart g c).0
 pub returns-then-is_empty-clause-overwrites : goal.returns-then-is_empty-clause-overwrites
 returns-then-is_empty-clause-overwrites g c =
     let keys : TriKeys _ _ _ _ _ = tri_keys_of g.T.TriItem g.T.Key1.PartialEq.eq g.T.Key1.Hash.hash_input g.T.Key2.PartialEq.eq g.T.Key2.Hash.hash_input g.T.Key3.PartialEq.eq g.T.Key3.Hash.hash_input g.S.BuildHasher g.S.Hasher.Hasher in
-    subst (λ t. Overwriting keys t c.args.item c.insert_apart.result (tri_state_of c.self.inside.state c.insert_apart.new.items.store c.insert_apart.new.tables)) c.self.view_is (apart g c).1
+    subst (λ t. Overwriting keys t.state c.args.item c.insert_apart.result (tri_state_of c.self.inside.state c.insert_apart.new.items.store c.insert_apart.new.tables)) c.self.view_is (apart g c).1
 
 pub returns-then-is_empty-clause-state_after : goal.returns-then-is_empty-clause-state_after
 returns-then-is_empty-clause-state_after g c = (apart g c).0
 
 -- what the call leaves, and what it answers
-over : (g : _) (c : After-replace_clashes g) → let keys : TriKeys _ _ _ _ _ = tri_keys_of g.T.TriItem g.T.Key1.PartialEq.eq g.T.Key1.Hash.hash_input g.T.Key2.PartialEq.eq g.T.Key2.Hash.hash_input g.T.Key3.PartialEq.eq g.T.Key3.Hash.hash_input g.S.BuildHasher g.S.Hasher.Hasher in let was = tri_state_of c.self.inside.state c.self.inside.items.store c.self.inside.tables in let is = tri_state_of c.self.inside.state c.replace_clashes.new.items.store c.replace_clashes.new.tables in IsTriState keys is × Overwriting keys was c.args.item c.replace_clashes.result is
+over : (g : _) (c : After-replace_clashes g) → let keys : TriKeys _ _ _ _ _ = tri_keys_of g.T.TriItem g.T.Key1.PartialEq.eq g.T.Key1.Hash.hash_input g.T.Key2.PartialEq.eq g.T.Key2.Hash.hash_input g.T.Key3.PartialEq.eq g.T.Key3.Hash.hash_input g.S.BuildHasher g.S.Hasher.Hasher in let was = tri_state_of c.self.inside.state c.self.inside.items.store c.self.inside.tables in let is = tri_state_of c.self.inside.state c.replace_clashes.new.items.store c.replace_clashes.new.tables in IsTriState keys is × Overwriting keys was c.args.item (Ok c.replace_clashes.result) is
 over g c =
     let keys : TriKeys _ _ _ _ _ = tri_keys_of g.T.TriItem g.T.Key1.PartialEq.eq g.T.Key1.Hash.hash_input g.T.Key2.PartialEq.eq g.T.Key2.Hash.hash_input g.T.Key3.PartialEq.eq g.T.Key3.Hash.hash_input g.S.BuildHasher g.S.Hasher.Hasher in
     let s = tri_state_of c.self.inside.state c.self.inside.items.store c.self.inside.tables in
@@ -64,14 +67,12 @@ over g c =
     let are = AreClashes-listed keys s.store item a b d c.clashes-clashes.ensures.ordered found in
     let lawful = AreLawful-from_bounds g.T.TriItem _ _ _ _ _ _ g.S.BuildHasher g.S.Hasher.Hasher c.self.inside.state g.met.T.Key1.PartialEq.laws g.met.T.Key1.Hash.respects_eq g.met.T.Key2.PartialEq.laws g.met.T.Key2.Hash.respects_eq g.met.T.Key3.PartialEq.laws g.met.T.Key3.Hash.respects_eq in
     let did = c.replace_clashes.ensures in
-    let r = c.replace_clashes.result in
-    let store = c.replace_clashes.new.items.store in
     let maps = maps_of c.replace_clashes.new.tables in
     let clashes = clashing c.clashes-clashes.result in
     let left = removed_all s.store clashes in
-    let entered = subst (λ h. OnOk r (maps ≡ maps_with (maps_without_all s.maps clashes) (next_index left) h)) c.of-hashes.ensures did.entered in
+    let entered = subst (λ h. maps ≡ maps_with (maps_without_all s.maps clashes) (next_index left) h) c.of-hashes.ensures did.entered in
     let (x, rest, some) = some_listed a b d (λ none. let is = c.is_empty.ensures.1 none in let not = c.if-is_empty.false in cc) in
-    inserted_over keys s item lawful c.self.invariant clashes x rest some are r store maps did.index did.values did.stored entered did.refused did.items_stay did.tables_stay
+    inserted_over keys s item lawful c.self.invariant clashes x rest some are c.replace_clashes.result c.replace_clashes.new.items.store maps did.index did.values did.stored entered
 
 pub invariant_of-self-2 : goal.invariant_of-self-2
 invariant_of-self-2 g c = (over g c).0
@@ -79,7 +80,57 @@ invariant_of-self-2 g c = (over g c).0
 pub returns-clause-overwrites : goal.returns-clause-overwrites
 returns-clause-overwrites g c =
     let keys : TriKeys _ _ _ _ _ = tri_keys_of g.T.TriItem g.T.Key1.PartialEq.eq g.T.Key1.Hash.hash_input g.T.Key2.PartialEq.eq g.T.Key2.Hash.hash_input g.T.Key3.PartialEq.eq g.T.Key3.Hash.hash_input g.S.BuildHasher g.S.Hasher.Hasher in
-    subst (λ t. Overwriting keys t c.args.item c.replace_clashes.result (tri_state_of c.self.inside.state c.replace_clashes.new.items.store c.replace_clashes.new.tables)) c.self.view_is (over g c).1
+    subst (λ t. Overwriting keys t.state c.args.item (Ok c.replace_clashes.result) (tri_state_of c.self.inside.state c.replace_clashes.new.items.store c.replace_clashes.new.tables)) c.self.view_is (over g c).1
 
 pub returns-clause-state_after : goal.returns-clause-state_after
 returns-clause-state_after g c = (over g c).0
+
+-- over others the memory stays
+same : (g : _) (c : After-replace_clashes g) → memory_of c.replace_clashes.new.items c.replace_clashes.new.tables ≡ c.args.self.now.memory
+same g c = c.replace_clashes.ensures.memory ∙ ap (λ (t : SizedTri _ _). t.memory) c.self.view_is
+
+pub returns-clause-over_others : goal.returns-clause-over_others
+returns-clause-over_others g c = λ ix clash. same g c
+
+pub returns-clause-in_room : goal.returns-clause-in_room
+returns-clause-in_room g c = λ some. same g c
+
+pub returns-clause-grows : goal.returns-clause-grows
+returns-clause-grows g c =
+    let s = c.args.self.now.state.store in
+    subst (λ m. Grows s.limit (live_count s + 1) c.args.self.now.memory m) (sym (same g c)) (Grows-same s.limit (live_count s + 1) c.args.self.now.memory)
+
+-- beside others it grows for one item
+grown : (g : _) (c : After-insert_apart g) → let s = c.self.inside.items.store in Grows s.limit (live_count s + 1) (memory_of c.self.inside.items c.self.inside.tables) (memory_of c.insert_apart.new.items c.insert_apart.new.tables)
+grown g c =
+    Grows-parts c.self.inside.items c.self.inside.tables c.self.invariant.held c.self.inside.items.store.limit 1 c.insert_apart.new.items c.insert_apart.new.tables c.insert_apart.ensures.slots c.insert_apart.ensures.memory
+
+-- and nothing clashes with the item
+none : (g : _) (c : After-insert_apart g) → let keys : TriKeys _ _ _ _ _ = tri_keys_of g.T.TriItem g.T.Key1.PartialEq.eq g.T.Key1.Hash.hash_input g.T.Key2.PartialEq.eq g.T.Key2.Hash.hash_input g.T.Key3.PartialEq.eq g.T.Key3.Hash.hash_input g.S.BuildHasher g.S.Hasher.Hasher in HasNoClash keys c.self.inside.items.store c.args.item
+none g c =
+    let keys : TriKeys _ _ _ _ _ = tri_keys_of g.T.TriItem g.T.Key1.PartialEq.eq g.T.Key1.Hash.hash_input g.T.Key2.PartialEq.eq g.T.Key2.Hash.hash_input g.T.Key3.PartialEq.eq g.T.Key3.Hash.hash_input g.S.BuildHasher g.S.Hasher.Hasher in
+    let s = c.self.inside.items.store in
+    let a = c.clashes-clashes.result.first in
+    let b = c.clashes-clashes.result.second in
+    let d = c.clashes-clashes.result.third in
+    let found = rw (← c.self.view_is) at c.clashes-clashes.ensures.clashes in
+    let are = AreClashes-listed keys s c.args.item a b d c.clashes-clashes.ensures.ordered found in
+    HasNoClash-none keys s c.args.item (clashing c.clashes-clashes.result) (none_listed a b d c.clashes-clashes.ensures.ordered (c.is_empty.ensures.0 c.if-is_empty.true)) are
+
+pub returns-then-is_empty-clause-over_others : goal.returns-then-is_empty-clause-over_others
+returns-then-is_empty-clause-over_others g c =
+    rw (← c.self.view_is) (λ ix clash. absurd (none g c ix clash))
+
+pub returns-then-is_empty-clause-in_room : goal.returns-then-is_empty-clause-in_room
+returns-then-is_empty-clause-in_room g c =
+    rw (← c.self.view_is) (λ some. Grows-none _ _ _ _ (omega (arith, some)) (omega (arith, some)) (grown g c))
+
+pub returns-then-is_empty-clause-grows : goal.returns-then-is_empty-clause-grows
+returns-then-is_empty-clause-grows g c = rw (← c.self.view_is) (grown g c)
+
+pub returns-then-is_empty-clause-needed : goal.returns-then-is_empty-clause-needed
+returns-then-is_empty-clause-needed g c =
+    let items = c.self.inside.items in
+    let tables = c.self.inside.tables in
+    let needed : (back : _) → c.insert_apart.result ≡ Err (Memory back) → 1 ≤ room (sized_tri_of c.self.inside.state items tables) → ⊥ = λ back is some. c.insert_apart.ensures.needed back is (set_room-held items c.self.invariant.valid (omega (arith, some))) (HaveRoom-held items tables c.self.invariant.held 1 (omega (arith, some))) in
+    rw (← c.self.view_is) (λ back is. record { no_clash = none g c; no_room = let never = needed back is in omega arith })
