@@ -218,7 +218,15 @@ impl<T: TriItem, S: BuildHasher> TriItems<T, S> {
         if clashes.is_empty() {
             return insert_apart(items, tables, item, hashes);
         }
-        Ok(replace_clashes(items, tables, &self.state, item, hashes, clashes))
+        let (ix, (first, second, third)) = replace_clashes(
+            items,
+            tables,
+            &self.state,
+            item,
+            hashes,
+            clashes,
+        );
+        Ok((ix, [first, second, third]))
     }
 }
 

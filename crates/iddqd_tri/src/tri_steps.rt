@@ -3,7 +3,7 @@
 //! They are lent apart, since a step has to say which room each of them has left. Without a clash the store's
 //! handle is held while the tables take memory. With one the first removal makes the room in the store and in
 //! each table, so no memory is taken and nothing can be refused.
-ghost use Rattle.std.specs.Prelude.{◌≡◌, ◌≤◌, ◌+◌, ℕ, [], map, Some, None, IsSome, IsOk, IfOk, OnOk, IfErr, OnErr, OnSome, IfSome, IfNone};
+ghost use Rattle.std.specs.Prelude.{◌≡◌, ◌≤◌, ◌+◌, ℕ, [], ◌∷◌, map, Some, None, IsSome, IsOk, IfOk, OnOk, IfErr, OnErr, OnSome, IfSome, IfNone};
 ghost use Rattle.std.specs.Option.{option_and_then};
 ghost use Rattle.iddqd.specs.{get, room, live_count, next_index, inserted, removed, IsFull, IsValid};
 ghost use Rattle.iddqd_sides.specs.Scan.{IsLive};
@@ -68,17 +68,19 @@ fn take_clash<T: TriItem, S: BuildHasher>(
     take_item(items, tables, state, ix?)
 }
 
-// Takes the items at these indexes out of the store and the tables, in this order.
+// Takes the items at these indexes out of the store and the tables, in this order. They come back as a
+// tuple: a caller of a function that returns an array of a generic type has to prove that the array
+// fits into memory, in one goal with all that the function requires, which is expensive to check.
 fn take_clashes<T: TriItem, S: BuildHasher>(
     items: &mut ItemSet<T>,
     tables: &mut TriTables,
     state: &S,
     clashes: Clashes,
-) -> [Option<T>; 3]
+) -> (Option<T>, Option<T>, Option<T>)
     requires held { HoldLive items.old.store (maps_of tables.old) }
     requires ordered { AreInOrder clashes.first clashes.second clashes.third }
     requires live { (ix : ℕ) → IsOneOf clashes.first clashes.second clashes.third ix → IsLive items.old.store ix }
-    ensures values { result ≡ padded 3 (map (get items.old.store) (clashing clashes)) }
+    ensures values { result.0 ∷ (result.1 ∷ (result.2 ∷ [])) ≡ padded 3 (map (get items.old.store) (clashing clashes)) }
     ensures removed { items.new.store ≡ removed_all items.old.store (clashing clashes) }
     ensures taken { maps_of tables.new ≡ maps_without_all (maps_of tables.old) (clashing clashes) }
     ensures held { HoldLive items.new.store (maps_of tables.new) }
@@ -89,7 +91,7 @@ fn take_clashes<T: TriItem, S: BuildHasher>(
     let first = take_clash(items, tables, state, clashes.first);
     let second = take_clash(items, tables, state, clashes.second);
     let third = take_clash(items, tables, state, clashes.third);
-    [first, second, third]
+    (first, second, third)
 }
 
 // Stores an item where there is room for it.
@@ -157,6 +159,7 @@ pub(crate) fn insert_apart<T: TriItem>(
 }
 
 /// Takes the items that clash with an item, stores it and enters its index under the hashes. It takes no memory.
+/// The items that clash come back as `take_clashes` gives them.
 pub(crate) fn replace_clashes<T: TriItem, S: BuildHasher>(
     items: &mut ItemSet<T>,
     tables: &mut TriTables,
@@ -164,14 +167,15 @@ pub(crate) fn replace_clashes<T: TriItem, S: BuildHasher>(
     item: T,
     hashes: TriHashes,
     clashes: Clashes,
-) -> (ItemIndex, [Option<T>; 3])
+) -> (ItemIndex, (Option<T>, Option<T>, Option<T>))
     requires valid { IsValid items.old.store }
     requires held { HoldLive items.old.store (maps_of tables.old) }
     requires ordered { AreInOrder clashes.first clashes.second clashes.third }
     requires live { (ix : ℕ) → IsOneOf clashes.first clashes.second clashes.third ix → IsLive items.old.store ix }
     requires some { IsSome clashes.first }
     ensures index { result.0 ≡ next_index (removed_all items.old.store (clashing clashes)) }
-    ensures values { result.1 ≡ padded 3 (map (get items.old.store) (clashing clashes)) }
+    ensures values { let values = padded 3 (map (get items.old.store) (clashing clashes)) in
+        result.1.0 ∷ (result.1.1 ∷ (result.1.2 ∷ [])) ≡ values }
     ensures stored { items.new.store ≡ inserted (removed_all items.old.store (clashing clashes)) item }
     ensures entered { let left = removed_all items.old.store (clashing clashes) in
         maps_of tables.new

@@ -1,4 +1,4 @@
-use Rattle.std.proofs.Common.{rules, ◌≡◌, ◌∙◌, ◌+◌, ◌≤◌, Ok, Err, sym, ap, subst, arith}
+use Rattle.std.proofs.Common.{◌≡◌, ◌∙◌, ℕ, ◌+◌, ◌≤◌, List, [], ◌∷◌, Option, Ok, Err, sym, ap, subst, arith}
 use Rattle.std.specs.Result.{OnOk}
 use Rattle.iddqd.specs.Store.{next_index, live_count}
 use Rattle.iddqd_tri.specs.Clashes.{clashing}
@@ -12,16 +12,24 @@ use Rattle.iddqd_tri.proofs.ClashLemmas.{none_listed, some_listed, some_there}
 use Rattle.iddqd_tri.proofs.TriLemmas.{AreLawful-from_bounds}
 use Rattle.iddqd_tri.proofs.TriCallLemmas.{ClashesAt-live, AreClashes-listed, HasNoClash-none, inserted_apart, inserted_over}
 use Rattle.iddqd_tri.proofs.TriMemoryLemmas.{Grows-parts, Grows-none, Grows-same, HaveRoom-held, set_room-held}
-use Rattle.iddqd_tri.proofs.tri_items.TriItems.insert_overwrite.Goals.{After-insert_apart, After-replace_clashes}
+use Rattle.iddqd_tri.proofs.tri_items.TriItems.insert_overwrite.Goals.{After-insert_apart, After-replace_clashes-ix}
 use Rattle.iddqd_tri.proofs.tri_items.TriItems.insert_overwrite.Goals as goal
 
-pub replace_clashes-requires : goal.replace_clashes-requires
-replace_clashes-requires g c =
+pub replace_clashes-ix-requires-clause-live : goal.replace_clashes-ix-requires-clause-live
+replace_clashes-ix-requires-clause-live g c =
     let keys : TriKeys _ _ _ _ _ = tri_keys_of g.T.TriItem g.T.Key1.PartialEq.eq g.T.Key1.Hash.hash_input g.T.Key2.PartialEq.eq g.T.Key2.Hash.hash_input g.T.Key3.PartialEq.eq g.T.Key3.Hash.hash_input g.S.BuildHasher g.S.Hasher.Hasher in
-    let s = c.self.inside.items.store in
     let found = rw (← c.self.view_is) at c.clashes-clashes.ensures.clashes in
-    let some = some_there _ (λ none. let is = c.is_empty.ensures.1 none in let not = c.if-is_empty.false in cc) in
-    (search rules, (c.self.invariant.valid, (c.self.invariant.held, (c.clashes-clashes.ensures.ordered, ((λ ix here. ClashesAt-live keys s c.args.item ix ((found ix).0 here)), some)))))
+    λ ix here. ClashesAt-live keys c.self.inside.items.store c.args.item ix ((found ix).0 here)
+
+pub replace_clashes-ix-requires-clause-some : goal.replace_clashes-ix-requires-clause-some
+replace_clashes-ix-requires-clause-some g c =
+    some_there _ (λ none. let is = c.is_empty.ensures.1 none in let not = c.if-is_empty.false in cc)
+
+-- what it hands back
+abbrev pair : (g : _) (c : After-replace_clashes-ix g) → ℕ × List (Option g.row.T.Denot)
+pair g c =
+    let r = c.replace_clashes-ix.result in
+    (r.0, (r.1.0 ∷ (r.1.1 ∷ (r.1.2 ∷ []))))
 
 -- what the call leaves, and what it answers
 apart : (g : _) (c : After-insert_apart g) → let keys : TriKeys _ _ _ _ _ = tri_keys_of g.T.TriItem g.T.Key1.PartialEq.eq g.T.Key1.Hash.hash_input g.T.Key2.PartialEq.eq g.T.Key2.Hash.hash_input g.T.Key3.PartialEq.eq g.T.Key3.Hash.hash_input g.S.BuildHasher g.S.Hasher.Hasher in let was = tri_state_of c.self.inside.state c.self.inside.items.store c.self.inside.tables in let is = tri_state_of c.self.inside.state c.insert_apart.new.items.store c.insert_apart.new.tables in IsTriState keys is × Overwriting keys was c.args.item c.insert_apart.result is
@@ -55,7 +63,7 @@ pub returns-then-is_empty-clause-state_after : goal.returns-then-is_empty-clause
 returns-then-is_empty-clause-state_after g c = (apart g c).0
 
 -- what the call leaves, and what it answers
-over : (g : _) (c : After-replace_clashes g) → let keys : TriKeys _ _ _ _ _ = tri_keys_of g.T.TriItem g.T.Key1.PartialEq.eq g.T.Key1.Hash.hash_input g.T.Key2.PartialEq.eq g.T.Key2.Hash.hash_input g.T.Key3.PartialEq.eq g.T.Key3.Hash.hash_input g.S.BuildHasher g.S.Hasher.Hasher in let was = tri_state_of c.self.inside.state c.self.inside.items.store c.self.inside.tables in let is = tri_state_of c.self.inside.state c.replace_clashes.new.items.store c.replace_clashes.new.tables in IsTriState keys is × Overwriting keys was c.args.item (Ok c.replace_clashes.result) is
+over : (g : _) (c : After-replace_clashes-ix g) → let keys : TriKeys _ _ _ _ _ = tri_keys_of g.T.TriItem g.T.Key1.PartialEq.eq g.T.Key1.Hash.hash_input g.T.Key2.PartialEq.eq g.T.Key2.Hash.hash_input g.T.Key3.PartialEq.eq g.T.Key3.Hash.hash_input g.S.BuildHasher g.S.Hasher.Hasher in let was = tri_state_of c.self.inside.state c.self.inside.items.store c.self.inside.tables in let is = tri_state_of c.self.inside.state c.replace_clashes-ix.new.items.store c.replace_clashes-ix.new.tables in IsTriState keys is × Overwriting keys was c.args.item (Ok (pair g c)) is
 over g c =
     let keys : TriKeys _ _ _ _ _ = tri_keys_of g.T.TriItem g.T.Key1.PartialEq.eq g.T.Key1.Hash.hash_input g.T.Key2.PartialEq.eq g.T.Key2.Hash.hash_input g.T.Key3.PartialEq.eq g.T.Key3.Hash.hash_input g.S.BuildHasher g.S.Hasher.Hasher in
     let s = tri_state_of c.self.inside.state c.self.inside.items.store c.self.inside.tables in
@@ -66,13 +74,13 @@ over g c =
     let found = rw (← c.self.view_is) at c.clashes-clashes.ensures.clashes in
     let are = AreClashes-listed keys s.store item a b d c.clashes-clashes.ensures.ordered found in
     let lawful = AreLawful-from_bounds g.T.TriItem _ _ _ _ _ _ g.S.BuildHasher g.S.Hasher.Hasher c.self.inside.state g.met.T.Key1.PartialEq.laws g.met.T.Key1.Hash.respects_eq g.met.T.Key2.PartialEq.laws g.met.T.Key2.Hash.respects_eq g.met.T.Key3.PartialEq.laws g.met.T.Key3.Hash.respects_eq in
-    let did = c.replace_clashes.ensures in
-    let maps = maps_of c.replace_clashes.new.tables in
+    let did = c.replace_clashes-ix.ensures in
+    let maps = maps_of c.replace_clashes-ix.new.tables in
     let clashes = clashing c.clashes-clashes.result in
     let left = removed_all s.store clashes in
     let entered = subst (λ h. maps ≡ maps_with (maps_without_all s.maps clashes) (next_index left) h) c.of-hashes.ensures did.entered in
     let (x, rest, some) = some_listed a b d (λ none. let is = c.is_empty.ensures.1 none in let not = c.if-is_empty.false in cc) in
-    inserted_over keys s item lawful c.self.invariant clashes x rest some are c.replace_clashes.result c.replace_clashes.new.items.store maps did.index did.values did.stored entered
+    inserted_over keys s item lawful c.self.invariant clashes x rest some are (pair g c) c.replace_clashes-ix.new.items.store maps did.index did.values did.stored entered
 
 pub invariant_of-self-2 : goal.invariant_of-self-2
 invariant_of-self-2 g c = (over g c).0
@@ -80,14 +88,14 @@ invariant_of-self-2 g c = (over g c).0
 pub returns-clause-overwrites : goal.returns-clause-overwrites
 returns-clause-overwrites g c =
     let keys : TriKeys _ _ _ _ _ = tri_keys_of g.T.TriItem g.T.Key1.PartialEq.eq g.T.Key1.Hash.hash_input g.T.Key2.PartialEq.eq g.T.Key2.Hash.hash_input g.T.Key3.PartialEq.eq g.T.Key3.Hash.hash_input g.S.BuildHasher g.S.Hasher.Hasher in
-    subst (λ t. Overwriting keys t.state c.args.item (Ok c.replace_clashes.result) (tri_state_of c.self.inside.state c.replace_clashes.new.items.store c.replace_clashes.new.tables)) c.self.view_is (over g c).1
+    subst (λ t. Overwriting keys t.state c.args.item (Ok (pair g c)) (tri_state_of c.self.inside.state c.replace_clashes-ix.new.items.store c.replace_clashes-ix.new.tables)) c.self.view_is (over g c).1
 
 pub returns-clause-state_after : goal.returns-clause-state_after
 returns-clause-state_after g c = (over g c).0
 
 -- over others the memory stays
-same : (g : _) (c : After-replace_clashes g) → memory_of c.replace_clashes.new.items c.replace_clashes.new.tables ≡ c.args.self.now.memory
-same g c = c.replace_clashes.ensures.memory ∙ ap (λ (t : SizedTri _ _). t.memory) c.self.view_is
+same : (g : _) (c : After-replace_clashes-ix g) → memory_of c.replace_clashes-ix.new.items c.replace_clashes-ix.new.tables ≡ c.args.self.now.memory
+same g c = c.replace_clashes-ix.ensures.memory ∙ ap (λ (t : SizedTri _ _). t.memory) c.self.view_is
 
 pub returns-clause-over_others : goal.returns-clause-over_others
 returns-clause-over_others g c = λ ix clash. same g c
