@@ -1,4 +1,5 @@
 //! An item is modified in its place, and keeps both keys.
+ghost use Rattle.std.specs.Borrow.{MutBor};
 ghost use Rattle.std.specs.Prelude.{◌≡◌, Some};
 ghost use Rattle.iddqd.specs.{get};
 ghost use Rattle.iddqd_sides.specs.KeyKeeping.{KeepsKey, pair_keys};
@@ -24,8 +25,7 @@ impl<T: KeyedItem, S: BuildHasher> KeyedItems<T, S> {
         ensures keeps { Keeps ⟦<Self as Keyed>⟧.keys self.old.state self.new.state }
         ensures memory { self.new.memory ≡ self.old.memory }
     {
-        let item = self.items.get_mut(ix)?;
-        Some(f(item))
+        self.modify_live(ix, f)
     }
 
     /// Calls the closure with a `&mut` to the item with this first key, found as `find1` finds its index; or returns
@@ -39,7 +39,7 @@ impl<T: KeyedItem, S: BuildHasher> KeyedItems<T, S> {
         ensures keeps { Keeps ⟦<Self as Keyed>⟧.keys self.old.state self.new.state }
         ensures memory { self.new.memory ≡ self.old.memory }
     {
-        self.modify_at(self.find1(key)?, f)
+        self.modify_live(self.find1(key)?, f)
     }
 
     /// Calls the closure with a `&mut` to the item with this second key, found as `find2` finds its index; or returns
@@ -53,6 +53,21 @@ impl<T: KeyedItem, S: BuildHasher> KeyedItems<T, S> {
         ensures keeps { Keeps ⟦<Self as Keyed>⟧.keys self.old.state self.new.state }
         ensures memory { self.new.memory ≡ self.old.memory }
     {
-        self.modify_at(self.find2(key)?, f)
+        self.modify_live(self.find2(key)?, f)
+    }
+
+    // Does what `modify_at` says. What the closure has to keep is two clauses here, since a proof file that answers one
+    // alone makes a call expensive to check.
+    fn modify_live<R, F: FnOnce(&mut T) -> R>(&mut self, ix: ItemIndex, f: F) -> Option<R>
+        requires callable { (item : MutBor T) → get self.old.state.store ix ≡ Some item.now
+            → F.FnOnce.pre f (item, tt) }
+        requires keeps { let keys = pair_keys T.first_key T.second_key in
+            KeepsKey F.FnOnce f keys (λ item. get self.old.state.store ix ≡ Some item) }
+        ensures modifies { ModifiesAt F.FnOnce f self.old.state ix result self.new.state }
+        ensures keeps { Keeps ⟦<Self as Keyed>⟧.keys self.old.state self.new.state }
+        ensures memory { self.new.memory ≡ self.old.memory }
+    {
+        let item = self.items.get_mut(ix)?;
+        Some(f(item))
     }
 }

@@ -4,7 +4,7 @@ use Rattle.iddqd.specs.Store.{get}
 use Rattle.iddqd_keyed.proofs.KeyLemmas.{AreLawful-from_bounds}
 use Rattle.iddqd_keyed.proofs.KeepsLemmas.{IsPaired-rebound}
 use Rattle.iddqd_keyed.proofs.ModifyLemmas.{Keeps-modified}
-use Rattle.iddqd_keyed.proofs.keyed_items.KeyedItems.modify_at.Goals as goal
+use Rattle.iddqd_keyed.proofs.keyed_items.KeyedItems.modify_live.Goals as goal
 
 pub invariant_of-self-2 : goal.invariant_of-self-2
 invariant_of-self-2 g c = IsPaired-rebound _ c.self.invariant c.args.ix c.f.new.arg2 _ (sym c.in_ok-item.ensures.value)
@@ -20,7 +20,7 @@ pub returns-clause-keeps : goal.returns-clause-keeps
 returns-clause-keeps g c =
     let item = c.in_ok-item.item in
     let live : get c.self.inside.items.store c.args.ix ≡ Some item.now = sym c.in_ok-item.ensures.value in
-    let same = (c.requires item (rw (← c.self.view_is) live)).1 _ _ c.f.ensures in
+    let same = (c.requires.keeps item (rw (← c.self.view_is) live)).1 _ _ c.f.ensures in
     rw (← c.self.view_is)
     (Keeps-modified _ _ c.self.invariant
     (AreLawful-from_bounds {item = g.T.KeyedItem} g.S.BuildHasher g.S.Hasher.Hasher g.met.T.Key1.PartialEq.laws
