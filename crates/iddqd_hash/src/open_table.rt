@@ -36,11 +36,11 @@ ghost use Rattle.iddqd_hash.specs.Sizes.{Reserves};
 ghost use Rattle.iddqd_hash.specs.OpenTable.{usable_of, IsPowerOfTwo};
 
 use crate::open_table::cells::{
-    Cell, clear_cells, clear_tags, find_cell, move_cells, put, retain_cells,
-    rewrite_cells, take, value_in,
+    Cell, clear_cells, clear_tags, find_cell, move_cells, put, retain_cells, rewrite_cells, take,
+    value_in,
 };
-use crate::open_table::rebuild::rebuild_at_limit;
 use crate::open_table::memory::{empty_cells, empty_tags};
+use crate::open_table::rebuild::rebuild_at_limit;
 use crate::open_table::tags::{count_for, free_place, usable_of};
 use crate::table_entry::{self, PairCells};
 use std::alloc::{AllocError, Global};

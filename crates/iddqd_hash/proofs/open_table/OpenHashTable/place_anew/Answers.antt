@@ -33,8 +33,8 @@ invariant_of-self g c =
     let same = length_permutation _ _ c.move_cells.ensures.moved in
     record {
       sound = rw (tags-is, c.replace.ensures.after, cells-is)
-    (IsSound-placed c.move_cells.new.tags (slots_of c.move_cells.new.cells) c.self.inside.len (rw long c.requires.power) c.move_cells.ensures.probed c.move_cells.ensures.unmarked
-    (omega (arith, same, c.self.invariant.sound.counted)) (rw long (omega (arith, fits, c.self.invariant.sound.counted))));
+          (IsSound-placed c.move_cells.new.tags (slots_of c.move_cells.new.cells) c.self.inside.len (rw long c.requires.power) c.move_cells.ensures.probed c.move_cells.ensures.unmarked
+          (omega (arith, same, c.self.invariant.sound.counted)) (rw long (omega (arith, fits, c.self.invariant.sound.counted))));
       exact_tags = c.in_ok-tags.ensures.exact;
       exact_cells = rw c.replace.ensures.after c.in_ok-cells.ensures.exact;
     }

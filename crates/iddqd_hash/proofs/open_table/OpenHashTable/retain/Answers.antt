@@ -30,8 +30,8 @@ invariant_of-self g c =
     let marked = rw c.as_mut_slice.ensures.value at c.retain_cells-removed.ensures.marked in
     record {
       sound = rw (tags-is, cells-is)
-    (IsSound-retained c.self.inside.tags.items c.retain_cells-removed.new.tags (slots_of c.self.inside.cells.items) (slots_of c.retain_cells-removed.new.cells) _ _ _ c.self.invariant.sound
-    (c.retain_cells-removed.auto.tags ∙ ap length c.as_mut_slice.ensures.value) c.retain_cells-removed.ensures.probed marked counted);
+          (IsSound-retained c.self.inside.tags.items c.retain_cells-removed.new.tags (slots_of c.self.inside.cells.items) (slots_of c.retain_cells-removed.new.cells) _ _ _ c.self.invariant.sound
+          (c.retain_cells-removed.auto.tags ∙ ap length c.as_mut_slice.ensures.value) c.retain_cells-removed.ensures.probed marked counted);
       exact_tags = c.self.invariant.exact_tags;
       exact_cells = c.self.invariant.exact_cells;
     }

@@ -10,7 +10,7 @@ pub invariant_of-result : goal.invariant_of-result
 invariant_of-result g c =
     record {
       sound = rw (c.in_ok-copied_exactly.ensures.items ∙ c.as_slice.ensures.value)
-    (IsSound-rewritten _ _ _ _ _ c.self.invariant.sound (hashes_of_clones g.T.Clone.is_clone _ _ (rw c.as_slice-2.ensures.value at c.in_ok-cloned_cells.ensures.clones)));
+          (IsSound-rewritten _ _ _ _ _ c.self.invariant.sound (hashes_of_clones g.T.Clone.is_clone _ _ (rw c.as_slice-2.ensures.value at c.in_ok-cloned_cells.ensures.clones)));
       exact_tags = c.in_ok-copied_exactly.ensures.exact;
       exact_cells = c.in_ok-cloned_cells.ensures.exact;
     }
