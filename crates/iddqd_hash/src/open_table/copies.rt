@@ -73,7 +73,8 @@ impl<T: Clone> Clone for OpenHashTable<T> {
 
 // A clone of each cell, in memory for these and no more.
 fn cloned_cells<T: Clone>(alloc: Global, cells: &[Cell<T>]) -> Result<Vec<Cell<T>>, AllocError>
-    ensures clones { IfOk result (λ copies. AllZip (λ cell copy. IsSlotClone T.is_clone (pair_in cell) (pair_in copy)) cells.now copies.items) }
+    ensures clones { IfOk result (λ copies.
+        AllZip (λ cell copy. IsSlotClone T.is_clone (pair_in cell) (pair_in copy)) cells.now copies.items) }
     ensures len { IfOk result (λ copies. vec_len copies ≡ length cells.now) }
     ensures exact { IfOk result IsExact }
 {

@@ -1,6 +1,7 @@
-//! Vectors with memory for their items and no more, of which a table with open addressing is made.
+//! The vectors of a table with open addressing, with memory for their items and no more.
 //!
-//! std makes each of them so; where it promises only that the memory isn't less, the capacity is looked at.
+//! So the number of cells, which a contract sees, tells of all memory. `resize` and `from_slice` fill a block at once, but
+//! promise of the capacity only that it isn't less, so it is compared afterwards.
 ghost use Rattle.std.specs.Prelude.{◌≡◌, None, IfOk, replicate, vec_len};
 ghost use Rattle.iddqd_hash.specs.OpenTable.{slots_of, IsExact};
 
@@ -41,8 +42,8 @@ pub fn copied_exactly<T: Copy>(alloc: Global, items: &[T]) -> Result<Vec<T>, All
     exactly(Vec::from_slice(alloc, items)?)
 }
 
-// The same vector. It is refused if its memory is for more than its items, which never happens to one that is made for so
-// many.
+// The same vector. It is refused if its memory is for more than its items, which never happens to one that is made for
+// so many.
 fn exactly<T: Copy>(items: Vec<T>) -> Result<Vec<T>, AllocError>
     ensures same { IfOk result (λ exact. exact ≡ items) }
     ensures exact { IfOk result IsExact }
