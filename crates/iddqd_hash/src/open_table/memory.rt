@@ -1,7 +1,7 @@
 //! The vectors of a table with open addressing, with memory for their items and no more.
 //!
-//! So the number of cells, which a contract sees, tells of all memory. `resize` and `from_slice` fill a block at once, but
-//! promise of the capacity only that it isn't less, so it is compared afterwards.
+//! So the number of cells, which a contract sees, tells of all memory. `resize` and `from_slice` fill a block at once,
+//! but promise only that the capacity isn't less, so it is compared afterwards.
 ghost use Rattle.std.specs.Prelude.{◌≡◌, None, IfOk, replicate, vec_len};
 ghost use Rattle.iddqd_hash.specs.OpenTable.{slots_of, IsExact};
 
