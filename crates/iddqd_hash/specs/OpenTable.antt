@@ -3,6 +3,8 @@ use Rattle.std.specs.Prelude.{◌≡◌, ◌≢◌, ◌==◌, map, ◌+◌, ◌-
 use mathlib.Core.Bool.{◌||◌}
 use Rattle.std.specs.List.{filter_map}
 use Rattle.std.specs.Option.{option_map}
+use Rattle.std.specs.Vec.{vec_capacity, vec_len}
+use Rattle.std.specs.Global.{Vec}
 use Rattle.iddqd_hash.specs.HashTable.{Table}
 use Rattle.iddqd_hash.specs.declared.open_table.cells.Cell.{Cell}
 
@@ -61,6 +63,10 @@ pub record Skips (tags : List ℕ) (tag from at : ℕ) : Type 0 where
   pub steps : ℕ
   pub is_there : (from + steps) % length tags ≡ at
   pub others : (k : ℕ) → k < steps → is_stop tag (slice_index tags ((from + k) % length tags)) ≡ false
+
+-- a vector with memory for its items and no more
+abbrev pub IsExact : {X : Type 0} → Vec X → Type 0
+IsExact v = vec_capacity v ≡ vec_len v
 
 -- a place with no pair
 pub record IsFree (tags : List ℕ) (place : ℕ) : Type 0 where
@@ -121,6 +127,13 @@ module _ {T : Type 0} where
     pub fits : len ≤ usable_of (length tags)
     pub marked : used ≡ count_by is_used tags
     pub limited : used ≤ limit_of (length tags)
+
+  -- What a table with open addressing keeps of its vectors. Both are exact, so that a contract that counts the cells
+  -- sees all of the memory.
+  pub record IsSoundTable (tags : Vec ℕ) (cells : Vec (Cell T)) (len used : ℕ) : Type 0 where
+    pub sound : IsSound tags.items (slots_of cells.items) len used
+    pub exact_tags : IsExact tags
+    pub exact_cells : IsExact cells
 
   -- what a contract sees of slots: marks make no difference
   unfoldable pub opened : List (Option (ℕ × T)) → Table T

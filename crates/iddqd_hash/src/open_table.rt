@@ -36,9 +36,10 @@ ghost use Rattle.iddqd_hash.specs.Sizes.{Reserves};
 ghost use Rattle.iddqd_hash.specs.OpenTable.{usable_of, IsPowerOfTwo};
 
 use crate::open_table::cells::{
-    Cell, clear_cells, clear_tags, empty_cells, find_cell, move_cells, put, retain_cells,
-    rewrite_cells, take, value_in,
+    Cell, clear_cells, clear_tags, find_cell, move_cells, put, retain_cells, rewrite_cells, take,
+    value_in,
 };
+use crate::open_table::memory::{empty_cells, empty_tags};
 use crate::open_table::rebuild::rebuild_at_limit;
 use crate::open_table::tags::{count_for, free_place, usable_of};
 use crate::table_entry::{self, PairCells};
@@ -51,6 +52,7 @@ mod copies;
 mod entry;
 mod iter;
 mod lanes;
+mod memory;
 mod places;
 mod rebuild;
 mod sizes;
@@ -75,7 +77,7 @@ pub struct OpenHashTable<T> {
 
 impl<T> Model for OpenHashTable<T> {
     ghost use Rattle.iddqd_hash.specs.HashTable.{Table, table_code};
-    ghost use Rattle.iddqd_hash.specs.OpenTable.{opened, slots_of, IsSound};
+    ghost use Rattle.iddqd_hash.specs.OpenTable.{opened, slots_of, IsSoundTable};
 
     ghost Value = { Table T };
 
@@ -83,7 +85,7 @@ impl<T> Model for OpenHashTable<T> {
 
     ghost view = { λ s. opened (slots_of s.cells.items) };
 
-    ghost invariant = { λ s. IsSound s.tags.items (slots_of s.cells.items) s.len s.used };
+    ghost invariant = { λ s. IsSoundTable s.tags s.cells s.len s.used };
 }
 
 /// A pair that stands in a table.
@@ -323,7 +325,7 @@ impl<T> OpenHashTable<T> {
         ensures memory { OnOk result (memory self.new ≡ count) }
     {
         let alloc = *self.cells.allocator();
-        let mut tags = vec![in alloc; 0u8; count]?;
+        let mut tags = empty_tags(alloc, count)?;
         let mut cells = empty_cells(alloc, count)?;
         move_cells(&mut self.cells, tags.as_mut_slice(), cells.as_mut_slice());
         self.tags = tags;

@@ -1,5 +1,5 @@
 //! The cells of a table with open addressing, beside their tags.
-ghost use Rattle.std.specs.Prelude.{◌≡◌, ◌+◌, ◌<◌, ◌≤◌, ◌%◌, vec_len, count_by, Some, None, IsSome, IfOk, IfSome, length, replicate, slice_set};
+ghost use Rattle.std.specs.Prelude.{◌≡◌, ◌+◌, ◌<◌, ◌≤◌, ◌%◌, vec_len, count_by, Some, None, IsSome, IfSome, length, replicate, slice_set};
 ghost use Rattle.std.specs.Fn.{TakesAt, CalledAt, FnReturnsAt};
 ghost use Rattle.std.specs.List.{Contains};
 ghost use Rattle.std.specs.Option.{option_map};
@@ -11,7 +11,6 @@ ghost use Rattle.iddqd_hash.specs.OpenTable.{tag_of, limit_of, is_used, hashes_o
 
 use crate::open_table::places::FullPlaces;
 use crate::open_table::tags::{LARGE, free_near_home, home_of, next, past_others, tag_of};
-use std::alloc::{AllocError, Global};
 use std::mem::{self, ManuallyDrop};
 
 /// A place for a pair. The hash means something where there is a value.
@@ -22,20 +21,6 @@ pub struct Cell<T> {
 }
 
 impl<T: Copy> Copy for Cell<T> {}
-
-/// So many empty cells.
-pub fn empty_cells<T>(alloc: Global, count: usize) -> Result<Vec<Cell<T>>, AllocError>
-    ensures { IfOk result (λ cells. slots_of cells.items ≡ replicate count None) }
-{
-    let mut cells = Vec::with_capacity(alloc, count)?;
-    'empty: for _ in 0..count {
-        cells.push_reserved(Cell {
-            hash: 0,
-            value: None,
-        });
-    }
-    Ok(cells)
-}
 
 /// The value in a cell.
 pub fn value_in<T>(cell: &Cell<T>) -> &T

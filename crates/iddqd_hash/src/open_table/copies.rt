@@ -1,10 +1,14 @@
 //! Copies of a table with open addressing.
-ghost use Rattle.std.specs.Prelude.{◌≡◌, ◌≤◌, IfOk, MatchResult};
+ghost use Rattle.std.specs.Prelude.{◌≡◌, ◌≤◌, IfOk, MatchResult, length, vec_len};
+ghost use Rattle.std.specs.List.{AllZip};
+ghost use Rattle.iddqd_hash.specs.Clones.{IsSlotClone};
+ghost use Rattle.iddqd_hash.specs.OpenTable.{pair_in, IsExact};
 ghost use Rattle.iddqd_hash.specs.HashTable.{entries, memory, Rewrites};
 
 use super::OpenHashTable;
 use super::cells::Cell;
-use std::alloc::AllocError;
+use super::memory::copied_exactly;
+use std::alloc::{AllocError, Global};
 
 impl<T: Clone> Clone for Cell<T> {
     ghost use Rattle.iddqd_hash.specs.OpenTable.{pair_in};
@@ -34,8 +38,8 @@ impl<T: Copy> OpenHashTable<T> {
         ensures { IfOk result (λ copy. copy ≡ self.now) }
     {
         let alloc = *self.tags.allocator();
-        let tags = Vec::from_slice(alloc, self.tags.as_slice())?;
-        let cells = Vec::from_slice(alloc, self.cells.as_slice())?;
+        let tags = copied_exactly(alloc, self.tags.as_slice())?;
+        let cells = copied_exactly(alloc, self.cells.as_slice())?;
         Ok(OpenHashTable {
             tags,
             cells,
@@ -59,10 +63,24 @@ impl<T: Clone> Clone for OpenHashTable<T> {
     {
         let alloc = *self.tags.allocator();
         Ok(OpenHashTable {
-            tags: Vec::from_slice(alloc, self.tags.as_slice())?,
-            cells: self.cells.clone()?,
+            tags: copied_exactly(alloc, self.tags.as_slice())?,
+            cells: cloned_cells(alloc, self.cells.as_slice())?,
             len: self.len,
             used: self.used,
         })
     }
+}
+
+// A clone of each cell, in memory for these and no more.
+fn cloned_cells<T: Clone>(alloc: Global, cells: &[Cell<T>]) -> Result<Vec<Cell<T>>, AllocError>
+    ensures clones { IfOk result (λ copies.
+        AllZip (λ cell copy. IsSlotClone T.is_clone (pair_in cell) (pair_in copy)) cells.now copies.items) }
+    ensures len { IfOk result (λ copies. vec_len copies ≡ length cells.now) }
+    ensures exact { IfOk result IsExact }
+{
+    let mut copies = Vec::with_capacity(alloc, cells.len())?;
+    for cell in cells {
+        copies.push_reserved(cell.clone()?);
+    }
+    Ok(copies)
 }

@@ -7,7 +7,8 @@ ghost use Rattle.iddqd_hash.specs.OpenTableSizes.{FewerCells};
 ghost use Rattle.iddqd_hash.specs.Sizes.{Reserves, most_cells, TakesRoom, Shrinks};
 
 use super::OpenHashTable;
-use super::cells::{Cell, empty_cells};
+use super::cells::Cell;
+use super::memory::{empty_cells, empty_tags};
 use super::tags::{count_for, usable_of};
 use std::alloc::{AllocError, Global};
 use std::mem;
@@ -22,7 +23,7 @@ impl<T> OpenHashTable<T> {
             return Ok(OpenHashTable::new(alloc));
         }
         let count = count_for(capacity).ok_or(AllocError)?;
-        let tags = vec![in alloc; 0u8; count]?;
+        let tags = empty_tags(alloc, count)?;
         let cells = empty_cells(alloc, count)?;
         Ok(OpenHashTable {
             tags,

@@ -4,4 +4,4 @@ use Rattle.iddqd_hash.proofs.open_table.OpenHashTable.capacity.Goals as goal
 
 pub returns : goal.returns
 returns g c =
-    rw (← c.self.view_is, capacity-opened _ (fits_from _ _ _ _ c.self.invariant), c.self.invariant.probed.same_length) (omega arith)
+    rw (← c.self.view_is, capacity-opened _ (fits_from _ _ _ _ c.self.invariant.sound), c.self.invariant.sound.probed.same_length) (omega arith)

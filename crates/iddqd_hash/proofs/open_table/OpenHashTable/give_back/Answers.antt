@@ -1,4 +1,4 @@
-use Rattle.std.proofs.Common.{◌≡◌, ◌∙◌, [], length, ap, arith}
+use Rattle.std.proofs.Common.{◌≡◌, ◌∙◌, [], length, sym, ap, arith}
 use Rattle.std.proofs.lemmas.Grind.{common_steps}
 use Rattle.iddqd_hash.specs.OpenTable.{slots_of, pairs}
 use Rattle.iddqd_hash.proofs.OpenTableLemmas.{entries-opened, HasNoMemory-opened, IsSound-none}
@@ -10,8 +10,12 @@ let_go-requires g c = rw (← c.self.view_is, entries-opened) at c.requires
 pub invariant_of-self : goal.invariant_of-self
 invariant_of-self g c =
     let none : pairs (slots_of c.self.inside.cells.items) ≡ [] = rw (← c.self.view_is, entries-opened) at c.requires in
-    let empty : c.self.inside.len ≡ 0 = c.self.invariant.counted ∙ ap length none in
-    rw empty (IsSound-none _ _ c.new.ensures.items (rw c.replace.ensures.after c.new-2.ensures.items))
+    let empty : c.self.inside.len ≡ 0 = c.self.invariant.sound.counted ∙ ap length none in
+    record {
+      sound = rw empty (IsSound-none _ _ c.new.ensures.items (rw c.replace.ensures.after c.new-2.ensures.items));
+      exact_tags = c.new.ensures.capacity ∙ sym c.new.ensures.len;
+      exact_cells = rw c.replace.ensures.after (c.new-2.ensures.capacity ∙ sym c.new-2.ensures.len);
+    }
 
 pub returns-clause-empty : goal.returns-clause-empty
 returns-clause-empty g c =

@@ -15,7 +15,7 @@ pub place_anew-requires-clause-fits : goal.place_anew-requires-clause-fits
 place_anew-requires-clause-fits g c =
     let fits : c.in_ok-needed.needed ≤ usable_of c.in_ok-count.count = rw c.in_ok-count.ensures.ok_part at c.count_for.ensures.fits in
     let needed = rw c.in_ok-needed.ensures.ok_part at c.checked_add.ensures in
-    rw (← c.self.view_is, entries-opened) (omega (arith, fits, needed.1, c.self.invariant.counted))
+    rw (← c.self.view_is, entries-opened) (omega (arith, fits, needed.1, c.self.invariant.sound.counted))
 
 pub returns-in_err-needed-clause-memory : goal.returns-in_err-needed-clause-memory
 returns-in_err-needed-clause-memory g c = Reserves-denied _ _ c.from_residual.result c.from_residual.ensures.0 (omega (arith, c.requires))
@@ -30,7 +30,7 @@ pub returns-clause-memory : goal.returns-clause-memory
 returns-clause-memory g c =
     let fits : c.in_ok-needed.needed ≤ usable_of c.in_ok-count.count = rw c.in_ok-count.ensures.ok_part at c.count_for.ensures.fits in
     let needed = rw c.in_ok-needed.ensures.ok_part at c.checked_add.ensures in
-    let counted : c.self.inside.len ≡ length (entries c.args.self.now) = rw (← c.self.view_is, entries-opened) c.self.invariant.counted in
+    let counted : c.self.inside.len ≡ length (entries c.args.self.now) = rw (← c.self.view_is, entries-opened) c.self.invariant.sound.counted in
     let roomy : room c.args.self.now ≡ usable_of (memory c.args.self.now) - length (entries c.args.self.now) = rw (← c.self.view_is, room-opened, memory-opened, entries-opened) refl in
     let short : room c.args.self.now < c.args.additional = omega (arith, c.requires) in
     let enough : c.args.additional ≤ usable_of c.in_ok-count.count - length (entries c.args.self.now) = omega (arith, fits, needed.1, counted) in

@@ -1,10 +1,15 @@
-use Rattle.std.proofs.Common.{◌∙◌, ap}
+use Rattle.std.proofs.Common.{◌∙◌, sym, ap}
 use Rattle.iddqd_hash.specs.OpenTable.{slots_of, pairs}
 use Rattle.iddqd_hash.proofs.OpenTableLemmas.{entries-opened, HasNoMemory-opened, IsSound-none}
 use Rattle.iddqd_hash.proofs.open_table.OpenHashTable.new.Goals as goal
 
 pub invariant_of-result : goal.invariant_of-result
-invariant_of-result g c = IsSound-none _ _ c.new.ensures.items c.new-2.ensures.items
+invariant_of-result g c =
+    record {
+      sound = IsSound-none _ _ c.new.ensures.items c.new-2.ensures.items;
+      exact_tags = c.new.ensures.capacity ∙ sym c.new.ensures.len;
+      exact_cells = c.new-2.ensures.capacity ∙ sym c.new-2.ensures.len;
+    }
 
 pub returns-clause-empty : goal.returns-clause-empty
 returns-clause-empty g c = entries-opened _ ∙ ap (λ cells. pairs (slots_of cells)) c.new-2.ensures.items

@@ -1,4 +1,4 @@
-use Rattle.std.proofs.Common.{rules, ◌≡◌, ◌∙◌, ◌≤◌, None, length, replicate, sym, ap, arith}
+use Rattle.std.proofs.Common.{◌≡◌, ◌∙◌, ◌≤◌, None, length, replicate, sym, ap, arith}
 use Rattle.std.proofs.lemmas.Grind.{common_steps}
 use Rattle.std.proofs.lemmas.List.{with_items_is}
 use Rattle.std.proofs.lemmas.List.Sorted.{length_permutation}
@@ -12,12 +12,12 @@ move_cells-requires-clause-power g c = rw (c.as_mut_slice.ensures.len ∙ c.in_o
 pub move_cells-requires-clause-no_tag : goal.move_cells-requires-clause-no_tag
 move_cells-requires-clause-no_tag g c =
     let long : length c.as_mut_slice.result.now ≡ c.args.count = c.as_mut_slice.ensures.len ∙ c.in_ok-tags.ensures.len in
-    c.as_mut_slice.ensures.value ∙ c.in_ok-tags.ensures.items_if_clones_equal (λ y same. search rules) ∙ ap (λ n. replicate n 0) (sym long)
+    c.as_mut_slice.ensures.value ∙ c.in_ok-tags.ensures.tags ∙ ap (λ n. replicate n 0) (sym long)
 
 pub move_cells-requires-clause-no_pair : goal.move_cells-requires-clause-no_pair
 move_cells-requires-clause-no_pair g c =
     let long : length c.as_mut_slice.result.now ≡ c.args.count = c.as_mut_slice.ensures.len ∙ c.in_ok-tags.ensures.len in
-    ap slots_of c.as_mut_slice-2.ensures.value ∙ c.in_ok-cells.ensures ∙ ap (λ n. replicate n None) (sym long)
+    ap slots_of c.as_mut_slice-2.ensures.value ∙ c.in_ok-cells.ensures.cells ∙ ap (λ n. replicate n None) (sym long)
 
 pub move_cells-requires-clause-fits : goal.move_cells-requires-clause-fits
 move_cells-requires-clause-fits g c =
@@ -31,9 +31,13 @@ invariant_of-self g c =
     let tags-is = with_items_is c.in_ok-tags.tags c.move_cells.new.tags (c.move_cells.auto.tags ∙ c.as_mut_slice.ensures.len) in
     let cells-is = with_items_is c.in_ok-cells.cells c.move_cells.new.cells (c.move_cells.auto.cells ∙ c.as_mut_slice-2.ensures.len) in
     let same = length_permutation _ _ c.move_cells.ensures.moved in
-    rw (tags-is, c.replace.ensures.after, cells-is)
-    (IsSound-placed c.move_cells.new.tags (slots_of c.move_cells.new.cells) c.self.inside.len (rw long c.requires.power) c.move_cells.ensures.probed c.move_cells.ensures.unmarked
-    (omega (arith, same, c.self.invariant.counted)) (rw long (omega (arith, fits, c.self.invariant.counted))))
+    record {
+      sound = rw (tags-is, c.replace.ensures.after, cells-is)
+          (IsSound-placed c.move_cells.new.tags (slots_of c.move_cells.new.cells) c.self.inside.len (rw long c.requires.power) c.move_cells.ensures.probed c.move_cells.ensures.unmarked
+          (omega (arith, same, c.self.invariant.sound.counted)) (rw long (omega (arith, fits, c.self.invariant.sound.counted))));
+      exact_tags = c.in_ok-tags.ensures.exact;
+      exact_cells = rw c.replace.ensures.after c.in_ok-cells.ensures.exact;
+    }
 
 pub returns-clause-contents : goal.returns-clause-contents
 returns-clause-contents g c =
@@ -44,7 +48,7 @@ pub returns-clause-room : goal.returns-clause-room
 returns-clause-room g c =
     let long : length (slots_of c.move_cells.new.cells) ≡ c.args.count = c.move_cells.ensures.probed.same_length ∙ c.move_cells.auto.tags ∙ c.as_mut_slice.ensures.len ∙ c.in_ok-tags.ensures.len in
     let cells-is = with_items_is c.in_ok-cells.cells c.move_cells.new.cells (c.move_cells.auto.cells ∙ c.as_mut_slice-2.ensures.len) in
-    rw (← c.self.view_is, entries-opened, room-opened, c.replace.ensures.after, cells-is) (omega (arith, long, c.self.invariant.counted, length_permutation _ _ c.move_cells.ensures.moved))
+    rw (← c.self.view_is, entries-opened, room-opened, c.replace.ensures.after, cells-is) (omega (arith, long, c.self.invariant.sound.counted, length_permutation _ _ c.move_cells.ensures.moved))
 
 pub returns-clause-memory : goal.returns-clause-memory
 returns-clause-memory g c =

@@ -6,13 +6,13 @@ use Rattle.iddqd_hash.proofs.OpenTableLemmas.{entries-opened, cells_long, fits_f
 use Rattle.iddqd_hash.proofs.open_table.OpenHashTable.retain.Goals as goal
 
 pub retain_cells-removed-requires-clause-probed : goal.retain_cells-removed-requires-clause-probed
-retain_cells-removed-requires-clause-probed g c = rw (c.as_mut_slice.ensures.value, c.as_mut_slice-2.ensures.value) c.self.invariant.probed
+retain_cells-removed-requires-clause-probed g c = rw (c.as_mut_slice.ensures.value, c.as_mut_slice-2.ensures.value) c.self.invariant.sound.probed
 
 pub retain_cells-removed-requires-clause-sixteens : goal.retain_cells-removed-requires-clause-sixteens
-retain_cells-removed-requires-clause-sixteens g c = rw c.as_mut_slice.ensures.value (IsInSixteens-count _ c.self.invariant.count)
+retain_cells-removed-requires-clause-sixteens g c = rw c.as_mut_slice.ensures.value (IsInSixteens-count _ c.self.invariant.sound.count)
 
 pub retain_cells-removed-requires-clause-len : goal.retain_cells-removed-requires-clause-len
-retain_cells-removed-requires-clause-len g c = rw c.as_mut_slice-2.ensures.value c.self.invariant.counted
+retain_cells-removed-requires-clause-len g c = rw c.as_mut_slice-2.ensures.value c.self.invariant.sound.counted
 
 pub retain_cells-removed-requires-clause-callable : goal.retain_cells-removed-requires-clause-callable
 retain_cells-removed-requires-clause-callable g c = rw c.as_mut_slice-2.ensures.value (rw (← c.self.view_is, entries-opened) at c.requires)
@@ -20,7 +20,7 @@ retain_cells-removed-requires-clause-callable g c = rw c.as_mut_slice-2.ensures.
 pub overflow_sub-self : goal.overflow_sub-self
 overflow_sub-self g c =
     let counted = rw c.as_mut_slice-2.ensures.value at c.retain_cells-removed.ensures.counted in
-    omega (arith, counted, c.self.invariant.counted)
+    omega (arith, counted, c.self.invariant.sound.counted)
 
 pub invariant_of-self : goal.invariant_of-self
 invariant_of-self g c =
@@ -28,9 +28,13 @@ invariant_of-self g c =
     let cells-is = with_items_is c.self.inside.cells c.retain_cells-removed.new.cells (c.retain_cells-removed.auto.cells ∙ c.as_mut_slice-2.ensures.len) in
     let counted = rw c.as_mut_slice-2.ensures.value at c.retain_cells-removed.ensures.counted in
     let marked = rw c.as_mut_slice.ensures.value at c.retain_cells-removed.ensures.marked in
-    rw (tags-is, cells-is)
-    (IsSound-retained c.self.inside.tags.items c.retain_cells-removed.new.tags (slots_of c.self.inside.cells.items) (slots_of c.retain_cells-removed.new.cells) _ _ _ c.self.invariant
-    (c.retain_cells-removed.auto.tags ∙ ap length c.as_mut_slice.ensures.value) c.retain_cells-removed.ensures.probed marked counted)
+    record {
+      sound = rw (tags-is, cells-is)
+          (IsSound-retained c.self.inside.tags.items c.retain_cells-removed.new.tags (slots_of c.self.inside.cells.items) (slots_of c.retain_cells-removed.new.cells) _ _ _ c.self.invariant.sound
+          (c.retain_cells-removed.auto.tags ∙ ap length c.as_mut_slice.ensures.value) c.retain_cells-removed.ensures.probed marked counted);
+      exact_tags = c.self.invariant.exact_tags;
+      exact_cells = c.self.invariant.exact_cells;
+    }
 
 pub returns-clause-kept : goal.returns-clause-kept
 returns-clause-kept g c =
@@ -43,4 +47,4 @@ returns-clause-memory g c =
     let long : length (slots_of c.retain_cells-removed.new.cells) ≡ length (slots_of c.self.inside.cells.items) =
     cells_long c.retain_cells-removed.new.cells ∙ c.retain_cells-removed.auto.cells ∙ ap length c.as_mut_slice-2.ensures.value ∙ sym (cells_long c.self.inside.cells.items) in
     let counted = rw c.as_mut_slice-2.ensures.value at c.retain_cells-removed.ensures.counted in
-    rw (← c.self.view_is) (KeepsMemory-opened _ _ (rw cells-is long) (fits_from _ _ _ _ c.self.invariant) (rw cells-is (omega (arith, counted))))
+    rw (← c.self.view_is) (KeepsMemory-opened _ _ (rw cells-is long) (fits_from _ _ _ _ c.self.invariant.sound) (rw cells-is (omega (arith, counted))))

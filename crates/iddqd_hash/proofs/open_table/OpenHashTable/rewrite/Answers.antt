@@ -13,7 +13,11 @@ rewrite_cells-requires g c = rw (c.as_mut_slice.ensures.value) (rw (← c.self.v
 pub invariant_of-self : goal.invariant_of-self
 invariant_of-self g c =
     let cells-is = with_items_is c.self.inside.cells c.rewrite_cells.new.cells (c.rewrite_cells.auto.cells ∙ c.as_mut_slice.ensures.len) in
-    rw cells-is (IsSound-rewritten _ (slots_of c.self.inside.cells.items) (slots_of c.rewrite_cells.new.cells) _ _ c.self.invariant (c.rewrite_cells.ensures.same_hashes ∙ ap (λ cells. hashes_of (slots_of cells)) c.as_mut_slice.ensures.value))
+    record {
+      sound = rw cells-is (IsSound-rewritten _ (slots_of c.self.inside.cells.items) (slots_of c.rewrite_cells.new.cells) _ _ c.self.invariant.sound (c.rewrite_cells.ensures.same_hashes ∙ ap (λ cells. hashes_of (slots_of cells)) c.as_mut_slice.ensures.value));
+      exact_tags = c.self.invariant.exact_tags;
+      exact_cells = c.self.invariant.exact_cells;
+    }
 
 pub returns-clause-rewritten : goal.returns-clause-rewritten
 returns-clause-rewritten g c =
@@ -27,10 +31,10 @@ returns-clause-memory g c =
     cells_long c.rewrite_cells.new.cells ∙ c.rewrite_cells.auto.cells ∙ ap length c.as_mut_slice.ensures.value ∙ sym (cells_long c.self.inside.cells.items) in
     let same = c.rewrite_cells.ensures.same_hashes ∙ ap (λ cells. hashes_of (slots_of cells)) c.as_mut_slice.ensures.value in
     let kept = length-rewritten (slots_of c.self.inside.cells.items) (slots_of c.rewrite_cells.new.cells) same in
-    rw (← c.self.view_is) (KeepsMemory-opened _ _ (rw cells-is long) (fits_from _ _ _ _ c.self.invariant) (rw cells-is (omega (arith, kept))))
+    rw (← c.self.view_is) (KeepsMemory-opened _ _ (rw cells-is long) (fits_from _ _ _ _ c.self.invariant.sound) (rw cells-is (omega (arith, kept))))
 
 pub returns-then-self-eq0-clause-rewritten : goal.returns-then-self-eq0-clause-rewritten
 returns-then-self-eq0-clause-rewritten g c =
-    let counted : c.self.inside.len ≡ length (entries c.args.self.now) = rw (← c.self.view_is, entries-opened) c.self.invariant.counted in
+    let counted : c.self.inside.len ≡ length (entries c.args.self.now) = rw (← c.self.view_is, entries-opened) c.self.invariant.sound.counted in
     let none : entries c.args.self.now ≡ [] = nil_from_length _ (omega arith) in
     rw none (Rewrites-cloned _ [] [] tt)

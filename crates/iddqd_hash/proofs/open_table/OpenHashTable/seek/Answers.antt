@@ -6,15 +6,15 @@ use Rattle.iddqd_hash.proofs.open_table.OpenHashTable.seek.Goals as goal
 pub find_cell-requires-clause-power : goal.find_cell-requires-clause-power
 find_cell-requires-clause-power g c =
     let some : 0 < length c.self.inside.tags.items = omega arith in
-    rw c.as_slice.ensures.value (power_from _ _ _ _ c.self.invariant some)
+    rw c.as_slice.ensures.value (power_from _ _ _ _ c.self.invariant.sound some)
 
 pub find_cell-requires-clause-ends : goal.find_cell-requires-clause-ends
 find_cell-requires-clause-ends g c =
     let some : 0 < length c.self.inside.tags.items = omega arith in
-    rw c.as_slice.ensures.value (empty_from _ _ _ _ c.self.invariant some)
+    rw c.as_slice.ensures.value (empty_from _ _ _ _ c.self.invariant.sound some)
 
 pub find_cell-requires-clause-probed : goal.find_cell-requires-clause-probed
-find_cell-requires-clause-probed g c = rw (c.as_slice.ensures.value, c.as_slice-2.ensures.value) c.self.invariant.probed
+find_cell-requires-clause-probed g c = rw (c.as_slice.ensures.value, c.as_slice-2.ensures.value) c.self.invariant.sound.probed
 
 pub find_cell-requires-clause-callable : goal.find_cell-requires-clause-callable
 find_cell-requires-clause-callable g c = rw c.as_slice-2.ensures.value (rw (← c.self.view_is, entries-opened) at c.requires)
@@ -22,7 +22,7 @@ find_cell-requires-clause-callable g c = rw c.as_slice-2.ensures.value (rw (← 
 pub returns-then-count-eq0-clause-place : goal.returns-then-count-eq0-clause-place
 returns-then-count-eq0-clause-place g c =
     let none : length c.self.inside.tags.items ≡ 0 = omega arith in
-    rw (← c.self.view_is, entries-opened) (Misses-nothing (CalledAt g.F.FnMut) _ _ _ (c.self.invariant.probed.same_length ∙ none))
+    rw (← c.self.view_is, entries-opened) (Misses-nothing (CalledAt g.F.FnMut) _ _ _ (c.self.invariant.sound.probed.same_length ∙ none))
 
 pub returns-clause-place : goal.returns-clause-place
 returns-clause-place g c =

@@ -10,30 +10,30 @@ use Rattle.iddqd_hash.proofs.open_table.OpenHashTable.shrink_to.Goals as goal
 
 pub give_back-requires : goal.give_back-requires
 give_back-requires g c =
-    let counted : c.self.inside.len ≡ length (entries c.args.self.now) = rw (← c.self.view_is, entries-opened) c.self.invariant.counted in
+    let counted : c.self.inside.len ≡ length (entries c.args.self.now) = rw (← c.self.view_is, entries-opened) c.self.invariant.sound.counted in
     nil_from_length _ (omega arith)
 
 pub returns-then-needed-eq0-clause-contents : goal.returns-then-needed-eq0-clause-contents
 returns-then-needed-eq0-clause-contents g c =
-    let counted : c.self.inside.len ≡ length (entries c.args.self.now) = rw (← c.self.view_is, entries-opened) c.self.invariant.counted in
+    let counted : c.self.inside.len ≡ length (entries c.args.self.now) = rw (← c.self.view_is, entries-opened) c.self.invariant.sound.counted in
     let none : entries c.args.self.now ≡ [] = nil_from_length _ (omega arith) in
     rw (none, c.give_back.ensures.empty) (IsPermutation-refl [])
 
 pub returns-then-count-len-clause-memory : goal.returns-then-count-len-clause-memory
 returns-then-count-len-clause-memory g c =
-    let counted : c.self.inside.len ≡ length (entries c.args.self.now) = rw (← c.self.view_is, entries-opened) c.self.invariant.counted in
-    let held : memory c.args.self.now ≡ length c.self.inside.tags.items = rw (← c.self.view_is, memory-opened) c.self.invariant.probed.same_length in
+    let counted : c.self.inside.len ≡ length (entries c.args.self.now) = rw (← c.self.view_is, entries-opened) c.self.invariant.sound.counted in
+    let held : memory c.args.self.now ≡ length c.self.inside.tags.items = rw (← c.self.view_is, memory-opened) c.self.invariant.sound.probed.same_length in
     Shrinks-same c.args.least (length (entries c.args.self.now)) c.args.self.now _ (omega (arith, c.fewer_cells-count.ensures.few))
 
 pub place_anew-requires-clause-fits : goal.place_anew-requires-clause-fits
 place_anew-requires-clause-fits g c =
-    let counted : c.self.inside.len ≡ length (entries c.args.self.now) = rw (← c.self.view_is, entries-opened) c.self.invariant.counted in
+    let counted : c.self.inside.len ≡ length (entries c.args.self.now) = rw (← c.self.view_is, entries-opened) c.self.invariant.sound.counted in
     elim c.fewer_cells-count.ensures.halved [ inl same ↦ absurd (omega arith) | inr fewer ↦ omega (arith, fewer.fits) ]
 
 pub returns-clause-memory : goal.returns-clause-memory
 returns-clause-memory g c =
-    let counted : c.self.inside.len ≡ length (entries c.args.self.now) = rw (← c.self.view_is, entries-opened) c.self.invariant.counted in
-    let held : memory c.args.self.now ≡ length c.self.inside.tags.items = rw (← c.self.view_is, memory-opened) c.self.invariant.probed.same_length in
+    let counted : c.self.inside.len ≡ length (entries c.args.self.now) = rw (← c.self.view_is, entries-opened) c.self.invariant.sound.counted in
+    let held : memory c.args.self.now ≡ length c.self.inside.tags.items = rw (← c.self.view_is, memory-opened) c.self.invariant.sound.probed.same_length in
     let fits : c.max-needed.result ≤ usable_of c.fewer_cells-count.result = elim c.fewer_cells-count.ensures.halved [ inl same ↦ absurd (omega arith) | inr fewer ↦ fewer.fits ] in
     let fewer : c.fewer_cells-count.result < length c.self.inside.tags.items = elim c.fewer_cells-count.ensures.halved [ inl same ↦ absurd (omega arith) | inr fewer ↦ omega (arith, fewer.fewer) ] in
     Shrinks-placed c.args.least (length (entries c.args.self.now)) c.args.self.now _ c.place_anew.result c.fewer_cells-count.result (omega arith) (omega arith) (omega arith) (omega (arith, c.fewer_cells-count.ensures.few))

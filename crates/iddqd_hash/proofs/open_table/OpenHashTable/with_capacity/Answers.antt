@@ -1,4 +1,4 @@
-use Rattle.std.proofs.Common.{rules, ◌≡◌, ◌≤◌, ◌∙◌, [], None, length, ap, arith}
+use Rattle.std.proofs.Common.{◌≡◌, ◌≤◌, ◌∙◌, [], None, length, ap, arith}
 use Rattle.std.proofs.lemmas.List.{length-replicate}
 use Rattle.iddqd_hash.specs.OpenTable.{usable_of, slots_of, pairs, IsPowerOfTwo}
 use Rattle.iddqd_hash.specs.Sizes.{most_cells}
@@ -10,15 +10,19 @@ use Rattle.iddqd_hash.proofs.open_table.OpenHashTable.with_capacity.Goals as goa
 pub invariant_of-result : goal.invariant_of-result
 invariant_of-result g c =
     let power : IsPowerOfTwo c.in_ok-count.count = rw c.in_ok-count.ensures.ok_part at c.count_for.ensures.power in
-    IsSound-empty _ _ c.in_ok-count.count (c.in_ok-tags.ensures.items_if_clones_equal (λ y same. search rules)) c.in_ok-cells.ensures power
+    record {
+      sound = IsSound-empty _ _ c.in_ok-count.count (c.in_ok-tags.ensures.tags) c.in_ok-cells.ensures.cells power;
+      exact_tags = c.in_ok-tags.ensures.exact;
+      exact_cells = c.in_ok-cells.ensures.exact;
+    }
 
 pub returns-clause-empty : goal.returns-clause-empty
-returns-clause-empty g c = entries-opened _ ∙ ap pairs c.in_ok-cells.ensures ∙ pairs-empty c.in_ok-count.count
+returns-clause-empty g c = entries-opened _ ∙ ap pairs c.in_ok-cells.ensures.cells ∙ pairs-empty c.in_ok-count.count
 
 pub returns-clause-memory : goal.returns-clause-memory
 returns-clause-memory g c =
     let fits : c.args.capacity ≤ usable_of c.in_ok-count.count = rw c.in_ok-count.ensures.ok_part at c.count_for.ensures.fits in
-    let long : length (slots_of c.in_ok-cells.cells.items) ≡ c.in_ok-count.count = ap length c.in_ok-cells.ensures ∙ length-replicate c.in_ok-count.count None in
+    let long : length (slots_of c.in_ok-cells.cells.items) ≡ c.in_ok-count.count = ap length c.in_ok-cells.ensures.cells ∙ length-replicate c.in_ok-count.count None in
     let few : c.in_ok-count.count ≤ most_cells c.args.capacity = rw c.in_ok-count.ensures.ok_part at c.count_for.ensures.few in
-    let none : pairs (slots_of c.in_ok-cells.cells.items) ≡ [] = ap pairs c.in_ok-cells.ensures ∙ pairs-empty c.in_ok-count.count in
+    let none : pairs (slots_of c.in_ok-cells.cells.items) ≡ [] = ap pairs c.in_ok-cells.ensures.cells ∙ pairs-empty c.in_ok-count.count in
     TakesRoom-opened c.args.capacity (slots_of c.in_ok-cells.cells.items) (omega arith) none (rw long fits) (rw long few)

@@ -9,23 +9,23 @@ use Rattle.iddqd_hash.proofs.open_table.OpenHashTablePairCells.add.Goals as goal
 
 pub rebuild_at_limit-self-inside-requires-clause-power : goal.rebuild_at_limit-self-inside-requires-clause-power
 rebuild_at_limit-self-inside-requires-clause-power g c =
-    rw c.as_mut_slice.ensures.value (power_from _ _ _ _ c.self.invariant (omega (arith, room_of _ _ _ _ c.self.invariant (rw (← c.self.view_is) at c.requires))))
+    rw c.as_mut_slice.ensures.value (power_from _ _ _ _ c.self.invariant.sound (omega (arith, room_of _ _ _ _ c.self.invariant.sound (rw (← c.self.view_is) at c.requires))))
 
 pub rebuild_at_limit-self-inside-requires-clause-probed : goal.rebuild_at_limit-self-inside-requires-clause-probed
 rebuild_at_limit-self-inside-requires-clause-probed g c =
-    rw (c.as_mut_slice.ensures.value, c.as_mut_slice-2.ensures.value) c.self.invariant.probed
+    rw (c.as_mut_slice.ensures.value, c.as_mut_slice-2.ensures.value) c.self.invariant.sound.probed
 
 pub rebuild_at_limit-self-inside-requires-clause-used : goal.rebuild_at_limit-self-inside-requires-clause-used
 rebuild_at_limit-self-inside-requires-clause-used g c =
-    rw c.as_mut_slice.ensures.value c.self.invariant.marked
+    rw c.as_mut_slice.ensures.value c.self.invariant.sound.marked
 
 pub rebuild_at_limit-self-inside-requires-clause-len : goal.rebuild_at_limit-self-inside-requires-clause-len
 rebuild_at_limit-self-inside-requires-clause-len g c =
-    rw c.as_mut_slice-2.ensures.value c.self.invariant.counted
+    rw c.as_mut_slice-2.ensures.value c.self.invariant.sound.counted
 
 pub rebuild_at_limit-self-inside-requires-clause-fits : goal.rebuild_at_limit-self-inside-requires-clause-fits
 rebuild_at_limit-self-inside-requires-clause-fits g c =
-    let room = room_of _ _ _ _ c.self.invariant (rw (← c.self.view_is) at c.requires) in
+    let room = room_of _ _ _ _ c.self.invariant.sound (rw (← c.self.view_is) at c.requires) in
     rw c.as_mut_slice.ensures.value (omega (arith, room))
 
 pub free_place-place-requires-clause-power : goal.free_place-place-requires-clause-power
@@ -37,7 +37,7 @@ free_place-place-requires-clause-power g c =
     let tags-is : (with_items tags now_tags).items ≡ now_tags = with_items_is tags now_tags (c.rebuild_at_limit-self-inside.auto.tags ∙ c.as_mut_slice.ensures.len) in
     let cells-is : (with_items cells now_cells).items ≡ now_cells = with_items_is cells now_cells (c.rebuild_at_limit-self-inside.auto.cells ∙ c.as_mut_slice-2.ensures.len) in
     let roomy : Roomy tags.items (slots_of cells.items) c.self.inside.len now_tags (slots_of now_cells) c.rebuild_at_limit-self-inside.result =
-    Roomy-rebuilt _ _ _ _ _ _ _ c.self.invariant (room_of _ _ _ _ c.self.invariant (rw (← c.self.view_is) at c.requires)) (c.rebuild_at_limit-self-inside.auto.tags ∙ ap length c.as_mut_slice.ensures.value)
+    Roomy-rebuilt _ _ _ _ _ _ _ c.self.invariant.sound (room_of _ _ _ _ c.self.invariant.sound (rw (← c.self.view_is) at c.requires)) (c.rebuild_at_limit-self-inside.auto.tags ∙ ap length c.as_mut_slice.ensures.value)
     c.rebuild_at_limit-self-inside.ensures.probed (rw c.as_mut_slice-2.ensures.value at c.rebuild_at_limit-self-inside.ensures.moved) c.rebuild_at_limit-self-inside.ensures.used (rw c.as_mut_slice.ensures.value at c.rebuild_at_limit-self-inside.ensures.limited) in
     rw (c.as_slice.ensures.value, tags-is) (power_from _ _ _ _ roomy.sound (omega (arith, roomy.room, roomy.same)))
 
@@ -50,7 +50,7 @@ free_place-place-requires-clause-ends g c =
     let tags-is : (with_items tags now_tags).items ≡ now_tags = with_items_is tags now_tags (c.rebuild_at_limit-self-inside.auto.tags ∙ c.as_mut_slice.ensures.len) in
     let cells-is : (with_items cells now_cells).items ≡ now_cells = with_items_is cells now_cells (c.rebuild_at_limit-self-inside.auto.cells ∙ c.as_mut_slice-2.ensures.len) in
     let roomy : Roomy tags.items (slots_of cells.items) c.self.inside.len now_tags (slots_of now_cells) c.rebuild_at_limit-self-inside.result =
-    Roomy-rebuilt _ _ _ _ _ _ _ c.self.invariant (room_of _ _ _ _ c.self.invariant (rw (← c.self.view_is) at c.requires)) (c.rebuild_at_limit-self-inside.auto.tags ∙ ap length c.as_mut_slice.ensures.value)
+    Roomy-rebuilt _ _ _ _ _ _ _ c.self.invariant.sound (room_of _ _ _ _ c.self.invariant.sound (rw (← c.self.view_is) at c.requires)) (c.rebuild_at_limit-self-inside.auto.tags ∙ ap length c.as_mut_slice.ensures.value)
     c.rebuild_at_limit-self-inside.ensures.probed (rw c.as_mut_slice-2.ensures.value at c.rebuild_at_limit-self-inside.ensures.moved) c.rebuild_at_limit-self-inside.ensures.used (rw c.as_mut_slice.ensures.value at c.rebuild_at_limit-self-inside.ensures.limited) in
     rw (c.as_slice.ensures.value, tags-is) (empty_from _ _ _ _ roomy.sound (omega (arith, roomy.room, roomy.same)))
 
@@ -63,7 +63,7 @@ overflow_add-self g c =
     let tags-is : (with_items tags now_tags).items ≡ now_tags = with_items_is tags now_tags (c.rebuild_at_limit-self-inside.auto.tags ∙ c.as_mut_slice.ensures.len) in
     let cells-is : (with_items cells now_cells).items ≡ now_cells = with_items_is cells now_cells (c.rebuild_at_limit-self-inside.auto.cells ∙ c.as_mut_slice-2.ensures.len) in
     let roomy : Roomy tags.items (slots_of cells.items) c.self.inside.len now_tags (slots_of now_cells) c.rebuild_at_limit-self-inside.result =
-    Roomy-rebuilt _ _ _ _ _ _ _ c.self.invariant (room_of _ _ _ _ c.self.invariant (rw (← c.self.view_is) at c.requires)) (c.rebuild_at_limit-self-inside.auto.tags ∙ ap length c.as_mut_slice.ensures.value)
+    Roomy-rebuilt _ _ _ _ _ _ _ c.self.invariant.sound (room_of _ _ _ _ c.self.invariant.sound (rw (← c.self.view_is) at c.requires)) (c.rebuild_at_limit-self-inside.auto.tags ∙ ap length c.as_mut_slice.ensures.value)
     c.rebuild_at_limit-self-inside.ensures.probed (rw c.as_mut_slice-2.ensures.value at c.rebuild_at_limit-self-inside.ensures.moved) c.rebuild_at_limit-self-inside.ensures.used (rw c.as_mut_slice.ensures.value at c.rebuild_at_limit-self-inside.ensures.limited) in
     let place = c.free_place-place.result in
     let read : c.as_slice.result.now ≡ now_tags = c.as_slice.ensures.value ∙ tags-is in
@@ -73,7 +73,7 @@ overflow_add-self g c =
 
 pub overflow_add-self-2 : goal.overflow_add-self-2
 overflow_add-self-2 g c =
-    omega (arith, length_pairs (slots_of c.self.inside.cells.items), c.self.invariant.counted, c.self.invariant.probed.same_length)
+    omega (arith, length_pairs (slots_of c.self.inside.cells.items), c.self.invariant.sound.counted, c.self.invariant.sound.probed.same_length)
 
 pub put-requires-clause-same_length : goal.put-requires-clause-same_length
 put-requires-clause-same_length g c =
@@ -84,7 +84,7 @@ put-requires-clause-same_length g c =
     let tags-is : (with_items tags now_tags).items ≡ now_tags = with_items_is tags now_tags (c.rebuild_at_limit-self-inside.auto.tags ∙ c.as_mut_slice.ensures.len) in
     let cells-is : (with_items cells now_cells).items ≡ now_cells = with_items_is cells now_cells (c.rebuild_at_limit-self-inside.auto.cells ∙ c.as_mut_slice-2.ensures.len) in
     let roomy : Roomy tags.items (slots_of cells.items) c.self.inside.len now_tags (slots_of now_cells) c.rebuild_at_limit-self-inside.result =
-    Roomy-rebuilt _ _ _ _ _ _ _ c.self.invariant (room_of _ _ _ _ c.self.invariant (rw (← c.self.view_is) at c.requires)) (c.rebuild_at_limit-self-inside.auto.tags ∙ ap length c.as_mut_slice.ensures.value)
+    Roomy-rebuilt _ _ _ _ _ _ _ c.self.invariant.sound (room_of _ _ _ _ c.self.invariant.sound (rw (← c.self.view_is) at c.requires)) (c.rebuild_at_limit-self-inside.auto.tags ∙ ap length c.as_mut_slice.ensures.value)
     c.rebuild_at_limit-self-inside.ensures.probed (rw c.as_mut_slice-2.ensures.value at c.rebuild_at_limit-self-inside.ensures.moved) c.rebuild_at_limit-self-inside.ensures.used (rw c.as_mut_slice.ensures.value at c.rebuild_at_limit-self-inside.ensures.limited) in
     rw (c.as_mut_slice-3.ensures.value, c.as_mut_slice-4.ensures.value, tags-is, cells-is) (sym (cells_long now_cells) ∙ roomy.sound.probed.same_length)
 
@@ -97,7 +97,7 @@ put-requires-clause-free g c =
     let tags-is : (with_items tags now_tags).items ≡ now_tags = with_items_is tags now_tags (c.rebuild_at_limit-self-inside.auto.tags ∙ c.as_mut_slice.ensures.len) in
     let cells-is : (with_items cells now_cells).items ≡ now_cells = with_items_is cells now_cells (c.rebuild_at_limit-self-inside.auto.cells ∙ c.as_mut_slice-2.ensures.len) in
     let roomy : Roomy tags.items (slots_of cells.items) c.self.inside.len now_tags (slots_of now_cells) c.rebuild_at_limit-self-inside.result =
-    Roomy-rebuilt _ _ _ _ _ _ _ c.self.invariant (room_of _ _ _ _ c.self.invariant (rw (← c.self.view_is) at c.requires)) (c.rebuild_at_limit-self-inside.auto.tags ∙ ap length c.as_mut_slice.ensures.value)
+    Roomy-rebuilt _ _ _ _ _ _ _ c.self.invariant.sound (room_of _ _ _ _ c.self.invariant.sound (rw (← c.self.view_is) at c.requires)) (c.rebuild_at_limit-self-inside.auto.tags ∙ ap length c.as_mut_slice.ensures.value)
     c.rebuild_at_limit-self-inside.ensures.probed (rw c.as_mut_slice-2.ensures.value at c.rebuild_at_limit-self-inside.ensures.moved) c.rebuild_at_limit-self-inside.ensures.used (rw c.as_mut_slice.ensures.value at c.rebuild_at_limit-self-inside.ensures.limited) in
     let place = c.free_place-place.result in
     let read : c.as_slice.result.now ≡ now_tags = c.as_slice.ensures.value ∙ tags-is in
@@ -113,7 +113,7 @@ invariant_of-self g c =
     let tags-is : (with_items tags now_tags).items ≡ now_tags = with_items_is tags now_tags (c.rebuild_at_limit-self-inside.auto.tags ∙ c.as_mut_slice.ensures.len) in
     let cells-is : (with_items cells now_cells).items ≡ now_cells = with_items_is cells now_cells (c.rebuild_at_limit-self-inside.auto.cells ∙ c.as_mut_slice-2.ensures.len) in
     let roomy : Roomy tags.items (slots_of cells.items) c.self.inside.len now_tags (slots_of now_cells) c.rebuild_at_limit-self-inside.result =
-    Roomy-rebuilt _ _ _ _ _ _ _ c.self.invariant (room_of _ _ _ _ c.self.invariant (rw (← c.self.view_is) at c.requires)) (c.rebuild_at_limit-self-inside.auto.tags ∙ ap length c.as_mut_slice.ensures.value)
+    Roomy-rebuilt _ _ _ _ _ _ _ c.self.invariant.sound (room_of _ _ _ _ c.self.invariant.sound (rw (← c.self.view_is) at c.requires)) (c.rebuild_at_limit-self-inside.auto.tags ∙ ap length c.as_mut_slice.ensures.value)
     c.rebuild_at_limit-self-inside.ensures.probed (rw c.as_mut_slice-2.ensures.value at c.rebuild_at_limit-self-inside.ensures.moved) c.rebuild_at_limit-self-inside.ensures.used (rw c.as_mut_slice.ensures.value at c.rebuild_at_limit-self-inside.ensures.limited) in
     let place = c.free_place-place.result in
     let read : c.as_slice.result.now ≡ now_tags = c.as_slice.ensures.value ∙ tags-is in
@@ -124,7 +124,11 @@ invariant_of-self g c =
     ap slots_of (with_items_is (with_items cells now_cells) c.put.new.cells (c.put.auto.cells ∙ c.as_mut_slice-4.ensures.len)) ∙ c.put.ensures.slots
     ∙ ap (λ xs. set (slots_of xs) place (Some (c.args.hash, c.args.value))) (c.as_mut_slice-4.ensures.value ∙ cells-is) in
     let counts = was_empty_counts now_tags place c.index.result.now free.within (rw tags-is at c.index.ensures) in
-    rw (put-tags, put-slots) (add-sound _ _ _ _ _ _ roomy place c.args.hash c.args.value free (rw read at c.free_place-place.ensures.past_full) _ (omega (arith, counts)))
+    record {
+      sound = rw (put-tags, put-slots) (add-sound _ _ _ _ _ _ roomy place c.args.hash c.args.value free (rw read at c.free_place-place.ensures.past_full) _ (omega (arith, counts)));
+      exact_tags = c.self.invariant.exact_tags;
+      exact_cells = c.self.invariant.exact_cells;
+    }
 
 pub returns-clause-pair : goal.returns-clause-pair
 returns-clause-pair g c =
@@ -135,7 +139,7 @@ returns-clause-pair g c =
     let tags-is : (with_items tags now_tags).items ≡ now_tags = with_items_is tags now_tags (c.rebuild_at_limit-self-inside.auto.tags ∙ c.as_mut_slice.ensures.len) in
     let cells-is : (with_items cells now_cells).items ≡ now_cells = with_items_is cells now_cells (c.rebuild_at_limit-self-inside.auto.cells ∙ c.as_mut_slice-2.ensures.len) in
     let roomy : Roomy tags.items (slots_of cells.items) c.self.inside.len now_tags (slots_of now_cells) c.rebuild_at_limit-self-inside.result =
-    Roomy-rebuilt _ _ _ _ _ _ _ c.self.invariant (room_of _ _ _ _ c.self.invariant (rw (← c.self.view_is) at c.requires)) (c.rebuild_at_limit-self-inside.auto.tags ∙ ap length c.as_mut_slice.ensures.value)
+    Roomy-rebuilt _ _ _ _ _ _ _ c.self.invariant.sound (room_of _ _ _ _ c.self.invariant.sound (rw (← c.self.view_is) at c.requires)) (c.rebuild_at_limit-self-inside.auto.tags ∙ ap length c.as_mut_slice.ensures.value)
     c.rebuild_at_limit-self-inside.ensures.probed (rw c.as_mut_slice-2.ensures.value at c.rebuild_at_limit-self-inside.ensures.moved) c.rebuild_at_limit-self-inside.ensures.used (rw c.as_mut_slice.ensures.value at c.rebuild_at_limit-self-inside.ensures.limited) in
     let place = c.free_place-place.result in
     let read : c.as_slice.result.now ≡ now_tags = c.as_slice.ensures.value ∙ tags-is in
@@ -156,7 +160,7 @@ returns-clause-added g c =
     let tags-is : (with_items tags now_tags).items ≡ now_tags = with_items_is tags now_tags (c.rebuild_at_limit-self-inside.auto.tags ∙ c.as_mut_slice.ensures.len) in
     let cells-is : (with_items cells now_cells).items ≡ now_cells = with_items_is cells now_cells (c.rebuild_at_limit-self-inside.auto.cells ∙ c.as_mut_slice-2.ensures.len) in
     let roomy : Roomy tags.items (slots_of cells.items) c.self.inside.len now_tags (slots_of now_cells) c.rebuild_at_limit-self-inside.result =
-    Roomy-rebuilt _ _ _ _ _ _ _ c.self.invariant (room_of _ _ _ _ c.self.invariant (rw (← c.self.view_is) at c.requires)) (c.rebuild_at_limit-self-inside.auto.tags ∙ ap length c.as_mut_slice.ensures.value)
+    Roomy-rebuilt _ _ _ _ _ _ _ c.self.invariant.sound (room_of _ _ _ _ c.self.invariant.sound (rw (← c.self.view_is) at c.requires)) (c.rebuild_at_limit-self-inside.auto.tags ∙ ap length c.as_mut_slice.ensures.value)
     c.rebuild_at_limit-self-inside.ensures.probed (rw c.as_mut_slice-2.ensures.value at c.rebuild_at_limit-self-inside.ensures.moved) c.rebuild_at_limit-self-inside.ensures.used (rw c.as_mut_slice.ensures.value at c.rebuild_at_limit-self-inside.ensures.limited) in
     let place = c.free_place-place.result in
     let read : c.as_slice.result.now ≡ now_tags = c.as_slice.ensures.value ∙ tags-is in
@@ -177,7 +181,7 @@ returns-clause-memory g c =
     let tags-is : (with_items tags now_tags).items ≡ now_tags = with_items_is tags now_tags (c.rebuild_at_limit-self-inside.auto.tags ∙ c.as_mut_slice.ensures.len) in
     let cells-is : (with_items cells now_cells).items ≡ now_cells = with_items_is cells now_cells (c.rebuild_at_limit-self-inside.auto.cells ∙ c.as_mut_slice-2.ensures.len) in
     let roomy : Roomy tags.items (slots_of cells.items) c.self.inside.len now_tags (slots_of now_cells) c.rebuild_at_limit-self-inside.result =
-    Roomy-rebuilt _ _ _ _ _ _ _ c.self.invariant (room_of _ _ _ _ c.self.invariant (rw (← c.self.view_is) at c.requires)) (c.rebuild_at_limit-self-inside.auto.tags ∙ ap length c.as_mut_slice.ensures.value)
+    Roomy-rebuilt _ _ _ _ _ _ _ c.self.invariant.sound (room_of _ _ _ _ c.self.invariant.sound (rw (← c.self.view_is) at c.requires)) (c.rebuild_at_limit-self-inside.auto.tags ∙ ap length c.as_mut_slice.ensures.value)
     c.rebuild_at_limit-self-inside.ensures.probed (rw c.as_mut_slice-2.ensures.value at c.rebuild_at_limit-self-inside.ensures.moved) c.rebuild_at_limit-self-inside.ensures.used (rw c.as_mut_slice.ensures.value at c.rebuild_at_limit-self-inside.ensures.limited) in
     let place = c.free_place-place.result in
     let read : c.as_slice.result.now ≡ now_tags = c.as_slice.ensures.value ∙ tags-is in
@@ -187,8 +191,8 @@ returns-clause-memory g c =
     let put-slots : slots_of (with_items (with_items cells now_cells) c.put.new.cells).items ≡ set (slots_of now_cells) place (Some (c.args.hash, c.args.value)) =
     ap slots_of (with_items_is (with_items cells now_cells) c.put.new.cells (c.put.auto.cells ∙ c.as_mut_slice-4.ensures.len)) ∙ c.put.ensures.slots
     ∙ ap (λ xs. set (slots_of xs) place (Some (c.args.hash, c.args.value))) (c.as_mut_slice-4.ensures.value ∙ cells-is) in
-    let long : length (slots_of now_cells) ≡ length (slots_of cells.items) = omega (arith, roomy.same, roomy.sound.probed.same_length, c.self.invariant.probed.same_length) in
+    let long : length (slots_of now_cells) ≡ length (slots_of cells.items) = omega (arith, roomy.same, roomy.sound.probed.same_length, c.self.invariant.sound.probed.same_length) in
     let more = add-counted _ _ _ _ _ _ roomy place c.args.hash c.args.value free in
     rw (← c.self.view_is)
-    (UsesRoom-opened _ _ (ap length put-slots ∙ length-set (slots_of now_cells) place _ ∙ long) (fits_from _ _ _ _ c.self.invariant)
-    (rw put-slots more) (omega (arith, roomy.room, c.self.invariant.counted, c.self.invariant.probed.same_length)))
+    (UsesRoom-opened _ _ (ap length put-slots ∙ length-set (slots_of now_cells) place _ ∙ long) (fits_from _ _ _ _ c.self.invariant.sound)
+    (rw put-slots more) (omega (arith, roomy.room, c.self.invariant.sound.counted, c.self.invariant.sound.probed.same_length)))

@@ -14,12 +14,12 @@ pub value_in-requires : goal.value_in-requires
 value_in-requires g c =
     let some : IsSome (slot_at (slots_of c.self.inside.cells.items) c.args.place) = rw (← c.self.view_is, pair_at-opened) at c.requires in
     let inside = some_inside (slots_of c.self.inside.cells.items) c.args.place some in
-    let read = slot_read _ c.self.inside.cells.items c.args.place c.index-cell.result.now (omega (arith, c.self.invariant.probed.same_length)) c.index-cell.ensures c.self.invariant.probed in
+    let read = slot_read _ c.self.inside.cells.items c.args.place c.index-cell.result.now (omega (arith, c.self.invariant.sound.probed.same_length)) c.index-cell.ensures c.self.invariant.sound.probed in
     subst (λ o. IsSome o) read some
 
 pub returns : goal.returns
 returns g c =
     let some : IsSome (slot_at (slots_of c.self.inside.cells.items) c.args.place) = rw (← c.self.view_is, pair_at-opened) at c.requires in
     let inside = some_inside (slots_of c.self.inside.cells.items) c.args.place some in
-    let read = slot_read _ c.self.inside.cells.items c.args.place c.index-cell.result.now (omega (arith, c.self.invariant.probed.same_length)) c.index-cell.ensures c.self.invariant.probed in
+    let read = slot_read _ c.self.inside.cells.items c.args.place c.index-cell.result.now (omega (arith, c.self.invariant.sound.probed.same_length)) c.index-cell.ensures c.self.invariant.sound.probed in
     rw (← c.self.view_is, pair_at-opened) (read ∙ c.value_in.ensures)

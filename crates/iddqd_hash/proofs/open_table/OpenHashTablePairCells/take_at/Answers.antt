@@ -12,17 +12,17 @@ pub overflow_sub-self : goal.overflow_sub-self
 overflow_sub-self g c =
     let some : IsSome (slot_at (slots_of c.self.inside.cells.items) c.args.place) = rw (← c.self.view_is, pair_at-opened) at c.requires in
     let pair = some_is _ some in
-    omega (arith, length-taken (slots_of c.self.inside.cells.items) c.args.place pair.0 (some_inside _ _ some) pair.1, c.self.invariant.counted)
+    omega (arith, length-taken (slots_of c.self.inside.cells.items) c.args.place pair.0 (some_inside _ _ some) pair.1, c.self.invariant.sound.counted)
 
 pub take-requires-clause-inside : goal.take-requires-clause-inside
 take-requires-clause-inside g c =
     let some : IsSome (slot_at (slots_of c.self.inside.cells.items) c.args.place) = rw (← c.self.view_is, pair_at-opened) at c.requires in
     let inside = some_inside (slots_of c.self.inside.cells.items) c.args.place some in
-    rw c.as_mut_slice.ensures.value (omega (arith, inside, c.self.invariant.probed.same_length))
+    rw c.as_mut_slice.ensures.value (omega (arith, inside, c.self.invariant.sound.probed.same_length))
 
 pub take-requires-clause-same_length : goal.take-requires-clause-same_length
 take-requires-clause-same_length g c =
-    rw (c.as_mut_slice-2.ensures.value, c.as_mut_slice.ensures.value) (sym (cells_long c.self.inside.cells.items) ∙ c.self.invariant.probed.same_length)
+    rw (c.as_mut_slice-2.ensures.value, c.as_mut_slice.ensures.value) (sym (cells_long c.self.inside.cells.items) ∙ c.self.invariant.sound.probed.same_length)
 
 pub take-requires-clause-full : goal.take-requires-clause-full
 take-requires-clause-full g c =
@@ -40,7 +40,11 @@ invariant_of-self g c =
     with_items_is tags c.take.new.tags (c.take.auto.tags ∙ c.as_mut_slice.ensures.len) ∙ c.take.ensures.tags ∙ ap (λ xs. set xs c.args.place 1) c.as_mut_slice.ensures.value in
     let slots-is : slots_of (with_items cells c.take.new.cells).items ≡ set (slots_of cells.items) c.args.place None =
     ap slots_of (with_items_is cells c.take.new.cells (c.take.auto.cells ∙ c.as_mut_slice-2.ensures.len)) ∙ c.take.ensures.slots ∙ ap (λ xs. set (slots_of xs) c.args.place None) c.as_mut_slice-2.ensures.value in
-    rw (tags-is, slots-is) (IsSound-taken tags.items (slots_of cells.items) _ _ c.self.invariant c.args.place pair.0 (omega (arith, inside, c.self.invariant.probed.same_length)) pair.1)
+    record {
+      sound = rw (tags-is, slots-is) (IsSound-taken tags.items (slots_of cells.items) _ _ c.self.invariant.sound c.args.place pair.0 (omega (arith, inside, c.self.invariant.sound.probed.same_length)) pair.1);
+      exact_tags = c.self.invariant.exact_tags;
+      exact_cells = c.self.invariant.exact_cells;
+    }
 
 pub returns-clause-removed : goal.returns-clause-removed
 returns-clause-removed g c =
@@ -69,7 +73,7 @@ returns-clause-memory g c =
     let some : IsSome (slot_at (slots_of c.self.inside.cells.items) c.args.place) = rw (← c.self.view_is, pair_at-opened) at c.requires in
     let pair = some_is _ some in
     let fewer = length-taken (slots_of c.self.inside.cells.items) c.args.place pair.0 (some_inside _ _ some) pair.1 in
-    rw (← c.self.view_is) (KeepsMemory-opened _ _ (ap length slots-is ∙ length-set (slots_of cells.items) c.args.place None) (fits_from _ _ _ _ c.self.invariant) (rw slots-is (omega (arith, fewer))))
+    rw (← c.self.view_is) (KeepsMemory-opened _ _ (ap length slots-is ∙ length-set (slots_of cells.items) c.args.place None) (fits_from _ _ _ _ c.self.invariant.sound) (rw slots-is (omega (arith, fewer))))
 
 pub returns-clause-room : goal.returns-clause-room
 returns-clause-room g c =
@@ -79,5 +83,5 @@ returns-clause-room g c =
     let some : IsSome (slot_at (slots_of c.self.inside.cells.items) c.args.place) = rw (← c.self.view_is, pair_at-opened) at c.requires in
     let pair = some_is _ some in
     let fewer = length-taken (slots_of c.self.inside.cells.items) c.args.place pair.0 (some_inside _ _ some) pair.1 in
-    let fits = fits_from _ _ _ _ c.self.invariant in
+    let fits = fits_from _ _ _ _ c.self.invariant.sound in
     rw (← c.self.view_is, room-opened, room-opened, slots-is, length-set) (omega (arith, fewer, fits))

@@ -8,14 +8,18 @@ use Rattle.iddqd_hash.proofs.open_table.copies.OpenHashTableClone.clone.Goals as
 
 pub invariant_of-result : goal.invariant_of-result
 invariant_of-result g c =
-    rw (c.in_ok-from_slice.ensures.items ∙ c.as_slice.ensures.value)
-    (IsSound-rewritten _ _ _ _ _ c.self.invariant (hashes_of_clones g.T.Clone.is_clone _ _ c.in_ok-clone.ensures.cases.0))
+    record {
+      sound = rw (c.in_ok-copied_exactly.ensures.items ∙ c.as_slice.ensures.value)
+          (IsSound-rewritten _ _ _ _ _ c.self.invariant.sound (hashes_of_clones g.T.Clone.is_clone _ _ (rw c.as_slice-2.ensures.value at c.in_ok-cloned_cells.ensures.clones)));
+      exact_tags = c.in_ok-copied_exactly.ensures.exact;
+      exact_cells = c.in_ok-cloned_cells.ensures.exact;
+    }
 
 pub returns-clause-cases : goal.returns-clause-cases
 returns-clause-cases g c =
-    rw (← c.self.view_is, entries-opened, entries-opened) (Rewrites-cells g.T.Clone.is_clone _ _ c.in_ok-clone.ensures.cases.0)
+    rw (← c.self.view_is, entries-opened, entries-opened) (Rewrites-cells g.T.Clone.is_clone _ _ (rw c.as_slice-2.ensures.value at c.in_ok-cloned_cells.ensures.clones))
 
 pub returns-clause-memory : goal.returns-clause-memory
 unfolding memory opened
 returns-clause-memory g c =
-    rw (← c.self.view_is) (omega (arith, c.in_ok-clone.ensures.cases.1, length-map c.self.inside.cells.items pair_in, length-map c.in_ok-clone.field-0.items pair_in))
+    rw (← c.self.view_is) (omega (arith, c.in_ok-cloned_cells.ensures.len, c.as_slice-2.ensures.len, length-map c.self.inside.cells.items pair_in, length-map c.in_ok-cloned_cells.field-0.items pair_in))

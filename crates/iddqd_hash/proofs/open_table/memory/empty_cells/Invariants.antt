@@ -1,9 +1,9 @@
-use Rattle.std.proofs.Common.{◌≡◌, ◌≤◌, None, replicate, vec_len, vec_capacity}
+use Rattle.std.proofs.Common.{◌≡◌, None, replicate, vec_len, vec_capacity}
 use Rattle.iddqd_hash.specs.OpenTable.{slots_of}
-use Rattle.iddqd_hash.proofs.open_table.cells.empty_cells.Given as goal
+use Rattle.iddqd_hash.proofs.open_table.memory.empty_cells.Given as goal
 
 abbrev pub invariant-empty : goal.invariant-empty
 invariant-empty g l =
     (slots_of l.cells.items ≡ replicate l.counter None)
     × (vec_len l.cells ≡ l.counter)
-    × (l.count ≤ vec_capacity l.cells)
+    × (vec_capacity l.cells ≡ l.count)

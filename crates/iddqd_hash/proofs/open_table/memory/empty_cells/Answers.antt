@@ -1,7 +1,7 @@
 use Rattle.std.proofs.Common.{◌∙◌, ◌∷◌, ◌++◌, [], None, ap, arith, ◌≡◌, replicate}
 use Rattle.std.proofs.lemmas.List.{map_push, replicate_more}
 use Rattle.iddqd_hash.specs.OpenTable.{pair_in}
-use Rattle.iddqd_hash.proofs.open_table.cells.empty_cells.Goals as goal
+use Rattle.iddqd_hash.proofs.open_table.memory.empty_cells.Goals as goal
 
 pub empty-preserved : goal.empty-preserved
 empty-preserved g c =
@@ -11,7 +11,7 @@ empty-preserved g c =
       omega arith,
     )
 
-pub returns : goal.returns
-returns g c =
+pub returns-clause-cells : goal.returns-clause-cells
+returns-clause-cells g c =
     let counted : c.empty.counter ≡ c.args.count = omega arith in
     c.empty.invariant.0 ∙ ap (λ n. replicate n None) counted

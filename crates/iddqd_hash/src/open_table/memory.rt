@@ -1,0 +1,55 @@
+//! The vectors of a table with open addressing, with memory for their items and no more.
+//!
+//! So the number of cells, which a contract sees, tells of all memory. `resize` and `from_slice` fill a block at once,
+//! but promise only that the capacity isn't less, so it is compared afterwards.
+ghost use Rattle.std.specs.Prelude.{◌≡◌, None, IfOk, replicate, vec_len};
+ghost use Rattle.iddqd_hash.specs.OpenTable.{slots_of, IsExact};
+
+use super::cells::Cell;
+use std::alloc::{AllocError, Global};
+
+/// The tags of so many empty cells.
+pub fn empty_tags(alloc: Global, count: usize) -> Result<Vec<u8>, AllocError>
+    ensures tags { IfOk result (λ tags. tags.items ≡ replicate count 0) }
+    ensures len { IfOk result (λ tags. vec_len tags ≡ count) }
+    ensures exact { IfOk result IsExact }
+{
+    let mut tags = Vec::with_capacity(alloc, count)?;
+    tags.resize(count, 0)?;
+    exactly(tags)
+}
+
+/// So many empty cells.
+pub fn empty_cells<T>(alloc: Global, count: usize) -> Result<Vec<Cell<T>>, AllocError>
+    ensures cells { IfOk result (λ cells. slots_of cells.items ≡ replicate count None) }
+    ensures exact { IfOk result IsExact }
+{
+    let mut cells = Vec::with_capacity(alloc, count)?;
+    'empty: for _ in 0..count {
+        cells.push_reserved(Cell {
+            hash: 0,
+            value: None,
+        });
+    }
+    Ok(cells)
+}
+
+/// A copy of a slice.
+pub fn copied_exactly<T: Copy>(alloc: Global, items: &[T]) -> Result<Vec<T>, AllocError>
+    ensures items { IfOk result (λ copy. copy.items ≡ items.now) }
+    ensures exact { IfOk result IsExact }
+{
+    exactly(Vec::from_slice(alloc, items)?)
+}
+
+// The same vector. It is refused if its memory is for more than its items, which never happens to one that is made for
+// so many.
+fn exactly<T: Copy>(items: Vec<T>) -> Result<Vec<T>, AllocError>
+    ensures same { IfOk result (λ exact. exact ≡ items) }
+    ensures exact { IfOk result IsExact }
+{
+    if items.capacity() != items.len() {
+        return Err(AllocError);
+    }
+    Ok(items)
+}
