@@ -1,0 +1,10 @@
+pub mod Map
+pub mod Memory
+pub mod Several
+pub mod Calls
+pub mod KeyIndex
+pub mod PairConflict
+pub mod Refusal
+pub mod Retain
+pub mod Modify
+pub mod Equality

@@ -1,0 +1,394 @@
+//! What the items of a store are found by: a table by one key, or several tables.
+//!
+//! A key index has each live index of a store, and by each of its keys no two items are alike. A leaf has one table by
+//! one key; a pair has two key indexes. A map is a store with a key index, so each call of a map is said once, however
+//! many keys its items have. A hasher's state belongs to the map, since several tables may share one.
+//!
+//! A call that takes memory does so before anything is written: `look_up`, `plan`, `make_room`, then `insert`;
+//! `plan_move`, `ready_move`, then `commit_move`. The plans in between are plain data: they lend nothing, and own no
+//! memory.
+ghost use Rattle.std.specs.Prelude.{◌≡◌, ◌≢◌, ◌≤◌, ◌+◌, ◌<◌, true, false, min, max, length, IsOk, IfOk, OnOk, OnErr};
+ghost use Rattle.iddqd.specs.{next_index, removed, rebound, sentinel, live_count, IsValid, Allows, Validates};
+ghost use Rattle.iddqd_sides.specs.Scan.{AnswersScan, IsLive, HasNoHit, passes_by};
+ghost use Rattle.iddqd_map.specs.KeyIndex.{IndexesNone, IsNextOf, IsPlannedForOne, IndexesOneMore, IsRemapOfSome, IndexesCompacted, IsNextTold, FindsSpot, PlansMove, TakesFound};
+
+use iddqd::index_remap::IndexRemap;
+use iddqd::internal::{ValidateCompact, ValidateRefusal, ValidationError};
+use iddqd::item_index::ItemIndex;
+use iddqd::item_set::ItemSet;
+use iddqd_sides::query::HashQuery;
+use std::alloc::{AllocError, Global};
+use std::hash::Hash;
+use std::marker::PhantomData;
+
+/// A table of a store's indexes by one key, or several tables by several keys.
+///
+/// A contract sees of its memory how many indexes it can hold without more, its `capacity`, and how much it holds, in
+/// cells. An insert below the capacity takes none, and only `with_capacity`, `reserve`, `shrink_to` and an insert past
+/// the capacity change it.
+pub trait KeyIndex<T, S>: Sized {
+    ghost use Rattle.std.specs.Prelude.{ℕ, Bool, Some, ◌↔◌};
+    ghost use Rattle.std.specs.Cmp.{IsEquivalence};
+    ghost use Rattle.iddqd.specs.Store.{Store, get};
+    ghost use Rattle.iddqd_sides.specs.Scan.{AreApart, IsHit};
+    ghost use Rattle.iddqd_map.specs.KeyIndex.{HaveSameKeys};
+
+    /// What is computed of an item's keys alone, once: their hashes.
+    type Known: Copy;
+    /// What a look-up computed of the keys of a stored item, as far as it did.
+    type Asked: Copy;
+    /// Where an item may go that is alike to none, whatever its index will be.
+    type Spot: Drop;
+    /// Where an item goes under its index.
+    type Plan: Drop;
+    /// The items that an item is alike to: at least one.
+    type Conflict: Copy;
+    /// What becomes of a live index that is given another item.
+    type Move: Drop;
+
+    // The keys of an item.
+    ghost Keys: { Type 0 };
+
+    ghost keys: { T → Self.Keys };
+
+    // The items share a key.
+    ghost alike: { T → T → Bool };
+
+    // They share all keys.
+    ghost same_keys: { T → T → Bool };
+
+    // It indexes the store, under the state of a hasher.
+    ghost indexes: { Self → S → Store T → Type 0 };
+
+    // How many indexes it can hold without more memory, and how much it holds.
+    ghost capacity: { Self → ℕ };
+
+    ghost cells: { Self → ℕ };
+
+    // The most cells that it takes for so many indexes.
+    ghost most: { ℕ → ℕ };
+
+    // An index that is entered where another was taken out may need memory, past the capacity.
+    ghost may_lack: { Type 0 };
+
+    // It means the same, whatever memory it has.
+    ghost same: { Self → Self → Type 0 };
+
+    ghost is_known: { S → T → Self.Known → Type 0 };
+
+    ghost is_spot: { Self → S → Store T → T → Self.Spot → Type 0 };
+
+    ghost is_planned: { Self → S → Store T → T → Self.Plan → Type 0 };
+
+    ghost has_room_for: { Self → Self.Plan → Type 0 };
+
+    // It is ready for an insert that comes after a removal.
+    ghost is_ready_after: { Self → Type 0 };
+
+    ghost conflicts: { Store T → T → Self.Conflict → Type 0 };
+
+    // The same of items other than the one at the index.
+    ghost taken: { Store T → ℕ → T → Self.Conflict → Type 0 };
+
+    // The index is one of these.
+    ghost tells: { Self.Conflict → ℕ → Type 0 };
+
+    ghost is_move: { S → Store T → ℕ → T → Self.Move → Type 0 };
+
+    // An index is entered anew.
+    ghost moves: { Self.Move → Bool };
+
+    ghost is_ready: { Self → Self.Move → Type 0 };
+
+    /// One over a store without items. It takes no memory.
+    fn new(alloc: Global) -> Self
+        ensures none { IndexesNone (indexes result) }
+        ensures capacity { capacity result ≡ 0 }
+        ensures cells { cells result ≡ 0 };
+
+    /// One over a store without items, that can hold so many indexes. With 0 it takes no memory.
+    fn with_capacity(alloc: Global, wanted: usize) -> Result<Self, AllocError>
+        ensures none { IfOk result (λ x. IndexesNone (indexes x)) }
+        ensures capacity { IfOk result (λ x. wanted ≤ capacity x) }
+        ensures few { IfOk result (λ x. cells x ≤ most wanted) }
+        ensures succeeds { wanted ≡ 0 → IsOk result };
+
+    /// How many indexes it can hold without more memory.
+    fn capacity(&self) -> usize
+        ensures { result ≡ capacity self.now };
+
+    /// Makes room for so many more indexes. Where there is room it takes no memory.
+    fn reserve(
+        &mut self,
+        items: &ItemSet<T>,
+        state: &S,
+        additional: usize,
+    ) -> Result<(), AllocError>
+        requires indexed { indexes self.old state.now items.now.store }
+        ensures contents { same self.old self.new }
+        ensures reserved { OnOk result (live_count items.now.store + additional ≤ capacity self.new) }
+        ensures had_room { live_count items.now.store + additional ≤ capacity self.old
+            → IsOk result × (self.new ≡ self.old) }
+        ensures capacity_stays { capacity self.old ≤ capacity self.new }
+        ensures few { cells self.new ≤ cells self.old + most (live_count items.now.store + additional) };
+
+    /// Gives back what so many indexes don't need, beside those that there are.
+    ///
+    /// The memory may have to move to a smaller block, which may be refused.
+    fn shrink_to(&mut self, items: &ItemSet<T>, state: &S, least: usize) -> Result<(), AllocError>
+        requires indexed { indexes self.old state.now items.now.store }
+        ensures contents { same self.old self.new }
+        ensures never_more { cells self.new ≤ cells self.old }
+        ensures capacity_stays { min (capacity self.old) (max least (live_count items.now.store))
+            ≤ capacity self.new }
+        ensures shrunk { OnOk result (cells self.new ≤ most (max least (live_count items.now.store))) }
+        ensures refused { OnErr result (max least (live_count items.now.store) < cells self.new) }
+        ensures succeeds { max least (live_count items.now.store) ≡ 0 → IsOk result };
+
+    /// What is computed of an item's keys alone.
+    fn known(state: &S, item: &T) -> Self::Known
+        ensures { is_known state.now item.now result };
+
+    /// Nothing that a look-up computed.
+    fn unasked() -> Self::Asked;
+
+    /// Where an item may go, or the items that it is alike to. It takes no memory.
+    fn look_up(
+        &self,
+        items: &ItemSet<T>,
+        state: &S,
+        known: Self::Known,
+        item: &T,
+    ) -> Result<Self::Spot, Self::Conflict>
+        requires hashed { is_known state.now item.now known }
+        requires indexed { indexes self.now state.now items.now.store }
+        ensures { FindsSpot (alike item.now) (is_spot self.now state.now items.now.store item.now)
+            (conflicts items.now.store item.now) items.now.store result };
+
+    /// Where an item may go that is alike to none.
+    fn spot(&self, items: &ItemSet<T>, state: &S, known: Self::Known, item: &T) -> Self::Spot
+        requires hashed { is_known state.now item.now known }
+        requires indexed { indexes self.now state.now items.now.store }
+        requires apart { HasNoHit items.now.store (alike item.now) }
+        ensures { is_spot self.now state.now items.now.store item.now result };
+
+    /// Where an item goes under the next index.
+    fn plan(
+        &self,
+        items: &ItemSet<T>,
+        state: &S,
+        spot: Self::Spot,
+        ix: ItemIndex,
+        item: &T,
+    ) -> Self::Plan
+        requires valid { IsValid items.now.store }
+        requires indexed { indexes self.now state.now items.now.store }
+        requires spot { is_spot self.now state.now items.now.store item.now spot }
+        requires next { ix ≡ next_index items.now.store }
+        ensures { is_planned self.now state.now items.now.store item.now result };
+
+    /// Makes the room for a planned insert. Where there is room it takes no memory.
+    fn make_room(
+        &mut self,
+        items: &ItemSet<T>,
+        state: &S,
+        plan: &Self::Plan,
+    ) -> Result<(), AllocError>
+        requires indexed { indexes self.old state.now items.now.store }
+        ensures contents { same self.old self.new }
+        ensures ready { OnOk result (has_room_for self.new plan.now) }
+        ensures had_room { live_count items.now.store < capacity self.old → IsOk result × (self.new ≡ self.old) }
+        ensures capacity_stays { capacity self.old ≤ capacity self.new }
+        ensures few { cells self.new ≤ cells self.old + most (live_count items.now.store + 1) };
+
+    /// Enters an index as it was planned. It takes no memory.
+    fn insert(&mut self, known: Self::Known, plan: &Self::Plan, ix: ItemIndex)
+        requires room { has_room_for self.old plan.now }
+        requires next { IsNextOf (indexes self.old) ix }
+        requires assigned { ix ≢ sentinel }
+        requires planned { IsPlannedForOne (λ state s item. is_planned self.old state s item plan.now) }
+        ensures indexed { IndexesOneMore alike (λ state item. is_known state item known)
+            (λ state s item. is_planned self.old state s item plan.now) (indexes self.old) ix (indexes self.new) }
+        ensures capacity { capacity self.new ≡ capacity self.old }
+        ensures cells { cells self.new ≡ cells self.old };
+
+    /// Takes a live index out. It takes no memory.
+    fn remove(&mut self, items: &ItemSet<T>, state: &S, ix: ItemIndex)
+        requires live { IsLive items.now.store ix }
+        requires indexed { indexes self.old state.now items.now.store }
+        ensures indexed { indexes self.new state.now (removed items.now.store ix) }
+        ensures capacity { capacity self.new ≡ capacity self.old }
+        ensures cells { cells self.new ≡ cells self.old }
+        ensures ready { is_ready_after self.old → is_ready_after self.new }
+        ensures roomy { (plan : Self.Plan) → is_ready_after self.old → has_room_for self.new plan };
+
+    /// Makes ready for an insert that comes after a removal. Below the capacity it takes no memory.
+    fn ready_after(&mut self, items: &ItemSet<T>, state: &S) -> Result<(), AllocError>
+        requires indexed { indexes self.old state.now items.now.store }
+        ensures contents { same self.old self.new }
+        ensures ready { OnOk result (is_ready_after self.new) }
+        ensures may_lack { OnErr result may_lack }
+        ensures past { OnErr result (capacity self.old < live_count items.now.store) }
+        ensures capacity { capacity self.new ≡ capacity self.old }
+        ensures cells { cells self.new ≡ cells self.old };
+
+    /// The next index of the items that were told, past one or from the first on.
+    fn next_told(conflict: &Self::Conflict, before: Option<ItemIndex>) -> Option<ItemIndex>
+        ensures { IsNextTold (tells conflict.now) before result };
+
+    /// What becomes of a live index that is given this item, or the other items that it is alike to.
+    fn plan_move(
+        &self,
+        items: &ItemSet<T>,
+        state: &S,
+        ix: ItemIndex,
+        item: &T,
+    ) -> Result<Self::Move, Self::Conflict>
+        requires live { IsLive items.now.store ix }
+        requires indexed { indexes self.now state.now items.now.store }
+        ensures { PlansMove (alike item.now) (same_keys item.now) (is_move state.now items.now.store ix item.now)
+            moves (taken items.now.store ix item.now) items.now.store ix result };
+
+    /// Makes ready for a move. Up to the capacity it takes no memory, nor where all keys stay.
+    fn ready_move(
+        &mut self,
+        items: &ItemSet<T>,
+        state: &S,
+        plan: &Self::Move,
+    ) -> Result<(), AllocError>
+        requires indexed { indexes self.old state.now items.now.store }
+        ensures contents { same self.old self.new }
+        ensures ready { OnOk result (is_ready self.new plan.now) }
+        ensures moves { OnErr result (moves plan.now ≡ true) }
+        ensures may_lack { OnErr result may_lack }
+        ensures past { OnErr result (capacity self.old < live_count items.now.store) }
+        ensures capacity { capacity self.new ≡ capacity self.old }
+        ensures cells { cells self.new ≡ cells self.old };
+
+    /// Enters a live index as it was planned, while the store has its old item. It takes no memory.
+    fn commit_move(
+        &mut self,
+        items: &ItemSet<T>,
+        state: &S,
+        asked: Self::Asked,
+        plan: &Self::Move,
+        ix: ItemIndex,
+        item: &T,
+    )
+        requires live { IsLive items.now.store ix }
+        requires indexed { indexes self.old state.now items.now.store }
+        requires planned { is_move state.now items.now.store ix item.now plan.now }
+        requires ready { is_ready self.old plan.now }
+        ensures indexed { indexes self.new state.now (rebound items.now.store ix item.now) }
+        ensures capacity { capacity self.new ≡ capacity self.old }
+        ensures cells { cells self.new ≡ cells self.old };
+
+    /// Forgets every index, and keeps the memory.
+    fn clear(&mut self)
+        ensures none { IndexesNone (indexes self.new) }
+        ensures capacity { capacity self.new ≡ capacity self.old }
+        ensures cells { cells self.new ≡ cells self.old };
+
+    /// Gives each index its new name. It takes no memory.
+    fn remap(&mut self, remap: &IndexRemap)
+        requires names { IsRemapOfSome (indexes self.old) remap.now }
+        ensures indexed { IndexesCompacted (indexes self.old) remap.now (indexes self.new) }
+        ensures capacity { capacity self.new ≡ capacity self.old }
+        ensures cells { cells self.new ≡ cells self.old };
+
+    /// One that means the same, and has no more memory.
+    fn copied(&self) -> Result<Self, AllocError>
+        ensures contents { IfOk result (λ copy. same self.now copy) }
+        ensures few { IfOk result (λ copy. cells copy ≤ cells self.now) };
+
+    /// The index of the item that shares all keys with this one.
+    fn find_same(&self, items: &ItemSet<T>, state: &S, item: &T) -> Option<ItemIndex>
+        requires indexed { indexes self.now state.now items.now.store }
+        ensures { AnswersScan items.now.store (same_keys item.now) result };
+
+    /// Whether the tables are sound over the store, as they are in every map; in `Compact`, whether no slot is vacant.
+    ///
+    /// It sorts a copy of the indexes, whose memory may be refused.
+    fn validate(
+        &self,
+        items: &ItemSet<T>,
+        state: &S,
+        compactness: ValidateCompact,
+    ) -> Result<(), ValidateRefusal<ValidationError>>
+        requires valid { IsValid items.now.store }
+        requires indexed { indexes self.now state.now items.now.store }
+        ensures { Validates (Allows compactness (length items.now.store.free)) result };
+
+    // What means the same indexes the same, and keeps plans.
+    ghost same_as_itself: { (x : Self) → same x x };
+
+    ghost same_indexes: { (x y : Self) (state : S) (s : Store T) → same x y → indexes x state s → indexes y state s };
+
+    ghost same_plans: { (x y : Self) (state : S) (s : Store T) (item : T) (plan : Self.Plan) → same x y
+        → is_planned x state s item plan → is_planned y state s item plan };
+
+    // No two items are alike.
+    ghost apart: { (x : Self) (state : S) (s : Store T) → indexes x state s → AreApart alike s };
+
+    // Where the keys stay, it indexes the store still: an item that was modified, or all items copied.
+    ghost modified: { (x : Self) (state : S) (s : Store T) (ix : ℕ) (was item : T) → indexes x state s
+        → get s ix ≡ Some was → keys item ≡ keys was → indexes x state (rebound s ix item) };
+
+    ghost same_items: { (x : Self) (state : S) (s t : Store T) → HaveSameKeys same_keys s t → indexes x state s
+        → indexes x state t };
+
+    // What is told are exactly the items that the item is alike to.
+    ghost told: { (s : Store T) (item : T) (at : Self.Conflict) → conflicts s item at → (ix : ℕ)
+        → tells at ix ↔ IsHit s (alike item) ix };
+
+    // To share all keys is an equivalence.
+    ghost equivalence: { IsEquivalence same_keys };
+}
+
+/// Where a key index has a key by its hash: `Here` in a leaf, else to the left or the right in a pair.
+pub enum Here {}
+
+/// Where the first index of a pair has the key.
+pub struct Left<P> {
+    of: PhantomData<P>,
+}
+
+/// Where the second index of a pair has the key.
+pub struct Right<P> {
+    of: PhantomData<P>,
+}
+
+/// A key index with a key by its hash at the place `P`.
+pub trait HashedAt<P, T, S>: KeyIndex<T, S> {
+    ghost use Rattle.iddqd.specs.Store.{Store};
+    ghost use Rattle.iddqd_sides.specs.Scan.{AnswersScan};
+    ghost use Rattle.std.specs.Prelude.{Bool};
+
+    /// The key.
+    type Key: Eq + Hash + Drop;
+
+    ghost key_at: { T → Self.Key };
+
+    /// The index of the item that has the key for which the query stands, and what was computed for that.
+    fn find<Q: HashQuery<Self::Key>>(
+        &self,
+        items: &ItemSet<T>,
+        state: &S,
+        query: Q,
+    ) -> (Option<ItemIndex>, Self::Asked)
+        requires indexed { Self.KeyIndex.indexes self.now state.now items.now.store }
+        ensures { AnswersScan items.now.store (passes_by key_at (Q.stands_for query)) result.0 };
+
+    /// Finds as `find` does, and takes the index out, by one search by that key. It takes no memory.
+    fn take<Q: HashQuery<Self::Key>>(
+        &mut self,
+        items: &ItemSet<T>,
+        state: &S,
+        query: Q,
+    ) -> Option<ItemIndex>
+        requires indexed { Self.KeyIndex.indexes self.old state.now items.now.store }
+        ensures found { AnswersScan items.now.store (passes_by key_at (Q.stands_for query)) result }
+        ensures taken { TakesFound (Self.KeyIndex.indexes self.new) state.now items.now.store result }
+        ensures capacity { Self.KeyIndex.capacity self.new ≡ Self.KeyIndex.capacity self.old }
+        ensures cells { Self.KeyIndex.cells self.new ≡ Self.KeyIndex.cells self.old };
+}
