@@ -1,0 +1,1 @@
+//! What a closure makes of an item takes its place.

@@ -1,0 +1,119 @@
+//! Memory that a map takes ahead and gives back, and its slots closed up.
+ghost use Rattle.std.specs.Prelude.{◌≡◌, ◌≤◌, [], min, IsOk, IfOk, OnOk, OnErr};
+ghost use Rattle.iddqd.specs.{slot_limit, empty, cleared, live_count, IsRemapOf};
+ghost use Rattle.iddqd_map.specs.Map.{capacity, room};
+ghost use Rattle.iddqd_map.specs.Memory.{ReservesItems, ShrinksItems};
+ghost use Rattle.iddqd_map.specs.Calls.{Compacts};
+
+use super::Map;
+use crate::key_index::KeyIndex;
+use iddqd::hash_builder::DefaultHashBuilder;
+use iddqd::index_remap::IndexRemap;
+use iddqd::item_set::ItemSet;
+use std::alloc::{AllocError, Global};
+
+impl<T, X: KeyIndex<T, DefaultHashBuilder>> Map<T, X, DefaultHashBuilder> {
+    /// No items, memory for so many, and the default hasher. With 0 it takes no memory.
+    pub fn with_capacity(
+        alloc: Global,
+        wanted: usize,
+    ) -> Result<Map<T, X, DefaultHashBuilder>, AllocError>
+        ensures contents { IfOk result (λ m. m.store ≡ empty) }
+        ensures room { IfOk result (λ m. min wanted slot_limit ≤ room m) }
+        ensures slots { IfOk result (λ m. m.memory.slots ≡ wanted) }
+        ensures cells { IfOk result (λ m. m.memory.cells ≤ X.most wanted) }
+        ensures none { wanted ≡ 0 → IsOk result }
+    {
+        Map::with_capacity_and_hasher(alloc, wanted, DefaultHashBuilder::default())
+    }
+}
+
+impl<T, X: KeyIndex<T, S>, S> Map<T, X, S> {
+    /// No items, and memory for so many. With 0 it takes none.
+    pub fn with_capacity_and_hasher(
+        alloc: Global,
+        wanted: usize,
+        state: S,
+    ) -> Result<Map<T, X, S>, AllocError>
+    where
+        S: Drop,
+        ensures contents { IfOk result (λ m. m.store ≡ empty) }
+        ensures room { IfOk result (λ m. min wanted slot_limit ≤ room m) }
+        ensures slots { IfOk result (λ m. m.memory.slots ≡ wanted) }
+        ensures cells { IfOk result (λ m. m.memory.cells ≤ X.most wanted) }
+        ensures none { wanted ≡ 0 → IsOk result }
+    {
+        Ok(Map {
+            items: ItemSet::with_capacity(alloc, wanted)?,
+            indexes: X::with_capacity(alloc, wanted)?,
+            state,
+        })
+    }
+
+    /// How many items there can be without more memory. No call lowers it but those that shrink.
+    pub fn capacity(&self) -> usize
+        ensures { result ≡ capacity self.now }
+    {
+        // TODO: the least of the slots that the memory holds, the limit, and what the tables hold
+    }
+
+    /// How many inserts need no memory.
+    pub fn room(&self) -> usize
+        ensures { result ≡ room self.now }
+    {
+        self.capacity().saturating_sub(self.len())
+    }
+
+    /// Takes memory, so that as many inserts need none, or as many as there can be.
+    ///
+    /// Where there is room already it takes none. Where it is refused the items stay, and no memory is given back.
+    pub fn reserve(&mut self, additional: usize) -> Result<(), AllocError>
+        ensures { ReservesItems X.most additional self.old result self.new }
+    {
+        // TODO
+    }
+
+    /// Gives back the memory that the slots and the tables don't need. Where the smaller memory is refused the items stay
+    /// too.
+    pub fn shrink_to_fit(&mut self) -> Result<(), AllocError>
+        ensures { ShrinksItems X.most 0 self.old result self.new }
+    {
+        self.shrink_to(0)
+    }
+
+    /// Gives back the memory that so many items don't need, beside the slots and the items that there are.
+    pub fn shrink_to(&mut self, least: usize) -> Result<(), AllocError>
+        ensures { ShrinksItems X.most least self.old result self.new }
+    {
+        self.items.shrink_capacity_to(least)?;
+        self.indexes.shrink_to(&self.items, &self.state, least)
+    }
+
+    /// Forgets all items and all slots, so that the next index is 0. It keeps the memory.
+    pub fn clear(&mut self)
+    where
+        T: Drop,
+        ensures store { self.new.store ≡ cleared self.old.store }
+        ensures memory { self.new.memory ≡ self.old.memory }
+    {
+        self.items.clear();
+        self.indexes.clear();
+    }
+
+    /// Moves every item down to its rank, so that no slot is vacant, and tells the new names.
+    ///
+    /// No key is hashed or compared. Where no slot is vacant it is `Identity` and takes no memory. Else it takes that of
+    /// one index a slot before an item moves; where that is refused nothing changes.
+    pub fn compact(&mut self) -> Result<IndexRemap, AllocError>
+    where
+        T: Drop,
+        ensures remap { IfOk result (IsRemapOf self.old.store) }
+        ensures compacted { OnOk result (Compacts self.old self.new) }
+        ensures refused { OnErr result (self.new ≡ self.old) }
+        ensures dense { self.old.store.free ≡ [] → IsOk result }
+    {
+        let remap = self.items.compact()?;
+        self.indexes.remap(&remap);
+        Ok(remap)
+    }
+}
