@@ -1,0 +1,26 @@
+-- What calls tell and do where items have one key.
+use Rattle.std.specs.Prelude.{◌≡◌, ◌≢◌, ℕ, Bool, Option, Some, None, Result, Ok, Err}
+use Rattle.iddqd.specs.Store.{Store, rebound}
+use Rattle.iddqd_sides.specs.Scan.{AnswersScan}
+use Rattle.iddqd_map.specs.Map.{MapState, IsOnly}
+use Rattle.iddqd_map.specs.Calls.{InsertsAt, RefusesFull, RefusesMemory}
+use Rattle.iddqd_map.specs.declared.refusal.OverwriteRefusal.{OverwriteRefusal}
+use Rattle.iddqd_map.specs.declared.refusal.OverwriteRefusal.TheVariants.{Full, Memory}
+
+module _ {T : Type 0} (alike : T → T → Bool) (most : ℕ → ℕ) where
+  -- The item stands in the place of the one that had its key, which comes back, and no memory was taken; or else it was
+  -- inserted.
+  abbrev pub OverwritesOne : MapState T → T → Result (ℕ × Option T) (OverwriteRefusal T) → MapState T → Type 0
+  OverwritesOne old item (Ok (ix, Some was)) new =
+      IsOnly old.store (alike item) ix was × (new.store ≡ rebound old.store ix item) × (new.memory ≡ old.memory)
+  OverwritesOne old item (Ok (ix, None)) new = InsertsAt alike most old item ix new
+  OverwritesOne old item (Err (Full back)) new = RefusesFull alike most old item back new
+  OverwritesOne old item (Err (Memory back)) new = RefusesMemory alike most old item back new
+
+-- the item that is told has the key of this one, and no other has
+abbrev pub IsTold : {T : Type 0} → (T → T → Bool) → Store T → T → ℕ → Type 0
+IsTold alike s item at = AnswersScan s (alike item) (Some at)
+
+-- another item than the one at the index, which is told, has the key of this one
+abbrev pub IsTaken : {T : Type 0} → (T → T → Bool) → Store T → ℕ → T → ℕ → Type 0
+IsTaken alike s ix item at = (at ≢ ix) × AnswersScan s (alike item) (Some at)

@@ -1,0 +1,31 @@
+//! Copies of a map.
+use super::BiIndex;
+use super::item::BiHashItem;
+use crate::map::Map;
+use std::alloc::AllocError;
+use std::hash::BuildHasher;
+
+/// Items that keep their keys where they are cloned, so that a map of them can be cloned as it stands.
+///
+/// No method is to be written. For a derived `Clone` `ghost same_key1 = { Prim.search rules };` shows it.
+pub trait BiHashClone: BiHashItem + Clone {
+    ghost use Rattle.std.specs.Prelude.{IsTrue};
+
+    ghost same_key1: { (x y : Self) → Self.is_clone x y
+        → IsTrue (Self.Key1.eq (Self.first_key x) (Self.first_key y)) };
+
+    ghost same_key2: { (x y : Self) → Self.is_clone x y
+        → IsTrue (Self.Key2.eq (Self.second_key x) (Self.second_key y)) };
+}
+
+/// Each item is cloned once, under its index, and no key is hashed or compared. Where memory is refused the clones made
+/// so far are dropped.
+impl<T: BiHashClone, S: BuildHasher + Copy> Clone for Map<T, BiIndex, S> {
+    ghost use Rattle.iddqd.specs.Clones.{IsStoreClone};
+
+    ghost is_clone = { λ m copy. IsStoreClone T.is_clone m.store copy.store };
+
+    fn clone(&self) -> Result<Map<T, BiIndex, S>, AllocError> {
+        self.copied()
+    }
+}

@@ -1,0 +1,141 @@
+//! A map of items that have one key each, found by its hash: a [`Map`] whose key index is one table.
+//!
+//! All calls that name no key are `Map`'s. Here are those that do, each the call of `Map` at the place of its key.
+ghost use Rattle.std.specs.Prelude.{◌≡◌, ◌↔◌, false, Some, Ok, option_copied};
+ghost use Rattle.std.specs.Fn.{FnOnceReturnsAt};
+ghost use Rattle.iddqd_hash.specs.Sizes.{most_cells};
+ghost use Rattle.iddqd_sides.specs.Scan.{HasNoHit, AnswersScan, passes_by};
+ghost use Rattle.iddqd_sides.specs.KeyKeeping.{KeepsKey};
+ghost use Rattle.iddqd_map.specs.Map.{shares, FindsItem, Removes};
+ghost use Rattle.iddqd_map.specs.Calls.{MayChange, Replaces, Changes};
+ghost use Rattle.iddqd_map.specs.Modify.{Modifies};
+ghost use Rattle.iddqd_map.specs.OneKey.{IsTaken, OverwritesOne};
+
+mod clones;
+mod item;
+mod prints;
+
+use crate::by_hash::ByHash;
+use crate::key_index::Here;
+use crate::map::Map;
+use crate::refusal::{InsertRefusal, OverwriteRefusal, ReplaceRefusal};
+pub use clones::IdHashClone;
+use iddqd::hash_builder::DefaultHashBuilder;
+use iddqd::item_index::ItemIndex;
+use iddqd_sides::query::HashQuery;
+pub use item::{IdHashItem, ItsKey};
+use std::hash::BuildHasher;
+
+/// A table by the key.
+pub type IdIndex = ByHash<ItsKey>;
+
+/// Items under stable indexes, no two of which have the same key.
+pub type IdHashMap<T, S = DefaultHashBuilder> = Map<T, IdIndex, S>;
+
+impl<T: IdHashItem, S: BuildHasher> Map<T, IdIndex, S> {
+    /// The index of the item that has the key for which the query stands.
+    ///
+    /// The query is a `&T::Key`, or what else stands for such a key. It is compared with keys of the same hash alone.
+    pub fn find<Q: HashQuery<T::Key>>(&self, query: Q) -> Option<ItemIndex>
+        ensures { AnswersScan self.now.store (passes_by T.key_of (Q.stands_for query)) result }
+    {
+        self.find_by::<Here, Q>(query)
+    }
+
+    /// Whether an item has the key.
+    pub fn contains_key<Q: HashQuery<T::Key>>(&self, query: Q) -> bool
+        ensures { (result ≡ false) ↔ HasNoHit self.now.store (passes_by T.key_of (Q.stands_for query)) }
+    {
+        self.contains_by::<Here, Q>(query)
+    }
+
+    /// The item that has the key.
+    pub fn get<Q: HashQuery<T::Key>>(&self, query: Q) -> Option<&T>
+        ensures { FindsItem self.now.store (passes_by T.key_of (Q.stands_for query)) (option_copied result) }
+    {
+        self.get_by::<Here, Q>(query)
+    }
+
+    /// Takes the item that has the key out of the map. It takes no memory.
+    pub fn remove<Q: HashQuery<T::Key>>(&mut self, query: Q) -> Option<T>
+        ensures { Removes self.old (passes_by T.key_of (Q.stands_for query)) result self.new }
+    {
+        self.remove_by::<Here, Q>(query)
+    }
+
+    /// Puts an item in the place of the one that has the key, which is handed back.
+    ///
+    /// The item may have another key. It keeps the index. Where another item has its key, it comes back, and nothing changes. It
+    /// takes no memory, and touches no table whose key stays.
+    pub fn replace<Q: HashQuery<T::Key>>(
+        &mut self,
+        query: Q,
+        item: T,
+    ) -> Result<T, ReplaceRefusal<T, ItemIndex>>
+        ensures { let alike = shares T.key_of T.Key.eq in
+            Replaces alike alike false (IsTaken alike) self.old
+            (passes_by T.key_of (Q.stands_for query)) item result self.new }
+    {
+        self.replace_by::<Here, Q>(query, item)
+    }
+
+    /// Puts what the closure makes of the item that has the key in its place, and hands that item back; or answers
+    /// none, where no item has it.
+    ///
+    /// The closure is called at most once, and not at all where no item has the key. Else as `replace`.
+    pub fn change<Q: HashQuery<T::Key>, F: FnOnce(&T) -> T>(
+        &mut self,
+        query: Q,
+        f: F,
+    ) -> Result<Option<T>, ReplaceRefusal<T, ItemIndex>>
+        requires { MayChange F.FnOnce f self.old.store (passes_by T.key_of (Q.stands_for query)) }
+        ensures { let alike = shares T.key_of T.Key.eq in
+            Changes alike alike false (IsTaken alike) (FnOnceReturnsAt F.FnOnce f)
+            self.old (passes_by T.key_of (Q.stands_for query)) result self.new }
+    {
+        self.change_by::<Here, Q, F>(query, f)
+    }
+
+    /// Calls the closure with a `&mut` to the item that has the key, as `modify_at`; or returns none, and doesn't call
+    /// it, where no item has the key. It is one look-up.
+    pub fn modify<Q: HashQuery<T::Key>, R, F: FnOnce(&mut T) -> R>(
+        &mut self,
+        query: Q,
+        f: F,
+    ) -> Option<R>
+        requires { let named = passes_by T.key_of (Q.stands_for query) in
+            KeepsKey F.FnOnce f T.key_of (λ item. FindsItem self.old.store named (Some item)) }
+        ensures { Modifies F.FnOnce f self.old (passes_by T.key_of (Q.stands_for query)) result self.new }
+    {
+        self.modify_by::<Here, Q, R, F>(query, f)
+    }
+
+    /// Takes an item, in the place of the one that has its key, which is handed back with the index.
+    ///
+    /// Then no memory is needed. Where none has its key, it is inserted, and may be refused, as by `insert_unique`.
+    pub fn insert_overwrite(
+        &mut self,
+        item: T,
+    ) -> Result<(ItemIndex, Option<T>), OverwriteRefusal<T>>
+        ensures { OverwritesOne (shares T.key_of T.Key.eq) most_cells self.old item result self.new }
+    {
+        match self.insert_unique(item) {
+            Ok(ix) => Ok((ix, None)),
+            Err(InsertRefusal::Duplicate { item, at }) => Ok((at, self.stand_in(at, item))),
+            Err(InsertRefusal::Full(item)) => Err(OverwriteRefusal::Full(item)),
+            Err(InsertRefusal::Memory(item)) => Err(OverwriteRefusal::Memory(item)),
+        }
+    }
+
+    // Puts an item in the place of the one at an index that has its key.
+    fn stand_in(&mut self, at: ItemIndex, item: T) -> Option<T>
+        requires only { AnswersScan self.old.store (shares T.key_of T.Key.eq item) (Some at) }
+        ensures { (was : T) × (result ≡ Some was)
+            × OverwritesOne (shares T.key_of T.Key.eq) most_cells self.old item (Ok (at, Some was)) self.new }
+    {
+        match self.replace_at(at, item) {
+            Ok(was) => Some(was),
+            Err(_) => unreachable!(),
+        }
+    }
+}

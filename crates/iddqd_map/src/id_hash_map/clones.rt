@@ -1,0 +1,27 @@
+//! Copies of a map.
+use super::IdIndex;
+use super::item::IdHashItem;
+use crate::map::Map;
+use std::alloc::AllocError;
+use std::hash::BuildHasher;
+
+/// Items that keep their key where they are cloned, so that a map of them can be cloned as it stands.
+///
+/// No method is to be written. For a derived `Clone` `ghost same_key = { Prim.search rules };` shows it.
+pub trait IdHashClone: IdHashItem + Clone {
+    ghost use Rattle.std.specs.Prelude.{IsTrue};
+
+    ghost same_key: { (x y : Self) → Self.is_clone x y → IsTrue (Self.Key.eq (Self.key_of x) (Self.key_of y)) };
+}
+
+/// Each item is cloned once, under its index, and no key is hashed or compared. Where memory is refused the clones made
+/// so far are dropped.
+impl<T: IdHashClone, S: BuildHasher + Copy> Clone for Map<T, IdIndex, S> {
+    ghost use Rattle.iddqd.specs.Clones.{IsStoreClone};
+
+    ghost is_clone = { λ m copy. IsStoreClone T.is_clone m.store copy.store };
+
+    fn clone(&self) -> Result<Map<T, IdIndex, S>, AllocError> {
+        self.copied()
+    }
+}

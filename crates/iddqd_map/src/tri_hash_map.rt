@@ -1,0 +1,281 @@
+//! A map of items that have three keys each, all found by their hashes: a [`Map`] whose key index is a table by the first and a pair of tables by the
+//! others.
+//!
+//! All calls that name no key are `Map`'s. Here are those that do, each the call of `Map` at the place of its key.
+ghost use Rattle.std.specs.Prelude.{◌≡◌, ◌↔◌, false, option_copied};
+ghost use Rattle.std.specs.Fn.{FnOnceReturnsAt};
+ghost use Rattle.iddqd_hash.specs.Sizes.{most_cells};
+ghost use Rattle.iddqd_sides.specs.Scan.{HasNoHit, AnswersScan, passes_by};
+ghost use Rattle.iddqd_sides.specs.KeyKeeping.{KeepsKey, pair_keys};
+ghost use Rattle.iddqd_map.specs.Map.{shares, FindsItem, Removes};
+ghost use Rattle.iddqd_map.specs.Calls.{MayChange, Overwrites, Replaces, Changes};
+ghost use Rattle.iddqd_map.specs.Modify.{Modifies};
+ghost use Rattle.iddqd_map.specs.ThreeKeys.{any_key, all_keys, AreTaken};
+
+mod clash;
+mod clones;
+mod item;
+mod prints;
+
+use crate::by_hash::ByHash;
+use crate::key_index::{Here, Left, Right};
+use crate::map::Map;
+use crate::pair::Pair;
+use crate::refusal::{OverwriteRefusal, ReplaceRefusal};
+pub use clash::TriClash;
+pub use clones::TriHashClone;
+use iddqd::hash_builder::DefaultHashBuilder;
+use iddqd::item_index::ItemIndex;
+use iddqd_sides::query::HashQuery;
+pub use item::{First, Second, Third, TriHashItem};
+use std::hash::BuildHasher;
+
+/// A table by each of the three keys.
+pub type TriIndex = Pair<ByHash<First>, Pair<ByHash<Second>, ByHash<Third>>, TriClash>;
+
+/// Items under stable indexes, no two of which share a key.
+pub type TriHashMap<T, S = DefaultHashBuilder> = Map<T, TriIndex, S>;
+
+impl<T: TriHashItem, S: BuildHasher> Map<T, TriIndex, S> {
+    /// The index of the item that has the first key for which the query stands.
+    ///
+    /// The query is a `&T::Key1`, or what else stands for such a key. It is compared with keys of the same hash alone.
+    pub fn find1<Q: HashQuery<T::Key1>>(&self, query: Q) -> Option<ItemIndex>
+        ensures { AnswersScan self.now.store (passes_by T.first_key (Q.stands_for query)) result }
+    {
+        self.find_by::<Left<Here>, Q>(query)
+    }
+
+    /// Whether an item has the first key.
+    pub fn contains_key1<Q: HashQuery<T::Key1>>(&self, query: Q) -> bool
+        ensures { (result ≡ false) ↔ HasNoHit self.now.store (passes_by T.first_key (Q.stands_for query)) }
+    {
+        self.contains_by::<Left<Here>, Q>(query)
+    }
+
+    /// The item that has the first key.
+    pub fn get1<Q: HashQuery<T::Key1>>(&self, query: Q) -> Option<&T>
+        ensures { FindsItem self.now.store (passes_by T.first_key (Q.stands_for query)) (option_copied result) }
+    {
+        self.get_by::<Left<Here>, Q>(query)
+    }
+
+    /// Takes the item that has the first key out of the map. It takes no memory.
+    pub fn remove1<Q: HashQuery<T::Key1>>(&mut self, query: Q) -> Option<T>
+        ensures { Removes self.old (passes_by T.first_key (Q.stands_for query)) result self.new }
+    {
+        self.remove_by::<Left<Here>, Q>(query)
+    }
+
+    /// Puts an item in the place of the one that has the first key, which is handed back.
+    ///
+    /// The item may have other keys. It keeps the index. Where other items have a key of it, it comes back, and nothing changes. It
+    /// takes no memory, and touches no table whose key stays.
+    pub fn replace1<Q: HashQuery<T::Key1>>(
+        &mut self,
+        query: Q,
+        item: T,
+    ) -> Result<T, ReplaceRefusal<T, TriClash>>
+        ensures { let first = shares T.first_key T.Key1.eq in let second = shares T.second_key T.Key2.eq in
+            let third = shares T.third_key T.Key3.eq in
+            Replaces (any_key first second third) (all_keys first second third) false
+                (AreTaken first second third) self.old
+            (passes_by T.first_key (Q.stands_for query)) item result self.new }
+    {
+        self.replace_by::<Left<Here>, Q>(query, item)
+    }
+
+    /// Puts what the closure makes of the item that has the first key in its place, and hands that item back; or answers
+    /// none, where no item has it.
+    ///
+    /// The closure is called at most once, and not at all where no item has the key. Else as `replace1`.
+    pub fn change1<Q: HashQuery<T::Key1>, F: FnOnce(&T) -> T>(
+        &mut self,
+        query: Q,
+        f: F,
+    ) -> Result<Option<T>, ReplaceRefusal<T, TriClash>>
+        requires { MayChange F.FnOnce f self.old.store (passes_by T.first_key (Q.stands_for query)) }
+        ensures { let first = shares T.first_key T.Key1.eq in let second = shares T.second_key T.Key2.eq in
+            let third = shares T.third_key T.Key3.eq in
+            Changes (any_key first second third) (all_keys first second third) false
+                (AreTaken first second third) (FnOnceReturnsAt F.FnOnce f)
+            self.old (passes_by T.first_key (Q.stands_for query)) result self.new }
+    {
+        self.change_by::<Left<Here>, Q, F>(query, f)
+    }
+
+    /// Calls the closure with a `&mut` to the item that has the first key, as `modify_at`; or returns none, and doesn't call
+    /// it, where no item has the key. It is one look-up.
+    pub fn modify1<Q: HashQuery<T::Key1>, R, F: FnOnce(&mut T) -> R>(
+        &mut self,
+        query: Q,
+        f: F,
+    ) -> Option<R>
+        requires { let named = passes_by T.first_key (Q.stands_for query) in
+            KeepsKey F.FnOnce f (pair_keys T.first_key (pair_keys T.second_key T.third_key)) (λ item. FindsItem self.old.store named (Some item)) }
+        ensures { Modifies F.FnOnce f self.old (passes_by T.first_key (Q.stands_for query)) result self.new }
+    {
+        self.modify_by::<Left<Here>, Q, R, F>(query, f)
+    }
+
+    /// The index of the item that has the second key for which the query stands, as `find1`.
+    pub fn find2<Q: HashQuery<T::Key2>>(&self, query: Q) -> Option<ItemIndex>
+        ensures { AnswersScan self.now.store (passes_by T.second_key (Q.stands_for query)) result }
+    {
+        self.find_by::<Right<Left<Here>>, Q>(query)
+    }
+
+    /// Whether an item has the second key.
+    pub fn contains_key2<Q: HashQuery<T::Key2>>(&self, query: Q) -> bool
+        ensures { (result ≡ false) ↔ HasNoHit self.now.store (passes_by T.second_key (Q.stands_for query)) }
+    {
+        self.contains_by::<Right<Left<Here>>, Q>(query)
+    }
+
+    /// The item that has the second key.
+    pub fn get2<Q: HashQuery<T::Key2>>(&self, query: Q) -> Option<&T>
+        ensures { FindsItem self.now.store (passes_by T.second_key (Q.stands_for query)) (option_copied result) }
+    {
+        self.get_by::<Right<Left<Here>>, Q>(query)
+    }
+
+    /// Takes the item that has the second key out of the map. It takes no memory.
+    pub fn remove2<Q: HashQuery<T::Key2>>(&mut self, query: Q) -> Option<T>
+        ensures { Removes self.old (passes_by T.second_key (Q.stands_for query)) result self.new }
+    {
+        self.remove_by::<Right<Left<Here>>, Q>(query)
+    }
+
+    /// Puts an item in the place of the one that has the second key, as `replace1`.
+    pub fn replace2<Q: HashQuery<T::Key2>>(
+        &mut self,
+        query: Q,
+        item: T,
+    ) -> Result<T, ReplaceRefusal<T, TriClash>>
+        ensures { let first = shares T.first_key T.Key1.eq in let second = shares T.second_key T.Key2.eq in
+            let third = shares T.third_key T.Key3.eq in
+            Replaces (any_key first second third) (all_keys first second third) false
+                (AreTaken first second third) self.old
+            (passes_by T.second_key (Q.stands_for query)) item result self.new }
+    {
+        self.replace_by::<Right<Left<Here>>, Q>(query, item)
+    }
+
+    /// Puts what the closure makes of the item that has the second key in its place, as `change1`.
+    pub fn change2<Q: HashQuery<T::Key2>, F: FnOnce(&T) -> T>(
+        &mut self,
+        query: Q,
+        f: F,
+    ) -> Result<Option<T>, ReplaceRefusal<T, TriClash>>
+        requires { MayChange F.FnOnce f self.old.store (passes_by T.second_key (Q.stands_for query)) }
+        ensures { let first = shares T.first_key T.Key1.eq in let second = shares T.second_key T.Key2.eq in
+            let third = shares T.third_key T.Key3.eq in
+            Changes (any_key first second third) (all_keys first second third) false
+                (AreTaken first second third) (FnOnceReturnsAt F.FnOnce f)
+            self.old (passes_by T.second_key (Q.stands_for query)) result self.new }
+    {
+        self.change_by::<Right<Left<Here>>, Q, F>(query, f)
+    }
+
+    /// Calls the closure with a `&mut` to the item that has the second key, as `modify1`.
+    pub fn modify2<Q: HashQuery<T::Key2>, R, F: FnOnce(&mut T) -> R>(
+        &mut self,
+        query: Q,
+        f: F,
+    ) -> Option<R>
+        requires { let named = passes_by T.second_key (Q.stands_for query) in
+            KeepsKey F.FnOnce f (pair_keys T.first_key (pair_keys T.second_key T.third_key)) (λ item. FindsItem self.old.store named (Some item)) }
+        ensures { Modifies F.FnOnce f self.old (passes_by T.second_key (Q.stands_for query)) result self.new }
+    {
+        self.modify_by::<Right<Left<Here>>, Q, R, F>(query, f)
+    }
+
+    /// The index of the item that has the third key for which the query stands, as `find1`.
+    pub fn find3<Q: HashQuery<T::Key3>>(&self, query: Q) -> Option<ItemIndex>
+        ensures { AnswersScan self.now.store (passes_by T.third_key (Q.stands_for query)) result }
+    {
+        self.find_by::<Right<Right<Here>>, Q>(query)
+    }
+
+    /// Whether an item has the third key.
+    pub fn contains_key3<Q: HashQuery<T::Key3>>(&self, query: Q) -> bool
+        ensures { (result ≡ false) ↔ HasNoHit self.now.store (passes_by T.third_key (Q.stands_for query)) }
+    {
+        self.contains_by::<Right<Right<Here>>, Q>(query)
+    }
+
+    /// The item that has the third key.
+    pub fn get3<Q: HashQuery<T::Key3>>(&self, query: Q) -> Option<&T>
+        ensures { FindsItem self.now.store (passes_by T.third_key (Q.stands_for query)) (option_copied result) }
+    {
+        self.get_by::<Right<Right<Here>>, Q>(query)
+    }
+
+    /// Takes the item that has the third key out of the map. It takes no memory.
+    pub fn remove3<Q: HashQuery<T::Key3>>(&mut self, query: Q) -> Option<T>
+        ensures { Removes self.old (passes_by T.third_key (Q.stands_for query)) result self.new }
+    {
+        self.remove_by::<Right<Right<Here>>, Q>(query)
+    }
+
+    /// Puts an item in the place of the one that has the third key, as `replace1`.
+    pub fn replace3<Q: HashQuery<T::Key3>>(
+        &mut self,
+        query: Q,
+        item: T,
+    ) -> Result<T, ReplaceRefusal<T, TriClash>>
+        ensures { let first = shares T.first_key T.Key1.eq in let second = shares T.second_key T.Key2.eq in
+            let third = shares T.third_key T.Key3.eq in
+            Replaces (any_key first second third) (all_keys first second third) false
+                (AreTaken first second third) self.old
+            (passes_by T.third_key (Q.stands_for query)) item result self.new }
+    {
+        self.replace_by::<Right<Right<Here>>, Q>(query, item)
+    }
+
+    /// Puts what the closure makes of the item that has the third key in its place, as `change1`.
+    pub fn change3<Q: HashQuery<T::Key3>, F: FnOnce(&T) -> T>(
+        &mut self,
+        query: Q,
+        f: F,
+    ) -> Result<Option<T>, ReplaceRefusal<T, TriClash>>
+        requires { MayChange F.FnOnce f self.old.store (passes_by T.third_key (Q.stands_for query)) }
+        ensures { let first = shares T.first_key T.Key1.eq in let second = shares T.second_key T.Key2.eq in
+            let third = shares T.third_key T.Key3.eq in
+            Changes (any_key first second third) (all_keys first second third) false
+                (AreTaken first second third) (FnOnceReturnsAt F.FnOnce f)
+            self.old (passes_by T.third_key (Q.stands_for query)) result self.new }
+    {
+        self.change_by::<Right<Right<Here>>, Q, F>(query, f)
+    }
+
+    /// Calls the closure with a `&mut` to the item that has the third key, as `modify1`.
+    pub fn modify3<Q: HashQuery<T::Key3>, R, F: FnOnce(&mut T) -> R>(
+        &mut self,
+        query: Q,
+        f: F,
+    ) -> Option<R>
+        requires { let named = passes_by T.third_key (Q.stands_for query) in
+            KeepsKey F.FnOnce f (pair_keys T.first_key (pair_keys T.second_key T.third_key)) (λ item. FindsItem self.old.store named (Some item)) }
+        ensures { Modifies F.FnOnce f self.old (passes_by T.third_key (Q.stands_for query)) result self.new }
+    {
+        self.modify_by::<Right<Right<Here>>, Q, R, F>(query, f)
+    }
+
+    /// Takes an item, and removes those that share a key with it, at most three, which it hands back by rising index from
+    /// the first place on.
+    ///
+    /// Then no memory is needed. Where none does, it is inserted, and may be refused, as by `insert_unique`.
+    pub fn insert_overwrite(
+        &mut self,
+        item: T,
+    ) -> Result<(ItemIndex, [Option<T>; 3]), OverwriteRefusal<T>>
+        ensures { let first = shares T.first_key T.Key1.eq in let second = shares T.second_key T.Key2.eq in
+            let third = shares T.third_key T.Key3.eq in
+            Overwrites (any_key first second third) (λ n. most_cells n + (most_cells n + most_cells n)) false 3 self.old item result self.new }
+    {
+        let mut places = [None, None, None];
+        let ix = self.overwrite_into(item, &mut places)?;
+        Ok((ix, places))
+    }
+}

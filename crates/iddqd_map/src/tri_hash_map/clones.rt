@@ -1,0 +1,34 @@
+//! Copies of a map.
+use super::TriIndex;
+use super::item::TriHashItem;
+use crate::map::Map;
+use std::alloc::AllocError;
+use std::hash::BuildHasher;
+
+/// Items that keep their keys where they are cloned, so that a map of them can be cloned as it stands.
+///
+/// No method is to be written. For a derived `Clone` `ghost same_key1 = { Prim.search rules };` shows it.
+pub trait TriHashClone: TriHashItem + Clone {
+    ghost use Rattle.std.specs.Prelude.{IsTrue};
+
+    ghost same_key1: { (x y : Self) → Self.is_clone x y
+        → IsTrue (Self.Key1.eq (Self.first_key x) (Self.first_key y)) };
+
+    ghost same_key2: { (x y : Self) → Self.is_clone x y
+        → IsTrue (Self.Key2.eq (Self.second_key x) (Self.second_key y)) };
+
+    ghost same_key3: { (x y : Self) → Self.is_clone x y
+        → IsTrue (Self.Key3.eq (Self.third_key x) (Self.third_key y)) };
+}
+
+/// Each item is cloned once, under its index, and no key is hashed or compared. Where memory is refused the clones made
+/// so far are dropped.
+impl<T: TriHashClone, S: BuildHasher + Copy> Clone for Map<T, TriIndex, S> {
+    ghost use Rattle.iddqd.specs.Clones.{IsStoreClone};
+
+    ghost is_clone = { λ m copy. IsStoreClone T.is_clone m.store copy.store };
+
+    fn clone(&self) -> Result<Map<T, TriIndex, S>, AllocError> {
+        self.copied()
+    }
+}

@@ -1,0 +1,75 @@
+//! What an item lends as its three keys.
+//!
+//! Each key is named by a type without values, so that what a table means for one key of an item is
+//! said once, of any key: users implement [`TriHashItem`] alone.
+ghost use Rattle.std.specs.Prelude.{◌≡◌};
+
+use iddqd_sides::key_of::KeyOf;
+use std::hash::Hash;
+
+/// An item with three keys, each a function of the item's value.
+pub trait TriHashItem: Drop {
+    /// The first key.
+    type Key1: Eq + Hash + Drop;
+    /// The second key.
+    type Key2: Eq + Hash + Drop;
+    /// The third key.
+    type Key3: Eq + Hash + Drop;
+
+    ghost first_key: { Self → Self.Key1 };
+
+    ghost second_key: { Self → Self.Key2 };
+
+    ghost third_key: { Self → Self.Key3 };
+
+    /// The first key of the item.
+    fn key1(&self) -> &Self::Key1
+        ensures { result.now ≡ first_key self.now };
+
+    /// The second key of the item.
+    fn key2(&self) -> &Self::Key2
+        ensures { result.now ≡ second_key self.now };
+
+    /// The third key of the item.
+    fn key3(&self) -> &Self::Key3
+        ensures { result.now ≡ third_key self.now };
+}
+
+/// Names the first key.
+pub enum First {}
+
+impl<T: TriHashItem> KeyOf<T> for First {
+    type Key = T::Key1;
+
+    ghost key_of = { T.TriHashItem.first_key };
+
+    fn key(item: &T) -> &T::Key1 {
+        item.key1()
+    }
+}
+
+/// Names the second key.
+pub enum Second {}
+
+impl<T: TriHashItem> KeyOf<T> for Second {
+    type Key = T::Key2;
+
+    ghost key_of = { T.TriHashItem.second_key };
+
+    fn key(item: &T) -> &T::Key2 {
+        item.key2()
+    }
+}
+
+/// Names the third key.
+pub enum Third {}
+
+impl<T: TriHashItem> KeyOf<T> for Third {
+    type Key = T::Key3;
+
+    ghost key_of = { T.TriHashItem.third_key };
+
+    fn key(item: &T) -> &T::Key3 {
+        item.key3()
+    }
+}
