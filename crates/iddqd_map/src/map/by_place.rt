@@ -9,6 +9,8 @@ ghost use Rattle.iddqd_map.specs.Map.{FindsItem, Removes};
 ghost use Rattle.iddqd_map.specs.Calls.{MayChange, Replaces, Changes};
 ghost use Rattle.iddqd_map.specs.Modify.{Modifies};
 
+use super::changes::change_found;
+use super::replaces::replace_found;
 use super::Map;
 use crate::key_index::{HashedAt, KeyIndex};
 use crate::refusal::ReplaceRefusal;
@@ -74,7 +76,15 @@ impl<T, X: KeyIndex<T, S>, S> Map<T, X, S> {
         ensures { Replaces X.alike X.same_keys X.may_lack X.taken self.old
             (passes_by X.key_at (Q.stands_for query)) item result self.new }
     {
-        // TODO
+        let (found, asked) = self.indexes.find(&self.items, &self.state, query);
+        replace_found(
+            &mut self.items,
+            &mut self.indexes,
+            &self.state,
+            asked,
+            found,
+            item,
+        )
     }
 
     /// Puts what the closure makes of the item that has the key in its place, and hands that item back; or answers
@@ -93,7 +103,15 @@ impl<T, X: KeyIndex<T, S>, S> Map<T, X, S> {
         ensures { Changes X.alike X.same_keys X.may_lack X.taken (FnOnceReturnsAt F.FnOnce f) self.old
             (passes_by X.key_at (Q.stands_for query)) result self.new }
     {
-        // TODO
+        let (found, asked) = self.indexes.find(&self.items, &self.state, query);
+        change_found(
+            &mut self.items,
+            &mut self.indexes,
+            &self.state,
+            asked,
+            found,
+            f,
+        )
     }
 
     /// Calls the closure with a `&mut` to the item that has the key, as `modify_at`; or returns none, and doesn't call

@@ -1,0 +1,33 @@
+use Rattle.std.proofs.Common.{◌≡◌, Some, refl, sym}
+use Rattle.std.specs.Fn.{FnOnceReturnsAtMut}
+use Rattle.iddqd.specs.Store.{get}
+use Rattle.iddqd_map.proofs.ReplaceLemmas.{IsIndexed-modified}
+use Rattle.iddqd_map.proofs.map.Map.modify_live.Goals as goal
+
+pub invariant_of-self-2 : goal.invariant_of-self-2
+invariant_of-self-2 g c =
+    let state = c.self.inside.state in
+    let s = c.self.inside.items.store in
+    let indexes = c.self.inside.indexes in
+    let item = c.in_ok-item.item in
+    let is = c.f.new.arg2 in
+    let live : get s c.args.ix ≡ Some item.now = sym c.in_ok-item.ensures.value in
+    let same = (c.requires.keeps item (rw (← c.self.view_is) live)).1 _ _ c.f.ensures in
+    IsIndexed-modified _ state s c.args.ix item.now is c.self.invariant.valid live
+    (g.met.X.KeyIndex.modified indexes state s c.args.ix item.now is c.self.invariant.indexed live same)
+
+pub returns : goal.returns
+returns g c =
+    let item = c.in_ok-item.item in
+    let is = c.f.new.arg2 in
+    let live : get c.self.inside.items.store c.args.ix ≡ Some item.now = sym c.in_ok-item.ensures.value in
+    let gave : FnOnceReturnsAtMut g.F.FnOnce c.args.f item.now c.f.result is = record { shown = _; shows = refl; left = _; met = c.f.ensures; leaves = refl } in (
+      record {
+        was = item.now;
+        is = is;
+        live = rw (← c.self.view_is) live;
+        called = gave;
+        left = rw (← c.self.view_is) refl;
+      },
+      rw (← c.self.view_is) refl,
+    )
