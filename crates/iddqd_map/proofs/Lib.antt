@@ -1,3 +1,5 @@
 pub mod FoundLemmas
-pub mod TakeLemmas
+pub mod MapLemmas
 pub mod ReplaceLemmas
+pub mod RoomLemmas
+pub mod TakeLemmas
