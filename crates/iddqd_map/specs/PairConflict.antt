@@ -1,5 +1,5 @@
 -- What the two key indexes of a pair tell of an item that shares keys with others.
-use Rattle.std.specs.Prelude.{◌⊎◌, ℕ, Bool, Option, Some, None, IsSome}
+use Rattle.std.specs.Prelude.{◌⊎◌, ℕ, Bool, Option, Some, None, IsSome, min}
 use Rattle.iddqd.specs.Store.{Store}
 use Rattle.iddqd_sides.specs.Scan.{HasNoHit}
 use Rattle.iddqd_map.specs.Several.{HasNoOther}
@@ -58,3 +58,13 @@ module _ {T : Type 0} where
 abbrev pub IsToldBy : {C : Type 0} → (C → ℕ → Type 0) → Option C → ℕ → Type 0
 IsToldBy tells None ix = ⊥
 IsToldBy tells (Some at) ix = tells at ix
+
+-- one or the other told the index
+abbrev pub IsEither : (ℕ → Type 0) → (ℕ → Type 0) → ℕ → Type 0
+IsEither told told_too ix = told ix ⊎ told_too ix
+
+-- the lesser of two indexes, or the one that there is
+abbrev pub lesser_of : Option ℕ → Option ℕ → Option ℕ
+lesser_of one None = one
+lesser_of None (Some at) = Some at
+lesser_of (Some ix) (Some at) = Some (min ix at)

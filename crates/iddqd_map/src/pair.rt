@@ -1,5 +1,12 @@
 //! A pair of key indexes over a store's items: each step is one of each.
-ghost use Rattle.std.specs.Prelude.{◌≡◌};
+//!
+//! Two items are alike where they are by the one or by the other, and share all keys where they do by both. Pairs nest,
+//! so there may be any number of keys.
+//!
+//! Invariant: each of the two indexes the same store under the same state.
+ghost use Rattle.std.specs.Prelude.{◌≡◌, Some};
+ghost use Rattle.iddqd_map.specs.KeyIndex.{IsNextTold};
+ghost use Rattle.iddqd_map.specs.PairConflict.{IsToldBy, first_of, second_of, lesser_of};
 
 use crate::key_index::{HashedAt, KeyIndex, Left, Right};
 use crate::pair_conflict::{PairConflict, TellsPair};
@@ -29,9 +36,10 @@ where
 {
     ghost use Rattle.std.specs.Prelude.{◌||◌, ◌+◌, ◌⊎◌, min};
     ghost use Rattle.iddqd_map.specs.Several.{either_key, both_keys};
-    ghost use Rattle.iddqd_map.specs.PairConflict.{TellBoth, TellBothOther, IsToldBy};
-    ghost use Rattle.iddqd_map.proofs.SeveralLemmas.{AreApart-either, both_equivalence};
-    ghost use Rattle.iddqd_map.proofs.PairLemmas.{modified_both, HaveSameKeys-first, HaveSameKeys-second, told_both};
+    ghost use Rattle.iddqd_map.specs.PairConflict.{TellBoth, TellBothOther, IsEither, IsToldBy};
+    ghost use Rattle.std.proofs.Common.{ap};
+    ghost use Rattle.std.proofs.lemmas.Cmp.{and_equiv};
+    ghost use Rattle.iddqd_map.specs.PairLaws.{AreApart-either, HaveSameKeys-first, HaveSameKeys-second, alike_both, told_one, told_both, told_some, few_one, few_both};
 
     type Known = (A::Known, B::Known);
 
@@ -73,6 +81,8 @@ where
     ghost is_planned = { λ x state s item plan. A.is_planned x.first state s item plan.0
         × B.is_planned x.second state s item plan.1 };
 
+    ghost key_count = { A.key_count + B.key_count };
+
     ghost has_room_for = { λ x plan. A.has_room_for x.first plan.0 × B.has_room_for x.second plan.1 };
 
     ghost is_ready_after = { λ x. A.is_ready_after x.first × B.is_ready_after x.second };
@@ -83,7 +93,7 @@ where
     ghost taken = { λ s ix item at. TellBothOther A.alike B.alike A.taken B.taken s ix item (C.first at)
         (C.second at) };
 
-    ghost tells = { λ at ix. IsToldBy A.tells (C.first at) ix ⊎ IsToldBy B.tells (C.second at) ix };
+    ghost tells = { λ at. IsEither (IsToldBy A.tells (C.first at)) (IsToldBy B.tells (C.second at)) };
 
     ghost is_move = { λ state s ix item plan. A.is_move state s ix item plan.0 × B.is_move state s ix item plan.1 };
 
@@ -106,5 +116,330 @@ where
     ghost apart = { λ x state s is. AreApart-either A.alike B.alike s (A.apart x.first state s is.0)
         (B.apart x.second state s is.1) };
 
-    // TODO
+    ghost modified = { λ x state s ix was item is live same. (
+      A.modified x.first state s ix was item is.0 live (ap (λ both. both.0) same),
+      B.modified x.second state s ix was item is.1 live (ap (λ both. both.1) same),
+    ) };
+
+    ghost same_items = { λ x state s t same is. (
+      A.same_items x.first state s t (HaveSameKeys-first A.same_keys B.same_keys s t same) is.0,
+      B.same_items x.second state s t (HaveSameKeys-second A.same_keys B.same_keys s t same) is.1,
+    ) };
+
+    ghost told = { λ s item at conflicts ix. told_both A.alike B.alike s item (IsToldBy A.tells (C.first at))
+        (IsToldBy B.tells (C.second at)) ix
+        (told_one A.tells A.alike A.conflicts s item (A.told s item) (C.first at) conflicts.first ix)
+        (told_one B.tells B.alike B.conflicts s item (B.told s item) (C.second at) conflicts.second ix) };
+
+    ghost told_some = { λ s item at conflicts. told_some A.tells B.tells A.conflicts B.conflicts s item A.alike B.alike
+        (A.told_some s item) (B.told_some s item) (C.first at) (C.second at) conflicts };
+
+    ghost few_told = { λ at. few_both (IsToldBy A.tells (C.first at)) (IsToldBy B.tells (C.second at)) A.key_count
+        B.key_count (few_one A.tells A.key_count A.few_told (C.first at))
+        (few_one B.tells B.key_count B.few_told (C.second at)) };
+
+    ghost equivalence = { and_equiv A.equivalence B.equivalence };
+
+    ghost same_are_alike = { alike_both A.same_keys B.same_keys A.alike A.same_are_alike B.alike };
+
+    fn new(alloc: Global) -> Pair<A, B, C> {
+        Pair {
+            first: A::new(alloc),
+            second: B::new(alloc),
+            told: PhantomData,
+        }
+    }
+
+    fn with_capacity(alloc: Global, wanted: usize) -> Result<Pair<A, B, C>, AllocError> {
+        Ok(Pair {
+            first: A::with_capacity(alloc, wanted)?,
+            second: B::with_capacity(alloc, wanted)?,
+            told: PhantomData,
+        })
+    }
+
+    fn capacity(&self) -> usize {
+        self.first.capacity().min(self.second.capacity())
+    }
+
+    fn reserve(
+        &mut self,
+        items: &ItemSet<T>,
+        state: &S,
+        additional: usize,
+    ) -> Result<(), AllocError> {
+        self.first.reserve(items, state, additional)?;
+        self.second.reserve(items, state, additional)
+    }
+
+    fn shrink_to(&mut self, items: &ItemSet<T>, state: &S, least: usize) -> Result<(), AllocError> {
+        self.first.shrink_to(items, state, least)?;
+        self.second.shrink_to(items, state, least)
+    }
+
+    fn known(state: &S, item: &T) -> (A::Known, B::Known) {
+        (A::known(state, item), B::known(state, item))
+    }
+
+    fn unasked() -> (A::Asked, B::Asked) {
+        (A::unasked(), B::unasked())
+    }
+
+    fn look_up(
+        &self,
+        items: &ItemSet<T>,
+        state: &S,
+        known: (A::Known, B::Known),
+        item: &T,
+    ) -> Result<(A::Spot, B::Spot), C> {
+        let first = self.first.look_up(items, state, known.0, item);
+        let second = self.second.look_up(items, state, known.1, item);
+        match first {
+            Ok(first) => match second {
+                Ok(second) => Ok((first, second)),
+                Err(other) => Err(C::told(PairConflict::Second(other))),
+            },
+            Err(one) => Err(C::told(first_with(one, second.err()))),
+        }
+    }
+
+    fn spot(
+        &self,
+        items: &ItemSet<T>,
+        state: &S,
+        known: (A::Known, B::Known),
+        item: &T,
+    ) -> (A::Spot, B::Spot) {
+        (
+            self.first.spot(items, state, known.0, item),
+            self.second.spot(items, state, known.1, item),
+        )
+    }
+
+    fn plan(
+        &self,
+        items: &ItemSet<T>,
+        state: &S,
+        spot: (A::Spot, B::Spot),
+        ix: ItemIndex,
+        item: &T,
+    ) -> (A::Plan, B::Plan) {
+        let (first, second) = spot;
+        (
+            self.first.plan(items, state, first, ix, item),
+            self.second.plan(items, state, second, ix, item),
+        )
+    }
+
+    fn make_room(
+        &mut self,
+        items: &ItemSet<T>,
+        state: &S,
+        plan: &(A::Plan, B::Plan),
+    ) -> Result<(), AllocError> {
+        self.first.make_room(items, state, &plan.0)?;
+        self.second.make_room(items, state, &plan.1)
+    }
+
+    fn insert(&mut self, known: (A::Known, B::Known), plan: &(A::Plan, B::Plan), ix: ItemIndex) {
+        self.first.insert(known.0, &plan.0, ix);
+        self.second.insert(known.1, &plan.1, ix);
+    }
+
+    fn remove(&mut self, items: &ItemSet<T>, state: &S, ix: ItemIndex) {
+        self.first.remove(items, state, ix);
+        self.second.remove(items, state, ix);
+    }
+
+    fn ready_after(&mut self, items: &ItemSet<T>, state: &S) -> Result<(), AllocError> {
+        self.first.ready_after(items, state)?;
+        self.second.ready_after(items, state)
+    }
+
+    fn next_told(conflict: &C, before: Option<ItemIndex>) -> Option<ItemIndex> {
+        let first = next_of::<T, S, A>(conflict.first(), &before);
+        let second = next_of::<T, S, B>(conflict.second(), &before);
+        lesser(first, second)
+    }
+
+    fn plan_move(
+        &self,
+        items: &ItemSet<T>,
+        state: &S,
+        ix: ItemIndex,
+        item: &T,
+    ) -> Result<(A::Move, B::Move), C> {
+        let first = self.first.plan_move(items, state, ix, item);
+        let second = self.second.plan_move(items, state, ix, item);
+        match first {
+            Ok(first) => match second {
+                Ok(second) => Ok((first, second)),
+                Err(other) => Err(C::told(PairConflict::Second(other))),
+            },
+            Err(one) => Err(C::told(first_with(one, second.err()))),
+        }
+    }
+
+    fn ready_move(
+        &mut self,
+        items: &ItemSet<T>,
+        state: &S,
+        plan: &(A::Move, B::Move),
+    ) -> Result<(), AllocError> {
+        self.first.ready_move(items, state, &plan.0)?;
+        self.second.ready_move(items, state, &plan.1)
+    }
+
+    fn commit_move(
+        &mut self,
+        items: &ItemSet<T>,
+        state: &S,
+        asked: (A::Asked, B::Asked),
+        plan: &(A::Move, B::Move),
+        ix: ItemIndex,
+        item: &T,
+    ) {
+        self.first.commit_move(items, state, asked.0, &plan.0, ix, item);
+        self.second.commit_move(items, state, asked.1, &plan.1, ix, item);
+    }
+
+    fn clear(&mut self) {
+        self.first.clear();
+        self.second.clear();
+    }
+
+    fn remap(&mut self, remap: &IndexRemap) {
+        self.first.remap(remap);
+        self.second.remap(remap);
+    }
+
+    fn copied(&self) -> Result<Pair<A, B, C>, AllocError> {
+        Ok(Pair {
+            first: self.first.copied()?,
+            second: self.second.copied()?,
+            told: PhantomData,
+        })
+    }
+
+    fn find_same(&self, items: &ItemSet<T>, state: &S, item: &T) -> Option<ItemIndex> {
+        let ix = self.first.find_same(items, state, item)?;
+        if B::is_same(item, &items[ix]) {
+            Some(ix)
+        } else {
+            None
+        }
+    }
+
+    fn is_same(item: &T, other: &T) -> bool {
+        A::is_same(item, other) && B::is_same(item, other)
+    }
+
+    fn validate(
+        &self,
+        items: &ItemSet<T>,
+        state: &S,
+        compactness: ValidateCompact,
+    ) -> Result<(), ValidateRefusal<ValidationError>> {
+        self.first.validate(items, state, compactness)?;
+        self.second.validate(items, state, compactness)
+    }
+}
+
+// What the first told, and the second where it told anything.
+fn first_with<A, B>(one: A, other: Option<B>) -> PairConflict<A, B>
+    ensures first { first_of result ≡ Some one }
+    ensures second { second_of result ≡ other }
+{
+    match other {
+        Some(other) => PairConflict::Both(one, other),
+        None => PairConflict::First(one),
+    }
+}
+
+// The next index past one that one of the two told, if it told any.
+fn next_of<T, S, X: KeyIndex<T, S>>(
+    conflict: Option<X::Conflict>,
+    before: &Option<ItemIndex>,
+) -> Option<ItemIndex>
+    ensures { IsNextTold (IsToldBy X.tells conflict) before.now result }
+{
+    let told = conflict?;
+    X::next_told(&told, *before)
+}
+
+// The lesser of two indexes, or the one that there is.
+fn lesser(one: Option<ItemIndex>, other: Option<ItemIndex>) -> Option<ItemIndex>
+    ensures { result ≡ lesser_of one other }
+{
+    match other {
+        Some(at) => match one {
+            Some(ix) => Some(ix.min(at)),
+            None => Some(at),
+        },
+        None => one,
+    }
+}
+
+impl<P, T, S, A, B, C> HashedAt<Left<P>, T, S> for Pair<A, B, C>
+where
+    A: HashedAt<P, T, S>,
+    B: KeyIndex<T, S>,
+    C: TellsPair<A::Conflict, B::Conflict>,
+{
+    type Key = A::Key;
+
+    ghost key_at = { A.HashedAt.key_at };
+
+    fn find<Q: HashQuery<A::Key>>(
+        &self,
+        items: &ItemSet<T>,
+        state: &S,
+        query: Q,
+    ) -> (Option<ItemIndex>, (A::Asked, B::Asked)) {
+        let (found, asked) = self.first.find(items, state, query);
+        (found, (asked, B::unasked()))
+    }
+
+    fn take<Q: HashQuery<A::Key>>(
+        &mut self,
+        items: &ItemSet<T>,
+        state: &S,
+        query: Q,
+    ) -> Option<ItemIndex> {
+        let ix = self.first.take(items, state, query)?;
+        self.second.remove(items, state, ix);
+        Some(ix)
+    }
+}
+
+impl<P, T, S, A, B, C> HashedAt<Right<P>, T, S> for Pair<A, B, C>
+where
+    A: KeyIndex<T, S>,
+    B: HashedAt<P, T, S>,
+    C: TellsPair<A::Conflict, B::Conflict>,
+{
+    type Key = B::Key;
+
+    ghost key_at = { B.HashedAt.key_at };
+
+    fn find<Q: HashQuery<B::Key>>(
+        &self,
+        items: &ItemSet<T>,
+        state: &S,
+        query: Q,
+    ) -> (Option<ItemIndex>, (A::Asked, B::Asked)) {
+        let (found, asked) = self.second.find(items, state, query);
+        (found, (A::unasked(), asked))
+    }
+
+    fn take<Q: HashQuery<B::Key>>(
+        &mut self,
+        items: &ItemSet<T>,
+        state: &S,
+        query: Q,
+    ) -> Option<ItemIndex> {
+        let ix = self.second.take(items, state, query)?;
+        self.first.remove(items, state, ix);
+        Some(ix)
+    }
 }
