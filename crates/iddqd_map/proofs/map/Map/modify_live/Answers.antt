@@ -11,16 +11,16 @@ invariant_of-self-2 g c =
     let indexes = c.self.inside.indexes in
     let item = c.in_ok-item.item in
     let is = c.f.new.arg2 in
-    let live : get s c.args.ix ≡ Some item.now = sym c.in_ok-item.ensures.value in
+    let live : get s c.args.ix ≡ Some item.now = sym {a = Some item.now} c.in_ok-item.ensures.value in
     let same = (c.requires.keeps item (rw (← c.self.view_is) live)).1 _ _ c.f.ensures in
     IsIndexed-modified _ state s c.args.ix item.now is c.self.invariant.valid live
     (g.met.X.KeyIndex.modified indexes state s c.args.ix item.now is c.self.invariant.indexed live same)
 
-pub returns : goal.returns
-returns g c =
+pub returns-clause-modifies : goal.returns-clause-modifies
+returns-clause-modifies g c =
     let item = c.in_ok-item.item in
     let is = c.f.new.arg2 in
-    let live : get c.self.inside.items.store c.args.ix ≡ Some item.now = sym c.in_ok-item.ensures.value in
+    let live : get c.self.inside.items.store c.args.ix ≡ Some item.now = sym {a = Some item.now} c.in_ok-item.ensures.value in
     let gave : FnOnceReturnsAtMut g.F.FnOnce c.args.f item.now c.f.result is = record { shown = _; shows = refl; left = _; met = c.f.ensures; leaves = refl } in (
       record {
         was = item.now;
