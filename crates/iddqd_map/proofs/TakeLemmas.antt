@@ -1,12 +1,13 @@
 -- What is left where the one item that passes a test was taken out.
 use Rattle.std.proofs.Common.{◌≡◌, ℕ, Bool, Option, Some, None, refl, ap}
 use Rattle.std.specs.Option.{OnSome}
-use Rattle.iddqd.proofs.StoreLemmas.{IsValid-removed}
 use Rattle.iddqd.specs.Store.{Store, IsValid, get, removed}
 use Rattle.iddqd.specs.ItemSet.{SizedStore}
 use Rattle.iddqd_sides.specs.Scan.{HasNoHit, AnswersScan}
 use Rattle.iddqd_map.specs.KeyIndex.{IsIndexed}
 use Rattle.iddqd_map.specs.Map.{Removes, map_with}
+use Rattle.iddqd_map.proofs.MapLemmas.{IsIndexed-removed, set_left}
+use Rattle.iddqd_map.proofs.FoundLemmas.{hit_live}
 
 -- r was at the index, which a scan hits, and was taken out of the store
 module _
@@ -15,7 +16,7 @@ module _
     (value : r ≡ get old.store ix)
     (gone : OnSome r (left ≡ record old { store = removed old.store ix })) where
   taken_is : left ≡ record old { store = removed old.store ix }
-  taken_is = let (item, live, passed) = (scan ix).1 refl in rw (value, live) at gone
+  taken_is = set_left old left ix r (hit_live old.store test ix scan) value gone
 
   pub IsIndexed-taken :
       {S : Type 0} (new : S → Store T → Type 0) (state : S)
@@ -23,9 +24,8 @@ module _
       → new state (removed old.store ix)
       → IsIndexed new state left.store
   IsIndexed-taken new state valid indexed =
-      let (item, live, passed) = (scan ix).1 refl in
-      rw (ap (λ (s : SizedStore _). s.store) taken_is)
-      (record { valid = IsValid-removed old.store ix item valid live; indexed = indexed })
+      let is = ap (λ (s : SizedStore _). s.store) taken_is in
+      IsIndexed-removed new state old.store left.store ix is valid (hit_live old.store test ix scan) indexed
 
   pub Removes-hit :
       (capacity cells after held : ℕ)

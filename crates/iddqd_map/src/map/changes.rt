@@ -1,10 +1,10 @@
 //! What a closure makes of an item takes its place.
-ghost use Rattle.std.specs.Prelude.{◌≡◌, Bool, Some, IfSome};
+ghost use Rattle.std.specs.Prelude.{◌≡◌, ◌≤◌, Bool, Some, IfSome};
 ghost use Rattle.std.specs.Borrow.{Bor};
 ghost use Rattle.std.specs.Fn.{FnOnceReturnsAt};
 ghost use Rattle.iddqd.specs.{get};
 ghost use Rattle.iddqd_sides.specs.Scan.{IsLive, AnswersScan};
-ghost use Rattle.iddqd_map.specs.Map.{map_with};
+ghost use Rattle.iddqd_map.specs.Map.{map_with, room};
 ghost use Rattle.iddqd_map.specs.Calls.{Changes};
 ghost use Rattle.iddqd_map.specs.KeyIndex.{IsIndexed};
 
@@ -31,6 +31,8 @@ pub(super) fn change_found<T, X: KeyIndex<T, S>, S, F: FnOnce(&T) -> T>(
         → Changes X.alike X.same_keys X.may_lack X.taken (FnOnceReturnsAt F.FnOnce f)
         (map_with items.old (X.capacity indexes.old) (X.cells indexes.old)) test result
         (map_with items.new (X.capacity indexes.new) (X.cells indexes.new)) }
+    ensures room { room (map_with items.old (X.capacity indexes.old) (X.cells indexes.old))
+        ≤ room (map_with items.new (X.capacity indexes.new) (X.cells indexes.new)) }
 {
     let Some(ix) = found else {
         return Ok(None);

@@ -1,7 +1,7 @@
 //! An item becomes another one, which may have other keys.
-ghost use Rattle.std.specs.Prelude.{Bool, IfSome};
+ghost use Rattle.std.specs.Prelude.{◌≤◌, Bool, IfSome};
 ghost use Rattle.iddqd_sides.specs.Scan.{IsLive, AnswersScan};
-ghost use Rattle.iddqd_map.specs.Map.{map_with};
+ghost use Rattle.iddqd_map.specs.Map.{map_with, room};
 ghost use Rattle.iddqd_map.specs.Calls.{ReplacesAt, ReplacesIfLive, Replaces};
 ghost use Rattle.iddqd_map.specs.KeyIndex.{IsIndexed};
 
@@ -23,7 +23,8 @@ impl<T, X: KeyIndex<T, S>, S> Map<T, X, S> {
         ix: ItemIndex,
         item: T,
     ) -> Result<T, ReplaceRefusal<T, X::Conflict>>
-        ensures { ReplacesIfLive X.alike X.same_keys X.may_lack X.taken self.old ix item result self.new }
+        ensures replaces { ReplacesIfLive X.alike X.same_keys X.may_lack X.taken self.old ix item result self.new }
+        ensures room { room self.old ≤ room self.new }
     {
         if self.items.get(ix).is_none() {
             return Err(ReplaceRefusal::Missing(item));
@@ -54,6 +55,8 @@ pub(super) fn replace<T, X: KeyIndex<T, S>, S>(
     ensures replaces { ReplacesAt X.alike X.same_keys X.may_lack X.taken
         (map_with items.old (X.capacity indexes.old) (X.cells indexes.old)) ix item result
         (map_with items.new (X.capacity indexes.new) (X.cells indexes.new)) }
+    ensures room { room (map_with items.old (X.capacity indexes.old) (X.cells indexes.old))
+        ≤ room (map_with items.new (X.capacity indexes.new) (X.cells indexes.new)) }
 {
     let plan = match indexes.plan_move(items, state, ix, &item) {
         Ok(plan) => plan,
@@ -82,6 +85,8 @@ pub(super) fn replace_found<T, X: KeyIndex<T, S>, S>(
         → Replaces X.alike X.same_keys X.may_lack X.taken
         (map_with items.old (X.capacity indexes.old) (X.cells indexes.old)) test item result
         (map_with items.new (X.capacity indexes.new) (X.cells indexes.new)) }
+    ensures room { room (map_with items.old (X.capacity indexes.old) (X.cells indexes.old))
+        ≤ room (map_with items.new (X.capacity indexes.new) (X.cells indexes.new)) }
 {
     match found {
         Some(ix) => replace(items, indexes, state, asked, ix, item),

@@ -10,5 +10,5 @@ change_found-requires-clause-callable g c =
     callable_found g.F.FnOnce c.args.f c.self.inside.items.store _ c.find-found.result.0 c.find-found.ensures
     (rw (← c.self.view_is) at c.requires)
 
-pub returns : goal.returns
-returns g c = rw (← c.self.view_is) (c.change_found.ensures.changes _ c.find-found.ensures)
+pub returns-clause-changes : goal.returns-clause-changes
+returns-clause-changes g c = rw (← c.self.view_is) (c.change_found.ensures.changes _ c.find-found.ensures)

@@ -5,5 +5,5 @@ pub replace_found-requires-clause-live : goal.replace_found-requires-clause-live
 replace_found-requires-clause-live g c =
     live_found c.self.inside.items.store _ c.find-found.result.0 c.find-found.ensures
 
-pub returns : goal.returns
-returns g c = rw (← c.self.view_is) (c.replace_found.ensures.replaces _ c.find-found.ensures)
+pub returns-clause-replaces : goal.returns-clause-replaces
+returns-clause-replaces g c = rw (← c.self.view_is) (c.replace_found.ensures.replaces _ c.find-found.ensures)

@@ -1,6 +1,6 @@
 use Rattle.std.proofs.Common.{ap}
 use Rattle.iddqd.specs.ItemSet.{SizedStore}
-use Rattle.iddqd_map.proofs.ReplaceLemmas.{IsIndexed-rebound}
+use Rattle.iddqd_map.proofs.MapLemmas.{IsIndexed-rebound}
 use Rattle.iddqd_map.proofs.map.replaces.replace.Goals as goal
 
 pub returns-clause-map : goal.returns-clause-map
