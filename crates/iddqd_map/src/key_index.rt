@@ -69,7 +69,7 @@ pub trait KeyIndex<T, S>: Sized {
     ghost most: { ℕ → ℕ };
 
     // An index that is entered where another was taken out may need memory, past the capacity.
-    ghost may_lack: { Type 0 };
+    ghost may_lack: { Bool };
 
     // It means the same, whatever memory it has.
     ghost same: { Self → Self → Type 0 };
@@ -227,7 +227,7 @@ pub trait KeyIndex<T, S>: Sized {
         requires indexed { indexes self.old state.now items.now.store }
         ensures contents { same self.old self.new }
         ensures ready { OnOk result (is_ready_after self.new) }
-        ensures may_lack { OnErr result may_lack }
+        ensures may_lack { OnErr result (may_lack ≡ true) }
         ensures past { OnErr result (capacity self.old < live_count items.now.store) }
         ensures capacity { capacity self.new ≡ capacity self.old }
         ensures cells { cells self.new ≡ cells self.old };
@@ -260,7 +260,7 @@ pub trait KeyIndex<T, S>: Sized {
         ensures contents { same self.old self.new }
         ensures ready { OnOk result (is_ready self.new plan.now) }
         ensures moves { OnErr result (moves plan.now ≡ true) }
-        ensures may_lack { OnErr result may_lack }
+        ensures may_lack { OnErr result (may_lack ≡ true) }
         ensures past { OnErr result (capacity self.old < live_count items.now.store) }
         ensures capacity { capacity self.new ≡ capacity self.old }
         ensures cells { cells self.new ≡ cells self.old };
