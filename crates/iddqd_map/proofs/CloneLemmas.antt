@@ -1,14 +1,11 @@
--- For maps: a clone of a store has the same indexes, and where clones keep their keys the same table indexes it.
-use Rattle.std.proofs.Common.{◌≡◌, ◌∙◌, ◌↔◌, ℕ, zero, suc, true, List, [], ◌∷◌, length, get_or, Option, Some, None, is_some, count_by, cond, refl, sym, ap, subst, arith}
+-- For maps: a clone of a store has the same indexes, and where clones keep their keys it has the same keys.
+use Rattle.std.proofs.Common.{◌≡◌, ◌∙◌, ◌↔◌, ℕ, zero, suc, Bool, true, List, [], ◌∷◌, length, get_or, Option, Some, None, is_some, count_by, cond, refl, sym, ap, subst, arith}
 use Rattle.std.specs.List.{AllZip}
-use Rattle.std.specs.Ordering.{nat_cmp}
-use Rattle.std.specs.FinMap.{FinMap}
 use Rattle.std.proofs.lemmas.List.Elements.{length_all_zip}
 use Rattle.std.proofs.lemmas.List.Sums.{sum_by-cons}
 use Rattle.iddqd.specs.Store.{Store, IsValid, get}
 use Rattle.iddqd.specs.Clones.{IsItemClone, IsStoreClone}
-use Rattle.iddqd_sides.specs.Hashed.{Hashing, IsLawful}
-use Rattle.iddqd_map.specs.Indexing.{Indexes}
+use Rattle.iddqd_map.specs.KeyIndex.{HaveSameKeys}
 
 module _ {T : Type 0} (is_clone : T → T → Type 0) where
   pub clone_at : (items copies : List (Option T)) (ix : ℕ) → AllZip (IsItemClone is_clone) items copies → IsItemClone is_clone (get_or items ix None) (get_or copies ix None)
@@ -80,21 +77,23 @@ module _ {T : Type 0} (is_clone : T → T → Type 0) where
           named = omega arith;
         }
 
-    -- a table indexes the clone by a key that clones keep
-    pub Indexes-cloned : {K : Type 0} (key_of : T → K) (hashing : Hashing K) (m : FinMap nat_cmp ℕ) → ((x y : T) → is_clone x y → hashing.equal (key_of x) (key_of y) ≡ true) → IsLawful hashing → Indexes key_of hashing s m → Indexes key_of hashing copy m
-    Indexes-cloned key_of hashing m kept lawful o =
-        let e = lawful.equivalence in
-        record {
-          held = λ ix. rw (live_alike ix) (o.held ix);
-          exact = record {
-            placed = λ ix y live.
-                let was = was_cloned ix y live in
-                o.exact.placed ix was.item was.live ∙ ap Some (lawful.equal_hash (key_of was.item) (key_of y) (kept was.item y was.cloned));
-            apart = λ i j x y p q same.
-                let a = was_cloned i x p in
-                let b = was_cloned j y q in
-                let left : hashing.equal (key_of a.item) (key_of y) ≡ true = e.trans (key_of a.item) (key_of x) (key_of y) (kept a.item x a.cloned) same in
-                let right : hashing.equal (key_of y) (key_of b.item) ≡ true = e.symm (key_of y) (key_of b.item) ∙ kept b.item y b.cloned in
-                o.exact.apart i j a.item b.item a.live b.live (e.trans (key_of a.item) (key_of y) (key_of b.item) left right);
-          };
-        }
+    -- where clones keep their keys, the clone has the same keys under the same indexes
+    pub HaveSameKeys-cloned :
+        (same : T → T → Bool)
+        → ((x y : T) → is_clone x y → same x y ≡ true)
+        → HaveSameKeys same s copy
+    HaveSameKeys-cloned same kept = record {
+      slots = λ ix y live.
+          let was = was_cloned ix y live in
+          (was.item, was.live, kept was.item y was.cloned);
+      items = λ ix x live. by ix x live (clone_at s.items copy.items ix is.items);
+    }
+      where
+        by :
+            (ix : ℕ) (x : T)
+            → get s ix ≡ Some x
+            → IsItemClone is_clone (get s ix) (get copy ix)
+            → (y : T) × (get copy ix ≡ Some y) × (same x y ≡ true)
+        by ix x live cloned =
+            let at : IsItemClone is_clone (Some x) (get copy ix) = subst (λ o. IsItemClone is_clone o (get copy ix)) live cloned in
+            (at.0, at.1, kept x at.0 at.2)

@@ -8,79 +8,12 @@ use Rattle.std.proofs.lemmas.List.Folds.{list_all-append, list_any-append}
 use Rattle.iddqd.specs.Store.{Store, get, live_count}
 use Rattle.iddqd.specs.LiveItems.{items_in, live_items}
 use Rattle.iddqd.proofs.LiveItemLemmas.{length-items_in}
-use Rattle.iddqd_hash.proofs.AskLemmas.{or_true}
-use Rattle.iddqd_sides.specs.Scan.{HasNoHit, AreApart}
-use Rattle.iddqd_map.specs.Map.{MapState, FindsItem, shares}
+use Rattle.iddqd_sides.specs.Scan.{IsLive, HasNoHit, AnswersScan, AreApart}
+use Rattle.iddqd_map.specs.Map.{FindsItem}
 use Rattle.iddqd_map.specs.Equality.{each_among, has_same_items}
-
-and_comm : (a b : Bool) → (a && b) ≡ (b && a)
-and_comm true true = refl
-and_comm true false = refl
-and_comm false true = refl
-and_comm false false = refl
-
-both_true : (a b : Bool) → a ≡ true → b ≡ true → (a && b) ≡ true
-both_true a b p q = ap (λ c. c && b) p ∙ q
-
--- what one of two tests is true of, the first or else the second
-module _ {G : Type 0} where
-  or_cases : (a b : Bool) → (a || b) ≡ true → (a ≡ true → G) → (a ≡ false → b ≡ true → G) → G
-  or_cases true b h first second = first refl
-  or_cases false b h first second = second refl h
+use Rattle.iddqd_map.specs.EqualityLaws.{both_true, or_true, or_cases, same_laws}
 
 module _ {T : Type 0} (same : T → T → Bool) where
-  -- where `same` is transitive
-  module _ (trans : (x y z : T) → same x y ≡ true → same y z ≡ true → same x z ≡ true) where
-    any_as : (x y : T) (zs : List T) → same x y ≡ true → list_any (same y) zs ≡ true → list_any (same x) zs ≡ true
-    any_as x y [] is h = h
-    any_as x y (z ∷ zs) is h = or_cases (same y z) (list_any (same y) zs) h
-        (λ first. ap (λ b. b || list_any (same x) zs) (trans x y z is first))
-        (λ _ later. ap (λ b. same x z || b) (any_as x y zs is later) ∙ or_true (same x z))
-
-    any_through : (x : T) (ys zs : List T) → list_any (same x) ys ≡ true → each_among same ys zs ≡ true → list_any (same x) zs ≡ true
-    any_through x [] zs h each = absurd (true≢false (sym h))
-    any_through x (y ∷ ys) zs h each = or_cases (same x y) (list_any (same x) ys) h
-        (λ first. any_as x y zs first (first_so (list_any (same y) zs) (each_among same ys zs) each))
-        (λ _ later. any_through x ys zs later (second_so (list_any (same y) zs) (each_among same ys zs) each))
-
-    each_among-trans : (xs ys zs : List T) → each_among same xs ys ≡ true → each_among same ys zs ≡ true → each_among same xs zs ≡ true
-    each_among-trans [] ys zs first second = refl
-    each_among-trans (x ∷ xs) ys zs first second =
-        both_true (list_any (same x) zs) (each_among same xs zs)
-        (any_through x ys zs (first_so (list_any (same x) ys) (each_among same xs ys) first) second)
-        (each_among-trans xs ys zs (second_so (list_any (same x) ys) (each_among same xs ys) first) second)
-
-  -- where it is reflexive
-  module _ (reflexive : (x : T) → same x x ≡ true) where
-    any_at : (front back : List T) (x : T) → list_any (same x) (front ++ x ∷ back) ≡ true
-    any_at [] back x = ap (λ b. b || list_any (same x) back) (reflexive x)
-    any_at (y ∷ front) back x = ap (λ b. same x y || b) (any_at front back x) ∙ or_true (same x y)
-
-    each_among-back : (front back : List T) → each_among same back (front ++ back) ≡ true
-    each_among-back front [] = refl
-    each_among-back front (x ∷ back) =
-        both_true (list_any (same x) (front ++ x ∷ back)) (each_among same back (front ++ x ∷ back)) (any_at front back x)
-        (subst (λ l. each_among same back l ≡ true) (append_assoc front (x ∷ []) back) (each_among-back (front ++ x ∷ []) back))
-
-  -- what `==` of maps is lawful by
-  pub IsPartialEquivalence-same_items : IsPartialEquivalence same → IsPartialEquivalence (has_same_items same)
-  IsPartialEquivalence-same_items laws = record {
-    symm = λ s t. and_comm (each_among same (live_items s) (live_items t)) (each_among same (live_items t) (live_items s));
-    trans = λ s t u one other.
-        let first = first_so (each_among same (live_items s) (live_items t)) (each_among same (live_items t) (live_items s)) in
-        let second = second_so (each_among same (live_items s) (live_items t)) (each_among same (live_items t) (live_items s)) in
-        let first_too = first_so (each_among same (live_items t) (live_items u)) (each_among same (live_items u) (live_items t)) in
-        let second_too = second_so (each_among same (live_items t) (live_items u)) (each_among same (live_items u) (live_items t)) in
-        both_true (each_among same (live_items s) (live_items u)) (each_among same (live_items u) (live_items s))
-        (each_among-trans laws.trans (live_items s) (live_items t) (live_items u) (first one) (first_too other))
-        (each_among-trans laws.trans (live_items u) (live_items t) (live_items s) (second_too other) (second one));
-  }
-
-  pub reflexive-same_items : ((x : T) → same x x ≡ true) → (s : Store T) → has_same_items same s s ≡ true
-  reflexive-same_items reflexive s =
-      both_true (each_among same (live_items s) (live_items s)) (each_among same (live_items s) (live_items s))
-      (each_among-back reflexive [] (live_items s)) (each_among-back reflexive [] (live_items s))
-
   -- one item more in the second
   among_more : (zs xs : List T) (x : T) → each_among same zs xs ≡ true → each_among same zs (x ∷ xs) ≡ true
   among_more [] xs x each = refl
@@ -269,41 +202,34 @@ module _ {T : Type 0} (alike equal : T → T → Bool) where
   abbrev same : T → T → Bool
   same = eq_of_both alike equal
 
-  pub same_laws : IsEquivalence alike → IsPartialEquivalence equal → IsPartialEquivalence same
-  same_laws a b = record {
-    symm = λ x y i. a.symm x y i && b.symm x y i;
-    trans = λ x y z p q.
-        both_true (alike x z) (equal x z)
-        ((partial_equiv_from_equiv a).trans x y z (first_so (alike x y) (equal x y) p) (first_so (alike y z) (equal y z) q))
-        (b.trans x y z (second_so (alike x y) (equal x y) p) (second_so (alike y z) (equal y z) q));
-  }
-
-  -- the laws of `==` of maps
-  pub map_laws : IsEquivalence alike → IsPartialEquivalence equal → IsPartialEquivalence (λ (m n : MapState T). has_same_items same m.store n.store)
-  map_laws a b =
-      let laws = IsPartialEquivalence-same_items same (same_laws a b) in
-      record { symm = λ m n. laws.symm m.store n.store; trans = λ l m n. laws.trans l.store m.store n.store }
-
-  -- where that of items is reflexive
-  pub map_equivalence : IsEquivalence alike → IsEquivalence equal → IsEquivalence (λ (m n : MapState T). has_same_items same m.store n.store)
-  map_equivalence a b =
-      equiv (map_laws a (partial_equiv_from_equiv b))
-      (λ m. reflexive-same_items same (λ x. both_true (alike x x) (equal x x) (a.refl x) (b.refl x)) m.store)
-
   -- maps with other numbers of items
   module _ (a : IsEquivalence alike) (b : IsPartialEquivalence equal) (s t : Store T) (apart_s : AreApart alike s) (apart_t : AreApart alike t) where
     pub unequal_counts : (live_count s ≡ live_count t → ⊥) → false ≡ has_same_items same s t
     unequal_counts other =
-        same_items-unequal same alike (partial_equiv_from_equiv a) (λ x y. first_so (alike x y) (equal x y)) (same_laws a b).symm s t (IsDistinct-apart alike s apart_s) (IsDistinct-apart alike t apart_t) other
+        same_items-unequal same alike (partial_equiv_from_equiv a) (λ x y. first_so (alike x y) (equal x y)) (same_laws alike equal a b).symm s t (IsDistinct-apart alike s apart_s) (IsDistinct-apart alike t apart_t) other
 
     -- and with as many: each item of the first has one that is the same in the second
     pub equal_counts : live_count s ≡ live_count t → each_among same (live_items s) (live_items t) ≡ has_same_items same s t
     equal_counts as_many =
-        same_items-equal same alike (partial_equiv_from_equiv a) (λ x y. first_so (alike x y) (equal x y)) (same_laws a b).symm s t (IsDistinct-apart alike s apart_s) (IsDistinct-apart alike t apart_t) as_many
+        same_items-equal same alike (partial_equiv_from_equiv a) (λ x y. first_so (alike x y) (equal x y)) (same_laws alike equal a b).symm s t (IsDistinct-apart alike s apart_s) (IsDistinct-apart alike t apart_t) as_many
 
-pub shares_laws : {T K : Type 0} (key_of : T → K) (equal : K → K → Bool) → IsEquivalence equal → IsEquivalence (shares key_of equal)
-shares_laws key_of equal laws = record {
-  refl = λ x. laws.refl (key_of x);
-  symm = λ x y. laws.symm (key_of x) (key_of y);
-  congr = λ x y z. laws.congr (key_of x) (key_of y) (key_of z);
-}
+-- the index that a scan answers is live, and its item is the one that passes
+module _ {T : Type 0} (s : Store T) (test : T → Bool) (ix : ℕ) where
+  pub IsLive-scanned : AnswersScan s test (Some ix) → IsLive s ix
+  IsLive-scanned scan = let (item, live, passes) = (scan ix).1 refl in rw live refl
+
+  pub FindsItem-scanned :
+      (item : T)
+      → AnswersScan s test (Some ix)
+      → get s ix ≡ Some item
+      → FindsItem s test (Some item)
+  FindsItem-scanned item scan live = (ix, record { live = live; only = scan })
+
+-- where items are apart by one test, they are by a stronger one
+pub AreApart-stronger :
+    {T : Type 0} (same alike : T → T → Bool)
+    → ((x y : T) → same x y ≡ true → alike x y ≡ true)
+    → (s : Store T)
+    → AreApart alike s
+    → AreApart same s
+AreApart-stronger same alike stronger s apart i j x y at_i at_j is = apart i j x y at_i at_j (stronger x y is)

@@ -1,15 +1,18 @@
 -- For maps: what asks up to a slot leave, where each item that is refused is removed before the next is asked about.
-use Rattle.std.proofs.Common.{◌≡◌, ◌∙◌, ℕ, ◌+◌, ◌<◌, ◌≤◌, List, [], ◌∷◌, ◌++◌, length, get_or, take, set, map, not, Bool, true, false, Option, Some, None, refl, sym, ap, subst, arith, Contains, length-set, length-take-le, append-nil}
-use Rattle.std.proofs.lemmas.List.{map-append, take_all, take_more, take-set, get_or-set_same, get_or-set_other}
+use Rattle.std.proofs.Common.{◌≡◌, ◌∙◌, ℕ, ◌+◌, ◌<◌, ◌≤◌, List, [], ◌∷◌, ◌++◌, length, get_or, take, set, map, not, Bool, true, false, Option, Some, None, IsSome, refl, sym, ap, subst, arith, Contains, length-set, length-take-le, append-nil}
+use Rattle.std.proofs.lemmas.List.{map-append, length-map, take_all, take_more, take-set, get_or-set_same, get_or-set_other}
 use Rattle.std.proofs.lemmas.List.Elements.{filter-append}
 use Rattle.std.proofs.lemmas.Fn.{FoldsTo-push}
 use Rattle.std.specs.List.{FoldsTo}
-use Rattle.iddqd.specs.Store.{Store, get, removed}
+use Rattle.iddqd.specs.Store.{Store, IsValid, get, live_count, removed}
 use Rattle.iddqd.specs.LiveItems.{pairs_from, live_pairs, live_items}
-use Rattle.iddqd.proofs.LiveItemLemmas.{pairs_from-append, items_of_pairs, IsWalkOf-live_pairs}
+use Rattle.iddqd.proofs.LiveItemLemmas.{pairs_from-append, length-pairs_from, items_of_pairs, IsWalkOf-live_pairs}
 use Rattle.iddqd_hash.specs.Asks.{CanAsk}
 use Rattle.iddqd_hash.proofs.AskLemmas.{CanAsk-takes, CanAsk-asked, CanAsk-everywhere}
 use Rattle.iddqd_hash.proofs.RetainLemmas.{Contains-values}
+use Rattle.iddqd.proofs.StoreLemmas.{IsValid-removed}
+use Rattle.iddqd_sides.specs.Scan.{IsLive}
+use Rattle.iddqd_map.specs.KeyIndex.{IsIndexed}
 use Rattle.iddqd_map.specs.Several.{removed_all}
 use Rattle.iddqd_map.specs.Retain.{MayAsk, kept_of, refused_of, RetainsTo}
 
@@ -39,6 +42,44 @@ module _ {T : Type 0} where
   pub Contains-live : (s : Store T) (ix : ℕ) (item : T) → get s ix ≡ Some item → Contains (live_items s) item
   Contains-live s ix item live =
       subst (λ l. Contains l item) (items_of_pairs 0 s.items) (Contains-values (live_pairs s) (ix, item) (((IsWalkOf-live_pairs s).live ix item).1 live))
+
+  -- no more are kept than were asked about
+  kept_fewer : (asks : List ((ℕ × T) × Bool)) → length (kept_of asks) ≤ length asks
+  kept_fewer [] = omega arith
+  kept_fewer ((a, true) ∷ asks) = omega (arith, kept_fewer asks)
+  kept_fewer ((a, false) ∷ asks) = omega (arith, kept_fewer asks)
+
+  -- a store that is indexed stays so where a live index leaves both
+  pub IsIndexed-removed :
+      {S : Type 0} (was now : S → Store T → Type 0) (state : S) (s left : Store T) (ix : ℕ)
+      → IsLive s ix
+      → IsIndexed was state s
+      → left ≡ removed s ix
+      → now state (removed s ix)
+      → IsIndexed now state left
+  IsIndexed-removed was now state s left ix live o gone indexed =
+      record { valid = rw gone (by (get s ix) refl live); indexed = rw gone indexed }
+    where
+      by : (found : Option T) → get s ix ≡ found → IsSome found → IsValid (removed s ix)
+      by None none live = absurd (cc)
+      by (Some item) is live = IsValid-removed s ix item o.valid is
+
+-- `ask p x b q` says that x, asked in the state p, may be answered b and leave the state q
+module _ {F T : Type 0} (ask : F → T → Bool → F → Type 0) where
+  -- no more items are left than there were
+  pub RetainsTo-fewer : (f : F) (old now : Store T) (last : F) → RetainsTo ask f old now last → live_count now ≤ live_count old
+  RetainsTo-fewer f old now last w =
+      let asked = ap length w.each_once in
+      let kept = ap length w.kept in
+      omega (
+        arith,
+        kept_fewer w.asks,
+        length-map w.asks (λ (a : (ℕ × T) × Bool). a.0),
+        asked,
+        kept,
+        length-pairs_from 0 now.items,
+        length-pairs_from 0 old.items,
+      )
 
 module _ {F T : Type 0} (takes : F → T → Type 0) (ask : F → T → Bool → F → Type 0) where
   pub MayAsk-can : (f : F) (items : List T) → MayAsk takes ask f items → CanAsk takes ask f items

@@ -343,6 +343,9 @@ pub trait KeyIndex<T, S>: Sized {
 
     // To share all keys is an equivalence.
     ghost equivalence: { IsEquivalence same_keys };
+
+    // Items that share all keys share one.
+    ghost same_are_alike: { (x y : T) → same_keys x y ≡ true → alike x y ≡ true };
 }
 
 /// Where a key index has a key by its hash: `Here` in a leaf, else to the left or the right in a pair.

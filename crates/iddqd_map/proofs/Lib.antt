@@ -1,0 +1,3 @@
+pub mod RetainLemmas
+pub mod EqualityLemmas
+pub mod CloneLemmas
