@@ -1,4 +1,7 @@
+pub mod CloneLemmas
+pub mod EqualityLemmas
 pub mod FoundLemmas
 pub mod MapLemmas
+pub mod RetainLemmas
 pub mod RoomLemmas
 pub mod TakeLemmas

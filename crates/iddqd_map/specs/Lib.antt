@@ -1,5 +1,6 @@
 pub mod Calls
 pub mod Equality
+pub mod EqualityLaws
 pub mod KeyIndex
 pub mod Map
 pub mod Memory

@@ -17,6 +17,10 @@ impl<T: Clone, X: KeyIndex<T, S>, S: Copy> Map<T, X, S> {
         ensures cloned { IfOk result (λ copy. IsStoreClone T.is_clone self.now.store copy.store) }
         ensures few { IfOk result (λ copy. copy.memory.cells ≤ self.now.memory.cells) }
     {
-        // TODO
+        Ok(Map {
+            items: self.items.clone()?,
+            indexes: self.indexes.copied()?,
+            state: self.state,
+        })
     }
 }
