@@ -1,2 +1,3 @@
 pub mod RoomLemmas
 pub mod MapLemmas
+pub mod OverwriteLemmas
