@@ -6,6 +6,7 @@ pub mod Map
 pub mod Memory
 pub mod Modify
 pub mod OneKey
+pub mod Overwrite
 pub mod PairConflict
 pub mod PairLaws
 pub mod Refusal
