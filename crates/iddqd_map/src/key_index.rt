@@ -10,7 +10,7 @@
 ghost use Rattle.std.specs.Prelude.{◌≡◌, ◌≢◌, ◌≤◌, ◌+◌, ◌<◌, true, false, min, max, length, IsOk, IfOk, OnOk, OnErr};
 ghost use Rattle.iddqd.specs.{next_index, removed, rebound, sentinel, live_count, IsValid, Allows, Validates};
 ghost use Rattle.iddqd_sides.specs.Scan.{AnswersScan, IsLive, HasNoHit, passes_by};
-ghost use Rattle.iddqd_map.specs.KeyIndex.{IndexesNone, IsNextOf, IsPlannedForOne, IndexesOneMore, IsRemapOfSome, IndexesCompacted, IsNextTold, FindsSpot, PlansMove, TakesFound};
+ghost use Rattle.iddqd_map.specs.KeyIndex.{IndexesNone, IsNextOf, IsPlannedForOne, IndexesOneMore, IsRemapOfSome, IndexesCompacted, IndexesAllOf, IsNextTold, FindsSpot, PlansMove, TakesFound};
 
 use iddqd::index_remap::IndexRemap;
 use iddqd::internal::{ValidateCompact, ValidateRefusal, ValidationError};
@@ -27,7 +27,8 @@ use std::marker::PhantomData;
 /// cells. An insert below the capacity takes none, and only `with_capacity`, `reserve`, `shrink_to` and an insert past
 /// the capacity change it.
 pub trait KeyIndex<T, S>: Sized {
-    ghost use Rattle.std.specs.Prelude.{ℕ, Bool, Some, ◌↔◌};
+    ghost use Rattle.std.specs.Prelude.{ℕ, Bool, List, Some, ◌↔◌};
+    ghost use Rattle.std.specs.List.{Contains};
     ghost use Rattle.std.specs.Cmp.{IsEquivalence};
     ghost use Rattle.iddqd.specs.Store.{Store, get};
     ghost use Rattle.iddqd_sides.specs.Scan.{AreApart, IsHit};
@@ -50,6 +51,9 @@ pub trait KeyIndex<T, S>: Sized {
     ghost Keys: { Type 0 };
 
     ghost keys: { T → Self.Keys };
+
+    // How many there are.
+    ghost key_count: { ℕ };
 
     // The items share a key.
     ghost alike: { T → T → Bool };
@@ -296,9 +300,9 @@ pub trait KeyIndex<T, S>: Sized {
         ensures capacity { capacity self.new ≡ capacity self.old }
         ensures cells { cells self.new ≡ cells self.old };
 
-    /// One that means the same, and has no more memory.
+    /// One that indexes the same, and has no more memory.
     fn copied(&self) -> Result<Self, AllocError>
-        ensures contents { IfOk result (λ copy. same self.now copy) }
+        ensures contents { IfOk result (λ copy. IndexesAllOf (indexes self.now) (indexes copy)) }
         ensures few { IfOk result (λ copy. cells copy ≤ cells self.now) };
 
     /// The index of the item that shares all keys with this one.
@@ -340,6 +344,10 @@ pub trait KeyIndex<T, S>: Sized {
     // What is told are exactly the items that the item is alike to.
     ghost told: { (s : Store T) (item : T) (at : Self.Conflict) → conflicts s item at → (ix : ℕ)
         → tells at ix ↔ IsHit s (alike item) ix };
+
+    // They are no more than there are keys.
+    ghost few_told: { (at : Self.Conflict) → (l : List ℕ) × (length l ≤ key_count)
+        × ((ix : ℕ) → tells at ix → Contains l ix) };
 
     // To share all keys is an equivalence.
     ghost equivalence: { IsEquivalence same_keys };
