@@ -1,20 +1,31 @@
 -- For maps: what asks up to a slot leave, where each item that is refused is removed before the next is asked about.
-use Rattle.std.proofs.Common.{◌≡◌, ◌∙◌, ℕ, ◌+◌, ◌<◌, ◌≤◌, List, [], ◌∷◌, ◌++◌, length, get_or, take, set, map, not, Bool, true, false, Option, Some, None, IsSome, refl, sym, ap, subst, arith, Contains, length-set, length-take-le, append-nil}
+use Rattle.std.proofs.Common.{◌≡◌, ◌∙◌, ℕ, ◌+◌, ◌<◌, ◌≤◌, List, [], ◌∷◌, ◌++◌, length, get_or, take, set, map, not, Bool, true, false, Option, Some, None, refl, sym, ap, subst, arith, Contains, length-set, length-take-le, append-nil}
 use Rattle.std.proofs.lemmas.List.{map-append, length-map, take_all, take_more, take-set, get_or-set_same, get_or-set_other}
 use Rattle.std.proofs.lemmas.List.Elements.{filter-append}
 use Rattle.std.proofs.lemmas.Fn.{FoldsTo-push}
 use Rattle.std.specs.List.{FoldsTo}
-use Rattle.iddqd.specs.Store.{Store, IsValid, get, live_count, removed}
+use Rattle.iddqd.specs.Store.{Store, get, live_count, removed}
 use Rattle.iddqd.specs.LiveItems.{pairs_from, live_pairs, live_items}
 use Rattle.iddqd.proofs.LiveItemLemmas.{pairs_from-append, length-pairs_from, items_of_pairs, IsWalkOf-live_pairs}
 use Rattle.iddqd_hash.specs.Asks.{CanAsk}
 use Rattle.iddqd_hash.proofs.AskLemmas.{CanAsk-takes, CanAsk-asked, CanAsk-everywhere}
 use Rattle.iddqd_hash.proofs.RetainLemmas.{Contains-values}
-use Rattle.iddqd.proofs.StoreLemmas.{IsValid-removed}
-use Rattle.iddqd_sides.specs.Scan.{IsLive}
-use Rattle.iddqd_map.specs.KeyIndex.{IsIndexed}
+use Rattle.iddqd_map.specs.Map.{MapState, MapMemory, room}
 use Rattle.iddqd_map.specs.Several.{removed_all}
 use Rattle.iddqd_map.specs.Retain.{MayAsk, kept_of, refused_of, RetainsTo}
+
+pub same_memory :
+    {a b : MapMemory}
+    → a.slots ≡ b.slots
+    → a.capacity ≡ b.capacity
+    → a.cells ≡ b.cells
+    → a ≡ b
+same_memory {a} {b} slots capacity cells =
+    let one : a ≡ record { slots = b.slots; capacity = a.capacity; cells = a.cells } =
+    ap (λ n. record { slots = n; capacity = a.capacity; cells = a.cells }) slots in
+    let two : record { slots = b.slots; capacity = a.capacity; cells = a.cells } ≡ record { slots = b.slots; capacity = b.capacity; cells = a.cells } =
+    ap (λ n. record { slots = b.slots; capacity = n; cells = a.cells }) capacity in
+    one ∙ two ∙ ap (λ n. record { slots = b.slots; capacity = b.capacity; cells = n }) cells
 
 module _ {T : Type 0} where
   -- the walk over one slot more
@@ -49,20 +60,9 @@ module _ {T : Type 0} where
   kept_fewer ((a, true) ∷ asks) = omega (arith, kept_fewer asks)
   kept_fewer ((a, false) ∷ asks) = omega (arith, kept_fewer asks)
 
-  -- a store that is indexed stays so where a live index leaves both
-  pub IsIndexed-removed :
-      {S : Type 0} (was now : S → Store T → Type 0) (state : S) (s left : Store T) (ix : ℕ)
-      → IsLive s ix
-      → IsIndexed was state s
-      → left ≡ removed s ix
-      → now state (removed s ix)
-      → IsIndexed now state left
-  IsIndexed-removed was now state s left ix live o gone indexed =
-      record { valid = rw gone (by (get s ix) refl live); indexed = rw gone indexed }
-    where
-      by : (found : Option T) → get s ix ≡ found → IsSome found → IsValid (removed s ix)
-      by None none live = absurd (cc)
-      by (Some item) is live = IsValid-removed s ix item o.valid is
+  removed_all-limit : (s : Store T) (ixs : List ℕ) → (removed_all s ixs).limit ≡ s.limit
+  removed_all-limit s [] = refl
+  removed_all-limit s (ix ∷ ixs) = removed_all-limit (removed s ix) ixs
 
 -- `ask p x b q` says that x, asked in the state p, may be answered b and leave the state q
 module _ {F T : Type 0} (ask : F → T → Bool → F → Type 0) where
@@ -79,6 +79,22 @@ module _ {F T : Type 0} (ask : F → T → Bool → F → Type 0) where
         kept,
         length-pairs_from 0 now.items,
         length-pairs_from 0 old.items,
+      )
+
+  -- so there is no less room in the same memory
+  pub RetainsTo-room :
+      (f : F) (old now : MapState T) (last : F)
+      → RetainsTo ask f old.store now.store last
+      → now.memory ≡ old.memory
+      → room old ≤ room now
+  RetainsTo-room f old now last w memory =
+      let limit = ap (λ (s : Store T). s.limit) w.left ∙ removed_all-limit old.store (refused_of w.asks) in
+      omega (
+        arith,
+        RetainsTo-fewer f old.store now.store last w,
+        limit,
+        ap (λ (m : MapMemory). m.slots) memory,
+        ap (λ (m : MapMemory). m.capacity) memory,
       )
 
 module _ {F T : Type 0} (takes : F → T → Type 0) (ask : F → T → Bool → F → Type 0) where

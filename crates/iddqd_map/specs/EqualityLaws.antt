@@ -125,6 +125,6 @@ module _ {T : Type 0} (alike equal : T → T → Bool) where
       → IsEquivalence (λ (m n : MapState T). has_same_items (eq_of_both alike equal) m.store n.store)
   map_equivalence a b =
       let reflexive : (x : T) → eq_of_both alike equal x x ≡ true = λ x.
-          both_true (alike x x) (equal x x) (a.refl x) (b.refl x) in
+      both_true (alike x x) (equal x x) (a.refl x) (b.refl x) in
       equiv (map_laws a (partial_equiv_from_equiv b))
       (λ m. reflexive-same_items (eq_of_both alike equal) reflexive m.store)

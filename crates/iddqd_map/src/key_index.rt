@@ -30,7 +30,6 @@ pub trait KeyIndex<T, S>: Sized + Drop {
     ghost use Rattle.std.specs.Prelude.{ℕ, Bool, List, Some, ◌↔◌};
     ghost use Rattle.std.specs.List.{Contains};
     ghost use Rattle.std.specs.Cmp.{IsEquivalence};
-    ghost use Rattle.std.specs.List.{Contains};
     ghost use Rattle.iddqd.specs.Store.{Store, get};
     ghost use Rattle.iddqd_sides.specs.Scan.{AreApart, IsHit};
     ghost use Rattle.iddqd_map.specs.KeyIndex.{HaveSameKeys};
@@ -53,7 +52,7 @@ pub trait KeyIndex<T, S>: Sized + Drop {
 
     ghost keys: { T → Self.Keys };
 
-    // How many there are.
+    // How many there are, and so how many items an item can be alike to.
     ghost key_count: { ℕ };
 
     // The items share a key.
@@ -97,9 +96,6 @@ pub trait KeyIndex<T, S>: Sized + Drop {
 
     // The index is one of these.
     ghost tells: { Self.Conflict → ℕ → Type 0 };
-
-    // How many items an item can be alike to.
-    ghost key_count: { ℕ };
 
     ghost is_move: { S → Store T → ℕ → T → Self.Move → Type 0 };
 

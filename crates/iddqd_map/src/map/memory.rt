@@ -1,5 +1,5 @@
 //! Memory that a map takes ahead and gives back, and its slots closed up.
-ghost use Rattle.std.specs.Prelude.{◌≡◌, ◌≤◌, ◌*◌, [], min, max, IsOk, IfOk, OnOk, OnErr};
+ghost use Rattle.std.specs.Prelude.{◌≡◌, ◌≤◌, ◌-◌, ◌*◌, [], length, min, max, IsOk, IfOk, OnOk, OnErr};
 ghost use Rattle.iddqd.specs.{slot_limit, empty, cleared, live_count, IsRemapOf};
 ghost use Rattle.iddqd_map.specs.Map.{capacity, room};
 ghost use Rattle.iddqd_map.specs.Memory.{ReservesItems, ShrinksItems};
@@ -85,14 +85,17 @@ impl<T, X: KeyIndex<T, S>, S> Map<T, X, S> {
 
     /// Gives back the memory that the slots and the tables don't need. Where smaller memory is refused the items stay.
     pub fn shrink_to_fit(&mut self) -> Result<(), AllocError>
-        ensures { ShrinksItems X.most 0 self.old result self.new }
+        ensures shrinks { ShrinksItems X.most 0 self.old result self.new }
+        ensures fits { OnOk result (room self.new ≤ length self.old.store.free) }
     {
         self.shrink_to(0)
     }
 
     /// Gives back the memory that so many items don't need, beside the slots and the items that there are.
     pub fn shrink_to(&mut self, least: usize) -> Result<(), AllocError>
-        ensures { ShrinksItems X.most least self.old result self.new }
+        ensures shrinks { ShrinksItems X.most least self.old result self.new }
+        ensures fits { OnOk result
+            (room self.new ≤ max (least - live_count self.old.store) (length self.old.store.free)) }
     {
         let slots = self.items.shrink_capacity_to(least);
         let tables = self.indexes.shrink_to(&self.items, &self.state, least);
@@ -105,6 +108,7 @@ impl<T, X: KeyIndex<T, S>, S> Map<T, X, S> {
         T: Drop,
         ensures store { self.new.store ≡ cleared self.old.store }
         ensures memory { self.new.memory ≡ self.old.memory }
+        ensures room { room self.old ≤ room self.new }
     {
         self.items.clear();
         self.indexes.clear();
@@ -121,6 +125,7 @@ impl<T, X: KeyIndex<T, S>, S> Map<T, X, S> {
         ensures compacted { OnOk result (Compacts self.old self.new) }
         ensures refused { OnErr result (self.new ≡ self.old) }
         ensures dense { self.old.store.free ≡ [] → IsOk result }
+        ensures room { room self.old ≤ room self.new }
     {
         let remap = self.items.compact()?;
         self.indexes.remap(&remap);

@@ -1,14 +1,15 @@
 //! The items that a closure keeps.
-ghost use Rattle.std.specs.Prelude.{◌≡◌, ◌+◌};
+ghost use Rattle.std.specs.Prelude.{◌≡◌, ◌≤◌, ◌+◌};
 ghost use Rattle.std.specs.Fn.{TakesAt, CalledAt};
-ghost use Rattle.iddqd.specs.{get, removed, live_count};
+ghost use Rattle.iddqd.specs.{live_count};
 ghost use Rattle.iddqd.specs.LiveItems.{live_items};
 ghost use Rattle.iddqd_hash.specs.Asks.{CanAsk};
-ghost use Rattle.iddqd_sides.specs.Scan.{IsLive};
+ghost use Rattle.iddqd_map.specs.Map.{room};
 ghost use Rattle.iddqd_map.specs.KeyIndex.{IsIndexed};
 ghost use Rattle.iddqd_map.specs.Retain.{MayAsk, Retains, RetainsTo};
 
 use super::Map;
+use super::steps::take_out;
 use crate::key_index::KeyIndex;
 use iddqd::item_index::ItemIndex;
 use iddqd::item_set::ItemSet;
@@ -23,6 +24,7 @@ impl<T, X: KeyIndex<T, S>, S> Map<T, X, S> {
         T: Drop,
         requires { MayAsk (TakesAt F.FnMut) (CalledAt F.FnMut) f (live_items self.old.store) }
         ensures retained { Retains (CalledAt F.FnMut) f self.old self.new }
+        ensures room { room self.old ≤ room self.new }
         ensures count { result + live_count self.new.store ≡ live_count self.old.store }
     {
         let before = self.items.len();
@@ -56,24 +58,4 @@ fn retain_in<T: Drop, S, X: KeyIndex<T, S>, F: FnMut(&T) -> bool>(
             drop(take_out(items, indexes, state, ix));
         }
     }
-}
-
-// Takes the item at a live index out of the store, and the index out of the key index. It takes no memory.
-fn take_out<T, S, X: KeyIndex<T, S>>(
-    items: &mut ItemSet<T>,
-    indexes: &mut X,
-    state: &S,
-    ix: ItemIndex,
-) -> Option<T>
-    requires live { IsLive items.old.store ix }
-    requires indexed { IsIndexed (X.indexes indexes.old) state.now items.old.store }
-    ensures value { result ≡ get items.old.store ix }
-    ensures indexed { IsIndexed (X.indexes indexes.new) state.now items.new.store }
-    ensures removed { items.new.store ≡ removed items.old.store ix }
-    ensures slots { items.new.capacity ≡ items.old.capacity }
-    ensures capacity { X.capacity indexes.new ≡ X.capacity indexes.old }
-    ensures cells { X.cells indexes.new ≡ X.cells indexes.old }
-{
-    indexes.remove(items, state, ix);
-    items.remove(ix)
 }

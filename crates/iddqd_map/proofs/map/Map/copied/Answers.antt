@@ -13,6 +13,5 @@ invariant_of-result g c =
     let indexed = g.met.X.KeyIndex.same_items table state s copy kept c.self.invariant.indexed in
     record {
       valid = IsValid-cloned is_clone s copy is c.self.invariant.valid;
-      indexed =
-          g.met.X.KeyIndex.same_indexes table c.in_ok-copied.field-0 state copy c.in_ok-copied.ensures.contents indexed;
+      indexed = c.in_ok-copied.ensures.contents state copy indexed;
     }

@@ -2,6 +2,7 @@ use Rattle.std.proofs.Common.{rules, ◌≡◌, ◌∙◌, ◌<◌, ◌≤◌, t
 use Rattle.std.specs.Fn.{TakesAt, CalledAt}
 use Rattle.std.proofs.lemmas.Fn.{called_at}
 use Rattle.iddqd.specs.Store.{get, removed}
+use Rattle.iddqd.specs.ItemSet.{SizedStore}
 use Rattle.iddqd_map.proofs.RetainLemmas.{Retaining-none, Retaining-all, Retaining-vacant, takes-next, Retaining-kept, Retaining-removed}
 use Rattle.iddqd_map.proofs.map.retain.retain_in.Goals.{then-not-f, else-not-f}
 use Rattle.iddqd_map.proofs.map.retain.retain_in.Goals as goal
@@ -48,12 +49,12 @@ loop-at-preserved g c =
           let no : c.f.result ≡ false = search rules in
           let asked : CalledAt g.F.FnMut c.loop-at.f item false c.f.new.self = called_at g.F.FnMut c.f.ensures no in
           let did = w.take_out.ensures in
-          let gone = did.removed ∙ ap (λ ix. removed now ix) c.new-ix.ensures in
+          let gone = ap (λ (s : SizedStore _). s.store) did.removed ∙ ap (removed now) c.new-ix.ensures in
           rw (w.items-is, w.indexes-is)
           (record {
-            kept = did.indexed;
+            kept = did.map;
             retaining = Retaining-removed (TakesAt g.F.FnMut) (CalledAt g.F.FnMut) c.args.f.now c.args.items.now.store now c.loop-at.at c.loop-at.f i.retaining within item live w.take_out.new.items.store c.f.new.self gone asked;
-            slots = did.slots ∙ i.slots;
+            slots = ap (λ (s : SizedStore _). s.capacity) did.removed ∙ i.slots;
             capacity = did.capacity ∙ i.capacity;
             cells = did.cells ∙ i.cells;
           })
