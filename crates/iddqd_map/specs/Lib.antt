@@ -8,3 +8,9 @@ pub mod Refusal
 pub mod Retain
 pub mod Modify
 pub mod Equality
+pub mod Indexing
+pub mod Hashed
+pub mod HashLaws
+pub mod Validation
+pub mod Pair
+pub mod PairLaws

@@ -26,7 +26,7 @@ use std::marker::PhantomData;
 /// A contract sees of its memory how many indexes it can hold without more, its `capacity`, and how much it holds, in
 /// cells. An insert below the capacity takes none, and only `with_capacity`, `reserve`, `shrink_to` and an insert past
 /// the capacity change it.
-pub trait KeyIndex<T, S>: Sized {
+pub trait KeyIndex<T, S>: Sized + Drop {
     ghost use Rattle.std.specs.Prelude.{ℕ, Bool, Some, ◌↔◌};
     ghost use Rattle.std.specs.Cmp.{IsEquivalence};
     ghost use Rattle.iddqd.specs.Store.{Store, get};
@@ -306,7 +306,11 @@ pub trait KeyIndex<T, S>: Sized {
         requires indexed { indexes self.now state.now items.now.store }
         ensures { AnswersScan items.now.store (same_keys item.now) result };
 
-    /// Whether the tables are sound over the store, as they are in every map; in `Compact`, whether no slot is vacant.
+    /// Whether the items share all keys.
+    fn is_same(item: &T, other: &T) -> bool
+        ensures { result ≡ same_keys item.now other.now };
+
+    /// Whether the tables are sound over the store, as they are in every map, where the slots are as the mode wants them.
     ///
     /// It sorts a copy of the indexes, whose memory may be refused.
     fn validate(
@@ -316,6 +320,7 @@ pub trait KeyIndex<T, S>: Sized {
         compactness: ValidateCompact,
     ) -> Result<(), ValidateRefusal<ValidationError>>
         requires valid { IsValid items.now.store }
+        requires allowed { Allows compactness (length items.now.store.free) }
         requires indexed { indexes self.now state.now items.now.store }
         ensures { Validates (Allows compactness (length items.now.store.free)) result };
 

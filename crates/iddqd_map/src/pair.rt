@@ -1,5 +1,16 @@
 //! A pair of key indexes over a store's items: each step is one of each.
-ghost use Rattle.std.specs.Prelude.{◌≡◌};
+//!
+//! Invariants, of a pair that indexes a store:
+//!
+//! 1. the first key index indexes the store;
+//! 2. the second key index indexes the same store.
+//!
+//! So two items are alike where they are by one of both, and share all keys where they do by both. What one of both
+//! refuses is refused before the other one is written.
+ghost use Rattle.std.specs.Prelude.{◌≡◌, Some};
+ghost use Rattle.iddqd_map.specs.KeyIndex.{IsNextTold};
+ghost use Rattle.iddqd_map.specs.Pair.{lesser_of};
+ghost use Rattle.iddqd_map.specs.PairConflict.{first_of, second_of, IsToldBy};
 
 use crate::key_index::{HashedAt, KeyIndex, Left, Right};
 use crate::pair_conflict::{PairConflict, TellsPair};
@@ -29,9 +40,9 @@ where
 {
     ghost use Rattle.std.specs.Prelude.{◌||◌, ◌+◌, ◌⊎◌, min};
     ghost use Rattle.iddqd_map.specs.Several.{either_key, both_keys};
-    ghost use Rattle.iddqd_map.specs.PairConflict.{TellBoth, TellBothOther, IsToldBy};
-    ghost use Rattle.iddqd_map.proofs.SeveralLemmas.{AreApart-either, both_equivalence};
-    ghost use Rattle.iddqd_map.proofs.PairLemmas.{modified_both, HaveSameKeys-first, HaveSameKeys-second, told_both};
+    ghost use Rattle.iddqd_map.specs.PairConflict.{TellBoth, TellBothOther};
+    ghost use Rattle.iddqd_map.specs.PairLaws.{AreApart-either, HaveSameKeys-first, HaveSameKeys-second, first_same, second_same, told_both};
+    ghost use Rattle.std.proofs.lemmas.Cmp.{and_equiv};
 
     type Known = (A::Known, B::Known);
 
@@ -106,5 +117,351 @@ where
     ghost apart = { λ x state s is. AreApart-either A.alike B.alike s (A.apart x.first state s is.0)
         (B.apart x.second state s is.1) };
 
-    // TODO
+    ghost modified = { λ x state s ix was item is live same. (
+      A.modified x.first state s ix was item is.0 live (first_same same),
+      B.modified x.second state s ix was item is.1 live (second_same same),
+    ) };
+
+    ghost same_items = { λ x state s t have is. (
+      A.same_items x.first state s t (HaveSameKeys-first A.same_keys B.same_keys s t have) is.0,
+      B.same_items x.second state s t (HaveSameKeys-second A.same_keys B.same_keys s t have) is.1,
+    ) };
+
+    ghost told = { λ s item at is ix. told_both A.alike B.alike A.conflicts B.conflicts A.tells B.tells A.told B.told s
+        item (C.first at) (C.second at) is ix };
+
+    ghost equivalence = { and_equiv A.equivalence B.equivalence };
+
+    fn new(alloc: Global) -> Pair<A, B, C> {
+        Pair {
+            first: A::new(alloc),
+            second: B::new(alloc),
+            told: PhantomData,
+        }
+    }
+
+    fn with_capacity(alloc: Global, wanted: usize) -> Result<Pair<A, B, C>, AllocError> {
+        Ok(Pair {
+            first: A::with_capacity(alloc, wanted)?,
+            second: B::with_capacity(alloc, wanted)?,
+            told: PhantomData,
+        })
+    }
+
+    fn capacity(&self) -> usize {
+        self.first.capacity().min(self.second.capacity())
+    }
+
+    fn reserve(
+        &mut self,
+        items: &ItemSet<T>,
+        state: &S,
+        additional: usize,
+    ) -> Result<(), AllocError> {
+        self.first.reserve(items, state, additional)?;
+        self.second.reserve(items, state, additional)
+    }
+
+    fn shrink_to(&mut self, items: &ItemSet<T>, state: &S, least: usize) -> Result<(), AllocError> {
+        self.first.shrink_to(items, state, least)?;
+        self.second.shrink_to(items, state, least)
+    }
+
+    fn known(state: &S, item: &T) -> (A::Known, B::Known) {
+        (A::known(state, item), B::known(state, item))
+    }
+
+    fn unasked() -> (A::Asked, B::Asked) {
+        (A::unasked(), B::unasked())
+    }
+
+    fn look_up(
+        &self,
+        items: &ItemSet<T>,
+        state: &S,
+        known: (A::Known, B::Known),
+        item: &T,
+    ) -> Result<(A::Spot, B::Spot), C> {
+        let first = self.first.look_up(items, state, known.0, item);
+        let second = self.second.look_up(items, state, known.1, item);
+        match first {
+            Ok(first) => match second {
+                Ok(second) => Ok((first, second)),
+                Err(other) => Err(C::told(PairConflict::Second(other))),
+            },
+            Err(one) => Err(C::told(first_and(one, second.err()))),
+        }
+    }
+
+    fn spot(
+        &self,
+        items: &ItemSet<T>,
+        state: &S,
+        known: (A::Known, B::Known),
+        item: &T,
+    ) -> (A::Spot, B::Spot) {
+        (
+            self.first.spot(items, state, known.0, item),
+            self.second.spot(items, state, known.1, item),
+        )
+    }
+
+    fn plan(
+        &self,
+        items: &ItemSet<T>,
+        state: &S,
+        spot: (A::Spot, B::Spot),
+        ix: ItemIndex,
+        item: &T,
+    ) -> (A::Plan, B::Plan) {
+        let (first, second) = spot;
+        (
+            self.first.plan(items, state, first, ix, item),
+            self.second.plan(items, state, second, ix, item),
+        )
+    }
+
+    fn make_room(
+        &mut self,
+        items: &ItemSet<T>,
+        state: &S,
+        plan: &(A::Plan, B::Plan),
+    ) -> Result<(), AllocError> {
+        self.first.make_room(items, state, &plan.0)?;
+        self.second.make_room(items, state, &plan.1)
+    }
+
+    fn insert(&mut self, known: (A::Known, B::Known), plan: &(A::Plan, B::Plan), ix: ItemIndex) {
+        self.first.insert(known.0, &plan.0, ix);
+        self.second.insert(known.1, &plan.1, ix);
+    }
+
+    fn remove(&mut self, items: &ItemSet<T>, state: &S, ix: ItemIndex) {
+        self.first.remove(items, state, ix);
+        self.second.remove(items, state, ix);
+    }
+
+    fn ready_after(&mut self, items: &ItemSet<T>, state: &S) -> Result<(), AllocError> {
+        self.first.ready_after(items, state)?;
+        self.second.ready_after(items, state)
+    }
+
+    fn next_told(conflict: &C, before: Option<ItemIndex>) -> Option<ItemIndex> {
+        let one = next_of::<T, S, A>(conflict.first(), &before);
+        let other = next_of::<T, S, B>(conflict.second(), &before);
+        lesser(one, other)
+    }
+
+    fn plan_move(
+        &self,
+        items: &ItemSet<T>,
+        state: &S,
+        ix: ItemIndex,
+        item: &T,
+    ) -> Result<(A::Move, B::Move), C> {
+        let first = self.first.plan_move(items, state, ix, item);
+        let second = self.second.plan_move(items, state, ix, item);
+        match first {
+            Ok(first) => match second {
+                Ok(second) => Ok((first, second)),
+                Err(other) => Err(C::told(PairConflict::Second(other))),
+            },
+            Err(one) => Err(C::told(first_and(one, second.err()))),
+        }
+    }
+
+    fn ready_move(
+        &mut self,
+        items: &ItemSet<T>,
+        state: &S,
+        plan: &(A::Move, B::Move),
+    ) -> Result<(), AllocError> {
+        self.first.ready_move(items, state, &plan.0)?;
+        self.second.ready_move(items, state, &plan.1)
+    }
+
+    fn commit_move(
+        &mut self,
+        items: &ItemSet<T>,
+        state: &S,
+        asked: (A::Asked, B::Asked),
+        plan: &(A::Move, B::Move),
+        ix: ItemIndex,
+        item: &T,
+    ) {
+        self.first.commit_move(items, state, asked.0, &plan.0, ix, item);
+        self.second.commit_move(items, state, asked.1, &plan.1, ix, item);
+    }
+
+    fn clear(&mut self) {
+        self.first.clear();
+        self.second.clear();
+    }
+
+    fn remap(&mut self, remap: &IndexRemap) {
+        self.first.remap(remap);
+        self.second.remap(remap);
+    }
+
+    fn copied(&self) -> Result<Pair<A, B, C>, AllocError> {
+        Ok(Pair {
+            first: self.first.copied()?,
+            second: self.second.copied()?,
+            told: PhantomData,
+        })
+    }
+
+    fn find_same(&self, items: &ItemSet<T>, state: &S, item: &T) -> Option<ItemIndex> {
+        match self.first.find_same(items, state, item) {
+            Some(ix) => {
+                if B::is_same(item, &items[ix]) {
+                    Some(ix)
+                } else {
+                    None
+                }
+            }
+            None => None,
+        }
+    }
+
+    fn is_same(item: &T, other: &T) -> bool {
+        A::is_same(item, other) && B::is_same(item, other)
+    }
+
+    fn validate(
+        &self,
+        items: &ItemSet<T>,
+        state: &S,
+        compactness: ValidateCompact,
+    ) -> Result<(), ValidateRefusal<ValidationError>> {
+        match self.first.validate(items, state, compactness) {
+            Ok(()) => self.second.validate(items, state, compactness),
+            Err(refusal) => Err(refusal),
+        }
+    }
+}
+
+// What the first key index told, and what the second did, if it did.
+fn first_and<A: Copy, B: Copy>(one: A, other: Option<B>) -> PairConflict<A, B>
+    ensures first { first_of result ≡ Some one }
+    ensures second { second_of result ≡ other }
+{
+    match other {
+        Some(other) => PairConflict::Both(one, other),
+        None => PairConflict::First(one),
+    }
+}
+
+// The next index past one that a key index told, if it told any.
+fn next_of<T, S, X: KeyIndex<T, S>>(
+    told: Option<X::Conflict>,
+    before: &Option<ItemIndex>,
+) -> Option<ItemIndex>
+    ensures { IsNextTold (IsToldBy X.tells told) before.now result }
+{
+    match told {
+        Some(conflict) => X::next_told(&conflict, again(before)),
+        None => None,
+    }
+}
+
+// The same index once more.
+fn again(before: &Option<ItemIndex>) -> Option<ItemIndex>
+    ensures { result ≡ before.now }
+{
+    match before {
+        Some(ix) => Some(*ix),
+        None => None,
+    }
+}
+
+// The lesser of two indexes, as far as they are there.
+fn lesser(one: Option<ItemIndex>, other: Option<ItemIndex>) -> Option<ItemIndex>
+    ensures { result ≡ lesser_of one other }
+{
+    match one {
+        None => other,
+        Some(first) => match other {
+            None => Some(first),
+            Some(second) => {
+                if second < first {
+                    Some(second)
+                } else {
+                    Some(first)
+                }
+            }
+        },
+    }
+}
+
+impl<P, T, S, A, B, C> HashedAt<Left<P>, T, S> for Pair<A, B, C>
+where
+    A: HashedAt<P, T, S>,
+    B: KeyIndex<T, S>,
+    C: TellsPair<A::Conflict, B::Conflict>,
+{
+    type Key = A::Key;
+
+    ghost key_at = { A.key_at };
+
+    fn find<Q: HashQuery<A::Key>>(
+        &self,
+        items: &ItemSet<T>,
+        state: &S,
+        query: Q,
+    ) -> (Option<ItemIndex>, (A::Asked, B::Asked)) {
+        let (found, asked) = self.first.find(items, state, query);
+        (found, (asked, B::unasked()))
+    }
+
+    fn take<Q: HashQuery<A::Key>>(
+        &mut self,
+        items: &ItemSet<T>,
+        state: &S,
+        query: Q,
+    ) -> Option<ItemIndex> {
+        match self.first.take(items, state, query) {
+            Some(ix) => {
+                self.second.remove(items, state, ix);
+                Some(ix)
+            }
+            None => None,
+        }
+    }
+}
+
+impl<P, T, S, A, B, C> HashedAt<Right<P>, T, S> for Pair<A, B, C>
+where
+    A: KeyIndex<T, S>,
+    B: HashedAt<P, T, S>,
+    C: TellsPair<A::Conflict, B::Conflict>,
+{
+    type Key = B::Key;
+
+    ghost key_at = { B.key_at };
+
+    fn find<Q: HashQuery<B::Key>>(
+        &self,
+        items: &ItemSet<T>,
+        state: &S,
+        query: Q,
+    ) -> (Option<ItemIndex>, (A::Asked, B::Asked)) {
+        let (found, asked) = self.second.find(items, state, query);
+        (found, (A::unasked(), asked))
+    }
+
+    fn take<Q: HashQuery<B::Key>>(
+        &mut self,
+        items: &ItemSet<T>,
+        state: &S,
+        query: Q,
+    ) -> Option<ItemIndex> {
+        match self.second.take(items, state, query) {
+            Some(ix) => {
+                self.first.remove(items, state, ix);
+                Some(ix)
+            }
+            None => None,
+        }
+    }
 }

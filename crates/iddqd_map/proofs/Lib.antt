@@ -1,0 +1,4 @@
+pub mod CountLemmas
+pub mod IndexingLemmas
+pub mod HashLemmas
+pub mod PairLemmas
