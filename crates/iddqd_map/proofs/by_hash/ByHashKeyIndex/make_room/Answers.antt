@@ -13,7 +13,7 @@ returns-clause-had_room g c = λ roomy.
     let counted = len-held c.args.items.now.store m c.requires.indexed.held in
     let more : 1 ≤ room c.args.self.now.table = omega (arith, roomy, counted, c.try_reserve.ensures.counted) in
     let did = c.try_reserve.ensures.memory.had_room more in
-    (did.0, rw did.1 refl)
+    (did.0, rw did.1 (refl {a = c.args.self.now}))
 
 pub returns-clause-few : goal.returns-clause-few
 returns-clause-few g c =
