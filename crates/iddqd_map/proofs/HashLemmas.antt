@@ -1,5 +1,5 @@
 -- What a hash table that indexes a store by one key keeps, and what it plans for an item.
-use Rattle.std.proofs.Common.{◌≡◌, ◌≢◌, ◌∙◌, ◌↔◌, ◌+◌, ◌≤◌, ℕ, Bool, true, false, not, cond, List, [], ◌∷◌, map, length, Option, Some, None, IsSome, Result, Ok, Err, OnOk, refl, sym, ap, subst, arith}
+use Rattle.std.proofs.Common.{◌≡◌, ◌≢◌, ◌∙◌, ◌+◌, ◌≤◌, ℕ, Bool, true, false, not, cond, List, [], ◌∷◌, map, length, Option, Some, None, Result, Ok, Err, OnOk, refl, sym, ap, arith}
 use Rattle.std.specs.Cmp.{nat_cmp_total}
 use Rattle.std.specs.Ordering.{nat_cmp}
 use Rattle.std.specs.FinMap as finite
@@ -7,14 +7,14 @@ use Rattle.std.specs.FinMap.{FinMap}
 use Rattle.std.proofs.lemmas.List.{length-map}
 use Rattle.iddqd.specs.Store.{Store, get}
 use Rattle.iddqd_hash.specs.HashTable.{Table, entries, room, capacity}
-use Rattle.iddqd_hash.specs.MapHashTable.{filed, filed_from, turned}
+use Rattle.iddqd_hash.specs.MapHashTable.{filed, turned}
 use Rattle.iddqd_hash.proofs.MemberLemmas.{get-insert_at}
 use Rattle.iddqd_sides.specs.Scan.{AnswersScan}
 use Rattle.iddqd_sides.specs.Hashed.{Hashing, IsLawful, Takes}
 use Rattle.iddqd_sides.specs.declared.hashed_move.Move.{Move}
 use Rattle.iddqd_sides.specs.declared.hashed_move.Move.TheVariants.{Stays, To}
 use Rattle.iddqd_map.specs.Hashed.{moves}
-use Rattle.iddqd_map.specs.Indexing.{Indexes, Plans, PlansOrConflicts, shares_key}
+use Rattle.iddqd_map.specs.Indexing.{Indexes, Plans, PlansOrConflicts}
 use Rattle.iddqd_map.specs.KeyIndex.{PlansMove, TakesFound}
 use Rattle.iddqd_map.specs.Map.{shares}
 use Rattle.iddqd_map.specs.Several.{HasNoOther}

@@ -1,9 +1,9 @@
 -- What two key indexes over the same items mean together.
-use Rattle.std.proofs.Common.{◌≡◌, ◌<◌, ◌≤◌, ◌⊎◌, inl, inr, ◌↔◌, ◌||◌, ◌&&◌, ◌∙◌, ℕ, zero, suc, Bool, true, false, not, Option, Some, None, min, refl, sym, ap, arith}
+use Rattle.std.proofs.Common.{◌≡◌, ◌⊎◌, inl, inr, ◌||◌, ◌&&◌, ◌∙◌, ℕ, zero, suc, Bool, true, false, not, Option, Some, None, min, refl, sym, ap, arith}
 use Rattle.iddqd.specs.Store.{Store, get}
 use Rattle.iddqd.proofs.LiveLemmas.{live_at}
-use Rattle.iddqd_sides.specs.Scan.{IsLive, IsHit, HasNoHit, AnswersScan}
-use Rattle.iddqd_map.specs.KeyIndex.{IsPast, IsNextTold}
+use Rattle.iddqd_sides.specs.Scan.{IsLive, HasNoHit, AnswersScan}
+use Rattle.iddqd_map.specs.KeyIndex.{IsNextTold}
 use Rattle.iddqd_map.specs.Pair.{lesser_of}
 use Rattle.iddqd_map.specs.PairLaws.{IsHit-either, first_true, second_true}
 use Rattle.iddqd_map.specs.Several.{either_key, HasNoOther}
@@ -67,9 +67,8 @@ IsNextTold-lesser told1 told2 before None (Some y) first second =
     (inr second.0, second.1, λ ix told past less. elim told [ inl a ↦ first ix a past | inr b ↦ second.2 ix b past less ])
 IsNextTold-lesser told1 told2 before (Some x) None first second =
     (inl first.0, first.1, λ ix told past less. elim told [ inl a ↦ first.2 ix a past less | inr b ↦ second ix b past ])
-IsNextTold-lesser told1 told2 before (Some x) (Some y) first second =
-    (
-      elim (one_of_two x y) [ inl is ↦ rw is (inl first.0) | inr is ↦ rw is (inr second.0) ],
-      elim (one_of_two x y) [ inl is ↦ rw is first.1 | inr is ↦ rw is second.1 ],
-      λ ix told past less. elim told [ inl a ↦ first.2 ix a past (omega (arith, less)) | inr b ↦ second.2 ix b past (omega (arith, less)) ],
-    )
+IsNextTold-lesser told1 told2 before (Some x) (Some y) first second = (
+  elim (one_of_two x y) [ inl is ↦ rw is (inl first.0) | inr is ↦ rw is (inr second.0) ],
+  elim (one_of_two x y) [ inl is ↦ rw is first.1 | inr is ↦ rw is second.1 ],
+  λ ix told past less. elim told [ inl a ↦ first.2 ix a past (omega (arith, less)) | inr b ↦ second.2 ix b past (omega (arith, less)) ],
+)

@@ -1,7 +1,7 @@
 -- What a table of indexes under the hashes of a key keeps, as the laws of a key index say it.
 use Rattle.std.specs.Prelude.{◌≡◌, ◌↔◌, ℕ, Bool, true, not, Some}
-use Rattle.std.proofs.Common.{◌∙◌, ap, sym, refl}
-use Rattle.std.specs.Cmp.{IsEquivalence, partial_equiv_from_equiv}
+use Rattle.std.proofs.Common.{◌∙◌, ap, sym}
+use Rattle.std.specs.Cmp.{IsEquivalence}
 use Rattle.std.specs.Ordering.{nat_cmp}
 use Rattle.std.specs.FinMap.{FinMap}
 use Rattle.iddqd.specs.Store.{Store, get, rebound}

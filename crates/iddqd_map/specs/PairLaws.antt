@@ -1,7 +1,7 @@
 -- What a pair of key indexes keeps, as the laws of a key index say it.
 use Rattle.std.specs.Prelude.{◌≡◌, ◌↔◌, ◌||◌, ◌&&◌, ◌⊎◌, ℕ, Bool, true, false, Option, Some, None}
 use Rattle.std.proofs.Common.{inl, inr, ap, refl}
-use Rattle.iddqd.specs.Store.{Store, get}
+use Rattle.iddqd.specs.Store.{Store}
 use Rattle.iddqd_sides.specs.Scan.{IsHit, AreApart}
 use Rattle.iddqd_map.specs.KeyIndex.{HaveSameKeys}
 use Rattle.iddqd_map.specs.PairConflict.{Tells, TellBoth, IsToldBy}
@@ -70,11 +70,11 @@ module _ {T : Type 0} (first second : T → T → Bool) where
       → HaveSameKeys first s t
   HaveSameKeys-first s t have = record {
     slots = λ ix y live. (
-      let (x, was, same) = have.slots ix y live in (x, was, first_true (first x y) (second x y) same)
-    );
+        let (x, was, same) = have.slots ix y live in (x, was, first_true (first x y) (second x y) same)
+        );
     items = λ ix x live. (
-      let (y, there, same) = have.items ix x live in (y, there, first_true (first x y) (second x y) same)
-    );
+        let (y, there, same) = have.items ix x live in (y, there, first_true (first x y) (second x y) same)
+        );
   }
 
   pub HaveSameKeys-second :
@@ -83,11 +83,11 @@ module _ {T : Type 0} (first second : T → T → Bool) where
       → HaveSameKeys second s t
   HaveSameKeys-second s t have = record {
     slots = λ ix y live. (
-      let (x, was, same) = have.slots ix y live in (x, was, second_true (first x y) (second x y) same)
-    );
+        let (x, was, same) = have.slots ix y live in (x, was, second_true (first x y) (second x y) same)
+        );
     items = λ ix x live. (
-      let (y, there, same) = have.items ix x live in (y, there, second_true (first x y) (second x y) same)
-    );
+        let (y, there, same) = have.items ix x live in (y, there, second_true (first x y) (second x y) same)
+        );
   }
 
 -- what one key index told, or that it told nothing, is which items are alike
@@ -106,9 +106,9 @@ pub told_both :
     {T C D : Type 0} (alike1 alike2 : T → T → Bool) (conflicts1 : Store T → T → C → Type 0)
     (conflicts2 : Store T → T → D → Type 0) (tells1 : C → ℕ → Type 0) (tells2 : D → ℕ → Type 0)
     → ((s : Store T) (item : T) (at : C) → conflicts1 s item at → (ix : ℕ)
-        → tells1 at ix ↔ IsHit s (alike1 item) ix)
+    → tells1 at ix ↔ IsHit s (alike1 item) ix)
     → ((s : Store T) (item : T) (at : D) → conflicts2 s item at → (ix : ℕ)
-        → tells2 at ix ↔ IsHit s (alike2 item) ix)
+    → tells2 at ix ↔ IsHit s (alike2 item) ix)
     → (s : Store T) (item : T) (one : Option C) (other : Option D)
     → TellBoth alike1 alike2 conflicts1 conflicts2 s item one other
     → (ix : ℕ)

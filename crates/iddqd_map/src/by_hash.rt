@@ -6,8 +6,8 @@
 //! 2. each of them stands under the hash that its item's key has under this state;
 //! 3. no two items have equal keys.
 //!
-//! By these a look-up, which hashes once, answers as a scan of all items does. The key is borrowed from the item and
-//! stands nowhere else.
+//! By these a look-up, which hashes once, answers as a scan of all items does. Keys are not copied: the table has hashes
+//! and indexes alone.
 ghost use Rattle.std.specs.Prelude.{◌≡◌};
 ghost use Rattle.iddqd_hash.specs.{filed};
 ghost use Rattle.iddqd_sides.specs.Scan.{AnswersScan, passes_by};
@@ -33,6 +33,10 @@ use std::hash::{BuildHasher, Hash};
 use std::marker::PhantomData;
 
 /// A hash table by the key that `E` names. No two items have equal keys.
+///
+/// A look-up hashes the query once, and compares it with keys of the same hash alone. Only `with_capacity`, `reserve`,
+/// `make_room`, `shrink_to` and `copied` take memory, and only they can fail for want of it; `validate` sorts a copy of
+/// the indexes.
 #[derive(Drop)]
 pub struct ByHash<E> {
     // Each live index, under the hash of its item's key.
@@ -228,12 +232,7 @@ where
         plan_move::<T, E, S>(&self.table, items, state, ix, item)
     }
 
-    fn ready_move(
-        &mut self,
-        items: &ItemSet<T>,
-        state: &S,
-        plan: &Move,
-    ) -> Result<(), AllocError> {
+    fn ready_move(&mut self, items: &ItemSet<T>, state: &S, plan: &Move) -> Result<(), AllocError> {
         Ok(())
     }
 
@@ -265,7 +264,13 @@ where
     }
 
     fn find_same(&self, items: &ItemSet<T>, state: &S, item: &T) -> Option<ItemIndex> {
-        find_item::<T, E, S>(&self.table, items, state, hash_of::<T, E, S>(state, item), item)
+        find_item::<T, E, S>(
+            &self.table,
+            items,
+            state,
+            hash_of::<T, E, S>(state, item),
+            item,
+        )
     }
 
     fn is_same(item: &T, other: &T) -> bool {

@@ -5,8 +5,8 @@
 //! 1. the first key index indexes the store;
 //! 2. the second key index indexes the same store.
 //!
-//! So two items are alike where they are by one of both, and share all keys where they do by both. What one of both
-//! refuses is refused before the other one is written.
+//! So two items are alike where either key index says so, and they share all keys where both say so. A call that takes
+//! memory takes it for the first key index, then for the second; if either of them lacks it, both still index the store.
 ghost use Rattle.std.specs.Prelude.{◌≡◌, Some};
 ghost use Rattle.iddqd_map.specs.KeyIndex.{IsNextTold};
 ghost use Rattle.iddqd_map.specs.Pair.{lesser_of};
@@ -22,12 +22,15 @@ use iddqd_sides::query::HashQuery;
 use std::alloc::{AllocError, Global};
 use std::marker::PhantomData;
 
-/// Two key indexes over the same items. A conflict is told as `C`.
+/// Two key indexes over the same items. A conflict is reported as `C`.
+///
+/// Each call costs what it costs of the first plus what it costs of the second. Pairs nest, so that items may have any
+/// number of keys.
 #[derive(Drop)]
 pub struct Pair<A, B, C = PairConflict<ItemIndex, ItemIndex>> {
-    /// The one.
+    /// The first key index.
     pub first: A,
-    /// The other.
+    /// The second key index.
     pub second: B,
     told: PhantomData<C>,
 }
@@ -289,8 +292,10 @@ where
         ix: ItemIndex,
         item: &T,
     ) {
-        self.first.commit_move(items, state, asked.0, &plan.0, ix, item);
-        self.second.commit_move(items, state, asked.1, &plan.1, ix, item);
+        self.first
+            .commit_move(items, state, asked.0, &plan.0, ix, item);
+        self.second
+            .commit_move(items, state, asked.1, &plan.1, ix, item);
     }
 
     fn clear(&mut self) {
@@ -341,7 +346,7 @@ where
     }
 }
 
-// What the first key index told, and what the second did, if it did.
+// The conflict that the first key index reported, and that of the second, if it reported one.
 fn first_and<A: Copy, B: Copy>(one: A, other: Option<B>) -> PairConflict<A, B>
     ensures first { first_of result ≡ Some one }
     ensures second { second_of result ≡ other }
@@ -352,7 +357,7 @@ fn first_and<A: Copy, B: Copy>(one: A, other: Option<B>) -> PairConflict<A, B>
     }
 }
 
-// The next index past one that a key index told, if it told any.
+// The next index of a conflict that one key index reported, if it did.
 fn next_of<T, S, X: KeyIndex<T, S>>(
     told: Option<X::Conflict>,
     before: &Option<ItemIndex>,
@@ -365,7 +370,7 @@ fn next_of<T, S, X: KeyIndex<T, S>>(
     }
 }
 
-// The same index once more.
+// A copy of an index, if it is there.
 fn again(before: &Option<ItemIndex>) -> Option<ItemIndex>
     ensures { result ≡ before.now }
 {

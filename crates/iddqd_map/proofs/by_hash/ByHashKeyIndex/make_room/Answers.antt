@@ -1,7 +1,5 @@
-use Rattle.std.proofs.Common.{◌≤◌, ◌<◌, ◌+◌, ℕ, arith, subst, max, min, IsOk, OnOk, OnErr, refl}
-use Rattle.std.specs.FinMap as finite
-use Rattle.iddqd.specs.Store.{live_count}
-use Rattle.iddqd_hash.specs.HashTable.{capacity, memory, room}
+use Rattle.std.proofs.Common.{◌≤◌, ◌+◌, arith, subst, max, refl}
+use Rattle.iddqd_hash.specs.HashTable.{memory, room}
 use Rattle.iddqd_hash.specs.MapHashTable.{filed}
 use Rattle.iddqd_hash.specs.Sizes.{most_cells}
 use Rattle.iddqd_sides.proofs.HashedCountLemmas.{len-held}
