@@ -1,6 +1,9 @@
 pub mod Calls
 pub mod Equality
 pub mod EqualityLaws
+pub mod HashLaws
+pub mod Hashed
+pub mod Indexing
 pub mod KeyIndex
 pub mod Map
 pub mod Memory
@@ -14,3 +17,4 @@ pub mod Retain
 pub mod Several
 pub mod ThreeKeys
 pub mod TwoKeys
+pub mod Validation

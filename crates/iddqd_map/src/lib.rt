@@ -1,8 +1,20 @@
-//! Maps said once: a store, and what its items are found by.
+//! Maps said once: a store of items, and what they are found by.
+//!
+//! [`map::Map`] is a store with a [`key_index::KeyIndex`]: a [`by_hash::ByHash`] has one key by its hash, and a
+//! [`pair::Pair`] puts two key indexes together. Three maps have names of their own: [`id_hash_map::IdHashMap`],
+//! [`bi_hash_map::BiHashMap`] and [`tri_hash_map::TriHashMap`], with one, two and three keys.
 #![tactic(auto)]
 
+pub mod by_hash;
+pub mod bi_hash_map;
+mod hashed_plan;
+mod hashed_query;
+pub mod id_hash_map;
 pub mod key_index;
 pub mod map;
+mod of_item;
+pub mod pair;
 pub mod pair_conflict;
 pub mod place;
 pub mod refusal;
+pub mod tri_hash_map;
