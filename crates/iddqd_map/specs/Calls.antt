@@ -1,5 +1,5 @@
 -- What the calls of a map that change items may answer, and what they leave.
-use Rattle.std.specs.Prelude.{◌≡◌, ◌⊎◌, ◌↔◌, ◌<◌, ◌≤◌, ℕ, Bool, not, List, [], length, map, Option, Some, None, Result, Ok, Err}
+use Rattle.std.specs.Prelude.{◌≡◌, ◌≢◌, ◌⊎◌, ◌↔◌, ◌<◌, ◌≤◌, ℕ, Bool, true, not, List, [], length, map, Option, Some, None, Result, Ok, Err}
 use Rattle.std.specs.Borrow.{Bor}
 use Rattle.std.specs.Fn.{Once}
 use Rattle.std.specs.List.{Contains}
@@ -81,12 +81,12 @@ module _ {T : Type 0} (alike : T → T → Bool) (most : ℕ → ℕ) where
     pub memory : MakesRoom most old new.memory
     pub same_memory : (HasNoHit old.store (alike item) → ⊥) → new.memory ≡ old.memory
 
-  -- `MayLack` says that an index that is entered where another was removed may need memory, past the capacity
-  module _ (MayLack : Type 0) where
+  -- `may_lack` says that an index that is entered where another was removed may need memory, past the capacity
+  module _ (may_lack : Bool) where
     -- A refusal for memory where items would be overwritten, before any was removed.
     pub record RefusesToOverwrite (old : MapState T) (item back : T) (new : MapState T) : Type 0 where
       pub given_back : back ≡ item
-      pub may_lack : MayLack
+      pub lacks : may_lack ≡ true
       pub past : old.memory.capacity < live_count old.store
       pub unchanged : new ≡ old
 
@@ -100,8 +100,8 @@ module _ {T : Type 0} (alike : T → T → Bool) (most : ℕ → ℕ) where
     Overwrites places old item (Err (NoMemory back)) given_back new =
         (RefusesMemory old item back new ⊎ RefusesToOverwrite old item back new) × (given_back ≡ padded places [])
 
--- `same x y` says that the items share all keys, and `MayLack` the same as above
-module _ {T : Type 0} (alike same : T → T → Bool) (MayLack : Type 0) where
+-- `same x y` says that the items share all keys, and `may_lack` the same as above
+module _ {T : Type 0} (alike same : T → T → Bool) (may_lack : Bool) where
   -- The item at the index is another one now, which shares no key with any other. No memory was taken or given back.
   pub record Becomes (old : MapState T) (ix : ℕ) (item was : T) (new : MapState T) : Type 0 where
     pub live : get old.store ix ≡ Some was
@@ -114,7 +114,7 @@ module _ {T : Type 0} (alike same : T → T → Bool) (MayLack : Type 0) where
   pub record LacksRoom (old : MapState T) (ix : ℕ) (item : T) : Type 0 where
     pub changed : IsHit old.store (λ was. not (same item was)) ix
     pub no_other : HasNoOther old.store (alike item) ix
-    pub may_lack : MayLack
+    pub lacks : may_lack ≡ true
     pub past : old.memory.capacity < live_count old.store
 
   -- `taken s ix item at` says that `at` tells the items, other than the one at the index, that have keys of this item

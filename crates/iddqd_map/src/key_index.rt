@@ -10,7 +10,7 @@
 ghost use Rattle.std.specs.Prelude.{◌≡◌, ◌≢◌, ◌≤◌, ◌+◌, ◌<◌, true, false, min, max, length, IsOk, IfOk, OnOk, OnErr};
 ghost use Rattle.iddqd.specs.{next_index, removed, rebound, sentinel, live_count, IsValid, Allows, Validates};
 ghost use Rattle.iddqd_sides.specs.Scan.{AnswersScan, IsLive, HasNoHit, passes_by};
-ghost use Rattle.iddqd_map.specs.KeyIndex.{IndexesNone, IsNextOf, IsPlannedForOne, IndexesOneMore, IsRemapOfSome, IndexesCompacted, IsNextTold, FindsSpot, PlansMove, TakesFound};
+ghost use Rattle.iddqd_map.specs.KeyIndex.{IndexesNone, IsNextOf, IsPlannedForOne, IndexesOneMore, IsRemapOfSome, IndexesCompacted, IndexesAllOf, IsNextTold, FindsSpot, PlansMove, TakesFound};
 
 use iddqd::index_remap::IndexRemap;
 use iddqd::internal::{ValidateCompact, ValidateRefusal, ValidationError};
@@ -52,6 +52,9 @@ pub trait KeyIndex<T, S>: Sized {
 
     ghost keys: { T → Self.Keys };
 
+    // How many there are.
+    ghost key_count: { ℕ };
+
     // The items share a key.
     ghost alike: { T → T → Bool };
 
@@ -70,7 +73,7 @@ pub trait KeyIndex<T, S>: Sized {
     ghost most: { ℕ → ℕ };
 
     // An index that is entered where another was taken out may need memory, past the capacity.
-    ghost may_lack: { Type 0 };
+    ghost may_lack: { Bool };
 
     // It means the same, whatever memory it has.
     ghost same: { Self → Self → Type 0 };
@@ -93,9 +96,6 @@ pub trait KeyIndex<T, S>: Sized {
 
     // The index is one of these.
     ghost tells: { Self.Conflict → ℕ → Type 0 };
-
-    // How many items an item can be alike to.
-    ghost key_count: { ℕ };
 
     ghost is_move: { S → Store T → ℕ → T → Self.Move → Type 0 };
 
@@ -231,7 +231,7 @@ pub trait KeyIndex<T, S>: Sized {
         requires indexed { indexes self.old state.now items.now.store }
         ensures contents { same self.old self.new }
         ensures ready { OnOk result (is_ready_after self.new) }
-        ensures may_lack { OnErr result may_lack }
+        ensures may_lack { OnErr result (may_lack ≡ true) }
         ensures past { OnErr result (capacity self.old < live_count items.now.store) }
         ensures capacity { capacity self.new ≡ capacity self.old }
         ensures cells { cells self.new ≡ cells self.old };
@@ -264,7 +264,7 @@ pub trait KeyIndex<T, S>: Sized {
         ensures contents { same self.old self.new }
         ensures ready { OnOk result (is_ready self.new plan.now) }
         ensures moves { OnErr result (moves plan.now ≡ true) }
-        ensures may_lack { OnErr result may_lack }
+        ensures may_lack { OnErr result (may_lack ≡ true) }
         ensures past { OnErr result (capacity self.old < live_count items.now.store) }
         ensures capacity { capacity self.new ≡ capacity self.old }
         ensures cells { cells self.new ≡ cells self.old };
@@ -300,9 +300,9 @@ pub trait KeyIndex<T, S>: Sized {
         ensures capacity { capacity self.new ≡ capacity self.old }
         ensures cells { cells self.new ≡ cells self.old };
 
-    /// One that means the same, and has no more memory.
+    /// One that indexes the same, and has no more memory.
     fn copied(&self) -> Result<Self, AllocError>
-        ensures contents { IfOk result (λ copy. same self.now copy) }
+        ensures contents { IfOk result (λ copy. IndexesAllOf (indexes self.now) (indexes copy)) }
         ensures few { IfOk result (λ copy. cells copy ≤ cells self.now) };
 
     /// The index of the item that shares all keys with this one.
@@ -353,6 +353,9 @@ pub trait KeyIndex<T, S>: Sized {
 
     // To share all keys is an equivalence.
     ghost equivalence: { IsEquivalence same_keys };
+
+    // Items that share all keys share one.
+    ghost same_are_alike: { (x y : T) → same_keys x y ≡ true → alike x y ≡ true };
 }
 
 /// Where a key index has a key by its hash: `Here` in a leaf, else to the left or the right in a pair.

@@ -61,7 +61,7 @@ where
 
     ghost most = { λ n. A.most n + B.most n };
 
-    ghost may_lack = { A.may_lack ⊎ B.may_lack };
+    ghost may_lack = { A.may_lack || B.may_lack };
 
     ghost same = { λ x y. A.same x.first y.first × B.same x.second y.second };
 
