@@ -1,3 +1,2 @@
-pub mod RoomLemmas
 pub mod MapLemmas
 pub mod OverwriteLemmas

@@ -51,8 +51,8 @@ module _ where
   rising_fits [] ys rising among = omega arith
   rising_fits (x ∷ rest) ys rising among =
       let fits = rising_fits rest (without x ys) rising.1 (λ z here.
-        let above = rising.0 z here in
-        contains-without x z ys (λ same. omega (arith, same, above)) (among z (contains_tail x z rest here))) in
+      let above = rising.0 z here in
+      contains-without x z ys (λ same. omega (arith, same, above)) (among z (contains_tail x z rest here))) in
       let e = length-without x ys (among x (contains_head x rest)) in
       omega (arith, fits, e)
 
@@ -201,10 +201,10 @@ module _ {T : Type 0} (told : ℕ → Type 0) (places : ℕ) (old : Store T) whe
   pub next_fits : (back : List (Option T)) (left : Store T) (j count : ℕ) (k : ℕ) → Taking told places old back left (Some j) count → (l : List ℕ) × (length l ≤ k) × ((ix : ℕ) → told ix → Contains l ix) → count < k
   next_fits back left j count k t (l, few, all) =
       let fits = rising_fits (t.done ++ j ∷ []) l (IsRising-push t.done j t.rising (t.next_told j refl).1) (λ ix here.
-        elim (contains_push t.done j ix here) [
-          | inl inside ↦ all ix (t.were_told ix inside)
-          | inr same ↦ all ix (subst told same (t.next_told j refl).0)
-        ]) in
+      elim (contains_push t.done j ix here) [
+        | inl inside ↦ all ix (t.were_told ix inside)
+        | inr same ↦ all ix (subst told same (t.next_told j refl).0)
+      ]) in
       omega (arith, fits, few, length_push t.done j, t.counted)
 
   pub place_vacant : (back : List (Option T)) (left : Store T) (next : Option ℕ) (count : ℕ) → Taking told places old back left next count → count < places → slice_get back count ≡ Some None
@@ -242,22 +242,24 @@ module _ {T : Type 0} (told : ℕ → Type 0) (places : ℕ) (old : Store T) whe
         ahead = λ ix here. elim (t.ahead ix here) [
           | inl inside ↦ inl (push_keeps t.done j ix inside)
           | inr after ↦ elim (cases_eq j ix) [
-              | inl is ↦ inl (subst (λ w. Contains (t.done ++ j ∷ []) w) is (push_adds t.done j))
-              | inr other ↦ inr (ahead_next j next following ix here (omega (arith, after, other)))
-            ]
+            | inl is ↦ inl (subst (λ w. Contains (t.done ++ j ∷ []) w) is (push_adds t.done j))
+            | inr other ↦ inr (ahead_next j next following ix here (omega (arith, after, other)))
+          ]
         ];
         next_told = λ k is.
-          let (here, past) = past_next j next following k is in
-          (here, λ ix inside. elim (contains_push t.done j ix inside) [
-            | inl before ↦ let less = below ix before in omega (arith, less, past)
-            | inr e ↦ omega (arith, e, past)
-          ]);
+            let (here, past) = past_next j next following k is in (
+              here,
+              λ ix inside. elim (contains_push t.done j ix inside) [
+                | inl before ↦ let less = below ix before in omega (arith, less, past)
+                | inr e ↦ omega (arith, e, past)
+              ],
+            );
         items =
-          put ∙ ap (λ l. slice_set l count taken) t.items
-          ∙ ap (λ n. slice_set (padded places (map (get old) t.done)) n taken) (sym same)
-          ∙ padded-push places (map (get old) t.done) taken (omega (arith, same, within))
-          ∙ ap (λ x. padded places (map (get old) t.done ++ x ∷ [])) was
-          ∙ ap (padded places) (sym (map-append (get old) t.done (j ∷ [])));
+            put ∙ ap (λ l. slice_set l count taken) t.items
+            ∙ ap (λ n. slice_set (padded places (map (get old) t.done)) n taken) (sym same)
+            ∙ padded-push places (map (get old) t.done) taken (omega (arith, same, within))
+            ∙ ap (λ x. padded places (map (get old) t.done ++ x ∷ [])) was
+            ∙ ap (padded places) (sym (map-append (get old) t.done (j ∷ [])));
         left_is = gone ∙ ap (λ s. removed s j) t.left_is ∙ sym (removed_all-push old t.done j);
       }
 
