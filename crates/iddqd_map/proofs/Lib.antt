@@ -7,5 +7,4 @@ pub mod IndexingLemmas
 pub mod MapLemmas
 pub mod OverwriteLemmas
 pub mod RetainLemmas
-pub mod RoomLemmas
 pub mod TakeLemmas

@@ -26,7 +26,11 @@ module _ where
   length-without x [] here = absurd (contains_none x here)
   length-without x (y ∷ rest) here = by_test (λ behind. length-without x rest behind) (nat_eq y x) refl
     where
-      by_test : (Contains rest x → length (without x rest) + 1 ≡ length rest) → (b : Bool) → nat_eq y x ≡ b → length (if b then rest else y ∷ without x rest) + 1 ≡ suc (length rest)
+      by_test :
+          (Contains rest x → length (without x rest) + 1 ≡ length rest)
+          → (b : Bool)
+          → nat_eq y x ≡ b
+          → length (if b then rest else y ∷ without x rest) + 1 ≡ suc (length rest)
       by_test ih true is = omega arith
       by_test ih false is = elim (contains_cases y x rest here) [
         | inl same ↦ absurd (grind (arith, common_steps, is, same))
@@ -37,7 +41,11 @@ module _ where
   contains-without x z [] other here = absurd (contains_none z here)
   contains-without x z (y ∷ rest) other here = by_test (λ behind. contains-without x z rest other behind) (nat_eq y x) refl
     where
-      by_test : (Contains rest z → Contains (without x rest) z) → (b : Bool) → nat_eq y x ≡ b → Contains (if b then rest else y ∷ without x rest) z
+      by_test :
+          (Contains rest z → Contains (without x rest) z)
+          → (b : Bool)
+          → nat_eq y x ≡ b
+          → Contains (if b then rest else y ∷ without x rest) z
       by_test ih true is = elim (contains_cases y z rest here) [
         | inl same ↦ absurd (other (grind (arith, common_steps, is, same)))
         | inr behind ↦ behind
@@ -51,8 +59,8 @@ module _ where
   rising_fits [] ys rising among = omega arith
   rising_fits (x ∷ rest) ys rising among =
       let fits = rising_fits rest (without x ys) rising.1 (λ z here.
-        let above = rising.0 z here in
-        contains-without x z ys (λ same. omega (arith, same, above)) (among z (contains_tail x z rest here))) in
+      let above = rising.0 z here in
+      contains-without x z ys (λ same. omega (arith, same, above)) (among z (contains_tail x z rest here))) in
       let e = length-without x ys (among x (contains_head x rest)) in
       omega (arith, fits, e)
 
@@ -97,7 +105,10 @@ module _ {T : Type 0} where
   padded-vacant (suc n) [] less = refl
   padded-vacant (suc n) (x ∷ rest) less = padded-vacant n rest (omega (arith, less))
 
-  padded-push : (n : ℕ) (xs : List (Option T)) (item : Option T) → length xs < n → slice_set (padded n xs) (length xs) item ≡ padded n (xs ++ item ∷ [])
+  padded-push :
+      (n : ℕ) (xs : List (Option T)) (item : Option T)
+      → length xs < n
+      → slice_set (padded n xs) (length xs) item ≡ padded n (xs ++ item ∷ [])
   padded-push zero xs item less = absurd (omega (arith, less))
   padded-push (suc n) [] item less = refl
   padded-push (suc n) (x ∷ rest) item less = ap (λ l. x ∷ l) (padded-push n rest item (omega (arith, less)))
@@ -108,7 +119,11 @@ module _ {T : Type 0} where
   AreLiveInTurn s [] = Unit {0}
   AreLiveInTurn s (ix ∷ rest) = ((item : T) × (get s ix ≡ Some item)) × AreLiveInTurn (removed s ix) rest
 
-  pub AreLiveInTurn-rising : (s : Store T) (indexes : List ℕ) → IsRising indexes → ((ix : ℕ) → Contains indexes ix → IsLive s ix) → AreLiveInTurn s indexes
+  pub AreLiveInTurn-rising :
+      (s : Store T) (indexes : List ℕ)
+      → IsRising indexes
+      → ((ix : ℕ) → Contains indexes ix → IsLive s ix)
+      → AreLiveInTurn s indexes
   AreLiveInTurn-rising s [] rising live = tt
   AreLiveInTurn-rising s (x ∷ rest) rising live = (
     item_at s x (live x (contains_head x rest)),
@@ -119,7 +134,12 @@ module _ {T : Type 0} where
   )
 
   -- a hit that is left was one, and at another index than those that were removed
-  hit_left : (s : Store T) (indexes : List ℕ) (test : T → Bool) → AreLiveInTurn s indexes → (j : ℕ) → IsHit (removed_all s indexes) test j → (Contains indexes j → ⊥) × IsHit s test j
+  hit_left :
+      (s : Store T) (indexes : List ℕ) (test : T → Bool)
+      → AreLiveInTurn s indexes
+      → (j : ℕ)
+      → IsHit (removed_all s indexes) test j
+      → (Contains indexes j → ⊥) × IsHit s test j
   hit_left s [] test live j hit = (contains_none j, hit)
   hit_left s (x ∷ rest) test live j hit =
       let (other, (y, is, passed)) = hit_left (removed s x) rest test live.1 j hit in
@@ -129,7 +149,11 @@ module _ {T : Type 0} where
       )
 
   -- once all that hit are removed none does
-  pub HasNoHit-removed_all : (s : Store T) (indexes : List ℕ) (test : T → Bool) → IsRising indexes → ((ix : ℕ) → Contains indexes ix ↔ IsHit s test ix) → HasNoHit (removed_all s indexes) test
+  pub HasNoHit-removed_all :
+      (s : Store T) (indexes : List ℕ) (test : T → Bool)
+      → IsRising indexes
+      → ((ix : ℕ) → Contains indexes ix ↔ IsHit s test ix)
+      → HasNoHit (removed_all s indexes) test
   HasNoHit-removed_all s indexes test rising each ix hit =
       let live = AreLiveInTurn-rising s indexes rising (λ j here. hit_live s test j ((each j).0 here)) in
       let was = hit_left s indexes test live ix hit in
@@ -154,7 +178,9 @@ IsAhead None ix = ⊥
 IsAhead (Some next) ix = next ≤ ix
 
 -- of the indexes that were told, so many were removed; this is the next one
-pub record Taking {T : Type 0} (told : ℕ → Type 0) (places : ℕ) (old : Store T) (back : List (Option T)) (left : Store T) (next : Option ℕ) (count : ℕ) : Type 0 where
+pub record Taking {T : Type 0} (told : ℕ → Type 0) (places : ℕ) (old : Store T) (back : List (Option T)) (left : Store T)
+    (next : Option ℕ) (count : ℕ)
+    : Type 0 where
   pub done : List ℕ
   pub counted : length done ≡ count
   pub rising : IsRising done
@@ -176,7 +202,11 @@ module _ {T : Type 0} (told : ℕ → Type 0) (places : ℕ) (old : Store T) whe
   told_first None none j is = absurd (cc)
   told_first (Some k) first j is = let same : k ≡ j = cc in subst told same first.0
 
-  pub Taking-none : (back : List (Option T)) (next : Option ℕ) → IsNextTold told None next → back ≡ padded places [] → Taking told places old back old next 0
+  pub Taking-none :
+      (back : List (Option T)) (next : Option ℕ)
+      → IsNextTold told None next
+      → back ≡ padded places []
+      → Taking told places old back old next 0
   Taking-none back next first none = record {
     done = [];
     counted = refl;
@@ -189,30 +219,48 @@ module _ {T : Type 0} (told : ℕ → Type 0) (places : ℕ) (old : Store T) whe
   }
 
   -- the next one is none of those that were removed
-  pub next_apart : (back : List (Option T)) (left : Store T) (j count : ℕ) → Taking told places old back left (Some j) count → get left j ≡ get old j
+  pub next_apart :
+      (back : List (Option T)) (left : Store T) (j count : ℕ)
+      → Taking told places old back left (Some j) count
+      → get left j ≡ get old j
   next_apart back left j count t =
       ap (λ s. get s j) t.left_is
       ∙ get-removed_all old t.done j (λ here. let less = (t.next_told j refl).1 j here in omega (arith, less))
 
-  pub next_live : (back : List (Option T)) (left : Store T) (j count : ℕ) → Taking told places old back left (Some j) count → ((ix : ℕ) → told ix → IsLive old ix) → IsLive left j
+  pub next_live :
+      (back : List (Option T)) (left : Store T) (j count : ℕ)
+      → Taking told places old back left (Some j) count
+      → ((ix : ℕ) → told ix → IsLive old ix)
+      → IsLive left j
   next_live back left j count t live = rw (next_apart back left j count t) (live j (t.next_told j refl).0)
 
   -- there is a place for it
-  pub next_fits : (back : List (Option T)) (left : Store T) (j count : ℕ) (k : ℕ) → Taking told places old back left (Some j) count → (l : List ℕ) × (length l ≤ k) × ((ix : ℕ) → told ix → Contains l ix) → count < k
+  pub next_fits :
+      (back : List (Option T)) (left : Store T) (j count : ℕ) (k : ℕ)
+      → Taking told places old back left (Some j) count
+      → (l : List ℕ) × (length l ≤ k) × ((ix : ℕ) → told ix → Contains l ix)
+      → count < k
   next_fits back left j count k t (l, few, all) =
       let fits = rising_fits (t.done ++ j ∷ []) l (IsRising-push t.done j t.rising (t.next_told j refl).1) (λ ix here.
-        elim (contains_push t.done j ix here) [
-          | inl inside ↦ all ix (t.were_told ix inside)
-          | inr same ↦ all ix (subst told same (t.next_told j refl).0)
-        ]) in
+      elim (contains_push t.done j ix here) [
+        | inl inside ↦ all ix (t.were_told ix inside)
+        | inr same ↦ all ix (subst told same (t.next_told j refl).0)
+      ]) in
       omega (arith, fits, few, length_push t.done j, t.counted)
 
-  pub place_vacant : (back : List (Option T)) (left : Store T) (next : Option ℕ) (count : ℕ) → Taking told places old back left next count → count < places → slice_get back count ≡ Some None
+  pub place_vacant :
+      (back : List (Option T)) (left : Store T) (next : Option ℕ) (count : ℕ)
+      → Taking told places old back left next count
+      → count < places
+      → slice_get back count ≡ Some None
   place_vacant back left next count t within =
       let same = length-map t.done (get old) ∙ t.counted in
       rw (t.items, ← same) (padded-vacant places (map (get old) t.done) (omega (arith, same, within)))
 
-  pub places_left : (back : List (Option T)) (left : Store T) (next : Option ℕ) (count : ℕ) → Taking told places old back left next count → length back ≡ places
+  pub places_left :
+      (back : List (Option T)) (left : Store T) (next : Option ℕ) (count : ℕ)
+      → Taking told places old back left next count
+      → length back ≡ places
   places_left back left next count t = ap length t.items ∙ length-padded places (map (get old) t.done)
 
   ahead_next : (j : ℕ) (next : Option ℕ) → IsNextTold told (Some j) next → (ix : ℕ) → told ix → j < ix → IsAhead next ix
@@ -226,7 +274,15 @@ module _ {T : Type 0} (told : ℕ → Type 0) (places : ℕ) (old : Store T) whe
   past_next j None none k is = absurd (cc)
   past_next j (Some m) first k is = let same : m ≡ k = cc in subst (λ w. told w × (j < w)) same (first.0, first.1)
 
-  pub Taking-next : (back back_now : List (Option T)) (left left_now : Store T) (j count : ℕ) (next : Option ℕ) (taken : Option T) → Taking told places old back left (Some j) count → count < places → IsNextTold told (Some j) next → taken ≡ get left j → back_now ≡ slice_set back count taken → left_now ≡ removed left j → Taking told places old back_now left_now next (count + 1)
+  pub Taking-next :
+      (back back_now : List (Option T)) (left left_now : Store T) (j count : ℕ) (next : Option ℕ) (taken : Option T)
+      → Taking told places old back left (Some j) count
+      → count < places
+      → IsNextTold told (Some j) next
+      → taken ≡ get left j
+      → back_now ≡ slice_set back count taken
+      → left_now ≡ removed left j
+      → Taking told places old back_now left_now next (count + 1)
   Taking-next back back_now left left_now j count next taken t within following value put gone =
       let below = (t.next_told j refl).1 in
       let same = length-map t.done (get old) ∙ t.counted in
@@ -242,27 +298,33 @@ module _ {T : Type 0} (told : ℕ → Type 0) (places : ℕ) (old : Store T) whe
         ahead = λ ix here. elim (t.ahead ix here) [
           | inl inside ↦ inl (push_keeps t.done j ix inside)
           | inr after ↦ elim (cases_eq j ix) [
-              | inl is ↦ inl (subst (λ w. Contains (t.done ++ j ∷ []) w) is (push_adds t.done j))
-              | inr other ↦ inr (ahead_next j next following ix here (omega (arith, after, other)))
-            ]
+            | inl is ↦ inl (subst (λ w. Contains (t.done ++ j ∷ []) w) is (push_adds t.done j))
+            | inr other ↦ inr (ahead_next j next following ix here (omega (arith, after, other)))
+          ]
         ];
         next_told = λ k is.
-          let (here, past) = past_next j next following k is in
-          (here, λ ix inside. elim (contains_push t.done j ix inside) [
-            | inl before ↦ let less = below ix before in omega (arith, less, past)
-            | inr e ↦ omega (arith, e, past)
-          ]);
+            let (here, past) = past_next j next following k is in (
+              here,
+              λ ix inside. elim (contains_push t.done j ix inside) [
+                | inl before ↦ let less = below ix before in omega (arith, less, past)
+                | inr e ↦ omega (arith, e, past)
+              ],
+            );
         items =
-          put ∙ ap (λ l. slice_set l count taken) t.items
-          ∙ ap (λ n. slice_set (padded places (map (get old) t.done)) n taken) (sym same)
-          ∙ padded-push places (map (get old) t.done) taken (omega (arith, same, within))
-          ∙ ap (λ x. padded places (map (get old) t.done ++ x ∷ [])) was
-          ∙ ap (padded places) (sym (map-append (get old) t.done (j ∷ [])));
+            put ∙ ap (λ l. slice_set l count taken) t.items
+            ∙ ap (λ n. slice_set (padded places (map (get old) t.done)) n taken) (sym same)
+            ∙ padded-push places (map (get old) t.done) taken (omega (arith, same, within))
+            ∙ ap (λ x. padded places (map (get old) t.done ++ x ∷ [])) was
+            ∙ ap (padded places) (sym (map-append (get old) t.done (j ∷ [])));
         left_is = gone ∙ ap (λ s. removed s j) t.left_is ∙ sym (removed_all-push old t.done j);
       }
 
   -- where there is no next one, all were removed
-  pub TakesAll-done : (back : List (Option T)) (left : Store T) (count : ℕ) → Taking told places old back left None count → count ≤ places → TakesAll told places old back left
+  pub TakesAll-done :
+      (back : List (Option T)) (left : Store T) (count : ℕ)
+      → Taking told places old back left None count
+      → count ≤ places
+      → TakesAll told places old back left
   TakesAll-done back left count t within = record {
     indexes = t.done;
     each = λ ix. (t.were_told ix, λ here. elim (t.ahead ix here) [ inl inside ↦ inside | inr never ↦ absurd never ]);
@@ -273,7 +335,11 @@ module _ {T : Type 0} (told : ℕ → Type 0) (places : ℕ) (old : Store T) whe
   }
 
   -- and where one was told, one was removed
-  pub some_done : (back : List (Option T)) (left : Store T) (count : ℕ) → Taking told places old back left None count → (ix : ℕ) × told ix → 1 ≤ count
+  pub some_done :
+      (back : List (Option T)) (left : Store T) (count : ℕ)
+      → Taking told places old back left None count
+      → (ix : ℕ) × told ix
+      → 1 ≤ count
   some_done back left count t (ix, here) = elim (t.ahead ix here) [
     | inl inside ↦ by_done t.done t.counted inside
     | inr never ↦ absurd never
@@ -284,7 +350,12 @@ module _ {T : Type 0} (told : ℕ → Type 0) (places : ℕ) (old : Store T) whe
       by_done (x ∷ rest) is inside = omega (arith, is)
 
 -- the next one, where it is known
-pub taking_at : {T : Type 0} {told : ℕ → Type 0} {places : ℕ} {old : Store T} {back : List (Option T)} {left : Store T} {next is : Option ℕ} {count : ℕ} → next ≡ is → Taking told places old back left next count → Taking told places old back left is count
+pub taking_at :
+    {T : Type 0} {told : ℕ → Type 0} {places : ℕ} {old : Store T} {back : List (Option T)} {left : Store T}
+    {next is : Option ℕ} {count : ℕ}
+    → next ≡ is
+    → Taking told places old back left next count
+    → Taking told places old back left is count
 taking_at {told = told} {places = places} {old = old} {back = back} {left = left} {count = count} same t = subst (λ n. Taking told places old back left n count) same t
 
 pub no_next : (next : Option ℕ) → ((j : ℕ) → next ≡ Some j → ⊥) → next ≡ None
@@ -309,7 +380,11 @@ module _ {T : Type 0} (alike : T → T → Bool) (most : ℕ → ℕ) where
   })
 
   -- an insert that overwrites, where no item shares a key
-  pub OverwritesAt-apart : (places : ℕ) (old new : MapState T) (item : T) (ix : ℕ) (back : List (Option T)) → InsertsAt alike most old item ix new → back ≡ padded places [] → OverwritesAt alike most places old item ix back new
+  pub OverwritesAt-apart :
+      (places : ℕ) (old new : MapState T) (item : T) (ix : ℕ) (back : List (Option T))
+      → InsertsAt alike most old item ix new
+      → back ≡ padded places []
+      → OverwritesAt alike most places old item ix back new
   OverwritesAt-apart places old new item ix back did none = record {
     conflicts = [];
     are_conflicts = record { each = λ j. (λ here. absurd (contains_none j here), λ hit. absurd (did.no_conflict j hit)); rising = tt };
@@ -323,22 +398,32 @@ module _ {T : Type 0} (alike : T → T → Bool) (most : ℕ → ℕ) where
   }
 
   -- and where some do, which were removed
-  module _ (told : ℕ → Type 0) (s : Store T) (item : T) (hits : (ix : ℕ) → told ix ↔ IsHit s (alike item) ix) (places : ℕ) (back : List (Option T)) (left : Store T) (took : TakesAll told places s back left) where
-    removed_hit : (ix : ℕ) → Contains took.indexes ix ↔ IsHit s (alike item) ix
-    removed_hit ix = (λ here. (hits ix).0 ((took.each ix).0 here), λ hit. (took.each ix).1 ((hits ix).1 hit))
+  module _
+      (told : ℕ → Type 0) (s : Store T) (item : T) (hits : (ix : ℕ) → told ix ↔ IsHit s (alike item) ix) (places : ℕ)
+      (back : List (Option T)) (left : Store T) (took : TakesAll told places s back left)
+    where
+      removed_hit : (ix : ℕ) → Contains took.indexes ix ↔ IsHit s (alike item) ix
+      removed_hit ix = (λ here. (hits ix).0 ((took.each ix).0 here), λ hit. (took.each ix).1 ((hits ix).1 hit))
 
-    pub HasNoHit-taken : HasNoHit left (alike item)
-    HasNoHit-taken = rw took.left (HasNoHit-removed_all s took.indexes (alike item) took.rising removed_hit)
+      pub HasNoHit-taken : HasNoHit left (alike item)
+      HasNoHit-taken = rw took.left (HasNoHit-removed_all s took.indexes (alike item) took.rising removed_hit)
 
-    pub OverwritesAt-done : (old new : MapState T) (ix : ℕ) → old.store ≡ s → (j : ℕ) × told j → ix ≡ next_index left → new.store ≡ inserted left item → new.memory ≡ old.memory → OverwritesAt alike most places old item ix back new
-    OverwritesAt-done old new ix is some index stored same = record {
-      conflicts = took.indexes;
-      are_conflicts = rw is (record { each = removed_hit; rising = took.rising });
-      at_most = took.at_most;
-      not_full = λ none full. none some.0 (rw is ((hits some.0).0 some.1));
-      items = rw is took.items;
-      index = rw (is, ← took.left) index;
-      stored = rw (is, ← took.left) stored;
-      memory = MakesRoom-same old new.memory same;
-      same_memory = λ _. same;
-    }
+      pub OverwritesAt-done :
+          (old new : MapState T) (ix : ℕ)
+          → old.store ≡ s
+          → (j : ℕ) × told j
+          → ix ≡ next_index left
+          → new.store ≡ inserted left item
+          → new.memory ≡ old.memory
+          → OverwritesAt alike most places old item ix back new
+      OverwritesAt-done old new ix is some index stored same = record {
+        conflicts = took.indexes;
+        are_conflicts = rw is (record { each = removed_hit; rising = took.rising });
+        at_most = took.at_most;
+        not_full = λ none full. none some.0 (rw is ((hits some.0).0 some.1));
+        items = rw is took.items;
+        index = rw (is, ← took.left) index;
+        stored = rw (is, ← took.left) stored;
+        memory = MakesRoom-same old new.memory same;
+        same_memory = λ _. same;
+      }

@@ -90,15 +90,20 @@ module _ {T : Type 0} (alike : T → T → Bool) (most : ℕ → ℕ) where
       pub past : old.memory.capacity < live_count old.store
       pub unchanged : new ≡ old
 
-    -- What an insert that overwrites may answer and leave, in so many places that had no item: what was removed, or
-    -- nothing after a refusal.
+    -- what an insert that overwrites may answer and leave: so many items may come back
     abbrev pub Overwrites :
+        ℕ → MapState T → T → Result (ℕ × List (Option T)) (OverwriteRefusal T) → MapState T → Type 0
+    Overwrites places old item (Ok (ix, given_back)) new = OverwritesAt places old item ix given_back new
+    Overwrites places old item (Err (NoSlot back)) new = RefusesFull old item back new
+    Overwrites places old item (Err (NoMemory back)) new =
+        RefusesMemory old item back new ⊎ RefusesToOverwrite old item back new
+
+    -- the same of one that puts what was removed into places that had nothing, and leaves them so where it is refused
+    abbrev pub OverwritesInto :
         ℕ → MapState T → T → Result ℕ (OverwriteRefusal T) → List (Option T) → MapState T → Type 0
-    Overwrites places old item (Ok ix) given_back new = OverwritesAt places old item ix given_back new
-    Overwrites places old item (Err (NoSlot back)) given_back new =
-        RefusesFull old item back new × (given_back ≡ padded places [])
-    Overwrites places old item (Err (NoMemory back)) given_back new =
-        (RefusesMemory old item back new ⊎ RefusesToOverwrite old item back new) × (given_back ≡ padded places [])
+    OverwritesInto places old item (Ok ix) given_back new = Overwrites places old item (Ok (ix, given_back)) new
+    OverwritesInto places old item (Err refusal) given_back new =
+        Overwrites places old item (Err refusal) new × (given_back ≡ padded places [])
 
     -- the same where the places come with the answer
     abbrev pub Overwriting :

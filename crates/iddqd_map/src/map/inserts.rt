@@ -1,5 +1,6 @@
 //! Items come into a map. All memory is taken before anything is written.
-ghost use Rattle.iddqd_map.specs.Map.{map_with};
+ghost use Rattle.std.specs.Prelude.{◌+◌, ◌≤◌};
+ghost use Rattle.iddqd_map.specs.Map.{map_with, room};
 ghost use Rattle.iddqd_map.specs.Calls.{Inserts};
 ghost use Rattle.iddqd_map.specs.KeyIndex.{IsIndexed};
 
@@ -18,7 +19,8 @@ impl<T, X: KeyIndex<T, S>, S> Map<T, X, S> {
     /// Conflicts are told even where the map is full or no memory is left, and a full map even where no memory is left.
     /// A refusal hands the item back, and the contents stay. Each key is hashed once, and each table searched once.
     pub fn insert_unique(&mut self, item: T) -> Result<ItemIndex, InsertRefusal<T, X::Conflict>>
-        ensures { Inserts X.alike X.most X.conflicts self.old item result self.new }
+        ensures inserts { Inserts X.alike X.most X.conflicts self.old item result self.new }
+        ensures room { room self.old ≤ room self.new + 1 }
     {
         let known = X::known(&self.state, &item);
         insert(&mut self.items, &mut self.indexes, &self.state, known, item)

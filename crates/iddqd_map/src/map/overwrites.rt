@@ -6,7 +6,7 @@ ghost use Rattle.std.specs.Prelude.{◌≡◌, ◌≤◌, ℕ, [], length};
 ghost use Rattle.iddqd.specs.{next_index, inserted, room};
 ghost use Rattle.iddqd_sides.specs.Scan.{IsLive, HasNoHit};
 ghost use Rattle.iddqd_map.specs.Map.{map_with};
-ghost use Rattle.iddqd_map.specs.Calls.{Overwrites};
+ghost use Rattle.iddqd_map.specs.Calls.{OverwritesInto};
 ghost use Rattle.iddqd_map.specs.KeyIndex.{IsIndexed};
 ghost use Rattle.iddqd_map.specs.Overwrite.{TakesAll};
 ghost use Rattle.iddqd_map.specs.Several.{padded};
@@ -33,7 +33,7 @@ impl<T, X: KeyIndex<T, S>, S> Map<T, X, S> {
     ) -> Result<ItemIndex, OverwriteRefusal<T>>
         requires enough { X.key_count ≤ length places.old }
         requires vacant { places.old ≡ padded (length places.old) [] }
-        ensures { Overwrites X.alike X.most X.may_lack (length places.old) self.old item result places.new self.new }
+        ensures { OverwritesInto X.alike X.most X.may_lack (length places.old) self.old item result places.new self.new }
     {
         let known = X::known(&self.state, &item);
         match insert(&mut self.items, &mut self.indexes, &self.state, known, item) {
@@ -72,7 +72,7 @@ fn overwrite<T, X: KeyIndex<T, S>, S>(
     requires enough { X.key_count ≤ length places.old }
     requires vacant { places.old ≡ padded (length places.old) [] }
     ensures map { IsIndexed (X.indexes indexes.new) state.now items.new.store }
-    ensures overwrites { Overwrites X.alike X.most X.may_lack (length places.old)
+    ensures overwrites { OverwritesInto X.alike X.most X.may_lack (length places.old)
         (map_with items.old (X.capacity indexes.old) (X.cells indexes.old)) item result places.new
         (map_with items.new (X.capacity indexes.new) (X.cells indexes.new)) }
 {

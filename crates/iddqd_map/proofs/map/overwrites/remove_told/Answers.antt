@@ -1,7 +1,20 @@
-use Rattle.std.proofs.Common.{rules, ◌≡◌, ◌∙◌, ◌<◌, length, None, ap, arith}
+use Rattle.std.proofs.Common.{rules, ◌≡◌, ◌∙◌, ◌<◌, length, None, refl, ap, arith}
 use Rattle.iddqd.specs.ItemSet.{SizedStore}
-use Rattle.iddqd_map.proofs.OverwriteLemmas.{Taking-next, TakesAll-done, next_live, next_fits, no_next, place_vacant, places_left, taking_at}
+use Rattle.iddqd_map.proofs.OverwriteLemmas.{Taking-none, Taking-next, TakesAll-done, next_live, next_fits, no_next, place_vacant, places_left, taking_at}
 use Rattle.iddqd_map.proofs.map.overwrites.remove_told.Goals as goal
+
+pub loop-next-init : goal.loop-next-init
+loop-next-init g c = record {
+  map = c.requires.map;
+  ready = c.requires.ready;
+  taking = Taking-none _ _ c.args.items.now.store _ _ c.next_told-next.ensures c.requires.vacant;
+  within = omega arith;
+  slots = refl;
+  room = omega arith;
+  roomy = λ some. absurd (omega (arith, some));
+  capacity = refl;
+  cells = refl;
+}
 
 pub take_out-taken-requires-clause-live : goal.take_out-taken-requires-clause-live
 take_out-taken-requires-clause-live g c =
