@@ -24,7 +24,7 @@ returns-clause-modifies g c =
     let s = c.self.inside.items.store in
     let live : get s c.args.ix ≡ Some item.now = sym {a = Some item.now} c.in_ok-item.ensures.value in
     let gave : FnOnceReturnsAtMut g.F.FnOnce c.args.f item.now c.f.result is =
-        record { shown = _; shows = refl; left = _; met = c.f.ensures; leaves = refl } in (
+    record { shown = _; shows = refl; left = _; met = c.f.ensures; leaves = refl } in (
       record {
         was = item.now;
         is = is;
