@@ -114,7 +114,7 @@ impl<T, X: KeyIndex<T, S>, S> Map<T, X, S> {
         self.indexes.clear();
     }
 
-    /// Moves every item down to its rank, so that no slot is vacant, and tells the new names.
+    /// Moves every item down to its rank, so that no slot is vacant, and returns the new names.
     ///
     /// No key is hashed or compared. Where no slot is vacant it is `Identity` and takes no memory. Else it takes that of
     /// one index a slot before an item moves; where that is refused nothing changes.

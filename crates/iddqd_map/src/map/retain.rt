@@ -15,10 +15,10 @@ use iddqd::item_index::ItemIndex;
 use iddqd::item_set::ItemSet;
 
 impl<T, X: KeyIndex<T, S>, S> Map<T, X, S> {
-    /// Keeps exactly the items at which the closure answers true, under their indexes, and tells how many it removed.
+    /// Keeps exactly the items at which the closure answers true, under their indexes, and returns how many it removed.
     ///
-    /// It is asked about each item once, by rising index, and no more. The items that it refuses are removed, by rising
-    /// index. No memory is taken. It costs a step a slot, and looks up the keys of the refused alone.
+    /// The closure is called once at each item, by rising index. The items at which it answers false are removed, by
+    /// rising index. No memory is taken. It costs a step a slot, and looks up the keys of the removed items alone.
     pub fn retain<F: FnMut(&T) -> bool>(&mut self, mut f: F) -> usize
     where
         T: Drop,
@@ -33,8 +33,8 @@ impl<T, X: KeyIndex<T, S>, S> Map<T, X, S> {
     }
 }
 
-// Keeps the items at which the closure answers true, which is left as its last answer leaves it. Each item that it
-// refuses is removed at once: so no memory is taken.
+// Keeps the items at which the closure answers true. The closure is left as its last call leaves it. An item at which
+// it answers false is removed at once, so no memory is taken.
 fn retain_in<T: Drop, S, X: KeyIndex<T, S>, F: FnMut(&T) -> bool>(
     items: &mut ItemSet<T>,
     indexes: &mut X,

@@ -1,4 +1,4 @@
-//! Walks over the items of a map by rising index. They take no memory.
+//! Iterators over the items of a map, by rising index. They take no memory.
 ghost use Rattle.std.specs.Prelude.{◌≡◌, length};
 ghost use Rattle.iddqd.specs.{live_count, live_items, live_pairs};
 ghost use Rattle.iddqd.specs.LiveItems.{IsWalkOf};
