@@ -7,5 +7,5 @@ returns-in-Ok-second g c =
     let two = c.in-Ok-second.ensures in (
       (one.0, two.0),
       HasNoOther-either g.A.KeyIndex.alike g.B.KeyIndex.alike c.args.items.now.store c.args.ix c.args.item.now one.1 two.1,
-      λ was live. moves_either _ _ _ _ (one.2 was live) (two.2 was live),
+      λ was live. moves_either (g.A.KeyIndex.moves c.in-Ok.first) (g.B.KeyIndex.moves c.in-Ok-second.second) (g.A.KeyIndex.same_keys c.args.item.now was) (g.B.KeyIndex.same_keys c.args.item.now was) (one.2 was live) (two.2 was live),
     )
