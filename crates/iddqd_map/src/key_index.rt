@@ -28,10 +28,7 @@ use std::marker::PhantomData;
 /// the capacity change it.
 pub trait KeyIndex<T, S>: Sized + Drop {
     ghost use Rattle.std.specs.Prelude.{ℕ, Bool, List, Some, ◌↔◌};
-<<<<<<< HEAD
     ghost use Rattle.std.specs.List.{Contains};
-=======
->>>>>>> origin/hB
     ghost use Rattle.std.specs.Cmp.{IsEquivalence};
     ghost use Rattle.iddqd.specs.Store.{Store, get};
     ghost use Rattle.iddqd_sides.specs.Scan.{AreApart, IsHit};
