@@ -105,14 +105,6 @@ module _ {T : Type 0} (alike : T → T → Bool) (most : ℕ → ℕ) where
     OverwritesInto places old item (Err refusal) given_back new =
         Overwrites places old item (Err refusal) new × (given_back ≡ padded places [])
 
-    -- the same where the places come with the answer
-    abbrev pub Overwriting :
-        ℕ → MapState T → T → Result (ℕ × List (Option T)) (OverwriteRefusal T) → MapState T → Type 0
-    Overwriting places old item (Ok (ix, given_back)) new = OverwritesAt places old item ix given_back new
-    Overwriting places old item (Err (NoSlot back)) new = RefusesFull old item back new
-    Overwriting places old item (Err (NoMemory back)) new =
-        RefusesMemory old item back new ⊎ RefusesToOverwrite old item back new
-
 -- `same x y` says that the items share all keys, and `may_lack` the same as above
 module _ {T : Type 0} (alike same : T → T → Bool) (may_lack : Bool) where
   -- The item at the index is another one now, which shares no key with any other. No memory was taken or given back.

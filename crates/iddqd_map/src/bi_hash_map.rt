@@ -1,14 +1,14 @@
 //! A map of items that have two keys each, both found by their hashes: a [`Map`] whose key index is a pair of tables.
 //!
 //! All calls that name no key are `Map`'s. Here are those that do, each the call of `Map` at the place of its key.
-ghost use Rattle.std.specs.Prelude.{◌≡◌, ◌↔◌, false, option_copied};
+ghost use Rattle.std.specs.Prelude.{◌≡◌, ◌+◌, ◌↔◌, false, option_copied};
 ghost use Rattle.std.specs.Fn.{FnOnceReturnsAt};
 ghost use Rattle.iddqd_hash.specs.Sizes.{most_cells};
 ghost use Rattle.iddqd_sides.specs.Scan.{HasNoHit, AnswersScan, passes_by};
 ghost use Rattle.iddqd_sides.specs.KeyKeeping.{KeepsKey, pair_keys};
 ghost use Rattle.iddqd_map.specs.Map.{shares, FindsItem, Removes};
 ghost use Rattle.iddqd_map.specs.Several.{either_key, both_keys};
-ghost use Rattle.iddqd_map.specs.Calls.{MayChange, Overwriting, Replaces, Changes};
+ghost use Rattle.iddqd_map.specs.Calls.{MayChange, Overwrites, Replaces, Changes};
 ghost use Rattle.iddqd_map.specs.Modify.{Modifies};
 ghost use Rattle.iddqd_map.specs.TwoKeys.{AreTaken};
 
@@ -191,7 +191,7 @@ impl<T: BiHashItem, S: BuildHasher> Map<T, BiIndex, S> {
         item: T,
     ) -> Result<(ItemIndex, [Option<T>; 2]), OverwriteRefusal<T>>
         ensures { let first = shares T.first_key T.Key1.eq in let second = shares T.second_key T.Key2.eq in
-            Overwriting (either_key first second) (λ n. most_cells n + most_cells n) false 2 self.old item result self.new }
+            Overwrites (either_key first second) (λ n. most_cells n + most_cells n) false 2 self.old item result self.new }
     {
         let mut places = [None, None];
         let ix = self.overwrite_into(item, &mut places)?;

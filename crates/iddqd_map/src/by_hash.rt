@@ -16,7 +16,7 @@ ghost use Rattle.iddqd_map.specs.Indexing.{Indexes};
 
 use crate::hashed_plan::plan_move;
 use crate::hashed_query::{find_under, take_by};
-use crate::key_index::{HashedAt, Here, KeyIndex};
+use crate::key_index::{Checks, HashedAt, Here, Inserts, KeyIndex, Moves, Overwrites, Removes, Sizes};
 use crate::of_item::{commit_item, find_item, take_item, validate_table};
 use iddqd::index_remap::IndexRemap;
 use iddqd::internal::{ValidateCompact, ValidateRefusal, ValidationError};
@@ -150,6 +150,17 @@ where
 
     ghost same_are_alike = { λ x y same. same };
 
+    fn capacity(&self) -> usize {
+        self.table.capacity()
+    }
+}
+
+impl<T, S, E> Sizes<T, S> for ByHash<E>
+where
+    E: KeyOf<T>,
+    E::Key: Eq + Hash,
+    S: BuildHasher,
+{
     fn new(alloc: Global) -> ByHash<E> {
         ByHash {
             table: MapHashTable::new(alloc),
@@ -164,10 +175,6 @@ where
         })
     }
 
-    fn capacity(&self) -> usize {
-        self.table.capacity()
-    }
-
     fn reserve(
         &mut self,
         items: &ItemSet<T>,
@@ -180,13 +187,16 @@ where
     fn shrink_to(&mut self, items: &ItemSet<T>, state: &S, least: usize) -> Result<(), AllocError> {
         self.table.shrink_to(least)
     }
+}
 
+impl<T, S, E> Inserts<T, S> for ByHash<E>
+where
+    E: KeyOf<T>,
+    E::Key: Eq + Hash,
+    S: BuildHasher,
+{
     fn known(state: &S, item: &T) -> MapHash {
         hash_of::<T, E, S>(state, item)
-    }
-
-    fn unasked() -> Option<MapHash> {
-        None
     }
 
     fn look_up(
@@ -202,8 +212,6 @@ where
         }
     }
 
-    fn spot(&self, items: &ItemSet<T>, state: &S, known: MapHash, item: &T) {}
-
     fn plan(&self, items: &ItemSet<T>, state: &S, spot: (), ix: ItemIndex, item: &T) {}
 
     fn make_room(&mut self, items: &ItemSet<T>, state: &S, plan: &()) -> Result<(), AllocError> {
@@ -213,10 +221,34 @@ where
     fn insert(&mut self, known: MapHash, plan: &(), ix: ItemIndex) {
         self.table.insert_prehashed_unchecked(known, ix);
     }
+}
 
+impl<T, S, E> Removes<T, S> for ByHash<E>
+where
+    E: KeyOf<T>,
+    E::Key: Eq + Hash,
+    S: BuildHasher,
+{
     fn remove(&mut self, items: &ItemSet<T>, state: &S, ix: ItemIndex) {
         take_item::<T, E, S>(&mut self.table, items, state, ix);
     }
+
+    fn clear(&mut self) {
+        self.table.clear();
+    }
+
+    fn remap(&mut self, remap: &IndexRemap) {
+        self.table.remap_indexes(remap);
+    }
+}
+
+impl<T, S, E> Overwrites<T, S> for ByHash<E>
+where
+    E: KeyOf<T>,
+    E::Key: Eq + Hash,
+    S: BuildHasher,
+{
+    fn spot(&self, items: &ItemSet<T>, state: &S, known: MapHash, item: &T) {}
 
     fn ready_after(&mut self, items: &ItemSet<T>, state: &S) -> Result<(), AllocError> {
         Ok(())
@@ -228,6 +260,17 @@ where
             Some(before) if at <= before => None,
             _ => Some(at),
         }
+    }
+}
+
+impl<T, S, E> Moves<T, S> for ByHash<E>
+where
+    E: KeyOf<T>,
+    E::Key: Eq + Hash,
+    S: BuildHasher,
+{
+    fn unasked() -> Option<MapHash> {
+        None
     }
 
     fn plan_move(
@@ -255,15 +298,14 @@ where
     ) {
         commit_item::<T, E, S>(&mut self.table, items, state, asked, plan, ix);
     }
+}
 
-    fn clear(&mut self) {
-        self.table.clear();
-    }
-
-    fn remap(&mut self, remap: &IndexRemap) {
-        self.table.remap_indexes(remap);
-    }
-
+impl<T, S, E> Checks<T, S> for ByHash<E>
+where
+    E: KeyOf<T>,
+    E::Key: Eq + Hash,
+    S: BuildHasher,
+{
     fn copied(&self) -> Result<ByHash<E>, AllocError> {
         Ok(ByHash {
             table: self.table.clone()?,

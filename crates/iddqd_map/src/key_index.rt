@@ -104,229 +104,9 @@ pub trait KeyIndex<T, S>: Sized + Drop {
 
     ghost is_ready: { Self → Self.Move → Type 0 };
 
-    /// One over a store without items. It takes no memory.
-    fn new(alloc: Global) -> Self
-        ensures none { IndexesNone (indexes result) }
-        ensures capacity { capacity result ≡ 0 }
-        ensures cells { cells result ≡ 0 };
-
-    /// One over a store without items, that can hold so many indexes. With 0 it takes no memory.
-    fn with_capacity(alloc: Global, wanted: usize) -> Result<Self, AllocError>
-        ensures none { IfOk result (λ x. IndexesNone (indexes x)) }
-        ensures capacity { IfOk result (λ x. wanted ≤ capacity x) }
-        ensures few { IfOk result (λ x. cells x ≤ most wanted) }
-        ensures succeeds { wanted ≡ 0 → IsOk result };
-
     /// How many indexes it can hold without more memory.
     fn capacity(&self) -> usize
         ensures { result ≡ capacity self.now };
-
-    /// Makes room for so many more indexes. Where there is room it takes no memory.
-    fn reserve(
-        &mut self,
-        items: &ItemSet<T>,
-        state: &S,
-        additional: usize,
-    ) -> Result<(), AllocError>
-        requires indexed { indexes self.old state.now items.now.store }
-        ensures contents { same self.old self.new }
-        ensures reserved { OnOk result (live_count items.now.store + additional ≤ capacity self.new) }
-        ensures had_room { live_count items.now.store + additional ≤ capacity self.old
-            → IsOk result × (self.new ≡ self.old) }
-        ensures capacity_stays { capacity self.old ≤ capacity self.new }
-        ensures few { cells self.new ≤ cells self.old + most (live_count items.now.store + additional) };
-
-    /// Gives back what so many indexes don't need, beside those that there are.
-    ///
-    /// The memory may have to move to a smaller block, which may be refused.
-    fn shrink_to(&mut self, items: &ItemSet<T>, state: &S, least: usize) -> Result<(), AllocError>
-        requires indexed { indexes self.old state.now items.now.store }
-        ensures contents { same self.old self.new }
-        ensures never_more { cells self.new ≤ cells self.old }
-        ensures capacity_stays { min (capacity self.old) (max least (live_count items.now.store))
-            ≤ capacity self.new }
-        ensures shrunk { OnOk result (cells self.new ≤ most (max least (live_count items.now.store))) }
-        ensures refused { OnErr result (max least (live_count items.now.store) < cells self.new) }
-        ensures succeeds { max least (live_count items.now.store) ≡ 0 → IsOk result };
-
-    /// What is computed of an item's keys alone.
-    fn known(state: &S, item: &T) -> Self::Known
-        ensures { is_known state.now item.now result };
-
-    /// Nothing that a look-up computed.
-    fn unasked() -> Self::Asked;
-
-    /// Where an item may go, or the items that it is alike to. It takes no memory.
-    fn look_up(
-        &self,
-        items: &ItemSet<T>,
-        state: &S,
-        known: Self::Known,
-        item: &T,
-    ) -> Result<Self::Spot, Self::Conflict>
-        requires hashed { is_known state.now item.now known }
-        requires indexed { indexes self.now state.now items.now.store }
-        ensures { FindsSpot (alike item.now) (is_spot self.now state.now items.now.store item.now)
-            (conflicts items.now.store item.now) items.now.store result };
-
-    /// Where an item may go that is alike to none.
-    fn spot(&self, items: &ItemSet<T>, state: &S, known: Self::Known, item: &T) -> Self::Spot
-        requires hashed { is_known state.now item.now known }
-        requires indexed { indexes self.now state.now items.now.store }
-        requires apart { HasNoHit items.now.store (alike item.now) }
-        ensures { is_spot self.now state.now items.now.store item.now result };
-
-    /// Where an item goes under the next index.
-    fn plan(
-        &self,
-        items: &ItemSet<T>,
-        state: &S,
-        spot: Self::Spot,
-        ix: ItemIndex,
-        item: &T,
-    ) -> Self::Plan
-        requires valid { IsValid items.now.store }
-        requires indexed { indexes self.now state.now items.now.store }
-        requires spot { is_spot self.now state.now items.now.store item.now spot }
-        requires next { ix ≡ next_index items.now.store }
-        ensures { is_planned self.now state.now items.now.store item.now result };
-
-    /// Makes the room for a planned insert. Where there is room it takes no memory.
-    fn make_room(
-        &mut self,
-        items: &ItemSet<T>,
-        state: &S,
-        plan: &Self::Plan,
-    ) -> Result<(), AllocError>
-        requires indexed { indexes self.old state.now items.now.store }
-        ensures contents { same self.old self.new }
-        ensures ready { OnOk result (has_room_for self.new plan.now) }
-        ensures had_room { live_count items.now.store < capacity self.old → IsOk result × (self.new ≡ self.old) }
-        ensures capacity_stays { capacity self.old ≤ capacity self.new }
-        ensures few { cells self.new ≤ cells self.old + most (live_count items.now.store + 1) };
-
-    /// Enters an index as it was planned. It takes no memory.
-    fn insert(&mut self, known: Self::Known, plan: &Self::Plan, ix: ItemIndex)
-        requires room { has_room_for self.old plan.now }
-        requires next { IsNextOf (indexes self.old) ix }
-        requires assigned { ix ≢ sentinel }
-        requires planned { IsPlannedForOne (λ state s item. is_planned self.old state s item plan.now) }
-        ensures indexed { IndexesOneMore alike (λ state item. is_known state item known)
-            (λ state s item. is_planned self.old state s item plan.now) (indexes self.old) ix (indexes self.new) }
-        ensures capacity { capacity self.new ≡ capacity self.old }
-        ensures cells { cells self.new ≡ cells self.old };
-
-    /// Takes a live index out. It takes no memory.
-    fn remove(&mut self, items: &ItemSet<T>, state: &S, ix: ItemIndex)
-        requires live { IsLive items.now.store ix }
-        requires indexed { indexes self.old state.now items.now.store }
-        ensures indexed { indexes self.new state.now (removed items.now.store ix) }
-        ensures capacity { capacity self.new ≡ capacity self.old }
-        ensures cells { cells self.new ≡ cells self.old }
-        ensures ready { is_ready_after self.old → is_ready_after self.new }
-        ensures roomy { (plan : Self.Plan) → is_ready_after self.old → has_room_for self.new plan };
-
-    /// Makes ready for an insert that comes after a removal. Below the capacity it takes no memory.
-    fn ready_after(&mut self, items: &ItemSet<T>, state: &S) -> Result<(), AllocError>
-        requires indexed { indexes self.old state.now items.now.store }
-        ensures contents { same self.old self.new }
-        ensures ready { OnOk result (is_ready_after self.new) }
-        ensures may_lack { OnErr result (may_lack ≡ true) }
-        ensures past { OnErr result (capacity self.old < live_count items.now.store) }
-        ensures capacity { capacity self.new ≡ capacity self.old }
-        ensures cells { cells self.new ≡ cells self.old };
-
-    /// The next index of the items that were told, past one or from the first on.
-    fn next_told(conflict: &Self::Conflict, before: Option<ItemIndex>) -> Option<ItemIndex>
-        ensures { IsNextTold (tells conflict.now) before result };
-
-    /// What becomes of a live index that is given this item, or the other items that it is alike to.
-    fn plan_move(
-        &self,
-        items: &ItemSet<T>,
-        state: &S,
-        ix: ItemIndex,
-        item: &T,
-    ) -> Result<Self::Move, Self::Conflict>
-        requires live { IsLive items.now.store ix }
-        requires indexed { indexes self.now state.now items.now.store }
-        ensures { PlansMove (alike item.now) (same_keys item.now) (is_move state.now items.now.store ix item.now)
-            moves (taken items.now.store ix item.now) items.now.store ix result };
-
-    /// Makes ready for a move. Up to the capacity it takes no memory, nor where all keys stay.
-    fn ready_move(
-        &mut self,
-        items: &ItemSet<T>,
-        state: &S,
-        plan: &Self::Move,
-    ) -> Result<(), AllocError>
-        requires indexed { indexes self.old state.now items.now.store }
-        ensures contents { same self.old self.new }
-        ensures ready { OnOk result (is_ready self.new plan.now) }
-        ensures moves { OnErr result (moves plan.now ≡ true) }
-        ensures may_lack { OnErr result (may_lack ≡ true) }
-        ensures past { OnErr result (capacity self.old < live_count items.now.store) }
-        ensures capacity { capacity self.new ≡ capacity self.old }
-        ensures cells { cells self.new ≡ cells self.old };
-
-    /// Enters a live index as it was planned, while the store has its old item. It takes no memory.
-    fn commit_move(
-        &mut self,
-        items: &ItemSet<T>,
-        state: &S,
-        asked: Self::Asked,
-        plan: &Self::Move,
-        ix: ItemIndex,
-        item: &T,
-    )
-        requires live { IsLive items.now.store ix }
-        requires indexed { indexes self.old state.now items.now.store }
-        requires planned { is_move state.now items.now.store ix item.now plan.now }
-        requires ready { is_ready self.old plan.now }
-        ensures indexed { indexes self.new state.now (rebound items.now.store ix item.now) }
-        ensures capacity { capacity self.new ≡ capacity self.old }
-        ensures cells { cells self.new ≡ cells self.old };
-
-    /// Forgets every index, and keeps the memory.
-    fn clear(&mut self)
-        ensures none { IndexesNone (indexes self.new) }
-        ensures capacity { capacity self.new ≡ capacity self.old }
-        ensures cells { cells self.new ≡ cells self.old };
-
-    /// Gives each index its new name. It takes no memory.
-    fn remap(&mut self, remap: &IndexRemap)
-        requires names { IsRemapOfSome (indexes self.old) remap.now }
-        ensures indexed { IndexesCompacted (indexes self.old) remap.now (indexes self.new) }
-        ensures capacity { capacity self.new ≡ capacity self.old }
-        ensures cells { cells self.new ≡ cells self.old };
-
-    /// One that indexes the same, and has no more memory.
-    fn copied(&self) -> Result<Self, AllocError>
-        ensures contents { IfOk result (λ copy. IndexesAllOf (indexes self.now) (indexes copy)) }
-        ensures few { IfOk result (λ copy. cells copy ≤ cells self.now) };
-
-    /// The index of the item that shares all keys with this one.
-    fn find_same(&self, items: &ItemSet<T>, state: &S, item: &T) -> Option<ItemIndex>
-        requires indexed { indexes self.now state.now items.now.store }
-        ensures { AnswersScan items.now.store (same_keys item.now) result };
-
-    /// Whether the items share all keys.
-    fn is_same(item: &T, other: &T) -> bool
-        ensures { result ≡ same_keys item.now other.now };
-
-    /// Whether the tables are sound over the store, as they are in every map, where the slots are as the mode wants them.
-    ///
-    /// It sorts a copy of the indexes, whose memory may be refused.
-    fn validate(
-        &self,
-        items: &ItemSet<T>,
-        state: &S,
-        compactness: ValidateCompact,
-    ) -> Result<(), ValidateRefusal<ValidationError>>
-        requires valid { IsValid items.now.store }
-        requires allowed { Allows compactness (length items.now.store.free) }
-        requires indexed { indexes self.now state.now items.now.store }
-        ensures { Validates (Allows compactness (length items.now.store.free)) result };
 
     // What means the same indexes the same, and keeps plans.
     ghost same_as_itself: { (x : Self) → same x x };
@@ -361,6 +141,250 @@ pub trait KeyIndex<T, S>: Sized + Drop {
 
     // Items that share all keys share one.
     ghost same_are_alike: { (x y : T) → same_keys x y ≡ true → alike x y ≡ true };
+}
+
+/// A key index whose memory can be taken ahead and given back.
+pub trait Sizes<T, S>: KeyIndex<T, S> {
+    /// One over a store without items. It takes no memory.
+    fn new(alloc: Global) -> Self
+        ensures none { IndexesNone (Self.indexes result) }
+        ensures capacity { Self.capacity result ≡ 0 }
+        ensures cells { Self.cells result ≡ 0 };
+
+    /// One over a store without items, that can hold so many indexes. With 0 it takes no memory.
+    fn with_capacity(alloc: Global, wanted: usize) -> Result<Self, AllocError>
+        ensures none { IfOk result (λ x. IndexesNone (Self.indexes x)) }
+        ensures capacity { IfOk result (λ x. wanted ≤ Self.capacity x) }
+        ensures few { IfOk result (λ x. Self.cells x ≤ Self.most wanted) }
+        ensures succeeds { wanted ≡ 0 → IsOk result };
+
+    /// Makes room for so many more indexes. Where there is room it takes no memory.
+    fn reserve(
+        &mut self,
+        items: &ItemSet<T>,
+        state: &S,
+        additional: usize,
+    ) -> Result<(), AllocError>
+        requires indexed { Self.indexes self.old state.now items.now.store }
+        ensures contents { Self.same self.old self.new }
+        ensures reserved { OnOk result (live_count items.now.store + additional ≤ Self.capacity self.new) }
+        ensures had_room { live_count items.now.store + additional ≤ Self.capacity self.old
+            → IsOk result × (self.new ≡ self.old) }
+        ensures capacity_stays { Self.capacity self.old ≤ Self.capacity self.new }
+        ensures few { Self.cells self.new ≤ Self.cells self.old + Self.most (live_count items.now.store + additional) };
+
+    /// Gives back what so many indexes don't need, beside those that there are.
+    ///
+    /// The memory may have to move to a smaller block, which may be refused.
+    fn shrink_to(&mut self, items: &ItemSet<T>, state: &S, least: usize) -> Result<(), AllocError>
+        requires indexed { Self.indexes self.old state.now items.now.store }
+        ensures contents { Self.same self.old self.new }
+        ensures never_more { Self.cells self.new ≤ Self.cells self.old }
+        ensures capacity_stays { min (Self.capacity self.old) (max least (live_count items.now.store))
+            ≤ Self.capacity self.new }
+        ensures shrunk { OnOk result (Self.cells self.new ≤ Self.most (max least (live_count items.now.store))) }
+        ensures refused { OnErr result (max least (live_count items.now.store) < Self.cells self.new) }
+        ensures succeeds { max least (live_count items.now.store) ≡ 0 → IsOk result };
+}
+
+/// A key index that takes another item.
+///
+/// `look_up` finds where it may go, or the items that it shares a key with; `plan` says where under its index;
+/// `make_room` takes the memory; then `insert` can't fail.
+pub trait Inserts<T, S>: KeyIndex<T, S> {
+    /// What is computed of an item's keys alone.
+    fn known(state: &S, item: &T) -> Self::Known
+        ensures { Self.is_known state.now item.now result };
+
+    /// Where an item may go, or the items that it is alike to. It takes no memory.
+    fn look_up(
+        &self,
+        items: &ItemSet<T>,
+        state: &S,
+        known: Self::Known,
+        item: &T,
+    ) -> Result<Self::Spot, Self::Conflict>
+        requires hashed { Self.is_known state.now item.now known }
+        requires indexed { Self.indexes self.now state.now items.now.store }
+        ensures { FindsSpot (Self.alike item.now) (Self.is_spot self.now state.now items.now.store item.now)
+            (Self.conflicts items.now.store item.now) items.now.store result };
+
+    /// Where an item goes under the next index.
+    fn plan(
+        &self,
+        items: &ItemSet<T>,
+        state: &S,
+        spot: Self::Spot,
+        ix: ItemIndex,
+        item: &T,
+    ) -> Self::Plan
+        requires valid { IsValid items.now.store }
+        requires indexed { Self.indexes self.now state.now items.now.store }
+        requires spot { Self.is_spot self.now state.now items.now.store item.now spot }
+        requires next { ix ≡ next_index items.now.store }
+        ensures { Self.is_planned self.now state.now items.now.store item.now result };
+
+    /// Makes the room for a planned insert. Where there is room it takes no memory.
+    fn make_room(
+        &mut self,
+        items: &ItemSet<T>,
+        state: &S,
+        plan: &Self::Plan,
+    ) -> Result<(), AllocError>
+        requires indexed { Self.indexes self.old state.now items.now.store }
+        ensures contents { Self.same self.old self.new }
+        ensures ready { OnOk result (Self.has_room_for self.new plan.now) }
+        ensures had_room { live_count items.now.store < Self.capacity self.old → IsOk result × (self.new ≡ self.old) }
+        ensures capacity_stays { Self.capacity self.old ≤ Self.capacity self.new }
+        ensures few { Self.cells self.new ≤ Self.cells self.old + Self.most (live_count items.now.store + 1) };
+
+    /// Enters an index as it was planned. It takes no memory.
+    fn insert(&mut self, known: Self::Known, plan: &Self::Plan, ix: ItemIndex)
+        requires room { Self.has_room_for self.old plan.now }
+        requires next { IsNextOf (Self.indexes self.old) ix }
+        requires assigned { ix ≢ sentinel }
+        requires planned { IsPlannedForOne (λ state s item. Self.is_planned self.old state s item plan.now) }
+        ensures indexed { IndexesOneMore Self.alike (λ state item. Self.is_known state item known)
+            (λ state s item. Self.is_planned self.old state s item plan.now) (Self.indexes self.old) ix (Self.indexes self.new) }
+        ensures capacity { Self.capacity self.new ≡ Self.capacity self.old }
+        ensures cells { Self.cells self.new ≡ Self.cells self.old };
+}
+
+/// A key index that drops an item, or all of them, or gives them other names. None of these takes memory.
+pub trait Removes<T, S>: KeyIndex<T, S> {
+    /// Takes a live index out. It takes no memory.
+    fn remove(&mut self, items: &ItemSet<T>, state: &S, ix: ItemIndex)
+        requires live { IsLive items.now.store ix }
+        requires indexed { Self.indexes self.old state.now items.now.store }
+        ensures indexed { Self.indexes self.new state.now (removed items.now.store ix) }
+        ensures capacity { Self.capacity self.new ≡ Self.capacity self.old }
+        ensures cells { Self.cells self.new ≡ Self.cells self.old }
+        ensures ready { Self.is_ready_after self.old → Self.is_ready_after self.new }
+        ensures roomy { (plan : Self.Plan) → Self.is_ready_after self.old → Self.has_room_for self.new plan };
+
+    /// Forgets every index, and keeps the memory.
+    fn clear(&mut self)
+        ensures none { IndexesNone (Self.indexes self.new) }
+        ensures capacity { Self.capacity self.new ≡ Self.capacity self.old }
+        ensures cells { Self.cells self.new ≡ Self.cells self.old };
+
+    /// Gives each index its new name. It takes no memory.
+    fn remap(&mut self, remap: &IndexRemap)
+        requires names { IsRemapOfSome (Self.indexes self.old) remap.now }
+        ensures indexed { IndexesCompacted (Self.indexes self.old) remap.now (Self.indexes self.new) }
+        ensures capacity { Self.capacity self.new ≡ Self.capacity self.old }
+        ensures cells { Self.cells self.new ≡ Self.cells self.old };
+}
+
+/// A key index that takes an item in the place of those that share a key with it.
+pub trait Overwrites<T, S>: Inserts<T, S> + Removes<T, S> {
+    /// Where an item may go that is alike to none.
+    fn spot(&self, items: &ItemSet<T>, state: &S, known: Self::Known, item: &T) -> Self::Spot
+        requires hashed { Self.is_known state.now item.now known }
+        requires indexed { Self.indexes self.now state.now items.now.store }
+        requires apart { HasNoHit items.now.store (Self.alike item.now) }
+        ensures { Self.is_spot self.now state.now items.now.store item.now result };
+
+    /// Makes ready for an insert that comes after a removal. Below the capacity it takes no memory.
+    fn ready_after(&mut self, items: &ItemSet<T>, state: &S) -> Result<(), AllocError>
+        requires indexed { Self.indexes self.old state.now items.now.store }
+        ensures contents { Self.same self.old self.new }
+        ensures ready { OnOk result (Self.is_ready_after self.new) }
+        ensures may_lack { OnErr result (Self.may_lack ≡ true) }
+        ensures past { OnErr result (Self.capacity self.old < live_count items.now.store) }
+        ensures capacity { Self.capacity self.new ≡ Self.capacity self.old }
+        ensures cells { Self.cells self.new ≡ Self.cells self.old };
+
+    /// The next index of the items that were told, past one or from the first on.
+    fn next_told(conflict: &Self::Conflict, before: Option<ItemIndex>) -> Option<ItemIndex>
+        ensures { IsNextTold (Self.tells conflict.now) before result };
+}
+
+/// A key index that gives a live index another item.
+///
+/// `plan_move` finds what becomes of it, or the other items that share a key; `ready_move` takes the memory, if any is
+/// needed; then `commit_move` can't fail.
+pub trait Moves<T, S>: KeyIndex<T, S> {
+    /// Nothing that a look-up computed.
+    fn unasked() -> Self::Asked;
+
+    /// What becomes of a live index that is given this item, or the other items that it is alike to.
+    fn plan_move(
+        &self,
+        items: &ItemSet<T>,
+        state: &S,
+        ix: ItemIndex,
+        item: &T,
+    ) -> Result<Self::Move, Self::Conflict>
+        requires live { IsLive items.now.store ix }
+        requires indexed { Self.indexes self.now state.now items.now.store }
+        ensures { PlansMove (Self.alike item.now) (Self.same_keys item.now) (Self.is_move state.now items.now.store ix item.now)
+            Self.moves (Self.taken items.now.store ix item.now) items.now.store ix result };
+
+    /// Makes ready for a move. Up to the capacity it takes no memory, nor where all keys stay.
+    fn ready_move(
+        &mut self,
+        items: &ItemSet<T>,
+        state: &S,
+        plan: &Self::Move,
+    ) -> Result<(), AllocError>
+        requires indexed { Self.indexes self.old state.now items.now.store }
+        ensures contents { Self.same self.old self.new }
+        ensures ready { OnOk result (Self.is_ready self.new plan.now) }
+        ensures moves { OnErr result (Self.moves plan.now ≡ true) }
+        ensures may_lack { OnErr result (Self.may_lack ≡ true) }
+        ensures past { OnErr result (Self.capacity self.old < live_count items.now.store) }
+        ensures capacity { Self.capacity self.new ≡ Self.capacity self.old }
+        ensures cells { Self.cells self.new ≡ Self.cells self.old };
+
+    /// Enters a live index as it was planned, while the store has its old item. It takes no memory.
+    fn commit_move(
+        &mut self,
+        items: &ItemSet<T>,
+        state: &S,
+        asked: Self::Asked,
+        plan: &Self::Move,
+        ix: ItemIndex,
+        item: &T,
+    )
+        requires live { IsLive items.now.store ix }
+        requires indexed { Self.indexes self.old state.now items.now.store }
+        requires planned { Self.is_move state.now items.now.store ix item.now plan.now }
+        requires ready { Self.is_ready self.old plan.now }
+        ensures indexed { Self.indexes self.new state.now (rebound items.now.store ix item.now) }
+        ensures capacity { Self.capacity self.new ≡ Self.capacity self.old }
+        ensures cells { Self.cells self.new ≡ Self.cells self.old };
+}
+
+/// A key index that can be copied, compared and checked.
+pub trait Checks<T, S>: KeyIndex<T, S> {
+    /// One that indexes the same, and has no more memory.
+    fn copied(&self) -> Result<Self, AllocError>
+        ensures contents { IfOk result (λ copy. IndexesAllOf (Self.indexes self.now) (Self.indexes copy)) }
+        ensures few { IfOk result (λ copy. Self.cells copy ≤ Self.cells self.now) };
+
+    /// The index of the item that shares all keys with this one.
+    fn find_same(&self, items: &ItemSet<T>, state: &S, item: &T) -> Option<ItemIndex>
+        requires indexed { Self.indexes self.now state.now items.now.store }
+        ensures { AnswersScan items.now.store (Self.same_keys item.now) result };
+
+    /// Whether the items share all keys.
+    fn is_same(item: &T, other: &T) -> bool
+        ensures { result ≡ Self.same_keys item.now other.now };
+
+    /// Whether the tables are sound over the store, as they are in every map, where the slots are as the mode wants them.
+    ///
+    /// It sorts a copy of the indexes, whose memory may be refused.
+    fn validate(
+        &self,
+        items: &ItemSet<T>,
+        state: &S,
+        compactness: ValidateCompact,
+    ) -> Result<(), ValidateRefusal<ValidationError>>
+        requires valid { IsValid items.now.store }
+        requires allowed { Allows compactness (length items.now.store.free) }
+        requires indexed { Self.indexes self.now state.now items.now.store }
+        ensures { Validates (Allows compactness (length items.now.store.free)) result };
 }
 
 /// Where a key index has a key by its hash: `Here` in a leaf, else to the left or the right in a pair.

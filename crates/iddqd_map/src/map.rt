@@ -26,7 +26,7 @@ mod retain;
 mod steps;
 mod walks;
 
-use crate::key_index::KeyIndex;
+use crate::key_index::{KeyIndex, Sizes};
 use iddqd::hash_builder::DefaultHashBuilder;
 use iddqd::item_index::ItemIndex;
 use iddqd::item_set::ItemSet;
@@ -67,7 +67,7 @@ pub struct Parts<'a, T, X, S> {
     pub state: &'a S,
 }
 
-impl<T, X: KeyIndex<T, DefaultHashBuilder>> Map<T, X, DefaultHashBuilder> {
+impl<T, X: Sizes<T, DefaultHashBuilder>> Map<T, X, DefaultHashBuilder> {
     /// No items, slots for as many as there are indexes but `SENTINEL`, and the default hasher, whose seed is fixed. It
     /// takes no memory.
     pub fn new(alloc: Global) -> Map<T, X, DefaultHashBuilder>
@@ -86,7 +86,7 @@ impl<T, X: KeyIndex<T, DefaultHashBuilder>> Map<T, X, DefaultHashBuilder> {
     }
 }
 
-impl<T, X: KeyIndex<T, S>, S> Map<T, X, S> {
+impl<T, X: Sizes<T, S>, S> Map<T, X, S> {
     /// No items, and slots for as many as there are indexes but `SENTINEL`. It takes no memory.
     pub fn with_hasher(alloc: Global, state: S) -> Map<T, X, S>
         ensures { result ≡ empty_map u32.MAX }
@@ -106,7 +106,9 @@ impl<T, X: KeyIndex<T, S>, S> Map<T, X, S> {
             state,
         }
     }
+}
 
+impl<T, X: KeyIndex<T, S>, S> Map<T, X, S> {
     /// The number of items.
     pub fn len(&self) -> usize
         ensures value { result ≡ live_count self.now.store }

@@ -8,7 +8,7 @@ ghost use Rattle.std.specs.Prelude.{◌≡◌, Some};
 ghost use Rattle.iddqd_map.specs.KeyIndex.{IsNextTold};
 ghost use Rattle.iddqd_map.specs.PairConflict.{IsToldBy, first_of, second_of, lesser_of};
 
-use crate::key_index::{HashedAt, KeyIndex, Left, Right};
+use crate::key_index::{Checks, HashedAt, Inserts, KeyIndex, Left, Moves, Overwrites, Removes, Right, Sizes};
 use crate::pair_conflict::{PairConflict, TellsPair};
 use iddqd::index_remap::IndexRemap;
 use iddqd::internal::{ValidateCompact, ValidateRefusal, ValidationError};
@@ -142,6 +142,17 @@ where
 
     ghost same_are_alike = { alike_both A.same_keys B.same_keys A.alike A.same_are_alike B.alike };
 
+    fn capacity(&self) -> usize {
+        self.first.capacity().min(self.second.capacity())
+    }
+}
+
+impl<T, S, A, B, C> Sizes<T, S> for Pair<A, B, C>
+where
+    A: Sizes<T, S>,
+    B: Sizes<T, S>,
+    C: TellsPair<A::Conflict, B::Conflict>,
+{
     fn new(alloc: Global) -> Pair<A, B, C> {
         Pair {
             first: A::new(alloc),
@@ -158,10 +169,6 @@ where
         })
     }
 
-    fn capacity(&self) -> usize {
-        self.first.capacity().min(self.second.capacity())
-    }
-
     fn reserve(
         &mut self,
         items: &ItemSet<T>,
@@ -176,13 +183,16 @@ where
         self.first.shrink_to(items, state, least)?;
         self.second.shrink_to(items, state, least)
     }
+}
 
+impl<T, S, A, B, C> Inserts<T, S> for Pair<A, B, C>
+where
+    A: Inserts<T, S>,
+    B: Inserts<T, S>,
+    C: TellsPair<A::Conflict, B::Conflict>,
+{
     fn known(state: &S, item: &T) -> (A::Known, B::Known) {
         (A::known(state, item), B::known(state, item))
-    }
-
-    fn unasked() -> (A::Asked, B::Asked) {
-        (A::unasked(), B::unasked())
     }
 
     fn look_up(
@@ -201,19 +211,6 @@ where
             },
             Err(one) => Err(C::told(first_with(one, second.err()))),
         }
-    }
-
-    fn spot(
-        &self,
-        items: &ItemSet<T>,
-        state: &S,
-        known: (A::Known, B::Known),
-        item: &T,
-    ) -> (A::Spot, B::Spot) {
-        (
-            self.first.spot(items, state, known.0, item),
-            self.second.spot(items, state, known.1, item),
-        )
     }
 
     fn plan(
@@ -245,10 +242,47 @@ where
         self.first.insert(known.0, &plan.0, ix);
         self.second.insert(known.1, &plan.1, ix);
     }
+}
 
+impl<T, S, A, B, C> Removes<T, S> for Pair<A, B, C>
+where
+    A: Removes<T, S>,
+    B: Removes<T, S>,
+    C: TellsPair<A::Conflict, B::Conflict>,
+{
     fn remove(&mut self, items: &ItemSet<T>, state: &S, ix: ItemIndex) {
         self.first.remove(items, state, ix);
         self.second.remove(items, state, ix);
+    }
+
+    fn clear(&mut self) {
+        self.first.clear();
+        self.second.clear();
+    }
+
+    fn remap(&mut self, remap: &IndexRemap) {
+        self.first.remap(remap);
+        self.second.remap(remap);
+    }
+}
+
+impl<T, S, A, B, C> Overwrites<T, S> for Pair<A, B, C>
+where
+    A: Overwrites<T, S>,
+    B: Overwrites<T, S>,
+    C: TellsPair<A::Conflict, B::Conflict>,
+{
+    fn spot(
+        &self,
+        items: &ItemSet<T>,
+        state: &S,
+        known: (A::Known, B::Known),
+        item: &T,
+    ) -> (A::Spot, B::Spot) {
+        (
+            self.first.spot(items, state, known.0, item),
+            self.second.spot(items, state, known.1, item),
+        )
     }
 
     fn ready_after(&mut self, items: &ItemSet<T>, state: &S) -> Result<(), AllocError> {
@@ -260,6 +294,17 @@ where
         let first = next_of::<T, S, A>(conflict.first(), &before);
         let second = next_of::<T, S, B>(conflict.second(), &before);
         lesser(first, second)
+    }
+}
+
+impl<T, S, A, B, C> Moves<T, S> for Pair<A, B, C>
+where
+    A: Moves<T, S>,
+    B: Moves<T, S>,
+    C: TellsPair<A::Conflict, B::Conflict>,
+{
+    fn unasked() -> (A::Asked, B::Asked) {
+        (A::unasked(), B::unasked())
     }
 
     fn plan_move(
@@ -302,17 +347,14 @@ where
         self.first.commit_move(items, state, asked.0, &plan.0, ix, item);
         self.second.commit_move(items, state, asked.1, &plan.1, ix, item);
     }
+}
 
-    fn clear(&mut self) {
-        self.first.clear();
-        self.second.clear();
-    }
-
-    fn remap(&mut self, remap: &IndexRemap) {
-        self.first.remap(remap);
-        self.second.remap(remap);
-    }
-
+impl<T, S, A, B, C> Checks<T, S> for Pair<A, B, C>
+where
+    A: Checks<T, S>,
+    B: Checks<T, S>,
+    C: TellsPair<A::Conflict, B::Conflict>,
+{
     fn copied(&self) -> Result<Pair<A, B, C>, AllocError> {
         Ok(Pair {
             first: self.first.copied()?,
@@ -357,7 +399,7 @@ fn first_with<A, B>(one: A, other: Option<B>) -> PairConflict<A, B>
 }
 
 // The next index past one that one of the two told, if it told any.
-fn next_of<T, S, X: KeyIndex<T, S>>(
+fn next_of<T, S, X: Overwrites<T, S>>(
     conflict: Option<X::Conflict>,
     before: &Option<ItemIndex>,
 ) -> Option<ItemIndex>
@@ -383,7 +425,7 @@ fn lesser(one: Option<ItemIndex>, other: Option<ItemIndex>) -> Option<ItemIndex>
 impl<P, T, S, A, B, C> HashedAt<Left<P>, T, S> for Pair<A, B, C>
 where
     A: HashedAt<P, T, S>,
-    B: KeyIndex<T, S>,
+    B: Moves<T, S> + Removes<T, S>,
     C: TellsPair<A::Conflict, B::Conflict>,
 {
     type Key = A::Key;
@@ -414,7 +456,7 @@ where
 
 impl<P, T, S, A, B, C> HashedAt<Right<P>, T, S> for Pair<A, B, C>
 where
-    A: KeyIndex<T, S>,
+    A: Moves<T, S> + Removes<T, S>,
     B: HashedAt<P, T, S>,
     C: TellsPair<A::Conflict, B::Conflict>,
 {

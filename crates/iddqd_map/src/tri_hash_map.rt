@@ -2,13 +2,13 @@
 //! others.
 //!
 //! All calls that name no key are `Map`'s. Here are those that do, each the call of `Map` at the place of its key.
-ghost use Rattle.std.specs.Prelude.{◌≡◌, ◌↔◌, false, option_copied};
+ghost use Rattle.std.specs.Prelude.{◌≡◌, ◌+◌, ◌↔◌, false, option_copied};
 ghost use Rattle.std.specs.Fn.{FnOnceReturnsAt};
 ghost use Rattle.iddqd_hash.specs.Sizes.{most_cells};
 ghost use Rattle.iddqd_sides.specs.Scan.{HasNoHit, AnswersScan, passes_by};
 ghost use Rattle.iddqd_sides.specs.KeyKeeping.{KeepsKey, pair_keys};
 ghost use Rattle.iddqd_map.specs.Map.{shares, FindsItem, Removes};
-ghost use Rattle.iddqd_map.specs.Calls.{MayChange, Overwriting, Replaces, Changes};
+ghost use Rattle.iddqd_map.specs.Calls.{MayChange, Overwrites, Replaces, Changes};
 ghost use Rattle.iddqd_map.specs.Modify.{Modifies};
 ghost use Rattle.iddqd_map.specs.ThreeKeys.{any_key, all_keys, AreTaken};
 
@@ -272,7 +272,8 @@ impl<T: TriHashItem, S: BuildHasher> Map<T, TriIndex, S> {
     ) -> Result<(ItemIndex, [Option<T>; 3]), OverwriteRefusal<T>>
         ensures { let first = shares T.first_key T.Key1.eq in let second = shares T.second_key T.Key2.eq in
             let third = shares T.third_key T.Key3.eq in
-            Overwriting (any_key first second third) (λ n. most_cells n + (most_cells n + most_cells n)) false 3 self.old item result self.new }
+            Overwrites (any_key first second third) (λ n. most_cells n + (most_cells n + most_cells n)) false 3
+                self.old item result self.new }
     {
         let mut places = [None, None, None];
         let ix = self.overwrite_into(item, &mut places)?;

@@ -4,10 +4,10 @@ ghost use Rattle.iddqd.specs.{Allows, Validates};
 ghost use Rattle.iddqd.specs.Validation.{Tells, not_compact_text};
 
 use super::Map;
-use crate::key_index::KeyIndex;
+use crate::key_index::Checks;
 use iddqd::internal::{ValidateCompact, ValidateRefusal, ValidationError};
 
-impl<T, X: KeyIndex<T, S>, S> Map<T, X, S> {
+impl<T, X: Checks<T, S>, S> Map<T, X, S> {
     /// Whether store and tables are sound, as they are in every map; in `Compact`, whether no slot is vacant.
     ///
     /// It sorts a copy of the indexes, whose memory may be refused.

@@ -7,10 +7,10 @@ ghost use Rattle.iddqd.specs.{slot_count};
 ghost use Rattle.iddqd.specs.Clones.{IsStoreClone};
 
 use super::Map;
-use crate::key_index::KeyIndex;
+use crate::key_index::Checks;
 use std::alloc::AllocError;
 
-impl<T: Clone, X: KeyIndex<T, S>, S: Copy> Map<T, X, S> {
+impl<T: Clone, X: Checks<T, S>, S: Copy> Map<T, X, S> {
     /// A copy: each item is cloned once, under its index, and no key is hashed or compared. Where memory is refused the
     /// clones made so far are dropped.
     pub(crate) fn copied(&self) -> Result<Map<T, X, S>, AllocError>

@@ -6,14 +6,14 @@ ghost use Rattle.iddqd_map.specs.KeyIndex.{IsIndexed};
 
 use super::Map;
 use super::steps::store_in_room;
-use crate::key_index::KeyIndex;
+use crate::key_index::Inserts;
 use crate::place::refusal;
 use crate::refusal::InsertRefusal;
 use iddqd::item_index::ItemIndex;
 use iddqd::item_set::ItemSet;
 use std::alloc::AllocError;
 
-impl<T, X: KeyIndex<T, S>, S> Map<T, X, S> {
+impl<T, X: Inserts<T, S>, S> Map<T, X, S> {
     /// Takes an item that shares no key with another, and tells its index.
     ///
     /// Conflicts are told even where the map is full or no memory is left, and a full map even where no memory is left.
@@ -28,7 +28,7 @@ impl<T, X: KeyIndex<T, S>, S> Map<T, X, S> {
 }
 
 /// Stores an item that shares no key with another, and enters its index.
-pub(super) fn insert<T, X: KeyIndex<T, S>, S>(
+pub(super) fn insert<T, X: Inserts<T, S>, S>(
     items: &mut ItemSet<T>,
     indexes: &mut X,
     state: &S,

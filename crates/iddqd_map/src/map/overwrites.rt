@@ -14,13 +14,13 @@ ghost use Rattle.iddqd_map.specs.Several.{padded};
 use super::Map;
 use super::inserts::insert;
 use super::steps::{next_in_room, put_into, store_in_room, take_out};
-use crate::key_index::KeyIndex;
+use crate::key_index::Overwrites;
 use crate::refusal::{InsertRefusal, OverwriteRefusal};
 use iddqd::item_index::ItemIndex;
 use iddqd::item_set::ItemSet;
 use std::alloc::AllocError;
 
-impl<T, X: KeyIndex<T, S>, S> Map<T, X, S> {
+impl<T, X: Overwrites<T, S>, S> Map<T, X, S> {
     /// Takes an item, and removes those that share a key with it into the places, by rising index from the first on.
     ///
     /// Where none does, it is inserted, and may be refused, as by `insert_unique`. Where some do, the store needs no
@@ -57,7 +57,7 @@ impl<T, X: KeyIndex<T, S>, S> Map<T, X, S> {
 
 // Removes the items that share a key with this one, stores it and enters its index; or hands it back where memory is
 // refused, before anything is removed.
-fn overwrite<T, X: KeyIndex<T, S>, S>(
+fn overwrite<T, X: Overwrites<T, S>, S>(
     items: &mut ItemSet<T>,
     indexes: &mut X,
     state: &S,
@@ -84,7 +84,7 @@ fn overwrite<T, X: KeyIndex<T, S>, S>(
 }
 
 // Removes the items that were told, at least one, into the places, by rising index.
-fn remove_told<T, X: KeyIndex<T, S>, S>(
+fn remove_told<T, X: Overwrites<T, S>, S>(
     items: &mut ItemSet<T>,
     indexes: &mut X,
     state: &S,
@@ -116,7 +116,7 @@ fn remove_told<T, X: KeyIndex<T, S>, S>(
 }
 
 // Stores an item that shares no key with another where there is room for it, and enters its index.
-fn enter_in_room<T, X: KeyIndex<T, S>, S>(
+fn enter_in_room<T, X: Overwrites<T, S>, S>(
     items: &mut ItemSet<T>,
     indexes: &mut X,
     state: &S,

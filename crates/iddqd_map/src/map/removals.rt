@@ -4,10 +4,10 @@ ghost use Rattle.iddqd_map.specs.Map.{RemovesAt, room};
 
 use super::Map;
 use super::steps::take_out;
-use crate::key_index::KeyIndex;
+use crate::key_index::Removes;
 use iddqd::item_index::ItemIndex;
 
-impl<T, X: KeyIndex<T, S>, S> Map<T, X, S> {
+impl<T, X: Removes<T, S>, S> Map<T, X, S> {
     /// Takes the item at an index out of the map, if there is one. It takes no memory.
     pub fn remove_at(&mut self, ix: ItemIndex) -> Option<T>
         ensures removes { RemovesAt self.old ix result self.new }

@@ -6,13 +6,13 @@ ghost use Rattle.iddqd_map.specs.Calls.{ReplacesAt, ReplacesIfLive, Replaces};
 ghost use Rattle.iddqd_map.specs.KeyIndex.{IsIndexed};
 
 use super::Map;
-use crate::key_index::KeyIndex;
+use crate::key_index::Moves;
 use crate::refusal::ReplaceRefusal;
 use iddqd::item_index::ItemIndex;
 use iddqd::item_set::ItemSet;
 use std::alloc::AllocError;
 
-impl<T, X: KeyIndex<T, S>, S> Map<T, X, S> {
+impl<T, X: Moves<T, S>, S> Map<T, X, S> {
     /// Puts an item in the place of the one at an index, which is handed back; or it is missing, where none is there.
     ///
     /// The item may have other keys. It keeps the index. Where other items have a key of it, or memory is refused, it
@@ -41,7 +41,7 @@ impl<T, X: KeyIndex<T, S>, S> Map<T, X, S> {
 }
 
 // Puts an item in the place of the one at a live index. All memory is taken before anything is written.
-pub(super) fn replace<T, X: KeyIndex<T, S>, S>(
+pub(super) fn replace<T, X: Moves<T, S>, S>(
     items: &mut ItemSet<T>,
     indexes: &mut X,
     state: &S,
@@ -70,7 +70,7 @@ pub(super) fn replace<T, X: KeyIndex<T, S>, S>(
 }
 
 // Puts an item in the place of the one that a look-up found.
-pub(super) fn replace_found<T, X: KeyIndex<T, S>, S>(
+pub(super) fn replace_found<T, X: Moves<T, S>, S>(
     items: &mut ItemSet<T>,
     indexes: &mut X,
     state: &S,

@@ -4,13 +4,13 @@ ghost use Rattle.iddqd.specs.{get, next_index, inserted, removed, room, sentinel
 ghost use Rattle.iddqd_sides.specs.Scan.{IsLive};
 ghost use Rattle.iddqd_map.specs.KeyIndex.{IsIndexed};
 
-use crate::key_index::KeyIndex;
+use crate::key_index::Removes;
 use iddqd::item_index::ItemIndex;
 use iddqd::item_set::ItemSet;
 use std::mem;
 
 /// Takes the item at a live index out of the store, and its index out of the key index. It takes no memory.
-pub(super) fn take_out<T, X: KeyIndex<T, S>, S>(
+pub(super) fn take_out<T, X: Removes<T, S>, S>(
     items: &mut ItemSet<T>,
     indexes: &mut X,
     state: &S,
