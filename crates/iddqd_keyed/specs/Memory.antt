@@ -1,5 +1,5 @@
 -- The memory of keyed items, beside their state: what each part can hold without asking for more.
-use Rattle.std.specs.Prelude.{◌≡◌, ◌≤◌, ◌<◌, ◌-◌, ◌+◌, ⊤, ℕ, List, ◌∷◌, length, Result, IsOk, OnOk, IfErr, min, max, refl}
+use Rattle.std.specs.Prelude.{◌≡◌, ◌≤◌, ◌<◌, ◌-◌, ◌+◌, ◌*◌, ⊤, ℕ, List, ◌∷◌, length, Result, IsOk, OnOk, IfErr, min, max, refl}
 use Rattle.std.specs.FinMap as finite
 use Rattle.std.specs.Coded.{Coded, code_by, coded×, coded_ℕ}
 use Rattle.iddqd.specs.Store.{live_count, slot_count}
@@ -97,6 +97,12 @@ pub record InsertsInMemory {T : Type 0} (has_room : Type 0) (old : Memory) (resu
   pub had_room : has_room → new ≡ old
   pub not_refused : has_room → IfErr result (λ refusal. IsForMemory refusal → ⊥)
 
+-- What an insert takes at most, whatever it answers, where the hash table holds so many indexes: twice as many slots as
+-- there were, at least four, and none past the limit; and no more cells than one more index needs.
+pub record TakesForOne (limit indexes : ℕ) (old new : Memory) : Type 0 where
+  pub slots : new.slots ≤ max old.slots (min limit (max 4 (2 * old.slots)))
+  pub cells : new.cells ≤ max old.cells (most_cells (indexes + 1))
+
 -- each part has room for one more item: of the tables their capacity is more than they hold
 pub record HasRoomInParts {T : Type 0} (items : SizedStore T) (table : Table ℕ) (order : Order) : Type 0 where
   pub slots : 1 ≤ set_room items
@@ -129,13 +135,18 @@ module _ {T S : Type 0} where
   reservable additional k = min additional (insertable k.state.store)
 
   -- What a reserve leaves: the contents; no part can hold less than before; at Ok there is room for so many more items,
-  -- or for as many as the limit leaves; where there was, nothing changes; and the tables have no more than so many need.
+  -- or for as many as the limit leaves; where there was, nothing changes. The tables have no more than so many need, and
+  -- the store no more slots than that, or twice as many as it had.
   pub record ReservesInMemory {E : Type 0}
       (additional : ℕ) (old : SizedState T S) (result : Result (Unit {0}) E) (new : SizedState T S) : Type 0 where
     pub contents : new.state ≡ old.state
     pub no_lower : IsNoLower old.memory new.memory
     pub reserved : OnOk result (reservable additional old ≤ room new)
     pub had_room : reservable additional old ≤ room old → IsOk result × (new ≡ old)
+    pub few_slots :
+        new.memory.slots
+        ≤ max old.memory.slots
+        (max (live_count old.state.store + reservable additional old) (min old.state.store.limit (2 * old.memory.slots)))
     pub few_cells :
         new.memory.cells ≤ max old.memory.cells (most_cells (live_count old.state.store + reservable additional old))
     pub few_blocks :

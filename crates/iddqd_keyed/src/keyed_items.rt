@@ -24,7 +24,7 @@ ghost use Rattle.iddqd_keyed.specs.State.{empty_state, empty_state_within, clear
 ghost use Rattle.iddqd_keyed.specs.Sides.{first_side, second_side, finds_told, hash_in, LooksUp, IsExact, Keeps, KeepsUnlessChanged};
 ghost use Rattle.iddqd_keyed.specs.Machine.{Refuses, Inserts, TellsAsScan, Removes, RemovesBy, Overwrites, Step};
 ghost use Rattle.iddqd_keyed.specs.Run.{Run};
-ghost use Rattle.iddqd_keyed.specs.Memory.{no_memory, capacity, room, memory_of, HasRoomInParts, InsertsInMemory, StepsInMemory, RunsInMemory};
+ghost use Rattle.iddqd_keyed.specs.Memory.{no_memory, capacity, room, memory_of, HasRoomInParts, InsertsInMemory, TakesForOne, StepsInMemory, RunsInMemory};
 
 mod memory;
 mod modifies;
@@ -212,6 +212,8 @@ impl<T: KeyedItem, S: BuildHasher> KeyedItems<T, S> {
         ensures tells { TellsAsScan ⟦<Self as Keyed>⟧.keys self.old.state item result }
         ensures keeps { Keeps ⟦<Self as Keyed>⟧.keys self.old.state self.new.state }
         ensures memory { InsertsInMemory (1 ≤ room self.old) self.old.memory result self.new.memory }
+        ensures few { let store = self.old.state.store in
+            TakesForOne store.limit (live_count store) self.old.memory self.new.memory }
         ensures room { OnOk result (1 ≤ room self.old → room self.old ≡ room self.new + 1) }
     {
         let (hash, first) = self.hash_and_find(item.key1());
@@ -429,6 +431,8 @@ fn enter<T: KeyedItem>(
     ensures memory { let has_room = HasRoomInParts items.old table.old order.old in
         let was = memory_of items.old table.old order.old in
         InsertsInMemory has_room was result (memory_of items.new table.new order.new) }
+    ensures few { let was = memory_of items.old table.old order.old in
+        TakesForOne items.old.store.limit (finite.len (filed table.old)) was (memory_of items.new table.new order.new) }
 {
     let query = ByKey(item.key2());
     let vacant = match ordered::entry::<T, Second, ByKey<T::Key2>>(order, items, &query) {

@@ -1,10 +1,12 @@
 use Rattle.std.proofs.Common.{rules, inl, inr, is_err, refl, sym, ◌∙◌, ap, arith}
 use Rattle.std.proofs.lemmas.Grind.{common_steps}
 use Rattle.std.proofs.lemmas.Bool.{false≢true}
+use Rattle.iddqd.specs.GrowHandle.{handle_set}
 use Rattle.iddqd.specs.Store.{next_index}
 use Rattle.iddqd_order.specs.MapBTreeTable.{order_of}
 use Rattle.iddqd_sides.proofs.OrderedHoldsLemmas.{next_absent}
 use Rattle.iddqd_sides.proofs.OrderedPlaceLemmas.{AddsInPlace-prepared}
+use Rattle.iddqd_keyed.proofs.MemoryLemmas.{few_slots}
 use Rattle.iddqd_keyed.proofs.keyed_items.enter.Goals as goal
 
 pub prepare-requires-clause-absent : goal.prepare-requires-clause-absent
@@ -107,4 +109,13 @@ returns-clause-memory g c =
       refused_early = tt;
       had_room = λ parts. grind (arith, common_steps);
       not_refused = λ _. tt;
+    }
+
+pub returns-clause-few : goal.returns-clause-few
+returns-clause-few g c =
+    let grown = c.in-Ok.ensures in
+    let few = few_slots c.args.items.now (handle_set c.in-Ok.handle) grown.kept grown.grown in
+    record {
+      slots = grind (arith, common_steps);
+      cells = omega (arith, c.try_reserve.ensures.few, c.insert_prehashed_unchecked.ensures.memory.same_memory);
     }
