@@ -161,14 +161,15 @@ module _ {T S : Type 0} (old new : SizedState T S) (paired : IsPaired old.state)
 
 -- ---- memory taken for one item
 
--- a set that can grow has at most as many slots as `doubled` says, or as many as it had
+-- a set that can grow has slots for at most twice as many items, at least for four, or as many as it had
 pub few_slots :
     {T : Type 0} (old new : SizedStore T)
+    → IsValid old.store
     → (1 ≤ set_room old → new ≡ old)
     → (set_room old ≡ 0 → new.capacity ≡ doubled old)
-    → new.capacity ≤ max old.capacity (min old.store.limit (max 4 (2 * old.capacity)))
-few_slots old new kept grown = elim (none_or_some (set_room old)) [
-  | inl none ↦ omega (arith, grown none)
+    → new.capacity ≤ max old.capacity (min old.store.limit (max 4 (2 * live_count old.store)))
+few_slots old new valid kept grown = elim (none_or_some (set_room old)) [
+  | inl none ↦ omega (arith, none, grown none, valid.counted)
   | inr some ↦ omega (arith, ap (λ (s : SizedStore _). s.capacity) (kept some))
 ]
   where

@@ -11,10 +11,12 @@
 //! An insert is one search of the ordered table, which tells a duplicate, or else the place. Each call
 //! that obeys a command says that its states are paired, though the type does, so that `step` and `run`
 //! are proved from the calls' clauses alone.
-ghost use Rattle.std.specs.Prelude.{◌≡◌, ◌↔◌, ◌≤◌, ◌+◌, [], None, IsTrue, IsSome, OnSome, IsOk, IfOk, OnOk, IfErr, OnErr, option_copied};
+ghost use Rattle.std.specs.Prelude.{◌≡◌, ◌↔◌, ◌≤◌, ◌+◌, ◌*◌, min, max, [], None, IsTrue, IsSome, OnSome, IsOk, IfOk, OnOk, IfErr, OnErr, option_copied};
 ghost use Rattle.std.specs.FinMap as finite;
 ghost use Rattle.iddqd.specs.{get, live_count, next_index, inserted, removed, IsFull, IsValid, IsRemapOf};
 ghost use Rattle.iddqd_hash.specs.{filed};
+ghost use Rattle.iddqd_hash.specs.HashTable.{memory as cells};
+ghost use Rattle.iddqd_hash.specs.Sizes.{most_cells};
 ghost use Rattle.iddqd_order.specs.{indexes_left, order_of, without};
 ghost use Rattle.iddqd_order.specs.MapBTreeTable.{capacity as ordered_capacity};
 ghost use Rattle.iddqd_sides.specs.Scan.{IsLive};
@@ -431,8 +433,9 @@ fn enter<T: KeyedItem>(
     ensures memory { let has_room = HasRoomInParts items.old table.old order.old in
         let was = memory_of items.old table.old order.old in
         InsertsInMemory has_room was result (memory_of items.new table.new order.new) }
-    ensures few { let was = memory_of items.old table.old order.old in
-        TakesForOne items.old.store.limit (finite.len (filed table.old)) was (memory_of items.new table.new order.new) }
+    ensures few_slots { items.new.capacity
+        ≤ max items.old.capacity (min items.old.store.limit (max 4 (2 * live_count items.old.store))) }
+    ensures few_cells { cells table.new ≤ max (cells table.old) (most_cells (finite.len (filed table.old) + 1)) }
 {
     let query = ByKey(item.key2());
     let vacant = match ordered::entry::<T, Second, ByKey<T::Key2>>(order, items, &query) {

@@ -111,11 +111,24 @@ returns-clause-memory g c =
       not_refused = λ _. tt;
     }
 
-pub returns-clause-few : goal.returns-clause-few
-returns-clause-few g c =
+pub returns-clause-few_slots : goal.returns-clause-few_slots
+returns-clause-few_slots g c =
     let grown = c.in-Ok.ensures in
-    let few = few_slots c.args.items.now (handle_set c.in-Ok.handle) grown.kept grown.grown in
-    record {
-      slots = grind (arith, common_steps);
-      cells = omega (arith, c.try_reserve.ensures.few, c.insert_prehashed_unchecked.ensures.memory.same_memory);
-    }
+    let few = few_slots c.args.items.now (handle_set c.in-Ok.handle) c.requires.valid grown.kept grown.grown in
+    grind (arith, common_steps)
+
+pub returns-in-Err-clause-few_slots : goal.returns-in-Err-clause-few_slots
+returns-in-Err-clause-few_slots g c =
+    let grown = c.in-Ok.ensures in
+    let few = few_slots c.args.items.now (handle_set c.in-Ok.handle) c.requires.valid grown.kept grown.grown in
+    grind (arith, common_steps)
+
+pub returns-in-Err-prepare-clause-few_slots : goal.returns-in-Err-prepare-clause-few_slots
+returns-in-Err-prepare-clause-few_slots g c =
+    let grown = c.in-Ok.ensures in
+    let few = few_slots c.args.items.now (handle_set c.in-Ok.handle) c.requires.valid grown.kept grown.grown in
+    grind (arith, common_steps)
+
+pub returns-clause-few_cells : goal.returns-clause-few_cells
+returns-clause-few_cells g c =
+    omega (arith, c.try_reserve.ensures.few, c.insert_prehashed_unchecked.ensures.memory.same_memory)
