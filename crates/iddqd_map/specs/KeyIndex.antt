@@ -37,6 +37,10 @@ module _ {S T : Type 0} where
   IndexesCompacted old remap new =
       (state : S) (s : Store T) → old state s → IsValid s → IsRemapOf s remap → new state (compacted s)
 
+  -- what the one indexes, the other indexes too
+  abbrev pub IndexesAllOf : (S → Store T → Type 0) → (S → Store T → Type 0) → Type 0
+  IndexesAllOf old new = (state : S) (s : Store T) → old state s → new state s
+
   -- the index that was found, if one was, was taken out
   abbrev pub TakesFound : (S → Store T → Type 0) → S → Store T → Option ℕ → Type 0
   TakesFound new state s (Some ix) = new state (removed s ix)

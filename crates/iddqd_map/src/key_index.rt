@@ -10,7 +10,7 @@
 ghost use Rattle.std.specs.Prelude.{◌≡◌, ◌≢◌, ◌≤◌, ◌+◌, ◌<◌, true, false, min, max, length, IsOk, IfOk, OnOk, OnErr};
 ghost use Rattle.iddqd.specs.{next_index, removed, rebound, sentinel, live_count, IsValid, Allows, Validates};
 ghost use Rattle.iddqd_sides.specs.Scan.{AnswersScan, IsLive, HasNoHit, passes_by};
-ghost use Rattle.iddqd_map.specs.KeyIndex.{IndexesNone, IsNextOf, IsPlannedForOne, IndexesOneMore, IsRemapOfSome, IndexesCompacted, IsNextTold, FindsSpot, PlansMove, TakesFound};
+ghost use Rattle.iddqd_map.specs.KeyIndex.{IndexesNone, IsNextOf, IsPlannedForOne, IndexesOneMore, IsRemapOfSome, IndexesCompacted, IndexesAllOf, IsNextTold, FindsSpot, PlansMove, TakesFound};
 
 use iddqd::index_remap::IndexRemap;
 use iddqd::internal::{ValidateCompact, ValidateRefusal, ValidationError};
@@ -296,9 +296,9 @@ pub trait KeyIndex<T, S>: Sized {
         ensures capacity { capacity self.new ≡ capacity self.old }
         ensures cells { cells self.new ≡ cells self.old };
 
-    /// One that means the same, and has no more memory.
+    /// One that indexes the same stores, and has no more memory.
     fn copied(&self) -> Result<Self, AllocError>
-        ensures contents { IfOk result (λ copy. same self.now copy) }
+        ensures contents { IfOk result (λ copy. IndexesAllOf (indexes self.now) (indexes copy)) }
         ensures few { IfOk result (λ copy. cells copy ≤ cells self.now) };
 
     /// The index of the item that shares all keys with this one.

@@ -1,0 +1,4 @@
+pub mod ByOrderLemmas
+pub mod OrderedIndexingLemmas
+pub mod OrderedMoveLemmas
+pub mod OrderedEndLemmas

@@ -1,0 +1,6 @@
+//! A key index in the order of a key, and a map by it.
+#![tactic(auto)]
+
+pub mod by_order;
+pub mod ordered_move;
+pub mod ordered_query;
