@@ -1,14 +1,14 @@
 -- For callers: each step of a store and of a table that sorts its items keeps it so.
-use Rattle.std.proofs.Common.{◌≡◌, ◌∙◌, ℕ, not, List, [], map, Some, sym, Ordering}
+use Rattle.std.proofs.Common.{◌≡◌, ◌∙◌, ℕ, List, [], map, Some, sym, Ordering}
 use Rattle.std.specs.Cmp.{IsTotalOrder, eq_by_cmp_equiv}
-use Rattle.iddqd.specs.Store.{Store, IsValid, empty_within, cleared, get, inserted, removed, rebound}
+use Rattle.iddqd.specs.Store.{Store, IsValid, empty_within, cleared, get, inserted, removed}
 use Rattle.iddqd.specs.Compaction.{compacted, rank}
 use Rattle.iddqd_order.specs.MapBTreeTable.{without}
-use Rattle.iddqd_sides.specs.Scan.{IsHit, HasNoHit}
+use Rattle.iddqd_sides.specs.Scan.{HasNoHit}
 use Rattle.iddqd_sides.specs.Ordered.{AddsInPlace}
 use Rattle.iddqd_ord_map.specs.OrderedIndexing.{Sorts, has_key}
-use Rattle.iddqd_sides.proofs.OrderedHoldsLemmas.{Holds-empty, Holds-cleared, Holds-removed, Holds-inserted, Holds-compacted, Holds-rebound}
-use Rattle.iddqd_sides.proofs.OrderedPlaceLemmas.{IsExact-empty, Keeps-cleared, Keeps-removed, Keeps-compacted, Keeps-rebound}
+use Rattle.iddqd_sides.proofs.OrderedHoldsLemmas.{Holds-empty, Holds-cleared, Holds-removed, Holds-inserted, Holds-compacted}
+use Rattle.iddqd_sides.proofs.OrderedPlaceLemmas.{IsExact-empty, Keeps-cleared, Keeps-removed, Keeps-compacted}
 use Rattle.iddqd_sides.proofs.ScanLemmas.{AreApart-inserted}
 
 module _ {T K : Type 0} (key_of : T → K) (compare : K → K → Ordering) where
@@ -41,13 +41,3 @@ module _ {T K : Type 0} (key_of : T → K) (compare : K → K → Ordering) wher
         held = Holds-compacted s order o.held;
         exact = (Keeps-compacted key_of compare total s order o.held).exact o.exact;
       }
-
-      -- a live index that is given an item with the same key
-      pub Sorts-kept : (ix : ℕ) (item was : T) → get s ix ≡ Some was → IsHit s (has_key key_of compare (key_of item)) ix → Sorts key_of compare (rebound s ix item) order
-      Sorts-kept ix item was live hit =
-          let (there, is, same) = hit in
-          let none : IsHit s (λ was. not (has_key key_of compare (key_of item) was)) ix → _ = λ other. (let one : Some there ≡ Some other.0 = sym is ∙ other.1 in let differs = other.2 in cc) in
-          record {
-            held = Holds-rebound s order o.held ix item was live;
-            exact = (Keeps-rebound key_of compare total s order ix item was live none).exact o.exact;
-          }

@@ -1,2 +1,3 @@
 pub mod ByOrder
+pub mod ByOrderLaws
 pub mod OrderedIndexing

@@ -48,6 +48,13 @@ impl MapBTreeTable {
         }
     }
 
+    /// No block: what an insert below the capacity needs. It takes no memory.
+    pub fn no_blocks(&self) -> Blocks
+        ensures { result ≡ 0 }
+    {
+        Blocks::none(self.allocator())
+    }
+
     /// The memory of an insert at the place: none below the capacity.
     pub fn blocks_at(&self, gap: &Gap) -> Result<Blocks, AllocError>
         ensures blocks { IfOk result (λ blocks. blocks ≡ gap_blocks self.now gap.now) }
