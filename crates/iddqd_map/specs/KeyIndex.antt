@@ -37,7 +37,7 @@ module _ {S T : Type 0} where
   IndexesCompacted old remap new =
       (state : S) (s : Store T) → old state s → IsValid s → IsRemapOf s remap → new state (compacted s)
 
-  -- what the one indexes, the other indexes too
+  -- it indexes each store that what there was indexed
   abbrev pub IndexesAllOf : (S → Store T → Type 0) → (S → Store T → Type 0) → Type 0
   IndexesAllOf old new = (state : S) (s : Store T) → old state s → new state s
 

@@ -27,7 +27,8 @@ use std::marker::PhantomData;
 /// cells. An insert below the capacity takes none, and only `with_capacity`, `reserve`, `shrink_to` and an insert past
 /// the capacity change it.
 pub trait KeyIndex<T, S>: Sized {
-    ghost use Rattle.std.specs.Prelude.{ℕ, Bool, Some, ◌↔◌};
+    ghost use Rattle.std.specs.Prelude.{ℕ, Bool, List, Some, ◌↔◌};
+    ghost use Rattle.std.specs.List.{Contains};
     ghost use Rattle.std.specs.Cmp.{IsEquivalence};
     ghost use Rattle.iddqd.specs.Store.{Store, get};
     ghost use Rattle.iddqd_sides.specs.Scan.{AreApart, IsHit};
@@ -50,6 +51,9 @@ pub trait KeyIndex<T, S>: Sized {
     ghost Keys: { Type 0 };
 
     ghost keys: { T → Self.Keys };
+
+    // How many there are.
+    ghost key_count: { ℕ };
 
     // The items share a key.
     ghost alike: { T → T → Bool };
@@ -296,7 +300,7 @@ pub trait KeyIndex<T, S>: Sized {
         ensures capacity { capacity self.new ≡ capacity self.old }
         ensures cells { cells self.new ≡ cells self.old };
 
-    /// One that indexes the same stores, and has no more memory.
+    /// One that indexes the same, and has no more memory.
     fn copied(&self) -> Result<Self, AllocError>
         ensures contents { IfOk result (λ copy. IndexesAllOf (indexes self.now) (indexes copy)) }
         ensures few { IfOk result (λ copy. cells copy ≤ cells self.now) };
@@ -341,8 +345,15 @@ pub trait KeyIndex<T, S>: Sized {
     ghost told: { (s : Store T) (item : T) (at : Self.Conflict) → conflicts s item at → (ix : ℕ)
         → tells at ix ↔ IsHit s (alike item) ix };
 
+    // They are no more than there are keys.
+    ghost few_told: { (at : Self.Conflict) → (l : List ℕ) × (length l ≤ key_count)
+        × ((ix : ℕ) → tells at ix → Contains l ix) };
+
     // To share all keys is an equivalence.
     ghost equivalence: { IsEquivalence same_keys };
+
+    // Items that share all keys share one.
+    ghost same_are_alike: { (x y : T) → same_keys x y ≡ true → alike x y ≡ true };
 }
 
 /// Where a key index has a key by its hash: `Here` in a leaf, else to the left or the right in a pair.
