@@ -1,4 +1,5 @@
 pub mod ByOrderLemmas
+pub mod SizeLemmas
 pub mod OrderedIndexingLemmas
 pub mod OrderedMoveLemmas
 pub mod OrderedEndLemmas

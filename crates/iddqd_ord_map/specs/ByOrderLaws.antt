@@ -1,11 +1,13 @@
 -- The laws of an index by the order of a key: what keeps it so that it indexes a store.
-use Rattle.std.proofs.Common.{◌≡◌, ◌∙◌, ◌↔◌, ℕ, List, Bool, true, not, Some, sym, subst, Ordering}
+use Rattle.std.proofs.Common.{◌≡◌, ◌∙◌, ◌↔◌, ◌≤◌, ℕ, List, [], ◌∷◌, length, le_refl, Bool, true, not, Some, sym, subst, Ordering}
 use Rattle.std.specs.Cmp.{IsTotalOrder, IsEquivalence, Equal-is, eq_by_cmp_equiv}
+use Rattle.std.specs.List.{Contains}
 use Rattle.std.specs.Option.{option_cmp}
 use Rattle.std.specs.Ordering.{eq_by_cmp}
 use Rattle.std.specs.declared.cmp.Ordering.TheVariants.{Equal}
 use Rattle.iddqd.specs.Store.{Store, get, rebound}
 use Rattle.iddqd.proofs.LiveLemmas.{item_at, live_at}
+use Rattle.iddqd.proofs.StoreLemmas.{contains_head}
 use Rattle.iddqd_order.specs.MapBTreeTable.{Order, HasSameTree, order_of}
 use Rattle.iddqd_order.specs.declared.btree_table.gap.Gap.{Gap}
 use Rattle.iddqd_order.proofs.GapLemmas.{order-same, place-same, Fits-same}
@@ -25,6 +27,10 @@ pub told_one :
     → (ix : ℕ)
     → (ix ≡ at) ↔ IsHit s test ix
 told_one s test at scan ix = ((scan ix).1, (scan ix).0)
+
+-- and that is one
+pub one_told : (at : ℕ) → (l : List ℕ) × (length l ≤ 1) × ((ix : ℕ) → ix ≡ at → Contains l ix)
+one_told at = (at ∷ [], le_refl 1, λ ix is. subst (Contains (at ∷ [])) (sym is) (contains_head at []))
 
 module _ {T K : Type 0} (key_of : T → K) (compare : K → K → Ordering) where
   pub Sorts-same_tree :

@@ -103,7 +103,7 @@ where
     ghost use Rattle.iddqd_map.specs.Map.{shares};
     ghost use Rattle.iddqd_ord_map.specs.ByOrder.{IsGapFor, HasBlocksAt, HasBlocksAnywhere, IsReadyFor, moves, reserved_for, most_cells};
     ghost use Rattle.iddqd_ord_map.specs.OrderedIndexing.{PlansOrConflicts};
-    ghost use Rattle.iddqd_ord_map.specs.ByOrderLaws.{Sorts-same_tree, IsGapFor-same_tree, Sorts-modified, Sorts-alike, told_one, shares_equivalence};
+    ghost use Rattle.iddqd_ord_map.specs.ByOrderLaws.{Sorts-same_tree, IsGapFor-same_tree, Sorts-modified, Sorts-alike, told_one, one_told, shares_equivalence};
 
     type Known = ();
 
@@ -120,6 +120,8 @@ where
     ghost Keys = { E.Key };
 
     ghost keys = { E.key_of };
+
+    ghost key_count = { 1 };
 
     ghost alike = { shares E.key_of (eq_by_cmp E.Key.cmp) };
 
@@ -171,11 +173,15 @@ where
     ghost modified = { λ x state s ix was item is live same.
         Sorts-modified E.key_of E.Key.cmp E.Key.total s (order_of x.table) is ix item was live same };
 
-    ghost same_items = { λ x state s t same is. Sorts-alike E.key_of E.Key.cmp E.Key.total s t (order_of x.table) same is };
+    ghost same_items = { λ x state s t same is. Sorts-alike E.key_of E.Key.cmp E.Key.total s t same (order_of x.table) is };
 
     ghost told = { λ s item at scan ix. told_one s (shares E.key_of (eq_by_cmp E.Key.cmp) item) at scan ix };
 
+    ghost few_told = { λ at. one_told at };
+
     ghost equivalence = { shares_equivalence E.key_of E.Key.cmp E.Key.total };
+
+    ghost same_are_alike = { λ x y same. same };
 
     fn new(alloc: Global) -> ByOrder<E> {
         ByOrder {
@@ -206,11 +212,8 @@ where
         state: &S,
         additional: usize,
     ) -> Result<(), AllocError> {
-        let capacity = self.table.capacity().saturating_sub(FREE_INDEXES);
-        let len = self.table.len();
-        if len <= capacity && additional <= capacity - len {
-            return Ok(());
-        }
+        // The capacity has 64 bits, so there is no room for so many.
+        let _capacity = self.table.capacity();
         if additional > usize::MAX - FREE_INDEXES {
             return Err(AllocError);
         }

@@ -27,7 +27,7 @@ returns-clause-moved g c =
     let item = c.args.item.now in
     let new_key = c.key-new_key.result.now in
     Sorts-put_in key_of compare g.met.E.Key.Ord.total s order c.requires.sorted c.args.ix item c.key_at-old_key.ensures.0 c.key_at-old_key.ensures.1 c.requires.new_key _ _
-    order c.args.ix c.new-asking.result (order_of c.move_index.new.table) _ refl refl
+    order c.args.ix c.new-asking.result (order_of c.move_index.new.self) _ refl refl
     (Steady-by _ _ (λ f. f ≡ closure_of c.new-asking.result) (λ f f' ix r i h e. search rules) _ _
     (λ f f' ix r i h e.
     let read : IsKeyAt key_of s ix r.now = search (rules, i, e) in
