@@ -2,6 +2,7 @@
 #![tactic(auto)]
 
 pub mod key_index;
+pub mod map;
 pub mod pair_conflict;
 pub mod place;
 pub mod refusal;

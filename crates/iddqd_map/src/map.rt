@@ -22,6 +22,7 @@ mod modifies;
 mod removals;
 mod replaces;
 mod retain;
+mod steps;
 mod walks;
 
 use crate::key_index::KeyIndex;

@@ -1,15 +1,17 @@
 //! Items by a key that goes by its hash, at a place of the key index: `find_by::<Here, _>(query)`.
 //!
 //! A map with a name of its own has the same calls under the names of its keys.
-ghost use Rattle.std.specs.Prelude.{◌≡◌, ◌↔◌, false, option_copied};
+ghost use Rattle.std.specs.Prelude.{◌≡◌, ◌↔◌, ◌≤◌, false, option_copied};
 ghost use Rattle.std.specs.Fn.{FnOnceReturnsAt};
 ghost use Rattle.iddqd_sides.specs.Scan.{HasNoHit, AnswersScan, passes_by};
 ghost use Rattle.iddqd_sides.specs.KeyKeeping.{KeepsKey};
-ghost use Rattle.iddqd_map.specs.Map.{FindsItem, Removes};
+ghost use Rattle.iddqd_map.specs.Map.{room, FindsItem, Removes};
 ghost use Rattle.iddqd_map.specs.Calls.{MayChange, Replaces, Changes};
 ghost use Rattle.iddqd_map.specs.Modify.{Modifies};
 
 use super::Map;
+use super::changes::change_found;
+use super::replaces::replace_found;
 use crate::key_index::{HashedAt, KeyIndex};
 use crate::refusal::ReplaceRefusal;
 use iddqd::item_index::ItemIndex;
@@ -54,7 +56,8 @@ impl<T, X: KeyIndex<T, S>, S> Map<T, X, S> {
     where
         X: HashedAt<P, T, S>,
         Q: HashQuery<X::Key>,
-        ensures { Removes self.old (passes_by X.key_at (Q.stands_for query)) result self.new }
+        ensures removes { Removes self.old (passes_by X.key_at (Q.stands_for query)) result self.new }
+        ensures room { room self.old ≤ room self.new }
     {
         let ix = self.indexes.take(&self.items, &self.state, query)?;
         self.items.remove(ix)
@@ -71,10 +74,19 @@ impl<T, X: KeyIndex<T, S>, S> Map<T, X, S> {
     where
         X: HashedAt<P, T, S>,
         Q: HashQuery<X::Key>,
-        ensures { Replaces X.alike X.same_keys X.may_lack X.taken self.old
+        ensures replaces { Replaces X.alike X.same_keys X.may_lack X.taken self.old
             (passes_by X.key_at (Q.stands_for query)) item result self.new }
+        ensures room { room self.old ≤ room self.new }
     {
-        // TODO
+        let (found, asked) = self.indexes.find(&self.items, &self.state, query);
+        replace_found(
+            &mut self.items,
+            &mut self.indexes,
+            &self.state,
+            asked,
+            found,
+            item,
+        )
     }
 
     /// Puts what the closure makes of the item that has the key in its place, and hands that item back; or answers
@@ -90,10 +102,19 @@ impl<T, X: KeyIndex<T, S>, S> Map<T, X, S> {
         X: HashedAt<P, T, S>,
         Q: HashQuery<X::Key>,
         requires { MayChange F.FnOnce f self.old.store (passes_by X.key_at (Q.stands_for query)) }
-        ensures { Changes X.alike X.same_keys X.may_lack X.taken (FnOnceReturnsAt F.FnOnce f) self.old
+        ensures changes { Changes X.alike X.same_keys X.may_lack X.taken (FnOnceReturnsAt F.FnOnce f) self.old
             (passes_by X.key_at (Q.stands_for query)) result self.new }
+        ensures room { room self.old ≤ room self.new }
     {
-        // TODO
+        let (found, asked) = self.indexes.find(&self.items, &self.state, query);
+        change_found(
+            &mut self.items,
+            &mut self.indexes,
+            &self.state,
+            asked,
+            found,
+            f,
+        )
     }
 
     /// Calls the closure with a `&mut` to the item that has the key, as `modify_at`; or returns none, and doesn't call
@@ -104,7 +125,8 @@ impl<T, X: KeyIndex<T, S>, S> Map<T, X, S> {
         Q: HashQuery<X::Key>,
         requires { let named = passes_by X.key_at (Q.stands_for query) in
             KeepsKey F.FnOnce f X.keys (λ item. FindsItem self.old.store named (Some item)) }
-        ensures { Modifies F.FnOnce f self.old (passes_by X.key_at (Q.stands_for query)) result self.new }
+        ensures modifies { Modifies F.FnOnce f self.old (passes_by X.key_at (Q.stands_for query)) result self.new }
+        ensures room { room self.old ≤ room self.new }
     {
         self.modify_live(self.find_by::<P, Q>(query)?, f)
     }

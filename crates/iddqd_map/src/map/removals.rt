@@ -2,6 +2,7 @@
 ghost use Rattle.iddqd_map.specs.Map.{RemovesAt};
 
 use super::Map;
+use super::steps::take_out;
 use crate::key_index::KeyIndex;
 use iddqd::item_index::ItemIndex;
 
@@ -13,7 +14,6 @@ impl<T, X: KeyIndex<T, S>, S> Map<T, X, S> {
         if self.items.get(ix).is_none() {
             return None;
         }
-        self.indexes.remove(&self.items, &self.state, ix);
-        self.items.remove(ix)
+        take_out(&mut self.items, &mut self.indexes, &self.state, ix)
     }
 }

@@ -1,0 +1,4 @@
+pub mod RoomLemmas
+pub mod MapLemmas
+pub mod FoundLemmas
+pub mod TakeLemmas
