@@ -1,9 +1,9 @@
 -- How many inserts need no memory: of a map, and of its store alone.
 use Rattle.std.proofs.Common.{◌≡◌, ◌+◌, ◌-◌, ◌<◌, ◌≤◌, ℕ, zero, suc, min, max, arith, ap, refl}
-use Rattle.iddqd.specs.Store.{Store, IsValid, slot_count, live_count}
+use Rattle.iddqd.specs.Store.{IsValid, slot_count, live_count}
 use Rattle.iddqd.specs.ItemSet.{SizedStore, room as set_room}
 use Rattle.iddqd.specs.Sizes.{doubled}
-use Rattle.iddqd_map.specs.Map.{MapState, MapMemory, map_with, room}
+use Rattle.iddqd_map.specs.Map.{map_with, room}
 use Rattle.iddqd_map.specs.Memory.{MakesRoom}
 
 module _ {T : Type 0} (items : SizedStore T) (valid : IsValid items.store) where

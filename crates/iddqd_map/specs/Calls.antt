@@ -1,5 +1,5 @@
 -- What the calls of a map that change items may answer, and what they leave.
-use Rattle.std.specs.Prelude.{◌≡◌, ◌≢◌, ◌⊎◌, ◌↔◌, ◌<◌, ◌≤◌, ℕ, Bool, true, not, List, length, map, Option, Some, None, Result, Ok, Err}
+use Rattle.std.specs.Prelude.{◌≡◌, ◌≢◌, ◌⊎◌, ◌↔◌, ◌<◌, ◌≤◌, ℕ, Bool, true, not, List, [], length, map, Option, Some, None, Result, Ok, Err}
 use Rattle.std.specs.Borrow.{Bor}
 use Rattle.std.specs.Fn.{Once}
 use Rattle.std.specs.List.{Contains}
@@ -90,13 +90,15 @@ module _ {T : Type 0} (alike : T → T → Bool) (most : ℕ → ℕ) where
       pub past : old.memory.capacity < live_count old.store
       pub unchanged : new ≡ old
 
-    -- what an insert that overwrites may answer and leave: so many items may come back
+    -- What an insert that overwrites may answer and leave, in so many places that had no item: what was removed, or
+    -- nothing after a refusal.
     abbrev pub Overwrites :
-        ℕ → MapState T → T → Result (ℕ × List (Option T)) (OverwriteRefusal T) → MapState T → Type 0
-    Overwrites places old item (Ok (ix, given_back)) new = OverwritesAt places old item ix given_back new
-    Overwrites places old item (Err (NoSlot back)) new = RefusesFull old item back new
-    Overwrites places old item (Err (NoMemory back)) new =
-        RefusesMemory old item back new ⊎ RefusesToOverwrite old item back new
+        ℕ → MapState T → T → Result ℕ (OverwriteRefusal T) → List (Option T) → MapState T → Type 0
+    Overwrites places old item (Ok ix) given_back new = OverwritesAt places old item ix given_back new
+    Overwrites places old item (Err (NoSlot back)) given_back new =
+        RefusesFull old item back new × (given_back ≡ padded places [])
+    Overwrites places old item (Err (NoMemory back)) given_back new =
+        (RefusesMemory old item back new ⊎ RefusesToOverwrite old item back new) × (given_back ≡ padded places [])
 
 -- `same x y` says that the items share all keys, and `may_lack` the same as above
 module _ {T : Type 0} (alike same : T → T → Bool) (may_lack : Bool) where

@@ -8,3 +8,4 @@ pub mod Refusal
 pub mod Retain
 pub mod Modify
 pub mod Equality
+pub mod Overwrite

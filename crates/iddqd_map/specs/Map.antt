@@ -1,7 +1,7 @@
 -- The model of a map: items in slots under stable indexes, and the memory beside them.
-use Rattle.std.specs.Prelude.{◌≡◌, ◌+◌, ◌-◌, ◌*◌, ◌≤◌, ℕ, Bool, Option, Some, None, min, max, refl}
+use Rattle.std.specs.Prelude.{◌≡◌, ◌-◌, ℕ, Bool, Option, Some, None, min, refl}
 use Rattle.std.specs.Coded.{Coded, code_by, coded×, coded_ℕ}
-use Rattle.iddqd.specs.Store.{Store, store_code, IsValid, IsFull, empty_within, get, live_count, next_index, inserted, removed}
+use Rattle.iddqd.specs.Store.{Store, store_code, IsValid, empty_within, get, live_count, removed}
 use Rattle.iddqd.specs.ItemSet.{SizedStore}
 use Rattle.iddqd_sides.specs.Scan.{HasNoHit, AnswersScan, AreApart}
 

@@ -28,8 +28,8 @@ use std::marker::PhantomData;
 /// the capacity change it.
 pub trait KeyIndex<T, S>: Sized {
     ghost use Rattle.std.specs.Prelude.{ℕ, Bool, List, Some, ◌↔◌};
-    ghost use Rattle.std.specs.List.{Contains};
     ghost use Rattle.std.specs.Cmp.{IsEquivalence};
+    ghost use Rattle.std.specs.List.{Contains};
     ghost use Rattle.iddqd.specs.Store.{Store, get};
     ghost use Rattle.iddqd_sides.specs.Scan.{AreApart, IsHit};
     ghost use Rattle.iddqd_map.specs.KeyIndex.{HaveSameKeys};
@@ -96,6 +96,9 @@ pub trait KeyIndex<T, S>: Sized {
 
     // The index is one of these.
     ghost tells: { Self.Conflict → ℕ → Type 0 };
+
+    // How many items an item can be alike to.
+    ghost key_count: { ℕ };
 
     ghost is_move: { S → Store T → ℕ → T → Self.Move → Type 0 };
 
@@ -345,7 +348,9 @@ pub trait KeyIndex<T, S>: Sized {
     ghost told: { (s : Store T) (item : T) (at : Self.Conflict) → conflicts s item at → (ix : ℕ)
         → tells at ix ↔ IsHit s (alike item) ix };
 
-    // They are no more than there are keys.
+    // At least one is told, and never more than there are keys.
+    ghost told_some: { (s : Store T) (item : T) (at : Self.Conflict) → conflicts s item at → (ix : ℕ) × tells at ix };
+
     ghost few_told: { (at : Self.Conflict) → (l : List ℕ) × (length l ≤ key_count)
         × ((ix : ℕ) → tells at ix → Contains l ix) };
 

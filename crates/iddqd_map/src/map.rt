@@ -19,6 +19,7 @@ mod equality;
 mod inserts;
 mod memory;
 mod modifies;
+mod overwrites;
 mod removals;
 mod replaces;
 mod retain;

@@ -1,4 +1,4 @@
-use Rattle.std.proofs.Common.{rules, ap}
+use Rattle.std.proofs.Common.{ap}
 use Rattle.iddqd.specs.ItemSet.{SizedStore}
 use Rattle.iddqd_map.proofs.MapLemmas.{IsIndexed-removed, set_left, room_left}
 use Rattle.iddqd_map.proofs.map.steps.take_out.Goals as goal
