@@ -9,3 +9,4 @@ pub mod Retain
 pub mod Modify
 pub mod Equality
 pub mod Overwrite
+pub mod EqualityLaws

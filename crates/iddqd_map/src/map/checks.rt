@@ -19,7 +19,9 @@ impl<T, X: KeyIndex<T, S>, S> Map<T, X, S> {
         ensures not_compact { (Allows compactness (length self.now.store.free) → ⊥)
             → IfErr result (Tells (not_compact_text (length self.now.store.free))) }
     {
-        self.items.validate(compactness)?;
+        if let Err(refusal) = self.items.validate(compactness) {
+            return Err(refusal);
+        }
         self.indexes.validate(&self.items, &self.state, compactness)
     }
 }

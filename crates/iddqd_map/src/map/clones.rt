@@ -3,6 +3,7 @@
 //! Whether items keep their keys where they are cloned, only their type knows: so each kind of map has a `Clone` of its
 //! own, which calls this.
 ghost use Rattle.std.specs.Prelude.{◌≤◌, true, ◌≡◌, IfOk};
+ghost use Rattle.iddqd.specs.{slot_count};
 ghost use Rattle.iddqd.specs.Clones.{IsStoreClone};
 
 use super::Map;
@@ -15,8 +16,13 @@ impl<T: Clone, X: KeyIndex<T, S>, S: Copy> Map<T, X, S> {
     pub(crate) fn copied(&self) -> Result<Map<T, X, S>, AllocError>
         requires { (x y : T) → T.is_clone x y → X.same_keys x y ≡ true }
         ensures cloned { IfOk result (λ copy. IsStoreClone T.is_clone self.now.store copy.store) }
+        ensures slots { IfOk result (λ copy. copy.memory.slots ≡ slot_count self.now.store) }
         ensures few { IfOk result (λ copy. copy.memory.cells ≤ self.now.memory.cells) }
     {
-        // TODO
+        Ok(Map {
+            items: self.items.clone()?,
+            indexes: self.indexes.copied()?,
+            state: self.state,
+        })
     }
 }

@@ -23,7 +23,7 @@ impl<T: PartialEq, X: KeyIndex<T, S>, S> Map<T, X, S> {
 /// It looks up each item of one map once.
 impl<T: PartialEq, X: KeyIndex<T, S>, S> PartialEq for Map<T, X, S> {
     ghost use Rattle.iddqd_map.specs.Equality.{has_same_items};
-    ghost use Rattle.iddqd_map.proofs.EqualityLemmas.{map_laws};
+    ghost use Rattle.iddqd_map.specs.EqualityLaws.{map_laws};
 
     ghost eq = { λ m n. has_same_items (eq_of_both X.same_keys T.eq) m.store n.store };
 
@@ -35,7 +35,7 @@ impl<T: PartialEq, X: KeyIndex<T, S>, S> PartialEq for Map<T, X, S> {
 }
 
 impl<T: Eq, X: KeyIndex<T, S>, S> Eq for Map<T, X, S> {
-    ghost use Rattle.iddqd_map.proofs.EqualityLemmas.{map_equivalence};
+    ghost use Rattle.iddqd_map.specs.EqualityLaws.{map_equivalence};
 
     ghost laws = { map_equivalence X.same_keys T.eq X.equivalence T.Eq.laws };
 }

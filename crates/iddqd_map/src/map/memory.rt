@@ -1,5 +1,5 @@
 //! Memory that a map takes ahead and gives back, and its slots closed up.
-ghost use Rattle.std.specs.Prelude.{◌≡◌, ◌≤◌, [], min, IsOk, IfOk, OnOk, OnErr};
+ghost use Rattle.std.specs.Prelude.{◌≡◌, ◌≤◌, ◌-◌, ◌*◌, [], length, min, max, IsOk, IfOk, OnOk, OnErr};
 ghost use Rattle.iddqd.specs.{slot_limit, empty, cleared, live_count, IsRemapOf};
 ghost use Rattle.iddqd_map.specs.Map.{capacity, room};
 ghost use Rattle.iddqd_map.specs.Memory.{ReservesItems, ShrinksItems};
@@ -18,6 +18,8 @@ impl<T, X: KeyIndex<T, DefaultHashBuilder>> Map<T, X, DefaultHashBuilder> {
         alloc: Global,
         wanted: usize,
     ) -> Result<Map<T, X, DefaultHashBuilder>, AllocError>
+    where
+        T: Drop,
         ensures contents { IfOk result (λ m. m.store ≡ empty) }
         ensures room { IfOk result (λ m. min wanted slot_limit ≤ room m) }
         ensures slots { IfOk result (λ m. m.memory.slots ≡ wanted) }
@@ -36,6 +38,7 @@ impl<T, X: KeyIndex<T, S>, S> Map<T, X, S> {
         state: S,
     ) -> Result<Map<T, X, S>, AllocError>
     where
+        T: Drop,
         S: Drop,
         ensures contents { IfOk result (λ m. m.store ≡ empty) }
         ensures room { IfOk result (λ m. min wanted slot_limit ≤ room m) }
@@ -54,7 +57,8 @@ impl<T, X: KeyIndex<T, S>, S> Map<T, X, S> {
     pub fn capacity(&self) -> usize
         ensures { result ≡ capacity self.now }
     {
-        // TODO: the least of the slots that the memory holds, the limit, and what the tables hold
+        let slots = self.items.capacity().min(self.items.limit());
+        slots.min(self.indexes.capacity())
     }
 
     /// How many inserts need no memory.
@@ -70,23 +74,32 @@ impl<T, X: KeyIndex<T, S>, S> Map<T, X, S> {
     pub fn reserve(&mut self, additional: usize) -> Result<(), AllocError>
         ensures { ReservesItems X.most additional self.old result self.new }
     {
-        // TODO
+        let len = self.items.len();
+        let more = additional.min(self.items.limit() - len);
+        if more <= self.room() {
+            return Ok(());
+        }
+        reserve_slots(&mut self.items, len + more)?;
+        self.indexes.reserve(&self.items, &self.state, more)
     }
 
-    /// Gives back the memory that the slots and the tables don't need. Where the smaller memory is refused the items stay
-    /// too.
+    /// Gives back the memory that the slots and the tables don't need. Where smaller memory is refused the items stay.
     pub fn shrink_to_fit(&mut self) -> Result<(), AllocError>
-        ensures { ShrinksItems X.most 0 self.old result self.new }
+        ensures shrinks { ShrinksItems X.most 0 self.old result self.new }
+        ensures fits { OnOk result (room self.new ≤ length self.old.store.free) }
     {
         self.shrink_to(0)
     }
 
     /// Gives back the memory that so many items don't need, beside the slots and the items that there are.
     pub fn shrink_to(&mut self, least: usize) -> Result<(), AllocError>
-        ensures { ShrinksItems X.most least self.old result self.new }
+        ensures shrinks { ShrinksItems X.most least self.old result self.new }
+        ensures fits { OnOk result
+            (room self.new ≤ max (least - live_count self.old.store) (length self.old.store.free)) }
     {
-        self.items.shrink_capacity_to(least)?;
-        self.indexes.shrink_to(&self.items, &self.state, least)
+        let slots = self.items.shrink_capacity_to(least);
+        let tables = self.indexes.shrink_to(&self.items, &self.state, least);
+        slots.and(tables)
     }
 
     /// Forgets all items and all slots, so that the next index is 0. It keeps the memory.
@@ -95,6 +108,7 @@ impl<T, X: KeyIndex<T, S>, S> Map<T, X, S> {
         T: Drop,
         ensures store { self.new.store ≡ cleared self.old.store }
         ensures memory { self.new.memory ≡ self.old.memory }
+        ensures room { room self.old ≤ room self.new }
     {
         self.items.clear();
         self.indexes.clear();
@@ -111,9 +125,25 @@ impl<T, X: KeyIndex<T, S>, S> Map<T, X, S> {
         ensures compacted { OnOk result (Compacts self.old self.new) }
         ensures refused { OnErr result (self.new ≡ self.old) }
         ensures dense { self.old.store.free ≡ [] → IsOk result }
+        ensures room { room self.old ≤ room self.new }
     {
         let remap = self.items.compact()?;
         self.indexes.remap(&remap);
         Ok(remap)
     }
+}
+
+// Takes memory for so many slots, where there aren't as many.
+fn reserve_slots<T>(items: &mut ItemSet<T>, wanted: usize) -> Result<(), AllocError>
+    requires { wanted ≤ items.old.store.limit }
+    ensures contents { items.new.store ≡ items.old.store }
+    ensures slots_stay { items.old.capacity ≤ items.new.capacity }
+    ensures reserved { OnOk result (wanted ≤ items.new.capacity) }
+    ensures few_slots { items.new.capacity
+        ≤ max items.old.capacity (min items.old.store.limit (max wanted (2 * items.old.capacity))) }
+{
+    if wanted <= items.capacity() {
+        return Ok(());
+    }
+    items.reserve(wanted - items.slot_count())
 }

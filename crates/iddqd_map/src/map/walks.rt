@@ -50,7 +50,7 @@ impl<'a, T, X: KeyIndex<T, S>, S> IntoIterator for &'a Map<T, X, S> {
     }
 }
 
-impl<T, X: KeyIndex<T, S> + Drop, S: Drop> IntoIterator for Map<T, X, S> {
+impl<T: Drop, X: KeyIndex<T, S> + Drop, S: Drop> IntoIterator for Map<T, X, S> {
     type Item = T;
 
     type IntoIter = IntoValues<T>;
