@@ -97,9 +97,6 @@ pub trait KeyIndex<T, S>: Sized {
     // The index is one of these.
     ghost tells: { Self.Conflict → ℕ → Type 0 };
 
-    // How many items an item can be alike to.
-    ghost key_count: { ℕ };
-
     ghost is_move: { S → Store T → ℕ → T → Self.Move → Type 0 };
 
     // An index is entered anew.

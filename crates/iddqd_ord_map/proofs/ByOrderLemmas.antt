@@ -1,7 +1,8 @@
 -- What a table in order tells of a store's items, as a key index has it.
-use Rattle.std.proofs.Common.{◌≡◌, ◌≢◌, ◌∙◌, ◌↔◌, ℕ, List, Bool, true, false, not, Some, None, Result, Ok, Err, refl, sym, Ordering}
+use Rattle.std.proofs.Common.{◌≡◌, ◌≢◌, ◌∙◌, ◌↔◌, ◌-◌, ℕ, List, length, Option, None, Bool, true, false, not, Some, None, Result, Ok, Err, refl, sym, Ordering}
 use Rattle.std.specs.Cmp.{IsTotalOrder, eq_by_cmp_equiv}
 use Rattle.std.specs.Fn.{Mut}
+use Rattle.std.specs.List.{slice_get}
 use Rattle.std.specs.Ordering.{eq_by_cmp}
 use Rattle.iddqd.specs.Store.{Store, get}
 use Rattle.iddqd.specs.Validation.{Validates}
@@ -12,16 +13,20 @@ use Rattle.iddqd_order.specs.MapBTreeTable.{Order, order_of}
 use Rattle.iddqd_order.specs.Search.{IsSteady}
 use Rattle.iddqd_order.specs.declared.btree_table.asking.Asking.{Asking}
 use Rattle.iddqd_order.specs.declared.btree_table.gap.Gap.{Gap}
+use Rattle.iddqd_sides.specs.Ordered.{IsSortedScan, Takes}
 use Rattle.iddqd_sides.specs.OrderedQuery.{IsQuery-key}
 use Rattle.iddqd_sides.specs.Scan.{AnswersScan}
 use Rattle.iddqd_sides.proofs.OrderedFindLemmas.{answer, LooksUp-stored, IsVacantAt-placed}
-use Rattle.iddqd_map.specs.KeyIndex.{PlansMove}
+use Rattle.iddqd_map.specs.KeyIndex.{PlansMove, TakesFound}
 use Rattle.iddqd_map.specs.Map.{shares}
 use Rattle.iddqd_map.specs.Several.{HasNoOther}
-use Rattle.iddqd_ord_map.specs.ByOrder.{LooksPlaceUp, moves}
+use Rattle.iddqd_ord_map.specs.ByOrder.{FindsGreatest, FindsLeast, LooksPlaceUp, moves}
 use Rattle.iddqd_ord_map.specs.OrderedIndexing.{Sorts, PlansOrConflicts}
 use Rattle.iddqd_ord_map.specs.declared.ordered_move.Move.{Move}
 use Rattle.iddqd_ord_map.specs.declared.ordered_move.Move.TheVariants.{Stays, Moves}
+use Rattle.iddqd_ord_map.proofs.EndLemmas.{nothing_first, nothing_last}
+use Rattle.iddqd_ord_map.proofs.OrderedEndLemmas.{HasGreatestKey-last, HasLeastKey-first}
+use Rattle.iddqd_ord_map.proofs.OrderedIndexingLemmas.{Sorts-removed}
 
 module _ {T K : Type 0} (key_of : T → K) (compare : K → K → Ordering) (total : IsTotalOrder compare) (s : Store T)
     (order : List ℕ) (o : Sorts key_of compare s order) (ix : ℕ) (item : T) where
@@ -77,3 +82,28 @@ pub Validates-refused :
     → Validates sound (Err refusal)
 Validates-refused sound (Invalid error) unsound = unsound
 Validates-refused sound (Memory error) unsound = tt
+
+-- what the ends of the table are
+module _ {T K : Type 0} (key_of : T → K) (compare : K → K → Ordering) (total : IsTotalOrder compare) (s : Store T)
+    (order : List ℕ) (o : Sorts key_of compare s order) where
+  pub FindsLeast-first : (r : Option ℕ) → r ≡ slice_get order 0 → FindsLeast key_of compare s r
+  FindsLeast-first (Some ix) is = HasLeastKey-first s order o.held key_of compare total o.exact.placed ix (sym is)
+  FindsLeast-first None is = nothing_first s order o.held (sym is)
+
+  pub FindsGreatest-last : (r : Option ℕ) → r ≡ slice_get order (length order - 1) → FindsGreatest key_of compare s r
+  FindsGreatest-last (Some ix) is = HasGreatestKey-last s order o.held key_of compare total o.exact.placed ix (sym is)
+  FindsGreatest-last None is = nothing_last s order o.held (sym is)
+
+  pub IsSortedScan-listed : (indexes : List ℕ) → indexes ≡ order → IsSortedScan key_of compare s indexes
+  IsSortedScan-listed indexes is = rw is (record { holds = o.held; placed = o.exact.placed })
+
+  -- the index that a look-up found was taken out
+  pub TakesFound-taken :
+      {S : Type 0} (state : S) (test : T → Bool) (r : Option ℕ) (new : List ℕ)
+      → AnswersScan s test r
+      → Takes order r new
+      → TakesFound (λ (_ : S) t. Sorts key_of compare t new) state s r
+  TakesFound-taken state test (Some ix) new scan is =
+      let (item, live, passed) = (scan ix).1 refl in
+      rw is (Sorts-removed key_of compare s order o total ix item live)
+  TakesFound-taken state test None new scan is = rw is o

@@ -3,3 +3,9 @@ pub mod SizeLemmas
 pub mod OrderedIndexingLemmas
 pub mod OrderedMoveLemmas
 pub mod OrderedEndLemmas
+mod CallLemmas
+mod WalkLemmas
+mod EndLemmas
+mod TakeLemmas
+mod RetainLemmas
+mod EqualityLemmas

@@ -1,12 +1,12 @@
 -- What an index by the order of a key plans, and the blocks that wait in it.
-use Rattle.std.specs.Prelude.{◌*◌, ◌+◌, ◌-◌, ◌≤◌, ℕ, Bool, true, false, Option, Some, None, Result, Ok, Err}
+use Rattle.std.specs.Prelude.{◌≡◌, ◌*◌, ◌+◌, ◌-◌, ◌≤◌, ℕ, Bool, true, false, Option, Some, None, Result, Ok, Err}
 use Rattle.std.specs.declared.cmp.Ordering.{Ordering}
-use Rattle.iddqd.specs.Store.{Store}
+use Rattle.iddqd.specs.Store.{Store, live_count}
 use Rattle.iddqd_order.specs.MapBTreeTable.{Order, order_of, capacity, needed_blocks, move_blocks}
 use Rattle.iddqd_order.specs.Gap.{Fits, gap_place, gap_blocks}
 use Rattle.iddqd_order.specs.declared.btree_table.gap.Gap.{Gap}
 use Rattle.iddqd_sides.specs.Scan.{HasNoHit, AnswersScan}
-use Rattle.iddqd_sides.specs.Ordered.{IsVacantAt}
+use Rattle.iddqd_sides.specs.Ordered.{IsVacantAt, HasLeastKey, HasGreatestKey}
 use Rattle.iddqd_ord_map.specs.OrderedIndexing.{has_key}
 use Rattle.iddqd_ord_map.specs.declared.ordered_move.Move.{Move}
 use Rattle.iddqd_ord_map.specs.declared.ordered_move.Move.TheVariants.{Stays, Moves}
@@ -53,3 +53,12 @@ module _ {T K : Type 0} (key_of : T → K) (compare : K → K → Ordering) wher
   abbrev pub LooksPlaceUp : Store T → Order → T → Result Gap ℕ → Type 0
   LooksPlaceUp s t item (Ok gap) = HasNoHit s (has_key key_of compare (key_of item)) × IsGapFor s t item gap
   LooksPlaceUp s t item (Err at) = AnswersScan s (has_key key_of compare (key_of item)) (Some at)
+
+  -- the index of the item with the least key, or with the greatest: none where there is no item
+  abbrev pub FindsLeast : Store T → Option ℕ → Type 0
+  FindsLeast s (Some ix) = HasLeastKey key_of compare s ix
+  FindsLeast s None = live_count s ≡ 0
+
+  abbrev pub FindsGreatest : Store T → Option ℕ → Type 0
+  FindsGreatest s (Some ix) = HasGreatestKey key_of compare s ix
+  FindsGreatest s None = live_count s ≡ 0

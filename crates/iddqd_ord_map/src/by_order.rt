@@ -9,24 +9,26 @@
 //!
 //! A table holds ten indexes without any memory. They aren't counted: the capacity is what the reserved blocks hold, and
 //! ten more indexes fit always.
-ghost use Rattle.std.specs.Prelude.{◌≡◌, option_copied};
+ghost use Rattle.std.specs.Prelude.{◌≡◌};
 ghost use Rattle.std.specs.Range.Bound.{bound_map};
 ghost use Rattle.iddqd_map.specs.KeyIndex.{TakesFound};
 ghost use Rattle.iddqd_order.specs.{indexes_ahead, indexes_left};
 ghost use Rattle.iddqd_order.specs.MapBTreeTable.{order_of};
-ghost use Rattle.iddqd_ord_map.specs.ByOrder.{LooksPlaceUp, waiting};
+ghost use Rattle.iddqd_ord_map.specs.ByOrder.{FindsGreatest, FindsLeast, LooksPlaceUp, waiting};
 ghost use Rattle.iddqd_ord_map.specs.OrderedIndexing.{Sorts};
-ghost use Rattle.iddqd_sides.specs.Ordered.{is_equal};
+ghost use Rattle.iddqd_sides.specs.Ordered.{is_equal, IsSortedScan};
+ghost use Rattle.iddqd_sides.specs.OrderedQuery.{is_between};
+ghost use Rattle.iddqd_sides.specs.OrderedWalk.{SortsWithin};
 ghost use Rattle.iddqd_sides.specs.Scan.{AnswersScan, IsLive, IsKeyAt, passes_by};
 
 use crate::ordered_move::{Move, plan_move, relocate};
-use crate::ordered_query::{find_by, take_by};
+use crate::ordered_query::{find_by, range_by, take_by};
 use iddqd::index_remap::IndexRemap;
 use iddqd::internal::{ValidateCompact, ValidateRefusal, ValidationError};
 use iddqd::item_index::ItemIndex;
 use iddqd::item_set::ItemSet;
 use iddqd_map::key_index::KeyIndex;
-use iddqd_order::btree_table::{Asking, Blocks, Gap, MapBTreeTable};
+use iddqd_order::btree_table::{Asking, Blocks, Gap, Iter, MapBTreeTable, Range};
 use iddqd_sides::key_of::{ByKey, KeyOf, key_at};
 use iddqd_sides::order_query::OrdQuery;
 use iddqd_sides::ordered;
@@ -34,6 +36,7 @@ use iddqd_sides::ordered::take_index;
 use std::alloc::{AllocError, Global};
 use std::cmp::Ordering;
 use std::marker::PhantomData;
+use std::ops::Bound;
 
 // A table holds so many indexes without reserved memory.
 const FREE_INDEXES: usize = 10;
@@ -41,7 +44,7 @@ const FREE_INDEXES: usize = 10;
 /// A key index in the order of the key that `E` names.
 #[derive(Drop)]
 pub struct ByOrder<E> {
-    table: MapBTreeTable,
+    pub(crate) table: MapBTreeTable,
     // The memory of the next insert, where that needs any.
     blocks: Option<Blocks>,
     of: PhantomData<E>,
@@ -60,6 +63,80 @@ impl<E> ByOrder<E> {
         ensures { AnswersScan items.now.store (passes_by E.key_of (is_equal (Q.compare query))) result }
     {
         find_by::<T, E, Q>(&self.table, items, query)
+    }
+
+    /// Finds as `find` does, and takes the index out, by one search. It takes no memory.
+    pub fn take<T, S, Q>(&mut self, items: &ItemSet<T>, state: &S, query: Q) -> Option<ItemIndex>
+    where
+        E: KeyOf<T>,
+        E::Key: Ord,
+        Q: OrdQuery<E::Key>,
+        requires { ⟦<ByOrder<E> as KeyIndex<T, S>>⟧.indexes self.old state.now items.now.store }
+        ensures found { AnswersScan items.now.store (passes_by E.key_of (is_equal (Q.compare query))) result }
+        ensures taken { TakesFound (⟦<ByOrder<E> as KeyIndex<T, S>>⟧.indexes self.new) state.now items.now.store
+            result }
+        ensures capacity { ⟦<ByOrder<E> as KeyIndex<T, S>>⟧.capacity self.new
+            ≡ ⟦<ByOrder<E> as KeyIndex<T, S>>⟧.capacity self.old }
+        ensures cells { ⟦<ByOrder<E> as KeyIndex<T, S>>⟧.cells self.new
+            ≡ ⟦<ByOrder<E> as KeyIndex<T, S>>⟧.cells self.old }
+    {
+        take_by::<T, E, Q>(&mut self.table, items, query)
+    }
+
+    /// The index of the item with the least key.
+    pub fn first<T, S>(&self, items: &ItemSet<T>, state: &S) -> Option<ItemIndex>
+    where
+        E: KeyOf<T>,
+        E::Key: Ord,
+        requires { ⟦<ByOrder<E> as KeyIndex<T, S>>⟧.indexes self.now state.now items.now.store }
+        ensures { FindsLeast E.key_of E.Key.cmp items.now.store result }
+    {
+        self.table.first()
+    }
+
+    /// The index of the item with the greatest key.
+    pub fn last<T, S>(&self, items: &ItemSet<T>, state: &S) -> Option<ItemIndex>
+    where
+        E: KeyOf<T>,
+        E::Key: Ord,
+        requires { ⟦<ByOrder<E> as KeyIndex<T, S>>⟧.indexes self.now state.now items.now.store }
+        ensures { FindsGreatest E.key_of E.Key.cmp items.now.store result }
+    {
+        self.table.last()
+    }
+
+    /// The live indexes, in the order of the keys, from both ends. It takes no memory.
+    pub fn iter<T, S>(&self, items: &ItemSet<T>, state: &S) -> Iter<'_>
+    where
+        E: KeyOf<T>,
+        E::Key: Ord,
+        requires { ⟦<ByOrder<E> as KeyIndex<T, S>>⟧.indexes self.now state.now items.now.store }
+        ensures { IsSortedScan E.key_of E.Key.cmp items.now.store (indexes_left result) }
+    {
+        self.table.iter()
+    }
+
+    /// The indexes whose items have keys between two bounds, in the order of the keys, from both ends: none where the
+    /// lower bound is above the upper one.
+    ///
+    /// It compares each query with at most 4 + 2d keys, where the number of items has d binary digits, and takes no
+    /// memory.
+    pub fn range<T, S, Q>(
+        &self,
+        items: &ItemSet<T>,
+        state: &S,
+        lower: Bound<Q>,
+        upper: Bound<Q>,
+    ) -> Range<'_>
+    where
+        E: KeyOf<T>,
+        E::Key: Ord,
+        Q: OrdQuery<E::Key>,
+        requires { ⟦<ByOrder<E> as KeyIndex<T, S>>⟧.indexes self.now state.now items.now.store }
+        ensures { let within = is_between (bound_map Q.compare lower) (bound_map Q.compare upper) in
+            SortsWithin E.key_of E.Key.cmp within items.now.store (indexes_ahead result) }
+    {
+        range_by::<T, E, Q>(&self.table, items, lower, upper)
     }
 }
 
@@ -176,6 +253,8 @@ where
     ghost same_items = { λ x state s t same is. Sorts-alike E.key_of E.Key.cmp E.Key.total s t same (order_of x.table) is };
 
     ghost told = { λ s item at scan ix. told_one s (shares E.key_of (eq_by_cmp E.Key.cmp) item) at scan ix };
+
+    ghost told_some = { λ s item at scan. (at, refl) };
 
     ghost few_told = { λ at. one_told at };
 

@@ -2,5 +2,6 @@
 #![tactic(auto)]
 
 pub mod by_order;
+pub mod id_ord_map;
 pub mod ordered_move;
 pub mod ordered_query;

@@ -667,8 +667,8 @@ impl fmt::Debug for MapBTreeTable {
 }
 
 impl MapBTreeTable {
-    // Where the table's memory comes from.
-    pub(super) fn allocator(&self) -> Global {
+    /// Where the table's memory comes from.
+    pub fn allocator(&self) -> Global {
         self.alloc
     }
 }
