@@ -1,9 +1,11 @@
-use Rattle.std.proofs.Common.{rules, ◌≡◌, true, Ok, Err, Some, refl}
+use Rattle.std.proofs.Common.{rules, ◌≡◌, true, Ok, Err, refl, subst}
 use Rattle.std.specs.Ordering.{eq_by_cmp}
 use Rattle.iddqd_sides.specs.Ordered.{is_equal}
 use Rattle.iddqd_sides.specs.Scan.{passes_by}
-use Rattle.iddqd_map.specs.Map.{shares}
+use Rattle.iddqd_map.specs.Calls.{ReplacesIfLive}
+use Rattle.iddqd_map.specs.Map.{MapState, shares}
 use Rattle.iddqd_map.proofs.FoundLemmas.{hit_live}
+use Rattle.iddqd_ord_map.specs.OrdMap.{IsTakenAt}
 use Rattle.iddqd_ord_map.proofs.CallLemmas.{ReplacesAt-live}
 use Rattle.iddqd_ord_map.proofs.id_ord_map.IdOrdMap.change.Goals as goal
 
@@ -24,7 +26,8 @@ returns-in_err-was g c =
     let refusal = c.in_err-was.field-0.0 in
     let (was, live, gave) = c.made-item.ensures in
     let is : c.from_residual.result ≡ Err refusal = search rules in
-    let at = ReplacesAt-live alike true c.args.self.now c.replace_at.new.self c.in-Some.ix c.made-item.result was live (Err refusal) (rw (← c.self.view_is) c.in_err-was.ensures.replaces) in
+    let at = ReplacesAt-live alike true c.args.self.now c.replace_at.new.self c.in-Some.ix c.made-item.result was live (Err refusal)
+    (subst (λ (m : MapState _). ReplacesIfLive alike alike true (IsTakenAt alike) m c.in-Some.ix c.made-item.result (Err refusal) c.replace_at.new.self) c.self.view_is c.in_err-was.ensures.replaces) in
     rw is (c.in-Some.ix, c.in-Some.ensures, (was, c.made-item.result, live, gave, at))
 
 pub returns : goal.returns

@@ -7,16 +7,11 @@ use Rattle.iddqd_map.specs.Map.{MapState}
 use Rattle.iddqd_ord_map.specs.Pairs.{pairs_at, AreThere}
 use Rattle.iddqd_ord_map.proofs.WalkLemmas.{SortsWithin-all, IsWalkWithin-sorted, items_of_pairs}
 use Rattle.iddqd_ord_map.proofs.TakeLemmas.{AreThere-listed, length-items_at}
-use Rattle.iddqd_ord_map.proofs.id_ord_map.IdOrdMap.into_values.Goals.{After-into_consuming}
 use Rattle.iddqd_ord_map.proofs.id_ord_map.IdOrdMap.into_values.Goals as goal
 
--- each index that is listed has its item
-all_there : (g : _) (c : After-into_consuming g) → AreThere c.into_consuming.result (indexes_to_come c.into_iter.result)
-all_there g c =
-    rw (c.into_consuming.ensures, c.into_iter.ensures.to_come) (AreThere-listed c.into_parts-items.result.0.store (order_of c.into_parts-items.result.1.table) c.into_parts-items.ensures.indexed.held)
-
 pub invariant_of-result : goal.invariant_of-result
-invariant_of-result g c = all_there g c
+invariant_of-result g c =
+    rw (c.into_consuming.ensures, c.into_iter.ensures.to_come) (AreThere-listed c.into_parts-items.result.0.store (order_of c.into_parts-items.result.1.table) c.into_parts-items.ensures.indexed.held)
 
 pub returns-clause-items : goal.returns-clause-items
 returns-clause-items g c =
@@ -30,6 +25,8 @@ returns-clause-items g c =
 
 pub returns-clause-len : goal.returns-clause-len
 returns-clause-len g c =
+    let there : AreThere c.into_consuming.result (indexes_to_come c.into_iter.result) =
+    rw (c.into_consuming.ensures, c.into_iter.ensures.to_come) (AreThere-listed c.into_parts-items.result.0.store (order_of c.into_parts-items.result.1.table) c.into_parts-items.ensures.indexed.held) in
     let order = order_of c.into_parts-items.result.1.table in
-    length-items_at c.into_consuming.result (indexes_to_come c.into_iter.result) (all_there g c).each ∙ ap length c.into_iter.ensures.to_come
+    length-items_at c.into_consuming.result (indexes_to_come c.into_iter.result) there.each ∙ ap length c.into_iter.ensures.to_come
     ∙ length-held c.into_parts-items.result.0.store order c.into_parts-items.ensures.indexed.held ∙ ap (λ (m : MapState _). live_count m.store) (c.into_parts-items.ensures.map ∙ c.self.view_is)
