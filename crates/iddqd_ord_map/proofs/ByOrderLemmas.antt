@@ -1,5 +1,5 @@
 -- What a table in order tells of a store's items, as a key index has it.
-use Rattle.std.proofs.Common.{◌≡◌, ◌≢◌, ◌∙◌, ◌↔◌, ◌-◌, ℕ, List, length, Option, None, Bool, true, false, not, Some, None, Result, Ok, Err, refl, sym, Ordering}
+use Rattle.std.proofs.Common.{◌≡◌, ◌≢◌, ◌∙◌, ◌-◌, ℕ, List, length, Option, None, Bool, true, false, not, Some, None, Result, Ok, Err, refl, sym, Ordering}
 use Rattle.std.specs.Cmp.{IsTotalOrder, eq_by_cmp_equiv}
 use Rattle.std.specs.Fn.{Mut}
 use Rattle.std.specs.List.{slice_get}
@@ -59,7 +59,7 @@ module _ {T K : Type 0} (key_of : T → K) (compare : K → K → Ordering) (tot
       (r : Result Move ℕ)
       → PlansOrConflicts key_of compare s ix item r
       → PlansMove (likeness item) (likeness item) (λ plan. PlansOrConflicts key_of compare s ix item (Ok plan)) moves
-        (λ at. (at ≢ ix) × AnswersScan s (likeness item) (Some at)) s ix r
+      (λ at. (at ≢ ix) × AnswersScan s (likeness item) (Some at)) s ix r
   PlansMove-sorted (Ok plan) planned = (planned, no_other plan planned, moves_unlike plan planned)
   PlansMove-sorted (Err at) taken = taken
 

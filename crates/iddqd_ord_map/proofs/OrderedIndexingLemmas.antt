@@ -1,5 +1,5 @@
 -- For callers: each step of a store and of a table that sorts its items keeps it so.
-use Rattle.std.proofs.Common.{◌≡◌, ◌∙◌, ℕ, List, [], map, Some, sym, Ordering}
+use Rattle.std.proofs.Common.{◌≡◌, ℕ, List, [], map, Some, Ordering}
 use Rattle.std.specs.Cmp.{IsTotalOrder, eq_by_cmp_equiv}
 use Rattle.iddqd.specs.Store.{Store, IsValid, empty_within, cleared, get, inserted, removed}
 use Rattle.iddqd.specs.Compaction.{compacted, rank}

@@ -1,5 +1,5 @@
 -- How much memory a table in order has, as its key index counts it.
-use Rattle.std.proofs.Common.{◌≡◌, ◌+◌, ◌-◌, ◌*◌, ◌<◌, ◌≤◌, ℕ, List, length, min, max, Result, Ok, Err, IsOk, OnOk, OnErr, ap, arith, inl, inr}
+use Rattle.std.proofs.Common.{◌≡◌, ◌+◌, ◌-◌, ◌≤◌, ℕ, length, min, max, Result, Ok, Err, OnOk, OnErr, ap, arith, inl, inr}
 use Rattle.std.proofs.lemmas.Bool.{cases_lt}
 use Rattle.iddqd_order.specs.MapBTreeTable.{Order, order_of, capacity, capacity_for}
 use Rattle.iddqd_order.specs.Sizes.{Reserves, Shrinks}

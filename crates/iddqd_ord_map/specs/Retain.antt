@@ -1,5 +1,5 @@
 -- What `retain` asks of a closure along a walk over the items, and what it leaves.
-use Rattle.std.specs.Prelude.{◌≡◌, ◌≤◌, ℕ, Bool, List, map}
+use Rattle.std.specs.Prelude.{◌≡◌, ℕ, Bool, List, map}
 use Rattle.std.specs.List.{FoldsTo}
 use Rattle.iddqd.specs.Store.{Store}
 use Rattle.iddqd_map.specs.Map.{MapState}

@@ -29,6 +29,7 @@ mod walks;
 
 use crate::by_order::ByOrder;
 use crate::ordered_query::find_by;
+pub use clones::IdOrdClone;
 use iddqd::index_remap::IndexRemap;
 use iddqd::item_index::ItemIndex;
 use iddqd::item_set::ItemSet;
@@ -37,7 +38,6 @@ use iddqd_map::refusal::{InsertRefusal, OverwriteRefusal};
 use iddqd_order::btree_table::MapBTreeTable;
 use iddqd_sides::key_of::KeyOf;
 use iddqd_sides::order_query::OrdQuery;
-pub use clones::IdOrdClone;
 pub use into_values::IntoValues;
 pub use iter::Iter;
 pub use range::Range;

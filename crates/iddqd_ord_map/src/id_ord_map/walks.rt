@@ -7,8 +7,8 @@ ghost use Rattle.iddqd_sides.specs.OrderedQuery.{is_between};
 ghost use Rattle.iddqd_ord_map.specs.ByOrder.{FindsGreatest, FindsLeast};
 ghost use Rattle.iddqd_ord_map.specs.KeyOrder.{AreInKeyOrder, FindsEnd, IsKeyWalk, IsWalkWithin, PopsEnd};
 
-use crate::ordered_query::range_by;
 use super::{IdOrdItem, IdOrdMap, IntoValues, Iter, ItsKey, Range, Values};
+use crate::ordered_query::range_by;
 use iddqd::item_index::ItemIndex;
 use iddqd_sides::order_query::OrdQuery;
 use std::fmt;

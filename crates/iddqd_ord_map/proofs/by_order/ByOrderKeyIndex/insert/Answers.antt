@@ -1,4 +1,4 @@
-use Rattle.std.proofs.Common.{◌≡◌, ◌≤◌, ◌∙◌, refl, ap, subst, insert, sym}
+use Rattle.std.proofs.Common.{◌≤◌, ◌∙◌, refl, ap, subst, insert, sym}
 use Rattle.std.specs.List.{Contains}
 use Rattle.iddqd_order.specs.Gap.{gap_place, gap_blocks}
 use Rattle.iddqd_order.specs.MapBTreeTable.{order_of}

@@ -1,4 +1,4 @@
-use Rattle.std.proofs.Common.{◌≡◌, ◌≤◌, arith}
+use Rattle.std.proofs.Common.{arith}
 use Rattle.iddqd_order.specs.MapBTreeTable.{order_of}
 use Rattle.iddqd_order.proofs.GapLemmas.{none-below}
 use Rattle.iddqd_sides.proofs.OrderedCountLemmas.{length-held}

@@ -1,4 +1,4 @@
-use Rattle.std.proofs.Common.{◌≡◌, ◌<◌, ◌≤◌, inl, inr, length, arith}
+use Rattle.std.proofs.Common.{◌<◌, inl, inr, length, arith}
 use Rattle.std.proofs.lemmas.Bool.{cases_lt}
 use Rattle.iddqd.specs.Store.{live_count}
 use Rattle.iddqd_order.specs.MapBTreeTable.{order_of, capacity}

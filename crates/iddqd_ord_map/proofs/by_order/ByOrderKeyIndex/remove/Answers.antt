@@ -1,6 +1,6 @@
-use Rattle.std.proofs.Common.{◌≡◌, ◌<◌, ◌≤◌, length, arith, refl}
+use Rattle.std.proofs.Common.{◌<◌, length, arith}
 use Rattle.iddqd.proofs.LiveLemmas.{item_at}
-use Rattle.iddqd_order.specs.MapBTreeTable.{order_of, without}
+use Rattle.iddqd_order.specs.MapBTreeTable.{order_of}
 use Rattle.iddqd_order.proofs.GapLemmas.{enough-after, move-after}
 use Rattle.iddqd_order.proofs.MoveLemmas.{without-fewer}
 use Rattle.iddqd_ord_map.proofs.OrderedIndexingLemmas.{Sorts-removed}

@@ -1,4 +1,4 @@
-use Rattle.std.proofs.Common.{◌≡◌, length, arith}
+use Rattle.std.proofs.Common.{arith}
 use Rattle.iddqd.specs.Store.{live_count}
 use Rattle.iddqd_order.specs.MapBTreeTable.{order_of}
 use Rattle.iddqd_order.proofs.GapLemmas.{capacity-least}

@@ -1,4 +1,4 @@
-use Rattle.std.proofs.Common.{◌≡◌, ◌+◌, max, length, arith, subst}
+use Rattle.std.proofs.Common.{◌≡◌, ◌+◌, max, arith, subst}
 use Rattle.iddqd.specs.Store.{live_count}
 use Rattle.iddqd_order.specs.MapBTreeTable.{order_of}
 use Rattle.iddqd_order.specs.Sizes.{Shrinks}

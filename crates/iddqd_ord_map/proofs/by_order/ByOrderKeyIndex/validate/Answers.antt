@@ -1,5 +1,4 @@
-use Rattle.std.proofs.Common.{length, Err, refl}
-use Rattle.iddqd.specs.Validation.{Allows, Validates}
+use Rattle.std.proofs.Common.{refl}
 use Rattle.iddqd_order.specs.MapBTreeTable.{order_of}
 use Rattle.iddqd_sides.proofs.OrderedCountLemmas.{AreAsExpected-listed}
 use Rattle.iddqd_ord_map.proofs.ByOrderLemmas.{Validates-refused}

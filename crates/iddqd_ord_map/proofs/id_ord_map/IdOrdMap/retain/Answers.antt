@@ -1,4 +1,4 @@
-use Rattle.std.proofs.Common.{◌≡◌, ◌∙◌, ◌-◌, sym, ap, subst}
+use Rattle.std.proofs.Common.{◌∙◌, ◌-◌, sym, ap, subst}
 use Rattle.std.specs.Fn.{TakesAt, CalledAt}
 use Rattle.iddqd.specs.LiveItems.{live_items}
 use Rattle.iddqd_hash.specs.Asks.{CanAsk}

@@ -25,12 +25,18 @@ loop-ix-preserved-then-not-f g c =
     let asked : CalledAt g.F.FnMut c.loop-ix.f c.item_at.result.now false c.f.new.self = called_at g.F.FnMut c.f.ensures no in
     let left = rw (c.remove.ensures.value, c.item_at.ensures) at c.remove.ensures.removed in
     let gone : c.remove.new.self.store ≡ removed now c.in-Some.ix = ap (λ (s : SizedStore _). s.store) left in
-    record { retaining = Retaining-removed (TakesAt g.F.FnMut) (CalledAt g.F.FnMut) c.args.f.now c.args.items.now.store now (order_of c.args.table.now) (indexes_left c.loop-ix.ix-iterator) (indexes_left c.next.new.self) c.in-Some.ix c.loop-ix.f c.in-Some.ensures.steps c.loop-ix.invariant.retaining
-    c.item_at.result.now c.item_at.ensures c.remove.new.self.store c.f.new.self gone asked; slots = ap (λ (s : SizedStore _). s.capacity) left ∙ c.loop-ix.invariant.slots }
+    record {
+      retaining = Retaining-removed (TakesAt g.F.FnMut) (CalledAt g.F.FnMut) c.args.f.now c.args.items.now.store now (order_of c.args.table.now) (indexes_left c.loop-ix.ix-iterator) (indexes_left c.next.new.self) c.in-Some.ix c.loop-ix.f c.in-Some.ensures.steps c.loop-ix.invariant.retaining
+          c.item_at.result.now c.item_at.ensures c.remove.new.self.store c.f.new.self gone asked;
+      slots = ap (λ (s : SizedStore _). s.capacity) left ∙ c.loop-ix.invariant.slots;
+    }
 
 pub loop-ix-preserved : goal.loop-ix-preserved
 loop-ix-preserved g c =
     let yes : c.f.result ≡ true = search rules in
     let asked : CalledAt g.F.FnMut c.loop-ix.f c.item_at.result.now true c.f.new.self = called_at g.F.FnMut c.f.ensures yes in
-    record { retaining = Retaining-kept (TakesAt g.F.FnMut) (CalledAt g.F.FnMut) c.args.f.now c.args.items.now.store c.loop-ix.items.store (order_of c.args.table.now) (indexes_left c.loop-ix.ix-iterator) (indexes_left c.next.new.self) c.in-Some.ix c.loop-ix.f c.in-Some.ensures.steps c.loop-ix.invariant.retaining
-    c.item_at.result.now c.item_at.ensures c.f.new.self asked; slots = c.loop-ix.invariant.slots }
+    record {
+      retaining = Retaining-kept (TakesAt g.F.FnMut) (CalledAt g.F.FnMut) c.args.f.now c.args.items.now.store c.loop-ix.items.store (order_of c.args.table.now) (indexes_left c.loop-ix.ix-iterator) (indexes_left c.next.new.self) c.in-Some.ix c.loop-ix.f c.in-Some.ensures.steps c.loop-ix.invariant.retaining
+          c.item_at.result.now c.item_at.ensures c.f.new.self asked;
+      slots = c.loop-ix.invariant.slots;
+    }
