@@ -73,7 +73,8 @@ module _ {T K : Type 0} (key_of : T → K) (compare : K → K → Ordering) wher
         → Sorts key_of compare (rebound s ix item) order
     Sorts-kept s order o ix item was live hit =
         let (there, is, same) = hit in
-        let none : IsHit s (λ was. not (has_key key_of compare (key_of item) was)) ix → _ = λ other. (let one : Some there ≡ Some other.0 = sym is ∙ other.1 in let differs = other.2 in cc) in
+        let none : IsHit s (λ was. not (has_key key_of compare (key_of item) was)) ix → _ =
+        λ other. (let one : Some there ≡ Some other.0 = sym is ∙ other.1 in let differs = other.2 in cc) in
         record {
           held = Holds-rebound s order o.held ix item was live;
           exact = (Keeps-rebound key_of compare total s order ix item was live none).exact o.exact;

@@ -7,8 +7,8 @@
 //! 1. The list has exactly the live indexes, each once.
 //! 2. It is sorted by the keys of their items, and no two items have equal keys.
 //!
-//! A table holds ten indexes without any memory. They aren't counted: the capacity is what the reserved blocks hold, and
-//! ten more indexes fit always.
+//! A table holds ten indexes without any memory. They aren't counted: the capacity is what the reserved blocks hold,
+//! and ten more indexes fit always.
 ghost use Rattle.std.specs.Prelude.{◌≡◌};
 ghost use Rattle.std.specs.Range.Bound.{bound_map};
 ghost use Rattle.iddqd_map.specs.KeyIndex.{TakesFound};
@@ -250,7 +250,8 @@ where
     ghost modified = { λ x state s ix was item is live same.
         Sorts-modified E.key_of E.Key.cmp E.Key.total s (order_of x.table) is ix item was live same };
 
-    ghost same_items = { λ x state s t same is. Sorts-alike E.key_of E.Key.cmp E.Key.total s t same (order_of x.table) is };
+    ghost same_items = { λ x state s t same is.
+        Sorts-alike E.key_of E.Key.cmp E.Key.total s t same (order_of x.table) is };
 
     ghost told = { λ s item at scan ix. told_one s (shares E.key_of (eq_by_cmp E.Key.cmp) item) at scan ix };
 

@@ -1,7 +1,8 @@
 //! A map of items that have one key each, found by its order.
 //!
-//! It is a `Map` by one key index in order, so each of its calls does what that of `Map` does. Walks, ends and `retain` go
-//! in the order of the keys, and are its own. Look-ups, removals and walks take no memory.
+//! It is a `Map` by one key index in order, so each of its calls does what that of `Map` does, and its invariants are
+//! those of the `Map`. Walks, ends and `retain` go in the order of the keys, and are its own. Look-ups, removals and
+//! walks take no memory.
 ghost use Rattle.std.specs.Prelude.{◌≡◌, ◌≤◌, ◌↔◌, false, [], min, max, length, IsTrue, IsOk, IfOk, OnOk, OnErr, option_copied};
 ghost use Rattle.std.specs.Ordering.{eq_by_cmp};
 ghost use Rattle.iddqd.specs.{get, live_count, slot_limit, empty, cleared, IsRemapOf};
@@ -182,8 +183,8 @@ impl<T: IdOrdItem> IdOrdMap<T> {
 
     /// Takes an item whose key none has, and tells its index.
     ///
-    /// A duplicate is told even where the map is full or no memory is left, and a full map even where no memory is left.
-    /// A refusal hands the item back, and the contents stay. The table is searched once.
+    /// A duplicate is told even where the map is full or no memory is left, and a full map even where no memory is
+    /// left. A refusal hands the item back, and the contents stay. The table is searched once.
     pub fn insert_unique(&mut self, item: T) -> Result<ItemIndex, InsertRefusal<T, ItemIndex>>
         ensures { let alike = shares T.key_of (eq_by_cmp T.Key.cmp) in
             Inserts alike most_cells (ConflictsAt alike) self.old item result self.new }
@@ -274,8 +275,8 @@ impl<T: IdOrdItem> IdOrdMap<T> {
 
     /// Moves every item down to its rank, so that no slot is vacant, and tells the new names.
     ///
-    /// No key is compared. Where no slot is vacant it is `Identity` and takes no memory. Else it takes that of one index a
-    /// slot before an item moves; where that is refused nothing changes.
+    /// No key is compared. Where no slot is vacant it is `Identity` and takes no memory. Else it takes that of one index
+    /// a slot before an item moves; where that is refused nothing changes.
     pub fn compact(&mut self) -> Result<IndexRemap, AllocError>
         ensures remap { IfOk result (IsRemapOf self.old.store) }
         ensures compacted { OnOk result (Compacts self.old self.new) }

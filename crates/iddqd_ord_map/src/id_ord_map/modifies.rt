@@ -30,8 +30,8 @@ impl<T: IdOrdItem> IdOrdMap<T> {
         self.map.modify_live(ix, f)
     }
 
-    /// Calls the closure with a `&mut` to the item at an index, as `modify`; or returns none, and doesn't call it, where
-    /// the index has no item. No key is compared.
+    /// Calls the closure with a `&mut` to the item at an index, as `modify`; or returns none, and doesn't call it,
+    /// where the index has no item. No key is compared.
     pub fn modify_at<R, F: FnOnce(&mut T) -> R>(&mut self, ix: ItemIndex, f: F) -> Option<R>
         requires { KeepsKey F.FnOnce f T.key_of (λ item. get self.old.store ix ≡ Some item) }
         ensures { ModifiesAt F.FnOnce f self.old ix result self.new }

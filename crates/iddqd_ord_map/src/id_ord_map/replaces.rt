@@ -19,9 +19,9 @@ use iddqd_sides::order_query::OrdQuery;
 impl<T: IdOrdItem> IdOrdMap<T> {
     /// Puts an item in the place of the one that has the key, which is handed back.
     ///
-    /// The item may have another key. It keeps the index. Where its key is that of another item, or memory is refused, it
-    /// comes back, and the map stays as it was. Where the key stays the table isn't touched. Up to the capacity no memory
-    /// is needed.
+    /// The item may have another key. It keeps the index. Where its key is that of another item, or memory is refused,
+    /// it comes back, and the map stays as it was. Where the key stays the table isn't touched. Up to the capacity no
+    /// memory is needed.
     pub fn replace<Q: OrdQuery<T::Key>>(
         &mut self,
         query: Q,
@@ -47,8 +47,8 @@ impl<T: IdOrdItem> IdOrdMap<T> {
         self.map.replace_at(ix, item)
     }
 
-    /// Puts what the closure makes of the item that has the key in its place, and hands that item back; or answers none,
-    /// where no item has it.
+    /// Puts what the closure makes of the item that has the key in its place, and hands that item back; or answers
+    /// none, where no item has it.
     ///
     /// The closure is called at most once, and not at all where no item has the key. Else as `replace`.
     pub fn change<Q: OrdQuery<T::Key>, F: FnOnce(&T) -> T>(
