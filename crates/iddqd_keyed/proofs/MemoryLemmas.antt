@@ -1,5 +1,5 @@
 -- What becomes of the memory of a store and two tables, and what room each part has.
-use Rattle.std.proofs.Common.{◌≡◌, ◌∙◌, ◌<◌, ◌≤◌, ◌+◌, ◌-◌, inl, inr, ℕ, suc, Bool, true, false, cond, List, [], ◌∷◌, length, map, Option, Some, None, Result, Ok, Err, IfOk, OnOk, OnSome, refl, sym, ap, subst, arith, min, max, length-set}
+use Rattle.std.proofs.Common.{◌≡◌, ◌∙◌, ◌<◌, ◌≤◌, ◌+◌, ◌-◌, ◌*◌, ◌⊎◌, inl, inr, ℕ, zero, suc, Bool, true, false, cond, List, [], ◌∷◌, length, map, Option, Some, None, Result, Ok, Err, IfOk, OnOk, OnSome, refl, sym, ap, subst, arith, min, max, length-set}
 use Rattle.std.specs.Ordering.{nat_cmp}
 use Rattle.std.specs.FinMap as finite
 use Rattle.std.specs.FinMap.{FinMap}
@@ -8,7 +8,8 @@ use Rattle.std.proofs.lemmas.Bool.{cases_lt}
 use Rattle.std.proofs.lemmas.Cmp.{tied_itself}
 use Rattle.std.proofs.lemmas.List.{length_push, length-map}
 use Rattle.iddqd.specs.Store.{Store, IsValid, IsFull, get, live_count, slot_count, inserted, removed}
-use Rattle.iddqd.specs.ItemSet.{SizedStore}
+use Rattle.iddqd.specs.ItemSet.{SizedStore, room as set_room}
+use Rattle.iddqd.specs.Sizes.{doubled}
 use Rattle.iddqd.proofs.StoreLemmas.{IsValid-inserted, IsValid-removed}
 use Rattle.iddqd_hash.specs.HashTable.{Table, entries, capacity as hashed_capacity, memory as hashed_cells, room as hashed_room}
 use Rattle.iddqd_hash.specs.MapHashTable.{filed, filed_from, turned, indexes_of}
@@ -158,6 +159,24 @@ module _ {T S : Type 0} (old new : SizedState T S) (paired : IsPaired old.state)
           → room new ≡ room old + 1
       room_of_more limit same fewer within = rw (limit, same) (omega arith)
 
+-- ---- memory taken for one item
+
+-- a set that can grow has slots for at most twice as many items, at least for four, or as many as it had
+pub few_slots :
+    {T : Type 0} (old new : SizedStore T)
+    → IsValid old.store
+    → (1 ≤ set_room old → new ≡ old)
+    → (set_room old ≡ 0 → new.capacity ≡ doubled old)
+    → new.capacity ≤ max old.capacity (min old.store.limit (max 4 (2 * live_count old.store)))
+few_slots old new valid kept grown = elim (none_or_some (set_room old)) [
+  | inl none ↦ omega (arith, none, grown none, valid.counted)
+  | inr some ↦ omega (arith, ap (λ (s : SizedStore _). s.capacity) (kept some))
+]
+  where
+    none_or_some : (n : ℕ) → (n ≡ 0) ⊎ (1 ≤ n)
+    none_or_some zero = inl refl
+    none_or_some (suc n) = inr (omega arith)
+
 -- ---- memory taken ahead
 
 -- so many indexes fit the blocks that they need
@@ -184,6 +203,8 @@ module _
       {E : Type 0} (wanted : ℕ) (r : Result (Unit {0}) E) (paired : IsPaired was.state) (meant : wanted ≡ reservable additional was)
       (lacks : room was < wanted) (same_store : new_items.store ≡ items.store) (slots_stay : items.capacity ≤ new_items.capacity)
       (slots : live_count items.store + wanted ≤ min new_items.capacity items.store.limit)
+      (few : new_items.capacity
+      ≤ max items.capacity (max (live_count items.store + wanted) (min items.store.limit (2 * items.capacity))))
       (same_filed : filed new_table ≡ filed table)
       (hashed : hash_sizes.Reserves {T = ℕ} {A = Unit {0}} {E = E} wanted table (Ok tt) new_table)
       (hashed_stays : hashed_capacity table ≤ hashed_capacity new_table)
@@ -238,6 +259,10 @@ module _
       };
       reserved = reserved r refl;
       had_room = λ enough. absurd (omega (arith, enough, meant, lacks));
+      few_slots =
+          subst
+          (λ n. new_items.capacity ≤ max items.capacity (max (live + n) (min items.store.limit (2 * items.capacity))))
+          meant few;
       few_cells =
           let same : length (entries table) + wanted ≡ live + reservable additional was =
           omega (arith, counted, length-filed was.state paired, meant) in

@@ -1,5 +1,5 @@
 -- How a run goes on by one step, and what holds at its quiet moments.
-use Rattle.std.proofs.Common.{◌≡◌, ◌∙◌, ◌<◌, ◌≤◌, ℕ, List, [], ◌∷◌, ◌++◌, Some, None, Ok, Err, inl, inr, refl, ap, arith}
+use Rattle.std.proofs.Common.{◌≡◌, ◌∙◌, ◌<◌, ◌≤◌, ℕ, List, [], ◌∷◌, ◌++◌, Some, None, Ok, Err, inl, inr, refl, ap, subst, arith}
 use Rattle.std.specs.List.{All}
 use Rattle.std.proofs.lemmas.List.Elements.{All-cons, All-nil, All-head, All-tail}
 use Rattle.iddqd.specs.Store.{Store, live_count}
@@ -8,7 +8,7 @@ use Rattle.iddqd_keyed.specs.State.{State, IsPaired, IsEmpty}
 use Rattle.iddqd_keyed.specs.Sides.{IsExact, InOrder, Changes, AsScan, first_side, second_side}
 use Rattle.iddqd_keyed.specs.Machine.{Answers, Step}
 use Rattle.iddqd_keyed.specs.Run.{Run, IsStepChain, No_step, Next_step, IsQuietAfter, IsExactFrom, IsExactWhereQuiet, IsSilentChange, AnswersAsScan}
-use Rattle.iddqd_keyed.specs.Memory.{SizedState, IsNoLower, StepsInMemory, RefusesMemory, IsServedBelow, RunsInMemory, capacity, room}
+use Rattle.iddqd_keyed.specs.Memory.{Memory, SizedState, IsNoLower, TakesForOne, StepsInMemory, RefusesMemory, IsServedBelow, RunsInMemory, capacity, room}
 use Rattle.iddqd_keyed.specs.declared.command.Command.{Command}
 use Rattle.iddqd_keyed.specs.declared.command.Command.TheVariants.{Insert, Find1, Find2, Remove, Remove1, Remove2, Overwrite, Compact, Clear, Walk}
 use Rattle.iddqd_keyed.specs.declared.command.Reply.{Reply}
@@ -152,16 +152,57 @@ module _ {T S K1 K2 : Type 0} (keys : Keys T K1 K2 S) where
       IsServedBelow-push (capacity old) reply new.state chain served
       (λ fewer. step.not_refused (room_still old mid (limit_stays_along chain) no_lower fewer))
 
+  -- what holds of all moments with some more holds of the last, and of those
+  all_before :
+      (P : State T S → Type 0) (rest : List (State T S)) {old mid : State T S} {commands : List (Command T K1 K2)}
+      {replies : List (Reply T)} {moments : List (State T S)} → IsStepChain keys old commands replies moments mid
+      → All P (old ∷ (moments ++ rest)) → P mid × All P (old ∷ moments)
+  all_before P rest {old = old} No_step all =
+      let first = All-head P old rest all in
+      (first, All-cons P old [] first (All-nil P))
+  all_before P rest {old = old} (Next_step {next = next} {moments = moments} step chain) all =
+      let later = all_before P rest chain (All-tail P old (next ∷ (moments ++ rest)) all) in
+      (later.0, All-cons P old (next ∷ moments) (All-head P old (next ∷ (moments ++ rest)) all) later.1)
+
+  taken_after :
+      (limit most items : ℕ) (old mid new : Memory) → items ≤ most → TakesForOne limit most old mid
+      → TakesForOne limit items mid new → TakesForOne limit most old new
+  taken_after limit most items old mid new fewer first second = record {
+    slots = omega (arith, first.slots, second.slots, fewer);
+    cells = omega (arith, first.cells, second.cells, fewer);
+  }
+
+  -- what one more step takes
+  pub TakesForOne-step :
+      {old mid new : SizedState T S} {commands : List (Command T K1 K2)} {replies : List (Reply T)}
+      {moments : List (State T S)} {command : Command T K1 K2} {reply : Reply T}
+      → IsStepChain keys old.state commands replies moments mid.state
+      → ((most : ℕ) → All (λ s. live_count s.store ≤ most) (old.state ∷ moments)
+      → TakesForOne old.state.store.limit most old.memory mid.memory)
+      → StepsInMemory mid command reply new → (most : ℕ)
+      → All (λ s. live_count s.store ≤ most) (old.state ∷ (moments ++ new.state ∷ []))
+      → TakesForOne old.state.store.limit most old.memory new.memory
+  TakesForOne-step {old = old} {mid = mid} {new = new} chain few step most all =
+      let within = λ (s : State T S). live_count s.store ≤ most in
+      let before = all_before within (new.state ∷ []) chain all in
+      taken_after old.state.store.limit most (live_count mid.state.store) old.memory mid.memory new.memory before.0
+      (few most before.1)
+      (subst (λ n. TakesForOne n (live_count mid.state.store) mid.memory new.memory) (limit_stays_along chain) step.few)
+
   pub RunsInMemory-from_chain :
       {old new : SizedState T S} {commands : List (Command T K1 K2)} {replies : List (Reply T)}
       {moments : List (State T S)} → IsStepChain keys old.state commands replies moments new.state
       → IsPaired old.state → IsNoLower old.memory new.memory
-      → IsServedBelow (capacity old) old.state replies moments → RunsInMemory keys old commands replies new
+      → IsServedBelow (capacity old) old.state replies moments
+      → ((most : ℕ) → All (λ s. live_count s.store ≤ most) (old.state ∷ moments)
+      → TakesForOne old.state.store.limit most old.memory new.memory)
+      → RunsInMemory keys old commands replies new
   unfolding Run-from_chain
-  RunsInMemory-from_chain {moments = moments} chain paired no_lower served = record {
+  RunsInMemory-from_chain {moments = moments} chain paired no_lower served few = record {
     run = Run-from_chain keys {moments = moments} chain paired;
     no_lower = no_lower;
     served = served;
+    few = few;
   }
 
   -- For callers: where at each moment there are fewer items than could be held at the start, no item of a run is refused

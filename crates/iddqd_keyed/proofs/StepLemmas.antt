@@ -1,11 +1,12 @@
 -- One step of the keyed machine and its memory, from what the call that it makes answers and leaves.
-use Rattle.std.proofs.Common.{◌≡◌, ◌≤◌, ℕ, Ok, Err}
+use Rattle.std.proofs.Common.{◌≡◌, ◌≤◌, ℕ, Ok, Err, arith}
+use Rattle.iddqd.specs.Store.{live_count}
 use Rattle.iddqd_keyed.specs.Keys.{Keys}
 use Rattle.iddqd_keyed.specs.State.{State}
 use Rattle.iddqd_keyed.specs.Sides.{first_side, second_side, IsExact, AsScan, Keeps}
 use Rattle.iddqd_keyed.specs.Machine.{Answers, Step}
 use Rattle.iddqd_keyed.specs.declared.command.Command.{Command}
-use Rattle.iddqd_keyed.specs.Memory.{SizedState, InsertsInMemory, StepsInMemory, RefusesMemory, room}
+use Rattle.iddqd_keyed.specs.Memory.{SizedState, InsertsInMemory, TakesForOne, StepsInMemory, RefusesMemory, room}
 use Rattle.iddqd_keyed.specs.declared.command.Command.TheVariants.{Insert}
 use Rattle.iddqd_keyed.specs.declared.command.Reply.{Reply}
 use Rattle.iddqd_keyed.specs.declared.command.Reply.TheVariants.{Inserted, Refused}
@@ -37,25 +38,30 @@ module _ {T S K1 K2 : Type 0} (old new : SizedState T S) where
     had_room = λ _. same;
     not_refused = λ _. other;
     others = λ _. same;
+    few = rw same (record { slots = omega arith; cells = omega arith });
   }
 
   -- of an insert
   pub StepsInMemory-inserted :
       (item : T) (ix : ℕ) → InsertsInMemory {T = T} (1 ≤ room old) old.memory (Ok ix) new.memory
+      → TakesForOne old.state.store.limit (live_count old.state.store) old.memory new.memory
       → StepsInMemory {K1 = K1} {K2 = K2} old (Insert item) (Inserted ix) new
-  StepsInMemory-inserted item ix did = record {
+  StepsInMemory-inserted item ix did few = record {
     no_lower = did.no_lower;
     had_room = did.had_room;
     not_refused = λ _ never. never;
     others = λ other. absurd (other tt);
+    few = few;
   }
 
   pub StepsInMemory-refused :
       (item : T) (refusal : InsertRefusal T) → InsertsInMemory {T = T} (1 ≤ room old) old.memory (Err refusal) new.memory
+      → TakesForOne old.state.store.limit (live_count old.state.store) old.memory new.memory
       → StepsInMemory {K1 = K1} {K2 = K2} old (Insert item) (Refused refusal) new
-  StepsInMemory-refused item refusal did = record {
+  StepsInMemory-refused item refusal did few = record {
     no_lower = did.no_lower;
     had_room = did.had_room;
     not_refused = did.not_refused;
     others = λ other. absurd (other tt);
+    few = few;
   }

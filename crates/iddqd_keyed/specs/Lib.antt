@@ -35,5 +35,5 @@ pub use Rattle.iddqd_keyed.specs.Walks.{items_at, RangesWithin}
 pub use Rattle.iddqd_keyed.specs.Replacement.{TellsOther, Becomes, Replaces}
 pub use Rattle.iddqd_keyed.specs.Modify.{ModifiesAt, ModifiesFound}
 pub use Rattle.iddqd_keyed.specs.Memory.{SizedState, no_memory, capacity, room, reservable, IsNoLower, IsMadeFor}
-pub use Rattle.iddqd_keyed.specs.Memory.{IsForMemory, InsertsInMemory, ReservesInMemory, ShrinksInMemory}
+pub use Rattle.iddqd_keyed.specs.Memory.{IsForMemory, InsertsInMemory, TakesForOne, ReservesInMemory, ShrinksInMemory}
 pub use Rattle.iddqd_keyed.specs.Memory.{RefusesMemory, IsServedBelow, StepsInMemory, RunsInMemory}

@@ -1,5 +1,5 @@
 -- The memory of keyed items, beside their state: what each part can hold without asking for more.
-use Rattle.std.specs.Prelude.{◌≡◌, ◌≤◌, ◌<◌, ◌-◌, ◌+◌, ⊤, ℕ, List, ◌∷◌, length, Result, IsOk, OnOk, IfErr, min, max, refl}
+use Rattle.std.specs.Prelude.{◌≡◌, ◌≤◌, ◌<◌, ◌-◌, ◌+◌, ◌*◌, ⊤, ℕ, List, ◌∷◌, All, length, Result, IsOk, OnOk, IfErr, min, max, refl}
 use Rattle.std.specs.FinMap as finite
 use Rattle.std.specs.Coded.{Coded, code_by, coded×, coded_ℕ}
 use Rattle.iddqd.specs.Store.{live_count, slot_count}
@@ -97,6 +97,12 @@ pub record InsertsInMemory {T : Type 0} (has_room : Type 0) (old : Memory) (resu
   pub had_room : has_room → new ≡ old
   pub not_refused : has_room → IfErr result (λ refusal. IsForMemory refusal → ⊥)
 
+-- What an insert beside so many items takes at most, whatever it answers: slots for twice as many, at least for four, and
+-- none past the limit; and no more cells than one more index needs.
+pub record TakesForOne (limit items : ℕ) (old new : Memory) : Type 0 where
+  pub slots : new.slots ≤ max old.slots (min limit (max 4 (2 * items)))
+  pub cells : new.cells ≤ max old.cells (most_cells (items + 1))
+
 -- each part has room for one more item: of the tables their capacity is more than they hold
 pub record HasRoomInParts {T : Type 0} (items : SizedStore T) (table : Table ℕ) (order : Order) : Type 0 where
   pub slots : 1 ≤ set_room items
@@ -129,13 +135,18 @@ module _ {T S : Type 0} where
   reservable additional k = min additional (insertable k.state.store)
 
   -- What a reserve leaves: the contents; no part can hold less than before; at Ok there is room for so many more items,
-  -- or for as many as the limit leaves; where there was, nothing changes; and the tables have no more than so many need.
+  -- or for as many as the limit leaves; where there was, nothing changes. The tables have no more than so many need, and
+  -- the store no more slots than that, or twice as many as it had.
   pub record ReservesInMemory {E : Type 0}
       (additional : ℕ) (old : SizedState T S) (result : Result (Unit {0}) E) (new : SizedState T S) : Type 0 where
     pub contents : new.state ≡ old.state
     pub no_lower : IsNoLower old.memory new.memory
     pub reserved : OnOk result (reservable additional old ≤ room new)
     pub had_room : reservable additional old ≤ room old → IsOk result × (new ≡ old)
+    pub few_slots :
+        new.memory.slots
+        ≤ max old.memory.slots
+        (max (live_count old.state.store + reservable additional old) (min old.state.store.limit (2 * old.memory.slots)))
     pub few_cells :
         new.memory.cells ≤ max old.memory.cells (most_cells (live_count old.state.store + reservable additional old))
     pub few_blocks :
@@ -155,7 +166,7 @@ module _ {T S : Type 0} where
     pub never_more : (new.memory.slots ≤ old.memory.slots) × (new.memory.cells ≤ old.memory.cells)
 
   -- One step and its memory: no part can hold less than before; with room for an item none is taken, and no item is
-  -- refused for want of it; and no command but an insert takes any.
+  -- refused for want of it; no command but an insert takes any, and an insert no more than one more item needs.
   pub record StepsInMemory
       {K1 K2 : Type 0} (old : SizedState T S) (command : Command T K1 K2) (reply : Reply T) (new : SizedState T S)
       : Type 0 where
@@ -163,6 +174,7 @@ module _ {T S : Type 0} where
     pub had_room : 1 ≤ room old → new.memory ≡ old.memory
     pub not_refused : 1 ≤ room old → RefusesMemory reply → ⊥
     pub others : (IsInsert command → ⊥) → new.memory ≡ old.memory
+    pub few : TakesForOne old.state.store.limit (live_count old.state.store) old.memory new.memory
 
   -- at each moment with fewer items than so many, no item is refused for want of memory
   abbrev pub IsServedBelow : ℕ → State T S → List (Reply T) → List (State T S) → Type 0
@@ -170,11 +182,16 @@ module _ {T S : Type 0} where
       (live_count moment.store < held → RefusesMemory reply → ⊥) × IsServedBelow held next replies moments
   IsServedBelow held moment replies moments = ⊤
 
--- A run and its memory: no part can hold less than at the start; and at each moment with fewer items than could be held
--- at the start, no item is refused for want of memory.
+-- A run and its memory: no part can hold less than at the start; at each moment with fewer items than could be held at the
+-- start, no item is refused for want of memory; and where there never are more than so many items, no more is taken than
+-- an insert beside these may take.
 pub record RunsInMemory
     {T S K1 K2 : Type 0} (keys : Keys T K1 K2 S) (old : SizedState T S) (commands : List (Command T K1 K2))
     (replies : List (Reply T)) (new : SizedState T S) : Type 0 where
   pub run : Run keys old.state commands replies new.state
   pub no_lower : IsNoLower old.memory new.memory
   pub served : IsServedBelow (capacity old) old.state replies run.moments
+  pub few :
+      (most : ℕ)
+      → All (λ s. live_count s.store ≤ most) (old.state ∷ run.moments)
+      → TakesForOne old.state.store.limit most old.memory new.memory

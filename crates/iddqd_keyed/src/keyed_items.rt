@@ -11,10 +11,12 @@
 //! An insert is one search of the ordered table, which tells a duplicate, or else the place. Each call
 //! that obeys a command says that its states are paired, though the type does, so that `step` and `run`
 //! are proved from the calls' clauses alone.
-ghost use Rattle.std.specs.Prelude.{◌≡◌, ◌↔◌, ◌≤◌, ◌+◌, [], None, IsTrue, IsSome, OnSome, IsOk, IfOk, OnOk, IfErr, OnErr, option_copied};
+ghost use Rattle.std.specs.Prelude.{◌≡◌, ◌↔◌, ◌≤◌, ◌+◌, ◌*◌, min, max, [], None, IsTrue, IsSome, OnSome, IsOk, IfOk, OnOk, IfErr, OnErr, option_copied};
 ghost use Rattle.std.specs.FinMap as finite;
 ghost use Rattle.iddqd.specs.{get, live_count, next_index, inserted, removed, IsFull, IsValid, IsRemapOf};
 ghost use Rattle.iddqd_hash.specs.{filed};
+ghost use Rattle.iddqd_hash.specs.HashTable.{memory as cells};
+ghost use Rattle.iddqd_hash.specs.Sizes.{most_cells};
 ghost use Rattle.iddqd_order.specs.{indexes_left, order_of, without};
 ghost use Rattle.iddqd_order.specs.MapBTreeTable.{capacity as ordered_capacity};
 ghost use Rattle.iddqd_sides.specs.Scan.{IsLive};
@@ -24,7 +26,7 @@ ghost use Rattle.iddqd_keyed.specs.State.{empty_state, empty_state_within, clear
 ghost use Rattle.iddqd_keyed.specs.Sides.{first_side, second_side, finds_told, hash_in, LooksUp, IsExact, Keeps, KeepsUnlessChanged};
 ghost use Rattle.iddqd_keyed.specs.Machine.{Refuses, Inserts, TellsAsScan, Removes, RemovesBy, Overwrites, Step};
 ghost use Rattle.iddqd_keyed.specs.Run.{Run};
-ghost use Rattle.iddqd_keyed.specs.Memory.{no_memory, capacity, room, memory_of, HasRoomInParts, InsertsInMemory, StepsInMemory, RunsInMemory};
+ghost use Rattle.iddqd_keyed.specs.Memory.{no_memory, capacity, room, memory_of, HasRoomInParts, InsertsInMemory, TakesForOne, StepsInMemory, RunsInMemory};
 
 mod memory;
 mod modifies;
@@ -212,6 +214,8 @@ impl<T: KeyedItem, S: BuildHasher> KeyedItems<T, S> {
         ensures tells { TellsAsScan ⟦<Self as Keyed>⟧.keys self.old.state item result }
         ensures keeps { Keeps ⟦<Self as Keyed>⟧.keys self.old.state self.new.state }
         ensures memory { InsertsInMemory (1 ≤ room self.old) self.old.memory result self.new.memory }
+        ensures few { let store = self.old.state.store in
+            TakesForOne store.limit (live_count store) self.old.memory self.new.memory }
         ensures room { OnOk result (1 ≤ room self.old → room self.old ≡ room self.new + 1) }
     {
         let (hash, first) = self.hash_and_find(item.key1());
@@ -429,6 +433,9 @@ fn enter<T: KeyedItem>(
     ensures memory { let has_room = HasRoomInParts items.old table.old order.old in
         let was = memory_of items.old table.old order.old in
         InsertsInMemory has_room was result (memory_of items.new table.new order.new) }
+    ensures few_slots { items.new.capacity
+        ≤ max items.old.capacity (min items.old.store.limit (max 4 (2 * live_count items.old.store))) }
+    ensures few_cells { cells table.new ≤ max (cells table.old) (most_cells (finite.len (filed table.old) + 1)) }
 {
     let query = ByKey(item.key2());
     let vacant = match ordered::entry::<T, Second, ByKey<T::Key2>>(order, items, &query) {

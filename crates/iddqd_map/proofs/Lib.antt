@@ -5,6 +5,7 @@ pub mod FoundLemmas
 pub mod HashLemmas
 pub mod IndexingLemmas
 pub mod MapLemmas
+pub mod OneKeyLemmas
 pub mod OverwriteLemmas
 pub mod RetainLemmas
 pub mod TakeLemmas

@@ -16,7 +16,10 @@ ghost use Rattle.iddqd_map.specs.Indexing.{Indexes};
 
 use crate::hashed_plan::plan_move;
 use crate::hashed_query::{find_under, take_by};
-use crate::key_index::{Checks, HashedAt, Here, Inserts, KeyIndex, Moves, Overwrites, Removes, Sizes};
+use crate::key_index::{
+    AsksAt, Checks, Conflicts, HashedAt, Here, Inserts, KeyIndex, Moves, Overwrites, Removes, Sizes,
+    TakesAt,
+};
 use crate::of_item::{commit_item, find_item, take_item, validate_table};
 use iddqd::index_remap::IndexRemap;
 use iddqd::internal::{ValidateCompact, ValidateRefusal, ValidationError};
@@ -62,23 +65,9 @@ where
     ghost use Rattle.iddqd_map.specs.HashLaws.{shares_laws, Indexes-modified, Indexes-same, told_one, few_one};
     ghost use Rattle.iddqd_sides.proofs.FindLemmas.{IsLawful-from_bounds};
 
-    type Known = MapHash;
-
-    type Asked = Option<MapHash>;
-
-    type Spot = ();
-
-    type Plan = ();
-
-    type Conflict = ItemIndex;
-
-    type Move = Move;
-
     ghost Keys = { E.Key };
 
     ghost keys = { E.key_of };
-
-    ghost key_count = { 1 };
 
     ghost alike = { shares E.key_of E.Key.eq };
 
@@ -97,36 +86,10 @@ where
 
     ghost same = { λ x y. filed y.table ≡ filed x.table };
 
-    ghost is_known = { λ state item hash. hash ≡ (hashing_of E.Key.eq E.Key.hash_input S.BuildHasher
-        S.Hasher.Hasher state).hash_of (E.key_of item) };
-
-    ghost is_spot = { λ x state s item spot. Unit {0} };
-
-    ghost is_planned = { λ x state s item plan. Unit {0} };
-
-    ghost has_room_for = { λ x plan. 1 ≤ room x.table };
-
-    ghost is_ready_after = { λ x. Unit {0} };
-
-    ghost conflicts = { λ s item at. AnswersScan s (shares E.key_of E.Key.eq item) (Some at) };
-
-    ghost taken = { λ s ix item at. (at ≢ ix) × AnswersScan s (shares E.key_of E.Key.eq item) (Some at) };
-
-    ghost tells = { λ at ix. ix ≡ at };
-
-    ghost is_move = { λ state s ix item plan. Plans E.key_of (hashing_of E.Key.eq E.Key.hash_input S.BuildHasher
-        S.Hasher.Hasher state) s ix item plan };
-
-    ghost moves = { moves };
-
-    ghost is_ready = { λ x plan. Unit {0} };
-
     ghost same_as_itself = { λ x. refl };
 
     ghost same_indexes = { λ x y state s same is. subst (λ m. Indexes E.key_of (hashing_of E.Key.eq E.Key.hash_input
         S.BuildHasher S.Hasher.Hasher state) s m) (sym same) is };
-
-    ghost same_plans = { λ x y state s item plan same is. is };
 
     ghost apart = { λ x state s is. is.exact.apart };
 
@@ -139,12 +102,6 @@ where
         S.BuildHasher S.Hasher.Hasher state in let lawful = IsLawful-from_bounds E.Key.eq E.Key.hash_input
         S.BuildHasher S.Hasher.Hasher state (partial_equiv_from_equiv E.Key.Eq.laws) E.Key.respects_eq in
         Indexes-same E.key_of hashing s (filed x.table) lawful is t have };
-
-    ghost told = { λ s item at is ix. told_one s (shares E.key_of E.Key.eq item) at is ix };
-
-    ghost told_some = { λ s item at is. (at, refl) };
-
-    ghost few_told = { few_one };
 
     ghost equivalence = { shares_laws E.key_of E.Key.eq E.Key.Eq.laws };
 
@@ -189,12 +146,84 @@ where
     }
 }
 
+impl<T, S, E> Conflicts<T, S> for ByHash<E>
+where
+    E: KeyOf<T>,
+    E::Key: Eq + Hash,
+    S: BuildHasher,
+{
+    ghost use Rattle.std.proofs.Common.{refl, sym, subst};
+    ghost use Rattle.std.specs.Cmp.{partial_equiv_from_equiv};
+    ghost use Rattle.std.specs.Prelude.{◌≢◌, ◌≤◌, ℕ, Some, false};
+    ghost use Rattle.iddqd_hash.specs.HashTable.{room, capacity, memory};
+    ghost use Rattle.iddqd_hash.specs.Sizes.{most_cells};
+    ghost use Rattle.iddqd_hash.specs.MapHashTable.{filed};
+    ghost use Rattle.iddqd_map.specs.Map.{shares};
+    ghost use Rattle.iddqd_map.specs.Hashed.{moves};
+    ghost use Rattle.iddqd_map.specs.Indexing.{Plans};
+    ghost use Rattle.iddqd_map.specs.HashLaws.{shares_laws, Indexes-modified, Indexes-same, told_one, few_one};
+    ghost use Rattle.iddqd_sides.proofs.FindLemmas.{IsLawful-from_bounds};
+
+    type Conflict = ItemIndex;
+
+    ghost key_count = { 1 };
+
+    ghost conflicts = { λ s item at. AnswersScan s (shares E.key_of E.Key.eq item) (Some at) };
+
+    ghost taken = { λ s ix item at. (at ≢ ix) × AnswersScan s (shares E.key_of E.Key.eq item) (Some at) };
+
+    ghost tells = { λ at ix. ix ≡ at };
+
+    ghost told = { λ s item at is ix. told_one s (shares E.key_of E.Key.eq item) at is ix };
+
+    ghost told_some = { λ s item at is. (at, refl) };
+
+    ghost few_told = { few_one };
+
+    fn next_told(conflict: &ItemIndex, before: Option<ItemIndex>) -> Option<ItemIndex> {
+        let at = *conflict;
+        match before {
+            Some(before) if at <= before => None,
+            _ => Some(at),
+        }
+    }
+}
+
 impl<T, S, E> Inserts<T, S> for ByHash<E>
 where
     E: KeyOf<T>,
     E::Key: Eq + Hash,
     S: BuildHasher,
 {
+    ghost use Rattle.std.proofs.Common.{refl, sym, subst};
+    ghost use Rattle.std.specs.Cmp.{partial_equiv_from_equiv};
+    ghost use Rattle.std.specs.Prelude.{◌≢◌, ◌≤◌, ℕ, Some, false};
+    ghost use Rattle.iddqd_hash.specs.HashTable.{room, capacity, memory};
+    ghost use Rattle.iddqd_hash.specs.Sizes.{most_cells};
+    ghost use Rattle.iddqd_hash.specs.MapHashTable.{filed};
+    ghost use Rattle.iddqd_map.specs.Map.{shares};
+    ghost use Rattle.iddqd_map.specs.Hashed.{moves};
+    ghost use Rattle.iddqd_map.specs.Indexing.{Plans};
+    ghost use Rattle.iddqd_map.specs.HashLaws.{shares_laws, Indexes-modified, Indexes-same, told_one, few_one};
+    ghost use Rattle.iddqd_sides.proofs.FindLemmas.{IsLawful-from_bounds};
+
+    type Known = MapHash;
+
+    type Spot = ();
+
+    type Plan = ();
+
+    ghost is_known = { λ state item hash. hash ≡ (hashing_of E.Key.eq E.Key.hash_input S.BuildHasher
+        S.Hasher.Hasher state).hash_of (E.key_of item) };
+
+    ghost is_spot = { λ x state s item spot. Unit {0} };
+
+    ghost is_planned = { λ x state s item plan. Unit {0} };
+
+    ghost has_room_for = { λ x plan. 1 ≤ room x.table };
+
+    ghost same_plans = { λ x y state s item plan same is. is };
+
     fn known(state: &S, item: &T) -> MapHash {
         hash_of::<T, E, S>(state, item)
     }
@@ -248,18 +277,28 @@ where
     E::Key: Eq + Hash,
     S: BuildHasher,
 {
+    ghost use Rattle.std.proofs.Common.{refl, sym, subst};
+    ghost use Rattle.std.specs.Cmp.{partial_equiv_from_equiv};
+    ghost use Rattle.std.specs.Prelude.{◌≢◌, ◌≤◌, ℕ, Some, false};
+    ghost use Rattle.iddqd_hash.specs.HashTable.{room, capacity, memory};
+    ghost use Rattle.iddqd_hash.specs.Sizes.{most_cells};
+    ghost use Rattle.iddqd_hash.specs.MapHashTable.{filed};
+    ghost use Rattle.iddqd_map.specs.Map.{shares};
+    ghost use Rattle.iddqd_map.specs.Hashed.{moves};
+    ghost use Rattle.iddqd_map.specs.Indexing.{Plans};
+    ghost use Rattle.iddqd_map.specs.HashLaws.{shares_laws, Indexes-modified, Indexes-same, told_one, few_one};
+    ghost use Rattle.iddqd_sides.proofs.FindLemmas.{IsLawful-from_bounds};
+
+    ghost is_ready_after = { λ x. Unit {0} };
+
     fn spot(&self, items: &ItemSet<T>, state: &S, known: MapHash, item: &T) {}
 
     fn ready_after(&mut self, items: &ItemSet<T>, state: &S) -> Result<(), AllocError> {
         Ok(())
     }
 
-    fn next_told(conflict: &ItemIndex, before: Option<ItemIndex>) -> Option<ItemIndex> {
-        let at = *conflict;
-        match before {
-            Some(before) if at <= before => None,
-            _ => Some(at),
-        }
+    fn give_way(&mut self, items: &ItemSet<T>, state: &S, ix: ItemIndex) {
+        take_item::<T, E, S>(&mut self.table, items, state, ix);
     }
 }
 
@@ -269,6 +308,29 @@ where
     E::Key: Eq + Hash,
     S: BuildHasher,
 {
+    ghost use Rattle.std.proofs.Common.{refl, sym, subst};
+    ghost use Rattle.std.specs.Cmp.{partial_equiv_from_equiv};
+    ghost use Rattle.std.specs.Prelude.{◌≢◌, ◌≤◌, ℕ, Some, false};
+    ghost use Rattle.iddqd_hash.specs.HashTable.{room, capacity, memory};
+    ghost use Rattle.iddqd_hash.specs.Sizes.{most_cells};
+    ghost use Rattle.iddqd_hash.specs.MapHashTable.{filed};
+    ghost use Rattle.iddqd_map.specs.Map.{shares};
+    ghost use Rattle.iddqd_map.specs.Hashed.{moves};
+    ghost use Rattle.iddqd_map.specs.Indexing.{Plans};
+    ghost use Rattle.iddqd_map.specs.HashLaws.{shares_laws, Indexes-modified, Indexes-same, told_one, few_one};
+    ghost use Rattle.iddqd_sides.proofs.FindLemmas.{IsLawful-from_bounds};
+
+    type Asked = Option<MapHash>;
+
+    type Move = Move;
+
+    ghost is_move = { λ state s ix item plan. Plans E.key_of (hashing_of E.Key.eq E.Key.hash_input S.BuildHasher
+        S.Hasher.Hasher state) s ix item plan };
+
+    ghost moves = { moves };
+
+    ghost is_ready = { λ x plan. Unit {0} };
+
     fn unasked() -> Option<MapHash> {
         None
     }
@@ -352,12 +414,17 @@ where
         items: &ItemSet<T>,
         state: &S,
         query: Q,
-    ) -> (Option<ItemIndex>, Option<MapHash>) {
-        let hash = query_hash(state, query);
-        let found = find_under::<T, E, S, Q>(&self.table, items, state, hash, query);
-        (found, Some(hash))
+    ) -> Option<ItemIndex> {
+        find_under::<T, E, S, Q>(&self.table, items, state, query_hash(state, query), query)
     }
+}
 
+impl<T, S, E> TakesAt<Here, T, S> for ByHash<E>
+where
+    E: KeyOf<T>,
+    E::Key: Eq + Hash,
+    S: BuildHasher,
+{
     fn take<Q: HashQuery<E::Key>>(
         &mut self,
         items: &ItemSet<T>,
@@ -365,5 +432,23 @@ where
         query: Q,
     ) -> Option<ItemIndex> {
         take_by::<T, E, S, Q>(&mut self.table, items, state, query)
+    }
+}
+
+impl<T, S, E> AsksAt<Here, T, S> for ByHash<E>
+where
+    E: KeyOf<T>,
+    E::Key: Eq + Hash,
+    S: BuildHasher,
+{
+    fn ask<Q: HashQuery<E::Key>>(
+        &self,
+        items: &ItemSet<T>,
+        state: &S,
+        query: Q,
+    ) -> (Option<ItemIndex>, Option<MapHash>) {
+        let hash = query_hash(state, query);
+        let found = find_under::<T, E, S, Q>(&self.table, items, state, hash, query);
+        (found, Some(hash))
     }
 }

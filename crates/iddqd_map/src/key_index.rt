@@ -34,26 +34,10 @@ pub trait KeyIndex<T, S>: Sized + Drop {
     ghost use Rattle.iddqd_sides.specs.Scan.{AreApart, IsHit};
     ghost use Rattle.iddqd_map.specs.KeyIndex.{HaveSameKeys};
 
-    /// What is computed of an item's keys alone, once: their hashes.
-    type Known: Copy;
-    /// What a look-up computed of the keys of a stored item, as far as it did.
-    type Asked: Copy;
-    /// Where an item may go that is alike to none, whatever its index will be.
-    type Spot: Drop;
-    /// Where an item goes under its index.
-    type Plan: Drop;
-    /// The items that an item is alike to: at least one.
-    type Conflict: Copy;
-    /// What becomes of a live index that is given another item.
-    type Move: Drop;
-
     // The keys of an item.
     ghost Keys: { Type 0 };
 
     ghost keys: { T → Self.Keys };
-
-    // How many there are, and so how many items an item can be alike to.
-    ghost key_count: { ℕ };
 
     // The items share a key.
     ghost alike: { T → T → Bool };
@@ -78,32 +62,6 @@ pub trait KeyIndex<T, S>: Sized + Drop {
     // It means the same, whatever memory it has.
     ghost same: { Self → Self → Type 0 };
 
-    ghost is_known: { S → T → Self.Known → Type 0 };
-
-    ghost is_spot: { Self → S → Store T → T → Self.Spot → Type 0 };
-
-    ghost is_planned: { Self → S → Store T → T → Self.Plan → Type 0 };
-
-    ghost has_room_for: { Self → Self.Plan → Type 0 };
-
-    // It is ready for an insert that comes after a removal.
-    ghost is_ready_after: { Self → Type 0 };
-
-    ghost conflicts: { Store T → T → Self.Conflict → Type 0 };
-
-    // The same of items other than the one at the index.
-    ghost taken: { Store T → ℕ → T → Self.Conflict → Type 0 };
-
-    // The index is one of these.
-    ghost tells: { Self.Conflict → ℕ → Type 0 };
-
-    ghost is_move: { S → Store T → ℕ → T → Self.Move → Type 0 };
-
-    // An index is entered anew.
-    ghost moves: { Self.Move → Bool };
-
-    ghost is_ready: { Self → Self.Move → Type 0 };
-
     /// How many indexes it can hold without more memory.
     fn capacity(&self) -> usize
         ensures { result ≡ capacity self.now };
@@ -112,9 +70,6 @@ pub trait KeyIndex<T, S>: Sized + Drop {
     ghost same_as_itself: { (x : Self) → same x x };
 
     ghost same_indexes: { (x y : Self) (state : S) (s : Store T) → same x y → indexes x state s → indexes y state s };
-
-    ghost same_plans: { (x y : Self) (state : S) (s : Store T) (item : T) (plan : Self.Plan) → same x y
-        → is_planned x state s item plan → is_planned y state s item plan };
 
     // No two items are alike.
     ghost apart: { (x : Self) (state : S) (s : Store T) → indexes x state s → AreApart alike s };
@@ -125,16 +80,6 @@ pub trait KeyIndex<T, S>: Sized + Drop {
 
     ghost same_items: { (x : Self) (state : S) (s t : Store T) → HaveSameKeys same_keys s t → indexes x state s
         → indexes x state t };
-
-    // What is told are exactly the items that the item is alike to.
-    ghost told: { (s : Store T) (item : T) (at : Self.Conflict) → conflicts s item at → (ix : ℕ)
-        → tells at ix ↔ IsHit s (alike item) ix };
-
-    // At least one is told, and never more than there are keys.
-    ghost told_some: { (s : Store T) (item : T) (at : Self.Conflict) → conflicts s item at → (ix : ℕ) × tells at ix };
-
-    ghost few_told: { (at : Self.Conflict) → (l : List ℕ) × (length l ≤ key_count)
-        × ((ix : ℕ) → tells at ix → Contains l ix) };
 
     // To share all keys is an equivalence.
     ghost equivalence: { IsEquivalence same_keys };
@@ -187,14 +132,74 @@ pub trait Sizes<T, S>: KeyIndex<T, S> {
         ensures succeeds { max least (live_count items.now.store) ≡ 0 → IsOk result };
 }
 
+/// A key index that tells which items share a key with one.
+pub trait Conflicts<T, S>: KeyIndex<T, S> {
+    ghost use Rattle.std.specs.Prelude.{ℕ, Bool, List, Some, ◌↔◌};
+    ghost use Rattle.std.specs.List.{Contains};
+    ghost use Rattle.std.specs.Cmp.{IsEquivalence};
+    ghost use Rattle.iddqd.specs.Store.{Store, get};
+    ghost use Rattle.iddqd_sides.specs.Scan.{AreApart, IsHit};
+    ghost use Rattle.iddqd_map.specs.KeyIndex.{HaveSameKeys};
+
+    /// The items that an item is alike to: at least one.
+    type Conflict: Copy;
+
+    // How many there are, and so how many items an item can be alike to.
+    ghost key_count: { ℕ };
+
+    ghost conflicts: { Store T → T → Self.Conflict → Type 0 };
+
+    // The same of items other than the one at the index.
+    ghost taken: { Store T → ℕ → T → Self.Conflict → Type 0 };
+
+    // The index is one of these.
+    ghost tells: { Self.Conflict → ℕ → Type 0 };
+
+    /// The next index of the items that were told, past one or from the first on.
+    fn next_told(conflict: &Self::Conflict, before: Option<ItemIndex>) -> Option<ItemIndex>
+        ensures { IsNextTold (tells conflict.now) before result };
+
+    // What is told are exactly the items that the item is alike to.
+    ghost told: { (s : Store T) (item : T) (at : Self.Conflict) → conflicts s item at → (ix : ℕ)
+        → tells at ix ↔ IsHit s (Self.alike item) ix };
+
+    // At least one is told, and never more than there are keys.
+    ghost told_some: { (s : Store T) (item : T) (at : Self.Conflict) → conflicts s item at → (ix : ℕ) × tells at ix };
+
+    ghost few_told: { (at : Self.Conflict) → (l : List ℕ) × (length l ≤ key_count)
+        × ((ix : ℕ) → tells at ix → Contains l ix) };
+}
+
 /// A key index that takes another item.
 ///
 /// `look_up` finds where it may go, or the items that it shares a key with; `plan` says where under its index;
 /// `make_room` takes the memory; then `insert` can't fail.
-pub trait Inserts<T, S>: KeyIndex<T, S> {
+pub trait Inserts<T, S>: Conflicts<T, S> {
+    ghost use Rattle.std.specs.Prelude.{ℕ, Bool, List, Some, ◌↔◌};
+    ghost use Rattle.std.specs.List.{Contains};
+    ghost use Rattle.std.specs.Cmp.{IsEquivalence};
+    ghost use Rattle.iddqd.specs.Store.{Store, get};
+    ghost use Rattle.iddqd_sides.specs.Scan.{AreApart, IsHit};
+    ghost use Rattle.iddqd_map.specs.KeyIndex.{HaveSameKeys};
+
+    /// What is computed of an item's keys alone, once: their hashes.
+    type Known: Copy;
+    /// Where an item may go that is alike to none, whatever its index will be.
+    type Spot: Drop;
+    /// Where an item goes under its index.
+    type Plan: Drop;
+
+    ghost is_known: { S → T → Self.Known → Type 0 };
+
+    ghost is_spot: { Self → S → Store T → T → Self.Spot → Type 0 };
+
+    ghost is_planned: { Self → S → Store T → T → Self.Plan → Type 0 };
+
+    ghost has_room_for: { Self → Self.Plan → Type 0 };
+
     /// What is computed of an item's keys alone.
     fn known(state: &S, item: &T) -> Self::Known
-        ensures { Self.is_known state.now item.now result };
+        ensures { is_known state.now item.now result };
 
     /// Where an item may go, or the items that it is alike to. It takes no memory.
     fn look_up(
@@ -204,9 +209,9 @@ pub trait Inserts<T, S>: KeyIndex<T, S> {
         known: Self::Known,
         item: &T,
     ) -> Result<Self::Spot, Self::Conflict>
-        requires hashed { Self.is_known state.now item.now known }
+        requires hashed { is_known state.now item.now known }
         requires indexed { Self.indexes self.now state.now items.now.store }
-        ensures { FindsSpot (Self.alike item.now) (Self.is_spot self.now state.now items.now.store item.now)
+        ensures { FindsSpot (Self.alike item.now) (is_spot self.now state.now items.now.store item.now)
             (Self.conflicts items.now.store item.now) items.now.store result };
 
     /// Where an item goes under the next index.
@@ -220,9 +225,9 @@ pub trait Inserts<T, S>: KeyIndex<T, S> {
     ) -> Self::Plan
         requires valid { IsValid items.now.store }
         requires indexed { Self.indexes self.now state.now items.now.store }
-        requires spot { Self.is_spot self.now state.now items.now.store item.now spot }
+        requires spot { is_spot self.now state.now items.now.store item.now spot }
         requires next { ix ≡ next_index items.now.store }
-        ensures { Self.is_planned self.now state.now items.now.store item.now result };
+        ensures { is_planned self.now state.now items.now.store item.now result };
 
     /// Makes the room for a planned insert. Where there is room it takes no memory.
     fn make_room(
@@ -233,21 +238,24 @@ pub trait Inserts<T, S>: KeyIndex<T, S> {
     ) -> Result<(), AllocError>
         requires indexed { Self.indexes self.old state.now items.now.store }
         ensures contents { Self.same self.old self.new }
-        ensures ready { OnOk result (Self.has_room_for self.new plan.now) }
+        ensures ready { OnOk result (has_room_for self.new plan.now) }
         ensures had_room { live_count items.now.store < Self.capacity self.old → IsOk result × (self.new ≡ self.old) }
         ensures capacity_stays { Self.capacity self.old ≤ Self.capacity self.new }
         ensures few { Self.cells self.new ≤ Self.cells self.old + Self.most (live_count items.now.store + 1) };
 
     /// Enters an index as it was planned. It takes no memory.
     fn insert(&mut self, known: Self::Known, plan: &Self::Plan, ix: ItemIndex)
-        requires room { Self.has_room_for self.old plan.now }
+        requires room { has_room_for self.old plan.now }
         requires next { IsNextOf (Self.indexes self.old) ix }
         requires assigned { ix ≢ sentinel }
-        requires planned { IsPlannedForOne (λ state s item. Self.is_planned self.old state s item plan.now) }
-        ensures indexed { IndexesOneMore Self.alike (λ state item. Self.is_known state item known)
-            (λ state s item. Self.is_planned self.old state s item plan.now) (Self.indexes self.old) ix (Self.indexes self.new) }
+        requires planned { IsPlannedForOne (λ state s item. is_planned self.old state s item plan.now) }
+        ensures indexed { IndexesOneMore Self.alike (λ state item. is_known state item known)
+            (λ state s item. is_planned self.old state s item plan.now) (Self.indexes self.old) ix (Self.indexes self.new) }
         ensures capacity { Self.capacity self.new ≡ Self.capacity self.old }
         ensures cells { Self.cells self.new ≡ Self.cells self.old };
+
+    ghost same_plans: { (x y : Self) (state : S) (s : Store T) (item : T) (plan : Self.Plan) → Self.same x y
+        → is_planned x state s item plan → is_planned y state s item plan };
 }
 
 /// A key index that drops an item, or all of them, or gives them other names. None of these takes memory.
@@ -258,9 +266,7 @@ pub trait Removes<T, S>: KeyIndex<T, S> {
         requires indexed { Self.indexes self.old state.now items.now.store }
         ensures indexed { Self.indexes self.new state.now (removed items.now.store ix) }
         ensures capacity { Self.capacity self.new ≡ Self.capacity self.old }
-        ensures cells { Self.cells self.new ≡ Self.cells self.old }
-        ensures ready { Self.is_ready_after self.old → Self.is_ready_after self.new }
-        ensures roomy { (plan : Self.Plan) → Self.is_ready_after self.old → Self.has_room_for self.new plan };
+        ensures cells { Self.cells self.new ≡ Self.cells self.old };
 
     /// Forgets every index, and keeps the memory.
     fn clear(&mut self)
@@ -277,7 +283,19 @@ pub trait Removes<T, S>: KeyIndex<T, S> {
 }
 
 /// A key index that takes an item in the place of those that share a key with it.
-pub trait Overwrites<T, S>: Inserts<T, S> + Removes<T, S> {
+///
+/// `ready_after` takes the memory, if any is needed; then those give way, and the insert that follows can't fail.
+pub trait Overwrites<T, S>: Inserts<T, S> {
+    ghost use Rattle.std.specs.Prelude.{ℕ, Bool, List, Some, ◌↔◌};
+    ghost use Rattle.std.specs.List.{Contains};
+    ghost use Rattle.std.specs.Cmp.{IsEquivalence};
+    ghost use Rattle.iddqd.specs.Store.{Store, get};
+    ghost use Rattle.iddqd_sides.specs.Scan.{AreApart, IsHit};
+    ghost use Rattle.iddqd_map.specs.KeyIndex.{HaveSameKeys};
+
+    // It is ready for an insert that comes after a removal.
+    ghost is_ready_after: { Self → Type 0 };
+
     /// Where an item may go that is alike to none.
     fn spot(&self, items: &ItemSet<T>, state: &S, known: Self::Known, item: &T) -> Self::Spot
         requires hashed { Self.is_known state.now item.now known }
@@ -289,22 +307,47 @@ pub trait Overwrites<T, S>: Inserts<T, S> + Removes<T, S> {
     fn ready_after(&mut self, items: &ItemSet<T>, state: &S) -> Result<(), AllocError>
         requires indexed { Self.indexes self.old state.now items.now.store }
         ensures contents { Self.same self.old self.new }
-        ensures ready { OnOk result (Self.is_ready_after self.new) }
+        ensures ready { OnOk result (is_ready_after self.new) }
         ensures may_lack { OnErr result (Self.may_lack ≡ true) }
         ensures past { OnErr result (Self.capacity self.old < live_count items.now.store) }
         ensures capacity { Self.capacity self.new ≡ Self.capacity self.old }
         ensures cells { Self.cells self.new ≡ Self.cells self.old };
 
-    /// The next index of the items that were told, past one or from the first on.
-    fn next_told(conflict: &Self::Conflict, before: Option<ItemIndex>) -> Option<ItemIndex>
-        ensures { IsNextTold (Self.tells conflict.now) before result };
+    /// Takes a live index out, as `remove`, so that there is room for the insert that follows.
+    fn give_way(&mut self, items: &ItemSet<T>, state: &S, ix: ItemIndex)
+        requires live { IsLive items.now.store ix }
+        requires indexed { Self.indexes self.old state.now items.now.store }
+        ensures indexed { Self.indexes self.new state.now (removed items.now.store ix) }
+        ensures capacity { Self.capacity self.new ≡ Self.capacity self.old }
+        ensures cells { Self.cells self.new ≡ Self.cells self.old }
+        ensures ready { is_ready_after self.old → is_ready_after self.new }
+        ensures roomy { (plan : Self.Plan) → is_ready_after self.old → Self.has_room_for self.new plan };
 }
 
 /// A key index that gives a live index another item.
 ///
 /// `plan_move` finds what becomes of it, or the other items that share a key; `ready_move` takes the memory, if any is
 /// needed; then `commit_move` can't fail.
-pub trait Moves<T, S>: KeyIndex<T, S> {
+pub trait Moves<T, S>: Conflicts<T, S> {
+    ghost use Rattle.std.specs.Prelude.{ℕ, Bool, List, Some, ◌↔◌};
+    ghost use Rattle.std.specs.List.{Contains};
+    ghost use Rattle.std.specs.Cmp.{IsEquivalence};
+    ghost use Rattle.iddqd.specs.Store.{Store, get};
+    ghost use Rattle.iddqd_sides.specs.Scan.{AreApart, IsHit};
+    ghost use Rattle.iddqd_map.specs.KeyIndex.{HaveSameKeys};
+
+    /// What a look-up computed of the keys of a stored item, as far as it did.
+    type Asked: Copy;
+    /// What becomes of a live index that is given another item.
+    type Move: Drop;
+
+    ghost is_move: { S → Store T → ℕ → T → Self.Move → Type 0 };
+
+    // An index is entered anew.
+    ghost moves: { Self.Move → Bool };
+
+    ghost is_ready: { Self → Self.Move → Type 0 };
+
     /// Nothing that a look-up computed.
     fn unasked() -> Self::Asked;
 
@@ -318,8 +361,8 @@ pub trait Moves<T, S>: KeyIndex<T, S> {
     ) -> Result<Self::Move, Self::Conflict>
         requires live { IsLive items.now.store ix }
         requires indexed { Self.indexes self.now state.now items.now.store }
-        ensures { PlansMove (Self.alike item.now) (Self.same_keys item.now) (Self.is_move state.now items.now.store ix item.now)
-            Self.moves (Self.taken items.now.store ix item.now) items.now.store ix result };
+        ensures { PlansMove (Self.alike item.now) (Self.same_keys item.now) (is_move state.now items.now.store ix item.now)
+            moves (Self.taken items.now.store ix item.now) items.now.store ix result };
 
     /// Makes ready for a move. Up to the capacity it takes no memory, nor where all keys stay.
     fn ready_move(
@@ -330,8 +373,8 @@ pub trait Moves<T, S>: KeyIndex<T, S> {
     ) -> Result<(), AllocError>
         requires indexed { Self.indexes self.old state.now items.now.store }
         ensures contents { Self.same self.old self.new }
-        ensures ready { OnOk result (Self.is_ready self.new plan.now) }
-        ensures moves { OnErr result (Self.moves plan.now ≡ true) }
+        ensures ready { OnOk result (is_ready self.new plan.now) }
+        ensures moves { OnErr result (moves plan.now ≡ true) }
         ensures may_lack { OnErr result (Self.may_lack ≡ true) }
         ensures past { OnErr result (Self.capacity self.old < live_count items.now.store) }
         ensures capacity { Self.capacity self.new ≡ Self.capacity self.old }
@@ -349,8 +392,8 @@ pub trait Moves<T, S>: KeyIndex<T, S> {
     )
         requires live { IsLive items.now.store ix }
         requires indexed { Self.indexes self.old state.now items.now.store }
-        requires planned { Self.is_move state.now items.now.store ix item.now plan.now }
-        requires ready { Self.is_ready self.old plan.now }
+        requires planned { is_move state.now items.now.store ix item.now plan.now }
+        requires ready { is_ready self.old plan.now }
         ensures indexed { Self.indexes self.new state.now (rebound items.now.store ix item.now) }
         ensures capacity { Self.capacity self.new ≡ Self.capacity self.old }
         ensures cells { Self.cells self.new ≡ Self.cells self.old };
@@ -402,8 +445,6 @@ pub struct Right<P> {
 
 /// A key index with a key by its hash at the place `P`.
 pub trait HashedAt<P, T, S>: KeyIndex<T, S> {
-    ghost use Rattle.iddqd.specs.Store.{Store};
-    ghost use Rattle.iddqd_sides.specs.Scan.{AnswersScan};
     ghost use Rattle.std.specs.Prelude.{Bool};
 
     /// The key.
@@ -411,16 +452,19 @@ pub trait HashedAt<P, T, S>: KeyIndex<T, S> {
 
     ghost key_at: { T → Self.Key };
 
-    /// The index of the item that has the key for which the query stands, and what was computed for that.
+    /// The index of the item that has the key for which the query stands.
     fn find<Q: HashQuery<Self::Key>>(
         &self,
         items: &ItemSet<T>,
         state: &S,
         query: Q,
-    ) -> (Option<ItemIndex>, Self::Asked)
+    ) -> Option<ItemIndex>
         requires indexed { Self.KeyIndex.indexes self.now state.now items.now.store }
-        ensures { AnswersScan items.now.store (passes_by key_at (Q.stands_for query)) result.0 };
+        ensures { AnswersScan items.now.store (passes_by key_at (Q.stands_for query)) result };
+}
 
+/// The same, where the item that was found is to leave.
+pub trait TakesAt<P, T, S>: HashedAt<P, T, S> {
     /// Finds as `find` does, and takes the index out, by one search by that key. It takes no memory.
     fn take<Q: HashQuery<Self::Key>>(
         &mut self,
@@ -429,8 +473,21 @@ pub trait HashedAt<P, T, S>: KeyIndex<T, S> {
         query: Q,
     ) -> Option<ItemIndex>
         requires indexed { Self.KeyIndex.indexes self.old state.now items.now.store }
-        ensures found { AnswersScan items.now.store (passes_by key_at (Q.stands_for query)) result }
+        ensures found { AnswersScan items.now.store (passes_by Self.HashedAt.key_at (Q.stands_for query)) result }
         ensures taken { TakesFound (Self.KeyIndex.indexes self.new) state.now items.now.store result }
         ensures capacity { Self.KeyIndex.capacity self.new ≡ Self.KeyIndex.capacity self.old }
         ensures cells { Self.KeyIndex.cells self.new ≡ Self.KeyIndex.cells self.old };
+}
+
+/// The same, where the item that was found is to become another one.
+pub trait AsksAt<P, T, S>: HashedAt<P, T, S> + Moves<T, S> {
+    /// Finds as `find` does, and keeps what was computed for that.
+    fn ask<Q: HashQuery<Self::Key>>(
+        &self,
+        items: &ItemSet<T>,
+        state: &S,
+        query: Q,
+    ) -> (Option<ItemIndex>, Self::Asked)
+        requires indexed { Self.KeyIndex.indexes self.now state.now items.now.store }
+        ensures { AnswersScan items.now.store (passes_by Self.HashedAt.key_at (Q.stands_for query)) result.0 };
 }

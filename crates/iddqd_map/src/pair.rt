@@ -8,7 +8,10 @@ ghost use Rattle.std.specs.Prelude.{◌≡◌, Some};
 ghost use Rattle.iddqd_map.specs.KeyIndex.{IsNextTold};
 ghost use Rattle.iddqd_map.specs.PairConflict.{IsToldBy, first_of, second_of, lesser_of};
 
-use crate::key_index::{Checks, HashedAt, Inserts, KeyIndex, Left, Moves, Overwrites, Removes, Right, Sizes};
+use crate::key_index::{
+    AsksAt, Checks, Conflicts, HashedAt, Inserts, KeyIndex, Left, Moves, Overwrites, Removes, Right,
+    Sizes, TakesAt,
+};
 use crate::pair_conflict::{PairConflict, TellsPair};
 use iddqd::index_remap::IndexRemap;
 use iddqd::internal::{ValidateCompact, ValidateRefusal, ValidationError};
@@ -32,7 +35,6 @@ impl<T, S, A, B, C> KeyIndex<T, S> for Pair<A, B, C>
 where
     A: KeyIndex<T, S>,
     B: KeyIndex<T, S>,
-    C: TellsPair<A::Conflict, B::Conflict>,
 {
     ghost use Rattle.std.specs.Prelude.{◌||◌, ◌+◌, ◌⊎◌, min};
     ghost use Rattle.iddqd_map.specs.Several.{either_key, both_keys};
@@ -40,18 +42,6 @@ where
     ghost use Rattle.std.proofs.Common.{ap};
     ghost use Rattle.std.proofs.lemmas.Cmp.{and_equiv};
     ghost use Rattle.iddqd_map.specs.PairLaws.{AreApart-either, HaveSameKeys-first, HaveSameKeys-second, alike_both, told_one, told_both, told_some, few_one, few_both};
-
-    type Known = (A::Known, B::Known);
-
-    type Asked = (A::Asked, B::Asked);
-
-    type Spot = (A::Spot, B::Spot);
-
-    type Plan = (A::Plan, B::Plan);
-
-    type Conflict = C;
-
-    type Move = (A::Move, B::Move);
 
     ghost Keys = { A.Keys × B.Keys };
 
@@ -73,44 +63,11 @@ where
 
     ghost same = { λ x y. A.same x.first y.first × B.same x.second y.second };
 
-    ghost is_known = { λ state item known. A.is_known state item known.0 × B.is_known state item known.1 };
-
-    ghost is_spot = { λ x state s item spot. A.is_spot x.first state s item spot.0
-        × B.is_spot x.second state s item spot.1 };
-
-    ghost is_planned = { λ x state s item plan. A.is_planned x.first state s item plan.0
-        × B.is_planned x.second state s item plan.1 };
-
-    ghost key_count = { A.key_count + B.key_count };
-
-    ghost has_room_for = { λ x plan. A.has_room_for x.first plan.0 × B.has_room_for x.second plan.1 };
-
-    ghost is_ready_after = { λ x. A.is_ready_after x.first × B.is_ready_after x.second };
-
-    ghost conflicts = { λ s item at. TellBoth A.alike B.alike A.conflicts B.conflicts s item (C.first at)
-        (C.second at) };
-
-    ghost taken = { λ s ix item at. TellBothOther A.alike B.alike A.taken B.taken s ix item (C.first at)
-        (C.second at) };
-
-    ghost tells = { λ at. IsEither (IsToldBy A.tells (C.first at)) (IsToldBy B.tells (C.second at)) };
-
-    ghost is_move = { λ state s ix item plan. A.is_move state s ix item plan.0 × B.is_move state s ix item plan.1 };
-
-    ghost moves = { λ plan. A.moves plan.0 || B.moves plan.1 };
-
-    ghost is_ready = { λ x plan. A.is_ready x.first plan.0 × B.is_ready x.second plan.1 };
-
     ghost same_as_itself = { λ x. (A.same_as_itself x.first, B.same_as_itself x.second) };
 
     ghost same_indexes = { λ x y state s same is. (
       A.same_indexes x.first y.first state s same.0 is.0,
       B.same_indexes x.second y.second state s same.1 is.1,
-    ) };
-
-    ghost same_plans = { λ x y state s item plan same is. (
-      A.same_plans x.first y.first state s item plan.0 same.0 is.0,
-      B.same_plans x.second y.second state s item plan.1 same.1 is.1,
     ) };
 
     ghost apart = { λ x state s is. AreApart-either A.alike B.alike s (A.apart x.first state s is.0)
@@ -126,18 +83,6 @@ where
       B.same_items x.second state s t (HaveSameKeys-second A.same_keys B.same_keys s t same) is.1,
     ) };
 
-    ghost told = { λ s item at conflicts ix. told_both A.alike B.alike s item (IsToldBy A.tells (C.first at))
-        (IsToldBy B.tells (C.second at)) ix
-        (told_one A.tells A.alike A.conflicts s item (A.told s item) (C.first at) conflicts.first ix)
-        (told_one B.tells B.alike B.conflicts s item (B.told s item) (C.second at) conflicts.second ix) };
-
-    ghost told_some = { λ s item at conflicts. told_some A.tells B.tells A.conflicts B.conflicts s item A.alike B.alike
-        (A.told_some s item) (B.told_some s item) (C.first at) (C.second at) conflicts };
-
-    ghost few_told = { λ at. few_both (IsToldBy A.tells (C.first at)) (IsToldBy B.tells (C.second at)) A.key_count
-        B.key_count (few_one A.tells A.key_count A.few_told (C.first at))
-        (few_one B.tells B.key_count B.few_told (C.second at)) };
-
     ghost equivalence = { and_equiv A.equivalence B.equivalence };
 
     ghost same_are_alike = { alike_both A.same_keys B.same_keys A.alike A.same_are_alike B.alike };
@@ -151,7 +96,6 @@ impl<T, S, A, B, C> Sizes<T, S> for Pair<A, B, C>
 where
     A: Sizes<T, S>,
     B: Sizes<T, S>,
-    C: TellsPair<A::Conflict, B::Conflict>,
 {
     fn new(alloc: Global) -> Pair<A, B, C> {
         Pair {
@@ -185,12 +129,84 @@ where
     }
 }
 
+impl<T, S, A, B, C> Conflicts<T, S> for Pair<A, B, C>
+where
+    A: Conflicts<T, S>,
+    B: Conflicts<T, S>,
+    C: TellsPair<A::Conflict, B::Conflict>,
+{
+    ghost use Rattle.std.specs.Prelude.{◌||◌, ◌+◌, ◌⊎◌, min};
+    ghost use Rattle.iddqd_map.specs.Several.{either_key, both_keys};
+    ghost use Rattle.iddqd_map.specs.PairConflict.{TellBoth, TellBothOther, IsEither, IsToldBy};
+    ghost use Rattle.std.proofs.Common.{ap};
+    ghost use Rattle.std.proofs.lemmas.Cmp.{and_equiv};
+    ghost use Rattle.iddqd_map.specs.PairLaws.{AreApart-either, HaveSameKeys-first, HaveSameKeys-second, alike_both, told_one, told_both, told_some, few_one, few_both};
+
+    type Conflict = C;
+
+    ghost key_count = { A.key_count + B.key_count };
+
+    ghost conflicts = { λ s item at. TellBoth A.alike B.alike A.conflicts B.conflicts s item (C.first at)
+        (C.second at) };
+
+    ghost taken = { λ s ix item at. TellBothOther A.alike B.alike A.taken B.taken s ix item (C.first at)
+        (C.second at) };
+
+    ghost tells = { λ at. IsEither (IsToldBy A.tells (C.first at)) (IsToldBy B.tells (C.second at)) };
+
+    ghost told = { λ s item at conflicts ix. told_both A.alike B.alike s item (IsToldBy A.tells (C.first at))
+        (IsToldBy B.tells (C.second at)) ix
+        (told_one A.tells A.alike A.conflicts s item (A.told s item) (C.first at) conflicts.first ix)
+        (told_one B.tells B.alike B.conflicts s item (B.told s item) (C.second at) conflicts.second ix) };
+
+    ghost told_some = { λ s item at conflicts. told_some A.tells B.tells A.conflicts B.conflicts s item A.alike B.alike
+        (A.told_some s item) (B.told_some s item) (C.first at) (C.second at) conflicts };
+
+    ghost few_told = { λ at. few_both (IsToldBy A.tells (C.first at)) (IsToldBy B.tells (C.second at)) A.key_count
+        B.key_count (few_one A.tells A.key_count A.few_told (C.first at))
+        (few_one B.tells B.key_count B.few_told (C.second at)) };
+
+    fn next_told(conflict: &C, before: Option<ItemIndex>) -> Option<ItemIndex> {
+        let first = next_of::<T, S, A>(conflict.first(), &before);
+        let second = next_of::<T, S, B>(conflict.second(), &before);
+        lesser(first, second)
+    }
+}
+
 impl<T, S, A, B, C> Inserts<T, S> for Pair<A, B, C>
 where
     A: Inserts<T, S>,
     B: Inserts<T, S>,
     C: TellsPair<A::Conflict, B::Conflict>,
 {
+    ghost use Rattle.std.specs.Prelude.{◌||◌, ◌+◌, ◌⊎◌, min};
+    ghost use Rattle.iddqd_map.specs.Several.{either_key, both_keys};
+    ghost use Rattle.iddqd_map.specs.PairConflict.{TellBoth, TellBothOther, IsEither, IsToldBy};
+    ghost use Rattle.std.proofs.Common.{ap};
+    ghost use Rattle.std.proofs.lemmas.Cmp.{and_equiv};
+    ghost use Rattle.iddqd_map.specs.PairLaws.{AreApart-either, HaveSameKeys-first, HaveSameKeys-second, alike_both, told_one, told_both, told_some, few_one, few_both};
+
+    type Known = (A::Known, B::Known);
+
+    type Spot = (A::Spot, B::Spot);
+
+    type Plan = (A::Plan, B::Plan);
+
+    ghost is_known = { λ state item known. A.is_known state item known.0 × B.is_known state item known.1 };
+
+    ghost is_spot = { λ x state s item spot. A.is_spot x.first state s item spot.0
+        × B.is_spot x.second state s item spot.1 };
+
+    ghost is_planned = { λ x state s item plan. A.is_planned x.first state s item plan.0
+        × B.is_planned x.second state s item plan.1 };
+
+    ghost has_room_for = { λ x plan. A.has_room_for x.first plan.0 × B.has_room_for x.second plan.1 };
+
+    ghost same_plans = { λ x y state s item plan same is. (
+      A.same_plans x.first y.first state s item plan.0 same.0 is.0,
+      B.same_plans x.second y.second state s item plan.1 same.1 is.1,
+    ) };
+
     fn known(state: &S, item: &T) -> (A::Known, B::Known) {
         (A::known(state, item), B::known(state, item))
     }
@@ -248,7 +264,6 @@ impl<T, S, A, B, C> Removes<T, S> for Pair<A, B, C>
 where
     A: Removes<T, S>,
     B: Removes<T, S>,
-    C: TellsPair<A::Conflict, B::Conflict>,
 {
     fn remove(&mut self, items: &ItemSet<T>, state: &S, ix: ItemIndex) {
         self.first.remove(items, state, ix);
@@ -272,6 +287,15 @@ where
     B: Overwrites<T, S>,
     C: TellsPair<A::Conflict, B::Conflict>,
 {
+    ghost use Rattle.std.specs.Prelude.{◌||◌, ◌+◌, ◌⊎◌, min};
+    ghost use Rattle.iddqd_map.specs.Several.{either_key, both_keys};
+    ghost use Rattle.iddqd_map.specs.PairConflict.{TellBoth, TellBothOther, IsEither, IsToldBy};
+    ghost use Rattle.std.proofs.Common.{ap};
+    ghost use Rattle.std.proofs.lemmas.Cmp.{and_equiv};
+    ghost use Rattle.iddqd_map.specs.PairLaws.{AreApart-either, HaveSameKeys-first, HaveSameKeys-second, alike_both, told_one, told_both, told_some, few_one, few_both};
+
+    ghost is_ready_after = { λ x. A.is_ready_after x.first × B.is_ready_after x.second };
+
     fn spot(
         &self,
         items: &ItemSet<T>,
@@ -290,10 +314,9 @@ where
         self.second.ready_after(items, state)
     }
 
-    fn next_told(conflict: &C, before: Option<ItemIndex>) -> Option<ItemIndex> {
-        let first = next_of::<T, S, A>(conflict.first(), &before);
-        let second = next_of::<T, S, B>(conflict.second(), &before);
-        lesser(first, second)
+    fn give_way(&mut self, items: &ItemSet<T>, state: &S, ix: ItemIndex) {
+        self.first.give_way(items, state, ix);
+        self.second.give_way(items, state, ix);
     }
 }
 
@@ -303,6 +326,23 @@ where
     B: Moves<T, S>,
     C: TellsPair<A::Conflict, B::Conflict>,
 {
+    ghost use Rattle.std.specs.Prelude.{◌||◌, ◌+◌, ◌⊎◌, min};
+    ghost use Rattle.iddqd_map.specs.Several.{either_key, both_keys};
+    ghost use Rattle.iddqd_map.specs.PairConflict.{TellBoth, TellBothOther, IsEither, IsToldBy};
+    ghost use Rattle.std.proofs.Common.{ap};
+    ghost use Rattle.std.proofs.lemmas.Cmp.{and_equiv};
+    ghost use Rattle.iddqd_map.specs.PairLaws.{AreApart-either, HaveSameKeys-first, HaveSameKeys-second, alike_both, told_one, told_both, told_some, few_one, few_both};
+
+    type Asked = (A::Asked, B::Asked);
+
+    type Move = (A::Move, B::Move);
+
+    ghost is_move = { λ state s ix item plan. A.is_move state s ix item plan.0 × B.is_move state s ix item plan.1 };
+
+    ghost moves = { λ plan. A.moves plan.0 || B.moves plan.1 };
+
+    ghost is_ready = { λ x plan. A.is_ready x.first plan.0 × B.is_ready x.second plan.1 };
+
     fn unasked() -> (A::Asked, B::Asked) {
         (A::unasked(), B::unasked())
     }
@@ -353,7 +393,6 @@ impl<T, S, A, B, C> Checks<T, S> for Pair<A, B, C>
 where
     A: Checks<T, S>,
     B: Checks<T, S>,
-    C: TellsPair<A::Conflict, B::Conflict>,
 {
     fn copied(&self) -> Result<Pair<A, B, C>, AllocError> {
         Ok(Pair {
@@ -399,7 +438,7 @@ fn first_with<A, B>(one: A, other: Option<B>) -> PairConflict<A, B>
 }
 
 // The next index past one that one of the two told, if it told any.
-fn next_of<T, S, X: Overwrites<T, S>>(
+fn next_of<T, S, X: Conflicts<T, S>>(
     conflict: Option<X::Conflict>,
     before: &Option<ItemIndex>,
 ) -> Option<ItemIndex>
@@ -425,8 +464,7 @@ fn lesser(one: Option<ItemIndex>, other: Option<ItemIndex>) -> Option<ItemIndex>
 impl<P, T, S, A, B, C> HashedAt<Left<P>, T, S> for Pair<A, B, C>
 where
     A: HashedAt<P, T, S>,
-    B: Moves<T, S> + Removes<T, S>,
-    C: TellsPair<A::Conflict, B::Conflict>,
+    B: KeyIndex<T, S>,
 {
     type Key = A::Key;
 
@@ -437,11 +475,16 @@ where
         items: &ItemSet<T>,
         state: &S,
         query: Q,
-    ) -> (Option<ItemIndex>, (A::Asked, B::Asked)) {
-        let (found, asked) = self.first.find(items, state, query);
-        (found, (asked, B::unasked()))
+    ) -> Option<ItemIndex> {
+        self.first.find(items, state, query)
     }
+}
 
+impl<P, T, S, A, B, C> TakesAt<Left<P>, T, S> for Pair<A, B, C>
+where
+    A: TakesAt<P, T, S>,
+    B: Removes<T, S>,
+{
     fn take<Q: HashQuery<A::Key>>(
         &mut self,
         items: &ItemSet<T>,
@@ -454,11 +497,27 @@ where
     }
 }
 
+impl<P, T, S, A, B, C> AsksAt<Left<P>, T, S> for Pair<A, B, C>
+where
+    A: AsksAt<P, T, S>,
+    B: Moves<T, S>,
+    C: TellsPair<A::Conflict, B::Conflict>,
+{
+    fn ask<Q: HashQuery<A::Key>>(
+        &self,
+        items: &ItemSet<T>,
+        state: &S,
+        query: Q,
+    ) -> (Option<ItemIndex>, (A::Asked, B::Asked)) {
+        let (found, asked) = self.first.ask(items, state, query);
+        (found, (asked, B::unasked()))
+    }
+}
+
 impl<P, T, S, A, B, C> HashedAt<Right<P>, T, S> for Pair<A, B, C>
 where
-    A: Moves<T, S> + Removes<T, S>,
+    A: KeyIndex<T, S>,
     B: HashedAt<P, T, S>,
-    C: TellsPair<A::Conflict, B::Conflict>,
 {
     type Key = B::Key;
 
@@ -469,11 +528,16 @@ where
         items: &ItemSet<T>,
         state: &S,
         query: Q,
-    ) -> (Option<ItemIndex>, (A::Asked, B::Asked)) {
-        let (found, asked) = self.second.find(items, state, query);
-        (found, (A::unasked(), asked))
+    ) -> Option<ItemIndex> {
+        self.second.find(items, state, query)
     }
+}
 
+impl<P, T, S, A, B, C> TakesAt<Right<P>, T, S> for Pair<A, B, C>
+where
+    A: Removes<T, S>,
+    B: TakesAt<P, T, S>,
+{
     fn take<Q: HashQuery<B::Key>>(
         &mut self,
         items: &ItemSet<T>,
@@ -483,5 +547,22 @@ where
         let ix = self.second.take(items, state, query)?;
         self.first.remove(items, state, ix);
         Some(ix)
+    }
+}
+
+impl<P, T, S, A, B, C> AsksAt<Right<P>, T, S> for Pair<A, B, C>
+where
+    A: Moves<T, S>,
+    B: AsksAt<P, T, S>,
+    C: TellsPair<A::Conflict, B::Conflict>,
+{
+    fn ask<Q: HashQuery<B::Key>>(
+        &self,
+        items: &ItemSet<T>,
+        state: &S,
+        query: Q,
+    ) -> (Option<ItemIndex>, (A::Asked, B::Asked)) {
+        let (found, asked) = self.second.ask(items, state, query);
+        (found, (A::unasked(), asked))
     }
 }

@@ -3,8 +3,8 @@
 //! The capacity is how many items there can be without asking for memory: the least of what the store and both tables
 //! can hold. A removal leaves the room that it makes, so below the capacity no insert is refused memory, whatever was
 //! inserted and removed before. No call changes it but an insert without room, and those here.
-ghost use Rattle.std.specs.Prelude.{◌≡◌, ◌≤◌, ◌+◌, min, IsOk, IfOk, OnOk};
-ghost use Rattle.iddqd.specs.{live_count, slot_limit, insertable};
+ghost use Rattle.std.specs.Prelude.{◌≡◌, ◌≤◌, ◌*◌, min, max, IsOk, IfOk, OnOk};
+ghost use Rattle.iddqd.specs.{slot_limit};
 ghost use Rattle.iddqd_keyed.specs.State.{empty_state};
 ghost use Rattle.iddqd_keyed.specs.Memory.{no_memory, capacity, room, IsMadeFor, ReservesInMemory, ShrinksInMemory};
 
@@ -70,7 +70,8 @@ impl<T: KeyedItem, S: BuildHasher> KeyedItems<T, S> {
         if wanted <= self.room() {
             return Ok(());
         }
-        reserve_slots(&mut self.items, wanted)?;
+        let items = self.items.len() + wanted;
+        reserve_slots(&mut self.items, items)?;
         self.filed.try_reserve(wanted)?;
         self.order.try_reserve(wanted)
     }
@@ -104,14 +105,17 @@ impl<T: KeyedItem, S: BuildHasher> KeyedItems<T, S> {
     }
 }
 
-// Takes memory for so many more items, which the limit leaves. Vacant slots serve some of them.
-fn reserve_slots<T>(items: &mut ItemSet<T>, additional: usize) -> Result<(), AllocError>
-    requires { additional ≤ insertable items.old.store }
+// Takes memory for so many slots, where there aren't as many.
+fn reserve_slots<T>(items: &mut ItemSet<T>, wanted: usize) -> Result<(), AllocError>
+    requires { wanted ≤ items.old.store.limit }
     ensures store { items.new.store ≡ items.old.store }
     ensures capacity { items.old.capacity ≤ items.new.capacity }
-    ensures reserved { OnOk result
-        (live_count items.old.store + additional ≤ min items.new.capacity items.old.store.limit) }
+    ensures reserved { OnOk result (wanted ≤ items.new.capacity) }
+    ensures few { items.new.capacity
+        ≤ max items.old.capacity (max wanted (min items.old.store.limit (2 * items.old.capacity))) }
 {
-    let vacant = items.slot_count() - items.len();
-    items.reserve(additional.saturating_sub(vacant))
+    if wanted <= items.capacity() {
+        return Ok(());
+    }
+    items.reserve(wanted - items.slot_count())
 }

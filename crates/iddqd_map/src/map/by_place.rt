@@ -12,7 +12,7 @@ ghost use Rattle.iddqd_map.specs.Modify.{Modifies};
 use super::Map;
 use super::changes::change_found;
 use super::replaces::replace_found;
-use crate::key_index::{HashedAt, KeyIndex, Moves};
+use crate::key_index::{AsksAt, HashedAt, KeyIndex, TakesAt};
 use crate::refusal::ReplaceRefusal;
 use iddqd::item_index::ItemIndex;
 use iddqd_sides::query::HashQuery;
@@ -27,8 +27,7 @@ impl<T, X: KeyIndex<T, S>, S> Map<T, X, S> {
         Q: HashQuery<X::Key>,
         ensures { AnswersScan self.now.store (passes_by X.key_at (Q.stands_for query)) result }
     {
-        let (found, _) = self.indexes.find(&self.items, &self.state, query);
-        found
+        self.indexes.find(&self.items, &self.state, query)
     }
 
     /// Whether an item has the key.
@@ -54,7 +53,7 @@ impl<T, X: KeyIndex<T, S>, S> Map<T, X, S> {
     /// Takes the item that has the key out of the map. It takes no memory.
     pub fn remove_by<P, Q>(&mut self, query: Q) -> Option<T>
     where
-        X: HashedAt<P, T, S>,
+        X: TakesAt<P, T, S>,
         Q: HashQuery<X::Key>,
         ensures removes { Removes self.old (passes_by X.key_at (Q.stands_for query)) result self.new }
         ensures room { room self.old ≤ room self.new }
@@ -72,13 +71,13 @@ impl<T, X: KeyIndex<T, S>, S> Map<T, X, S> {
         item: T,
     ) -> Result<T, ReplaceRefusal<T, X::Conflict>>
     where
-        X: HashedAt<P, T, S> + Moves<T, S>,
+        X: AsksAt<P, T, S>,
         Q: HashQuery<X::Key>,
         ensures replaces { Replaces X.alike X.same_keys X.may_lack X.taken self.old
             (passes_by X.key_at (Q.stands_for query)) item result self.new }
         ensures room { room self.old ≤ room self.new }
     {
-        let (found, asked) = self.indexes.find(&self.items, &self.state, query);
+        let (found, asked) = self.indexes.ask(&self.items, &self.state, query);
         replace_found(
             &mut self.items,
             &mut self.indexes,
@@ -99,14 +98,14 @@ impl<T, X: KeyIndex<T, S>, S> Map<T, X, S> {
         f: F,
     ) -> Result<Option<T>, ReplaceRefusal<T, X::Conflict>>
     where
-        X: HashedAt<P, T, S> + Moves<T, S>,
+        X: AsksAt<P, T, S>,
         Q: HashQuery<X::Key>,
         requires { MayChange F.FnOnce f self.old.store (passes_by X.key_at (Q.stands_for query)) }
         ensures changes { Changes X.alike X.same_keys X.may_lack X.taken (FnOnceReturnsAt F.FnOnce f) self.old
             (passes_by X.key_at (Q.stands_for query)) result self.new }
         ensures room { room self.old ≤ room self.new }
     {
-        let (found, asked) = self.indexes.find(&self.items, &self.state, query);
+        let (found, asked) = self.indexes.ask(&self.items, &self.state, query);
         change_found(
             &mut self.items,
             &mut self.indexes,

@@ -2,8 +2,8 @@
 //!
 //! The memory of each table is asked for before an item is removed. The store needs none then, since the removal of an
 //! item leaves a slot.
-ghost use Rattle.std.specs.Prelude.{◌≡◌, ◌≤◌, ℕ, [], length};
-ghost use Rattle.iddqd.specs.{next_index, inserted, room};
+ghost use Rattle.std.specs.Prelude.{◌≡◌, ◌+◌, ◌≤◌, ℕ, [], length};
+ghost use Rattle.iddqd.specs.{get, next_index, inserted, removed, room};
 ghost use Rattle.iddqd_sides.specs.Scan.{IsLive, HasNoHit};
 ghost use Rattle.iddqd_map.specs.Map.{map_with};
 ghost use Rattle.iddqd_map.specs.Calls.{OverwritesInto};
@@ -13,7 +13,7 @@ ghost use Rattle.iddqd_map.specs.Several.{padded};
 
 use super::Map;
 use super::inserts::insert;
-use super::steps::{next_in_room, put_into, store_in_room, take_out};
+use super::steps::{next_in_room, put_into, store_in_room};
 use crate::key_index::Overwrites;
 use crate::refusal::{InsertRefusal, OverwriteRefusal};
 use iddqd::item_index::ItemIndex;
@@ -108,11 +108,34 @@ fn remove_told<T, X: Overwrites<T, S>, S>(
     let mut count = 0;
     let mut next = X::next_told(at, None);
     while let Some(ix) = next {
-        let taken = take_out(items, indexes, state, ix);
+        let taken = make_way(items, indexes, state, ix);
         put_into(places, count, taken);
         count += 1;
         next = X::next_told(at, Some(ix));
     }
+}
+
+// Takes the item at a live index out of the store, and its index out of the key index, so that there is room for the
+// insert that follows. It takes no memory.
+fn make_way<T, X: Overwrites<T, S>, S>(
+    items: &mut ItemSet<T>,
+    indexes: &mut X,
+    state: &S,
+    ix: ItemIndex,
+) -> Option<T>
+    requires live { IsLive items.old.store ix }
+    requires map { IsIndexed (X.indexes indexes.old) state.now items.old.store }
+    ensures value { result ≡ get items.old.store ix }
+    ensures map { IsIndexed (X.indexes indexes.new) state.now items.new.store }
+    ensures removed { items.new ≡ record items.old { store = removed items.old.store ix } }
+    ensures items_room { room items.new ≡ room items.old + 1 }
+    ensures capacity { X.capacity indexes.new ≡ X.capacity indexes.old }
+    ensures cells { X.cells indexes.new ≡ X.cells indexes.old }
+    ensures ready { X.is_ready_after indexes.old → X.is_ready_after indexes.new }
+    ensures roomy { (plan : X.Plan) → X.is_ready_after indexes.old → X.has_room_for indexes.new plan }
+{
+    indexes.give_way(items, state, ix);
+    items.remove(ix)
 }
 
 // Stores an item that shares no key with another where there is room for it, and enters its index.

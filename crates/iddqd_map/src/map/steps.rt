@@ -24,8 +24,6 @@ pub(super) fn take_out<T, X: Removes<T, S>, S>(
     ensures items_room { room items.new ≡ room items.old + 1 }
     ensures capacity { X.capacity indexes.new ≡ X.capacity indexes.old }
     ensures cells { X.cells indexes.new ≡ X.cells indexes.old }
-    ensures ready { X.is_ready_after indexes.old → X.is_ready_after indexes.new }
-    ensures roomy { (plan : X.Plan) → X.is_ready_after indexes.old → X.has_room_for indexes.new plan }
 {
     indexes.remove(items, state, ix);
     items.remove(ix)

@@ -1,10 +1,12 @@
 use Rattle.std.proofs.Common.{rules, inl, inr, is_err, refl, sym, ◌∙◌, ap, arith}
 use Rattle.std.proofs.lemmas.Grind.{common_steps}
 use Rattle.std.proofs.lemmas.Bool.{false≢true}
+use Rattle.iddqd.specs.GrowHandle.{handle_set}
 use Rattle.iddqd.specs.Store.{next_index}
 use Rattle.iddqd_order.specs.MapBTreeTable.{order_of}
 use Rattle.iddqd_sides.proofs.OrderedHoldsLemmas.{next_absent}
 use Rattle.iddqd_sides.proofs.OrderedPlaceLemmas.{AddsInPlace-prepared}
+use Rattle.iddqd_keyed.proofs.MemoryLemmas.{few_slots}
 use Rattle.iddqd_keyed.proofs.keyed_items.enter.Goals as goal
 
 pub prepare-requires-clause-absent : goal.prepare-requires-clause-absent
@@ -108,3 +110,25 @@ returns-clause-memory g c =
       had_room = λ parts. grind (arith, common_steps);
       not_refused = λ _. tt;
     }
+
+pub returns-clause-few_slots : goal.returns-clause-few_slots
+returns-clause-few_slots g c =
+    let grown = c.in-Ok.ensures in
+    let few = few_slots c.args.items.now (handle_set c.in-Ok.handle) c.requires.valid grown.kept grown.grown in
+    grind (arith, common_steps)
+
+pub returns-in-Err-clause-few_slots : goal.returns-in-Err-clause-few_slots
+returns-in-Err-clause-few_slots g c =
+    let grown = c.in-Ok.ensures in
+    let few = few_slots c.args.items.now (handle_set c.in-Ok.handle) c.requires.valid grown.kept grown.grown in
+    grind (arith, common_steps)
+
+pub returns-in-Err-prepare-clause-few_slots : goal.returns-in-Err-prepare-clause-few_slots
+returns-in-Err-prepare-clause-few_slots g c =
+    let grown = c.in-Ok.ensures in
+    let few = few_slots c.args.items.now (handle_set c.in-Ok.handle) c.requires.valid grown.kept grown.grown in
+    grind (arith, common_steps)
+
+pub returns-clause-few_cells : goal.returns-clause-few_cells
+returns-clause-few_cells g c =
+    omega (arith, c.try_reserve.ensures.few, c.insert_prehashed_unchecked.ensures.memory.same_memory)

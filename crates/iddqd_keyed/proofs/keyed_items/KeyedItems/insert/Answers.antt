@@ -1,13 +1,15 @@
 use Rattle.std.specs.Result.{IfOk, OnErr}
-use Rattle.std.proofs.Common.{◌≡◌}
+use Rattle.std.proofs.Common.{◌≡◌, ◌≤◌, ◌+◌, max, subst}
 use Rattle.iddqd_keyed.specs.Keys.{Keys, keys_of}
 use Rattle.iddqd_keyed.specs.State.{State, state_of}
 use Rattle.iddqd_keyed.specs.Sides.{LooksUp, Keeps, first_side, finds_told}
 use Rattle.iddqd_keyed.specs.Machine.{StoresAt}
 use Rattle.iddqd_keyed.proofs.KeyLemmas.{AreLawful-from_bounds}
 use Rattle.iddqd_keyed.proofs.KeepsLemmas.{Holds-order}
+use Rattle.iddqd_hash.specs.HashTable.{memory as cells}
+use Rattle.iddqd_hash.specs.Sizes.{most_cells}
 use Rattle.iddqd_keyed.specs.Memory.{sized_of}
-use Rattle.iddqd_keyed.proofs.MemoryLemmas.{InsertsInMemory-where, HasRoomInParts-from_room, room-inserted}
+use Rattle.iddqd_keyed.proofs.MemoryLemmas.{InsertsInMemory-where, HasRoomInParts-from_room, room-inserted, length-filed}
 use Rattle.iddqd_keyed.proofs.InsertLemmas.{StoresAt-from_parts, same-from_parts, Keeps-from_stored}
 use Rattle.iddqd_sides.proofs.HoldsLemmas.{next_unfiled}
 use Rattle.iddqd_keyed.proofs.keyed_items.KeyedItems.insert.Goals.{After-enter}
@@ -86,6 +88,14 @@ returns-clause-memory g c =
     (InsertsInMemory-where
     (HasRoomInParts-from_room c.self.inside.state c.self.inside.items c.self.inside.filed c.self.inside.order c.self.invariant)
     c.enter.ensures.memory)
+
+pub returns-clause-few : goal.returns-clause-few
+returns-clause-few g c =
+    let same = length-filed (was g c) c.self.invariant in
+    rw (← c.self.view_is) (record {
+      slots = c.enter.ensures.few_slots;
+      cells = subst (λ n. cells c.enter.new.table ≤ max (cells c.self.inside.filed) (most_cells (n + 1))) same c.enter.ensures.few_cells;
+    })
 
 pub returns-clause-room : goal.returns-clause-room
 returns-clause-room g c =

@@ -3,7 +3,7 @@ use Rattle.std.proofs.lemmas.Grind.{common_steps}
 use Rattle.std.specs.Vec.Iter.{into_iter_items}
 use Rattle.std.proofs.lemmas.List.{nil_from_length}
 use Rattle.iddqd_keyed.specs.Run.{No_step}
-use Rattle.iddqd_keyed.proofs.RunLemmas.{IsStepChain-push, Run-from_chain, IsServedBelow-step, RunsInMemory-from_chain}
+use Rattle.iddqd_keyed.proofs.RunLemmas.{IsStepChain-push, Run-from_chain, IsServedBelow-step, TakesForOne-step, RunsInMemory-from_chain}
 use Rattle.iddqd_keyed.proofs.MemoryLemmas.{IsNoLower-same, IsNoLower-after}
 use Rattle.iddqd_keyed.specs.State.{IsPaired}
 use Rattle.iddqd_keyed.proofs.keyed_items.KeyedItems.run.Goals as goal
@@ -20,6 +20,7 @@ loop-command-init g c =
       chain = rw c.in-Ok.ensures.items No_step;
       no_lower = IsNoLower-same _ _ refl;
       served = rw c.in-Ok.ensures.items tt;
+      few = λ most _. record { slots = omega arith; cells = omega arith };
       room = omega (arith, c.in-Ok.ensures.len, c.in-Ok.ensures.capacity, c.len.ensures);
     }
 
@@ -37,6 +38,7 @@ loop-command-preserved g c =
       chain = rw c.push_reserved.ensures.items (IsStepChain-push _ before.chain c.step.ensures.step);
       no_lower = IsNoLower-after _ _ _ before.no_lower c.step.ensures.memory.no_lower;
       served = rw c.push_reserved.ensures.items (IsServedBelow-step _ before.chain before.no_lower before.served c.step.ensures.memory);
+      few = TakesForOne-step _ before.chain before.few c.step.ensures.memory;
       room = omega (arith, before.room);
     }
 
@@ -60,7 +62,7 @@ returns-clause-memory g c =
     let left = ap (λ rest. c.loop-command.yielded ++ rest) none in
     let all = sym before.yielded ∙ left ∙ append-nil c.loop-command.yielded in
     let paired : IsPaired c.args.self.now.state = rw (← c.self.view_is) c.self.invariant in
-    RunsInMemory-from_chain _ {moments = before.moments} (rw all before.chain) paired before.no_lower before.served
+    RunsInMemory-from_chain _ {moments = before.moments} (rw all before.chain) paired before.no_lower before.served before.few
 
 pub returns-clause-empty : goal.returns-clause-empty
 returns-clause-empty g c = grind (arith, common_steps)

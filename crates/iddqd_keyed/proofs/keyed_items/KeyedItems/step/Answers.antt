@@ -82,10 +82,10 @@ returns-in-Err-indexes-clause-step g c =
 -- ---- memory
 
 pub returns-in-Ok-clause-memory : goal.returns-in-Ok-clause-memory
-returns-in-Ok-clause-memory g c = rw c.in-Insert.is (StepsInMemory-inserted _ _ _ _ c.in-Ok.ensures.memory)
+returns-in-Ok-clause-memory g c = rw c.in-Insert.is (StepsInMemory-inserted _ _ _ _ c.in-Ok.ensures.memory c.in-Ok.ensures.few)
 
 pub returns-in-Err-clause-memory : goal.returns-in-Err-clause-memory
-returns-in-Err-clause-memory g c = rw c.in-Insert.is (StepsInMemory-refused _ _ _ _ c.in-Err.ensures.memory)
+returns-in-Err-clause-memory g c = rw c.in-Insert.is (StepsInMemory-refused _ _ _ _ c.in-Err.ensures.memory c.in-Err.ensures.few)
 
 pub returns-in-Find1-clause-memory : goal.returns-in-Find1-clause-memory
 returns-in-Find1-clause-memory g c = rw c.in-Find1.is (StepsInMemory-kept _ _ _ _ refl (λ never. never))

@@ -2,7 +2,7 @@ use Rattle.iddqd_hash.specs.MapHashTable.{filed}
 use Rattle.iddqd_sides.specs.Scan.{passes_by}
 use Rattle.iddqd_sides.specs.Hashed.{hashing_of}
 use Rattle.iddqd_map.proofs.HashLemmas.{TakesFound-taken}
-use Rattle.iddqd_map.proofs.by_hash.ByHashHashedAtHere.take.Goals as goal
+use Rattle.iddqd_map.proofs.by_hash.ByHashTakesAtHere.take.Goals as goal
 
 pub returns-clause-taken : goal.returns-clause-taken
 returns-clause-taken g c =

@@ -1,6 +1,6 @@
 use Rattle.iddqd_sides.specs.Scan.{passes_by}
 use Rattle.iddqd_map.proofs.FoundLemmas.{hit_live}
-use Rattle.iddqd_map.proofs.pair.PairHashedAtLeft.take.Goals as goal
+use Rattle.iddqd_map.proofs.pair.PairTakesAtLeft.take.Goals as goal
 
 pub remove-requires-clause-live : goal.remove-requires-clause-live
 remove-requires-clause-live g c =
