@@ -27,7 +27,9 @@ use iddqd::index_remap::IndexRemap;
 use iddqd::internal::{ValidateCompact, ValidateRefusal, ValidationError};
 use iddqd::item_index::ItemIndex;
 use iddqd::item_set::ItemSet;
-use iddqd_map::key_index::{Checks, Inserts, KeyIndex, Moves, Overwrites, Removes, Sizes};
+use iddqd_map::key_index::{
+    Checks, Conflicts, Inserts, KeyIndex, Moves, Overwrites, Removes, Sizes,
+};
 use iddqd_order::btree_table::{Asking, Blocks, Gap, Iter, MapBTreeTable, Range};
 use iddqd_sides::key_of::{ByKey, KeyOf, key_at};
 use iddqd_sides::order_query::OrdQuery;
@@ -174,31 +176,16 @@ where
     E::Key: Ord,
 {
     ghost use Rattle.std.proofs.Common.{refl};
-    ghost use Rattle.std.specs.Prelude.{◌≢◌, true, Some, Ok};
+    ghost use Rattle.std.specs.Prelude.{true};
     ghost use Rattle.std.specs.Ordering.{eq_by_cmp};
     ghost use Rattle.iddqd_order.specs.MapBTreeTable.{HasSameTree};
     ghost use Rattle.iddqd_map.specs.Map.{shares};
-    ghost use Rattle.iddqd_ord_map.specs.ByOrder.{IsGapFor, HasBlocksAt, HasBlocksAnywhere, IsReadyFor, moves, reserved_for, most_cells};
-    ghost use Rattle.iddqd_ord_map.specs.OrderedIndexing.{PlansOrConflicts};
-    ghost use Rattle.iddqd_ord_map.specs.ByOrderLaws.{Sorts-same_tree, IsGapFor-same_tree, Sorts-modified, Sorts-alike, told_one, one_told, shares_equivalence};
-
-    type Known = ();
-
-    type Asked = ();
-
-    type Spot = Gap;
-
-    type Plan = Gap;
-
-    type Conflict = ItemIndex;
-
-    type Move = Move;
+    ghost use Rattle.iddqd_ord_map.specs.ByOrder.{reserved_for, most_cells};
+    ghost use Rattle.iddqd_ord_map.specs.ByOrderLaws.{Sorts-same_tree, Sorts-modified, Sorts-alike, shares_equivalence};
 
     ghost Keys = { E.Key };
 
     ghost keys = { E.key_of };
-
-    ghost key_count = { 1 };
 
     ghost alike = { shares E.key_of (eq_by_cmp E.Key.cmp) };
 
@@ -216,34 +203,9 @@ where
 
     ghost same = { λ x y. HasSameTree x.table y.table };
 
-    ghost is_known = { λ state item known. Unit {0} };
-
-    ghost is_spot = { λ x state s item gap. IsGapFor E.key_of E.Key.cmp s x.table item gap };
-
-    ghost is_planned = { λ x state s item gap. IsGapFor E.key_of E.Key.cmp s x.table item gap };
-
-    ghost has_room_for = { λ x gap. HasBlocksAt x.table x.blocks gap };
-
-    ghost is_ready_after = { λ x. HasBlocksAnywhere x.table x.blocks };
-
-    ghost conflicts = { λ s item at. AnswersScan s (shares E.key_of (eq_by_cmp E.Key.cmp) item) (Some at) };
-
-    ghost taken = { λ s ix item at. (at ≢ ix) × AnswersScan s (shares E.key_of (eq_by_cmp E.Key.cmp) item) (Some at) };
-
-    ghost tells = { λ at ix. ix ≡ at };
-
-    ghost is_move = { λ state s ix item plan. PlansOrConflicts E.key_of E.Key.cmp s ix item (Ok plan) };
-
-    ghost moves = { moves };
-
-    ghost is_ready = { λ x plan. IsReadyFor x.table x.blocks plan };
-
     ghost same_as_itself = { λ x. record { root = refl; height = refl } };
 
     ghost same_indexes = { λ x y state s same is. Sorts-same_tree E.key_of E.Key.cmp s x.table y.table same is };
-
-    ghost same_plans = { λ x y state s item gap same is.
-        IsGapFor-same_tree E.key_of E.Key.cmp s x.table y.table item gap same is };
 
     ghost apart = { λ x state s is. is.exact.apart };
 
@@ -252,12 +214,6 @@ where
 
     ghost same_items = { λ x state s t same is.
         Sorts-alike E.key_of E.Key.cmp E.Key.total s t same (order_of x.table) is };
-
-    ghost told = { λ s item at scan ix. told_one s (shares E.key_of (eq_by_cmp E.Key.cmp) item) at scan ix };
-
-    ghost told_some = { λ s item at scan. (at, refl) };
-
-    ghost few_told = { λ at. one_told at };
 
     ghost equivalence = { shares_equivalence E.key_of E.Key.cmp E.Key.total };
 
@@ -315,11 +271,66 @@ where
     }
 }
 
+impl<T, S, E> Conflicts<T, S> for ByOrder<E>
+where
+    E: KeyOf<T>,
+    E::Key: Ord,
+{
+    ghost use Rattle.std.proofs.Common.{refl};
+    ghost use Rattle.std.specs.Prelude.{◌≢◌, Some};
+    ghost use Rattle.std.specs.Ordering.{eq_by_cmp};
+    ghost use Rattle.iddqd_map.specs.Map.{shares};
+    ghost use Rattle.iddqd_ord_map.specs.ByOrderLaws.{told_one, one_told};
+
+    type Conflict = ItemIndex;
+
+    ghost key_count = { 1 };
+
+    ghost conflicts = { λ s item at. AnswersScan s (shares E.key_of (eq_by_cmp E.Key.cmp) item) (Some at) };
+
+    ghost taken = { λ s ix item at. (at ≢ ix) × AnswersScan s (shares E.key_of (eq_by_cmp E.Key.cmp) item) (Some at) };
+
+    ghost tells = { λ at ix. ix ≡ at };
+
+    ghost told = { λ s item at scan ix. told_one s (shares E.key_of (eq_by_cmp E.Key.cmp) item) at scan ix };
+
+    ghost told_some = { λ s item at scan. (at, refl) };
+
+    ghost few_told = { λ at. one_told at };
+
+    fn next_told(conflict: &ItemIndex, before: Option<ItemIndex>) -> Option<ItemIndex> {
+        match before {
+            Some(ix) if *conflict <= ix => None,
+            _ => Some(*conflict),
+        }
+    }
+}
+
 impl<T, S, E> Inserts<T, S> for ByOrder<E>
 where
     E: KeyOf<T>,
     E::Key: Ord,
 {
+    ghost use Rattle.iddqd_ord_map.specs.ByOrder.{IsGapFor, HasBlocksAt};
+    ghost use Rattle.iddqd_ord_map.specs.ByOrderLaws.{IsGapFor-same_tree};
+
+    type Known = ();
+
+    type Spot = Gap;
+
+    type Plan = Gap;
+
+    ghost is_known = { λ state item known. Unit {0} };
+
+    ghost is_spot = { λ x state s item gap. IsGapFor E.key_of E.Key.cmp s x.table item gap };
+
+    ghost is_planned = { λ x state s item gap. IsGapFor E.key_of E.Key.cmp s x.table item gap };
+
+    ghost has_room_for = { λ x gap. HasBlocksAt x.table x.blocks gap };
+
+    ghost same_plans = { λ x y state s item gap same is.
+        IsGapFor-same_tree E.key_of E.Key.cmp s x.table y.table item gap same is };
+
     fn known(state: &S, item: &T) {}
 
     fn look_up(
@@ -373,6 +384,10 @@ where
     E: KeyOf<T>,
     E::Key: Ord,
 {
+    ghost use Rattle.iddqd_ord_map.specs.ByOrder.{HasBlocksAnywhere};
+
+    ghost is_ready_after = { λ x. HasBlocksAnywhere x.table x.blocks };
+
     fn spot(&self, items: &ItemSet<T>, state: &S, known: (), item: &T) -> Gap {
         match place_of::<T, E>(&self.table, items, item) {
             Ok(gap) => gap,
@@ -385,11 +400,8 @@ where
         Ok(())
     }
 
-    fn next_told(conflict: &ItemIndex, before: Option<ItemIndex>) -> Option<ItemIndex> {
-        match before {
-            Some(ix) if *conflict <= ix => None,
-            _ => Some(*conflict),
-        }
+    fn give_way(&mut self, items: &ItemSet<T>, state: &S, ix: ItemIndex) {
+        take_index::<T, E>(&mut self.table, items, ix);
     }
 }
 
@@ -398,6 +410,20 @@ where
     E: KeyOf<T>,
     E::Key: Ord,
 {
+    ghost use Rattle.std.specs.Prelude.{Ok};
+    ghost use Rattle.iddqd_ord_map.specs.ByOrder.{IsReadyFor, moves};
+    ghost use Rattle.iddqd_ord_map.specs.OrderedIndexing.{PlansOrConflicts};
+
+    type Asked = ();
+
+    type Move = Move;
+
+    ghost is_move = { λ state s ix item plan. PlansOrConflicts E.key_of E.Key.cmp s ix item (Ok plan) };
+
+    ghost moves = { moves };
+
+    ghost is_ready = { λ x plan. IsReadyFor x.table x.blocks plan };
+
     fn unasked() {}
 
     fn plan_move(
