@@ -4,7 +4,7 @@
 //! the type that a look-up names.
 ghost use Rattle.std.specs.Prelude.{◌≡◌, ◌==◌, ℕ, false, ◌↔◌, option_copied, IfOk, IfSome, OnErr};
 ghost use Rattle.iddqd_maps.specs.Map.{FindsItem};
-ghost use Rattle.iddqd_maps.specs.Scan.{HasNoHit};
+ghost use Rattle.iddqd_maps.specs.Scan.{AnswersScan, HasNoHit};
 ghost use Rattle.iddqd_maps.specs.Store.{rebound};
 ghost use Rattle.uses.specs.Devices.{is_named, share_key};
 ghost use Rattle.uses.specs.declared.devices.Device.{Device};
@@ -118,6 +118,13 @@ pub fn with_serial(devices: &Devices, serial: u64) -> Option<&Device>
     ensures { FindsItem devices.now.store (λ device. serial == device.serial) (option_copied result) }
 {
     devices.get_by::<BySerial, _>(&serial)
+}
+
+/// The index of the device with this serial number.
+pub fn place(devices: &Devices, serial: u64) -> Option<ItemIndex>
+    ensures { AnswersScan devices.now.store (λ device. serial == device.serial) result }
+{
+    devices.find_by::<BySerial, _>(&serial)
 }
 
 /// The device at this address.
