@@ -6,8 +6,8 @@ import re
 
 TOP = os.path.realpath(os.path.join(os.path.dirname(os.path.abspath(__file__)), ".."))
 
-# The types that callers hold.
-MAPS = ["IdHashMap", "IdOrdMap", "BiHashMap", "TriHashMap", "KeyedItems", "TriItems"]
+# The types that callers hold; `Map` is what the three names after it stand for, each with its own mix of keys.
+MAPS = ["Map", "IdHashMap", "BiHashMap", "TriHashMap", "IdOrdMap", "KeyedItems", "TriItems"]
 
 
 def read(path):
@@ -42,12 +42,27 @@ def sources_of(crate):
 
 
 def file_of(name):
-    """The one file of the crates that defines this public struct."""
+    """The one file of the crates that defines this public struct, or this name for another one."""
     found = [path for path in glob.glob(f"{TOP}/crates/*/src/**/*.rt", recursive=True)
-             if re.search(rf"^pub struct {name}\b", read(path), re.M)]
+             if re.search(rf"^pub (struct|type) {name}\b", read(path), re.M)]
     if len(found) != 1:
-        raise SystemExit(f"{len(found)} files define a public struct {name}")
+        raise SystemExit(f"{len(found)} files define a public type {name}")
     return found[0]
+
+
+def stands_for(name):
+    """The struct that a public type is a name for; itself, where it is a struct."""
+    alias = re.search(rf"^pub type {name}\b[^;]*> = (\w+)<", read(file_of(name)), re.M)
+    return alias[1] if alias else name
+
+
+def own_sources(name):
+    """The files that have a type's calls: those of its module where it shares a crate with others, else all of its crate."""
+    path = file_of(name)
+    others = {file_of(other) for other in MAPS if crate_of(file_of(other)) == crate_of(path)}
+    if others == {path}:
+        return [path, *(other for other in sources_of(crate_of(path)) if other != path)]
+    return [path, *sorted(glob.glob(f"{path[:-3]}/**/*.rt", recursive=True))]
 
 
 def crate_of(path):

@@ -8,10 +8,10 @@ use Rattle.std.proofs.lemmas.List.Sums.{sum_by-cons}
 use Rattle.iddqd.specs.Store.{Store, get, live_count, removed}
 use Rattle.iddqd_sides.specs.Scan.{HasNoHit, AnswersScan}
 use Rattle.iddqd_sides.proofs.ScanLemmas.{HasNoHit-hit_removed}
-use Rattle.iddqd_map_base.specs.Map.{MapState, FindsItem, Removes}
-use Rattle.iddqd_map_base.specs.Several.{removed_all}
-use Rattle.iddqd_map_base.specs.Retain.{Retains, refused_of}
-use Rattle.iddqd_id_ord.specs.Retain.{RetainsAlong}
+use Rattle.iddqd_map.specs.Map.{MapState, FindsItem, Removes}
+use Rattle.iddqd_map.specs.Several.{removed_all}
+use Rattle.iddqd_map.specs.Retain.{Retains, refused_of}
+use Rattle.iddqd_ord_map.specs.Retain.{RetainsAlong}
 
 module _ {T : Type 0} (s : Store T) (test : T → Bool) where
   -- the item at the index that a scan answers passes
@@ -36,7 +36,7 @@ module _ {T : Type 0} (s : Store T) (test : T → Bool) where
 module _ {T : Type 0} (old new : MapState T) where
   -- after a removal by a test no item passes it
   pub none_left : (test : T → Bool) (taken : Option T) → Removes old test taken new → HasNoHit new.store test
-  none_left test None removes = subst (λ s. HasNoHit s test) (sym removes.1.store) removes.0
+  none_left test None removes = subst (λ m. HasNoHit m.store test) (sym removes.1) removes.0
   none_left test (Some item) removes =
       subst (λ s. HasNoHit s test) (sym removes.left) (HasNoHit-hit_removed old.store test removes.ix removes.hit.only)
 

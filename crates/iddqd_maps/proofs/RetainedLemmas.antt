@@ -4,9 +4,9 @@ use Rattle.std.proofs.Common.{◌≡◌, ◌∙◌, ℕ, Bool, true, false, List
 use Rattle.std.specs.List.{filter, FoldsTo}
 use Rattle.iddqd.specs.Store.{Store}
 use Rattle.iddqd.specs.LiveItems.{live_pairs}
-use Rattle.iddqd_map_base.specs.Map.{MapState}
-use Rattle.iddqd_map_base.specs.Retain.{kept_of, Retains}
-use Rattle.iddqd_id_ord.specs.Retain.{RetainsAlong}
+use Rattle.iddqd_map.specs.Map.{MapState}
+use Rattle.iddqd_map.specs.Retain.{kept_of, Retains}
+use Rattle.iddqd_ord_map.specs.Retain.{RetainsAlong}
 pub use Rattle.iddqd_hash.proofs.AskLemmas.{CanAsk-by}
 
 -- `I` holds of each state of the closure, and there its answer on an item is whether that passes the test

@@ -1,5 +1,8 @@
 //! Maps whose keys live inside their values: a store of items, and a table for each key.
 //!
+//! Four maps have names of their own. A map with any other mix of keys is a [`map::Map`] by a [`pair::Pair`] of key
+//! indexes, each a [`by_hash::ByHash`], a [`by_order::ByOrder`] or a pair again.
+//!
 //! A map is seen as its items in slots under stable indexes, no two of which share a key. No call
 //! gives a stored item another key without telling the tables, so a look-up always answers as a scan
 //! of all items would.
@@ -15,9 +18,10 @@ pub use iddqd::{
     hash_builder as hash_builder, index_remap as index_remap, item_index as item_index,
     item_set as item_set,
 };
-pub use iddqd_bi_hash::bi_hash_map as bi_hash_map;
-pub use iddqd_id_hash::id_hash_map as id_hash_map;
-pub use iddqd_id_ord::id_ord_map as id_ord_map;
-pub use iddqd_map_base::refusal as refusal;
-pub use iddqd_sides::{order_query as order_query, query as query};
-pub use iddqd_tri_hash::tri_hash_map as tri_hash_map;
+pub use iddqd_map::{
+    bi_hash_map as bi_hash_map, by_hash as by_hash, id_hash_map as id_hash_map,
+    key_index as key_index, map as map, pair as pair, pair_conflict as pair_conflict,
+    refusal as refusal, tri_hash_map as tri_hash_map,
+};
+pub use iddqd_ord_map::{by_order as by_order, id_ord_map as id_ord_map};
+pub use iddqd_sides::{key_of as key_of, order_query as order_query, query as query};

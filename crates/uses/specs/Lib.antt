@@ -2,3 +2,4 @@ pub mod Users
 pub mod RouteLaws
 pub mod Registry
 pub mod Calendar
+pub mod Devices

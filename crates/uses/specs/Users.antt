@@ -20,4 +20,4 @@ pub record LogsIn (test : User → Bool) (count : ℕ) (old new : MapState User)
   pub found : IsOnly old.store test ix was
   pub counted : count ≡ min (was.logins + 1) (2 ^ 32 - 1)
   pub left : new.store ≡ rebound old.store ix (record was { logins = count })
-  pub room : new.room ≡ old.room
+  pub memory : new.memory ≡ old.memory

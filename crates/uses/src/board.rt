@@ -1,12 +1,13 @@
 //! A board of scores: the calls of a map in order that `scores` and `words` don't make, and what each promises.
-ghost use Rattle.std.specs.Prelude.{◌≡◌, ◌≤◌, ◌↔◌, ℕ, false, true, length, Some, None, IfOk, IfSome, OnOk, OnErr};
+ghost use Rattle.std.specs.Prelude.{◌≡◌, ◌≤◌, ◌↔◌, ℕ, false, true, length, min, Some, None, IfOk, IfSome, OnOk, OnErr};
 ghost use Rattle.std.specs.Ordering.{nat_cmp, eq_by_cmp};
 ghost use Rattle.std.specs.declared.cmp.Ordering.TheVariants.{Less, Greater};
 ghost use Rattle.iddqd_maps.specs.Compaction.{compacted};
 ghost use Rattle.iddqd_maps.specs.KeyOrder.{AreInKeyOrder, FindsEnd, IsKeyWalk};
-ghost use Rattle.iddqd_maps.specs.Map.{FindsItem, empty_map};
+ghost use Rattle.iddqd_maps.specs.Map.{FindsItem, capacity, empty_map, room};
 ghost use Rattle.iddqd_maps.specs.Scan.{AnswersScan, HasNoHit};
-ghost use Rattle.iddqd_maps.specs.Store.{cleared, get, rebound, slot_count};
+ghost use Rattle.iddqd_maps.specs.Sizes.{insertable};
+ghost use Rattle.iddqd_maps.specs.Store.{cleared, get, rebound, slot_count, slot_limit};
 ghost use Rattle.uses.specs.declared.scores.Score.{Score};
 
 use crate::scores::Score;
@@ -27,10 +28,33 @@ pub fn within(alloc: Global, limit: u32) -> Board
     IdOrdMap::with_limit(alloc, limit)
 }
 
-/// Closes the gaps, gives back the memory past the scores, and tells how many slots there is memory for.
+/// A board with room for so many scores, or for as many as there are indexes.
+pub fn with_room(alloc: Global, scores: usize) -> Result<Board, AllocError>
+    ensures { IfOk result (λ board. min scores slot_limit ≤ room board) }
+{
+    IdOrdMap::with_capacity(alloc, scores)
+}
+
+/// Makes room for so many more scores, and tells how many can come without memory.
+pub fn make_room(board: &mut Board, more: usize) -> Result<usize, AllocError>
+    ensures { IfOk result (λ count. min more (insertable board.old.store) ≤ count) }
+{
+    board.reserve(more)?;
+    Ok(board.room())
+}
+
+/// Gives back the memory that so many scores don't need, beside those that there are.
+pub fn keep_room(board: &mut Board, scores: usize) -> Result<(), AllocError>
+    ensures { board.new.store ≡ board.old.store }
+{
+    board.shrink_to(scores)
+}
+
+/// Closes the gaps, gives back the memory past the scores, and tells how many scores there is memory for.
 pub fn pack(board: &mut Board) -> Result<usize, AllocError>
     ensures scores { OnOk result (board.new.store ≡ compacted board.old.store) }
-    ensures memory { IfOk result (λ capacity. slot_count board.new.store ≤ capacity) }
+    ensures slots { OnOk result (board.new.memory.slots ≤ slot_count board.new.store) }
+    ensures capacity { IfOk result (λ count. count ≡ capacity board.new) }
 {
     board.compact()?;
     board.shrink_to_fit()?;

@@ -2,7 +2,7 @@
 ghost use Rattle.std.specs.Prelude.{◌≡◌, ◌≤◌, ◌==◌, ◌↔◌, ℕ, false, true, min, Some, IfOk, OnOk, OnErr, IfSome};
 ghost use Rattle.iddqd_maps.specs.Compaction.{compacted};
 ghost use Rattle.iddqd_maps.specs.LiveItems.{live_items, live_pairs};
-ghost use Rattle.iddqd_maps.specs.Map.{empty_map};
+ghost use Rattle.iddqd_maps.specs.Map.{empty_map, room};
 ghost use Rattle.iddqd_maps.specs.Scan.{HasNoHit};
 ghost use Rattle.iddqd_maps.specs.Sizes.{insertable};
 ghost use Rattle.iddqd_maps.specs.Store.{cleared, get, rebound, slot_limit};
@@ -20,7 +20,7 @@ type Depot = IdHashMap<Part>;
 
 /// A depot with room for so many kinds, or for as many as there are indexes.
 pub fn with_room(alloc: Global, kinds: usize) -> Result<Depot, AllocError>
-    ensures { IfOk result (λ depot. min kinds slot_limit ≤ depot.room) }
+    ensures { IfOk result (λ depot. min kinds slot_limit ≤ room depot) }
 {
     IdHashMap::with_capacity(alloc, kinds)
 }
@@ -31,7 +31,7 @@ pub fn hashed_with_room(
     kinds: usize,
     hasher: Base31,
 ) -> Result<IdHashMap<Part, Base31>, AllocError>
-    ensures { IfOk result (λ depot. min kinds slot_limit ≤ depot.room) }
+    ensures { IfOk result (λ depot. min kinds slot_limit ≤ room depot) }
 {
     IdHashMap::with_capacity_and_hasher(alloc, kinds, hasher)
 }
@@ -45,7 +45,7 @@ pub fn hashed_within(alloc: Global, limit: u32, hasher: Base31) -> IdHashMap<Par
 
 /// Makes room for so many more kinds, and tells how many can come without memory.
 pub fn make_room(depot: &mut Depot, more: usize) -> Result<usize, AllocError>
-    ensures { IfOk result (λ room. min more (insertable depot.old.store) ≤ room) }
+    ensures { IfOk result (λ count. min more (insertable depot.old.store) ≤ count) }
 {
     depot.reserve(more)?;
     Ok(depot.room())
@@ -54,7 +54,7 @@ pub fn make_room(depot: &mut Depot, more: usize) -> Result<usize, AllocError>
 /// Closes the gaps, and gives back all memory that the parts don't need.
 pub fn pack(depot: &mut Depot) -> Result<(), AllocError>
     ensures parts { OnOk result (depot.new.store ≡ compacted depot.old.store) }
-    ensures memory { OnOk result (depot.new.room ≡ 0) }
+    ensures memory { OnOk result (room depot.new ≡ 0) }
 {
     depot.compact()?;
     depot.shrink_to_fit()
@@ -63,7 +63,7 @@ pub fn pack(depot: &mut Depot) -> Result<(), AllocError>
 /// Forgets all parts, and tells that none is left.
 pub fn clear_out(depot: &mut Depot) -> bool
     ensures parts { depot.new.store ≡ cleared depot.old.store }
-    ensures memory { depot.old.room ≤ depot.new.room }
+    ensures memory { room depot.old ≤ room depot.new }
     ensures empty { result ≡ true }
 {
     depot.clear();

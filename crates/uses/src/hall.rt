@@ -2,7 +2,7 @@
 ghost use Rattle.std.specs.Prelude.{◌≡◌, ◌≤◌, ◌==◌, ◌↔◌, ℕ, false, true, length, min, Some, IfOk, IfSome, OnOk, OnErr};
 ghost use Rattle.iddqd_maps.specs.Compaction.{compacted};
 ghost use Rattle.iddqd_maps.specs.LiveItems.{live_items, live_pairs};
-ghost use Rattle.iddqd_maps.specs.Map.{FindsItem, empty_map};
+ghost use Rattle.iddqd_maps.specs.Map.{FindsItem, empty_map, room};
 ghost use Rattle.iddqd_maps.specs.Scan.{AnswersScan, HasNoHit};
 ghost use Rattle.iddqd_maps.specs.Sizes.{insertable};
 ghost use Rattle.iddqd_maps.specs.Store.{cleared, get, live_count, rebound, slot_limit};
@@ -46,21 +46,21 @@ pub fn hashed(alloc: Global, hasher: Base31) -> Hashed
 
 /// No seats, and room for so many, or for as many as there are indexes.
 pub fn with_room(alloc: Global, count: usize) -> Result<Hall, AllocError>
-    ensures { IfOk result (λ hall. min count slot_limit ≤ hall.room) }
+    ensures { IfOk result (λ hall. min count slot_limit ≤ room hall) }
 {
     TriHashMap::with_capacity(alloc, count)
 }
 
 /// The same under a hasher of one's own.
 pub fn hashed_with_room(alloc: Global, count: usize, hasher: Base31) -> Result<Hashed, AllocError>
-    ensures { IfOk result (λ hall. min count slot_limit ≤ hall.room) }
+    ensures { IfOk result (λ hall. min count slot_limit ≤ room hall) }
 {
     TriHashMap::with_capacity_and_hasher(alloc, count, hasher)
 }
 
 /// Makes room for so many more seats, and tells how many can come without memory.
 pub fn make_room(hall: &mut Hall, more: usize) -> Result<usize, AllocError>
-    ensures { IfOk result (λ room. min more (insertable hall.old.store) ≤ room) }
+    ensures { IfOk result (λ count. min more (insertable hall.old.store) ≤ count) }
 {
     hall.reserve(more)?;
     Ok(hall.room())
@@ -69,7 +69,7 @@ pub fn make_room(hall: &mut Hall, more: usize) -> Result<usize, AllocError>
 /// Closes the gaps, and gives back all memory that the seats don't need.
 pub fn pack(hall: &mut Hall) -> Result<(), AllocError>
     ensures seats { OnOk result (hall.new.store ≡ compacted hall.old.store) }
-    ensures memory { OnOk result (hall.new.room ≡ 0) }
+    ensures memory { OnOk result (room hall.new ≡ 0) }
 {
     hall.compact()?;
     hall.shrink_to_fit()
@@ -78,7 +78,7 @@ pub fn pack(hall: &mut Hall) -> Result<(), AllocError>
 /// Forgets all seats, and tells that none is left.
 pub fn clear_out(hall: &mut Hall) -> bool
     ensures seats { hall.new.store ≡ cleared hall.old.store }
-    ensures memory { hall.old.room ≤ hall.new.room }
+    ensures memory { room hall.old ≤ room hall.new }
     ensures empty { result ≡ true }
 {
     hall.clear();

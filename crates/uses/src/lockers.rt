@@ -2,7 +2,7 @@
 ghost use Rattle.std.specs.Prelude.{◌≡◌, ◌≤◌, ◌==◌, ◌↔◌, ℕ, false, true, length, min, Some, IfOk, IfSome, OnOk, OnErr};
 ghost use Rattle.iddqd_maps.specs.Compaction.{compacted};
 ghost use Rattle.iddqd_maps.specs.LiveItems.{live_items, live_pairs};
-ghost use Rattle.iddqd_maps.specs.Map.{FindsItem, empty_map};
+ghost use Rattle.iddqd_maps.specs.Map.{FindsItem, empty_map, room};
 ghost use Rattle.iddqd_maps.specs.Scan.{AnswersScan, HasNoHit};
 ghost use Rattle.iddqd_maps.specs.Sizes.{insertable};
 ghost use Rattle.iddqd_maps.specs.Store.{cleared, get, live_count, rebound, slot_limit};
@@ -71,21 +71,21 @@ pub fn hashed(alloc: Global, hasher: Base31) -> Hashed
 
 /// No lockers, and room for so many, or for as many as there are indexes.
 pub fn with_room(alloc: Global, count: usize) -> Result<Lockers, AllocError>
-    ensures { IfOk result (λ lockers. min count slot_limit ≤ lockers.room) }
+    ensures { IfOk result (λ lockers. min count slot_limit ≤ room lockers) }
 {
     BiHashMap::with_capacity(alloc, count)
 }
 
 /// The same under a hasher of one's own.
 pub fn hashed_with_room(alloc: Global, count: usize, hasher: Base31) -> Result<Hashed, AllocError>
-    ensures { IfOk result (λ lockers. min count slot_limit ≤ lockers.room) }
+    ensures { IfOk result (λ lockers. min count slot_limit ≤ room lockers) }
 {
     BiHashMap::with_capacity_and_hasher(alloc, count, hasher)
 }
 
 /// Makes room for so many more lockers, and tells how many can come without memory.
 pub fn make_room(lockers: &mut Lockers, more: usize) -> Result<usize, AllocError>
-    ensures { IfOk result (λ room. min more (insertable lockers.old.store) ≤ room) }
+    ensures { IfOk result (λ count. min more (insertable lockers.old.store) ≤ count) }
 {
     lockers.reserve(more)?;
     Ok(lockers.room())
@@ -94,7 +94,7 @@ pub fn make_room(lockers: &mut Lockers, more: usize) -> Result<usize, AllocError
 /// Closes the gaps, and gives back all memory that the lockers don't need.
 pub fn pack(lockers: &mut Lockers) -> Result<(), AllocError>
     ensures lockers { OnOk result (lockers.new.store ≡ compacted lockers.old.store) }
-    ensures memory { OnOk result (lockers.new.room ≡ 0) }
+    ensures memory { OnOk result (room lockers.new ≡ 0) }
 {
     lockers.compact()?;
     lockers.shrink_to_fit()
@@ -103,7 +103,7 @@ pub fn pack(lockers: &mut Lockers) -> Result<(), AllocError>
 /// Forgets all lockers, and tells that none is left.
 pub fn clear_out(lockers: &mut Lockers) -> bool
     ensures lockers { lockers.new.store ≡ cleared lockers.old.store }
-    ensures memory { lockers.old.room ≤ lockers.new.room }
+    ensures memory { room lockers.old ≤ room lockers.new }
     ensures empty { result ≡ true }
 {
     lockers.clear();

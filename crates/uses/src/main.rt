@@ -5,6 +5,7 @@ mod badges;
 mod board;
 mod calendar;
 mod depot;
+mod devices;
 mod diary;
 mod guests;
 mod hall;
@@ -15,6 +16,7 @@ mod registry;
 mod routes;
 mod scores;
 mod seats;
+mod sessions;
 mod stock;
 mod users;
 mod words;
@@ -42,6 +44,8 @@ fn print_all(rt: &(impl Print + RandomSource), alloc: Global) -> io::Result<()> 
     print(rt, badges::line(alloc))?;
     print(rt, leases::line(alloc))?;
     print(rt, seats::line(alloc))?;
+    print(rt, devices::line(alloc))?;
+    print(rt, sessions::line(alloc))?;
     print(rt, calendar::line(alloc))?;
     print(rt, registry::line(alloc))
 }

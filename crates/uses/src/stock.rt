@@ -1,5 +1,6 @@
 //! Refusals, by what they mean to a caller: a duplicate is merged, and where room was taken ahead memory isn't refused.
 ghost use Rattle.std.specs.Prelude.{◌≡◌, ◌≤◌, length, IfSome, OnOk, OnErr};
+ghost use Rattle.iddqd_maps.specs.Map.{room};
 
 use iddqd_maps::id_hash_map::{IdHashItem, IdHashMap};
 use iddqd_maps::item_index::ItemIndex;
@@ -35,7 +36,7 @@ pub enum Refused {
 
 /// Adds a part where there is room. That memory is refused then isn't handled, since it is proved never to be.
 pub fn add(stock: &mut IdHashMap<Part>, part: Part) -> Result<ItemIndex, Refused>
-    requires { 1 ≤ stock.old.room }
+    requires { 1 ≤ room stock.old }
     ensures { OnErr result (stock.new.store ≡ stock.old.store) }
 {
     match stock.insert_unique(part) {

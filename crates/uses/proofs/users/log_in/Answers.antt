@@ -25,7 +25,7 @@ logs_in g f counts old new test (Some count) hit =
       found = hit.hit;
       counted = one.0;
       left = user.left ∙ ap (rebound old.store hit.ix) one.1;
-      room = hit.room;
+      memory = hit.memory;
     }
 
 pub returns : goal.returns

@@ -21,7 +21,7 @@ pub returns-in-Ok-clause-was_new : goal.returns-in-Ok-clause-was_new
 returns-in-Ok-clause-was_new c = λ _ here.
     let named = rw (← c.self.view_is) at here in
     let hit = contained_hit c.self.inside.entries.store c.self.invariant (string_bytes c.args.name) named in
-    c.in-Ok.ensures.no_clash hit.0 hit.1
+    c.in-Ok.ensures.no_conflict hit.0 hit.1
 
 pub returns-in-Err-Duplicate-clause-taken : goal.returns-in-Err-Duplicate-clause-taken
 returns-in-Err-Duplicate-clause-taken c =

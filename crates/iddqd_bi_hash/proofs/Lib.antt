@@ -1,4 +1,0 @@
-pub mod BiLemmas
-pub mod ClashLemmas
-pub mod BiEqualityLemmas
-pub mod ModifyLemmas

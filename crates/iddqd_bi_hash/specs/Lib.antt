@@ -1,2 +1,0 @@
-pub mod BiMap
-pub mod BiSteps

@@ -1,2 +1,0 @@
-pub mod IdMapLemmas
-pub mod ModifyLemmas

@@ -1,9 +1,0 @@
-pub mod OrdMapLemmas
-pub mod WalkLemmas
-pub mod EndLemmas
-pub mod ReplaceLemmas
-pub mod TakeLemmas
-pub mod CloneLemmas
-pub mod EqualityLemmas
-pub mod RetainLemmas
-pub mod ModifyLemmas

@@ -1,4 +1,0 @@
-use Rattle.iddqd_map_base.proofs.ordered_query.find_by.Goals as goal
-
-pub returns : goal.returns
-returns g c = c.find.ensures.as_scan c.requires.exact

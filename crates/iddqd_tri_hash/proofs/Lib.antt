@@ -1,4 +1,0 @@
-pub mod TriLemmas
-pub mod TriClashLemmas
-pub mod TriEqualityLemmas
-pub mod ModifyLemmas

@@ -1,2 +1,0 @@
-pub mod TriMap
-pub mod TriSteps

@@ -1,0 +1,229 @@
+//! A mix of keys of one's own: devices that are found by each of four keys, by its hash.
+//!
+//! A type without values names each key, and pairs of key indexes put the four together. The place of a key in them is
+//! the type that a look-up names.
+ghost use Rattle.std.specs.Prelude.{◌≡◌, ◌==◌, ℕ, false, ◌↔◌, option_copied, IfOk, IfSome, OnErr};
+ghost use Rattle.iddqd_maps.specs.Map.{FindsItem};
+ghost use Rattle.iddqd_maps.specs.Scan.{AnswersScan, HasNoHit};
+ghost use Rattle.iddqd_maps.specs.Store.{rebound};
+ghost use Rattle.uses.specs.Devices.{is_named, share_key};
+ghost use Rattle.uses.specs.declared.devices.Device.{Device};
+
+use iddqd_maps::by_hash::ByHash;
+use iddqd_maps::item_index::ItemIndex;
+use iddqd_maps::key_index::{Here, Left, Right};
+use iddqd_maps::key_of::KeyOf;
+use iddqd_maps::map::Map;
+use iddqd_maps::pair::Pair;
+use iddqd_maps::pair_conflict::PairConflict;
+use iddqd_maps::refusal::{InsertRefusal, OverwriteRefusal, ReplaceRefusal};
+use std::alloc::{AllocError, Global};
+
+/// A device. No two have the same serial number, address, tag or name.
+#[derive(Drop)]
+pub struct Device {
+    pub serial: u64,
+    pub address: u32,
+    pub tag: u32,
+    pub name: String,
+    pub ports: u32,
+}
+
+/// Names the serial number.
+pub enum Serial {}
+
+impl KeyOf<Device> for Serial {
+    type Key = u64;
+
+    ghost key_of = { λ device. device.serial };
+
+    fn key(device: &Device) -> &u64 {
+        &device.serial
+    }
+}
+
+/// Names the address.
+pub enum Address {}
+
+impl KeyOf<Device> for Address {
+    type Key = u32;
+
+    ghost key_of = { λ device. device.address };
+
+    fn key(device: &Device) -> &u32 {
+        &device.address
+    }
+}
+
+/// Names the tag.
+pub enum Tag {}
+
+impl KeyOf<Device> for Tag {
+    type Key = u32;
+
+    ghost key_of = { λ device. device.tag };
+
+    fn key(device: &Device) -> &u32 {
+        &device.tag
+    }
+}
+
+/// Names the name.
+pub enum Name {}
+
+impl KeyOf<Device> for Name {
+    type Key = String;
+
+    ghost key_of = { λ device. device.name };
+
+    fn key(device: &Device) -> &String {
+        &device.name
+    }
+}
+
+/// Where a refused device has its serial number and its address from, or its tag and its name.
+pub type Taken = PairConflict<ItemIndex, ItemIndex>;
+
+/// The same of all four keys.
+pub type TakenKeys = PairConflict<Taken, Taken>;
+
+type Numbers = Pair<ByHash<Serial>, ByHash<Address>>;
+
+type Labels = Pair<ByHash<Tag>, ByHash<Name>>;
+
+type BySerial = Left<Left<Here>>;
+
+type ByAddress = Left<Right<Here>>;
+
+type ByTag = Right<Left<Here>>;
+
+type ByName = Right<Right<Here>>;
+
+/// Devices by each of the four keys.
+pub type Devices = Map<Device, Pair<Numbers, Labels, TakenKeys>>;
+
+/// Adds a device that shares no key with another.
+pub fn add(
+    devices: &mut Devices,
+    device: Device,
+) -> Result<ItemIndex, InsertRefusal<Device, TakenKeys>>
+    ensures added { IfOk result (λ _. HasNoHit devices.old.store (share_key device)) }
+    ensures refused { OnErr result (devices.new.store ≡ devices.old.store) }
+{
+    devices.insert_unique(device)
+}
+
+/// The device with this serial number.
+pub fn with_serial(devices: &Devices, serial: u64) -> Option<&Device>
+    ensures { FindsItem devices.now.store (λ device. serial == device.serial) (option_copied result) }
+{
+    devices.get_by::<BySerial, _>(&serial)
+}
+
+/// The index of the device with this serial number.
+pub fn place(devices: &Devices, serial: u64) -> Option<ItemIndex>
+    ensures { AnswersScan devices.now.store (λ device. serial == device.serial) result }
+{
+    devices.find_by::<BySerial, _>(&serial)
+}
+
+/// The device at this address.
+pub fn at_address(devices: &Devices, address: u32) -> Option<&Device>
+    ensures { FindsItem devices.now.store (λ device. address == device.address) (option_copied result) }
+{
+    devices.get_by::<ByAddress, _>(&address)
+}
+
+/// Whether a device has this tag.
+pub fn is_tagged(devices: &Devices, tag: u32) -> bool
+    ensures { (result ≡ false) ↔ HasNoHit devices.now.store (λ device. tag == device.tag) }
+{
+    devices.contains_by::<ByTag, _>(&tag)
+}
+
+/// The device of this name.
+pub fn named<'a>(devices: &'a Devices, name: &str) -> Option<&'a Device>
+    ensures { FindsItem devices.now.store (is_named name.now) (option_copied result) }
+{
+    devices.get_by::<ByName, _>(name)
+}
+
+/// Notes how many ports the device at this address has, if there is one. It keeps its keys, and no table is touched.
+pub fn set_ports(devices: &mut Devices, address: u32, ports: u32) -> Option<()> {
+    devices.modify_by::<ByAddress, _, _, _>(&address, |device| device.ports = ports)
+}
+
+/// Puts a device in the place of the one with this serial number, which is handed back. It is refused where another
+/// device has a key of it.
+pub fn exchange(
+    devices: &mut Devices,
+    serial: u64,
+    device: Device,
+) -> Result<Device, ReplaceRefusal<Device, TakenKeys>>
+    ensures { OnErr result (devices.new.store ≡ devices.old.store) }
+{
+    devices.replace_by::<BySerial, _>(&serial, device)
+}
+
+/// Adds a device, and hands back those that share a key with it, up to four.
+pub fn take_over(
+    devices: &mut Devices,
+    device: Device,
+) -> Result<(ItemIndex, [Option<Device>; 4]), OverwriteRefusal<Device>>
+    ensures { OnErr result (devices.new.store ≡ devices.old.store) }
+{
+    let mut places = [None, None, None, None];
+    let ix = devices.overwrite_into(device, &mut places)?;
+    Ok((ix, places))
+}
+
+/// Takes the device of this name out.
+pub fn remove(devices: &mut Devices, name: &str) -> Option<Device>
+    ensures { FindsItem devices.old.store (is_named name.now) result }
+{
+    devices.remove_by::<ByName, _>(name)
+}
+
+fn made(
+    alloc: Global,
+    (serial, address, tag): (u64, u32, u32),
+    name: &str,
+) -> Result<Device, AllocError> {
+    Ok(Device {
+        serial,
+        address,
+        tag,
+        name: String::from_str(alloc, name)?,
+        ports: 4,
+    })
+}
+
+fn script(alloc: Global, devices: &mut Devices) -> Result<String, AllocError> {
+    let first = add(devices, made(alloc, (1, 10, 100), "door")?).is_ok();
+    let second = add(devices, made(alloc, (2, 20, 200), "lamp")?).is_ok();
+    let third = add(devices, made(alloc, (3, 10, 300), "lamp")?).is_ok();
+    let ports = set_ports(devices, 20, 8).is_some();
+    let found = (
+        at_address(devices, 10).is_some(),
+        is_tagged(devices, 300),
+        named(devices, "lamp").is_some(),
+        with_serial(devices, 2).is_some(),
+    );
+    let exchanged = exchange(devices, 2, made(alloc, (4, 20, 400), "lamp")?).is_ok();
+    let displaced = match take_over(devices, made(alloc, (5, 10, 400), "bell")?) {
+        Ok((_, gone)) => gone.iter().flatten().count(),
+        Err(_) => 0,
+    };
+    let removed = (
+        remove(devices, "bell").is_some(),
+        remove(devices, "door").is_some(),
+    );
+    format!(in alloc;
+        "devices: {first}, {second}, {third}, {ports}, {found:?}, {exchanged}, {displaced}, {removed:?}"
+    )
+}
+
+/// What the calls answer.
+pub fn line(alloc: Global) -> Result<String, AllocError> {
+    script(alloc, &mut Map::new(alloc))
+}

@@ -1,0 +1,184 @@
+//! A mix of hashes and an order: sessions by their ids and tokens, and in the order in which they end.
+ghost use Rattle.std.specs.Prelude.{◌≡◌, ◌==◌, ◌≤◌, ℕ, Some, MatchOption, IfOk, IfSome, OnErr};
+ghost use Rattle.iddqd_maps.specs.Map.{FindsItem};
+ghost use Rattle.iddqd_maps.specs.Store.{get, live_count};
+ghost use Rattle.uses.specs.declared.sessions.Session.{Session};
+
+use iddqd_maps::by_hash::ByHash;
+use iddqd_maps::by_order::ByOrder;
+use iddqd_maps::item_index::ItemIndex;
+use iddqd_maps::key_index::{Here, Left, Right};
+use iddqd_maps::key_of::KeyOf;
+use iddqd_maps::map::{Map, Parts};
+use iddqd_maps::pair::Pair;
+use iddqd_maps::pair_conflict::PairConflict;
+use iddqd_maps::refusal::{InsertRefusal, ReplaceRefusal};
+use std::alloc::{AllocError, Global};
+
+/// A session. No two have the same id or token, or end at the same tick of the clock.
+#[derive(Clone, Copy, Debug)]
+pub struct Session {
+    pub id: u64,
+    pub token: u64,
+    pub ends: u64,
+    pub user: u32,
+}
+
+/// Names the id.
+pub enum Id {}
+
+impl KeyOf<Session> for Id {
+    type Key = u64;
+
+    ghost key_of = { λ session. session.id };
+
+    fn key(session: &Session) -> &u64 {
+        &session.id
+    }
+}
+
+/// Names the token.
+pub enum Token {}
+
+impl KeyOf<Session> for Token {
+    type Key = u64;
+
+    ghost key_of = { λ session. session.token };
+
+    fn key(session: &Session) -> &u64 {
+        &session.token
+    }
+}
+
+/// Names the tick at which it ends.
+pub enum Ends {}
+
+impl KeyOf<Session> for Ends {
+    type Key = u64;
+
+    ghost key_of = { λ session. session.ends };
+
+    fn key(session: &Session) -> &u64 {
+        &session.ends
+    }
+}
+
+/// Which keys of a refused session are taken, and by which sessions.
+pub type Taken = PairConflict<PairConflict<ItemIndex, ItemIndex>, ItemIndex>;
+
+type Names = Pair<ByHash<Id>, ByHash<Token>>;
+
+type ById = Left<Left<Here>>;
+
+type ByToken = Left<Right<Here>>;
+
+/// Sessions by their ids and tokens, and in the order in which they end.
+pub type Sessions = Map<Session, Pair<Names, ByOrder<Ends>, Taken>>;
+
+/// Opens a session, unless another one has its id, its token or its end.
+pub fn open(
+    sessions: &mut Sessions,
+    session: Session,
+) -> Result<ItemIndex, InsertRefusal<Session, Taken>>
+    ensures { OnErr result (sessions.new.store ≡ sessions.old.store) }
+{
+    sessions.insert_unique(session)
+}
+
+/// The session with this id.
+pub fn with_id(sessions: &Sessions, id: u64) -> Option<Session>
+    ensures { FindsItem sessions.now.store (λ session. id == session.id) result }
+{
+    sessions.get_by::<ById, _>(&id).copied()
+}
+
+/// The session with this token.
+pub fn with_token(sessions: &Sessions, token: u64) -> Option<Session>
+    ensures { FindsItem sessions.now.store (λ session. token == session.token) result }
+{
+    sessions.get_by::<ByToken, _>(&token).copied()
+}
+
+/// Lets the session with this id end later, and returns what it was; none exactly where there is no such session.
+pub fn extend(
+    sessions: &mut Sessions,
+    id: u64,
+    ends: u64,
+) -> Result<Option<Session>, ReplaceRefusal<Session, Taken>>
+    ensures was { IfOk result (FindsItem sessions.old.store (λ session. id == session.id)) }
+    ensures refused { OnErr result (sessions.new.store ≡ sessions.old.store) }
+{
+    sessions.change_by::<ById, _, _>(&id, |session| Session { ends, ..*session })
+}
+
+// The index of the session that ends next.
+fn first_to_end(sessions: &Sessions) -> Option<ItemIndex>
+    ensures { MatchOption result (live_count sessions.now.store ≡ 0) (λ ix. (session : Session)
+        × (get sessions.now.store ix ≡ Some session)
+        × ((j : ℕ) (other : Session) → get sessions.now.store j ≡ Some other → session.ends ≤ other.ends)) }
+{
+    let Parts {
+        items,
+        indexes,
+        state,
+    } = sessions.parts();
+    indexes.second.first(items, state)
+}
+
+/// The session that ends next; none exactly where there is no session.
+pub fn next_to_end(sessions: &Sessions) -> Option<Session>
+    ensures { MatchOption result (live_count sessions.now.store ≡ 0) (λ session.
+        (j : ℕ) (other : Session) → get sessions.now.store j ≡ Some other → session.ends ≤ other.ends) }
+{
+    sessions.get_at(first_to_end(sessions)?).copied()
+}
+
+/// Closes the session with this id.
+pub fn close(sessions: &mut Sessions, id: u64) -> Option<Session>
+    ensures { FindsItem sessions.old.store (λ session. id == session.id) result }
+{
+    sessions.remove_by::<ById, _>(&id)
+}
+
+/// Removes the sessions that have ended, and returns how many they were.
+pub fn expire(sessions: &mut Sessions, now: u64) -> usize
+    ensures { result + live_count sessions.new.store ≡ live_count sessions.old.store }
+{
+    sessions.retain(|session| session.ends > now)
+}
+
+fn opened(sessions: &mut Sessions, id: u64, token: u64, ends: u64) -> bool {
+    open(
+        sessions,
+        Session {
+            id,
+            token,
+            ends,
+            user: 7,
+        },
+    )
+    .is_ok()
+}
+
+fn script(alloc: Global, sessions: &mut Sessions) -> Result<String, AllocError> {
+    let first = opened(sessions, 1, 11, 100);
+    let second = opened(sessions, 2, 22, 90);
+    let third = opened(sessions, 3, 11, 80);
+    let next = next_to_end(sessions);
+    let extended = extend(sessions, 2, 200).is_ok();
+    let after = next_to_end(sessions);
+    let expired = expire(sessions, 150);
+    let left = (
+        with_id(sessions, 1).is_some(),
+        with_token(sessions, 22).is_some(),
+    );
+    let closed = close(sessions, 2).is_some();
+    format!(in alloc;
+        "sessions: {first}, {second}, {third}, {next:?}, {extended}, {after:?}, {expired}, {left:?}, {closed}"
+    )
+}
+
+/// What the calls answer.
+pub fn line(alloc: Global) -> Result<String, AllocError> {
+    script(alloc, &mut Map::new(alloc))
+}
