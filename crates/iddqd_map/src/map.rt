@@ -25,6 +25,7 @@ mod replaces;
 mod retain;
 mod steps;
 mod walks;
+mod whole;
 
 use crate::key_index::{KeyIndex, Sizes};
 use iddqd::hash_builder::DefaultHashBuilder;

@@ -4,13 +4,14 @@ mod CountSteps
 mod CursorLemmas
 mod DescentLemmas
 mod DigitLemmas
+pub mod GapLemmas
 pub mod IndexListLemmas
 mod InnerLemmas
 pub mod InsertLemmas
 pub mod KeyOrderLemmas
 pub mod MemberLemmas
 mod MendLemmas
-mod MoveLemmas
+pub mod MoveLemmas
 mod Names
 pub mod NodeLemmas
 mod NodeRenameLemmas

@@ -48,13 +48,26 @@ without-fewer (x ∷ xs) ix held =
     ]
 
 -- the blocks of a move do for the insert, since one index fewer stands then
-pub move-enough : (old mid : Order) (ix blocks : ℕ) → length (without (order_of old) ix) < length (order_of old) → order_of mid ≡ without (order_of old) ix → mid.height ≤ old.height → mid.reserved ≡ old.reserved
-    → blocks ≡ move_blocks old → capacity mid ≤ length (order_of mid) → mid.height < blocks
+pub move-left :
+    (old mid : Order) (ix blocks : ℕ)
+    → length (without (order_of old) ix) < length (order_of old)
+    → order_of mid ≡ without (order_of old) ix
+    → mid.height ≤ old.height
+    → mid.reserved ≡ old.reserved
+    → move_blocks old ≤ blocks
+    → capacity mid ≤ length (order_of mid)
+    → mid.height < blocks
 unfolding capacity
-move-enough old mid ix blocks fewer left lower reserved taken full =
+move-left old mid ix blocks fewer left lower reserved taken full =
     let len = ap length left in
     let past : capacity old < length (order_of old) = omega arith in
     omega (arith, move-most old past)
+
+pub move-enough : (old mid : Order) (ix blocks : ℕ) → length (without (order_of old) ix) < length (order_of old) → order_of mid ≡ without (order_of old) ix → mid.height ≤ old.height → mid.reserved ≡ old.reserved
+    → blocks ≡ move_blocks old → capacity mid ≤ length (order_of mid) → mid.height < blocks
+move-enough old mid ix blocks fewer left lower reserved taken full =
+    let most : move_blocks old ≤ blocks = omega (arith, taken) in
+    move-left old mid ix blocks fewer left lower reserved most full
 
 module _ {F R : Type 0} (g : Mut F (ℕ × Unit {0}) R) (xs : List ℕ) (ix : ℕ) where
   abbrev among : ℕ → Type 0

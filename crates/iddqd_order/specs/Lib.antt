@@ -5,6 +5,7 @@ pub mod Cursor
 pub mod Descent
 pub mod Digits
 pub mod Entry
+pub mod Gap
 pub mod IntoIter
 pub mod Iter
 pub mod KeyOrder

@@ -18,6 +18,11 @@ pub record Order : Type 0 where
 unfoldable pub order_of : Order → List ℕ
 order_of t = in_order t.root t.height
 
+-- the tables have one tree, whatever is reserved for it
+pub record HasSameTree (t u : Order) : Type 0 where
+  pub root : u.root ≡ t.root
+  pub height : u.height ≡ t.height
+
 -- how many indexes so many blocks always suffice for
 abbrev pub capacity_of : ℕ → ℕ
 capacity_of blocks = 30 * blocks + 10

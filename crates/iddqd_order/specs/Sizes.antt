@@ -1,6 +1,6 @@
 -- How a table takes blocks ahead, and gives them back.
 use Rattle.std.specs.Prelude.{◌≡◌, ◌+◌, ◌<◌, ◌≤◌, ℕ, [], min, max, Result, IsOk, IfOk, OnOk, OnErr, length}
-use Rattle.iddqd_order.specs.MapBTreeTable.{Order, order_of, capacity, room, capacity_for}
+use Rattle.iddqd_order.specs.MapBTreeTable.{Order, order_of, capacity, room, capacity_for, HasSameTree}
 
 -- A new table is made for so many indexes: its capacity is that of the blocks that they need. Where they need none, it
 -- takes no memory, and succeeds.
@@ -13,6 +13,7 @@ pub record TakesRoom {E : Type 0} (indexes : ℕ) (result : Result Order E) : Ty
 -- Room was made for so many indexes more: the capacity is that of the blocks which all of them need. Or else nothing
 -- changed. Where there was room, it succeeds and nothing changed.
 pub record Reserves {A E : Type 0} (additional : ℕ) (old : Order) (result : Result A E) (new : Order) : Type 0 where
+  pub tree : HasSameTree old new
   pub contents : order_of new ≡ order_of old
   pub reserved : OnOk result (additional ≤ room new)
   pub made : room old < additional → OnOk result (capacity new ≡ capacity_for (length (order_of old) + additional))
@@ -22,5 +23,6 @@ pub record Reserves {A E : Type 0} (additional : ℕ) (old : Order) (result : Re
 
 -- The capacity falls to that of the blocks which so many indexes need, or those that there are where these are more.
 pub record Shrinks (least : ℕ) (old new : Order) : Type 0 where
+  pub tree : HasSameTree old new
   pub contents : order_of new ≡ order_of old
   pub shrunk : capacity new ≡ min (capacity old) (capacity_for (max least (length (order_of old))))

@@ -19,6 +19,7 @@ mod copies;
 mod cursor;
 mod descent;
 pub mod entry;
+pub mod gap;
 pub mod into_iter;
 pub mod iter;
 pub mod key_order;
@@ -43,7 +44,9 @@ mod validation;
 mod ways;
 
 pub use asking::Asking;
+pub use blocks::Blocks;
 pub use entry::{Entry, OccupiedEntry, VacantEntry};
+pub use gap::Gap;
 pub use into_iter::IntoIter;
 pub use iter::Iter;
 pub use prepared_insert::PreparedBTreeInsert;

@@ -1,5 +1,5 @@
 -- For callers of look-ups in an ordered side: what an answer says of the items.
-use Rattle.std.proofs.Common.{◌≡◌, ◌≢◌, ◌∙◌, ◌↔◌, ℕ, Bool, IsTrue, List, Option, Some, None, refl, sym, ap, Ordering}
+use Rattle.std.proofs.Common.{◌≡◌, ◌≢◌, ◌∙◌, ◌↔◌, ◌≤◌, ℕ, Bool, IsTrue, List, length, Option, Some, None, refl, sym, ap, Ordering}
 use Rattle.std.specs.List.{Contains, All}
 use Rattle.std.specs.Option.{option_cmp}
 use Rattle.std.specs.Ordering.{is_eq}
@@ -20,7 +20,7 @@ use Rattle.iddqd_order.specs.Search.{IsSteady, IsSteadyRising, IsRising, with_ti
 use Rattle.iddqd_order.proofs.KeyOrderLemmas.{IsRising-from_query}
 use Rattle.iddqd_sides.specs.Scan.{IsHit, HasNoHit, passes_by}
 use Rattle.iddqd_sides.specs.OrderedQuery.{IsQuery}
-use Rattle.iddqd_sides.specs.Ordered.{Holds, IsInPlace, Finds, LooksUp, Enters, is_equal, compared, key_at}
+use Rattle.iddqd_sides.specs.Ordered.{Holds, IsInPlace, Finds, LooksUp, Enters, IsVacantAt, is_equal, compared, key_at}
 use Rattle.iddqd_sides.proofs.ScanLemmas.{AnswersScan-hit}
 
 module _ {K : Type 0} (compare : K → K → Ordering) where
@@ -103,4 +103,24 @@ module _ {T K : Type 0} (key_of : T → K) (compare : K → K → Ordering) (s :
         missed = LooksUp-found query None (λ placed. equal_miss (enters.miss answer (rises placed)));
         within = enters.within;
         is_place = λ placed. enters.place answer (rises placed);
+      }
+
+      -- the same of a place that isn't lent
+      pub LooksUp-stored :
+          (ix : ℕ)
+          → Contains order ix
+          → ((a : ℕ → Ordering) → IsSteady g order None read a old → a ix ≡ Equal)
+          → LooksUp key_of compare s order comparing (Some ix)
+      LooksUp-stored ix stored hit = LooksUp-found query (Some ix) (equal_hit ix stored (hit answer steady))
+
+      pub IsVacantAt-placed :
+          (place : ℕ)
+          → place ≤ length order
+          → ((a : ℕ → Ordering) → IsSteadyRising g order None read a old → search.IsPlace a order place)
+          → ((a : ℕ → Ordering) → IsSteadyRising g order None read a old → All (λ ix. a ix ≢ Equal) order)
+          → IsVacantAt key_of compare s order comparing place
+      IsVacantAt-placed place within is_place miss = record {
+        missed = LooksUp-found query None (λ placed. equal_miss (miss answer (rises placed)));
+        within = within;
+        is_place = λ placed. is_place answer (rises placed);
       }

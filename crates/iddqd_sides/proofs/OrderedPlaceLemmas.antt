@@ -192,3 +192,14 @@ module _ {T K : Type 0} (key_of : T → K) (compare : K → K → Ordering) (tot
           adds = record { place = vacant_place vacant; within = room.within; added = added };
           placed = λ placed. rw added (IsInPlace-inserted (vacant_place vacant) (room.is_place placed) placed);
         }
+
+    -- and by an insert at the vacant place
+    pub AddsInPlace-placed :
+        (place : ℕ) (new : List ℕ)
+        → IsVacantAt key_of compare s order comparing place
+        → new ≡ insert order place (next_index s)
+        → AddsInPlace key_of compare s item order new
+    AddsInPlace-placed place new room is = record {
+      adds = record { place = place; within = room.within; added = is };
+      placed = λ placed. rw is (IsInPlace-inserted place (room.is_place placed) placed);
+    }

@@ -7,7 +7,7 @@
 //! table is lent alone then, so the store may be changed before the index is put there.
 //!
 //! No query needs a premise: by the laws of `Comparable` it stands for one key.
-ghost use Rattle.std.specs.Prelude.{◌≡◌};
+ghost use Rattle.std.specs.Prelude.{◌≡◌, ◌≤◌};
 ghost use Rattle.std.specs.Range.Bound.{bound_map};
 ghost use Rattle.iddqd_order.specs.{capacity, entry_table, indexes_ahead, order_of, without};
 ghost use Rattle.iddqd_sides.specs.Scan.{IsLive, IsKeyAt};
@@ -93,6 +93,7 @@ where
     requires live { IsLive items.now.store ix }
     requires stored { AreLive items.now.store (order_of table.old) }
     ensures taken { order_of table.new ≡ without (order_of table.old) ix }
+    ensures lower { table.new.height ≤ table.old.height }
     ensures memory { capacity table.new ≡ capacity table.old }
 {
     let key = key_at::<T, E>(items, ix);

@@ -13,7 +13,7 @@ use std::alloc::AllocError;
 impl<T: Clone, X: Checks<T, S>, S: Copy> Map<T, X, S> {
     /// A copy: each item is cloned once, under its index, and no key is hashed or compared. Where memory is refused the
     /// clones made so far are dropped.
-    pub(crate) fn copied(&self) -> Result<Map<T, X, S>, AllocError>
+    pub fn copied(&self) -> Result<Map<T, X, S>, AllocError>
         requires { (x y : T) → T.is_clone x y → X.same_keys x y ≡ true }
         ensures cloned { IfOk result (λ copy. IsStoreClone T.is_clone self.now.store copy.store) }
         ensures slots { IfOk result (λ copy. copy.memory.slots ≡ slot_count self.now.store) }

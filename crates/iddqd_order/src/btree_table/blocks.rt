@@ -34,15 +34,22 @@ impl HoldsBlocks for Blocks {
 }
 
 impl Blocks {
+    // No block.
+    pub fn none(alloc: Global) -> Blocks
+        ensures { result ≡ 0 }
+    {
+        Blocks {
+            blocks: Vec::new(alloc),
+        }
+    }
+
     // So many blocks, and no memory where none is wanted. Refused, it lets go of those that it took.
     pub fn new(count: usize, alloc: Global) -> Result<Blocks, AllocError>
         ensures count { IfOk result (λ blocks. blocks ≡ count) }
         ensures none { count ≡ 0 → IsOk result }
     {
         if count == 0 {
-            return Ok(Blocks {
-                blocks: Vec::new(alloc),
-            });
+            return Ok(Blocks::none(alloc));
         }
         Blocks::some(count, alloc)
     }

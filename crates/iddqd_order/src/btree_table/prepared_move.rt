@@ -63,7 +63,7 @@ impl MapBTreeTable {
     }
 
     // Takes an index out: where the search misses it, by a walk.
-    fn leave<R, F: FnMut(ItemIndex) -> R, H: Reads<R>>(
+    pub(super) fn leave<R, F: FnMut(ItemIndex) -> R, H: Reads<R>>(
         &mut self,
         ix: ItemIndex,
         asking: &mut Asking<F>,
@@ -82,7 +82,7 @@ impl MapBTreeTable {
     }
 
     // Puts an index that was taken out where a search ends.
-    fn enter_anew<R, F: FnMut(ItemIndex) -> R, H: Reads<R>>(
+    pub(super) fn enter_anew<R, F: FnMut(ItemIndex) -> R, H: Reads<R>>(
         &mut self,
         ix: ItemIndex,
         asking: &mut Asking<F>,

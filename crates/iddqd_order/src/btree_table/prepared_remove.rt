@@ -2,7 +2,7 @@
 //!
 //! What it leaves is said by a filter of the list and not by a place, so a tree meets it word for
 //! word.
-ghost use Rattle.std.specs.Prelude.{◌≡◌, IsTrue, false};
+ghost use Rattle.std.specs.Prelude.{◌≡◌, ◌≤◌, IsTrue, false};
 ghost use Rattle.iddqd_order.specs.MapBTreeTable.{order_of, capacity, without, LeadsTo, LeadsTo-prop};
 
 use crate::btree_table::path::Path;
@@ -39,6 +39,7 @@ impl<'a> PreparedBTreeRemove<'a> {
         ensures removed { IsTrue result →
             order_of self.exit.0.now ≡ without (order_of (table_of self.entry).now) (index_of self.entry) }
         ensures kept { result ≡ false → self.exit.0.now ≡ (table_of self.entry).now }
+        ensures lower { self.exit.0.now.height ≤ (table_of self.entry).now.height }
         ensures memory { capacity self.exit.0.now ≡ capacity (table_of self.entry).now }
     {
         let ix = self.ix;

@@ -408,12 +408,11 @@ impl MapBTreeTable {
 
     // The memory of an insert through so many full nodes, beyond the spare blocks.
     pub(super) fn take_blocks(&self, full: usize) -> Result<Blocks, AllocError>
-        requires full { (path : List ℕ) × GoesIn self.now.root self.now.height path
-            × FullIn full self.now.root self.now.height path }
-        requires levels { full ≤ self.now.height + 1 }
         ensures blocks { IfOk result (λ blocks. blocks ≡ fresh_for self.now full) }
-        ensures few { fresh_for self.now full ≤ 12 }
-        ensures roomy { length (order_of self.now) < capacity self.now → fresh_for self.now full ≡ 0 }
+        ensures few { full ≤ self.now.height + 1 → fresh_for self.now full ≤ 12 }
+        ensures roomy { (path : List ℕ) → GoesIn self.now.root self.now.height path →
+            FullIn full self.now.root self.now.height path → full ≤ self.now.height + 1 →
+            length (order_of self.now) < capacity self.now → fresh_for self.now full ≡ 0 }
         ensures none { fresh_for self.now full ≡ 0 → IsOk result }
     {
         let count = if full > self.height {
@@ -521,6 +520,7 @@ impl MapBTreeTable {
     /// memory. The others keep their order.
     pub fn remove_exact(&mut self, ix: ItemIndex)
         ensures removed { order_of self.new ≡ without (order_of self.old) ix }
+        ensures lower { self.new.height ≤ self.old.height }
         ensures memory { capacity self.new ≡ capacity self.old }
     {
         self.remove_by_walk(ix)
@@ -667,8 +667,8 @@ impl fmt::Debug for MapBTreeTable {
 }
 
 impl MapBTreeTable {
-    // Where the table's memory comes from.
-    pub(super) fn allocator(&self) -> Global {
+    /// Where the table's memory comes from.
+    pub fn allocator(&self) -> Global {
         self.alloc
     }
 }

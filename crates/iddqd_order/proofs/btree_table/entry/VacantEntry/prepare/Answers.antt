@@ -3,9 +3,6 @@ use Rattle.iddqd_order.specs.Entry.{vacant_place}
 use Rattle.iddqd_order.specs.PreparedBTreeInsert.{place_of, index_of, blocks_of}
 use Rattle.iddqd_order.proofs.btree_table.entry.VacantEntry.prepare.Goals as goal
 
-pub take_blocks-requires-clause-full : goal.take_blocks-requires-clause-full
-take_blocks-requires-clause-full c = (_, c.args.self.goes, c.args.self.full_nodes)
-
 pub returns : goal.returns
 unfolding place_of index_of blocks_of vacant_place
 returns c =
@@ -14,9 +11,9 @@ returns c =
       record {
         unchanged = tt;
         same_reference = refl;
-        prepared = record { table = refl; index = refl; place = refl; few_blocks = rw taken.blocks taken.few };
+        prepared = record { table = refl; index = refl; place = refl; few_blocks = rw taken.blocks (taken.few c.args.self.levels) };
         memory = refl;
         roomy = λ _. refl;
-        no_blocks = λ lt. taken.blocks ∙ taken.roomy lt;
+        no_blocks = λ lt. taken.blocks ∙ taken.roomy _ c.args.self.goes c.args.self.full_nodes c.args.self.levels lt;
       },
     )

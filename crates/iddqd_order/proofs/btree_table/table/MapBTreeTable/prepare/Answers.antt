@@ -2,9 +2,6 @@ use Rattle.std.proofs.Common.{refl, ◌∙◌}
 use Rattle.iddqd_order.specs.PreparedBTreeInsert.{place_of, index_of, blocks_of}
 use Rattle.iddqd_order.proofs.btree_table.table.MapBTreeTable.prepare.Goals as goal
 
-pub take_blocks-requires-clause-full : goal.take_blocks-requires-clause-full
-take_blocks-requires-clause-full g c = let gap = c.find_gap-path.ensures in (_, gap.goes, gap.full)
-
 pub returns : goal.returns
 unfolding place_of index_of blocks_of
 returns g c =
@@ -14,9 +11,9 @@ returns g c =
         unchanged = tt;
         same_reference = refl;
         asked = gap.asked;
-        prepared = record { table = refl; index = refl; within = gap.within; few_blocks = rw taken.blocks taken.few; place = gap.place };
+        prepared = record { table = refl; index = refl; within = gap.within; few_blocks = rw taken.blocks (taken.few gap.levels.0); place = gap.place };
         memory = refl;
         roomy = λ _. refl;
-        no_blocks = λ lt. taken.blocks ∙ taken.roomy lt;
+        no_blocks = λ lt. taken.blocks ∙ taken.roomy _ gap.goes gap.full gap.levels.0 lt;
       },
     )

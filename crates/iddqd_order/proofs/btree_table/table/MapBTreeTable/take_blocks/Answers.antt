@@ -6,14 +6,13 @@ use Rattle.iddqd_order.proofs.TreeLemmas.{IsTree-low}
 use Rattle.iddqd_order.proofs.btree_table.table.MapBTreeTable.take_blocks.Goals as goal
 
 pub returns-clause-few : goal.returns-clause-few
-returns-clause-few c =
+returns-clause-few c levels =
     let low : c.args.self.now.height ≤ 11 = rw (← c.self.view_is) (IsTree-low _ _ c.self.invariant.tree) in
-    let most = few_blocks c.args.self.now.height c.args.full c.requires.levels in
+    let most = few_blocks c.args.self.now.height c.args.full levels in
     omega arith
 
 pub returns-clause-roomy : goal.returns-clause-roomy
 unfolding order_of capacity
-returns-clause-roomy c lt =
-    let way = c.requires.full in
+returns-clause-roomy c path goes full levels lt =
     let tree : IsTree c.args.self.now.root c.args.self.now.height = rw (← c.self.view_is) c.self.invariant.tree in
-    none-fresh _ _ c.args.self.now.reserved c.args.full way.0 tree way.1 way.2 c.requires.levels lt
+    none-fresh _ _ c.args.self.now.reserved c.args.full path tree goes full levels lt

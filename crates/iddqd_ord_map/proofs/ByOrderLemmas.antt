@@ -1,0 +1,109 @@
+-- What a table in order tells of a store's items, as a key index has it.
+use Rattle.std.proofs.Common.{◌≡◌, ◌≢◌, ◌∙◌, ◌-◌, ℕ, List, length, Option, None, Bool, true, false, not, Some, None, Result, Ok, Err, refl, sym, Ordering}
+use Rattle.std.specs.Cmp.{IsTotalOrder, eq_by_cmp_equiv}
+use Rattle.std.specs.Fn.{Mut}
+use Rattle.std.specs.List.{slice_get}
+use Rattle.std.specs.Ordering.{eq_by_cmp}
+use Rattle.iddqd.specs.Store.{Store, get}
+use Rattle.iddqd.specs.Validation.{Validates}
+use Rattle.iddqd.specs.declared.internal.ValidateRefusal.{ValidateRefusal}
+use Rattle.iddqd.specs.declared.internal.ValidateRefusal.TheVariants.{Invalid, Memory}
+use Rattle.iddqd_order.specs.Gap.{FindsGap, gap_place}
+use Rattle.iddqd_order.specs.MapBTreeTable.{Order, order_of}
+use Rattle.iddqd_order.specs.Search.{IsSteady}
+use Rattle.iddqd_order.specs.declared.btree_table.asking.Asking.{Asking}
+use Rattle.iddqd_order.specs.declared.btree_table.gap.Gap.{Gap}
+use Rattle.iddqd_sides.specs.Ordered.{IsSortedScan, Takes}
+use Rattle.iddqd_sides.specs.OrderedQuery.{IsQuery-key}
+use Rattle.iddqd_sides.specs.Scan.{AnswersScan}
+use Rattle.iddqd_sides.proofs.OrderedFindLemmas.{answer, LooksUp-stored, IsVacantAt-placed}
+use Rattle.iddqd_map.specs.KeyIndex.{PlansMove, TakesFound}
+use Rattle.iddqd_map.specs.Map.{shares}
+use Rattle.iddqd_map.specs.Several.{HasNoOther}
+use Rattle.iddqd_ord_map.specs.ByOrder.{FindsGreatest, FindsLeast, LooksPlaceUp, moves}
+use Rattle.iddqd_ord_map.specs.OrderedIndexing.{Sorts, PlansOrConflicts}
+use Rattle.iddqd_ord_map.specs.declared.ordered_move.Move.{Move}
+use Rattle.iddqd_ord_map.specs.declared.ordered_move.Move.TheVariants.{Stays, Moves}
+use Rattle.iddqd_ord_map.proofs.EndLemmas.{nothing_first, nothing_last}
+use Rattle.iddqd_ord_map.proofs.OrderedEndLemmas.{HasGreatestKey-last, HasLeastKey-first}
+use Rattle.iddqd_ord_map.proofs.OrderedIndexingLemmas.{Sorts-removed}
+
+module _ {T K : Type 0} (key_of : T → K) (compare : K → K → Ordering) (total : IsTotalOrder compare) (s : Store T)
+    (order : List ℕ) (o : Sorts key_of compare s order) (ix : ℕ) (item : T) where
+  abbrev likeness : T → T → Bool
+  likeness = shares key_of (eq_by_cmp compare)
+
+  -- who shares the key with the item is the one whose place it takes
+  no_other : (plan : Move) → PlansOrConflicts key_of compare s ix item (Ok plan) → HasNoOther s (likeness item) ix
+  no_other Moves planned j hit = absurd (planned j hit)
+  no_other Stays (y, is, same) j (x, there, like) =
+      let e = eq_by_cmp_equiv total in
+      o.exact.apart j ix x y there is (sym (e.congr (key_of item) (key_of x) (key_of y) like) ∙ same)
+
+  moves_unlike :
+      (plan : Move)
+      → PlansOrConflicts key_of compare s ix item (Ok plan)
+      → (was : T)
+      → get s ix ≡ Some was
+      → moves plan ≡ not (likeness item was)
+  moves_unlike Stays (there, is, same) was live =
+      let one : there ≡ was = (let e : Some there ≡ Some was = sym is ∙ live in cc) in
+      rw (← one, same) refl
+  moves_unlike Moves planned was live = by_cases (likeness item was) refl
+    where
+      by_cases : (b : Bool) → likeness item was ≡ b → true ≡ not (likeness item was)
+      by_cases true is = absurd (planned ix (was, live, is))
+      by_cases false is = rw is refl
+
+  pub PlansMove-sorted :
+      (r : Result Move ℕ)
+      → PlansOrConflicts key_of compare s ix item r
+      → PlansMove (likeness item) (likeness item) (λ plan. PlansOrConflicts key_of compare s ix item (Ok plan)) moves
+      (λ at. (at ≢ ix) × AnswersScan s (likeness item) (Some at)) s ix r
+  PlansMove-sorted (Ok plan) planned = (planned, no_other plan planned, moves_unlike plan planned)
+  PlansMove-sorted (Err at) taken = taken
+
+-- what a search for the place of an item's key tells, where each answer reads as the comparison with the key
+module _ {T K : Type 0} (key_of : T → K) (compare : K → K → Ordering) (total : IsTotalOrder compare) (s : Store T)
+    (t : Order) (o : Sorts key_of compare s (order_of t)) (item : T) {F R : Type 0} (g : Mut F (ℕ × Unit {0}) R)
+    (read : R → Ordering) (old new : Asking F)
+    (steady : IsSteady g (order_of t) None read (answer key_of compare s (order_of t) (compare (key_of item))) old) where
+  pub LooksPlaceUp-found : (r : Result Gap ℕ) → FindsGap g read t old r new → LooksPlaceUp key_of compare s t item r
+  LooksPlaceUp-found (Err ix) (asked, found) =
+      (LooksUp-stored key_of compare s (order_of t) (compare (key_of item)) o.held g read old new total (IsQuery-key compare total (key_of item)) steady ix found.stored found.hit).as_scan o.exact
+  LooksPlaceUp-found (Ok gap) (asked, found) =
+      let vacant = IsVacantAt-placed key_of compare s (order_of t) (compare (key_of item)) o.held g read old new total (IsQuery-key compare total (key_of item)) steady (gap_place t gap) found.within found.place found.miss in
+      (vacant.missed.as_scan o.exact, record { fits = found.fits; vacant = vacant })
+
+-- a refusal of what isn't sound
+pub Validates-refused :
+    {E : Type 0} (sound : Type 0) (refusal : ValidateRefusal E)
+    → (sound → ⊥)
+    → Validates sound (Err refusal)
+Validates-refused sound (Invalid error) unsound = unsound
+Validates-refused sound (Memory error) unsound = tt
+
+-- what the ends of the table are
+module _ {T K : Type 0} (key_of : T → K) (compare : K → K → Ordering) (total : IsTotalOrder compare) (s : Store T)
+    (order : List ℕ) (o : Sorts key_of compare s order) where
+  pub FindsLeast-first : (r : Option ℕ) → r ≡ slice_get order 0 → FindsLeast key_of compare s r
+  FindsLeast-first (Some ix) is = HasLeastKey-first s order o.held key_of compare total o.exact.placed ix (sym is)
+  FindsLeast-first None is = nothing_first s order o.held (sym is)
+
+  pub FindsGreatest-last : (r : Option ℕ) → r ≡ slice_get order (length order - 1) → FindsGreatest key_of compare s r
+  FindsGreatest-last (Some ix) is = HasGreatestKey-last s order o.held key_of compare total o.exact.placed ix (sym is)
+  FindsGreatest-last None is = nothing_last s order o.held (sym is)
+
+  pub IsSortedScan-listed : (indexes : List ℕ) → indexes ≡ order → IsSortedScan key_of compare s indexes
+  IsSortedScan-listed indexes is = rw is (record { holds = o.held; placed = o.exact.placed })
+
+  -- the index that a look-up found was taken out
+  pub TakesFound-taken :
+      {S : Type 0} (state : S) (test : T → Bool) (r : Option ℕ) (new : List ℕ)
+      → AnswersScan s test r
+      → Takes order r new
+      → TakesFound (λ (_ : S) t. Sorts key_of compare t new) state s r
+  TakesFound-taken state test (Some ix) new scan is =
+      let (item, live, passed) = (scan ix).1 refl in
+      rw is (Sorts-removed key_of compare s order o total ix item live)
+  TakesFound-taken state test None new scan is = rw is o

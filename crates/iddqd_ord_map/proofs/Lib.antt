@@ -1,0 +1,11 @@
+pub mod ByOrderLemmas
+pub mod SizeLemmas
+pub mod OrderedIndexingLemmas
+pub mod OrderedMoveLemmas
+pub mod OrderedEndLemmas
+mod CallLemmas
+mod WalkLemmas
+mod EndLemmas
+mod TakeLemmas
+mod RetainLemmas
+mod EqualityLemmas

@@ -1,0 +1,38 @@
+use Rattle.std.proofs.Common.{rules, ◌≡◌, true, Ok, Err, refl, subst}
+use Rattle.std.specs.Ordering.{eq_by_cmp}
+use Rattle.iddqd_sides.specs.Ordered.{is_equal}
+use Rattle.iddqd_sides.specs.Scan.{passes_by}
+use Rattle.iddqd_map.specs.Calls.{ReplacesIfLive}
+use Rattle.iddqd_map.specs.Map.{MapState, shares}
+use Rattle.iddqd_map.proofs.FoundLemmas.{hit_live}
+use Rattle.iddqd_ord_map.specs.OrdMap.{IsTakenAt}
+use Rattle.iddqd_ord_map.proofs.CallLemmas.{ReplacesAt-live}
+use Rattle.iddqd_ord_map.proofs.id_ord_map.IdOrdMap.change.Goals as goal
+
+pub returns-in_default : goal.returns-in_default
+returns-in_default g c = (c.in_default.ensures, refl)
+
+pub made-item-requires-clause-live : goal.made-item-requires-clause-live
+made-item-requires-clause-live g c =
+    let test = passes_by g.T.IdOrdItem.key_of (is_equal (g.Q.OrdQuery.compare c.args.query)) in
+    hit_live c.args.self.now.store test c.in-Some.ix c.in-Some.ensures
+
+pub made-item-requires-clause-callable : goal.made-item-requires-clause-callable
+made-item-requires-clause-callable g c = λ item live. c.requires item (c.in-Some.ix, record { live = live; only = c.in-Some.ensures })
+
+pub returns-in_err-was : goal.returns-in_err-was
+returns-in_err-was g c =
+    let alike = shares g.T.IdOrdItem.key_of (eq_by_cmp g.T.Key.Ord.cmp) in
+    let refusal = c.in_err-was.field-0.0 in
+    let (was, live, gave) = c.made-item.ensures in
+    let is : c.from_residual.result ≡ Err refusal = search rules in
+    let at = ReplacesAt-live alike true c.args.self.now c.replace_at.new.self c.in-Some.ix c.made-item.result was live (Err refusal)
+    (subst (λ (m : MapState _). ReplacesIfLive alike alike true (IsTakenAt alike) m c.in-Some.ix c.made-item.result (Err refusal) c.replace_at.new.self) c.self.view_is c.in_err-was.ensures.replaces) in
+    rw is (c.in-Some.ix, c.in-Some.ensures, (was, c.made-item.result, live, gave, at))
+
+pub returns : goal.returns
+returns g c =
+    let alike = shares g.T.IdOrdItem.key_of (eq_by_cmp g.T.Key.Ord.cmp) in
+    let (was, live, gave) = c.made-item.ensures in
+    let at = ReplacesAt-live alike true c.args.self.now c.replace_at.new.self c.in-Some.ix c.made-item.result was live (Ok c.in_ok-was.was') (rw (← c.self.view_is) c.in_ok-was.ensures.replaces) in
+    (c.in-Some.ix, c.in-Some.ensures, (was, c.made-item.result, live, gave, at))

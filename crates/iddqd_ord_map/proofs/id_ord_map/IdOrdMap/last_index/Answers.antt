@@ -1,0 +1,12 @@
+use Rattle.std.proofs.Common.{subst}
+use Rattle.iddqd_order.specs.MapBTreeTable.{order_of}
+use Rattle.iddqd_ord_map.specs.ByOrder.{FindsGreatest}
+use Rattle.iddqd_ord_map.proofs.ByOrderLemmas.{FindsGreatest-last}
+use Rattle.iddqd_ord_map.proofs.id_ord_map.IdOrdMap.last_index.Goals as goal
+
+pub returns : goal.returns
+returns g c =
+    let key_of = g.T.IdOrdItem.key_of in
+    let compare = g.T.Key.Ord.cmp in
+    subst (λ s. FindsGreatest key_of compare s c.last.result) c.parts.ensures.items
+    (FindsGreatest-last key_of compare g.met.T.Key.Ord.total c.parts.result.0.now.store (order_of c.parts.result.1.now) c.parts.ensures.sorted c.last.result c.last.ensures)

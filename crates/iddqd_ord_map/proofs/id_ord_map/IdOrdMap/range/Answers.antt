@@ -1,0 +1,24 @@
+use Rattle.std.proofs.Common.{subst, sym}
+use Rattle.std.specs.Range.Bound.{bound_map}
+use Rattle.iddqd_order.specs.Range.{indexes_ahead}
+use Rattle.iddqd_sides.specs.OrderedQuery.{is_between}
+use Rattle.iddqd_sides.specs.OrderedWalk.{pairs_at}
+use Rattle.iddqd_ord_map.specs.KeyOrder.{IsWalkWithin}
+use Rattle.iddqd_ord_map.proofs.WalkLemmas.{AreLive-within, IsWalkWithin-sorted}
+use Rattle.iddqd_ord_map.proofs.id_ord_map.IdOrdMap.range.Goals as goal
+
+pub new-requires : goal.new-requires
+new-requires g c =
+    let within = is_between (bound_map g.Q.OrdQuery.compare c.args.lower) (bound_map g.Q.OrdQuery.compare c.args.upper) in
+    AreLive-within g.T.IdOrdItem.key_of g.T.Key.Ord.cmp c.parts.result.0.now.store within (indexes_ahead c.range_by.result) c.range_by.ensures
+
+pub returns : goal.returns
+returns g c =
+    let key_of = g.T.IdOrdItem.key_of in
+    let compare = g.T.Key.Ord.cmp in
+    let s = c.parts.result.0.now.store in
+    let within = is_between (bound_map g.Q.OrdQuery.compare c.args.lower) (bound_map g.Q.OrdQuery.compare c.args.upper) in
+    let xs = indexes_ahead c.range_by.result in
+    let walk = IsWalkWithin-sorted key_of compare s within xs c.range_by.ensures c.parts.ensures.sorted.exact.apart in
+    let seen = subst (λ t. IsWalkWithin key_of compare within t (pairs_at s xs)) c.parts.ensures.items walk in
+    subst (IsWalkWithin key_of compare within c.args.self.now.store) (sym c.new.ensures) seen

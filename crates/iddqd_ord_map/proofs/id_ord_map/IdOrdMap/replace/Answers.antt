@@ -1,0 +1,17 @@
+use Rattle.std.proofs.Common.{true, refl}
+use Rattle.std.specs.Ordering.{eq_by_cmp}
+use Rattle.iddqd_sides.specs.Scan.{passes_by}
+use Rattle.iddqd_sides.specs.Ordered.{is_equal}
+use Rattle.iddqd_map.specs.Map.{shares}
+use Rattle.iddqd_ord_map.proofs.CallLemmas.{Replaces-at}
+use Rattle.iddqd_ord_map.proofs.id_ord_map.IdOrdMap.replace.Goals as goal
+
+pub returns-in_default : goal.returns-in_default
+returns-in_default g c = (refl, c.in_default.ensures, refl)
+
+pub returns : goal.returns
+returns g c =
+    let alike = shares g.T.IdOrdItem.key_of (eq_by_cmp g.T.Key.Ord.cmp) in
+    let test = passes_by g.T.IdOrdItem.key_of (is_equal (g.Q.OrdQuery.compare c.args.query)) in
+    let (was, live, _) = (c.in-Some.ensures c.in-Some.ix).1 refl in
+    Replaces-at alike true c.args.self.now c.replace_at.new.self c.in-Some.ix c.args.item was live test c.replace_at.result c.in-Some.ensures (rw (← c.self.view_is) c.replace_at.ensures.replaces)

@@ -1,0 +1,27 @@
+-- What the calls of a map with one key in order answer, where it is one item that shares the key.
+use Rattle.std.specs.Prelude.{◌≡◌, ◌≢◌, ℕ, Bool, Option, Some, None, Result, Ok, Err}
+use Rattle.iddqd.specs.Store.{Store, rebound}
+use Rattle.iddqd_map.specs.Calls.{InsertsAt, RefusesFull, RefusesMemory}
+use Rattle.iddqd_map.specs.Map.{MapState, IsOnly}
+use Rattle.iddqd_map.specs.declared.refusal.OverwriteRefusal.{OverwriteRefusal}
+use Rattle.iddqd_map.specs.declared.refusal.OverwriteRefusal.TheVariants.{Full, Memory}
+use Rattle.iddqd_sides.specs.Scan.{AnswersScan}
+
+module _ {T : Type 0} (alike : T → T → Bool) where
+  -- the one item that shares the key with this one is at this index
+  abbrev pub ConflictsAt : Store T → T → ℕ → Type 0
+  ConflictsAt s item at = AnswersScan s (alike item) (Some at)
+
+  -- the same, and it is another index than this one
+  abbrev pub IsTakenAt : Store T → ℕ → T → ℕ → Type 0
+  IsTakenAt s ix item at = (at ≢ ix) × AnswersScan s (alike item) (Some at)
+
+  -- What an insert that overwrites may answer and leave: the item is in the place of the one that had its key, which
+  -- comes back; or else it is inserted.
+  abbrev pub OverwritesOne :
+      (ℕ → ℕ) → MapState T → T → Result (ℕ × Option T) (OverwriteRefusal T) → MapState T → Type 0
+  OverwritesOne most old item (Ok (ix, Some was)) new =
+      IsOnly old.store (alike item) ix was × (new.store ≡ rebound old.store ix item) × (new.memory ≡ old.memory)
+  OverwritesOne most old item (Ok (ix, None)) new = InsertsAt alike most old item ix new
+  OverwritesOne most old item (Err (Full back)) new = RefusesFull alike most old item back new
+  OverwritesOne most old item (Err (Memory back)) new = RefusesMemory alike most old item back new

@@ -1,0 +1,27 @@
+-- A table of indexes in an order by which each look-up of a store's items answers as a scan of them does.
+use Rattle.std.specs.Prelude.{◌≢◌, ℕ, Bool, List, Some, Result, Ok, Err}
+use Rattle.std.specs.Ordering.{eq_by_cmp}
+use Rattle.std.specs.declared.cmp.Ordering.{Ordering}
+use Rattle.iddqd.specs.Store.{Store}
+use Rattle.iddqd_sides.specs.Scan.{IsHit, HasNoHit, AnswersScan, passes_by}
+use Rattle.iddqd_sides.specs.Ordered.{Holds, IsExact}
+use Rattle.iddqd_ord_map.specs.declared.ordered_move.Move.{Move}
+use Rattle.iddqd_ord_map.specs.declared.ordered_move.Move.TheVariants.{Stays, Moves}
+
+module _ {T K : Type 0} (key_of : T → K) (compare : K → K → Ordering) where
+  -- the item has this key
+  abbrev pub has_key : K → T → Bool
+  has_key key = passes_by key_of (eq_by_cmp compare key)
+
+  -- The list has exactly the live indexes, each once, sorted by the keys of their items as they are now, and no two
+  -- items share a key.
+  pub record Sorts (s : Store T) (order : List ℕ) : Type 0 where
+    pub held : Holds s order
+    pub exact : IsExact key_of compare s order
+
+  -- What has to become of a live index that is given this item: it stays where the key stays, and else, where no item
+  -- has the key, it moves; or the index of another item that has the key.
+  abbrev pub PlansOrConflicts : Store T → ℕ → T → Result Move ℕ → Type 0
+  PlansOrConflicts s ix item (Ok Stays) = IsHit s (has_key (key_of item)) ix
+  PlansOrConflicts s ix item (Ok Moves) = HasNoHit s (has_key (key_of item))
+  PlansOrConflicts s ix item (Err at) = (at ≢ ix) × AnswersScan s (has_key (key_of item)) (Some at)

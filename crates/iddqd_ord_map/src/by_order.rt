@@ -1,0 +1,517 @@
+//! A key index in the order of one key: the items' indexes in a sorted list, no two with equal keys.
+//!
+//! An insert goes where its look-up ended, so it compares no key. The blocks that it needs wait in the index; below the
+//! capacity it needs none.
+//!
+//! Invariants, given the store's items:
+//! 1. The list has exactly the live indexes, each once.
+//! 2. It is sorted by the keys of their items, and no two items have equal keys.
+//!
+//! A table holds ten indexes without any memory. They aren't counted: the capacity is what the reserved blocks hold,
+//! and ten more indexes fit always.
+ghost use Rattle.std.specs.Prelude.{◌≡◌};
+ghost use Rattle.std.specs.Range.Bound.{bound_map};
+ghost use Rattle.iddqd_order.specs.{indexes_ahead, indexes_left};
+ghost use Rattle.iddqd_order.specs.MapBTreeTable.{order_of};
+ghost use Rattle.iddqd_ord_map.specs.ByOrder.{FindsGreatest, FindsLeast, LooksPlaceUp, waiting};
+ghost use Rattle.iddqd_ord_map.specs.OrderedIndexing.{Sorts};
+ghost use Rattle.iddqd_sides.specs.Ordered.{is_equal, IsSortedScan};
+ghost use Rattle.iddqd_sides.specs.OrderedQuery.{is_between};
+ghost use Rattle.iddqd_sides.specs.OrderedWalk.{SortsWithin};
+ghost use Rattle.iddqd_sides.specs.Scan.{AnswersScan, IsLive, IsKeyAt, passes_by};
+
+use crate::ordered_move::{Move, plan_move, relocate};
+use crate::ordered_query::{find_by, range_by, take_by};
+use iddqd::index_remap::IndexRemap;
+use iddqd::internal::{ValidateCompact, ValidateRefusal, ValidationError};
+use iddqd::item_index::ItemIndex;
+use iddqd::item_set::ItemSet;
+use iddqd_map::key_index::{
+    Checks, Conflicts, Inserts, KeyIndex, Moves, Overwrites, Removes, Sizes, TakesQuery,
+};
+use iddqd_order::btree_table::{Asking, Blocks, Gap, Iter, MapBTreeTable, Range};
+use iddqd_sides::key_of::{ByKey, KeyOf, key_at};
+use iddqd_sides::order_query::OrdQuery;
+use iddqd_sides::ordered;
+use iddqd_sides::ordered::take_index;
+use std::alloc::{AllocError, Global};
+use std::cmp::Ordering;
+use std::marker::PhantomData;
+use std::ops::Bound;
+
+// A table holds so many indexes without reserved memory.
+const FREE_INDEXES: usize = 10;
+
+/// A key index in the order of the key that `E` names.
+#[derive(Drop)]
+pub struct ByOrder<E> {
+    pub(crate) table: MapBTreeTable,
+    // The memory of the next insert, where that needs any.
+    blocks: Option<Blocks>,
+    of: PhantomData<E>,
+}
+
+impl<E> ByOrder<E> {
+    /// The index of the item that has the key for which the query stands.
+    ///
+    /// It compares the query with at most 4 + 2d keys, where the number of items has d binary digits.
+    pub fn find<T, S, Q>(&self, items: &ItemSet<T>, state: &S, query: Q) -> Option<ItemIndex>
+    where
+        E: KeyOf<T>,
+        E::Key: Ord,
+        Q: OrdQuery<E::Key>,
+        requires { ⟦<ByOrder<E> as KeyIndex<T, S>>⟧.indexes self.now state.now items.now.store }
+        ensures { AnswersScan items.now.store (passes_by E.key_of (is_equal (Q.compare query))) result }
+    {
+        find_by::<T, E, Q>(&self.table, items, query)
+    }
+
+    /// The index of the item with the least key.
+    pub fn first<T, S>(&self, items: &ItemSet<T>, state: &S) -> Option<ItemIndex>
+    where
+        E: KeyOf<T>,
+        E::Key: Ord,
+        requires { ⟦<ByOrder<E> as KeyIndex<T, S>>⟧.indexes self.now state.now items.now.store }
+        ensures { FindsLeast E.key_of E.Key.cmp items.now.store result }
+    {
+        self.table.first()
+    }
+
+    /// The index of the item with the greatest key.
+    pub fn last<T, S>(&self, items: &ItemSet<T>, state: &S) -> Option<ItemIndex>
+    where
+        E: KeyOf<T>,
+        E::Key: Ord,
+        requires { ⟦<ByOrder<E> as KeyIndex<T, S>>⟧.indexes self.now state.now items.now.store }
+        ensures { FindsGreatest E.key_of E.Key.cmp items.now.store result }
+    {
+        self.table.last()
+    }
+
+    /// The live indexes, in the order of the keys, from both ends. It takes no memory.
+    pub fn iter<T, S>(&self, items: &ItemSet<T>, state: &S) -> Iter<'_>
+    where
+        E: KeyOf<T>,
+        E::Key: Ord,
+        requires { ⟦<ByOrder<E> as KeyIndex<T, S>>⟧.indexes self.now state.now items.now.store }
+        ensures { IsSortedScan E.key_of E.Key.cmp items.now.store (indexes_left result) }
+    {
+        self.table.iter()
+    }
+
+    /// The indexes whose items have keys between two bounds, in the order of the keys, from both ends: none where the
+    /// lower bound is above the upper one.
+    ///
+    /// It compares each query with at most 4 + 2d keys, where the number of items has d binary digits, and takes no
+    /// memory.
+    pub fn range<T, S, Q>(
+        &self,
+        items: &ItemSet<T>,
+        state: &S,
+        lower: Bound<Q>,
+        upper: Bound<Q>,
+    ) -> Range<'_>
+    where
+        E: KeyOf<T>,
+        E::Key: Ord,
+        Q: OrdQuery<E::Key>,
+        requires { ⟦<ByOrder<E> as KeyIndex<T, S>>⟧.indexes self.now state.now items.now.store }
+        ensures { let within = is_between (bound_map Q.compare lower) (bound_map Q.compare upper) in
+            SortsWithin E.key_of E.Key.cmp within items.now.store (indexes_ahead result) }
+    {
+        range_by::<T, E, Q>(&self.table, items, lower, upper)
+    }
+}
+
+// The blocks that wait for the next insert.
+fn take_waiting(blocks: &mut Option<Blocks>, table: &MapBTreeTable) -> Blocks
+    ensures { result ≡ waiting blocks.old }
+{
+    match blocks.take() {
+        Some(blocks) => blocks,
+        None => table.no_blocks(),
+    }
+}
+
+// The place of an item's key, or the index of the item that has it.
+fn place_of<T, E>(table: &MapBTreeTable, items: &ItemSet<T>, item: &T) -> Result<Gap, ItemIndex>
+where
+    E: KeyOf<T>,
+    E::Key: Ord,
+    requires { Sorts E.key_of E.Key.cmp items.now.store (order_of table.now) }
+    ensures { LooksPlaceUp E.key_of E.Key.cmp items.now.store table.now item.now result }
+{
+    let key = E::key(item);
+    let mut asking = Asking::new(
+        |at: ItemIndex| -> Ordering
+            requires { IsLive items.now.store at }
+            ensures { IsKeyAt (λ other. E.Key.cmp key.entry.now (E.key_of other)) items.entry.now.store at result }
+        { key.cmp(key_at::<T, E>(items, at)) },
+    );
+    table.find_gap_by(&mut asking)
+}
+
+impl<T, S, E> KeyIndex<T, S> for ByOrder<E>
+where
+    E: KeyOf<T>,
+    E::Key: Ord,
+{
+    ghost use Rattle.std.proofs.Common.{refl};
+    ghost use Rattle.std.specs.Prelude.{◌≢◌, true, Some, Ok};
+    ghost use Rattle.std.specs.Ordering.{eq_by_cmp};
+    ghost use Rattle.iddqd_order.specs.MapBTreeTable.{HasSameTree};
+    ghost use Rattle.iddqd_map.specs.Map.{shares};
+    ghost use Rattle.iddqd_ord_map.specs.ByOrder.{IsGapFor, HasBlocksAt, HasBlocksAnywhere, IsReadyFor, moves, reserved_for, most_cells};
+    ghost use Rattle.iddqd_ord_map.specs.OrderedIndexing.{PlansOrConflicts};
+    ghost use Rattle.iddqd_ord_map.specs.ByOrderLaws.{Sorts-same_tree, IsGapFor-same_tree, Sorts-modified, Sorts-alike, told_one, one_told, shares_equivalence};
+
+    ghost Keys = { E.Key };
+
+    ghost keys = { E.key_of };
+
+    ghost alike = { shares E.key_of (eq_by_cmp E.Key.cmp) };
+
+    ghost same_keys = { shares E.key_of (eq_by_cmp E.Key.cmp) };
+
+    ghost indexes = { λ x state s. Sorts E.key_of E.Key.cmp s (order_of x.table) };
+
+    ghost capacity = { λ x. reserved_for x.table };
+
+    ghost cells = { λ x. reserved_for x.table };
+
+    ghost most = { most_cells };
+
+    ghost may_lack = { true };
+
+    ghost same = { λ x y. HasSameTree x.table y.table };
+
+    ghost same_as_itself = { λ x. record { root = refl; height = refl } };
+
+    ghost same_indexes = { λ x y state s same is. Sorts-same_tree E.key_of E.Key.cmp s x.table y.table same is };
+
+    ghost apart = { λ x state s is. is.exact.apart };
+
+    ghost modified = { λ x state s ix was item is live same.
+        Sorts-modified E.key_of E.Key.cmp E.Key.total s (order_of x.table) is ix item was live same };
+
+    ghost same_items = { λ x state s t same is.
+        Sorts-alike E.key_of E.Key.cmp E.Key.total s t same (order_of x.table) is };
+
+    ghost equivalence = { shares_equivalence E.key_of E.Key.cmp E.Key.total };
+
+    ghost same_are_alike = { λ x y same. same };
+
+    fn capacity(&self) -> usize {
+        self.table.capacity().saturating_sub(FREE_INDEXES)
+    }
+}
+
+impl<T, S, E> Sizes<T, S> for ByOrder<E>
+where
+    E: KeyOf<T>,
+    E::Key: Ord,
+{
+    fn new(alloc: Global) -> ByOrder<E> {
+        ByOrder {
+            table: MapBTreeTable::new(alloc),
+            blocks: None,
+            of: PhantomData,
+        }
+    }
+
+    fn with_capacity(alloc: Global, wanted: usize) -> Result<ByOrder<E>, AllocError> {
+        if wanted > usize::MAX - FREE_INDEXES {
+            return Err(AllocError);
+        }
+        Ok(ByOrder {
+            table: MapBTreeTable::with_capacity(alloc, wanted + FREE_INDEXES)?,
+            blocks: None,
+            of: PhantomData,
+        })
+    }
+
+    fn reserve(
+        &mut self,
+        items: &ItemSet<T>,
+        state: &S,
+        additional: usize,
+    ) -> Result<(), AllocError> {
+        // The capacity has 64 bits, so there is no room for so many.
+        let _capacity = self.table.capacity();
+        if additional > usize::MAX - FREE_INDEXES {
+            return Err(AllocError);
+        }
+        self.table.try_reserve(additional + FREE_INDEXES)
+    }
+
+    fn shrink_to(&mut self, items: &ItemSet<T>, state: &S, least: usize) -> Result<(), AllocError> {
+        let indexes = least.max(self.table.len());
+        if indexes < self.table.capacity().saturating_sub(FREE_INDEXES) {
+            self.table.shrink_to(indexes + FREE_INDEXES);
+        }
+        Ok(())
+    }
+}
+
+impl<T, S, E> Conflicts<T, S> for ByOrder<E>
+where
+    E: KeyOf<T>,
+    E::Key: Ord,
+{
+    ghost use Rattle.std.proofs.Common.{refl};
+    ghost use Rattle.std.specs.Prelude.{◌≢◌, true, Some, Ok};
+    ghost use Rattle.std.specs.Ordering.{eq_by_cmp};
+    ghost use Rattle.iddqd_order.specs.MapBTreeTable.{HasSameTree};
+    ghost use Rattle.iddqd_map.specs.Map.{shares};
+    ghost use Rattle.iddqd_ord_map.specs.ByOrder.{IsGapFor, HasBlocksAt, HasBlocksAnywhere, IsReadyFor, moves, reserved_for, most_cells};
+    ghost use Rattle.iddqd_ord_map.specs.OrderedIndexing.{PlansOrConflicts};
+    ghost use Rattle.iddqd_ord_map.specs.ByOrderLaws.{Sorts-same_tree, IsGapFor-same_tree, Sorts-modified, Sorts-alike, told_one, one_told, shares_equivalence};
+
+    type Conflict = ItemIndex;
+
+    ghost key_count = { 1 };
+
+    ghost conflicts = { λ s item at. AnswersScan s (shares E.key_of (eq_by_cmp E.Key.cmp) item) (Some at) };
+
+    ghost taken = { λ s ix item at. (at ≢ ix) × AnswersScan s (shares E.key_of (eq_by_cmp E.Key.cmp) item) (Some at) };
+
+    ghost tells = { λ at ix. ix ≡ at };
+
+    ghost told = { λ s item at scan ix. told_one s (shares E.key_of (eq_by_cmp E.Key.cmp) item) at scan ix };
+
+    ghost told_some = { λ s item at scan. (at, refl) };
+
+    ghost few_told = { λ at. one_told at };
+
+    fn next_told(conflict: &ItemIndex, before: Option<ItemIndex>) -> Option<ItemIndex> {
+        match before {
+            Some(ix) if *conflict <= ix => None,
+            _ => Some(*conflict),
+        }
+    }
+}
+
+impl<T, S, E> Inserts<T, S> for ByOrder<E>
+where
+    E: KeyOf<T>,
+    E::Key: Ord,
+{
+    ghost use Rattle.std.proofs.Common.{refl};
+    ghost use Rattle.std.specs.Prelude.{◌≢◌, true, Some, Ok};
+    ghost use Rattle.std.specs.Ordering.{eq_by_cmp};
+    ghost use Rattle.iddqd_order.specs.MapBTreeTable.{HasSameTree};
+    ghost use Rattle.iddqd_map.specs.Map.{shares};
+    ghost use Rattle.iddqd_ord_map.specs.ByOrder.{IsGapFor, HasBlocksAt, HasBlocksAnywhere, IsReadyFor, moves, reserved_for, most_cells};
+    ghost use Rattle.iddqd_ord_map.specs.OrderedIndexing.{PlansOrConflicts};
+    ghost use Rattle.iddqd_ord_map.specs.ByOrderLaws.{Sorts-same_tree, IsGapFor-same_tree, Sorts-modified, Sorts-alike, told_one, one_told, shares_equivalence};
+
+    type Known = ();
+
+    type Spot = Gap;
+
+    type Plan = Gap;
+
+    ghost is_known = { λ state item known. Unit {0} };
+
+    ghost is_spot = { λ x state s item gap. IsGapFor E.key_of E.Key.cmp s x.table item gap };
+
+    ghost is_planned = { λ x state s item gap. IsGapFor E.key_of E.Key.cmp s x.table item gap };
+
+    ghost has_room_for = { λ x gap. HasBlocksAt x.table x.blocks gap };
+
+    ghost same_plans = { λ x y state s item gap same is.
+        IsGapFor-same_tree E.key_of E.Key.cmp s x.table y.table item gap same is };
+
+    fn known(state: &S, item: &T) {}
+
+    fn look_up(
+        &self,
+        items: &ItemSet<T>,
+        state: &S,
+        known: (),
+        item: &T,
+    ) -> Result<Gap, ItemIndex> {
+        place_of::<T, E>(&self.table, items, item)
+    }
+
+    fn plan(&self, items: &ItemSet<T>, state: &S, spot: Gap, ix: ItemIndex, item: &T) -> Gap {
+        spot
+    }
+
+    fn make_room(&mut self, items: &ItemSet<T>, state: &S, plan: &Gap) -> Result<(), AllocError> {
+        if self.table.len() < self.table.capacity() {
+            return Ok(());
+        }
+        self.blocks = Some(self.table.blocks_at(plan)?);
+        Ok(())
+    }
+
+    fn insert(&mut self, known: (), plan: &Gap, ix: ItemIndex) {
+        let blocks = take_waiting(&mut self.blocks, &self.table);
+        self.table.insert_in(plan, ix, blocks);
+    }
+}
+
+impl<T, S, E> Removes<T, S> for ByOrder<E>
+where
+    E: KeyOf<T>,
+    E::Key: Ord,
+{
+    fn remove(&mut self, items: &ItemSet<T>, state: &S, ix: ItemIndex) {
+        take_index::<T, E>(&mut self.table, items, ix);
+    }
+
+    fn clear(&mut self) {
+        self.table.clear();
+    }
+
+    fn remap(&mut self, remap: &IndexRemap) {
+        self.table.remap_indexes(remap);
+    }
+}
+
+impl<T, S, E> Overwrites<T, S> for ByOrder<E>
+where
+    E: KeyOf<T>,
+    E::Key: Ord,
+{
+    ghost use Rattle.std.proofs.Common.{refl};
+    ghost use Rattle.std.specs.Prelude.{◌≢◌, true, Some, Ok};
+    ghost use Rattle.std.specs.Ordering.{eq_by_cmp};
+    ghost use Rattle.iddqd_order.specs.MapBTreeTable.{HasSameTree};
+    ghost use Rattle.iddqd_map.specs.Map.{shares};
+    ghost use Rattle.iddqd_ord_map.specs.ByOrder.{IsGapFor, HasBlocksAt, HasBlocksAnywhere, IsReadyFor, moves, reserved_for, most_cells};
+    ghost use Rattle.iddqd_ord_map.specs.OrderedIndexing.{PlansOrConflicts};
+    ghost use Rattle.iddqd_ord_map.specs.ByOrderLaws.{Sorts-same_tree, IsGapFor-same_tree, Sorts-modified, Sorts-alike, told_one, one_told, shares_equivalence};
+
+    ghost is_ready_after = { λ x. HasBlocksAnywhere x.table x.blocks };
+
+    fn spot(&self, items: &ItemSet<T>, state: &S, known: (), item: &T) -> Gap {
+        match place_of::<T, E>(&self.table, items, item) {
+            Ok(gap) => gap,
+            Err(_) => unreachable!(),
+        }
+    }
+
+    fn ready_after(&mut self, items: &ItemSet<T>, state: &S) -> Result<(), AllocError> {
+        self.blocks = Some(self.table.blocks_anywhere()?);
+        Ok(())
+    }
+
+    fn give_way(&mut self, items: &ItemSet<T>, state: &S, ix: ItemIndex) {
+        take_index::<T, E>(&mut self.table, items, ix);
+    }
+}
+
+impl<T, S, E> Moves<T, S> for ByOrder<E>
+where
+    E: KeyOf<T>,
+    E::Key: Ord,
+{
+    ghost use Rattle.std.proofs.Common.{refl};
+    ghost use Rattle.std.specs.Prelude.{◌≢◌, true, Some, Ok};
+    ghost use Rattle.std.specs.Ordering.{eq_by_cmp};
+    ghost use Rattle.iddqd_order.specs.MapBTreeTable.{HasSameTree};
+    ghost use Rattle.iddqd_map.specs.Map.{shares};
+    ghost use Rattle.iddqd_ord_map.specs.ByOrder.{IsGapFor, HasBlocksAt, HasBlocksAnywhere, IsReadyFor, moves, reserved_for, most_cells};
+    ghost use Rattle.iddqd_ord_map.specs.OrderedIndexing.{PlansOrConflicts};
+    ghost use Rattle.iddqd_ord_map.specs.ByOrderLaws.{Sorts-same_tree, IsGapFor-same_tree, Sorts-modified, Sorts-alike, told_one, one_told, shares_equivalence};
+
+    type Asked = ();
+
+    type Move = Move;
+
+    ghost is_move = { λ state s ix item plan. PlansOrConflicts E.key_of E.Key.cmp s ix item (Ok plan) };
+
+    ghost moves = { moves };
+
+    ghost is_ready = { λ x plan. IsReadyFor x.table x.blocks plan };
+
+    fn unasked() {}
+
+    fn plan_move(
+        &self,
+        items: &ItemSet<T>,
+        state: &S,
+        ix: ItemIndex,
+        item: &T,
+    ) -> Result<Move, ItemIndex> {
+        plan_move::<T, E>(&self.table, items, ix, item)
+    }
+
+    fn ready_move(&mut self, items: &ItemSet<T>, state: &S, plan: &Move) -> Result<(), AllocError> {
+        if let Move::Moves = plan {
+            self.blocks = Some(self.table.blocks_anywhere()?);
+        }
+        Ok(())
+    }
+
+    fn commit_move(
+        &mut self,
+        items: &ItemSet<T>,
+        state: &S,
+        asked: (),
+        plan: &Move,
+        ix: ItemIndex,
+        item: &T,
+    ) {
+        match plan {
+            Move::Stays => (),
+            Move::Moves => {
+                let blocks = take_waiting(&mut self.blocks, &self.table);
+                relocate::<T, E>(&mut self.table, items, ix, item, blocks)
+            }
+        }
+    }
+}
+
+impl<T, S, E> Checks<T, S> for ByOrder<E>
+where
+    E: KeyOf<T>,
+    E::Key: Ord,
+{
+    fn copied(&self) -> Result<ByOrder<E>, AllocError> {
+        Ok(ByOrder {
+            table: self.table.clone()?,
+            blocks: None,
+            of: PhantomData,
+        })
+    }
+
+    fn find_same(&self, items: &ItemSet<T>, state: &S, item: &T) -> Option<ItemIndex> {
+        ordered::find::<T, E, ByKey<E::Key>>(&self.table, items, &ByKey(E::key(item)))
+    }
+
+    fn is_same(item: &T, other: &T) -> bool {
+        E::key(item).cmp(E::key(other)) == Ordering::Equal
+    }
+
+    fn validate(
+        &self,
+        items: &ItemSet<T>,
+        state: &S,
+        compactness: ValidateCompact,
+    ) -> Result<(), ValidateRefusal<ValidationError>> {
+        match self.table.validate(items.len(), compactness) {
+            Ok(()) => Ok(()),
+            Err(ValidateRefusal::Invalid(error)) => {
+                let name = "keys";
+                Err(ValidateRefusal::Invalid(ValidationError::Table { name, error }))
+            }
+            Err(ValidateRefusal::Memory(error)) => Err(ValidateRefusal::Memory(error)),
+        }
+    }
+}
+
+impl<T, S, E, Q> TakesQuery<Q, T, S> for ByOrder<E>
+where
+    E: KeyOf<T>,
+    E::Key: Ord,
+    Q: OrdQuery<E::Key>,
+{
+    ghost stands_for = { λ query. passes_by E.key_of (is_equal (Q.compare query)) };
+
+    fn take_query(&mut self, items: &ItemSet<T>, state: &S, query: Q) -> Option<ItemIndex> {
+        take_by::<T, E, Q>(&mut self.table, items, query)
+    }
+}

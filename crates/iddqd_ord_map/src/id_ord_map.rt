@@ -1,0 +1,288 @@
+//! A map of items that have one key each, found by its order.
+//!
+//! It is a `Map` by one key index in order, so each of its calls does what that of `Map` does, and its invariants are
+//! those of the `Map`. Walks, ends and `retain` go in the order of the keys, and are its own. Look-ups, removals and
+//! walks take no memory.
+ghost use Rattle.std.specs.Prelude.{◌≡◌, ◌≤◌, ◌↔◌, false, [], min, max, length, IsTrue, IsOk, IfOk, OnOk, OnErr, option_copied};
+ghost use Rattle.std.specs.Ordering.{eq_by_cmp};
+ghost use Rattle.iddqd.specs.{get, live_count, slot_limit, empty, cleared, IsRemapOf};
+ghost use Rattle.iddqd_map.specs.Calls.{Compacts, Inserts};
+ghost use Rattle.iddqd_map.specs.Map.{empty_map, shares, capacity, room, IsMap, FindsItem, Removes, RemovesAt};
+ghost use Rattle.iddqd_map.specs.Memory.{ReservesItems, ShrinksItems};
+ghost use Rattle.iddqd_order.specs.MapBTreeTable.{order_of};
+ghost use Rattle.iddqd_ord_map.specs.ByOrder.{most_cells};
+ghost use Rattle.iddqd_ord_map.specs.OrdMap.{ConflictsAt, OverwritesOne};
+ghost use Rattle.iddqd_ord_map.specs.OrderedIndexing.{Sorts};
+ghost use Rattle.iddqd_sides.specs.Ordered.{is_equal};
+ghost use Rattle.iddqd_sides.specs.Scan.{HasNoHit, AnswersScan, passes_by};
+
+mod checks;
+mod clones;
+mod equality;
+mod into_values;
+mod iter;
+mod modifies;
+mod range;
+mod replaces;
+mod retain;
+mod values;
+mod walks;
+
+use crate::by_order::ByOrder;
+use crate::ordered_query::find_by;
+pub use clones::IdOrdClone;
+use iddqd::index_remap::IndexRemap;
+use iddqd::item_index::ItemIndex;
+use iddqd::item_set::ItemSet;
+use iddqd_map::map::Map;
+use iddqd_map::refusal::{InsertRefusal, OverwriteRefusal};
+use iddqd_order::btree_table::MapBTreeTable;
+use iddqd_sides::key_of::KeyOf;
+use iddqd_sides::order_query::OrdQuery;
+pub use into_values::IntoValues;
+pub use iter::Iter;
+pub use range::Range;
+use std::alloc::{AllocError, Global};
+use std::marker::Model;
+pub use values::Values;
+
+/// An item with a key, which is a function of the item's value.
+pub trait IdOrdItem: Drop {
+    /// The key.
+    type Key: Ord + Drop;
+
+    ghost key_of: { Self → Self.Key };
+
+    /// The key of the item.
+    fn key(&self) -> &Self::Key
+        ensures { result.now ≡ key_of self.now };
+}
+
+/// Names the key of such an item.
+pub enum ItsKey {}
+
+impl<T: IdOrdItem> KeyOf<T> for ItsKey {
+    type Key = T::Key;
+
+    ghost key_of = { T.IdOrdItem.key_of };
+
+    fn key(item: &T) -> &T::Key {
+        item.key()
+    }
+}
+
+/// Items under stable indexes, no two of which have the same key.
+///
+/// A contract sees it as the store of its items, and its memory beside that.
+#[derive(Drop)]
+pub struct IdOrdMap<T: IdOrdItem> {
+    map: Map<T, ByOrder<ItsKey>, ()>,
+}
+
+impl<T: IdOrdItem> Model for IdOrdMap<T> {
+    ghost use Rattle.iddqd_map.specs.Map.{MapState, map_code};
+
+    ghost Value = { MapState T };
+
+    ghost coded = { map_code T.code };
+
+    ghost view = { λ m. m.map };
+
+    ghost inverse = { λ m. record { map = m } };
+}
+
+impl<T: IdOrdItem> IdOrdMap<T> {
+    /// No items, and slots for as many as there are indexes but `SENTINEL`. It takes no memory.
+    pub fn new(alloc: Global) -> IdOrdMap<T>
+        ensures { result ≡ empty_map u32.MAX }
+    {
+        IdOrdMap::with_limit(alloc, u32::MAX)
+    }
+
+    /// No items, and never more slots than the limit. It takes no memory.
+    ///
+    /// No call changes the limit.
+    pub fn with_limit(alloc: Global, limit: u32) -> IdOrdMap<T>
+        ensures { result ≡ empty_map limit }
+    {
+        IdOrdMap {
+            map: Map::with_limit_and_hasher(alloc, limit, ()),
+        }
+    }
+
+    /// No items, and memory for so many. With 0 it takes none.
+    pub fn with_capacity(alloc: Global, wanted: usize) -> Result<IdOrdMap<T>, AllocError>
+        ensures contents { IfOk result (λ m. m.store ≡ empty) }
+        ensures room { IfOk result (λ m. min wanted slot_limit ≤ room m) }
+        ensures slots { IfOk result (λ m. m.memory.slots ≡ wanted) }
+        ensures cells { IfOk result (λ m. m.memory.cells ≤ most_cells wanted) }
+        ensures none { wanted ≡ 0 → IsOk result }
+    {
+        Ok(IdOrdMap {
+            map: Map::with_capacity_and_hasher(alloc, wanted, ())?,
+        })
+    }
+
+    // The items, and the table that sorts them.
+    fn parts(&self) -> (&ItemSet<T>, &MapBTreeTable)
+        ensures items { result.0.now.store ≡ self.now.store }
+        ensures sorted { Sorts T.key_of T.Key.cmp result.0.now.store (order_of result.1.now) }
+    {
+        let parts = self.map.parts();
+        (parts.items, &parts.indexes.table)
+    }
+
+    /// The number of items.
+    pub fn len(&self) -> usize
+        ensures value { result ≡ live_count self.now.store }
+
+        // What every map keeps.
+        ensures state { IsMap (shares T.key_of (eq_by_cmp T.Key.cmp)) self.now.store }
+    {
+        self.map.len()
+    }
+
+    /// Whether there is no item.
+    pub fn is_empty(&self) -> bool
+        ensures { IsTrue result ↔ (live_count self.now.store ≡ 0) }
+    {
+        self.map.is_empty()
+    }
+
+    /// The index of the item that has the key for which the query stands.
+    ///
+    /// The query is a `&T::Key`, or what else stands for such a key. It is compared with at most 4 + 2d keys, where the
+    /// number of items has d binary digits.
+    pub fn find<Q: OrdQuery<T::Key>>(&self, query: Q) -> Option<ItemIndex>
+        ensures { AnswersScan self.now.store (passes_by T.key_of (is_equal (Q.compare query))) result }
+    {
+        let (items, table) = self.parts();
+        find_by::<T, ItsKey, Q>(table, items, query)
+    }
+
+    /// Whether an item has the key.
+    pub fn contains_key<Q: OrdQuery<T::Key>>(&self, query: Q) -> bool
+        ensures { (result ≡ false) ↔ HasNoHit self.now.store (passes_by T.key_of (is_equal (Q.compare query))) }
+    {
+        self.find(query).is_some()
+    }
+
+    /// The item that has the key.
+    pub fn get<Q: OrdQuery<T::Key>>(&self, query: Q) -> Option<&T>
+        ensures { FindsItem self.now.store (passes_by T.key_of (is_equal (Q.compare query))) (option_copied result) }
+    {
+        self.map.get_at(self.find(query)?)
+    }
+
+    /// The item at an index, if there is one.
+    pub fn get_at(&self, ix: ItemIndex) -> Option<&T>
+        ensures { option_copied result ≡ get self.now.store ix }
+    {
+        self.map.get_at(ix)
+    }
+
+    /// Takes an item whose key none has, and tells its index.
+    ///
+    /// A duplicate is told even where the map is full or no memory is left, and a full map even where no memory is
+    /// left. A refusal hands the item back, and the contents stay. The table is searched once.
+    pub fn insert_unique(&mut self, item: T) -> Result<ItemIndex, InsertRefusal<T, ItemIndex>>
+        ensures { let alike = shares T.key_of (eq_by_cmp T.Key.cmp) in
+            Inserts alike most_cells (ConflictsAt alike) self.old item result self.new }
+    {
+        self.map.insert_unique(item)
+    }
+
+    /// Takes an item, in the place of the one that has its key, which is handed back with the index.
+    ///
+    /// Then no memory is needed. Where none has its key, it is inserted, and may be refused, as by `insert_unique`.
+    pub fn insert_overwrite(
+        &mut self,
+        item: T,
+    ) -> Result<(ItemIndex, Option<T>), OverwriteRefusal<T>>
+        ensures { OverwritesOne (shares T.key_of (eq_by_cmp T.Key.cmp)) most_cells self.old item result self.new }
+    {
+        match self.map.insert_unique(item) {
+            Ok(ix) => Ok((ix, None)),
+            Err(InsertRefusal::Duplicate { item, at }) => match self.map.replace_at(at, item) {
+                Ok(was) => Ok((at, Some(was))),
+                Err(_) => unreachable!(),
+            },
+            Err(InsertRefusal::Full(item)) => Err(OverwriteRefusal::Full(item)),
+            Err(InsertRefusal::Memory(item)) => Err(OverwriteRefusal::Memory(item)),
+        }
+    }
+
+    /// Takes the item that has the key out of the map. The table is searched once. It takes no memory.
+    pub fn remove<Q: OrdQuery<T::Key>>(&mut self, query: Q) -> Option<T>
+        ensures { Removes self.old (passes_by T.key_of (is_equal (Q.compare query))) result self.new }
+    {
+        self.map.remove_query(query)
+    }
+
+    /// Takes the item at an index out of the map, if there is one. It takes no memory.
+    pub fn remove_at(&mut self, ix: ItemIndex) -> Option<T>
+        ensures { RemovesAt self.old ix result self.new }
+    {
+        self.map.remove_at(ix)
+    }
+
+    /// How many items there can be without more memory. No call lowers it but those that shrink.
+    pub fn capacity(&self) -> usize
+        ensures { result ≡ capacity self.now }
+    {
+        self.map.capacity()
+    }
+
+    /// How many inserts need no memory.
+    pub fn room(&self) -> usize
+        ensures { result ≡ room self.now }
+    {
+        self.map.room()
+    }
+
+    /// Takes memory, so that as many inserts need none, or as many as there can be.
+    ///
+    /// Where there is room already it takes none. Where it is refused the items stay, and no memory is given back.
+    pub fn reserve(&mut self, additional: usize) -> Result<(), AllocError>
+        ensures { ReservesItems most_cells additional self.old result self.new }
+    {
+        self.map.reserve(additional)
+    }
+
+    /// Gives back the memory that the slots and the table don't need. Where smaller memory is refused the items stay.
+    pub fn shrink_to_fit(&mut self) -> Result<(), AllocError>
+        ensures { ShrinksItems most_cells 0 self.old result self.new }
+    {
+        self.map.shrink_to_fit()
+    }
+
+    /// Gives back the memory that so many items don't need, beside the slots and the items that there are.
+    pub fn shrink_to(&mut self, least: usize) -> Result<(), AllocError>
+        ensures { ShrinksItems most_cells least self.old result self.new }
+    {
+        self.map.shrink_to(least)
+    }
+
+    /// Forgets all items and all slots, so that the next index is 0. It keeps the memory.
+    pub fn clear(&mut self)
+        ensures store { self.new.store ≡ cleared self.old.store }
+        ensures memory { self.new.memory ≡ self.old.memory }
+        ensures room { room self.old ≤ room self.new }
+    {
+        self.map.clear()
+    }
+
+    /// Moves every item down to its rank, so that no slot is vacant, and tells the new names.
+    ///
+    /// No key is compared. Where no slot is vacant it is `Identity` and takes no memory. Else it takes that of one index
+    /// a slot before an item moves; where that is refused nothing changes.
+    pub fn compact(&mut self) -> Result<IndexRemap, AllocError>
+        ensures remap { IfOk result (IsRemapOf self.old.store) }
+        ensures compacted { OnOk result (Compacts self.old self.new) }
+        ensures refused { OnErr result (self.new ≡ self.old) }
+        ensures dense { self.old.store.free ≡ [] → IsOk result }
+        ensures room { room self.old ≤ room self.new }
+    {
+        self.map.compact()
+    }
+}

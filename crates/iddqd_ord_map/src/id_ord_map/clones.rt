@@ -1,0 +1,28 @@
+//! Copies of a map.
+use super::{IdOrdItem, IdOrdMap};
+use std::alloc::AllocError;
+
+/// Items that keep their key where they are cloned, so that a map of them can be cloned as it stands.
+///
+/// No method is to be written. For a derived `Clone` `ghost same_key = { Prim.search rules };` shows it, or at a key
+/// that is text `same_text` of `KeyLemmas` of `iddqd_maps`.
+pub trait IdOrdClone: IdOrdItem + Clone {
+    ghost use Rattle.std.specs.Prelude.{◌≡◌};
+    ghost use Rattle.std.specs.declared.cmp.Ordering.TheVariants.{Equal};
+
+    ghost same_key: { (x y : Self) → Self.is_clone x y → Self.Key.cmp (Self.key_of x) (Self.key_of y) ≡ Equal };
+}
+
+/// Each item is cloned once, under its index, and no key is compared. Where memory is refused the clones
+/// made so far are let go.
+impl<T: IdOrdClone> Clone for IdOrdMap<T> {
+    ghost use Rattle.iddqd.specs.Clones.{IsStoreClone};
+
+    ghost is_clone = { λ m copy. IsStoreClone T.is_clone m.store copy.store };
+
+    fn clone(&self) -> Result<IdOrdMap<T>, AllocError> {
+        Ok(IdOrdMap {
+            map: self.map.copied()?,
+        })
+    }
+}

@@ -1,0 +1,41 @@
+//! An item is modified in its place, and keeps its key.
+ghost use Rattle.std.specs.Prelude.{◌≡◌, Some};
+ghost use Rattle.iddqd.specs.{get};
+ghost use Rattle.iddqd_map.specs.Map.{FindsItem};
+ghost use Rattle.iddqd_map.specs.Modify.{Modifies, ModifiesAt};
+ghost use Rattle.iddqd_sides.specs.KeyKeeping.{KeepsKey};
+ghost use Rattle.iddqd_sides.specs.Ordered.{is_equal};
+ghost use Rattle.iddqd_sides.specs.Scan.{passes_by};
+
+use super::{IdOrdItem, IdOrdMap};
+use iddqd::item_index::ItemIndex;
+use iddqd_sides::order_query::OrdQuery;
+
+impl<T: IdOrdItem> IdOrdMap<T> {
+    /// Calls the closure with a `&mut` to the item that has the key, and returns what the closure returns; or returns
+    /// none, and doesn't call it, where no item has the key.
+    ///
+    /// The caller proves that the closure leaves the item its key. So the table stays as it is: the call is one look-up
+    /// and takes no memory. To change a key, use `replace` or `change`.
+    pub fn modify<Q: OrdQuery<T::Key>, R, F: FnOnce(&mut T) -> R>(
+        &mut self,
+        query: Q,
+        f: F,
+    ) -> Option<R>
+        requires { let named = passes_by T.key_of (is_equal (Q.compare query)) in
+            KeepsKey F.FnOnce f T.key_of (λ item. FindsItem self.old.store named (Some item)) }
+        ensures { Modifies F.FnOnce f self.old (passes_by T.key_of (is_equal (Q.compare query))) result self.new }
+    {
+        let ix = self.find(query)?;
+        self.map.modify_live(ix, f)
+    }
+
+    /// Calls the closure with a `&mut` to the item at an index, as `modify`; or returns none, and doesn't call it,
+    /// where the index has no item. No key is compared.
+    pub fn modify_at<R, F: FnOnce(&mut T) -> R>(&mut self, ix: ItemIndex, f: F) -> Option<R>
+        requires { KeepsKey F.FnOnce f T.key_of (λ item. get self.old.store ix ≡ Some item) }
+        ensures { ModifiesAt F.FnOnce f self.old ix result self.new }
+    {
+        self.map.modify_live(ix, f)
+    }
+}

@@ -1,0 +1,81 @@
+//! An item becomes another one, which may have another key.
+ghost use Rattle.std.specs.Fn.{FnOnceReturnsAt};
+ghost use Rattle.std.specs.Ordering.{eq_by_cmp};
+ghost use Rattle.std.specs.Borrow.{Bor};
+ghost use Rattle.std.specs.Prelude.{◌≡◌, true, Some};
+ghost use Rattle.iddqd.specs.{get};
+ghost use Rattle.iddqd_map.specs.Calls.{ReplacesIfLive, Replaces, Changes, MayChange};
+ghost use Rattle.iddqd_map.specs.Map.{shares};
+ghost use Rattle.iddqd_ord_map.specs.OrdMap.{IsTakenAt};
+ghost use Rattle.iddqd_sides.specs.Ordered.{is_equal};
+ghost use Rattle.iddqd_sides.specs.Scan.{IsLive, passes_by};
+
+use super::iter::item_at;
+use super::{IdOrdItem, IdOrdMap};
+use iddqd::item_index::ItemIndex;
+use iddqd_map::refusal::ReplaceRefusal;
+use iddqd_sides::order_query::OrdQuery;
+
+impl<T: IdOrdItem> IdOrdMap<T> {
+    /// Puts an item in the place of the one that has the key, which is handed back.
+    ///
+    /// The item may have another key. It keeps the index. Where its key is that of another item, or memory is refused,
+    /// it comes back, and the map stays as it was. Where the key stays the table isn't touched. Up to the capacity no
+    /// memory is needed.
+    pub fn replace<Q: OrdQuery<T::Key>>(
+        &mut self,
+        query: Q,
+        item: T,
+    ) -> Result<T, ReplaceRefusal<T, ItemIndex>>
+        ensures { let alike = shares T.key_of (eq_by_cmp T.Key.cmp) in
+            Replaces alike alike true (IsTakenAt alike) self.old
+            (passes_by T.key_of (is_equal (Q.compare query))) item result self.new }
+    {
+        let Some(ix) = self.find(query) else {
+            return Err(ReplaceRefusal::Missing(item));
+        };
+        self.map.replace_at(ix, item)
+    }
+
+    /// Puts an item in the place of the one at an index, which is handed back.
+    ///
+    /// Where there is none the item is missing; else as `replace`.
+    pub fn replace_at(&mut self, ix: ItemIndex, item: T) -> Result<T, ReplaceRefusal<T, ItemIndex>>
+        ensures { let alike = shares T.key_of (eq_by_cmp T.Key.cmp) in
+            ReplacesIfLive alike alike true (IsTakenAt alike) self.old ix item result self.new }
+    {
+        self.map.replace_at(ix, item)
+    }
+
+    /// Puts what the closure makes of the item that has the key in its place, and hands that item back; or answers
+    /// none, where no item has it.
+    ///
+    /// The closure is called at most once, and not at all where no item has the key. Else as `replace`.
+    pub fn change<Q: OrdQuery<T::Key>, F: FnOnce(&T) -> T>(
+        &mut self,
+        query: Q,
+        f: F,
+    ) -> Result<Option<T>, ReplaceRefusal<T, ItemIndex>>
+        requires { MayChange F.FnOnce f self.old.store (passes_by T.key_of (is_equal (Q.compare query))) }
+        ensures { let alike = shares T.key_of (eq_by_cmp T.Key.cmp) in
+            Changes alike alike true (IsTakenAt alike) (FnOnceReturnsAt F.FnOnce f) self.old
+            (passes_by T.key_of (is_equal (Q.compare query))) result self.new }
+    {
+        let Some(ix) = self.find(query) else {
+            return Ok(None);
+        };
+        let item = self.made(ix, f);
+        let was = self.map.replace_at(ix, item)?;
+        Ok(Some(was))
+    }
+
+    // What the closure makes of the item at a live index.
+    fn made<F: FnOnce(&T) -> T>(&self, ix: ItemIndex, f: F) -> T
+        requires live { IsLive self.now.store ix }
+        requires callable { (item : Bor T) → get self.now.store ix ≡ Some item.now → F.FnOnce.pre f (item, tt) }
+        ensures { (was : T) × (get self.now.store ix ≡ Some was) × FnOnceReturnsAt F.FnOnce f was result }
+    {
+        let (items, _) = self.parts();
+        f(item_at(items, ix))
+    }
+}

@@ -1,0 +1,91 @@
+//! The items that a closure keeps.
+//!
+//! It is asked along the table, which stays as it is until all were asked; an item that it refuses
+//! leaves the store at once. Then one more walk takes the indexes without an item out of the table. So
+//! no key is compared, and each walk costs a step an item.
+ghost use Rattle.std.specs.Prelude.{◌≡◌, filter, is_some};
+ghost use Rattle.std.specs.Fn.{TakesAt, CalledAt};
+ghost use Rattle.iddqd.specs.{get, IsValid};
+ghost use Rattle.iddqd.specs.LiveItems.{live_items};
+ghost use Rattle.iddqd_hash.specs.Asks.{CanAsk};
+ghost use Rattle.iddqd_map.specs.Retain.{MayAsk};
+ghost use Rattle.iddqd_order.specs.MapBTreeTable.{order_of, capacity};
+ghost use Rattle.iddqd_sides.specs.Ordered.{Holds};
+ghost use Rattle.iddqd_ord_map.specs.OrderedIndexing.{Sorts};
+ghost use Rattle.iddqd_ord_map.specs.KeyOrder.{IsKeyWalk};
+ghost use Rattle.iddqd_ord_map.specs.Pairs.{pairs_at};
+ghost use Rattle.iddqd_ord_map.specs.Retain.{RetainsAlong, RetainsAlongTo};
+
+use super::iter::item_at;
+use super::{IdOrdItem, IdOrdMap};
+use iddqd::item_set::ItemSet;
+use iddqd_map::map::Map;
+use iddqd_order::btree_table::MapBTreeTable;
+use std::mem;
+
+impl<T: IdOrdItem> IdOrdMap<T> {
+    /// Keeps exactly the items at which the closure answers true, under their indexes.
+    ///
+    /// It is asked about each item once, in the order of the keys, and no more. The items that it
+    /// refuses are removed, in this order. No memory is taken, no key is compared, and it costs a few
+    /// steps an item.
+    pub fn retain<F: FnMut(&T) -> bool>(&mut self, mut f: F)
+        requires { MayAsk (TakesAt F.FnMut) (CalledAt F.FnMut) f (live_items self.old.store) }
+        ensures { RetainsAlong (IsKeyWalk T.key_of T.Key.cmp) (CalledAt F.FnMut) f self.old self.new }
+    {
+        let (_, table) = self.parts();
+        let none = Map::with_limit_and_hasher(table.allocator(), 0, ());
+        let (mut items, mut index, state) = mem::replace(&mut self.map, none).into_parts();
+        retain_in(&mut items, &mut index.table, &mut f);
+        self.map = Map::from_parts(items, index, state);
+    }
+}
+
+// Keeps the items at which the closure answers true, which is left as its last answer leaves it.
+fn retain_in<T: IdOrdItem, F: FnMut(&T) -> bool>(
+    items: &mut ItemSet<T>,
+    table: &mut MapBTreeTable,
+    f: &mut F,
+)
+    requires valid { IsValid items.old.store }
+    requires sorted { Sorts T.key_of T.Key.cmp items.old.store (order_of table.old) }
+    requires can_ask { CanAsk (TakesAt F.FnMut) (CalledAt F.FnMut) f.old (live_items items.old.store) }
+    ensures valid { IsValid items.new.store }
+    ensures sorted { Sorts T.key_of T.Key.cmp items.new.store (order_of table.new) }
+    ensures retained { RetainsAlongTo (IsKeyWalk T.key_of T.Key.cmp) (CalledAt F.FnMut)
+        f.old items.old.store items.new.store f.new }
+    ensures slots { items.new.capacity ≡ items.old.capacity }
+    ensures memory { capacity table.new ≡ capacity table.old }
+{
+    remove_refused(items, table, f);
+    forget_removed(items, table);
+}
+
+// Removes the items at which the closure answers false. The table has their indexes still.
+fn remove_refused<T: Drop, F: FnMut(&T) -> bool>(
+    items: &mut ItemSet<T>,
+    table: &MapBTreeTable,
+    f: &mut F,
+)
+    requires valid { IsValid items.old.store }
+    requires held { Holds items.old.store (order_of table.now) }
+    requires can_ask { CanAsk (TakesAt F.FnMut) (CalledAt F.FnMut) f.old (live_items items.old.store) }
+    ensures valid { IsValid items.new.store }
+    ensures retained { RetainsAlongTo (λ s pairs. pairs ≡ pairs_at s (order_of table.now)) (CalledAt F.FnMut)
+        f.old items.old.store items.new.store f.new }
+    ensures slots { items.new.capacity ≡ items.old.capacity }
+{
+    for ix in table.iter() {
+        if !f(item_at(items, ix)) {
+            items.remove(ix);
+        }
+    }
+}
+
+// Takes the indexes that have no item out of the table. It takes no memory.
+fn forget_removed<T>(items: &ItemSet<T>, table: &mut MapBTreeTable)
+    ensures forgot { order_of table.new ≡ filter (λ ix. is_some (get items.now.store ix)) (order_of table.old) }
+    ensures memory { capacity table.new ≡ capacity table.old }
+{
+    table.retain(|ix| items.get(ix).is_some());
+}

@@ -1,0 +1,149 @@
+//! Walks over a map in the order of the keys, and its ends. They take no memory.
+ghost use Rattle.std.specs.Prelude.{◌≡◌, length, option_copied};
+ghost use Rattle.std.specs.Range.Bound.{bound_map};
+ghost use Rattle.std.specs.declared.cmp.Ordering.TheVariants.{Less, Greater};
+ghost use Rattle.iddqd.specs.{live_count};
+ghost use Rattle.iddqd_sides.specs.OrderedQuery.{is_between};
+ghost use Rattle.iddqd_ord_map.specs.ByOrder.{FindsGreatest, FindsLeast};
+ghost use Rattle.iddqd_ord_map.specs.KeyOrder.{AreInKeyOrder, FindsEnd, IsKeyWalk, IsWalkWithin, PopsEnd};
+
+use super::{IdOrdItem, IdOrdMap, IntoValues, Iter, ItsKey, Range, Values};
+use crate::ordered_query::range_by;
+use iddqd::item_index::ItemIndex;
+use iddqd_sides::order_query::OrdQuery;
+use std::fmt;
+use std::ops::Bound;
+
+impl<T: IdOrdItem> IdOrdMap<T> {
+    /// The live indexes with their items, in the order of the keys, from both ends.
+    pub fn iter(&self) -> Iter<'_, T>
+        ensures walk { IsKeyWalk T.key_of T.Key.cmp self.now.store result }
+        ensures len { length result ≡ live_count self.now.store }
+    {
+        let (items, table) = self.parts();
+        Iter {
+            indexes: table.iter(),
+            items,
+        }
+    }
+
+    /// The items, in the order of the keys, from both ends.
+    pub fn values(&self) -> Values<'_, T>
+        ensures items { AreInKeyOrder T.key_of T.Key.cmp self.now.store result }
+        ensures len { length result ≡ live_count self.now.store }
+    {
+        Values { pairs: self.iter() }
+    }
+
+    /// The items by value, in the order of the keys, from both ends.
+    pub fn into_values(self) -> IntoValues<T>
+        ensures items { AreInKeyOrder T.key_of T.Key.cmp self.store result }
+        ensures len { length result ≡ live_count self.store }
+    {
+        let (items, index, _) = self.map.into_parts();
+        IntoValues {
+            indexes: index.table.into_iter(),
+            items: items.into_consuming(),
+        }
+    }
+
+    /// The live indexes with their items whose keys are between two bounds, in the order of the keys,
+    /// from both ends: none where the lower bound stands above the upper one.
+    ///
+    /// Each query is compared with at most 4 + 2d keys, where the number of items has d binary digits.
+    pub fn range<Q: OrdQuery<T::Key>>(&self, lower: Bound<Q>, upper: Bound<Q>) -> Range<'_, T>
+        ensures { let within = is_between (bound_map Q.compare lower) (bound_map Q.compare upper) in
+            IsWalkWithin T.key_of T.Key.cmp within self.now.store result }
+    {
+        let (items, table) = self.parts();
+        Range::new(range_by::<T, ItsKey, Q>(table, items, lower, upper), items)
+    }
+
+    /// The item with the least key.
+    pub fn first(&self) -> Option<&T>
+        ensures { FindsEnd T.key_of T.Key.cmp Less self.now.store (option_copied result) }
+    {
+        let (items, table) = self.parts();
+        items.get(table.first()?)
+    }
+
+    /// The item with the greatest key.
+    pub fn last(&self) -> Option<&T>
+        ensures { FindsEnd T.key_of T.Key.cmp Greater self.now.store (option_copied result) }
+    {
+        let (items, table) = self.parts();
+        items.get(table.last()?)
+    }
+
+    // The index of the item with the least key.
+    fn first_index(&self) -> Option<ItemIndex>
+        ensures { FindsLeast T.key_of T.Key.cmp self.now.store result }
+    {
+        let (_, table) = self.parts();
+        table.first()
+    }
+
+    // The index of the item with the greatest key.
+    fn last_index(&self) -> Option<ItemIndex>
+        ensures { FindsGreatest T.key_of T.Key.cmp self.now.store result }
+    {
+        let (_, table) = self.parts();
+        table.last()
+    }
+
+    /// Takes the item with the least key out of the map.
+    pub fn pop_first(&mut self) -> Option<T>
+        ensures { PopsEnd T.key_of T.Key.cmp Less self.old result self.new }
+    {
+        let ix = self.first_index()?;
+        self.map.remove_at(ix)
+    }
+
+    /// Takes the item with the greatest key out of the map.
+    pub fn pop_last(&mut self) -> Option<T>
+        ensures { PopsEnd T.key_of T.Key.cmp Greater self.old result self.new }
+    {
+        let ix = self.last_index()?;
+        self.map.remove_at(ix)
+    }
+}
+
+/// As `into_values`: each item, in the order of the keys.
+impl<T: IdOrdItem> IntoIterator for IdOrdMap<T> {
+    type Item = T;
+
+    type IntoIter = IntoValues<T>;
+
+    ghost into_iter_gives = { λ m items. AreInKeyOrder T.IdOrdItem.key_of T.Key.cmp m.store items };
+
+    fn into_iter(self) -> IntoValues<T> {
+        self.into_values()
+    }
+}
+
+/// As `iter`: each index with its item, in the order of the keys.
+impl<'a, T: IdOrdItem> IntoIterator for &'a IdOrdMap<T> {
+    type Item = (ItemIndex, &'a T);
+
+    type IntoIter = Iter<'a, T>;
+
+    ghost into_iter_gives = { λ m pairs. IsKeyWalk T.IdOrdItem.key_of T.Key.cmp m.now.store pairs };
+
+    fn into_iter(self) -> Iter<'a, T> {
+        self.iter()
+    }
+}
+
+/// Each key with its item, as maps are printed, in the order of the keys.
+impl<T: IdOrdItem + fmt::Debug> fmt::Debug for IdOrdMap<T>
+where
+    T::Key: fmt::Debug,
+{
+    fn fmt<W: fmt::Write>(&self, f: &mut fmt::Formatter<W>) -> fmt::Result {
+        let mut out = f.debug_map();
+        for item in self.values() {
+            out.entry(item.key(), item);
+        }
+        out.finish()
+    }
+}

@@ -1,0 +1,44 @@
+-- What a contract sees of a place in a `MapBTreeTable` that isn't lent.
+use Rattle.std.specs.Prelude.{◌≡◌, ◌≢◌, ◌+◌, ◌≤◌, ℕ, All, Contains, None, Result, Ok, Err, length}
+use Rattle.std.specs.Fn.{Mut}
+use Rattle.std.specs.declared.cmp.Ordering.{Ordering}
+use Rattle.std.specs.declared.cmp.Ordering.TheVariants.{Equal}
+use Rattle.iddqd_order.specs.MapBTreeTable.{Order, order_of, fresh_for}
+use Rattle.iddqd_order.specs.Search.{SearchAsks, IsSteady, IsSteadyRising, IsPlace}
+use Rattle.iddqd_order.specs.Tree.{IsTree, GoesIn, FullIn, place_in}
+use Rattle.iddqd_order.specs.declared.btree_table.asking.Asking.{Asking}
+use Rattle.iddqd_order.specs.declared.btree_table.gap.Gap.{Gap}
+
+-- it is a place of this table
+pub record Fits (t : Order) (gap : Gap) : Type 0 where
+  pub tree : IsTree t.root t.height
+  pub goes : GoesIn t.root t.height gap.path
+  pub full : FullIn gap.full t.root t.height gap.path
+  pub levels : gap.full ≤ t.height + 1
+
+-- how many indexes stand before it
+abbrev pub gap_place : Order → Gap → ℕ
+gap_place t gap = place_in t.root t.height gap.path
+
+-- how many blocks an insert takes there, beyond those that the table has
+abbrev pub gap_blocks : Order → Gap → ℕ
+gap_blocks t gap = fresh_for t gap.full
+
+-- A search by answers that are so read finds a stored index, which steady answers make Equal, or else a place, which is
+-- the one where Greater ends, if the answers rise: then none is Equal.
+module _ {F R : Type 0} (g : Mut F (ℕ × Unit {0}) R) (read : R → Ordering) (t : Order) where
+  pub record FindsStored (old : Asking F) (ix : ℕ) : Type 0 where
+    pub stored : Contains (order_of t) ix
+    pub hit : (answer : ℕ → Ordering) → IsSteady g (order_of t) None read answer old → answer ix ≡ Equal
+
+  pub record FindsPlace (old : Asking F) (gap : Gap) : Type 0 where
+    pub fits : Fits t gap
+    pub within : gap_place t gap ≤ length (order_of t)
+    pub place : (answer : ℕ → Ordering) → IsSteadyRising g (order_of t) None read answer old →
+        IsPlace answer (order_of t) (gap_place t gap)
+    pub miss : (answer : ℕ → Ordering) → IsSteadyRising g (order_of t) None read answer old →
+        All (λ ix. answer ix ≢ Equal) (order_of t)
+
+  abbrev pub FindsGap : Asking F → Result Gap ℕ → Asking F → Type 0
+  FindsGap old (Err ix) new = SearchAsks g (order_of t) None old new × FindsStored old ix
+  FindsGap old (Ok gap) new = SearchAsks g (order_of t) None old new × FindsPlace old gap

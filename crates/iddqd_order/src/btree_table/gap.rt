@@ -1,0 +1,116 @@
+//! A place for an index in a table that isn't lent: a search finds it, and an insert comes later.
+//!
+//! It fits the table that it was found in until the tree of that changes. An insert at it asks nothing, and takes no
+//! memory but the blocks that it is given, of which it needs none below the capacity.
+ghost use Rattle.std.specs.Prelude.{◌≡◌, ◌≢◌, ◌*◌, ◌+◌, ◌<◌, ◌≤◌, Some, IsOk, IfOk, Contains, length, insert};
+ghost use Rattle.iddqd_order.specs.Asks.{AsksWithin};
+ghost use Rattle.iddqd_order.specs.Digits.{bound};
+ghost use Rattle.iddqd_order.specs.Gap.{Fits, gap_place, gap_blocks, FindsGap};
+ghost use Rattle.iddqd_order.specs.MapBTreeTable.{order_of, capacity, move_blocks, without, sentinel};
+ghost use Rattle.iddqd_order.specs.PreparedBTreeMove.{PutsIn};
+ghost use Rattle.iddqd_order.specs.Search.{Askable, CanSearch};
+
+use crate::btree_table::asking::Asking;
+use crate::btree_table::blocks::Blocks;
+use crate::btree_table::path::Path;
+use crate::btree_table::reading::{AsOrdering, ByKey};
+use crate::btree_table::table::MapBTreeTable;
+use iddqd::item_index::ItemIndex;
+use std::alloc::AllocError;
+use std::cmp::Ordering;
+
+/// A place for an index among those of a table.
+#[derive(Drop)]
+pub struct Gap {
+    path: Path,
+    // How many nodes at the lower end of the path are full.
+    full: usize,
+}
+
+#[tactic(auto, unfolding(crate::specs::MapBTreeTable::order_of, crate::specs::MapBTreeTable::capacity))]
+impl MapBTreeTable {
+    /// The place where what is sought could stand, or else a stored index at which the asking answers Equal. Less says
+    /// that what is sought stands before the stored index.
+    ///
+    /// It asks at most `4 + 2 * digits(len)` times, and takes no memory.
+    pub fn find_gap_by<F: FnMut(ItemIndex) -> Ordering>(
+        &self,
+        asking: &mut Asking<F>,
+    ) -> Result<Gap, ItemIndex>
+        requires { CanSearch F.FnMut (order_of self.now) None asking.old }
+        ensures { FindsGap F.FnMut (λ r. r) self.now asking.old result asking.new }
+    {
+        let _tree = self.tree();
+        let (path, end) = self.descend(asking, &AsOrdering, &None);
+        match end {
+            Ok(level) => Err(self.index_at(&path, level)),
+            Err(full) => Ok(Gap { path, full }),
+        }
+    }
+
+    /// No block: what an insert below the capacity needs. It takes no memory.
+    pub fn no_blocks(&self) -> Blocks
+        ensures { result ≡ 0 }
+    {
+        Blocks::none(self.allocator())
+    }
+
+    /// The memory of an insert at the place: none below the capacity.
+    pub fn blocks_at(&self, gap: &Gap) -> Result<Blocks, AllocError>
+        ensures blocks { IfOk result (λ blocks. blocks ≡ gap_blocks self.now gap.now) }
+        ensures roomy { Fits self.now gap.now → length (order_of self.now) < capacity self.now →
+            gap_blocks self.now gap.now ≡ 0 }
+        ensures none { gap_blocks self.now gap.now ≡ 0 → IsOk result }
+    {
+        self.take_blocks(gap.full)
+    }
+
+    /// The memory of a move, or of an insert that comes after a removal, at any place: none up to the capacity.
+    pub fn blocks_anywhere(&self) -> Result<Blocks, AllocError>
+        ensures blocks { IfOk result (λ blocks. blocks ≡ move_blocks self.now) }
+        ensures roomy { length (order_of self.now) ≤ capacity self.now → move_blocks self.now ≡ 0 }
+        ensures none { move_blocks self.now ≡ 0 → IsOk result }
+    {
+        self.take_move_blocks()
+    }
+
+    /// Adds the index at the place. The others keep their order. It asks nothing.
+    pub fn insert_in(&mut self, gap: &Gap, ix: ItemIndex, blocks: Blocks)
+        requires fits { Fits self.old gap.now }
+        requires enough { gap_blocks self.old gap.now ≤ blocks }
+        requires absent { Contains (order_of self.old) ix → ⊥ }
+        requires assigned { ix ≢ sentinel }
+        ensures inserted { order_of self.new ≡ insert (order_of self.old) (gap_place self.old gap.now) ix }
+        ensures memory { capacity self.new ≡ capacity self.old }
+    {
+        self.insert_at(&gap.path, gap.full, ix, blocks);
+    }
+
+    /// Takes a stored index out and puts it where its new key belongs. The others keep their order. Equal keys are
+    /// ordered by the indexes.
+    ///
+    /// The asking answers the keys of the others, and isn't asked about the index itself. It is asked at most
+    /// `4 + 2 * digits(len)` times for each key. Where the old key leads past the index, a walk that asks nothing finds
+    /// it.
+    pub fn move_index<K: Ord + Drop, F: FnMut(ItemIndex) -> K>(
+        &mut self,
+        ix: ItemIndex,
+        old_key: &K,
+        new_key: &K,
+        asking: &mut Asking<F>,
+        blocks: Blocks,
+    )
+        requires stored { Contains (order_of self.old) ix }
+        requires can_search { CanSearch F.FnMut (order_of self.old) (Some ix) asking.old }
+        requires enough { move_blocks self.old ≤ blocks }
+        ensures asked { AsksWithin F.FnMut (Askable (order_of self.old) (Some ix))
+            (2 * bound (length (order_of self.old))) asking.old asking.new }
+        ensures moved { PutsIn F.FnMut (K.cmp new_key.now) (without (order_of self.old) ix) ix asking.old
+            (order_of self.new) }
+        ensures memory { capacity self.new ≡ capacity self.old }
+    {
+        self.stores_no_sentinel();
+        self.leave(ix, asking, &ByKey(old_key));
+        self.enter_anew(ix, asking, &ByKey(new_key), blocks);
+    }
+}
