@@ -157,13 +157,12 @@ where
     E::Key: Ord,
 {
     ghost use Rattle.std.proofs.Common.{refl};
-    ghost use Rattle.std.specs.Prelude.{◌≢◌, true, Some, Ok};
+    ghost use Rattle.std.specs.Prelude.{true};
     ghost use Rattle.std.specs.Ordering.{eq_by_cmp};
     ghost use Rattle.iddqd_order.specs.MapBTreeTable.{HasSameTree};
     ghost use Rattle.iddqd_map.specs.Map.{shares};
-    ghost use Rattle.iddqd_ord_map.specs.ByOrder.{IsGapFor, HasBlocksAt, HasBlocksAnywhere, IsReadyFor, moves, reserved_for, most_cells};
-    ghost use Rattle.iddqd_ord_map.specs.OrderedIndexing.{PlansOrConflicts};
-    ghost use Rattle.iddqd_ord_map.specs.ByOrderLaws.{Sorts-same_tree, IsGapFor-same_tree, Sorts-modified, Sorts-alike, told_one, one_told, shares_equivalence};
+    ghost use Rattle.iddqd_ord_map.specs.ByOrder.{reserved_for, most_cells};
+    ghost use Rattle.iddqd_ord_map.specs.ByOrderLaws.{Sorts-same_tree, Sorts-modified, Sorts-alike, shares_equivalence};
 
     ghost Keys = { E.Key };
 
@@ -259,13 +258,10 @@ where
     E::Key: Ord,
 {
     ghost use Rattle.std.proofs.Common.{refl};
-    ghost use Rattle.std.specs.Prelude.{◌≢◌, true, Some, Ok};
+    ghost use Rattle.std.specs.Prelude.{◌≢◌, Some};
     ghost use Rattle.std.specs.Ordering.{eq_by_cmp};
-    ghost use Rattle.iddqd_order.specs.MapBTreeTable.{HasSameTree};
     ghost use Rattle.iddqd_map.specs.Map.{shares};
-    ghost use Rattle.iddqd_ord_map.specs.ByOrder.{IsGapFor, HasBlocksAt, HasBlocksAnywhere, IsReadyFor, moves, reserved_for, most_cells};
-    ghost use Rattle.iddqd_ord_map.specs.OrderedIndexing.{PlansOrConflicts};
-    ghost use Rattle.iddqd_ord_map.specs.ByOrderLaws.{Sorts-same_tree, IsGapFor-same_tree, Sorts-modified, Sorts-alike, told_one, one_told, shares_equivalence};
+    ghost use Rattle.iddqd_ord_map.specs.ByOrderLaws.{told_one, one_told};
 
     type Conflict = ItemIndex;
 
@@ -296,14 +292,8 @@ where
     E: KeyOf<T>,
     E::Key: Ord,
 {
-    ghost use Rattle.std.proofs.Common.{refl};
-    ghost use Rattle.std.specs.Prelude.{◌≢◌, true, Some, Ok};
-    ghost use Rattle.std.specs.Ordering.{eq_by_cmp};
-    ghost use Rattle.iddqd_order.specs.MapBTreeTable.{HasSameTree};
-    ghost use Rattle.iddqd_map.specs.Map.{shares};
-    ghost use Rattle.iddqd_ord_map.specs.ByOrder.{IsGapFor, HasBlocksAt, HasBlocksAnywhere, IsReadyFor, moves, reserved_for, most_cells};
-    ghost use Rattle.iddqd_ord_map.specs.OrderedIndexing.{PlansOrConflicts};
-    ghost use Rattle.iddqd_ord_map.specs.ByOrderLaws.{Sorts-same_tree, IsGapFor-same_tree, Sorts-modified, Sorts-alike, told_one, one_told, shares_equivalence};
+    ghost use Rattle.iddqd_ord_map.specs.ByOrder.{IsGapFor, HasBlocksAt};
+    ghost use Rattle.iddqd_ord_map.specs.ByOrderLaws.{IsGapFor-same_tree};
 
     type Known = ();
 
@@ -375,14 +365,7 @@ where
     E: KeyOf<T>,
     E::Key: Ord,
 {
-    ghost use Rattle.std.proofs.Common.{refl};
-    ghost use Rattle.std.specs.Prelude.{◌≢◌, true, Some, Ok};
-    ghost use Rattle.std.specs.Ordering.{eq_by_cmp};
-    ghost use Rattle.iddqd_order.specs.MapBTreeTable.{HasSameTree};
-    ghost use Rattle.iddqd_map.specs.Map.{shares};
-    ghost use Rattle.iddqd_ord_map.specs.ByOrder.{IsGapFor, HasBlocksAt, HasBlocksAnywhere, IsReadyFor, moves, reserved_for, most_cells};
-    ghost use Rattle.iddqd_ord_map.specs.OrderedIndexing.{PlansOrConflicts};
-    ghost use Rattle.iddqd_ord_map.specs.ByOrderLaws.{Sorts-same_tree, IsGapFor-same_tree, Sorts-modified, Sorts-alike, told_one, one_told, shares_equivalence};
+    ghost use Rattle.iddqd_ord_map.specs.ByOrder.{HasBlocksAnywhere};
 
     ghost is_ready_after = { λ x. HasBlocksAnywhere x.table x.blocks };
 
@@ -408,14 +391,9 @@ where
     E: KeyOf<T>,
     E::Key: Ord,
 {
-    ghost use Rattle.std.proofs.Common.{refl};
-    ghost use Rattle.std.specs.Prelude.{◌≢◌, true, Some, Ok};
-    ghost use Rattle.std.specs.Ordering.{eq_by_cmp};
-    ghost use Rattle.iddqd_order.specs.MapBTreeTable.{HasSameTree};
-    ghost use Rattle.iddqd_map.specs.Map.{shares};
-    ghost use Rattle.iddqd_ord_map.specs.ByOrder.{IsGapFor, HasBlocksAt, HasBlocksAnywhere, IsReadyFor, moves, reserved_for, most_cells};
+    ghost use Rattle.std.specs.Prelude.{Ok};
+    ghost use Rattle.iddqd_ord_map.specs.ByOrder.{IsReadyFor, moves};
     ghost use Rattle.iddqd_ord_map.specs.OrderedIndexing.{PlansOrConflicts};
-    ghost use Rattle.iddqd_ord_map.specs.ByOrderLaws.{Sorts-same_tree, IsGapFor-same_tree, Sorts-modified, Sorts-alike, told_one, one_told, shares_equivalence};
 
     type Asked = ();
 
