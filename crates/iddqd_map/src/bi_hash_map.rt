@@ -31,12 +31,16 @@ pub use item::{BiHashItem, First, Second};
 use std::hash::BuildHasher;
 
 /// A table by each of the two keys.
-pub type BiIndex = Pair<ByHash<First>, ByHash<Second>, BiClash>;
+pub type BiIndex<T> = Pair<
+    ByHash<First, <T as BiHashItem>::Key1>,
+    ByHash<Second, <T as BiHashItem>::Key2>,
+    BiClash,
+>;
 
 /// Items under stable indexes, no two of which share a key.
-pub type BiHashMap<T, S = DefaultHashBuilder> = Map<T, BiIndex, S>;
+pub type BiHashMap<T, S = DefaultHashBuilder> = Map<T, BiIndex<T>, S>;
 
-impl<T: BiHashItem, S: BuildHasher> Map<T, BiIndex, S> {
+impl<T: BiHashItem, S: BuildHasher> Map<T, BiIndex<T>, S> {
     /// The index of the item that has the first key for which the query stands.
     ///
     /// The query is a `&T::Key1`, or what else stands for such a key. It is compared with keys of the same hash alone.

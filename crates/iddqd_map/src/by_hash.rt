@@ -41,16 +41,17 @@ use std::marker::PhantomData;
 /// `make_room`, `shrink_to` and `copied` take memory, and only they can fail for want of it; `validate` sorts a copy of
 /// the indexes.
 #[derive(Drop)]
-pub struct ByHash<E> {
+pub struct ByHash<E, K> {
     // Each live index, under the hash of its item's key.
     table: MapHashTable,
     of: PhantomData<E>,
+    by: PhantomData<K>,
 }
 
-impl<T, S, E> KeyIndex<T, S> for ByHash<E>
+impl<T, S, E, K> KeyIndex<T, S> for ByHash<E, K>
 where
-    E: KeyOf<T>,
-    E::Key: Eq + Hash,
+    E: KeyOf<T, Key = K>,
+    K: Eq + Hash + Drop,
     S: BuildHasher,
 {
     ghost use Rattle.std.proofs.Common.{refl, sym, subst};
@@ -65,15 +66,15 @@ where
     ghost use Rattle.iddqd_map.specs.HashLaws.{shares_laws, Indexes-modified, Indexes-same, told_one, few_one};
     ghost use Rattle.iddqd_sides.proofs.FindLemmas.{IsLawful-from_bounds};
 
-    ghost Keys = { E.Key };
+    ghost Keys = { K };
 
     ghost keys = { E.key_of };
 
-    ghost alike = { shares E.key_of E.Key.eq };
+    ghost alike = { shares E.key_of K.eq };
 
-    ghost same_keys = { shares E.key_of E.Key.eq };
+    ghost same_keys = { shares E.key_of K.eq };
 
-    ghost indexes = { λ x state s. Indexes E.key_of (hashing_of E.Key.eq E.Key.hash_input S.BuildHasher
+    ghost indexes = { λ x state s. Indexes E.key_of (hashing_of K.eq K.hash_input S.BuildHasher
         S.Hasher.Hasher state) s (filed x.table) };
 
     ghost capacity = { λ x. capacity x.table };
@@ -88,22 +89,22 @@ where
 
     ghost same_as_itself = { λ x. refl };
 
-    ghost same_indexes = { λ x y state s same is. subst (λ m. Indexes E.key_of (hashing_of E.Key.eq E.Key.hash_input
+    ghost same_indexes = { λ x y state s same is. subst (λ m. Indexes E.key_of (hashing_of K.eq K.hash_input
         S.BuildHasher S.Hasher.Hasher state) s m) (sym same) is };
 
     ghost apart = { λ x state s is. is.exact.apart };
 
-    ghost modified = { λ x state s ix was item is live same. let hashing = hashing_of E.Key.eq E.Key.hash_input
-        S.BuildHasher S.Hasher.Hasher state in let lawful = IsLawful-from_bounds E.Key.eq E.Key.hash_input
-        S.BuildHasher S.Hasher.Hasher state (partial_equiv_from_equiv E.Key.Eq.laws) E.Key.respects_eq in
-        Indexes-modified E.key_of hashing s (filed x.table) lawful E.Key.Eq.laws.refl is ix was item live same };
+    ghost modified = { λ x state s ix was item is live same. let hashing = hashing_of K.eq K.hash_input
+        S.BuildHasher S.Hasher.Hasher state in let lawful = IsLawful-from_bounds K.eq K.hash_input
+        S.BuildHasher S.Hasher.Hasher state (partial_equiv_from_equiv K.Eq.laws) K.respects_eq in
+        Indexes-modified E.key_of hashing s (filed x.table) lawful K.Eq.laws.refl is ix was item live same };
 
-    ghost same_items = { λ x state s t have is. let hashing = hashing_of E.Key.eq E.Key.hash_input
-        S.BuildHasher S.Hasher.Hasher state in let lawful = IsLawful-from_bounds E.Key.eq E.Key.hash_input
-        S.BuildHasher S.Hasher.Hasher state (partial_equiv_from_equiv E.Key.Eq.laws) E.Key.respects_eq in
+    ghost same_items = { λ x state s t have is. let hashing = hashing_of K.eq K.hash_input
+        S.BuildHasher S.Hasher.Hasher state in let lawful = IsLawful-from_bounds K.eq K.hash_input
+        S.BuildHasher S.Hasher.Hasher state (partial_equiv_from_equiv K.Eq.laws) K.respects_eq in
         Indexes-same E.key_of hashing s (filed x.table) lawful is t have };
 
-    ghost equivalence = { shares_laws E.key_of E.Key.eq E.Key.Eq.laws };
+    ghost equivalence = { shares_laws E.key_of K.eq K.Eq.laws };
 
     ghost same_are_alike = { λ x y same. same };
 
@@ -112,23 +113,25 @@ where
     }
 }
 
-impl<T, S, E> Sizes<T, S> for ByHash<E>
+impl<T, S, E, K> Sizes<T, S> for ByHash<E, K>
 where
-    E: KeyOf<T>,
-    E::Key: Eq + Hash,
+    E: KeyOf<T, Key = K>,
+    K: Eq + Hash + Drop,
     S: BuildHasher,
 {
-    fn new(alloc: Global) -> ByHash<E> {
+    fn new(alloc: Global) -> ByHash<E, K> {
         ByHash {
             table: MapHashTable::new(alloc),
             of: PhantomData,
+            by: PhantomData,
         }
     }
 
-    fn with_capacity(alloc: Global, wanted: usize) -> Result<ByHash<E>, AllocError> {
+    fn with_capacity(alloc: Global, wanted: usize) -> Result<ByHash<E, K>, AllocError> {
         Ok(ByHash {
             table: MapHashTable::with_capacity(alloc, wanted)?,
             of: PhantomData,
+            by: PhantomData,
         })
     }
 
@@ -146,10 +149,10 @@ where
     }
 }
 
-impl<T, S, E> Conflicts<T, S> for ByHash<E>
+impl<T, S, E, K> Conflicts<T, S> for ByHash<E, K>
 where
-    E: KeyOf<T>,
-    E::Key: Eq + Hash,
+    E: KeyOf<T, Key = K>,
+    K: Eq + Hash + Drop,
     S: BuildHasher,
 {
     ghost use Rattle.std.proofs.Common.{refl, sym, subst};
@@ -168,13 +171,13 @@ where
 
     ghost key_count = { 1 };
 
-    ghost conflicts = { λ s item at. AnswersScan s (shares E.key_of E.Key.eq item) (Some at) };
+    ghost conflicts = { λ s item at. AnswersScan s (shares E.key_of K.eq item) (Some at) };
 
-    ghost taken = { λ s ix item at. (at ≢ ix) × AnswersScan s (shares E.key_of E.Key.eq item) (Some at) };
+    ghost taken = { λ s ix item at. (at ≢ ix) × AnswersScan s (shares E.key_of K.eq item) (Some at) };
 
     ghost tells = { λ at ix. ix ≡ at };
 
-    ghost told = { λ s item at is ix. told_one s (shares E.key_of E.Key.eq item) at is ix };
+    ghost told = { λ s item at is ix. told_one s (shares E.key_of K.eq item) at is ix };
 
     ghost told_some = { λ s item at is. (at, refl) };
 
@@ -189,10 +192,10 @@ where
     }
 }
 
-impl<T, S, E> Inserts<T, S> for ByHash<E>
+impl<T, S, E, K> Inserts<T, S> for ByHash<E, K>
 where
-    E: KeyOf<T>,
-    E::Key: Eq + Hash,
+    E: KeyOf<T, Key = K>,
+    K: Eq + Hash + Drop,
     S: BuildHasher,
 {
     ghost use Rattle.std.proofs.Common.{refl, sym, subst};
@@ -213,7 +216,7 @@ where
 
     type Plan = ();
 
-    ghost is_known = { λ state item hash. hash ≡ (hashing_of E.Key.eq E.Key.hash_input S.BuildHasher
+    ghost is_known = { λ state item hash. hash ≡ (hashing_of K.eq K.hash_input S.BuildHasher
         S.Hasher.Hasher state).hash_of (E.key_of item) };
 
     ghost is_spot = { λ x state s item spot. Unit {0} };
@@ -252,10 +255,10 @@ where
     }
 }
 
-impl<T, S, E> Removes<T, S> for ByHash<E>
+impl<T, S, E, K> Removes<T, S> for ByHash<E, K>
 where
-    E: KeyOf<T>,
-    E::Key: Eq + Hash,
+    E: KeyOf<T, Key = K>,
+    K: Eq + Hash + Drop,
     S: BuildHasher,
 {
     fn remove(&mut self, items: &ItemSet<T>, state: &S, ix: ItemIndex) {
@@ -271,10 +274,10 @@ where
     }
 }
 
-impl<T, S, E> Overwrites<T, S> for ByHash<E>
+impl<T, S, E, K> Overwrites<T, S> for ByHash<E, K>
 where
-    E: KeyOf<T>,
-    E::Key: Eq + Hash,
+    E: KeyOf<T, Key = K>,
+    K: Eq + Hash + Drop,
     S: BuildHasher,
 {
     ghost use Rattle.std.proofs.Common.{refl, sym, subst};
@@ -302,10 +305,10 @@ where
     }
 }
 
-impl<T, S, E> Moves<T, S> for ByHash<E>
+impl<T, S, E, K> Moves<T, S> for ByHash<E, K>
 where
-    E: KeyOf<T>,
-    E::Key: Eq + Hash,
+    E: KeyOf<T, Key = K>,
+    K: Eq + Hash + Drop,
     S: BuildHasher,
 {
     ghost use Rattle.std.proofs.Common.{refl, sym, subst};
@@ -324,7 +327,7 @@ where
 
     type Move = Move;
 
-    ghost is_move = { λ state s ix item plan. Plans E.key_of (hashing_of E.Key.eq E.Key.hash_input S.BuildHasher
+    ghost is_move = { λ state s ix item plan. Plans E.key_of (hashing_of K.eq K.hash_input S.BuildHasher
         S.Hasher.Hasher state) s ix item plan };
 
     ghost moves = { moves };
@@ -362,16 +365,17 @@ where
     }
 }
 
-impl<T, S, E> Checks<T, S> for ByHash<E>
+impl<T, S, E, K> Checks<T, S> for ByHash<E, K>
 where
-    E: KeyOf<T>,
-    E::Key: Eq + Hash,
+    E: KeyOf<T, Key = K>,
+    K: Eq + Hash + Drop,
     S: BuildHasher,
 {
-    fn copied(&self) -> Result<ByHash<E>, AllocError> {
+    fn copied(&self) -> Result<ByHash<E, K>, AllocError> {
         Ok(ByHash {
             table: self.table.clone()?,
             of: PhantomData,
+            by: PhantomData,
         })
     }
 
@@ -399,17 +403,17 @@ where
     }
 }
 
-impl<T, S, E> HashedAt<Here, T, S> for ByHash<E>
+impl<T, S, E, K> HashedAt<Here, T, S> for ByHash<E, K>
 where
-    E: KeyOf<T>,
-    E::Key: Eq + Hash,
+    E: KeyOf<T, Key = K>,
+    K: Eq + Hash + Drop,
     S: BuildHasher,
 {
-    type Key = E::Key;
+    type Key = K;
 
     ghost key_at = { E.key_of };
 
-    fn find<Q: HashQuery<E::Key>>(
+    fn find<Q: HashQuery<K>>(
         &self,
         items: &ItemSet<T>,
         state: &S,
@@ -419,13 +423,13 @@ where
     }
 }
 
-impl<T, S, E> TakesAt<Here, T, S> for ByHash<E>
+impl<T, S, E, K> TakesAt<Here, T, S> for ByHash<E, K>
 where
-    E: KeyOf<T>,
-    E::Key: Eq + Hash,
+    E: KeyOf<T, Key = K>,
+    K: Eq + Hash + Drop,
     S: BuildHasher,
 {
-    fn take<Q: HashQuery<E::Key>>(
+    fn take<Q: HashQuery<K>>(
         &mut self,
         items: &ItemSet<T>,
         state: &S,
@@ -435,13 +439,13 @@ where
     }
 }
 
-impl<T, S, E> AsksAt<Here, T, S> for ByHash<E>
+impl<T, S, E, K> AsksAt<Here, T, S> for ByHash<E, K>
 where
-    E: KeyOf<T>,
-    E::Key: Eq + Hash,
+    E: KeyOf<T, Key = K>,
+    K: Eq + Hash + Drop,
     S: BuildHasher,
 {
-    fn ask<Q: HashQuery<E::Key>>(
+    fn ask<Q: HashQuery<K>>(
         &self,
         items: &ItemSet<T>,
         state: &S,

@@ -27,12 +27,12 @@ pub use item::{IdHashItem, ItsKey};
 use std::hash::BuildHasher;
 
 /// A table by the key.
-pub type IdIndex = ByHash<ItsKey>;
+pub type IdIndex<T> = ByHash<ItsKey, <T as IdHashItem>::Key>;
 
 /// Items under stable indexes, no two of which have the same key.
-pub type IdHashMap<T, S = DefaultHashBuilder> = Map<T, IdIndex, S>;
+pub type IdHashMap<T, S = DefaultHashBuilder> = Map<T, IdIndex<T>, S>;
 
-impl<T: IdHashItem, S: BuildHasher> Map<T, IdIndex, S> {
+impl<T: IdHashItem, S: BuildHasher> Map<T, IdIndex<T>, S> {
     /// The index of the item that has the key for which the query stands.
     ///
     /// The query is a `&T::Key`, or what else stands for such a key. It is compared with keys of the same hash alone.

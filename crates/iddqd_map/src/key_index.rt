@@ -479,6 +479,22 @@ pub trait TakesAt<P, T, S>: HashedAt<P, T, S> {
         ensures cells { Self.KeyIndex.cells self.new ≡ Self.KeyIndex.cells self.old };
 }
 
+/// A key index with a key for which a `Q` stands, where the item that was found is to leave.
+pub trait TakesQuery<Q, T, S>: KeyIndex<T, S> {
+    ghost use Rattle.std.specs.Prelude.{Bool};
+
+    // The query stands for the key of the item.
+    ghost stands_for: { Q → T → Bool };
+
+    /// Finds the item that has the key, and takes its index out, by one search. It takes no memory.
+    fn take_query(&mut self, items: &ItemSet<T>, state: &S, query: Q) -> Option<ItemIndex>
+        requires indexed { Self.KeyIndex.indexes self.old state.now items.now.store }
+        ensures found { AnswersScan items.now.store (stands_for query) result }
+        ensures taken { TakesFound (Self.KeyIndex.indexes self.new) state.now items.now.store result }
+        ensures capacity { Self.KeyIndex.capacity self.new ≡ Self.KeyIndex.capacity self.old }
+        ensures cells { Self.KeyIndex.cells self.new ≡ Self.KeyIndex.cells self.old };
+}
+
 /// The same, where the item that was found is to become another one.
 pub trait AsksAt<P, T, S>: HashedAt<P, T, S> + Moves<T, S> {
     /// Finds as `find` does, and keeps what was computed for that.

@@ -31,12 +31,16 @@ pub use item::{First, Second, Third, TriHashItem};
 use std::hash::BuildHasher;
 
 /// A table by each of the three keys.
-pub type TriIndex = Pair<ByHash<First>, Pair<ByHash<Second>, ByHash<Third>>, TriClash>;
+pub type TriIndex<T> = Pair<
+    ByHash<First, <T as TriHashItem>::Key1>,
+    Pair<ByHash<Second, <T as TriHashItem>::Key2>, ByHash<Third, <T as TriHashItem>::Key3>>,
+    TriClash,
+>;
 
 /// Items under stable indexes, no two of which share a key.
-pub type TriHashMap<T, S = DefaultHashBuilder> = Map<T, TriIndex, S>;
+pub type TriHashMap<T, S = DefaultHashBuilder> = Map<T, TriIndex<T>, S>;
 
-impl<T: TriHashItem, S: BuildHasher> Map<T, TriIndex, S> {
+impl<T: TriHashItem, S: BuildHasher> Map<T, TriIndex<T>, S> {
     /// The index of the item that has the first key for which the query stands.
     ///
     /// The query is a `&T::Key1`, or what else stands for such a key. It is compared with keys of the same hash alone.

@@ -5,9 +5,6 @@ use Rattle.std.specs.Fn.{Mut}
 use Rattle.std.specs.List.{slice_get}
 use Rattle.std.specs.Ordering.{eq_by_cmp}
 use Rattle.iddqd.specs.Store.{Store, get}
-use Rattle.iddqd.specs.Validation.{Validates}
-use Rattle.iddqd.specs.declared.internal.ValidateRefusal.{ValidateRefusal}
-use Rattle.iddqd.specs.declared.internal.ValidateRefusal.TheVariants.{Invalid, Memory}
 use Rattle.iddqd_order.specs.Gap.{FindsGap, gap_place}
 use Rattle.iddqd_order.specs.MapBTreeTable.{Order, order_of}
 use Rattle.iddqd_order.specs.Search.{IsSteady}
@@ -74,14 +71,6 @@ module _ {T K : Type 0} (key_of : T → K) (compare : K → K → Ordering) (tot
   LooksPlaceUp-found (Ok gap) (asked, found) =
       let vacant = IsVacantAt-placed key_of compare s (order_of t) (compare (key_of item)) o.held g read old new total (IsQuery-key compare total (key_of item)) steady (gap_place t gap) found.within found.place found.miss in
       (vacant.missed.as_scan o.exact, record { fits = found.fits; vacant = vacant })
-
--- a refusal of what isn't sound
-pub Validates-refused :
-    {E : Type 0} (sound : Type 0) (refusal : ValidateRefusal E)
-    → (sound → ⊥)
-    → Validates sound (Err refusal)
-Validates-refused sound (Invalid error) unsound = unsound
-Validates-refused sound (Memory error) unsound = tt
 
 -- what the ends of the table are
 module _ {T K : Type 0} (key_of : T → K) (compare : K → K → Ordering) (total : IsTotalOrder compare) (s : Store T)

@@ -1,23 +1,14 @@
 -- What a call at the index that a look-up found is by the key.
-use Rattle.std.proofs.Common.{◌≡◌, ℕ, Bool, Option, Some, None, Result, Ok, Err, true, refl, sym, ◌∙◌}
+use Rattle.std.proofs.Common.{◌≡◌, ℕ, Bool, Some, Result, Ok, Err, true, refl, sym, ◌∙◌}
 use Rattle.iddqd.specs.Store.{get, rebound}
 use Rattle.iddqd_sides.specs.Scan.{AnswersScan}
 use Rattle.iddqd_map.specs.Calls.{ReplacesAt, ReplacesIfLive, Replaces}
-use Rattle.iddqd_map.specs.Map.{MapState, IsOnly, Removes, RemovesAt}
+use Rattle.iddqd_map.specs.Map.{MapState, IsOnly}
 use Rattle.iddqd_map.specs.declared.refusal.ReplaceRefusal.{ReplaceRefusal}
 use Rattle.iddqd_map.specs.declared.refusal.ReplaceRefusal.TheVariants.{Missing, Duplicate as Taken, Memory as Refused}
 use Rattle.iddqd_ord_map.specs.OrdMap.{IsTakenAt}
 
 module _ {T : Type 0} where
-  pub Removes-at :
-      (old new : MapState T) (test : T → Bool) (ix : ℕ) (r : Option T)
-      → AnswersScan old.store test (Some ix)
-      → RemovesAt old ix r new
-      → Removes old test r new
-  Removes-at old new test ix (Some item) scan (live, left, memory) =
-      record { ix = ix; hit = record { live = live; only = scan }; left = left; memory = memory }
-  Removes-at old new test ix None scan (none, same) = let (item, live, passed) = (scan ix).1 refl in absurd (cc (none, live))
-
   module _ (alike : T → T → Bool) (may_lack : Bool) (old new : MapState T) (ix : ℕ) (item was : T)
       (live : get old.store ix ≡ Some was) where
     pub ReplacesAt-live :

@@ -11,7 +11,6 @@
 //! and ten more indexes fit always.
 ghost use Rattle.std.specs.Prelude.{◌≡◌};
 ghost use Rattle.std.specs.Range.Bound.{bound_map};
-ghost use Rattle.iddqd_map.specs.KeyIndex.{TakesFound};
 ghost use Rattle.iddqd_order.specs.{indexes_ahead, indexes_left};
 ghost use Rattle.iddqd_order.specs.MapBTreeTable.{order_of};
 ghost use Rattle.iddqd_ord_map.specs.ByOrder.{FindsGreatest, FindsLeast, LooksPlaceUp, waiting};
@@ -28,7 +27,11 @@ use iddqd::internal::{ValidateCompact, ValidateRefusal, ValidationError};
 use iddqd::item_index::ItemIndex;
 use iddqd::item_set::ItemSet;
 use iddqd_map::key_index::{
+<<<<<<< HEAD
     Checks, Conflicts, Inserts, KeyIndex, Moves, Overwrites, Removes, Sizes,
+=======
+    Checks, Conflicts, Inserts, KeyIndex, Moves, Overwrites, Removes, Sizes, TakesQuery,
+>>>>>>> origin/hD3
 };
 use iddqd_order::btree_table::{Asking, Blocks, Gap, Iter, MapBTreeTable, Range};
 use iddqd_sides::key_of::{ByKey, KeyOf, key_at};
@@ -65,24 +68,6 @@ impl<E> ByOrder<E> {
         ensures { AnswersScan items.now.store (passes_by E.key_of (is_equal (Q.compare query))) result }
     {
         find_by::<T, E, Q>(&self.table, items, query)
-    }
-
-    /// Finds as `find` does, and takes the index out, by one search. It takes no memory.
-    pub fn take<T, S, Q>(&mut self, items: &ItemSet<T>, state: &S, query: Q) -> Option<ItemIndex>
-    where
-        E: KeyOf<T>,
-        E::Key: Ord,
-        Q: OrdQuery<E::Key>,
-        requires { ⟦<ByOrder<E> as KeyIndex<T, S>>⟧.indexes self.old state.now items.now.store }
-        ensures found { AnswersScan items.now.store (passes_by E.key_of (is_equal (Q.compare query))) result }
-        ensures taken { TakesFound (⟦<ByOrder<E> as KeyIndex<T, S>>⟧.indexes self.new) state.now items.now.store
-            result }
-        ensures capacity { ⟦<ByOrder<E> as KeyIndex<T, S>>⟧.capacity self.new
-            ≡ ⟦<ByOrder<E> as KeyIndex<T, S>>⟧.capacity self.old }
-        ensures cells { ⟦<ByOrder<E> as KeyIndex<T, S>>⟧.cells self.new
-            ≡ ⟦<ByOrder<E> as KeyIndex<T, S>>⟧.cells self.old }
-    {
-        take_by::<T, E, Q>(&mut self.table, items, query)
     }
 
     /// The index of the item with the least key.
@@ -489,9 +474,6 @@ where
         state: &S,
         compactness: ValidateCompact,
     ) -> Result<(), ValidateRefusal<ValidationError>> {
-        if let Err(refusal) = items.validate(compactness) {
-            return Err(refusal);
-        }
         match self.table.validate(items.len(), compactness) {
             Ok(()) => Ok(()),
             Err(ValidateRefusal::Invalid(error)) => {
@@ -500,5 +482,18 @@ where
             }
             Err(ValidateRefusal::Memory(error)) => Err(ValidateRefusal::Memory(error)),
         }
+    }
+}
+
+impl<T, S, E, Q> TakesQuery<Q, T, S> for ByOrder<E>
+where
+    E: KeyOf<T>,
+    E::Key: Ord,
+    Q: OrdQuery<E::Key>,
+{
+    ghost stands_for = { λ query. passes_by E.key_of (is_equal (Q.compare query)) };
+
+    fn take_query(&mut self, items: &ItemSet<T>, state: &S, query: Q) -> Option<ItemIndex> {
+        take_by::<T, E, Q>(&mut self.table, items, query)
     }
 }

@@ -212,12 +212,11 @@ impl<T: IdOrdItem> IdOrdMap<T> {
         }
     }
 
-    /// Takes the item that has the key out of the map. It takes no memory.
+    /// Takes the item that has the key out of the map. The table is searched once. It takes no memory.
     pub fn remove<Q: OrdQuery<T::Key>>(&mut self, query: Q) -> Option<T>
         ensures { Removes self.old (passes_by T.key_of (is_equal (Q.compare query))) result self.new }
     {
-        let ix = self.find(query)?;
-        self.map.remove_at(ix)
+        self.map.remove_query(query)
     }
 
     /// Takes the item at an index out of the map, if there is one. It takes no memory.

@@ -20,12 +20,12 @@ pub trait BiHashClone: BiHashItem + Clone {
 
 /// Each item is cloned once, under its index, and no key is hashed or compared. Where memory is refused the clones made
 /// so far are dropped.
-impl<T: BiHashClone, S: BuildHasher + Copy> Clone for Map<T, BiIndex, S> {
+impl<T: BiHashClone, S: BuildHasher + Copy> Clone for Map<T, BiIndex<T>, S> {
     ghost use Rattle.iddqd.specs.Clones.{IsStoreClone};
 
     ghost is_clone = { λ m copy. IsStoreClone T.is_clone m.store copy.store };
 
-    fn clone(&self) -> Result<Map<T, BiIndex, S>, AllocError> {
+    fn clone(&self) -> Result<Map<T, BiIndex<T>, S>, AllocError> {
         self.copied()
     }
 }

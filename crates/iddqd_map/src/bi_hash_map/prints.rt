@@ -32,7 +32,7 @@ where
 }
 
 /// It prints as a map of the items by their keys, by rising index.
-impl<T: BiHashItem + fmt::Debug, S: BuildHasher> fmt::Debug for Map<T, BiIndex, S>
+impl<T: BiHashItem + fmt::Debug, S: BuildHasher> fmt::Debug for Map<T, BiIndex<T>, S>
 where
     T::Key1: fmt::Debug,
     T::Key2: fmt::Debug,

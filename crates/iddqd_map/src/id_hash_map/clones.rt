@@ -16,12 +16,12 @@ pub trait IdHashClone: IdHashItem + Clone {
 
 /// Each item is cloned once, under its index, and no key is hashed or compared. Where memory is refused the clones made
 /// so far are dropped.
-impl<T: IdHashClone, S: BuildHasher + Copy> Clone for Map<T, IdIndex, S> {
+impl<T: IdHashClone, S: BuildHasher + Copy> Clone for Map<T, IdIndex<T>, S> {
     ghost use Rattle.iddqd.specs.Clones.{IsStoreClone};
 
     ghost is_clone = { λ m copy. IsStoreClone T.is_clone m.store copy.store };
 
-    fn clone(&self) -> Result<Map<T, IdIndex, S>, AllocError> {
+    fn clone(&self) -> Result<Map<T, IdIndex<T>, S>, AllocError> {
         self.copied()
     }
 }

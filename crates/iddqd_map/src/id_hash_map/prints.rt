@@ -5,7 +5,7 @@ use std::fmt;
 use std::hash::BuildHasher;
 
 /// It prints as a map of the items by their keys, by rising index.
-impl<T: IdHashItem + fmt::Debug, S: BuildHasher> fmt::Debug for Map<T, IdIndex, S>
+impl<T: IdHashItem + fmt::Debug, S: BuildHasher> fmt::Debug for Map<T, IdIndex<T>, S>
 where
     T::Key: fmt::Debug,
 {

@@ -12,7 +12,7 @@ ghost use Rattle.iddqd_map.specs.Modify.{Modifies};
 use super::Map;
 use super::changes::change_found;
 use super::replaces::replace_found;
-use crate::key_index::{AsksAt, HashedAt, KeyIndex, TakesAt};
+use crate::key_index::{AsksAt, HashedAt, KeyIndex, TakesAt, TakesQuery};
 use crate::refusal::ReplaceRefusal;
 use iddqd::item_index::ItemIndex;
 use iddqd_sides::query::HashQuery;
@@ -59,6 +59,17 @@ impl<T, X: KeyIndex<T, S>, S> Map<T, X, S> {
         ensures room { room self.old ≤ room self.new }
     {
         let ix = self.indexes.take(&self.items, &self.state, query)?;
+        self.items.remove(ix)
+    }
+
+    /// Takes the item that has the key for which the query stands out of the map, by one search. It takes no memory.
+    pub fn remove_query<Q>(&mut self, query: Q) -> Option<T>
+    where
+        X: TakesQuery<Q, T, S>,
+        ensures removes { Removes self.old (X.stands_for query) result self.new }
+        ensures room { room self.old ≤ room self.new }
+    {
+        let ix = self.indexes.take_query(&self.items, &self.state, query)?;
         self.items.remove(ix)
     }
 

@@ -23,12 +23,12 @@ pub trait TriHashClone: TriHashItem + Clone {
 
 /// Each item is cloned once, under its index, and no key is hashed or compared. Where memory is refused the clones made
 /// so far are dropped.
-impl<T: TriHashClone, S: BuildHasher + Copy> Clone for Map<T, TriIndex, S> {
+impl<T: TriHashClone, S: BuildHasher + Copy> Clone for Map<T, TriIndex<T>, S> {
     ghost use Rattle.iddqd.specs.Clones.{IsStoreClone};
 
     ghost is_clone = { λ m copy. IsStoreClone T.is_clone m.store copy.store };
 
-    fn clone(&self) -> Result<Map<T, TriIndex, S>, AllocError> {
+    fn clone(&self) -> Result<Map<T, TriIndex<T>, S>, AllocError> {
         self.copied()
     }
 }

@@ -34,7 +34,7 @@ where
 }
 
 /// It prints as a map of the items by their keys, by rising index.
-impl<T: TriHashItem + fmt::Debug, S: BuildHasher> fmt::Debug for Map<T, TriIndex, S>
+impl<T: TriHashItem + fmt::Debug, S: BuildHasher> fmt::Debug for Map<T, TriIndex<T>, S>
 where
     T::Key1: fmt::Debug,
     T::Key2: fmt::Debug,

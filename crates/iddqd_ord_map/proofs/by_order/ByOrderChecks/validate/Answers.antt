@@ -1,6 +1,6 @@
-use Rattle.std.proofs.Common.{refl}
 use Rattle.iddqd_order.specs.MapBTreeTable.{order_of}
 use Rattle.iddqd_sides.proofs.OrderedCountLemmas.{AreAsExpected-listed}
+<<<<<<< HEAD
 use Rattle.iddqd_ord_map.proofs.ByOrderLemmas.{Validates-refused}
 use Rattle.iddqd_ord_map.proofs.by_order.ByOrderChecks.validate.Goals as goal
 
@@ -9,9 +9,12 @@ returns-in-Err g c = Validates-refused _ c.in-Err.refusal (λ allows. (let ok = 
 
 pub returns-in-Ok : goal.returns-in-Ok
 returns-in-Ok g c = c.in_default.ensures.allows.0 refl
+=======
+use Rattle.iddqd_ord_map.proofs.by_order.ByOrderChecks.validate.Goals as goal
+>>>>>>> origin/hD3
 
 pub returns-in-Err-Invalid : goal.returns-in-Err-Invalid
 returns-in-Err-Invalid g c = λ _.
     let s = c.args.items.now.store in
     let refused = rw (c.in-Err-Invalid.field-0-is, c.len.ensures) at c.in-Err-Invalid.ensures in
-    refused (AreAsExpected-listed s (order_of c.args.self.now.table) c.requires.indexed.held c.requires.valid c.args.compactness (c.in_default.ensures.allows.0 refl))
+    refused (AreAsExpected-listed s (order_of c.args.self.now.table) c.requires.indexed.held c.requires.valid c.args.compactness c.requires.allowed)

@@ -1,6 +1,6 @@
 use Rattle.iddqd_map.specs.Map.{shares}
 use Rattle.iddqd_map.proofs.OneKeyLemmas.{never_refused}
-use Rattle.iddqd_map.proofs.id_hash_map.Map+T+IdIndex+S.stand_in.Goals as goal
+use Rattle.iddqd_map.proofs.id_hash_map.Map+T+IdIndex+T+S.stand_in.Goals as goal
 
 pub unreachable-requires : goal.unreachable-requires
 unreachable-requires g c =

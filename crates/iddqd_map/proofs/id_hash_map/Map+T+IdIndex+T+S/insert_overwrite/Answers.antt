@@ -1,4 +1,4 @@
-use Rattle.iddqd_map.proofs.id_hash_map.Map+T+IdIndex+S.insert_overwrite.Goals as goal
+use Rattle.iddqd_map.proofs.id_hash_map.Map+T+IdIndex+T+S.insert_overwrite.Goals as goal
 
 pub stand_in-requires : goal.stand_in-requires
 stand_in-requires g c =
