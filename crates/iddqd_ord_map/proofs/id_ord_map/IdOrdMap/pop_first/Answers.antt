@@ -11,4 +11,4 @@ returns g c =
     let key_of = g.T.IdOrdItem.key_of in
     let compare = g.T.Key.Ord.cmp in
     PopsEnd-removed key_of compare Less c.args.self.now c.remove_at.new.self c.in_ok-ix.ix c.remove_at.result
-    (IsEnd-at key_of compare Less c.args.self.now.store c.in_ok-ix.ix c.in_ok-ix.ensures) (rw (← c.self.view_is) c.remove_at.ensures)
+    (IsEnd-at key_of compare Less c.args.self.now.store c.in_ok-ix.ix c.in_ok-ix.ensures) (rw (← c.self.view_is) c.remove_at.ensures.removes)

@@ -10,4 +10,4 @@ returns-in_err-ix g c = rw c.from_residual.ensures (c.in_err-ix.ensures, refl)
 pub returns : goal.returns
 returns g c =
     let test = passes_by g.T.IdOrdItem.key_of (is_equal (g.Q.OrdQuery.compare c.args.query)) in
-    Removes-at c.args.self.now c.remove_at.new.self test c.in_ok-ix.ix c.remove_at.result c.in_ok-ix.ensures (rw (← c.self.view_is) c.remove_at.ensures)
+    Removes-at c.args.self.now c.remove_at.new.self test c.in_ok-ix.ix c.remove_at.result c.in_ok-ix.ensures (rw (← c.self.view_is) c.remove_at.ensures.removes)
