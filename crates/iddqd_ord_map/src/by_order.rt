@@ -27,11 +27,7 @@ use iddqd::internal::{ValidateCompact, ValidateRefusal, ValidationError};
 use iddqd::item_index::ItemIndex;
 use iddqd::item_set::ItemSet;
 use iddqd_map::key_index::{
-<<<<<<< HEAD
-    Checks, Conflicts, Inserts, KeyIndex, Moves, Overwrites, Removes, Sizes,
-=======
     Checks, Conflicts, Inserts, KeyIndex, Moves, Overwrites, Removes, Sizes, TakesQuery,
->>>>>>> origin/hD3
 };
 use iddqd_order::btree_table::{Asking, Blocks, Gap, Iter, MapBTreeTable, Range};
 use iddqd_sides::key_of::{ByKey, KeyOf, key_at};

@@ -2,10 +2,10 @@
 //!
 //! A type without values names each key, and pairs of key indexes put the four together. The place of a key in them is
 //! the type that a look-up names.
-ghost use Rattle.std.specs.Prelude.{◌≡◌, ◌==◌, ℕ, false, ◌↔◌, option_copied, IfOk, IfSome, OnErr};
+ghost use Rattle.std.specs.Prelude.{◌≡◌, ◌==◌, ℕ, false, ◌↔◌, option_copied, IfOk, OnOk, OnErr};
 ghost use Rattle.iddqd_maps.specs.Map.{FindsItem};
 ghost use Rattle.iddqd_maps.specs.Scan.{AnswersScan, HasNoHit};
-ghost use Rattle.iddqd_maps.specs.Store.{rebound};
+ghost use Rattle.iddqd_maps.specs.Store.{inserted};
 ghost use Rattle.uses.specs.Devices.{is_named, share_key};
 ghost use Rattle.uses.specs.declared.devices.Device.{Device};
 
@@ -107,7 +107,8 @@ pub fn add(
     devices: &mut Devices,
     device: Device,
 ) -> Result<ItemIndex, InsertRefusal<Device, TakenKeys>>
-    ensures added { IfOk result (λ _. HasNoHit devices.old.store (share_key device)) }
+    ensures unlike { IfOk result (λ _. HasNoHit devices.old.store (share_key device)) }
+    ensures stored { OnOk result (devices.new.store ≡ inserted devices.old.store device) }
     ensures refused { OnErr result (devices.new.store ≡ devices.old.store) }
 {
     devices.insert_unique(device)

@@ -1,7 +1,7 @@
 //! A mix of hashes and an order: sessions by their ids and tokens, and in the order in which they end.
-ghost use Rattle.std.specs.Prelude.{◌≡◌, ◌==◌, ◌≤◌, ℕ, Some, MatchOption, IfOk, IfSome, OnErr};
+ghost use Rattle.std.specs.Prelude.{◌≡◌, ◌==◌, ◌≤◌, ◌+◌, ℕ, Some, MatchOption, IfOk, OnOk, OnErr};
 ghost use Rattle.iddqd_maps.specs.Map.{FindsItem};
-ghost use Rattle.iddqd_maps.specs.Store.{get, live_count};
+ghost use Rattle.iddqd_maps.specs.Store.{get, inserted, live_count};
 ghost use Rattle.uses.specs.declared.sessions.Session.{Session};
 
 use iddqd_maps::by_hash::ByHash;
@@ -80,7 +80,8 @@ pub fn open(
     sessions: &mut Sessions,
     session: Session,
 ) -> Result<ItemIndex, InsertRefusal<Session, Taken>>
-    ensures { OnErr result (sessions.new.store ≡ sessions.old.store) }
+    ensures stored { OnOk result (sessions.new.store ≡ inserted sessions.old.store session) }
+    ensures refused { OnErr result (sessions.new.store ≡ sessions.old.store) }
 {
     sessions.insert_unique(session)
 }

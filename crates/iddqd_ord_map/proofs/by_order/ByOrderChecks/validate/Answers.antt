@@ -1,17 +1,6 @@
 use Rattle.iddqd_order.specs.MapBTreeTable.{order_of}
 use Rattle.iddqd_sides.proofs.OrderedCountLemmas.{AreAsExpected-listed}
-<<<<<<< HEAD
-use Rattle.iddqd_ord_map.proofs.ByOrderLemmas.{Validates-refused}
 use Rattle.iddqd_ord_map.proofs.by_order.ByOrderChecks.validate.Goals as goal
-
-pub returns-in-Err : goal.returns-in-Err
-returns-in-Err g c = Validates-refused _ c.in-Err.refusal (λ allows. (let ok = c.in-Err.ensures.allows.1 allows in cc))
-
-pub returns-in-Ok : goal.returns-in-Ok
-returns-in-Ok g c = c.in_default.ensures.allows.0 refl
-=======
-use Rattle.iddqd_ord_map.proofs.by_order.ByOrderChecks.validate.Goals as goal
->>>>>>> origin/hD3
 
 pub returns-in-Err-Invalid : goal.returns-in-Err-Invalid
 returns-in-Err-Invalid g c = λ _.
