@@ -87,9 +87,9 @@ pub type Taken = PairConflict<ItemIndex, ItemIndex>;
 /// The same of all four keys.
 pub type TakenKeys = PairConflict<Taken, Taken>;
 
-type Numbers = Pair<ByHash<Serial>, ByHash<Address>>;
+type Numbers = Pair<ByHash<Serial, u64>, ByHash<Address, u32>>;
 
-type Labels = Pair<ByHash<Tag>, ByHash<Name>>;
+type Labels = Pair<ByHash<Tag, u32>, ByHash<Name, String>>;
 
 type BySerial = Left<Left<Here>>;
 

@@ -66,7 +66,7 @@ impl KeyOf<Session> for Ends {
 /// Which keys of a refused session are taken, and by which sessions.
 pub type Taken = PairConflict<PairConflict<ItemIndex, ItemIndex>, ItemIndex>;
 
-type Names = Pair<ByHash<Id>, ByHash<Token>>;
+type Names = Pair<ByHash<Id, u64>, ByHash<Token, u64>>;
 
 type ById = Left<Left<Here>>;
 
