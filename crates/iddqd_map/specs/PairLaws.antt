@@ -97,15 +97,14 @@ pub few_both :
     → ((l : List ℕ) × (length l ≤ m) × ((ix : ℕ) → one ix → Contains l ix))
     → ((l : List ℕ) × (length l ≤ n) × ((ix : ℕ) → other ix → Contains l ix))
     → (l : List ℕ) × (length l ≤ m + n) × ((ix : ℕ) → one ix ⊎ other ix → Contains l ix)
-few_both one other m n (k, few, holds) (l, few_too, holds_too) =
-    (
-      k ++ l,
-      omega (arith, length-append k l, few, few_too),
-      λ ix told. elim told [
-        | inl here ↦ Contains-append_left k l ix (holds ix here)
-        | inr there ↦ Contains-append_right k l ix (holds_too ix there)
-      ],
-    )
+few_both one other m n (k, few, holds) (l, few_too, holds_too) = (
+  k ++ l,
+  omega (arith, length-append k l, few, few_too),
+  λ ix told. elim told [
+    | inl here ↦ Contains-append_left k l ix (holds ix here)
+    | inr there ↦ Contains-append_right k l ix (holds_too ix there)
+  ],
+)
 
 -- what one of the two told, if it told anything
 module _ {C : Type 0} (tells : C → ℕ → Type 0) where
@@ -205,9 +204,9 @@ module _ {T : Type 0} (first second : T → T → Bool) (s : Store T) (item : T)
     AnswersScan-both same j = (
       λ hit. (let (x, is, both) = hit in (scan j).0 (x, is, (both_true (first item x) (second item x) both).0)),
       λ here. (
-        let (x, is, one) = (scan ix).1 refl in
-        let other : second item x ≡ true = subst (λ z. second item z ≡ true) (sym (is_there x is)) same in
-        subst (IsHit s (both_keys first second item)) (sym here) (x, is, true_both (first item x) (second item x) one other)),
+          let (x, is, one) = (scan ix).1 refl in
+          let other : second item x ≡ true = subst (λ z. second item z ≡ true) (sym (is_there x is)) same in
+          subst (IsHit s (both_keys first second item)) (sym here) (x, is, true_both (first item x) (second item x) one other)),
     )
 
     pub HasNoHit-unlike : second item there ≡ false → HasNoHit s (both_keys first second item)

@@ -17,8 +17,8 @@ ghost use Rattle.iddqd_map.specs.Indexing.{Indexes};
 use crate::hashed_plan::plan_move;
 use crate::hashed_query::{find_under, take_by};
 use crate::key_index::{
-    AsksAt, Checks, Conflicts, HashedAt, Here, Inserts, KeyIndex, Moves, Overwrites, Removes, Sizes,
-    TakesAt,
+    AsksAt, Checks, Conflicts, HashedAt, Here, Inserts, KeyIndex, Moves, Overwrites, Removes,
+    Sizes, TakesAt,
 };
 use crate::of_item::{commit_item, find_item, take_item, validate_table};
 use iddqd::index_remap::IndexRemap;
@@ -413,12 +413,7 @@ where
 
     ghost key_at = { E.key_of };
 
-    fn find<Q: HashQuery<K>>(
-        &self,
-        items: &ItemSet<T>,
-        state: &S,
-        query: Q,
-    ) -> Option<ItemIndex> {
+    fn find<Q: HashQuery<K>>(&self, items: &ItemSet<T>, state: &S, query: Q) -> Option<ItemIndex> {
         find_under::<T, E, S, Q>(&self.table, items, state, query_hash(state, query), query)
     }
 }

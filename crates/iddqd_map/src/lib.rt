@@ -5,8 +5,8 @@
 //! [`bi_hash_map::BiHashMap`] and [`tri_hash_map::TriHashMap`], with one, two and three keys.
 #![tactic(auto)]
 
-pub mod by_hash;
 pub mod bi_hash_map;
+pub mod by_hash;
 mod hashed_plan;
 mod hashed_query;
 pub mod id_hash_map;

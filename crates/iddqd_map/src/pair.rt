@@ -9,8 +9,8 @@ ghost use Rattle.iddqd_map.specs.KeyIndex.{IsNextTold};
 ghost use Rattle.iddqd_map.specs.PairConflict.{IsToldBy, first_of, second_of, lesser_of};
 
 use crate::key_index::{
-    AsksAt, Checks, Conflicts, HashedAt, Inserts, KeyIndex, Left, Moves, Overwrites, Removes, Right,
-    Sizes, TakesAt,
+    AsksAt, Checks, Conflicts, HashedAt, Inserts, KeyIndex, Left, Moves, Overwrites, Removes,
+    Right, Sizes, TakesAt,
 };
 use crate::pair_conflict::{PairConflict, TellsPair};
 use iddqd::index_remap::IndexRemap;
@@ -384,8 +384,10 @@ where
         ix: ItemIndex,
         item: &T,
     ) {
-        self.first.commit_move(items, state, asked.0, &plan.0, ix, item);
-        self.second.commit_move(items, state, asked.1, &plan.1, ix, item);
+        self.first
+            .commit_move(items, state, asked.0, &plan.0, ix, item);
+        self.second
+            .commit_move(items, state, asked.1, &plan.1, ix, item);
     }
 }
 

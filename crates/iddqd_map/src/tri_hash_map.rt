@@ -83,7 +83,7 @@ impl<T: TriHashItem, S: BuildHasher> Map<T, TriIndex<T>, S> {
         ensures { let first = shares T.first_key T.Key1.eq in let second = shares T.second_key T.Key2.eq in
             let third = shares T.third_key T.Key3.eq in
             Replaces (any_key first second third) (all_keys first second third) false
-                (AreTaken first second third) self.old
+            (AreTaken first second third) self.old
             (passes_by T.first_key (Q.stands_for query)) item result self.new }
     {
         self.replace_by::<Left<Here>, Q>(query, item)
@@ -102,7 +102,7 @@ impl<T: TriHashItem, S: BuildHasher> Map<T, TriIndex<T>, S> {
         ensures { let first = shares T.first_key T.Key1.eq in let second = shares T.second_key T.Key2.eq in
             let third = shares T.third_key T.Key3.eq in
             Changes (any_key first second third) (all_keys first second third) false
-                (AreTaken first second third) (FnOnceReturnsAt F.FnOnce f)
+            (AreTaken first second third) (FnOnceReturnsAt F.FnOnce f)
             self.old (passes_by T.first_key (Q.stands_for query)) result self.new }
     {
         self.change_by::<Left<Here>, Q, F>(query, f)
@@ -159,7 +159,7 @@ impl<T: TriHashItem, S: BuildHasher> Map<T, TriIndex<T>, S> {
         ensures { let first = shares T.first_key T.Key1.eq in let second = shares T.second_key T.Key2.eq in
             let third = shares T.third_key T.Key3.eq in
             Replaces (any_key first second third) (all_keys first second third) false
-                (AreTaken first second third) self.old
+            (AreTaken first second third) self.old
             (passes_by T.second_key (Q.stands_for query)) item result self.new }
     {
         self.replace_by::<Right<Left<Here>>, Q>(query, item)
@@ -175,7 +175,7 @@ impl<T: TriHashItem, S: BuildHasher> Map<T, TriIndex<T>, S> {
         ensures { let first = shares T.first_key T.Key1.eq in let second = shares T.second_key T.Key2.eq in
             let third = shares T.third_key T.Key3.eq in
             Changes (any_key first second third) (all_keys first second third) false
-                (AreTaken first second third) (FnOnceReturnsAt F.FnOnce f)
+            (AreTaken first second third) (FnOnceReturnsAt F.FnOnce f)
             self.old (passes_by T.second_key (Q.stands_for query)) result self.new }
     {
         self.change_by::<Right<Left<Here>>, Q, F>(query, f)
@@ -231,7 +231,7 @@ impl<T: TriHashItem, S: BuildHasher> Map<T, TriIndex<T>, S> {
         ensures { let first = shares T.first_key T.Key1.eq in let second = shares T.second_key T.Key2.eq in
             let third = shares T.third_key T.Key3.eq in
             Replaces (any_key first second third) (all_keys first second third) false
-                (AreTaken first second third) self.old
+            (AreTaken first second third) self.old
             (passes_by T.third_key (Q.stands_for query)) item result self.new }
     {
         self.replace_by::<Right<Right<Here>>, Q>(query, item)
@@ -247,7 +247,7 @@ impl<T: TriHashItem, S: BuildHasher> Map<T, TriIndex<T>, S> {
         ensures { let first = shares T.first_key T.Key1.eq in let second = shares T.second_key T.Key2.eq in
             let third = shares T.third_key T.Key3.eq in
             Changes (any_key first second third) (all_keys first second third) false
-                (AreTaken first second third) (FnOnceReturnsAt F.FnOnce f)
+            (AreTaken first second third) (FnOnceReturnsAt F.FnOnce f)
             self.old (passes_by T.third_key (Q.stands_for query)) result self.new }
     {
         self.change_by::<Right<Right<Here>>, Q, F>(query, f)
@@ -277,7 +277,7 @@ impl<T: TriHashItem, S: BuildHasher> Map<T, TriIndex<T>, S> {
         ensures { let first = shares T.first_key T.Key1.eq in let second = shares T.second_key T.Key2.eq in
             let third = shares T.third_key T.Key3.eq in
             Overwrites (any_key first second third) (λ n. most_cells n + (most_cells n + most_cells n)) false 3
-                self.old item result self.new }
+            self.old item result self.new }
     {
         let mut places = [None, None, None];
         let ix = self.overwrite_into(item, &mut places)?;

@@ -36,9 +36,18 @@ impl TellsPair<ItemIndex, ItemIndex> for BiClash {
         ensures second { result.key2 ≡ second_of conflict }
     {
         match conflict {
-            PairConflict::First(one) => BiClash { key1: Some(one), key2: None },
-            PairConflict::Second(other) => BiClash { key1: None, key2: Some(other) },
-            PairConflict::Both(one, other) => BiClash { key1: Some(one), key2: Some(other) },
+            PairConflict::First(one) => BiClash {
+                key1: Some(one),
+                key2: None,
+            },
+            PairConflict::Second(other) => BiClash {
+                key1: None,
+                key2: Some(other),
+            },
+            PairConflict::Both(one, other) => BiClash {
+                key1: Some(one),
+                key2: Some(other),
+            },
         }
     }
 

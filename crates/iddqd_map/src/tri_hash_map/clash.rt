@@ -60,10 +60,7 @@ impl TellsPair<ItemIndex, PairConflict<ItemIndex, ItemIndex>> for TriClash {
 }
 
 // The clash by the first key, and by the second and the third.
-fn with_last(
-    key1: Option<ItemIndex>,
-    last: Option<PairConflict<ItemIndex, ItemIndex>>,
-) -> TriClash
+fn with_last(key1: Option<ItemIndex>, last: Option<PairConflict<ItemIndex, ItemIndex>>) -> TriClash
     ensures first { result.key1 ≡ key1 }
     ensures last { both_of result.key2 result.key3 ≡ last }
 {
