@@ -199,6 +199,19 @@ fn made(
     })
 }
 
+// How many there are.
+fn count_of(devices: &[Option<Device>; 4]) -> usize {
+    devices.iter().filter(|device| device.is_some()).count()
+}
+
+// How many devices have to go for this one.
+fn displaced(devices: &mut Devices, device: Device) -> usize {
+    match take_over(devices, device) {
+        Ok(taken) => count_of(&taken.1),
+        Err(_) => 0,
+    }
+}
+
 fn script(alloc: Global, devices: &mut Devices) -> Result<String, AllocError> {
     let first = add(devices, made(alloc, (1, 10, 100), "door")?).is_ok();
     let second = add(devices, made(alloc, (2, 20, 200), "lamp")?).is_ok();
@@ -211,10 +224,7 @@ fn script(alloc: Global, devices: &mut Devices) -> Result<String, AllocError> {
         with_serial(devices, 2).is_some(),
     );
     let exchanged = exchange(devices, 2, made(alloc, (4, 20, 400), "lamp")?).is_ok();
-    let displaced = match take_over(devices, made(alloc, (5, 10, 400), "bell")?) {
-        Ok((_, gone)) => gone.iter().flatten().count(),
-        Err(_) => 0,
-    };
+    let displaced = displaced(devices, made(alloc, (5, 10, 400), "bell")?);
     let removed = (
         remove(devices, "bell").is_some(),
         remove(devices, "door").is_some(),
