@@ -8,12 +8,12 @@ use Rattle.uses.proofs.registry.Registry.register.Goals as goal
 
 pub invariant_of-self : goal.invariant_of-self
 invariant_of-self c =
-    rw c.in-Ok.ensures.stored
+    rw c.in-Ok.ensures.inserts.stored
     (IsDense-inserted c.self.inside.entries.store c.self.invariant (record { name = c.args.name }))
 
 pub returns-in-Ok-clause-registered : goal.returns-in-Ok-clause-registered
 returns-in-Ok-clause-registered c =
-    let out = c.in-Ok.ensures in
+    let out = c.in-Ok.ensures.inserts in
     rw (out.stored, ← c.self.view_is)
     (names_of-inserted c.self.inside.entries.store c.self.invariant (record { name = c.args.name }))
 
@@ -21,7 +21,7 @@ pub returns-in-Ok-clause-was_new : goal.returns-in-Ok-clause-was_new
 returns-in-Ok-clause-was_new c = λ _ here.
     let named = rw (← c.self.view_is) at here in
     let hit = contained_hit c.self.inside.entries.store c.self.invariant (string_bytes c.args.name) named in
-    c.in-Ok.ensures.no_conflict hit.0 hit.1
+    c.in-Ok.ensures.inserts.no_conflict hit.0 hit.1
 
 pub returns-in-Err-Duplicate-clause-taken : goal.returns-in-Err-Duplicate-clause-taken
 returns-in-Err-Duplicate-clause-taken c =
@@ -29,5 +29,5 @@ returns-in-Err-Duplicate-clause-taken c =
     let name = string_bytes c.args.name in
     let at = c.in-Err-Duplicate.at in
     let scan : AnswersScan s (λ (entry : Entry). bytes_eq name (string_bytes entry.name)) (Some at) =
-    search (rules, c.in-Err-Duplicate.ensures) in
+    search (rules, c.in-Err-Duplicate.ensures.inserts) in
     rw (← c.self.view_is) (hit_named s c.self.invariant name at ((scan at).1 refl))
