@@ -18,5 +18,6 @@ pub use Rattle.iddqd_map.specs.PairConflict
 pub use Rattle.iddqd_map.specs.OneKey
 pub use Rattle.iddqd_map.specs.TwoKeys
 pub use Rattle.iddqd_map.specs.ThreeKeys
+pub use Rattle.iddqd_ord_map.specs.ByOrder
 pub use Rattle.iddqd_ord_map.specs.OrdMap
 pub use Rattle.iddqd_ord_map.specs.KeyOrder
