@@ -21,4 +21,4 @@ ends_first s None none = none
 ends_first s (Some ix) (session, live, least) = (session, live, λ j other there. at_most other.ends session.ends (least j other there))
 
 pub returns : goal.returns
-returns c = ends_first c.args.sessions.now.store c.first.result c.first.ensures
+returns c = ends_first c.args.sessions.now.store c.first.result (rw c.parts.ensures.items at c.first.ensures)
