@@ -17,8 +17,7 @@ ghost use Rattle.iddqd_map.specs.Indexing.{Indexes};
 use crate::hashed_plan::plan_move;
 use crate::hashed_query::{find_under, take_by};
 use crate::key_index::{
-    AsksAt, Checks, Conflicts, HashedAt, Here, Inserts, KeyIndex, Moves, Overwrites, Removes,
-    Sizes, TakesAt,
+    AsksAt, Checks, HashedAt, Here, Inserts, KeyIndex, Moves, Removes, Sizes, TakesAt,
 };
 use crate::of_item::{commit_item, find_item, take_item, validate_table};
 use iddqd::index_remap::IndexRemap;
@@ -66,6 +65,10 @@ where
     ghost use Rattle.iddqd_map.specs.HashLaws.{shares_laws, Indexes-modified, Indexes-same, told_one, few_one};
     ghost use Rattle.iddqd_sides.proofs.FindLemmas.{IsLawful-from_bounds};
 
+    type Conflict = ItemIndex;
+
+    type Asked = Option<MapHash>;
+
     ghost Keys = { K };
 
     ghost keys = { E.key_of };
@@ -87,6 +90,14 @@ where
 
     ghost same = { λ x y. filed y.table ≡ filed x.table };
 
+    ghost key_count = { 1 };
+
+    ghost conflicts = { λ s item at. AnswersScan s (shares E.key_of K.eq item) (Some at) };
+
+    ghost taken = { λ s ix item at. (at ≢ ix) × AnswersScan s (shares E.key_of K.eq item) (Some at) };
+
+    ghost tells = { λ at ix. ix ≡ at };
+
     ghost same_as_itself = { λ x. refl };
 
     ghost same_indexes = { λ x y state s same is. subst (λ m. Indexes E.key_of (hashing_of K.eq K.hash_input
@@ -106,10 +117,14 @@ where
 
     ghost equivalence = { shares_laws E.key_of K.eq K.Eq.laws };
 
-    ghost same_are_alike = { λ x y same. same };
+    ghost told = { λ s item at is ix. told_one s (shares E.key_of K.eq item) at is ix };
 
-    fn capacity(&self) -> usize {
-        self.table.capacity()
+    ghost told_some = { λ s item at is. (at, refl) };
+
+    ghost few_told = { few_one };
+
+    fn unasked() -> Option<MapHash> {
+        None
     }
 }
 
@@ -119,6 +134,10 @@ where
     K: Eq + Hash + Drop,
     S: BuildHasher,
 {
+    fn capacity(&self) -> usize {
+        self.table.capacity()
+    }
+
     fn new(alloc: Global) -> ByHash<E, K> {
         ByHash {
             table: MapHashTable::new(alloc),
@@ -149,66 +168,14 @@ where
     }
 }
 
-impl<T, S, E, K> Conflicts<T, S> for ByHash<E, K>
-where
-    E: KeyOf<T, Key = K>,
-    K: Eq + Hash + Drop,
-    S: BuildHasher,
-{
-    ghost use Rattle.std.proofs.Common.{refl, sym, subst};
-    ghost use Rattle.std.specs.Cmp.{partial_equiv_from_equiv};
-    ghost use Rattle.std.specs.Prelude.{◌≢◌, ◌≤◌, ℕ, Some, false};
-    ghost use Rattle.iddqd_hash.specs.HashTable.{room, capacity, memory};
-    ghost use Rattle.iddqd_hash.specs.Sizes.{most_cells};
-    ghost use Rattle.iddqd_hash.specs.MapHashTable.{filed};
-    ghost use Rattle.iddqd_map.specs.Map.{shares};
-    ghost use Rattle.iddqd_map.specs.Hashed.{moves};
-    ghost use Rattle.iddqd_map.specs.Indexing.{Plans};
-    ghost use Rattle.iddqd_map.specs.HashLaws.{shares_laws, Indexes-modified, Indexes-same, told_one, few_one};
-    ghost use Rattle.iddqd_sides.proofs.FindLemmas.{IsLawful-from_bounds};
-
-    type Conflict = ItemIndex;
-
-    ghost key_count = { 1 };
-
-    ghost conflicts = { λ s item at. AnswersScan s (shares E.key_of K.eq item) (Some at) };
-
-    ghost taken = { λ s ix item at. (at ≢ ix) × AnswersScan s (shares E.key_of K.eq item) (Some at) };
-
-    ghost tells = { λ at ix. ix ≡ at };
-
-    ghost told = { λ s item at is ix. told_one s (shares E.key_of K.eq item) at is ix };
-
-    ghost told_some = { λ s item at is. (at, refl) };
-
-    ghost few_told = { few_one };
-
-    fn next_told(conflict: &ItemIndex, before: Option<ItemIndex>) -> Option<ItemIndex> {
-        let at = *conflict;
-        match before {
-            Some(before) if at <= before => None,
-            _ => Some(at),
-        }
-    }
-}
-
 impl<T, S, E, K> Inserts<T, S> for ByHash<E, K>
 where
     E: KeyOf<T, Key = K>,
     K: Eq + Hash + Drop,
     S: BuildHasher,
 {
-    ghost use Rattle.std.proofs.Common.{refl, sym, subst};
-    ghost use Rattle.std.specs.Cmp.{partial_equiv_from_equiv};
-    ghost use Rattle.std.specs.Prelude.{◌≢◌, ◌≤◌, ℕ, Some, false};
-    ghost use Rattle.iddqd_hash.specs.HashTable.{room, capacity, memory};
-    ghost use Rattle.iddqd_hash.specs.Sizes.{most_cells};
-    ghost use Rattle.iddqd_hash.specs.MapHashTable.{filed};
-    ghost use Rattle.iddqd_map.specs.Map.{shares};
-    ghost use Rattle.iddqd_map.specs.Hashed.{moves};
-    ghost use Rattle.iddqd_map.specs.Indexing.{Plans};
-    ghost use Rattle.iddqd_map.specs.HashLaws.{shares_laws, Indexes-modified, Indexes-same, told_one, few_one};
-    ghost use Rattle.iddqd_sides.proofs.FindLemmas.{IsLawful-from_bounds};
+    ghost use Rattle.std.specs.Prelude.{◌≤◌};
+    ghost use Rattle.iddqd_hash.specs.HashTable.{room};
 
     type Known = MapHash;
 
@@ -224,6 +191,8 @@ where
     ghost is_planned = { λ x state s item plan. Unit {0} };
 
     ghost has_room_for = { λ x plan. 1 ≤ room x.table };
+
+    ghost is_ready_after = { λ x. Unit {0} };
 
     ghost same_plans = { λ x y state s item plan same is. is };
 
@@ -253,6 +222,24 @@ where
     fn insert(&mut self, known: MapHash, plan: &(), ix: ItemIndex) {
         self.table.insert_prehashed_unchecked(known, ix);
     }
+
+    fn next_told(conflict: &ItemIndex, before: Option<ItemIndex>) -> Option<ItemIndex> {
+        let at = *conflict;
+        match before {
+            Some(before) if at <= before => None,
+            _ => Some(at),
+        }
+    }
+
+    fn spot(&self, items: &ItemSet<T>, state: &S, known: MapHash, item: &T) {}
+
+    fn ready_after(&mut self, items: &ItemSet<T>, state: &S) -> Result<(), AllocError> {
+        Ok(())
+    }
+
+    fn give_way(&mut self, items: &ItemSet<T>, state: &S, ix: ItemIndex) {
+        take_item::<T, E, S>(&mut self.table, items, state, ix);
+    }
 }
 
 impl<T, S, E, K> Removes<T, S> for ByHash<E, K>
@@ -274,56 +261,14 @@ where
     }
 }
 
-impl<T, S, E, K> Overwrites<T, S> for ByHash<E, K>
-where
-    E: KeyOf<T, Key = K>,
-    K: Eq + Hash + Drop,
-    S: BuildHasher,
-{
-    ghost use Rattle.std.proofs.Common.{refl, sym, subst};
-    ghost use Rattle.std.specs.Cmp.{partial_equiv_from_equiv};
-    ghost use Rattle.std.specs.Prelude.{◌≢◌, ◌≤◌, ℕ, Some, false};
-    ghost use Rattle.iddqd_hash.specs.HashTable.{room, capacity, memory};
-    ghost use Rattle.iddqd_hash.specs.Sizes.{most_cells};
-    ghost use Rattle.iddqd_hash.specs.MapHashTable.{filed};
-    ghost use Rattle.iddqd_map.specs.Map.{shares};
-    ghost use Rattle.iddqd_map.specs.Hashed.{moves};
-    ghost use Rattle.iddqd_map.specs.Indexing.{Plans};
-    ghost use Rattle.iddqd_map.specs.HashLaws.{shares_laws, Indexes-modified, Indexes-same, told_one, few_one};
-    ghost use Rattle.iddqd_sides.proofs.FindLemmas.{IsLawful-from_bounds};
-
-    ghost is_ready_after = { λ x. Unit {0} };
-
-    fn spot(&self, items: &ItemSet<T>, state: &S, known: MapHash, item: &T) {}
-
-    fn ready_after(&mut self, items: &ItemSet<T>, state: &S) -> Result<(), AllocError> {
-        Ok(())
-    }
-
-    fn give_way(&mut self, items: &ItemSet<T>, state: &S, ix: ItemIndex) {
-        take_item::<T, E, S>(&mut self.table, items, state, ix);
-    }
-}
-
 impl<T, S, E, K> Moves<T, S> for ByHash<E, K>
 where
     E: KeyOf<T, Key = K>,
     K: Eq + Hash + Drop,
     S: BuildHasher,
 {
-    ghost use Rattle.std.proofs.Common.{refl, sym, subst};
-    ghost use Rattle.std.specs.Cmp.{partial_equiv_from_equiv};
-    ghost use Rattle.std.specs.Prelude.{◌≢◌, ◌≤◌, ℕ, Some, false};
-    ghost use Rattle.iddqd_hash.specs.HashTable.{room, capacity, memory};
-    ghost use Rattle.iddqd_hash.specs.Sizes.{most_cells};
-    ghost use Rattle.iddqd_hash.specs.MapHashTable.{filed};
-    ghost use Rattle.iddqd_map.specs.Map.{shares};
     ghost use Rattle.iddqd_map.specs.Hashed.{moves};
     ghost use Rattle.iddqd_map.specs.Indexing.{Plans};
-    ghost use Rattle.iddqd_map.specs.HashLaws.{shares_laws, Indexes-modified, Indexes-same, told_one, few_one};
-    ghost use Rattle.iddqd_sides.proofs.FindLemmas.{IsLawful-from_bounds};
-
-    type Asked = Option<MapHash>;
 
     type Move = Move;
 
@@ -333,10 +278,6 @@ where
     ghost moves = { moves };
 
     ghost is_ready = { λ x plan. Unit {0} };
-
-    fn unasked() -> Option<MapHash> {
-        None
-    }
 
     fn plan_move(
         &self,
@@ -371,6 +312,8 @@ where
     K: Eq + Hash + Drop,
     S: BuildHasher,
 {
+    ghost same_are_alike = { λ x y same. same };
+
     fn copied(&self) -> Result<ByHash<E, K>, AllocError> {
         Ok(ByHash {
             table: self.table.clone()?,

@@ -34,6 +34,11 @@ pub trait KeyIndex<T, S>: Sized + Drop {
     ghost use Rattle.iddqd_sides.specs.Scan.{AreApart, IsHit};
     ghost use Rattle.iddqd_map.specs.KeyIndex.{HaveSameKeys};
 
+    /// The items that an item is alike to: at least one.
+    type Conflict: Copy;
+    /// What a look-up computed of the keys of a stored item, as far as it did.
+    type Asked: Copy;
+
     // The keys of an item.
     ghost Keys: { Type 0 };
 
@@ -62,9 +67,19 @@ pub trait KeyIndex<T, S>: Sized + Drop {
     // It means the same, whatever memory it has.
     ghost same: { Self → Self → Type 0 };
 
-    /// How many indexes it can hold without more memory.
-    fn capacity(&self) -> usize
-        ensures { result ≡ capacity self.now };
+    // How many items an item can be alike to: no more than there are keys.
+    ghost key_count: { ℕ };
+
+    ghost conflicts: { Store T → T → Self.Conflict → Type 0 };
+
+    // The same of items other than the one at the index.
+    ghost taken: { Store T → ℕ → T → Self.Conflict → Type 0 };
+
+    // The index is one of these.
+    ghost tells: { Self.Conflict → ℕ → Type 0 };
+
+    /// Nothing that a look-up computed.
+    fn unasked() -> Self::Asked;
 
     // What means the same indexes the same, and keeps plans.
     ghost same_as_itself: { (x : Self) → same x x };
@@ -84,12 +99,23 @@ pub trait KeyIndex<T, S>: Sized + Drop {
     // To share all keys is an equivalence.
     ghost equivalence: { IsEquivalence same_keys };
 
-    // Items that share all keys share one.
-    ghost same_are_alike: { (x y : T) → same_keys x y ≡ true → alike x y ≡ true };
+    // What is told are exactly the items that the item is alike to.
+    ghost told: { (s : Store T) (item : T) (at : Self.Conflict) → conflicts s item at → (ix : ℕ)
+        → tells at ix ↔ IsHit s (alike item) ix };
+
+    // At least one is told, and never more than there are keys.
+    ghost told_some: { (s : Store T) (item : T) (at : Self.Conflict) → conflicts s item at → (ix : ℕ) × tells at ix };
+
+    ghost few_told: { (at : Self.Conflict) → (l : List ℕ) × (length l ≤ key_count)
+        × ((ix : ℕ) → tells at ix → Contains l ix) };
 }
 
 /// A key index whose memory can be taken ahead and given back.
 pub trait Sizes<T, S>: KeyIndex<T, S> {
+    /// How many indexes it can hold without more memory.
+    fn capacity(&self) -> usize
+        ensures { result ≡ Self.capacity self.now };
+
     /// One over a store without items. It takes no memory.
     fn new(alloc: Global) -> Self
         ensures none { IndexesNone (Self.indexes result) }
@@ -132,55 +158,14 @@ pub trait Sizes<T, S>: KeyIndex<T, S> {
         ensures succeeds { max least (live_count items.now.store) ≡ 0 → IsOk result };
 }
 
-/// A key index that tells which items share a key with one.
-pub trait Conflicts<T, S>: KeyIndex<T, S> {
-    ghost use Rattle.std.specs.Prelude.{ℕ, Bool, List, Some, ◌↔◌};
-    ghost use Rattle.std.specs.List.{Contains};
-    ghost use Rattle.std.specs.Cmp.{IsEquivalence};
-    ghost use Rattle.iddqd.specs.Store.{Store, get};
-    ghost use Rattle.iddqd_sides.specs.Scan.{AreApart, IsHit};
-    ghost use Rattle.iddqd_map.specs.KeyIndex.{HaveSameKeys};
-
-    /// The items that an item is alike to: at least one.
-    type Conflict: Copy;
-
-    // How many there are, and so how many items an item can be alike to.
-    ghost key_count: { ℕ };
-
-    ghost conflicts: { Store T → T → Self.Conflict → Type 0 };
-
-    // The same of items other than the one at the index.
-    ghost taken: { Store T → ℕ → T → Self.Conflict → Type 0 };
-
-    // The index is one of these.
-    ghost tells: { Self.Conflict → ℕ → Type 0 };
-
-    /// The next index of the items that were told, past one or from the first on.
-    fn next_told(conflict: &Self::Conflict, before: Option<ItemIndex>) -> Option<ItemIndex>
-        ensures { IsNextTold (tells conflict.now) before result };
-
-    // What is told are exactly the items that the item is alike to.
-    ghost told: { (s : Store T) (item : T) (at : Self.Conflict) → conflicts s item at → (ix : ℕ)
-        → tells at ix ↔ IsHit s (Self.alike item) ix };
-
-    // At least one is told, and never more than there are keys.
-    ghost told_some: { (s : Store T) (item : T) (at : Self.Conflict) → conflicts s item at → (ix : ℕ) × tells at ix };
-
-    ghost few_told: { (at : Self.Conflict) → (l : List ℕ) × (length l ≤ key_count)
-        × ((ix : ℕ) → tells at ix → Contains l ix) };
-}
-
 /// A key index that takes another item.
 ///
 /// `look_up` finds where it may go, or the items that it shares a key with; `plan` says where under its index;
-/// `make_room` takes the memory; then `insert` can't fail.
-pub trait Inserts<T, S>: Conflicts<T, S> {
-    ghost use Rattle.std.specs.Prelude.{ℕ, Bool, List, Some, ◌↔◌};
-    ghost use Rattle.std.specs.List.{Contains};
-    ghost use Rattle.std.specs.Cmp.{IsEquivalence};
-    ghost use Rattle.iddqd.specs.Store.{Store, get};
-    ghost use Rattle.iddqd_sides.specs.Scan.{AreApart, IsHit};
-    ghost use Rattle.iddqd_map.specs.KeyIndex.{HaveSameKeys};
+/// `make_room` takes the memory; then `insert` can't fail. Where those that share a key are to give way, `ready_after`
+/// takes the memory, if any is needed; they give way; then `spot`, `plan` and `insert` can't fail.
+pub trait Inserts<T, S>: KeyIndex<T, S> {
+    ghost use Rattle.std.specs.Prelude.{ℕ};
+    ghost use Rattle.iddqd.specs.Store.{Store};
 
     /// What is computed of an item's keys alone, once: their hashes.
     type Known: Copy;
@@ -196,6 +181,9 @@ pub trait Inserts<T, S>: Conflicts<T, S> {
     ghost is_planned: { Self → S → Store T → T → Self.Plan → Type 0 };
 
     ghost has_room_for: { Self → Self.Plan → Type 0 };
+
+    // It is ready for an insert that comes after a removal.
+    ghost is_ready_after: { Self → Type 0 };
 
     /// What is computed of an item's keys alone.
     fn known(state: &S, item: &T) -> Self::Known
@@ -254,6 +242,37 @@ pub trait Inserts<T, S>: Conflicts<T, S> {
         ensures capacity { Self.capacity self.new ≡ Self.capacity self.old }
         ensures cells { Self.cells self.new ≡ Self.cells self.old };
 
+    /// The next index of the items that were told, past one or from the first on.
+    fn next_told(conflict: &Self::Conflict, before: Option<ItemIndex>) -> Option<ItemIndex>
+        ensures { IsNextTold (Self.tells conflict.now) before result };
+
+    /// Where an item may go that is alike to none.
+    fn spot(&self, items: &ItemSet<T>, state: &S, known: Self::Known, item: &T) -> Self::Spot
+        requires hashed { is_known state.now item.now known }
+        requires indexed { Self.indexes self.now state.now items.now.store }
+        requires apart { HasNoHit items.now.store (Self.alike item.now) }
+        ensures { is_spot self.now state.now items.now.store item.now result };
+
+    /// Makes ready for an insert that comes after a removal. Below the capacity it takes no memory.
+    fn ready_after(&mut self, items: &ItemSet<T>, state: &S) -> Result<(), AllocError>
+        requires indexed { Self.indexes self.old state.now items.now.store }
+        ensures contents { Self.same self.old self.new }
+        ensures ready { OnOk result (is_ready_after self.new) }
+        ensures may_lack { OnErr result (Self.may_lack ≡ true) }
+        ensures past { OnErr result (Self.capacity self.old < live_count items.now.store) }
+        ensures capacity { Self.capacity self.new ≡ Self.capacity self.old }
+        ensures cells { Self.cells self.new ≡ Self.cells self.old };
+
+    /// Takes a live index out, as `remove`, so that there is room for the insert that follows.
+    fn give_way(&mut self, items: &ItemSet<T>, state: &S, ix: ItemIndex)
+        requires live { IsLive items.now.store ix }
+        requires indexed { Self.indexes self.old state.now items.now.store }
+        ensures indexed { Self.indexes self.new state.now (removed items.now.store ix) }
+        ensures capacity { Self.capacity self.new ≡ Self.capacity self.old }
+        ensures cells { Self.cells self.new ≡ Self.cells self.old }
+        ensures ready { is_ready_after self.old → is_ready_after self.new }
+        ensures roomy { (plan : Self.Plan) → is_ready_after self.old → has_room_for self.new plan };
+
     ghost same_plans: { (x y : Self) (state : S) (s : Store T) (item : T) (plan : Self.Plan) → Self.same x y
         → is_planned x state s item plan → is_planned y state s item plan };
 }
@@ -282,62 +301,14 @@ pub trait Removes<T, S>: KeyIndex<T, S> {
         ensures cells { Self.cells self.new ≡ Self.cells self.old };
 }
 
-/// A key index that takes an item in the place of those that share a key with it.
-///
-/// `ready_after` takes the memory, if any is needed; then those give way, and the insert that follows can't fail.
-pub trait Overwrites<T, S>: Inserts<T, S> {
-    ghost use Rattle.std.specs.Prelude.{ℕ, Bool, List, Some, ◌↔◌};
-    ghost use Rattle.std.specs.List.{Contains};
-    ghost use Rattle.std.specs.Cmp.{IsEquivalence};
-    ghost use Rattle.iddqd.specs.Store.{Store, get};
-    ghost use Rattle.iddqd_sides.specs.Scan.{AreApart, IsHit};
-    ghost use Rattle.iddqd_map.specs.KeyIndex.{HaveSameKeys};
-
-    // It is ready for an insert that comes after a removal.
-    ghost is_ready_after: { Self → Type 0 };
-
-    /// Where an item may go that is alike to none.
-    fn spot(&self, items: &ItemSet<T>, state: &S, known: Self::Known, item: &T) -> Self::Spot
-        requires hashed { Self.is_known state.now item.now known }
-        requires indexed { Self.indexes self.now state.now items.now.store }
-        requires apart { HasNoHit items.now.store (Self.alike item.now) }
-        ensures { Self.is_spot self.now state.now items.now.store item.now result };
-
-    /// Makes ready for an insert that comes after a removal. Below the capacity it takes no memory.
-    fn ready_after(&mut self, items: &ItemSet<T>, state: &S) -> Result<(), AllocError>
-        requires indexed { Self.indexes self.old state.now items.now.store }
-        ensures contents { Self.same self.old self.new }
-        ensures ready { OnOk result (is_ready_after self.new) }
-        ensures may_lack { OnErr result (Self.may_lack ≡ true) }
-        ensures past { OnErr result (Self.capacity self.old < live_count items.now.store) }
-        ensures capacity { Self.capacity self.new ≡ Self.capacity self.old }
-        ensures cells { Self.cells self.new ≡ Self.cells self.old };
-
-    /// Takes a live index out, as `remove`, so that there is room for the insert that follows.
-    fn give_way(&mut self, items: &ItemSet<T>, state: &S, ix: ItemIndex)
-        requires live { IsLive items.now.store ix }
-        requires indexed { Self.indexes self.old state.now items.now.store }
-        ensures indexed { Self.indexes self.new state.now (removed items.now.store ix) }
-        ensures capacity { Self.capacity self.new ≡ Self.capacity self.old }
-        ensures cells { Self.cells self.new ≡ Self.cells self.old }
-        ensures ready { is_ready_after self.old → is_ready_after self.new }
-        ensures roomy { (plan : Self.Plan) → is_ready_after self.old → Self.has_room_for self.new plan };
-}
-
 /// A key index that gives a live index another item.
 ///
 /// `plan_move` finds what becomes of it, or the other items that share a key; `ready_move` takes the memory, if any is
 /// needed; then `commit_move` can't fail.
-pub trait Moves<T, S>: Conflicts<T, S> {
-    ghost use Rattle.std.specs.Prelude.{ℕ, Bool, List, Some, ◌↔◌};
-    ghost use Rattle.std.specs.List.{Contains};
-    ghost use Rattle.std.specs.Cmp.{IsEquivalence};
-    ghost use Rattle.iddqd.specs.Store.{Store, get};
-    ghost use Rattle.iddqd_sides.specs.Scan.{AreApart, IsHit};
-    ghost use Rattle.iddqd_map.specs.KeyIndex.{HaveSameKeys};
+pub trait Moves<T, S>: KeyIndex<T, S> {
+    ghost use Rattle.std.specs.Prelude.{ℕ, Bool};
+    ghost use Rattle.iddqd.specs.Store.{Store};
 
-    /// What a look-up computed of the keys of a stored item, as far as it did.
-    type Asked: Copy;
     /// What becomes of a live index that is given another item.
     type Move: Drop;
 
@@ -347,9 +318,6 @@ pub trait Moves<T, S>: Conflicts<T, S> {
     ghost moves: { Self.Move → Bool };
 
     ghost is_ready: { Self → Self.Move → Type 0 };
-
-    /// Nothing that a look-up computed.
-    fn unasked() -> Self::Asked;
 
     /// What becomes of a live index that is given this item, or the other items that it is alike to.
     fn plan_move(
@@ -401,6 +369,8 @@ pub trait Moves<T, S>: Conflicts<T, S> {
 
 /// A key index that can be copied, compared and checked.
 pub trait Checks<T, S>: KeyIndex<T, S> {
+    ghost use Rattle.std.specs.Prelude.{true};
+
     /// One that indexes the same, and has no more memory.
     fn copied(&self) -> Result<Self, AllocError>
         ensures contents { IfOk result (λ copy. IndexesAllOf (Self.indexes self.now) (Self.indexes copy)) }
@@ -428,6 +398,9 @@ pub trait Checks<T, S>: KeyIndex<T, S> {
         requires allowed { Allows compactness (length items.now.store.free) }
         requires indexed { Self.indexes self.now state.now items.now.store }
         ensures { Validates (Allows compactness (length items.now.store.free)) result };
+
+    // Items that share all keys share one.
+    ghost same_are_alike: { (x y : T) → Self.same_keys x y ≡ true → Self.alike x y ≡ true };
 }
 
 /// Where a key index has a key by its hash: `Here` in a leaf, else to the left or the right in a pair.
@@ -496,7 +469,7 @@ pub trait TakesQuery<Q, T, S>: KeyIndex<T, S> {
 }
 
 /// The same, where the item that was found is to become another one.
-pub trait AsksAt<P, T, S>: HashedAt<P, T, S> + Moves<T, S> {
+pub trait AsksAt<P, T, S>: HashedAt<P, T, S> {
     /// Finds as `find` does, and keeps what was computed for that.
     fn ask<Q: HashQuery<Self::Key>>(
         &self,

@@ -9,8 +9,7 @@ ghost use Rattle.iddqd_map.specs.KeyIndex.{IsNextTold};
 ghost use Rattle.iddqd_map.specs.PairConflict.{IsToldBy, first_of, second_of, lesser_of};
 
 use crate::key_index::{
-    AsksAt, Checks, Conflicts, HashedAt, Inserts, KeyIndex, Left, Moves, Overwrites, Removes,
-    Right, Sizes, TakesAt,
+    AsksAt, Checks, HashedAt, Inserts, KeyIndex, Left, Moves, Removes, Right, Sizes, TakesAt,
 };
 use crate::pair_conflict::{PairConflict, TellsPair};
 use iddqd::index_remap::IndexRemap;
@@ -35,6 +34,7 @@ impl<T, S, A, B, C> KeyIndex<T, S> for Pair<A, B, C>
 where
     A: KeyIndex<T, S>,
     B: KeyIndex<T, S>,
+    C: TellsPair<A::Conflict, B::Conflict>,
 {
     ghost use Rattle.std.specs.Prelude.{◌||◌, ◌+◌, ◌⊎◌, min};
     ghost use Rattle.iddqd_map.specs.Several.{either_key, both_keys};
@@ -42,6 +42,10 @@ where
     ghost use Rattle.std.proofs.Common.{ap};
     ghost use Rattle.std.proofs.lemmas.Cmp.{and_equiv};
     ghost use Rattle.iddqd_map.specs.PairLaws.{AreApart-either, HaveSameKeys-first, HaveSameKeys-second, alike_both, told_one, told_both, told_some, few_one, few_both};
+
+    type Conflict = C;
+
+    type Asked = (A::Asked, B::Asked);
 
     ghost Keys = { A.Keys × B.Keys };
 
@@ -62,6 +66,16 @@ where
     ghost may_lack = { A.may_lack || B.may_lack };
 
     ghost same = { λ x y. A.same x.first y.first × B.same x.second y.second };
+
+    ghost key_count = { A.key_count + B.key_count };
+
+    ghost conflicts = { λ s item at. TellBoth A.alike B.alike A.conflicts B.conflicts s item (C.first at)
+        (C.second at) };
+
+    ghost taken = { λ s ix item at. TellBothOther A.alike B.alike A.taken B.taken s ix item (C.first at)
+        (C.second at) };
+
+    ghost tells = { λ at. IsEither (IsToldBy A.tells (C.first at)) (IsToldBy B.tells (C.second at)) };
 
     ghost same_as_itself = { λ x. (A.same_as_itself x.first, B.same_as_itself x.second) };
 
@@ -85,10 +99,20 @@ where
 
     ghost equivalence = { and_equiv A.equivalence B.equivalence };
 
-    ghost same_are_alike = { alike_both A.same_keys B.same_keys A.alike A.same_are_alike B.alike };
+    ghost told = { λ s item at conflicts ix. told_both A.alike B.alike s item (IsToldBy A.tells (C.first at))
+        (IsToldBy B.tells (C.second at)) ix
+        (told_one A.tells A.alike A.conflicts s item (A.told s item) (C.first at) conflicts.first ix)
+        (told_one B.tells B.alike B.conflicts s item (B.told s item) (C.second at) conflicts.second ix) };
 
-    fn capacity(&self) -> usize {
-        self.first.capacity().min(self.second.capacity())
+    ghost told_some = { λ s item at conflicts. told_some A.tells B.tells A.conflicts B.conflicts s item A.alike B.alike
+        (A.told_some s item) (B.told_some s item) (C.first at) (C.second at) conflicts };
+
+    ghost few_told = { λ at. few_both (IsToldBy A.tells (C.first at)) (IsToldBy B.tells (C.second at)) A.key_count
+        B.key_count (few_one A.tells A.key_count A.few_told (C.first at))
+        (few_one B.tells B.key_count B.few_told (C.second at)) };
+
+    fn unasked() -> (A::Asked, B::Asked) {
+        (A::unasked(), B::unasked())
     }
 }
 
@@ -96,7 +120,12 @@ impl<T, S, A, B, C> Sizes<T, S> for Pair<A, B, C>
 where
     A: Sizes<T, S>,
     B: Sizes<T, S>,
+    C: TellsPair<A::Conflict, B::Conflict>,
 {
+    fn capacity(&self) -> usize {
+        self.first.capacity().min(self.second.capacity())
+    }
+
     fn new(alloc: Global) -> Pair<A, B, C> {
         Pair {
             first: A::new(alloc),
@@ -129,63 +158,12 @@ where
     }
 }
 
-impl<T, S, A, B, C> Conflicts<T, S> for Pair<A, B, C>
-where
-    A: Conflicts<T, S>,
-    B: Conflicts<T, S>,
-    C: TellsPair<A::Conflict, B::Conflict>,
-{
-    ghost use Rattle.std.specs.Prelude.{◌||◌, ◌+◌, ◌⊎◌, min};
-    ghost use Rattle.iddqd_map.specs.Several.{either_key, both_keys};
-    ghost use Rattle.iddqd_map.specs.PairConflict.{TellBoth, TellBothOther, IsEither, IsToldBy};
-    ghost use Rattle.std.proofs.Common.{ap};
-    ghost use Rattle.std.proofs.lemmas.Cmp.{and_equiv};
-    ghost use Rattle.iddqd_map.specs.PairLaws.{AreApart-either, HaveSameKeys-first, HaveSameKeys-second, alike_both, told_one, told_both, told_some, few_one, few_both};
-
-    type Conflict = C;
-
-    ghost key_count = { A.key_count + B.key_count };
-
-    ghost conflicts = { λ s item at. TellBoth A.alike B.alike A.conflicts B.conflicts s item (C.first at)
-        (C.second at) };
-
-    ghost taken = { λ s ix item at. TellBothOther A.alike B.alike A.taken B.taken s ix item (C.first at)
-        (C.second at) };
-
-    ghost tells = { λ at. IsEither (IsToldBy A.tells (C.first at)) (IsToldBy B.tells (C.second at)) };
-
-    ghost told = { λ s item at conflicts ix. told_both A.alike B.alike s item (IsToldBy A.tells (C.first at))
-        (IsToldBy B.tells (C.second at)) ix
-        (told_one A.tells A.alike A.conflicts s item (A.told s item) (C.first at) conflicts.first ix)
-        (told_one B.tells B.alike B.conflicts s item (B.told s item) (C.second at) conflicts.second ix) };
-
-    ghost told_some = { λ s item at conflicts. told_some A.tells B.tells A.conflicts B.conflicts s item A.alike B.alike
-        (A.told_some s item) (B.told_some s item) (C.first at) (C.second at) conflicts };
-
-    ghost few_told = { λ at. few_both (IsToldBy A.tells (C.first at)) (IsToldBy B.tells (C.second at)) A.key_count
-        B.key_count (few_one A.tells A.key_count A.few_told (C.first at))
-        (few_one B.tells B.key_count B.few_told (C.second at)) };
-
-    fn next_told(conflict: &C, before: Option<ItemIndex>) -> Option<ItemIndex> {
-        let first = next_of::<T, S, A>(conflict.first(), &before);
-        let second = next_of::<T, S, B>(conflict.second(), &before);
-        lesser(first, second)
-    }
-}
-
 impl<T, S, A, B, C> Inserts<T, S> for Pair<A, B, C>
 where
     A: Inserts<T, S>,
     B: Inserts<T, S>,
     C: TellsPair<A::Conflict, B::Conflict>,
 {
-    ghost use Rattle.std.specs.Prelude.{◌||◌, ◌+◌, ◌⊎◌, min};
-    ghost use Rattle.iddqd_map.specs.Several.{either_key, both_keys};
-    ghost use Rattle.iddqd_map.specs.PairConflict.{TellBoth, TellBothOther, IsEither, IsToldBy};
-    ghost use Rattle.std.proofs.Common.{ap};
-    ghost use Rattle.std.proofs.lemmas.Cmp.{and_equiv};
-    ghost use Rattle.iddqd_map.specs.PairLaws.{AreApart-either, HaveSameKeys-first, HaveSameKeys-second, alike_both, told_one, told_both, told_some, few_one, few_both};
-
     type Known = (A::Known, B::Known);
 
     type Spot = (A::Spot, B::Spot);
@@ -201,6 +179,8 @@ where
         × B.is_planned x.second state s item plan.1 };
 
     ghost has_room_for = { λ x plan. A.has_room_for x.first plan.0 × B.has_room_for x.second plan.1 };
+
+    ghost is_ready_after = { λ x. A.is_ready_after x.first × B.is_ready_after x.second };
 
     ghost same_plans = { λ x y state s item plan same is. (
       A.same_plans x.first y.first state s item plan.0 same.0 is.0,
@@ -258,43 +238,12 @@ where
         self.first.insert(known.0, &plan.0, ix);
         self.second.insert(known.1, &plan.1, ix);
     }
-}
 
-impl<T, S, A, B, C> Removes<T, S> for Pair<A, B, C>
-where
-    A: Removes<T, S>,
-    B: Removes<T, S>,
-{
-    fn remove(&mut self, items: &ItemSet<T>, state: &S, ix: ItemIndex) {
-        self.first.remove(items, state, ix);
-        self.second.remove(items, state, ix);
+    fn next_told(conflict: &C, before: Option<ItemIndex>) -> Option<ItemIndex> {
+        let first = next_of::<T, S, A>(conflict.first(), &before);
+        let second = next_of::<T, S, B>(conflict.second(), &before);
+        lesser(first, second)
     }
-
-    fn clear(&mut self) {
-        self.first.clear();
-        self.second.clear();
-    }
-
-    fn remap(&mut self, remap: &IndexRemap) {
-        self.first.remap(remap);
-        self.second.remap(remap);
-    }
-}
-
-impl<T, S, A, B, C> Overwrites<T, S> for Pair<A, B, C>
-where
-    A: Overwrites<T, S>,
-    B: Overwrites<T, S>,
-    C: TellsPair<A::Conflict, B::Conflict>,
-{
-    ghost use Rattle.std.specs.Prelude.{◌||◌, ◌+◌, ◌⊎◌, min};
-    ghost use Rattle.iddqd_map.specs.Several.{either_key, both_keys};
-    ghost use Rattle.iddqd_map.specs.PairConflict.{TellBoth, TellBothOther, IsEither, IsToldBy};
-    ghost use Rattle.std.proofs.Common.{ap};
-    ghost use Rattle.std.proofs.lemmas.Cmp.{and_equiv};
-    ghost use Rattle.iddqd_map.specs.PairLaws.{AreApart-either, HaveSameKeys-first, HaveSameKeys-second, alike_both, told_one, told_both, told_some, few_one, few_both};
-
-    ghost is_ready_after = { λ x. A.is_ready_after x.first × B.is_ready_after x.second };
 
     fn spot(
         &self,
@@ -320,20 +269,35 @@ where
     }
 }
 
+impl<T, S, A, B, C> Removes<T, S> for Pair<A, B, C>
+where
+    A: Removes<T, S>,
+    B: Removes<T, S>,
+    C: TellsPair<A::Conflict, B::Conflict>,
+{
+    fn remove(&mut self, items: &ItemSet<T>, state: &S, ix: ItemIndex) {
+        self.first.remove(items, state, ix);
+        self.second.remove(items, state, ix);
+    }
+
+    fn clear(&mut self) {
+        self.first.clear();
+        self.second.clear();
+    }
+
+    fn remap(&mut self, remap: &IndexRemap) {
+        self.first.remap(remap);
+        self.second.remap(remap);
+    }
+}
+
 impl<T, S, A, B, C> Moves<T, S> for Pair<A, B, C>
 where
     A: Moves<T, S>,
     B: Moves<T, S>,
     C: TellsPair<A::Conflict, B::Conflict>,
 {
-    ghost use Rattle.std.specs.Prelude.{◌||◌, ◌+◌, ◌⊎◌, min};
-    ghost use Rattle.iddqd_map.specs.Several.{either_key, both_keys};
-    ghost use Rattle.iddqd_map.specs.PairConflict.{TellBoth, TellBothOther, IsEither, IsToldBy};
-    ghost use Rattle.std.proofs.Common.{ap};
-    ghost use Rattle.std.proofs.lemmas.Cmp.{and_equiv};
-    ghost use Rattle.iddqd_map.specs.PairLaws.{AreApart-either, HaveSameKeys-first, HaveSameKeys-second, alike_both, told_one, told_both, told_some, few_one, few_both};
-
-    type Asked = (A::Asked, B::Asked);
+    ghost use Rattle.std.specs.Prelude.{◌||◌};
 
     type Move = (A::Move, B::Move);
 
@@ -342,10 +306,6 @@ where
     ghost moves = { λ plan. A.moves plan.0 || B.moves plan.1 };
 
     ghost is_ready = { λ x plan. A.is_ready x.first plan.0 × B.is_ready x.second plan.1 };
-
-    fn unasked() -> (A::Asked, B::Asked) {
-        (A::unasked(), B::unasked())
-    }
 
     fn plan_move(
         &self,
@@ -395,7 +355,12 @@ impl<T, S, A, B, C> Checks<T, S> for Pair<A, B, C>
 where
     A: Checks<T, S>,
     B: Checks<T, S>,
+    C: TellsPair<A::Conflict, B::Conflict>,
 {
+    ghost use Rattle.iddqd_map.specs.PairLaws.{alike_both};
+
+    ghost same_are_alike = { alike_both A.same_keys B.same_keys A.alike A.same_are_alike B.alike };
+
     fn copied(&self) -> Result<Pair<A, B, C>, AllocError> {
         Ok(Pair {
             first: self.first.copied()?,
@@ -440,7 +405,7 @@ fn first_with<A, B>(one: A, other: Option<B>) -> PairConflict<A, B>
 }
 
 // The next index past one that one of the two told, if it told any.
-fn next_of<T, S, X: Conflicts<T, S>>(
+fn next_of<T, S, X: Inserts<T, S>>(
     conflict: Option<X::Conflict>,
     before: &Option<ItemIndex>,
 ) -> Option<ItemIndex>
@@ -467,6 +432,7 @@ impl<P, T, S, A, B, C> HashedAt<Left<P>, T, S> for Pair<A, B, C>
 where
     A: HashedAt<P, T, S>,
     B: KeyIndex<T, S>,
+    C: TellsPair<A::Conflict, B::Conflict>,
 {
     type Key = A::Key;
 
@@ -486,6 +452,7 @@ impl<P, T, S, A, B, C> TakesAt<Left<P>, T, S> for Pair<A, B, C>
 where
     A: TakesAt<P, T, S>,
     B: Removes<T, S>,
+    C: TellsPair<A::Conflict, B::Conflict>,
 {
     fn take<Q: HashQuery<A::Key>>(
         &mut self,
@@ -502,7 +469,7 @@ where
 impl<P, T, S, A, B, C> AsksAt<Left<P>, T, S> for Pair<A, B, C>
 where
     A: AsksAt<P, T, S>,
-    B: Moves<T, S>,
+    B: KeyIndex<T, S>,
     C: TellsPair<A::Conflict, B::Conflict>,
 {
     fn ask<Q: HashQuery<A::Key>>(
@@ -520,6 +487,7 @@ impl<P, T, S, A, B, C> HashedAt<Right<P>, T, S> for Pair<A, B, C>
 where
     A: KeyIndex<T, S>,
     B: HashedAt<P, T, S>,
+    C: TellsPair<A::Conflict, B::Conflict>,
 {
     type Key = B::Key;
 
@@ -539,6 +507,7 @@ impl<P, T, S, A, B, C> TakesAt<Right<P>, T, S> for Pair<A, B, C>
 where
     A: Removes<T, S>,
     B: TakesAt<P, T, S>,
+    C: TellsPair<A::Conflict, B::Conflict>,
 {
     fn take<Q: HashQuery<B::Key>>(
         &mut self,
@@ -554,7 +523,7 @@ where
 
 impl<P, T, S, A, B, C> AsksAt<Right<P>, T, S> for Pair<A, B, C>
 where
-    A: Moves<T, S>,
+    A: KeyIndex<T, S>,
     B: AsksAt<P, T, S>,
     C: TellsPair<A::Conflict, B::Conflict>,
 {

@@ -27,7 +27,7 @@ use iddqd::internal::{ValidateCompact, ValidateRefusal, ValidationError};
 use iddqd::item_index::ItemIndex;
 use iddqd::item_set::ItemSet;
 use iddqd_map::key_index::{
-    Checks, Conflicts, Inserts, KeyIndex, Moves, Overwrites, Removes, Sizes, TakesQuery,
+    Checks, Inserts, KeyIndex, Moves, Removes, Sizes, TakesQuery,
 };
 use iddqd_order::btree_table::{Asking, Blocks, Gap, Iter, MapBTreeTable, Range};
 use iddqd_sides::key_of::{ByKey, KeyOf, key_at};
@@ -157,12 +157,16 @@ where
     E::Key: Ord,
 {
     ghost use Rattle.std.proofs.Common.{refl};
-    ghost use Rattle.std.specs.Prelude.{true};
+    ghost use Rattle.std.specs.Prelude.{◌≢◌, Some, true};
     ghost use Rattle.std.specs.Ordering.{eq_by_cmp};
     ghost use Rattle.iddqd_order.specs.MapBTreeTable.{HasSameTree};
     ghost use Rattle.iddqd_map.specs.Map.{shares};
     ghost use Rattle.iddqd_ord_map.specs.ByOrder.{reserved_for, most_cells};
-    ghost use Rattle.iddqd_ord_map.specs.ByOrderLaws.{Sorts-same_tree, Sorts-modified, Sorts-alike, shares_equivalence};
+    ghost use Rattle.iddqd_ord_map.specs.ByOrderLaws.{Sorts-same_tree, Sorts-modified, Sorts-alike, shares_equivalence, told_one, one_told};
+
+    type Conflict = ItemIndex;
+
+    type Asked = ();
 
     ghost Keys = { E.Key };
 
@@ -184,6 +188,14 @@ where
 
     ghost same = { λ x y. HasSameTree x.table y.table };
 
+    ghost key_count = { 1 };
+
+    ghost conflicts = { λ s item at. AnswersScan s (shares E.key_of (eq_by_cmp E.Key.cmp) item) (Some at) };
+
+    ghost taken = { λ s ix item at. (at ≢ ix) × AnswersScan s (shares E.key_of (eq_by_cmp E.Key.cmp) item) (Some at) };
+
+    ghost tells = { λ at ix. ix ≡ at };
+
     ghost same_as_itself = { λ x. record { root = refl; height = refl } };
 
     ghost same_indexes = { λ x y state s same is. Sorts-same_tree E.key_of E.Key.cmp s x.table y.table same is };
@@ -198,11 +210,13 @@ where
 
     ghost equivalence = { shares_equivalence E.key_of E.Key.cmp E.Key.total };
 
-    ghost same_are_alike = { λ x y same. same };
+    ghost told = { λ s item at scan ix. told_one s (shares E.key_of (eq_by_cmp E.Key.cmp) item) at scan ix };
 
-    fn capacity(&self) -> usize {
-        self.table.capacity().saturating_sub(FREE_INDEXES)
-    }
+    ghost told_some = { λ s item at scan. (at, refl) };
+
+    ghost few_told = { λ at. one_told at };
+
+    fn unasked() {}
 }
 
 impl<T, S, E> Sizes<T, S> for ByOrder<E>
@@ -210,6 +224,10 @@ where
     E: KeyOf<T>,
     E::Key: Ord,
 {
+    fn capacity(&self) -> usize {
+        self.table.capacity().saturating_sub(FREE_INDEXES)
+    }
+
     fn new(alloc: Global) -> ByOrder<E> {
         ByOrder {
             table: MapBTreeTable::new(alloc),
@@ -252,47 +270,12 @@ where
     }
 }
 
-impl<T, S, E> Conflicts<T, S> for ByOrder<E>
-where
-    E: KeyOf<T>,
-    E::Key: Ord,
-{
-    ghost use Rattle.std.proofs.Common.{refl};
-    ghost use Rattle.std.specs.Prelude.{◌≢◌, Some};
-    ghost use Rattle.std.specs.Ordering.{eq_by_cmp};
-    ghost use Rattle.iddqd_map.specs.Map.{shares};
-    ghost use Rattle.iddqd_ord_map.specs.ByOrderLaws.{told_one, one_told};
-
-    type Conflict = ItemIndex;
-
-    ghost key_count = { 1 };
-
-    ghost conflicts = { λ s item at. AnswersScan s (shares E.key_of (eq_by_cmp E.Key.cmp) item) (Some at) };
-
-    ghost taken = { λ s ix item at. (at ≢ ix) × AnswersScan s (shares E.key_of (eq_by_cmp E.Key.cmp) item) (Some at) };
-
-    ghost tells = { λ at ix. ix ≡ at };
-
-    ghost told = { λ s item at scan ix. told_one s (shares E.key_of (eq_by_cmp E.Key.cmp) item) at scan ix };
-
-    ghost told_some = { λ s item at scan. (at, refl) };
-
-    ghost few_told = { λ at. one_told at };
-
-    fn next_told(conflict: &ItemIndex, before: Option<ItemIndex>) -> Option<ItemIndex> {
-        match before {
-            Some(ix) if *conflict <= ix => None,
-            _ => Some(*conflict),
-        }
-    }
-}
-
 impl<T, S, E> Inserts<T, S> for ByOrder<E>
 where
     E: KeyOf<T>,
     E::Key: Ord,
 {
-    ghost use Rattle.iddqd_ord_map.specs.ByOrder.{IsGapFor, HasBlocksAt};
+    ghost use Rattle.iddqd_ord_map.specs.ByOrder.{IsGapFor, HasBlocksAt, HasBlocksAnywhere};
     ghost use Rattle.iddqd_ord_map.specs.ByOrderLaws.{IsGapFor-same_tree};
 
     type Known = ();
@@ -308,6 +291,8 @@ where
     ghost is_planned = { λ x state s item gap. IsGapFor E.key_of E.Key.cmp s x.table item gap };
 
     ghost has_room_for = { λ x gap. HasBlocksAt x.table x.blocks gap };
+
+    ghost is_ready_after = { λ x. HasBlocksAnywhere x.table x.blocks };
 
     ghost same_plans = { λ x y state s item gap same is.
         IsGapFor-same_tree E.key_of E.Key.cmp s x.table y.table item gap same is };
@@ -340,6 +325,29 @@ where
         let blocks = take_waiting(&mut self.blocks, &self.table);
         self.table.insert_in(plan, ix, blocks);
     }
+
+    fn next_told(conflict: &ItemIndex, before: Option<ItemIndex>) -> Option<ItemIndex> {
+        match before {
+            Some(ix) if *conflict <= ix => None,
+            _ => Some(*conflict),
+        }
+    }
+
+    fn spot(&self, items: &ItemSet<T>, state: &S, known: (), item: &T) -> Gap {
+        match place_of::<T, E>(&self.table, items, item) {
+            Ok(gap) => gap,
+            Err(_) => unreachable!(),
+        }
+    }
+
+    fn ready_after(&mut self, items: &ItemSet<T>, state: &S) -> Result<(), AllocError> {
+        self.blocks = Some(self.table.blocks_anywhere()?);
+        Ok(())
+    }
+
+    fn give_way(&mut self, items: &ItemSet<T>, state: &S, ix: ItemIndex) {
+        take_index::<T, E>(&mut self.table, items, ix);
+    }
 }
 
 impl<T, S, E> Removes<T, S> for ByOrder<E>
@@ -360,32 +368,6 @@ where
     }
 }
 
-impl<T, S, E> Overwrites<T, S> for ByOrder<E>
-where
-    E: KeyOf<T>,
-    E::Key: Ord,
-{
-    ghost use Rattle.iddqd_ord_map.specs.ByOrder.{HasBlocksAnywhere};
-
-    ghost is_ready_after = { λ x. HasBlocksAnywhere x.table x.blocks };
-
-    fn spot(&self, items: &ItemSet<T>, state: &S, known: (), item: &T) -> Gap {
-        match place_of::<T, E>(&self.table, items, item) {
-            Ok(gap) => gap,
-            Err(_) => unreachable!(),
-        }
-    }
-
-    fn ready_after(&mut self, items: &ItemSet<T>, state: &S) -> Result<(), AllocError> {
-        self.blocks = Some(self.table.blocks_anywhere()?);
-        Ok(())
-    }
-
-    fn give_way(&mut self, items: &ItemSet<T>, state: &S, ix: ItemIndex) {
-        take_index::<T, E>(&mut self.table, items, ix);
-    }
-}
-
 impl<T, S, E> Moves<T, S> for ByOrder<E>
 where
     E: KeyOf<T>,
@@ -395,8 +377,6 @@ where
     ghost use Rattle.iddqd_ord_map.specs.ByOrder.{IsReadyFor, moves};
     ghost use Rattle.iddqd_ord_map.specs.OrderedIndexing.{PlansOrConflicts};
 
-    type Asked = ();
-
     type Move = Move;
 
     ghost is_move = { λ state s ix item plan. PlansOrConflicts E.key_of E.Key.cmp s ix item (Ok plan) };
@@ -404,8 +384,6 @@ where
     ghost moves = { moves };
 
     ghost is_ready = { λ x plan. IsReadyFor x.table x.blocks plan };
-
-    fn unasked() {}
 
     fn plan_move(
         &self,
@@ -448,6 +426,8 @@ where
     E: KeyOf<T>,
     E::Key: Ord,
 {
+    ghost same_are_alike = { λ x y same. same };
+
     fn copied(&self) -> Result<ByOrder<E>, AllocError> {
         Ok(ByOrder {
             table: self.table.clone()?,

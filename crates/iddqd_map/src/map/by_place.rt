@@ -12,7 +12,7 @@ ghost use Rattle.iddqd_map.specs.Modify.{Modifies};
 use super::Map;
 use super::changes::change_found;
 use super::replaces::replace_found;
-use crate::key_index::{AsksAt, HashedAt, KeyIndex, TakesAt, TakesQuery};
+use crate::key_index::{AsksAt, HashedAt, KeyIndex, Moves, TakesAt, TakesQuery};
 use crate::refusal::ReplaceRefusal;
 use iddqd::item_index::ItemIndex;
 use iddqd_sides::query::HashQuery;
@@ -82,7 +82,7 @@ impl<T, X: KeyIndex<T, S>, S> Map<T, X, S> {
         item: T,
     ) -> Result<T, ReplaceRefusal<T, X::Conflict>>
     where
-        X: AsksAt<P, T, S>,
+        X: AsksAt<P, T, S> + Moves<T, S>,
         Q: HashQuery<X::Key>,
         ensures replaces { Replaces X.alike X.same_keys X.may_lack X.taken self.old
             (passes_by X.key_at (Q.stands_for query)) item result self.new }
@@ -109,7 +109,7 @@ impl<T, X: KeyIndex<T, S>, S> Map<T, X, S> {
         f: F,
     ) -> Result<Option<T>, ReplaceRefusal<T, X::Conflict>>
     where
-        X: AsksAt<P, T, S>,
+        X: AsksAt<P, T, S> + Moves<T, S>,
         Q: HashQuery<X::Key>,
         requires { MayChange F.FnOnce f self.old.store (passes_by X.key_at (Q.stands_for query)) }
         ensures changes { Changes X.alike X.same_keys X.may_lack X.taken (FnOnceReturnsAt F.FnOnce f) self.old

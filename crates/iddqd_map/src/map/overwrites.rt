@@ -14,13 +14,13 @@ ghost use Rattle.iddqd_map.specs.Several.{padded};
 use super::Map;
 use super::inserts::insert;
 use super::steps::{next_in_room, put_into, store_in_room};
-use crate::key_index::Overwrites;
+use crate::key_index::Inserts;
 use crate::refusal::{InsertRefusal, OverwriteRefusal};
 use iddqd::item_index::ItemIndex;
 use iddqd::item_set::ItemSet;
 use std::alloc::AllocError;
 
-impl<T, X: Overwrites<T, S>, S> Map<T, X, S> {
+impl<T, X: Inserts<T, S>, S> Map<T, X, S> {
     /// Takes an item, and removes those that share a key with it into the places, by rising index from the first on.
     ///
     /// Where none does, it is inserted, and may be refused, as by `insert_unique`. Where some do, the store needs no
@@ -57,7 +57,7 @@ impl<T, X: Overwrites<T, S>, S> Map<T, X, S> {
 
 // Removes the items that share a key with this one, stores it and enters its index; or hands it back where memory is
 // refused, before anything is removed.
-fn overwrite<T, X: Overwrites<T, S>, S>(
+fn overwrite<T, X: Inserts<T, S>, S>(
     items: &mut ItemSet<T>,
     indexes: &mut X,
     state: &S,
@@ -84,7 +84,7 @@ fn overwrite<T, X: Overwrites<T, S>, S>(
 }
 
 // Removes the items that were told, at least one, into the places, by rising index.
-fn remove_told<T, X: Overwrites<T, S>, S>(
+fn remove_told<T, X: Inserts<T, S>, S>(
     items: &mut ItemSet<T>,
     indexes: &mut X,
     state: &S,
@@ -117,7 +117,7 @@ fn remove_told<T, X: Overwrites<T, S>, S>(
 
 // Takes the item at a live index out of the store, and its index out of the key index, so that there is room for the
 // insert that follows. It takes no memory.
-fn make_way<T, X: Overwrites<T, S>, S>(
+fn make_way<T, X: Inserts<T, S>, S>(
     items: &mut ItemSet<T>,
     indexes: &mut X,
     state: &S,
@@ -139,7 +139,7 @@ fn make_way<T, X: Overwrites<T, S>, S>(
 }
 
 // Stores an item that shares no key with another where there is room for it, and enters its index.
-fn enter_in_room<T, X: Overwrites<T, S>, S>(
+fn enter_in_room<T, X: Inserts<T, S>, S>(
     items: &mut ItemSet<T>,
     indexes: &mut X,
     state: &S,

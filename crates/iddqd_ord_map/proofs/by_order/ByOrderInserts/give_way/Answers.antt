@@ -4,7 +4,7 @@ use Rattle.iddqd_order.specs.MapBTreeTable.{order_of}
 use Rattle.iddqd_order.proofs.GapLemmas.{enough-after, move-after}
 use Rattle.iddqd_order.proofs.MoveLemmas.{without-fewer}
 use Rattle.iddqd_ord_map.proofs.OrderedIndexingLemmas.{Sorts-removed}
-use Rattle.iddqd_ord_map.proofs.by_order.ByOrderOverwrites.give_way.Goals as goal
+use Rattle.iddqd_ord_map.proofs.by_order.ByOrderInserts.give_way.Goals as goal
 
 pub returns-clause-indexed : goal.returns-clause-indexed
 returns-clause-indexed g c =

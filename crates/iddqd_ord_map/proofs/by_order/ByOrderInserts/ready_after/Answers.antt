@@ -5,7 +5,7 @@ use Rattle.iddqd_order.specs.MapBTreeTable.{order_of, capacity}
 use Rattle.iddqd_sides.proofs.OrderedCountLemmas.{length-held}
 use Rattle.iddqd_ord_map.specs.ByOrder.{reserved_for}
 use Rattle.iddqd_ord_map.proofs.SizeLemmas.{on_err}
-use Rattle.iddqd_ord_map.proofs.by_order.ByOrderOverwrites.ready_after.Goals as goal
+use Rattle.iddqd_ord_map.proofs.by_order.ByOrderInserts.ready_after.Goals as goal
 
 pub returns-in_err-blocks_anywhere-clause-past : goal.returns-in_err-blocks_anywhere-clause-past
 returns-in_err-blocks_anywhere-clause-past g c =

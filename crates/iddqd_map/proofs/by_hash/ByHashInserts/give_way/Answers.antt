@@ -2,7 +2,7 @@ use Rattle.std.proofs.Common.{arith}
 use Rattle.iddqd.proofs.LiveLemmas.{item_at}
 use Rattle.iddqd_hash.specs.MapHashTable.{filed}
 use Rattle.iddqd_map.proofs.IndexingLemmas.{Indexes-removed}
-use Rattle.iddqd_map.proofs.by_hash.ByHashOverwrites.give_way.Goals as goal
+use Rattle.iddqd_map.proofs.by_hash.ByHashInserts.give_way.Goals as goal
 
 pub returns-clause-indexed : goal.returns-clause-indexed
 returns-clause-indexed g c =
