@@ -14,28 +14,20 @@ ghost use Rattle.iddqd_map.specs.ThreeKeys.{any_key, all_keys, AreTaken};
 
 mod clash;
 mod clones;
+mod index;
 mod item;
 mod prints;
 
-use crate::by_hash::ByHash;
-use crate::key_index::{Here, Left, Right};
 use crate::map::Map;
-use crate::pair::Pair;
 use crate::refusal::{OverwriteRefusal, ReplaceRefusal};
 pub use clash::TriClash;
 pub use clones::TriHashClone;
+pub use index::TriIndex;
 use iddqd::hash_builder::DefaultHashBuilder;
 use iddqd::item_index::ItemIndex;
 use iddqd_sides::query::HashQuery;
 pub use item::{First, Second, Third, TriHashItem};
 use std::hash::BuildHasher;
-
-/// A table by each of the three keys.
-pub type TriIndex<T> = Pair<
-    ByHash<First, <T as TriHashItem>::Key1>,
-    Pair<ByHash<Second, <T as TriHashItem>::Key2>, ByHash<Third, <T as TriHashItem>::Key3>>,
-    TriClash,
->;
 
 /// Items under stable indexes, no two of which share a key.
 pub type TriHashMap<T, S = DefaultHashBuilder> = Map<T, TriIndex<T>, S>;
@@ -47,28 +39,28 @@ impl<T: TriHashItem, S: BuildHasher> Map<T, TriIndex<T>, S> {
     pub fn find1<Q: HashQuery<T::Key1>>(&self, query: Q) -> Option<ItemIndex>
         ensures { AnswersScan self.now.store (passes_by T.first_key (Q.stands_for query)) result }
     {
-        self.find_by::<Left<Here>, Q>(query)
+        self.find_by::<First, Q>(query)
     }
 
     /// Whether an item has the first key.
     pub fn contains_key1<Q: HashQuery<T::Key1>>(&self, query: Q) -> bool
         ensures { (result ≡ false) ↔ HasNoHit self.now.store (passes_by T.first_key (Q.stands_for query)) }
     {
-        self.contains_by::<Left<Here>, Q>(query)
+        self.contains_by::<First, Q>(query)
     }
 
     /// The item that has the first key.
     pub fn get1<Q: HashQuery<T::Key1>>(&self, query: Q) -> Option<&T>
         ensures { FindsItem self.now.store (passes_by T.first_key (Q.stands_for query)) (option_copied result) }
     {
-        self.get_by::<Left<Here>, Q>(query)
+        self.get_by::<First, Q>(query)
     }
 
     /// Takes the item that has the first key out of the map. It takes no memory.
     pub fn remove1<Q: HashQuery<T::Key1>>(&mut self, query: Q) -> Option<T>
         ensures { Removes self.old (passes_by T.first_key (Q.stands_for query)) result self.new }
     {
-        self.remove_by::<Left<Here>, Q>(query)
+        self.remove_by::<First, Q>(query)
     }
 
     /// Puts an item in the place of the one that has the first key, which is handed back.
@@ -86,7 +78,7 @@ impl<T: TriHashItem, S: BuildHasher> Map<T, TriIndex<T>, S> {
             (AreTaken first second third) self.old
             (passes_by T.first_key (Q.stands_for query)) item result self.new }
     {
-        self.replace_by::<Left<Here>, Q>(query, item)
+        self.replace_by::<First, Q>(query, item)
     }
 
     /// Puts what the closure makes of the item that has the first key in its place, and hands that item back; or answers
@@ -105,7 +97,7 @@ impl<T: TriHashItem, S: BuildHasher> Map<T, TriIndex<T>, S> {
             (AreTaken first second third) (FnOnceReturnsAt F.FnOnce f)
             self.old (passes_by T.first_key (Q.stands_for query)) result self.new }
     {
-        self.change_by::<Left<Here>, Q, F>(query, f)
+        self.change_by::<First, Q, F>(query, f)
     }
 
     /// Calls the closure with a `&mut` to the item that has the first key, as `modify_at`; or returns none, and doesn't call
@@ -119,35 +111,35 @@ impl<T: TriHashItem, S: BuildHasher> Map<T, TriIndex<T>, S> {
             KeepsKey F.FnOnce f (pair_keys T.first_key (pair_keys T.second_key T.third_key)) (λ item. FindsItem self.old.store named (Some item)) }
         ensures { Modifies F.FnOnce f self.old (passes_by T.first_key (Q.stands_for query)) result self.new }
     {
-        self.modify_by::<Left<Here>, Q, R, F>(query, f)
+        self.modify_by::<First, Q, R, F>(query, f)
     }
 
     /// The index of the item that has the second key for which the query stands, as `find1`.
     pub fn find2<Q: HashQuery<T::Key2>>(&self, query: Q) -> Option<ItemIndex>
         ensures { AnswersScan self.now.store (passes_by T.second_key (Q.stands_for query)) result }
     {
-        self.find_by::<Right<Left<Here>>, Q>(query)
+        self.find_by::<Second, Q>(query)
     }
 
     /// Whether an item has the second key.
     pub fn contains_key2<Q: HashQuery<T::Key2>>(&self, query: Q) -> bool
         ensures { (result ≡ false) ↔ HasNoHit self.now.store (passes_by T.second_key (Q.stands_for query)) }
     {
-        self.contains_by::<Right<Left<Here>>, Q>(query)
+        self.contains_by::<Second, Q>(query)
     }
 
     /// The item that has the second key.
     pub fn get2<Q: HashQuery<T::Key2>>(&self, query: Q) -> Option<&T>
         ensures { FindsItem self.now.store (passes_by T.second_key (Q.stands_for query)) (option_copied result) }
     {
-        self.get_by::<Right<Left<Here>>, Q>(query)
+        self.get_by::<Second, Q>(query)
     }
 
     /// Takes the item that has the second key out of the map. It takes no memory.
     pub fn remove2<Q: HashQuery<T::Key2>>(&mut self, query: Q) -> Option<T>
         ensures { Removes self.old (passes_by T.second_key (Q.stands_for query)) result self.new }
     {
-        self.remove_by::<Right<Left<Here>>, Q>(query)
+        self.remove_by::<Second, Q>(query)
     }
 
     /// Puts an item in the place of the one that has the second key, as `replace1`.
@@ -162,7 +154,7 @@ impl<T: TriHashItem, S: BuildHasher> Map<T, TriIndex<T>, S> {
             (AreTaken first second third) self.old
             (passes_by T.second_key (Q.stands_for query)) item result self.new }
     {
-        self.replace_by::<Right<Left<Here>>, Q>(query, item)
+        self.replace_by::<Second, Q>(query, item)
     }
 
     /// Puts what the closure makes of the item that has the second key in its place, as `change1`.
@@ -178,7 +170,7 @@ impl<T: TriHashItem, S: BuildHasher> Map<T, TriIndex<T>, S> {
             (AreTaken first second third) (FnOnceReturnsAt F.FnOnce f)
             self.old (passes_by T.second_key (Q.stands_for query)) result self.new }
     {
-        self.change_by::<Right<Left<Here>>, Q, F>(query, f)
+        self.change_by::<Second, Q, F>(query, f)
     }
 
     /// Calls the closure with a `&mut` to the item that has the second key, as `modify1`.
@@ -191,35 +183,35 @@ impl<T: TriHashItem, S: BuildHasher> Map<T, TriIndex<T>, S> {
             KeepsKey F.FnOnce f (pair_keys T.first_key (pair_keys T.second_key T.third_key)) (λ item. FindsItem self.old.store named (Some item)) }
         ensures { Modifies F.FnOnce f self.old (passes_by T.second_key (Q.stands_for query)) result self.new }
     {
-        self.modify_by::<Right<Left<Here>>, Q, R, F>(query, f)
+        self.modify_by::<Second, Q, R, F>(query, f)
     }
 
     /// The index of the item that has the third key for which the query stands, as `find1`.
     pub fn find3<Q: HashQuery<T::Key3>>(&self, query: Q) -> Option<ItemIndex>
         ensures { AnswersScan self.now.store (passes_by T.third_key (Q.stands_for query)) result }
     {
-        self.find_by::<Right<Right<Here>>, Q>(query)
+        self.find_by::<Third, Q>(query)
     }
 
     /// Whether an item has the third key.
     pub fn contains_key3<Q: HashQuery<T::Key3>>(&self, query: Q) -> bool
         ensures { (result ≡ false) ↔ HasNoHit self.now.store (passes_by T.third_key (Q.stands_for query)) }
     {
-        self.contains_by::<Right<Right<Here>>, Q>(query)
+        self.contains_by::<Third, Q>(query)
     }
 
     /// The item that has the third key.
     pub fn get3<Q: HashQuery<T::Key3>>(&self, query: Q) -> Option<&T>
         ensures { FindsItem self.now.store (passes_by T.third_key (Q.stands_for query)) (option_copied result) }
     {
-        self.get_by::<Right<Right<Here>>, Q>(query)
+        self.get_by::<Third, Q>(query)
     }
 
     /// Takes the item that has the third key out of the map. It takes no memory.
     pub fn remove3<Q: HashQuery<T::Key3>>(&mut self, query: Q) -> Option<T>
         ensures { Removes self.old (passes_by T.third_key (Q.stands_for query)) result self.new }
     {
-        self.remove_by::<Right<Right<Here>>, Q>(query)
+        self.remove_by::<Third, Q>(query)
     }
 
     /// Puts an item in the place of the one that has the third key, as `replace1`.
@@ -234,7 +226,7 @@ impl<T: TriHashItem, S: BuildHasher> Map<T, TriIndex<T>, S> {
             (AreTaken first second third) self.old
             (passes_by T.third_key (Q.stands_for query)) item result self.new }
     {
-        self.replace_by::<Right<Right<Here>>, Q>(query, item)
+        self.replace_by::<Third, Q>(query, item)
     }
 
     /// Puts what the closure makes of the item that has the third key in its place, as `change1`.
@@ -250,7 +242,7 @@ impl<T: TriHashItem, S: BuildHasher> Map<T, TriIndex<T>, S> {
             (AreTaken first second third) (FnOnceReturnsAt F.FnOnce f)
             self.old (passes_by T.third_key (Q.stands_for query)) result self.new }
     {
-        self.change_by::<Right<Right<Here>>, Q, F>(query, f)
+        self.change_by::<Third, Q, F>(query, f)
     }
 
     /// Calls the closure with a `&mut` to the item that has the third key, as `modify1`.
@@ -263,7 +255,7 @@ impl<T: TriHashItem, S: BuildHasher> Map<T, TriIndex<T>, S> {
             KeepsKey F.FnOnce f (pair_keys T.first_key (pair_keys T.second_key T.third_key)) (λ item. FindsItem self.old.store named (Some item)) }
         ensures { Modifies F.FnOnce f self.old (passes_by T.third_key (Q.stands_for query)) result self.new }
     {
-        self.modify_by::<Right<Right<Here>>, Q, R, F>(query, f)
+        self.modify_by::<Third, Q, R, F>(query, f)
     }
 
     /// Takes an item, and removes those that share a key with it, at most three, which it hands back by rising index from

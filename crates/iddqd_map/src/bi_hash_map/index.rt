@@ -1,0 +1,365 @@
+//! The key index of a map whose items have two keys: a table by each of them.
+//!
+//! It is a pair of tables under a name of its own, and each step is the pair's. A caller's proof reads the two keys here, and
+//! no pair or table: it would pay for each of them in every function.
+use super::clash::BiClash;
+use super::item::{BiHashItem, First, Second};
+use crate::by_hash::ByHash;
+use crate::key_index::{
+    AsksAt, Checks, HashedAt, Here, Inserts, KeyIndex, Left, Moves, Removes, Right, Sizes, TakesAt,
+};
+use crate::pair::Pair;
+use iddqd::index_remap::IndexRemap;
+use iddqd::internal::{ValidateCompact, ValidateRefusal, ValidationError};
+use iddqd::item_index::ItemIndex;
+use iddqd::item_set::ItemSet;
+use iddqd::map_hash::MapHash;
+use iddqd_sides::hashed_move::Move;
+use iddqd_sides::query::HashQuery;
+use std::alloc::{AllocError, Global};
+use std::hash::BuildHasher;
+
+type Tables<T> = Pair<
+    ByHash<First, <T as BiHashItem>::Key1>,
+    ByHash<Second, <T as BiHashItem>::Key2>,
+    BiClash,
+>;
+
+/// A table by each of the two keys.
+#[derive(Drop)]
+pub struct BiIndex<T: BiHashItem> {
+    tables: Tables<T>,
+}
+
+impl<T: BiHashItem, S: BuildHasher> KeyIndex<T, S> for BiIndex<T> {
+    ghost use Rattle.std.specs.Prelude.{◌+◌, false};
+    ghost use Rattle.iddqd_hash.specs.Sizes.{most_cells};
+    ghost use Rattle.iddqd_sides.specs.KeyKeeping.{pair_keys};
+    ghost use Rattle.iddqd_map.specs.Map.{shares};
+    ghost use Rattle.iddqd_map.specs.Several.{either_key, both_keys};
+    ghost use Rattle.iddqd_map.specs.TwoKeys.{AreTold, AreTaken};
+
+    type Conflict = BiClash;
+
+    type Asked = (Option<MapHash>, Option<MapHash>);
+
+    ghost Keys = { T.Key1 × T.Key2 };
+
+    ghost keys = { pair_keys T.first_key T.second_key };
+
+    ghost alike = { either_key (shares T.first_key T.Key1.eq) (shares T.second_key T.Key2.eq) };
+
+    ghost same_keys = { both_keys (shares T.first_key T.Key1.eq) (shares T.second_key T.Key2.eq) };
+
+    ghost indexes = { λ x. ⟦<Pair<ByHash<First, T::Key1>, ByHash<Second, T::Key2>, BiClash> as KeyIndex<T, S>>⟧.indexes x.tables };
+
+    ghost capacity = { λ x. ⟦<Pair<ByHash<First, T::Key1>, ByHash<Second, T::Key2>, BiClash> as KeyIndex<T, S>>⟧.capacity x.tables };
+
+    ghost cells = { λ x. ⟦<Pair<ByHash<First, T::Key1>, ByHash<Second, T::Key2>, BiClash> as KeyIndex<T, S>>⟧.cells x.tables };
+
+    ghost most = { λ n. most_cells n + most_cells n };
+
+    ghost may_lack = { false };
+
+    ghost same = { λ x y. ⟦<Pair<ByHash<First, T::Key1>, ByHash<Second, T::Key2>, BiClash> as KeyIndex<T, S>>⟧.same x.tables y.tables };
+
+    ghost key_count = { 2 };
+
+    ghost conflicts = { AreTold (shares T.first_key T.Key1.eq) (shares T.second_key T.Key2.eq) };
+
+    ghost taken = { AreTaken (shares T.first_key T.Key1.eq) (shares T.second_key T.Key2.eq) };
+
+    ghost tells = { ⟦<Pair<ByHash<First, T::Key1>, ByHash<Second, T::Key2>, BiClash> as KeyIndex<T, S>>⟧.tells };
+
+    fn unasked() -> (Option<MapHash>, Option<MapHash>) {
+        <Tables<T> as KeyIndex<T, S>>::unasked()
+    }
+
+    ghost same_as_itself = { λ x. ⟦<Pair<ByHash<First, T::Key1>, ByHash<Second, T::Key2>, BiClash> as KeyIndex<T, S>>⟧.same_as_itself x.tables };
+
+    ghost same_indexes = { λ x y state s same is.
+        ⟦<Pair<ByHash<First, T::Key1>, ByHash<Second, T::Key2>, BiClash> as KeyIndex<T, S>>⟧.same_indexes x.tables y.tables state s same is };
+
+    ghost apart = { λ x state s is. ⟦<Pair<ByHash<First, T::Key1>, ByHash<Second, T::Key2>, BiClash> as KeyIndex<T, S>>⟧.apart x.tables state s is };
+
+    ghost modified = { λ x state s ix was item is live same.
+        ⟦<Pair<ByHash<First, T::Key1>, ByHash<Second, T::Key2>, BiClash> as KeyIndex<T, S>>⟧.modified x.tables state s ix was item is live same };
+
+    ghost same_items = { λ x state s t same is.
+        ⟦<Pair<ByHash<First, T::Key1>, ByHash<Second, T::Key2>, BiClash> as KeyIndex<T, S>>⟧.same_items x.tables state s t same is };
+
+    ghost equivalence = { ⟦<Pair<ByHash<First, T::Key1>, ByHash<Second, T::Key2>, BiClash> as KeyIndex<T, S>>⟧.equivalence };
+
+    ghost told = { ⟦<Pair<ByHash<First, T::Key1>, ByHash<Second, T::Key2>, BiClash> as KeyIndex<T, S>>⟧.told };
+
+    ghost told_some = { ⟦<Pair<ByHash<First, T::Key1>, ByHash<Second, T::Key2>, BiClash> as KeyIndex<T, S>>⟧.told_some };
+
+    ghost few_told = { ⟦<Pair<ByHash<First, T::Key1>, ByHash<Second, T::Key2>, BiClash> as KeyIndex<T, S>>⟧.few_told };
+}
+
+impl<T: BiHashItem, S: BuildHasher> Sizes<T, S> for BiIndex<T> {
+    fn capacity(&self) -> usize {
+        <Tables<T> as Sizes<T, S>>::capacity(&self.tables)
+    }
+
+    fn new(alloc: Global) -> BiIndex<T> {
+        BiIndex {
+            tables: <Tables<T> as Sizes<T, S>>::new(alloc),
+        }
+    }
+
+    fn with_capacity(alloc: Global, wanted: usize) -> Result<BiIndex<T>, AllocError> {
+        Ok(BiIndex {
+            tables: <Tables<T> as Sizes<T, S>>::with_capacity(alloc, wanted)?,
+        })
+    }
+
+    fn reserve(
+        &mut self,
+        items: &ItemSet<T>,
+        state: &S,
+        additional: usize,
+    ) -> Result<(), AllocError> {
+        self.tables.reserve(items, state, additional)
+    }
+
+    fn shrink_to(&mut self, items: &ItemSet<T>, state: &S, least: usize) -> Result<(), AllocError> {
+        self.tables.shrink_to(items, state, least)
+    }
+}
+
+impl<T: BiHashItem, S: BuildHasher> Inserts<T, S> for BiIndex<T> {
+    type Known = (MapHash, MapHash);
+
+    type Spot = ((), ());
+
+    type Plan = ((), ());
+
+    ghost is_known = { ⟦<Pair<ByHash<First, T::Key1>, ByHash<Second, T::Key2>, BiClash> as Inserts<T, S>>⟧.is_known };
+
+    ghost is_spot = { λ x. ⟦<Pair<ByHash<First, T::Key1>, ByHash<Second, T::Key2>, BiClash> as Inserts<T, S>>⟧.is_spot x.tables };
+
+    ghost is_planned = { λ x. ⟦<Pair<ByHash<First, T::Key1>, ByHash<Second, T::Key2>, BiClash> as Inserts<T, S>>⟧.is_planned x.tables };
+
+    ghost has_room_for = { λ x. ⟦<Pair<ByHash<First, T::Key1>, ByHash<Second, T::Key2>, BiClash> as Inserts<T, S>>⟧.has_room_for x.tables };
+
+    ghost is_ready_after = { λ x. ⟦<Pair<ByHash<First, T::Key1>, ByHash<Second, T::Key2>, BiClash> as Inserts<T, S>>⟧.is_ready_after x.tables };
+
+    fn known(state: &S, item: &T) -> (MapHash, MapHash) {
+        <Tables<T> as Inserts<T, S>>::known(state, item)
+    }
+
+    fn look_up(
+        &self,
+        items: &ItemSet<T>,
+        state: &S,
+        known: (MapHash, MapHash),
+        item: &T,
+    ) -> Result<((), ()), BiClash> {
+        self.tables.look_up(items, state, known, item)
+    }
+
+    fn plan(
+        &self,
+        items: &ItemSet<T>,
+        state: &S,
+        spot: ((), ()),
+        ix: ItemIndex,
+        item: &T,
+    ) -> ((), ()) {
+        self.tables.plan(items, state, spot, ix, item)
+    }
+
+    fn make_room(
+        &mut self,
+        items: &ItemSet<T>,
+        state: &S,
+        plan: &((), ()),
+    ) -> Result<(), AllocError> {
+        self.tables.make_room(items, state, plan)
+    }
+
+    fn insert(&mut self, known: (MapHash, MapHash), plan: &((), ()), ix: ItemIndex) {
+        <Tables<T> as Inserts<T, S>>::insert(&mut self.tables, known, plan, ix)
+    }
+
+    fn next_told(conflict: &BiClash, before: Option<ItemIndex>) -> Option<ItemIndex> {
+        <Tables<T> as Inserts<T, S>>::next_told(conflict, before)
+    }
+
+    fn spot(
+        &self,
+        items: &ItemSet<T>,
+        state: &S,
+        known: (MapHash, MapHash),
+        item: &T,
+    ) -> ((), ()) {
+        self.tables.spot(items, state, known, item)
+    }
+
+    fn ready_after(&mut self, items: &ItemSet<T>, state: &S) -> Result<(), AllocError> {
+        self.tables.ready_after(items, state)
+    }
+
+    fn give_way(&mut self, items: &ItemSet<T>, state: &S, ix: ItemIndex) {
+        self.tables.give_way(items, state, ix)
+    }
+
+    ghost same_plans = { λ x y. ⟦<Pair<ByHash<First, T::Key1>, ByHash<Second, T::Key2>, BiClash> as Inserts<T, S>>⟧.same_plans x.tables y.tables };
+}
+
+impl<T: BiHashItem, S: BuildHasher> Removes<T, S> for BiIndex<T> {
+    fn remove(&mut self, items: &ItemSet<T>, state: &S, ix: ItemIndex) {
+        self.tables.remove(items, state, ix)
+    }
+
+    fn clear(&mut self) {
+        <Tables<T> as Removes<T, S>>::clear(&mut self.tables)
+    }
+
+    fn remap(&mut self, remap: &IndexRemap) {
+        <Tables<T> as Removes<T, S>>::remap(&mut self.tables, remap)
+    }
+}
+
+impl<T: BiHashItem, S: BuildHasher> Moves<T, S> for BiIndex<T> {
+    type Move = (Move, Move);
+
+    ghost is_move = { ⟦<Pair<ByHash<First, T::Key1>, ByHash<Second, T::Key2>, BiClash> as Moves<T, S>>⟧.is_move };
+
+    ghost moves = { ⟦<Pair<ByHash<First, T::Key1>, ByHash<Second, T::Key2>, BiClash> as Moves<T, S>>⟧.moves };
+
+    ghost is_ready = { λ x. ⟦<Pair<ByHash<First, T::Key1>, ByHash<Second, T::Key2>, BiClash> as Moves<T, S>>⟧.is_ready x.tables };
+
+    fn plan_move(
+        &self,
+        items: &ItemSet<T>,
+        state: &S,
+        ix: ItemIndex,
+        item: &T,
+    ) -> Result<(Move, Move), BiClash> {
+        self.tables.plan_move(items, state, ix, item)
+    }
+
+    fn ready_move(
+        &mut self,
+        items: &ItemSet<T>,
+        state: &S,
+        plan: &(Move, Move),
+    ) -> Result<(), AllocError> {
+        self.tables.ready_move(items, state, plan)
+    }
+
+    fn commit_move(
+        &mut self,
+        items: &ItemSet<T>,
+        state: &S,
+        asked: (Option<MapHash>, Option<MapHash>),
+        plan: &(Move, Move),
+        ix: ItemIndex,
+        item: &T,
+    ) {
+        self.tables.commit_move(items, state, asked, plan, ix, item)
+    }
+}
+
+impl<T: BiHashItem, S: BuildHasher> Checks<T, S> for BiIndex<T> {
+    fn copied(&self) -> Result<BiIndex<T>, AllocError> {
+        Ok(BiIndex {
+            tables: <Tables<T> as Checks<T, S>>::copied(&self.tables)?,
+        })
+    }
+
+    fn find_same(&self, items: &ItemSet<T>, state: &S, item: &T) -> Option<ItemIndex> {
+        self.tables.find_same(items, state, item)
+    }
+
+    fn is_same(item: &T, other: &T) -> bool {
+        <Tables<T> as Checks<T, S>>::is_same(item, other)
+    }
+
+    fn validate(
+        &self,
+        items: &ItemSet<T>,
+        state: &S,
+        compactness: ValidateCompact,
+    ) -> Result<(), ValidateRefusal<ValidationError>> {
+        self.tables.validate(items, state, compactness)
+    }
+
+    ghost same_are_alike = { ⟦<Pair<ByHash<First, T::Key1>, ByHash<Second, T::Key2>, BiClash> as Checks<T, S>>⟧.same_are_alike };
+}
+
+impl<T: BiHashItem, S: BuildHasher> HashedAt<First, T, S> for BiIndex<T> {
+    type Key = T::Key1;
+
+    ghost key_at = { T.first_key };
+
+    fn find<Q: HashQuery<T::Key1>>(
+        &self,
+        items: &ItemSet<T>,
+        state: &S,
+        query: Q,
+    ) -> Option<ItemIndex> {
+        <Tables<T> as HashedAt<Left<Here>, T, S>>::find(&self.tables, items, state, query)
+    }
+}
+
+impl<T: BiHashItem, S: BuildHasher> TakesAt<First, T, S> for BiIndex<T> {
+    fn take<Q: HashQuery<T::Key1>>(
+        &mut self,
+        items: &ItemSet<T>,
+        state: &S,
+        query: Q,
+    ) -> Option<ItemIndex> {
+        <Tables<T> as TakesAt<Left<Here>, T, S>>::take(&mut self.tables, items, state, query)
+    }
+}
+
+impl<T: BiHashItem, S: BuildHasher> AsksAt<First, T, S> for BiIndex<T> {
+    fn ask<Q: HashQuery<T::Key1>>(
+        &self,
+        items: &ItemSet<T>,
+        state: &S,
+        query: Q,
+    ) -> (Option<ItemIndex>, (Option<MapHash>, Option<MapHash>)) {
+        <Tables<T> as AsksAt<Left<Here>, T, S>>::ask(&self.tables, items, state, query)
+    }
+}
+
+impl<T: BiHashItem, S: BuildHasher> HashedAt<Second, T, S> for BiIndex<T> {
+    type Key = T::Key2;
+
+    ghost key_at = { T.second_key };
+
+    fn find<Q: HashQuery<T::Key2>>(
+        &self,
+        items: &ItemSet<T>,
+        state: &S,
+        query: Q,
+    ) -> Option<ItemIndex> {
+        <Tables<T> as HashedAt<Right<Here>, T, S>>::find(&self.tables, items, state, query)
+    }
+}
+
+impl<T: BiHashItem, S: BuildHasher> TakesAt<Second, T, S> for BiIndex<T> {
+    fn take<Q: HashQuery<T::Key2>>(
+        &mut self,
+        items: &ItemSet<T>,
+        state: &S,
+        query: Q,
+    ) -> Option<ItemIndex> {
+        <Tables<T> as TakesAt<Right<Here>, T, S>>::take(&mut self.tables, items, state, query)
+    }
+}
+
+impl<T: BiHashItem, S: BuildHasher> AsksAt<Second, T, S> for BiIndex<T> {
+    fn ask<Q: HashQuery<T::Key2>>(
+        &self,
+        items: &ItemSet<T>,
+        state: &S,
+        query: Q,
+    ) -> (Option<ItemIndex>, (Option<MapHash>, Option<MapHash>)) {
+        <Tables<T> as AsksAt<Right<Here>, T, S>>::ask(&self.tables, items, state, query)
+    }
+}
