@@ -1,15 +1,18 @@
 -- What a table of indexes under the hashes of a key keeps, as the laws of a key index say it.
-use Rattle.std.specs.Prelude.{◌≡◌, ◌≤◌, ◌↔◌, ℕ, Bool, true, not, List, [], ◌∷◌, length, Some}
+use Rattle.std.specs.Prelude.{◌≡◌, ◌≤◌, ◌↔◌, ℕ, Bool, true, not, List, [], ◌∷◌, length, Some, IsTrue}
 use Rattle.std.proofs.Common.{◌∙◌, ap, sym, subst, arith}
 use Rattle.std.specs.List.{Contains}
 use Rattle.iddqd.proofs.StoreLemmas.{contains_head}
-use Rattle.std.specs.Cmp.{IsEquivalence}
+use Rattle.std.specs.Cmp.{IsEquivalence, partial_equiv_from_equiv}
+use Rattle.std.specs.declared.hash.Hasher as hasher
+use Rattle.std.specs.declared.hash.BuildHasher as builder
 use Rattle.std.specs.Ordering.{nat_cmp}
 use Rattle.std.specs.FinMap.{FinMap}
 use Rattle.iddqd.specs.Store.{Store, get, rebound}
 use Rattle.iddqd.proofs.LiveLemmas.{item_at, live_at}
 use Rattle.iddqd_sides.specs.Scan.{IsHit, AnswersScan}
-use Rattle.iddqd_sides.specs.Hashed.{Hashing, IsLawful}
+use Rattle.iddqd_sides.specs.Hashed.{Hashing, hashing_of, IsLawful}
+use Rattle.iddqd_sides.proofs.FindLemmas.{IsLawful-from_bounds}
 use Rattle.iddqd_sides.proofs.HoldsLemmas.{Holds-rebound}
 use Rattle.iddqd_sides.proofs.PlaceLemmas.{Keeps-rebound}
 use Rattle.iddqd_map.specs.Indexing.{Indexes}
@@ -92,3 +95,35 @@ module _ {T K : Type 0} (key_of : T → K) (hashing : Hashing K) (s : Store T) (
               o.exact.apart i j a b at_i at_j (e.trans (key_of a) (key_of y) (key_of b) one other);
         };
       }
+
+module _ {T K : Type 0} (key_of : T → K) (hashing : Hashing K) (s : Store T) where
+  -- a table of the same indexes
+  pub Indexes-kept :
+      (m n : FinMap nat_cmp ℕ)
+      → n ≡ m
+      → Indexes key_of hashing s m
+      → Indexes key_of hashing s n
+  Indexes-kept m n same is = subst (Indexes key_of hashing s) (sym same) is
+
+-- the same of a key whose type has the bounds of a map's
+module _ {T K S H : Type 0}
+    (key_of : T → K) (equal : K → K → Bool) (hash_input : K → List (List ℕ)) (b : builder.Ghosts S H)
+    (h : hasher.Ghosts H) (laws : IsEquivalence equal)
+    (respects : (x y : K) → IsTrue (equal x y) → hash_input x ≡ hash_input y)
+    (state : S) (s : Store T) (m : FinMap nat_cmp ℕ) (is : Indexes key_of (hashing_of equal hash_input b h state) s m)
+    where
+  lawful : IsLawful (hashing_of equal hash_input b h state)
+  lawful = IsLawful-from_bounds equal hash_input b h state (partial_equiv_from_equiv laws) respects
+
+  pub Indexes-key_kept :
+      (ix : ℕ) (was item : T)
+      → get s ix ≡ Some was
+      → key_of item ≡ key_of was
+      → Indexes key_of (hashing_of equal hash_input b h state) (rebound s ix item) m
+  Indexes-key_kept = Indexes-modified key_of (hashing_of equal hash_input b h state) s m lawful laws.refl is
+
+  pub Indexes-keys_shared :
+      (t : Store T)
+      → HaveSameKeys (shares key_of equal) s t
+      → Indexes key_of (hashing_of equal hash_input b h state) t m
+  Indexes-keys_shared = Indexes-same key_of (hashing_of equal hash_input b h state) s m lawful is

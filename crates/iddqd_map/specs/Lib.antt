@@ -5,6 +5,7 @@ pub mod HashLaws
 pub mod Hashed
 pub mod Indexing
 pub mod KeyIndex
+pub mod KeyLaws
 pub mod Map
 pub mod Memory
 pub mod Modify

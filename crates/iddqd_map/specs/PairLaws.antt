@@ -108,22 +108,22 @@ few_both one other m n (k, few, holds) (l, few_too, holds_too) = (
 
 -- what one of the two told, if it told anything
 module _ {C : Type 0} (tells : C → ℕ → Type 0) where
-  pub told_one :
+  pub told_by_one :
       {T : Type 0} (alike : T → T → Bool) (conflicts : Store T → T → C → Type 0) (s : Store T) (item : T)
       → ((at : C) → conflicts s item at → (ix : ℕ) → tells at ix ↔ IsHit s (alike item) ix)
       → (found : Option C)
       → Tells alike conflicts s item found
       → (ix : ℕ) → IsToldBy tells found ix ↔ IsHit s (alike item) ix
-  told_one alike conflicts s item law None none ix = (λ told. absurd told, λ hit. none ix hit)
-  told_one alike conflicts s item law (Some at) told ix = law at told ix
+  told_by_one alike conflicts s item law None none ix = (λ told. absurd told, λ hit. none ix hit)
+  told_by_one alike conflicts s item law (Some at) told ix = law at told ix
 
-  pub few_one :
+  pub few_by_one :
       (n : ℕ)
       → ((at : C) → (l : List ℕ) × (length l ≤ n) × ((ix : ℕ) → tells at ix → Contains l ix))
       → (found : Option C)
       → (l : List ℕ) × (length l ≤ n) × ((ix : ℕ) → IsToldBy tells found ix → Contains l ix)
-  few_one n law None = ([], omega arith, λ ix told. absurd told)
-  few_one n law (Some at) = law at
+  few_by_one n law None = ([], omega arith, λ ix told. absurd told)
+  few_by_one n law (Some at) = law at
 
 -- exactly the items are told by either that share a key of either
 pub told_both :

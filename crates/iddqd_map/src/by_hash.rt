@@ -53,17 +53,13 @@ where
     K: Eq + Hash + Drop,
     S: BuildHasher,
 {
-    ghost use Rattle.std.proofs.Common.{refl, sym, subst};
-    ghost use Rattle.std.specs.Cmp.{partial_equiv_from_equiv};
-    ghost use Rattle.std.specs.Prelude.{◌≢◌, ◌≤◌, ℕ, Some, false};
-    ghost use Rattle.iddqd_hash.specs.HashTable.{room, capacity, memory};
+    ghost use Rattle.std.proofs.Common.{refl};
+    ghost use Rattle.std.specs.Prelude.{◌≢◌, Some, false};
+    ghost use Rattle.iddqd_hash.specs.HashTable.{capacity, memory};
     ghost use Rattle.iddqd_hash.specs.Sizes.{most_cells};
     ghost use Rattle.iddqd_hash.specs.MapHashTable.{filed};
     ghost use Rattle.iddqd_map.specs.Map.{shares};
-    ghost use Rattle.iddqd_map.specs.Hashed.{moves};
-    ghost use Rattle.iddqd_map.specs.Indexing.{Plans};
-    ghost use Rattle.iddqd_map.specs.HashLaws.{shares_laws, Indexes-modified, Indexes-same, told_one, few_one};
-    ghost use Rattle.iddqd_sides.proofs.FindLemmas.{IsLawful-from_bounds};
+    ghost use Rattle.iddqd_map.specs.HashLaws.{shares_laws, Indexes-kept, Indexes-key_kept, Indexes-keys_shared, told_one, few_one};
 
     type Conflict = ItemIndex;
 
@@ -100,20 +96,16 @@ where
 
     ghost same_as_itself = { λ x. refl };
 
-    ghost same_indexes = { λ x y state s same is. subst (λ m. Indexes E.key_of (hashing_of K.eq K.hash_input
-        S.BuildHasher S.Hasher.Hasher state) s m) (sym same) is };
+    ghost same_indexes = { λ x y state s same is. Indexes-kept E.key_of (hashing_of K.eq K.hash_input S.BuildHasher
+        S.Hasher.Hasher state) s (filed x.table) (filed y.table) same is };
 
     ghost apart = { λ x state s is. is.exact.apart };
 
-    ghost modified = { λ x state s ix was item is live same. let hashing = hashing_of K.eq K.hash_input
-        S.BuildHasher S.Hasher.Hasher state in let lawful = IsLawful-from_bounds K.eq K.hash_input
-        S.BuildHasher S.Hasher.Hasher state (partial_equiv_from_equiv K.Eq.laws) K.respects_eq in
-        Indexes-modified E.key_of hashing s (filed x.table) lawful K.Eq.laws.refl is ix was item live same };
+    ghost modified = { λ x state s ix was item is. Indexes-key_kept E.key_of K.eq K.hash_input S.BuildHasher
+        S.Hasher.Hasher K.Eq.laws K.respects_eq state s (filed x.table) is ix was item };
 
-    ghost same_items = { λ x state s t have is. let hashing = hashing_of K.eq K.hash_input
-        S.BuildHasher S.Hasher.Hasher state in let lawful = IsLawful-from_bounds K.eq K.hash_input
-        S.BuildHasher S.Hasher.Hasher state (partial_equiv_from_equiv K.Eq.laws) K.respects_eq in
-        Indexes-same E.key_of hashing s (filed x.table) lawful is t have };
+    ghost same_items = { λ x state s t have is. Indexes-keys_shared E.key_of K.eq K.hash_input S.BuildHasher
+        S.Hasher.Hasher K.Eq.laws K.respects_eq state s (filed x.table) is t have };
 
     ghost equivalence = { shares_laws E.key_of K.eq K.Eq.laws };
 

@@ -41,7 +41,7 @@ where
     ghost use Rattle.iddqd_map.specs.PairConflict.{TellBoth, TellBothOther, IsEither, IsToldBy};
     ghost use Rattle.std.proofs.Common.{ap};
     ghost use Rattle.std.proofs.lemmas.Cmp.{and_equiv};
-    ghost use Rattle.iddqd_map.specs.PairLaws.{AreApart-either, HaveSameKeys-first, HaveSameKeys-second, alike_both, told_one, told_both, told_some, few_one, few_both};
+    ghost use Rattle.iddqd_map.specs.PairLaws.{AreApart-either, HaveSameKeys-first, HaveSameKeys-second, alike_both, told_by_one, told_both, told_some, few_by_one, few_both};
 
     type Conflict = C;
 
@@ -101,15 +101,15 @@ where
 
     ghost told = { λ s item at conflicts ix. told_both A.alike B.alike s item (IsToldBy A.tells (C.first at))
         (IsToldBy B.tells (C.second at)) ix
-        (told_one A.tells A.alike A.conflicts s item (A.told s item) (C.first at) conflicts.first ix)
-        (told_one B.tells B.alike B.conflicts s item (B.told s item) (C.second at) conflicts.second ix) };
+        (told_by_one A.tells A.alike A.conflicts s item (A.told s item) (C.first at) conflicts.first ix)
+        (told_by_one B.tells B.alike B.conflicts s item (B.told s item) (C.second at) conflicts.second ix) };
 
     ghost told_some = { λ s item at conflicts. told_some A.tells B.tells A.conflicts B.conflicts s item A.alike B.alike
         (A.told_some s item) (B.told_some s item) (C.first at) (C.second at) conflicts };
 
     ghost few_told = { λ at. few_both (IsToldBy A.tells (C.first at)) (IsToldBy B.tells (C.second at)) A.key_count
-        B.key_count (few_one A.tells A.key_count A.few_told (C.first at))
-        (few_one B.tells B.key_count B.few_told (C.second at)) };
+        B.key_count (few_by_one A.tells A.key_count A.few_told (C.first at))
+        (few_by_one B.tells B.key_count B.few_told (C.second at)) };
 
     fn unasked() -> (A::Asked, B::Asked) {
         (A::unasked(), B::unasked())

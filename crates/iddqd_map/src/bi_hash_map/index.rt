@@ -32,8 +32,15 @@ pub struct BiIndex<T: BiHashItem> {
 }
 
 impl<T: BiHashItem, S: BuildHasher> KeyIndex<T, S> for BiIndex<T> {
+    ghost use Rattle.std.proofs.Common.{ap, refl};
+    ghost use Rattle.std.proofs.lemmas.Cmp.{and_equiv};
     ghost use Rattle.std.specs.Prelude.{◌+◌, false};
+    ghost use Rattle.iddqd_hash.specs.MapHashTable.{filed};
     ghost use Rattle.iddqd_hash.specs.Sizes.{most_cells};
+    ghost use Rattle.iddqd_sides.specs.Hashed.{hashing_of};
+    ghost use Rattle.iddqd_map.specs.HashLaws.{shares_laws, Indexes-kept, Indexes-key_kept, Indexes-keys_shared};
+    ghost use Rattle.iddqd_map.specs.KeyLaws.{IsOfTwo, told_two, some_two, few_two};
+    ghost use Rattle.iddqd_map.specs.PairLaws.{AreApart-either, HaveSameKeys-first, HaveSameKeys-second};
     ghost use Rattle.iddqd_sides.specs.KeyKeeping.{pair_keys};
     ghost use Rattle.iddqd_map.specs.Map.{shares};
     ghost use Rattle.iddqd_map.specs.Several.{either_key, both_keys};
@@ -69,32 +76,48 @@ impl<T: BiHashItem, S: BuildHasher> KeyIndex<T, S> for BiIndex<T> {
 
     ghost taken = { AreTaken (shares T.first_key T.Key1.eq) (shares T.second_key T.Key2.eq) };
 
-    ghost tells = { ⟦<Pair<ByHash<First, T::Key1>, ByHash<Second, T::Key2>, BiClash> as KeyIndex<T, S>>⟧.tells };
+    ghost tells = { λ at. IsOfTwo at.key1 at.key2 };
 
     fn unasked() -> (Option<MapHash>, Option<MapHash>) {
         <Tables<T> as KeyIndex<T, S>>::unasked()
     }
 
-    ghost same_as_itself = { λ x. ⟦<Pair<ByHash<First, T::Key1>, ByHash<Second, T::Key2>, BiClash> as KeyIndex<T, S>>⟧.same_as_itself x.tables };
+    ghost same_as_itself = { λ x. (refl, refl) };
 
-    ghost same_indexes = { λ x y state s same is.
-        ⟦<Pair<ByHash<First, T::Key1>, ByHash<Second, T::Key2>, BiClash> as KeyIndex<T, S>>⟧.same_indexes x.tables y.tables state s same is };
+    ghost same_indexes = { λ x y state s same is. (
+      Indexes-kept T.first_key (hashing_of T.Key1.eq T.Key1.hash_input S.BuildHasher S.Hasher.Hasher state) s
+          (filed x.tables.first.table) (filed y.tables.first.table) same.0 is.0,
+      Indexes-kept T.second_key (hashing_of T.Key2.eq T.Key2.hash_input S.BuildHasher S.Hasher.Hasher state) s
+          (filed x.tables.second.table) (filed y.tables.second.table) same.1 is.1,
+    ) };
 
-    ghost apart = { λ x state s is. ⟦<Pair<ByHash<First, T::Key1>, ByHash<Second, T::Key2>, BiClash> as KeyIndex<T, S>>⟧.apart x.tables state s is };
+    ghost apart = { λ x state s is. AreApart-either (shares T.first_key T.Key1.eq) (shares T.second_key T.Key2.eq) s
+        is.0.exact.apart is.1.exact.apart };
 
-    ghost modified = { λ x state s ix was item is live same.
-        ⟦<Pair<ByHash<First, T::Key1>, ByHash<Second, T::Key2>, BiClash> as KeyIndex<T, S>>⟧.modified x.tables state s ix was item is live same };
+    ghost modified = { λ x state s ix was item is live same. (
+      Indexes-key_kept T.first_key T.Key1.eq T.Key1.hash_input S.BuildHasher S.Hasher.Hasher T.Key1.Eq.laws
+          T.Key1.respects_eq state s (filed x.tables.first.table) is.0 ix was item live (ap (λ keys. keys.0) same),
+      Indexes-key_kept T.second_key T.Key2.eq T.Key2.hash_input S.BuildHasher S.Hasher.Hasher T.Key2.Eq.laws
+          T.Key2.respects_eq state s (filed x.tables.second.table) is.1 ix was item live (ap (λ keys. keys.1) same),
+    ) };
 
-    ghost same_items = { λ x state s t same is.
-        ⟦<Pair<ByHash<First, T::Key1>, ByHash<Second, T::Key2>, BiClash> as KeyIndex<T, S>>⟧.same_items x.tables state s t same is };
+    ghost same_items = { λ x state s t same is. let first = shares T.first_key T.Key1.eq in
+        let second = shares T.second_key T.Key2.eq in (
+      Indexes-keys_shared T.first_key T.Key1.eq T.Key1.hash_input S.BuildHasher S.Hasher.Hasher T.Key1.Eq.laws
+          T.Key1.respects_eq state s (filed x.tables.first.table) is.0 t (HaveSameKeys-first first second s t same),
+      Indexes-keys_shared T.second_key T.Key2.eq T.Key2.hash_input S.BuildHasher S.Hasher.Hasher T.Key2.Eq.laws
+          T.Key2.respects_eq state s (filed x.tables.second.table) is.1 t (HaveSameKeys-second first second s t same),
+    ) };
 
-    ghost equivalence = { ⟦<Pair<ByHash<First, T::Key1>, ByHash<Second, T::Key2>, BiClash> as KeyIndex<T, S>>⟧.equivalence };
+    ghost equivalence = { and_equiv (shares_laws T.first_key T.Key1.eq T.Key1.Eq.laws)
+        (shares_laws T.second_key T.Key2.eq T.Key2.Eq.laws) };
 
-    ghost told = { ⟦<Pair<ByHash<First, T::Key1>, ByHash<Second, T::Key2>, BiClash> as KeyIndex<T, S>>⟧.told };
+    ghost told = { λ s item at. told_two s item (shares T.first_key T.Key1.eq) (shares T.second_key T.Key2.eq) at.key1 at.key2 };
 
-    ghost told_some = { ⟦<Pair<ByHash<First, T::Key1>, ByHash<Second, T::Key2>, BiClash> as KeyIndex<T, S>>⟧.told_some };
+    ghost told_some = { λ s item at. some_two s item (shares T.first_key T.Key1.eq) (shares T.second_key T.Key2.eq)
+        at.key1 at.key2 };
 
-    ghost few_told = { ⟦<Pair<ByHash<First, T::Key1>, ByHash<Second, T::Key2>, BiClash> as KeyIndex<T, S>>⟧.few_told };
+    ghost few_told = { λ at. few_two at.key1 at.key2 };
 }
 
 impl<T: BiHashItem, S: BuildHasher> Sizes<T, S> for BiIndex<T> {
@@ -205,7 +228,7 @@ impl<T: BiHashItem, S: BuildHasher> Inserts<T, S> for BiIndex<T> {
         self.tables.give_way(items, state, ix)
     }
 
-    ghost same_plans = { λ x y. ⟦<Pair<ByHash<First, T::Key1>, ByHash<Second, T::Key2>, BiClash> as Inserts<T, S>>⟧.same_plans x.tables y.tables };
+    ghost same_plans = { λ x y state s item plan same is. is };
 }
 
 impl<T: BiHashItem, S: BuildHasher> Removes<T, S> for BiIndex<T> {
@@ -264,6 +287,9 @@ impl<T: BiHashItem, S: BuildHasher> Moves<T, S> for BiIndex<T> {
 }
 
 impl<T: BiHashItem, S: BuildHasher> Checks<T, S> for BiIndex<T> {
+    ghost use Rattle.iddqd_map.specs.Map.{shares};
+    ghost use Rattle.iddqd_map.specs.PairLaws.{alike_both};
+
     fn copied(&self) -> Result<BiIndex<T>, AllocError> {
         Ok(BiIndex {
             tables: <Tables<T> as Checks<T, S>>::copied(&self.tables)?,
@@ -287,7 +313,8 @@ impl<T: BiHashItem, S: BuildHasher> Checks<T, S> for BiIndex<T> {
         self.tables.validate(items, state, compactness)
     }
 
-    ghost same_are_alike = { ⟦<Pair<ByHash<First, T::Key1>, ByHash<Second, T::Key2>, BiClash> as Checks<T, S>>⟧.same_are_alike };
+    ghost same_are_alike = { let first = shares T.first_key T.Key1.eq in
+        alike_both first (shares T.second_key T.Key2.eq) first (λ x y same. same) (shares T.second_key T.Key2.eq) };
 }
 
 impl<T: BiHashItem, S: BuildHasher> HashedAt<First, T, S> for BiIndex<T> {

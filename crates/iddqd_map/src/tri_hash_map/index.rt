@@ -32,12 +32,19 @@ pub struct TriIndex<T: TriHashItem> {
 }
 
 impl<T: TriHashItem, S: BuildHasher> KeyIndex<T, S> for TriIndex<T> {
+    ghost use Rattle.std.proofs.Common.{ap, refl};
+    ghost use Rattle.std.proofs.lemmas.Cmp.{and_equiv};
     ghost use Rattle.std.specs.Prelude.{◌+◌, false};
+    ghost use Rattle.iddqd_hash.specs.MapHashTable.{filed};
     ghost use Rattle.iddqd_hash.specs.Sizes.{most_cells};
+    ghost use Rattle.iddqd_sides.specs.Hashed.{hashing_of};
+    ghost use Rattle.iddqd_map.specs.HashLaws.{shares_laws, Indexes-kept, Indexes-key_kept, Indexes-keys_shared};
+    ghost use Rattle.iddqd_map.specs.KeyLaws.{IsOfThree, told_three, some_three, few_three};
+    ghost use Rattle.iddqd_map.specs.PairLaws.{AreApart-either, HaveSameKeys-first, HaveSameKeys-second};
     ghost use Rattle.iddqd_sides.specs.KeyKeeping.{pair_keys};
     ghost use Rattle.iddqd_map.specs.Map.{shares};
-    ghost use Rattle.iddqd_map.specs.ThreeKeys.{any_key, all_keys};
-    ghost use Rattle.iddqd_map.specs.ThreeKeys.{AreTold, AreTaken};
+    ghost use Rattle.iddqd_map.specs.Several.{either_key, both_keys};
+    ghost use Rattle.iddqd_map.specs.ThreeKeys.{any_key, all_keys, AreTold, AreTaken};
 
     type Conflict = TriClash;
 
@@ -73,32 +80,70 @@ impl<T: TriHashItem, S: BuildHasher> KeyIndex<T, S> for TriIndex<T> {
     ghost taken = { AreTaken (shares T.first_key T.Key1.eq) (shares T.second_key T.Key2.eq)
         (shares T.third_key T.Key3.eq) };
 
-    ghost tells = { ⟦<Pair<ByHash<First, T::Key1>, Pair<ByHash<Second, T::Key2>, ByHash<Third, T::Key3>>, TriClash> as KeyIndex<T, S>>⟧.tells };
+    ghost tells = { λ at. IsOfThree at.key1 at.key2 at.key3 };
 
     fn unasked() -> (Option<MapHash>, (Option<MapHash>, Option<MapHash>)) {
         <Tables<T> as KeyIndex<T, S>>::unasked()
     }
 
-    ghost same_as_itself = { λ x. ⟦<Pair<ByHash<First, T::Key1>, Pair<ByHash<Second, T::Key2>, ByHash<Third, T::Key3>>, TriClash> as KeyIndex<T, S>>⟧.same_as_itself x.tables };
+    ghost same_as_itself = { λ x. (refl, (refl, refl)) };
 
-    ghost same_indexes = { λ x y state s same is.
-        ⟦<Pair<ByHash<First, T::Key1>, Pair<ByHash<Second, T::Key2>, ByHash<Third, T::Key3>>, TriClash> as KeyIndex<T, S>>⟧.same_indexes x.tables y.tables state s same is };
+    ghost same_indexes = { λ x y state s same is. (
+      Indexes-kept T.first_key (hashing_of T.Key1.eq T.Key1.hash_input S.BuildHasher S.Hasher.Hasher state) s
+          (filed x.tables.first.table) (filed y.tables.first.table) same.0 is.0,
+      (
+        Indexes-kept T.second_key (hashing_of T.Key2.eq T.Key2.hash_input S.BuildHasher S.Hasher.Hasher state) s
+            (filed x.tables.second.first.table) (filed y.tables.second.first.table) same.1.0 is.1.0,
+        Indexes-kept T.third_key (hashing_of T.Key3.eq T.Key3.hash_input S.BuildHasher S.Hasher.Hasher state) s
+            (filed x.tables.second.second.table) (filed y.tables.second.second.table) same.1.1 is.1.1,
+      ),
+    ) };
 
-    ghost apart = { λ x state s is. ⟦<Pair<ByHash<First, T::Key1>, Pair<ByHash<Second, T::Key2>, ByHash<Third, T::Key3>>, TriClash> as KeyIndex<T, S>>⟧.apart x.tables state s is };
+    ghost apart = { λ x state s is. let second = shares T.second_key T.Key2.eq in
+        let third = shares T.third_key T.Key3.eq in
+        AreApart-either (shares T.first_key T.Key1.eq) (either_key second third) s is.0.exact.apart
+        (AreApart-either second third s is.1.0.exact.apart is.1.1.exact.apart) };
 
-    ghost modified = { λ x state s ix was item is live same.
-        ⟦<Pair<ByHash<First, T::Key1>, Pair<ByHash<Second, T::Key2>, ByHash<Third, T::Key3>>, TriClash> as KeyIndex<T, S>>⟧.modified x.tables state s ix was item is live same };
+    ghost modified = { λ x state s ix was item is live same. (
+      Indexes-key_kept T.first_key T.Key1.eq T.Key1.hash_input S.BuildHasher S.Hasher.Hasher T.Key1.Eq.laws
+          T.Key1.respects_eq state s (filed x.tables.first.table) is.0 ix was item live (ap (λ keys. keys.0) same),
+      (
+        Indexes-key_kept T.second_key T.Key2.eq T.Key2.hash_input S.BuildHasher S.Hasher.Hasher T.Key2.Eq.laws
+            T.Key2.respects_eq state s (filed x.tables.second.first.table) is.1.0 ix was item live
+            (ap (λ keys. keys.1.0) same),
+        Indexes-key_kept T.third_key T.Key3.eq T.Key3.hash_input S.BuildHasher S.Hasher.Hasher T.Key3.Eq.laws
+            T.Key3.respects_eq state s (filed x.tables.second.second.table) is.1.1 ix was item live
+            (ap (λ keys. keys.1.1) same),
+      ),
+    ) };
 
-    ghost same_items = { λ x state s t same is.
-        ⟦<Pair<ByHash<First, T::Key1>, Pair<ByHash<Second, T::Key2>, ByHash<Third, T::Key3>>, TriClash> as KeyIndex<T, S>>⟧.same_items x.tables state s t same is };
+    ghost same_items = { λ x state s t same is. let first = shares T.first_key T.Key1.eq in
+        let second = shares T.second_key T.Key2.eq in let third = shares T.third_key T.Key3.eq in
+        let last = HaveSameKeys-second first (both_keys second third) s t same in (
+      Indexes-keys_shared T.first_key T.Key1.eq T.Key1.hash_input S.BuildHasher S.Hasher.Hasher T.Key1.Eq.laws
+          T.Key1.respects_eq state s (filed x.tables.first.table) is.0 t
+          (HaveSameKeys-first first (both_keys second third) s t same),
+      (
+        Indexes-keys_shared T.second_key T.Key2.eq T.Key2.hash_input S.BuildHasher S.Hasher.Hasher T.Key2.Eq.laws
+            T.Key2.respects_eq state s (filed x.tables.second.first.table) is.1.0 t
+            (HaveSameKeys-first second third s t last),
+        Indexes-keys_shared T.third_key T.Key3.eq T.Key3.hash_input S.BuildHasher S.Hasher.Hasher T.Key3.Eq.laws
+            T.Key3.respects_eq state s (filed x.tables.second.second.table) is.1.1 t
+            (HaveSameKeys-second second third s t last),
+      ),
+    ) };
 
-    ghost equivalence = { ⟦<Pair<ByHash<First, T::Key1>, Pair<ByHash<Second, T::Key2>, ByHash<Third, T::Key3>>, TriClash> as KeyIndex<T, S>>⟧.equivalence };
+    ghost equivalence = { and_equiv (shares_laws T.first_key T.Key1.eq T.Key1.Eq.laws)
+        (and_equiv (shares_laws T.second_key T.Key2.eq T.Key2.Eq.laws)
+        (shares_laws T.third_key T.Key3.eq T.Key3.Eq.laws)) };
 
-    ghost told = { ⟦<Pair<ByHash<First, T::Key1>, Pair<ByHash<Second, T::Key2>, ByHash<Third, T::Key3>>, TriClash> as KeyIndex<T, S>>⟧.told };
+    ghost told = { λ s item. told_three s item (shares T.first_key T.Key1.eq) (shares T.second_key T.Key2.eq)
+        (shares T.third_key T.Key3.eq) };
 
-    ghost told_some = { ⟦<Pair<ByHash<First, T::Key1>, Pair<ByHash<Second, T::Key2>, ByHash<Third, T::Key3>>, TriClash> as KeyIndex<T, S>>⟧.told_some };
+    ghost told_some = { λ s item. some_three s item (shares T.first_key T.Key1.eq) (shares T.second_key T.Key2.eq)
+        (shares T.third_key T.Key3.eq) };
 
-    ghost few_told = { ⟦<Pair<ByHash<First, T::Key1>, Pair<ByHash<Second, T::Key2>, ByHash<Third, T::Key3>>, TriClash> as KeyIndex<T, S>>⟧.few_told };
+    ghost few_told = { λ at. few_three at.key1 at.key2 at.key3 };
 }
 
 impl<T: TriHashItem, S: BuildHasher> Sizes<T, S> for TriIndex<T> {
@@ -209,7 +254,7 @@ impl<T: TriHashItem, S: BuildHasher> Inserts<T, S> for TriIndex<T> {
         self.tables.give_way(items, state, ix)
     }
 
-    ghost same_plans = { λ x y. ⟦<Pair<ByHash<First, T::Key1>, Pair<ByHash<Second, T::Key2>, ByHash<Third, T::Key3>>, TriClash> as Inserts<T, S>>⟧.same_plans x.tables y.tables };
+    ghost same_plans = { λ x y state s item plan same is. is };
 }
 
 impl<T: TriHashItem, S: BuildHasher> Removes<T, S> for TriIndex<T> {
@@ -268,6 +313,10 @@ impl<T: TriHashItem, S: BuildHasher> Moves<T, S> for TriIndex<T> {
 }
 
 impl<T: TriHashItem, S: BuildHasher> Checks<T, S> for TriIndex<T> {
+    ghost use Rattle.iddqd_map.specs.Map.{shares};
+    ghost use Rattle.iddqd_map.specs.PairLaws.{alike_both};
+    ghost use Rattle.iddqd_map.specs.Several.{either_key, both_keys};
+
     fn copied(&self) -> Result<TriIndex<T>, AllocError> {
         Ok(TriIndex {
             tables: <Tables<T> as Checks<T, S>>::copied(&self.tables)?,
@@ -291,7 +340,9 @@ impl<T: TriHashItem, S: BuildHasher> Checks<T, S> for TriIndex<T> {
         self.tables.validate(items, state, compactness)
     }
 
-    ghost same_are_alike = { ⟦<Pair<ByHash<First, T::Key1>, Pair<ByHash<Second, T::Key2>, ByHash<Third, T::Key3>>, TriClash> as Checks<T, S>>⟧.same_are_alike };
+    ghost same_are_alike = { let first = shares T.first_key T.Key1.eq in
+        let second = shares T.second_key T.Key2.eq in let third = shares T.third_key T.Key3.eq in
+        alike_both first (both_keys second third) first (λ x y same. same) (either_key second third) };
 }
 
 impl<T: TriHashItem, S: BuildHasher> HashedAt<First, T, S> for TriIndex<T> {
