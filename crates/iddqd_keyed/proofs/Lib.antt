@@ -1,11 +1,2 @@
-pub mod KeyLemmas
-pub mod KeepsLemmas
-pub mod InsertLemmas
-pub mod StepLemmas
-pub mod RunLemmas
-pub mod ValidationLemmas
-pub mod QueryLemmas
-pub mod WalkLemmas
-pub mod ReplacementLemmas
-pub mod ModifyLemmas
-pub mod MemoryLemmas
+-- lemmas that callers cite, from one place
+pub use Rattle.iddqd_driver.proofs.RunLemmas

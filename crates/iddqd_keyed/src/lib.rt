@@ -1,9 +1,16 @@
-//! Items with two unique keys each, and commands over them.
+//! Items with two or three unique keys, commands over them, and the line protocol.
 //!
-//! [`keyed_items::KeyedItems`] keeps items that lend their two keys, and obeys one command at a time
-//! or a list of them.
+//! [`keyed_items::KeyedItems`] keeps items with two keys, which may change without its tables being updated, and obeys
+//! commands. [`tri_items::TriItems`] keeps items with three keys. [`serve::serve`] reads commands from lines and answers
+//! each with a line, from a [`source::Source`] to a [`sink::Sink`].
+//!
+//! It re-exports three crates, `iddqd_driver`, `iddqd_tri` and `iddqd_lines`, so that each is proved beside the others.
 #![tactic(auto)]
 
-pub mod command;
-pub mod keyed_item;
-pub mod keyed_items;
+pub use iddqd_driver::{
+    command as command, keyed_item as keyed_item, keyed_items as keyed_items,
+};
+pub use iddqd_lines::{record as record, serve as serve, sink as sink, source as source};
+pub use iddqd_tri::{
+    tri_item as tri_item, tri_items as tri_items, tri_refusal as tri_refusal,
+};

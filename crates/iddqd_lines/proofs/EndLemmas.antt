@@ -6,7 +6,7 @@ use Rattle.std.specs.declared.hash.FoldHasher.{FoldHasher}
 use Rattle.std.specs.declared.hash.BuildHasherDefault.{BuildHasherDefault}
 use Rattle.std.proofs.lemmas.List.Elements.{All-head, All-tail}
 use Rattle.std.proofs.lemmas.List.Splits.{slice_split_at, slice_split_none, length-slice_split}
-use Rattle.iddqd_keyed.specs.State.{State, empty_state}
+use Rattle.iddqd_driver.specs.State.{State, empty_state}
 use Rattle.iddqd_lines.specs.Line.{line_feed, is_line_feed, lines_of, whole_lines_of, without_empty_last, without_last}
 use Rattle.iddqd_lines.specs.Split.{HasNo}
 use Rattle.iddqd_lines.specs.Replies.{Sends}

@@ -4,13 +4,13 @@ use Rattle.std.specs.Io.KnownBytes.{Consumes}
 use Rattle.std.specs.Option.{option_and_then}
 use Rattle.std.proofs.lemmas.List.Elements.{All-append, All-nil, All-cons}
 use Rattle.std.proofs.lemmas.List.Splits.{slice_split_none}
-use Rattle.iddqd_keyed.specs.State.{State, empty_state}
+use Rattle.iddqd_driver.specs.State.{State, empty_state}
 use Rattle.iddqd_lines.specs.Line.{line_feed, is_line_feed, lines_of, without_empty_last, request_of}
 use Rattle.iddqd_lines.specs.Split.{HasNo, IsCut}
 use Rattle.iddqd_lines.specs.Replies.{Sends}
 use Rattle.iddqd_lines.specs.Program.{AnswersRequest, Line, Serves}
 use Rattle.iddqd_lines.specs.Serve.{Moment, moment, ended, kept_of, IsKept, Tells, Obeys, Feeds}
-use Rattle.iddqd_keyed.specs.declared.command.Command.{Command}
+use Rattle.iddqd_driver.specs.declared.command.Command.{Command}
 use Rattle.iddqd_lines.specs.declared.line.Request.{Request}
 use Rattle.iddqd_lines.specs.declared.record.Record.{Record}
 use Rattle.iddqd_lines.specs.declared.sink.Sink as sink

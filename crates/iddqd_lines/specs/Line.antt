@@ -13,11 +13,11 @@ use Rattle.iddqd.specs.declared.index_remap.IndexRemap.TheVariants.{Identity, Pe
 use Rattle.iddqd_lines.specs.declared.line.Request.{Request}
 use Rattle.iddqd_lines.specs.declared.line.Request.TheVariants.{Run, Validate}
 use Rattle.iddqd_lines.specs.declared.record.Record.{Record}
-use Rattle.iddqd_keyed.specs.Refusal.{refusal_text}
-use Rattle.iddqd_keyed.specs.declared.command.Command.{Command}
-use Rattle.iddqd_keyed.specs.declared.command.Command.TheVariants.{Insert, Find1, Find2, Remove, Remove1, Remove2, Overwrite, Compact, Clear, Walk}
-use Rattle.iddqd_keyed.specs.declared.command.Reply.{Reply}
-use Rattle.iddqd_keyed.specs.declared.command.Reply.TheVariants.{Inserted, Refused, Found, Removed, Overwritten, Compacted, Cleared, Walked, NoMemory}
+use Rattle.iddqd_driver.specs.Refusal.{refusal_text}
+use Rattle.iddqd_driver.specs.declared.command.Command.{Command}
+use Rattle.iddqd_driver.specs.declared.command.Command.TheVariants.{Insert, Find1, Find2, Remove, Remove1, Remove2, Overwrite, Compact, Clear, Walk}
+use Rattle.iddqd_driver.specs.declared.command.Reply.{Reply}
+use Rattle.iddqd_driver.specs.declared.command.Reply.TheVariants.{Inserted, Refused, Found, Removed, Overwritten, Compacted, Cleared, Walked, NoMemory}
 
 -- the byte that ends a line
 abbrev pub line_feed : ℕ

@@ -12,17 +12,17 @@ use Rattle.std.specs.declared.hash.Hasher as hasher
 use Rattle.std.specs.declared.hash.BuildHasher as builder
 use Rattle.iddqd.specs.MapHash.{hash_one}
 use Rattle.iddqd.specs.Validation.{not_compact_text}
-use Rattle.iddqd_keyed.specs.Keys.{Keys}
-use Rattle.iddqd_keyed.specs.State.{State, empty_state}
-use Rattle.iddqd_keyed.specs.Machine.{Step}
+use Rattle.iddqd_driver.specs.Keys.{Keys}
+use Rattle.iddqd_driver.specs.State.{State, empty_state}
+use Rattle.iddqd_driver.specs.Machine.{Step}
 use Rattle.iddqd_lines.specs.Line.{line_feed, lines_of, whole_lines_of, request_of, index_of, text_of}
 use Rattle.iddqd_lines.specs.declared.line.Request.{Request}
 use Rattle.iddqd_lines.specs.declared.line.Request.TheVariants.{Run, Validate}
 use Rattle.iddqd_lines.specs.declared.record.Record.{Record}
 use Rattle.iddqd_lines.specs.declared.serve.ServeFault.{ServeFault}
 use Rattle.iddqd_lines.specs.declared.serve.ServeFault.TheVariants.{Read, Write}
-use Rattle.iddqd_keyed.specs.declared.command.Command.{Command}
-use Rattle.iddqd_keyed.specs.declared.command.Reply.{Reply}
+use Rattle.iddqd_driver.specs.declared.command.Command.{Command}
+use Rattle.iddqd_driver.specs.declared.command.Reply.{Reply}
 
 -- the keys of records, where the hasher in the state s hashes the first key k as `hash s k`
 abbrev pub record_keys : {S : Type 0} → (S → ℕ → ℕ) → Keys Record ℕ ℕ S

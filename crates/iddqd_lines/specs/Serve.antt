@@ -1,12 +1,12 @@
 -- How `serve` goes on, from some bytes of its input to the next. No public clause cites this module.
 use Rattle.std.specs.Prelude.{◌≡◌, ℕ, List, [], ◌∷◌, ◌++◌, All, Option, Some, None, Result, OnOk, length, nat_le, if◌then◌else◌}
-use Rattle.iddqd_keyed.specs.State.{State}
+use Rattle.iddqd_driver.specs.State.{State}
 use Rattle.iddqd_lines.specs.Line.{line_feed, max_line}
 use Rattle.iddqd_lines.specs.Split.{HasNo}
 use Rattle.iddqd_lines.specs.Program.{AnswersRequest, Serves}
 use Rattle.iddqd_lines.specs.Replies.{Sends}
 use Rattle.iddqd_lines.specs.declared.sink.Sink as sink
-use Rattle.iddqd_keyed.specs.declared.command.Command.{Command}
+use Rattle.iddqd_driver.specs.declared.command.Command.{Command}
 use Rattle.iddqd_lines.specs.declared.line.Request.{Request}
 use Rattle.iddqd_lines.specs.declared.record.Record.{Record}
 

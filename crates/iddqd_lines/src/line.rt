@@ -8,7 +8,7 @@ ghost use Rattle.iddqd_lines.specs.Line.{named, record_commands, index_commands}
 use crate::record::Record;
 use crate::split::split_at_first;
 use iddqd::item_index::ItemIndex;
-use iddqd_keyed::command::Command;
+use iddqd_driver::command::Command;
 
 /// What ends a line.
 pub(crate) const LINE_FEED: u8 = b'\n';

@@ -1,5 +1,5 @@
 //! What the program keeps.
-use iddqd_keyed::keyed_item::KeyedItem;
+use iddqd_driver::keyed_item::KeyedItem;
 
 /// Two keys and a value.
 #[derive(Clone, Copy, Debug, PartialEq, Eq)]

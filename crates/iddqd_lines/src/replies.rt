@@ -5,7 +5,7 @@ ghost use Rattle.std.specs.List.{flat_map};
 ghost use Rattle.iddqd_lines.specs.Line.{line_feed, record_text, found_text, removed_text, overwritten_text};
 ghost use Rattle.iddqd_lines.specs.Line.{walk_text, remap_text, text_of};
 ghost use Rattle.iddqd.specs.{index_or_dash};
-ghost use Rattle.iddqd_keyed.specs.{refusal_text};
+ghost use Rattle.iddqd_driver.specs.{refusal_text};
 ghost use Rattle.iddqd_lines.specs.Replies.{Sends, spaced, spaced_name};
 
 use crate::digits::{Digits, MAX_DIGITS};
@@ -14,8 +14,8 @@ use crate::record::Record;
 use crate::sink::Sink;
 use iddqd::index_remap::IndexRemap;
 use iddqd::item_index::ItemIndex;
-use iddqd_keyed::command::Reply;
-use iddqd_keyed::keyed_items::{InsertRefusal, KeyedItems};
+use iddqd_driver::command::Reply;
+use iddqd_driver::keyed_items::{InsertRefusal, KeyedItems};
 use std::hash::BuildHasher;
 use std::marker::Model;
 

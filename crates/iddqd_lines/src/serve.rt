@@ -9,7 +9,7 @@
 //! person who types sees each answer at once, and a pipe gets large writes.
 ghost use Rattle.std.specs.Prelude.{◌≡◌, ◌∷◌, ◌++◌, [], List, ℕ, ◌<◌, length, Some, OnOk, IfSome, false};
 ghost use Rattle.std.specs.Option.{option_and_then};
-ghost use Rattle.iddqd_keyed.specs.State.{empty_state};
+ghost use Rattle.iddqd_driver.specs.State.{empty_state};
 ghost use Rattle.iddqd_lines.specs.Line.{lines_of, request_of};
 ghost use Rattle.iddqd_lines.specs.Program.{hash_u32, IsDefaultHasher, ServesUntil, FailsAt};
 ghost use Rattle.iddqd_lines.specs.Serve.{moment, kept_of, IsKept, Obeys, Feeds, Tells};
@@ -25,8 +25,8 @@ use crate::source::Source;
 use crate::split::split_at_first;
 use iddqd::hash_builder::DefaultHashBuilder;
 use iddqd::internal::{ValidateChaos, ValidateCompact, ValidateRefusal, ValidationError};
-use iddqd_keyed::command::Command;
-use iddqd_keyed::keyed_items::KeyedItems;
+use iddqd_driver::command::Command;
+use iddqd_driver::keyed_items::KeyedItems;
 use std::alloc::Global;
 use std::fmt;
 use std::hash::BuildHasher;

@@ -2,8 +2,8 @@
 use super::pair::Pair;
 use iddqd::internal::{ValidateChaos, ValidateCompact, ValidateRefusal};
 use iddqd::item_index::ItemIndex;
-use iddqd_keyed::command::{Command, Reply};
-use iddqd_keyed::keyed_items::KeyedItems;
+use iddqd_driver::command::{Command, Reply};
+use iddqd_driver::keyed_items::KeyedItems;
 use std::alloc::{AllocError, Global};
 use std::hash::BuildHasher;
 

@@ -2,7 +2,7 @@
 use super::counted::{Counts, Item, NONE, Own, first_of, item_of, second_of};
 use super::script::ix;
 use iddqd::item_index::ItemIndex;
-use iddqd_keyed::keyed_items::KeyedItems;
+use iddqd_driver::keyed_items::KeyedItems;
 use std::alloc::AllocError;
 use std::cell::Cell;
 use std::process::Abort;

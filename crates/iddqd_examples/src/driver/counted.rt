@@ -7,7 +7,7 @@ ghost use Rattle.std.specs.Cmp.{partial_order_from_own_ties};
 ghost use Rattle.std.specs.Cmp.Rules.{comparing, hashing};
 ghost use Rattle.std.proofs.Common.{rules};
 
-use iddqd_keyed::keyed_item::KeyedItem;
+use iddqd_driver::keyed_item::KeyedItem;
 use std::alloc::AllocError;
 use std::cell::Cell;
 use std::cmp::Ordering;

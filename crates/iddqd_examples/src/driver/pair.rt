@@ -1,5 +1,5 @@
 //! Items of two numbers.
-use iddqd_keyed::keyed_item::KeyedItem;
+use iddqd_driver::keyed_item::KeyedItem;
 
 /// A first key and a second key.
 #[derive(Clone, Copy, Debug)]

@@ -1,7 +1,7 @@
 //! Items whose keys change without the tables being updated.
 use super::hashers::Constant;
 use super::script::{assert_calls, assert_script, assert_within};
-use iddqd_keyed::keyed_items::KeyedItems;
+use iddqd_driver::keyed_items::KeyedItems;
 use std::alloc::{AllocError, Global};
 use std::process::Abort;
 use std::test::Fail;

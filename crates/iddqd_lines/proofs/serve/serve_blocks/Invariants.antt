@@ -1,5 +1,5 @@
 use Rattle.std.proofs.Common.{◌≡◌, [], false, IfSome}
-use Rattle.iddqd_keyed.specs.State.{empty_state}
+use Rattle.iddqd_driver.specs.State.{empty_state}
 use Rattle.iddqd_lines.specs.Program.{default_hash}
 use Rattle.iddqd_lines.specs.Serve.{moment}
 use Rattle.iddqd_lines.proofs.ServeLemmas.{Reads}

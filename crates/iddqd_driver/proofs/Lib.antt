@@ -1,0 +1,11 @@
+pub mod KeyLemmas
+pub mod KeepsLemmas
+pub mod InsertLemmas
+pub mod StepLemmas
+pub mod RunLemmas
+pub mod ValidationLemmas
+pub mod QueryLemmas
+pub mod WalkLemmas
+pub mod ReplacementLemmas
+pub mod ModifyLemmas
+pub mod MemoryLemmas

@@ -1,0 +1,9 @@
+use Rattle.std.proofs.Common.{arith}
+use Rattle.std.proofs.lemmas.Grind.{common_steps}
+use Rattle.iddqd_driver.proofs.keyed_items.KeyedItems.find2.Goals as goal
+
+pub returns-clause-found : goal.returns-clause-found
+returns-clause-found g c = rw (← c.self.view_is) c.find.ensures
+
+pub returns-clause-paired : goal.returns-clause-paired
+returns-clause-paired g c = grind (arith, common_steps)

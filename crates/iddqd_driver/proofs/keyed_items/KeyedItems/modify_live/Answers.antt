@@ -1,0 +1,30 @@
+use Rattle.std.proofs.Common.{◌≡◌, Some, refl, sym}
+use Rattle.std.specs.Fn.{FnOnceReturnsAtMut}
+use Rattle.iddqd.specs.Store.{get}
+use Rattle.iddqd_driver.proofs.KeyLemmas.{AreLawful-from_bounds}
+use Rattle.iddqd_driver.proofs.KeepsLemmas.{IsPaired-rebound}
+use Rattle.iddqd_driver.proofs.ModifyLemmas.{Keeps-modified}
+use Rattle.iddqd_driver.proofs.keyed_items.KeyedItems.modify_live.Goals as goal
+
+pub invariant_of-self-2 : goal.invariant_of-self-2
+invariant_of-self-2 g c = IsPaired-rebound _ c.self.invariant c.args.ix c.f.new.arg2 _ (sym c.in_ok-item.ensures.value)
+
+pub returns-clause-modifies : goal.returns-clause-modifies
+returns-clause-modifies g c =
+    let item = c.in_ok-item.item in
+    let live : get c.self.inside.items.store c.args.ix ≡ Some item.now = sym c.in_ok-item.ensures.value in
+    let gave : FnOnceReturnsAtMut g.F.FnOnce c.args.f item.now c.f.result c.f.new.arg2 = record { shown = _; shows = refl; left = _; met = c.f.ensures; leaves = refl } in
+    rw (← c.self.view_is) (record { was = item.now; is = c.f.new.arg2; live = live; called = gave; left = refl }, refl)
+
+pub returns-clause-keeps : goal.returns-clause-keeps
+returns-clause-keeps g c =
+    let item = c.in_ok-item.item in
+    let live : get c.self.inside.items.store c.args.ix ≡ Some item.now = sym c.in_ok-item.ensures.value in
+    let same = (c.requires.keeps item (rw (← c.self.view_is) live)).1 _ _ c.f.ensures in
+    rw (← c.self.view_is)
+    (Keeps-modified _ _ c.self.invariant
+    (AreLawful-from_bounds {item = g.T.KeyedItem} g.S.BuildHasher g.S.Hasher.Hasher g.met.T.Key1.PartialEq.laws
+    g.met.T.Key1.Hash.respects_eq g.met.T.Key2.Ord.total) g.met.T.Key1.Eq.laws c.args.ix item.now c.f.new.arg2 live same)
+
+pub returns-clause-memory : goal.returns-clause-memory
+returns-clause-memory g c = rw (← c.self.view_is)

@@ -1,0 +1,56 @@
+use Rattle.std.proofs.Common.{rules, ◌≡◌, None, refl, arith}
+use Rattle.std.proofs.lemmas.Grind.{common_steps}
+use Rattle.iddqd_sides.specs.OrderedQuery.{compares_as_key}
+use Rattle.iddqd_driver.proofs.KeyLemmas.{AreLawful-from_bounds}
+use Rattle.iddqd_driver.specs.Keys.{keys_of}
+use Rattle.iddqd_driver.proofs.KeepsLemmas.{IsPaired-unbound, Keeps-unbound}
+use Rattle.iddqd_driver.proofs.QueryLemmas.{LooksUpBy-ordered}
+use Rattle.iddqd_driver.proofs.keyed_items.KeyedItems.remove2_by.Goals as goal
+
+pub returns-in_err-ix-clause-removes : goal.returns-in_err-ix-clause-removes
+returns-in_err-ix-clause-removes g c =
+    let none : c.from_residual.result ≡ None = search (rules, c.from_residual.ensures) in
+    let comparing = g.Q.OrdQuery.compare c.args.query in
+    rw (← c.self.view_is, none, c.in_err-ix.ensures.taken) (
+      LooksUpBy-ordered
+          (keys_of g.T.KeyedItem g.T.Key1.PartialEq.eq g.T.Key1.Hash.hash_input g.T.Key2.Ord.cmp g.S.BuildHasher
+          g.S.Hasher.Hasher) _ comparing
+          (compares_as_key g.T.Key2.Ord.cmp g.met.T.Key2.Ord.total comparing (g.met.Q.OrdQuery.lawful c.args.query))
+          None c.in_err-ix.ensures.found,
+      refl,
+    )
+
+pub invariant_of-self-2 : goal.invariant_of-self-2
+invariant_of-self-2 g c =
+    let out = c.take_item-item.ensures in
+    rw (out.removed, c.take_index.ensures.taken, c.in_ok-ix.ensures.taken)
+    (IsPaired-unbound _ c.self.invariant c.in_ok-ix.ix _ out.item)
+
+pub returns-clause-removes : goal.returns-clause-removes
+returns-clause-removes g c =
+    let out = c.take_item-item.ensures in
+    let comparing = g.Q.OrdQuery.compare c.args.query in
+    rw (← c.self.view_is, out.removed, c.take_index.ensures.taken, c.in_ok-ix.ensures.taken) (
+      LooksUpBy-ordered
+          (keys_of g.T.KeyedItem g.T.Key1.PartialEq.eq g.T.Key1.Hash.hash_input g.T.Key2.Ord.cmp g.S.BuildHasher
+          g.S.Hasher.Hasher) _ comparing
+          (compares_as_key g.T.Key2.Ord.cmp g.met.T.Key2.Ord.total comparing (g.met.Q.OrdQuery.lawful c.args.query))
+          _ c.in_ok-ix.ensures.found,
+      (out.item, refl),
+    )
+
+pub returns-clause-keeps : goal.returns-clause-keeps
+returns-clause-keeps g c =
+    let out = c.take_item-item.ensures in
+    rw (← c.self.view_is, out.removed, c.take_index.ensures.taken, c.in_ok-ix.ensures.taken)
+    (Keeps-unbound _ _ c.self.invariant
+    (AreLawful-from_bounds {item = g.T.KeyedItem} g.S.BuildHasher g.S.Hasher.Hasher g.met.T.Key1.PartialEq.laws
+    g.met.T.Key1.Hash.respects_eq g.met.T.Key2.Ord.total) c.in_ok-ix.ix _ out.item)
+
+pub invariant_of-self : goal.invariant_of-self
+invariant_of-self g c = grind (arith, common_steps)
+
+pub returns-clause-memory : goal.returns-clause-memory
+returns-clause-memory g c =
+    let hashed = c.take_index.ensures.memory in
+    rw (← c.self.view_is, c.take_item-item.ensures.slots, hashed.same_capacity, hashed.same_memory, c.in_ok-ix.ensures.memory)

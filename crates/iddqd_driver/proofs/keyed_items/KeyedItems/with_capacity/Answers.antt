@@ -1,0 +1,22 @@
+use Rattle.std.proofs.Common.{◌≡◌, ◌∙◌, ap, arith}
+use Rattle.iddqd.specs.Store.{slot_limit}
+use Rattle.iddqd_hash.specs.HashTable.{capacity as hashed_capacity}
+use Rattle.iddqd_order.specs.MapBTreeTable.{capacity as ordered_capacity, capacity_for}
+use Rattle.iddqd_driver.proofs.KeepsLemmas.{IsPaired-empty}
+use Rattle.iddqd_driver.proofs.MemoryLemmas.{length-entries_of_none}
+use Rattle.iddqd_driver.proofs.keyed_items.KeyedItems.with_capacity.Goals as goal
+
+pub invariant_of-result : goal.invariant_of-result
+invariant_of-result g c =
+    rw (c.in_ok-with_capacity.ensures.contents, c.in_ok-with_capacity-2.ensures.empty, c.in_ok-with_capacity-3.ensures.empty)
+    (IsPaired-empty slot_limit _ (omega arith))
+
+pub returns-clause-no_memory : goal.returns-clause-no_memory
+returns-clause-no_memory g c = λ none.
+    let wanted : c.min-items.result ≡ 0 = omega arith in
+    let bare = c.in_ok-with_capacity-2.ensures.memory.no_memory wanted in
+    let pairs = length-entries_of_none c.in_ok-with_capacity-2.field-0 c.in_ok-with_capacity-2.ensures.empty in
+    let held : hashed_capacity c.in_ok-with_capacity-2.field-0 ≡ 0 = omega (arith, pairs, bare.no_room) in
+    let slots = c.in_ok-with_capacity.ensures.capacity ∙ wanted in
+    let blocks : ordered_capacity c.in_ok-with_capacity-3.field-0 ≡ 10 = c.in_ok-with_capacity-3.ensures.made ∙ ap capacity_for wanted in
+    rw (slots, held, bare.no_cell, blocks)

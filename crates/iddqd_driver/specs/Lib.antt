@@ -1,0 +1,39 @@
+pub mod Keys
+pub mod State
+pub mod Refusal
+pub mod Sides
+pub mod Machine
+pub mod Run
+pub mod Validation
+pub mod Queries
+pub mod Walks
+pub mod Replacement
+pub mod Modify
+pub mod Memory
+-- what a caller's clauses cite, from one place: of the crates below, and of this one
+pub use Rattle.iddqd.specs.Store
+pub use Rattle.iddqd.specs.Compaction
+pub use Rattle.iddqd_order.specs.Iter
+pub use Rattle.iddqd_sides.specs.Scan
+pub use Rattle.iddqd_sides.specs.Side
+pub use Rattle.iddqd_sides.specs.Hashed
+pub use Rattle.iddqd.specs.Store.{get, live_count, next_index, IsFull}
+pub use Rattle.iddqd.specs.Compaction.{rank, IsRemapOf}
+pub use Rattle.iddqd_order.specs.Iter.{indexes_left}
+pub use Rattle.iddqd_sides.specs.Scan.{IsLive, AnswersScan}
+pub use Rattle.iddqd_sides.specs.OrderedWalk.{WalksWithin, pairs_at}
+pub use Rattle.iddqd_sides.specs.KeyKeeping.{KeepsKey, ModifiesItem, pair_keys}
+pub use Rattle.iddqd_driver.specs.Keys.{keys_of}
+pub use Rattle.iddqd_driver.specs.State.{empty_state, empty_state_within, cleared_state, unbound, Compacts, IsPaired}
+pub use Rattle.iddqd_driver.specs.Sides.{hash_in, has, first_side, second_side, IsExact, LooksUp, AsScan}
+pub use Rattle.iddqd_driver.specs.Sides.{FirstKeysInOrder, SecondKeysInOrder, InOrder, Keeps, KeepsUnlessChanged}
+pub use Rattle.iddqd_driver.specs.Refusal.{refusal_text, replace_refusal_text}
+pub use Rattle.iddqd_driver.specs.Machine.{StoresAt, Inserts, TellsAsScan, Removes, RemovesBy, Overwrites, Answers, Step}
+pub use Rattle.iddqd_driver.specs.Run.{IsSilentChange}
+pub use Rattle.iddqd_driver.specs.Queries.{LooksUpBy, GivesFound}
+pub use Rattle.iddqd_driver.specs.Walks.{items_at, RangesWithin}
+pub use Rattle.iddqd_driver.specs.Replacement.{TellsOther, Becomes, Replaces}
+pub use Rattle.iddqd_driver.specs.Modify.{ModifiesAt, ModifiesFound}
+pub use Rattle.iddqd_driver.specs.Memory.{SizedState, no_memory, capacity, room, reservable, IsNoLower, IsMadeFor}
+pub use Rattle.iddqd_driver.specs.Memory.{IsForMemory, InsertsInMemory, TakesForOne, ReservesInMemory, ShrinksInMemory}
+pub use Rattle.iddqd_driver.specs.Memory.{RefusesMemory, IsServedBelow, StepsInMemory, RunsInMemory}

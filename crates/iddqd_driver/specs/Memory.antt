@@ -1,0 +1,197 @@
+-- The memory of keyed items, beside their state: what each part can hold without asking for more.
+use Rattle.std.specs.Prelude.{◌≡◌, ◌≤◌, ◌<◌, ◌-◌, ◌+◌, ◌*◌, ⊤, ℕ, List, ◌∷◌, All, length, Result, IsOk, OnOk, IfErr, min, max, refl}
+use Rattle.std.specs.FinMap as finite
+use Rattle.std.specs.Coded.{Coded, code_by, coded×, coded_ℕ}
+use Rattle.iddqd.specs.Store.{live_count, slot_count}
+use Rattle.iddqd.specs.ItemSet.{SizedStore, room as set_room}
+use Rattle.iddqd_hash.specs.HashTable.{Table, capacity as hashed_capacity, memory as hashed_cells}
+use Rattle.iddqd.specs.Sizes.{insertable}
+use Rattle.iddqd_hash.specs.MapHashTable.{filed}
+use Rattle.iddqd_hash.specs.Sizes.{most_cells}
+use Rattle.iddqd_order.specs.MapBTreeTable.{Order, order_of, capacity as ordered_capacity, capacity_for}
+use Rattle.iddqd_driver.specs.Keys.{Keys}
+use Rattle.iddqd_driver.specs.State.{State, state_code, state_of}
+use Rattle.iddqd_driver.specs.Run.{Run}
+use Rattle.iddqd_driver.specs.declared.command.Command.{Command}
+use Rattle.iddqd_driver.specs.declared.command.Command.TheVariants.{Insert}
+use Rattle.iddqd_driver.specs.declared.command.Reply.{Reply}
+use Rattle.iddqd_driver.specs.declared.command.Reply.TheVariants.{Refused}
+use Rattle.iddqd_driver.specs.declared.keyed_items.InsertRefusal.{InsertRefusal}
+use Rattle.iddqd_driver.specs.declared.keyed_items.InsertRefusal.TheVariants.{Memory as OutOfMemory}
+
+-- How many slots the store's memory holds, how many indexes the hash table can hold, how many cells it has, and how many
+-- indexes the ordered table can hold.
+pub record Memory : Type 0 where
+  pub slots : ℕ
+  pub hashed : ℕ
+  pub cells : ℕ
+  pub ordered : ℕ
+
+-- a state, and the memory in which it is held
+pub record SizedState (T S : Type 0) : Type 0 where
+  pub state : State T S
+  pub memory : Memory
+
+abbrev pub memory_code : Coded Memory
+memory_code =
+    code_by
+    (ℕ × (ℕ × (ℕ × ℕ)))
+    (coded× coded_ℕ (coded× coded_ℕ (coded× coded_ℕ coded_ℕ)))
+    (λ m. (m.slots, (m.hashed, (m.cells, m.ordered))))
+    (λ p. record { slots = p.0; hashed = p.1.0; cells = p.1.1.0; ordered = p.1.1.1 })
+    (λ _. refl)
+
+-- a sized state is coded where its items and its hasher are
+abbrev pub sized_state_code : {T S : Type 0} → Coded T → Coded S → Coded (SizedState T S)
+sized_state_code {T} {S} item hasher =
+    code_by
+    (State T S × Memory)
+    (coded× (state_code item hasher) memory_code)
+    (λ k. (k.state, k.memory))
+    (λ p. record { state = p.0; memory = p.1 })
+    (λ _. refl)
+
+-- what a collection has that holds nothing and has asked for no memory
+abbrev pub no_memory : Memory
+no_memory = record { slots = 0; hashed = 0; cells = 0; ordered = 10 }
+
+-- no part can hold less than it could
+pub record IsNoLower (old new : Memory) : Type 0 where
+  pub slots : old.slots ≤ new.slots
+  pub hashed : old.hashed ≤ new.hashed
+  pub cells : old.cells ≤ new.cells
+  pub ordered : old.ordered ≤ new.ordered
+
+-- the memory of a store and two tables
+abbrev pub memory_of : {T : Type 0} → SizedStore T → Table ℕ → Order → Memory
+memory_of items table order =
+    record {
+      slots = items.capacity;
+      hashed = hashed_capacity table;
+      cells = hashed_cells table;
+      ordered = ordered_capacity order;
+    }
+
+-- the command asks for an item to be taken
+abbrev pub IsInsert : {T K1 K2 : Type 0} → Command T K1 K2 → Type 0
+IsInsert (Insert item) = ⊤
+IsInsert command = ⊥
+
+-- an item was refused for want of memory
+abbrev pub IsForMemory : {T : Type 0} → InsertRefusal T → Type 0
+IsForMemory (OutOfMemory item) = ⊤
+IsForMemory refusal = ⊥
+
+-- so was the item of a command
+abbrev pub RefusesMemory : {T : Type 0} → Reply T → Type 0
+RefusesMemory (Refused refusal) = IsForMemory refusal
+RefusesMemory reply = ⊥
+
+-- What an insert leaves of the memory: no part can hold less than before, and the ordered table as much; nothing is
+-- taken where the item is refused for another reason than memory; and with room none is taken, and none refused.
+pub record InsertsInMemory {T : Type 0} (has_room : Type 0) (old : Memory) (result : Result ℕ (InsertRefusal T)) (new : Memory)
+    : Type 0 where
+  pub no_lower : IsNoLower old new
+  pub same_ordered : new.ordered ≡ old.ordered
+  pub refused_early : IfErr result (λ refusal. (IsForMemory refusal → ⊥) → new ≡ old)
+  pub had_room : has_room → new ≡ old
+  pub not_refused : has_room → IfErr result (λ refusal. IsForMemory refusal → ⊥)
+
+-- What an insert beside so many items takes at most, whatever it answers: slots for twice as many, at least for four, and
+-- none past the limit; and no more cells than one more index needs.
+pub record TakesForOne (limit items : ℕ) (old new : Memory) : Type 0 where
+  pub slots : new.slots ≤ max old.slots (min limit (max 4 (2 * items)))
+  pub cells : new.cells ≤ max old.cells (most_cells (items + 1))
+
+-- each part has room for one more item: of the tables their capacity is more than they hold
+pub record HasRoomInParts {T : Type 0} (items : SizedStore T) (table : Table ℕ) (order : Order) : Type 0 where
+  pub slots : 1 ≤ set_room items
+  pub hashed : finite.len (filed table) < hashed_capacity table
+  pub ordered : length (order_of order) < ordered_capacity order
+
+-- memory that is made for so many items: no part has more than these need
+pub record IsMadeFor (items : ℕ) (memory : Memory) : Type 0 where
+  pub slots : memory.slots ≡ items
+  pub hashed : items ≤ memory.hashed
+  pub cells : memory.cells ≤ most_cells items
+  pub ordered : memory.ordered ≡ capacity_for items
+
+module _ {T S : Type 0} where
+  -- the state of a store and two tables, and their memory
+  abbrev pub sized_of : S → SizedStore T → Table ℕ → Order → SizedState T S
+  sized_of hasher items table order =
+      record { state = state_of hasher items.store table order; memory = memory_of items table order }
+
+  -- how many items there can be without asking for memory: as many as each part can hold
+  abbrev pub capacity : SizedState T S → ℕ
+  capacity k = min (min k.memory.slots k.state.store.limit) (min k.memory.hashed k.memory.ordered)
+
+  -- how many inserts need no memory
+  abbrev pub room : SizedState T S → ℕ
+  room k = capacity k - live_count k.state.store
+
+  -- how many more items a reserve of so many is for: no more than the limit leaves
+  abbrev pub reservable : ℕ → SizedState T S → ℕ
+  reservable additional k = min additional (insertable k.state.store)
+
+  -- What a reserve leaves: the contents; no part can hold less than before; at Ok there is room for so many more items,
+  -- or for as many as the limit leaves; where there was, nothing changes. The tables have no more than so many need, and
+  -- the store no more slots than that, or twice as many as it had.
+  pub record ReservesInMemory {E : Type 0}
+      (additional : ℕ) (old : SizedState T S) (result : Result (Unit {0}) E) (new : SizedState T S) : Type 0 where
+    pub contents : new.state ≡ old.state
+    pub no_lower : IsNoLower old.memory new.memory
+    pub reserved : OnOk result (reservable additional old ≤ room new)
+    pub had_room : reservable additional old ≤ room old → IsOk result × (new ≡ old)
+    pub few_slots :
+        new.memory.slots
+        ≤ max old.memory.slots
+        (max (live_count old.state.store + reservable additional old) (min old.state.store.limit (2 * old.memory.slots)))
+    pub few_cells :
+        new.memory.cells ≤ max old.memory.cells (most_cells (live_count old.state.store + reservable additional old))
+    pub few_blocks :
+        new.memory.ordered
+        ≤ max old.memory.ordered (capacity_for (live_count old.state.store + reservable additional old))
+
+  -- What a shrink to so many items leaves: the contents, and the capacity for as many, or for those that there are. At Ok
+  -- no part has more than that needs; of the store each slot stays, the vacant ones too.
+  pub record ShrinksInMemory {E : Type 0}
+      (least : ℕ) (old : SizedState T S) (result : Result (Unit {0}) E) (new : SizedState T S) : Type 0 where
+    pub contents : new.state ≡ old.state
+    pub never_less : min (capacity old) (max least (live_count old.state.store)) ≤ capacity new
+    pub slots : OnOk result (new.memory.slots ≡ min old.memory.slots (max least (slot_count old.state.store)))
+    pub cells : OnOk result (new.memory.cells ≤ most_cells (max least (live_count old.state.store)))
+    pub blocks :
+        new.memory.ordered ≡ min old.memory.ordered (capacity_for (max least (live_count old.state.store)))
+    pub never_more : (new.memory.slots ≤ old.memory.slots) × (new.memory.cells ≤ old.memory.cells)
+
+  -- One step and its memory: no part can hold less than before; with room for an item none is taken, and no item is
+  -- refused for want of it; no command but an insert takes any, and an insert no more than one more item needs.
+  pub record StepsInMemory
+      {K1 K2 : Type 0} (old : SizedState T S) (command : Command T K1 K2) (reply : Reply T) (new : SizedState T S)
+      : Type 0 where
+    pub no_lower : IsNoLower old.memory new.memory
+    pub had_room : 1 ≤ room old → new.memory ≡ old.memory
+    pub not_refused : 1 ≤ room old → RefusesMemory reply → ⊥
+    pub others : (IsInsert command → ⊥) → new.memory ≡ old.memory
+    pub few : TakesForOne old.state.store.limit (live_count old.state.store) old.memory new.memory
+
+  -- at each moment with fewer items than so many, no item is refused for want of memory
+  abbrev pub IsServedBelow : ℕ → State T S → List (Reply T) → List (State T S) → Type 0
+  IsServedBelow held moment (reply ∷ replies) (next ∷ moments) =
+      (live_count moment.store < held → RefusesMemory reply → ⊥) × IsServedBelow held next replies moments
+  IsServedBelow held moment replies moments = ⊤
+
+-- A run and its memory: no part can hold less than at the start; at each moment with fewer items than could be held at the
+-- start, no item is refused for want of memory; and where there never are more than so many items, no more is taken than
+-- an insert beside these may take.
+pub record RunsInMemory
+    {T S K1 K2 : Type 0} (keys : Keys T K1 K2 S) (old : SizedState T S) (commands : List (Command T K1 K2))
+    (replies : List (Reply T)) (new : SizedState T S) : Type 0 where
+  pub run : Run keys old.state commands replies new.state
+  pub no_lower : IsNoLower old.memory new.memory
+  pub served : IsServedBelow (capacity old) old.state replies run.moments
+  pub few :
+      (most : ℕ)
+      → All (λ s. live_count s.store ≤ most) (old.state ∷ run.moments)
+      → TakesForOne old.state.store.limit most old.memory new.memory

@@ -1,0 +1,21 @@
+-- What a call that modifies an item may answer, and what it leaves.
+use Rattle.std.specs.Prelude.{◌≡◌, ℕ, Option, Some, None}
+use Rattle.std.specs.Borrow.{MutBor}
+use Rattle.std.specs.Fn.{Once}
+use Rattle.iddqd.specs.Store.{get}
+use Rattle.iddqd_sides.specs.KeyKeeping.{ModifiesItem}
+use Rattle.iddqd_driver.specs.State.{State}
+
+module _ {F T R S : Type 0} (g : Once F (MutBor T × Unit {0}) (R × (MutBor T × Unit {0}))) (f : F) where
+  -- What a modification at an index may answer and leave: the item of a live index was modified, and neither table was
+  -- touched; none, and nothing changes, exactly where the index isn't live.
+  abbrev pub ModifiesAt : State T S → ℕ → Option R → State T S → Type 0
+  ModifiesAt old ix (Some result) new =
+      ModifiesItem g f old.store ix result new.store × (new ≡ record old { store = new.store })
+  ModifiesAt old ix None new = (get old.store ix ≡ None) × (new ≡ old)
+
+  -- what a modification by a key may answer and leave: `finds` says what the look-up of the key may answer; the item at
+  -- a hit was modified
+  abbrev pub ModifiesFound : (Option ℕ → Type 0) → State T S → Option R → State T S → Type 0
+  ModifiesFound finds old (Some result) new = (ix : ℕ) × finds (Some ix) × ModifiesAt old ix (Some result) new
+  ModifiesFound finds old None new = finds None × (new ≡ old)

@@ -1,0 +1,475 @@
+//! Items with two unique keys: a store, a hash table for the first keys, an ordered one for the second.
+//!
+//! The items stand in the store alone, and so do their keys: both tables hold indexes, and read the
+//! key of an index from the store where they need it. So one item is stored once, and an index stays
+//! good until its item is removed, or all items are moved down or forgotten, by `compact` and by
+//! `clear`. Every index of an item stands in both tables once, and no other does, whatever becomes of
+//! the keys: an insert takes all memory before it writes anything, and a removal that frees a slot takes
+//! its index out of both tables.
+//!
+//! A removal searches both tables, by the keys that the item has now, and walks only where that misses.
+//! An insert is one search of the ordered table, which tells a duplicate, or else the place. Each call
+//! that obeys a command says that its states are paired, though the type does, so that `step` and `run`
+//! are proved from the calls' clauses alone.
+ghost use Rattle.std.specs.Prelude.{◌≡◌, ◌↔◌, ◌≤◌, ◌+◌, ◌*◌, min, max, [], None, IsTrue, IsSome, OnSome, IsOk, IfOk, OnOk, IfErr, OnErr, option_copied};
+ghost use Rattle.std.specs.FinMap as finite;
+ghost use Rattle.iddqd.specs.{get, live_count, next_index, inserted, removed, IsFull, IsValid, IsRemapOf};
+ghost use Rattle.iddqd_hash.specs.{filed};
+ghost use Rattle.iddqd_hash.specs.HashTable.{memory as cells};
+ghost use Rattle.iddqd_hash.specs.Sizes.{most_cells};
+ghost use Rattle.iddqd_order.specs.{indexes_left, order_of, without};
+ghost use Rattle.iddqd_order.specs.MapBTreeTable.{capacity as ordered_capacity};
+ghost use Rattle.iddqd_sides.specs.Scan.{IsLive};
+ghost use Rattle.iddqd_sides.specs.Ordered as ordered_side;
+ghost use Rattle.iddqd_driver.specs.Keys.{keys_of};
+ghost use Rattle.iddqd_driver.specs.State.{empty_state, empty_state_within, cleared_state, Compacts, IsPaired};
+ghost use Rattle.iddqd_driver.specs.Sides.{first_side, second_side, finds_told, hash_in, LooksUp, IsExact, Keeps, KeepsUnlessChanged};
+ghost use Rattle.iddqd_driver.specs.Machine.{Refuses, Inserts, TellsAsScan, Removes, RemovesBy, Overwrites, Step};
+ghost use Rattle.iddqd_driver.specs.Run.{Run};
+ghost use Rattle.iddqd_driver.specs.Memory.{no_memory, capacity, room, memory_of, HasRoomInParts, InsertsInMemory, TakesForOne, StepsInMemory, RunsInMemory};
+
+mod memory;
+mod modifies;
+mod queries;
+mod replaces;
+mod validation;
+mod walks;
+
+use crate::command::{Command, Reply};
+use crate::keyed_item::{First, KeyedItem, Second};
+use iddqd::index_remap::IndexRemap;
+use iddqd::item_index::{ItemIndex, OrDash};
+use iddqd::item_set::{GrowError, ItemSet};
+use iddqd::map_hash::MapHash;
+use iddqd_hash::hash_table::MapHashTable;
+use iddqd_order::btree_table::{Entry, MapBTreeTable};
+use iddqd_sides::key_of::ByKey;
+pub use iddqd_sides::ordered_walk::Range;
+use iddqd_sides::{hashed, ordered};
+pub use replaces::ReplaceRefusal;
+use std::alloc::{AllocError, Global};
+use std::error::Error;
+use std::fmt;
+use std::hash::BuildHasher;
+use std::marker::Model;
+pub use walks::ValuesByKey2;
+
+/// Items that lend two keys each.
+///
+/// An insert refuses an item one of whose keys a look-up finds. While no key is changed silently, by
+/// `overwrite`, that is each item one of whose keys is there.
+#[derive(Drop)]
+pub struct KeyedItems<T: KeyedItem, S: BuildHasher> {
+    items: ItemSet<T>,
+    // Each live index, under the hash that its item's first key had when it was inserted.
+    filed: MapHashTable,
+    // Each live index: by second key, ties by index, where no second key was changed silently.
+    order: MapBTreeTable,
+    state: S,
+    alloc: Global,
+}
+
+impl<T: KeyedItem, S: BuildHasher> Model for KeyedItems<T, S> {
+    ghost use Rattle.iddqd_driver.specs.State.{state_of, IsPaired};
+    ghost use Rattle.iddqd_driver.specs.Memory.{SizedState, sized_state_code, sized_of};
+
+    ghost Value = { SizedState T S };
+
+    ghost coded = { sized_state_code T.code S.code };
+
+    ghost view = { λ k. sized_of k.state k.items k.filed k.order };
+
+    ghost invariant = { λ k. IsPaired (state_of k.state k.items.store k.filed k.order) };
+}
+
+/// Why an item was not taken. The item comes back.
+#[derive(Debug, PartialEq, Eq, Drop)]
+pub enum InsertRefusal<T> {
+    /// One of its keys was found: what the look-ups of its first and its second key answered.
+    Duplicate {
+        item: T,
+        first: Option<ItemIndex>,
+        second: Option<ItemIndex>,
+    },
+    /// Neither of its keys was found, and there are as many items as the limit allows.
+    Full(T),
+    /// Neither of its keys was found, there is place for it, and memory was refused.
+    Memory(T),
+}
+
+impl<T> fmt::Display for InsertRefusal<T> {
+    ghost use Rattle.std.specs.Prelude.{Some};
+    ghost use Rattle.iddqd_driver.specs.Refusal.{refusal_text};
+
+    ghost output = { λ refusal. Some (refusal_text refusal) };
+
+    fn fmt<W: fmt::Write>(&self, f: &mut fmt::Formatter<W>) -> fmt::Result {
+        match self {
+            InsertRefusal::Duplicate { first, second, .. } => {
+                write!(f, "duplicate {} {}", OrDash(*first), OrDash(*second))
+            }
+            InsertRefusal::Full(_) => write!(f, "full"),
+            InsertRefusal::Memory(_) => write!(f, "no memory"),
+        }
+    }
+}
+
+impl<T: fmt::Debug + Drop> Error for InsertRefusal<T> {}
+
+/// The keys of a collection's items, as its clauses speak of them.
+pub trait Keyed {
+    ghost use Rattle.iddqd_driver.specs.Keys.{Keys};
+
+    /// An item, which lends its keys.
+    type Item: KeyedItem;
+
+    /// What hashes first keys.
+    type Hasher: BuildHasher;
+
+    ghost keys: { Keys Self.Item Self.Item.Key1 Self.Item.Key2 Self.Hasher };
+}
+
+impl<T: KeyedItem, S: BuildHasher> Keyed for KeyedItems<T, S> {
+    type Item = T;
+
+    type Hasher = S;
+
+    ghost keys = { keys_of T.KeyedItem T.Key1.eq T.Key1.hash_input T.Key2.cmp S.BuildHasher S.Hasher.Hasher };
+}
+
+impl<T: KeyedItem, S: BuildHasher> KeyedItems<T, S> {
+    /// No items, and slots for as many as there are indexes but `SENTINEL`. It takes no memory.
+    pub fn new(alloc: Global, state: S) -> KeyedItems<T, S>
+        ensures state { result.state ≡ empty_state state }
+        ensures memory { result.memory ≡ no_memory }
+    {
+        KeyedItems::with_limit(alloc, state, u32::MAX)
+    }
+
+    /// No items, and never more slots than the limit. It takes no memory.
+    ///
+    /// No command changes the limit: `clear` and `compact` keep it.
+    pub fn with_limit(alloc: Global, state: S, limit: u32) -> KeyedItems<T, S>
+        ensures state { result.state ≡ empty_state_within limit state }
+        ensures memory { result.memory ≡ no_memory }
+    {
+        KeyedItems {
+            items: ItemSet::with_limit(alloc, limit),
+            filed: MapHashTable::new(alloc),
+            order: MapBTreeTable::new(alloc),
+            state,
+            alloc,
+        }
+    }
+
+    /// The number of items.
+    pub fn len(&self) -> usize
+        ensures value { result ≡ live_count self.now.state.store }
+
+        // What every value keeps.
+        ensures paired { IsPaired self.now.state }
+    {
+        self.items.len()
+    }
+
+    /// Whether there is no item.
+    pub fn is_empty(&self) -> bool
+        ensures { IsTrue result ↔ (live_count self.now.state.store ≡ 0) }
+    {
+        self.items.is_empty()
+    }
+
+    /// The item at an index, if it is live.
+    pub fn get(&self, ix: ItemIndex) -> Option<&T>
+        ensures { option_copied result ≡ get self.now.state.store ix }
+    {
+        self.items.get(ix)
+    }
+
+    /// The index of the item with this first key. It compares the key with those of the same hash
+    /// alone.
+    pub fn find1(&self, key: &T::Key1) -> Option<ItemIndex>
+        ensures paired { IsPaired self.now.state }
+        ensures found { LooksUp (first_side ⟦<Self as Keyed>⟧.keys) self.now.state key.now result }
+    {
+        self.hash_and_find(key).1
+    }
+
+    /// The index of the item with this second key. It makes at most 4 + 2d comparisons, where the
+    /// number of items has d binary digits.
+    #[tactic(auto, using(crate::proofs::KeepsLemmas::order_held))]
+    pub fn find2(&self, key: &T::Key2) -> Option<ItemIndex>
+        ensures paired { IsPaired self.now.state }
+        ensures found { LooksUp (second_side ⟦<Self as Keyed>⟧.keys) self.now.state key.now result }
+    {
+        ordered::find::<T, Second, ByKey<T::Key2>>(&self.order, &self.items, &ByKey(key))
+    }
+
+    /// Takes an item, where neither of its keys is found.
+    ///
+    /// A duplicate is told even where the store is full or no memory is left, and a full store even
+    /// where no memory is left. A refusal hands the item back and changes nothing.
+    pub fn insert(&mut self, item: T) -> Result<ItemIndex, InsertRefusal<T>>
+        ensures inserts { Inserts ⟦<Self as Keyed>⟧.keys self.old.state item result self.new.state }
+        ensures tells { TellsAsScan ⟦<Self as Keyed>⟧.keys self.old.state item result }
+        ensures keeps { Keeps ⟦<Self as Keyed>⟧.keys self.old.state self.new.state }
+        ensures memory { InsertsInMemory (1 ≤ room self.old) self.old.memory result self.new.memory }
+        ensures few { let store = self.old.state.store in
+            TakesForOne store.limit (live_count store) self.old.memory self.new.memory }
+        ensures room { OnOk result (1 ≤ room self.old → room self.old ≡ room self.new + 1) }
+    {
+        let (hash, first) = self.hash_and_find(item.key1());
+        let (items, filed, order) = (&mut self.items, &mut self.filed, &mut self.order);
+        enter(items, filed, order, item, hash, first)
+    }
+
+    /// Removes the item at an index, if it is live, whatever its keys are now. It takes no memory.
+    pub fn remove(&mut self, ix: ItemIndex) -> Option<T>
+        ensures removes { Removes self.old.state ix result self.new.state }
+        ensures live { IsSome result ↔ IsLive self.old.state.store ix }
+        ensures keeps { Keeps ⟦<Self as Keyed>⟧.keys self.old.state self.new.state }
+        ensures memory { self.new.memory ≡ self.old.memory }
+        ensures room { OnSome result
+            (live_count self.old.state.store ≤ capacity self.old → room self.new ≡ room self.old + 1) }
+    {
+        let item = self.items.get(ix)?;
+        let hash = hashed::hash_of::<T, First, S>(&self.state, item);
+        hashed::take_index(&mut self.filed, hash, ix);
+        Some(remove_item(&mut self.order, &mut self.items, ix))
+    }
+
+    /// Removes the item with this first key. It takes no memory.
+    pub fn remove1(&mut self, key: &T::Key1) -> Option<(ItemIndex, T)>
+        ensures removes { RemovesBy (first_side ⟦<Self as Keyed>⟧.keys) self.old.state key.now result self.new.state }
+        ensures keeps { Keeps ⟦<Self as Keyed>⟧.keys self.old.state self.new.state }
+        ensures memory { self.new.memory ≡ self.old.memory }
+    {
+        self.remove1_by(key)
+    }
+
+    /// Removes the item with this second key. It takes no memory.
+    pub fn remove2(&mut self, key: &T::Key2) -> Option<(ItemIndex, T)>
+        ensures removes { RemovesBy (second_side ⟦<Self as Keyed>⟧.keys) self.old.state key.now result self.new.state }
+        ensures keeps { Keeps ⟦<Self as Keyed>⟧.keys self.old.state self.new.state }
+        ensures memory { self.new.memory ≡ self.old.memory }
+    {
+        self.remove2_by(key)
+    }
+
+    /// Gives a live index another item, and hands back the one that it had; of an index that isn't
+    /// live the given item comes back.
+    ///
+    /// Neither table is told, whatever the keys of both items: the index stays filed under the hash
+    /// that it has and in its place in the order. Look-ups may then miss the new keys, but never hit a
+    /// wrong one, and the index can still be removed. It takes no memory.
+    pub fn overwrite(&mut self, ix: ItemIndex, item: T) -> Result<T, T>
+        ensures overwrites { Overwrites self.old.state ix item result self.new.state }
+        ensures keeps { KeepsUnlessChanged ⟦<Self as Keyed>⟧.keys self.old.state ix item self.new.state }
+        ensures memory { self.new.memory ≡ self.old.memory }
+    {
+        if self.items.get(ix).is_none() {
+            return Err(item);
+        }
+        Ok(self.items.replace(ix, item))
+    }
+
+    /// Moves every item down to its rank, so that no slot is vacant, and tells the new names.
+    ///
+    /// Both tables keep their order and hashes, and no key is hashed or compared. Where no slot is
+    /// vacant it is `Identity` and takes no memory. Else it takes the memory of one index a slot,
+    /// before an item moves; where that is refused nothing changes.
+    pub fn compact(&mut self) -> Result<IndexRemap, AllocError>
+        ensures compacts { IfOk result (λ remap. IsRemapOf self.old.state.store remap × Compacts self.old.state self.new.state) }
+        ensures refused { OnErr result (self.new.state ≡ self.old.state) }
+        ensures dense { self.old.state.store.free ≡ [] → IsOk result }
+        ensures keeps { Keeps ⟦<Self as Keyed>⟧.keys self.old.state self.new.state }
+        ensures memory { self.new.memory ≡ self.old.memory }
+    {
+        let remap = self.items.compact()?;
+        self.filed.remap_indexes(&remap);
+        self.order.remap_indexes(&remap);
+        Ok(remap)
+    }
+
+    /// Forgets all items and all slots, so that the next index is 0. It takes no memory.
+    pub fn clear(&mut self)
+        ensures cleared { self.new.state ≡ cleared_state self.old.state }
+        ensures keeps { Keeps ⟦<Self as Keyed>⟧.keys self.old.state self.new.state }
+        ensures memory { self.new.memory ≡ self.old.memory }
+    {
+        self.items.clear();
+        self.filed.clear();
+        self.order.clear();
+    }
+
+    /// Obeys one command.
+    pub fn step(&mut self, command: Command<T>) -> Reply<T>
+        ensures step { Step ⟦<Self as Keyed>⟧.keys self.old.state command result self.new.state }
+        ensures memory { StepsInMemory self.old command result self.new }
+    {
+        match command {
+            Command::Insert(item) => match self.insert(item) {
+                Ok(ix) => Reply::Inserted(ix),
+                Err(refusal) => Reply::Refused(refusal),
+            },
+            Command::Find1(key) => Reply::Found(self.find1(&key)),
+            Command::Find2(key) => Reply::Found(self.find2(&key)),
+            Command::Remove(ix) => match self.remove(ix) {
+                Some(item) => Reply::Removed(Some((ix, item))),
+                None => Reply::Removed(None),
+            },
+            Command::Remove1(key) => Reply::Removed(self.remove1(&key)),
+            Command::Remove2(key) => Reply::Removed(self.remove2(&key)),
+            Command::Overwrite(ix, item) => Reply::Overwritten(self.overwrite(ix, item)),
+            Command::Compact => match self.compact() {
+                Ok(remap) => Reply::Compacted(remap),
+                Err(AllocError) => Reply::NoMemory,
+            },
+            Command::Clear => {
+                self.clear();
+                Reply::Cleared
+            }
+            Command::Walk => match self.indexes() {
+                Ok(indexes) => Reply::Walked(indexes),
+                Err(AllocError) => Reply::NoMemory,
+            },
+        }
+    }
+
+    /// Obeys commands in turn, one reply each.
+    ///
+    /// The memory of all replies is taken first. Where it is refused, or no vector can hold so many,
+    /// nothing is done and the commands come back; with no command that never happens.
+    pub fn run(&mut self, commands: Vec<Command<T>>) -> Result<Vec<Reply<T>>, Vec<Command<T>>>
+        ensures run { let keys = ⟦<Self as Keyed>⟧.keys in
+            IfOk result (λ replies. Run keys self.old.state commands.items replies.items self.new.state) }
+        ensures memory { let keys = ⟦<Self as Keyed>⟧.keys in
+            IfOk result (λ replies. RunsInMemory keys self.old commands.items replies.items self.new) }
+        ensures refused { IfErr result (λ back. (back.items ≡ commands.items) × (self.new ≡ self.old)) }
+        ensures empty { commands.items ≡ [] → IsOk result }
+    {
+        let mut replies = match Vec::with_capacity(self.alloc, commands.len()) {
+            Ok(replies) => replies,
+            Err(_) => return Err(commands),
+        };
+        for command in commands {
+            replies.push_reserved(self.step(command));
+        }
+        Ok(replies)
+    }
+}
+
+impl<T: KeyedItem, S: BuildHasher> KeyedItems<T, S> {
+    // The hash of a first key, and the index of the item with it.
+    fn hash_and_find(&self, key: &T::Key1) -> (MapHash, Option<ItemIndex>)
+        ensures paired { IsPaired self.now.state }
+        ensures hash { result.0 ≡ hash_in ⟦<Self as Keyed>⟧.keys self.now.state key.now }
+        ensures found { LooksUp (first_side ⟦<Self as Keyed>⟧.keys) self.now.state key.now result.1 }
+    {
+        let hash = self.filed.compute_hash(&self.state, key);
+        let query = ByKey(key);
+        (
+            hash,
+            hashed::find::<T, First, ByKey<T::Key1>>(&self.filed, &self.items, hash, &query),
+        )
+    }
+}
+
+// Takes a live index out of the ordered table, and its item out of the store.
+fn remove_item<T: KeyedItem>(order: &mut MapBTreeTable, items: &mut ItemSet<T>, ix: ItemIndex) -> T
+    requires live { IsLive items.old.store ix }
+    requires stored { ordered_side.AreLive items.old.store (order_of order.old) }
+    ensures item { get items.old.store ix ≡ Some result }
+    ensures removed { items.new.store ≡ removed items.old.store ix }
+    ensures taken { order_of order.new ≡ without (order_of order.old) ix }
+    ensures slots { items.new.capacity ≡ items.old.capacity }
+    ensures ordered { ordered_capacity order.new ≡ ordered_capacity order.old }
+{
+    ordered::take_index::<T, Second>(order, items, ix);
+    take_item(items, ix)
+}
+
+// Takes the item at a live index out of the store.
+fn take_item<T>(items: &mut ItemSet<T>, ix: ItemIndex) -> T
+    requires { IsLive items.old.store ix }
+    ensures item { get items.old.store ix ≡ Some result }
+    ensures removed { items.new.store ≡ removed items.old.store ix }
+    ensures slots { items.new.capacity ≡ items.old.capacity }
+{
+    match items.remove(ix) {
+        Some(item) => item,
+        None => unreachable!(),
+    }
+}
+
+// Stores an item, whose first key's look-up is done, where neither of its keys is found, and enters
+// its index in both tables; or hands it back. One search of the ordered table tells a duplicate, or
+// else the place. All memory is taken before anything is written.
+fn enter<T: KeyedItem>(
+    items: &mut ItemSet<T>,
+    table: &mut MapHashTable,
+    order: &mut MapBTreeTable,
+    item: T,
+    hash: MapHash,
+    first: Option<ItemIndex>,
+) -> Result<ItemIndex, InsertRefusal<T>>
+    requires valid { IsValid items.old.store }
+    requires unfiled { finite.get (filed table.old) (next_index items.old.store) ≡ None }
+    requires ordered { ordered_side.Holds items.old.store (order_of order.old) }
+    ensures first { (finds_told result).0 ≡ first }
+    ensures second { let looks_up = ordered_side.LooksUp T.KeyedItem.second_key T.Key2.cmp items.old.store in
+        looks_up (order_of order.old) (T.Key2.cmp (T.KeyedItem.second_key item)) (finds_told result).1 }
+    ensures not_full { IsOk result → IsFull items.old.store → ⊥ }
+    ensures index { IfOk result (λ ix. ix ≡ next_index items.old.store) }
+    ensures stored { OnOk result (items.new.store ≡ inserted items.old.store item) }
+    ensures filed { OnOk result (filed table.new
+        ≡ finite.insert (filed table.old) (next_index items.old.store) hash) }
+    ensures placed { let adds = ordered_side.AddsInPlace T.KeyedItem.second_key T.Key2.cmp items.old.store item in
+        OnOk result (adds (order_of order.old) (order_of order.new)) }
+    ensures refused { IfErr result (Refuses items.old.store item) }
+    ensures items_stay { OnErr result (items.new.store ≡ items.old.store) }
+    ensures hashes_stay { OnErr result (filed table.new ≡ filed table.old) }
+    ensures order_stays { OnErr result (order_of order.new ≡ order_of order.old) }
+    ensures memory { let has_room = HasRoomInParts items.old table.old order.old in
+        let was = memory_of items.old table.old order.old in
+        InsertsInMemory has_room was result (memory_of items.new table.new order.new) }
+    ensures few_slots { items.new.capacity
+        ≤ max items.old.capacity (min items.old.store.limit (max 4 (2 * live_count items.old.store))) }
+    ensures few_cells { cells table.new ≤ max (cells table.old) (most_cells (finite.len (filed table.old) + 1)) }
+{
+    let query = ByKey(item.key2());
+    let vacant = match ordered::entry::<T, Second, ByKey<T::Key2>>(order, items, &query) {
+        Entry::Vacant(vacant) => vacant,
+        Entry::Occupied(entry) => {
+            let second = Some(entry.get());
+            return Err(InsertRefusal::Duplicate {
+                item,
+                first,
+                second,
+            });
+        }
+    };
+    if first.is_some() {
+        return Err(InsertRefusal::Duplicate {
+            item,
+            first,
+            second: None,
+        });
+    }
+    let handle = match items.assert_can_grow() {
+        Ok(handle) => handle,
+        Err(GrowError::Full) => return Err(InsertRefusal::Full(item)),
+        Err(GrowError::Memory) => return Err(InsertRefusal::Memory(item)),
+    };
+    if let Err(AllocError) = table.try_reserve(1) {
+        return Err(InsertRefusal::Memory(item));
+    }
+    let prepared = match vacant.prepare(handle.next_index()) {
+        Ok(prepared) => prepared,
+        Err(AllocError) => return Err(InsertRefusal::Memory(item)),
+    };
+    let ix = handle.insert(item);
+    table.insert_prehashed_unchecked(hash, ix);
+    prepared.insert();
+    Ok(ix)
+}

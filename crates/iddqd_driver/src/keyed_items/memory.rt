@@ -1,0 +1,121 @@
+//! Memory that is taken ahead and given back.
+//!
+//! The capacity is how many items there can be without asking for memory: the least of what the store and both tables
+//! can hold. A removal leaves the room that it makes, so below the capacity no insert is refused memory, whatever was
+//! inserted and removed before. No call changes it but an insert without room, and those here.
+ghost use Rattle.std.specs.Prelude.{◌≡◌, ◌≤◌, ◌*◌, min, max, IsOk, IfOk, OnOk};
+ghost use Rattle.iddqd.specs.{slot_limit};
+ghost use Rattle.iddqd_driver.specs.State.{empty_state};
+ghost use Rattle.iddqd_driver.specs.Memory.{no_memory, capacity, room, IsMadeFor, ReservesInMemory, ShrinksInMemory};
+
+use super::KeyedItems;
+use crate::keyed_item::KeyedItem;
+use iddqd::item_set::ItemSet;
+use iddqd_hash::hash_table::MapHashTable;
+use iddqd_order::btree_table::MapBTreeTable;
+use std::alloc::{AllocError, Global};
+use std::hash::BuildHasher;
+
+impl<T: KeyedItem, S: BuildHasher> KeyedItems<T, S> {
+    /// No items, and memory for so many, or for as many as there are indexes but `SENTINEL` where that is fewer. With 0 it
+    /// takes no memory.
+    pub fn with_capacity(
+        alloc: Global,
+        state: S,
+        items: usize,
+    ) -> Result<KeyedItems<T, S>, AllocError>
+    where
+        S: Drop,
+        ensures state { IfOk result (λ k. k.state ≡ empty_state state) }
+        ensures room { IfOk result (λ k. min items slot_limit ≤ room k) }
+        ensures made { IfOk result (λ k. IsMadeFor (min items slot_limit) k.memory) }
+        ensures none { items ≡ 0 → IsOk result }
+        ensures no_memory { items ≡ 0 → IfOk result (λ k. k.memory ≡ no_memory) }
+    {
+        let items = items.min(u32::MAX as usize);
+        Ok(KeyedItems {
+            items: ItemSet::with_capacity(alloc, items)?,
+            filed: MapHashTable::with_capacity(alloc, items)?,
+            order: MapBTreeTable::with_capacity(alloc, items)?,
+            state,
+            alloc,
+        })
+    }
+
+    /// How many items there can be without asking for memory: the least of what each part can hold.
+    ///
+    /// There may be more: an insert without room raises the capacity of the store and of the hash table alone.
+    pub fn capacity(&self) -> usize
+        ensures { result ≡ capacity self.now }
+    {
+        let slots = self.items.capacity().min(self.items.limit());
+        slots.min(self.filed.capacity().min(self.order.capacity()))
+    }
+
+    /// How many inserts need no memory.
+    pub fn room(&self) -> usize
+        ensures { result ≡ room self.now }
+    {
+        self.capacity().saturating_sub(self.len())
+    }
+
+    /// Takes memory so that `additional` inserts need none, or as many as the limit leaves.
+    ///
+    /// Where there is that room already, nothing changes. `AllocError` means that memory was refused, or that no vector
+    /// can hold so many; the items stay, and no part can hold less than before.
+    pub fn reserve(&mut self, additional: usize) -> Result<(), AllocError>
+        ensures { ReservesInMemory additional self.old result self.new }
+    {
+        let wanted = additional.min(self.items.limit() - self.items.len());
+        if wanted <= self.room() {
+            return Ok(());
+        }
+        let items = self.items.len() + wanted;
+        reserve_slots(&mut self.items, items)?;
+        self.filed.try_reserve(wanted)?;
+        self.order.try_reserve(wanted)
+    }
+
+    /// The same as `reserve`, under the name that it has where `reserve` can't be refused.
+    pub fn try_reserve(&mut self, additional: usize) -> Result<(), AllocError>
+        ensures { ReservesInMemory additional self.old result self.new }
+    {
+        self.reserve(additional)
+    }
+
+    /// Gives back the memory that the items don't need. Vacant slots stay, and so does their memory.
+    ///
+    /// `AllocError` means that smaller memory was refused to the store or to the hash table; the items stay.
+    pub fn shrink_to_fit(&mut self) -> Result<(), AllocError>
+        ensures { ShrinksInMemory 0 self.old result self.new }
+    {
+        self.shrink_to(0)
+    }
+
+    /// Gives back the memory that so many items don't need, or those that there are where these are more. Vacant slots
+    /// stay, and so does their memory.
+    ///
+    /// `AllocError` means that smaller memory was refused to the store or to the hash table; the items stay.
+    pub fn shrink_to(&mut self, least: usize) -> Result<(), AllocError>
+        ensures { ShrinksInMemory least self.old result self.new }
+    {
+        self.order.shrink_to(least);
+        self.items.shrink_capacity_to(least)?;
+        self.filed.shrink_to(least)
+    }
+}
+
+// Takes memory for so many slots, where there aren't as many.
+fn reserve_slots<T>(items: &mut ItemSet<T>, wanted: usize) -> Result<(), AllocError>
+    requires { wanted ≤ items.old.store.limit }
+    ensures store { items.new.store ≡ items.old.store }
+    ensures capacity { items.old.capacity ≤ items.new.capacity }
+    ensures reserved { OnOk result (wanted ≤ items.new.capacity) }
+    ensures few { items.new.capacity
+        ≤ max items.old.capacity (max wanted (min items.old.store.limit (2 * items.old.capacity))) }
+{
+    if wanted <= items.capacity() {
+        return Ok(());
+    }
+    items.reserve(wanted - items.slot_count())
+}

@@ -1,0 +1,73 @@
+//! An item is modified in its place, and keeps both keys.
+ghost use Rattle.std.specs.Borrow.{MutBor};
+ghost use Rattle.std.specs.Prelude.{◌≡◌, Some};
+ghost use Rattle.iddqd.specs.{get};
+ghost use Rattle.iddqd_sides.specs.KeyKeeping.{KeepsKey, pair_keys};
+ghost use Rattle.iddqd_driver.specs.Sides.{first_side, second_side, LooksUp, Keeps};
+ghost use Rattle.iddqd_driver.specs.Queries.{GivesFound};
+ghost use Rattle.iddqd_driver.specs.Modify.{ModifiesAt, ModifiesFound};
+
+use super::{Keyed, KeyedItems};
+use crate::keyed_item::KeyedItem;
+use iddqd::item_index::ItemIndex;
+use std::hash::BuildHasher;
+
+impl<T: KeyedItem, S: BuildHasher> KeyedItems<T, S> {
+    /// Calls the closure with a `&mut` to the item at an index, and returns what the closure returns; or returns none,
+    /// and doesn't call it, where the index isn't live.
+    ///
+    /// The caller proves that the closure leaves the item both keys. So both tables stay as they are, in place or not:
+    /// the call hashes and compares no key, and takes no memory. To change a key, use `replace`.
+    pub fn modify_at<R, F: FnOnce(&mut T) -> R>(&mut self, ix: ItemIndex, f: F) -> Option<R>
+        requires { let keys = pair_keys T.first_key T.second_key in
+            KeepsKey F.FnOnce f keys (λ item. get self.old.state.store ix ≡ Some item) }
+        ensures modifies { ModifiesAt F.FnOnce f self.old.state ix result self.new.state }
+        ensures keeps { Keeps ⟦<Self as Keyed>⟧.keys self.old.state self.new.state }
+        ensures memory { self.new.memory ≡ self.old.memory }
+    {
+        self.modify_live(ix, f)
+    }
+
+    /// Calls the closure with a `&mut` to the item with this first key, found as `find1` finds its index; or returns
+    /// none, and doesn't call it, where the look-up misses. Else as `modify_at`.
+    pub fn modify1<R, F: FnOnce(&mut T) -> R>(&mut self, key: &T::Key1, f: F) -> Option<R>
+        requires { let keys = pair_keys T.first_key T.second_key in
+            let finds = LooksUp (first_side ⟦<Self as Keyed>⟧.keys) self.old.state key.now in
+            KeepsKey F.FnOnce f keys (λ item. GivesFound self.old.state.store finds (Some item)) }
+        ensures modifies { let finds = LooksUp (first_side ⟦<Self as Keyed>⟧.keys) self.old.state key.now in
+            ModifiesFound F.FnOnce f finds self.old.state result self.new.state }
+        ensures keeps { Keeps ⟦<Self as Keyed>⟧.keys self.old.state self.new.state }
+        ensures memory { self.new.memory ≡ self.old.memory }
+    {
+        self.modify_live(self.find1(key)?, f)
+    }
+
+    /// Calls the closure with a `&mut` to the item with this second key, found as `find2` finds its index; or returns
+    /// none, and doesn't call it, where the look-up misses. Else as `modify_at`.
+    pub fn modify2<R, F: FnOnce(&mut T) -> R>(&mut self, key: &T::Key2, f: F) -> Option<R>
+        requires { let keys = pair_keys T.first_key T.second_key in
+            let finds = LooksUp (second_side ⟦<Self as Keyed>⟧.keys) self.old.state key.now in
+            KeepsKey F.FnOnce f keys (λ item. GivesFound self.old.state.store finds (Some item)) }
+        ensures modifies { let finds = LooksUp (second_side ⟦<Self as Keyed>⟧.keys) self.old.state key.now in
+            ModifiesFound F.FnOnce f finds self.old.state result self.new.state }
+        ensures keeps { Keeps ⟦<Self as Keyed>⟧.keys self.old.state self.new.state }
+        ensures memory { self.new.memory ≡ self.old.memory }
+    {
+        self.modify_live(self.find2(key)?, f)
+    }
+
+    // Does what `modify_at` says. What the closure has to keep is two clauses here, since a proof file that answers one
+    // alone makes a call expensive to check.
+    fn modify_live<R, F: FnOnce(&mut T) -> R>(&mut self, ix: ItemIndex, f: F) -> Option<R>
+        requires callable { (item : MutBor T) → get self.old.state.store ix ≡ Some item.now
+            → F.FnOnce.pre f (item, tt) }
+        requires keeps { let keys = pair_keys T.first_key T.second_key in
+            KeepsKey F.FnOnce f keys (λ item. get self.old.state.store ix ≡ Some item) }
+        ensures modifies { ModifiesAt F.FnOnce f self.old.state ix result self.new.state }
+        ensures keeps { Keeps ⟦<Self as Keyed>⟧.keys self.old.state self.new.state }
+        ensures memory { self.new.memory ≡ self.old.memory }
+    {
+        let item = self.items.get_mut(ix)?;
+        Some(f(item))
+    }
+}

@@ -1,0 +1,254 @@
+//! An item becomes another one, which may have other keys, and both tables are told.
+//!
+//! Each new key is looked up once. Where that hits the index itself its table stays as it is; where it misses, the index
+//! is taken out of the table, wherever it stands there, and goes where the new key belongs. So the call works after
+//! silent changes too. The ordered table takes its memory while the old item still stands everywhere; the hash table
+//! needs none.
+ghost use Rattle.std.specs.Prelude.{◌≡◌, ◌≤◌, length, Some, IsSome, IsOk, IfOk, OnOk, IfErr, OnErr};
+ghost use Rattle.std.specs.FinMap as finite;
+ghost use Rattle.iddqd.specs.{get, live_count, rebound};
+ghost use Rattle.iddqd_hash.specs.{filed};
+ghost use Rattle.iddqd_hash.specs.HashTable.{KeepsMemory};
+ghost use Rattle.iddqd_order.specs.{order_of};
+ghost use Rattle.iddqd_order.specs.MapBTreeTable.{capacity as ordered_capacity};
+ghost use Rattle.iddqd_sides.specs.Scan.{IsLive, IsKeyAt};
+ghost use Rattle.iddqd_sides.specs.Ordered as ordered_side;
+ghost use Rattle.iddqd_sides.specs.HashedMove.{moved};
+ghost use Rattle.iddqd_driver.specs.Sides.{Keeps};
+ghost use Rattle.iddqd_driver.specs.Memory.{memory_of};
+ghost use Rattle.iddqd_driver.specs.Replacement.{TellsOther, Replaces, IsForMemory, planned, MovesInPlace, Reorders};
+
+use super::{Keyed, KeyedItems};
+use crate::keyed_item::{First, KeyedItem};
+use iddqd::item_index::{ItemIndex, OrDash};
+use iddqd::item_set::ItemSet;
+use iddqd::map_hash::MapHash;
+use iddqd_hash::hash_table::MapHashTable;
+use iddqd_order::btree_table::{Asking, MapBTreeTable};
+use iddqd_sides::hashed;
+use iddqd_sides::hashed_move::{Move, commit_move};
+use std::alloc::AllocError;
+use std::error::Error;
+use std::fmt;
+use std::hash::BuildHasher;
+
+/// Why an item didn't become another one. The other one comes back.
+#[derive(Debug, PartialEq, Eq, Drop)]
+pub enum ReplaceRefusal<T> {
+    /// The index isn't live.
+    Missing(T),
+    /// Another item has one of the keys: the other indexes that the look-ups of the first and of the second key hit.
+    Duplicate {
+        item: T,
+        first: Option<ItemIndex>,
+        second: Option<ItemIndex>,
+    },
+    /// No other item has one of the keys, the second one is new to the index, and memory was refused to the ordered table.
+    Memory(T),
+}
+
+impl<T> fmt::Display for ReplaceRefusal<T> {
+    ghost use Rattle.std.specs.Prelude.{Some};
+    ghost use Rattle.iddqd_driver.specs.Refusal.{replace_refusal_text};
+
+    ghost output = { λ refusal. Some (replace_refusal_text refusal) };
+
+    fn fmt<W: fmt::Write>(&self, f: &mut fmt::Formatter<W>) -> fmt::Result {
+        match self {
+            ReplaceRefusal::Missing(_) => write!(f, "missing"),
+            ReplaceRefusal::Duplicate { first, second, .. } => {
+                write!(f, "duplicate {} {}", OrDash(*first), OrDash(*second))
+            }
+            ReplaceRefusal::Memory(_) => write!(f, "no memory"),
+        }
+    }
+}
+
+impl<T: fmt::Debug + Drop> Error for ReplaceRefusal<T> {}
+
+impl<T: KeyedItem, S: BuildHasher> KeyedItems<T, S> {
+    /// Puts an item in the place of the one at a live index, which is handed back, and tells both tables.
+    ///
+    /// The index stays, and each table is in order then where it was before. The item may have other keys, but none that
+    /// another item has. A refusal hands it back and changes nothing.
+    ///
+    /// The hash table needs no memory for a new key: the removal of the old entry leaves the room. Nor does the ordered
+    /// table while it holds no more indexes than its capacity; past that a new second key may be refused memory.
+    ///
+    /// `overwrite` tells neither table, and takes any item.
+    pub fn replace(&mut self, ix: ItemIndex, item: T) -> Result<T, ReplaceRefusal<T>>
+        ensures replaces { Replaces ⟦<Self as Keyed>⟧.keys self.old.state ix item result self.new.state }
+        ensures keeps { Keeps ⟦<Self as Keyed>⟧.keys self.old.state self.new.state }
+        ensures memory { self.new.memory ≡ self.old.memory }
+        ensures not_refused { live_count self.old.state.store ≤ self.old.memory.ordered
+            → IfErr result (λ refusal. IsForMemory refusal → ⊥) }
+    {
+        if self.items.get(ix).is_none() {
+            return Err(ReplaceRefusal::Missing(item));
+        }
+        let (hash, at1) = self.hash_and_find(item.key1());
+        let at2 = self.find2(item.key2());
+        let (first, second) = (other_than(ix, &at1), other_than(ix, &at2));
+        if first.is_some() || second.is_some() {
+            return Err(ReplaceRefusal::Duplicate {
+                item,
+                first,
+                second,
+            });
+        }
+        rebind(
+            &mut self.items,
+            &mut self.filed,
+            &mut self.order,
+            &self.state,
+            Found { hash, at1, at2 },
+            ix,
+            item,
+        )
+    }
+}
+
+// Where the keys of an item were found that an index is to have: at that index, or not at all.
+#[derive(Clone, Copy)]
+struct Found {
+    // The hash of the first key.
+    hash: MapHash,
+    at1: Option<ItemIndex>,
+    at2: Option<ItemIndex>,
+}
+
+// What a look-up hit, where that is another index.
+fn other_than(ix: ItemIndex, found: &Option<ItemIndex>) -> Option<ItemIndex>
+    ensures { TellsOther (λ answer. found.now ≡ answer) ix result }
+{
+    match found {
+        Some(at) if *at != ix => Some(*at),
+        _ => None,
+    }
+}
+
+// Puts an item in the place of the one at a live index, and tells both tables: in a table where the look-up of the
+// item's key hit the index it stays, else it moves. All memory is taken before anything is written.
+fn rebind<T: KeyedItem, S: BuildHasher>(
+    items: &mut ItemSet<T>,
+    table: &mut MapHashTable,
+    order: &mut MapBTreeTable,
+    state: &S,
+    found: Found,
+    ix: ItemIndex,
+    item: T,
+) -> Result<T, ReplaceRefusal<T>>
+    requires live { IsLive items.old.store ix }
+    requires filed { IsSome (finite.get (filed table.old) ix) }
+    requires ordered { ordered_side.Holds items.old.store (order_of order.old) }
+    ensures was { IfOk result (λ was. get items.old.store ix ≡ Some was) }
+    ensures stored { OnOk result (items.new.store ≡ rebound items.old.store ix item) }
+    ensures filed { OnOk result (filed table.new ≡ moved (filed table.old) ix (planned found.hash found.at1)) }
+    ensures placed { let reorders = Reorders T.KeyedItem.second_key T.Key2.cmp items.old.store ix item found.at2 in
+        OnOk result (reorders (order_of order.old) (order_of order.new)) }
+    ensures refused { IfErr result (λ refusal. (refusal ≡ ReplaceRefusal.Memory item) × (found.at2 ≡ None)) }
+    ensures items_stay { OnErr result (items.new.store ≡ items.old.store) }
+    ensures hashes_stay { OnErr result (filed table.new ≡ filed table.old) }
+    ensures order_stays { OnErr result (order_of order.new ≡ order_of order.old) }
+    ensures memory { memory_of items.new table.new order.new ≡ memory_of items.old table.old order.old }
+    ensures roomy { length (order_of order.old) ≤ ordered_capacity order.old → IsOk result }
+{
+    let plan = plan_of(found.hash, found.at1);
+    if let Err(AllocError) = reorder(order, items, found.at2, ix, &item) {
+        return Err(ReplaceRefusal::Memory(item));
+    }
+    refile(table, items, state, &plan, ix);
+    Ok(items.replace(ix, item))
+}
+
+// What has to become of an index in the hash table, by what the look-up of its new key answered.
+fn plan_of(hash: MapHash, found: Option<ItemIndex>) -> Move
+    ensures { result ≡ planned hash found }
+{
+    match found {
+        Some(_) => Move::Stays,
+        None => Move::To(hash),
+    }
+}
+
+// Files a live index as it was planned, whatever it is filed under. It takes no memory.
+fn refile<T: KeyedItem, S: BuildHasher>(
+    table: &mut MapHashTable,
+    items: &ItemSet<T>,
+    state: &S,
+    plan: &Move,
+    ix: ItemIndex,
+)
+    requires live { IsLive items.now.store ix }
+    requires filed { IsSome (finite.get (filed table.old) ix) }
+    ensures moved { filed table.new ≡ moved (filed table.old) ix plan.now }
+    ensures memory { KeepsMemory table.old table.new }
+{
+    if let Move::To(_) = plan {
+        let from = hashed::hash_of::<T, First, S>(state, &items[ix]);
+        commit_move(table, from, plan, ix);
+    }
+}
+
+// Leaves a live index in its place, where the look-up of its new second key hit it, or else moves it to where that key
+// leads. Where memory is refused nothing changes.
+fn reorder<T: KeyedItem>(
+    order: &mut MapBTreeTable,
+    items: &ItemSet<T>,
+    found: Option<ItemIndex>,
+    ix: ItemIndex,
+    item: &T,
+) -> Result<(), AllocError>
+    requires live { IsLive items.now.store ix }
+    requires ordered { ordered_side.Holds items.now.store (order_of order.old) }
+    ensures placed { let reorders = Reorders T.KeyedItem.second_key T.Key2.cmp items.now.store ix item.now found in
+        OnOk result (reorders (order_of order.old) (order_of order.new)) }
+    ensures refused { OnErr result (found ≡ None) }
+    ensures stays { OnErr result (order_of order.new ≡ order_of order.old) }
+    ensures memory { ordered_capacity order.new ≡ ordered_capacity order.old }
+    ensures roomy { length (order_of order.old) ≤ ordered_capacity order.old → IsOk result }
+{
+    match found {
+        Some(_) => Ok(()),
+        None => move_in_order(order, items, ix, item),
+    }
+}
+
+// Takes a live index out of the ordered table, wherever it stands, and puts it where the second key of the item leads
+// that it is to have. All memory is taken first.
+fn move_in_order<T: KeyedItem>(
+    order: &mut MapBTreeTable,
+    items: &ItemSet<T>,
+    ix: ItemIndex,
+    item: &T,
+) -> Result<(), AllocError>
+    requires live { IsLive items.now.store ix }
+    requires ordered { ordered_side.Holds items.now.store (order_of order.old) }
+    ensures moved { let moves = MovesInPlace T.KeyedItem.second_key T.Key2.cmp items.now.store ix item.now in
+        OnOk result (moves (order_of order.old) (order_of order.new)) }
+    ensures stays { OnErr result (order_of order.new ≡ order_of order.old) }
+    ensures memory { ordered_capacity order.new ≡ ordered_capacity order.old }
+    ensures roomy { length (order_of order.old) ≤ ordered_capacity order.old → IsOk result }
+{
+    let (old_key, new_key) = (key2_at(items, ix), item.key2());
+    let mut asking = Asking::new(
+        |at: ItemIndex|
+            requires { IsLive items.now.store at }
+            ensures { IsKeyAt T.KeyedItem.second_key items.entry.now.store at result.now }
+        { key2_at(items, at) },
+    );
+    let prepared = match order.prepare_move(ix) {
+        Ok(prepared) => prepared,
+        Err(AllocError) => return Err(AllocError),
+    };
+    prepared.commit(&old_key, &new_key, &mut asking);
+    Ok(())
+}
+
+// The second key of the item at a live index.
+fn key2_at<T: KeyedItem>(items: &ItemSet<T>, ix: ItemIndex) -> &T::Key2
+    requires { IsLive items.now.store ix }
+    ensures { IsKeyAt T.KeyedItem.second_key items.now.store ix result.now }
+{
+    items[ix].key2()
+}

@@ -1,0 +1,184 @@
+//! Walks over the items, by rising index and in the order of their second keys. No walk takes memory.
+ghost use Rattle.std.specs.Prelude.{◌≡◌, ⊤, [], Some, IfSome, IsOk, IfOk, length};
+ghost use Rattle.std.specs.Iterator.{YieldsFirstRef, YieldsLastRef, item_count, at_most, UpTo};
+ghost use Rattle.std.specs.Iterator.SizeHint.{IsWithinCount};
+ghost use Rattle.std.specs.Range.Bound.{bound_map};
+ghost use Rattle.iddqd.specs.{live_count, live_pairs};
+ghost use Rattle.iddqd.specs.LiveItems.{IsWalkOf};
+ghost use Rattle.iddqd_order.specs.{indexes_left};
+ghost use Rattle.iddqd_sides.specs.OrderedQuery.{is_between};
+ghost use Rattle.iddqd_driver.specs.State.{IsPaired};
+ghost use Rattle.iddqd_driver.specs.Sides.{second_side, IsExact};
+ghost use Rattle.iddqd_driver.specs.Walks.{items_at, RangesWithin};
+
+use super::{Keyed, KeyedItems, Range};
+use crate::keyed_item::{KeyedItem, Second};
+use iddqd::item_index::ItemIndex;
+use iddqd::item_set::{self, ItemSet};
+use iddqd_order::btree_table;
+use iddqd_sides::order_query::OrdQuery;
+use iddqd_sides::ordered;
+use std::alloc::AllocError;
+use std::fmt;
+use std::hash::BuildHasher;
+use std::iter::FusedIterator;
+use std::marker::Model;
+use std::ops::Bound;
+
+impl<T: KeyedItem, S: BuildHasher> KeyedItems<T, S> {
+    /// The live indexes with their items, by rising index.
+    pub fn iter(&self) -> item_set::Iter<'_, T>
+        ensures pairs { result ≡ live_pairs self.now.state.store }
+        ensures len { length result ≡ live_count self.now.state.store }
+        ensures walk { IsWalkOf self.now.state.store result }
+    {
+        self.items.iter()
+    }
+
+    /// The indexes in the order of the ordered table: by second key, where none was changed silently.
+    /// It takes no memory.
+    pub fn walk(&self) -> btree_table::Iter<'_>
+        ensures order { indexes_left result ≡ self.now.state.order }
+        ensures paired { IsPaired self.now.state }
+        ensures as_scan { let side = second_side ⟦<Self as Keyed>⟧.keys in
+            IsExact side self.now.state → side.Lists self.now.state.store (indexes_left result) }
+    {
+        self.order.iter()
+    }
+
+    /// The items in the order of the ordered table: by second key, where none was changed silently.
+    pub fn values_by_key2(&self) -> ValuesByKey2<'_, T>
+        ensures items { result ≡ items_at self.now.state.store self.now.state.order }
+        ensures len { length result ≡ live_count self.now.state.store }
+        ensures as_scan { let side = second_side ⟦<Self as Keyed>⟧.keys in
+            IsExact side self.now.state → side.Lists self.now.state.store self.now.state.order }
+    {
+        ValuesByKey2 {
+            items: &self.items,
+            order: self.order.iter(),
+        }
+    }
+
+    /// The live indexes with their items whose second keys are between two bounds, in the order of the
+    /// second keys, from both ends: none where the lower bound stands above the upper one.
+    ///
+    /// Where a second key was changed silently, they are those between some two places of the ordered
+    /// table. Each query is compared with at most 4 + 2d second keys, where the number of items has d
+    /// binary digits. It takes no memory.
+    #[tactic(auto, using(crate::proofs::KeepsLemmas::order_held))]
+    pub fn range_by_key2<Q: OrdQuery<T::Key2>>(
+        &self,
+        lower: Bound<Q>,
+        upper: Bound<Q>,
+    ) -> Range<'_, T>
+        ensures { let within = is_between (bound_map Q.compare lower) (bound_map Q.compare upper) in
+            RangesWithin ⟦<Self as Keyed>⟧.keys within self.now.state result }
+    {
+        let (order, items) = (&self.order, &self.items);
+        Range::new(
+            ordered::range::<T, Second, Q>(order, items, lower, upper),
+            items,
+        )
+    }
+
+    // The indexes in the order of the ordered table, in memory of their own.
+    pub(super) fn indexes(&self) -> Result<Vec<ItemIndex>, AllocError>
+        ensures paired { IsPaired self.now.state }
+        ensures all { IfOk result (λ indexes. indexes.items ≡ self.now.state.order) }
+        ensures empty { self.now.state.order ≡ [] → IsOk result }
+    {
+        let walk = self.walk();
+        let mut indexes = Vec::with_capacity(self.alloc, walk.len())?;
+        for ix in walk {
+            indexes.push_reserved(ix);
+        }
+        Ok(indexes)
+    }
+}
+
+/// Items in the order of their second keys, from both ends. Once it has ended it stays ended.
+///
+/// A contract sees it as the items that are left. It takes no memory, and a step costs a constant time on the average.
+#[derive(Drop)]
+pub struct ValuesByKey2<'a, T> {
+    items: &'a ItemSet<T>,
+    // The indexes of those that are left.
+    order: btree_table::Iter<'a>,
+}
+
+impl<'a, T> Model for ValuesByKey2<'a, T> {
+    ghost use Rattle.std.specs.Prelude.{List};
+    ghost use Rattle.iddqd_order.specs.{indexes_left};
+    ghost use Rattle.iddqd_sides.specs.Ordered.{AreLive};
+    ghost use Rattle.iddqd_driver.specs.Walks.{items_at};
+
+    ghost Value = { List T };
+
+    ghost view = { λ w. items_at w.items.now.store (indexes_left w.order) };
+
+    ghost invariant = { λ w. AreLive w.items.now.store (indexes_left w.order) };
+}
+
+impl<'a, T> Iterator for ValuesByKey2<'a, T> {
+    type Item = &'a T;
+
+    ghost next_gives = { YieldsFirstRef (λ rest. rest) };
+
+    ghost remaining = { item_count (λ rest. rest) };
+
+    fn next(&mut self) -> Option<&'a T> {
+        let Some(ix) = self.order.next() else {
+            return None;
+        };
+        Some(&self.items[ix])
+    }
+
+    fn size_hint(&self) -> (usize, Option<usize>)
+        ensures lower { IsWithinCount result.0 (at_most (length self.now)) }
+        ensures upper { IfSome result.1 (UpTo (at_most (length self.now))) }
+        ensures exact { result ≡ (length self.now, Some (length self.now)) }
+    {
+        let left = self.len();
+        (left, Some(left))
+    }
+}
+
+impl<'a, T> DoubleEndedIterator for ValuesByKey2<'a, T> {
+    ghost next_back_gives = { YieldsLastRef (λ rest. rest) };
+
+    fn next_back(&mut self) -> Option<&'a T> {
+        let Some(ix) = self.order.next_back() else {
+            return None;
+        };
+        Some(&self.items[ix])
+    }
+}
+
+impl<'a, T> ExactSizeIterator for ValuesByKey2<'a, T> {
+    fn len(&self) -> usize {
+        self.order.len()
+    }
+}
+
+impl<'a, T> FusedIterator for ValuesByKey2<'a, T> {}
+
+impl<'a, T> Clone for ValuesByKey2<'a, T> {
+    ghost is_clone = { λ walk copy. copy ≡ walk };
+
+    ghost is_infallible = { λ _. ⊤ };
+
+    fn clone(&self) -> Result<Self, AllocError> {
+        Ok(ValuesByKey2 {
+            items: self.items,
+            order: self.order.clone()?,
+        })
+    }
+}
+
+impl<'a, T> fmt::Debug for ValuesByKey2<'a, T> {
+    fn fmt<W: fmt::Write>(&self, f: &mut fmt::Formatter<W>) -> fmt::Result {
+        f.debug_struct("ValuesByKey2")
+            .field("remaining", &self.len())
+            .finish()
+    }
+}

@@ -1,4 +1,0 @@
-use Rattle.iddqd_keyed.proofs.keyed_items.KeyedItems.find1.Goals as goal
-
-pub returns-clause-found : goal.returns-clause-found
-returns-clause-found g c = c.hash_and_find.ensures.found
