@@ -5,7 +5,7 @@ use Rattle.std.specs.FinMap as finite
 use Rattle.std.specs.FinMap.{FinMap}
 use Rattle.std.specs.Result.{IsOk, IfOk, OnOk, OnErr}
 use Rattle.iddqd.specs.Store.{Store, IsFull, next_index, inserted}
-use Rattle.iddqd_sides.specs.Ordered.{AddsInPlace}
+use Rattle.iddqd_by_order.specs.Ordered.{AddsInPlace}
 use Rattle.iddqd_driver.specs.Keys.{Keys}
 use Rattle.iddqd_driver.specs.State.{State, IsPaired}
 use Rattle.iddqd_driver.specs.Sides.{finds_told, hash_in, first_side, second_side, LooksUp, Keeps}

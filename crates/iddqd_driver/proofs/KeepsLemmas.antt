@@ -7,14 +7,14 @@ use Rattle.iddqd.specs.Compaction.{rank}
 use Rattle.iddqd.proofs.StoreLemmas.{IsValid-empty, IsValid-cleared, IsValid-inserted, IsValid-removed, IsValid-rebound}
 use Rattle.iddqd.proofs.CompactionLemmas.{IsValid-compacted}
 use Rattle.iddqd_hash.specs.MapHashTable.{Renames}
-use Rattle.iddqd_sides.specs.Scan.{passes_by}
-use Rattle.iddqd_sides.specs.Hashed as hashed
-use Rattle.iddqd_sides.specs.Ordered as ordered
-use Rattle.iddqd_sides.proofs.FindLemmas.{StandsForOne-key}
-use Rattle.iddqd_sides.proofs.HoldsLemmas as filed_holds
-use Rattle.iddqd_sides.proofs.PlaceLemmas as filed_place
-use Rattle.iddqd_sides.proofs.OrderedHoldsLemmas as order_holds
-use Rattle.iddqd_sides.proofs.OrderedPlaceLemmas as order_place
+use Rattle.iddqd_by_hash.specs.Scan.{passes_by}
+use Rattle.iddqd_by_hash.specs.Hashed as hashed
+use Rattle.iddqd_by_order.specs.Ordered as ordered
+use Rattle.iddqd_by_hash.proofs.FindLemmas.{StandsForOne-key}
+use Rattle.iddqd_by_hash.proofs.HoldsLemmas as filed_holds
+use Rattle.iddqd_by_hash.proofs.PlaceLemmas as filed_place
+use Rattle.iddqd_by_order.proofs.OrderedHoldsLemmas as order_holds
+use Rattle.iddqd_by_order.proofs.OrderedPlaceLemmas as order_place
 use Rattle.iddqd_driver.specs.Keys.{Keys, first_hashing}
 use Rattle.iddqd_driver.specs.State.{State, empty_state_within, cleared_state, unbound, compacted_state, IsPaired, IsEmpty}
 use Rattle.iddqd_driver.specs.Sides.{hash_in, first_side, second_side, LooksUp, FirstKeysInOrder, SecondKeysInOrder, Keeps, KeepsUnlessChanged}

@@ -3,8 +3,8 @@ use Rattle.std.proofs.Common.{◌≡◌, ℕ, Bool, IsTrue, List, Ordering}
 use Rattle.std.specs.Cmp.{IsPartialEquivalence, IsTotalOrder}
 use Rattle.std.specs.declared.hash.Hasher as hasher
 use Rattle.std.specs.declared.hash.BuildHasher as builder
-use Rattle.iddqd_sides.specs.Hashed.{IsLawful}
-use Rattle.iddqd_sides.proofs.FindLemmas.{IsLawful-from_bounds}
+use Rattle.iddqd_by_hash.specs.Hashed.{IsLawful}
+use Rattle.iddqd_by_hash.proofs.FindLemmas.{IsLawful-from_bounds}
 use Rattle.iddqd_driver.specs.Keys.{Keys, keys_of, first_hashing}
 use Rattle.iddqd_driver.specs.declared.keyed_item.KeyedItem.{Ghosts}
 

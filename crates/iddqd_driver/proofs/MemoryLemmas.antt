@@ -17,7 +17,7 @@ use Rattle.iddqd_hash.specs.Sizes as hash_sizes
 use Rattle.iddqd_hash.specs.Sizes.{most_cells}
 use Rattle.iddqd_order.specs.MapBTreeTable.{Order, order_of, capacity as ordered_capacity, room as order_room, capacity_for}
 use Rattle.iddqd_order.specs.Sizes as order_sizes
-use Rattle.iddqd_sides.proofs.OrderedCountLemmas.{length-held}
+use Rattle.iddqd_by_order.proofs.OrderedCountLemmas.{length-held}
 use Rattle.iddqd_driver.specs.Keys.{Keys}
 use Rattle.iddqd_driver.specs.State.{State, IsPaired}
 use Rattle.iddqd_driver.specs.Machine.{Removes, StoresAt}

@@ -4,9 +4,9 @@ use Rattle.std.specs.Ordering.{is_eq}
 use Rattle.std.specs.Cmp.{Equal-is}
 use Rattle.std.specs.declared.cmp.Ordering.TheVariants.{Equal}
 use Rattle.iddqd.specs.Store.{Store}
-use Rattle.iddqd_sides.specs.Scan.{IsHit, passes_by}
-use Rattle.iddqd_sides.specs.Hashed as hashed
-use Rattle.iddqd_sides.specs.Ordered as ordered
+use Rattle.iddqd_by_hash.specs.Scan.{IsHit, passes_by}
+use Rattle.iddqd_by_hash.specs.Hashed as hashed
+use Rattle.iddqd_by_order.specs.Ordered as ordered
 use Rattle.iddqd_driver.specs.Keys.{Keys, first_hashing}
 use Rattle.iddqd_driver.specs.State.{State}
 use Rattle.iddqd_driver.specs.Sides.{Side, hash_in, first_side, second_side}

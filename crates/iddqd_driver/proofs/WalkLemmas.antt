@@ -5,7 +5,7 @@ use Rattle.std.proofs.lemmas.List.Elements.{filter_map-append}
 use Rattle.iddqd.specs.Store.{Store, get}
 use Rattle.iddqd.proofs.StoreLemmas.{contains_head, contains_tail}
 use Rattle.iddqd.proofs.LiveLemmas.{item_at}
-use Rattle.iddqd_sides.specs.Ordered.{AreLive}
+use Rattle.iddqd_by_order.specs.Ordered.{AreLive}
 use Rattle.iddqd_driver.specs.Walks.{items_at}
 
 module _ {T : Type 0} (s : Store T) where

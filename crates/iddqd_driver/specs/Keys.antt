@@ -5,7 +5,7 @@ use Rattle.std.specs.declared.cmp.Ordering.{Ordering}
 use Rattle.std.specs.declared.hash.Hasher as hasher
 use Rattle.std.specs.declared.hash.BuildHasher as builder
 use Rattle.iddqd.specs.MapHash.{hash_one}
-use Rattle.iddqd_sides.specs.Hashed.{Hashing}
+use Rattle.iddqd_by_hash.specs.Hashed.{Hashing}
 use Rattle.iddqd_driver.specs.declared.keyed_item.KeyedItem.{Ghosts}
 
 -- which keys an item has, when two first keys are equal, how two second keys compare, and the hash of a first key

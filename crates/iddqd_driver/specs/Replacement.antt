@@ -4,10 +4,10 @@ use Rattle.std.specs.FinMap as finite
 use Rattle.std.specs.declared.cmp.Ordering.{Ordering}
 use Rattle.iddqd.specs.Store.{Store, get, rebound}
 use Rattle.iddqd_order.specs.MapBTreeTable.{without}
-use Rattle.iddqd_sides.specs.Scan.{IsLive}
-use Rattle.iddqd_sides.specs.Ordered.{Adds, IsInPlace}
-use Rattle.iddqd_sides.specs.declared.hashed_move.Move.{Move}
-use Rattle.iddqd_sides.specs.declared.hashed_move.Move.TheVariants.{Stays, To}
+use Rattle.iddqd_by_hash.specs.Scan.{IsLive}
+use Rattle.iddqd_by_order.specs.Ordered.{Adds, IsInPlace}
+use Rattle.iddqd_by_hash.specs.declared.hashed_move.Move.{Move}
+use Rattle.iddqd_by_hash.specs.declared.hashed_move.Move.TheVariants.{Stays, To}
 use Rattle.iddqd_driver.specs.Keys.{Keys}
 use Rattle.iddqd_driver.specs.State.{State}
 use Rattle.iddqd_driver.specs.Sides.{hash_in, first_side, second_side, LooksUp}

@@ -10,8 +10,8 @@ use Rattle.iddqd.specs.Compaction.{compacted, rank}
 use Rattle.iddqd_hash.specs.HashTable.{Table}
 use Rattle.iddqd_hash.specs.MapHashTable.{filed, Renames}
 use Rattle.iddqd_order.specs.MapBTreeTable.{Order, order_of, without}
-use Rattle.iddqd_sides.specs.Side.{HasExactly}
-use Rattle.iddqd_sides.specs.Hashed.{Holds}
+use Rattle.iddqd_by_hash.specs.Side.{HasExactly}
+use Rattle.iddqd_by_hash.specs.Hashed.{Holds}
 
 -- The hash under which each index is filed, and the indexes in the ordered table's order, beside the store. No step
 -- changes the hasher's state.

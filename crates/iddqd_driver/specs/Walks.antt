@@ -2,7 +2,7 @@
 use Rattle.std.specs.Prelude.{◌≡◌, ℕ, Bool, List}
 use Rattle.std.specs.List.{filter_map}
 use Rattle.iddqd.specs.Store.{Store, get}
-use Rattle.iddqd_sides.specs.OrderedWalk.{WalksWithin, pairs_at}
+use Rattle.iddqd_by_order.specs.OrderedWalk.{WalksWithin, pairs_at}
 use Rattle.iddqd_driver.specs.Keys.{Keys}
 use Rattle.iddqd_driver.specs.State.{State}
 

@@ -24,7 +24,7 @@ use Rattle.iddqd_hash.proofs.AskLemmas.{or_true}
 use Rattle.iddqd.proofs.LiveItemLemmas.{length-pairs_from}
 use Rattle.iddqd_hash.specs.MapHashTable.{indexes_of}
 use Rattle.iddqd_hash.proofs.FiledLemmas.{same_index}
-use Rattle.iddqd_sides.specs.Hashed.{Holds}
+use Rattle.iddqd_by_hash.specs.Hashed.{Holds}
 
 abbrev tied : ℕ → ℕ → Bool
 tied = eq_by_cmp nat_cmp

@@ -9,10 +9,10 @@ use Rattle.iddqd.specs.Store.{Store, get}
 use Rattle.iddqd_hash.specs.HashTable.{Table, entries, room, capacity}
 use Rattle.iddqd_hash.specs.MapHashTable.{filed, turned}
 use Rattle.iddqd_hash.proofs.MemberLemmas.{get-insert_at}
-use Rattle.iddqd_sides.specs.Scan.{AnswersScan}
-use Rattle.iddqd_sides.specs.Hashed.{Hashing, IsLawful, Takes}
-use Rattle.iddqd_sides.specs.declared.hashed_move.Move.{Move}
-use Rattle.iddqd_sides.specs.declared.hashed_move.Move.TheVariants.{Stays, To}
+use Rattle.iddqd_by_hash.specs.Scan.{AnswersScan}
+use Rattle.iddqd_by_hash.specs.Hashed.{Hashing, IsLawful, Takes}
+use Rattle.iddqd_by_hash.specs.declared.hashed_move.Move.{Move}
+use Rattle.iddqd_by_hash.specs.declared.hashed_move.Move.TheVariants.{Stays, To}
 use Rattle.iddqd_map.specs.Hashed.{moves}
 use Rattle.iddqd_map.specs.Indexing.{Indexes, Plans, PlansOrConflicts}
 use Rattle.iddqd_map.specs.KeyIndex.{PlansMove, TakesFound}

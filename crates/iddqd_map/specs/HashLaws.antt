@@ -10,11 +10,11 @@ use Rattle.std.specs.Ordering.{nat_cmp}
 use Rattle.std.specs.FinMap.{FinMap}
 use Rattle.iddqd.specs.Store.{Store, get, rebound}
 use Rattle.iddqd.proofs.LiveLemmas.{item_at, live_at}
-use Rattle.iddqd_sides.specs.Scan.{IsHit, AnswersScan}
-use Rattle.iddqd_sides.specs.Hashed.{Hashing, hashing_of, IsLawful}
-use Rattle.iddqd_sides.proofs.FindLemmas.{IsLawful-from_bounds}
-use Rattle.iddqd_sides.proofs.HoldsLemmas.{Holds-rebound}
-use Rattle.iddqd_sides.proofs.PlaceLemmas.{Keeps-rebound}
+use Rattle.iddqd_by_hash.specs.Scan.{IsHit, AnswersScan}
+use Rattle.iddqd_by_hash.specs.Hashed.{Hashing, hashing_of, IsLawful}
+use Rattle.iddqd_by_hash.proofs.FindLemmas.{IsLawful-from_bounds}
+use Rattle.iddqd_by_hash.proofs.HoldsLemmas.{Holds-rebound}
+use Rattle.iddqd_by_hash.proofs.PlaceLemmas.{Keeps-rebound}
 use Rattle.iddqd_map.specs.Indexing.{Indexes}
 use Rattle.iddqd_map.specs.KeyIndex.{HaveSameKeys}
 use Rattle.iddqd_map.specs.Map.{shares}

@@ -10,8 +10,8 @@
 //! and indexes alone.
 ghost use Rattle.std.specs.Prelude.{◌≡◌};
 ghost use Rattle.iddqd_hash.specs.{filed};
-ghost use Rattle.iddqd_sides.specs.Scan.{AnswersScan, passes_by};
-ghost use Rattle.iddqd_sides.specs.Hashed.{hashing_of};
+ghost use Rattle.iddqd_by_hash.specs.Scan.{AnswersScan, passes_by};
+ghost use Rattle.iddqd_by_hash.specs.Hashed.{hashing_of};
 ghost use Rattle.iddqd_map.specs.Indexing.{Indexes};
 
 use crate::hashed_plan::plan_move;
@@ -26,10 +26,10 @@ use iddqd::item_index::ItemIndex;
 use iddqd::item_set::ItemSet;
 use iddqd::map_hash::MapHash;
 use iddqd_hash::hash_table::MapHashTable;
-use iddqd_sides::hashed::{hash_of, query_hash};
-use iddqd_sides::hashed_move::Move;
-use iddqd_sides::key_of::KeyOf;
-use iddqd_sides::query::HashQuery;
+use iddqd_by_hash::hashed::{hash_of, query_hash};
+use iddqd_by_hash::hashed_move::Move;
+use iddqd_by_hash::key_of::KeyOf;
+use iddqd_by_hash::query::HashQuery;
 use std::alloc::{AllocError, Global};
 use std::hash::{BuildHasher, Hash};
 use std::marker::PhantomData;

@@ -1,16 +1,16 @@
 //! What has to become of a live index that is given an item that may have another key: by one look-up of
 //! the new key, and none where the key stays.
 ghost use Rattle.iddqd_hash.specs.{filed};
-ghost use Rattle.iddqd_sides.specs.Scan.{IsLive};
-ghost use Rattle.iddqd_sides.specs.Hashed.{hashing_of};
+ghost use Rattle.iddqd_by_hash.specs.Scan.{IsLive};
+ghost use Rattle.iddqd_by_hash.specs.Hashed.{hashing_of};
 ghost use Rattle.iddqd_map.specs.Indexing.{Indexes, PlansOrConflicts};
 
 use iddqd::item_index::ItemIndex;
 use iddqd::item_set::ItemSet;
 use iddqd_hash::hash_table::MapHashTable;
-use iddqd_sides::hashed::{self, hash_of};
-use iddqd_sides::hashed_move::Move;
-use iddqd_sides::key_of::{ByKey, KeyOf, key_at};
+use iddqd_by_hash::hashed::{self, hash_of};
+use iddqd_by_hash::hashed_move::Move;
+use iddqd_by_hash::key_of::{ByKey, KeyOf, key_at};
 use std::hash::{BuildHasher, Hash};
 
 /// What has to become of a live index that is given this item; or the index of another item that has

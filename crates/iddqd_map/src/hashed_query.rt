@@ -6,17 +6,17 @@ ghost use Rattle.std.specs.Prelude.{◌≡◌};
 ghost use Rattle.iddqd.specs.{hash_one};
 ghost use Rattle.iddqd_hash.specs.{filed};
 ghost use Rattle.iddqd_hash.specs.HashTable.{KeepsMemory};
-ghost use Rattle.iddqd_sides.specs.Scan.{AnswersScan, passes_by};
-ghost use Rattle.iddqd_sides.specs.Hashed.{hashing_of, Takes};
+ghost use Rattle.iddqd_by_hash.specs.Scan.{AnswersScan, passes_by};
+ghost use Rattle.iddqd_by_hash.specs.Hashed.{hashing_of, Takes};
 ghost use Rattle.iddqd_map.specs.Indexing.{Indexes};
 
 use iddqd::item_index::ItemIndex;
 use iddqd::item_set::ItemSet;
 use iddqd::map_hash::MapHash;
 use iddqd_hash::hash_table::MapHashTable;
-use iddqd_sides::hashed::{self, query_hash};
-use iddqd_sides::key_of::KeyOf;
-use iddqd_sides::query::{Asked, HashQuery};
+use iddqd_by_hash::hashed::{self, query_hash};
+use iddqd_by_hash::key_of::KeyOf;
+use iddqd_by_hash::query::{Asked, HashQuery};
 use std::hash::{BuildHasher, Hash};
 
 /// The index of the item that has the key for which the query stands, whose hash was computed before.

@@ -5,8 +5,8 @@ use Rattle.std.proofs.lemmas.Bool.{cases_lt}
 use Rattle.std.proofs.lemmas.Option.{slice_get-get_or}
 use Rattle.iddqd.specs.Store.{Store, get, live_count}
 use Rattle.iddqd_map.specs.Map.{MapState, RemovesAt}
-use Rattle.iddqd_sides.specs.Ordered.{Holds}
-use Rattle.iddqd_sides.proofs.OrderedCountLemmas.{length-held}
+use Rattle.iddqd_by_order.specs.Ordered.{Holds}
+use Rattle.iddqd_by_order.proofs.OrderedCountLemmas.{length-held}
 use Rattle.iddqd_ord_map.specs.KeyOrder.{IsEnd, FindsEnd, PopsEnd}
 
 -- nothing stands at a place behind the last one alone

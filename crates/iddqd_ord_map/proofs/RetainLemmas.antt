@@ -17,10 +17,10 @@ use Rattle.iddqd_hash.specs.Asks.{CanAsk}
 use Rattle.iddqd_hash.proofs.AskLemmas.{CanAsk-takes, CanAsk-asked}
 use Rattle.iddqd_order.specs.Retain.{Retains}
 use Rattle.iddqd_order.proofs.IndexListLemmas.{IsDistinct-filter}
-use Rattle.iddqd_sides.specs.Scan.{IsLive}
-use Rattle.iddqd_sides.specs.Ordered.{AreLive, Holds}
+use Rattle.iddqd_by_hash.specs.Scan.{IsLive}
+use Rattle.iddqd_by_order.specs.Ordered.{AreLive, Holds}
 use Rattle.iddqd_ord_map.specs.OrderedIndexing.{Sorts}
-use Rattle.iddqd_sides.proofs.OrderedPlaceLemmas.{IsInPlace-alike}
+use Rattle.iddqd_by_order.proofs.OrderedPlaceLemmas.{IsInPlace-alike}
 use Rattle.iddqd_map.specs.Several.{removed_all}
 use Rattle.iddqd_map.specs.Retain.{kept_of, refused_of}
 use Rattle.iddqd_map.proofs.RetainLemmas.{Contains-live}

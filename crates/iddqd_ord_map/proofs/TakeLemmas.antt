@@ -12,7 +12,7 @@ use Rattle.std.proofs.lemmas.Map.Keys.{IsDistinct-head, IsDistinct-tail, IsDisti
 use Rattle.iddqd.specs.LiveItems.{item_at, KeepsOtherItems}
 use Rattle.iddqd.specs.Store.{Store}
 use Rattle.iddqd.proofs.StoreLemmas.{contains_head, contains_tail, contains_none}
-use Rattle.iddqd_sides.specs.Ordered.{Holds}
+use Rattle.iddqd_by_order.specs.Ordered.{Holds}
 use Rattle.iddqd_ord_map.specs.Pairs.{items_at, AreThere}
 
 insert_end : (xs : List ℕ) (x : ℕ) → insert xs (length xs) x ≡ xs ++ x ∷ []

@@ -15,10 +15,10 @@ ghost use Rattle.iddqd_order.specs.{indexes_ahead, indexes_left};
 ghost use Rattle.iddqd_order.specs.MapBTreeTable.{order_of};
 ghost use Rattle.iddqd_ord_map.specs.ByOrder.{FindsGreatest, FindsLeast, LooksPlaceUp, waiting};
 ghost use Rattle.iddqd_ord_map.specs.OrderedIndexing.{Sorts};
-ghost use Rattle.iddqd_sides.specs.Ordered.{is_equal, IsSortedScan};
-ghost use Rattle.iddqd_sides.specs.OrderedQuery.{is_between};
-ghost use Rattle.iddqd_sides.specs.OrderedWalk.{SortsWithin};
-ghost use Rattle.iddqd_sides.specs.Scan.{AnswersScan, IsLive, IsKeyAt, passes_by};
+ghost use Rattle.iddqd_by_order.specs.Ordered.{is_equal, IsSortedScan};
+ghost use Rattle.iddqd_by_order.specs.OrderedQuery.{is_between};
+ghost use Rattle.iddqd_by_order.specs.OrderedWalk.{SortsWithin};
+ghost use Rattle.iddqd_by_hash.specs.Scan.{AnswersScan, IsLive, IsKeyAt, passes_by};
 
 use crate::ordered_move::{Move, plan_move, relocate};
 use crate::ordered_query::{find_by, range_by, take_by};
@@ -30,10 +30,10 @@ use iddqd_map::key_index::{
     Checks, Inserts, KeyIndex, Moves, Removes, Sizes, TakesQuery,
 };
 use iddqd_order::btree_table::{Asking, Blocks, Gap, Iter, MapBTreeTable, Range};
-use iddqd_sides::key_of::{ByKey, KeyOf, key_at};
-use iddqd_sides::order_query::OrdQuery;
-use iddqd_sides::ordered;
-use iddqd_sides::ordered::take_index;
+use iddqd_by_hash::key_of::{ByKey, KeyOf, key_at};
+use iddqd_by_order::order_query::OrdQuery;
+use iddqd_by_order::ordered;
+use iddqd_by_order::ordered::take_index;
 use std::alloc::{AllocError, Global};
 use std::cmp::Ordering;
 use std::marker::PhantomData;

@@ -12,7 +12,7 @@ use Rattle.iddqd.specs.ItemSet.{SizedStore, room as set_room}
 use Rattle.iddqd_hash.specs.HashTable.{Table, room, memory, HasNoMemory, KeepsMemory, UsesRoom}
 use Rattle.iddqd_hash.specs.MapHashTable.{filed}
 use Rattle.iddqd_hash.specs.Sizes.{Reserves, Shrinks, most_cells}
-use Rattle.iddqd_sides.proofs.HashedCountLemmas.{len-held}
+use Rattle.iddqd_by_hash.proofs.HashedCountLemmas.{len-held}
 use Rattle.iddqd_tri.specs.TriKeys.{Three}
 use Rattle.iddqd_tri.specs.TriState.{Maps, HoldLive}
 use Rattle.iddqd_tri.specs.TriMemory.{TableMemory, TriMemory, SizedTri, least_capacity, reaching, SomeTableHasMore, TableGrows, SlotsGrow, Grows, TableShrinks, Shrinks as TriShrinks, ReservesItems}

@@ -3,7 +3,7 @@ use Rattle.std.specs.Prelude.{ℕ, Bool, List}
 use Rattle.std.specs.declared.hash.Hasher as hasher
 use Rattle.std.specs.declared.hash.BuildHasher as builder
 use Rattle.iddqd.specs.MapHash.{hash_one}
-use Rattle.iddqd_sides.specs.Hashed.{Hashing}
+use Rattle.iddqd_by_hash.specs.Hashed.{Hashing}
 use Rattle.iddqd_tri.specs.declared.tri_item.TriItem.{Ghosts}
 
 -- one thing for each of the three keys

@@ -12,8 +12,8 @@
 //! equation.
 ghost use Rattle.std.specs.Prelude.{◌≡◌, ◌↔◌, ◌+◌, ◌≤◌, ℕ, min, max, IsTrue, IsOk, IfOk, Err, option_copied};
 ghost use Rattle.iddqd.specs.{get, hash_one, slot_count, live_count};
-ghost use Rattle.iddqd_sides.specs.Scan.{IsLive};
-ghost use Rattle.iddqd_sides.specs.Hashed.{AreLive, LooksUp};
+ghost use Rattle.iddqd_by_hash.specs.Scan.{IsLive};
+ghost use Rattle.iddqd_by_hash.specs.Hashed.{AreLive, LooksUp};
 ghost use Rattle.iddqd_hash.specs.{filed};
 ghost use Rattle.iddqd_tri.specs.Clashes.{AreInOrder, IsOneOf};
 ghost use Rattle.iddqd_tri.specs.TriKeys.{TriKeys, tri_keys_of, hashes_in};
@@ -31,8 +31,8 @@ use iddqd::item_index::ItemIndex;
 use iddqd::item_set::ItemSet;
 use iddqd::map_hash::{Equivalent, MapHash};
 use iddqd_hash::hash_table::MapHashTable;
-use iddqd_sides::hashed;
-use iddqd_sides::key_of::{ByKey, KeyOf};
+use iddqd_by_hash::hashed;
+use iddqd_by_hash::key_of::{ByKey, KeyOf};
 use std::alloc::{AllocError, Global};
 use std::hash::{BuildHasher, Hash};
 use std::marker::Model;

@@ -9,7 +9,7 @@ use crate::tri_item::{First, Second, Third, TriItem};
 use iddqd::item_index::ItemIndex;
 use iddqd::map_hash::MapHash;
 use iddqd_hash::hash_table::MapHashTable;
-use iddqd_sides::hashed;
+use iddqd_by_hash::hashed;
 use std::alloc::{AllocError, Global};
 use std::hash::BuildHasher;
 

@@ -3,7 +3,7 @@
 //! A query stands for a key: a `&str` for a `String`, say, so that none is copied for a look-up. In every state it is
 //! answered as each key is for which it stands, so its clauses speak of that key's side alone.
 ghost use Rattle.std.specs.Prelude.{◌≡◌, option_copied};
-ghost use Rattle.iddqd_sides.specs.Ordered.{is_equal};
+ghost use Rattle.iddqd_by_order.specs.Ordered.{is_equal};
 ghost use Rattle.iddqd_driver.specs.Sides.{first_side, second_side, Keeps, LooksUp};
 ghost use Rattle.iddqd_driver.specs.Machine.{RemovesFound};
 ghost use Rattle.iddqd_driver.specs.Queries.{GivesFound, LooksUpBy};
@@ -11,10 +11,11 @@ ghost use Rattle.iddqd_driver.specs.Queries.{GivesFound, LooksUpBy};
 use super::{Keyed, KeyedItems, remove_item, take_item};
 use crate::keyed_item::{First, KeyedItem, Second};
 use iddqd::item_index::ItemIndex;
-use iddqd_sides::hashed::query_hash;
-use iddqd_sides::order_query::{OrdQuery, Ranked};
-use iddqd_sides::query::{Asked, HashQuery};
-use iddqd_sides::{hashed, ordered};
+use iddqd_by_hash::hashed::query_hash;
+use iddqd_by_order::order_query::{OrdQuery, Ranked};
+use iddqd_by_hash::query::{Asked, HashQuery};
+use iddqd_by_hash::hashed;
+use iddqd_by_order::ordered;
 use std::hash::BuildHasher;
 
 impl<T: KeyedItem, S: BuildHasher> KeyedItems<T, S> {

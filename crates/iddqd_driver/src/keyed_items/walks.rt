@@ -6,7 +6,7 @@ ghost use Rattle.std.specs.Range.Bound.{bound_map};
 ghost use Rattle.iddqd.specs.{live_count, live_pairs};
 ghost use Rattle.iddqd.specs.LiveItems.{IsWalkOf};
 ghost use Rattle.iddqd_order.specs.{indexes_left};
-ghost use Rattle.iddqd_sides.specs.OrderedQuery.{is_between};
+ghost use Rattle.iddqd_by_order.specs.OrderedQuery.{is_between};
 ghost use Rattle.iddqd_driver.specs.State.{IsPaired};
 ghost use Rattle.iddqd_driver.specs.Sides.{second_side, IsExact};
 ghost use Rattle.iddqd_driver.specs.Walks.{items_at, RangesWithin};
@@ -16,8 +16,8 @@ use crate::keyed_item::{KeyedItem, Second};
 use iddqd::item_index::ItemIndex;
 use iddqd::item_set::{self, ItemSet};
 use iddqd_order::btree_table;
-use iddqd_sides::order_query::OrdQuery;
-use iddqd_sides::ordered;
+use iddqd_by_order::order_query::OrdQuery;
+use iddqd_by_order::ordered;
 use std::alloc::AllocError;
 use std::fmt;
 use std::hash::BuildHasher;
@@ -109,7 +109,7 @@ pub struct ValuesByKey2<'a, T> {
 impl<'a, T> Model for ValuesByKey2<'a, T> {
     ghost use Rattle.std.specs.Prelude.{List};
     ghost use Rattle.iddqd_order.specs.{indexes_left};
-    ghost use Rattle.iddqd_sides.specs.Ordered.{AreLive};
+    ghost use Rattle.iddqd_by_order.specs.Ordered.{AreLive};
     ghost use Rattle.iddqd_driver.specs.Walks.{items_at};
 
     ghost Value = { List T };

@@ -14,8 +14,8 @@ use iddqd::internal::{ValidateCompact, ValidateRefusal, ValidationError};
 use iddqd::item_index::ItemIndex;
 use iddqd::item_set::ItemSet;
 use iddqd::map_hash::MapHash;
-use iddqd_sides::hashed_move::Move;
-use iddqd_sides::query::HashQuery;
+use iddqd_by_hash::hashed_move::Move;
+use iddqd_by_hash::query::HashQuery;
 use std::alloc::{AllocError, Global};
 use std::hash::BuildHasher;
 
@@ -37,11 +37,11 @@ impl<T: TriHashItem, S: BuildHasher> KeyIndex<T, S> for TriIndex<T> {
     ghost use Rattle.std.specs.Prelude.{◌+◌, false};
     ghost use Rattle.iddqd_hash.specs.MapHashTable.{filed};
     ghost use Rattle.iddqd_hash.specs.Sizes.{most_cells};
-    ghost use Rattle.iddqd_sides.specs.Hashed.{hashing_of};
+    ghost use Rattle.iddqd_by_hash.specs.Hashed.{hashing_of};
     ghost use Rattle.iddqd_map.specs.HashLaws.{shares_laws, Indexes-kept, Indexes-key_kept, Indexes-keys_shared};
     ghost use Rattle.iddqd_map.specs.KeyLaws.{IsOfThree, told_three, some_three, few_three};
     ghost use Rattle.iddqd_map.specs.PairLaws.{AreApart-either, HaveSameKeys-first, HaveSameKeys-second};
-    ghost use Rattle.iddqd_sides.specs.KeyKeeping.{pair_keys};
+    ghost use Rattle.iddqd_by_hash.specs.KeyKeeping.{pair_keys};
     ghost use Rattle.iddqd_map.specs.Map.{shares};
     ghost use Rattle.iddqd_map.specs.Several.{either_key, both_keys};
     ghost use Rattle.iddqd_map.specs.ThreeKeys.{any_key, all_keys, AreTold, AreTaken};

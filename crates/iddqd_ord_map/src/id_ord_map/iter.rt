@@ -5,7 +5,7 @@ ghost use Rattle.std.specs.Prelude.{◌≡◌, ⊤, Some, IfSome, length};
 ghost use Rattle.std.specs.Iterator.{YieldsFirstBy, YieldsLastBy, item_count, at_most, UpTo};
 ghost use Rattle.std.specs.Iterator.SizeHint.{IsWithinCount};
 ghost use Rattle.iddqd.specs.{get};
-ghost use Rattle.iddqd_sides.specs.Scan.{IsLive};
+ghost use Rattle.iddqd_by_hash.specs.Scan.{IsLive};
 
 use iddqd::item_index::ItemIndex;
 use iddqd::item_set::ItemSet;
@@ -28,7 +28,7 @@ pub struct Iter<'a, T> {
 impl<'a, T> Model for Iter<'a, T> {
     ghost use Rattle.std.specs.Prelude.{ℕ, List};
     ghost use Rattle.iddqd_order.specs.Iter.{indexes_left};
-    ghost use Rattle.iddqd_sides.specs.Ordered.{AreLive};
+    ghost use Rattle.iddqd_by_order.specs.Ordered.{AreLive};
     ghost use Rattle.iddqd_ord_map.specs.Pairs.{pairs_at};
 
     ghost Value = { List (ℕ × T) };

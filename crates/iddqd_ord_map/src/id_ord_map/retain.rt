@@ -10,7 +10,7 @@ ghost use Rattle.iddqd.specs.LiveItems.{live_items};
 ghost use Rattle.iddqd_hash.specs.Asks.{CanAsk};
 ghost use Rattle.iddqd_map.specs.Retain.{MayAsk};
 ghost use Rattle.iddqd_order.specs.MapBTreeTable.{order_of, capacity};
-ghost use Rattle.iddqd_sides.specs.Ordered.{Holds};
+ghost use Rattle.iddqd_by_order.specs.Ordered.{Holds};
 ghost use Rattle.iddqd_ord_map.specs.OrderedIndexing.{Sorts};
 ghost use Rattle.iddqd_ord_map.specs.KeyOrder.{IsKeyWalk};
 ghost use Rattle.iddqd_ord_map.specs.Pairs.{pairs_at};

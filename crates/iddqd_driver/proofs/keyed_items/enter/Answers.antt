@@ -4,8 +4,8 @@ use Rattle.std.proofs.lemmas.Bool.{false≢true}
 use Rattle.iddqd.specs.GrowHandle.{handle_set}
 use Rattle.iddqd.specs.Store.{next_index}
 use Rattle.iddqd_order.specs.MapBTreeTable.{order_of}
-use Rattle.iddqd_sides.proofs.OrderedHoldsLemmas.{next_absent}
-use Rattle.iddqd_sides.proofs.OrderedPlaceLemmas.{AddsInPlace-prepared}
+use Rattle.iddqd_by_order.proofs.OrderedHoldsLemmas.{next_absent}
+use Rattle.iddqd_by_order.proofs.OrderedPlaceLemmas.{AddsInPlace-prepared}
 use Rattle.iddqd_driver.proofs.MemoryLemmas.{few_slots}
 use Rattle.iddqd_driver.proofs.keyed_items.enter.Goals as goal
 

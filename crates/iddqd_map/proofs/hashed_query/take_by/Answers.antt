@@ -1,4 +1,4 @@
-use Rattle.iddqd_sides.specs.Hashed.{Hashing, hashing_of}
+use Rattle.iddqd_by_hash.specs.Hashed.{Hashing, hashing_of}
 use Rattle.iddqd_map.proofs.IndexingLemmas.{StandsForOne-query}
 use Rattle.iddqd_map.proofs.hashed_query.take_by.Goals as goal
 

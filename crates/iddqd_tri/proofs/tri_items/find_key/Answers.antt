@@ -1,6 +1,6 @@
 use Rattle.std.proofs.Common.{subst}
 use Rattle.iddqd_hash.specs.MapHashTable.{filed}
-use Rattle.iddqd_sides.specs.Hashed.{LooksUp}
+use Rattle.iddqd_by_hash.specs.Hashed.{LooksUp}
 use Rattle.iddqd_tri.proofs.tri_items.find_key.Goals as goal
 
 pub returns : goal.returns

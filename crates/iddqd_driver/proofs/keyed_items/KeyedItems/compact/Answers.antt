@@ -3,8 +3,8 @@ use Rattle.std.proofs.lemmas.Grind.{common_steps}
 use Rattle.iddqd.specs.Compaction.{rank}
 use Rattle.iddqd_hash.specs.MapHashTable.{filed, Renames}
 use Rattle.iddqd_order.specs.MapBTreeTable.{order_of}
-use Rattle.iddqd_sides.proofs.HoldsLemmas.{CanRemap-held, one_name-held, Renames-by_rank}
-use Rattle.iddqd_sides.proofs.OrderedHoldsLemmas as order_holds
+use Rattle.iddqd_by_hash.proofs.HoldsLemmas.{CanRemap-held, one_name-held, Renames-by_rank}
+use Rattle.iddqd_by_order.proofs.OrderedHoldsLemmas as order_holds
 use Rattle.iddqd_driver.proofs.KeyLemmas.{AreLawful-from_bounds}
 use Rattle.iddqd_driver.proofs.KeepsLemmas.{Holds-order, IsPaired-compacted, Keeps-compacted}
 use Rattle.iddqd_driver.proofs.keyed_items.KeyedItems.compact.Goals.{After-remap_indexes-2}

@@ -11,7 +11,7 @@ use Rattle.iddqd_hash.specs.Sizes.{most_cells}
 use Rattle.iddqd_driver.specs.Memory.{sized_of}
 use Rattle.iddqd_driver.proofs.MemoryLemmas.{InsertsInMemory-where, HasRoomInParts-from_room, room-inserted, length-filed}
 use Rattle.iddqd_driver.proofs.InsertLemmas.{StoresAt-from_parts, same-from_parts, Keeps-from_stored}
-use Rattle.iddqd_sides.proofs.HoldsLemmas.{next_unfiled}
+use Rattle.iddqd_by_hash.proofs.HoldsLemmas.{next_unfiled}
 use Rattle.iddqd_driver.proofs.keyed_items.KeyedItems.insert.Goals.{After-enter}
 use Rattle.iddqd_driver.proofs.keyed_items.KeyedItems.insert.Goals as goal
 

@@ -1,5 +1,5 @@
 use Rattle.std.proofs.Common.{◌∙◌}
-use Rattle.iddqd_sides.proofs.OrderedCountLemmas.{length-held}
+use Rattle.iddqd_by_order.proofs.OrderedCountLemmas.{length-held}
 use Rattle.iddqd_driver.proofs.KeepsLemmas.{Holds-order}
 use Rattle.iddqd_driver.proofs.WalkLemmas.{length-items_at}
 use Rattle.iddqd_driver.proofs.keyed_items.KeyedItems.values_by_key2.Goals as goal

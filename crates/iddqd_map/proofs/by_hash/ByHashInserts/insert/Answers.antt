@@ -1,5 +1,5 @@
 use Rattle.iddqd_hash.specs.MapHashTable.{filed}
-use Rattle.iddqd_sides.proofs.FindLemmas.{IsLawful-from_bounds}
+use Rattle.iddqd_by_hash.proofs.FindLemmas.{IsLawful-from_bounds}
 use Rattle.iddqd_map.proofs.IndexingLemmas.{Indexes-inserted}
 use Rattle.iddqd_map.proofs.by_hash.ByHashInserts.insert.Goals as goal
 

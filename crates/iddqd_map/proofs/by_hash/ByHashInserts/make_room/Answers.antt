@@ -2,7 +2,7 @@ use Rattle.std.proofs.Common.{◌≤◌, ◌+◌, arith, subst, max, refl}
 use Rattle.iddqd_hash.specs.HashTable.{memory, room}
 use Rattle.iddqd_hash.specs.MapHashTable.{filed}
 use Rattle.iddqd_hash.specs.Sizes.{most_cells}
-use Rattle.iddqd_sides.proofs.HashedCountLemmas.{len-held}
+use Rattle.iddqd_by_hash.proofs.HashedCountLemmas.{len-held}
 use Rattle.iddqd_map.proofs.by_hash.ByHashInserts.make_room.Goals as goal
 
 pub returns-clause-had_room : goal.returns-clause-had_room

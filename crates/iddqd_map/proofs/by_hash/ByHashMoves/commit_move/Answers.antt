@@ -1,6 +1,6 @@
 use Rattle.iddqd.proofs.LiveLemmas.{item_at}
 use Rattle.iddqd_hash.specs.MapHashTable.{filed}
-use Rattle.iddqd_sides.proofs.FindLemmas.{IsLawful-from_bounds}
+use Rattle.iddqd_by_hash.proofs.FindLemmas.{IsLawful-from_bounds}
 use Rattle.iddqd_map.proofs.IndexingLemmas.{Indexes-rebound}
 use Rattle.iddqd_map.proofs.by_hash.ByHashMoves.commit_move.Goals as goal
 

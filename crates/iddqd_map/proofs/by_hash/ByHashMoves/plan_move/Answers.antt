@@ -1,6 +1,6 @@
 use Rattle.iddqd_hash.specs.MapHashTable.{filed}
-use Rattle.iddqd_sides.specs.Hashed.{Hashing, hashing_of}
-use Rattle.iddqd_sides.proofs.FindLemmas.{IsLawful-from_bounds}
+use Rattle.iddqd_by_hash.specs.Hashed.{Hashing, hashing_of}
+use Rattle.iddqd_by_hash.proofs.FindLemmas.{IsLawful-from_bounds}
 use Rattle.iddqd_map.proofs.HashLemmas.{PlansMove-planned}
 use Rattle.iddqd_map.proofs.by_hash.ByHashMoves.plan_move.Goals as goal
 

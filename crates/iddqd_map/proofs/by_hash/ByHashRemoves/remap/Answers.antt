@@ -1,5 +1,5 @@
 use Rattle.iddqd_hash.specs.MapHashTable.{filed}
-use Rattle.iddqd_sides.proofs.HoldsLemmas.{Renames-by_rank, CanRemap-held, one_name-held}
+use Rattle.iddqd_by_hash.proofs.HoldsLemmas.{Renames-by_rank, CanRemap-held, one_name-held}
 use Rattle.iddqd_map.proofs.IndexingLemmas.{Indexes-compacted}
 use Rattle.iddqd_map.proofs.by_hash.ByHashRemoves.remap.Goals as goal
 

@@ -3,7 +3,7 @@ use Rattle.iddqd.specs.Store.{live_count}
 use Rattle.iddqd_hash.specs.HashTable.{memory, room}
 use Rattle.iddqd_hash.specs.MapHashTable.{filed}
 use Rattle.iddqd_hash.specs.Sizes.{most_cells}
-use Rattle.iddqd_sides.proofs.HashedCountLemmas.{len-held}
+use Rattle.iddqd_by_hash.proofs.HashedCountLemmas.{len-held}
 use Rattle.iddqd_map.proofs.HashLemmas.{reserved_beside}
 use Rattle.iddqd_map.proofs.by_hash.ByHashSizes.reserve.Goals as goal
 

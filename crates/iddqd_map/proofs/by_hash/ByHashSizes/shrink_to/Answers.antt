@@ -3,7 +3,7 @@ use Rattle.std.specs.FinMap as finite
 use Rattle.iddqd_hash.specs.HashTable.{capacity, memory}
 use Rattle.iddqd_hash.specs.MapHashTable.{filed}
 use Rattle.iddqd_hash.specs.Sizes.{most_cells}
-use Rattle.iddqd_sides.proofs.HashedCountLemmas.{len-held}
+use Rattle.iddqd_by_hash.proofs.HashedCountLemmas.{len-held}
 use Rattle.iddqd_map.proofs.by_hash.ByHashSizes.shrink_to.Goals as goal
 
 pub returns-clause-capacity_stays : goal.returns-clause-capacity_stays

@@ -1,5 +1,5 @@
 use Rattle.iddqd_order.specs.MapBTreeTable.{order_of}
-use Rattle.iddqd_sides.proofs.OrderedCountLemmas.{AreAsExpected-listed}
+use Rattle.iddqd_by_order.proofs.OrderedCountLemmas.{AreAsExpected-listed}
 use Rattle.iddqd_ord_map.proofs.by_order.ByOrderChecks.validate.Goals as goal
 
 pub returns-in-Err-Invalid : goal.returns-in-Err-Invalid

@@ -2,8 +2,8 @@ use Rattle.std.proofs.Common.{◌≤◌, ◌∙◌, refl, ap, subst, insert, sym
 use Rattle.std.specs.List.{Contains}
 use Rattle.iddqd_order.specs.Gap.{gap_place, gap_blocks}
 use Rattle.iddqd_order.specs.MapBTreeTable.{order_of}
-use Rattle.iddqd_sides.proofs.OrderedHoldsLemmas.{next_absent}
-use Rattle.iddqd_sides.proofs.OrderedPlaceLemmas.{AddsInPlace-placed}
+use Rattle.iddqd_by_order.proofs.OrderedHoldsLemmas.{next_absent}
+use Rattle.iddqd_by_order.proofs.OrderedPlaceLemmas.{AddsInPlace-placed}
 use Rattle.iddqd_ord_map.proofs.OrderedIndexingLemmas.{Sorts-inserted}
 use Rattle.iddqd_ord_map.proofs.by_order.ByOrderInserts.insert.Goals as goal
 

@@ -2,7 +2,7 @@ use Rattle.std.proofs.Common.{◌<◌, inl, inr, length, arith}
 use Rattle.std.proofs.lemmas.Bool.{cases_lt}
 use Rattle.iddqd.specs.Store.{live_count}
 use Rattle.iddqd_order.specs.MapBTreeTable.{order_of, capacity}
-use Rattle.iddqd_sides.proofs.OrderedCountLemmas.{length-held}
+use Rattle.iddqd_by_order.proofs.OrderedCountLemmas.{length-held}
 use Rattle.iddqd_ord_map.specs.ByOrder.{reserved_for}
 use Rattle.iddqd_ord_map.proofs.SizeLemmas.{on_err}
 use Rattle.iddqd_ord_map.proofs.by_order.ByOrderMoves.ready_move.Goals as goal

@@ -1,7 +1,7 @@
 use Rattle.std.proofs.Common.{◌≡◌, ◌∙◌, map}
 use Rattle.iddqd.specs.Compaction.{rank}
 use Rattle.iddqd_order.specs.MapBTreeTable.{order_of}
-use Rattle.iddqd_sides.proofs.OrderedHoldsLemmas.{CanRemap-held, one_name-held, map-by_rank}
+use Rattle.iddqd_by_order.proofs.OrderedHoldsLemmas.{CanRemap-held, one_name-held, map-by_rank}
 use Rattle.iddqd_ord_map.proofs.OrderedIndexingLemmas.{Sorts-compacted}
 use Rattle.iddqd_ord_map.proofs.by_order.ByOrderRemoves.remap.Goals as goal
 

@@ -2,7 +2,7 @@ use Rattle.std.proofs.Common.{◌≡◌, ◌+◌, max, arith, subst}
 use Rattle.iddqd.specs.Store.{live_count}
 use Rattle.iddqd_order.specs.MapBTreeTable.{order_of}
 use Rattle.iddqd_order.specs.Sizes.{Shrinks}
-use Rattle.iddqd_sides.proofs.OrderedCountLemmas.{length-held}
+use Rattle.iddqd_by_order.proofs.OrderedCountLemmas.{length-held}
 use Rattle.iddqd_ord_map.proofs.SizeLemmas.{enough, shrunk-enough, shrunk-few}
 use Rattle.iddqd_ord_map.proofs.by_order.ByOrderSizes.shrink_to.Goals as goal
 

@@ -2,7 +2,7 @@ use Rattle.std.proofs.Common.{◌∙◌, true, length, sym, ap}
 use Rattle.iddqd.specs.Store.{live_count}
 use Rattle.iddqd_order.specs.IntoIter.{indexes_to_come}
 use Rattle.iddqd_order.specs.MapBTreeTable.{order_of}
-use Rattle.iddqd_sides.proofs.OrderedCountLemmas.{length-held}
+use Rattle.iddqd_by_order.proofs.OrderedCountLemmas.{length-held}
 use Rattle.iddqd_map.specs.Map.{MapState}
 use Rattle.iddqd_ord_map.specs.Pairs.{pairs_at, AreThere}
 use Rattle.iddqd_ord_map.proofs.WalkLemmas.{SortsWithin-all, IsWalkWithin-sorted, items_of_pairs}

@@ -2,8 +2,8 @@ use Rattle.std.proofs.Common.{◌∙◌, true, length, sym, ap, subst}
 use Rattle.iddqd.specs.Store.{live_count}
 use Rattle.iddqd_order.specs.Iter.{indexes_left}
 use Rattle.iddqd_order.specs.MapBTreeTable.{order_of}
-use Rattle.iddqd_sides.specs.OrderedWalk.{SortsWithin}
-use Rattle.iddqd_sides.proofs.OrderedCountLemmas.{length-held}
+use Rattle.iddqd_by_order.specs.OrderedWalk.{SortsWithin}
+use Rattle.iddqd_by_order.proofs.OrderedCountLemmas.{length-held}
 use Rattle.iddqd_ord_map.specs.KeyOrder.{IsWalkWithin}
 use Rattle.iddqd_ord_map.specs.Pairs.{pairs_at}
 use Rattle.iddqd_ord_map.proofs.WalkLemmas.{SortsWithin-all, AreLive-within, IsWalkWithin-sorted, length-pairs_at}

@@ -1,7 +1,7 @@
 use Rattle.std.proofs.Common.{true, refl}
 use Rattle.std.specs.Ordering.{eq_by_cmp}
-use Rattle.iddqd_sides.specs.Scan.{passes_by}
-use Rattle.iddqd_sides.specs.Ordered.{is_equal}
+use Rattle.iddqd_by_hash.specs.Scan.{passes_by}
+use Rattle.iddqd_by_order.specs.Ordered.{is_equal}
 use Rattle.iddqd_map.specs.Map.{shares}
 use Rattle.iddqd_ord_map.proofs.CallLemmas.{Replaces-at}
 use Rattle.iddqd_ord_map.proofs.id_ord_map.IdOrdMap.replace.Goals as goal

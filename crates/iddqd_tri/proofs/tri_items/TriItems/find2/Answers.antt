@@ -1,5 +1,5 @@
 use Rattle.std.proofs.Common.{refl}
-use Rattle.iddqd_sides.proofs.FindLemmas.{IsLawful-from_bounds, StandsForOne-key}
+use Rattle.iddqd_by_hash.proofs.FindLemmas.{IsLawful-from_bounds, StandsForOne-key}
 use Rattle.iddqd_tri.specs.TriKeys.{ItemKey, item_key, hashing_in}
 use Rattle.iddqd_tri.proofs.tri_items.TriItems.find2.Goals as goal
 

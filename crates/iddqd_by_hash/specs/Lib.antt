@@ -1,0 +1,5 @@
+pub mod Scan
+pub mod Side
+pub mod Hashed
+pub mod HashedMove
+pub mod KeyKeeping

@@ -1,0 +1,109 @@
+//! A side that goes by the hash and the equality of a key: a table of indexes under hashes.
+//!
+//! The hasher's state belongs to the collection, since several sides may share one; so each call is
+//! handed the hash, and a key is hashed once. An insert takes the table's own `try_reserve` and
+//! `insert_prehashed_unchecked`.
+ghost use Rattle.std.specs.Prelude.{◌≡◌, ◌+◌, IsSome};
+ghost use Rattle.std.specs.FinMap as finite;
+ghost use Rattle.iddqd.specs.MapHash.{hash_one};
+ghost use Rattle.iddqd_hash.specs.HashTable.{room, KeepsMemory};
+ghost use Rattle.iddqd_hash.specs.{filed};
+ghost use Rattle.iddqd_by_hash.specs.Scan.{IsLive, IsKeyAt};
+ghost use Rattle.iddqd_by_hash.specs.Hashed.{AreLive, AsksAt, LooksUp, Takes};
+
+use crate::key_of::{KeyOf, Lent, key_at};
+use iddqd::item_index::ItemIndex;
+use iddqd::item_set::ItemSet;
+use iddqd::map_hash::{Equivalent, MapHash};
+use iddqd_hash::hash_table::MapHashTable;
+use std::hash::{BuildHasher, Hash};
+
+/// The hash of the key of an item under a hasher's state.
+pub fn hash_of<T, E, S>(state: &S, item: &T) -> MapHash
+where
+    E: KeyOf<T>,
+    E::Key: Hash,
+    S: BuildHasher,
+    ensures { result ≡ hash_one S.BuildHasher S.Hasher.Hasher state.now (E.Key.hash_input (E.key_of item.now)) }
+{
+    MapHash::new(state.hash_one(E::key(item)))
+}
+
+/// The hash of a query, and so of each key for which it stands.
+pub fn query_hash<Q: Hash + Copy, S: BuildHasher>(state: &S, query: Q) -> MapHash
+    ensures { result ≡ hash_one S.BuildHasher S.Hasher.Hasher state.now (Q.hash_input query) }
+{
+    MapHash::new(state.hash_one(query))
+}
+
+/// The index under a hash whose item has a key that the query is equivalent to.
+///
+/// It reads the keys of indexes under that hash alone, of none twice.
+pub fn find<T, E, Q>(
+    table: &MapHashTable,
+    items: &ItemSet<T>,
+    hash: MapHash,
+    query: &Q,
+) -> Option<ItemIndex>
+where
+    E: KeyOf<T>,
+    Q: Equivalent<E::Key>,
+    requires { AreLive items.now.store (filed table.now) }
+    ensures { LooksUp E.key_of items.now.store (filed table.now) hash (Q.equivalent query.now) result }
+{
+    table.find_index_prehashed(
+        hash,
+        &Lent(query),
+        |at: ItemIndex|
+            requires { IsLive items.now.store at }
+            ensures { IsKeyAt E.key_of items.entry.now.store at result.now }
+        { key_at::<T, E>(items, at) },
+    )
+}
+
+/// Finds as `find` does, and takes the index out of the table, by one search. It takes no memory.
+pub fn take<T, E, Q>(
+    table: &mut MapHashTable,
+    items: &ItemSet<T>,
+    hash: MapHash,
+    query: &Q,
+) -> Option<ItemIndex>
+where
+    E: KeyOf<T>,
+    Q: Equivalent<E::Key>,
+    requires { AreLive items.now.store (filed table.old) }
+    ensures found { LooksUp E.key_of items.now.store (filed table.old) hash (Q.equivalent query.now) result }
+    ensures taken { Takes (filed table.old) result (filed table.new) }
+    ensures memory { KeepsMemory table.old table.new }
+{
+    let found = table.find_entry_by_hash(
+        hash.hash(),
+        |at: ItemIndex| -> bool
+            requires { IsLive items.now.store at }
+            ensures { AsksAt E.key_of items.entry.now.store (Q.equivalent query.entry.now) at result }
+        { query.equivalent(key_at::<T, E>(items, at)) },
+    );
+    match found {
+        Ok(entry) => {
+            let ix = entry.get();
+            entry.remove();
+            Some(ix)
+        }
+        Err(()) => None,
+    }
+}
+
+/// Takes an index out of the table, whatever its key is now: by a look-up under the hash, or else by a
+/// walk. It takes no memory.
+pub fn take_index(table: &mut MapHashTable, hash: MapHash, ix: ItemIndex)
+    requires { IsSome (finite.get (filed table.old) ix) }
+    ensures taken { filed table.new ≡ finite.remove (filed table.old) ix }
+    ensures memory { KeepsMemory table.old table.new }
+    ensures room { room table.new ≡ room table.old + 1 }
+{
+    let found = table.find_entry_by_hash(hash.hash(), |at| at == ix);
+    match found {
+        Ok(entry) => entry.remove(),
+        Err(()) => table.remove_by_index(ix),
+    }
+}

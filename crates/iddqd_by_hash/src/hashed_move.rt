@@ -1,0 +1,38 @@
+//! What a table does where a live index is given an item that may have another key.
+//!
+//! The removal of the old entry leaves the room that the insert of the new one takes, so a move takes no memory
+//! and can't fail. A collection plans on each of its sides before it moves on any.
+ghost use Rattle.std.specs.Prelude.{◌≡◌, IsSome};
+ghost use Rattle.std.specs.FinMap as finite;
+ghost use Rattle.iddqd_hash.specs.{filed};
+ghost use Rattle.iddqd_hash.specs.HashTable.{KeepsMemory};
+ghost use Rattle.iddqd_by_hash.specs.HashedMove.{IfStays, moved};
+
+use crate::hashed;
+use iddqd::item_index::ItemIndex;
+use iddqd::map_hash::MapHash;
+use iddqd_hash::hash_table::MapHashTable;
+
+/// What has to become of a live index that is given another item.
+#[derive(Clone, Copy)]
+pub enum Move {
+    /// The key stays, and so does the index.
+    Stays,
+    /// It is filed under this hash, that of the new key.
+    To(MapHash),
+}
+
+/// Files a live index as it was planned. It takes no memory.
+///
+/// `from` is the hash that it is filed under; under another one the table is walked.
+pub fn commit_move(table: &mut MapHashTable, from: MapHash, plan: &Move, ix: ItemIndex)
+    requires filed { IsSome (finite.get (filed table.old) ix) }
+    ensures moved { filed table.new ≡ moved (filed table.old) ix plan.now }
+    ensures memory { KeepsMemory table.old table.new }
+    ensures untouched { IfStays plan.now (table.new ≡ table.old) }
+{
+    if let Move::To(to) = plan {
+        hashed::take_index(table, from, ix);
+        table.insert_prehashed_unchecked(*to, ix);
+    }
+}

@@ -1,0 +1,91 @@
+//! The key of an item that a side goes by.
+ghost use Rattle.std.specs.Prelude.{◌≡◌};
+ghost use Rattle.iddqd_by_hash.specs.Scan.{IsLive, IsKeyAt};
+
+use iddqd::item_index::ItemIndex;
+use iddqd::item_set::ItemSet;
+use iddqd::map_hash::{Comparable, Equivalent};
+use std::cmp::Ordering;
+use std::hash::{Hash, Hasher};
+
+/// A key of an item, named by a type that has no values.
+pub trait KeyOf<T> {
+    /// The key.
+    type Key: Drop;
+
+    ghost key_of: { T → Self.Key };
+
+    /// The key of the item.
+    fn key(item: &T) -> &Self::Key
+        ensures { result.now ≡ key_of item.now };
+}
+
+/// The query that is a key itself.
+///
+/// Queries of sides are [`Equivalent`] to keys, not to references to keys, so that no lifetime stands
+/// in a bound on them.
+#[derive(Clone, Copy, Debug, PartialEq, Eq)]
+pub struct ByKey<'a, K>(pub &'a K);
+
+impl<'a, K: Hash> Hash for ByKey<'a, K> {
+    ghost hash_input = { λ q. K.hash_input q.0.now };
+
+    ghost respects_eq = { λ x y equal. K.respects_eq x.0.now y.0.now equal };
+
+    fn hash<H: Hasher>(&self, state: &mut H) {
+        self.0.hash(state);
+    }
+}
+
+impl<'a, K: Eq> Equivalent<K> for ByKey<'a, K> {
+    ghost equivalent = { λ q k. K.eq q.0.now k };
+
+    fn equivalent(&self, key: &K) -> bool {
+        *self.0 == *key
+    }
+}
+
+impl<'a, K: Ord> Comparable<K> for ByKey<'a, K> {
+    ghost use Rattle.iddqd.specs.MapHashLaws.{equal_in, greater_before_in};
+    ghost use Rattle.std.proofs.lemmas.Cmp.{alike_right};
+
+    ghost compare = { λ q k. K.cmp q.0.now k };
+
+    ghost equal_where_equivalent = { λ q k. equal_in _ _ (K.matches_eq q.0.now k) };
+
+    ghost less_after = { λ q a b before less. K.total.trans q.0.now a b less before };
+
+    ghost greater_before = { λ q a b. greater_before_in K.total q.0.now a b };
+
+    ghost equal_keys = { λ q a b. alike_right K.total a b q.0.now };
+
+    ghost as_equivalent = { λ q k a same.
+        K.total.congr q.0.now k a ((equal_in _ _ (K.matches_eq q.0.now k)).0 same) };
+
+    fn compare(&self, key: &K) -> Ordering {
+        self.0.cmp(key)
+    }
+}
+
+// A query, for keys that are lent.
+#[derive(Clone, Copy)]
+pub(crate) struct Lent<'a, Q>(pub(crate) &'a Q);
+
+impl<'a, 'b, K, Q: Equivalent<K>> Equivalent<&'b K> for Lent<'a, Q> {
+    ghost equivalent = { λ q k. Q.equivalent q.0.now k.now };
+
+    fn equivalent(&self, key: &&'b K) -> bool {
+        self.0.equivalent(*key)
+    }
+}
+
+/// The key of the item at a live index.
+pub fn key_at<T, E: KeyOf<T>>(items: &ItemSet<T>, ix: ItemIndex) -> &E::Key
+    requires { IsLive items.now.store ix }
+    ensures { IsKeyAt E.key_of items.now.store ix result.now }
+{
+    match items.get(ix) {
+        Some(item) => E::key(item),
+        None => unreachable!(),
+    }
+}

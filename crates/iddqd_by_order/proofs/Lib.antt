@@ -1,0 +1,6 @@
+pub mod OrderedFindLemmas
+pub mod OrderedHoldsLemmas
+pub mod OrderedPlaceLemmas
+pub mod OrderedCountLemmas
+pub mod OrderedWalkLemmas
+pub mod OrderedRangeLemmas

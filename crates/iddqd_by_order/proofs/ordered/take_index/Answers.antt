@@ -1,0 +1,13 @@
+use Rattle.std.proofs.Common.{◌≡◌, rules, refl}
+use Rattle.iddqd_order.specs.Asking.{closure_of}
+use Rattle.iddqd_order.proofs.AskLemmas.{CanAsk-by}
+use Rattle.iddqd_by_hash.specs.Scan.{IsLive}
+use Rattle.iddqd_by_order.proofs.ordered.take_index.Goals as goal
+
+pub prepare_remove-requires : goal.prepare_remove-requires
+prepare_remove-requires g c =
+    CanAsk-by _ _ (λ f. f ≡ closure_of c.new-asking.result) (λ f f' ix r i h e. search rules)
+    (λ f ix i h.
+    let live : IsLive c.args.items.now.store ix = c.requires.stored ix h.0 in
+    search rules)
+    _ refl

@@ -1,0 +1,3 @@
+pub mod Ordered
+pub mod OrderedQuery
+pub mod OrderedWalk

@@ -1,0 +1,111 @@
+-- What a table of indexes in an order means for one key of a store's items. Its list has the indexes in their order.
+use Rattle.std.specs.Prelude.{◌≡◌, ◌≢◌, ◌≤◌, ℕ, Bool, List, length, insert, nat_eq, Option, Some, None}
+use Rattle.std.specs.List.{Contains, IsDistinct}
+use Rattle.std.specs.Option.{option_map, option_cmp}
+use Rattle.std.specs.Ordering.{is_eq, eq_by_cmp}
+use Rattle.std.specs.declared.cmp.Ordering.{Ordering}
+use Rattle.std.specs.declared.cmp.Ordering.TheVariants.{Less, Greater}
+use Rattle.iddqd.specs.Store.{Store, get, next_index, inserted}
+use Rattle.iddqd_order.specs.Entry.{entry_index, vacant_place}
+use Rattle.iddqd_order.specs.KeyOrder.{IsInKeyOrder}
+use Rattle.iddqd_order.specs.MapBTreeTable.{without}
+use Rattle.iddqd_order.specs.Search.{IsPlace}
+use Rattle.iddqd_order.specs.declared.btree_table.entry.Entry.{Entry}
+use Rattle.iddqd_order.specs.declared.btree_table.entry.Entry.TheVariants.{Occupied, Vacant}
+use Rattle.iddqd_by_hash.specs.Scan.{IsLive, IsHit, HasNoHit, passes_by}
+use Rattle.iddqd_by_hash.specs.Side.{HasExactly, IsExactOver, KeepsOver, LooksUpOver}
+
+-- what taking the index that a look-up found leaves of the list
+abbrev pub Takes : List ℕ → Option ℕ → List ℕ → Type 0
+Takes old (Some ix) new = new ≡ without old ix
+Takes old None new = new ≡ old
+
+-- the index was put among the others, at some place
+pub record Adds (old : List ℕ) (ix : ℕ) (new : List ℕ) : Type 0 where
+  pub place : ℕ
+  pub within : place ≤ length old
+  pub added : new ≡ insert old place ix
+
+module _ {K : Type 0} (comparing : K → Ordering) where
+  -- a query that compares so with keys compares Equal with this one
+  abbrev pub is_equal : K → Bool
+  is_equal key = is_eq (comparing key)
+
+  -- how it compares with the key of a live index; behind an index that isn't live it stands
+  abbrev pub compared : Option K → Ordering
+  compared None = Greater
+  compared (Some key) = comparing key
+
+module _ {T : Type 0} where
+  -- each index of the list is live
+  abbrev pub AreLive : Store T → List ℕ → Type 0
+  AreLive s order = (ix : ℕ) → Contains order ix → IsLive s ix
+
+  -- the list has exactly the live indexes, each once
+  pub record Holds (s : Store T) (order : List ℕ) : Type 0 where
+    pub each : HasExactly s (Contains order)
+    pub once : IsDistinct nat_eq order
+
+module _ {T K : Type 0} (key_of : T → K) where
+  -- the key of the item at an index, if it is live
+  abbrev pub key_at : Store T → ℕ → Option K
+  key_at s ix = option_map key_of (get s ix)
+
+  module _ (compare : K → K → Ordering) where
+    -- the list is sorted by the keys as they are now, ties by index
+    abbrev pub IsInPlace : Store T → List ℕ → Type 0
+    IsInPlace s order = IsInKeyOrder (option_cmp compare) (key_at s) order
+
+    -- the list is in place, and no two items share a key
+    abbrev pub IsExact : Store T → List ℕ → Type 0
+    IsExact s order = IsExactOver key_of (eq_by_cmp compare) (IsInPlace s order) s
+
+    -- what a call keeps that changes no key of a live index
+    abbrev pub Keeps : Store T → List ℕ → Store T → List ℕ → Type 0
+    Keeps old old_order new new_order =
+        KeepsOver key_of (eq_by_cmp compare) (IsInPlace old old_order) old (IsInPlace new new_order) new
+
+    -- what a look-up by a query may answer in any state: an index that hits; and, where the list is in place, none
+    -- exactly where there is none
+    abbrev pub Finds : Store T → List ℕ → (K → Ordering) → Option ℕ → Type 0
+    Finds s order comparing None = IsInPlace s order → HasNoHit s (passes_by key_of (is_equal comparing))
+    Finds s order comparing (Some ix) = IsHit s (passes_by key_of (is_equal comparing)) ix
+
+    -- what a look-up by a query answers: what it may in any state; and where the side is exact, what a scan answers
+    abbrev pub LooksUp : Store T → List ℕ → (K → Ordering) → Option ℕ → Type 0
+    LooksUp s order comparing result =
+        LooksUpOver (Finds s order comparing result) (IsExact s order) s (passes_by key_of (is_equal comparing)) result
+
+    -- the index is live, and no live index has an item with a lesser key
+    abbrev pub HasLeastKey : Store T → ℕ → Type 0
+    HasLeastKey s ix =
+        (item : T) × (get s ix ≡ Some item)
+        × ((j : ℕ) (other : T) → get s j ≡ Some other → compare (key_of other) (key_of item) ≢ Less)
+
+    -- the index is live, and no live index has an item with a greater key
+    abbrev pub HasGreatestKey : Store T → ℕ → Type 0
+    HasGreatestKey s ix =
+        (item : T) × (get s ix ≡ Some item)
+        × ((j : ℕ) (other : T) → get s j ≡ Some other → compare (key_of other) (key_of item) ≢ Greater)
+
+    -- A look-up by a query missed, and this is where the list has room for an index whose key the query stands for:
+    -- where the list is in place, behind all that the query is greater than.
+    pub record IsVacantAt (s : Store T) (order : List ℕ) (comparing : K → Ordering) (place : ℕ) : Type 0 where
+      pub missed : LooksUp s order comparing None
+      pub within : place ≤ length order
+      pub is_place : IsInPlace s order → IsPlace (λ ix. compared comparing (key_at s ix)) order place
+
+    -- what an entry by a query is: that of the index which a look-up found, or else of the place for such an index
+    abbrev pub Enters : Store T → List ℕ → (K → Ordering) → Entry → Type 0
+    Enters s order comparing (Occupied entry) = LooksUp s order comparing (Some (entry_index entry))
+    Enters s order comparing (Vacant entry) = IsVacantAt s order comparing (vacant_place entry)
+
+    -- the next index was put into the list for an item: at some place, and in place where the list was in place
+    pub record AddsInPlace (s : Store T) (item : T) (old new : List ℕ) : Type 0 where
+      pub adds : Adds old (next_index s) new
+      pub placed : IsInPlace s old → IsInPlace (inserted s item) new
+
+    -- these are the live indexes, each once, sorted by key, ties by index
+    pub record IsSortedScan (s : Store T) (indexes : List ℕ) : Type 0 where
+      pub holds : Holds s indexes
+      pub placed : IsInPlace s indexes

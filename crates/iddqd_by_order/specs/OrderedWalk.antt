@@ -1,0 +1,40 @@
+-- What a walk between two bounds of a key gives, and the items at its indexes.
+use Rattle.std.specs.Prelude.{◌≡◌, ◌↔◌, ◌++◌, ℕ, Bool, List, Option, filter_map, nat_eq}
+use Rattle.std.specs.List.{Contains, IsDistinct}
+use Rattle.std.specs.Option.{option_map}
+use Rattle.std.specs.declared.cmp.Ordering.{Ordering}
+use Rattle.iddqd.specs.Store.{Store, get}
+use Rattle.iddqd_by_hash.specs.Scan.{IsHit, passes_by}
+use Rattle.iddqd_by_order.specs.Ordered.{AreLive, IsInPlace}
+
+-- the members of a list that stand beside each other in another one
+pub record IsRunOf (whole run : List ℕ) : Type 0 where
+  pub before : List ℕ
+  pub after : List ℕ
+  pub joined : whole ≡ before ++ (run ++ after)
+
+module _ {T : Type 0} where
+  -- an index that has an item, with it
+  abbrev pub pair_at : Store T → ℕ → Option (ℕ × T)
+  pair_at s ix = option_map (λ item. (ix, item)) (get s ix)
+
+  -- those of these indexes that have an item, each with it, in their order
+  abbrev pub pairs_at : Store T → List ℕ → List (ℕ × T)
+  pairs_at s indexes = filter_map (pair_at s) indexes
+
+-- these are exactly the live indexes whose items' keys pass, sorted by key
+pub record SortsWithin
+    {T K : Type 0} (key_of : T → K) (compare : K → K → Ordering) (within : K → Bool) (s : Store T) (indexes : List ℕ)
+    : Type 0 where
+  pub each : (ix : ℕ) → Contains indexes ix ↔ IsHit s (passes_by key_of within) ix
+  pub placed : IsInPlace key_of compare s indexes
+
+-- What a walk between two bounds gives of a table's list: a run of it, of live indexes, each once; and where the list
+-- is in place, exactly the live indexes whose items' keys are within, sorted by key.
+pub record WalksWithin
+    {T K : Type 0} (key_of : T → K) (compare : K → K → Ordering) (within : K → Bool) (s : Store T) (order : List ℕ)
+    (indexes : List ℕ) : Type 0 where
+  pub run : IsRunOf order indexes
+  pub live : AreLive s indexes
+  pub once : IsDistinct nat_eq indexes
+  pub in_place : IsInPlace key_of compare s order → SortsWithin key_of compare within s indexes

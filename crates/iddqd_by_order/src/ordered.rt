@@ -1,0 +1,152 @@
+//! A side that goes by the order of a key: a table of indexes, sorted by key, ties by index.
+//!
+//! Keys may change behind the table's back. Then it may be in no order: a search may miss, but never
+//! hits an index whose item compares otherwise now, a walk between two bounds gives a run of the list,
+//! and an index is still taken out by `take_index`.
+//! An insert takes `entry`, which finds its place or the index that has the key by one search; the
+//! table is lent alone then, so the store may be changed before the index is put there.
+//!
+//! No query needs a premise: by the laws of `Comparable` it stands for one key.
+ghost use Rattle.std.specs.Prelude.{◌≡◌, ◌≤◌};
+ghost use Rattle.std.specs.Range.Bound.{bound_map};
+ghost use Rattle.iddqd_order.specs.{capacity, entry_table, indexes_ahead, order_of, without};
+ghost use Rattle.iddqd_by_hash.specs.Scan.{IsLive, IsKeyAt};
+ghost use Rattle.iddqd_by_order.specs.Ordered.{AreLive, Enters, Holds, LooksUp, Takes};
+ghost use Rattle.iddqd_by_order.specs.OrderedQuery.{is_between};
+ghost use Rattle.iddqd_by_order.specs.OrderedWalk.{WalksWithin};
+
+use crate::order_query::{OrdQuery, RankedLent};
+use iddqd::item_index::ItemIndex;
+use iddqd::item_set::ItemSet;
+use iddqd::map_hash::Comparable;
+use iddqd_by_hash::key_of::{KeyOf, key_at};
+use iddqd_order::btree_table::{Asking, Entry, MapBTreeTable, Range};
+use std::cmp::Ordering;
+use std::ops::Bound;
+
+/// The index whose item has a key that the query compares Equal with.
+///
+/// It compares the query with at most 4 + 2d keys, where the length has d binary digits.
+pub fn find<T, E, Q>(table: &MapBTreeTable, items: &ItemSet<T>, query: &Q) -> Option<ItemIndex>
+where
+    E: KeyOf<T>,
+    E::Key: Ord,
+    Q: Comparable<E::Key>,
+    requires { Holds items.now.store (order_of table.now) }
+    ensures { LooksUp E.key_of E.Key.cmp items.now.store (order_of table.now) (Q.compare query.now) result }
+{
+    let mut asking = Asking::new(
+        |at: ItemIndex| -> Ordering
+            requires { IsLive items.now.store at }
+            ensures { IsKeyAt (λ item. Q.compare query.entry.now (E.key_of item)) items.entry.now.store at result }
+        { query.compare(key_at::<T, E>(items, at)) },
+    );
+    table.find_by(&mut asking)
+}
+
+/// The entry of the index whose item has a key that the query compares Equal with, or else of the
+/// place for such an index.
+///
+/// It compares the query with as many keys as `find` does, and takes no memory.
+pub fn entry<'t, T, E, Q>(table: &'t mut MapBTreeTable, items: &ItemSet<T>, query: &Q) -> Entry<'t>
+where
+    E: KeyOf<T>,
+    E::Key: Ord,
+    Q: Comparable<E::Key>,
+    requires { Holds items.now.store (order_of table.old) }
+    ensures same_reference { (entry_table result).ghost_name ≡ table.entry.ghost_name }
+    ensures table { (entry_table result).now ≡ table.old }
+    ensures entered { Enters E.key_of E.Key.cmp items.now.store (order_of table.old) (Q.compare query.now) result }
+{
+    let mut asking = Asking::new(
+        |at: ItemIndex| -> Ordering
+            requires { IsLive items.now.store at }
+            ensures { IsKeyAt (λ item. Q.compare query.entry.now (E.key_of item)) items.entry.now.store at result }
+        { query.compare(key_at::<T, E>(items, at)) },
+    );
+    table.entry_by(&mut asking)
+}
+
+/// Finds as `find` does, and takes the index out of the table, by one search. It takes no memory.
+pub fn take<T, E, Q>(table: &mut MapBTreeTable, items: &ItemSet<T>, query: &Q) -> Option<ItemIndex>
+where
+    E: KeyOf<T>,
+    E::Key: Ord,
+    Q: Comparable<E::Key>,
+    requires { Holds items.now.store (order_of table.old) }
+    ensures found { LooksUp E.key_of E.Key.cmp items.now.store (order_of table.old) (Q.compare query.now) result }
+    ensures taken { Takes (order_of table.old) result (order_of table.new) }
+    ensures memory { capacity table.new ≡ capacity table.old }
+{
+    match entry::<T, E, Q>(table, items, query) {
+        Entry::Occupied(entry) => Some(entry.remove()),
+        Entry::Vacant(_) => None,
+    }
+}
+
+/// Takes a live index out of the table, whatever its key is now: by a search for the key, or else by a
+/// walk. It takes no memory.
+pub fn take_index<T, E>(table: &mut MapBTreeTable, items: &ItemSet<T>, ix: ItemIndex)
+where
+    E: KeyOf<T>,
+    E::Key: Ord,
+    requires live { IsLive items.now.store ix }
+    requires stored { AreLive items.now.store (order_of table.old) }
+    ensures taken { order_of table.new ≡ without (order_of table.old) ix }
+    ensures lower { table.new.height ≤ table.old.height }
+    ensures memory { capacity table.new ≡ capacity table.old }
+{
+    let key = key_at::<T, E>(items, ix);
+    let mut asking = Asking::new(
+        |at: ItemIndex|
+            requires { IsLive items.now.store at }
+            ensures { IsKeyAt E.key_of items.entry.now.store at result.now }
+        { key_at::<T, E>(items, at) },
+    );
+    let is_removed = table.prepare_remove(ix, &key, &mut asking).remove();
+    if !is_removed {
+        table.remove_exact(ix);
+    }
+}
+
+/// The indexes whose items have keys between two bounds, in the order of the keys: none where the
+/// lower bound stands above the upper one. Where the list isn't in place they are those between some
+/// two places of it.
+///
+/// It compares each query with at most 4 + 2d keys, where the length has d binary digits, and takes
+/// no memory.
+pub fn range<'t, T, E, Q>(
+    table: &'t MapBTreeTable,
+    items: &ItemSet<T>,
+    lower: Bound<Q>,
+    upper: Bound<Q>,
+) -> Range<'t>
+where
+    E: KeyOf<T>,
+    E::Key: Ord,
+    Q: OrdQuery<E::Key>,
+    requires { Holds items.now.store (order_of table.now) }
+    ensures { let within = is_between (bound_map Q.compare lower) (bound_map Q.compare upper) in
+        WalksWithin E.key_of E.Key.cmp within items.now.store (order_of table.now) (indexes_ahead result) }
+{
+    let mut asking = Asking::new(
+        |at: ItemIndex|
+            requires { IsLive items.now.store at }
+            ensures { IsKeyAt E.key_of items.entry.now.store at result.now }
+        { key_at::<T, E>(items, at) },
+    );
+    let from = ranked(lower);
+    let to = ranked(upper);
+    table.range(from.as_ref(), to.as_ref(), &mut asking)
+}
+
+// A bound by what the table is asked by.
+fn ranked<Q>(bound: Bound<Q>) -> Bound<RankedLent<Q>>
+    ensures { bound_map (λ query. query.0) result ≡ bound }
+{
+    match bound {
+        Bound::Included(query) => Bound::Included(RankedLent(query)),
+        Bound::Excluded(query) => Bound::Excluded(RankedLent(query)),
+        Bound::Unbounded => Bound::Unbounded,
+    }
+}
