@@ -11,14 +11,20 @@ use Rattle.iddqd.specs.Slots.{item_of, store_of, IsChain, IsSoundWithin}
 use Rattle.iddqd.proofs.SlotLemmas.{free_is}
 
 module _ {T : Type 0} (is_clone : T → T → Type 0) where
-  items_are_clones : (slots copies : List (ItemSlot T)) → AllZip (IsSlotClone is_clone) slots copies → AllZip (IsItemClone is_clone) (map item_of slots) (map item_of copies)
+  items_are_clones :
+      (slots copies : List (ItemSlot T))
+      → AllZip (IsSlotClone is_clone) slots copies
+      → AllZip (IsItemClone is_clone) (map item_of slots) (map item_of copies)
   items_are_clones [] [] all = tt
   items_are_clones [] (c ∷ copies) all = absurd all
   items_are_clones (slot ∷ slots) [] all = absurd all
   items_are_clones (Vacant next ∷ slots) (c ∷ copies) all = (ap item_of all.0, items_are_clones slots copies all.1)
   items_are_clones (Occupied item ∷ slots) (c ∷ copies) all = ((all.0.0, ap item_of all.0.1, all.0.2), items_are_clones slots copies all.1)
 
-  count_of_clones : (slots copies : List (ItemSlot T)) → AllZip (IsSlotClone is_clone) slots copies → count_by is_some (map item_of copies) ≡ count_by is_some (map item_of slots)
+  count_of_clones :
+      (slots copies : List (ItemSlot T))
+      → AllZip (IsSlotClone is_clone) slots copies
+      → count_by is_some (map item_of copies) ≡ count_by is_some (map item_of slots)
   count_of_clones [] [] all = refl
   count_of_clones [] (c ∷ copies) all = absurd all
   count_of_clones (slot ∷ slots) [] all = absurd all
@@ -30,14 +36,22 @@ module _ {T : Type 0} (is_clone : T → T → Type 0) where
       rw all.0.1 (omega (arith, count_of_clones slots copies all.1, sum_by-cons one (Some item) (map item_of slots), sum_by-cons one (Some all.0.0) (map item_of copies)))
 
   -- a slot is vacant exactly where its clone is, with the same link
-  vacant_in_clones : (slots copies : List (ItemSlot T)) (ix next : ℕ) → AllZip (IsSlotClone is_clone) slots copies → slice_get slots ix ≡ Some (Vacant next) → slice_get copies ix ≡ Some (Vacant next)
+  vacant_in_clones :
+      (slots copies : List (ItemSlot T)) (ix next : ℕ)
+      → AllZip (IsSlotClone is_clone) slots copies
+      → slice_get slots ix ≡ Some (Vacant next)
+      → slice_get copies ix ≡ Some (Vacant next)
   vacant_in_clones [] copies ix next all found = absurd (cc)
   vacant_in_clones (slot ∷ slots) [] ix next all found = absurd all
   vacant_in_clones (Vacant link ∷ slots) (c ∷ copies) zero next all found = rw all.0 found
   vacant_in_clones (Occupied item ∷ slots) (c ∷ copies) zero next all found = absurd (cc)
   vacant_in_clones (slot ∷ slots) (c ∷ copies) (suc ix) next all found = vacant_in_clones slots copies ix next all.1 found
 
-  vacant_before : (slots copies : List (ItemSlot T)) (ix next : ℕ) → AllZip (IsSlotClone is_clone) slots copies → slice_get copies ix ≡ Some (Vacant next) → slice_get slots ix ≡ Some (Vacant next)
+  vacant_before :
+      (slots copies : List (ItemSlot T)) (ix next : ℕ)
+      → AllZip (IsSlotClone is_clone) slots copies
+      → slice_get copies ix ≡ Some (Vacant next)
+      → slice_get slots ix ≡ Some (Vacant next)
   vacant_before [] [] ix next all found = absurd (cc)
   vacant_before [] (c ∷ copies) ix next all found = absurd all
   vacant_before (slot ∷ slots) [] ix next all found = absurd all
@@ -45,12 +59,19 @@ module _ {T : Type 0} (is_clone : T → T → Type 0) where
   vacant_before (Occupied item ∷ slots) (c ∷ copies) zero next all found = let same = all.0.1 in absurd (cc)
   vacant_before (slot ∷ slots) (c ∷ copies) (suc ix) next all found = vacant_before slots copies ix next all.1 found
 
-  chain_in_clones : (slots copies : List (ItemSlot T)) (head : ℕ) (list : List ℕ) → AllZip (IsSlotClone is_clone) slots copies → IsChain slots head list → IsChain copies head list
+  chain_in_clones :
+      (slots copies : List (ItemSlot T)) (head : ℕ) (list : List ℕ)
+      → AllZip (IsSlotClone is_clone) slots copies
+      → IsChain slots head list
+      → IsChain copies head list
   chain_in_clones slots copies head [] all p = p
   chain_in_clones slots copies head (ix ∷ rest) all p =
       (p.0, p.1, p.2, vacant_in_clones slots copies head p.0 all p.3, chain_in_clones slots copies p.0 rest all p.4)
 
-  module _ {limit : ℕ} {slots : List (ItemSlot T)} {head len : ℕ} (bounded : IsSoundWithin limit slots head len) (copies : List (ItemSlot T)) (all : AllZip (IsSlotClone is_clone) slots copies) where
+  module _
+      {limit : ℕ} {slots : List (ItemSlot T)} {head len : ℕ} (bounded : IsSoundWithin limit slots head len)
+      (copies : List (ItemSlot T)) (all : AllZip (IsSlotClone is_clone) slots copies)
+      where
     pub IsSoundWithin-clone : IsSoundWithin limit copies head len
     IsSoundWithin-clone =
         let same = length_all_zip _ slots copies all in
@@ -75,7 +96,11 @@ module _ {T : Type 0} (is_clone : T → T → Type 0) where
     }
 
   -- where clones of items equal them, a clone of a store equals it
-  same_items : ((x y : T) → is_clone x y → y ≡ x) → (items copies : List (Option T)) → AllZip (IsItemClone is_clone) items copies → copies ≡ items
+  same_items :
+      ((x y : T) → is_clone x y → y ≡ x)
+      → (items copies : List (Option T))
+      → AllZip (IsItemClone is_clone) items copies
+      → copies ≡ items
   same_items equal [] [] all = refl
   same_items equal [] (c ∷ copies) all = absurd all
   same_items equal (item ∷ items) [] all = absurd all

@@ -20,14 +20,21 @@ module _ {T : Type 0} where
   items_kept (Occupied item ∷ slots) = ap (λ l. Some item ∷ l) (items_kept slots)
   items_kept (Vacant next ∷ slots) = items_kept slots
 
-  none_vacant : (slots : List (ItemSlot T)) (ix next : ℕ) → slice_get (filter is_occupied slots) ix ≡ Some (Vacant next) → ⊥
+  none_vacant :
+      (slots : List (ItemSlot T)) (ix next : ℕ)
+      → slice_get (filter is_occupied slots) ix ≡ Some (Vacant next)
+      → ⊥
   none_vacant [] ix next found = cc
   none_vacant (Occupied item ∷ slots) zero next found = cc
   none_vacant (Occupied item ∷ slots) (suc ix) next found = none_vacant slots ix next found
   none_vacant (Vacant link ∷ slots) ix next found = none_vacant slots ix next found
 
   -- what the store has at the index of a slot that was read
-  pub item_read : (slots : List (ItemSlot T)) (ix : ℕ) (slot : ItemSlot T) → ix < length slots → slot ≡ get_or slots ix slot → get_or (map item_of slots) ix None ≡ item_of slot
+  pub item_read :
+      (slots : List (ItemSlot T)) (ix : ℕ) (slot : ItemSlot T)
+      → ix < length slots
+      → slot ≡ get_or slots ix slot
+      → get_or (map item_of slots) ix None ≡ item_of slot
   item_read slots ix slot within read = get_or-map item_of slots ix slot None within ∙ ap item_of (sym read)
 
   module _ {limit : ℕ} {slots : List (ItemSlot T)} {head len : ℕ} (bounded : IsSoundWithin limit slots head len) where

@@ -37,7 +37,10 @@ module _ {T : Type 0} where
   below-live items ix item = omega (arith, sum_by-cons (λ o. cond (is_some o) 1 0) (Some item) (take ix items))
 
   -- a live index has its item at the index's rank
-  get-filter : (items : List (Option T)) (ix : ℕ) (item : T) → get_or items ix None ≡ Some item → get_or (filter is_some items) (below items ix) None ≡ Some item
+  get-filter :
+      (items : List (Option T)) (ix : ℕ) (item : T)
+      → get_or items ix None ≡ Some item
+      → get_or (filter is_some items) (below items ix) None ≡ Some item
   get-filter [] ix item live = absurd (cc)
   get-filter (None ∷ items) zero item live = absurd (cc)
   get-filter (Some x ∷ items) zero item live = live
@@ -45,7 +48,10 @@ module _ {T : Type 0} where
   get-filter (Some x ∷ items) (suc ix) item live = rw (below-live items ix x) (get-filter items ix item live)
 
   -- each item of a compacted store comes from a live index of that rank
-  live-filter : (items : List (Option T)) (j : ℕ) (item : T) → get_or (filter is_some items) j None ≡ Some item → (ix : ℕ) × (below items ix ≡ j) × (get_or items ix None ≡ Some item)
+  live-filter :
+      (items : List (Option T)) (j : ℕ) (item : T)
+      → get_or (filter is_some items) j None ≡ Some item
+      → (ix : ℕ) × (below items ix ≡ j) × (get_or items ix None ≡ Some item)
   live-filter [] j item live = absurd (cc)
   live-filter (None ∷ items) j item live =
       let from = live-filter items j item live in (suc from.0, below-vacant items from.0 ∙ from.1, from.2)
@@ -53,7 +59,11 @@ module _ {T : Type 0} where
   live-filter (Some x ∷ items) (suc j) item live =
       let from = live-filter items j item live in (suc from.0, below-live items from.0 x ∙ ap suc from.1, from.2)
 
-  below-rises : (items : List (Option T)) (i j : ℕ) → i < j → IsSome (get_or items i None) → below items i < below items j
+  below-rises :
+      (items : List (Option T)) (i j : ℕ)
+      → i < j
+      → IsSome (get_or items i None)
+      → below items i < below items j
   below-rises [] i j less live = absurd (cc)
   below-rises (x ∷ items) i zero less live = absurd (omega arith)
   below-rises (None ∷ items) zero (suc j) less live = absurd (cc)
@@ -63,7 +73,11 @@ module _ {T : Type 0} where
   below-rises (Some x ∷ items) (suc i) (suc j) less live =
       omega (arith, below-live items i x, below-live items j x, below-rises items i j (omega arith) live)
 
-  below-dense : (items : List (Option T)) (ix : ℕ) → count_by is_some items ≡ length items → ix ≤ length items → below items ix ≡ ix
+  below-dense :
+      (items : List (Option T)) (ix : ℕ)
+      → count_by is_some items ≡ length items
+      → ix ≤ length items
+      → below items ix ≡ ix
   below-dense [] zero dense within = refl
   below-dense [] (suc ix) dense within = absurd (omega arith)
   below-dense (x ∷ items) zero dense within = refl
@@ -80,7 +94,11 @@ module _ {T : Type 0} where
       ap (λ l. Some x ∷ l) (filter-dense items (omega (arith, dense, sum_by-cons (λ o. cond (is_some o) 1 0) (Some x) items)))
 
   -- what is kept are items
-  get-filter_none : (items : List (Option T)) (ix : ℕ) → ix < length (filter is_some items) → get_or (filter is_some items) ix None ≡ None → ⊥
+  get-filter_none :
+      (items : List (Option T)) (ix : ℕ)
+      → ix < length (filter is_some items)
+      → get_or (filter is_some items) ix None ≡ None
+      → ⊥
   get-filter_none [] ix within none = omega arith
   get-filter_none (None ∷ items) ix within none = get-filter_none items ix within none
   get-filter_none (Some x ∷ items) zero within none = cc
@@ -92,11 +110,17 @@ module _ {T : Type 0} where
   count-filter (Some x ∷ items) = omega (arith, sum_by-cons (λ o. cond (is_some o) 1 0) (Some x) (filter is_some items), count-filter items)
 
   -- a live index gives its item at its rank
-  pub get-compacted : (s : Store T) (ix : ℕ) (item : T) → get s ix ≡ Some item → get (compacted s) (rank s ix) ≡ Some item
+  pub get-compacted :
+      (s : Store T) (ix : ℕ) (item : T)
+      → get s ix ≡ Some item
+      → get (compacted s) (rank s ix) ≡ Some item
   get-compacted s ix item live = get-filter s.items ix item live
 
   -- what a compacted store gives stood at a live index of that rank
-  pub live-compacted : (s : Store T) (j : ℕ) (item : T) → get (compacted s) j ≡ Some item → (ix : ℕ) × (rank s ix ≡ j) × (get s ix ≡ Some item)
+  pub live-compacted :
+      (s : Store T) (j : ℕ) (item : T)
+      → get (compacted s) j ≡ Some item
+      → (ix : ℕ) × (rank s ix ≡ j) × (get s ix ≡ Some item)
   live-compacted s j item live = live-filter s.items j item live
 
   pub rank_rises : (s : Store T) (i j : ℕ) → i < j → IsSome (get s i) → rank s i < rank s j
@@ -157,7 +181,9 @@ module _ {T : Type 0} where
   live_count-compacted s = count-filter s.items ∙ length-filter is_some s.items
 
   -- the names of one more slot
-  pub names_more : (s : Store T) (n : ℕ) → map (new_name s) (numbers (n + 1)) ≡ map (new_name s) (numbers n) ++ new_name s n ∷ []
+  pub names_more :
+      (s : Store T) (n : ℕ)
+      → map (new_name s) (numbers (n + 1)) ≡ map (new_name s) (numbers n) ++ new_name s n ∷ []
   names_more s n = ap (map (new_name s)) (numbers_more n) ∙ map_push (new_name s) (numbers n) n
 
   pub rank_more-live : (s : Store T) (ix : ℕ) → ix < slot_count s → IsSome (get s ix) → rank s (ix + 1) ≡ rank s ix + 1
@@ -177,7 +203,10 @@ module _ {T : Type 0} where
   new_name-live s ix live = rw live refl
 
   -- the list of new names has the new name of each slot
-  pub get_or-names : (s : Store T) (ix d : ℕ) → ix < slot_count s → get_or (map (new_name s) (numbers (length s.items))) ix d ≡ new_name s ix
+  pub get_or-names :
+      (s : Store T) (ix d : ℕ)
+      → ix < slot_count s
+      → get_or (map (new_name s) (numbers (length s.items))) ix d ≡ new_name s ix
   get_or-names s ix d within =
       get_or-map (new_name s) (numbers (length s.items)) ix 0 d (omega (arith, length-numbers (length s.items)))
       ∙ ap (new_name s) (get_or-numbers (length s.items) ix 0 within)
@@ -186,7 +215,13 @@ module _ {T : Type 0} where
   length-names s = length-map (numbers (length s.items)) (new_name s) ∙ length-numbers (length s.items)
 
   -- a live index has a new name, its rank
-  pub CanRemap-live : (s : Store T) (remap : IndexRemap) → IsValid s → IsRemapOf s remap → (ix : ℕ) (item : T) → get s ix ≡ Some item → CanRemap remap ix × (remapped remap ix ≡ rank s ix)
+  pub CanRemap-live :
+      (s : Store T) (remap : IndexRemap)
+      → IsValid s
+      → IsRemapOf s remap
+      → (ix : ℕ) (item : T)
+      → get s ix ≡ Some item
+      → CanRemap remap ix × (remapped remap ix ≡ rank s ix)
   CanRemap-live s Identity valid is ix item live = (tt, sym (rank_same s valid is ix item live))
   CanRemap-live s (Permuted names) valid is ix item live =
       let within = live_within s.items ix (ap is_some live) in
@@ -195,7 +230,13 @@ module _ {T : Type 0} where
       ((omega (arith, within, long), λ same. rank_assigned s ix valid (ap is_some live) (sym named ∙ same)), named)
 
   -- and where there is a list of names, no other index has one
-  pub live-CanRemap : (s : Store T) (remap : IndexRemap) → IsRemapOf s remap → s.free ≢ [] → (ix : ℕ) → CanRemap remap ix → IsSome (get s ix)
+  pub live-CanRemap :
+      (s : Store T) (remap : IndexRemap)
+      → IsRemapOf s remap
+      → s.free ≢ []
+      → (ix : ℕ)
+      → CanRemap remap ix
+      → IsSome (get s ix)
   live-CanRemap s Identity is some ix can = absurd (some is)
   live-CanRemap s (Permuted names) is some ix can =
       let long : length names.items ≡ slot_count s = ap length is.1 ∙ length-names s in
@@ -211,12 +252,24 @@ module _ {T : Type 0} where
   free-compacted s = refl
 
   -- a live index gives its item under its new name
-  pub get-remapped : (s : Store T) (remap : IndexRemap) → IsValid s → IsRemapOf s remap → (ix : ℕ) (item : T) → get s ix ≡ Some item → get (compacted s) (remapped remap ix) ≡ Some item
+  pub get-remapped :
+      (s : Store T) (remap : IndexRemap)
+      → IsValid s
+      → IsRemapOf s remap
+      → (ix : ℕ) (item : T)
+      → get s ix ≡ Some item
+      → get (compacted s) (remapped remap ix) ≡ Some item
   get-remapped s remap valid is ix item live =
       ap (get (compacted s)) (CanRemap-live s remap valid is ix item live).1 ∙ get-compacted s ix item live
 
   -- and each item stands under the new name of the live index that gave it
-  pub live-remapped : (s : Store T) (remap : IndexRemap) → IsValid s → IsRemapOf s remap → (j : ℕ) (item : T) → get (compacted s) j ≡ Some item → (ix : ℕ) × (remapped remap ix ≡ j) × (get s ix ≡ Some item)
+  pub live-remapped :
+      (s : Store T) (remap : IndexRemap)
+      → IsValid s
+      → IsRemapOf s remap
+      → (j : ℕ) (item : T)
+      → get (compacted s) j ≡ Some item
+      → (ix : ℕ) × (remapped remap ix ≡ j) × (get s ix ≡ Some item)
   live-remapped s remap valid is j item live =
       let from = live-compacted s j item live in
       (from.0, (CanRemap-live s remap valid is from.0 item from.2).1 ∙ from.1, from.2)

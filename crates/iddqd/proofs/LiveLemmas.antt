@@ -35,21 +35,31 @@ module _ {T : Type 0} where
   pub next_vacant : (s : Store T) → IsValid s → get s (next_index s) ≡ None
   next_vacant s valid = by_free s.items s.free valid
     where
-      by_free : (items : List (Option T)) (free : List ℕ) → IsValid (record { items = items; free = free; limit = s.limit }) → get_or items (next_index (record { items = items; free = free; limit = s.limit })) None ≡ None
+      by_free :
+          (items : List (Option T)) (free : List ℕ)
+          → IsValid (record { items = items; free = free; limit = s.limit })
+          → get_or items (next_index (record { items = items; free = free; limit = s.limit })) None ≡ None
       by_free items [] valid = get_or_past items (length items) None (omega arith)
       by_free items (ix ∷ rest) valid = ((valid.vacant ix).0 (contains_head ix rest)).1
 
   pub get-inserted_at : (s : Store T) (item : T) → IsValid s → get (inserted s item) (next_index s) ≡ Some item
   get-inserted_at s item valid = by_free s.items s.free valid
     where
-      by_free : (items : List (Option T)) (free : List ℕ) → IsValid (record { items = items; free = free; limit = s.limit }) → get (inserted (record { items = items; free = free; limit = s.limit }) item) (next_index (record { items = items; free = free; limit = s.limit })) ≡ Some item
+      by_free :
+          (items : List (Option T)) (free : List ℕ)
+          → IsValid (record { items = items; free = free; limit = s.limit })
+          → get (inserted (record { items = items; free = free; limit = s.limit }) item)
+            (next_index (record { items = items; free = free; limit = s.limit })) ≡ Some item
       by_free items [] valid = get_or_push items (Some item) None (length items) refl
       by_free items (ix ∷ rest) valid = get_or-set_same items ix (Some item) None ((valid.vacant ix).0 (contains_head ix rest)).0
 
   pub get-inserted_other : (s : Store T) (item : T) (j : ℕ) → j ≢ next_index s → get (inserted s item) j ≡ get s j
   get-inserted_other s item j apart = by_free s.items s.free apart
     where
-      by_free : (items : List (Option T)) (free : List ℕ) → j ≢ next_index (record { items = items; free = free; limit = s.limit }) → get (inserted (record { items = items; free = free; limit = s.limit }) item) j ≡ get_or items j None
+      by_free :
+          (items : List (Option T)) (free : List ℕ)
+          → j ≢ next_index (record { items = items; free = free; limit = s.limit })
+          → get (inserted (record { items = items; free = free; limit = s.limit }) item) j ≡ get_or items j None
       by_free items [] apart =
           elim (cases_lt j (length items)) [
             | inl low ↦ get_or_append_left items (Some item ∷ []) None j low

@@ -15,7 +15,11 @@ use Rattle.iddqd.specs.Store.{Store, sentinel, IsValid, first_or, next_index, in
 
 module _ {T : Type 0} where
   -- the count of items after a write
-  pub count-set : (slots : List (ItemSlot T)) (ix : ℕ) (old new : ItemSlot T) → slice_get slots ix ≡ Some old → count_by is_some (map item_of (set slots ix new)) + cond (is_some (item_of old)) 1 0 ≡ count_by is_some (map item_of slots) + cond (is_some (item_of new)) 1 0
+  pub count-set :
+      (slots : List (ItemSlot T)) (ix : ℕ) (old new : ItemSlot T)
+      → slice_get slots ix ≡ Some old
+      → count_by is_some (map item_of (set slots ix new)) + cond (is_some (item_of old)) 1 0 ≡ count_by is_some
+          (map item_of slots) + cond (is_some (item_of new)) 1 0
   count-set slots ix old new found =
       let within = slice_get_within slots ix old found in
       let read : get_or (map item_of slots) ix None ≡ item_of old =
@@ -24,30 +28,48 @@ module _ {T : Type 0} where
       rw (map-set item_of slots ix new, ← read) counted
 
   -- a slot without an item is vacant
-  vacant_at : (slots : List (ItemSlot T)) (ix : ℕ) → ix < length slots → get_or (map item_of slots) ix None ≡ None → (next : ℕ) × (slice_get slots ix ≡ Some (Vacant next))
+  vacant_at :
+      (slots : List (ItemSlot T)) (ix : ℕ)
+      → ix < length slots
+      → get_or (map item_of slots) ix None ≡ None
+      → (next : ℕ) × (slice_get slots ix ≡ Some (Vacant next))
   vacant_at [] ix within none = absurd (omega arith)
   vacant_at (Occupied x ∷ slots) zero within none = absurd (cc)
   vacant_at (Vacant next ∷ slots) zero within none = (next, refl)
   vacant_at (slot ∷ slots) (suc ix) within none = vacant_at slots ix (omega arith) none
 
-  without_item : (slots : List (ItemSlot T)) (ix next : ℕ) → slice_get slots ix ≡ Some (Vacant next) → get_or (map item_of slots) ix None ≡ None
+  without_item :
+      (slots : List (ItemSlot T)) (ix next : ℕ)
+      → slice_get slots ix ≡ Some (Vacant next)
+      → get_or (map item_of slots) ix None ≡ None
   without_item slots ix next found =
       get_or-map item_of slots ix (Vacant next) None (slice_get_within slots ix _ found)
       ∙ ap item_of (get_or_from_slice_get slots ix _ (Vacant next) found)
 
   -- what a read at a live index gives is the slot there
-  pub read_at_live : (slots : List (ItemSlot T)) (ix : ℕ) (slot : ItemSlot T) → IsSome (get_or (map item_of slots) ix None) → slot ≡ get_or slots ix slot → slice_get slots ix ≡ Some slot
+  pub read_at_live :
+      (slots : List (ItemSlot T)) (ix : ℕ) (slot : ItemSlot T)
+      → IsSome (get_or (map item_of slots) ix None)
+      → slot ≡ get_or slots ix slot
+      → slice_get slots ix ≡ Some slot
   read_at_live slots ix slot live read =
       let inside : ix < length (map item_of slots) = grind (arith, get_or_past) in
       slice_get_read slots (length slots) ix slot refl (omega (arith, length-map slots item_of)) read
 
   -- a slot with this item is occupied by it
-  pub occupied_slot : (slots : List (ItemSlot T)) (ix : ℕ) (slot : ItemSlot T) (item : T) → slice_get slots ix ≡ Some slot → item_of slot ≡ Some item → slice_get slots ix ≡ Some (Occupied item)
+  pub occupied_slot :
+      (slots : List (ItemSlot T)) (ix : ℕ) (slot : ItemSlot T) (item : T)
+      → slice_get slots ix ≡ Some slot
+      → item_of slot ≡ Some item
+      → slice_get slots ix ≡ Some (Occupied item)
   occupied_slot slots ix (Occupied old) item found is = let same : old ≡ item = cc in found ∙ ap (λ i. Some (Occupied i)) same
   occupied_slot slots ix (Vacant next) item found is = absurd (cc)
 
   -- an occupied slot gives its item
-  pub item_at_occupied : (slots : List (ItemSlot T)) (ix : ℕ) (item : T) → slice_get slots ix ≡ Some (Occupied item) → get_or (map item_of slots) ix None ≡ Some item
+  pub item_at_occupied :
+      (slots : List (ItemSlot T)) (ix : ℕ) (item : T)
+      → slice_get slots ix ≡ Some (Occupied item)
+      → get_or (map item_of slots) ix None ≡ Some item
   item_at_occupied slots ix item found =
       get_or-map item_of slots ix (Occupied item) None (slice_get_within slots ix _ found)
       ∙ ap item_of (get_or_from_slice_get slots ix _ (Occupied item) found)
@@ -80,10 +102,18 @@ module _ {T : Type 0} where
     free_is = chain_of-is slots (length slots) head bounded.sound.chain all_named (omega (arith, total)) bounded.sound.chained
 
     -- the chain ends here, or begins with a vacant slot
-    pub head_cases : ((head ≡ sentinel) × (bounded.sound.chain ≡ [])) ⊎ ((next : ℕ) × (rest : List ℕ) × (head < length slots) × (bounded.sound.chain ≡ head ∷ rest) × (slice_get slots head ≡ Some (Vacant next)) × IsChain slots next rest)
+    pub head_cases :
+        ((head ≡ sentinel) × (bounded.sound.chain ≡ [])) ⊎
+            ((next : ℕ) × (rest : List ℕ) × (head < length slots) × (bounded.sound.chain ≡ head ∷ rest) ×
+                (slice_get slots head ≡ Some (Vacant next)) × IsChain slots next rest)
     head_cases = by_chain bounded.sound.chain bounded.sound.chained
       where
-        by_chain : (list : List ℕ) → IsChain slots head list → ((head ≡ sentinel) × (list ≡ [])) ⊎ ((next : ℕ) × (rest : List ℕ) × (head < length slots) × (list ≡ head ∷ rest) × (slice_get slots head ≡ Some (Vacant next)) × IsChain slots next rest)
+        by_chain :
+            (list : List ℕ)
+            → IsChain slots head list
+            → ((head ≡ sentinel) × (list ≡ [])) ⊎
+                ((next : ℕ) × (rest : List ℕ) × (head < length slots) × (list ≡ head ∷ rest) ×
+                    (slice_get slots head ≡ Some (Vacant next)) × IsChain slots next rest)
         by_chain [] p = inl (p, refl)
         by_chain (ix ∷ rest) p = inr (p.0, rest, slice_get_within slots head _ p.3, ap (λ i. i ∷ rest) p.1, p.3, p.4)
 
@@ -98,7 +128,10 @@ module _ {T : Type 0} where
         elim head_cases [ inl p ↦ p.0 | inr p ↦ let begins = sym free_is ∙ none in let goes_on = p.3 in absurd (cc) ]
 
     -- a chain from a vacant slot goes on by its link
-    pub chain_from_vacant : (next : ℕ) → slice_get slots head ≡ Some (Vacant next) → (rest : List ℕ) × (bounded.sound.chain ≡ head ∷ rest) × IsChain slots next rest
+    pub chain_from_vacant :
+        (next : ℕ)
+        → slice_get slots head ≡ Some (Vacant next)
+        → (rest : List ℕ) × (bounded.sound.chain ≡ head ∷ rest) × IsChain slots next rest
     chain_from_vacant next found =
         let within = slice_get_within slots head _ found in
         elim head_cases [
@@ -114,7 +147,10 @@ module _ {T : Type 0} where
     vacant_at_head before = elim head_cases [ inl p ↦ absurd (before p.0) | inr p ↦ (p.0, p.4) ]
 
     -- the first of the free indexes is the head, and names a vacant slot
-    pub vacant_at_first : (ix : ℕ) → slice_get (chain_of (length slots) slots head) 0 ≡ Some ix → (head ≡ ix) × (next : ℕ) × (slice_get slots head ≡ Some (Vacant next))
+    pub vacant_at_first :
+        (ix : ℕ)
+        → slice_get (chain_of (length slots) slots head) 0 ≡ Some ix
+        → (head ≡ ix) × (next : ℕ) × (slice_get slots head ≡ Some (Vacant next))
     vacant_at_first ix first =
         let begins = ap (λ l. slice_get l 0) (sym free_is) ∙ first in
         elim head_cases [
@@ -122,7 +158,10 @@ module _ {T : Type 0} where
           | inr p ↦ let read = sym (ap (λ l. slice_get l 0) p.3) ∙ begins in let same : head ≡ ix = cc in (same, p.0, p.4)
         ]
 
-    pub IsSoundWithin-vacate : (ix : ℕ) (item : T) → slice_get slots ix ≡ Some (Occupied item) → IsSoundWithin limit (set slots ix (Vacant head)) ix (len - 1)
+    pub IsSoundWithin-vacate :
+        (ix : ℕ) (item : T)
+        → slice_get slots ix ≡ Some (Occupied item)
+        → IsSoundWithin limit (set slots ix (Vacant head)) ix (len - 1)
     IsSoundWithin-vacate ix item found =
         let within = slice_get_within slots ix _ found in
         let count = count-set slots ix (Occupied item) (Vacant head) found in
@@ -144,7 +183,11 @@ module _ {T : Type 0} where
           named = bounded.named;
         }
 
-    pub IsSoundWithin-push : (item : T) → head ≡ sentinel → length slots < limit → IsSoundWithin limit (slots ++ Occupied item ∷ []) head (len + 1)
+    pub IsSoundWithin-push :
+        (item : T)
+        → head ≡ sentinel
+        → length slots < limit
+        → IsSoundWithin limit (slots ++ Occupied item ∷ []) head (len + 1)
     unfolding IsDistinct
     IsSoundWithin-push item ends below =
         let longer = length_push slots (Occupied item) in
@@ -160,7 +203,11 @@ module _ {T : Type 0} where
           named = bounded.named;
         }
       where
-        none_vacant : (at next : ℕ) → slice_get (slots ++ Occupied item ∷ []) at ≡ Some (Vacant next) → ((at < length slots) ⊎ (length slots ≤ at)) → ⊥
+        none_vacant :
+            (at next : ℕ)
+            → slice_get (slots ++ Occupied item ∷ []) at ≡ Some (Vacant next)
+            → ((at < length slots) ⊎ (length slots ≤ at))
+            → ⊥
         none_vacant at next vacant (inl before) =
             let there = slice_get-get_or slots at (Occupied item) before ∙ ap Some (sym (get_or_append_left slots (Occupied item ∷ []) (Occupied item) at before) ∙ get_or_from_slice_get (slots ++ Occupied item ∷ []) at _ (Occupied item) vacant) in
             contains_none at (subst (λ l. Contains l at) (chain_at_end ends) (bounded.sound.complete at next there))
@@ -171,7 +218,10 @@ module _ {T : Type 0} where
             let read = get_or_from_slice_get (slots ++ Occupied item ∷ []) at _ (Occupied item) vacant in
             cc
 
-    pub IsSoundWithin-reuse : (next : ℕ) (item : T) → slice_get slots head ≡ Some (Vacant next) → IsSoundWithin limit (set slots head (Occupied item)) next (len + 1)
+    pub IsSoundWithin-reuse :
+        (next : ℕ) (item : T)
+        → slice_get slots head ≡ Some (Vacant next)
+        → IsSoundWithin limit (set slots head (Occupied item)) next (len + 1)
     IsSoundWithin-reuse next item found =
         let within = slice_get_within slots head _ found in
         let p = chain_from_vacant next found in
@@ -190,7 +240,11 @@ module _ {T : Type 0} where
           named = bounded.named;
         }
       where
-        still_chained : (at link : ℕ) → slice_get (set slots head (Occupied item)) at ≡ Some (Vacant link) → ((at ≡ head) ⊎ (at ≡ head → ⊥)) → Contains (chain_from_vacant next found).0 at
+        still_chained :
+            (at link : ℕ)
+            → slice_get (set slots head (Occupied item)) at ≡ Some (Vacant link)
+            → ((at ≡ head) ⊎ (at ≡ head → ⊥))
+            → Contains (chain_from_vacant next found).0 at
         still_chained at link vacant (inl same) =
             let within = slice_get_within slots head _ found in
             let written = slice_get-set_same slots head (Occupied item) within in
@@ -205,7 +259,10 @@ module _ {T : Type 0} where
             ]
 
     -- another item in an occupied slot keeps all
-    pub IsSoundWithin-rebind : (ix : ℕ) (old item : T) → slice_get slots ix ≡ Some (Occupied old) → IsSoundWithin limit (set slots ix (Occupied item)) head len
+    pub IsSoundWithin-rebind :
+        (ix : ℕ) (old item : T)
+        → slice_get slots ix ≡ Some (Occupied old)
+        → IsSoundWithin limit (set slots ix (Occupied item)) head len
     IsSoundWithin-rebind ix old item found =
         let within = slice_get_within slots ix _ found in
         let written = slice_get-set_same slots ix (Occupied item) within in
@@ -250,12 +307,19 @@ module _ {T : Type 0} where
         }
 
     -- where there is room, the count of items is below the limit
-    pub len_below : (capacity : ℕ) → 1 ≤ length (chain_of (length slots) slots head) + (min capacity limit - length (map item_of slots)) → len < limit
+    pub len_below :
+        (capacity : ℕ)
+        → 1 ≤ length (chain_of (length slots) slots head) + (min capacity limit - length (map item_of slots))
+        → len < limit
     len_below capacity room =
         omega (arith, ap length free_is, total, bounded.small, length-map slots item_of)
 
     -- where there is room and no slot is vacant, one more slot fits
-    pub fits_at_end : (capacity : ℕ) → 1 ≤ length (chain_of (length slots) slots head) + (min capacity limit - length (map item_of slots)) → head ≡ sentinel → (length slots < limit) × (length slots < capacity)
+    pub fits_at_end :
+        (capacity : ℕ)
+        → 1 ≤ length (chain_of (length slots) slots head) + (min capacity limit - length (map item_of slots))
+        → head ≡ sentinel
+        → (length slots < limit) × (length slots < capacity)
     fits_at_end capacity room ends =
         let none = ap length (free_is ∙ chain_at_end ends) in
         (omega (arith, length-map slots item_of), omega (arith, length-map slots item_of))
@@ -267,12 +331,19 @@ module _ {T : Type 0} where
   same_store limit i j f g p q = ap (λ x. store limit x f) p ∙ ap (λ x. store limit j x) q
 
   module _ {limit : ℕ} {slots : List (ItemSlot T)} {head len : ℕ} (bounded : IsSoundWithin limit slots head len) where
-    pub removed-is : (ix : ℕ) (item : T) → slice_get slots ix ≡ Some (Occupied item) → store_of (set slots ix (Vacant head)) ix limit ≡ removed (store_of slots head limit) ix
+    pub removed-is :
+        (ix : ℕ) (item : T)
+        → slice_get slots ix ≡ Some (Occupied item)
+        → store_of (set slots ix (Vacant head)) ix limit ≡ removed (store_of slots head limit) ix
     unfolding IsSoundWithin-vacate
     removed-is ix item found =
         same_store limit _ _ _ _ (map-set item_of slots ix (Vacant head)) (free_is (IsSoundWithin-vacate bounded ix item found) ∙ ap (λ l. ix ∷ l) (sym (free_is bounded)))
 
-    pub pushed-is : (item : T) → head ≡ sentinel → length slots < limit → store_of (slots ++ Occupied item ∷ []) head limit ≡ inserted (store_of slots head limit) item
+    pub pushed-is :
+        (item : T)
+        → head ≡ sentinel
+        → length slots < limit
+        → store_of (slots ++ Occupied item ∷ []) head limit ≡ inserted (store_of slots head limit) item
     unfolding IsSoundWithin-push
     pushed-is item ends below =
         let none : chain_of (length slots) slots head ≡ [] = free_is bounded ∙ chain_at_end bounded ends in
@@ -280,7 +351,10 @@ module _ {T : Type 0} where
         same_store limit _ _ _ _ (map_push item_of slots (Occupied item)) after
         ∙ ap (λ f. inserted (store limit (map item_of slots) f) item) (sym none)
 
-    reused-is : (next : ℕ) (item : T) → slice_get slots head ≡ Some (Vacant next) → store_of (set slots head (Occupied item)) next limit ≡ inserted (store_of slots head limit) item
+    reused-is :
+        (next : ℕ) (item : T)
+        → slice_get slots head ≡ Some (Vacant next)
+        → store_of (set slots head (Occupied item)) next limit ≡ inserted (store_of slots head limit) item
     unfolding IsSoundWithin-reuse
     reused-is next item found =
         let p = chain_from_vacant bounded next found in
@@ -288,7 +362,10 @@ module _ {T : Type 0} where
         same_store limit _ _ _ _ (map-set item_of slots head (Occupied item)) (free_is (IsSoundWithin-reuse bounded next item found))
         ∙ ap (λ f. inserted (store limit (map item_of slots) f) item) (sym before)
 
-    pub rebound-is : (ix : ℕ) (old item : T) → slice_get slots ix ≡ Some (Occupied old) → store_of (set slots ix (Occupied item)) head limit ≡ rebound (store_of slots head limit) ix item
+    pub rebound-is :
+        (ix : ℕ) (old item : T)
+        → slice_get slots ix ≡ Some (Occupied old)
+        → store_of (set slots ix (Occupied item)) head limit ≡ rebound (store_of slots head limit) ix item
     unfolding IsSoundWithin-rebind
     rebound-is ix old item found =
         same_store limit _ _ _ _ (map-set item_of slots ix (Occupied item)) (free_is (IsSoundWithin-rebind bounded ix old item found) ∙ sym (free_is bounded))
@@ -312,12 +389,18 @@ module _ {T : Type 0} where
           let same = ap (λ i. slice_get slots i) v.0 in
           cc
 
-      pub IsSoundWithin-reuse_first : (next : ℕ) (item : T) → slice_get slots ix ≡ Some (Vacant next) → IsSoundWithin limit (set slots ix (Occupied item)) next (len + 1)
+      pub IsSoundWithin-reuse_first :
+          (next : ℕ) (item : T)
+          → slice_get slots ix ≡ Some (Vacant next)
+          → IsSoundWithin limit (set slots ix (Occupied item)) next (len + 1)
       IsSoundWithin-reuse_first next item found =
           let same = (vacant_at_first bounded ix first).0 in
           subst (λ i. IsSoundWithin limit (set slots i (Occupied item)) next (len + 1)) same (IsSoundWithin-reuse bounded next item (ap (λ i. slice_get slots i) same ∙ found))
 
-      pub reused_first-is : (next : ℕ) (item : T) → slice_get slots ix ≡ Some (Vacant next) → store_of (set slots ix (Occupied item)) next limit ≡ inserted (store_of slots head limit) item
+      pub reused_first-is :
+          (next : ℕ) (item : T)
+          → slice_get slots ix ≡ Some (Vacant next)
+          → store_of (set slots ix (Occupied item)) next limit ≡ inserted (store_of slots head limit) item
       reused_first-is next item found =
           let same = (vacant_at_first bounded ix first).0 in
           subst (λ i. store_of (set slots i (Occupied item)) next limit ≡ inserted (store_of slots head limit) item) same (reused-is next item (ap (λ i. slice_get slots i) same ∙ found))

@@ -38,7 +38,12 @@ below-numbers : (n : ℕ) → All (λ x. x < n) (numbers n)
 below-numbers n = λ k d within. let size = length-numbers n in rw (get_or-numbers n k d (omega arith)) (omega arith)
 
 -- each step of rising numbers is at least one
-rise_by : (xs : List ℕ) → IsStrictlyIncreasing xs → (i more : ℕ) → i + more < length xs → slice_index xs i + more ≤ slice_index xs (i + more)
+rise_by :
+    (xs : List ℕ)
+    → IsStrictlyIncreasing xs
+    → (i more : ℕ)
+    → i + more < length xs
+    → slice_index xs i + more ≤ slice_index xs (i + more)
 rise_by xs rises i zero within = rw (add-zero i) (omega arith)
 rise_by xs rises i (suc more) within =
     let before = rise_by xs rises i more (omega arith) in
@@ -95,7 +100,12 @@ all_unique xs sorted =
 
 -- what the checks of a sorted copy say of the list
 module _ (expected : ℕ) (xs ys : List ℕ) (size : length xs ≡ expected) (moved : IsPermutation xs ys) where
-  pub AreSound-by_places : {E : Type 0} → IsSorted nat_cmp ys → (result : Result (Unit {0}) (ValidateRefusal E)) → Validates (ys ≡ numbers (length ys)) result → Validates (AreSound Compact expected xs) result
+  pub AreSound-by_places :
+      {E : Type 0}
+      → IsSorted nat_cmp ys
+      → (result : Result (Unit {0}) (ValidateRefusal E))
+      → Validates (ys ≡ numbers (length ys)) result
+      → Validates (AreSound Compact expected xs) result
   AreSound-by_places sorted result =
       Validates-alike _ _ result
       (λ is. (size, subst (λ n. IsPermutation (numbers n) xs) size (arranged-from_sorted xs ys moved is)))
@@ -104,24 +114,46 @@ module _ (expected : ℕ) (xs ys : List ℕ) (size : length xs ≡ expected) (mo
   pub AreSound-if_distinct : IsDistinct nat_eq ys → AreSound NonCompact expected xs
   AreSound-if_distinct apart = (size, IsDistinct-IsPermutation nat_eq nat_eq-flips ys xs (IsPermutation-sym xs ys moved) apart)
 
-  pub AreSound-by_distinct : {E : Type 0} → (result : Result (Unit {0}) (ValidateRefusal E)) → Validates (IsDistinct nat_eq ys) result → Validates (AreSound NonCompact expected xs) result
+  pub AreSound-by_distinct :
+      {E : Type 0}
+      → (result : Result (Unit {0}) (ValidateRefusal E))
+      → Validates (IsDistinct nat_eq ys) result
+      → Validates (AreSound NonCompact expected xs) result
   AreSound-by_distinct result = Validates-alike _ _ result AreSound-if_distinct (λ sound. distinct-moved xs ys moved sound.1)
 
 -- of an ordered table `SENTINEL` is sought before or after
-pub AreSoundInOrder-assigned : {E : Type 0} (mode : ValidateCompact) (expected : ℕ) (xs : List ℕ) (result : Result (Unit {0}) (ValidateRefusal E)) → (Contains xs sentinel → ⊥) → Validates (AreSound mode expected xs) result → Validates (AreSoundInOrder mode expected xs) result
+pub AreSoundInOrder-assigned :
+    {E : Type 0} (mode : ValidateCompact) (expected : ℕ) (xs : List ℕ) (result : Result (Unit {0}) (ValidateRefusal E))
+    → (Contains xs sentinel → ⊥)
+    → Validates (AreSound mode expected xs) result
+    → Validates (AreSoundInOrder mode expected xs) result
 AreSoundInOrder-assigned mode expected xs result assigned =
     Validates-alike (AreSound mode expected xs) (AreSoundInOrder mode expected xs) result (λ sound. (sound, assigned)) (λ sound. sound.0)
 
-pub AreSoundInOrder-sound : {E : Type 0} (mode : ValidateCompact) (expected : ℕ) (xs : List ℕ) (result : Result (Unit {0}) (ValidateRefusal E)) → AreSound mode expected xs → Validates (Contains xs sentinel → ⊥) result → Validates (AreSoundInOrder mode expected xs) result
+pub AreSoundInOrder-sound :
+    {E : Type 0} (mode : ValidateCompact) (expected : ℕ) (xs : List ℕ) (result : Result (Unit {0}) (ValidateRefusal E))
+    → AreSound mode expected xs
+    → Validates (Contains xs sentinel → ⊥) result
+    → Validates (AreSoundInOrder mode expected xs) result
 AreSoundInOrder-sound mode expected xs result sound =
     Validates-alike (Contains xs sentinel → ⊥) (AreSoundInOrder mode expected xs) result (λ assigned. (sound, assigned)) (λ whole. whole.1)
 
 -- distinct numbers below their count are those below it, in some order
-arranged-from_below : (n : ℕ) (xs : List ℕ) → length xs ≡ n → IsDistinct nat_eq xs → All (λ x. x < n) xs → IsPermutation (numbers n) xs
+arranged-from_below :
+    (n : ℕ) (xs : List ℕ)
+    → length xs ≡ n
+    → IsDistinct nat_eq xs
+    → All (λ x. x < n) xs
+    → IsPermutation (numbers n) xs
 arranged-from_below zero xs size apart below = subst (λ l. IsPermutation [] l) (sym (nil_from_length xs size)) (IsPermutation-refl [])
 arranged-from_below (suc n) xs size apart below = by_test (λ rest. arranged-from_below n rest) (is_member nat_eq xs n) refl
   where
-    by_test : ((rest : List ℕ) → length rest ≡ n → IsDistinct nat_eq rest → All (λ x. x < n) rest → IsPermutation (numbers n) rest) → (b : Bool) → is_member nat_eq xs n ≡ b → IsPermutation (numbers (suc n)) xs
+    by_test :
+        ((rest : List ℕ) → length rest ≡ n → IsDistinct nat_eq rest → All (λ x. x < n) rest → IsPermutation (numbers n)
+            rest)
+        → (b : Bool)
+        → is_member nat_eq xs n ≡ b
+        → IsPermutation (numbers (suc n)) xs
     by_test shorter true member =
         let place = (is_member-Decides Decides-eqb xs n).0 member in
         let rest = remove xs place.0 in
@@ -142,7 +174,10 @@ arranged-from_below (suc n) xs size apart below = by_test (λ rest. arranged-fro
         absurd (omega (arith, length-le_from_distinct_below xs n apart (λ q member. outside q ((is_member-Decides Decides-eqb xs q).0 member))))
 
 -- distinct indexes are sound where they are as expected
-pub AreSound-as_expected : (mode : ValidateCompact) (expected : ℕ) (xs : List ℕ) → IsDistinct nat_eq xs → AreSound mode expected xs ↔ AreAsExpected mode expected xs
+pub AreSound-as_expected :
+    (mode : ValidateCompact) (expected : ℕ) (xs : List ℕ)
+    → IsDistinct nat_eq xs
+    → AreSound mode expected xs ↔ AreAsExpected mode expected xs
 AreSound-as_expected Compact expected xs apart = (
   λ sound. (sound.0, All-permutation (λ x. x < expected) (numbers expected) xs sound.1 (below-numbers expected)),
   λ told. (told.0, arranged-from_below expected xs told.0 apart told.1),
@@ -151,7 +186,11 @@ AreSound-as_expected NonCompact expected xs apart = (λ sound. sound.0, λ told.
 
 module _ (mode : ValidateCompact) (expected : ℕ) (xs : List ℕ) where
   -- in another order they are as expected too
-  AreAsExpected-moved : (ys : List ℕ) → IsPermutation xs ys → AreAsExpected mode expected xs → AreAsExpected mode expected ys
+  AreAsExpected-moved :
+      (ys : List ℕ)
+      → IsPermutation xs ys
+      → AreAsExpected mode expected xs
+      → AreAsExpected mode expected ys
   AreAsExpected-moved ys moved = by_mode mode
     where
       by_mode : (mode : ValidateCompact) → AreAsExpected mode expected xs → AreAsExpected mode expected ys
@@ -159,15 +198,25 @@ module _ (mode : ValidateCompact) (expected : ℕ) (xs : List ℕ) where
       by_mode NonCompact told = length_permutation xs ys moved ∙ told
 
 -- what a validator answers of a table's indexes, which are distinct
-module _ {E : Type 0} (mode : ValidateCompact) (expected : ℕ) (xs : List ℕ) (apart : IsDistinct nat_eq xs) (result : Result (Unit {0}) (ValidateRefusal E)) where
-  pub Validates-listed : (ys : List ℕ) → IsPermutation xs ys → Validates (AreSound mode expected ys) result → Validates (AreAsExpected mode expected xs) result
+module _
+    {E : Type 0} (mode : ValidateCompact) (expected : ℕ) (xs : List ℕ) (apart : IsDistinct nat_eq xs)
+    (result : Result (Unit {0}) (ValidateRefusal E))
+    where
+  pub Validates-listed :
+      (ys : List ℕ)
+      → IsPermutation xs ys
+      → Validates (AreSound mode expected ys) result
+      → Validates (AreAsExpected mode expected xs) result
   Validates-listed ys moved =
       let same = AreSound-as_expected mode expected ys (distinct-moved xs ys moved apart) in
       Validates-alike (AreSound mode expected ys) (AreAsExpected mode expected xs) result
       (λ sound. AreAsExpected-moved mode expected ys xs (IsPermutation-sym xs ys moved) (same.0 sound))
       (λ told. same.1 (AreAsExpected-moved mode expected xs ys moved told))
 
-  pub Validates-in_order : (Contains xs sentinel → ⊥) → Validates (AreSoundInOrder mode expected xs) result → Validates (AreAsExpected mode expected xs) result
+  pub Validates-in_order :
+      (Contains xs sentinel → ⊥)
+      → Validates (AreSoundInOrder mode expected xs) result
+      → Validates (AreAsExpected mode expected xs) result
   Validates-in_order assigned =
       let same = AreSound-as_expected mode expected xs apart in
       Validates-alike (AreSoundInOrder mode expected xs) (AreAsExpected mode expected xs) result (λ sound. same.0 sound.0) (λ told. (same.1 told, assigned))

@@ -46,5 +46,7 @@ module _ {T : Type 0} {slots : List (ItemSlot T)} {head len : ℕ} where
     all_but_free = omega (arith, total bounded, ap length (free_is bounded))
 
     -- and a set is sound in the modes that allow so many
-    pub IsSoundIn-set : (mode : ValidateCompact) → Allows mode (length (chain_of (length slots) slots head)) ↔ IsSoundIn mode slots head len
+    pub IsSoundIn-set :
+        (mode : ValidateCompact)
+        → Allows mode (length (chain_of (length slots) slots head)) ↔ IsSoundIn mode slots head len
     IsSoundIn-set = IsSoundIn-allowed bounded.sound (length (chain_of (length slots) slots head)) all_but_free

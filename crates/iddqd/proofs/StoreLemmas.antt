@@ -66,7 +66,13 @@ module _ {T : Type 0} where
   IsValid-cleared s valid = IsValid-empty s.limit valid.named
 
   -- a live index is not free
-  live_not_free : (s : Store T) (ix : ℕ) (item : T) → IsValid s → get s ix ≡ Some item → (other : ℕ) → Contains s.free other → ix ≢ other
+  live_not_free :
+      (s : Store T) (ix : ℕ) (item : T)
+      → IsValid s
+      → get s ix ≡ Some item
+      → (other : ℕ)
+      → Contains s.free other
+      → ix ≢ other
   live_not_free s ix item valid live other listed same =
       let none = ((valid.vacant other).0 listed).1 in
       let here = ap (λ i. get s i) same in
@@ -98,7 +104,11 @@ module _ {T : Type 0} where
           let apart : other ≢ ix = λ same. live_not_free s ix item valid live other listed (sym same) in
           (omega (arith, was.0, length-set s.items ix None), get_or-set_other s.items ix other None None apart ∙ was.1)
 
-      listed_if : (other : ℕ) → IsVacant (removed s ix) other → ((other ≡ ix) ⊎ (other ≡ ix → ⊥)) → Contains (ix ∷ s.free) other
+      listed_if :
+          (other : ℕ)
+          → IsVacant (removed s ix) other
+          → ((other ≡ ix) ⊎ (other ≡ ix → ⊥))
+          → Contains (ix ∷ s.free) other
       listed_if other vacant (inl same) = subst (λ i. Contains (ix ∷ s.free) i) (sym same) (contains_head ix s.free)
       listed_if other vacant (inr apart) =
           contains_tail ix other s.free ((valid.vacant other).1 (omega (arith, vacant.0, length-set s.items ix None), sym (get_or-set_other s.items ix other None None apart) ∙ vacant.1))
@@ -108,10 +118,17 @@ module _ {T : Type 0} where
   get-rebound_at s ix item x live = get_or-set_same s.items ix (Some item) None (live_within s.items ix (ap is_some live))
 
   -- and the others give what they gave
-  pub get-rebound_other : (s : Store T) (ix other : ℕ) (item : T) → other ≢ ix → get (rebound s ix item) other ≡ get s other
+  pub get-rebound_other :
+      (s : Store T) (ix other : ℕ) (item : T)
+      → other ≢ ix
+      → get (rebound s ix item) other ≡ get s other
   get-rebound_other s ix other item apart = get_or-set_other s.items ix other (Some item) None apart
 
-  pub IsValid-rebound : (s : Store T) (ix : ℕ) (item x : T) → IsValid s → get s ix ≡ Some x → IsValid (rebound s ix item)
+  pub IsValid-rebound :
+      (s : Store T) (ix : ℕ) (item x : T)
+      → IsValid s
+      → get s ix ≡ Some x
+      → IsValid (rebound s ix item)
   IsValid-rebound s ix item x valid live =
       let within = live_within s.items ix (ap is_some live) in
       let same = length-set s.items ix (Some item) in
@@ -132,7 +149,11 @@ module _ {T : Type 0} where
           let apart : other ≢ ix = λ same. live_not_free s ix x valid live other listed (sym same) in
           (omega (arith, was.0, length-set s.items ix (Some item)), get-rebound_other s ix other item apart ∙ was.1)
 
-      listed_if : (other : ℕ) → IsVacant (rebound s ix item) other → ((other ≡ ix) ⊎ (other ≡ ix → ⊥)) → Contains s.free other
+      listed_if :
+          (other : ℕ)
+          → IsVacant (rebound s ix item) other
+          → ((other ≡ ix) ⊎ (other ≡ ix → ⊥))
+          → Contains s.free other
       listed_if other vacant (inl same) =
           let none : get (rebound s ix item) ix ≡ None = subst (λ i. get (rebound s ix item) i ≡ None) same vacant.1 in
           let bound = get-rebound_at s ix item x live in
@@ -144,7 +165,11 @@ module _ {T : Type 0} where
   pub none_free : (s : Store T) → IsValid s → next_index s ≡ slot_count s → s.free ≡ []
   none_free s valid new = by_free s.free (λ ix listed. ((valid.vacant ix).0 listed).0) new
     where
-      by_free : (free : List ℕ) → ((ix : ℕ) → Contains free ix → ix < slot_count s) → first_or free (slot_count s) ≡ slot_count s → free ≡ []
+      by_free :
+          (free : List ℕ)
+          → ((ix : ℕ) → Contains free ix → ix < slot_count s)
+          → first_or free (slot_count s) ≡ slot_count s
+          → free ≡ []
       by_free [] within new = refl
       by_free (ix ∷ rest) within new = absurd (omega (arith, within ix (contains_head ix rest), new))
 
@@ -152,7 +177,10 @@ module _ {T : Type 0} where
   pub first_free : (s : Store T) → next_index s ≢ slot_count s → slice_get s.free 0 ≡ Some (next_index s)
   first_free s old = by_free s.free old
     where
-      by_free : (free : List ℕ) → first_or free (slot_count s) ≢ slot_count s → slice_get free 0 ≡ Some (first_or free (slot_count s))
+      by_free :
+          (free : List ℕ)
+          → first_or free (slot_count s) ≢ slot_count s
+          → slice_get free 0 ≡ Some (first_or free (slot_count s))
       by_free [] old = absurd (old refl)
       by_free (ix ∷ rest) old = refl
 
@@ -160,7 +188,11 @@ module _ {T : Type 0} where
   pub GrowsIfDense-inserted : (s : Store T) (item : T) → IsValid s → GrowsIfDense s (inserted s item)
   GrowsIfDense-inserted s item valid = by_free s.items s.free valid.counted
     where
-      by_free : (items : List (Option T)) (free : List ℕ) → count_by is_some items + length free ≡ length items → GrowsIfDense (record { items = items; free = free; limit = s.limit }) (inserted (record { items = items; free = free; limit = s.limit }) item)
+      by_free :
+          (items : List (Option T)) (free : List ℕ)
+          → count_by is_some items + length free ≡ length items
+          → GrowsIfDense (record { items = items; free = free; limit = s.limit })
+            (inserted (record { items = items; free = free; limit = s.limit }) item)
       by_free items [] counted = record { dense = λ _. length_push items (Some item); vacant = λ below. absurd (omega arith) }
       by_free items (ix ∷ rest) counted = record { dense = λ all. absurd (omega arith); vacant = λ _. length-set items ix (Some item) }
 
@@ -168,7 +200,11 @@ module _ {T : Type 0} where
   unfolding IsDistinct
   IsValid-inserted s item valid not_full = by_free s.items s.free valid not_full
     where
-      at_end : (items : List (Option T)) → IsValid (record { items = items; free = []; limit = s.limit }) → (IsFull {T = T} (record { items = items; free = []; limit = s.limit }) → ⊥) → IsValid (inserted (record { items = items; free = []; limit = s.limit }) item)
+      at_end :
+          (items : List (Option T))
+          → IsValid (record { items = items; free = []; limit = s.limit })
+          → (IsFull {T = T} (record { items = items; free = []; limit = s.limit }) → ⊥)
+          → IsValid (inserted (record { items = items; free = []; limit = s.limit }) item)
       at_end items valid not_full =
           record {
             distinct = tt;
@@ -178,7 +214,11 @@ module _ {T : Type 0} where
             named = valid.named;
           }
         where
-          none_vacant : (ix : ℕ) → IsVacant (inserted (record { items = items; free = []; limit = s.limit }) item) ix → ((ix < length items) ⊎ (length items ≤ ix)) → ⊥
+          none_vacant :
+              (ix : ℕ)
+              → IsVacant (inserted (record { items = items; free = []; limit = s.limit }) item) ix
+              → ((ix < length items) ⊎ (length items ≤ ix))
+              → ⊥
           none_vacant ix vacant (inl before) =
               contains_none ix ((valid.vacant ix).1 (before, sym (get_or_append_left items (Some item ∷ []) None ix before) ∙ vacant.1))
           none_vacant ix vacant (inr past) =
@@ -191,7 +231,10 @@ module _ {T : Type 0} where
           below (inl most) = absurd (not_full (refl, most))
           below (inr fewer) = omega (arith, valid.small, length_push items (Some item))
 
-      reused : (items : List (Option T)) (ix : ℕ) (rest : List ℕ) → IsValid (record { items = items; free = ix ∷ rest; limit = s.limit }) → IsValid (inserted (record { items = items; free = ix ∷ rest; limit = s.limit }) item)
+      reused :
+          (items : List (Option T)) (ix : ℕ) (rest : List ℕ)
+          → IsValid (record { items = items; free = ix ∷ rest; limit = s.limit })
+          → IsValid (inserted (record { items = items; free = ix ∷ rest; limit = s.limit }) item)
       reused items ix rest valid =
           let first = (valid.vacant ix).0 (contains_head ix rest) in
           record {
@@ -209,7 +252,10 @@ module _ {T : Type 0} where
           not_again : (other : ℕ) → Contains rest other → ix ≢ other
           not_again other listed = same_if ix other (All-contains (λ y. nat_eq ix y ≡ false) rest other (All-from_recursion (λ y. nat_eq ix y ≡ false) rest (IsDistinct-head nat_eq ix rest valid.distinct)) listed)
 
-          still : (other : ℕ) → Contains rest other → IsVacant (inserted (record { items = items; free = ix ∷ rest; limit = s.limit }) item) other
+          still :
+              (other : ℕ)
+              → Contains rest other
+              → IsVacant (inserted (record { items = items; free = ix ∷ rest; limit = s.limit }) item) other
           still other listed =
               let was = (valid.vacant other).0 (contains_tail ix other rest listed) in
               let apart : other ≢ ix = λ same. not_again other listed (sym same) in
@@ -219,7 +265,11 @@ module _ {T : Type 0} where
           by_place other apart (inl same) = absurd (apart (sym same))
           by_place other apart (inr later) = later
 
-          listed_if : (other : ℕ) → IsVacant (inserted (record { items = items; free = ix ∷ rest; limit = s.limit }) item) other → ((other ≡ ix) ⊎ (other ≡ ix → ⊥)) → Contains rest other
+          listed_if :
+              (other : ℕ)
+              → IsVacant (inserted (record { items = items; free = ix ∷ rest; limit = s.limit }) item) other
+              → ((other ≡ ix) ⊎ (other ≡ ix → ⊥))
+              → Contains rest other
           listed_if other vacant (inl same) =
               let first = (valid.vacant ix).0 (contains_head ix rest) in
               let none : get_or (set items ix (Some item)) ix None ≡ None = subst (λ i. get_or (set items ix (Some item)) i None ≡ None) same vacant.1 in
@@ -229,6 +279,10 @@ module _ {T : Type 0} where
               let was = (valid.vacant other).1 (omega (arith, vacant.0, length-set items ix (Some item)), sym (get_or-set_other items ix other (Some item) None apart) ∙ vacant.1) in
               by_place other apart (contains_cases ix other rest was)
 
-      by_free : (items : List (Option T)) (free : List ℕ) → IsValid (record { items = items; free = free; limit = s.limit }) → (IsFull {T = T} (record { items = items; free = free; limit = s.limit }) → ⊥) → IsValid (inserted (record { items = items; free = free; limit = s.limit }) item)
+      by_free :
+          (items : List (Option T)) (free : List ℕ)
+          → IsValid (record { items = items; free = free; limit = s.limit })
+          → (IsFull {T = T} (record { items = items; free = free; limit = s.limit }) → ⊥)
+          → IsValid (inserted (record { items = items; free = free; limit = s.limit }) item)
       by_free items [] valid not_full = at_end items valid not_full
       by_free items (ix ∷ rest) valid not_full = reused items ix rest valid

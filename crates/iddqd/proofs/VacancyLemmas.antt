@@ -16,7 +16,11 @@ use Rattle.iddqd.proofs.StoreLemmas.{contains_head, contains_tail, contains_case
 use Rattle.iddqd.proofs.ChainLemmas.{IsChain-distinct, IsChain-unique, IsChain-vacant}
 
 -- distinct numbers that another list has are no more than its members
-length_within : (xs ys : List ℕ) → IsDistinct nat_eq xs → ((x : ℕ) → Contains xs x → Contains ys x) → length xs ≤ length ys
+length_within :
+    (xs ys : List ℕ)
+    → IsDistinct nat_eq xs
+    → ((x : ℕ) → Contains xs x → Contains ys x)
+    → length xs ≤ length ys
 length_within xs ys apart within =
     length-le_from_is_member nat_eq_equiv xs ys apart (λ x member. (is_member-Decides Decides-eqb ys x).1 (within x ((is_member-Decides Decides-eqb xs x).0 member)))
 
@@ -27,14 +31,20 @@ module _ {T : Type 0} where
   vacant_from first (Occupied item ∷ rest) = vacant_from (first + 1) rest
   vacant_from first (Vacant next ∷ rest) = first ∷ vacant_from (first + 1) rest
 
-  length-vacant_from : (first : ℕ) (slots : List (ItemSlot T)) → length (vacant_from first slots) + count_by is_some (map item_of slots) ≡ length slots
+  length-vacant_from :
+      (first : ℕ) (slots : List (ItemSlot T))
+      → length (vacant_from first slots) + count_by is_some (map item_of slots) ≡ length slots
   length-vacant_from first [] = refl
   length-vacant_from first (Occupied item ∷ rest) =
       omega (arith, length-vacant_from (first + 1) rest, sum_by-cons (λ o. cond (is_some o) 1 0) (Some item) (map item_of rest))
   length-vacant_from first (Vacant next ∷ rest) =
       omega (arith, length-vacant_from (first + 1) rest, sum_by-cons (λ o. cond (is_some o) 1 0) None (map item_of rest))
 
-  listed_if_vacant : (first : ℕ) (slots : List (ItemSlot T)) (at ix next : ℕ) → ix ≡ first + at → slice_get slots at ≡ Some (Vacant next) → Contains (vacant_from first slots) ix
+  listed_if_vacant :
+      (first : ℕ) (slots : List (ItemSlot T)) (at ix next : ℕ)
+      → ix ≡ first + at
+      → slice_get slots at ≡ Some (Vacant next)
+      → Contains (vacant_from first slots) ix
   listed_if_vacant first [] at ix next is found = absurd (cc)
   listed_if_vacant first (Occupied item ∷ rest) zero ix next is found = absurd (cc)
   listed_if_vacant first (Vacant link ∷ rest) zero ix next is found =
@@ -43,7 +53,10 @@ module _ {T : Type 0} where
   listed_if_vacant first (Vacant link ∷ rest) (suc at) ix next is found =
       contains_tail first ix (vacant_from (first + 1) rest) (listed_if_vacant (first + 1) rest at ix next (omega arith) found)
 
-  vacant_if_listed : (first : ℕ) (slots : List (ItemSlot T)) (ix : ℕ) → Contains (vacant_from first slots) ix → (at : ℕ) × (ix ≡ first + at) × (next : ℕ) × (slice_get slots at ≡ Some (Vacant next))
+  vacant_if_listed :
+      (first : ℕ) (slots : List (ItemSlot T)) (ix : ℕ)
+      → Contains (vacant_from first slots) ix
+      → (at : ℕ) × (ix ≡ first + at) × (next : ℕ) × (slice_get slots at ≡ Some (Vacant next))
   vacant_if_listed first [] ix listed = absurd (contains_none ix listed)
   vacant_if_listed first (Occupied item ∷ rest) ix listed =
       let later = vacant_if_listed (first + 1) rest ix listed in
@@ -71,23 +84,40 @@ module _ {T : Type 0} where
           differs first ix (omega (arith, there.1))
 
   -- distinct indexes of vacant slots are no more than those
-  vacant_at_most : (slots : List (ItemSlot T)) (list : List ℕ) → IsDistinct nat_eq list → ((ix : ℕ) → Contains list ix → (next : ℕ) × (slice_get slots ix ≡ Some (Vacant next))) → length list + count_by is_some (map item_of slots) ≤ length slots
+  vacant_at_most :
+      (slots : List (ItemSlot T)) (list : List ℕ)
+      → IsDistinct nat_eq list
+      → ((ix : ℕ) → Contains list ix → (next : ℕ) × (slice_get slots ix ≡ Some (Vacant next)))
+      → length list + count_by is_some (map item_of slots) ≤ length slots
   vacant_at_most slots list apart vacant =
       let within = length_within list (vacant_from 0 slots) apart (λ ix listed. listed_if_vacant 0 slots ix ix (vacant ix listed).0 (omega arith) (vacant ix listed).1) in
       omega (arith, within, length-vacant_from 0 slots)
 
   -- sound parts have as many slots as items and links
-  pub slots_counted : {slots : List (ItemSlot T)} {head len : ℕ} (sound : IsSound slots head len) → len + length sound.chain ≡ length slots
+  pub slots_counted :
+      {slots : List (ItemSlot T)} {head len : ℕ} (sound : IsSound slots head len)
+      → len + length sound.chain ≡ length slots
   slots_counted {slots} {head} {len} sound =
       let most = vacant_at_most slots sound.chain sound.distinct (λ ix listed. IsChain-vacant slots head sound.chain ix sound.chained listed) in
       let least = length_within (vacant_from 0 slots) sound.chain (distinct-vacant_from 0 slots) (λ ix listed. let there = vacant_if_listed 0 slots ix listed in sound.complete ix there.2 (subst (λ i. slice_get slots i ≡ Some (Vacant there.2)) (sym (there.1 ∙ zero-add there.0)) there.3)) in
       omega (arith, most, least, sound.counted, length-vacant_from 0 slots)
 
   -- distinct indexes of vacant slots, as many as there are, have each
-  each_vacant : (slots : List (ItemSlot T)) (list : List ℕ) → IsDistinct nat_eq list → ((ix : ℕ) → Contains list ix → (next : ℕ) × (slice_get slots ix ≡ Some (Vacant next))) → length list + count_by is_some (map item_of slots) ≡ length slots → (ix next : ℕ) → slice_get slots ix ≡ Some (Vacant next) → Contains list ix
+  each_vacant :
+      (slots : List (ItemSlot T)) (list : List ℕ)
+      → IsDistinct nat_eq list
+      → ((ix : ℕ) → Contains list ix → (next : ℕ) × (slice_get slots ix ≡ Some (Vacant next)))
+      → length list + count_by is_some (map item_of slots) ≡ length slots
+      → (ix next : ℕ)
+      → slice_get slots ix ≡ Some (Vacant next)
+      → Contains list ix
   each_vacant slots list apart vacant as_many ix next found = by_test (is_member nat_eq list ix) refl
     where
-      one_more : is_member nat_eq list ix ≡ false → (k : ℕ) (d : ℕ) → k < length list → nat_eq ix (get_or list k d) ≡ false
+      one_more :
+          is_member nat_eq list ix ≡ false
+          → (k : ℕ) (d : ℕ)
+          → k < length list
+          → nat_eq ix (get_or list k d) ≡ false
       one_more other k d inside =
           differs ix (get_or list k d) (λ same.
           let member = (is_member-Decides Decides-eqb list ix).1 (subst (λ i. Contains list i) (sym same) (Contains-get_or list k d inside)) in
@@ -103,7 +133,13 @@ module _ {T : Type 0} where
           absurd (omega (arith, longer))
 
   -- a chain with as many links as slots are vacant has each
-  pub IsSound-from_chain : (slots : List (ItemSlot T)) (head len : ℕ) → len ≡ count_by is_some (map item_of slots) → (vacant : ℕ) → len + vacant ≡ length slots → HasChain slots head vacant → IsSound slots head len
+  pub IsSound-from_chain :
+      (slots : List (ItemSlot T)) (head len : ℕ)
+      → len ≡ count_by is_some (map item_of slots)
+      → (vacant : ℕ)
+      → len + vacant ≡ length slots
+      → HasChain slots head vacant
+      → IsSound slots head len
   IsSound-from_chain slots head len counted vacant as_many chain =
       let apart = IsChain-distinct slots head chain.0 chain.1 in
       record {
@@ -117,7 +153,10 @@ module _ {T : Type 0} where
   -- So many steps from head along the chain lead to this index: each chain goes on by one of the other.
   pub record Leads (slots : List (ItemSlot T)) (head steps at : ℕ) : Type 0 where
     pub whole : (rest : List ℕ) → IsChain slots at rest → HasChain slots head (steps + length rest)
-    pub part : (list : List ℕ) → IsChain slots head list → (rest : List ℕ) × IsChain slots at rest × (length list ≡ steps + length rest)
+    pub part :
+        (list : List ℕ)
+        → IsChain slots head list
+        → (rest : List ℕ) × IsChain slots at rest × (length list ≡ steps + length rest)
 
   pub Leads-start : (slots : List (ItemSlot T)) (head : ℕ) → Leads slots head 0 head
   Leads-start slots head = record {
@@ -127,7 +166,11 @@ module _ {T : Type 0} where
 
   module _ {slots : List (ItemSlot T)} {head steps at : ℕ} (walk : Leads slots head steps at) where
     -- one step more, from a vacant slot to its link
-    pub Leads-step : (next : ℕ) → at ≢ sentinel → slice_get slots at ≡ Some (Vacant next) → Leads slots head (steps + 1) next
+    pub Leads-step :
+        (next : ℕ)
+        → at ≢ sentinel
+        → slice_get slots at ≡ Some (Vacant next)
+        → Leads slots head (steps + 1) next
     Leads-step next before found = record {
       whole = λ rest chain.
           let longer = walk.whole (at ∷ rest) (next, refl, before, found, chain) in
@@ -135,7 +178,12 @@ module _ {T : Type 0} where
       part = λ list chain. let shorter = walk.part list chain in beyond shorter.0 shorter.1 list shorter.2;
     }
       where
-        beyond : (rest : List ℕ) → IsChain slots at rest → (list : List ℕ) → length list ≡ steps + length rest → (more : List ℕ) × IsChain slots next more × (length list ≡ steps + 1 + length more)
+        beyond :
+            (rest : List ℕ)
+            → IsChain slots at rest
+            → (list : List ℕ)
+            → length list ≡ steps + length rest
+            → (more : List ℕ) × IsChain slots next more × (length list ≡ steps + 1 + length more)
         beyond [] ends list size = absurd (before ends)
         beyond (ix ∷ more) goes_on list size =
             let there = goes_on.3 in
@@ -153,9 +201,17 @@ module _ {T : Type 0} where
         omega (arith, chain.2, rest.2, none)
 
     -- before the end the chain goes on from a vacant slot, so it has more
-    pub more_before_end : at ≢ sentinel → (count : ℕ) → HasChain slots head count → (steps < count) × (next : ℕ) × (slice_get slots at ≡ Some (Vacant next))
+    pub more_before_end :
+        at ≢ sentinel
+        → (count : ℕ)
+        → HasChain slots head count
+        → (steps < count) × (next : ℕ) × (slice_get slots at ≡ Some (Vacant next))
     more_before_end before count chain = let rest = walk.part chain.0 chain.1 in by_rest rest.0 rest.1 rest.2
       where
-        by_rest : (rest : List ℕ) → IsChain slots at rest → length chain.0 ≡ steps + length rest → (steps < count) × (next : ℕ) × (slice_get slots at ≡ Some (Vacant next))
+        by_rest :
+            (rest : List ℕ)
+            → IsChain slots at rest
+            → length chain.0 ≡ steps + length rest
+            → (steps < count) × (next : ℕ) × (slice_get slots at ≡ Some (Vacant next))
         by_rest [] ends size = absurd (before ends)
         by_rest (ix ∷ more) goes_on size = (omega (arith, chain.2, size), goes_on.0, goes_on.3)

@@ -11,16 +11,28 @@ module _ {E : Type 0} where
   Validates-unsound sound (Memory error) unsound = tt
 
   -- for want of memory, whatever the parts are
-  pub Validates-memory : (sound : Type 0) (refusal : ValidateRefusal E) → IsMemory refusal → Validates sound (Err refusal)
+  pub Validates-memory :
+      (sound : Type 0) (refusal : ValidateRefusal E)
+      → IsMemory refusal
+      → Validates sound (Err refusal)
   Validates-memory sound (Invalid error) memory = absurd memory
   Validates-memory sound (Memory error) memory = tt
 
   -- a part that is needed refuses the whole
-  pub Validates-part : (part whole : Type 0) (refusal : ValidateRefusal E) → (whole → part) → Validates part (Err refusal) → Validates whole (Err refusal)
+  pub Validates-part :
+      (part whole : Type 0) (refusal : ValidateRefusal E)
+      → (whole → part)
+      → Validates part (Err refusal)
+      → Validates whole (Err refusal)
   Validates-part part whole (Invalid error) needs unsound = λ all. unsound (needs all)
   Validates-part part whole (Memory error) needs memory = tt
 
   -- what is sound in other words
-  pub Validates-alike : (sound other : Type 0) (result : Result (Unit {0}) (ValidateRefusal E)) → (sound → other) → (other → sound) → Validates sound result → Validates other result
+  pub Validates-alike :
+      (sound other : Type 0) (result : Result (Unit {0}) (ValidateRefusal E))
+      → (sound → other)
+      → (other → sound)
+      → Validates sound result
+      → Validates other result
   Validates-alike sound other (Ok passed) onto back holds = onto holds
   Validates-alike sound other (Err refusal) onto back holds = Validates-part sound other refusal back holds

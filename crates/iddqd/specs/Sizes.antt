@@ -24,8 +24,9 @@ module _ {T : Type 0} where
     pub contents : new.store ≡ old.store
     pub capacity_stays : old.capacity ≤ new.capacity
     pub reserved : OnOk result (slot_count old.store + additional ≤ new.capacity)
-    pub grows : OnOk result
-        (old.capacity < slot_count old.store + additional → new.capacity ≡ grown (slot_count old.store + additional) old)
+    pub grows :
+        OnOk result (old.capacity < slot_count old.store + additional → new.capacity ≡ grown
+            (slot_count old.store + additional) old)
     pub refused : OnErr result (new ≡ old)
     pub fitted : slot_count old.store + additional ≤ old.capacity → IsOk result × (new ≡ old)
 

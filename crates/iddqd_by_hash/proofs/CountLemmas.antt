@@ -13,7 +13,12 @@ use Rattle.iddqd.proofs.StoreLemmas.{contains_head, contains_tail, contains_case
 use Rattle.iddqd_by_hash.specs.Scan.{IsLive}
 
 -- two lists of distinct numbers with the same members are as long
-same_count : (xs ys : List ℕ) → IsDistinct nat_eq xs → IsDistinct nat_eq ys → ((n : ℕ) → Contains xs n ↔ Contains ys n) → length xs ≡ length ys
+same_count :
+    (xs ys : List ℕ)
+    → IsDistinct nat_eq xs
+    → IsDistinct nat_eq ys
+    → ((n : ℕ) → Contains xs n ↔ Contains ys n)
+    → length xs ≡ length ys
 same_count xs ys apart also_apart same =
     let le = length-le_from_is_member nat_eq_equiv xs ys apart (λ n here. (is_member-Decides Decides-eqb ys n).1 ((same n).0 ((is_member-Decides Decides-eqb xs n).0 here))) in
     let ge = length-le_from_is_member nat_eq_equiv ys xs also_apart (λ n here. (is_member-Decides Decides-eqb xs n).1 ((same n).1 ((is_member-Decides Decides-eqb ys n).0 here))) in
@@ -37,7 +42,10 @@ module _ {T : Type 0} where
     | inr there ↦ let later = listed-firsts pairs n there in (later.0, contains_tail p (n, later.0) pairs later.1)
   ]
 
-  rising_apart : (n first : ℕ) (slots : List (Option T)) → n < first → AllByRecursion (λ m. nat_eq n m ≡ false) (firsts (pairs_from first slots))
+  rising_apart :
+      (n first : ℕ) (slots : List (Option T))
+      → n < first
+      → AllByRecursion (λ m. nat_eq n m ≡ false) (firsts (pairs_from first slots))
   rising_apart n first [] less = tt
   rising_apart n first (None ∷ rest) less = rising_apart n (first + 1) rest (omega arith)
   rising_apart n first (Some item ∷ rest) less = (differs n first (omega arith), rising_apart n (first + 1) rest (omega arith))

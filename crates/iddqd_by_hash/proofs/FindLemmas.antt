@@ -13,12 +13,21 @@ use Rattle.iddqd_by_hash.proofs.ScanLemmas.{AnswersScan-hit}
 use Rattle.iddqd_by_hash.specs.Hashed.{Hashing, hashing_of, IsLawful, StandsForOne, AsksAt, Finds, IsExact, LooksUp}
 
 -- keys whose bounds keep their laws
-pub IsLawful-from_bounds : {K S H : Type 0} (equal : K → K → Bool) (hash_input : K → List (List ℕ)) (b : builder.Ghosts S H) (h : hasher.Ghosts H) (state : S) → IsPartialEquivalence equal → ((x y : K) → IsTrue (equal x y) → hash_input x ≡ hash_input y) → IsLawful (hashing_of equal hash_input b h state)
+pub IsLawful-from_bounds :
+    {K S H : Type 0} (equal : K → K → Bool) (hash_input : K → List (List ℕ)) (b : builder.Ghosts S H)
+    (h : hasher.Ghosts H) (state : S)
+    → IsPartialEquivalence equal
+    → ((x y : K) → IsTrue (equal x y) → hash_input x ≡ hash_input y)
+    → IsLawful (hashing_of equal hash_input b h state)
 IsLawful-from_bounds equal hash_input b h state equivalence respects =
     record { equivalence = equivalence; equal_hash = λ x y same. ap (hash_one b h state) (respects x y same) }
 
 -- a lawful key stands for itself, under its hash
-pub StandsForOne-key : {K : Type 0} (hashing : Hashing K) (key : K) (hash : ℕ) → IsLawful hashing → hash ≡ hashing.hash_of key → StandsForOne hashing hash (hashing.equal key)
+pub StandsForOne-key :
+    {K : Type 0} (hashing : Hashing K) (key : K) (hash : ℕ)
+    → IsLawful hashing
+    → hash ≡ hashing.hash_of key
+    → StandsForOne hashing hash (hashing.equal key)
 StandsForOne-key hashing key hash lawful is =
     let e = lawful.equivalence in
     record {
@@ -42,7 +51,10 @@ module _ {T : Type 0} where
   passes_from_hit s test ix (item, is, passed) = rw (passes, is) passed
 
   -- a search under a hash for an item that passes
-  pub Finds-from_where : (s : Store T) (m : FinMap nat_cmp ℕ) (hash : ℕ) (test : T → Bool) (r : Option ℕ) → FindsWhere (passes s test) hash m r → Finds s m hash test r
+  pub Finds-from_where :
+      (s : Store T) (m : FinMap nat_cmp ℕ) (hash : ℕ) (test : T → Bool) (r : Option ℕ)
+      → FindsWhere (passes s test) hash m r
+      → Finds s m hash test r
   Finds-from_where s m hash test None misses = λ ix found.
       let passed : true ≡ false = sym (passes_from_hit s test ix found.hit) ∙ misses ix found.filed in
       cc
@@ -50,12 +62,20 @@ module _ {T : Type 0} where
 
 module _ {T K : Type 0} (key_of : T → K) (s : Store T) where
   -- what a query answered of the key at an index
-  pub passes-asked : (test : K → Bool) (ix : ℕ) (answer : Bool) → AsksAt key_of s test ix answer → answer ≡ passes s (passes_by key_of test) ix
+  pub passes-asked :
+      (test : K → Bool) (ix : ℕ) (answer : Bool)
+      → AsksAt key_of s test ix answer
+      → answer ≡ passes s (passes_by key_of test) ix
   passes-asked test ix answer asked = rw (passes, asked.live) asked.is
 
   module _ (m : FinMap nat_cmp ℕ) (hash : ℕ) (test : K → Bool) where
     -- where the side is exact and the query stands for one key, that is a scan
-    pub AnswersScan-found : (hashing : Hashing K) (r : Option ℕ) → StandsForOne hashing hash test → IsExact key_of hashing s m → Finds s m hash (passes_by key_of test) r → AnswersScan s (passes_by key_of test) r
+    pub AnswersScan-found :
+        (hashing : Hashing K) (r : Option ℕ)
+        → StandsForOne hashing hash test
+        → IsExact key_of hashing s m
+        → Finds s m hash (passes_by key_of test) r
+        → AnswersScan s (passes_by key_of test) r
     AnswersScan-found hashing None one o misses = λ ix hit.
         misses ix (record { hit = hit; filed = o.placed ix hit.0 hit.1 ∙ ap Some (one.hashed (key_of hit.0) hit.2) })
     AnswersScan-found hashing (Some ix) one o found =

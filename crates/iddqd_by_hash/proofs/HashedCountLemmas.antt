@@ -29,7 +29,10 @@ less_differs x y less =
       | false ↦ λ _. refl
     ] refl
 
-below_apart : (x : ℕ) (es : List (ℕ × ℕ)) → Holds (below_all nat_cmp x es) → AllByRecursion (λ y. nat_eq x y ≡ false) (map (λ (e : ℕ × ℕ). e.0) es)
+below_apart :
+    (x : ℕ) (es : List (ℕ × ℕ))
+    → Holds (below_all nat_cmp x es)
+    → AllByRecursion (λ y. nat_eq x y ≡ false) (map (λ (e : ℕ × ℕ). e.0) es)
 below_apart x [] h = tt
 below_apart x (e ∷ es) h =
     let parts = both_hold _ _ h in

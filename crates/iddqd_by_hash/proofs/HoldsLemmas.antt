@@ -32,7 +32,13 @@ module _ {T : Type 0} where
           | None ↦ λ _. refl
         ] refl
 
-    removed_by : (ix : ℕ) (item : T) → get s ix ≡ Some item → (j : ℕ) → ((j ≡ ix) ⊎ (j ≡ ix → ⊥)) → (IsSome (finite.get m j) ↔ IsLive s j) → IsSome (finite.get (finite.remove m ix) j) ↔ IsLive (removed s ix) j
+    removed_by :
+        (ix : ℕ) (item : T)
+        → get s ix ≡ Some item
+        → (j : ℕ)
+        → ((j ≡ ix) ⊎ (j ≡ ix → ⊥))
+        → (IsSome (finite.get m j) ↔ IsLive s j)
+        → IsSome (finite.get (finite.remove m ix) j) ↔ IsLive (removed s ix) j
     removed_by ix item live j (inl same) was =
         rw (same, get-remove_at m ix, get-removed_at s ix item live) (λ h. h, λ h. h)
     removed_by ix item live j (inr other) was =
@@ -41,13 +47,22 @@ module _ {T : Type 0} where
     pub Holds-removed : (ix : ℕ) (item : T) → get s ix ≡ Some item → Holds (removed s ix) (finite.remove m ix)
     Holds-removed ix item live j = removed_by ix item live j (cases_eq j ix) (holds j)
 
-    inserted_by : (item : T) (hash : ℕ) → IsValid s → (j : ℕ) → ((j ≡ next_index s) ⊎ (j ≡ next_index s → ⊥)) → (IsSome (finite.get m j) ↔ IsLive s j) → IsSome (finite.get (finite.insert m (next_index s) hash) j) ↔ IsLive (inserted s item) j
+    inserted_by :
+        (item : T) (hash : ℕ)
+        → IsValid s
+        → (j : ℕ)
+        → ((j ≡ next_index s) ⊎ (j ≡ next_index s → ⊥))
+        → (IsSome (finite.get m j) ↔ IsLive s j)
+        → IsSome (finite.get (finite.insert m (next_index s) hash) j) ↔ IsLive (inserted s item) j
     inserted_by item hash valid j (inl same) was =
         rw (same, get-insert_at m (next_index s) hash, get-inserted_at s item valid) (λ _. refl, λ _. refl)
     inserted_by item hash valid j (inr other) was =
         rw (get-insert_other m (next_index s) hash j other, get-inserted_other s item j other) was
 
-    pub Holds-inserted : (item : T) (hash : ℕ) → IsValid s → Holds (inserted s item) (finite.insert m (next_index s) hash)
+    pub Holds-inserted :
+        (item : T) (hash : ℕ)
+        → IsValid s
+        → Holds (inserted s item) (finite.insert m (next_index s) hash)
     Holds-inserted item hash valid j = inserted_by item hash valid j (cases_eq j (next_index s)) (holds j)
 
     pub Holds-rebound : (ix : ℕ) (item was : T) → get s ix ≡ Some was → Holds (rebound s ix item) m
@@ -58,7 +73,12 @@ module _ {T : Type 0} where
       pub CanRemap-held : (ix : ℕ) → IsSome (finite.get m ix) → CanRemap remap ix
       CanRemap-held ix here = (renames s remap valid is ix ((holds ix).0 here)).0
 
-      pub one_name-held : (i j : ℕ) → IsSome (finite.get m i) → IsSome (finite.get m j) → remapped remap i ≡ remapped remap j → i ≡ j
+      pub one_name-held :
+          (i j : ℕ)
+          → IsSome (finite.get m i)
+          → IsSome (finite.get m j)
+          → remapped remap i ≡ remapped remap j
+          → i ≡ j
       one_name-held i j p q same = one_name s remap valid is i j ((holds i).0 p) ((holds j).0 q) same
 
       pub Renames-by_rank : (new : FinMap nat_cmp ℕ) → Renames (remapped remap) m new → Renames (rank s) m new

@@ -30,18 +30,29 @@ module _ {T K : Type 0} (key_of : T → K) (hashing : Hashing K) where
       apart = AreApart-bare _ s none;
     }
 
-    pub IsInPlace-removed : (ix : ℕ) (item : T) → get s ix ≡ Some item → IsInPlace key_of hashing s m → IsInPlace key_of hashing (removed s ix) (finite.remove m ix)
+    pub IsInPlace-removed :
+        (ix : ℕ) (item : T)
+        → get s ix ≡ Some item
+        → IsInPlace key_of hashing s m
+        → IsInPlace key_of hashing (removed s ix) (finite.remove m ix)
     IsInPlace-removed ix item live placed j y is =
         let was = live_before s ix j item y live is in
         get-remove_other m ix j was.0 ∙ placed j y was.1
 
-    pub Keeps-removed : (ix : ℕ) (item : T) → get s ix ≡ Some item → Keeps key_of hashing s m (removed s ix) (finite.remove m ix)
+    pub Keeps-removed :
+        (ix : ℕ) (item : T)
+        → get s ix ≡ Some item
+        → Keeps key_of hashing s m (removed s ix) (finite.remove m ix)
     Keeps-removed ix item live = record {
       placed = IsInPlace-removed ix item live;
       exact = λ o. record { placed = IsInPlace-removed ix item live o.placed; apart = AreApart-removed _ s ix item live o.apart };
     }
 
-    pub IsInPlace-inserted : (item : T) → IsValid s → IsInPlace key_of hashing s m → IsInPlace key_of hashing (inserted s item) (finite.insert m (next_index s) (hash_at item))
+    pub IsInPlace-inserted :
+        (item : T)
+        → IsValid s
+        → IsInPlace key_of hashing s m
+        → IsInPlace key_of hashing (inserted s item) (finite.insert m (next_index s) (hash_at item))
     IsInPlace-inserted item valid placed j y is =
         elim (live_cases s item j y valid is) [
           | inl new_one ↦ rw (new_one.0, ← new_one.1) (get-insert_at m (next_index s) _)
@@ -49,14 +60,25 @@ module _ {T K : Type 0} (key_of : T → K) (hashing : Hashing K) where
         ]
 
     -- an item whose key none has
-    pub IsExact-inserted : (item : T) → IsValid s → IsLawful hashing → HasNoHit s (has_key_of item) → IsExact key_of hashing s m → IsExact key_of hashing (inserted s item) (finite.insert m (next_index s) (hash_at item))
+    pub IsExact-inserted :
+        (item : T)
+        → IsValid s
+        → IsLawful hashing
+        → HasNoHit s (has_key_of item)
+        → IsExact key_of hashing s m
+        → IsExact key_of hashing (inserted s item) (finite.insert m (next_index s) (hash_at item))
     IsExact-inserted item valid lawful none o = record {
       placed = IsInPlace-inserted item valid o.placed;
       apart = AreApart-inserted _ s item valid (λ x y. lawful.equivalence.symm (key_of x) (key_of y)) none o.apart;
     }
 
     -- an item whose key a look-up missed
-    pub Keeps-inserted : (item : T) → IsValid s → IsLawful hashing → Finds s m (hash_at item) (has_key_of item) None → Keeps key_of hashing s m (inserted s item) (finite.insert m (next_index s) (hash_at item))
+    pub Keeps-inserted :
+        (item : T)
+        → IsValid s
+        → IsLawful hashing
+        → Finds s m (hash_at item) (has_key_of item) None
+        → Keeps key_of hashing s m (inserted s item) (finite.insert m (next_index s) (hash_at item))
     Keeps-inserted item valid lawful missed = record {
       placed = IsInPlace-inserted item valid;
       exact = λ o.
@@ -64,7 +86,11 @@ module _ {T K : Type 0} (key_of : T → K) (hashing : Hashing K) where
           IsExact-inserted item valid lawful (AnswersScan-found key_of s m _ _ hashing None one o missed) o;
     }
 
-    pub IsInPlace-compacted : (new : FinMap nat_cmp ℕ) → Renames (rank s) m new → IsInPlace key_of hashing s m → IsInPlace key_of hashing (compacted s) new
+    pub IsInPlace-compacted :
+        (new : FinMap nat_cmp ℕ)
+        → Renames (rank s) m new
+        → IsInPlace key_of hashing s m
+        → IsInPlace key_of hashing (compacted s) new
     IsInPlace-compacted new named placed at item is =
         let (ix, same, stood) = live-compacted s at item is in
         subst (λ at. finite.get new at ≡ Some (hash_at item)) same (named.each ix _ (placed ix item stood))
@@ -77,14 +103,19 @@ module _ {T K : Type 0} (key_of : T → K) (hashing : Hashing K) where
 
     -- a live index that is given an item with the same key
     module _ (ix : ℕ) (item was : T) (live : get s ix ≡ Some was) (lawful : IsLawful hashing) where
-      IsInPlace-rebound : hashing.equal (key_of item) (key_of was) ≡ true → IsInPlace key_of hashing s m → IsInPlace key_of hashing (rebound s ix item) m
+      IsInPlace-rebound :
+          hashing.equal (key_of item) (key_of was) ≡ true
+          → IsInPlace key_of hashing s m
+          → IsInPlace key_of hashing (rebound s ix item) m
       IsInPlace-rebound kept placed j y is =
           elim (rebound_cases s ix item was live j y is) [
             | inl a ↦ rw (a.0, ← a.1) (placed ix was live ∙ ap Some (sym (lawful.equal_hash (key_of item) (key_of was) kept)))
             | inr b ↦ placed j y b.1
           ]
 
-      pub Keeps-rebound : (ChangesAt key_of hashing.equal s ix item → ⊥) → Keeps key_of hashing s m (rebound s ix item) m
+      pub Keeps-rebound :
+          (ChangesAt key_of hashing.equal s ix item → ⊥)
+          → Keeps key_of hashing s m (rebound s ix item) m
       Keeps-rebound same =
           let e = lawful.equivalence in
           let kept = passes_unless s (has_key_of item) ix was live same in

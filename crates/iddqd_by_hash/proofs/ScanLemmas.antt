@@ -10,13 +10,21 @@ use Rattle.iddqd_by_hash.specs.Scan.{IsLive, IsHit, HasNoHit, AnswersScan, AreAp
 
 module _ {T : Type 0} where
   -- an index that is live after a removal is another one, and has what it had
-  pub live_before : (s : Store T) (ix j : ℕ) (x y : T) → get s ix ≡ Some x → get (removed s ix) j ≡ Some y → (j ≢ ix) × (get s j ≡ Some y)
+  pub live_before :
+      (s : Store T) (ix j : ℕ) (x y : T)
+      → get s ix ≡ Some x
+      → get (removed s ix) j ≡ Some y
+      → (j ≢ ix) × (get s j ≡ Some y)
   live_before s ix j x y live is =
       let other : j ≢ ix = λ same. (let gone = get-removed_at s ix x live in let here = subst (λ k. get (removed s ix) k ≡ Some y) same is in cc) in
       (other, sym (get-removed_other s ix j other) ∙ is)
 
   -- what is live after an insert is the new item, or was live
-  pub live_cases : (s : Store T) (item : T) (j : ℕ) (y : T) → IsValid s → get (inserted s item) j ≡ Some y → ((j ≡ next_index s) × (item ≡ y)) ⊎ ((j ≢ next_index s) × (get s j ≡ Some y))
+  pub live_cases :
+      (s : Store T) (item : T) (j : ℕ) (y : T)
+      → IsValid s
+      → get (inserted s item) j ≡ Some y
+      → ((j ≡ next_index s) × (item ≡ y)) ⊎ ((j ≢ next_index s) × (get s j ≡ Some y))
   live_cases s item j y valid is =
       elim (cases_eq j (next_index s)) [
         | inl same ↦
@@ -27,7 +35,11 @@ module _ {T : Type 0} where
       ]
 
   -- a test that no other item fails at the index passes the item there
-  pub passes_unless : (s : Store T) (test : T → Bool) (ix : ℕ) (was : T) → get s ix ≡ Some was → (IsHit s (λ x. not (test x)) ix → ⊥) → test was ≡ true
+  pub passes_unless :
+      (s : Store T) (test : T → Bool) (ix : ℕ) (was : T)
+      → get s ix ≡ Some was
+      → (IsHit s (λ x. not (test x)) ix → ⊥)
+      → test was ≡ true
   passes_unless s test ix was live none =
       elim (test was) as (λ b. test was ≡ b → b ≡ true) [
         | true ↦ λ _. refl
@@ -35,12 +47,21 @@ module _ {T : Type 0} where
       ] refl
 
   -- a scan answers the index exactly where it hits
-  pub scan_hits : (s : Store T) (test : T → Bool) (r : Option ℕ) → AnswersScan s test r → (ix : ℕ) → (r ≡ Some ix) ↔ IsHit s test ix
+  pub scan_hits :
+      (s : Store T) (test : T → Bool) (r : Option ℕ)
+      → AnswersScan s test r
+      → (ix : ℕ)
+      → (r ≡ Some ix) ↔ IsHit s test ix
   scan_hits s test None none ix = (λ is. absurd (cc), λ hit. absurd (none ix hit))
   scan_hits s test (Some i) scan ix = (λ is. (scan ix).1 (cc), λ hit. ap Some (sym ((scan ix).0 hit)))
 
   -- where live items that are alike are one, and those that pass are alike, one that passes is a scan's answer
-  pub AnswersScan-hit : (alike : T → T → Bool) (s : Store T) (test : T → Bool) (ix : ℕ) → ((x y : T) → test x ≡ true → test y ≡ true → alike x y ≡ true) → AreApart alike s → IsHit s test ix → AnswersScan s test (Some ix)
+  pub AnswersScan-hit :
+      (alike : T → T → Bool) (s : Store T) (test : T → Bool) (ix : ℕ)
+      → ((x y : T) → test x ≡ true → test y ≡ true → alike x y ≡ true)
+      → AreApart alike s
+      → IsHit s test ix
+      → AnswersScan s test (Some ix)
   AnswersScan-hit alike s test ix one apart hit = λ j. (
     λ other. apart j ix other.0 hit.0 other.1 hit.1 (one other.0 hit.0 other.2 hit.2),
     λ same. subst (IsHit s test) (sym same) hit,
@@ -57,7 +78,12 @@ module _ {T : Type 0} where
         let was = live_before s ix j item y live is in
         was.0 ((scan j).0 (y, was.1, passed))
 
-    pub AnswersScan-other_removed : (ix hit : ℕ) (item : T) → get s ix ≡ Some item → hit ≢ ix → AnswersScan s test (Some hit) → AnswersScan (removed s ix) test (Some hit)
+    pub AnswersScan-other_removed :
+        (ix hit : ℕ) (item : T)
+        → get s ix ≡ Some item
+        → hit ≢ ix
+        → AnswersScan s test (Some hit)
+        → AnswersScan (removed s ix) test (Some hit)
     AnswersScan-other_removed ix hit item live other scan j = (
       λ h. (scan j).0 (h.0, (live_before s ix j item h.0 live h.1).1, h.2),
       λ same.
@@ -73,7 +99,13 @@ module _ {T : Type 0} where
     AreApart-removed ix item live apart i j x y p q same =
         apart i j x y (live_before s ix i item x live p).1 (live_before s ix j item y live q).1 same
 
-    pub AreApart-inserted : (item : T) → IsValid s → ((x y : T) → alike x y ≡ alike y x) → HasNoHit s (alike item) → AreApart alike s → AreApart alike (inserted s item)
+    pub AreApart-inserted :
+        (item : T)
+        → IsValid s
+        → ((x y : T) → alike x y ≡ alike y x)
+        → HasNoHit s (alike item)
+        → AreApart alike s
+        → AreApart alike (inserted s item)
     AreApart-inserted item valid turn none apart i j x y p q same =
         elim (live_cases s item i x valid p) [
           | inl a ↦ elim (live_cases s item j y valid q) [
@@ -95,7 +127,10 @@ module _ {T : Type 0} where
   -- a live index is given another item
   module _ (s : Store T) (ix : ℕ) (item was : T) (live : get s ix ≡ Some was) where
     -- what is live then is the new item, or was live
-    pub rebound_cases : (j : ℕ) (y : T) → get (rebound s ix item) j ≡ Some y → ((j ≡ ix) × (item ≡ y)) ⊎ ((j ≢ ix) × (get s j ≡ Some y))
+    pub rebound_cases :
+        (j : ℕ) (y : T)
+        → get (rebound s ix item) j ≡ Some y
+        → ((j ≡ ix) × (item ≡ y)) ⊎ ((j ≢ ix) × (get s j ≡ Some y))
     rebound_cases j y is =
         elim (cases_eq j ix) [
           | inl same ↦
@@ -112,7 +147,13 @@ module _ {T : Type 0} where
           | inr other ↦ rw (get-rebound_other s ix j item other) refl
         ]
 
-    pub AreApart-rebound : (alike : T → T → Bool) → ((x y : T) → alike x y ≡ alike y x) → ((x y z : T) → alike x y ≡ true → alike y z ≡ true → alike x z ≡ true) → alike item was ≡ true → AreApart alike s → AreApart alike (rebound s ix item)
+    pub AreApart-rebound :
+        (alike : T → T → Bool)
+        → ((x y : T) → alike x y ≡ alike y x)
+        → ((x y z : T) → alike x y ≡ true → alike y z ≡ true → alike x z ≡ true)
+        → alike item was ≡ true
+        → AreApart alike s
+        → AreApart alike (rebound s ix item)
     AreApart-rebound alike turn trans kept apart i j x y p q same =
         elim (rebound_cases i x p) [
           | inl a ↦ elim (rebound_cases j y q) [

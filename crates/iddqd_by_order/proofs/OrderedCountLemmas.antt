@@ -15,7 +15,11 @@ module _ {T : Type 0} where
     length-held = length-listed s order held.each held.once
 
     -- so a check of the table passes where the slots may be as they are
-    pub AreAsExpected-listed : IsValid s → (mode : ValidateCompact) → Allows mode (length s.free) → AreAsExpected mode (live_count s) order
+    pub AreAsExpected-listed :
+        IsValid s
+        → (mode : ValidateCompact)
+        → Allows mode (length s.free)
+        → AreAsExpected mode (live_count s) order
     AreAsExpected-listed valid NonCompact allowed = length-held
     AreAsExpected-listed valid Compact none = (
       length-held,

@@ -25,7 +25,14 @@ use Rattle.iddqd_by_hash.proofs.ScanLemmas.{AnswersScan-hit}
 
 module _ {K : Type 0} (compare : K → K → Ordering) where
   -- a query whose type keeps its laws does
-  pub IsQuery-lawful : {comparing : K → Ordering} (equivalent : K → Bool) → ((a b : K) → compare a b ≡ Less → comparing a ≡ Less → comparing b ≡ Less) → ((a b : K) → compare a b ≡ Less → comparing b ≡ Greater → comparing a ≡ Greater) → ((a b : K) → compare a b ≡ Equal → comparing a ≡ comparing b) → ((k : K) → IsTrue (equivalent k) ↔ (comparing k ≡ Equal)) → ((k a : K) → IsTrue (equivalent k) → comparing a ≡ compare k a) → IsQuery compare comparing
+  pub IsQuery-lawful :
+      {comparing : K → Ordering} (equivalent : K → Bool)
+      → ((a b : K) → compare a b ≡ Less → comparing a ≡ Less → comparing b ≡ Less)
+      → ((a b : K) → compare a b ≡ Less → comparing b ≡ Greater → comparing a ≡ Greater)
+      → ((a b : K) → compare a b ≡ Equal → comparing a ≡ comparing b)
+      → ((k : K) → IsTrue (equivalent k) ↔ (comparing k ≡ Equal))
+      → ((k a : K) → IsTrue (equivalent k) → comparing a ≡ compare k a)
+      → IsQuery compare comparing
   IsQuery-lawful equivalent less_after greater_before equal_keys equal as_key = record {
     less_after = less_after;
     greater_before = greater_before;
@@ -35,12 +42,20 @@ module _ {K : Type 0} (compare : K → K → Ordering) where
 
   -- the same along optional keys, none first
   module _ (comparing : K → Ordering) (query : IsQuery compare comparing) where
-    less_after : (a b : Option K) → option_cmp compare a b ≡ Less → compared comparing a ≡ Less → compared comparing b ≡ Less
+    less_after :
+        (a b : Option K)
+        → option_cmp compare a b ≡ Less
+        → compared comparing a ≡ Less
+        → compared comparing b ≡ Less
     less_after None b before less = cc
     less_after (Some a) None before less = cc
     less_after (Some a) (Some b) before less = query.less_after a b before less
 
-    greater_before : (a b : Option K) → option_cmp compare a b ≡ Less → compared comparing b ≡ Greater → compared comparing a ≡ Greater
+    greater_before :
+        (a b : Option K)
+        → option_cmp compare a b ≡ Less
+        → compared comparing b ≡ Greater
+        → compared comparing a ≡ Greater
     greater_before None b before greater = refl
     greater_before (Some a) None before greater = cc
     greater_before (Some a) (Some b) before greater = query.greater_before a b before greater
@@ -52,11 +67,18 @@ module _ {K : Type 0} (compare : K → K → Ordering) where
     equal_keys (Some a) (Some b) same = query.equal_keys a b same
 
     -- so along a list in order the answers rise
-    pub IsRising-query : IsTotalOrder compare → (key : ℕ → Option K) (order : List ℕ) → IsInKeyOrder (option_cmp compare) key order → IsRising (with_ties None (λ ix. compared comparing (key ix))) order
+    pub IsRising-query :
+        IsTotalOrder compare
+        → (key : ℕ → Option K) (order : List ℕ)
+        → IsInKeyOrder (option_cmp compare) key order
+        → IsRising (with_ties None (λ ix. compared comparing (key ix))) order
     IsRising-query total key order sorted =
         IsRising-from_query (options_total total) key (compared comparing) less_after greater_before equal_keys order (λ ix. compared comparing (key ix)) sorted (λ k d within. refl)
 
-module _ {T K : Type 0} (key_of : T → K) (compare : K → K → Ordering) (s : Store T) (order : List ℕ) (comparing : K → Ordering) where
+module _
+    {T K : Type 0} (key_of : T → K) (compare : K → K → Ordering) (s : Store T) (order : List ℕ)
+    (comparing : K → Ordering)
+    where
   -- how a query compares with the key at an index
   abbrev pub answer : ℕ → Ordering
   answer ix = compared comparing (key_at key_of s ix)
@@ -65,7 +87,11 @@ module _ {T K : Type 0} (key_of : T → K) (compare : K → K → Ordering) (s :
   answer_at ix item is = rw is refl
 
   -- where the side is exact, what a look-up answers is a scan's answer
-  pub LooksUp-found : IsQuery compare comparing → (r : Option ℕ) → Finds key_of compare s order comparing r → LooksUp key_of compare s order comparing r
+  pub LooksUp-found :
+      IsQuery compare comparing
+      → (r : Option ℕ)
+      → Finds key_of compare s order comparing r
+      → LooksUp key_of compare s order comparing r
   LooksUp-found query None missed = record { found = missed; as_scan = λ o. missed o.placed }
   LooksUp-found query (Some ix) hit = record {
     found = hit;
@@ -85,7 +111,11 @@ module _ {T K : Type 0} (key_of : T → K) (compare : K → K → Ordering) (s :
         All-contains (λ j. answer j ≢ Equal) order ix none ((holds.each ix).1 (live_at s ix item is)) (answer_at ix item is ∙ (Equal-is _).0 passed)
 
     -- what a find or an entry of the table tells, where each answer reads as the comparison of the query with the key
-    module _ {F R : Type 0} (g : Mut F (ℕ × Unit {0}) R) (read : R → Ordering) (old new : Asking F) (total : IsTotalOrder compare) (query : IsQuery compare comparing) (steady : IsSteady g order None read answer old) where
+    module _
+        {F R : Type 0} (g : Mut F (ℕ × Unit {0}) R) (read : R → Ordering) (old new : Asking F)
+        (total : IsTotalOrder compare) (query : IsQuery compare comparing)
+        (steady : IsSteady g order None read answer old)
+        where
       rises : IsInPlace key_of compare s order → IsSteadyRising g order None read answer old
       rises placed = record { steady = steady; rising = IsRising-query compare comparing query total (key_at key_of s) order placed }
 
@@ -93,10 +123,16 @@ module _ {T K : Type 0} (key_of : T → K) (compare : K → K → Ordering) (s :
       Finds-from_finds None finds = λ placed. equal_miss (finds.miss answer (rises placed) refl)
       Finds-from_finds (Some ix) finds = equal_hit ix finds.stored (finds.hit answer steady)
 
-      pub LooksUp-from_finds : (r : Option ℕ) → search.Finds g read order old r new → LooksUp key_of compare s order comparing r
+      pub LooksUp-from_finds :
+          (r : Option ℕ)
+          → search.Finds g read order old r new
+          → LooksUp key_of compare s order comparing r
       LooksUp-from_finds r finds = LooksUp-found query r (Finds-from_finds r finds)
 
-      pub Enters-from_enters : (e : Entry) → table_entry.Enters g read order old e new → Enters key_of compare s order comparing e
+      pub Enters-from_enters :
+          (e : Entry)
+          → table_entry.Enters g read order old e new
+          → Enters key_of compare s order comparing e
       Enters-from_enters (Occupied entry) enters =
           LooksUp-found query (Some _) (equal_hit _ enters.stored (enters.hit answer steady))
       Enters-from_enters (Vacant entry) enters = record {

@@ -68,7 +68,11 @@ module _ {T K : Type 0} (key_of : T → K) (compare : K → K → Ordering) (tot
   totals s = key_then_index-total (options_total total) (key_at key_of s)
 
   -- what is in place is so over every store whose keys there compare Equal with those
-  pub IsInPlace-tied : (s t : Store T) (order : List ℕ) → ((j : ℕ) → Contains order j → option_cmp compare (key_at key_of t j) (key_at key_of s j) ≡ Equal) → IsInPlace key_of compare s order → IsInPlace key_of compare t order
+  pub IsInPlace-tied :
+      (s t : Store T) (order : List ℕ)
+      → ((j : ℕ) → Contains order j → option_cmp compare (key_at key_of t j) (key_at key_of s j) ≡ Equal)
+      → IsInPlace key_of compare s order
+      → IsInPlace key_of compare t order
   IsInPlace-tied s t order ties placed =
       let o = options_total total in
       sorted_from_all_adjacent (totals t) order 0 (λ k within.
@@ -80,25 +84,40 @@ module _ {T K : Type 0} (key_of : T → K) (compare : K → K → Ordering) (tot
       ∙ Less-from_sorted _ order k (k + 1) 0 placed (omega arith) within)
 
   -- and over every store that gives the same items
-  pub IsInPlace-alike : (s t : Store T) (order : List ℕ) → ((j : ℕ) → Contains order j → get t j ≡ get s j) → IsInPlace key_of compare s order → IsInPlace key_of compare t order
+  pub IsInPlace-alike :
+      (s t : Store T) (order : List ℕ)
+      → ((j : ℕ) → Contains order j → get t j ≡ get s j)
+      → IsInPlace key_of compare s order
+      → IsInPlace key_of compare t order
   IsInPlace-alike s t order same = IsInPlace-tied s t order (λ j here.
       subst (λ o. option_cmp compare (option_map key_of o) (key_at key_of s j) ≡ Equal) (sym (same j here)) (tied_itself (options_total total) (key_at key_of s j)))
 
   module _ (s : Store T) (order : List ℕ) where
-    pub IsInPlace-removed : (ix : ℕ) → IsInPlace key_of compare s order → IsInPlace key_of compare (removed s ix) (without order ix)
+    pub IsInPlace-removed :
+        (ix : ℕ)
+        → IsInPlace key_of compare s order
+        → IsInPlace key_of compare (removed s ix) (without order ix)
     IsInPlace-removed ix placed =
         IsInPlace-alike s (removed s ix) (without order ix)
         (λ j here. get-removed_other s ix j (contains-from_without order ix j here).1)
         (IsStrictlySortedBy-filter _ _ order placed)
 
-    pub Keeps-removed : (ix : ℕ) (item : T) → get s ix ≡ Some item → Keeps key_of compare s order (removed s ix) (without order ix)
+    pub Keeps-removed :
+        (ix : ℕ) (item : T)
+        → get s ix ≡ Some item
+        → Keeps key_of compare s order (removed s ix) (without order ix)
     Keeps-removed ix item live = record {
       placed = IsInPlace-removed ix;
       exact = λ o. record { placed = IsInPlace-removed ix o.placed; apart = AreApart-removed _ s ix item live o.apart };
     }
 
     -- an item whose key a look-up missed
-    pub Keeps-inserted : (item : T) (new : List ℕ) → IsValid s → LooksUp key_of compare s order (compare (key_of item)) None → AddsInPlace key_of compare s item order new → Keeps key_of compare s order (inserted s item) new
+    pub Keeps-inserted :
+        (item : T) (new : List ℕ)
+        → IsValid s
+        → LooksUp key_of compare s order (compare (key_of item)) None
+        → AddsInPlace key_of compare s item order new
+        → Keeps key_of compare s order (inserted s item) new
     Keeps-inserted item new valid missed adds = record {
       placed = adds.placed;
       exact = λ o. record {
@@ -107,7 +126,10 @@ module _ {T K : Type 0} (key_of : T → K) (compare : K → K → Ordering) (tot
       };
     }
 
-    IsInPlace-compacted : Holds s order → IsInPlace key_of compare s order → IsInPlace key_of compare (compacted s) (map (rank s) order)
+    IsInPlace-compacted :
+        Holds s order
+        → IsInPlace key_of compare s order
+        → IsInPlace key_of compare (compacted s) (map (rank s) order)
     IsInPlace-compacted holds placed =
         IsInKeyOrder-renamed (options_total total) (key_at key_of s) (key_at key_of (compacted s)) (rank s) order
         (λ i here.
@@ -124,14 +146,19 @@ module _ {T K : Type 0} (key_of : T → K) (compare : K → K → Ordering) (tot
 
     -- a live index that is given an item with the same key
     module _ (ix : ℕ) (item was : T) (live : get s ix ≡ Some was) where
-      IsInPlace-rebound : equal item was ≡ true → IsInPlace key_of compare s order → IsInPlace key_of compare (rebound s ix item) order
+      IsInPlace-rebound :
+          equal item was ≡ true
+          → IsInPlace key_of compare s order
+          → IsInPlace key_of compare (rebound s ix item) order
       IsInPlace-rebound kept = IsInPlace-tied s (rebound s ix item) order (λ j _.
           elim (cases_eq j ix) [
             | inl same ↦ rw (same, key_at, get-rebound_at s ix item was live, live) ((Equal-is _).0 kept)
             | inr other ↦ rw (key_at, get-rebound_other s ix j item other) (tied_itself (options_total total) (key_at key_of s j))
           ])
 
-      pub Keeps-rebound : (ChangesAt key_of (eq_by_cmp compare) s ix item → ⊥) → Keeps key_of compare s order (rebound s ix item) order
+      pub Keeps-rebound :
+          (ChangesAt key_of (eq_by_cmp compare) s ix item → ⊥)
+          → Keeps key_of compare s order (rebound s ix item) order
       Keeps-rebound same =
           let e = eq_by_cmp_equiv total in
           let kept = passes_unless s (equal item) ix was live same in
@@ -144,7 +171,10 @@ module _ {T K : Type 0} (key_of : T → K) (compare : K → K → Ordering) (tot
           }
 
   -- an item that is stored at the next index, where a query that stands for its key found a vacant place
-  module _ (s : Store T) (item : T) (order : List ℕ) (comparing : K → Ordering) (valid : IsValid s) (holds : Holds s order) (as_key : (k : K) → comparing k ≡ compare (key_of item) k) where
+  module _
+      (s : Store T) (item : T) (order : List ℕ) (comparing : K → Ordering) (valid : IsValid s) (holds : Holds s order)
+      (as_key : (k : K) → comparing k ≡ compare (key_of item) k)
+      where
     abbrev after : Store T
     after = inserted s item
 
@@ -171,7 +201,12 @@ module _ {T K : Type 0} (key_of : T → K) (compare : K → K → Ordering) (tot
         ∙ ap (λ a. option_cmp compare a (key_at key_of s j)) (sym own) ∙ ap (λ b. option_cmp compare (key_at key_of after next) b) (sym other)
 
     -- beside its place no index ties with the new one
-    untied : (place : ℕ) → IsPlace answer order place → (k : ℕ) → k < length order → answer (get_or order k 0) ≡ key_then_index (option_cmp compare) (key_at key_of after) next (get_or order k 0)
+    untied :
+        (place : ℕ)
+        → IsPlace answer order place
+        → (k : ℕ)
+        → k < length order
+        → answer (get_or order k 0) ≡ key_then_index (option_cmp compare) (key_at key_of after) next (get_or order k 0)
     untied place is_place k within =
         let tie = nat_cmp next (get_or order k 0) in
         let same = ap (λ r. ordering_then r tie) (compares k 0 within) in
@@ -180,12 +215,23 @@ module _ {T K : Type 0} (key_of : T → K) (compare : K → K → Ordering) (tot
           | inr from ↦ let less = is_place.less_from k from within in less ∙ ap (λ r. ordering_then r tie) (sym less) ∙ same
         ]
 
-    IsInPlace-inserted : (place : ℕ) → IsPlace answer order place → IsInPlace key_of compare s order → IsInPlace key_of compare after (insert order place next)
+    IsInPlace-inserted :
+        (place : ℕ)
+        → IsPlace answer order place
+        → IsInPlace key_of compare s order
+        → IsInPlace key_of compare after (insert order place next)
     IsInPlace-inserted place is_place placed =
         IsStrictlySortedBy-insert (totals after) order (IsInPlace-alike s after order others placed) next answer (untied place is_place) place is_place
 
     -- the index was put into the list by an insert that a vacant entry prepared
-    pub AddsInPlace-prepared : (vacant : VacantEntry) (prepared : Prepared) (ix : ℕ) (new : List ℕ) → order_of (vacant_table vacant).now ≡ order → IsVacantAt key_of compare s order comparing (vacant_place vacant) → FillsEntry vacant ix prepared → ix ≡ next_index s → new ≡ insert (order_of (table_of prepared).now) (place_of prepared) (index_of prepared) → AddsInPlace key_of compare s item order new
+    pub AddsInPlace-prepared :
+        (vacant : VacantEntry) (prepared : Prepared) (ix : ℕ) (new : List ℕ)
+        → order_of (vacant_table vacant).now ≡ order
+        → IsVacantAt key_of compare s order comparing (vacant_place vacant)
+        → FillsEntry vacant ix prepared
+        → ix ≡ next_index s
+        → new ≡ insert (order_of (table_of prepared).now) (place_of prepared) (index_of prepared)
+        → AddsInPlace key_of compare s item order new
     AddsInPlace-prepared vacant prepared ix new table room fills same_index is =
         let added : new ≡ insert order (vacant_place vacant) next = rw (← same_index, ← fills.index, ← fills.place, ← table, ← fills.table) is in
         record {

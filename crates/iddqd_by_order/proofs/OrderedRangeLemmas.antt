@@ -27,7 +27,9 @@ use Rattle.iddqd_by_order.proofs.OrderedFindLemmas.{answer_at, IsRising-query}
 use Rattle.iddqd_by_order.proofs.OrderedWalkLemmas.{IsRunOf-part, Contains-run, IsDistinct-run}
 
 -- a bound that is read in two steps
-pub bound_map-twice : {A B C : Type 0} (g : B → C) (f : A → B) (b : Bound A) → bound_map g (bound_map f b) ≡ bound_map (λ x. g (f x)) b
+pub bound_map-twice :
+    {A B C : Type 0} (g : B → C) (f : A → B) (b : Bound A)
+    → bound_map g (bound_map f b) ≡ bound_map (λ x. g (f x)) b
 bound_map-twice g f (Included x) = refl
 bound_map-twice g f (Excluded x) = refl
 bound_map-twice g f Unbounded = refl
@@ -37,7 +39,11 @@ abbrev pub reads_by : {Q K : Type 0} → (Q → K → Ordering) → Bound Q → 
 reads_by cmp b = bound_map (λ q k. cmp q k.now) b
 
 -- one that lends a query in another form reads as the query does
-pub reads_lent : {Q R K : Type 0} (of : R → Q) (cmp : Q → K → Ordering) (lent : Bound (Bor R)) (own : Bound R) (bound : Bound Q) → bound_map (λ r. r.now) lent ≡ own → bound_map of own ≡ bound → reads_by (λ (r : Bor R) k. cmp (of r.now) k) lent ≡ reads_by cmp bound
+pub reads_lent :
+    {Q R K : Type 0} (of : R → Q) (cmp : Q → K → Ordering) (lent : Bound (Bor R)) (own : Bound R) (bound : Bound Q)
+    → bound_map (λ r. r.now) lent ≡ own
+    → bound_map of own ≡ bound
+    → reads_by (λ (r : Bor R) k. cmp (of r.now) k) lent ≡ reads_by cmp bound
 reads_lent {Q} {R} {K} of cmp lent own bound is_own is_bound =
     let read : Q → Bor K → Ordering = λ q k. cmp q k.now in
     sym (bound_map-twice (λ r. read (of r)) (λ (r : Bor R). r.now) lent) ∙ ap (bound_map (λ r. read (of r))) is_own
@@ -87,7 +93,10 @@ gt_greater Less = refl
 gt_greater Equal = refl
 gt_greater Greater = refl
 
-module _ {T K Q : Type 0} (key_of : T → K) (compare : K → K → Ordering) (cmp : Q → K → Ordering) (s : Store T) (order : List ℕ) where
+module _
+    {T K Q : Type 0} (key_of : T → K) (compare : K → K → Ordering) (cmp : Q → K → Ordering) (s : Store T)
+    (order : List ℕ)
+    where
   -- how a query answers at an index
   abbrev answers : Q → ℕ → Ordering
   answers q ix = compared (cmp q) (key_at key_of s ix)
@@ -103,14 +112,20 @@ module _ {T K Q : Type 0} (key_of : T → K) (compare : K → K → Ordering) (c
   upper_at (Excluded q) ix = ordering_then (answers q ix) Less
   upper_at Unbounded ix = Greater
 
-  from_at : (lower : Bound Q) (ix : ℕ) (item : T) → get s ix ≡ Some item → not (is_gt (lower_at lower ix)) ≡ is_from (bound_map cmp lower) (key_of item)
+  from_at :
+      (lower : Bound Q) (ix : ℕ) (item : T)
+      → get s ix ≡ Some item
+      → not (is_gt (lower_at lower ix)) ≡ is_from (bound_map cmp lower) (key_of item)
   from_at (Included q) ix item is =
       not_gt_less (answers q ix) ∙ ap (λ r. not (is_gt r)) (answer_at key_of compare s order (cmp q) ix item is)
   from_at (Excluded q) ix item is =
       not_gt_greater (answers q ix) ∙ ap is_lt (answer_at key_of compare s order (cmp q) ix item is)
   from_at Unbounded ix item is = refl
 
-  up_to_at : (upper : Bound Q) (ix : ℕ) (item : T) → get s ix ≡ Some item → is_gt (upper_at upper ix) ≡ is_up_to (bound_map cmp upper) (key_of item)
+  up_to_at :
+      (upper : Bound Q) (ix : ℕ) (item : T)
+      → get s ix ≡ Some item
+      → is_gt (upper_at upper ix) ≡ is_up_to (bound_map cmp upper) (key_of item)
   up_to_at (Included q) ix item is =
       gt_greater (answers q ix) ∙ ap (λ r. not (is_lt r)) (answer_at key_of compare s order (cmp q) ix item is)
   up_to_at (Excluded q) ix item is =
@@ -141,7 +156,11 @@ module _ {T K Q : Type 0} (key_of : T → K) (compare : K → K → Ordering) (c
       placed = IsStrictlySortedBy-filter _ chosen order placed;
     }
 
-    module _ {F : Type 0} (g : Mut F (ℕ × Unit {0}) (Bor K)) (old new : Asking F) (total : IsTotalOrder compare) (lawful : (q : Q) → IsQuery compare (cmp q)) (steady : (q : Q) → IsSteady g order None (λ k. cmp q k.now) (answers q) old) where
+    module _
+        {F : Type 0} (g : Mut F (ℕ × Unit {0}) (Bor K)) (old new : Asking F) (total : IsTotalOrder compare)
+        (lawful : (q : Q) → IsQuery compare (cmp q))
+        (steady : (q : Q) → IsSteady g order None (λ k. cmp q k.now) (answers q) old)
+        where
       abbrev reads : Bound Q → Bound (Bor K → Ordering)
       reads b = reads_by cmp b
 
@@ -152,7 +171,10 @@ module _ {T K Q : Type 0} (key_of : T → K) (compare : K → K → Ordering) (c
           rising = IsRising-query compare (cmp q) (lawful q) total (key_at key_of s) order placed;
         }
 
-        begins_at : (lower : Bound Q) (place : ℕ) → Begins g order (reads lower) old place → IsPlace (lower_at lower) order place
+        begins_at :
+            (lower : Bound Q) (place : ℕ)
+            → Begins g order (reads lower) old place
+            → IsPlace (lower_at lower) order place
         begins_at (Included q) place begins = begins (answers q) (rising q)
         begins_at (Excluded q) place begins = begins (answers q) (rising q)
         begins_at Unbounded place begins = record {
@@ -161,7 +183,10 @@ module _ {T K Q : Type 0} (key_of : T → K) (compare : K → K → Ordering) (c
           less_from = λ k from lt. refl;
         }
 
-        ends_at : (upper : Bound Q) (place : ℕ) → Ends g order (reads upper) old place → IsPlace (upper_at upper) order place
+        ends_at :
+            (upper : Bound Q) (place : ℕ)
+            → Ends g order (reads upper) old place
+            → IsPlace (upper_at upper) order place
         ends_at (Included q) place ends = ends (answers q) (rising q)
         ends_at (Excluded q) place ends = ends (answers q) (rising q)
         ends_at Unbounded place ends = record {
@@ -170,13 +195,21 @@ module _ {T K Q : Type 0} (key_of : T → K) (compare : K → K → Ordering) (c
           less_from = λ k from lt. absurd (omega (arith, ends, from, lt));
         }
 
-        SortsWithin-part : (from to : ℕ) → Begins g order (reads lower) old from → Ends g order (reads upper) old to → SortsWithin key_of compare between s (part from to order)
+        SortsWithin-part :
+            (from to : ℕ)
+            → Begins g order (reads lower) old from
+            → Ends g order (reads upper) old to
+            → SortsWithin key_of compare between s (part from to order)
         SortsWithin-part from to begins ends =
             subst (SortsWithin key_of compare between s)
             (sym (part-within (lower_at lower) (upper_at upper) order from to (begins_at lower from begins) (ends_at upper to ends)))
             (SortsWithin-chosen placed)
 
-      WalksWithin-part : (from to : ℕ) → Begins g order (reads lower) old from → Ends g order (reads upper) old to → WalksWithin key_of compare between s order (part from to order)
+      WalksWithin-part :
+          (from to : ℕ)
+          → Begins g order (reads lower) old from
+          → Ends g order (reads upper) old to
+          → WalksWithin key_of compare between s order (part from to order)
       WalksWithin-part from to begins ends =
           let run = IsRunOf-part order from to in
           record {
@@ -186,7 +219,13 @@ module _ {T K Q : Type 0} (key_of : T → K) (compare : K → K → Ordering) (c
             in_place = λ placed. SortsWithin-part placed from to begins ends;
           }
 
-      pub WalksWithin-walked : (from to : Bound (Bor K → Ordering)) → from ≡ reads lower → to ≡ reads upper → (walk : Range) → WalksBetween g order from to old walk new → WalksWithin key_of compare between s order (indexes_ahead walk)
+      pub WalksWithin-walked :
+          (from to : Bound (Bor K → Ordering))
+          → from ≡ reads lower
+          → to ≡ reads upper
+          → (walk : Range)
+          → WalksBetween g order from to old walk new
+          → WalksWithin key_of compare between s order (indexes_ahead walk)
       WalksWithin-walked from to from_is to_is walk walks =
           let begins = subst (λ b. Begins g order b old walks.from) from_is walks.begins in
           let ends = subst (λ b. Ends g order b old walks.to) to_is walks.ends in

@@ -70,14 +70,25 @@ module _ {T : Type 0} (s : Store T) where
   pub AreLive-none : (left : List ℕ) → left ≡ [] → AreLive s left
   AreLive-none left is ix here = absurd (contains_none ix (subst (λ xs. Contains xs ix) is here))
 
-  pub pairs_at-first : (all left : List ℕ) (ix : ℕ) (item : T) → all ≡ ix ∷ left → get s ix ≡ Some item → pairs_at s all ≡ (ix, item) ∷ pairs_at s left
+  pub pairs_at-first :
+      (all left : List ℕ) (ix : ℕ) (item : T)
+      → all ≡ ix ∷ left
+      → get s ix ≡ Some item
+      → pairs_at s all ≡ (ix, item) ∷ pairs_at s left
   pairs_at-first all left ix item given is = ap (pairs_at s) given ∙ rw is refl
 
-  pub pairs_at-last : (all left : List ℕ) (ix : ℕ) (item : T) → all ≡ left ++ ix ∷ [] → get s ix ≡ Some item → pairs_at s all ≡ pairs_at s left ++ (ix, item) ∷ []
+  pub pairs_at-last :
+      (all left : List ℕ) (ix : ℕ) (item : T)
+      → all ≡ left ++ ix ∷ []
+      → get s ix ≡ Some item
+      → pairs_at s all ≡ pairs_at s left ++ (ix, item) ∷ []
   pairs_at-last all left ix item given is =
       let one : pairs_at s (ix ∷ []) ≡ (ix, item) ∷ [] = rw is refl in
       ap (pairs_at s) given ∙ filter_map-append (pair_at s) left (ix ∷ []) ∙ ap (λ l. pairs_at s left ++ l) one
 
   -- so it has fewer left
-  pub pairs_at-fewer : (all : List (ℕ × T)) (left : List ℕ) (pair : ℕ × T) → all ≡ pairs_at s left ++ pair ∷ [] → length (pairs_at s left) < length all
+  pub pairs_at-fewer :
+      (all : List (ℕ × T)) (left : List ℕ) (pair : ℕ × T)
+      → all ≡ pairs_at s left ++ pair ∷ []
+      → length (pairs_at s left) < length all
   pairs_at-fewer all left pair is = omega (arith, ap length is, length_push (pairs_at s left) pair)

@@ -84,18 +84,30 @@ module _ {T S : Type 0} (s : State T S) (paired : IsPaired s) where
 -- ---- how many items there are
 
 module _ {T : Type 0} where
-  pub live_count-inserted : (s : Store T) (item : T) → IsValid s → (IsFull s → ⊥) → live_count (inserted s item) ≡ live_count s + 1
+  pub live_count-inserted :
+      (s : Store T) (item : T)
+      → IsValid s
+      → (IsFull s → ⊥)
+      → live_count (inserted s item) ≡ live_count s + 1
   live_count-inserted s item valid not_full =
       by_free s.items s.free valid.counted (IsValid-inserted s item valid not_full).counted
     where
-      by_free : (items : List (Option T)) (free : List ℕ)
+      by_free :
+          (items : List (Option T)) (free : List ℕ)
           → live_count (record { items = items; free = free; limit = s.limit }) + length free ≡ length items
-          → live_count (inserted (record { items = items; free = free; limit = s.limit }) item) + length (inserted (record { items = items; free = free; limit = s.limit }) item).free ≡ length (inserted (record { items = items; free = free; limit = s.limit }) item).items
-          → live_count (inserted (record { items = items; free = free; limit = s.limit }) item) ≡ live_count (record { items = items; free = free; limit = s.limit }) + 1
+          → live_count (inserted (record { items = items; free = free; limit = s.limit }) item) + length
+              (inserted (record { items = items; free = free; limit = s.limit }) item).free ≡ length
+                  (inserted (record { items = items; free = free; limit = s.limit }) item).items
+          → live_count (inserted (record { items = items; free = free; limit = s.limit }) item) ≡ live_count
+              (record { items = items; free = free; limit = s.limit }) + 1
       by_free items [] was is = omega (arith, length_push items (Some item))
       by_free items (ix ∷ rest) was is = omega (arith, length-set items ix (Some item))
 
-  pub live_count-removed : (s : Store T) (ix : ℕ) (item : T) → IsValid s → get s ix ≡ Some item → live_count s ≡ live_count (removed s ix) + 1
+  pub live_count-removed :
+      (s : Store T) (ix : ℕ) (item : T)
+      → IsValid s
+      → get s ix ≡ Some item
+      → live_count s ≡ live_count (removed s ix) + 1
   live_count-removed s ix item valid live =
       let was = valid.counted in
       let is = (IsValid-removed s ix item valid live).counted in

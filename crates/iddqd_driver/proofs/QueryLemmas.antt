@@ -14,7 +14,11 @@ use Rattle.iddqd_driver.specs.Machine.{RemovesBy, RemovesFound}
 use Rattle.iddqd_driver.specs.Queries.{LooksUpBy}
 
 -- a hit of one test hits another one that passes what the first passes
-pub IsHit-alike : {T : Type 0} (s : Store T) (p q : T → Bool) (ix : ℕ) → ((item : T) → p item ≡ true → q item ≡ true) → IsHit s p ix → IsHit s q ix
+pub IsHit-alike :
+    {T : Type 0} (s : Store T) (p q : T → Bool) (ix : ℕ)
+    → ((item : T) → p item ≡ true → q item ≡ true)
+    → IsHit s p ix
+    → IsHit s q ix
 IsHit-alike s p q ix passes (item, live, passed) = (item, live, passes item passed)
 
 module _ {T S K1 K2 : Type 0} (keys : Keys T K1 K2 S) where
@@ -30,7 +34,12 @@ module _ {T S K1 K2 : Type 0} (keys : Keys T K1 K2 S) where
       one_key = λ x y left right. sym (same_key x y left) ∙ right;
     }
 
-    found_as_key : (r : Option ℕ) → hashed.Finds s.store s.filed hash (passes_by first test) r → (key : K1) → test key ≡ true → (first_side keys).Finds s key r
+    found_as_key :
+        (r : Option ℕ)
+        → hashed.Finds s.store s.filed hash (passes_by first test) r
+        → (key : K1)
+        → test key ≡ true
+        → (first_side keys).Finds s key r
     found_as_key None misses key passed = λ ix found.
         misses ix (record {
           hit = IsHit-alike s.store _ _ ix (λ item equal. same_key key (first item) passed ∙ equal) found.hit;
@@ -41,11 +50,17 @@ module _ {T S K1 K2 : Type 0} (keys : Keys T K1 K2 S) where
       filed = found.filed ∙ ap Some (same_hash key passed);
     }
 
-    hit_found : (r : Option ℕ) → hashed.Finds s.store s.filed hash (passes_by first test) r → IfSome r (IsHit s.store (passes_by first test))
+    hit_found :
+        (r : Option ℕ)
+        → hashed.Finds s.store s.filed hash (passes_by first test) r
+        → IfSome r (IsHit s.store (passes_by first test))
     hit_found None misses = tt
     hit_found (Some ix) found = found.hit
 
-    looks_up_hashed : (r : Option ℕ) → hashed.LooksUp first s.store s.filed hash test r → LooksUpBy (first_side keys) s test r
+    looks_up_hashed :
+        (r : Option ℕ)
+        → hashed.LooksUp first s.store s.filed hash test r
+        → LooksUpBy (first_side keys) s test r
     looks_up_hashed r looked = record {
       as_key = found_as_key r looked.found;
       hit = hit_found r looked.found;
@@ -67,17 +82,28 @@ module _ {T S K1 K2 : Type 0} (keys : Keys T K1 K2 S) where
     abbrev stands : K2 → Bool
     stands = ordered.is_equal comparing
 
-    ordered_as_key : (r : Option ℕ) → ordered.Finds keys.second keys.compare_second s.store s.order comparing r → (key : K2) → stands key ≡ true → (second_side keys).Finds s key r
+    ordered_as_key :
+        (r : Option ℕ)
+        → ordered.Finds keys.second keys.compare_second s.store s.order comparing r
+        → (key : K2)
+        → stands key ≡ true
+        → (second_side keys).Finds s key r
     ordered_as_key None misses key passed = λ placed ix hit.
         misses placed ix (IsHit-alike s.store _ _ ix (λ item equal. ap is_eq (as_key key (keys.second item) ((Equal-is _).0 passed)) ∙ equal) hit)
     ordered_as_key (Some ix) hit key passed =
         IsHit-alike s.store _ _ ix (λ item equal. ap is_eq (sym (as_key key (keys.second item) ((Equal-is _).0 passed))) ∙ equal) hit
 
-    hit_ordered : (r : Option ℕ) → ordered.Finds keys.second keys.compare_second s.store s.order comparing r → IfSome r (IsHit s.store (passes_by keys.second stands))
+    hit_ordered :
+        (r : Option ℕ)
+        → ordered.Finds keys.second keys.compare_second s.store s.order comparing r
+        → IfSome r (IsHit s.store (passes_by keys.second stands))
     hit_ordered None misses = tt
     hit_ordered (Some ix) hit = hit
 
-    pub LooksUpBy-ordered : (r : Option ℕ) → ordered.LooksUp keys.second keys.compare_second s.store s.order comparing r → LooksUpBy (second_side keys) s stands r
+    pub LooksUpBy-ordered :
+        (r : Option ℕ)
+        → ordered.LooksUp keys.second keys.compare_second s.store s.order comparing r
+        → LooksUpBy (second_side keys) s stands r
     LooksUpBy-ordered r looked = record {
       as_key = ordered_as_key r looked.found;
       hit = hit_ordered r looked.found;
@@ -85,7 +111,12 @@ module _ {T S K1 K2 : Type 0} (keys : Keys T K1 K2 S) where
     }
 
 -- a query that is a key itself
-module _ {T S K1 K2 K : Type 0} (side : Side T S K1 K2 K) (s : State T S) (key : K) (itself : side.equal key key ≡ true) where
-  pub RemovesBy-query : (removed : Option (ℕ × T)) (new : State T S) → RemovesFound (LooksUpBy side s (side.equal key)) s removed new → RemovesBy side s key removed new
+module _
+    {T S K1 K2 K : Type 0} (side : Side T S K1 K2 K) (s : State T S) (key : K) (itself : side.equal key key ≡ true)
+    where
+  pub RemovesBy-query :
+      (removed : Option (ℕ × T)) (new : State T S)
+      → RemovesFound (LooksUpBy side s (side.equal key)) s removed new
+      → RemovesBy side s key removed new
   RemovesBy-query None new (looked, same) = record { removes = (looked.as_key key itself, same); as_scan = looked.as_scan }
   RemovesBy-query (Some (ix, item)) new (looked, removes) = record { removes = (looked.as_key key itself, removes); as_scan = looked.as_scan }

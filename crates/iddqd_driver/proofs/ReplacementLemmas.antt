@@ -47,18 +47,31 @@ use Rattle.iddqd_driver.proofs.KeepsLemmas.{Holds-order, Keeps-same}
 -- ---- what is told of other indexes
 
 -- what is told of an answer is told of what a look-up may answer
-pub TellsOther-found : (finds : Option ℕ → Type 0) (found : Option ℕ) (ix : ℕ) (told : Option ℕ) → finds found → TellsOther (λ answer. found ≡ answer) ix told → TellsOther finds ix told
+pub TellsOther-found :
+    (finds : Option ℕ → Type 0) (found : Option ℕ) (ix : ℕ) (told : Option ℕ)
+    → finds found
+    → TellsOther (λ answer. found ≡ answer) ix told
+    → TellsOther finds ix told
 TellsOther-found finds found ix None is (inl none) = inl (subst finds none is)
 TellsOther-found finds found ix None is (inr itself) = inr (subst finds itself is)
 TellsOther-found finds found ix (Some at) is tells = (subst finds tells.0 is, tells.1)
 
 -- what was done was not refused memory
-pub not_for_memory : {T : Type 0} (r : Result T (ReplaceRefusal T)) → IsOk r → IfErr r (λ refusal. IsForMemory refusal → ⊥)
+pub not_for_memory :
+    {T : Type 0} (r : Result T (ReplaceRefusal T))
+    → IsOk r
+    → IfErr r (λ refusal. IsForMemory refusal → ⊥)
 not_for_memory (Ok was) ok = tt
 not_for_memory (Err refusal) ok = absurd (false≢true ok)
 
 -- where no other index is told, an answer of a scan leaves no other one
-pub no_other-scan : {T : Type 0} (s : Store T) (test : T → Bool) (ix : ℕ) (r : Option ℕ) → (r ≡ None) ⊎ (r ≡ Some ix) → AnswersScan s test r → (j : ℕ) → IsHit s test j → j ≡ ix
+pub no_other-scan :
+    {T : Type 0} (s : Store T) (test : T → Bool) (ix : ℕ) (r : Option ℕ)
+    → (r ≡ None) ⊎ (r ≡ Some ix)
+    → AnswersScan s test r
+    → (j : ℕ)
+    → IsHit s test j
+    → j ≡ ix
 no_other-scan s test ix None none scan j hit = absurd (scan j hit)
 no_other-scan s test ix (Some at) none scan j hit = elim none [
   | inl never ↦ absurd (cc)
@@ -70,7 +83,12 @@ module _ {T : Type 0} (s : Store T) (ix : ℕ) (item was : T) (live : get s ix �
   after = rebound s ix item
 
   -- no other item is like the new one
-  pub AreApart-alone : (alike : T → T → Bool) → ((x y : T) → alike x y ≡ alike y x) → ((j : ℕ) → IsHit s (alike item) j → j ≡ ix) → AreApart alike s → AreApart alike after
+  pub AreApart-alone :
+      (alike : T → T → Bool)
+      → ((x y : T) → alike x y ≡ alike y x)
+      → ((j : ℕ) → IsHit s (alike item) j → j ≡ ix)
+      → AreApart alike s
+      → AreApart alike after
   AreApart-alone alike turn alone apart i j x y p q same =
       elim (rebound_cases s ix item was live i x p) [
         | inl a ↦ elim (rebound_cases s ix item was live j y q) [
@@ -114,7 +132,9 @@ module _ {T : Type 0} (s : Store T) (ix : ℕ) (item was : T) (live : get s ix �
     pub Holds-refiled : hashed.Holds s m → hashed.Holds after there
     Holds-refiled holds j = held_at holds j (cases_eq j ix)
 
-    module _ {K : Type 0} (key_of : T → K) (hashing : hashed.Hashing K) (is : hash ≡ hashing.hash_of (key_of item)) where
+    module _
+        {K : Type 0} (key_of : T → K) (hashing : hashed.Hashing K) (is : hash ≡ hashing.hash_of (key_of item))
+        where
       pub IsInPlace-refiled : hashed.IsInPlace key_of hashing s m → hashed.IsInPlace key_of hashing after there
       IsInPlace-refiled placed j y stands =
           elim (rebound_cases s ix item was live j y stands) [
@@ -122,7 +142,11 @@ module _ {T : Type 0} (s : Store T) (ix : ℕ) (item was : T) (live : get s ix �
             | inr b ↦ get-insert_other m ix hash j b.0 ∙ placed j y b.1
           ]
 
-      pub Keeps-refiled : hashed.IsLawful hashing → (hashed.IsExact key_of hashing s m → (j : ℕ) → IsHit s (passes_by key_of (hashing.equal (key_of item))) j → j ≡ ix) → hashed.Keeps key_of hashing s m after there
+      pub Keeps-refiled :
+          hashed.IsLawful hashing
+          → (hashed.IsExact key_of hashing s m → (j : ℕ) → IsHit s (passes_by key_of (hashing.equal (key_of item))) j →
+              j ≡ ix)
+          → hashed.Keeps key_of hashing s m after there
       Keeps-refiled lawful alone = record {
         placed = IsInPlace-refiled;
         exact = λ o. record {
@@ -178,11 +202,18 @@ module _ {T : Type 0} (s : Store T) (ix : ℕ) (item was : T) (live : get s ix �
       compares k d within = ap (λ own. option_cmp compare own (key (get_or left k d))) (sym own_key)
 
       -- it is the comparison with the key that stands there
-      pub answer_at : (j : ℕ) (other : T) → Contains left j → get s j ≡ Some other → answer j ≡ compare (key_of item) (key_of other)
+      pub answer_at :
+          (j : ℕ) (other : T)
+          → Contains left j
+          → get s j ≡ Some other
+          → answer j ≡ compare (key_of item) (key_of other)
       answer_at j other here is =
           ap (λ o. option_cmp compare (Some (key_of item)) (option_map key_of o)) (left_alike j here ∙ is)
 
-      ties : (k : ℕ) → k < length left → with_ties (Some ix) answer (get_or left k 0) ≡ key_then_index (option_cmp compare) key ix (get_or left k 0)
+      ties :
+          (k : ℕ)
+          → k < length left
+          → with_ties (Some ix) answer (get_or left k 0) ≡ key_then_index (option_cmp compare) key ix (get_or left k 0)
       ties = with_ties-key (options_total total) key ix answer left compares
 
       sorted_left : ordered.IsInPlace key_of compare s order → ordered.IsInPlace key_of compare after left
@@ -191,18 +222,36 @@ module _ {T : Type 0} (s : Store T) (ix : ℕ) (item was : T) (live : get s ix �
       pub IsRising-left : ordered.IsInPlace key_of compare s order → IsRising (with_ties (Some ix) answer) left
       IsRising-left placed = IsRising-from_sorted (key_then_index-total (options_total total) key) left (sorted_left placed) ix _ ties
 
-      pub IsInPlace-reordered : (place : ℕ) → ordered.IsInPlace key_of compare s order → IsPlace (with_ties (Some ix) answer) left place → ordered.IsInPlace key_of compare after (insert left place ix)
+      pub IsInPlace-reordered :
+          (place : ℕ)
+          → ordered.IsInPlace key_of compare s order
+          → IsPlace (with_ties (Some ix) answer) left place
+          → ordered.IsInPlace key_of compare after (insert left place ix)
       IsInPlace-reordered place placed = IsStrictlySortedBy-insert (key_then_index-total (options_total total) key) left (sorted_left placed) ix _ ties place
 
       -- the index was put where the answers lead
-      pub MovesInPlace-put : (new put : List ℕ) (place : ℕ) → place ≤ length left → new ≡ put → put ≡ insert left place ix → (ordered.IsInPlace key_of compare s order → IsPlace (with_ties (Some ix) answer) left place) → MovesInPlace key_of compare s ix item order new
+      pub MovesInPlace-put :
+          (new put : List ℕ) (place : ℕ)
+          → place ≤ length left
+          → new ≡ put
+          → put ≡ insert left place ix
+          → (ordered.IsInPlace key_of compare s order → IsPlace (with_ties (Some ix) answer) left place)
+          → MovesInPlace key_of compare s ix item order new
       MovesInPlace-put new put place within same is leads = record {
         adds = record { place = place; within = within; added = same ∙ is };
         placed = λ placed. rw (same, is) (IsInPlace-reordered place placed (leads placed));
       }
 
       -- the index was put where a search for the new key led
-      pub MovesInPlace-put_in : {F : Type 0} (g : Mut F (ℕ × Unit {0}) (Bor K)) (read : Bor K → Ordering) (xs : List ℕ) (i : ℕ) (asking : Asking F) (put new : List ℕ) → xs ≡ order → i ≡ ix → IsSteady g left (Some ix) read answer asking → PutsIn g read (without xs i) i asking put → new ≡ put → MovesInPlace key_of compare s ix item order new
+      pub MovesInPlace-put_in :
+          {F : Type 0} (g : Mut F (ℕ × Unit {0}) (Bor K)) (read : Bor K → Ordering) (xs : List ℕ) (i : ℕ)
+          (asking : Asking F) (put new : List ℕ)
+          → xs ≡ order
+          → i ≡ ix
+          → IsSteady g left (Some ix) read answer asking
+          → PutsIn g read (without xs i) i asking put
+          → new ≡ put
+          → MovesInPlace key_of compare s ix item order new
       MovesInPlace-put_in g read xs i asking put new all own steady puts is =
           let there : PutsIn g read left ix asking put = subst (λ j. PutsIn g read (without order j) j asking put) own (subst (λ l. PutsIn g read (without l i) i asking put) all puts) in
           MovesInPlace-put new put there.place there.within is there.inserted
@@ -236,12 +285,20 @@ module _
   itself at (inl never) = absurd (cc)
   itself at (inr same) = cc
 
-  filed_anew : (at : Option ℕ) → (at ≡ None) ⊎ (at ≡ Some ix) → (first_side keys).Finds s (keys.first item) at → moved s.filed ix (planned hash at) ≡ finite.insert s.filed ix hash
+  filed_anew :
+      (at : Option ℕ)
+      → (at ≡ None) ⊎ (at ≡ Some ix)
+      → (first_side keys).Finds s (keys.first item) at
+      → moved s.filed ix (planned hash at) ≡ finite.insert s.filed ix hash
   filed_anew None own misses = moved-insert s.store ix item was live s.filed hash
   filed_anew (Some at) own found =
       stays-insert s.store ix item was live s.filed hash (subst (λ j. finite.get s.filed j ≡ Some hash) (itself at own) found.filed)
 
-  first_keeps : (at : Option ℕ) → (at ≡ None) ⊎ (at ≡ Some ix) → LooksUp (first_side keys) s (keys.first item) at → hashed.Keeps keys.first (first_hashing keys s.hasher) s.store s.filed new_store (finite.insert s.filed ix hash)
+  first_keeps :
+      (at : Option ℕ)
+      → (at ≡ None) ⊎ (at ≡ Some ix)
+      → LooksUp (first_side keys) s (keys.first item) at
+      → hashed.Keeps keys.first (first_hashing keys s.hasher) s.store s.filed new_store (finite.insert s.filed ix hash)
   first_keeps at own looked =
       Keeps-refiled s.store ix item was live s.filed hash keys.first (first_hashing keys s.hasher) refl (lawful.first s.hasher)
       (λ o. no_other-scan s.store (passes_by keys.first (keys.equal_first (keys.first item))) ix at own (looked.as_scan o))
@@ -264,7 +321,12 @@ module _
     order_held None moves = Holds-reordered s.store ix item was live s.order holds order moves.adds
     order_held (Some at) stays = subst (ordered.Holds new_store) (sym stays) (order_holds.Holds-rebound s.store s.order holds ix item was live)
 
-    second_keeps : (at : Option ℕ) → (at ≡ None) ⊎ (at ≡ Some ix) → LooksUp (second_side keys) s (keys.second item) at → Placed at → ordered.Keeps keys.second keys.compare_second s.store s.order new_store order
+    second_keeps :
+        (at : Option ℕ)
+        → (at ≡ None) ⊎ (at ≡ Some ix)
+        → LooksUp (second_side keys) s (keys.second item) at
+        → Placed at
+        → ordered.Keeps keys.second keys.compare_second s.store s.order new_store order
     second_keeps None own looked moves = record {
       placed = moves.placed;
       exact = λ o. record {
@@ -329,7 +391,13 @@ module _
   abbrev Refused : ReplaceRefusal T → Type 0
   Refused refusal = (refusal ≡ Memory item) × (at2 ≡ None)
 
-  became : (was : T) → get s.store ix ≡ Some was → store ≡ rebound s.store ix item → Refiled → Reordered → Becomes keys s ix item was is × Keeps keys s is
+  became :
+      (was : T)
+      → get s.store ix ≡ Some was
+      → store ≡ rebound s.store ix item
+      → Refiled
+      → Reordered
+      → Becomes keys s ix item was is × Keeps keys s is
   became was there stored refiled reordered = rw stored (
     Becomes-from_parts keys s paired lawful ix item was there order filed at1 at2 own1 own2 first second refiled reordered,
     Keeps-from_parts keys s paired lawful ix item was there order filed at1 at2 own1 own2 first second refiled reordered,

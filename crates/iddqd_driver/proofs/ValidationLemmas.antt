@@ -49,7 +49,11 @@ module _ {T : Type 0} (s : Store T) (Passes : ℕ → T → Type 0) where
   Checked-live ix item rest before = before.live ix item (contains_head (ix, item) rest)
 
   -- one more passes
-  pub Checked-next : (ix : ℕ) (item : T) (rest : List (ℕ × T)) → Checked ((ix, item) ∷ rest) → Passes ix item → Checked rest
+  pub Checked-next :
+      (ix : ℕ) (item : T) (rest : List (ℕ × T))
+      → Checked ((ix, item) ∷ rest)
+      → Passes ix item
+      → Checked rest
   Checked-next ix item rest before passes = record {
     live = λ j other listed. before.live j other (contains_tail (ix, item) (j, other) rest listed);
     passed = λ j other is. elim (before.passed j other is) [
@@ -76,7 +80,10 @@ less_differs n m less = differs n m (λ same.
     let equal : nat_cmp n m ≡ Equal = subst (λ k. nat_cmp n k ≡ Equal) same (tied_itself nat_cmp_total n) in
     absurd (subst (λ r. Holds (is_lt r)) equal less))
 
-below_apart : (n : ℕ) (es : List (ℕ × ℕ)) → Holds (below_all nat_cmp n es) → AllByRecursion (λ m. nat_eq n m ≡ false) (firsts es)
+below_apart :
+    (n : ℕ) (es : List (ℕ × ℕ))
+    → Holds (below_all nat_cmp n es)
+    → AllByRecursion (λ m. nat_eq n m ≡ false) (firsts es)
 below_apart n [] below = tt
 below_apart n (e ∷ es) below =
     let parts = both_hold _ _ below in
@@ -116,22 +123,36 @@ module _ {T S : Type 0} (s : State T S) (paired : IsPaired s) where
     once = distinct-indexes s.filed;
   }
 
-  pub AreAsExpected-filed : (mode : ValidateCompact) → Allows mode (length s.store.free) → AreAsExpected mode (live_count s.store) (indexes_of s.filed)
+  pub AreAsExpected-filed :
+      (mode : ValidateCompact)
+      → Allows mode (length s.store.free)
+      → AreAsExpected mode (live_count s.store) (indexes_of s.filed)
   AreAsExpected-filed mode allowed =
       AreAsExpected-listed s.store (indexes_of s.filed) filed_held paired.valid mode allowed
 
-  pub AreAsExpected-order : (mode : ValidateCompact) → Allows mode (length s.store.free) → AreAsExpected mode (live_count s.store) s.order
+  pub AreAsExpected-order :
+      (mode : ValidateCompact)
+      → Allows mode (length s.store.free)
+      → AreAsExpected mode (live_count s.store) s.order
   AreAsExpected-order mode allowed =
       AreAsExpected-listed s.store s.order (Holds-order s paired) paired.valid mode allowed
 
 -- a table that is sound is refused for want of memory alone
-pub IsMemory-named : (sound : Type 0) (name : Bor (List ℕ)) (answer : Result (Unit {0}) (ValidateRefusal (List ℕ))) → sound → Validates sound answer → IfErr (named name answer) IsMemory
+pub IsMemory-named :
+    (sound : Type 0) (name : Bor (List ℕ)) (answer : Result (Unit {0}) (ValidateRefusal (List ℕ)))
+    → sound
+    → Validates sound answer
+    → IfErr (named name answer) IsMemory
 IsMemory-named sound name (Ok passed) holds validates = tt
 IsMemory-named sound name (Err (Invalid error)) holds refuted = absurd (refuted holds)
 IsMemory-named sound name (Err (Memory error)) holds validates = tt
 
 -- a refusal for want of memory will do
-pub Validates-refused : {E : Type 0} (sound : Type 0) (answer : Result (Unit {0}) (ValidateRefusal E)) → IsErr answer → IfErr answer IsMemory → Validates sound answer
+pub Validates-refused :
+    {E : Type 0} (sound : Type 0) (answer : Result (Unit {0}) (ValidateRefusal E))
+    → IsErr answer
+    → IfErr answer IsMemory
+    → Validates sound answer
 Validates-refused sound (Ok passed) refused memory = absurd (cc)
 Validates-refused sound (Err (Invalid error)) refused memory = absurd memory
 Validates-refused sound (Err (Memory error)) refused memory = tt
@@ -139,7 +160,11 @@ Validates-refused sound (Err (Memory error)) refused memory = tt
 -- ---- what a scan finds
 
 -- a scan that answers finds an index that hits
-pub AnswersScan-hit : {T : Type 0} (s : Store T) (test : T → Bool) (answer : Option ℕ) (ix : ℕ) → AnswersScan s test answer → IsHit s test ix → answer ≡ Some ix
+pub AnswersScan-hit :
+    {T : Type 0} (s : Store T) (test : T → Bool) (answer : Option ℕ) (ix : ℕ)
+    → AnswersScan s test answer
+    → IsHit s test ix
+    → answer ≡ Some ix
 AnswersScan-hit s test None ix none hit = absurd (none ix hit)
 AnswersScan-hit s test (Some at) ix one hit = ap Some (sym ((one ix).0 hit))
 
@@ -147,5 +172,10 @@ AnswersScan-hit s test (Some at) ix one hit = ap Some (sym ((one ix).0 hit))
 ne-itself : (answer : Option ℕ) (ix : ℕ) → answer ≡ Some ix → not (option_eq nat_eq answer (Some ix)) ≡ false
 ne-itself answer ix is = rw (is, eq-eqb ix ix refl) refl
 
-pub differs-itself : (answer : Option ℕ) (ix : ℕ) (differs : Bool) → differs ≡ not (option_eq nat_eq answer (Some ix)) → differs ≡ true → answer ≡ Some ix → ⊥
+pub differs-itself :
+    (answer : Option ℕ) (ix : ℕ) (differs : Bool)
+    → differs ≡ not (option_eq nat_eq answer (Some ix))
+    → differs ≡ true
+    → answer ≡ Some ix
+    → ⊥
 differs-itself answer ix differs is told same = false≢true (sym (ne-itself answer ix same) ∙ sym is ∙ told)

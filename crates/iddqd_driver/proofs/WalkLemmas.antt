@@ -12,10 +12,16 @@ module _ {T : Type 0} (s : Store T) where
   pub AreLive-tail : (ix : ℕ) (rest : List ℕ) → AreLive s (ix ∷ rest) → AreLive s rest
   AreLive-tail ix rest live j here = live j (contains_tail ix j rest here)
 
-  pub items_at-cons : (ix : ℕ) (item : T) (rest : List ℕ) → get s ix ≡ Some item → items_at s (ix ∷ rest) ≡ item ∷ items_at s rest
+  pub items_at-cons :
+      (ix : ℕ) (item : T) (rest : List ℕ)
+      → get s ix ≡ Some item
+      → items_at s (ix ∷ rest) ≡ item ∷ items_at s rest
   items_at-cons ix item rest is = rw is refl
 
-  pub items_at-push : (ix : ℕ) (item : T) (rest : List ℕ) → get s ix ≡ Some item → items_at s (rest ++ ix ∷ []) ≡ items_at s rest ++ item ∷ []
+  pub items_at-push :
+      (ix : ℕ) (item : T) (rest : List ℕ)
+      → get s ix ≡ Some item
+      → items_at s (rest ++ ix ∷ []) ≡ items_at s rest ++ item ∷ []
   items_at-push ix item rest is = filter_map-append (get s) rest (ix ∷ []) ∙ ap (λ last. items_at s rest ++ last) (items_at-cons ix item [] is)
 
   pub length-items_at : (indexes : List ℕ) → AreLive s indexes → length (items_at s indexes) ≡ length indexes

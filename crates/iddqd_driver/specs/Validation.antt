@@ -13,7 +13,10 @@ use Rattle.iddqd.specs.Store.{Store}
 use Rattle.iddqd_by_hash.specs.Scan.{IsLive}
 
 -- what a table was answered, told with its name
-abbrev pub named : Bor (List ℕ) → Result (Unit {0}) (ValidateRefusal (List ℕ)) → Result (Unit {0}) (ValidateRefusal ValidationError)
+abbrev pub named :
+    Bor (List ℕ)
+    → Result (Unit {0}) (ValidateRefusal (List ℕ))
+    → Result (Unit {0}) (ValidateRefusal ValidationError)
 named name (Ok passed) = Ok passed
 named name (Err (Invalid error)) = Err (Invalid (Table name error))
 named name (Err (Memory error)) = Err (Memory error)

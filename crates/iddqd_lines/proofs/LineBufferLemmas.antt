@@ -9,10 +9,15 @@ kept_of-long : (line : List ℕ) → 128 < length line → kept_of line ≡ None
 kept_of-long line long = let fits : nat_le (length line) max_line ≡ false = grind (arith, nat_tests, long) in rw fits refl
 
 -- a line and more bytes: what is kept of both goes by what is kept of the line
-pub kept_of-append : (line more : List ℕ) → option_and_then (λ begun. kept_of (begun ++ more)) (kept_of line) ≡ kept_of (line ++ more)
+pub kept_of-append :
+    (line more : List ℕ)
+    → option_and_then (λ begun. kept_of (begun ++ more)) (kept_of line) ≡ kept_of (line ++ more)
 kept_of-append line more = by_length (nat_le (length line) max_line) refl
   where
-    by_length : (fits : Bool) → nat_le (length line) max_line ≡ fits → option_and_then (λ begun. kept_of (begun ++ more)) (cond fits (Some line) None) ≡ kept_of (line ++ more)
+    by_length :
+        (fits : Bool)
+        → nat_le (length line) max_line ≡ fits
+        → option_and_then (λ begun. kept_of (begun ++ more)) (cond fits (Some line) None) ≡ kept_of (line ++ more)
     by_length true is = refl
     by_length false is =
         let long : 128 < length line = grind (arith, nat_tests, is) in

@@ -35,7 +35,12 @@ refused_third true true false x r = refl
 refused_third true false c x r = refl
 refused_third false b c x r = refl
 
-pub number_of-digits : (word : List ℕ) → 0 < length word → list_all is_ascii_digit word ≡ true → digits_value 10 word ≤ 4294967295 → number_of word ≡ Some (digits_value 10 word)
+pub number_of-digits :
+    (word : List ℕ)
+    → 0 < length word
+    → list_all is_ascii_digit word ≡ true
+    → digits_value 10 word ≤ 4294967295
+    → number_of word ≡ Some (digits_value 10 word)
 number_of-digits word some digits small =
     chosen _ _ _ _ (grind (arith, nat_tests, some)) digits (grind (arith, nat_tests, small))
 
@@ -47,7 +52,9 @@ digits_value_after-ge : (n : ℕ) (word : List ℕ) → n ≤ digits_value_after
 digits_value_after-ge n [] = omega arith
 digits_value_after-ge n (b ∷ word) = omega (arith, digits_value_after-ge (n * 10 + digit_value b) word)
 
-digits_value_after-append : (n : ℕ) (xs ys : List ℕ) → digits_value_after 10 n (xs ++ ys) ≡ digits_value_after 10 (digits_value_after 10 n xs) ys
+digits_value_after-append :
+    (n : ℕ) (xs ys : List ℕ)
+    → digits_value_after 10 n (xs ++ ys) ≡ digits_value_after 10 (digits_value_after 10 n xs) ys
 digits_value_after-append n [] ys = refl
 digits_value_after-append n (x ∷ xs) ys = digits_value_after-append (n * 10 + digit_value x) xs ys
 
@@ -66,7 +73,14 @@ pub digit_value-ascii : (b : ℕ) → is_ascii_digit b ≡ true → digit_value 
 digit_value-ascii b digit = grind (arith, nat_tests, digit)
 
 -- one digit more
-pub digits_more : (word : List ℕ) (i value : ℕ) → i < length word → is_ascii_digit (get_or word i 0) ≡ true → list_all is_ascii_digit (take i word) ≡ true → value ≡ digits_value 10 (take i word) → (list_all is_ascii_digit (take (i + 1) word) ≡ true) × (10 * value + (get_or word i 0 - 48) ≡ digits_value 10 (take (i + 1) word))
+pub digits_more :
+    (word : List ℕ) (i value : ℕ)
+    → i < length word
+    → is_ascii_digit (get_or word i 0) ≡ true
+    → list_all is_ascii_digit (take i word) ≡ true
+    → value ≡ digits_value 10 (take i word)
+    → (list_all is_ascii_digit (take (i + 1) word) ≡ true) ×
+        (10 * value + (get_or word i 0 - 48) ≡ digits_value 10 (take (i + 1) word))
 digits_more word i value within digit digits so_far =
     let more = digits_value_more 10 word i within in
     let last = digit_value-ascii (get_or word i 0) digit in
@@ -76,7 +90,10 @@ digits_more word i value within digit digits so_far =
 some_number : (words : List ℕ) → numbers_of (slice_split is_space words) ≡ Some [] → ⊥
 some_number words none = by_parts (slice_split is_space words) refl none
   where
-    by_numbers : (a : Option ℕ) (o : Option (List ℕ)) → option_and_then (λ n. option_map (λ ns. n ∷ ns) o) a ≡ Some [] → ⊥
+    by_numbers :
+        (a : Option ℕ) (o : Option (List ℕ))
+        → option_and_then (λ n. option_map (λ ns. n ∷ ns) o) a ≡ Some []
+        → ⊥
     by_numbers None o p = absurd (cc)
     by_numbers (Some n) None p = absurd (cc)
     by_numbers (Some n) (Some ns) p = absurd (cc)
@@ -89,25 +106,41 @@ some_number words none = by_parts (slice_split is_space words) refl none
 pub two_words : (word rest : List ℕ) → option_and_then only (numbers_of (word ∷ slice_split is_space rest)) ≡ None
 two_words word rest = by_numbers (number_of word) (numbers_of (slice_split is_space rest)) (some_number rest)
   where
-    by_numbers : (a : Option ℕ) (o : Option (List ℕ)) → (o ≡ Some [] → ⊥) → option_and_then only (option_and_then (λ n. option_map (λ ns. n ∷ ns) o) a) ≡ None
+    by_numbers :
+        (a : Option ℕ) (o : Option (List ℕ))
+        → (o ≡ Some [] → ⊥)
+        → option_and_then only (option_and_then (λ n. option_map (λ ns. n ∷ ns) o) a) ≡ None
     by_numbers None o some = refl
     by_numbers (Some n) None some = refl
     by_numbers (Some n) (Some []) some = absurd (some refl)
     by_numbers (Some n) (Some (m ∷ ns)) some = refl
 
 -- no verb takes two numbers
-pub two_numbers : (verb : List ℕ) (first : ℕ) (word : List ℕ) → option_and_then (λ ns. command_for verb (first ∷ ns)) (numbers_of (word ∷ [])) ≡ None
+pub two_numbers :
+    (verb : List ℕ) (first : ℕ) (word : List ℕ)
+    → option_and_then (λ ns. command_for verb (first ∷ ns)) (numbers_of (word ∷ [])) ≡ None
 two_numbers verb first word = by_number (number_of word)
   where
-    by_number : (o : Option ℕ) → option_and_then (λ ns. command_for verb (first ∷ ns)) (option_and_then (λ n. option_map (λ ns. n ∷ ns) (Some [])) o) ≡ None
+    by_number :
+        (o : Option ℕ)
+        → option_and_then (λ ns. command_for verb (first ∷ ns))
+          (option_and_then (λ n. option_map (λ ns. n ∷ ns) (Some [])) o) ≡ None
     by_number None = refl
     by_number (Some n) = refl
 
 -- what isn't one number behind three
-pub not_four_numbers : (verb : List ℕ) (a b c : ℕ) (word rest : List ℕ) → Some c ≡ number_of word → None ≡ option_and_then only (numbers_of (slice_split is_space rest)) → option_and_then (λ ns. command_for verb (a ∷ b ∷ ns)) (numbers_of (word ∷ slice_split is_space rest)) ≡ None
+pub not_four_numbers :
+    (verb : List ℕ) (a b c : ℕ) (word rest : List ℕ)
+    → Some c ≡ number_of word
+    → None ≡ option_and_then only (numbers_of (slice_split is_space rest))
+    → option_and_then (λ ns. command_for verb (a ∷ b ∷ ns)) (numbers_of (word ∷ slice_split is_space rest)) ≡ None
 not_four_numbers verb a b c word rest is not_one = rw (← is) (by_numbers (numbers_of (slice_split is_space rest)) (some_number rest) not_one)
   where
-    by_numbers : (o : Option (List ℕ)) → (o ≡ Some [] → ⊥) → None ≡ option_and_then only o → option_and_then (λ ns. command_for verb (a ∷ b ∷ ns)) (option_map (λ ns. c ∷ ns) o) ≡ None
+    by_numbers :
+        (o : Option (List ℕ))
+        → (o ≡ Some [] → ⊥)
+        → None ≡ option_and_then only o
+        → option_and_then (λ ns. command_for verb (a ∷ b ∷ ns)) (option_map (λ ns. c ∷ ns) o) ≡ None
     by_numbers None some not_one = refl
     by_numbers (Some []) some not_one = absurd (some refl)
     by_numbers (Some (n ∷ [])) some not_one = absurd (cc)
@@ -124,7 +157,10 @@ long_line line over =
 pub request_of-kept : (line : List ℕ) → option_and_then request_of (kept_of line) ≡ request_of line
 request_of-kept line = by_length (nat_le (length line) max_line) refl
   where
-    by_length : (fits : Bool) → nat_le (length line) max_line ≡ fits → option_and_then request_of (cond fits (Some line) None) ≡ request_of line
+    by_length :
+        (fits : Bool)
+        → nat_le (length line) max_line ≡ fits
+        → option_and_then request_of (cond fits (Some line) None) ≡ request_of line
     by_length true is = refl
     by_length false is = sym (long_line line is)
 

@@ -19,26 +19,43 @@ use Rattle.iddqd_lines.proofs.LineLemmas.{request_of-kept}
 use Rattle.iddqd_lines.proofs.LineBufferLemmas.{kept_of-append, kept_of-some}
 
 -- the request that a line is which had begun and goes on
-pub request_of-more : (kept : Option (List ℕ)) (line more : List ℕ) → kept ≡ kept_of line → option_and_then request_of (option_and_then (λ begun. kept_of (begun ++ more)) kept) ≡ request_of (line ++ more)
+pub request_of-more :
+    (kept : Option (List ℕ)) (line more : List ℕ)
+    → kept ≡ kept_of line
+    → option_and_then request_of (option_and_then (λ begun. kept_of (begun ++ more)) kept) ≡ request_of (line ++ more)
 request_of-more kept line more is = rw (is, kept_of-append line more) (request_of-kept (line ++ more))
 
 -- that of a line which has begun
-pub request_of-begun : (kept : Option (List ℕ)) (line : List ℕ) → kept ≡ kept_of line → option_and_then request_of kept ≡ request_of line
+pub request_of-begun :
+    (kept : Option (List ℕ)) (line : List ℕ)
+    → kept ≡ kept_of line
+    → option_and_then request_of kept ≡ request_of line
 request_of-begun kept line is = rw is (request_of-kept line)
 
 module _ {S : Type 0} (hash : S → ℕ → ℕ) where
   -- a request's line is answered
-  pub Line-request : (old new : State Record S) (line out : List ℕ) (request : Request (Command Record ℕ ℕ)) → Some request ≡ request_of line → AnswersRequest hash old out new request → Line hash old line out new
+  pub Line-request :
+      (old new : State Record S) (line out : List ℕ) (request : Request (Command Record ℕ ℕ))
+      → Some request ≡ request_of line
+      → AnswersRequest hash old out new request
+      → Line hash old line out new
   Line-request old new line out request is answers =
       subst (λ o. MatchOption o ((out ≡ codes "bad line") × (new ≡ old)) (AnswersRequest hash old out new)) is answers
 
   -- and so is any other
-  pub Line-other : (old : State Record S) (line : List ℕ) → None ≡ request_of line → Line hash old line (codes "bad line") old
+  pub Line-other :
+      (old : State Record S) (line : List ℕ)
+      → None ≡ request_of line
+      → Line hash old line (codes "bad line") old
   Line-other old line is =
       subst (λ o. MatchOption o ((codes "bad line" ≡ codes "bad line") × (old ≡ old)) (AnswersRequest hash old (codes "bad line") old)) is (refl, refl)
 
   -- some lines, and then others
-  pub Serves-append : (old mid new : State Record S) (lines more : List (List ℕ)) (bytes rest : List ℕ) → Serves hash old lines bytes mid → Serves hash mid more rest new → Serves hash old (lines ++ more) (bytes ++ rest) new
+  pub Serves-append :
+      (old mid new : State Record S) (lines more : List (List ℕ)) (bytes rest : List ℕ)
+      → Serves hash old lines bytes mid
+      → Serves hash mid more rest new
+      → Serves hash old (lines ++ more) (bytes ++ rest) new
   Serves-append old mid new [] more bytes rest p q =
       subst (λ b. Serves hash old more (b ++ rest) new) (sym p.0) (subst (λ s. Serves hash s more rest new) p.1 q)
   Serves-append old mid new (line ∷ lines) more bytes rest p q =
@@ -61,17 +78,29 @@ module _ {S O : Type 0} (hash : S → ℕ → ℕ) (g : sink.Ghosts O) where
       record { out = []; serves = (refl, refl); sends = Sends-put {E = Unit {0}} g old.output old.waits [] old.waits (sym (append-nil old.waits)) }
 
   -- a line and its answer
-  pub Obeys-line : (old new : Moment S O) (line out : List ℕ) (r : Result (Unit {0}) (Unit {0})) → Line hash old.items line out new.items → Sends g old.output old.waits (out ++ line_feed ∷ []) r new.output new.waits → Obeys hash g old (line ∷ []) r new
+  pub Obeys-line :
+      (old new : Moment S O) (line out : List ℕ) (r : Result (Unit {0}) (Unit {0}))
+      → Line hash old.items line out new.items
+      → Sends g old.output old.waits (out ++ line_feed ∷ []) r new.output new.waits
+      → Obeys hash g old (line ∷ []) r new
   Obeys-line old new line out r answers sends =
       record { out = out ++ line_feed ∷ []; serves = (out, new.items, [], answers, refl, (refl, refl)); sends = sends }
 
   -- a line's request is answered
-  pub Obeys-request : (old new : Moment S O) (line : List ℕ) (request : Request (Command Record ℕ ℕ)) (r : Result (Unit {0}) (Unit {0})) → Some request ≡ request_of line → Tells hash g old request r new → Obeys hash g old (line ∷ []) r new
+  pub Obeys-request :
+      (old new : Moment S O) (line : List ℕ) (request : Request (Command Record ℕ ℕ)) (r : Result (Unit {0}) (Unit {0}))
+      → Some request ≡ request_of line
+      → Tells hash g old request r new
+      → Obeys hash g old (line ∷ []) r new
   Obeys-request old new line request r is tells =
       Obeys-line old new line tells.out r (Line-request hash old.items new.items line tells.out request is tells.answers) tells.sends
 
   -- some lines, and then others
-  pub Obeys-append : (old mid new : Moment S O) (lines more : List (List ℕ)) (r : Result (Unit {0}) (Unit {0})) → Obeys hash g old lines (Ok tt) mid → Obeys hash g mid more r new → Obeys hash g old (lines ++ more) r new
+  pub Obeys-append :
+      (old mid new : Moment S O) (lines more : List (List ℕ)) (r : Result (Unit {0}) (Unit {0}))
+      → Obeys hash g old lines (Ok tt) mid
+      → Obeys hash g mid more r new
+      → Obeys hash g old (lines ++ more) r new
   Obeys-append old mid new lines more r p q =
       record {
         out = p.out ++ q.out;
@@ -80,12 +109,20 @@ module _ {S O : Type 0} (hash : S → ℕ → ℕ) (g : sink.Ghosts O) where
       }
 
   -- and then what waits is written
-  pub Obeys-flush : (old now : Moment S O) (lines : List (List ℕ)) (output : O) (waits : List ℕ) (r : Result (Unit {0}) (Unit {0})) → Obeys hash g old lines (Ok tt) now → Sends g now.output now.waits [] r output waits → Obeys hash g old lines r (moment now.items output waits)
+  pub Obeys-flush :
+      (old now : Moment S O) (lines : List (List ℕ)) (output : O) (waits : List ℕ) (r : Result (Unit {0}) (Unit {0}))
+      → Obeys hash g old lines (Ok tt) now
+      → Sends g now.output now.waits [] r output waits
+      → Obeys hash g old lines r (moment now.items output waits)
   Obeys-flush old now lines output waits r p flushed =
       record { out = p.out; serves = p.serves; sends = Sends-last g old.output now.output output old.waits p.out now.waits waits r p.sends flushed }
 
   -- and where they failed, any error tells it
-  pub Obeys-fails : (old new : Moment S O) (lines : List (List ℕ)) (e : Unit {0}) (r : Result (Unit {0}) (Unit {0})) → IsErr r → Obeys hash g old lines (Err e) new → Obeys hash g old lines r new
+  pub Obeys-fails :
+      (old new : Moment S O) (lines : List (List ℕ)) (e : Unit {0}) (r : Result (Unit {0}) (Unit {0}))
+      → IsErr r
+      → Obeys hash g old lines (Err e) new
+      → Obeys hash g old lines r new
   Obeys-fails old new lines e (Ok u) err p = absurd (cc)
   Obeys-fails old new lines e (Err d) err p =
       let s = p.sends in
@@ -96,13 +133,24 @@ module _ {S O : Type 0} (hash : S → ℕ → ℕ) (g : sink.Ghosts O) where
       }
 
   -- where no line has begun, there is none to answer at the end
-  pub Obeys-unbegun : (old : Moment S O) (output : O) (waits : List ℕ) (r : Result (Unit {0}) (Unit {0})) (kept : Option (List ℕ)) (line : List ℕ) → kept ≡ Some [] → Sends g old.output old.waits [] r output waits → IsKept kept line → Obeys hash g old (lines_of line) r (moment old.items output waits)
+  pub Obeys-unbegun :
+      (old : Moment S O) (output : O) (waits : List ℕ) (r : Result (Unit {0}) (Unit {0})) (kept : Option (List ℕ))
+      (line : List ℕ)
+      → kept ≡ Some []
+      → Sends g old.output old.waits [] r output waits
+      → IsKept kept line
+      → Obeys hash g old (lines_of line) r (moment old.items output waits)
   Obeys-unbegun old output waits r kept line none flushed keeps =
       let no_line : line ≡ [] = kept_of-some line [] (sym keeps.bytes ∙ none) in
       subst (λ l. Obeys hash g old (lines_of l) r (moment old.items output waits)) (sym no_line) (Obeys-flush old old [] output waits r (Obeys-none old) flushed)
 
   -- and where one has, it is the line
-  pub Obeys-begun : (old new : Moment S O) (r : Result (Unit {0}) (Unit {0})) (kept : Option (List ℕ)) (line : List ℕ) → (kept ≡ Some [] → ⊥) → Obeys hash g old (line ∷ []) r new → IsKept kept line → Obeys hash g old (lines_of line) r new
+  pub Obeys-begun :
+      (old new : Moment S O) (r : Result (Unit {0}) (Unit {0})) (kept : Option (List ℕ)) (line : List ℕ)
+      → (kept ≡ Some [] → ⊥)
+      → Obeys hash g old (line ∷ []) r new
+      → IsKept kept line
+      → Obeys hash g old (lines_of line) r new
   Obeys-begun old new r kept [] some obeys keeps = absurd (some keeps.bytes)
   Obeys-begun old new r kept (b ∷ bs) some obeys keeps =
       let line : List ℕ = b ∷ bs in
@@ -110,7 +158,11 @@ module _ {S O : Type 0} (hash : S → ℕ → ℕ) (g : sink.Ghosts O) where
       subst (λ ls. Obeys hash g old ls r new) (sym whole) obeys
 
   -- some bytes, and then others
-  pub Feeds-append : (old next new : Moment S O) (partial bytes more : List ℕ) (kept last : Option (List ℕ)) (r : Result (Unit {0}) (Unit {0})) (f : Feeds hash g old partial bytes (Ok tt) next kept) → Feeds hash g next f.left more r new last → Feeds hash g old partial (bytes ++ more) r new last
+  pub Feeds-append :
+      (old next new : Moment S O) (partial bytes more : List ℕ) (kept last : Option (List ℕ))
+      (r : Result (Unit {0}) (Unit {0})) (f : Feeds hash g old partial bytes (Ok tt) next kept)
+      → Feeds hash g next f.left more r new last
+      → Feeds hash g old partial (bytes ++ more) r new last
   Feeds-append old next new partial bytes more kept last r f h =
       record {
         done = f.done ++ h.done;
@@ -124,7 +176,12 @@ module _ {S O : Type 0} (hash : S → ℕ → ℕ) (g : sink.Ghosts O) where
       }
 
   -- and then what waits is written
-  pub Feeds-flush : (old now : Moment S O) (partial bytes : List ℕ) (kept : Option (List ℕ)) (output : O) (waits : List ℕ) (r : Result (Unit {0}) (Unit {0})) → Feeds hash g old partial bytes (Ok tt) now kept → Sends g now.output now.waits [] r output waits → Feeds hash g old partial bytes r (moment now.items output waits) kept
+  pub Feeds-flush :
+      (old now : Moment S O) (partial bytes : List ℕ) (kept : Option (List ℕ)) (output : O) (waits : List ℕ)
+      (r : Result (Unit {0}) (Unit {0}))
+      → Feeds hash g old partial bytes (Ok tt) now kept
+      → Sends g now.output now.waits [] r output waits
+      → Feeds hash g old partial bytes r (moment now.items output waits) kept
   Feeds-flush old now partial bytes kept output waits r f flushed =
       record { done = f.done; left = f.left; bytes_are = f.bytes_are; each_one_line = f.each_one_line; keeps = on_ok _ r f.keeps; obeys = Obeys-flush old now f.done output waits r f.obeys flushed }
     where
@@ -133,7 +190,10 @@ module _ {S O : Type 0} (hash : S → ℕ → ℕ) (g : sink.Ghosts O) where
       on_ok P (Err e) p = tt
 
   -- before the first byte
-  pub Feeds-none : (old : Moment S O) (partial : List ℕ) (kept : Option (List ℕ)) → IsKept kept partial → Feeds hash g old partial [] (Ok tt) old kept
+  pub Feeds-none :
+      (old : Moment S O) (partial : List ℕ) (kept : Option (List ℕ))
+      → IsKept kept partial
+      → Feeds hash g old partial [] (Ok tt) old kept
   Feeds-none old partial kept keeps =
       record {
         done = [];
@@ -145,7 +205,13 @@ module _ {S O : Type 0} (hash : S → ℕ → ℕ) (g : sink.Ghosts O) where
       }
 
   -- a line that ends
-  Feeds-end : (old new : Moment S O) (partial end after : List ℕ) (last : Option (List ℕ)) (r : Result (Unit {0}) (Unit {0})) → HasNo line_feed partial → HasNo line_feed end → Obeys hash g old ((partial ++ end) ∷ []) r new → OnOk r (IsKept last after) → Feeds hash g old partial (end ++ line_feed ∷ after) r new last
+  Feeds-end :
+      (old new : Moment S O) (partial end after : List ℕ) (last : Option (List ℕ)) (r : Result (Unit {0}) (Unit {0}))
+      → HasNo line_feed partial
+      → HasNo line_feed end
+      → Obeys hash g old ((partial ++ end) ∷ []) r new
+      → OnOk r (IsKept last after)
+      → Feeds hash g old partial (end ++ line_feed ∷ after) r new last
   Feeds-end old new partial end after last r one_line more obeys keeps =
       record {
         done = (partial ++ end) ∷ [];
@@ -157,7 +223,12 @@ module _ {S O : Type 0} (hash : S → ℕ → ℕ) (g : sink.Ghosts O) where
       }
 
   -- a line that goes on
-  Feeds-begin : (old : Moment S O) (partial bytes : List ℕ) (kept : Option (List ℕ)) → HasNo line_feed partial → HasNo line_feed bytes → kept ≡ kept_of (partial ++ bytes) → Feeds hash g old partial bytes (Ok tt) old kept
+  Feeds-begin :
+      (old : Moment S O) (partial bytes : List ℕ) (kept : Option (List ℕ))
+      → HasNo line_feed partial
+      → HasNo line_feed bytes
+      → kept ≡ kept_of (partial ++ bytes)
+      → Feeds hash g old partial bytes (Ok tt) old kept
   Feeds-begin old partial bytes kept one_line more is =
       record {
         done = [];
@@ -169,13 +240,25 @@ module _ {S O : Type 0} (hash : S → ℕ → ℕ) (g : sink.Ghosts O) where
       }
 
   -- one line more, and where a write failed the bytes behind it
-  pub Feeds-line : (old next new : Moment S O) (partial seen : List ℕ) (kept last : Option (List ℕ)) (rest end after behind : List ℕ) (r : Result (Unit {0}) (Unit {0})) → Feeds hash g old partial seen (Ok tt) next kept → IsCut line_feed rest end after → ((line : List ℕ) → kept ≡ kept_of line → Obeys hash g next ((line ++ end) ∷ []) r new) → OnOk r (IsKept last behind) → Feeds hash g old partial (seen ++ (end ++ line_feed ∷ behind)) r new last
+  pub Feeds-line :
+      (old next new : Moment S O) (partial seen : List ℕ) (kept last : Option (List ℕ)) (rest end after behind : List ℕ)
+      (r : Result (Unit {0}) (Unit {0}))
+      → Feeds hash g old partial seen (Ok tt) next kept
+      → IsCut line_feed rest end after
+      → ((line : List ℕ) → kept ≡ kept_of line → Obeys hash g next ((line ++ end) ∷ []) r new)
+      → OnOk r (IsKept last behind)
+      → Feeds hash g old partial (seen ++ (end ++ line_feed ∷ behind)) r new last
   Feeds-line old next new partial seen kept last rest end after behind r f cut obeys forgets =
       let keeps = f.keeps in
       Feeds-append old next new partial seen (end ++ line_feed ∷ behind) kept last r f (Feeds-end next new f.left end behind last r keeps.one_line cut.first (obeys f.left keeps.bytes) forgets)
 
   -- the bytes behind the last line feed
-  pub Feeds-rest : (old next : Moment S O) (partial seen : List ℕ) (kept last : Option (List ℕ)) (rest : List ℕ) → Feeds hash g old partial seen (Ok tt) next kept → HasNo line_feed rest → last ≡ option_and_then (λ begun. kept_of (begun ++ rest)) kept → Feeds hash g old partial (seen ++ rest) (Ok tt) next last
+  pub Feeds-rest :
+      (old next : Moment S O) (partial seen : List ℕ) (kept last : Option (List ℕ)) (rest : List ℕ)
+      → Feeds hash g old partial seen (Ok tt) next kept
+      → HasNo line_feed rest
+      → last ≡ option_and_then (λ begun. kept_of (begun ++ rest)) kept
+      → Feeds hash g old partial (seen ++ rest) (Ok tt) next last
   Feeds-rest old next partial seen kept last rest f none is =
       let keeps = f.keeps in
       Feeds-append old next next partial seen rest kept last (Ok tt) f (Feeds-begin next f.left rest last keeps.one_line none (is ∙ ap (λ k. option_and_then (λ begun. kept_of (begun ++ rest)) k) keeps.bytes ∙ kept_of-append f.left rest))
@@ -195,7 +278,10 @@ pub kept_none : (last : Option (List ℕ)) → last ≡ Some [] → IsKept last 
 kept_none last none = record { bytes = none; one_line = HasNo-nil }
 
 -- what the loop over reads keeps after so many reads, of the bytes that the source told at first
-pub record Reads {S O : Type 0} (hash : S → ℕ → ℕ) (g : sink.Ghosts O) (old : Moment S O) (bytes : List ℕ) (left : Option (List ℕ)) (count : ℕ) (now : Moment S O) (kept : Option (List ℕ)) : Type 0 where
+pub record Reads
+    {S O : Type 0} (hash : S → ℕ → ℕ) (g : sink.Ghosts O) (old : Moment S O) (bytes : List ℕ) (left : Option (List ℕ))
+    (count : ℕ) (now : Moment S O) (kept : Option (List ℕ))
+    : Type 0 where
   pub seen : List ℕ
   pub taken : Consumes (Some bytes) left seen
   pub counted : count ≤ length seen
@@ -203,7 +289,14 @@ pub record Reads {S O : Type 0} (hash : S → ℕ → ℕ) (g : sink.Ghosts O) (
 
 module _ {S O : Type 0} (hash : S → ℕ → ℕ) (g : sink.Ghosts O) where
   -- before the first read
-  pub Reads-none : (left : Option (List ℕ)) (hasher : S) (items : State Record S) (output : O) (kept : Option (List ℕ)) (waits : List ℕ) → items ≡ empty_state hasher → kept ≡ Some [] → waits ≡ [] → IfSome left (λ bytes. Reads hash g (moment (empty_state items.hasher) output []) bytes left 0 (moment items output waits) kept)
+  pub Reads-none :
+      (left : Option (List ℕ)) (hasher : S) (items : State Record S) (output : O) (kept : Option (List ℕ))
+      (waits : List ℕ)
+      → items ≡ empty_state hasher
+      → kept ≡ Some []
+      → waits ≡ []
+      → IfSome left (λ bytes. Reads hash g (moment (empty_state items.hasher) output []) bytes left 0
+          (moment items output waits) kept)
   Reads-none left hasher items output kept waits none no_line no_reply = by_left left
     where
       feeds : Feeds hash g (moment (empty_state items.hasher) output []) [] [] (Ok tt) (moment items output waits) kept
@@ -211,19 +304,34 @@ module _ {S O : Type 0} (hash : S → ℕ → ℕ) (g : sink.Ghosts O) where
           subst (λ i. Feeds hash g (moment (empty_state i.hasher) output []) [] [] (Ok tt) (moment i output waits) kept) (sym none)
           (rw (no_line, no_reply) (Feeds-none hash g (moment (empty_state hasher) output []) [] (Some []) (kept_none (Some []) refl)))
 
-      by_left : (left : Option (List ℕ)) → IfSome left (λ bytes. Reads hash g (moment (empty_state items.hasher) output []) bytes left 0 (moment items output waits) kept)
+      by_left :
+          (left : Option (List ℕ))
+          → IfSome left (λ bytes. Reads hash g (moment (empty_state items.hasher) output []) bytes left 0
+              (moment items output waits) kept)
       by_left None = tt
       by_left (Some bytes) = record { seen = []; taken = refl; counted = omega arith; feeds = feeds }
 
 module _ {S O : Type 0} (hash : S → ℕ → ℕ) (g : sink.Ghosts O) (old : Moment S O) where
   -- a write of what waits sends nothing new
-  pub Reads-flush : (told left : Option (List ℕ)) (count : ℕ) (now : Moment S O) (kept : Option (List ℕ)) (output : O) (waits : List ℕ) → IfSome told (λ bytes. Reads hash g old bytes left count now kept) → Sends {E = Unit {0}} g now.output now.waits [] (Ok tt) output waits → IfSome told (λ bytes. Reads hash g old bytes left count (moment now.items output waits) kept)
+  pub Reads-flush :
+      (told left : Option (List ℕ)) (count : ℕ) (now : Moment S O) (kept : Option (List ℕ)) (output : O)
+      (waits : List ℕ)
+      → IfSome told (λ bytes. Reads hash g old bytes left count now kept)
+      → Sends {E = Unit {0}} g now.output now.waits [] (Ok tt) output waits
+      → IfSome told (λ bytes. Reads hash g old bytes left count (moment now.items output waits) kept)
   Reads-flush None left count now kept output waits r flushed = tt
   Reads-flush (Some bytes) left count now kept output waits r flushed =
       record { seen = r.seen; taken = r.taken; counted = r.counted; feeds = Feeds-flush hash g old now [] r.seen kept output waits (Ok tt) r.feeds flushed }
 
   -- a read of some bytes, and these are fed
-  pub Reads-more : (told left after : Option (List ℕ)) (count : ℕ) (now new : Moment S O) (kept last : Option (List ℕ)) (bytes : List ℕ) → IfSome told (λ all. Reads hash g old all left count now kept) → Consumes left after bytes → 0 < length bytes → ((line : List ℕ) → IsKept kept line → Feeds hash g now line bytes (Ok tt) new last) → IfSome told (λ all. Reads hash g old all after (count + 1) new last)
+  pub Reads-more :
+      (told left after : Option (List ℕ)) (count : ℕ) (now new : Moment S O) (kept last : Option (List ℕ))
+      (bytes : List ℕ)
+      → IfSome told (λ all. Reads hash g old all left count now kept)
+      → Consumes left after bytes
+      → 0 < length bytes
+      → ((line : List ℕ) → IsKept kept line → Feeds hash g now line bytes (Ok tt) new last)
+      → IfSome told (λ all. Reads hash g old all after (count + 1) new last)
   Reads-more None left after count now new kept last bytes r taken some fed = tt
   Reads-more (Some all) left after count now new kept last bytes r taken some fed =
       let f = r.feeds in

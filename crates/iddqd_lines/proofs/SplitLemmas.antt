@@ -10,7 +10,10 @@ use Rattle.std.proofs.lemmas.List.Sums.{fails_before_first}
 use Rattle.iddqd_lines.specs.Split.{HasNo, IsCut}
 
 -- a cut at the first place
-pub cut_at_first : (byte : ℕ) (bytes : List ℕ) (at : ℕ) → position (λ b. b == byte) bytes ≡ Some at → IsCut byte bytes (take at bytes) (take (length bytes - (at + 1)) (drop (at + 1) bytes))
+pub cut_at_first :
+    (byte : ℕ) (bytes : List ℕ) (at : ℕ)
+    → position (λ b. b == byte) bytes ≡ Some at
+    → IsCut byte bytes (take at bytes) (take (length bytes - (at + 1)) (drop (at + 1) bytes))
 cut_at_first byte bytes at found =
     let p = position-Some (λ b. b == byte) bytes at in
     let within : at < length bytes = (p 0 found).0 in
@@ -30,6 +33,9 @@ cut_at_first byte bytes at found =
 pub none_first : (byte : ℕ) (bytes : List ℕ) → position (λ b. b == byte) bytes ≡ None → HasNo byte bytes
 none_first byte bytes none = λ k d inside. fails_before_first (λ b. b == byte) bytes k d (omega (arith, at_end (cases_lt (position_or_len (λ b. b == byte) bytes) (length bytes))))
   where
-    at_end : ((position_or_len (λ b. b == byte) bytes < length bytes) ⊎ (length bytes ≤ position_or_len (λ b. b == byte) bytes)) → length bytes ≤ position_or_len (λ b. b == byte) bytes
+    at_end :
+        ((position_or_len (λ b. b == byte) bytes < length bytes) ⊎
+            (length bytes ≤ position_or_len (λ b. b == byte) bytes))
+        → length bytes ≤ position_or_len (λ b. b == byte) bytes
     at_end (inl before) = absurd (grind (arith, nat_tests, none, before))
     at_end (inr past) = past

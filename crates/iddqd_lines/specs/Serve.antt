@@ -36,7 +36,9 @@ moment items output waits = record { items = items; output = output; waits = wai
 -- a write may have failed, and all went well else
 module _ {S O : Type 0} (hash : S → ℕ → ℕ) (g : sink.Ghosts O) (old : Moment S O) where
   -- this request is answered, and its out is sent with a line feed
-  pub record Tells (request : Request (Command Record ℕ ℕ)) (result : Result (Unit {0}) (Unit {0})) (new : Moment S O) : Type 0 where
+  pub record Tells
+      (request : Request (Command Record ℕ ℕ)) (result : Result (Unit {0}) (Unit {0})) (new : Moment S O)
+      : Type 0 where
     pub out : List ℕ
     pub answers : AnswersRequest hash old.items out new.items request
     pub sends : Sends g old.output old.waits (out ++ line_feed ∷ []) result new.output new.waits

@@ -8,14 +8,20 @@ use Rattle.iddqd.specs.Clones.{IsItemClone, IsStoreClone}
 use Rattle.iddqd_map.specs.KeyIndex.{HaveSameKeys}
 
 module _ {T : Type 0} (is_clone : T → T → Type 0) where
-  pub clone_at : (items copies : List (Option T)) (ix : ℕ) → AllZip (IsItemClone is_clone) items copies → IsItemClone is_clone (get_or items ix None) (get_or copies ix None)
+  pub clone_at :
+      (items copies : List (Option T)) (ix : ℕ)
+      → AllZip (IsItemClone is_clone) items copies
+      → IsItemClone is_clone (get_or items ix None) (get_or copies ix None)
   clone_at [] [] ix all = refl
   clone_at [] (c ∷ copies) ix all = absurd all
   clone_at (item ∷ items) [] ix all = absurd all
   clone_at (item ∷ items) (c ∷ copies) zero all = all.0
   clone_at (item ∷ items) (c ∷ copies) (suc ix) all = clone_at items copies ix all.1
 
-  count_of_clones : (items copies : List (Option T)) → AllZip (IsItemClone is_clone) items copies → count_by is_some copies ≡ count_by is_some items
+  count_of_clones :
+      (items copies : List (Option T))
+      → AllZip (IsItemClone is_clone) items copies
+      → count_by is_some copies ≡ count_by is_some items
   count_of_clones [] [] all = refl
   count_of_clones [] (c ∷ copies) all = absurd all
   count_of_clones (item ∷ items) [] all = absurd all

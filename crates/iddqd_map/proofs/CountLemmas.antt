@@ -90,7 +90,9 @@ module _ {T : Type 0} where
   IsDistinct-pairs n (None ∷ slots) = IsDistinct-pairs (n + 1) slots
   IsDistinct-pairs n (Some item ∷ slots) = (none_before n (n + 1) slots (omega arith), IsDistinct-pairs (n + 1) slots)
 
-  live_among : (n k : ℕ) (slots : List (Option T)) → list_any (tied (n + k)) (firsts (pairs_from n slots)) ≡ is_some (slice_index_or slots k None)
+  live_among :
+      (n k : ℕ) (slots : List (Option T))
+      → list_any (tied (n + k)) (firsts (pairs_from n slots)) ≡ is_some (slice_index_or slots k None)
   live_among n k [] = refl
   live_among n zero (None ∷ slots) = not_among (n + 0) _ (none_before (n + 0) (n + 1) slots (omega arith))
   live_among n (suc k) (None ∷ slots) =
@@ -122,13 +124,22 @@ counted s m held =
         let same : 0 + q ≡ q = omega arith in
         subst (λ j. list_any (tied j) (firsts (live_pairs s)) ≡ is_some (get s q)) same (live_among 0 q s.items)
 
-all_among : (P : ℕ → Type 0) (es : List (ℕ × ℕ)) → ((q : ℕ) → list_any (tied q) (firsts es) ≡ true → P q) → All P (firsts es)
+all_among :
+    (P : ℕ → Type 0) (es : List (ℕ × ℕ))
+    → ((q : ℕ) → list_any (tied q) (firsts es) ≡ true → P q)
+    → All P (firsts es)
 all_among P [] holds = All-nil P
 all_among P (e ∷ es) holds =
     All-cons P e.0 (firsts es) (holds e.0 (ap (λ b. b || list_any (tied e.0) (firsts es)) (ap is_eq (tied_itself nat_cmp_total e.0)))) (all_among P es (λ q here. holds q (ap (λ b. tied q e.0 || b) here ∙ or_true (tied q e.0))))
 
 -- so a check of the table passes where the slots may be as they are
-pub AreAsExpected-held : {T : Type 0} (s : Store T) (m : FinMap nat_cmp ℕ) → Holds s m → IsValid s → (mode : ValidateCompact) → Allows mode (length s.free) → AreAsExpected mode (live_count s) (indexes_of m)
+pub AreAsExpected-held :
+    {T : Type 0} (s : Store T) (m : FinMap nat_cmp ℕ)
+    → Holds s m
+    → IsValid s
+    → (mode : ValidateCompact)
+    → Allows mode (length s.free)
+    → AreAsExpected mode (live_count s) (indexes_of m)
 AreAsExpected-held s m held valid NonCompact allows = counted s m held
 AreAsExpected-held s m held valid Compact allows = (counted s m held, all_among (λ ix. ix < live_count s) (finite.entries m) below)
   where
@@ -140,17 +151,34 @@ AreAsExpected-held s m held valid Compact allows = (counted s m held, all_among 
         omega (arith, within, valid.counted, allows)
 
 -- a refusal of what isn't sound
-pub Validates-refused : {E : Type 0} (sound : Type 0) (refusal : ValidateRefusal E) → (sound → ⊥) → Validates sound (Err refusal)
+pub Validates-refused :
+    {E : Type 0} (sound : Type 0) (refusal : ValidateRefusal E)
+    → (sound → ⊥)
+    → Validates sound (Err refusal)
 Validates-refused sound (Invalid error) unsound = unsound
 Validates-refused sound (Memory error) unsound = tt
 
 -- what one check says where what another one sought is sound as well
-pub Validates-beside : {E : Type 0} (sound other : Type 0) → sound → other → (r : Result (Unit {0}) (ValidateRefusal E)) → Validates other r → Validates sound r
+pub Validates-beside :
+    {E : Type 0} (sound other : Type 0)
+    → sound
+    → other
+    → (r : Result (Unit {0}) (ValidateRefusal E))
+    → Validates other r
+    → Validates sound r
 Validates-beside sound other is holds (Ok done) said = is
 Validates-beside sound other is holds (Err (Invalid error)) said = absurd (said holds)
 Validates-beside sound other is holds (Err (Memory error)) said = tt
 
 -- what the check of one table, which has the live indexes, leaves of that of a map
-pub Validates-table : {T E : Type 0} (s : Store T) (m : FinMap nat_cmp ℕ) (len : ℕ) (mode : ValidateCompact) → Holds s m → IsValid s → len ≡ live_count s → Allows mode (length s.free) → (r : Result (Unit {0}) (ValidateRefusal E)) → Validates (AreAsExpected mode len (indexes_of m)) r → Validates (Allows mode (length s.free)) r
+pub Validates-table :
+    {T E : Type 0} (s : Store T) (m : FinMap nat_cmp ℕ) (len : ℕ) (mode : ValidateCompact)
+    → Holds s m
+    → IsValid s
+    → len ≡ live_count s
+    → Allows mode (length s.free)
+    → (r : Result (Unit {0}) (ValidateRefusal E))
+    → Validates (AreAsExpected mode len (indexes_of m)) r
+    → Validates (Allows mode (length s.free)) r
 Validates-table s m len mode held valid counted_so allowed r did =
     Validates-beside _ _ allowed (rw counted_so (AreAsExpected-held s m held valid mode allowed)) r did

@@ -40,20 +40,32 @@ module _ {T : Type 0} (same : T → T → Bool) where
       record { front = y ∷ rest.front; there = rest.there; back = rest.back; whole = ap (λ l. y ∷ l) rest.whole; is = rest.is })
 
   -- what isn't the same as the one there has one among the others
-  any_but : (z : T) (front back : List T) (there : T) → same z there ≡ false → list_any (same z) (front ++ there ∷ back) ≡ true → list_any (same z) (front ++ back) ≡ true
+  any_but :
+      (z : T) (front back : List T) (there : T)
+      → same z there ≡ false
+      → list_any (same z) (front ++ there ∷ back) ≡ true
+      → list_any (same z) (front ++ back) ≡ true
   any_but z front back there other h =
       list_any-append (same z) front back
       ∙ ap (λ b. list_any (same z) front || (b || list_any (same z) back)) (sym other)
       ∙ sym (list_any-append (same z) front (there ∷ back)) ∙ h
 
   -- `alike` holds of items that have the same key
-  module _ (alike : T → T → Bool) (laws : IsPartialEquivalence alike) (keyed : (x y : T) → same x y ≡ true → alike x y ≡ true) (turn : (x y : T) → same x y ≡ same y x) where
+  module _
+      (alike : T → T → Bool) (laws : IsPartialEquivalence alike)
+      (keyed : (x y : T) → same x y ≡ true → alike x y ≡ true) (turn : (x y : T) → same x y ≡ same y x)
+      where
     differs_from : (x z there : T) → alike x z ≡ false → same x there ≡ true → (b : Bool) → same z there ≡ b → b ≡ false
     differs_from x z there apart is true also =
         absurd (true≢false (sym (laws.trans x there z (keyed x there is) (laws.symm there z ∙ keyed z there also)) ∙ apart))
     differs_from x z there apart is false also = refl
 
-    each_but : (x : T) (xs front back : List T) (there : T) → AllByRecursion (λ z. alike x z ≡ false) xs → same x there ≡ true → each_among same xs (front ++ there ∷ back) ≡ true → each_among same xs (front ++ back) ≡ true
+    each_but :
+        (x : T) (xs front back : List T) (there : T)
+        → AllByRecursion (λ z. alike x z ≡ false) xs
+        → same x there ≡ true
+        → each_among same xs (front ++ there ∷ back) ≡ true
+        → each_among same xs (front ++ back) ≡ true
     each_but x [] front back there apart is each = refl
     each_but x (z ∷ xs) front back there apart is each =
         let here = first_so (list_any (same z) (front ++ there ∷ back)) (each_among same xs (front ++ there ∷ back)) each in
@@ -94,7 +106,9 @@ module _ {T : Type 0} (same : T → T → Bool) where
               (both_true (list_any (same split.there) (x ∷ xs)) (each_among same split.back (x ∷ xs)) there back));
         }
 
-    module _ (s t : Store T) (apart_s : IsDistinct alike (live_items s)) (apart_t : IsDistinct alike (live_items t)) where
+    module _
+        (s t : Store T) (apart_s : IsDistinct alike (live_items s)) (apart_t : IsDistinct alike (live_items t))
+        where
       fewer : each_among same (live_items s) (live_items t) ≡ true → live_count s ≤ live_count t
       fewer each =
           let fits = (covers (live_items s) (live_items t) apart_s each).fits in
@@ -118,7 +132,9 @@ module _ {T : Type 0} (same : T → T → Bool) where
               absurd (other (omega arith))
 
       -- stores with as many items: one way is enough
-      pub same_items-equal : live_count s ≡ live_count t → each_among same (live_items s) (live_items t) ≡ has_same_items same s t
+      pub same_items-equal :
+          live_count s ≡ live_count t
+          → each_among same (live_items s) (live_items t) ≡ has_same_items same s t
       same_items-equal as_many = both_ways (each_among same (live_items s) (live_items t)) (has_same_items same s t)
           (λ one.
           let back = (covers (live_items s) (live_items t) apart_s one).back in
@@ -129,12 +145,19 @@ module _ {T : Type 0} (same : T → T → Bool) where
 
 -- the items of slots, and a test
 module _ {T : Type 0} (test : T → Bool) where
-  none_among : (slots : List (Option T)) → ((ix : ℕ) (z : T) → get_or slots ix None ≡ Some z → test z ≡ false) → list_any test (items_in slots) ≡ false
+  none_among :
+      (slots : List (Option T))
+      → ((ix : ℕ) (z : T) → get_or slots ix None ≡ Some z → test z ≡ false)
+      → list_any test (items_in slots) ≡ false
   none_among [] none = refl
   none_among (None ∷ slots) none = none_among slots (λ ix. none (suc ix))
   none_among (Some z ∷ slots) none = ap (λ b. b || list_any test (items_in slots)) (none zero z refl) ∙ none_among slots (λ ix. none (suc ix))
 
-  some_among : (slots : List (Option T)) (ix : ℕ) (z : T) → get_or slots ix None ≡ Some z → test z ≡ true → list_any test (items_in slots) ≡ true
+  some_among :
+      (slots : List (Option T)) (ix : ℕ) (z : T)
+      → get_or slots ix None ≡ Some z
+      → test z ≡ true
+      → list_any test (items_in slots) ≡ true
   some_among [] ix z is passes = absurd (cc)
   some_among (None ∷ slots) zero z is passes = absurd (cc)
   some_among (None ∷ slots) (suc ix) z is passes = some_among slots ix z is passes
@@ -144,7 +167,10 @@ module _ {T : Type 0} (test : T → Bool) where
   some_among (Some y ∷ slots) (suc ix) z is passes = ap (λ b. test y || b) (some_among slots ix z is passes) ∙ or_true (test y)
 
 module _ {T : Type 0} (alike : T → T → Bool) where
-  apart_from : (x : T) (slots : List (Option T)) → ((ix : ℕ) (z : T) → get_or slots ix None ≡ Some z → alike x z ≡ true → ⊥) → AllByRecursion (λ z. alike x z ≡ false) (items_in slots)
+  apart_from :
+      (x : T) (slots : List (Option T))
+      → ((ix : ℕ) (z : T) → get_or slots ix None ≡ Some z → alike x z ≡ true → ⊥)
+      → AllByRecursion (λ z. alike x z ≡ false) (items_in slots)
   apart_from x [] none = tt
   apart_from x (None ∷ slots) none = apart_from x slots (λ ix. none (suc ix))
   apart_from x (Some z ∷ slots) none = (unlike (alike x z) refl, apart_from x slots (λ ix. none (suc ix)))
@@ -153,7 +179,10 @@ module _ {T : Type 0} (alike : T → T → Bool) where
       unlike true is = absurd (none zero z refl is)
       unlike false is = refl
 
-  distinct_in : (slots : List (Option T)) → ((i j : ℕ) (x y : T) → get_or slots i None ≡ Some x → get_or slots j None ≡ Some y → alike x y ≡ true → i ≡ j) → IsDistinct alike (items_in slots)
+  distinct_in :
+      (slots : List (Option T))
+      → ((i j : ℕ) (x y : T) → get_or slots i None ≡ Some x → get_or slots j None ≡ Some y → alike x y ≡ true → i ≡ j)
+      → IsDistinct alike (items_in slots)
   unfolding IsDistinct
   distinct_in [] apart = tt
   distinct_in (None ∷ slots) apart = distinct_in slots (λ i j x y p q same. (let one = apart (suc i) (suc j) x y p q same in omega arith))
@@ -175,7 +204,10 @@ module _ {T : Type 0} (alike : T → T → Bool) where
         unlike ix z is true passed = absurd (none ix (z, is, passed))
         unlike ix z is false passed = refl
 
-    pub any_found : (y : T) → FindsItem s (alike x) (Some y) → list_any (eq_of_both alike equal x) (live_items s) ≡ equal x y
+    pub any_found :
+        (y : T)
+        → FindsItem s (alike x) (Some y)
+        → list_any (eq_of_both alike equal x) (live_items s) ≡ equal x y
     any_found y (ix, found) = by (equal x y) refl
       where
         passed : alike x y ≡ true
@@ -185,7 +217,13 @@ module _ {T : Type 0} (alike : T → T → Bool) where
             let same : z ≡ y = cc in
             ap (alike x) (sym same) ∙ passed
 
-        only : (j : ℕ) (z : T) → get s j ≡ Some z → (b : Bool) → alike x z ≡ b → equal x y ≡ false → (b && equal x z) ≡ false
+        only :
+            (j : ℕ) (z : T)
+            → get s j ≡ Some z
+            → (b : Bool)
+            → alike x z ≡ b
+            → equal x y ≡ false
+            → (b && equal x z) ≡ false
         only j z is false passed differs = refl
         only j z is true passed differs =
             let at : j ≡ ix = (found.only j).0 (z, is, passed) in
@@ -203,13 +241,18 @@ module _ {T : Type 0} (alike equal : T → T → Bool) where
   same = eq_of_both alike equal
 
   -- maps with other numbers of items
-  module _ (a : IsEquivalence alike) (b : IsPartialEquivalence equal) (s t : Store T) (apart_s : AreApart alike s) (apart_t : AreApart alike t) where
+  module _
+      (a : IsEquivalence alike) (b : IsPartialEquivalence equal) (s t : Store T) (apart_s : AreApart alike s)
+      (apart_t : AreApart alike t)
+      where
     pub unequal_counts : (live_count s ≡ live_count t → ⊥) → false ≡ has_same_items same s t
     unequal_counts other =
         same_items-unequal same alike (partial_equiv_from_equiv a) (λ x y. first_so (alike x y) (equal x y)) (same_laws alike equal a b).symm s t (IsDistinct-apart alike s apart_s) (IsDistinct-apart alike t apart_t) other
 
     -- and with as many: each item of the first has one that is the same in the second
-    pub equal_counts : live_count s ≡ live_count t → each_among same (live_items s) (live_items t) ≡ has_same_items same s t
+    pub equal_counts :
+        live_count s ≡ live_count t
+        → each_among same (live_items s) (live_items t) ≡ has_same_items same s t
     equal_counts as_many =
         same_items-equal same alike (partial_equiv_from_equiv a) (λ x y. first_so (alike x y) (equal x y)) (same_laws alike equal a b).symm s t (IsDistinct-apart alike s apart_s) (IsDistinct-apart alike t apart_t) as_many
 

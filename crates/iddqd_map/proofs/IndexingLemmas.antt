@@ -23,7 +23,12 @@ use Rattle.iddqd_by_hash.proofs.PlaceLemmas.{IsExact-empty, IsExact-inserted, Ke
 use Rattle.iddqd_by_hash.proofs.ScanLemmas.{rebound_cases, live_rebound}
 
 -- a query that keeps the laws stands for one key, under its hash
-pub StandsForOne-query : {K S H : Type 0} (equal : K → K → Bool) (hash_input : K → List (List ℕ)) (b : builder.Ghosts S H) (h : hasher.Ghosts H) (state : S) (input : List (List ℕ)) (test : K → Bool) → ((key : K) → IsTrue (test key) → input ≡ hash_input key) → ((x y : K) → IsTrue (test x) → test y ≡ equal x y) → StandsForOne (hashing_of equal hash_input b h state) (hash_one b h state input) test
+pub StandsForOne-query :
+    {K S H : Type 0} (equal : K → K → Bool) (hash_input : K → List (List ℕ)) (b : builder.Ghosts S H)
+    (h : hasher.Ghosts H) (state : S) (input : List (List ℕ)) (test : K → Bool)
+    → ((key : K) → IsTrue (test key) → input ≡ hash_input key)
+    → ((x y : K) → IsTrue (test x) → test y ≡ equal x y)
+    → StandsForOne (hashing_of equal hash_input b h state) (hash_one b h state input) test
 StandsForOne-query equal hash_input b h state input test same_hash same_key = record {
   hashed = λ key passed. ap (hash_one b h state) (sym (same_hash key passed));
   one_key = λ x y one other. sym (same_key x y one) ∙ other;
@@ -37,13 +42,21 @@ module _ {T K : Type 0} (key_of : T → K) (hashing : Hashing K) where
     pub Indexes-cleared : Indexes key_of hashing (cleared s) finite.empty
     Indexes-cleared = record { held = Holds-cleared s; exact = (Keeps-cleared key_of hashing s m).exact o.exact }
 
-    pub Indexes-removed : (ix : ℕ) (item : T) → get s ix ≡ Some item → Indexes key_of hashing (removed s ix) (finite.remove m ix)
+    pub Indexes-removed :
+        (ix : ℕ) (item : T)
+        → get s ix ≡ Some item
+        → Indexes key_of hashing (removed s ix) (finite.remove m ix)
     Indexes-removed ix item live = record {
       held = Holds-removed s m o.held ix item live;
       exact = (Keeps-removed key_of hashing s m ix item live).exact o.exact;
     }
 
-    pub Indexes-inserted : (item : T) → IsValid s → IsLawful hashing → HasNoHit s (shares_key key_of hashing item) → Indexes key_of hashing (inserted s item) (finite.insert m (next_index s) (hashing.hash_of (key_of item)))
+    pub Indexes-inserted :
+        (item : T)
+        → IsValid s
+        → IsLawful hashing
+        → HasNoHit s (shares_key key_of hashing item)
+        → Indexes key_of hashing (inserted s item) (finite.insert m (next_index s) (hashing.hash_of (key_of item)))
     Indexes-inserted item valid lawful none = record {
       held = Holds-inserted s m o.held item (hashing.hash_of (key_of item)) valid;
       exact = IsExact-inserted key_of hashing s m item valid lawful none o.exact;
@@ -104,6 +117,9 @@ module _ {T K : Type 0} (key_of : T → K) (hashing : Hashing K) where
         went : Indexes key_of hashing (rebound s ix item) there
         went = record { held = λ j. holds_at j (cases_eq j ix); exact = record { placed = placed_at; apart = apart_at } }
 
-      pub Indexes-rebound : (plan : Move) → Plans key_of hashing s ix item plan → Indexes key_of hashing (rebound s ix item) (moved m ix plan)
+      pub Indexes-rebound :
+          (plan : Move)
+          → Plans key_of hashing s ix item plan
+          → Indexes key_of hashing (rebound s ix item) (moved m ix plan)
       Indexes-rebound Stays plan = kept plan
       Indexes-rebound (To hash) plan = went hash plan

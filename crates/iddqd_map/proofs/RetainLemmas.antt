@@ -29,24 +29,38 @@ same_memory {a} {b} slots capacity cells =
 
 module _ {T : Type 0} where
   -- the walk over one slot more
-  pairs_more : (items : List (Option T)) (p : ℕ) (slot : Option T) → p < length items → get_or items p None ≡ slot → pairs_from 0 (take (p + 1) items) ≡ pairs_from 0 (take p items) ++ pairs_from p (slot ∷ [])
+  pairs_more :
+      (items : List (Option T)) (p : ℕ) (slot : Option T)
+      → p < length items
+      → get_or items p None ≡ slot
+      → pairs_from 0 (take (p + 1) items) ≡ pairs_from 0 (take p items) ++ pairs_from p (slot ∷ [])
   pairs_more items p slot within is =
       let at : 0 + length (take p items) ≡ p = omega (arith, length-take-le p items (omega arith)) in
       ap (pairs_from 0) (take_more items p None within ∙ ap (λ o. take p items ++ o ∷ []) is)
       ∙ pairs_from-append 0 (take p items) (slot ∷ [])
       ∙ ap (λ n. pairs_from 0 (take p items) ++ pairs_from n (slot ∷ [])) at
 
-  pairs_vacant : (items : List (Option T)) (p : ℕ) → p < length items → get_or items p None ≡ None → pairs_from 0 (take (p + 1) items) ≡ pairs_from 0 (take p items)
+  pairs_vacant :
+      (items : List (Option T)) (p : ℕ)
+      → p < length items
+      → get_or items p None ≡ None
+      → pairs_from 0 (take (p + 1) items) ≡ pairs_from 0 (take p items)
   pairs_vacant items p within is = pairs_more items p None within is ∙ append-nil _
 
-  removed_all-push : (s : Store T) (ixs : List ℕ) (ix : ℕ) → removed_all s (ixs ++ ix ∷ []) ≡ removed (removed_all s ixs) ix
+  removed_all-push :
+      (s : Store T) (ixs : List ℕ) (ix : ℕ)
+      → removed_all s (ixs ++ ix ∷ []) ≡ removed (removed_all s ixs) ix
   removed_all-push s [] ix = refl
   removed_all-push s (at ∷ ixs) ix = removed_all-push (removed s at) ixs ix
 
-  kept-push : (asks : List ((ℕ × T) × Bool)) (a : (ℕ × T) × Bool) → kept_of (asks ++ a ∷ []) ≡ kept_of asks ++ kept_of (a ∷ [])
+  kept-push :
+      (asks : List ((ℕ × T) × Bool)) (a : (ℕ × T) × Bool)
+      → kept_of (asks ++ a ∷ []) ≡ kept_of asks ++ kept_of (a ∷ [])
   kept-push asks a = ap (map (λ (a : (ℕ × T) × Bool). a.0)) (filter-append (λ (a : (ℕ × T) × Bool). a.1) asks (a ∷ [])) ∙ map-append (λ (a : (ℕ × T) × Bool). a.0) _ _
 
-  refused-push : (asks : List ((ℕ × T) × Bool)) (a : (ℕ × T) × Bool) → refused_of (asks ++ a ∷ []) ≡ refused_of asks ++ refused_of (a ∷ [])
+  refused-push :
+      (asks : List ((ℕ × T) × Bool)) (a : (ℕ × T) × Bool)
+      → refused_of (asks ++ a ∷ []) ≡ refused_of asks ++ refused_of (a ∷ [])
   refused-push asks a = ap (map (λ (a : (ℕ × T) × Bool). a.0.0)) (filter-append (λ (a : (ℕ × T) × Bool). not a.1) asks (a ∷ [])) ∙ map-append (λ (a : (ℕ × T) × Bool). a.0.0) _ _
 
   -- a live item is one of the items
@@ -67,7 +81,10 @@ module _ {T : Type 0} where
 -- `ask p x b q` says that x, asked in the state p, may be answered b and leave the state q
 module _ {F T : Type 0} (ask : F → T → Bool → F → Type 0) where
   -- no more items are left than there were
-  pub RetainsTo-fewer : (f : F) (old now : Store T) (last : F) → RetainsTo ask f old now last → live_count now ≤ live_count old
+  pub RetainsTo-fewer :
+      (f : F) (old now : Store T) (last : F)
+      → RetainsTo ask f old now last
+      → live_count now ≤ live_count old
   RetainsTo-fewer f old now last w =
       let asked = ap length w.each_once in
       let kept = ap length w.kept in
@@ -125,7 +142,11 @@ module _ {F T : Type 0} (takes : F → T → Type 0) (ask : F → T → Bool →
   }
 
   -- all slots were asked about
-  pub Retaining-all : (f : F) (old now : Store T) (p : ℕ) (state : F) → Retaining f old now p state → length old.items ≤ p → RetainsTo ask f old now state
+  pub Retaining-all :
+      (f : F) (old now : Store T) (p : ℕ) (state : F)
+      → Retaining f old now p state
+      → length old.items ≤ p
+      → RetainsTo ask f old now state
   Retaining-all f old now p state w past = record {
     asks = w.asks;
     each_once = w.each_once ∙ ap (pairs_from 0) (take_all p old.items past);
@@ -134,7 +155,9 @@ module _ {F T : Type 0} (takes : F → T → Type 0) (ask : F → T → Bool →
     left = w.left;
   }
 
-  module _ (f : F) (old now : Store T) (p : ℕ) (state : F) (w : Retaining f old now p state) (within : p < length old.items) where
+  module _
+      (f : F) (old now : Store T) (p : ℕ) (state : F) (w : Retaining f old now p state) (within : p < length old.items)
+      where
     -- a slot without an item
     pub Retaining-vacant : get now p ≡ None → Retaining f old now (p + 1) state
     Retaining-vacant vacant = record {
@@ -156,7 +179,9 @@ module _ {F T : Type 0} (takes : F → T → Type 0) (ask : F → T → Bool →
       pub takes-next : takes state item
       takes-next = CanAsk-takes takes ask state (live_items old) item w.can (Contains-live old p item was_live)
 
-      each-more : (b : Bool) → map (λ (a : (ℕ × T) × Bool). a.0) (w.asks ++ ((p, item), b) ∷ []) ≡ pairs_from 0 (take (p + 1) old.items)
+      each-more :
+          (b : Bool)
+          → map (λ (a : (ℕ × T) × Bool). a.0) (w.asks ++ ((p, item), b) ∷ []) ≡ pairs_from 0 (take (p + 1) old.items)
       each-more b =
           map-append (λ (a : (ℕ × T) × Bool). a.0) w.asks (((p, item), b) ∷ [])
           ∙ ap (λ l. l ++ (p, item) ∷ []) w.each_once
@@ -179,7 +204,11 @@ module _ {F T : Type 0} (takes : F → T → Type 0) (ask : F → T → Bool →
       }
 
       -- it was answered false, and removed
-      pub Retaining-removed : (after : Store T) (next : F) → after ≡ removed now p → ask state item false next → Retaining f old after (p + 1) next
+      pub Retaining-removed :
+          (after : Store T) (next : F)
+          → after ≡ removed now p
+          → ask state item false next
+          → Retaining f old after (p + 1) next
       Retaining-removed after next gone asked =
           let counted = w.counted in
           let within_now : p < length now.items = omega arith in

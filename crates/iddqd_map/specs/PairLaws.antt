@@ -37,7 +37,9 @@ moves_either m n true b one two = rw (one, two) refl
 moves_either m n false b one two = rw one refl
 
 module _ {T : Type 0} (first second : T → T → Bool) (s : Store T) (item : T) where
-  pub IsHit-either : (ix : ℕ) → IsHit s (either_key first second item) ix ↔ (IsHit s (first item) ix ⊎ IsHit s (second item) ix)
+  pub IsHit-either :
+      (ix : ℕ)
+      → IsHit s (either_key first second item) ix ↔ (IsHit s (first item) ix ⊎ IsHit s (second item) ix)
   IsHit-either ix = (
     λ hit. let (x, is, passed) = hit in
         elim (either_true (first item x) (second item x) passed) [ inl one ↦ inl (x, is, one) | inr two ↦ inr (x, is, two) ],

@@ -41,7 +41,12 @@ module _ {T : Type 0} (old new : MapState T) where
       subst (λ s. HasNoHit s test) (sym removes.left) (HasNoHit-hit_removed old.store test removes.ix removes.hit.only)
 
 -- each call of the closure at an item answers and leaves what `Leaves was result is` says
-module _ {F T R : Type 0} (g : Once F (MutBor T × Unit {0}) (R × (MutBor T × Unit {0}))) (f : F) (Leaves : T → R → T → Type 0) (leaves : (item left : MutBor T) (result : R) → g.post f (item, tt) (result, (left, tt)) → Leaves item.now result left.now) where
+module _
+    {F T R : Type 0} (g : Once F (MutBor T × Unit {0}) (R × (MutBor T × Unit {0}))) (f : F)
+    (Leaves : T → R → T → Type 0)
+    (leaves : (item left : MutBor T) (result : R) → g.post f (item, tt) (result, (left, tt)) → Leaves item.now result
+        left.now)
+    where
   -- so this holds of an item that was modified by it
   pub called_leaves : (was is : T) (result : R) → FnOnceReturnsAtMut g f was result is → Leaves was result is
   called_leaves was is result called =
@@ -49,7 +54,9 @@ module _ {F T R : Type 0} (g : Once F (MutBor T × Unit {0}) (R × (MutBor T × 
       subst (λ item. Leaves item result is) called.shows at_shown
 
 -- a slot less
-fewer_set : {T : Type 0} (slots : List (Option T)) (ix : ℕ) → count_by is_some (slice_set slots ix None) ≤ count_by is_some slots
+fewer_set :
+    {T : Type 0} (slots : List (Option T)) (ix : ℕ)
+    → count_by is_some (slice_set slots ix None) ≤ count_by is_some slots
 fewer_set [] ix = omega arith
 fewer_set {T} (slot ∷ slots) zero =
     let left = sum_by-cons (λ (o : Option T). cond (is_some o) 1 0) None slots in
@@ -76,5 +83,8 @@ module _ {F T : Type 0} (ask : F → T → Bool → F → Type 0) (f : F) (old n
   retains_fewer retains = subst (λ s. live_count s ≤ live_count old.store) (sym retains.retained.left) (fewer_all old.store (refused_of retains.retained.asks))
 
   -- nor does that of a map in order
-  pub retains_along_fewer : (is_walk : Store T → List (ℕ × T) → Type 0) → RetainsAlong is_walk ask f old new → live_count new.store ≤ live_count old.store
+  pub retains_along_fewer :
+      (is_walk : Store T → List (ℕ × T) → Type 0)
+      → RetainsAlong is_walk ask f old new
+      → live_count new.store ≤ live_count old.store
   retains_along_fewer is_walk retains = subst (λ s. live_count s ≤ live_count old.store) (sym retains.retained.left) (fewer_all old.store (refused_of retains.retained.asks))

@@ -12,11 +12,19 @@ module _ {F R : Type 0} (g : Mut F (ℕ × Unit {0}) R) (P : ℕ → Type 0) whe
   pub CanAsk-later : {n : ℕ} {a b : F} → After g P n a b → CanAsk g P a → CanAsk g P b
   CanAsk-later p h = record { at = λ m f q. h.at _ f (After-trans p q) }
 
-  pub Steady-later : {n : ℕ} {read : R → Ordering} {answer : ℕ → Ordering} {a b : F} → After g P n a b → Steady g P read answer a → Steady g P read answer b
+  pub Steady-later :
+      {n : ℕ} {read : R → Ordering} {answer : ℕ → Ordering} {a b : F}
+      → After g P n a b
+      → Steady g P read answer a
+      → Steady g P read answer b
   Steady-later p h = record { at = λ m f q. h.at _ f (After-trans p q) }
 
   -- asks that join up
-  pub asks_then : {k l : ℕ} {a b c : Asking F} → AsksWithin g P k a b → AsksWithin g P l b c → AsksWithin g P (k + l) a c
+  pub asks_then :
+      {k l : ℕ} {a b c : Asking F}
+      → AsksWithin g P k a b
+      → AsksWithin g P l b c
+      → AsksWithin g P (k + l) a c
   asks_then p q = record {
     asks = q.asks + p.asks;
     within = (let x = p.within in let y = q.within in omega (arith, x, y));
@@ -30,7 +38,12 @@ module _ {F R : Type 0} (g : Mut F (ℕ × Unit {0}) R) (P : ℕ → Type 0) whe
   pub asks_more : {k l : ℕ} {a b : Asking F} → k ≤ l → AsksWithin g P k a b → AsksWithin g P l a b
   asks_more h p = record { asks = p.asks; within = (let x = p.within in omega (arith, x, h)); after = p.after; counted = p.counted }
 
-  pub asks_one : {a b : Asking F} {ix : ℕ} {r : R} → P ix → Called g (closure_of a) (ix, tt) r (closure_of b) → ask_count b ≡ ask_count a + 1 → AsksWithin g P 1 a b
+  pub asks_one :
+      {a b : Asking F} {ix : ℕ} {r : R}
+      → P ix
+      → Called g (closure_of a) (ix, tt) r (closure_of b)
+      → ask_count b ≡ ask_count a + 1
+      → AsksWithin g P 1 a b
   asks_one h e c = record { asks = 1; within = omega arith; after = One_more At_once h e; counted = c }
 
 -- asks of fewer indexes
@@ -42,14 +55,20 @@ module _ {F R : Type 0} (g : Mut F (ℕ × Unit {0}) R) (P Q : ℕ → Type 0) (
   pub CanAsk-fewer : {f : F} → CanAsk g Q f → CanAsk g P f
   CanAsk-fewer c = record { at = λ n f' p ix h. c.at n f' (After-wider p) ix (wider ix h) }
 
-  pub Steady-fewer : {read : R → Ordering} {answer : ℕ → Ordering} {f : F} → Steady g Q read answer f → Steady g P read answer f
+  pub Steady-fewer :
+      {read : R → Ordering} {answer : ℕ → Ordering} {f : F}
+      → Steady g Q read answer f
+      → Steady g P read answer f
   Steady-fewer s = record { at = λ n f' p ix h. s.at n f' (After-wider p) ix (wider ix h) }
 
   pub asks_wider : {k : ℕ} {a b : Asking F} → AsksWithin g P k a b → AsksWithin g Q k a b
   asks_wider p = record { asks = p.asks; within = p.within; after = After-wider p.after; counted = p.counted }
 
 -- what each call of a closure keeps, all its calls keep
-module _ {F R : Type 0} (g : Mut F (ℕ × Unit {0}) R) (P : ℕ → Type 0) (I : F → Type 0) (keeps : (f f' : F) (ix : ℕ) (r : R) → I f → P ix → Called g f (ix, tt) r f' → I f') where
+module _
+    {F R : Type 0} (g : Mut F (ℕ × Unit {0}) R) (P : ℕ → Type 0) (I : F → Type 0)
+    (keeps : (f f' : F) (ix : ℕ) (r : R) → I f → P ix → Called g f (ix, tt) r f' → I f')
+    where
   pub After-keeps : {n : ℕ} {a b : F} → I a → After g P n a b → I b
   After-keeps i At_once = i
   After-keeps i (One_more p h e) = keeps _ _ _ _ (After-keeps i p) h e
@@ -57,5 +76,10 @@ module _ {F R : Type 0} (g : Mut F (ℕ × Unit {0}) R) (P : ℕ → Type 0) (I 
   pub CanAsk-by : ((f : F) (ix : ℕ) → I f → P ix → g.pre f (ix, tt)) → (f : F) → I f → CanAsk g P f
   CanAsk-by asks f i = record { at = λ n f' p ix h. asks f' ix (After-keeps i p) h }
 
-  pub Steady-by : (read : R → Ordering) (answer : ℕ → Ordering) → ((f f' : F) (ix : ℕ) (r : R) → I f → P ix → Called g f (ix, tt) r f' → read r ≡ answer ix) → (f : F) → I f → Steady g P read answer f
+  pub Steady-by :
+      (read : R → Ordering) (answer : ℕ → Ordering)
+      → ((f f' : F) (ix : ℕ) (r : R) → I f → P ix → Called g f (ix, tt) r f' → read r ≡ answer ix)
+      → (f : F)
+      → I f
+      → Steady g P read answer f
   Steady-by read answer says f i = record { at = λ n f' p ix h r f'' e. says f' f'' ix r (After-keeps i p) h e }

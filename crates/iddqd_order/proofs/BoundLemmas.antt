@@ -29,7 +29,11 @@ none-left : (i : ℕ) (xs : List ℕ) → part i 0 xs ≡ []
 none-left i xs = let none : 0 - i ≡ 0 = omega arith in ap (λ k. take k (drop i xs)) none
 
 -- the bounds are places, before which all is Greater, and behind which all is Less
-pub part-within : (lower upper : ℕ → Ordering) (xs : List ℕ) (from to : ℕ) → IsPlace lower xs from → IsPlace upper xs to → part from to xs ≡ filter (is_within lower upper) xs
+pub part-within :
+    (lower upper : ℕ → Ordering) (xs : List ℕ) (from to : ℕ)
+    → IsPlace lower xs from
+    → IsPlace upper xs to
+    → part from to xs ≡ filter (is_within lower upper) xs
 part-within lower upper [] zero to low high = take-none (to - 0)
 part-within lower upper [] (suc i) to low high = take-none (to - suc i)
 part-within lower upper (x ∷ xs) zero zero low high =

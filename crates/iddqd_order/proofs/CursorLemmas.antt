@@ -20,17 +20,34 @@ pub record Below (h i : ℕ) (n k : Node) (p : List ℕ) : Type 0 where
 pub goes-here : (h i : ℕ) (n : Node) (p : List ℕ) → h ≢ 0 → i ≡ slice_index p h → Goes h n p → i < length (children n)
 goes-here h i n p ne e g = rw e (goes-inner h n p ne g).here
 
-pub goes-in : (h i : ℕ) (n k : Node) (p : List ℕ) → h ≢ 0 → i ≡ slice_index p h → IsFormed h n → Goes h n p → k ≡ get_or (children n) i k → Below h i n k p
+pub goes-in :
+    (h i : ℕ) (n k : Node) (p : List ℕ)
+    → h ≢ 0
+    → i ≡ slice_index p h
+    → IsFormed h n
+    → Goes h n p
+    → k ≡ get_or (children n) i k
+    → Below h i n k p
 goes-in h i n k p ne e f g is_k =
     let here = goes-here h i n p ne e g in
     let is = child_is n i k here is_k in
     record { here = here; is = is; formed = rw is (child-formed h n i ne f here); goes = rw (is, e) (goes-inner h n p ne g).on }
 
 -- and the other way round
-pub goes-at : (h i : ℕ) (n : Node) (p : List ℕ) → h ≢ 0 → slice_index p h ≡ i → i < length (children n) → Goes (h - 1) (child n i) p → Goes h n p
+pub goes-at :
+    (h i : ℕ) (n : Node) (p : List ℕ)
+    → h ≢ 0
+    → slice_index p h ≡ i
+    → i < length (children n)
+    → Goes (h - 1) (child n i) p
+    → Goes h n p
 goes-at h i n p ne e here on = below-holds 0 h n p ne (rw e here) (rw e on)
 
-pub place-at : (h i : ℕ) (n : Node) (p : List ℕ) → h ≢ 0 → slice_index p h ≡ i → place h n p ≡ length (before i (row n) (lists (h - 1) (children n))) + place (h - 1) (child n i) p
+pub place-at :
+    (h i : ℕ) (n : Node) (p : List ℕ)
+    → h ≢ 0
+    → slice_index p h ≡ i
+    → place h n p ≡ length (before i (row n) (lists (h - 1) (children n))) + place (h - 1) (child n i) p
 place-at h i n p ne e = rw (← e) (place-inner h n p ne)
 
 pub leaf-at : (h i : ℕ) (n : Node) (p : List ℕ) → h ≢ 0 → slice_index p h ≡ i → leaf h n p ≡ leaf (h - 1) (child n i) p
@@ -65,20 +82,35 @@ pub edge-within : (last : Bool) (count i : ℕ) → i ≡ edge_of last count →
 edge-within true count i e = omega arith
 edge-within false count i e = omega arith
 
-pub beside-within : (ahead : Bool) (count i : ℕ) (r : ℕ × ℕ) → AreBeside ahead count i (Some r) → (r.0 < count) × (r.1 ≤ count)
+pub beside-within :
+    (ahead : Bool) (count i : ℕ) (r : ℕ × ℕ)
+    → AreBeside ahead count i (Some r)
+    → (r.0 < count) × (r.1 ≤ count)
 beside-within true count i r b = let at = b.0 in let to = b.2 in (at, omega arith)
 beside-within false count i r b = let at = b.0 in let to = b.2 in (at, omega arith)
 
 -- the index at a place of the i-th list
-behind-below : (h i j ix : ℕ) (n : Node) → h ≢ 0 → IsFormed h n → i < length (children n) → IsBehind (flat (h - 1) (child n i)) j ix
+behind-below :
+    (h i j ix : ℕ) (n : Node)
+    → h ≢ 0
+    → IsFormed h n
+    → i < length (children n)
+    → IsBehind (flat (h - 1) (child n i)) j ix
     → IsBehind (flat h n) (length (before i (row n) (lists (h - 1) (children n))) + j) ix
 behind-below h i j ix n ne f here b =
     let inside = within i (row n) (lists (h - 1) (children n)) [] (suc j) (omega (arith, length-map (children n) (λ k. flat (h - 1) k))) (lists-one_more h n ne f) (rw (lists-at (h - 1) n i here) (omega (arith, b.0))) in
     (rw (flat-inner h n ne) (omega arith), b.1 ∙ sym (child-read h n i j ne f here b.0))
 
 -- a step below the i-th child is one in the whole
-steps-below : (ahead : Bool) (h i ix : ℕ) (n : Node) (p q : List ℕ) → h ≢ 0 → IsFormed h n → i < length (children n) → slice_index p h ≡ i → slice_index q h ≡ i
-    → Steps ahead (flat (h - 1) (child n i)) (place (h - 1) (child n i) p) (Some ix) (place (h - 1) (child n i) q) → Steps ahead (flat h n) (place h n p) (Some ix) (place h n q)
+steps-below :
+    (ahead : Bool) (h i ix : ℕ) (n : Node) (p q : List ℕ)
+    → h ≢ 0
+    → IsFormed h n
+    → i < length (children n)
+    → slice_index p h ≡ i
+    → slice_index q h ≡ i
+    → Steps ahead (flat (h - 1) (child n i)) (place (h - 1) (child n i) p) (Some ix) (place (h - 1) (child n i) q)
+    → Steps ahead (flat h n) (place h n p) (Some ix) (place h n q)
 steps-below true h i ix n p q ne f here ep eq s =
     let at = place-at h i n p ne ep in let to = place-at h i n q ne eq in let one = s.1 in
     (rw at (behind-below h i _ ix n ne f here s.0), omega arith)
@@ -87,8 +119,15 @@ steps-below false h i ix n p q ne f here ep eq s =
     (rw to (behind-below h i _ ix n ne f here s.0), omega arith)
 
 -- the last gap of a node is that of its last child, and the first one that of its first
-pub edge-inner : (last : Bool) (h i : ℕ) (n : Node) (p : List ℕ) → h ≢ 0 → IsFormed h n → i < length (children n) → slice_index p h ≡ i → i ≡ edge_of last (length (row n))
-    → place (h - 1) (child n i) p ≡ edge_of last (length (flat (h - 1) (child n i))) → place h n p ≡ edge_of last (length (flat h n))
+pub edge-inner :
+    (last : Bool) (h i : ℕ) (n : Node) (p : List ℕ)
+    → h ≢ 0
+    → IsFormed h n
+    → i < length (children n)
+    → slice_index p h ≡ i
+    → i ≡ edge_of last (length (row n))
+    → place (h - 1) (child n i) p ≡ edge_of last (length (flat (h - 1) (child n i)))
+    → place h n p ≡ edge_of last (length (flat h n))
 edge-inner true h i n p ne f here ep ei on =
     let xs : List ℕ = row n in let ks : List (List ℕ) = lists (h - 1) (children n) in
     let one = lists-one_more h n ne f in
@@ -102,17 +141,36 @@ edge-inner false h i n p ne f here ep ei on =
     let at = place-at h i n p ne ep in
     omega arith
 
-edge-leaf : (last : Bool) (h i : ℕ) (n : Node) (p : List ℕ) → h ≡ 0 → slice_index p h ≡ i → i ≡ edge_of last (length (row n)) → place h n p ≡ edge_of last (length (flat h n))
+edge-leaf :
+    (last : Bool) (h i : ℕ) (n : Node) (p : List ℕ)
+    → h ≡ 0
+    → slice_index p h ≡ i
+    → i ≡ edge_of last (length (row n))
+    → place h n p ≡ edge_of last (length (flat h n))
 edge-leaf last h i n p e ep ei = place-leaf h n p e ∙ ap (slice_index p) (sym e) ∙ ep ∙ ei ∙ ap (λ z. edge_of last (length z)) (sym (flat-leaf h n e))
 
-pub at_edge-leaf : (last : Bool) (h i : ℕ) (n : Node) (xs p : List ℕ) → h ≡ 0 → slice_index p h ≡ i → i ≡ edge_of last (length (row n)) → xs ≡ row n → AtEdge last h n xs p
+pub at_edge-leaf :
+    (last : Bool) (h i : ℕ) (n : Node) (xs p : List ℕ)
+    → h ≡ 0
+    → slice_index p h ≡ i
+    → i ≡ edge_of last (length (row n))
+    → xs ≡ row n
+    → AtEdge last h n xs p
 at_edge-leaf last h i n xs p e ep ei ex =
     let within = edge-within last (length (row n)) i ei in
     let here = ap (slice_index p) (sym e) ∙ ep in
     record { goes = rw e (reaches-here true 0 n p (omega arith)); place_is = edge-leaf last h i n p e ep ei; leaf_is = ex ∙ sym (leaf-zero h n p e) }
 
-pub at_edge-inner : (last : Bool) (h i : ℕ) (n k : Node) (xs p : List ℕ) → h ≢ 0 → IsFormed h n → i < length (children n) → k ≡ child n i → slice_index p h ≡ i → i ≡ edge_of last (length (row n))
-    → AtEdge last (h - 1) k xs p → AtEdge last h n xs p
+pub at_edge-inner :
+    (last : Bool) (h i : ℕ) (n k : Node) (xs p : List ℕ)
+    → h ≢ 0
+    → IsFormed h n
+    → i < length (children n)
+    → k ≡ child n i
+    → slice_index p h ≡ i
+    → i ≡ edge_of last (length (row n))
+    → AtEdge last (h - 1) k xs p
+    → AtEdge last h n xs p
 at_edge-inner last h i n k xs p ne f here is ep ei on =
     record {
       goes = goes-at h i n p ne ep here (rw is at on.goes);
@@ -121,8 +179,15 @@ at_edge-inner last h i n k xs p ne f here is ep ei on =
     }
 
 -- from the last gap below the i-th child over the i-th index to the first gap below the next child
-turn-at : (h i : ℕ) (n : Node) (p q : List ℕ) → h ≢ 0 → IsFormed h n → i < length (row n) → slice_index p h ≡ i → slice_index q h ≡ i + 1
-    → place (h - 1) (child n i) p ≡ length (flat (h - 1) (child n i)) → place (h - 1) (child n (i + 1)) q ≡ 0
+turn-at :
+    (h i : ℕ) (n : Node) (p q : List ℕ)
+    → h ≢ 0
+    → IsFormed h n
+    → i < length (row n)
+    → slice_index p h ≡ i
+    → slice_index q h ≡ i + 1
+    → place (h - 1) (child n i) p ≡ length (flat (h - 1) (child n i))
+    → place (h - 1) (child n (i + 1)) q ≡ 0
     → IsBehind (flat h n) (place h n p) (slice_index (row n) i) × (place h n q ≡ place h n p + 1)
 turn-at h i n p q ne f lt ep eq last first =
     let xs : List ℕ = row n in let ks : List (List ℕ) = lists (h - 1) (children n) in
@@ -135,15 +200,27 @@ turn-at h i n p q ne f lt ep eq last first =
     ((rw (is, flat-inner h n ne) (held.within i lt), rw (is, flat-inner h n ne) (sym (held.at i lt))), omega arith)
 
 -- a step over an index of a node itself
-steps-here : (ahead : Bool) (h i : ℕ) (r : ℕ × ℕ) (n : Node) (p q : List ℕ) → h ≢ 0 → IsFormed h n → AreBeside ahead (length (row n)) i (Some r) → slice_index p h ≡ i → slice_index q h ≡ r.1
-    → place (h - 1) (child n i) p ≡ edge_of ahead (length (flat (h - 1) (child n i))) → place (h - 1) (child n r.1) q ≡ edge_of (not ahead) (length (flat (h - 1) (child n r.1)))
+steps-here :
+    (ahead : Bool) (h i : ℕ) (r : ℕ × ℕ) (n : Node) (p q : List ℕ)
+    → h ≢ 0
+    → IsFormed h n
+    → AreBeside ahead (length (row n)) i (Some r)
+    → slice_index p h ≡ i
+    → slice_index q h ≡ r.1
+    → place (h - 1) (child n i) p ≡ edge_of ahead (length (flat (h - 1) (child n i)))
+    → place (h - 1) (child n r.1) q ≡ edge_of (not ahead) (length (flat (h - 1) (child n r.1)))
     → Steps ahead (flat h n) (place h n p) (Some (slice_index (row n) r.0)) (place h n q)
 steps-here true h i r n p q ne f b ep eq last first =
     let from = b.1 in let to = b.2 in turn-at h r.0 n p q ne f b.0 (ep ∙ from) (eq ∙ to) (rw from at last) (rw to at first)
 steps-here false h i r n p q ne f b ep eq last first =
     let from = b.1 in let to = b.2 in turn-at h r.0 n q p ne f b.0 (eq ∙ to) (ep ∙ from) (rw to at first) (rw from at last)
 
-steps-leaf : (ahead : Bool) (h i : ℕ) (r : ℕ × ℕ) (n : Node) (p q : List ℕ) → h ≡ 0 → AreBeside ahead (length (row n)) i (Some r) → slice_index p h ≡ i → slice_index q h ≡ r.1
+steps-leaf :
+    (ahead : Bool) (h i : ℕ) (r : ℕ × ℕ) (n : Node) (p q : List ℕ)
+    → h ≡ 0
+    → AreBeside ahead (length (row n)) i (Some r)
+    → slice_index p h ≡ i
+    → slice_index q h ≡ r.1
     → Steps ahead (flat h n) (place h n p) (Some (slice_index (row n) r.0)) (place h n q)
 steps-leaf true h i r n p q e b ep eq =
     let is : place h n p ≡ r.0 = place-leaf h n p e ∙ ap (slice_index p) (sym e) ∙ ep ∙ b.1 in
@@ -152,8 +229,15 @@ steps-leaf false h i r n p q e b ep eq =
     let is : place h n q ≡ r.0 = place-leaf h n q e ∙ ap (slice_index q) (sym e) ∙ eq ∙ b.2 in
     ((rw (is, flat-leaf h n e) b.0, rw (is, flat-leaf h n e)), place-leaf h n p e ∙ ap (slice_index p) (sym e) ∙ ep ∙ b.1 ∙ ap (λ z. z + 1) (sym is))
 
-pub over-below : (ahead : Bool) (h i ix : ℕ) (n k : Node) (p xs q : List ℕ) → h ≢ 0 → IsFormed h n → Below h i n k p → i ≡ slice_index p h → slice_index q h ≡ slice_index p h
-    → Over ahead (h - 1) k p ix xs q → Over ahead h n p ix xs q
+pub over-below :
+    (ahead : Bool) (h i ix : ℕ) (n k : Node) (p xs q : List ℕ)
+    → h ≢ 0
+    → IsFormed h n
+    → Below h i n k p
+    → i ≡ slice_index p h
+    → slice_index q h ≡ slice_index p h
+    → Over ahead (h - 1) k p ix xs q
+    → Over ahead h n p ix xs q
 over-below ahead h i ix n k p xs q ne f b ei eq o =
     let to = eq ∙ sym ei in
     record {
@@ -162,15 +246,31 @@ over-below ahead h i ix n k p xs q ne f b ei eq o =
       leaf_is = rw b.is at o.leaf_is ∙ sym (leaf-at h i n q ne to);
     }
 
-pub over-leaf : (ahead : Bool) (h i : ℕ) (r : ℕ × ℕ) (n : Node) (p xs q : List ℕ) → h ≡ 0 → AreBeside ahead (length (row n)) i (Some r) → i ≡ slice_index p h → slice_index q h ≡ r.1 → xs ≡ row n
+pub over-leaf :
+    (ahead : Bool) (h i : ℕ) (r : ℕ × ℕ) (n : Node) (p xs q : List ℕ)
+    → h ≡ 0
+    → AreBeside ahead (length (row n)) i (Some r)
+    → i ≡ slice_index p h
+    → slice_index q h ≡ r.1
+    → xs ≡ row n
     → Over ahead h n p (slice_index (row n) r.0) xs q
 over-leaf ahead h i r n p xs q e b ei eq ex =
     let inside = beside-within ahead (length (row n)) i r b in
     let here = ap (slice_index q) (sym e) ∙ eq in
     record { goes = rw e (reaches-here true 0 n q (omega arith)); steps = steps-leaf ahead h i r n p q e b (sym ei) eq; leaf_is = ex ∙ sym (leaf-zero h n q e) }
 
-pub over-here : (ahead : Bool) (h i : ℕ) (r : ℕ × ℕ) (n k j : Node) (p xs q : List ℕ) → h ≢ 0 → IsFormed h n → Below h i n k p → i ≡ slice_index p h → AreBeside ahead (length (row n)) i (Some r)
-    → place (h - 1) k p ≡ edge_of ahead (length (flat (h - 1) k)) → r.1 < length (children n) → j ≡ child n r.1 → slice_index q h ≡ r.1 → AtEdge (not ahead) (h - 1) j xs q
+pub over-here :
+    (ahead : Bool) (h i : ℕ) (r : ℕ × ℕ) (n k j : Node) (p xs q : List ℕ)
+    → h ≢ 0
+    → IsFormed h n
+    → Below h i n k p
+    → i ≡ slice_index p h
+    → AreBeside ahead (length (row n)) i (Some r)
+    → place (h - 1) k p ≡ edge_of ahead (length (flat (h - 1) k))
+    → r.1 < length (children n)
+    → j ≡ child n r.1
+    → slice_index q h ≡ r.1
+    → AtEdge (not ahead) (h - 1) j xs q
     → Over ahead h n p (slice_index (row n) r.0) xs q
 over-here ahead h i r n k j p xs q ne f b ei beside last here is eq first =
     record {
@@ -180,11 +280,23 @@ over-here ahead h i r n k j p xs q ne f b ei beside last here is eq first =
     }
 
 -- no index is on that side
-pub ended-leaf : (ahead : Bool) (h i : ℕ) (n : Node) (p : List ℕ) → h ≡ 0 → AreBeside ahead (length (row n)) i None → i ≡ slice_index p h → place h n p ≡ edge_of ahead (length (flat h n))
+pub ended-leaf :
+    (ahead : Bool) (h i : ℕ) (n : Node) (p : List ℕ)
+    → h ≡ 0
+    → AreBeside ahead (length (row n)) i None
+    → i ≡ slice_index p h
+    → place h n p ≡ edge_of ahead (length (flat h n))
 ended-leaf ahead h i n p e b ei = edge-leaf ahead h i n p e (sym ei) b
 
-pub ended-here : (ahead : Bool) (h i : ℕ) (n k : Node) (p : List ℕ) → h ≢ 0 → IsFormed h n → Below h i n k p → i ≡ slice_index p h → AreBeside ahead (length (row n)) i None
-    → place (h - 1) k p ≡ edge_of ahead (length (flat (h - 1) k)) → place h n p ≡ edge_of ahead (length (flat h n))
+pub ended-here :
+    (ahead : Bool) (h i : ℕ) (n k : Node) (p : List ℕ)
+    → h ≢ 0
+    → IsFormed h n
+    → Below h i n k p
+    → i ≡ slice_index p h
+    → AreBeside ahead (length (row n)) i None
+    → place (h - 1) k p ≡ edge_of ahead (length (flat (h - 1) k))
+    → place h n p ≡ edge_of ahead (length (flat h n))
 ended-here ahead h i n k p ne f b ei beside last = edge-inner ahead h i n p ne f b.here (sym ei) beside (rw b.is at last)
 
 -- another gap of the same leaf
@@ -193,7 +305,12 @@ pub record Moved (h : ℕ) (n : Node) (p q : List ℕ) : Type 0 where
   pub same_leaf : leaf h n q ≡ leaf h n p
   pub place_is : place h n q + slice_index p 0 ≡ place h n p + slice_index q 0
 
-pub moved : (h : ℕ) (n : Node) (p q : List ℕ) → Goes h n p → slice_index q 0 ≤ length (leaf h n p) → ((m : ℕ) → 0 < m → slice_index q m ≡ slice_index p m) → Moved h n p q
+pub moved :
+    (h : ℕ) (n : Node) (p q : List ℕ)
+    → Goes h n p
+    → slice_index q 0 ≤ length (leaf h n p)
+    → ((m : ℕ) → 0 < m → slice_index q m ≡ slice_index p m)
+    → Moved h n p q
 moved zero n p q g le same =
     let from = place-leaf 0 n p refl in let to = place-leaf 0 n q refl in
     record {
@@ -231,7 +348,12 @@ goes-within (suc h) n p g =
     let at = goes-inner (suc h) n p (λ e. absurd (omega arith)) g in
     rw (leaf-at (suc h) _ n p (λ e. absurd (omega arith)) refl, sub-one) (goes-within h _ p (rw sub-one at at.on))
 
-pub leaf-read : (h : ℕ) (n : Node) (p : List ℕ) → IsFormed h n → Goes h n p → slice_index p 0 < length (leaf h n p) → IsBehind (flat h n) (place h n p) (slice_index (leaf h n p) (slice_index p 0))
+pub leaf-read :
+    (h : ℕ) (n : Node) (p : List ℕ)
+    → IsFormed h n
+    → Goes h n p
+    → slice_index p 0 < length (leaf h n p)
+    → IsBehind (flat h n) (place h n p) (slice_index (leaf h n p) (slice_index p 0))
 leaf-read zero n p f g lt = rw (leaf-zero 0 n p refl, flat-leaf 0 n refl, place-leaf 0 n p refl) (rw (leaf-zero 0 n p refl) at lt, refl)
 leaf-read (suc h) n p f g lt =
     let ne : suc h ≢ 0 = λ e. absurd (omega arith) in
@@ -242,7 +364,14 @@ leaf-read (suc h) n p f g lt =
     rw (place-at (suc h) i n p ne refl, is) (behind-below (suc h) i _ _ n ne f at.here (rw sub-one below))
 
 -- in a tree or in none
-pub IsAt-whole : (t : Option Node) (h : ℕ) (n : Node) (p row : List ℕ) (at : ℕ) → t ≡ Some n → length p ≡ 12 → Goes h n p → row ≡ leaf h n p → at ≡ slice_index p 0 → (to_gap p at ≡ p) × IsAt t h p row at
+pub IsAt-whole :
+    (t : Option Node) (h : ℕ) (n : Node) (p row : List ℕ) (at : ℕ)
+    → t ≡ Some n
+    → length p ≡ 12
+    → Goes h n p
+    → row ≡ leaf h n p
+    → at ≡ slice_index p 0
+    → (to_gap p at ≡ p) × IsAt t h p row at
 IsAt-whole t h n p row at e whole g is ea =
     let same : to_gap p at ≡ p = rw ea (set-get_or p 0 0) in (
       same,
@@ -254,7 +383,12 @@ IsAt-whole t h n p row at e whole g is ea =
     )
 
 -- another place of the leaf
-pub IsAt-moved : (t : Option Node) (h i : ℕ) (p row : List ℕ) (at : ℕ) → IsTree t h → IsAt t h p row at → i ≤ length row → IsAt t h p row i × (place_in t h (to_gap p i) + at ≡ place_in t h (to_gap p at) + i)
+pub IsAt-moved :
+    (t : Option Node) (h i : ℕ) (p row : List ℕ) (at : ℕ)
+    → IsTree t h
+    → IsAt t h p row at
+    → i ≤ length row
+    → IsAt t h p row i × (place_in t h (to_gap p i) + at ≡ place_in t h (to_gap p at) + i)
 IsAt-moved None h i p row at t a le = (record { gap = record { whole = a.gap.whole; goes = omega arith }; leaf = a.leaf; within = le }, (let none = ap length a.leaf in let within = a.within in omega arith))
 IsAt-moved (Some n) h i p row at t a le =
     let whole = a.gap.whole in
@@ -264,7 +398,12 @@ IsAt-moved (Some n) h i p row at t a le =
     let is = m.place_is in
     (record { gap = record { whole = whole; goes = m.goes }; leaf = a.leaf ∙ sym m.same_leaf; within = le }, omega arith)
 
-pub IsAt-read : (t : Option Node) (h : ℕ) (p row : List ℕ) (at : ℕ) → IsTree t h → IsAt t h p row at → at < length row → IsBehind (in_order t h) (place_in t h (to_gap p at)) (slice_index row at)
+pub IsAt-read :
+    (t : Option Node) (h : ℕ) (p row : List ℕ) (at : ℕ)
+    → IsTree t h
+    → IsAt t h p row at
+    → at < length row
+    → IsBehind (in_order t h) (place_in t h (to_gap p at)) (slice_index row at)
 IsAt-read None h p row at t a lt = absurd (let none = ap length a.leaf in omega arith)
 IsAt-read (Some n) h p row at t a lt =
     let here : slice_index (to_gap p at) 0 ≡ at = path-here p (to_gap p at) 0 at a.gap.whole (omega arith) refl in
@@ -272,22 +411,39 @@ IsAt-read (Some n) h p row at t a lt =
     (b.0, rw (here, ← a.leaf) at b.1)
 
 -- a step in the leaf
-pub steps-ahead : (t : Option Node) (h ix : ℕ) (p row : List ℕ) (at : ℕ) → IsTree t h → IsAt t h p row at → at < length row → ix ≡ slice_index row at
-    → IsAt t h p row (at + 1) × Steps true (in_order t h) (place_in t h (to_gap p at)) (Some ix) (place_in t h (to_gap p (at + 1)))
+pub steps-ahead :
+    (t : Option Node) (h ix : ℕ) (p row : List ℕ) (at : ℕ)
+    → IsTree t h
+    → IsAt t h p row at
+    → at < length row
+    → ix ≡ slice_index row at
+    → IsAt t h p row (at + 1) × Steps true (in_order t h) (place_in t h (to_gap p at)) (Some ix)
+      (place_in t h (to_gap p (at + 1)))
 steps-ahead t h ix p row at tree a lt e =
     let m = IsAt-moved t h (at + 1) p row at tree a (omega arith) in
     let b = IsAt-read t h p row at tree a lt in let is = m.1 in
     (m.0, ((b.0, e ∙ b.1), omega arith))
 
-pub steps-back : (t : Option Node) (h ix : ℕ) (p row : List ℕ) (at : ℕ) → IsTree t h → IsAt t h p row at → 0 < at → ix ≡ slice_index row (at - 1)
-    → IsAt t h p row (at - 1) × Steps false (in_order t h) (place_in t h (to_gap p at)) (Some ix) (place_in t h (to_gap p (at - 1)))
+pub steps-back :
+    (t : Option Node) (h ix : ℕ) (p row : List ℕ) (at : ℕ)
+    → IsTree t h
+    → IsAt t h p row at
+    → 0 < at
+    → ix ≡ slice_index row (at - 1)
+    → IsAt t h p row (at - 1) × Steps false (in_order t h) (place_in t h (to_gap p at)) (Some ix)
+      (place_in t h (to_gap p (at - 1)))
 steps-back t h ix p row at tree a some e =
     let within = a.within in
     let m = IsAt-moved t h (at - 1) p row at tree a (omega arith) in
     let b = IsAt-read t h p row (at - 1) tree m.0 (omega arith) in let is = m.1 in
     (m.0, ((b.0, e ∙ b.1), omega arith))
 
-pub IsGap-few : (t : Option Node) (h : ℕ) (n : Node) (p : List ℕ) (at : ℕ) → t ≡ Some n → IsTree t h → IsGap t h p at → at ≤ 11
+pub IsGap-few :
+    (t : Option Node) (h : ℕ) (n : Node) (p : List ℕ) (at : ℕ)
+    → t ≡ Some n
+    → IsTree t h
+    → IsGap t h p at
+    → at ≤ 11
 IsGap-few t h n p at e tree g =
     let goes : Goes h n (to_gap p at) = rw e at g.goes in
     let formed : IsTree (Some n) h = subst (λ t. IsTree t h) e tree in
@@ -299,13 +455,20 @@ pub IsAt-few : (t : Option Node) (h : ℕ) (p row : List ℕ) (at : ℕ) → IsT
 IsAt-few None h p row at t a = let none = ap length a.leaf in omega arith
 IsAt-few (Some n) h p row at t a = let few = leaf-few h n (to_gap p at) t.0 a.gap.goes in let len = ap length a.leaf in omega arith
 
-pub IsLow-from : (t : Option Node) (h : ℕ) (n : Node) (p : List ℕ) (k : Option (Bor Node)) → t ≡ Some n → IfSome k (λ k. (0 < h) × (k.now ≡ low h n p)) → IsLow t h p k
+pub IsLow-from :
+    (t : Option Node) (h : ℕ) (n : Node) (p : List ℕ) (k : Option (Bor Node))
+    → t ≡ Some n
+    → IfSome k (λ k. (0 < h) × (k.now ≡ low h n p))
+    → IsLow t h p k
 IsLow-from t h n p None e l = tt
 IsLow-from None h n p (Some k) e l = absurd (cc)
 IsLow-from (Some m) h n p (Some k) e l = (l.0, l.1 ∙ (let same : n ≡ m = cc in ap (λ n. low h n p) same))
 
 -- from the end of a leaf over the next index of the node above it
-low-same : (h : ℕ) (n : Node) (p q : List ℕ) → ((m : ℕ) → 1 < m → slice_index q m ≡ slice_index p m) → low h n q ≡ low h n p
+low-same :
+    (h : ℕ) (n : Node) (p q : List ℕ)
+    → ((m : ℕ) → 1 < m → slice_index q m ≡ slice_index p m)
+    → low h n q ≡ low h n p
 unfolding low
 low-same zero n p q same = refl
 low-same (suc zero) n p q same = refl
@@ -315,8 +478,17 @@ record LowStep (h : ℕ) (n k : Node) (p q : List ℕ) : Type 0 where
   inside : slice_index p 1 + 1 < length (children k)
   over : Over true h n p (slice_index (row k) (slice_index p 1)) (row (child k (slice_index p 1 + 1))) q
 
-low-step : (h : ℕ) (n : Node) (p q : List ℕ) → 0 < h → IsFormed h n → Goes h n p → length (leaf h n p) ≤ slice_index p 0 → slice_index q 0 ≡ 0 → slice_index q 1 ≡ slice_index p 1 + 1
-    → ((m : ℕ) → 1 < m → slice_index q m ≡ slice_index p m) → slice_index p 1 < length (row (low h n p)) → LowStep h n (low h n p) p q
+low-step :
+    (h : ℕ) (n : Node) (p q : List ℕ)
+    → 0 < h
+    → IsFormed h n
+    → Goes h n p
+    → length (leaf h n p) ≤ slice_index p 0
+    → slice_index q 0 ≡ 0
+    → slice_index q 1 ≡ slice_index p 1 + 1
+    → ((m : ℕ) → 1 < m → slice_index q m ≡ slice_index p m)
+    → slice_index p 1 < length (row (low h n p))
+    → LowStep h n (low h n p) p q
 unfolding low
 low-step zero n p q some f g end first next same lt = absurd (omega arith)
 low-step (suc zero) n p q some f g end first next same lt =
@@ -346,10 +518,19 @@ pub record NextLow (t : Option Node) (h : ℕ) (k : Node) (p : List ℕ) (at : �
   pub inside : slice_index p 1 + 1 < length (children k)
   pub at_is : IsAt t h q (row (child k (slice_index p 1 + 1))) 0
   pub low_is : (b : Bor Node) → b.now ≡ k → IsLow t h q (Some b)
-  pub steps : Steps true (in_order t h) (place_in t h (to_gap p at)) (Some (slice_index (row k) (slice_index p 1))) (place_in t h (to_gap q 0))
+  pub steps :
+      Steps true (in_order t h) (place_in t h (to_gap p at)) (Some (slice_index (row k) (slice_index p 1)))
+      (place_in t h (to_gap q 0))
 
-pub next-low : (t : Option Node) (h : ℕ) (b : Bor Node) (p row_is : List ℕ) (at : ℕ) (q : List ℕ) → IsTree t h → IsAt t h p row_is at → length row_is ≤ at → IsLow t h p (Some b)
-    → slice_index p 1 < length (row b.now) → q ≡ slice_set p 1 (slice_index p 1 + 1) → NextLow t h b.now p at q
+pub next-low :
+    (t : Option Node) (h : ℕ) (b : Bor Node) (p row_is : List ℕ) (at : ℕ) (q : List ℕ)
+    → IsTree t h
+    → IsAt t h p row_is at
+    → length row_is ≤ at
+    → IsLow t h p (Some b)
+    → slice_index p 1 < length (row b.now)
+    → q ≡ slice_set p 1 (slice_index p 1 + 1)
+    → NextLow t h b.now p at q
 next-low None h b p row_is at q tree a end l lt eq = absurd l
 next-low (Some n) h b p row_is at q tree a end l lt eq =
     let whole = a.gap.whole in
@@ -374,7 +555,12 @@ next-low (Some n) h b p row_is at q tree a end l lt eq =
     }
 
 -- what is left of a list between two gaps, after a step from the one or the other
-pub left-ahead : (count i j k : ℕ) (xs : List ℕ) (r : Option ℕ) → count ≢ 0 → i + count ≡ k → k ≤ length xs → Steps true xs i r j
+pub left-ahead :
+    (count i j k : ℕ) (xs : List ℕ) (r : Option ℕ)
+    → count ≢ 0
+    → i + count ≡ k
+    → k ≤ length xs
+    → Steps true xs i r j
     → (j + (count - 1) ≡ k) × YieldsFirst (λ (ys : List ℕ). ys) (between count i xs) r (between (count - 1) j xs)
 left-ahead count i j k xs None some e le s = let end = s.0 in absurd (omega arith)
 left-ahead count i j k xs (Some ix) some e le s =
@@ -385,7 +571,12 @@ left-ahead count i j k xs (Some ix) some e le s =
           ∙ ap (λ n. ix ∷ between (count - 1) n xs) (sym up),
     )
 
-pub left-back : (count i j k : ℕ) (xs : List ℕ) (r : Option ℕ) → count ≢ 0 → i + count ≡ k → k ≤ length xs → Steps false xs k r j
+pub left-back :
+    (count i j k : ℕ) (xs : List ℕ) (r : Option ℕ)
+    → count ≢ 0
+    → i + count ≡ k
+    → k ≤ length xs
+    → Steps false xs k r j
     → (i + (count - 1) ≡ j) × YieldsLast (λ (ys : List ℕ). ys) (between count i xs) r (between (count - 1) i xs)
 left-back count i j k xs None some e le s = let end = s.0 in absurd (omega arith)
 left-back count i j k xs (Some ix) some e le s =
@@ -398,7 +589,10 @@ left-back count i j k xs (Some ix) some e le s =
     )
 
 -- and what is left behind a gap
-pub rest-ahead : (i j : ℕ) (xs : List ℕ) (r : Option ℕ) → Steps true xs i r j → YieldsFirst (λ (ys : List ℕ). ys) (drop i xs) r (drop j xs)
+pub rest-ahead :
+    (i j : ℕ) (xs : List ℕ) (r : Option ℕ)
+    → Steps true xs i r j
+    → YieldsFirst (λ (ys : List ℕ). ys) (drop i xs) r (drop j xs)
 rest-ahead i j xs None s = let none = drop_all i xs (omega arith) in (none, ap (λ n. drop n xs) s.1 ∙ none)
 rest-ahead i j xs (Some ix) s = let up : j ≡ suc i = (let e = s.1 in omega arith) in drop-cons xs i 0 s.0.0 ∙ ap (λ z. z ∷ drop (suc i) xs) (sym s.0.1) ∙ ap (λ n. ix ∷ drop n xs) (sym up)
 
@@ -407,7 +601,11 @@ pub first-is : (i j : ℕ) (xs : List ℕ) (r : Option ℕ) → i ≡ 0 → Step
 first-is i j xs None e s = sym (slice_get_past xs 0 (omega arith))
 first-is i j xs (Some ix) e s = ap Some s.0.1 ∙ sym (slice_get-get_or xs i 0 s.0.0) ∙ ap (slice_get xs) e
 
-pub last-is : (i j : ℕ) (xs : List ℕ) (r : Option ℕ) → i ≡ length xs → Steps false xs i r j → r ≡ slice_get xs (length xs - 1)
+pub last-is :
+    (i j : ℕ) (xs : List ℕ) (r : Option ℕ)
+    → i ≡ length xs
+    → Steps false xs i r j
+    → r ≡ slice_get xs (length xs - 1)
 last-is i j xs None e s = sym (slice_get_past xs (length xs - 1) (omega arith))
 last-is i j xs (Some ix) e s = let last : j ≡ length xs - 1 = (let down = s.1 in omega arith) in ap Some s.0.1 ∙ sym (slice_get-get_or xs j 0 s.0.0) ∙ ap (slice_get xs) last
 
@@ -415,7 +613,13 @@ pub left-length : (count i j : ℕ) (xs : List ℕ) → i + count ≡ j → j �
 left-length count i j xs e le = length-take-le count (drop i xs) (omega (arith, length-drop i xs))
 
 -- how two gaps stand to each other goes by the highest level at which their paths part
-pub gaps-less : (h : ℕ) (n : Node) (p q : List ℕ) → IsFormed h n → Goes h n p → Goes h n q → slice_index p h < slice_index q h → place h n p < place h n q
+pub gaps-less :
+    (h : ℕ) (n : Node) (p q : List ℕ)
+    → IsFormed h n
+    → Goes h n p
+    → Goes h n q
+    → slice_index p h < slice_index q h
+    → place h n p < place h n q
 gaps-less zero n p q f gp gq lt = rw (place-leaf 0 n p refl, place-leaf 0 n q refl) lt
 gaps-less (suc h) n p q f gp gq lt =
     let ne : suc h ≢ 0 = λ e. absurd (omega arith) in
@@ -436,19 +640,38 @@ gaps-less (suc h) n p q f gp gq lt =
     let next : length (before j xs ks) ≡ index_place (j - 1) xs ks + 1 = rw last at (before-next (j - 1) xs ks (omega arith) one) in
     omega (arith, place-inner (suc h) n p ne, place-inner (suc h) n q ne)
 
-pub gaps-part : (r : Ordering) (h : ℕ) (n : Node) (p q : List ℕ) → IsFormed h n → Goes h n p → Goes h n q → Compares r (slice_index p h) (slice_index q h) → (r ≡ Equal → h ≡ 0) → Compares r (place h n p) (place h n q)
+pub gaps-part :
+    (r : Ordering) (h : ℕ) (n : Node) (p q : List ℕ)
+    → IsFormed h n
+    → Goes h n p
+    → Goes h n q
+    → Compares r (slice_index p h) (slice_index q h)
+    → (r ≡ Equal → h ≡ 0)
+    → Compares r (place h n p) (place h n q)
 gaps-part Less h n p q f gp gq told leaf = gaps-less h n p q f gp gq told
 gaps-part Equal h n p q f gp gq told leaf =
     let e = leaf refl in place-leaf h n p e ∙ ap (slice_index p) (sym e) ∙ told ∙ ap (slice_index q) e ∙ sym (place-leaf h n q e)
 gaps-part Greater h n p q f gp gq told leaf = gaps-less h n q p f gq gp told
 
-pub gaps-below : (r : Ordering) (h i : ℕ) (n : Node) (p q : List ℕ) → h ≢ 0 → slice_index p h ≡ i → slice_index q h ≡ i → Compares r (place (h - 1) (child n i) p) (place (h - 1) (child n i) q) → Compares r (place h n p) (place h n q)
+pub gaps-below :
+    (r : Ordering) (h i : ℕ) (n : Node) (p q : List ℕ)
+    → h ≢ 0
+    → slice_index p h ≡ i
+    → slice_index q h ≡ i
+    → Compares r (place (h - 1) (child n i) p) (place (h - 1) (child n i) q)
+    → Compares r (place h n p) (place h n q)
 gaps-below Less h i n p q ne ep eq told = omega (arith, place-at h i n p ne ep, place-at h i n q ne eq)
 gaps-below Equal h i n p q ne ep eq told = omega (arith, place-at h i n p ne ep, place-at h i n q ne eq)
 gaps-below Greater h i n p q ne ep eq told = omega (arith, place-at h i n p ne ep, place-at h i n q ne eq)
 
 -- one gap has one place in its leaf
-pub gaps-same : (h : ℕ) (n : Node) (p q : List ℕ) → IsFormed h n → Goes h n p → Goes h n q → place h n p ≡ place h n q → slice_index p 0 ≡ slice_index q 0
+pub gaps-same :
+    (h : ℕ) (n : Node) (p q : List ℕ)
+    → IsFormed h n
+    → Goes h n p
+    → Goes h n q
+    → place h n p ≡ place h n q
+    → slice_index p 0 ≡ slice_index q 0
 gaps-same zero n p q f gp gq same = sym (place-leaf 0 n p refl) ∙ same ∙ place-leaf 0 n q refl
 gaps-same (suc h) n p q f gp gq same =
     let ne : suc h ≢ 0 = λ e. absurd (omega arith) in
@@ -465,7 +688,13 @@ gaps-same (suc h) n p q f gp gq same =
     let a = rw sub-one at (place-at (suc h) i n p ne refl) in let b = rw sub-one at (place-at (suc h) i n q ne (sym e)) in
     gaps-same h (child n i) p q (rw sub-one at (child-formed (suc h) n i ne f from.here)) (rw sub-one at from.on) (rw (sub-one, ← e) at to.on) (omega arith)
 
-pub at-same : (t : Option Node) (h : ℕ) (p row : List ℕ) (i : ℕ) (q other : List ℕ) (j : ℕ) → IsTree t h → IsAt t h p row i → IsAt t h q other j → place_in t h (to_gap p i) ≡ place_in t h (to_gap q j) → i ≡ j
+pub at-same :
+    (t : Option Node) (h : ℕ) (p row : List ℕ) (i : ℕ) (q other : List ℕ) (j : ℕ)
+    → IsTree t h
+    → IsAt t h p row i
+    → IsAt t h q other j
+    → place_in t h (to_gap p i) ≡ place_in t h (to_gap q j)
+    → i ≡ j
 at-same None h p row i q other j t a b same =
     let none = ap length a.leaf in let within = a.within in let empty = ap length b.leaf in let inside = b.within in omega arith
 at-same (Some n) h p row i q other j t a b same =

@@ -19,7 +19,11 @@ after-begins zero (x ∷ xs) (k ∷ ks) d lt e = refl
 after-begins (suc i) (x ∷ xs) (k ∷ ks) d lt e = after-begins i xs ks d (omega arith) (omega arith)
 
 -- after the last list nothing does
-pub after-last : (i : ℕ) (xs : List ℕ) (ks : List (List ℕ)) → length xs ≤ i → length ks ≡ length xs + 1 → after i xs ks ≡ []
+pub after-last :
+    (i : ℕ) (xs : List ℕ) (ks : List (List ℕ))
+    → length xs ≤ i
+    → length ks ≡ length xs + 1
+    → after i xs ks ≡ []
 after-last zero [] ks le e = refl
 after-last zero (x ∷ xs) ks le e = absurd (omega arith)
 after-last (suc i) [] ks le e = refl
@@ -35,14 +39,23 @@ before-more zero (x ∷ xs) (k ∷ ks) d lt e = refl
 before-more (suc i) (x ∷ xs) (k ∷ ks) d lt e =
     ap (λ z. k ++ x ∷ z) (before-more i xs ks d (omega arith) (omega arith)) ∙ sym (append_assoc k (x ∷ before i xs ks) (get_or ks i [] ++ get_or xs i d ∷ []))
 
-pub before-next : (i : ℕ) (xs : List ℕ) (ks : List (List ℕ)) → i < length xs → length ks ≡ length xs + 1 → length (before (i + 1) xs ks) ≡ index_place i xs ks + 1
+pub before-next :
+    (i : ℕ) (xs : List ℕ) (ks : List (List ℕ))
+    → i < length xs
+    → length ks ≡ length xs + 1
+    → length (before (i + 1) xs ks) ≡ index_place i xs ks + 1
 before-next i xs ks lt e =
     let k : List ℕ = get_or ks i [] in
     let more = ap length (before-more i xs ks 0 lt e) in
     let next : length (before (i + 1) xs ks) ≡ length (before (suc i) xs ks) = ap (λ z. length (before z xs ks)) (add-one i) in
     omega (arith, more, next, length-append (before i xs ks) (k ++ get_or xs i 0 ∷ []), length-append k (get_or xs i 0 ∷ []))
 
-index_place-mono : (i j : ℕ) (xs : List ℕ) (ks : List (List ℕ)) → i < j → j < length xs → length ks ≡ length xs + 1 → index_place i xs ks < index_place j xs ks
+index_place-mono :
+    (i j : ℕ) (xs : List ℕ) (ks : List (List ℕ))
+    → i < j
+    → j < length xs
+    → length ks ≡ length xs + 1
+    → index_place i xs ks < index_place j xs ks
 index_place-mono i zero xs ks lt within e = absurd (omega arith)
 index_place-mono i (suc j) [] ks lt within e = absurd (omega arith)
 index_place-mono i (suc j) (x ∷ xs) [] lt within e = absurd (omega arith)
@@ -74,7 +87,11 @@ module _ (xs : List ℕ) (ks : List (List ℕ)) (one_more : length ks ≡ length
   }
 
   -- where the row is Greater before i and Less from i on, the i-th list stands between what is Greater and what is Less
-  split-woven : (a : ℕ → Ordering) (i : ℕ) → IsRising a (weave xs ks) → IsPlace a xs i → AreSplit a (weave xs ks) (length (before i xs ks)) (index_place i xs ks)
+  split-woven :
+      (a : ℕ → Ordering) (i : ℕ)
+      → IsRising a (weave xs ks)
+      → IsPlace a xs i
+      → AreSplit a (weave xs ks) (length (before i xs ks)) (index_place i xs ks)
   split-woven a i r p =
       elim (cases_lt i (length xs)) [
         | inl lt ↦ split-less r (row-woven.within i lt) (below i p.within p.greater_before) (ap a (row-woven.at i lt) ∙ p.less_from i (omega arith) lt)
@@ -87,7 +104,11 @@ module _ (xs : List ℕ) (ks : List (List ℕ)) (one_more : length ks ≡ length
       ws : List ℕ
       ws = weave xs ks
 
-      below : (i : ℕ) → i ≤ length xs → ((k : ℕ) → k < i → a (get_or xs k 0) ≡ Greater) → AreSplit a ws (length (before i xs ks)) (length ws)
+      below :
+          (i : ℕ)
+          → i ≤ length xs
+          → ((k : ℕ) → k < i → a (get_or xs k 0) ≡ Greater)
+          → AreSplit a ws (length (before i xs ks)) (length ws)
       below zero le greater = split-init a ws
       below (suc j) le greater =
           let next : length (before (suc j) xs ks) ≡ index_place j xs ks + 1 = rw (← add-one) (before-next j xs ks (omega arith) one_more) in
@@ -107,18 +128,31 @@ row-part zero n f = record { within = λ i lt. lt; at = λ i lt. refl; rises = �
 row-part (suc h) n f = row-woven (row n) (lists h (children n)) (rw sub-one at (lists-one_more (suc h) n (λ e. absurd (omega arith)) f))
 
 -- where a path goes that ends at the node
-spot-here : (l : ℕ) (n : Node) (p : List ℕ) → IsFormed l n → slice_index p l ≤ length (row n) → spot l l n p ≡ row_place l n (slice_index p l)
+spot-here :
+    (l : ℕ) (n : Node) (p : List ℕ)
+    → IsFormed l n
+    → slice_index p l ≤ length (row n)
+    → spot l l n p ≡ row_place l n (slice_index p l)
 spot-here zero n p f le = spot-leaf zero zero n p refl
 spot-here (suc h) n p f le =
     let ne : suc h ≢ 0 = λ e. absurd (omega arith) in
     rw (spot-at (suc h) (suc h) n p ne refl, sub-one, lists-at h n (slice_index p (suc h)) (child-within (suc h) n (slice_index p (suc h)) ne f le)) refl
 
 -- the list of the i-th child stands in the whole
-child-part : (l : ℕ) (n : Node) (i : ℕ) → l ≢ 0 → IsFormed l n → i < length (children n) → Embeds (flat (l - 1) (child n i)) (flat l n) (λ j. length (before i (row n) (lists (l - 1) (children n))) + j)
+child-part :
+    (l : ℕ) (n : Node) (i : ℕ)
+    → l ≢ 0
+    → IsFormed l n
+    → i < length (children n)
+    → Embeds (flat (l - 1) (child n i)) (flat l n) (λ j. length (before i (row n) (lists (l - 1) (children n))) + j)
 child-part l n i ne f lt =
     rw (flat-inner l n ne, ← lists-at (l - 1) n i lt) (list-woven (row n) (lists (l - 1) (children n)) (lists-one_more l n ne f) i (omega (arith, length-map (children n) (λ k. flat (l - 1) k))))
 
-full-at : (k l : ℕ) (n : Node) (p : List ℕ) → FullBelow k l n → (l ≢ 0 → IsFullBelow k (l - 1) (child n (slice_index p l)) p) → IsFullBelow k l n p
+full-at :
+    (k l : ℕ) (n : Node) (p : List ℕ)
+    → FullBelow k l n
+    → (l ≢ 0 → IsFullBelow k (l - 1) (child n (slice_index p l)) p)
+    → IsFullBelow k l n p
 unfolding IsFullBelow
 full-at k zero n p h below = h
 full-at k (suc l) n p h below = (h, rw sub-one at (below (λ e. absurd (omega arith))))
@@ -130,25 +164,44 @@ pub record Counts (n : Node) (full l full_below : ℕ) : Type 0 where
   pub is_full : 11 ≤ length (row n) → full_below ≡ full
 
 -- and what it says of the node
-pub counts_here : (n : Node) (full l full_below k : ℕ) → Counts n full l full_below → (l ≤ k → k ≡ full_below) → FullBelow k l n × (l < k → k ≡ full)
+pub counts_here :
+    (n : Node) (full l full_below k : ℕ)
+    → Counts n full l full_below
+    → (l ≤ k → k ≡ full_below)
+    → FullBelow k l n × (l < k → k ≡ full)
 counts_here n full l full_below k c on =
     elim (cases_lt (length (row n)) 11) [
       | inl lt ↦ (let is = c.not_full lt in ((λ up. absurd (omega arith), λ e. lt), λ up. absurd (omega arith)))
       | inr ge ↦ (let is = c.is_full ge in let up = c.above in ((λ _. ge, λ e. absurd (omega arith)), λ up. omega arith))
     ]
 
-pub child-read : (l : ℕ) (n : Node) (i j : ℕ) → l ≢ 0 → IsFormed l n → i < length (children n) → j < length (flat (l - 1) (child n i))
-    → slice_index (flat l n) (length (before i (row n) (lists (l - 1) (children n))) + j) ≡ slice_index (flat (l - 1) (child n i)) j
+pub child-read :
+    (l : ℕ) (n : Node) (i j : ℕ)
+    → l ≢ 0
+    → IsFormed l n
+    → i < length (children n)
+    → j < length (flat (l - 1) (child n i))
+    → slice_index (flat l n)
+      (length (before i (row n) (lists (l - 1) (children n))) + j) ≡ slice_index (flat (l - 1) (child n i)) j
 child-read l n i j ne f lt within = (child-part l n i ne f lt).at j within
 
 module _ {F R : Type 0} (g : Mut F (ℕ × Unit {0}) R) (read : R → Ordering) (tie : Option ℕ) where
   -- the row may be asked where the tree may be
-  pub can_ask_row : (l : ℕ) (n : Node) (a : Asking F) → IsFormed l n → CanSearch g (flat l n) tie a → CanSearch g (row n) tie a
+  pub can_ask_row :
+      (l : ℕ) (n : Node) (a : Asking F)
+      → IsFormed l n
+      → CanSearch g (flat l n) tie a
+      → CanSearch g (row n) tie a
   can_ask_row l n a f c = CanAsk-fewer g (Askable (row n) tie) (Askable (flat l n) tie) (Askable-whole (row-part l n f) tie) c
 
   -- a miss in the row leads to the child at that place
-  leads-below : {k : ℕ} (l : ℕ) (n : Node) (i : ℕ) (a b : Asking F) → l ≢ 0 → IsFormed l n → SearchesWithin g read (row n) k tie a (Err i) b
-      → LeadsTo g read tie k (length (before i (row n) (lists (l - 1) (children n)))) (flat (l - 1) (child n i)) (flat l n) a b
+  leads-below :
+      {k : ℕ} (l : ℕ) (n : Node) (i : ℕ) (a b : Asking F)
+      → l ≢ 0
+      → IsFormed l n
+      → SearchesWithin g read (row n) k tie a (Err i) b
+      → LeadsTo g read tie k (length (before i (row n) (lists (l - 1) (children n)))) (flat (l - 1) (child n i))
+        (flat l n) a b
   leads-below l n i a b ne f s =
       let xs : List ℕ = row n in let ks : List (List ℕ) = lists (l - 1) (children n) in
       let one : length ks ≡ length xs + 1 = lists-one_more l n ne f in
@@ -165,13 +218,24 @@ module _ {F R : Type 0} (g : Mut F (ℕ × Unit {0}) R) (read : R → Ordering) 
       }
 
   -- which may be asked then
-  pub can_ask_below : {k : ℕ} (l : ℕ) (n : Node) (i : ℕ) (a b : Asking F) → l ≢ 0 → IsFormed l n → SearchesWithin g read (row n) k tie a (Err i) b → CanSearch g (flat l n) tie a → CanSearch g (flat (l - 1) (child n i)) tie b
+  pub can_ask_below :
+      {k : ℕ} (l : ℕ) (n : Node) (i : ℕ) (a b : Asking F)
+      → l ≢ 0
+      → IsFormed l n
+      → SearchesWithin g read (row n) k tie a (Err i) b
+      → CanSearch g (flat l n) tie a
+      → CanSearch g (flat (l - 1) (child n i)) tie b
   can_ask_below l n i a b ne f s c =
       let leads = leads-below l n i a b ne f s in
       CanAsk-fewer g (Askable (flat (l - 1) (child n i)) tie) (Askable (flat l n) tie) (Askable-whole leads.part tie) (CanAsk-later g (Askable (flat l n) tie) leads.asked.after c)
 
   -- a hit in the row is one in the tree
-  Searches-row : (limit l : ℕ) (n : Node) (i : ℕ) (a b : Asking F) → 4 ≤ limit → IsFormed l n → SearchesWithin g read (row n) 4 tie a (Ok i) b → SearchesWithin g read (flat l n) limit tie a (Ok (row_place l n i)) b
+  Searches-row :
+      (limit l : ℕ) (n : Node) (i : ℕ) (a b : Asking F)
+      → 4 ≤ limit
+      → IsFormed l n
+      → SearchesWithin g read (row n) 4 tie a (Ok i) b
+      → SearchesWithin g read (flat l n) limit tie a (Ok (row_place l n i)) b
   Searches-row limit l n i a b le f s = SearchesWithin-more g read tie (omega arith) (Searches-hit g read tie (row-part l n f) (asks_none g (Askable (flat l n) tie) a) i s)
 
   shifted-end : (end : Result ℕ ℕ) (b i : ℕ) → shifted b (end_at end i) ≡ end_at end (b + i)
@@ -179,7 +243,12 @@ module _ {F R : Type 0} (g : Mut F (ℕ × Unit {0}) R) (read : R → Ordering) 
   shifted-end (Err k) b i = refl
 
   -- the walk ends at an index of the node
-  pub Descends-hit : (limit full l : ℕ) (n : Node) (p : List ℕ) (a b : Asking F) → 4 ≤ limit → IsFormed l n → SearchesWithin g read (row n) 4 tie a (Ok (slice_index p l)) b → Descends g read tie limit full l n a p (Ok l) b
+  pub Descends-hit :
+      (limit full l : ℕ) (n : Node) (p : List ℕ) (a b : Asking F)
+      → 4 ≤ limit
+      → IsFormed l n
+      → SearchesWithin g read (row n) 4 tie a (Ok (slice_index p l)) b
+      → Descends g read tie limit full l n a p (Ok l) b
   Descends-hit limit full l n p a b le f s =
       let lt = s.found in
       record {
@@ -189,7 +258,13 @@ module _ {F R : Type 0} (g : Mut F (ℕ × Unit {0}) R) (read : R → Ordering) 
       }
 
   -- or in a leaf
-  pub Descends-leaf : (limit full full_below l : ℕ) (n : Node) (p : List ℕ) (a b : Asking F) → 4 ≤ limit → l ≡ 0 → IsFormed l n → SearchesWithin g read (row n) 4 tie a (Err (slice_index p l)) b → Counts n full l full_below
+  pub Descends-leaf :
+      (limit full full_below l : ℕ) (n : Node) (p : List ℕ) (a b : Asking F)
+      → 4 ≤ limit
+      → l ≡ 0
+      → IsFormed l n
+      → SearchesWithin g read (row n) 4 tie a (Err (slice_index p l)) b
+      → Counts n full l full_below
       → Descends g read tie limit full l n a p (Err full_below) b
   Descends-leaf limit full full_below (suc h) n p a b le e f s c = absurd (omega arith)
   Descends-leaf limit full full_below zero n p a b le e f s c =
@@ -201,8 +276,15 @@ module _ {F R : Type 0} (g : Mut F (ℕ × Unit {0}) R) (read : R → Ordering) 
       }
 
   -- or below the node
-  pub Descends-below : {m : ℕ} (limit full full_below l : ℕ) (n : Node) (p : List ℕ) (end : Result ℕ ℕ) (a b c : Asking F) → 4 + m ≤ limit → l ≢ 0 → IsFormed l n → SearchesWithin g read (row n) 4 tie a (Err (slice_index p l)) b → Counts n full l full_below
-      → Descends g read tie m full_below (l - 1) (child n (slice_index p l)) b p end c → Descends g read tie limit full l n a p end c
+  pub Descends-below :
+      {m : ℕ} (limit full full_below l : ℕ) (n : Node) (p : List ℕ) (end : Result ℕ ℕ) (a b c : Asking F)
+      → 4 + m ≤ limit
+      → l ≢ 0
+      → IsFormed l n
+      → SearchesWithin g read (row n) 4 tie a (Err (slice_index p l)) b
+      → Counts n full l full_below
+      → Descends g read tie m full_below (l - 1) (child n (slice_index p l)) b p end c
+      → Descends g read tie limit full l n a p end c
   Descends-below limit full full_below l n p end a b c le ne f s counts d =
       let i : ℕ = slice_index p l in
       let low = holds-level (level_of end) (l - 1) (child n i) p d.reaches in
@@ -215,7 +297,12 @@ module _ {F R : Type 0} (g : Mut F (ℕ × Unit {0}) R) (read : R → Ordering) 
       }
 
   -- a find ends at an index of the node
-  pub FindsIn-hit : (l : ℕ) (n : Node) (i ix : ℕ) (a b : Asking F) → IsFormed l n → SearchesWithin g read (row n) 4 tie a (Ok i) b → ix ≡ slice_index (row n) i → FindsIn g read tie l n a (Some ix) b
+  pub FindsIn-hit :
+      (l : ℕ) (n : Node) (i ix : ℕ) (a b : Asking F)
+      → IsFormed l n
+      → SearchesWithin g read (row n) 4 tie a (Ok i) b
+      → ix ≡ slice_index (row n) i
+      → FindsIn g read tie l n a (Some ix) b
   FindsIn-hit l n i ix a b f s e = record {
     end = Ok (row_place l n i);
     searches = Searches-row (4 * (l + 1)) l n i a b (omega arith) f s;
@@ -223,17 +310,33 @@ module _ {F R : Type 0} (g : Mut F (ℕ × Unit {0}) R) (read : R → Ordering) 
   }
 
   -- or at none in a leaf
-  pub FindsIn-leaf : (l : ℕ) (n : Node) (i : ℕ) (a b : Asking F) → l ≡ 0 → IsFormed l n → SearchesWithin g read (row n) 4 tie a (Err i) b → FindsIn g read tie l n a None b
+  pub FindsIn-leaf :
+      (l : ℕ) (n : Node) (i : ℕ) (a b : Asking F)
+      → l ≡ 0
+      → IsFormed l n
+      → SearchesWithin g read (row n) 4 tie a (Err i) b
+      → FindsIn g read tie l n a None b
   FindsIn-leaf l n i a b e f s = record { end = Err i; searches = rw (flat-leaf l n e) (SearchesWithin-more g read tie (omega arith) s); index = refl }
 
-  read-below : (l : ℕ) (n : Node) (i : ℕ) (end : Result ℕ ℕ) → l ≢ 0 → IsFormed l n → i < length (children n) → IfOk end (λ j. j < length (flat (l - 1) (child n i)))
-      → index_at (flat (l - 1) (child n i)) end ≡ index_at (flat l n) (shifted (length (before i (row n) (lists (l - 1) (children n)))) end)
+  read-below :
+      (l : ℕ) (n : Node) (i : ℕ) (end : Result ℕ ℕ)
+      → l ≢ 0
+      → IsFormed l n
+      → i < length (children n)
+      → IfOk end (λ j. j < length (flat (l - 1) (child n i)))
+      → index_at (flat (l - 1) (child n i)) end ≡ index_at (flat l n)
+        (shifted (length (before i (row n) (lists (l - 1) (children n)))) end)
   read-below l n i (Err j) ne f lt found = refl
   read-below l n i (Ok j) ne f lt found = ap Some (sym (child-read l n i j ne f lt found))
 
   -- or below the node
-  pub FindsIn-below : (l : ℕ) (n : Node) (i : ℕ) (found : Option ℕ) (a b c : Asking F) → l ≢ 0 → IsFormed l n → SearchesWithin g read (row n) 4 tie a (Err i) b
-      → FindsIn g read tie (l - 1) (child n i) b found c → FindsIn g read tie l n a found c
+  pub FindsIn-below :
+      (l : ℕ) (n : Node) (i : ℕ) (found : Option ℕ) (a b c : Asking F)
+      → l ≢ 0
+      → IsFormed l n
+      → SearchesWithin g read (row n) 4 tie a (Err i) b
+      → FindsIn g read tie (l - 1) (child n i) b found c
+      → FindsIn g read tie l n a found c
   FindsIn-below l n i found a b c ne f s t =
       let lt : i < length (children n) = child-within l n i ne f s.missed in
       record {
@@ -243,7 +346,12 @@ module _ {F R : Type 0} (g : Mut F (ℕ × Unit {0}) R) (read : R → Ordering) 
       }
 
 -- a find is what the search tells that ends at its index, or else at none
-pub Finds-from_searches : {F R : Type 0} (g : Mut F (ℕ × Unit {0}) R) (read : R → Ordering) (xs : List ℕ) (end : Result ℕ ℕ) (found : Option ℕ) (a b : Asking F) → Searches g read xs None a end b → found ≡ index_at xs end → Finds g read xs a found b
+pub Finds-from_searches :
+    {F R : Type 0} (g : Mut F (ℕ × Unit {0}) R) (read : R → Ordering) (xs : List ℕ) (end : Result ℕ ℕ)
+    (found : Option ℕ) (a b : Asking F)
+    → Searches g read xs None a end b
+    → found ≡ index_at xs end
+    → Finds g read xs a found b
 Finds-from_searches g read xs (Ok i) found a b s e = rw e (record {
   asked = s.asked;
   stored = Contains-at xs i _ s.found refl;
@@ -258,7 +366,13 @@ Finds-from_searches g read xs (Err i) found a b s e = rw e (record {
 })
 
 -- what is neither in the row nor in a list is nowhere
-absent_woven : (xs : List ℕ) (ks : List (List ℕ)) (x : ℕ) → length ks ≡ length xs + 1 → (Contains xs x → ⊥) → ((k : ℕ) → k < length ks → Contains (get_or ks k []) x → ⊥) → Contains (weave xs ks) x → ⊥
+absent_woven :
+    (xs : List ℕ) (ks : List (List ℕ)) (x : ℕ)
+    → length ks ≡ length xs + 1
+    → (Contains xs x → ⊥)
+    → ((k : ℕ) → k < length ks → Contains (get_or ks k []) x → ⊥)
+    → Contains (weave xs ks) x
+    → ⊥
 absent_woven [] [] x one row below h = absurd (omega arith)
 absent_woven [] (k ∷ []) x one row below h = below 0 (omega arith) h
 absent_woven [] (k ∷ (k2 ∷ ks)) x one row below h = absurd (omega arith)
@@ -276,21 +390,45 @@ absent_woven (y ∷ xs) (k ∷ ks) x one row below h =
 pub absent_leaf : (l : ℕ) (n : Node) (x : ℕ) → l ≡ 0 → (Contains (row n) x → ⊥) → Contains (flat l n) x → ⊥
 absent_leaf l n x e none = rw (flat-leaf l n e) none
 
-pub absent_inner : (l : ℕ) (n : Node) (x : ℕ) → l ≢ 0 → IsFormed l n → (Contains (row n) x → ⊥) → ((k : ℕ) → k < length (children n) → Contains (flat (l - 1) (child n k)) x → ⊥) → Contains (flat l n) x → ⊥
+pub absent_inner :
+    (l : ℕ) (n : Node) (x : ℕ)
+    → l ≢ 0
+    → IsFormed l n
+    → (Contains (row n) x → ⊥)
+    → ((k : ℕ) → k < length (children n) → Contains (flat (l - 1) (child n k)) x → ⊥)
+    → Contains (flat l n) x
+    → ⊥
 absent_inner l n x ne f none below =
     let len = length-map (children n) (λ k. flat (l - 1) k) in
     rw (flat-inner l n ne) (absent_woven (row n) (lists (l - 1) (children n)) x (lists-one_more l n ne f) none
     (λ k lt h. below k (omega arith) (subst (λ zs. Contains zs x) (lists-at (l - 1) n k (omega arith)) h)))
 
 -- the index to which a path goes in the node itself
-pub spot-row : (l : ℕ) (n : Node) (p : List ℕ) → IsFormed l n → slice_index p l < length (row n) → slice_index (flat l n) (spot l l n p) ≡ slice_index (row n) (slice_index p l)
+pub spot-row :
+    (l : ℕ) (n : Node) (p : List ℕ)
+    → IsFormed l n
+    → slice_index p l < length (row n)
+    → slice_index (flat l n) (spot l l n p) ≡ slice_index (row n) (slice_index p l)
 spot-row l n p f lt = ap (λ i. slice_index (flat l n) i) (spot-here l n p f (omega arith)) ∙ (row-part l n f).at (slice_index p l) lt
 
-pub holds_index-here : (l : ℕ) (n : Node) (p : List ℕ) (ix : ℕ) → IsFormed l n → slice_index p l < length (row n) → slice_index (row n) (slice_index p l) ≡ ix → HoldsIndex l l n p ix
+pub holds_index-here :
+    (l : ℕ) (n : Node) (p : List ℕ) (ix : ℕ)
+    → IsFormed l n
+    → slice_index p l < length (row n)
+    → slice_index (row n) (slice_index p l) ≡ ix
+    → HoldsIndex l l n p ix
 holds_index-here l n p ix f lt is = (holds-here l n p lt, spot-row l n p f lt ∙ is)
 
 -- and that in a child
-pub holds_index-below : (m l i : ℕ) (n g : Node) (p : List ℕ) (ix : ℕ) → l ≢ 0 → IsFormed l n → slice_index p l ≡ i → i < length (children n) → g ≡ get_or (children n) i g → HoldsIndex m (l - 1) g p ix → HoldsIndex m l n p ix
+pub holds_index-below :
+    (m l i : ℕ) (n g : Node) (p : List ℕ) (ix : ℕ)
+    → l ≢ 0
+    → IsFormed l n
+    → slice_index p l ≡ i
+    → i < length (children n)
+    → g ≡ get_or (children n) i g
+    → HoldsIndex m (l - 1) g p ix
+    → HoldsIndex m l n p ix
 holds_index-below m l i n g p ix ne f at lt is_g held =
     let here : slice_index p l < length (children n) = rw at lt in
     let same : g ≡ child n (slice_index p l) = child_is n i g lt is_g ∙ ap (child n) (sym at) in

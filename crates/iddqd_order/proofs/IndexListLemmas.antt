@@ -14,11 +14,20 @@ apart-from_missing : (xs : List ℕ) (x : ℕ) → (Contains xs x → ⊥) → A
 apart-from_missing xs x none = recursion_from_All (λ y. nat_eq x y ≡ false) xs (λ k d lt. ne_eqb x _ (λ e. none (k, lt, sym (e ∙ get_or_default xs k d x lt))))
 
 -- distinct indexes stay so where another one is added
-pub IsDistinct-insert : (xs : List ℕ) (p x : ℕ) → (Contains xs x → ⊥) → IsDistinct nat_eq xs → IsDistinct nat_eq (insert xs p x)
+pub IsDistinct-insert :
+    (xs : List ℕ) (p x : ℕ)
+    → (Contains xs x → ⊥)
+    → IsDistinct nat_eq xs
+    → IsDistinct nat_eq (insert xs p x)
 IsDistinct-insert xs p x absent distinct =
     IsDistinct-IsPermutation nat_eq nat_eq_equiv.symm (x ∷ xs) (insert xs p x) (IsPermutation-insert xs p x) (IsDistinct-cons nat_eq x xs (apart-from_missing xs x absent) distinct)
 
-pub IsIndexList-insert : (xs : List ℕ) (p x : ℕ) → (Contains xs x → ⊥) → x ≢ sentinel → IsIndexList xs → IsIndexList (insert xs p x)
+pub IsIndexList-insert :
+    (xs : List ℕ) (p x : ℕ)
+    → (Contains xs x → ⊥)
+    → x ≢ sentinel
+    → IsIndexList xs
+    → IsIndexList (insert xs p x)
 IsIndexList-insert xs p x absent assigned h = record { distinct = IsDistinct-insert xs p x absent h.distinct; assigned = All-insert (λ ix. ix ≢ sentinel) xs p x h.assigned assigned }
 
 -- `SENTINEL` is none of them
@@ -45,7 +54,11 @@ pub without-missing : (xs : List ℕ) (x : ℕ) → (Contains xs x → ⊥) → 
 without-missing xs x none = without-absent x xs (apart-from_missing xs x none)
 
 -- of distinct indexes the removal at a place leaves those other than the one that stands there
-pub remove-distinct : (xs : List ℕ) (p : ℕ) → IsDistinct nat_eq xs → p < length xs → remove xs p ≡ without xs (get_or xs p 0)
+pub remove-distinct :
+    (xs : List ℕ) (p : ℕ)
+    → IsDistinct nat_eq xs
+    → p < length xs
+    → remove xs p ≡ without xs (get_or xs p 0)
 remove-distinct [] p h lt = absurd (omega arith)
 remove-distinct (x ∷ xs) zero h lt =
     let left_out : not (x == x) ≡ false = grind (arith, nat_tests) in

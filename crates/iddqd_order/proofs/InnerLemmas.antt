@@ -6,7 +6,11 @@ use Rattle.std.proofs.lemmas.List.Sums.{sum_by-cons}
 use Rattle.iddqd_order.specs.declared.btree_table.node.Node.{Node}
 use Rattle.iddqd_order.specs.Node.{row, children, weave, flat, inners, IsFormed}
 
-pub wide : (f : Node → List ℕ) (g : Node → ℕ) (xs : List ℕ) (ns : List Node) → length ns ≡ length xs + 1 → All (λ n. 30 * g n + 5 ≤ length (f n)) ns → 30 * sum_by g ns + 5 * length ns + length xs ≤ length (weave xs (map f ns))
+pub wide :
+    (f : Node → List ℕ) (g : Node → ℕ) (xs : List ℕ) (ns : List Node)
+    → length ns ≡ length xs + 1
+    → All (λ n. 30 * g n + 5 ≤ length (f n)) ns
+    → 30 * sum_by g ns + 5 * length ns + length xs ≤ length (weave xs (map f ns))
 wide f g [] [] e a = absurd (omega arith)
 wide f g [] (n ∷ []) e a = let h = All-head (λ n. 30 * g n + 5 ≤ length (f n)) n [] a in omega (arith, sum_by-cons g n [])
 wide f g [] (n ∷ (m ∷ ns)) e a = absurd (omega arith)

@@ -15,7 +15,14 @@ pub record IsTaken (h : ℕ) (old : Node) (p : List ℕ) (i : ℕ) (g : Node) : 
   pub at : i ≡ slice_index p h
   pub is : g ≡ get_or (children old) i g
 
-pub is_taken : (h : ℕ) (old : Node) (p : List ℕ) (i : ℕ) (g : Node) → h ≢ 0 → IsFormed h old → Goes h old p → i ≡ slice_index p h → g ≡ get_or (children old) i g → IsTaken h old p i g
+pub is_taken :
+    (h : ℕ) (old : Node) (p : List ℕ) (i : ℕ) (g : Node)
+    → h ≢ 0
+    → IsFormed h old
+    → Goes h old p
+    → i ≡ slice_index p h
+    → g ≡ get_or (children old) i g
+    → IsTaken h old p i g
 is_taken h old p i g ne f goes at is = record { inner = ne; formed = f; goes = goes; at = at; is = is }
 
 -- what is known of it
@@ -59,14 +66,24 @@ pub record Cut (h : ℕ) (old new : Node) (m : ℕ) (up : Node) (p : List ℕ) (
   pub inner : inners h new + inners h up ≡ inners h old + h
 
 -- the inner nodes below, where k stands in the place of the child that the path takes
-inners_set : (h : ℕ) (old : Node) (p : List ℕ) (i : ℕ) (g k : Node) → IsTaken h old p i g → inners_of (h - 1) (set (children old) i k) + inners (h - 1) g ≡ inners_of (h - 1) (children old) + inners (h - 1) k
+inners_set :
+    (h : ℕ) (old : Node) (p : List ℕ) (i : ℕ) (g k : Node)
+    → IsTaken h old p i g
+    → inners_of (h - 1) (set (children old) i k) + inners (h - 1) g ≡ inners_of (h - 1)
+      (children old) + inners (h - 1) k
 inners_set h old p i g k t =
     let b = taken h old p i g t in
     omega (arith, sum_by-set (λ k. inners (h - 1) k) (children old) i k g b.here, ap (inners (h - 1)) t.is)
 
 -- the child that the path takes got the index: k stands in its place
-pub put_below : {more : ℕ} (h : ℕ) (old new : Node) (p : List ℕ) (x : ℕ) (i : ℕ) (g k : Node) → IsTaken h old p i g → IsPut (h - 1) g k p x more
-    → row new ≡ row old → children new ≡ set (children old) i k → 12 ≤ room new → IsPut h old new p x more
+pub put_below :
+    {more : ℕ} (h : ℕ) (old new : Node) (p : List ℕ) (x : ℕ) (i : ℕ) (g k : Node)
+    → IsTaken h old p i g
+    → IsPut (h - 1) g k p x more
+    → row new ≡ row old
+    → children new ≡ set (children old) i k
+    → 12 ≤ room new
+    → IsPut h old new p x more
 put_below h old new p x i g k t d er ek rm =
     let b = taken h old p i g t in
     let f : Node → List ℕ = λ k. flat (h - 1) k in
@@ -87,8 +104,15 @@ put_below h old new p x i g k t d er ek rm =
     }
 
 -- the child was cut in two, and the node had room for the upper part
-pub put_here : (h : ℕ) (old new : Node) (p : List ℕ) (x : ℕ) (i : ℕ) (g k : Node) (m : ℕ) (u : Node) → IsTaken h old p i g → Cut (h - 1) g k m u p x
-    → length (row old) < 11 → row new ≡ insert (row old) i m → children new ≡ insert (set (children old) i k) (i + 1) u → 12 ≤ room new → IsPut h old new p x (h - 1)
+pub put_here :
+    (h : ℕ) (old new : Node) (p : List ℕ) (x : ℕ) (i : ℕ) (g k : Node) (m : ℕ) (u : Node)
+    → IsTaken h old p i g
+    → Cut (h - 1) g k m u p x
+    → length (row old) < 11
+    → row new ≡ insert (row old) i m
+    → children new ≡ insert (set (children old) i k) (i + 1) u
+    → 12 ≤ room new
+    → IsPut h old new p x (h - 1)
 put_here h old new p x i g k m u t d lt er ek rm =
     let b = taken h old p i g t in
     let f : Node → List ℕ = λ k. flat (h - 1) k in
@@ -110,7 +134,10 @@ put_here h old new p x i g k m u t d lt er ek rm =
     }
 
 -- both parts of a row that was cut have five indexes or six
-cut_sizes : {xs : List ℕ} {i x : ℕ} {low : List ℕ} {m : ℕ} {high : List ℕ} → IsCut xs i x low m high → (5 ≤ length low) × (length low ≤ 6) × (5 ≤ length high) × (length high ≤ 6)
+cut_sizes :
+    {xs : List ℕ} {i x : ℕ} {low : List ℕ} {m : ℕ} {high : List ℕ}
+    → IsCut xs i x low m high
+    → (5 ≤ length low) × (length low ≤ 6) × (5 ≤ length high) × (length high ≤ 6)
 cut_sizes {i = i} c =
     let sum = c.high_length in
     elim (cases_lt 5 i) [
@@ -119,9 +146,16 @@ cut_sizes {i = i} c =
     ]
 
 -- the child was cut in two, and so is the node, which was full
-pub cut_here : (h : ℕ) (old new : Node) (m2 : ℕ) (up : Node) (p : List ℕ) (x : ℕ) (i : ℕ) (g k : Node) (m : ℕ) (u : Node) → IsTaken h old p i g → Cut (h - 1) g k m u p x
-    → IsCut (row old) i m (row new) m2 (row up) → children new ++ children up ≡ insert (set (children old) i k) (i + 1) u
-    → length (children new) ≡ length (row new) + 1 → 12 ≤ room new → 12 ≤ room up → Cut h old new m2 up p x
+pub cut_here :
+    (h : ℕ) (old new : Node) (m2 : ℕ) (up : Node) (p : List ℕ) (x : ℕ) (i : ℕ) (g k : Node) (m : ℕ) (u : Node)
+    → IsTaken h old p i g
+    → Cut (h - 1) g k m u p x
+    → IsCut (row old) i m (row new) m2 (row up)
+    → children new ++ children up ≡ insert (set (children old) i k) (i + 1) u
+    → length (children new) ≡ length (row new) + 1
+    → 12 ≤ room new
+    → 12 ≤ room up
+    → Cut h old new m2 up p x
 cut_here h old new m2 up p x i g k m u t d c ek lk rm ru =
     let b = taken h old p i g t in
     let f : Node → List ℕ = λ k. flat (h - 1) k in
@@ -156,8 +190,16 @@ pub leaf_place : (h : ℕ) (n : Node) (p : List ℕ) → h ≡ 0 → Goes h n p 
 leaf_place h n p e g = rw e (goes-leaf h n p e g)
 
 -- at a leaf with room
-pub put_leaf : (h : ℕ) (old new : Node) (p : List ℕ) (i x : ℕ) → h ≡ 0 → IsFormed h old → Goes h old p → i ≡ slice_index p h → length (row old) < 11
-    → row new ≡ insert (row old) i x → children new ≡ children old → IsPut h old new p x 0
+pub put_leaf :
+    (h : ℕ) (old new : Node) (p : List ℕ) (i x : ℕ)
+    → h ≡ 0
+    → IsFormed h old
+    → Goes h old p
+    → i ≡ slice_index p h
+    → length (row old) < 11
+    → row new ≡ insert (row old) i x
+    → children new ≡ children old
+    → IsPut h old new p x 0
 put_leaf h old new p i x e f g at lt er ek =
     let l = formed-leaf h old e f in
     let le : i ≤ length (row old) = rw at (leaf_place h old p e g) in
@@ -170,8 +212,16 @@ put_leaf h old new p i x e f g at lt er ek =
     }
 
 -- at a full leaf
-pub cut_leaf : (h : ℕ) (old new : Node) (m : ℕ) (up : Node) (p : List ℕ) (i x : ℕ) → h ≡ 0 → IsFormed h old → Goes h old p → i ≡ slice_index p h
-    → IsCut (row old) i x (row new) m (row up) → children new ≡ children old → children up ≡ [] → Cut h old new m up p x
+pub cut_leaf :
+    (h : ℕ) (old new : Node) (m : ℕ) (up : Node) (p : List ℕ) (i x : ℕ)
+    → h ≡ 0
+    → IsFormed h old
+    → Goes h old p
+    → i ≡ slice_index p h
+    → IsCut (row old) i x (row new) m (row up)
+    → children new ≡ children old
+    → children up ≡ []
+    → Cut h old new m up p x
 cut_leaf h old new m up p i x e f g at c ek eu =
     let l = formed-leaf h old e f in
     let sizes = cut_sizes c in
@@ -183,7 +233,11 @@ cut_leaf h old new m up p i x e f g at c ek eu =
     }
 
 -- the levels below the node are full as far as they have to be
-pub full_child : (k h : ℕ) (old : Node) (p : List ℕ) (i : ℕ) (g : Node) → IsTaken h old p i g → IsFullBelow k h old p → IsFullBelow k (h - 1) g p
+pub full_child :
+    (k h : ℕ) (old : Node) (p : List ℕ) (i : ℕ) (g : Node)
+    → IsTaken h old p i g
+    → IsFullBelow k h old p
+    → IsFullBelow k (h - 1) g p
 full_child k h old p i g t f =
     let b = taken h old p i g t in
     let on = full-on k h old p t.inner f in

@@ -7,8 +7,13 @@ Less-from_greater : {K : Type 0} {c : K → K → Ordering} → IsTotalOrder c �
 Less-from_greater o {a} {b} e = o.antisymm b a ∙ ap ordering_reverse e
 
 -- a sorted list stays so where x goes between what is less and what is greater
-sorted-insert : (c : ℕ → ℕ → Ordering) (xs : List ℕ) (p x : ℕ) → IsStrictlySortedBy c xs → p ≤ length xs → ((k : ℕ) → k < p → c (get_or xs k 0) x ≡ Less)
-    → ((k : ℕ) → p ≤ k → k < length xs → c x (get_or xs k 0) ≡ Less) → IsStrictlySortedBy c (insert xs p x)
+sorted-insert :
+    (c : ℕ → ℕ → Ordering) (xs : List ℕ) (p x : ℕ)
+    → IsStrictlySortedBy c xs
+    → p ≤ length xs
+    → ((k : ℕ) → k < p → c (get_or xs k 0) x ≡ Less)
+    → ((k : ℕ) → p ≤ k → k < length xs → c x (get_or xs k 0) ≡ Less)
+    → IsStrictlySortedBy c (insert xs p x)
 unfolding IsStrictlySortedBy
 sorted-insert c xs zero x s le below above =
     (recursion_from_All (λ y. c x y ≡ Less) xs (λ k d lt. ap (c x) (get_or_default xs k d 0 lt) ∙ above k (omega arith) lt), s)
@@ -47,7 +52,12 @@ module _ {K : Type 0} {cmp : K → K → Ordering} (o : IsTotalOrder cmp) (key :
   key_then_index-total = then_total (on_total key o) nat_cmp_total
 
   -- answers that compare the key of ix, with ties, are those of the order by key, ties by index
-  pub with_ties-key : (ix : ℕ) (answer : ℕ → Ordering) (xs : List ℕ) → ComparesKeys (cmp (key ix)) key answer xs → (k : ℕ) → k < length xs → with_ties (Some ix) answer (get_or xs k 0) ≡ key_then_index cmp key ix (get_or xs k 0)
+  pub with_ties-key :
+      (ix : ℕ) (answer : ℕ → Ordering) (xs : List ℕ)
+      → ComparesKeys (cmp (key ix)) key answer xs
+      → (k : ℕ)
+      → k < length xs
+      → with_ties (Some ix) answer (get_or xs k 0) ≡ key_then_index cmp key ix (get_or xs k 0)
   with_ties-key ix answer xs compares k lt =
       let j = get_or xs k 0 in
       cond_both (j == ix) Equal (ordering_then (answer j) (nat_cmp ix j)) (λ r. r ≡ key_then_index cmp key ix j)
@@ -60,7 +70,10 @@ module _ {K : Type 0} {cmp : K → K → Ordering} (o : IsTotalOrder cmp) (key :
       (greater_before : (a b : K) → cmp a b ≡ Less → compare b ≡ Greater → compare a ≡ Greater)
       (equal_keys : (a b : K) → cmp a b ≡ Equal → compare a ≡ compare b)
       (xs : List ℕ) (answer : ℕ → Ordering) where
-    pub IsRising-from_query : IsInKeyOrder cmp key xs → ComparesKeys compare key answer xs → IsRising (with_ties None answer) xs
+    pub IsRising-from_query :
+        IsInKeyOrder cmp key xs
+        → ComparesKeys compare key answer xs
+        → IsRising (with_ties None answer) xs
     IsRising-from_query sorted is =
         let pairs : (i j : ℕ) → i < j → j < length xs → (cmp (key (get_or xs i 0)) (key (get_or xs j 0)) ≡ Less) ⊎ (cmp (key (get_or xs i 0)) (key (get_or xs j 0)) ≡ Equal) =
         λ i j lt within. keys_of _ _ (Less-from_sorted _ xs i j 0 sorted lt within) in
@@ -76,7 +89,11 @@ module _ {K : Type 0} {cmp : K → K → Ordering} (o : IsTotalOrder cmp) (key :
         }
 
   -- a key agrees with the order of the keys
-  pub IsRising-from_key : (sought : K) (xs : List ℕ) (answer : ℕ → Ordering) → IsInKeyOrder cmp key xs → ComparesKeys (cmp sought) key answer xs → IsRising (with_ties None answer) xs
+  pub IsRising-from_key :
+      (sought : K) (xs : List ℕ) (answer : ℕ → Ordering)
+      → IsInKeyOrder cmp key xs
+      → ComparesKeys (cmp sought) key answer xs
+      → IsRising (with_ties None answer) xs
   IsRising-from_key sought xs answer = IsRising-from_query (cmp sought)
       (λ a b lt less. o.trans sought a b less lt)
       (greater_before_in o sought)
@@ -96,7 +113,12 @@ then_again Equal s t again e = again e
 then_again Greater s t again e = cc
 
 -- a list in key order stays so where each index gets a name that rises with it and keeps its key
-pub IsInKeyOrder-renamed : {K : Type 0} {cmp : K → K → Ordering} (total : IsTotalOrder cmp) (key key' : ℕ → K) (name : ℕ → ℕ) (xs : List ℕ) → ((i : ℕ) → Contains xs i → key' (name i) ≡ key i) → ((i j : ℕ) → Contains xs i → Contains xs j → i < j → name i < name j) → IsInKeyOrder cmp key xs → IsInKeyOrder cmp key' (map name xs)
+pub IsInKeyOrder-renamed :
+    {K : Type 0} {cmp : K → K → Ordering} (total : IsTotalOrder cmp) (key key' : ℕ → K) (name : ℕ → ℕ) (xs : List ℕ)
+    → ((i : ℕ) → Contains xs i → key' (name i) ≡ key i)
+    → ((i j : ℕ) → Contains xs i → Contains xs j → i < j → name i < name j)
+    → IsInKeyOrder cmp key xs
+    → IsInKeyOrder cmp key' (map name xs)
 IsInKeyOrder-renamed {K} {cmp} total key key' name xs keeps rises sorted =
     sorted_from_all_adjacent (key_then_index-total total key') (map name xs) 0 (λ k in_new.
     let within : k + 1 < length xs = omega (arith, length-map xs name) in

@@ -45,7 +45,11 @@ flat-sized zero n s = rw (nil_from_length (children n) s.count)
 flat-sized (suc h) n s = rw sub-one
 
 -- and the lists of two with an index between them
-flat-pair : (h : ℕ) (l : Node) (x : ℕ) (r : Node) → IsSized h l → IsSized h r → flat h l ++ x ∷ flat h r ≡ weave (row l ++ x ∷ row r) (lists (h - 1) (children l ++ children r))
+flat-pair :
+    (h : ℕ) (l : Node) (x : ℕ) (r : Node)
+    → IsSized h l
+    → IsSized h r
+    → flat h l ++ x ∷ flat h r ≡ weave (row l ++ x ∷ row r) (lists (h - 1) (children l ++ children r))
 unfolding flat
 flat-pair zero l x r sl sr = rw (nil_from_length (children l) sl.count, nil_from_length (children r) sr.count)
 flat-pair (suc h) l x r sl sr =
@@ -64,7 +68,15 @@ pub record AreNeighbours (h i : ℕ) (xs : List ℕ) (ks : List Node) (l r : Nod
   pub before : All (IsChild h) (take i ks)
   pub behind : All (IsChild h) (drop (suc (suc i)) ks)
 
-pub neighbours : (h i j : ℕ) (xs : List ℕ) (ks : List Node) (l r : Node) → i ≤ j → j ≤ i + 1 → i < length xs → MayLackOne h j xs ks → l ≡ get_or ks i l → r ≡ get_or ks (i + 1) r → AreNeighbours h i xs ks l r
+pub neighbours :
+    (h i j : ℕ) (xs : List ℕ) (ks : List Node) (l r : Node)
+    → i ≤ j
+    → j ≤ i + 1
+    → i < length xs
+    → MayLackOne h j xs ks
+    → l ≡ get_or ks i l
+    → r ≡ get_or ks (i + 1) r
+    → AreNeighbours h i xs ks l r
 neighbours h i j xs ks l r low high lt f el er =
     let o = f.one_more in let before = length-take i ks in let behind = length-drop (suc (suc i)) ks in
     let right : r ≡ get_or ks (suc i) r = er ∙ ap (λ z. get_or ks z r) (add-one i) in
@@ -85,8 +97,16 @@ neighbours h i j xs ks l r low high lt f el er =
     }
 
 -- with others in their place the order is as before
-woven : (h i : ℕ) (xs ys : List ℕ) (ks ls : List Node) (l r : Node) → i < length xs → length ks ≡ length xs + 1 → l ≡ get_or ks i l → r ≡ get_or ks (suc i) r → length ls ≡ length ys + 1 → weave ys (lists h ls) ≡ flat h l ++ get_or xs i 0 ∷ flat h r
-    → weave (take i xs ++ (ys ++ drop (suc i) xs)) (lists h (take i ks ++ (ls ++ drop (suc (suc i)) ks))) ≡ weave xs (lists h ks)
+woven :
+    (h i : ℕ) (xs ys : List ℕ) (ks ls : List Node) (l r : Node)
+    → i < length xs
+    → length ks ≡ length xs + 1
+    → l ≡ get_or ks i l
+    → r ≡ get_or ks (suc i) r
+    → length ls ≡ length ys + 1
+    → weave ys (lists h ls) ≡ flat h l ++ get_or xs i 0 ∷ flat h r
+    → weave (take i xs ++ (ys ++ drop (suc i) xs))
+      (lists h (take i ks ++ (ls ++ drop (suc (suc i)) ks))) ≡ weave xs (lists h ks)
 woven h i [] ys ks ls l r lt e el er n s = absurd (omega arith)
 woven h i (x ∷ xs) ys [] ls l r lt e el er n s = absurd (omega arith)
 woven h i (x ∷ xs) ys (k ∷ []) ls l r lt e el er n s = absurd (omega arith)
@@ -97,7 +117,13 @@ woven h zero (x ∷ xs) ys (k ∷ (k2 ∷ ks)) ls l r lt e el er n s =
     ∙ ap (λ z. z ++ b) (s ∙ (λ j. f (el j) ++ x ∷ f (er j))) ∙ append_assoc (f k) (x ∷ f k2) b ∙ ap (λ z. f k ++ x ∷ z) (sym (weave-more [] xs (f k2 ∷ []) (lists h ks) refl))
 woven h (suc i) (x ∷ xs) ys (k ∷ (k2 ∷ ks)) ls l r lt e el er n s = ap (λ z. flat h k ++ x ∷ z) (woven h i xs ys (k2 ∷ ks) ls l r (omega arith) (omega arith) el er n s)
 
-mended : (h i : ℕ) (xs ys : List ℕ) (ks ls : List Node) (l r : Node) → AreNeighbours h i xs ks l r → length ls ≡ length ys + 1 → length ys ≤ 1 → All (IsChild h) ls → weave ys (lists h ls) ≡ flat h l ++ get_or xs i 0 ∷ flat h r
+mended :
+    (h i : ℕ) (xs ys : List ℕ) (ks ls : List Node) (l r : Node)
+    → AreNeighbours h i xs ks l r
+    → length ls ≡ length ys + 1
+    → length ys ≤ 1
+    → All (IsChild h) ls
+    → weave ys (lists h ls) ≡ flat h l ++ get_or xs i 0 ∷ flat h r
     → IsMended h xs ks (take i xs ++ (ys ++ drop (suc i) xs)) (take i ks ++ (ls ++ drop (suc (suc i)) ks))
 mended h i xs ys ks ls l r n one few all items =
     let o = n.one_more in let at = n.here in let w = n.within in
@@ -113,18 +139,29 @@ mended h i xs ys ks ls l r n one few all items =
       items = woven h i xs ys ks ls l r at o n.left n.right one items;
     }
 
-set_pair : (ks : List Node) (i : ℕ) (l r : Node) → suc i < length ks → set (set ks i l) (suc i) r ≡ take i ks ++ l ∷ r ∷ drop (suc (suc i)) ks
+set_pair :
+    (ks : List Node) (i : ℕ) (l r : Node)
+    → suc i < length ks
+    → set (set ks i l) (suc i) r ≡ take i ks ++ l ∷ r ∷ drop (suc (suc i)) ks
 set_pair ks i l r lt =
     set_split (set ks i l) (suc i) r (omega (arith, length-set ks i l)) ∙ (λ j. take-suc-set ks i l (omega arith) j ++ r ∷ drop-set-lt (suc (suc i)) ks i l (omega arith) j) ∙ append_assoc (take i ks) (l ∷ []) (r ∷ drop (suc (suc i)) ks)
 
-set_joined : (ks : List Node) (i : ℕ) (one : Node) → suc i < length ks → set (remove ks (suc i)) i one ≡ take i ks ++ one ∷ drop (suc (suc i)) ks
+set_joined :
+    (ks : List Node) (i : ℕ) (one : Node)
+    → suc i < length ks
+    → set (remove ks (suc i)) i one ≡ take i ks ++ one ∷ drop (suc (suc i)) ks
 set_joined ks i one lt =
     let behind : List Node = drop (suc (suc i)) ks in
     ap (λ z. set (z ++ behind) i one) (take-suc ks i one (omega arith)) ∙ ap (λ z. set z i one) (append_assoc (take i ks) (get_or ks i one ∷ []) behind) ∙ set_at (take i ks) (get_or ks i one) behind one i (length-take-le i ks (omega arith))
 
 -- the two and the index between them, shared out anew
-mended-shared : (h i : ℕ) (xs : List ℕ) (ks : List Node) (l r new_l : Node) (m : ℕ) (new_r : Node) → AreNeighbours h i xs ks l r
-    → row new_l ++ m ∷ row new_r ≡ row l ++ get_or xs i 0 ∷ row r → children new_l ++ children new_r ≡ children l ++ children r → (5 ≤ length (row new_l)) × IsSized h new_l → (5 ≤ length (row new_r)) × IsSized h new_r
+mended-shared :
+    (h i : ℕ) (xs : List ℕ) (ks : List Node) (l r new_l : Node) (m : ℕ) (new_r : Node)
+    → AreNeighbours h i xs ks l r
+    → row new_l ++ m ∷ row new_r ≡ row l ++ get_or xs i 0 ∷ row r
+    → children new_l ++ children new_r ≡ children l ++ children r
+    → (5 ≤ length (row new_l)) × IsSized h new_l
+    → (5 ≤ length (row new_r)) × IsSized h new_r
     → IsMended h xs ks (set xs i m) (set (set ks i new_l) (i + 1) new_r)
 mended-shared h i xs ks l r new_l m new_r n rows below left right =
     let o = n.one_more in let at = n.here in
@@ -150,8 +187,10 @@ record Passed (h : ℕ) (l : Node) (x : ℕ) (r new_l : Node) (m : ℕ) (new_r :
   pub below : children new_l ++ children new_r ≡ children l ++ children r
   pub left : length (row l) ≡ length (row new_l) + 1
   pub right : length (row new_r) ≡ length (row r) + 1
-  pub left_count : length (children l) + arity h (length (row new_l)) ≡ length (children new_l) + arity h (length (row l))
-  pub right_count : length (children new_r) + arity h (length (row r)) ≡ length (children r) + arity h (length (row new_r))
+  pub left_count :
+      length (children l) + arity h (length (row new_l)) ≡ length (children new_l) + arity h (length (row l))
+  pub right_count :
+      length (children new_r) + arity h (length (row r)) ≡ length (children r) + arity h (length (row new_r))
 
 -- as many children go as one index more or less asks for
 moved-one : (h k : ℕ) (moved : Option Node) → IsSome moved ↔ (0 < arity h k) → length (option_to_list moved) ≡ arity h 0
@@ -160,7 +199,11 @@ moved-one zero k (Some c) iff = absurd (omega (arith, iff.0 refl))
 moved-one (suc h) k None iff = cc (iff.1 (omega arith))
 moved-one (suc h) k (Some c) iff = refl
 
-passed : (h : ℕ) (l : Node) (x : ℕ) (r new_l : Node) (m : ℕ) (new_r : Node) (moved : Option Node) → IsPassed l x r new_l m new_r moved → length (option_to_list moved) ≡ arity h 0 → Passed h l x r new_l m new_r
+passed :
+    (h : ℕ) (l : Node) (x : ℕ) (r new_l : Node) (m : ℕ) (new_r : Node) (moved : Option Node)
+    → IsPassed l x r new_l m new_r moved
+    → length (option_to_list moved) ≡ arity h 0
+    → Passed h l x r new_l m new_r
 passed h l x r new_l m new_r moved p one =
     let left : length (row l) ≡ length (row new_l) + 1 = simp length-append at (ap length p.left) in
     let right : length (row new_r) ≡ suc (length (row r)) = ap length p.right in
@@ -178,8 +221,16 @@ passed h l x r new_l m new_r moved p one =
     }
 
 -- an index and a child were moved from the left one to the right one
-pub moved-right : (h i : ℕ) (xs : List ℕ) (ks : List Node) (l r new_l new_r : Node) (x last : ℕ) (moved : Option Node) → AreNeighbours h i xs ks l r → 5 < length (row l) → length (row r) < 5
-    → x ≡ get_or xs i 0 → IsPassed l x r new_l last new_r moved → IsSome moved ↔ (0 < length (children l)) → room new_l ≡ room l → room r ≤ room new_r
+pub moved-right :
+    (h i : ℕ) (xs : List ℕ) (ks : List Node) (l r new_l new_r : Node) (x last : ℕ) (moved : Option Node)
+    → AreNeighbours h i xs ks l r
+    → 5 < length (row l)
+    → length (row r) < 5
+    → x ≡ get_or xs i 0
+    → IsPassed l x r new_l last new_r moved
+    → IsSome moved ↔ (0 < length (children l))
+    → room new_l ≡ room l
+    → room r ≤ room new_r
     → IsMended h xs ks (set xs i last) (set (set ks i new_l) (i + 1) new_r)
 moved-right h i xs ks l r new_l new_r x last moved n more few ex p some same_room room_more =
     let a = (formed-sized h l n.left_is.1).0 in let b = (formed-sized h r n.right_is.1).0 in
@@ -190,8 +241,16 @@ moved-right h i xs ks l r new_l new_r x last moved n more few ex p some same_roo
     (omega arith, record { within = omega arith; count = omega (arith, b.count, k.right_count); has_room = omega (arith, b.has_room) })
 
 -- or from the right one to the left one
-pub moved-left : (h i : ℕ) (xs : List ℕ) (ks : List Node) (l r new_l new_r : Node) (x first : ℕ) (moved : Option Node) → AreNeighbours h i xs ks l r → 5 < length (row r) → length (row l) < 5
-    → x ≡ get_or xs i 0 → IsPassed new_l first new_r l x r moved → IsSome moved ↔ (0 < length (children r)) → room new_r ≡ room r → room l ≤ room new_l
+pub moved-left :
+    (h i : ℕ) (xs : List ℕ) (ks : List Node) (l r new_l new_r : Node) (x first : ℕ) (moved : Option Node)
+    → AreNeighbours h i xs ks l r
+    → 5 < length (row r)
+    → length (row l) < 5
+    → x ≡ get_or xs i 0
+    → IsPassed new_l first new_r l x r moved
+    → IsSome moved ↔ (0 < length (children r))
+    → room new_r ≡ room r
+    → room l ≤ room new_l
     → IsMended h xs ks (set xs i first) (set (set ks (i + 1) new_r) i new_l)
 moved-left h i xs ks l r new_l new_r x first moved n more few ex p some same_room room_more =
     let a = (formed-sized h l n.left_is.1).0 in let b = (formed-sized h r n.right_is.1).0 in
@@ -202,7 +261,13 @@ moved-left h i xs ks l r new_l new_r x first moved n more few ex p some same_roo
     (omega arith, record { within = omega (arith, b.within); count = omega (arith, b.count, k.right_count); has_room = omega (arith, b.has_room) }))
 
 -- a node that has fewer than five indexes has room for a child that its neighbour has given up
-pub room-for-one : (h : ℕ) (from to : Node) (moved : Option Node) → IsFormed h from → IsFormed h to → length (row to) < 5 → IsSome moved ↔ (0 < length (children from)) → length (option_to_list moved) + length (children to) ≤ room to
+pub room-for-one :
+    (h : ℕ) (from to : Node) (moved : Option Node)
+    → IsFormed h from
+    → IsFormed h to
+    → length (row to) < 5
+    → IsSome moved ↔ (0 < length (children from))
+    → length (option_to_list moved) + length (children to) ≤ room to
 room-for-one h from to moved ff ft few some =
     let a = (formed-sized h from ff).0 in let b = (formed-sized h to ft).0 in
     omega (arith, moved-one h (length (row from)) moved (rw a.count at some), b.count, b.has_room, arity-fits h 0 (length (row to)) (omega arith))
@@ -213,8 +278,16 @@ pub record JoinFits (h i : ℕ) (xs : List ℕ) (ks : List Node) (l r : Node) : 
   pub fits : length (row l) + length (row r) ≤ 10
   pub room_is : length (children l) + length (children r) ≤ room l
 
-pub join-fits : (h j i : ℕ) (xs : List ℕ) (ks : List Node) (l r : Node) → i ≤ j → j ≤ i + 1 → i < length xs → MayLackOne h j xs ks
-    → ((d : Node) → length (row (get_or ks i d)) + length (row (get_or ks (i + 1) d)) ≤ 10) → l ≡ get_or (remove ks (i + 1)) i l → r ≡ get_or ks (i + 1) r → JoinFits h i xs ks l r
+pub join-fits :
+    (h j i : ℕ) (xs : List ℕ) (ks : List Node) (l r : Node)
+    → i ≤ j
+    → j ≤ i + 1
+    → i < length xs
+    → MayLackOne h j xs ks
+    → ((d : Node) → length (row (get_or ks i d)) + length (row (get_or ks (i + 1) d)) ≤ 10)
+    → l ≡ get_or (remove ks (i + 1)) i l
+    → r ≡ get_or ks (i + 1) r
+    → JoinFits h i xs ks l r
 join-fits h j i xs ks l r low high lt f few el er =
     let o = f.one_more in
     let el2 : l ≡ get_or ks i l = el ∙ get_or-remove_below ks (i + 1) l i (omega arith) (omega arith) in
@@ -225,8 +298,14 @@ join-fits h j i xs ks l r low high lt f few el er =
     record { pair = n; fits = sum; room_is = omega (arith, a.count, b.count, a.has_room, arity-fits h (length (row l)) (length (row r)) sum) }
 
 -- the right one was joined to the left one
-pub merged : (h i : ℕ) (xs : List ℕ) (ks : List Node) (l r one : Node) (x : ℕ) → JoinFits h i xs ks l r → x ≡ get_or xs i 0
-    → row one ≡ row l ++ x ∷ row r → children one ≡ children l ++ children r → room l ≤ room one → IsMended h xs ks (remove xs i) (set (remove ks (i + 1)) i one)
+pub merged :
+    (h i : ℕ) (xs : List ℕ) (ks : List Node) (l r one : Node) (x : ℕ)
+    → JoinFits h i xs ks l r
+    → x ≡ get_or xs i 0
+    → row one ≡ row l ++ x ∷ row r
+    → children one ≡ children l ++ children r
+    → room l ≤ room one
+    → IsMended h xs ks (remove xs i) (set (remove ks (i + 1)) i one)
 merged h i xs ks l r one x j ex rows below more =
     let n = j.pair in let fits = j.fits in let o = n.one_more in let at = n.here in let four = n.left_is.0 in
     let P : Node → Type 0 = IsChild (h - 1) in

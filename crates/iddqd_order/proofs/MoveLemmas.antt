@@ -15,8 +15,13 @@ pub absent-without : (xs : List ℕ) (ix : ℕ) → Contains (without xs ix) ix 
 absent-without xs ix held = (contains-from_without xs ix ix held).1 refl
 
 -- a removal by a way that there is exactly where the index is stored
-pub removed-anyway : {W : Type 0} (found : Bool) (way : Option W) (old new : Order) (ix : ℕ) → found ≡ is_some way → IsTrue (is_some way) ↔ Contains (order_of old) ix
-    → (IsTrue found → order_of new ≡ without (order_of old) ix) → (found ≡ false → new ≡ old) → order_of new ≡ without (order_of old) ix
+pub removed-anyway :
+    {W : Type 0} (found : Bool) (way : Option W) (old new : Order) (ix : ℕ)
+    → found ≡ is_some way
+    → IsTrue (is_some way) ↔ Contains (order_of old) ix
+    → (IsTrue found → order_of new ≡ without (order_of old) ix)
+    → (found ≡ false → new ≡ old)
+    → order_of new ≡ without (order_of old) ix
 removed-anyway true way old new ix e there removed kept = removed refl
 removed-anyway false way old new ix e there removed kept =
     (λ i. order_of (kept refl i)) ∙ sym (without-missing (order_of old) ix (λ held. let t = e ∙ there.1 held in absurd (cc)))
@@ -63,8 +68,15 @@ move-left old mid ix blocks fewer left lower reserved taken full =
     let past : capacity old < length (order_of old) = omega arith in
     omega (arith, move-most old past)
 
-pub move-enough : (old mid : Order) (ix blocks : ℕ) → length (without (order_of old) ix) < length (order_of old) → order_of mid ≡ without (order_of old) ix → mid.height ≤ old.height → mid.reserved ≡ old.reserved
-    → blocks ≡ move_blocks old → capacity mid ≤ length (order_of mid) → mid.height < blocks
+pub move-enough :
+    (old mid : Order) (ix blocks : ℕ)
+    → length (without (order_of old) ix) < length (order_of old)
+    → order_of mid ≡ without (order_of old) ix
+    → mid.height ≤ old.height
+    → mid.reserved ≡ old.reserved
+    → blocks ≡ move_blocks old
+    → capacity mid ≤ length (order_of mid)
+    → mid.height < blocks
 move-enough old mid ix blocks fewer left lower reserved taken full =
     let most : move_blocks old ≤ blocks = omega (arith, taken) in
     move-left old mid ix blocks fewer left lower reserved most full
@@ -85,13 +97,25 @@ module _ {F R : Type 0} (g : Mut F (ℕ × Unit {0}) R) (xs : List ℕ) (ix : �
   pub can-enter : (a : Asking F) → CanSearch g xs (Some ix) a → CanSearch g (without xs ix) (Some ix) a
   can-enter a can = CanAsk-fewer g others among wider can
 
-  pub can-enter_then : (a b : Asking F) → SearchAsks g xs (Some ix) a b → CanSearch g xs (Some ix) a → CanSearch g (without xs ix) (Some ix) b
+  pub can-enter_then :
+      (a b : Asking F)
+      → SearchAsks g xs (Some ix) a b
+      → CanSearch g xs (Some ix) a
+      → CanSearch g (without xs ix) (Some ix) b
   can-enter_then a b asked can = CanAsk-fewer g others among wider (CanAsk-later g among asked.after can)
 
-  pub asked-both : {a b c : Asking F} → SearchAsks g xs (Some ix) a b → SearchAsks g (without xs ix) (Some ix) b c → AsksWithin g among (2 * bound (length xs)) a c
+  pub asked-both :
+      {a b c : Asking F}
+      → SearchAsks g xs (Some ix) a b
+      → SearchAsks g (without xs ix) (Some ix) b c
+      → AsksWithin g among (2 * bound (length xs)) a c
   asked-both left entered = let less = fewer xs ix in asks_more g among (omega arith) (asks_then g among left (asks_wider g others among wider entered))
 
-  pub puts-then : {read : R → Ordering} {a b : Asking F} {ys : List ℕ} → SearchAsks g xs (Some ix) a b → PutsIn g read (without xs ix) ix b ys → PutsIn g read (without xs ix) ix a ys
+  pub puts-then :
+      {read : R → Ordering} {a b : Asking F} {ys : List ℕ}
+      → SearchAsks g xs (Some ix) a b
+      → PutsIn g read (without xs ix) ix b ys
+      → PutsIn g read (without xs ix) ix a ys
   puts-then asked puts = record {
     place = puts.place;
     within = puts.within;

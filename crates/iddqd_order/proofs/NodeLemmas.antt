@@ -50,20 +50,36 @@ flat-inner zero n e = absurd (e refl)
 flat-inner (suc h) n e = rw sub-one
 
 -- one list more than indexes, each that of a child
-pub lists-one_more : (h : ℕ) (n : Node) → h ≢ 0 → IsFormed h n → length (lists (h - 1) (children n)) ≡ length (row n) + 1
+pub lists-one_more :
+    (h : ℕ) (n : Node)
+    → h ≢ 0
+    → IsFormed h n
+    → length (lists (h - 1) (children n)) ≡ length (row n) + 1
 lists-one_more h n ne f = let one = (formed-inner h n ne f).inner.one_more in omega (arith, length-map (children n) (λ k. flat (h - 1) k))
 
-pub lists-at : (h : ℕ) (n : Node) (i : ℕ) → i < length (children n) → get_or (lists h (children n)) i [] ≡ flat h (child n i)
+pub lists-at :
+    (h : ℕ) (n : Node) (i : ℕ)
+    → i < length (children n)
+    → get_or (lists h (children n)) i [] ≡ flat h (child n i)
 lists-at h n i lt = get_or-map (λ k. flat h k) (children n) i n [] lt
 
 -- a node above the leaves has a child at each place of its row, and one behind it
 pub child-within : (l : ℕ) (n : Node) (i : ℕ) → l ≢ 0 → IsFormed l n → i ≤ length (row n) → i < length (children n)
 child-within l n i ne f le = let one = (formed-inner l n ne f).inner.one_more in omega arith
 
-pub child-formed : (h : ℕ) (n : Node) (i : ℕ) → h ≢ 0 → IsFormed h n → i < length (children n) → IsFormed (h - 1) (child n i)
+pub child-formed :
+    (h : ℕ) (n : Node) (i : ℕ)
+    → h ≢ 0
+    → IsFormed h n
+    → i < length (children n)
+    → IsFormed (h - 1) (child n i)
 child-formed h n i ne f lt = ((formed-inner h n ne f).below i n lt).1
 
-pub full-on : (k h : ℕ) (n : Node) (p : List ℕ) → h ≢ 0 → IsFullBelow k h n p → IsFullBelow k (h - 1) (child n (slice_index p h)) p
+pub full-on :
+    (k h : ℕ) (n : Node) (p : List ℕ)
+    → h ≢ 0
+    → IsFullBelow k h n p
+    → IsFullBelow k (h - 1) (child n (slice_index p h)) p
 unfolding IsFullBelow
 full-on k zero n p e f = absurd (e refl)
 full-on k (suc h) n p e f = rw sub-one f.1
@@ -73,7 +89,10 @@ unfolding IsFullBelow
 full-here k zero n p f = f
 full-here k (suc h) n p f = f.0
 
-pub map-insert : {X Y : Type 0} → (f : X → Y) (xs : List X) (i : ℕ) (x : X) → map f (insert xs i x) ≡ insert (map f xs) i (f x)
+pub map-insert :
+    {X Y : Type 0}
+    → (f : X → Y) (xs : List X) (i : ℕ) (x : X)
+    → map f (insert xs i x) ≡ insert (map f xs) i (f x)
 map-insert f [] zero x = refl
 map-insert f [] (suc i) x = refl
 map-insert f (y ∷ xs) zero x = refl
@@ -108,11 +127,20 @@ pub record HoldsBelow (gap : Bool) (l h : ℕ) (n : Node) (p : List ℕ) : Type 
   pub on : Reaches gap l (h - 1) (child n (slice_index p h)) p
 
 module _ {gap : Bool} where
-  pub holds-leaf : (l h : ℕ) (n : Node) (p : List ℕ) → h ≡ 0 → Reaches gap l h n p → Fits gap (slice_index p 0) (length (row n))
+  pub holds-leaf :
+      (l h : ℕ) (n : Node) (p : List ℕ)
+      → h ≡ 0
+      → Reaches gap l h n p
+      → Fits gap (slice_index p 0) (length (row n))
   unfolding Passes
   holds-leaf l h n p e w = (rw e at w.passes).1
 
-  pub holds-at : (l h : ℕ) (n : Node) (p : List ℕ) → h ≢ 0 → h ≡ l → Reaches gap l h n p → Fits gap (slice_index p h) (length (row n))
+  pub holds-at :
+      (l h : ℕ) (n : Node) (p : List ℕ)
+      → h ≢ 0
+      → h ≡ l
+      → Reaches gap l h n p
+      → Fits gap (slice_index p h) (length (row n))
   unfolding Passes
   holds-at l zero n p ne e w = absurd (ne refl)
   holds-at l (suc h) n p ne e w = w.passes.1 (sym e)
@@ -131,7 +159,12 @@ module _ {gap : Bool} where
       record { here = q.0; on = rw sub-one (record { passes = q.1 }) }
 
   -- a path to an index below the node
-  pub below-holds : (m l : ℕ) (n : Node) (p : List ℕ) → l ≢ 0 → slice_index p l < length (children n) → Reaches gap m (l - 1) (child n (slice_index p l)) p → Reaches gap m l n p
+  pub below-holds :
+      (m l : ℕ) (n : Node) (p : List ℕ)
+      → l ≢ 0
+      → slice_index p l < length (children n)
+      → Reaches gap m (l - 1) (child n (slice_index p l)) p
+      → Reaches gap m l n p
   unfolding Passes
   below-holds m zero n p ne lt h = absurd (ne refl)
   below-holds m (suc l) n p ne lt h =
@@ -140,7 +173,10 @@ module _ {gap : Bool} where
       record { passes = (omega arith, λ e. absurd (omega arith), λ _. (lt, below.passes)) }
 
 -- and one that ends at the node itself
-pub reaches-here : (gap : Bool) (l : ℕ) (n : Node) (p : List ℕ) → Fits gap (slice_index p l) (length (row n)) → Reaches gap l l n p
+pub reaches-here :
+    (gap : Bool) (l : ℕ) (n : Node) (p : List ℕ)
+    → Fits gap (slice_index p l) (length (row n))
+    → Reaches gap l l n p
 unfolding Passes
 reaches-here gap zero n p fits = record { passes = (omega arith, fits) }
 reaches-here gap (suc h) n p fits = record { passes = (omega arith, λ _. fits, λ le. absurd (omega arith)) }
@@ -152,14 +188,22 @@ pub spot-leaf : (l h : ℕ) (n : Node) (p : List ℕ) → h ≡ 0 → spot l h n
 unfolding spot
 spot-leaf l h n p e = rw e
 
-pub spot-at : (l h : ℕ) (n : Node) (p : List ℕ) → h ≢ 0 → h ≡ l
-    → spot l h n p ≡ length (before (slice_index p h) (row n) (lists (h - 1) (children n))) + length (flat (h - 1) (child n (slice_index p h)))
+pub spot-at :
+    (l h : ℕ) (n : Node) (p : List ℕ)
+    → h ≢ 0
+    → h ≡ l
+    → spot l h n p ≡ length (before (slice_index p h) (row n) (lists (h - 1) (children n))) + length
+        (flat (h - 1) (child n (slice_index p h)))
 unfolding spot
 spot-at l zero n p ne e = absurd (ne refl)
 spot-at l (suc h) n p ne e = let t : nat_eq l (suc h) ≡ true = eq-eqb l (suc h) (sym e) in rw (t, sub-one)
 
-pub spot-below : (l h : ℕ) (n : Node) (p : List ℕ) → h ≢ 0 → h ≢ l
-    → spot l h n p ≡ length (before (slice_index p h) (row n) (lists (h - 1) (children n))) + spot l (h - 1) (child n (slice_index p h)) p
+pub spot-below :
+    (l h : ℕ) (n : Node) (p : List ℕ)
+    → h ≢ 0
+    → h ≢ l
+    → spot l h n p ≡ length (before (slice_index p h) (row n) (lists (h - 1) (children n))) + spot l (h - 1)
+      (child n (slice_index p h)) p
 unfolding spot
 spot-below l zero n p ne e = absurd (ne refl)
 spot-below l (suc h) n p ne e = let t : nat_eq l (suc h) ≡ false = ne_eqb l (suc h) (λ z. e (sym z)) in rw (t, sub-one)
@@ -169,16 +213,29 @@ Fits-le : (gap : Bool) (i count : ℕ) → Fits gap i count → i ≤ count
 Fits-le false i count lt = omega arith
 Fits-le true i count le = le
 
-Fits-row : (gap : Bool) (i : ℕ) (xs : List ℕ) (ks : List (List ℕ)) → length ks ≡ length xs + 1 → Fits gap i (length xs) → Fits gap (index_place i xs ks) (length (weave xs ks))
+Fits-row :
+    (gap : Bool) (i : ℕ) (xs : List ℕ) (ks : List (List ℕ))
+    → length ks ≡ length xs + 1
+    → Fits gap i (length xs)
+    → Fits gap (index_place i xs ks) (length (weave xs ks))
 Fits-row false i xs ks one lt = weave-within_at i xs ks [] lt one
 Fits-row true i xs ks one le = within i xs ks [] (length (get_or ks i [])) (omega arith) one (omega arith)
 
-Fits-list : (gap : Bool) (i : ℕ) (xs : List ℕ) (ks : List (List ℕ)) (q : ℕ) → length ks ≡ length xs + 1 → i < length ks → Fits gap q (length (get_or ks i [])) → Fits gap (length (before i xs ks) + q) (length (weave xs ks))
+Fits-list :
+    (gap : Bool) (i : ℕ) (xs : List ℕ) (ks : List (List ℕ)) (q : ℕ)
+    → length ks ≡ length xs + 1
+    → i < length ks
+    → Fits gap q (length (get_or ks i []))
+    → Fits gap (length (before i xs ks) + q) (length (weave xs ks))
 Fits-list false i xs ks q one lt low = weave-within i xs ks [] q lt one low
 Fits-list true i xs ks q one lt low = within i xs ks [] q lt one low
 
 -- an index or gap to which a path goes is a place in the list
-pub spot-within : {gap : Bool} (l h : ℕ) (n : Node) (p : List ℕ) → IsFormed h n → Reaches gap l h n p → Fits gap (spot l h n p) (length (flat h n))
+pub spot-within :
+    {gap : Bool} (l h : ℕ) (n : Node) (p : List ℕ)
+    → IsFormed h n
+    → Reaches gap l h n p
+    → Fits gap (spot l h n p) (length (flat h n))
 unfolding Passes spot flat IsFormed
 spot-within l zero n p f w = w.passes.1
 spot-within {gap = gap} l (suc h) n p f w =
@@ -212,7 +269,13 @@ pub record GoesDown (gap : Bool) (h l i : ℕ) (n : Node) (p : List ℕ) : Type 
 abbrev pub GoesBelow : ℕ → ℕ → ℕ → Node → List ℕ → Type 0
 GoesBelow h l i n p = GoesDown false h l i n p
 
-pub goes-below : {gap : Bool} (h l i : ℕ) (n : Node) (p : List ℕ) → l < h → i ≡ slice_index p h → IsFormed h n → Reaches gap l h n p → GoesDown gap h l i n p
+pub goes-below :
+    {gap : Bool} (h l i : ℕ) (n : Node) (p : List ℕ)
+    → l < h
+    → i ≡ slice_index p h
+    → IsFormed h n
+    → Reaches gap l h n p
+    → GoesDown gap h l i n p
 goes-below {gap = gap} h l i n p lt ei f w =
     let ne : h ≢ 0 = λ e. absurd (omega arith) in
     let other : h ≢ l = λ e. absurd (omega arith) in
@@ -240,8 +303,11 @@ goes-inner h n p ne g = holds-below 0 h n p ne ne g
 pub place-leaf : (h : ℕ) (n : Node) (p : List ℕ) → h ≡ 0 → place h n p ≡ slice_index p 0
 place-leaf h n p e = spot-leaf 0 h n p e
 
-pub place-inner : (h : ℕ) (n : Node) (p : List ℕ) → h ≢ 0
-    → place h n p ≡ length (before (slice_index p h) (row n) (lists (h - 1) (children n))) + place (h - 1) (child n (slice_index p h)) p
+pub place-inner :
+    (h : ℕ) (n : Node) (p : List ℕ)
+    → h ≢ 0
+    → place h n p ≡ length (before (slice_index p h) (row n) (lists (h - 1) (children n))) + place (h - 1)
+      (child n (slice_index p h)) p
 place-inner h n p ne = spot-below 0 h n p ne ne
 
 pub place-within : (h : ℕ) (n : Node) (p : List ℕ) → IsFormed h n → Goes h n p → place h n p ≤ length (flat h n)

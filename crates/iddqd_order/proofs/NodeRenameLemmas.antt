@@ -15,12 +15,19 @@ weave-own P (x ∷ xs) (k ∷ ks) a =
     let r : All P (x ∷ weave xs ks) = All-back P k (x ∷ weave xs ks) a in
     All-cons P x xs (All-head P x (weave xs ks) r) (weave-own P xs ks (All-tail P x (weave xs ks) r))
 
-weave-each : (P : ℕ → Type 0) (xs : List ℕ) (ks : List (List ℕ)) (i : ℕ) (d : List ℕ) → length ks ≡ length xs + 1 → i < length ks → All P (weave xs ks) → All P (get_or ks i d)
+weave-each :
+    (P : ℕ → Type 0) (xs : List ℕ) (ks : List (List ℕ)) (i : ℕ) (d : List ℕ)
+    → length ks ≡ length xs + 1
+    → i < length ks
+    → All P (weave xs ks)
+    → All P (get_or ks i d)
 weave-each P xs ks i d e lt a =
     All-front P (get_or ks i d) (after i xs ks) (All-back P (before i xs ks) (get_or ks i d ++ after i xs ks) (subst (λ z. All P z) (apart i xs ks d lt e) a))
 
 -- the new names of all woven together
-weave-map : (f : ℕ → ℕ) (xs : List ℕ) (ks : List (List ℕ)) → map f (weave xs ks) ≡ weave (map f xs) (map (λ k. map f k) ks)
+weave-map :
+    (f : ℕ → ℕ) (xs : List ℕ) (ks : List (List ℕ))
+    → map f (weave xs ks) ≡ weave (map f xs) (map (λ k. map f k) ks)
 weave-map f xs [] = refl
 weave-map f [] (k ∷ ks) = refl
 weave-map f (x ∷ xs) (k ∷ ks) = map-append f k (x ∷ weave xs ks) ∙ ap (λ z. map f k ++ f x ∷ z) (weave-map f xs ks)
@@ -37,8 +44,15 @@ pub record IsRenamed (f : ℕ → ℕ) (h : ℕ) (old new : Node) : Type 0 where
   pub inners : inners h new ≡ inners h old
 
 -- a node whose own indexes and whose children have new names
-pub renamed : (f : ℕ → ℕ) (h : ℕ) (old new : Node) → IsFormed h old → row new ≡ map f (row old) → arity h 11 ≤ room new → length (children new) ≡ length (children old)
-    → ((j : ℕ) (d : Node) → j < length (children old) → IsRenamed f (h - 1) (get_or (children old) j d) (get_or (children new) j d)) → IsRenamed f h old new
+pub renamed :
+    (f : ℕ → ℕ) (h : ℕ) (old new : Node)
+    → IsFormed h old
+    → row new ≡ map f (row old)
+    → arity h 11 ≤ room new
+    → length (children new) ≡ length (children old)
+    → ((j : ℕ) (d : Node) → j < length (children old) → IsRenamed f (h - 1) (get_or (children old) j d)
+        (get_or (children new) j d))
+    → IsRenamed f h old new
 renamed f h old new fo er has_room count each =
     let a = formed-sized h old fo in
     let rows : length (row new) ≡ length (row old) = ap length er ∙ length-map (row old) f in
@@ -58,8 +72,15 @@ renamed f h old new fo er has_room count each =
     }
 
 -- a node whose row and children are copies
-pub copied : (h : ℕ) (n m : Node) → IsFormed h n → row m ≡ row n → arity h 11 ≤ room m → length (children m) ≡ length (children n)
-    → ((j : ℕ) (d : Node) → j < length (children n) → IsCopy (h - 1) (get_or (children n) j d) (get_or (children m) j d)) → IsCopy h n m
+pub copied :
+    (h : ℕ) (n m : Node)
+    → IsFormed h n
+    → row m ≡ row n
+    → arity h 11 ≤ room m
+    → length (children m) ≡ length (children n)
+    → ((j : ℕ) (d : Node) → j < length (children n) → IsCopy (h - 1) (get_or (children n) j d)
+        (get_or (children m) j d))
+    → IsCopy h n m
 copied h n m fn er has_room count each =
     let r = renamed (λ x. x) h n m fn (er ∙ sym (map-id (row n))) has_room count
     (λ j d lt. let c = each j d lt in record { formed = c.formed; same_length = c.same_length; items = c.items ∙ sym (map-id (flat (h - 1) (get_or (children n) j d))); inners = c.inners }) in
@@ -70,11 +91,22 @@ pub record AreRenamed (f : ℕ → ℕ) (h i : ℕ) (old now : Node) : Type 0 wh
   pub row_is : row now ≡ map f (row old)
   pub room_is : room now ≡ room old
   pub length_is : length (children now) ≡ length (children old)
-  pub done : (j : ℕ) (d : Node) → j < i → j < length (children old) → IsRenamed f h (get_or (children old) j d) (get_or (children now) j d)
+  pub done :
+      (j : ℕ) (d : Node)
+      → j < i
+      → j < length (children old)
+      → IsRenamed f h (get_or (children old) j d) (get_or (children now) j d)
   pub rest : (j : ℕ) (d : Node) → i ≤ j → get_or (children now) j d ≡ get_or (children old) j d
 
 -- the next child is formed, and its indexes may be asked
-pub next-can : (P : ℕ → Type 0) (f : ℕ → ℕ) (h i : ℕ) (old now g : Node) → h ≢ 0 → IsFormed h old → All P (flat h old) → AreRenamed f (h - 1) i old now → i < length (children now) → g ≡ get_or (children now) i g
+pub next-can :
+    (P : ℕ → Type 0) (f : ℕ → ℕ) (h i : ℕ) (old now g : Node)
+    → h ≢ 0
+    → IsFormed h old
+    → All P (flat h old)
+    → AreRenamed f (h - 1) i old now
+    → i < length (children now)
+    → g ≡ get_or (children now) i g
     → IsFormed (h - 1) g × All P (flat (h - 1) g)
 next-can P f h i old now g ne fo can a lt is =
     let lists_one = lists-one_more h old ne fo in let one = (formed-inner h old ne fo).inner.one_more in

@@ -24,7 +24,12 @@ module _ {xs ws : List ℕ} {e : ℕ → ℕ} (m : Embeds xs ws e) where
   }
 
 -- a place in a part that begins at low, where all is Greater before the part and Less after it
-IsPlace-part : {c ws : List ℕ} {low : ℕ} (m : Embeds c ws (λ j. low + j)) (a : ℕ → Ordering) (i : ℕ) → low + length c ≤ length ws → AreSplit a ws low (low + length c) → IsPlace a c i → IsPlace a ws (low + i)
+IsPlace-part :
+    {c ws : List ℕ} {low : ℕ} (m : Embeds c ws (λ j. low + j)) (a : ℕ → Ordering) (i : ℕ)
+    → low + length c ≤ length ws
+    → AreSplit a ws low (low + length c)
+    → IsPlace a c i
+    → IsPlace a ws (low + i)
 IsPlace-part {c = c} {ws = ws} {low = low} m a i le s p =
     let there : (k : ℕ) → low ≤ k → k < low + length c → a (get_or ws k 0) ≡ a (get_or c (k - low) 0) =
     λ k from lt. (let same : k ≡ low + (k - low) = omega arith in ap (λ z. a (get_or ws z 0)) same ∙ ap a (m.at (k - low) (omega arith))) in
@@ -47,7 +52,11 @@ shifted n (Ok i) = Ok (n + i)
 shifted n (Err i) = Err (n + i)
 
 module _ {F R : Type 0} (g : Mut F (ℕ × Unit {0}) R) (read : R → Ordering) (tie : Option ℕ) where
-  pub SearchesWithin-more : {xs : List ℕ} {k l : ℕ} {old new : Asking F} {end : Result ℕ ℕ} → k ≤ l → SearchesWithin g read xs k tie old end new → SearchesWithin g read xs l tie old end new
+  pub SearchesWithin-more :
+      {xs : List ℕ} {k l : ℕ} {old new : Asking F} {end : Result ℕ ℕ}
+      → k ≤ l
+      → SearchesWithin g read xs k tie old end new
+      → SearchesWithin g read xs l tie old end new
   SearchesWithin-more {xs = xs} le s = record {
     asked = asks_more g (Askable xs tie) le s.asked;
     found = s.found;
@@ -58,16 +67,28 @@ module _ {F R : Type 0} (g : Mut F (ℕ × Unit {0}) R) (read : R → Ordering) 
     unequal = s.unequal;
   }
 
-  module _ {xs ws : List ℕ} {e : ℕ → ℕ} (m : Embeds xs ws e) {n : ℕ} {old mid : Asking F} (led : AsksWithin g (Askable ws tie) n old mid) where
+  module _
+      {xs ws : List ℕ} {e : ℕ → ℕ} (m : Embeds xs ws e) {n : ℕ} {old mid : Asking F}
+      (led : AsksWithin g (Askable ws tie) n old mid)
+      where
     -- asks in a part, after asks that led there, are asks in the whole
-    asked-part : {k : ℕ} {new : Asking F} → AsksWithin g (Askable xs tie) k mid new → AsksWithin g (Askable ws tie) (n + k) old new
+    asked-part :
+        {k : ℕ} {new : Asking F}
+        → AsksWithin g (Askable xs tie) k mid new
+        → AsksWithin g (Askable ws tie) (n + k) old new
     asked-part p = asks_then g (Askable ws tie) led (asks_wider g (Askable xs tie) (Askable ws tie) (Askable-whole m tie) p)
 
-    steady-part : (answer : ℕ → Ordering) → Steady g (Askable ws tie) read answer (closure_of old) → Steady g (Askable xs tie) read answer (closure_of mid)
+    steady-part :
+        (answer : ℕ → Ordering)
+        → Steady g (Askable ws tie) read answer (closure_of old)
+        → Steady g (Askable xs tie) read answer (closure_of mid)
     steady-part answer s = Steady-fewer g (Askable xs tie) (Askable ws tie) (Askable-whole m tie) (Steady-later g (Askable ws tie) led.after s)
 
     -- a hit in the part is one in the whole
-    pub Searches-hit : {k : ℕ} {new : Asking F} (i : ℕ) → SearchesWithin g read xs k tie mid (Ok i) new → SearchesWithin g read ws (n + k) tie old (Ok (e i)) new
+    pub Searches-hit :
+        {k : ℕ} {new : Asking F} (i : ℕ)
+        → SearchesWithin g read xs k tie mid (Ok i) new
+        → SearchesWithin g read ws (n + k) tie old (Ok (e i)) new
     Searches-hit i s = record {
       asked = asked-part s.asked;
       found = m.within i s.found;
@@ -83,10 +104,17 @@ module _ {F R : Type 0} (g : Mut F (ℕ × Unit {0}) R) (read : R → Ordering) 
     pub part : Embeds c ws (λ j. low + j)
     pub within : low + length c ≤ length ws
     pub asked : AsksWithin g (Askable ws tie) limit old mid
-    pub split : (answer : ℕ → Ordering) → IsSteadyRising g ws tie read answer old → AreSplit (with_ties tie answer) ws low (low + length c)
+    pub split :
+        (answer : ℕ → Ordering)
+        → IsSteadyRising g ws tie read answer old
+        → AreSplit (with_ties tie answer) ws low (low + length c)
 
   -- then the search in the part is one in the whole
-  pub Searches-part : {limit low k : ℕ} {c ws : List ℕ} {old mid new : Asking F} → LeadsTo limit low c ws old mid → (end : Result ℕ ℕ) → SearchesWithin g read c k tie mid end new
+  pub Searches-part :
+      {limit low k : ℕ} {c ws : List ℕ} {old mid new : Asking F}
+      → LeadsTo limit low c ws old mid
+      → (end : Result ℕ ℕ)
+      → SearchesWithin g read c k tie mid end new
       → SearchesWithin g read ws (limit + k) tie old (shifted low end) new
   Searches-part leads (Ok i) s = Searches-hit leads.part leads.asked i s
   Searches-part leads (Err i) s =

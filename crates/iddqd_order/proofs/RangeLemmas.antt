@@ -14,43 +14,80 @@ never-equal e Less ne = λ z. cc
 never-equal e Equal ne = ne
 never-equal e Greater ne = λ z. cc
 
-rises-counted : (e : Ordering) → e ≢ Equal → (answer : ℕ → Ordering) (xs : List ℕ) → IsRising answer xs → IsRising (λ ix. ordering_then (answer ix) e) xs
+rises-counted :
+    (e : Ordering)
+    → e ≢ Equal
+    → (answer : ℕ → Ordering) (xs : List ℕ)
+    → IsRising answer xs
+    → IsRising (λ ix. ordering_then (answer ix) e) xs
 rises-counted e ne answer xs r = record {
   greater_before = λ i j lt within g. greater e ne (answer (slice_index xs i)) (answer (slice_index xs j)) (r.greater_before i j lt within) (r.less_after i j lt within) g;
   less_after = λ i j lt within s. less e ne (answer (slice_index xs i)) (answer (slice_index xs j)) (r.greater_before i j lt within) (r.less_after i j lt within) s;
 }
   where
-    greater : (e : Ordering) → e ≢ Equal → (a b : Ordering) → (b ≡ Greater → a ≡ Greater) → (a ≡ Less → b ≡ Less) → ordering_then b e ≡ Greater → ordering_then a e ≡ Greater
+    greater :
+        (e : Ordering)
+        → e ≢ Equal
+        → (a b : Ordering)
+        → (b ≡ Greater → a ≡ Greater)
+        → (a ≡ Less → b ≡ Less)
+        → ordering_then b e ≡ Greater
+        → ordering_then a e ≡ Greater
     greater e ne a Greater up down g = ap (λ z. ordering_then z e) (up refl)
     greater e ne a Less up down g = cc
     greater e ne Less Equal up down g = let z = down refl in cc
     greater e ne Equal Equal up down g = g
     greater e ne Greater Equal up down g = refl
 
-    less : (e : Ordering) → e ≢ Equal → (a b : Ordering) → (b ≡ Greater → a ≡ Greater) → (a ≡ Less → b ≡ Less) → ordering_then a e ≡ Less → ordering_then b e ≡ Less
+    less :
+        (e : Ordering)
+        → e ≢ Equal
+        → (a b : Ordering)
+        → (b ≡ Greater → a ≡ Greater)
+        → (a ≡ Less → b ≡ Less)
+        → ordering_then a e ≡ Less
+        → ordering_then b e ≡ Less
     less e ne Less b up down s = ap (λ z. ordering_then z e) (down refl)
     less e ne Greater b up down s = cc
     less e ne Equal Less up down s = refl
     less e ne Equal Equal up down s = s
     less e ne Equal Greater up down s = let z = up refl in cc
 
-pub steady-counted : {F R : Type 0} (g : Mut F (ℕ × Unit {0}) R) (read : R → Ordering) (xs : List ℕ) (e : Ordering) → e ≢ Equal → (answer : ℕ → Ordering) (a : Asking F)
-    → IsSteadyRising g xs None read answer a → IsSteadyRising g xs None (λ r. ordering_then (read r) e) (λ ix. ordering_then (answer ix) e) a
+pub steady-counted :
+    {F R : Type 0} (g : Mut F (ℕ × Unit {0}) R) (read : R → Ordering) (xs : List ℕ) (e : Ordering)
+    → e ≢ Equal
+    → (answer : ℕ → Ordering) (a : Asking F)
+    → IsSteadyRising g xs None read answer a
+    → IsSteadyRising g xs None (λ r. ordering_then (read r) e) (λ ix. ordering_then (answer ix) e) a
 steady-counted g read xs e ne answer a s = record {
   steady = record { at = λ n f' p ix h r f'' c. ap (λ z. ordering_then z e) (s.steady.at n f' p ix h r f'' c) };
   rising = rises-counted e ne answer xs s.rising;
 }
 
 -- a search for a bound ends there
-pub bound-met : {F R : Type 0} (g : Mut F (ℕ × Unit {0}) R) (read : R → Ordering) (xs : List ℕ) (e : Ordering) → e ≢ Equal → (a b : Asking F) (i : ℕ)
-    → Searches g (λ r. ordering_then (read r) e) xs None a (Err i) b → IsBoundBy g read e xs a i
+pub bound-met :
+    {F R : Type 0} (g : Mut F (ℕ × Unit {0}) R) (read : R → Ordering) (xs : List ℕ) (e : Ordering)
+    → e ≢ Equal
+    → (a b : Asking F) (i : ℕ)
+    → Searches g (λ r. ordering_then (read r) e) xs None a (Err i) b
+    → IsBoundBy g read e xs a i
 bound-met g read xs e ne a b i s answer rises = s.place (λ ix. ordering_then (answer ix) e) (steady-counted g read xs e ne answer a rises)
 
 -- what the answers make the bound after some asks was so before
-pub bound-before : {F R : Type 0} (g : Mut F (ℕ × Unit {0}) R) (read : R → Ordering) (xs : List ℕ) (e : Ordering) {k : ℕ} {a b : Asking F} {i : ℕ} → AsksWithin g (Askable xs None) k a b → IsBoundBy g read e xs b i → IsBoundBy g read e xs a i
+pub bound-before :
+    {F R : Type 0} (g : Mut F (ℕ × Unit {0}) R) (read : R → Ordering) (xs : List ℕ) (e : Ordering) {k : ℕ}
+    {a b : Asking F} {i : ℕ}
+    → AsksWithin g (Askable xs None) k a b
+    → IsBoundBy g read e xs b i
+    → IsBoundBy g read e xs a i
 bound-before g read xs e asks bound answer rises = bound answer (record { steady = Steady-later g (Askable xs None) asks.after rises.steady; rising = rises.rising })
 
-pub ends-before : {F R : Type 0} (g : Mut F (ℕ × Unit {0}) R) (xs : List ℕ) (upper : Bound (R → Ordering)) {k : ℕ} {a b : Asking F} (i : ℕ) → AsksWithin g (Askable xs None) k a b → Ends g xs upper b i → Ends g xs upper a i
+pub ends-before :
+    {F R : Type 0} (g : Mut F (ℕ × Unit {0}) R) (xs : List ℕ) (upper : Bound (R → Ordering)) {k : ℕ} {a b : Asking F}
+    (i : ℕ)
+    → AsksWithin g (Askable xs None) k a b
+    → Ends g xs upper b i
+    → Ends g xs upper a i
 ends-before g xs (Included read) i asks ends = bound-before g read xs Greater asks ends
 ends-before g xs (Excluded read) i asks ends = bound-before g read xs Less asks ends
 ends-before g xs Unbounded i asks ends = ends
@@ -66,20 +103,41 @@ pub part-rest : (i : ℕ) (xs : List ℕ) → part i (length xs) xs ≡ drop i x
 part-rest i xs = take_all (length xs - i) (drop i xs) (omega (arith, length-drop i xs))
 
 -- and whether any is, by how the gaps stand
-pub ended-told : (r : Ordering) (i j : ℕ) (xs : List ℕ) → Compares r i j → i ≤ j → j ≤ length xs → IsTrue (is_eq r) ↔ (part i j xs ≡ [])
+pub ended-told :
+    (r : Ordering) (i j : ℕ) (xs : List ℕ)
+    → Compares r i j
+    → i ≤ j
+    → j ≤ length xs
+    → IsTrue (is_eq r) ↔ (part i j xs ≡ [])
 ended-told Less i j xs lt le within = (λ t. absurd (cc), λ e. absurd (let same = (part-empty i j xs le within).1 e in omega arith))
 ended-told Equal i j xs e le within = (λ t. (part-empty i j xs le within).0 e, λ z. refl)
 ended-told Greater i j xs gt le within = absurd (omega arith)
 
 -- after a step from the one end or the other
-pub part-ahead : (i j k : ℕ) (xs : List ℕ) (r : Option ℕ) → (b : Bool) → IsTrue b ↔ (part i k xs ≡ []) → b ≡ false → i ≤ k → k ≤ length xs → Steps true xs i r j → (j ≤ k) × YieldsFirst (λ (ys : List ℕ). ys) (part i k xs) r (part j k xs)
+pub part-ahead :
+    (i j k : ℕ) (xs : List ℕ) (r : Option ℕ)
+    → (b : Bool)
+    → IsTrue b ↔ (part i k xs ≡ [])
+    → b ≡ false
+    → i ≤ k
+    → k ≤ length xs
+    → Steps true xs i r j
+    → (j ≤ k) × YieldsFirst (λ (ys : List ℕ). ys) (part i k xs) r (part j k xs)
 part-ahead i j k xs r b told some le within s =
     let ne : k - i ≢ 0 = λ e. (let t = told.1 ((part-empty i k xs le within).0 (omega arith)) in absurd (cc)) in
     let l = left-ahead (k - i) i j k xs r ne (omega arith) within s in
     let at = l.0 in let same : k - i - 1 ≡ k - j = omega arith in
     (omega arith, rw same at l.1)
 
-pub part-back : (i j k : ℕ) (xs : List ℕ) (r : Option ℕ) → (b : Bool) → IsTrue b ↔ (part i k xs ≡ []) → b ≡ false → i ≤ k → k ≤ length xs → Steps false xs k r j → (i ≤ j) × YieldsLast (λ (ys : List ℕ). ys) (part i k xs) r (part i j xs)
+pub part-back :
+    (i j k : ℕ) (xs : List ℕ) (r : Option ℕ)
+    → (b : Bool)
+    → IsTrue b ↔ (part i k xs ≡ [])
+    → b ≡ false
+    → i ≤ k
+    → k ≤ length xs
+    → Steps false xs k r j
+    → (i ≤ j) × YieldsLast (λ (ys : List ℕ). ys) (part i k xs) r (part i j xs)
 part-back i j k xs r b told some le within s =
     let ne : k - i ≢ 0 = λ e. (let t = told.1 ((part-empty i k xs le within).0 (omega arith)) in absurd (cc)) in
     let l = left-back (k - i) i j k xs r ne (omega arith) within s in

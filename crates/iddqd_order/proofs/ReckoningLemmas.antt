@@ -4,7 +4,11 @@ use Rattle.iddqd_order.proofs.DigitLemmas.{digits-half}
 use Rattle.iddqd_order.proofs.NodeLemmas.{lists}
 
 -- lists of at least b - 1 indexes each, woven
-wide : (b : ℕ) (xs : List ℕ) (ks : List (List ℕ)) → length ks ≡ length xs + 1 → All (λ k. b ≤ length k + 1) ks → length ks * b ≤ length (weave xs ks) + 1
+wide :
+    (b : ℕ) (xs : List ℕ) (ks : List (List ℕ))
+    → length ks ≡ length xs + 1
+    → All (λ k. b ≤ length k + 1) ks
+    → length ks * b ≤ length (weave xs ks) + 1
 wide b [] [] e a = absurd (omega arith)
 wide b [] (k ∷ []) e a = let h = All-head (λ k. b ≤ length k + 1) k [] a in omega arith
 wide b [] (k ∷ (k2 ∷ ks)) e a = absurd (omega arith)

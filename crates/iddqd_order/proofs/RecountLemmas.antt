@@ -106,8 +106,11 @@ inners-each h (k ∷ ks) (l ∷ ls) count each =
     omega (arith, rest, each 0 k (omega arith), sum_by-cons (λ k. inners h k) k ks, sum_by-cons (λ k. inners h k) l ls)
 
 -- two nodes whose children have as many, one by one
-pub inners-alike : (h : ℕ) (n m : Node) → length (children m) ≡ length (children n)
-    → ((j : ℕ) (d : Node) → j < length (children n) → inners (h - 1) (get_or (children m) j d) ≡ inners (h - 1) (get_or (children n) j d))
+pub inners-alike :
+    (h : ℕ) (n m : Node)
+    → length (children m) ≡ length (children n)
+    → ((j : ℕ) (d : Node) → j < length (children n) → inners (h - 1) (get_or (children m) j d) ≡ inners (h - 1)
+        (get_or (children n) j d))
     → inners h m ≡ inners h n
 unfolding inners
 inners-alike zero n m count each = refl

@@ -14,7 +14,14 @@ pub record EndsInner (h l i : ℕ) (n : Node) (p : List ℕ) : Type 0 where
   pub here : i < length (children n)
   pub place : spot l h n p ≡ index_place i (row n) (lists (h - 1) (children n))
 
-pub ends-inner : (h l i : ℕ) (n : Node) (p : List ℕ) → h ≢ 0 → h ≡ l → i ≡ slice_index p h → IsFormed h n → Holds l h n p → EndsInner h l i n p
+pub ends-inner :
+    (h l i : ℕ) (n : Node) (p : List ℕ)
+    → h ≢ 0
+    → h ≡ l
+    → i ≡ slice_index p h
+    → IsFormed h n
+    → Holds l h n p
+    → EndsInner h l i n p
 ends-inner h l i n p ne e ei f w =
     let at : i < length (row n) = rw ei (holds-at l h n p ne e w) in
     let one = (formed-inner h n ne f).inner.one_more in
@@ -34,8 +41,18 @@ pub record TookBelow (h i : ℕ) (old : Node) (xs : List ℕ) (ks : List Node) (
   pub may_lack : MayLackOne (h - 1) i xs ks
   pub items : weave xs (lists (h - 1) ks) ≡ left
 
-took : (h i : ℕ) (old g k : Node) (xs left : List ℕ) → h ≢ 0 → IsFormed h old → 1 ≤ length (row old) → i < length (children old) → g ≡ child old i → length xs ≡ length (row old)
-    → IsFormed (h - 1) k → length (row g) ≤ length (row k) + 1 → weave xs (lists (h - 1) (set (children old) i k)) ≡ left → TookBelow h i old xs (set (children old) i k) left
+took :
+    (h i : ℕ) (old g k : Node) (xs left : List ℕ)
+    → h ≢ 0
+    → IsFormed h old
+    → 1 ≤ length (row old)
+    → i < length (children old)
+    → g ≡ child old i
+    → length xs ≡ length (row old)
+    → IsFormed (h - 1) k
+    → length (row g) ≤ length (row k) + 1
+    → weave xs (lists (h - 1) (set (children old) i k)) ≡ left
+    → TookBelow h i old xs (set (children old) i k) left
 took h i old g k xs left ne f some lt is_g same fk few items =
     let fs = formed-inner h old ne f in
     let w = fs.inner.within in let om = fs.inner.one_more in
@@ -58,7 +75,11 @@ took h i old g k xs left ne f some lt is_g same fk few items =
     }
 
 -- all of the node, where an index was taken from the i-th child, of which k is left
-woven-taken : (l h i : ℕ) (old k : Node) (p : List ℕ) → IsFormed h old → GoesBelow h l i old p → flat (h - 1) k ≡ remove (flat (h - 1) (child old i)) (spot l (h - 1) (child old i) p)
+woven-taken :
+    (l h i : ℕ) (old k : Node) (p : List ℕ)
+    → IsFormed h old
+    → GoesBelow h l i old p
+    → flat (h - 1) k ≡ remove (flat (h - 1) (child old i)) (spot l (h - 1) (child old i) p)
     → weave (row old) (lists (h - 1) (set (children old) i k)) ≡ remove (flat h old) (spot l h old p)
 woven-taken l h i old k p f b items =
     let ks : List (List ℕ) = lists (h - 1) (children old) in
@@ -72,8 +93,18 @@ woven-taken l h i old k p f b items =
     ∙ ap (λ z. remove (weave (row old) ks) z) (sym b.place) ∙ ap (λ z. remove z (spot l h old p)) (sym (flat-inner h old b.inner))
 
 -- the path goes on into the i-th child
-pub took-below : (l h i : ℕ) (old g k : Node) (p : List ℕ) → h ≢ 0 → h ≢ l → i ≡ slice_index p h → IsFormed h old → 1 ≤ length (row old) → Holds l h old p → g ≡ get_or (children old) i g
-    → flat (h - 1) k ≡ remove (flat (h - 1) g) (spot l (h - 1) g p) → IsFormed (h - 1) k → length (row g) ≤ length (row k) + 1
+pub took-below :
+    (l h i : ℕ) (old g k : Node) (p : List ℕ)
+    → h ≢ 0
+    → h ≢ l
+    → i ≡ slice_index p h
+    → IsFormed h old
+    → 1 ≤ length (row old)
+    → Holds l h old p
+    → g ≡ get_or (children old) i g
+    → flat (h - 1) k ≡ remove (flat (h - 1) g) (spot l (h - 1) g p)
+    → IsFormed (h - 1) k
+    → length (row g) ≤ length (row k) + 1
     → TookBelow h i old (row old) (set (children old) i k) (remove (flat h old) (spot l h old p))
 took-below l h i old g k p ne e ei f some w is_g items fk few =
     let b = goes-below h l i old p (omega (arith, holds-level l h old p w)) ei f w in
@@ -81,8 +112,18 @@ took-below l h i old g k p ne e ei f some w is_g items fk few =
     took h i old g k (row old) _ ne f some b.here same refl fk few (woven-taken l h i old k p f b (items ∙ ap (λ z. remove (flat (h - 1) z) (spot l (h - 1) z p)) same))
 
 -- the path ends at this node, and the last index below its i-th child is put in the place of the i-th index
-pub took-here : (l h i : ℕ) (old g k : Node) (p : List ℕ) (last : ℕ) → h ≢ 0 → h ≡ l → i ≡ slice_index p h → IsFormed h old → 1 ≤ length (row old) → Holds l h old p → g ≡ get_or (children old) i g
-    → flat (h - 1) g ≡ flat (h - 1) k ++ last ∷ [] → IsFormed (h - 1) k → length (row g) ≤ length (row k) + 1
+pub took-here :
+    (l h i : ℕ) (old g k : Node) (p : List ℕ) (last : ℕ)
+    → h ≢ 0
+    → h ≡ l
+    → i ≡ slice_index p h
+    → IsFormed h old
+    → 1 ≤ length (row old)
+    → Holds l h old p
+    → g ≡ get_or (children old) i g
+    → flat (h - 1) g ≡ flat (h - 1) k ++ last ∷ []
+    → IsFormed (h - 1) k
+    → length (row g) ≤ length (row k) + 1
     → TookBelow h i old (set (row old) i last) (set (children old) i k) (remove (flat h old) (spot l h old p))
 took-here l h i old g k p last ne e ei f some w is_g items fk few =
     let s = ends-inner h l i old p ne e ei f w in
@@ -99,8 +140,17 @@ pub record TookLast (h count : ℕ) (old : Node) (ks : List Node) (last : ℕ) :
   pub took : TookBelow h count old (row old) ks (weave (row old) (lists (h - 1) ks))
   pub items : flat h old ≡ weave (row old) (lists (h - 1) ks) ++ last ∷ []
 
-pub took-last : (h count : ℕ) (old g k : Node) (last : ℕ) → h ≢ 0 → count ≡ length (row old) → IsFormed h old → 1 ≤ length (row old) → g ≡ get_or (children old) count g
-    → flat (h - 1) g ≡ flat (h - 1) k ++ last ∷ [] → IsFormed (h - 1) k → length (row g) ≤ length (row k) + 1 → TookLast h count old (set (children old) count k) last
+pub took-last :
+    (h count : ℕ) (old g k : Node) (last : ℕ)
+    → h ≢ 0
+    → count ≡ length (row old)
+    → IsFormed h old
+    → 1 ≤ length (row old)
+    → g ≡ get_or (children old) count g
+    → flat (h - 1) g ≡ flat (h - 1) k ++ last ∷ []
+    → IsFormed (h - 1) k
+    → length (row g) ≤ length (row k) + 1
+    → TookLast h count old (set (children old) count k) last
 took-last h count old g k last ne ec f some is_g items fk few =
     let om = (formed-inner h old ne f).inner.one_more in
     let here : count < length (children old) = omega arith in
@@ -122,7 +172,14 @@ pub record IsRemade (h : ℕ) (old new : Node) (left : List ℕ) : Type 0 where
   pub formed : IsFormed h new
   pub fewer : length (row old) ≤ length (row new) + 1
 
-pub remade : (h i : ℕ) (old new : Node) (xs new_xs : List ℕ) (ks new_ks : List Node) (left : List ℕ) → TookBelow h i old xs ks left → IsMended (h - 1) xs ks new_xs new_ks → row new ≡ new_xs → children new ≡ new_ks → room old ≤ room new → IsRemade h old new left
+pub remade :
+    (h i : ℕ) (old new : Node) (xs new_xs : List ℕ) (ks new_ks : List Node) (left : List ℕ)
+    → TookBelow h i old xs ks left
+    → IsMended (h - 1) xs ks new_xs new_ks
+    → row new ≡ new_xs
+    → children new ≡ new_ks
+    → room old ≤ room new
+    → IsRemade h old new left
 remade h i old new xs new_xs ks new_ks left t m er ek rm =
     let hr = t.inner.has_room in let sm = t.same in let fw = m.fewer in let wi = m.within in
     let om = m.one_more in
@@ -137,11 +194,25 @@ pub record TookNow (h i : ℕ) (old now : Node) (left : List ℕ) : Type 0 where
   pub took : TookBelow h i old (row now) (children now) left
   pub room_is : room now ≡ room old
 
-pub took-now : (h i : ℕ) (old now : Node) (xs : List ℕ) (ks : List Node) (left : List ℕ) → TookBelow h i old xs ks left → row now ≡ xs → children now ≡ ks → room now ≡ room old → TookNow h i old now left
+pub took-now :
+    (h i : ℕ) (old now : Node) (xs : List ℕ) (ks : List Node) (left : List ℕ)
+    → TookBelow h i old xs ks left
+    → row now ≡ xs
+    → children now ≡ ks
+    → room now ≡ room old
+    → TookNow h i old now left
 took-now h i old now xs ks left t er ek rm = record { took = rw (er, ek) t; room_is = rm }
 
 -- at a leaf
-pub remade-leaf : (l h i : ℕ) (old new : Node) (p : List ℕ) → h ≡ 0 → i ≡ slice_index p h → IsFormed h old → Holds l h old p → row new ≡ remove (row old) i → children new ≡ children old → IsRemade h old new (remove (flat h old) (spot l h old p))
+pub remade-leaf :
+    (l h i : ℕ) (old new : Node) (p : List ℕ)
+    → h ≡ 0
+    → i ≡ slice_index p h
+    → IsFormed h old
+    → Holds l h old p
+    → row new ≡ remove (row old) i
+    → children new ≡ children old
+    → IsRemade h old new (remove (flat h old) (spot l h old p))
 remade-leaf l h i old new p e ei f w eri ek =
     let lf = formed-leaf h old e f in
     let wi = lf.within in
@@ -168,7 +239,16 @@ removed-last xs some =
     let whole : take (i + 1) xs ≡ xs = take_all (i + 1) xs (omega arith) in
     sym whole ∙ take_more xs i 0 (omega arith) ∙ ap (λ z. z ++ get_or xs i 0 ∷ []) (sym (append-nil (take i xs)) ∙ ap (λ z. take i xs ++ z) (sym gone))
 
-pub last-of-leaf : (h count : ℕ) (old new : Node) (last : ℕ) → h ≡ 0 → count ≡ length (row old) → IsFormed h old → 1 ≤ length (row old) → row new ≡ remove (row old) (count - 1) → last ≡ slice_index (row old) (count - 1) → children new ≡ children old → IsLastTaken h old new last
+pub last-of-leaf :
+    (h count : ℕ) (old new : Node) (last : ℕ)
+    → h ≡ 0
+    → count ≡ length (row old)
+    → IsFormed h old
+    → 1 ≤ length (row old)
+    → row new ≡ remove (row old) (count - 1)
+    → last ≡ slice_index (row old) (count - 1)
+    → children new ≡ children old
+    → IsLastTaken h old new last
 last-of-leaf h count old new last e ec f some erc elc ek =
     let er : row new ≡ remove (row old) (length (row old) - 1) = erc ∙ ap (λ z. remove (row old) (z - 1)) ec in
     let el : last ≡ slice_index (row old) (length (row old) - 1) = elc ∙ ap (λ z. slice_index (row old) (z - 1)) ec in
@@ -187,14 +267,28 @@ pub record ChildAt (l h : ℕ) (n g : Node) (p : List ℕ) : Type 0 where
   pub formed : IsChild (h - 1) g
   pub holds : Holds l (h - 1) g p
 
-pub child-below : (l h i : ℕ) (n g : Node) (p : List ℕ) → h ≢ 0 → h ≢ l → i ≡ slice_index p h → IsFormed h n → Holds l h n p → g ≡ get_or (children n) i g → ChildAt l h n g p
+pub child-below :
+    (l h i : ℕ) (n g : Node) (p : List ℕ)
+    → h ≢ 0
+    → h ≢ l
+    → i ≡ slice_index p h
+    → IsFormed h n
+    → Holds l h n p
+    → g ≡ get_or (children n) i g
+    → ChildAt l h n g p
 child-below l h i n g p ne e ei f w is_g =
     let down = holds-below l h n p ne e w in
     let same : g ≡ child n (slice_index p h) = subst (λ z. g ≡ get_or (children n) z g) ei is_g ∙ get_or_default (children n) (slice_index p h) g n down.here in
     record { formed = rw same ((formed-inner h n ne f).below (slice_index p h) n down.here); holds = rw same down.on }
 
 -- the child before an index
-pub child-before : (h i : ℕ) (n g : Node) → h ≢ 0 → i ≤ length (row n) → IsFormed h n → g ≡ get_or (children n) i g → (i < length (children n)) × IsChild (h - 1) g
+pub child-before :
+    (h i : ℕ) (n g : Node)
+    → h ≢ 0
+    → i ≤ length (row n)
+    → IsFormed h n
+    → g ≡ get_or (children n) i g
+    → (i < length (children n)) × IsChild (h - 1) g
 child-before h i n g ne le f is_g =
     let here = child-within h n i ne f le in
     (here, rw (is_g ∙ get_or_default (children n) i g n here) ((formed-inner h n ne f).below i n here))
@@ -224,7 +318,12 @@ pub record IsLowered (h : ℕ) (r : Option Node) (n : Node) (left : List Node) (
   pub tree : IsTree (Some k) (h - 1)
   pub items : flat (h - 1) k ≡ in_order r h
 
-pub lowered : (h : ℕ) (r : Option Node) (n : Node) (left : List Node) (k : Node) → Some n ≡ r → IsEmptied r h → children n ≡ left ++ k ∷ [] → IsLowered h r n left k
+pub lowered :
+    (h : ℕ) (r : Option Node) (n : Node) (left : List Node) (k : Node)
+    → Some n ≡ r
+    → IsEmptied r h
+    → children n ≡ left ++ k ∷ []
+    → IsLowered h r n left k
 unfolding IsFormed flat inners
 lowered h None n left k s e is = absurd (cc)
 lowered zero (Some m) n left k s e is =

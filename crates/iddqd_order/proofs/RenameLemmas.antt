@@ -14,7 +14,10 @@ module _ (name : ℕ → ℕ) (xs : List ℕ) where
       (get_or xs h.0 0, Contains-get_or xs h.0 0 within, sym (get_or-map name xs h.0 0 at within) ∙ h.2)
 
   -- distinct indexes have distinct new names where no two of them share one
-  pub IsDistinct-map : ((i j : ℕ) → Contains xs i → Contains xs j → name i ≡ name j → i ≡ j) → IsDistinct nat_eq xs → IsDistinct nat_eq (map name xs)
+  pub IsDistinct-map :
+      ((i j : ℕ) → Contains xs i → Contains xs j → name i ≡ name j → i ≡ j)
+      → IsDistinct nat_eq xs
+      → IsDistinct nat_eq (map name xs)
   IsDistinct-map one distinct =
       IsDistinct-from_apart nat_eq (map name xs) (λ i j d lt in_new.
       let within : j < length xs = omega (arith, length-map xs name) in
@@ -24,7 +27,14 @@ module _ (name : ℕ → ℕ) (xs : List ℕ) where
       (ne_eqb _ _ (λ e. eqb-false _ _ apart (one _ _ (Contains-get_or xs i d lower) (Contains-get_or xs j d within) e))))
 
 -- names that rise with their indexes are never shared
-pub unshared-from_rising : (name : ℕ → ℕ) (xs : List ℕ) → ((i j : ℕ) → Contains xs i → Contains xs j → i < j → name i < name j) → (i j : ℕ) → Contains xs i → Contains xs j → name i ≡ name j → i ≡ j
+pub unshared-from_rising :
+    (name : ℕ → ℕ) (xs : List ℕ)
+    → ((i j : ℕ) → Contains xs i → Contains xs j → i < j → name i < name j)
+    → (i j : ℕ)
+    → Contains xs i
+    → Contains xs j
+    → name i ≡ name j
+    → i ≡ j
 unshared-from_rising name xs rises i j has_i has_j same =
     elim (cases_lt i j) [
       | inl low ↦ (let up = rises i j has_i has_j low in absurd (omega (arith, same, up)))
@@ -41,7 +51,12 @@ assigned-remapped Identity ix assigned can = assigned
 assigned-remapped (Permuted names) ix assigned can = can.1
 
 -- a list of distinct indexes stays so under a remap that gives each its own name
-pub IsIndexList-remapped : (remap : IndexRemap) (xs : List ℕ) → ((ix : ℕ) → Contains xs ix → CanRemap remap ix) → ((i j : ℕ) → Contains xs i → Contains xs j → remapped remap i ≡ remapped remap j → i ≡ j) → IsIndexList xs → IsIndexList (map (remapped remap) xs)
+pub IsIndexList-remapped :
+    (remap : IndexRemap) (xs : List ℕ)
+    → ((ix : ℕ) → Contains xs ix → CanRemap remap ix)
+    → ((i j : ℕ) → Contains xs i → Contains xs j → remapped remap i ≡ remapped remap j → i ≡ j)
+    → IsIndexList xs
+    → IsIndexList (map (remapped remap) xs)
 IsIndexList-remapped remap xs can one h = record {
   distinct = IsDistinct-map (remapped remap) xs one h.distinct;
   assigned = All-map (λ ix. ix ≢ sentinel) (remapped remap) xs (λ k d within. assigned-remapped remap _ (h.assigned k d within) (can _ (Contains-get_or xs k d within)));

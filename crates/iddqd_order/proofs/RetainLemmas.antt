@@ -40,16 +40,36 @@ module _ {F : Type 0} (g : Mut F (ℕ × Unit {0}) Bool) where
   }
 
   -- the next index
-  next_is : {f now : F} {xs ys : List ℕ} {p t : ℕ} (ix : ℕ) → Gathers f xs ys p t now → p < length ys → ix ≡ slice_index ys p → ix ≡ get_or xs p 0
+  next_is :
+      {f now : F} {xs ys : List ℕ} {p t : ℕ} (ix : ℕ)
+      → Gathers f xs ys p t now
+      → p < length ys
+      → ix ≡ slice_index ys p
+      → ix ≡ get_or xs p 0
   next_is {xs = xs} {ys = ys} {p = p} ix w lt e =
       let c = w.counted in e ∙ ap (λ z. get_or z 0 0) (sym (drop_more ys p 0 lt) ∙ w.rest ∙ drop_more xs p 0 (omega arith))
 
-  pub next_held : {f now : F} {xs ys : List ℕ} {p t : ℕ} (ix : ℕ) → Gathers f xs ys p t now → p < length ys → ix ≡ slice_index ys p → Contains xs ix
+  pub next_held :
+      {f now : F} {xs ys : List ℕ} {p t : ℕ} (ix : ℕ)
+      → Gathers f xs ys p t now
+      → p < length ys
+      → ix ≡ slice_index ys p
+      → Contains xs ix
   next_held {xs = xs} {p = p} ix w lt e = let c = w.counted in Contains-at xs p ix (omega arith) (next_is ix w lt e)
 
   -- it is asked about, and put in its new place where it is kept
-  pub gathers-next : {f now : F} {xs ys : List ℕ} {p t : ℕ} (ix : ℕ) (b : Bool) (q u : ℕ) (new : List ℕ) (next : F) → Gathers f xs ys p t now → p < length ys → ix ≡ slice_index ys p → Called g now (ix, tt) b next → q ≡ p + 1
-      → take u new ≡ take t ys ++ kept_of ((ix, b) ∷ []) → drop q new ≡ drop q ys → length new ≡ length ys → u ≤ t + 1 → Gathers f xs new q u next
+  pub gathers-next :
+      {f now : F} {xs ys : List ℕ} {p t : ℕ} (ix : ℕ) (b : Bool) (q u : ℕ) (new : List ℕ) (next : F)
+      → Gathers f xs ys p t now
+      → p < length ys
+      → ix ≡ slice_index ys p
+      → Called g now (ix, tt) b next
+      → q ≡ p + 1
+      → take u new ≡ take t ys ++ kept_of ((ix, b) ∷ [])
+      → drop q new ≡ drop q ys
+      → length new ≡ length ys
+      → u ≤ t + 1
+      → Gathers f xs new q u next
   gathers-next {f = f} {now = now} {xs = xs} {ys = ys} {p = p} {t = t} ix b q u new next w lt e said eq front behind long up =
       let c = w.counted in let few = w.few in let k = w.kept in
       let one : List (ℕ × Bool) = (ix, b) ∷ [] in
@@ -69,7 +89,11 @@ module _ {F : Type 0} (g : Mut F (ℕ × Unit {0}) Bool) where
       }
 
   -- all were asked about
-  pub gathers-all : {f now : F} {xs ys : List ℕ} {p t : ℕ} → Gathers f xs ys p t now → length xs ≤ p → RetainsTo g f xs (take t ys) now
+  pub gathers-all :
+      {f now : F} {xs ys : List ℕ} {p t : ℕ}
+      → Gathers f xs ys p t now
+      → length xs ≤ p
+      → RetainsTo g f xs (take t ys) now
   gathers-all {f = f} {now = now} {xs = xs} {ys = ys} {p = p} {t = t} w over = subst (λ z. RetainsTo g f z (take t ys) now) (take_all p xs over) w.kept
 
 -- what holds of all indexes holds of those that are kept
@@ -78,8 +102,15 @@ all_kept P asks all =
     let each : All (λ (a : ℕ × Bool). P a.0) asks = λ j d lt. subst P (get_or-map (λ (a : ℕ × Bool). a.0) asks j d d.0 lt) (all j d.0 (omega (arith, length-map asks (λ (a : ℕ × Bool). a.0)))) in
     All-map P (λ (a : ℕ × Bool). a.0) (filter (λ (a : ℕ × Bool). a.1) asks) (All-filter (λ (a : ℕ × Bool). a.1) (λ (a : ℕ × Bool). P a.0) asks each)
 
-pub IsTable-retained : {F : Type 0} {q o : ℕ} (g : Mut F (ℕ × Unit {0}) Bool) (f last : F) (r : Option Node) (h n : ℕ) (s : Option Node) (k m : ℕ) → IsTable r h n q → IsTree s k → m ≡ length (in_order s k)
-    → RetainsTo g f (in_order r h) (in_order s k) last → o ≡ inners_in s k → IsTable s k m o
+pub IsTable-retained :
+    {F : Type 0} {q o : ℕ} (g : Mut F (ℕ × Unit {0}) Bool) (f last : F) (r : Option Node) (h n : ℕ) (s : Option Node)
+    (k m : ℕ)
+    → IsTable r h n q
+    → IsTree s k
+    → m ≡ length (in_order s k)
+    → RetainsTo g f (in_order r h) (in_order s k) last
+    → o ≡ inners_in s k
+    → IsTable s k m o
 IsTable-retained g f last r h n s k m t tree counted kept inner =
     record {
       tree = tree;

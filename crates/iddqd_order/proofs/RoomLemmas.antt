@@ -13,8 +13,13 @@ use Rattle.iddqd_order.proofs.InsertLemmas.{all_full}
 use Rattle.iddqd_order.proofs.TableLemmas.{few_blocks}
 
 -- children that have five indexes or more beyond thirty for each inner node, and one that has `more` beyond these
-wide-more : (f : Node → List ℕ) (g : Node → ℕ) (xs : List ℕ) (ns : List Node) (i more : ℕ) (d : Node) → length ns ≡ length xs + 1 → All (λ n. 30 * g n + 5 ≤ length (f n)) ns → i < length ns
-    → 30 * g (get_or ns i d) + 5 + more ≤ length (f (get_or ns i d)) → 30 * sum_by g ns + 5 * length ns + length xs + more ≤ length (weave xs (map f ns))
+wide-more :
+    (f : Node → List ℕ) (g : Node → ℕ) (xs : List ℕ) (ns : List Node) (i more : ℕ) (d : Node)
+    → length ns ≡ length xs + 1
+    → All (λ n. 30 * g n + 5 ≤ length (f n)) ns
+    → i < length ns
+    → 30 * g (get_or ns i d) + 5 + more ≤ length (f (get_or ns i d))
+    → 30 * sum_by g ns + 5 * length ns + length xs + more ≤ length (weave xs (map f ns))
 wide-more f g xs [] i more d e a lt le = absurd (omega arith)
 wide-more f g [] (n ∷ []) zero more d e a lt le = omega (arith, sum_by-cons g n [])
 wide-more f g [] (n ∷ []) (suc i) more d e a lt le = absurd (omega arith)
@@ -28,7 +33,12 @@ wide-more f g (x ∷ xs) (n ∷ ns) (suc i) more d e a lt le =
     omega (arith, sum_by-cons g n ns, length-append (f n) (x ∷ weave xs (map f ns)))
 
 -- what the full nodes of a path add, where the child on it has so much
-widened : (h k : ℕ) (n : Node) (p : List ℕ) → IsFormed (suc h) n → Goes (suc h) n p → 1 ≤ k → 30 * (inners h (child n (slice_index p (suc h))) + k) ≤ length (flat h (child n (slice_index p (suc h)))) + 20
+widened :
+    (h k : ℕ) (n : Node) (p : List ℕ)
+    → IsFormed (suc h) n
+    → Goes (suc h) n p
+    → 1 ≤ k
+    → 30 * (inners h (child n (slice_index p (suc h))) + k) ≤ length (flat h (child n (slice_index p (suc h)))) + 20
     → 30 * (inners (suc h) n + k) + 6 * length (row n) ≤ length (flat (suc h) n) + 50
 unfolding inners flat IsFormed Passes
 widened h k n p f g some le =
@@ -37,7 +47,15 @@ widened h k n p f g some le =
     omega arith
 
 -- a node below the root, with the full nodes of a path that goes through it
-path-full : (h k : ℕ) (n : Node) (p : List ℕ) → IsFormed h n → 5 ≤ length (row n) → Goes h n p → 1 ≤ k → k ≤ h + 1 → IsFullBelow k h n p → 30 * (inners h n + k) ≤ length (flat h n) + 20
+path-full :
+    (h k : ℕ) (n : Node) (p : List ℕ)
+    → IsFormed h n
+    → 5 ≤ length (row n)
+    → Goes h n p
+    → 1 ≤ k
+    → k ≤ h + 1
+    → IsFullBelow k h n p
+    → 30 * (inners h n + k) ≤ length (flat h n) + 20
 unfolding inners flat IsFormed Passes IsFullBelow
 path-full zero k n p f five g some le full = let eleven = full.0 (omega arith) in omega arith
 path-full (suc h) k n p f five g some le full =
@@ -62,7 +80,14 @@ blocks-some : (h k : ℕ) → k ≤ h → blocks_for h k ≡ k - 1
 blocks-some h k le = let t : nat_lt h k ≡ false = le-ltb h k le in rw t
 
 -- a root, with all blocks that the insert takes
-root-full : (h k : ℕ) (n : Node) (p : List ℕ) → IsFormed h n → 1 ≤ length (row n) → Goes h n p → k ≤ h + 1 → IsFullBelow k h n p → 30 * (inners h n + blocks_for h k) ≤ length (flat h n) + 20
+root-full :
+    (h k : ℕ) (n : Node) (p : List ℕ)
+    → IsFormed h n
+    → 1 ≤ length (row n)
+    → Goes h n p
+    → k ≤ h + 1
+    → IsFullBelow k h n p
+    → 30 * (inners h n + blocks_for h k) ≤ length (flat h n) + 20
 unfolding IsFormed Passes IsFullBelow
 root-full h zero n p f one g le full = let few = inners-root h n f one in omega (arith, blocks-some h 0 (omega arith))
 root-full zero (suc k) n p f one g le full = let w = path-full zero (suc k) n p f (let eleven = full.0 (omega arith) in omega arith) g (omega arith) le full in omega (arith, blocks-all zero (suc k) (omega arith))
@@ -77,7 +102,13 @@ root-full (suc h) (suc k) n p f one g le full =
     ]
 
 -- below the capacity, an insert needs no block but those that lie beside the tree
-pub none-fresh : (r : Option Node) (h blocks k : ℕ) (p : List ℕ) → IsTree r h → GoesIn r h p → FullIn k r h p → k ≤ h + 1 → length (in_order r h) < 30 * blocks + 10
+pub none-fresh :
+    (r : Option Node) (h blocks k : ℕ) (p : List ℕ)
+    → IsTree r h
+    → GoesIn r h p
+    → FullIn k r h p
+    → k ≤ h + 1
+    → length (in_order r h) < 30 * blocks + 10
     → blocks_for h k - (blocks - inners_in r h) ≡ 0
 none-fresh None h blocks k p t g full le lt = rw (t, full) (omega arith)
 none-fresh (Some n) h blocks k p t g full le lt = let w = root-full h k n p t.0 t.1 g le full in omega arith
@@ -93,7 +124,13 @@ pub move-few : (t : Order) → t.height ≤ 11 → move_blocks t ≤ 12
 move-few t low = elim (cases_lt (capacity t) (length (order_of t))) [ inl lt ↦ omega (arith, move-most t lt) | inr le ↦ omega (arith, move-none t le) ]
 
 -- what an insert takes is there: below the capacity beside the tree, and else in the blocks of a move
-pub enough-blocks : (t : Order) (k blocks : ℕ) (p : List ℕ) → IsTree t.root t.height → GoesIn t.root t.height p → FullIn k t.root t.height p → k ≤ t.height + 1 → (capacity t ≤ length (order_of t) → t.height < blocks)
+pub enough-blocks :
+    (t : Order) (k blocks : ℕ) (p : List ℕ)
+    → IsTree t.root t.height
+    → GoesIn t.root t.height p
+    → FullIn k t.root t.height p
+    → k ≤ t.height + 1
+    → (capacity t ≤ length (order_of t) → t.height < blocks)
     → blocks_for t.height k ≤ spare_blocks t + blocks
 unfolding order_of capacity
 enough-blocks t k blocks p tree goes full le most =

@@ -17,13 +17,25 @@ module _ {a : ℕ → Ordering} {xs : List ℕ} {low high : ℕ} where
   pub IsPlace-from_split : low ≤ high → high ≤ low → high ≤ length xs → AreSplit a xs low high → IsPlace a xs low
   IsPlace-from_split le ge within s = record { within = omega arith; greater_before = s.greater; less_from = λ k at_least lt. s.less k (omega arith) lt }
 
-  pub split-less : {middle : ℕ} → IsRising a xs → middle < length xs → AreSplit a xs low high → a (get_or xs middle 0) ≡ Less → AreSplit a xs low middle
+  pub split-less :
+      {middle : ℕ}
+      → IsRising a xs
+      → middle < length xs
+      → AreSplit a xs low high
+      → a (get_or xs middle 0) ≡ Less
+      → AreSplit a xs low middle
   split-less {middle = middle} rising within s e = record {
     greater = s.greater;
     less = λ k h h'. elim (cases_lt middle k) [ inl lt ↦ rising.less_after middle k lt h' e | inr le ↦ (let same : middle ≡ k = omega arith in subst (λ i. a (get_or xs i 0) ≡ Less) same e) ];
   }
 
-  pub split-greater : {middle : ℕ} → IsRising a xs → middle < length xs → AreSplit a xs low high → a (get_or xs middle 0) ≡ Greater → AreSplit a xs (middle + 1) high
+  pub split-greater :
+      {middle : ℕ}
+      → IsRising a xs
+      → middle < length xs
+      → AreSplit a xs low high
+      → a (get_or xs middle 0) ≡ Greater
+      → AreSplit a xs (middle + 1) high
   split-greater {middle = middle} rising within s e = record { greater = below_more _ _ (λ k h. rising.greater_before k middle h within e) e; less = s.less }
 
 -- where the answers are Greater before a place and Less from it on, none is Equal
@@ -39,11 +51,21 @@ with_ties-itself : (answer : ℕ → Ordering) (ix : ℕ) → with_ties (Some ix
 with_ties-itself answer ix = grind (arith, nat_tests)
 
 -- what is sought by its index isn't missed where answers rise
-pub not_missed : (answer : ℕ → Ordering) (xs : List ℕ) (ix i : ℕ) → IsPlace (with_ties (Some ix) answer) xs i → Contains xs ix → ⊥
+pub not_missed :
+    (answer : ℕ → Ordering) (xs : List ℕ) (ix i : ℕ)
+    → IsPlace (with_ties (Some ix) answer) xs i
+    → Contains xs ix
+    → ⊥
 not_missed answer xs ix i p held =
     none_at_place (with_ties (Some ix) answer) xs i p held.0 ix held.1 (ap (with_ties (Some ix) answer) held.2 ∙ with_ties-itself answer ix)
 
 -- so a search for a stored index meets it where the answers rise
-pub met_where_stored : {F R : Type 0} {g : Mut F (ℕ × Unit {0}) R} {read : R → Ordering} {xs : List ℕ} {ix : ℕ} {old new : Asking F} (end : Result ℕ ℕ) (answer : ℕ → Ordering) → Searches g read xs (Some ix) old end new → IsSteadyRising g xs (Some ix) read answer old → Contains xs ix → is_ok end ≡ true
+pub met_where_stored :
+    {F R : Type 0} {g : Mut F (ℕ × Unit {0}) R} {read : R → Ordering} {xs : List ℕ} {ix : ℕ} {old new : Asking F}
+    (end : Result ℕ ℕ) (answer : ℕ → Ordering)
+    → Searches g read xs (Some ix) old end new
+    → IsSteadyRising g xs (Some ix) read answer old
+    → Contains xs ix
+    → is_ok end ≡ true
 met_where_stored (Ok i) answer searches rises held = refl
 met_where_stored {xs = xs} {ix = ix} (Err i) answer searches rises held = absurd (not_missed answer xs ix i (searches.place answer rises) held)

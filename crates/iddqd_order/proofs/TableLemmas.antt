@@ -41,12 +41,18 @@ module _ {F R : Type 0} (g : Mut F (ℕ × Unit {0}) R) (read : R → Ordering) 
   }
 
   -- without a root it asks nothing
-  pub EndsIn-none : (h blocks : ℕ) (p : List ℕ) (a : Asking F) → EndsIn g read sought (record { root = None; height = h; reserved = blocks }) a p (Err 0) a
+  pub EndsIn-none :
+      (h blocks : ℕ) (p : List ℕ) (a : Asking F)
+      → EndsIn g read sought (record { root = None; height = h; reserved = blocks }) a p (Err 0) a
   unfolding order_of
   EndsIn-none h blocks p a = record { searches = Searches-nil a; reaches = omega arith; full_below = refl; level = (omega arith, omega arith) }
 
   -- and else it is a walk down from the root
-  pub EndsIn-root : {limit : ℕ} (h blocks : ℕ) (n : Node) (p : List ℕ) (end : Result ℕ ℕ) (a b : Asking F) → limit ≤ 4 * (h + 1) + 2 → IsTree (Some n) h → Descends g read sought limit (h + 1) h n a p end b
+  pub EndsIn-root :
+      {limit : ℕ} (h blocks : ℕ) (n : Node) (p : List ℕ) (end : Result ℕ ℕ) (a b : Asking F)
+      → limit ≤ 4 * (h + 1) + 2
+      → IsTree (Some n) h
+      → Descends g read sought limit (h + 1) h n a p end b
       → EndsIn g read sought (record { root = Some n; height = h; reserved = blocks }) a p end b
   unfolding order_of
   EndsIn-root h blocks n p end a b le t d = record {
@@ -57,8 +63,16 @@ module _ {F R : Type 0} (g : Mut F (ℕ × Unit {0}) R) (read : R → Ordering) 
   }
 
 -- the indexes with one more
-pub IsTable-put : {q o : ℕ} (r : Option Node) (h n : ℕ) (p : List ℕ) (ix : ℕ) (s : Option Node) (k : ℕ) → IsTable r h n q → GoesIn r h p → (Contains (in_order r h) ix → ⊥) → ix < sentinel
-    → IsTree s k → in_order s k ≡ insert (in_order r h) (place_in r h p) ix → o ≡ inners_in s k → IsTable s k (n + 1) o
+pub IsTable-put :
+    {q o : ℕ} (r : Option Node) (h n : ℕ) (p : List ℕ) (ix : ℕ) (s : Option Node) (k : ℕ)
+    → IsTable r h n q
+    → GoesIn r h p
+    → (Contains (in_order r h) ix → ⊥)
+    → ix < sentinel
+    → IsTree s k
+    → in_order s k ≡ insert (in_order r h) (place_in r h p) ix
+    → o ≡ inners_in s k
+    → IsTable s k (n + 1) o
 IsTable-put r h n p ix s k t goes absent small tree items inner =
     let xs : List ℕ = in_order r h in
     let more = length-insert xs (place_in r h p) ix (spot_in-within true 0 r h p t.tree goes) in
@@ -78,8 +92,15 @@ pub record Shorter (r : Option Node) (h n : ℕ) (ix : ℕ) (s : Option Node) (k
   pub some : 1 ≤ n
   pub table : IsTable s k (n - 1) o
 
-pub shorter : {q o : ℕ} (r : Option Node) (h n : ℕ) (l : ℕ) (p : List ℕ) (ix : ℕ) (s : Option Node) (k : ℕ) → IsTable r h n q → HoldsIn l r h p → slice_index (in_order r h) (spot_in l r h p) ≡ ix
-    → IsTree s k → in_order s k ≡ remove (in_order r h) (spot_in l r h p) → o ≡ inners_in s k → Shorter r h n ix s k o
+pub shorter :
+    {q o : ℕ} (r : Option Node) (h n : ℕ) (l : ℕ) (p : List ℕ) (ix : ℕ) (s : Option Node) (k : ℕ)
+    → IsTable r h n q
+    → HoldsIn l r h p
+    → slice_index (in_order r h) (spot_in l r h p) ≡ ix
+    → IsTree s k
+    → in_order s k ≡ remove (in_order r h) (spot_in l r h p)
+    → o ≡ inners_in s k
+    → Shorter r h n ix s k o
 shorter r h n l p ix s k t held there tree items inner =
     let xs : List ℕ = in_order r h in
     let at : ℕ = spot_in l r h p in

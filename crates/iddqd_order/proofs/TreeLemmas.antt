@@ -26,8 +26,15 @@ first_root n x er ek =
     }
 
 -- a new root above the two parts of a root that was cut
-pub new_root : (h : ℕ) (old lower new : Node) (m : ℕ) (upper : Node) (p : List ℕ) (x : ℕ) → IsFormed h old → Goes h old p → Cut h old lower m upper p x
-    → row new ≡ m ∷ [] → children new ≡ lower ∷ upper ∷ [] → 12 ≤ room new → length (flat h old) < 4294967296
+pub new_root :
+    (h : ℕ) (old lower new : Node) (m : ℕ) (upper : Node) (p : List ℕ) (x : ℕ)
+    → IsFormed h old
+    → Goes h old p
+    → Cut h old lower m upper p x
+    → row new ≡ m ∷ []
+    → children new ≡ lower ∷ upper ∷ []
+    → 12 ≤ room new
+    → length (flat h old) < 4294967296
     → IsRoot (h + 1) new (insert (flat h old) (place h old p) x)
 new_root h old lower new m upper p x f g c er ek rm small =
     let ne : h + 1 ≢ 0 = λ z. absurd (omega arith) in
@@ -42,7 +49,11 @@ new_root h old lower new m upper p x f g c er ek rm small =
     record { low = twelve_levels (h + 1) new formed one len; formed = formed; root = one; items = items }
 
 -- it takes a block for each level, and one for the new root
-pub new_root-inners : (h : ℕ) (old lower new : Node) (m : ℕ) (upper : Node) (p : List ℕ) (x : ℕ) → Cut h old lower m upper p x → children new ≡ lower ∷ upper ∷ [] → inners (h + 1) new ≡ inners h old + h + 1
+pub new_root-inners :
+    (h : ℕ) (old lower new : Node) (m : ℕ) (upper : Node) (p : List ℕ) (x : ℕ)
+    → Cut h old lower m upper p x
+    → children new ≡ lower ∷ upper ∷ []
+    → inners (h + 1) new ≡ inners h old + h + 1
 new_root-inners h old lower new m upper p x c ek =
     let ne : h + 1 ≢ 0 = λ z. absurd (omega arith) in
     let same : h + 1 - 1 ≡ h = omega arith in
@@ -57,9 +68,17 @@ IsTree-low None h t = omega arith
 IsTree-low (Some n) h t = t.2
 
 -- a path leads to a place in the list
-pub spot_in-within : (gap : Bool) (l : ℕ) (r : Option Node) (h : ℕ) (p : List ℕ) → IsTree r h → ReachesIn gap l r h p → Fits gap (spot_in l r h p) (length (in_order r h))
+pub spot_in-within :
+    (gap : Bool) (l : ℕ) (r : Option Node) (h : ℕ) (p : List ℕ)
+    → IsTree r h
+    → ReachesIn gap l r h p
+    → Fits gap (spot_in l r h p) (length (in_order r h))
 spot_in-within gap l None h p t w = w
 spot_in-within gap l (Some n) h p t w = spot-within l h n p t.0 w
 
-pub place_in-within : (r : Option Node) (h : ℕ) (p : List ℕ) → IsTree r h → GoesIn r h p → place_in r h p ≤ length (in_order r h)
+pub place_in-within :
+    (r : Option Node) (h : ℕ) (p : List ℕ)
+    → IsTree r h
+    → GoesIn r h p
+    → place_in r h p ≤ length (in_order r h)
 place_in-within r h p t g = spot_in-within true 0 r h p t g

@@ -11,7 +11,12 @@ pub record IsFirst (h : ℕ) (n : Node) (p : List ℕ) : Type 0 where
   pub holds : Holds 0 h n p
   pub place : spot 0 h n p ≡ 0
 
-pub first-way : (h : ℕ) (n : Node) (p : List ℕ) → IsFormed h n → 1 ≤ length (row n) → ((m : ℕ) → m ≤ h → slice_index p m ≡ 0) → IsFirst h n p
+pub first-way :
+    (h : ℕ) (n : Node) (p : List ℕ)
+    → IsFormed h n
+    → 1 ≤ length (row n)
+    → ((m : ℕ) → m ≤ h → slice_index p m ≡ 0)
+    → IsFirst h n p
 first-way zero n p f some zeros =
     let z = zeros 0 (omega arith) in
     record { holds = holds-here 0 n p (omega arith); place = spot-leaf 0 0 n p refl ∙ z }
@@ -33,19 +38,40 @@ first-way (suc h) n p f some zeros =
     }
 
 -- a step in a leaf
-pub steps-leaf : (h l i : ℕ) (n : Node) (p q : List ℕ) → h ≡ 0 → i ≡ slice_index p h → Holds l h n p → i + 1 < length (row n) → slice_index q 0 ≡ i + 1 → StepsOn h n l p (Some 0) q
+pub steps-leaf :
+    (h l i : ℕ) (n : Node) (p q : List ℕ)
+    → h ≡ 0
+    → i ≡ slice_index p h
+    → Holds l h n p
+    → i + 1 < length (row n)
+    → slice_index q 0 ≡ i + 1
+    → StepsOn h n l p (Some 0) q
 steps-leaf (suc h) l i n p q e ei w lt next = absurd (omega arith)
 steps-leaf zero l i n p q e ei w lt next =
     (holds-here 0 n q (omega arith), spot-leaf 0 0 n q refl ∙ next ∙ ap (λ z. z + 1) ei ∙ ap (λ z. z + 1) (sym (spot-leaf l 0 n p refl)))
 
-pub ends-leaf : (h l i : ℕ) (n : Node) (p q : List ℕ) → h ≡ 0 → i ≡ slice_index p h → Holds l h n p → length (row n) ≤ i + 1 → StepsOn h n l p None q
+pub ends-leaf :
+    (h l i : ℕ) (n : Node) (p q : List ℕ)
+    → h ≡ 0
+    → i ≡ slice_index p h
+    → Holds l h n p
+    → length (row n) ≤ i + 1
+    → StepsOn h n l p None q
 ends-leaf (suc h) l i n p q e ei w le = absurd (omega arith)
 ends-leaf zero l i n p q e ei w le =
     let lt = holds-leaf l 0 n p refl w in
     rw (flat-leaf zero n refl, spot-leaf l 0 n p refl) (omega arith)
 
 -- from an index of an inner node to the first one below the next child
-pub steps-here : (h l i : ℕ) (n : Node) (p q : List ℕ) → h ≢ 0 → h ≡ l → i ≡ slice_index p h → IsFormed h n → Holds l h n p → slice_index q h ≡ i + 1 → ((m : ℕ) → m < h → slice_index q m ≡ 0)
+pub steps-here :
+    (h l i : ℕ) (n : Node) (p q : List ℕ)
+    → h ≢ 0
+    → h ≡ l
+    → i ≡ slice_index p h
+    → IsFormed h n
+    → Holds l h n p
+    → slice_index q h ≡ i + 1
+    → ((m : ℕ) → m < h → slice_index q m ≡ 0)
     → StepsOn h n l p (Some 0) q
 steps-here h l i n p q ne e ei f w next zeros =
     let s = ends-inner h l i n p ne e ei f w in
@@ -62,7 +88,11 @@ steps-here h l i n p q ne e ei f w next zeros =
     (below-holds 0 h n q ne (rw next lt) (rw next first.holds), omega arith)
 
 -- a step below the i-th child
-pub steps-below : (h l i m : ℕ) (n : Node) (p q : List ℕ) → GoesBelow h l i n p → slice_index q h ≡ i → StepsOn (h - 1) (child n i) l p (Some m) q
+pub steps-below :
+    (h l i m : ℕ) (n : Node) (p q : List ℕ)
+    → GoesBelow h l i n p
+    → slice_index q h ≡ i
+    → StepsOn (h - 1) (child n i) l p (Some m) q
     → StepsOn h n l p (Some m) q
 steps-below h l i m n p q b here s =
     let le = holds-level m (h - 1) (child n i) q s.0 in
@@ -73,7 +103,15 @@ steps-below h l i m n p q b here s =
     (below-holds m h n q b.inner (rw here b.here) (rw here s.0), omega arith)
 
 -- from the last one below the i-th child to the i-th index
-pub steps-out : (h l i : ℕ) (r : Option ℕ) (n : Node) (p q : List ℕ) → GoesBelow h l i n p → i ≡ slice_index p h → IsFormed h n → q ≡ p → i < length (row n) → is_some r ≡ false → StepsOn (h - 1) (child n i) l p r q
+pub steps-out :
+    (h l i : ℕ) (r : Option ℕ) (n : Node) (p q : List ℕ)
+    → GoesBelow h l i n p
+    → i ≡ slice_index p h
+    → IsFormed h n
+    → q ≡ p
+    → i < length (row n)
+    → is_some r ≡ false
+    → StepsOn (h - 1) (child n i) l p r q
     → StepsOn h n l p (Some h) q
 steps-out h l i (Some m) n p q b ei f same lt none s = absurd (cc)
 steps-out h l i None n p q b ei f same lt none s =
@@ -85,7 +123,13 @@ steps-out h l i None n p q b ei f same lt none s =
     (holds, omega arith)
 
 -- or to the end of the node
-pub ends-below : (h l i : ℕ) (r : Option ℕ) (n : Node) (p q : List ℕ) → GoesBelow h l i n p → IsFormed h n → length (row n) ≤ i → is_some r ≡ false → StepsOn (h - 1) (child n i) l p r q
+pub ends-below :
+    (h l i : ℕ) (r : Option ℕ) (n : Node) (p q : List ℕ)
+    → GoesBelow h l i n p
+    → IsFormed h n
+    → length (row n) ≤ i
+    → is_some r ≡ false
+    → StepsOn (h - 1) (child n i) l p r q
     → StepsOn h n l p None q
 ends-below h l i (Some m) n p q b f le none s = absurd (cc)
 ends-below h l i None n p q b f le none s =
@@ -96,7 +140,11 @@ ends-below h l i None n p q b f le none s =
     omega (arith, b.place, whole, length-append (before i xs ks) (get_or ks i [] ++ after i xs ks), length-append (get_or ks i []) (after i xs ks))
 
 -- the index to which a path goes below the i-th child
-pub read-below : (h l i ix : ℕ) (n : Node) (p : List ℕ) → GoesBelow h l i n p → IsFormed h n → ix ≡ slice_index (flat (h - 1) (child n i)) (spot l (h - 1) (child n i) p)
+pub read-below :
+    (h l i ix : ℕ) (n : Node) (p : List ℕ)
+    → GoesBelow h l i n p
+    → IsFormed h n
+    → ix ≡ slice_index (flat (h - 1) (child n i)) (spot l (h - 1) (child n i) p)
     → ix ≡ slice_index (flat h n) (spot l h n p)
 read-below h l i ix n p b f is = is ∙ sym (ap (slice_index (flat h n)) b.place ∙ child-read h n i (spot l (h - 1) (child n i) p) b.inner f b.here b.within)
 
@@ -112,7 +160,13 @@ pub record EndsHere (h l i : ℕ) (n : Node) (p : List ℕ) : Type 0 where
   pub low : i < 11
   pub spot_is : slice_index (flat h n) (spot l h n p) ≡ slice_index (row n) i
 
-pub ends-here : {h l i : ℕ} {n : Node} {p : List ℕ} → h ≤ l → i ≡ slice_index p h → IsFormed h n → Holds l h n p → EndsHere h l i n p
+pub ends-here :
+    {h l i : ℕ} {n : Node} {p : List ℕ}
+    → h ≤ l
+    → i ≡ slice_index p h
+    → IsFormed h n
+    → Holds l h n p
+    → EndsHere h l i n p
 ends-here {h = h} {l = l} {i = i} {n = n} {p = p} le ei f w =
     let e : h ≡ l = omega (arith, holds-level l h n p w) in
     let lt = holds-row h l i n p e ei w in
@@ -124,7 +178,12 @@ ends-here {h = h} {l = l} {i = i} {n = n} {p = p} le ei f w =
     }
 
 -- what a step below the i-th child answers, if anything
-pub steps-below_any : (h l i : ℕ) (r : Option ℕ) (n : Node) (p q : List ℕ) → GoesBelow h l i n p → slice_index q h ≡ i → is_some r ≡ true → StepsOn (h - 1) (child n i) l p r q
+pub steps-below_any :
+    (h l i : ℕ) (r : Option ℕ) (n : Node) (p q : List ℕ)
+    → GoesBelow h l i n p
+    → slice_index q h ≡ i
+    → is_some r ≡ true
+    → StepsOn (h - 1) (child n i) l p r q
     → StepsOn h n l p r q
 steps-below_any h l i None n p q b same some s = absurd (cc)
 steps-below_any h l i (Some m) n p q b same some s = steps-below h l i m n p q b same s
@@ -135,8 +194,16 @@ pub record SteppedBelow (h l i ix : ℕ) (r : Option ℕ) (n : Node) (p q : List
   pub index : ix ≡ slice_index (flat h n) (spot l h n p)
   pub next : StepsOn (h - 1) (child n i) l p r q
 
-pub stepped-below : {h l i ix : ℕ} {r : Option ℕ} {n k : Node} {p q : List ℕ} → l < h → i ≡ slice_index p h → IsFormed h n → Holds l h n p → k ≡ get_or (children n) i k
-    → ix ≡ slice_index (flat (h - 1) k) (spot l (h - 1) k p) → StepsOn (h - 1) k l p r q → SteppedBelow h l i ix r n p q
+pub stepped-below :
+    {h l i ix : ℕ} {r : Option ℕ} {n k : Node} {p q : List ℕ}
+    → l < h
+    → i ≡ slice_index p h
+    → IsFormed h n
+    → Holds l h n p
+    → k ≡ get_or (children n) i k
+    → ix ≡ slice_index (flat (h - 1) k) (spot l (h - 1) k p)
+    → StepsOn (h - 1) k l p r q
+    → SteppedBelow h l i ix r n p q
 stepped-below {h = h} {l = l} {i = i} {ix = ix} {r = r} {n = n} {k = k} {p = p} {q = q} lt ei f w is index next =
     let b = goes-below h l i n p lt ei f w in
     let same : k ≡ child n i = child_is n i k b.here is in
@@ -151,7 +218,13 @@ none-is None e = refl
 none-is (Some m) e = absurd (cc)
 
 -- what stands before a list is as long where the lists are as long
-before-as_long : (i : ℕ) (xs ys : List ℕ) (ks ls : List (List ℕ)) → i ≤ length xs → length ys ≡ length xs → length ks ≡ length xs + 1 → length ls ≡ length ys + 1 → ((j : ℕ) → j < i → length (get_or ks j []) ≡ length (get_or ls j []))
+before-as_long :
+    (i : ℕ) (xs ys : List ℕ) (ks ls : List (List ℕ))
+    → i ≤ length xs
+    → length ys ≡ length xs
+    → length ks ≡ length xs + 1
+    → length ls ≡ length ys + 1
+    → ((j : ℕ) → j < i → length (get_or ks j []) ≡ length (get_or ls j []))
     → length (before i xs ks) ≡ length (before i ys ls)
 before-as_long zero xs ys ks ls le e ek el each = refl
 before-as_long (suc i) xs ys ks ls le e ek el each =
@@ -161,7 +234,15 @@ before-as_long (suc i) xs ys ks ls le e ek el each =
 SamePlaces-itself : (h : ℕ) (n : Node) → SamePlaces h n n
 SamePlaces-itself h n = record { long = refl; at = λ l p w. (w, refl) }
 
-same-places-inner : (h : ℕ) (n m : Node) → h ≢ 0 → IsFormed h n → IsFormed h m → length (row m) ≡ length (row n) → length (flat h m) ≡ length (flat h n) → ((j : ℕ) → j < length (children n) → SamePlaces (h - 1) (child n j) (child m j)) → SamePlaces h n m
+same-places-inner :
+    (h : ℕ) (n m : Node)
+    → h ≢ 0
+    → IsFormed h n
+    → IsFormed h m
+    → length (row m) ≡ length (row n)
+    → length (flat h m) ≡ length (flat h n)
+    → ((j : ℕ) → j < length (children n) → SamePlaces (h - 1) (child n j) (child m j))
+    → SamePlaces h n m
 same-places-inner h n m ne fn fm rows long each = record { long = long; at = at }
   where
     at : (l : ℕ) (p : List ℕ) → Holds l h n p → Holds l h m p × (spot l h m p ≡ spot l h n p)
@@ -190,8 +271,19 @@ pub record IsPut (h l : ℕ) (n m : Node) (p : List ℕ) (x : ℕ) : Type 0 wher
   pub same_places : SamePlaces h n m
 
 -- k is put in the place of the i-th child, and goes to the same places
-put-inner : (h l i x : ℕ) (n k m : Node) (p : List ℕ) → h ≢ 0 → IsFormed h n → i < length (children n) → length (row m) ≡ length (row n) → children m ≡ set (children n) i k → room n ≤ room m
-    → (5 ≤ length (row k)) × IsFormed (h - 1) k → SamePlaces (h - 1) (child n i) k → weave (row m) (lists (h - 1) (set (children n) i k)) ≡ set (weave (row n) (lists (h - 1) (children n))) (spot l h n p) x → IsPut h l n m p x
+put-inner :
+    (h l i x : ℕ) (n k m : Node) (p : List ℕ)
+    → h ≢ 0
+    → IsFormed h n
+    → i < length (children n)
+    → length (row m) ≡ length (row n)
+    → children m ≡ set (children n) i k
+    → room n ≤ room m
+    → (5 ≤ length (row k)) × IsFormed (h - 1) k
+    → SamePlaces (h - 1) (child n i) k
+    → weave (row m) (lists (h - 1) (set (children n) i k)) ≡ set (weave (row n) (lists (h - 1) (children n)))
+      (spot l h n p) x
+    → IsPut h l n m p x
 put-inner h l i x n k m p ne f here rows ek more child_is same woven =
     let fs = formed-inner h n ne f in
     let one = fs.inner.one_more in let within = fs.inner.within in let has_room = fs.inner.has_room in
@@ -210,7 +302,16 @@ put-inner h l i x n k m p ne f here rows ek more child_is same woven =
       ]);
     }
 
-pub put-here : (h l i x : ℕ) (n m : Node) (p : List ℕ) → h ≡ l → i ≡ slice_index p h → IsFormed h n → Holds l h n p → row m ≡ set (row n) i x → children m ≡ children n → room n ≤ room m → IsPut h l n m p x
+pub put-here :
+    (h l i x : ℕ) (n m : Node) (p : List ℕ)
+    → h ≡ l
+    → i ≡ slice_index p h
+    → IsFormed h n
+    → Holds l h n p
+    → row m ≡ set (row n) i x
+    → children m ≡ children n
+    → room n ≤ room m
+    → IsPut h l n m p x
 put-here zero l i x n m p e ei f w er ek more =
     let leaf = formed-leaf 0 n refl f in let within = leaf.within in
     let rows : length (row m) ≡ length (row n) = ap length er ∙ length-set (row n) i x in
@@ -235,8 +336,18 @@ put-here (suc h) l i x n m p e ei f w er ek more =
     ((λ j. weave (er j) (lists (suc h - 1) (same j))) ∙ weave-set_own i (row n) ks x s.within (lists-one_more (suc h) n ne f) ∙ ap (λ z. set (weave (row n) ks) z x) (sym s.place))
 
 -- the same where it goes on below the i-th child g, which k is put in the place of
-pub put-below : (h l i x : ℕ) (n g k m : Node) (p : List ℕ) → l < h → i ≡ slice_index p h → IsFormed h n → Holds l h n p → g ≡ get_or (children n) i g → IsPut (h - 1) l g k p x
-    → row m ≡ row n → children m ≡ set (children n) i k → room n ≤ room m → IsPut h l n m p x
+pub put-below :
+    (h l i x : ℕ) (n g k m : Node) (p : List ℕ)
+    → l < h
+    → i ≡ slice_index p h
+    → IsFormed h n
+    → Holds l h n p
+    → g ≡ get_or (children n) i g
+    → IsPut (h - 1) l g k p x
+    → row m ≡ row n
+    → children m ≡ set (children n) i k
+    → room n ≤ room m
+    → IsPut h l n m p x
 put-below h l i x n g k m p low ei f w is_g put er ek more =
     let b = goes-below h l i n p low ei f w in
     let five = b.five in
@@ -251,7 +362,16 @@ put-below h l i x n g k m p low ei f w is_g put er ek more =
     ∙ ap (λ z. set (weave (row n) ks) z x) (sym b.place))
 
 -- the way to the first index
-pub IsWay-first : (h : ℕ) (n : Node) (w : Way) → IsFormed h n → 1 ≤ length (row n) → h ≤ 11 → length w.path ≡ 12 → ((l : ℕ) → slice_index w.path l ≡ 0) → w.level ≡ 0 → w.place ≡ 0 → IsWay h n w
+pub IsWay-first :
+    (h : ℕ) (n : Node) (w : Way)
+    → IsFormed h n
+    → 1 ≤ length (row n)
+    → h ≤ 11
+    → length w.path ≡ 12
+    → ((l : ℕ) → slice_index w.path l ≡ 0)
+    → w.level ≡ 0
+    → w.place ≡ 0
+    → IsWay h n w
 IsWay-first h n w f some low path zeros level place =
     let first = first-way h n w.path f some (λ m le. zeros m) in
     record {

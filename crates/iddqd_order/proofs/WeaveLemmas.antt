@@ -13,18 +13,28 @@ abbrev pub rest : List ℕ → List (List ℕ) → List ℕ
 rest [] ks = []
 rest (x ∷ xs) ks = x ∷ weave xs ks
 
-pub weave-more : (ys xs : List ℕ) (ls ks : List (List ℕ)) → length ls ≡ length ys + 1 → weave (ys ++ xs) (ls ++ ks) ≡ weave ys ls ++ rest xs ks
+pub weave-more :
+    (ys xs : List ℕ) (ls ks : List (List ℕ))
+    → length ls ≡ length ys + 1
+    → weave (ys ++ xs) (ls ++ ks) ≡ weave ys ls ++ rest xs ks
 weave-more ys xs [] ks e = absurd (omega arith)
 weave-more [] [] (l ∷ []) ks e = sym (append-nil l)
 weave-more [] (x ∷ xs) (l ∷ []) ks e = refl
 weave-more [] xs (l ∷ (l2 ∷ ls)) ks e = absurd (omega arith)
 weave-more (y ∷ ys) xs (l ∷ ls) ks e = ap (λ z. l ++ y ∷ z) (weave-more ys xs ls ks (omega arith)) ∙ sym (append_assoc l (y ∷ weave ys ls) (rest xs ks))
 
-pub weave-append : (lo : List ℕ) (m : ℕ) (hi : List ℕ) (ks ls : List (List ℕ)) → length ks ≡ length lo + 1 → weave (lo ++ m ∷ hi) (ks ++ ls) ≡ weave lo ks ++ m ∷ weave hi ls
+pub weave-append :
+    (lo : List ℕ) (m : ℕ) (hi : List ℕ) (ks ls : List (List ℕ))
+    → length ks ≡ length lo + 1
+    → weave (lo ++ m ∷ hi) (ks ++ ls) ≡ weave lo ks ++ m ∷ weave hi ls
 weave-append lo m hi ks ls e = weave-more lo (m ∷ hi) ks ls e
 
 -- a woven list, apart at its i-th list, which k is put in the place of
-pub weave-set : (i : ℕ) (xs : List ℕ) (ks : List (List ℕ)) (k : List ℕ) → i < length ks → length ks ≡ length xs + 1 → weave xs (set ks i k) ≡ before i xs ks ++ (k ++ after i xs ks)
+pub weave-set :
+    (i : ℕ) (xs : List ℕ) (ks : List (List ℕ)) (k : List ℕ)
+    → i < length ks
+    → length ks ≡ length xs + 1
+    → weave xs (set ks i k) ≡ before i xs ks ++ (k ++ after i xs ks)
 weave-set i xs [] k p e = absurd (omega arith)
 weave-set zero [] (l ∷ ks) k p e = sym (append-nil k)
 weave-set zero (x ∷ xs) (l ∷ ks) k p e = refl
@@ -40,8 +50,13 @@ abbrev pub index_place : ℕ → List ℕ → List (List ℕ) → ℕ
 index_place i xs ks = length (before i xs ks) + length (get_or ks i [])
 
 -- an edit at a place of the i-th list is one of all, where it goes by the members about that place
-pub weave-edit : (f : List ℕ → ℕ → List ℕ) (i : ℕ) (xs : List ℕ) (ks : List (List ℕ)) (d k : List ℕ) (q : ℕ) → i < length ks → length ks ≡ length xs + 1 → k ≡ f (get_or ks i d) q
-    → ((b ys : List ℕ) (n j : ℕ) → length b ≡ n → n ≤ j → f (b ++ ys) j ≡ b ++ f ys (j - n)) → ((a : List ℕ) → f (get_or ks i d ++ a) q ≡ f (get_or ks i d) q ++ a)
+pub weave-edit :
+    (f : List ℕ → ℕ → List ℕ) (i : ℕ) (xs : List ℕ) (ks : List (List ℕ)) (d k : List ℕ) (q : ℕ)
+    → i < length ks
+    → length ks ≡ length xs + 1
+    → k ≡ f (get_or ks i d) q
+    → ((b ys : List ℕ) (n j : ℕ) → length b ≡ n → n ≤ j → f (b ++ ys) j ≡ b ++ f ys (j - n))
+    → ((a : List ℕ) → f (get_or ks i d ++ a) q ≡ f (get_or ks i d) q ++ a)
     → weave xs (set ks i k) ≡ f (weave xs ks) (length (before i xs ks) + q)
 weave-edit f i xs ks d k q p e is behind within =
     let b : List ℕ = before i xs ks in
@@ -52,12 +67,20 @@ weave-edit f i xs ks d k q p e is behind within =
     ∙ sym (behind b (g ++ a) (length b) (length b + q) refl (omega arith)) ∙ ap (λ z. f z (length b + q)) (sym (apart i xs ks d p e))
 
 -- an index put into the i-th list
-pub edited : (i : ℕ) (xs : List ℕ) (ks : List (List ℕ)) (d k : List ℕ) (q x : ℕ) → i < length ks → length ks ≡ length xs + 1 → q ≤ length (get_or ks i d) → k ≡ insert (get_or ks i d) q x
+pub edited :
+    (i : ℕ) (xs : List ℕ) (ks : List (List ℕ)) (d k : List ℕ) (q x : ℕ)
+    → i < length ks
+    → length ks ≡ length xs + 1
+    → q ≤ length (get_or ks i d)
+    → k ≡ insert (get_or ks i d) q x
     → weave xs (set ks i k) ≡ insert (weave xs ks) (length (before i xs ks) + q) x
 edited i xs ks d k q x p e w is = weave-edit (λ z j. insert z j x) i xs ks d k q p e is (λ b ys n j. insert-append_right b ys n j x) (λ a. insert-append_left (get_or ks i d) a q x w)
 
 -- a child cut in two about an index
-halved : (i : ℕ) (xs : List ℕ) (ks : List (List ℕ)) (l : List ℕ) (m : ℕ) (u : List ℕ) → i < length ks → length ks ≡ length xs + 1
+halved :
+    (i : ℕ) (xs : List ℕ) (ks : List (List ℕ)) (l : List ℕ) (m : ℕ) (u : List ℕ)
+    → i < length ks
+    → length ks ≡ length xs + 1
     → weave (insert xs i m) (insert (set ks i l) (i + 1) u) ≡ weave xs (set ks i (l ++ m ∷ u))
 halved i xs [] l m u p e = absurd (omega arith)
 halved zero [] (k ∷ []) l m u p e = refl
@@ -67,12 +90,21 @@ halved (suc i) [] (k ∷ ks) l m u p e = absurd (omega arith)
 halved (suc i) (x ∷ xs) (k ∷ ks) l m u p e = let ih = rw add-one at (halved i xs ks l m u (omega arith) (omega arith)) in rw add-one (ap (λ z. k ++ x ∷ z) ih)
 
 -- the same, for what a child's insert left
-pub widened : (i : ℕ) (xs : List ℕ) (ks : List (List ℕ)) (d l u : List ℕ) (m q x : ℕ) → i < length ks → length ks ≡ length xs + 1 → q ≤ length (get_or ks i d) → l ++ m ∷ u ≡ insert (get_or ks i d) q x
+pub widened :
+    (i : ℕ) (xs : List ℕ) (ks : List (List ℕ)) (d l u : List ℕ) (m q x : ℕ)
+    → i < length ks
+    → length ks ≡ length xs + 1
+    → q ≤ length (get_or ks i d)
+    → l ++ m ∷ u ≡ insert (get_or ks i d) q x
     → weave (insert xs i m) (insert (set ks i l) (i + 1) u) ≡ insert (weave xs ks) (length (before i xs ks) + q) x
 widened i xs ks d l u m q x p e w is = halved i xs ks l m u p e ∙ edited i xs ks d (l ++ m ∷ u) q x p e w is
 
 -- a place in the i-th list is a place in all
-pub within : (i : ℕ) (xs : List ℕ) (ks : List (List ℕ)) (d : List ℕ) (q : ℕ) → i < length ks → length ks ≡ length xs + 1 → q ≤ length (get_or ks i d)
+pub within :
+    (i : ℕ) (xs : List ℕ) (ks : List (List ℕ)) (d : List ℕ) (q : ℕ)
+    → i < length ks
+    → length ks ≡ length xs + 1
+    → q ≤ length (get_or ks i d)
     → length (before i xs ks) + q ≤ length (weave xs ks)
 within i xs ks d q p e w =
     rw (apart i xs ks d p e) (omega (arith, length-append (before i xs ks) (get_or ks i d ++ after i xs ks), length-append (get_or ks i d) (after i xs ks)))

@@ -9,7 +9,12 @@ use Rattle.iddqd_tri.specs.Clashes.{IsBefore, IsOneOf, IsOneOfTwo, AreInOrder}
 use Rattle.iddqd_tri.specs.TriState.{IsRising, removed_all}
 
 -- two steps and a third put three in order
-module _ (one two three low high low2 mid mid2 high2 : Option ℕ) (a : IsBefore low high) (a_same : (ix : ℕ) → IsOneOfTwo low high ix ↔ IsOneOfTwo one two ix) (b : IsBefore low2 mid) (b_same : (ix : ℕ) → IsOneOfTwo low2 mid ix ↔ IsOneOfTwo low three ix) (c : IsBefore mid2 high2) (c_same : (ix : ℕ) → IsOneOfTwo mid2 high2 ix ↔ IsOneOfTwo high mid ix) where
+module _
+    (one two three low high low2 mid mid2 high2 : Option ℕ) (a : IsBefore low high)
+    (a_same : (ix : ℕ) → IsOneOfTwo low high ix ↔ IsOneOfTwo one two ix) (b : IsBefore low2 mid)
+    (b_same : (ix : ℕ) → IsOneOfTwo low2 mid ix ↔ IsOneOfTwo low three ix) (c : IsBefore mid2 high2)
+    (c_same : (ix : ℕ) → IsOneOfTwo mid2 high2 ix ↔ IsOneOfTwo high mid ix)
+    where
   low_first : IsBefore low2 high
   low_first y is =
       let (x, low_is, less) = a y is in
@@ -86,7 +91,9 @@ view None (Some y) c o = absurd (none_before y o.first_second)
 view a None (Some z) o = absurd (none_before z o.second_third)
 
 module _ (ix : ℕ) where
-  contains_option : (o : Option ℕ) (rest : List (Option ℕ)) → Contains (filter_map (λ ix. ix) (o ∷ rest)) ix ↔ ((o ≡ Some ix) ⊎ Contains (filter_map (λ ix. ix) rest) ix)
+  contains_option :
+      (o : Option ℕ) (rest : List (Option ℕ))
+      → Contains (filter_map (λ ix. ix) (o ∷ rest)) ix ↔ ((o ≡ Some ix) ⊎ Contains (filter_map (λ ix. ix) rest) ix)
   contains_option None rest = (λ here. inr here, λ there. elim there [ inl is ↦ absurd (cc) | inr here ↦ here ])
   contains_option (Some x) rest = (
     λ here. elim (contains_cases x ix _ here) [ inl same ↦ inl (ap Some same) | inr behind ↦ inr behind ],
@@ -172,7 +179,11 @@ module _ {T : Type 0} where
   AreLiveInTurn s [] = Unit {0}
   AreLiveInTurn s (ix ∷ rest) = ((item : T) × (get s ix ≡ Some item)) × AreLiveInTurn (removed s ix) rest
 
-  pub AreLiveInTurn-rising : (s : Store T) (indexes : List ℕ) → IsRising indexes → ((ix : ℕ) → Contains indexes ix → IsLive s ix) → AreLiveInTurn s indexes
+  pub AreLiveInTurn-rising :
+      (s : Store T) (indexes : List ℕ)
+      → IsRising indexes
+      → ((ix : ℕ) → Contains indexes ix → IsLive s ix)
+      → AreLiveInTurn s indexes
   AreLiveInTurn-rising s [] rising live = tt
   AreLiveInTurn-rising s (x ∷ rest) rising live = (
     item_at s x (live x (contains_head x rest)),
@@ -182,6 +193,10 @@ module _ {T : Type 0} where
         rw (get-removed_other s x ix other) (live ix (contains_tail x ix rest here))),
   )
 
-  pub IsValid-removed_all : (s : Store T) (indexes : List ℕ) → AreLiveInTurn s indexes → IsValid s → IsValid (removed_all s indexes)
+  pub IsValid-removed_all :
+      (s : Store T) (indexes : List ℕ)
+      → AreLiveInTurn s indexes
+      → IsValid s
+      → IsValid (removed_all s indexes)
   IsValid-removed_all s [] live valid = valid
   IsValid-removed_all s (x ∷ rest) live valid = IsValid-removed_all (removed s x) rest live.1 (IsValid-removed s x live.0.0 valid live.0.1)

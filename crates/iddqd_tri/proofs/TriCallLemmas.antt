@@ -25,15 +25,27 @@ use Rattle.iddqd_tri.proofs.ClashLemmas.{listed, Contains-listed, IsRising-liste
 use Rattle.iddqd_tri.proofs.TriLemmas.{AreLawful, IsTriState-unbound, IsTriState-unbound_all, IsTriState-bound, HasNoClash-removed}
 
 -- look-ups in a table that is exact
-module _ {T K S : Type 0} (key : ItemKey T K S) (s : TriState T S) (m : FinMap nat_cmp ℕ) (exact : IsExact key.key_of (hashing_in key s.hasher) s.store m) where
-  pub FindsOne-exact : (hash : ℕ) (test : K → Bool) (r : Option ℕ) → LooksUp key.key_of s.store m hash test r → FindsOne key s hash test r
+module _
+    {T K S : Type 0} (key : ItemKey T K S) (s : TriState T S) (m : FinMap nat_cmp ℕ)
+    (exact : IsExact key.key_of (hashing_in key s.hasher) s.store m)
+    where
+  pub FindsOne-exact :
+      (hash : ℕ) (test : K → Bool) (r : Option ℕ)
+      → LooksUp key.key_of s.store m hash test r
+      → FindsOne key s hash test r
   FindsOne-exact hash test r looks = record {
     hit = λ ix is. (subst (λ o. Finds s.store m hash (passes_by key.key_of test) o) is looks.found).hit;
     as_scan = λ one. looks.as_scan (hashing_in key s.hasher) one exact;
   }
 
   -- a look-up by the key of an item hits exactly the index that shares it
-  pub shares_found : (item : T) (hash : ℕ) (r : Option ℕ) → IsLawful (hashing_in key s.hasher) → hash ≡ key.hash_in s.hasher (key.key_of item) → LooksUp key.key_of s.store m hash (key.equal (key.key_of item)) r → (ix : ℕ) → (r ≡ Some ix) ↔ IsHit s.store (shares key item) ix
+  pub shares_found :
+      (item : T) (hash : ℕ) (r : Option ℕ)
+      → IsLawful (hashing_in key s.hasher)
+      → hash ≡ key.hash_in s.hasher (key.key_of item)
+      → LooksUp key.key_of s.store m hash (key.equal (key.key_of item)) r
+      → (ix : ℕ)
+      → (r ≡ Some ix) ↔ IsHit s.store (shares key item) ix
   shares_found item hash r lawful hashed looks ix =
       let hashing = hashing_in key s.hasher in
       scan_hits s.store (shares key item) r (looks.as_scan hashing (StandsForOne-key hashing (key.key_of item) hash lawful hashed) exact) ix
@@ -44,7 +56,12 @@ not_full_after s ix [] full = let none = full.0 in cc
 not_full_after s ix (next ∷ rest) full = not_full_after (removed s ix) next rest full
 
 module _ {T K1 K2 K3 S : Type 0} (keys : TriKeys T K1 K2 K3 S) where
-  pub ClashesAt-found : (s : Store T) (item : T) (ix : ℕ) (a b c : Option ℕ) → ((a ≡ Some ix) ↔ IsHit s (shares keys.first item) ix) → ((b ≡ Some ix) ↔ IsHit s (shares keys.second item) ix) → ((c ≡ Some ix) ↔ IsHit s (shares keys.third item) ix) → IsOneOf a b c ix ↔ ClashesAt keys s item ix
+  pub ClashesAt-found :
+      (s : Store T) (item : T) (ix : ℕ) (a b c : Option ℕ)
+      → ((a ≡ Some ix) ↔ IsHit s (shares keys.first item) ix)
+      → ((b ≡ Some ix) ↔ IsHit s (shares keys.second item) ix)
+      → ((c ≡ Some ix) ↔ IsHit s (shares keys.third item) ix)
+      → IsOneOf a b c ix ↔ ClashesAt keys s item ix
   ClashesAt-found s item ix a b c one two three = (
     λ there. elim there [
       | inl is ↦ inl (one.0 is)
@@ -63,7 +80,11 @@ module _ {T K1 K2 K3 S : Type 0} (keys : TriKeys T K1 K2 K3 S) where
   ]
 
   -- the options in order that are the clashes, as a list
-  pub AreClashes-listed : (s : Store T) (item : T) (a b c : Option ℕ) → AreInOrder a b c → ((ix : ℕ) → IsOneOf a b c ix ↔ ClashesAt keys s item ix) → AreClashes keys s item (listed a b c)
+  pub AreClashes-listed :
+      (s : Store T) (item : T) (a b c : Option ℕ)
+      → AreInOrder a b c
+      → ((ix : ℕ) → IsOneOf a b c ix ↔ ClashesAt keys s item ix)
+      → AreClashes keys s item (listed a b c)
   AreClashes-listed s item a b c ordered each = record {
     each = λ ix. (λ here. (each ix).0 ((Contains-listed ix a b c).0 here), λ clash. (Contains-listed ix a b c).1 ((each ix).1 clash));
     rising = IsRising-listed a b c ordered;
@@ -71,11 +92,23 @@ module _ {T K1 K2 K3 S : Type 0} (keys : TriKeys T K1 K2 K3 S) where
   }
 
   -- where there are none, the item clashes with none
-  pub HasNoClash-none : (s : Store T) (item : T) (clashes : List ℕ) → clashes ≡ [] → AreClashes keys s item clashes → HasNoClash keys s item
+  pub HasNoClash-none :
+      (s : Store T) (item : T) (clashes : List ℕ)
+      → clashes ≡ []
+      → AreClashes keys s item clashes
+      → HasNoClash keys s item
   HasNoClash-none s item clashes none are = λ ix clash. contains_none ix (subst (λ cs. Contains cs ix) none ((are.each ix).1 clash))
 
   -- the removal of an index, if it is live
-  pub IsTriState-taken : (hasher : S) (old new : SizedStore T) (tables after : TriTables) (ix : ℕ) (r : Option T) → r ≡ get old.store ix → OnSome r (new.store ≡ removed old.store ix) → OnSome r (maps_of after ≡ maps_without (maps_of tables) ix) → IfNone r (new ≡ old) → IfNone r (after ≡ tables) → IsTriState keys (tri_state_of hasher old.store tables) → IsTriState keys (tri_state_of hasher new.store after)
+  pub IsTriState-taken :
+      (hasher : S) (old new : SizedStore T) (tables after : TriTables) (ix : ℕ) (r : Option T)
+      → r ≡ get old.store ix
+      → OnSome r (new.store ≡ removed old.store ix)
+      → OnSome r (maps_of after ≡ maps_without (maps_of tables) ix)
+      → IfNone r (new ≡ old)
+      → IfNone r (after ≡ tables)
+      → IsTriState keys (tri_state_of hasher old.store tables)
+      → IsTriState keys (tri_state_of hasher new.store after)
   IsTriState-taken hasher old new tables after ix None is removed taken same_items same_tables o = rw (same_items, same_tables) o
   IsTriState-taken hasher old new tables after ix (Some item) is removed taken same_items same_tables o =
       let was = IsTriState-unbound keys (tri_state_of hasher old.store tables) ix item (sym is) o in
@@ -87,11 +120,26 @@ module _ {T K1 K2 K3 S : Type 0} (keys : TriKeys T K1 K2 K3 S) where
       live : AreLiveInTurn s.store clashes
       live = AreLiveInTurn-rising s.store clashes are.rising (λ ix here. ClashesAt-live s.store item ix ((are.each ix).0 here))
 
-      pub IsTriState-overwritten : (IsFull (removed_all s.store clashes) → ⊥) → IsTriState keys (bound keys (unbound_all s clashes) item)
+      pub IsTriState-overwritten :
+          (IsFull (removed_all s.store clashes) → ⊥)
+          → IsTriState keys (bound keys (unbound_all s clashes) item)
       IsTriState-overwritten not_full =
           IsTriState-bound keys (unbound_all s clashes) item lawful not_full (HasNoClash-removed keys s.store item clashes live are) (IsTriState-unbound_all keys s clashes live o)
 
-      pub overwritten : (r : Result (ℕ × List (Option T)) (TriRefusal T)) (store : Store T) (maps : Maps) → OnOk r (IsFull (removed_all s.store clashes) → ⊥) → OnOk r (HasNoClash keys s.store item → IsFull s.store → ⊥) → IfOk r (λ p. p.0 ≡ next_index (removed_all s.store clashes)) → IfOk r (λ p. p.1 ≡ padded 3 (map (get s.store) clashes)) → OnOk r (store ≡ inserted (removed_all s.store clashes) item) → OnOk r (maps ≡ maps_with (maps_without_all s.maps clashes) (next_index (removed_all s.store clashes)) (hashes_in keys s.hasher item)) → IfErr r (λ e. RefusesItem keys s item e s) → OnErr r (store ≡ s.store) → OnErr r (maps ≡ s.maps) → IsTriState keys (record s { store = store; maps = maps }) × Overwriting keys s item r (record s { store = store; maps = maps })
+      pub overwritten :
+          (r : Result (ℕ × List (Option T)) (TriRefusal T)) (store : Store T) (maps : Maps)
+          → OnOk r (IsFull (removed_all s.store clashes) → ⊥)
+          → OnOk r (HasNoClash keys s.store item → IsFull s.store → ⊥)
+          → IfOk r (λ p. p.0 ≡ next_index (removed_all s.store clashes))
+          → IfOk r (λ p. p.1 ≡ padded 3 (map (get s.store) clashes))
+          → OnOk r (store ≡ inserted (removed_all s.store clashes) item)
+          → OnOk r (maps ≡ maps_with (maps_without_all s.maps clashes) (next_index (removed_all s.store clashes))
+              (hashes_in keys s.hasher item))
+          → IfErr r (λ e. RefusesItem keys s item e s)
+          → OnErr r (store ≡ s.store)
+          → OnErr r (maps ≡ s.maps)
+          → IsTriState keys (record s { store = store; maps = maps }) × Overwriting keys s item r
+              (record s { store = store; maps = maps })
       overwritten (Ok (ix, back)) store maps not_full place index values stored entered refused items_stay maps_stay = (
         rw (stored, entered) (IsTriState-overwritten not_full),
         record {
@@ -109,7 +157,21 @@ module _ {T K1 K2 K3 S : Type 0} (keys : TriKeys T K1 K2 K3 S) where
           (rw (items_stay, maps_stay) o, (refused.0, refused.1, rw (items_stay, maps_stay) refl))
 
     -- an insert where nothing clashes
-    pub inserted_apart : (clashes : List ℕ) → clashes ≡ [] → AreClashes keys s.store item clashes → (r : Result (ℕ × List (Option T)) (TriRefusal T)) (store : Store T) (maps : Maps) → (IsOk r → IsFull s.store → ⊥) → IfOk r (λ p. p.0 ≡ next_index s.store) → IfOk r (λ p. p.1 ≡ padded 3 []) → OnOk r (store ≡ inserted s.store item) → OnOk r (maps ≡ maps_with s.maps (next_index s.store) (hashes_in keys s.hasher item)) → IfErr r (HasNoPlace s.store item) → OnErr r (store ≡ s.store) → OnErr r (maps ≡ s.maps) → IsTriState keys (record s { store = store; maps = maps }) × Overwriting keys s item r (record s { store = store; maps = maps })
+    pub inserted_apart :
+        (clashes : List ℕ)
+        → clashes ≡ []
+        → AreClashes keys s.store item clashes
+        → (r : Result (ℕ × List (Option T)) (TriRefusal T)) (store : Store T) (maps : Maps)
+        → (IsOk r → IsFull s.store → ⊥)
+        → IfOk r (λ p. p.0 ≡ next_index s.store)
+        → IfOk r (λ p. p.1 ≡ padded 3 [])
+        → OnOk r (store ≡ inserted s.store item)
+        → OnOk r (maps ≡ maps_with s.maps (next_index s.store) (hashes_in keys s.hasher item))
+        → IfErr r (HasNoPlace s.store item)
+        → OnErr r (store ≡ s.store)
+        → OnErr r (maps ≡ s.maps)
+        → IsTriState keys (record s { store = store; maps = maps }) × Overwriting keys s item r
+            (record s { store = store; maps = maps })
     inserted_apart clashes is_empty are r store maps not_full index values stored entered refused items_stay maps_stay =
         overwritten [] none r store maps (ok_full r not_full) (ok_place r not_full) index values stored entered (refuses r refused) items_stay maps_stay
       where
@@ -119,21 +181,41 @@ module _ {T K1 K2 K3 S : Type 0} (keys : TriKeys T K1 K2 K3 S) where
         no_clash : HasNoClash keys s.store item
         no_clash ix clash = contains_none ix ((none.each ix).1 clash)
 
-        ok_full : (r : Result (ℕ × List (Option T)) (TriRefusal T)) → (IsOk r → IsFull s.store → ⊥) → OnOk r (IsFull s.store → ⊥)
+        ok_full :
+            (r : Result (ℕ × List (Option T)) (TriRefusal T))
+            → (IsOk r → IsFull s.store → ⊥)
+            → OnOk r (IsFull s.store → ⊥)
         ok_full (Ok p) not_full = not_full refl
         ok_full (Err e) not_full = tt
 
-        ok_place : (r : Result (ℕ × List (Option T)) (TriRefusal T)) → (IsOk r → IsFull s.store → ⊥) → OnOk r (HasNoClash keys s.store item → IsFull s.store → ⊥)
+        ok_place :
+            (r : Result (ℕ × List (Option T)) (TriRefusal T))
+            → (IsOk r → IsFull s.store → ⊥)
+            → OnOk r (HasNoClash keys s.store item → IsFull s.store → ⊥)
         ok_place (Ok p) not_full = λ _. not_full refl
         ok_place (Err e) not_full = tt
 
-        refuses : (r : Result (ℕ × List (Option T)) (TriRefusal T)) → IfErr r (HasNoPlace s.store item) → IfErr r (λ e. RefusesItem keys s item e s)
+        refuses :
+            (r : Result (ℕ × List (Option T)) (TriRefusal T))
+            → IfErr r (HasNoPlace s.store item)
+            → IfErr r (λ e. RefusesItem keys s item e s)
         refuses (Ok p) refused = tt
         refuses (Err (Full back)) refused = (refused.0, no_clash, refused.1, refl)
         refuses (Err (Memory back)) refused = (refused.0, (λ _. refused.1), refl)
 
     -- an insert over some clashes
-    pub inserted_over : (clashes : List ℕ) (x : ℕ) (rest : List ℕ) → clashes ≡ x ∷ rest → AreClashes keys s.store item clashes → (r : ℕ × List (Option T)) (store : Store T) (maps : Maps) → r.0 ≡ next_index (removed_all s.store clashes) → r.1 ≡ padded 3 (map (get s.store) clashes) → store ≡ inserted (removed_all s.store clashes) item → maps ≡ maps_with (maps_without_all s.maps clashes) (next_index (removed_all s.store clashes)) (hashes_in keys s.hasher item) → IsTriState keys (record s { store = store; maps = maps }) × Overwriting keys s item (Ok r) (record s { store = store; maps = maps })
+    pub inserted_over :
+        (clashes : List ℕ) (x : ℕ) (rest : List ℕ)
+        → clashes ≡ x ∷ rest
+        → AreClashes keys s.store item clashes
+        → (r : ℕ × List (Option T)) (store : Store T) (maps : Maps)
+        → r.0 ≡ next_index (removed_all s.store clashes)
+        → r.1 ≡ padded 3 (map (get s.store) clashes)
+        → store ≡ inserted (removed_all s.store clashes) item
+        → maps ≡ maps_with (maps_without_all s.maps clashes) (next_index (removed_all s.store clashes))
+          (hashes_in keys s.hasher item)
+        → IsTriState keys (record s { store = store; maps = maps }) × Overwriting keys s item (Ok r)
+          (record s { store = store; maps = maps })
     inserted_over clashes x rest some are r store maps index values stored entered =
         overwritten clashes are (Ok r) store maps not_full place index values stored entered tt tt tt
       where

@@ -19,14 +19,20 @@ use Rattle.iddqd_tri.specs.TriMemory.{TableMemory, TriMemory, SizedTri, least_ca
 use Rattle.iddqd_tri.specs.TriTables.{maps_of, tri_state_of, table_memory, tables_memory, memory_of, sized_tri_of, HaveLen, HaveRoom, SomeHasMore, TablesGrow, TablesShrink}
 use Rattle.iddqd_tri.specs.declared.tri_tables.TriTables.{TriTables}
 
-len_taken : (m : FinMap nat_cmp ℕ) (ix : ℕ) → IsSome (finite.get m ix) → finite.len (finite.remove m ix) + 1 ≡ finite.len m
+len_taken :
+    (m : FinMap nat_cmp ℕ) (ix : ℕ)
+    → IsSome (finite.get m ix)
+    → finite.len (finite.remove m ix) + 1 ≡ finite.len m
 len_taken m ix here =
     let fewer : finite.len (finite.remove m ix) ≡ finite.len m - 1 =
     finite.len-remove nat_cmp_total m ix ∙ ap (λ b. cond b (finite.len m - 1) (finite.len m)) here in
     let some : finite.len m ≡ 0 → ⊥ = λ none. absurd (let never = rw (finite.empty_of_len m none, finite.get-empty) at here in cc) in
     omega (arith, fewer, some)
 
-len_entered : (m : FinMap nat_cmp ℕ) (ix hash : ℕ) → finite.get m ix ≡ None → finite.len (finite.insert m ix hash) ≡ finite.len m + 1
+len_entered :
+    (m : FinMap nat_cmp ℕ) (ix hash : ℕ)
+    → finite.get m ix ≡ None
+    → finite.len (finite.insert m ix hash) ≡ finite.len m + 1
 len_entered m ix hash none =
     finite.len-insert nat_cmp_total m ix hash ∙ ap (λ b. cond b (finite.len m) (finite.len m + 1)) (ap is_some none)
 
@@ -47,22 +53,40 @@ same_memory a b slots tables =
     stage ∙ ap (λ t. record { slots = b.slots; tables = t }) tables
 
 -- a table without memory
-pub table_none : (t : Table ℕ) → filed t ≡ finite.empty → HasNoMemory t → table_memory t ≡ record { capacity = 0; cells = 0 }
+pub table_none :
+    (t : Table ℕ)
+    → filed t ≡ finite.empty
+    → HasNoMemory t
+    → table_memory t ≡ record { capacity = 0; cells = 0 }
 table_none t none has =
     same_numbers (table_memory t) (record { capacity = 0; cells = 0 }) (omega (arith, ap finite.len none, finite.len-empty nat_cmp ℕ, has.no_room)) has.no_cell
 
 -- one table
 module _ (old new : Table ℕ) where
-  pub table_taken : (ix : ℕ) → IsSome (finite.get (filed old) ix) → filed new ≡ finite.remove (filed old) ix → KeepsMemory old new → room new ≡ room old + 1 → table_memory new ≡ table_memory old
+  pub table_taken :
+      (ix : ℕ)
+      → IsSome (finite.get (filed old) ix)
+      → filed new ≡ finite.remove (filed old) ix
+      → KeepsMemory old new
+      → room new ≡ room old + 1
+      → table_memory new ≡ table_memory old
   table_taken ix here taken kept more =
       same_numbers (table_memory new) (table_memory old) (omega (arith, ap finite.len taken, len_taken (filed old) ix here, more)) kept.same_memory
 
-  pub table_entered : (ix hash : ℕ) → finite.get (filed old) ix ≡ None → filed new ≡ finite.insert (filed old) ix hash → UsesRoom old new → table_memory new ≡ table_memory old
+  pub table_entered :
+      (ix hash : ℕ)
+      → finite.get (filed old) ix ≡ None
+      → filed new ≡ finite.insert (filed old) ix hash
+      → UsesRoom old new
+      → table_memory new ≡ table_memory old
   table_entered ix hash none entered used =
       same_numbers (table_memory new) (table_memory old) (omega (arith, ap finite.len entered, len_entered (filed old) ix hash none, used.one_less)) used.same_memory
 
   module _ {A E : Type 0} (n : ℕ) (result : Result A E) (same : filed new ≡ filed old) where
-    pub TableGrows-reserved : Reserves n old result new → memory new ≤ max (memory old) (most_cells (finite.len (filed old) + n)) → TableGrows (finite.len (filed old) + n) (table_memory old) (table_memory new)
+    pub TableGrows-reserved :
+        Reserves n old result new
+        → memory new ≤ max (memory old) (most_cells (finite.len (filed old) + n))
+        → TableGrows (finite.len (filed old) + n) (table_memory old) (table_memory new)
     TableGrows-reserved made few = record {
       had_room = λ fits. ap table_memory (made.had_room (omega arith)).1;
       capacity_stays = omega (arith, ap finite.len same, made.room_stays);
@@ -70,7 +94,9 @@ module _ (old new : Table ℕ) where
       few = few;
     }
 
-    pub TableShrinks-shrunk : Shrinks n (finite.len (filed old)) old result new → TableShrinks (max n (finite.len (filed old))) (table_memory old) result (table_memory new)
+    pub TableShrinks-shrunk :
+        Shrinks n (finite.len (filed old)) old result new
+        → TableShrinks (max n (finite.len (filed old))) (table_memory old) result (table_memory new)
     TableShrinks-shrunk gave = record {
       never_more = gave.never_more;
       capacity_stays = omega (arith, ap finite.len same, gave.room_stays);
@@ -87,7 +113,11 @@ TableGrows-same wanted m = record {
 }
 
 -- a table that grew, and was filled or stays
-pub TableGrows-then : (wanted : ℕ) (old grown new : TableMemory) → TableGrows wanted old grown → new ≡ grown → TableGrows wanted old new
+pub TableGrows-then :
+    (wanted : ℕ) (old grown new : TableMemory)
+    → TableGrows wanted old grown
+    → new ≡ grown
+    → TableGrows wanted old new
 TableGrows-then wanted old grown new grows same = rw same grows
 
 -- a memory that stays
@@ -104,7 +134,14 @@ none_or_some zero = inl refl
 none_or_some (suc n) = inr (omega arith)
 
 -- what a store takes for one more
-pub SlotsGrow-one : {T : Type 0} (old new : SizedStore T) → IsValid old.store → (IsFull old.store → ⊥) → (1 ≤ set_room old → new ≡ old) → (set_room old ≡ 0 → new.capacity ≡ doubled old) → old.capacity ≤ new.capacity → SlotsGrow old.store.limit (live_count old.store + 1) old.capacity new.capacity
+pub SlotsGrow-one :
+    {T : Type 0} (old new : SizedStore T)
+    → IsValid old.store
+    → (IsFull old.store → ⊥)
+    → (1 ≤ set_room old → new ≡ old)
+    → (set_room old ≡ 0 → new.capacity ≡ doubled old)
+    → old.capacity ≤ new.capacity
+    → SlotsGrow old.store.limit (live_count old.store + 1) old.capacity new.capacity
 SlotsGrow-one old new valid not_full kept grown more = elim (none_or_some (set_room old)) [
   | inl none ↦
       let is = grown none in
@@ -128,13 +165,22 @@ HaveLen-held s maps held = record {
 }
 
 -- a memory that grows for no more than it can hold stays as it is
-pub Grows-none : (limit wanted : ℕ) (old new : TriMemory) → wanted ≤ old.slots → wanted ≤ least_capacity old.tables → Grows limit wanted old new → new ≡ old
+pub Grows-none :
+    (limit wanted : ℕ) (old new : TriMemory)
+    → wanted ≤ old.slots
+    → wanted ≤ least_capacity old.tables
+    → Grows limit wanted old new
+    → new ≡ old
 Grows-none limit wanted old new slots tables grows =
     same_memory new old (grows.slots.had_room slots) (same_three new.tables old.tables (grows.first.had_room (omega arith)) (grows.second.had_room (omega arith)) (grows.third.had_room (omega arith)))
 
 module _ {T : Type 0} (items : SizedStore T) (tables : TriTables) (held : HoldLive items.store (maps_of tables)) where
   -- what the parts take is what all of them take
-  pub Grows-parts : (limit n : ℕ) (left : SizedStore T) (after : TriTables) → SlotsGrow limit (live_count items.store + n) items.capacity left.capacity → TablesGrow n tables after → Grows limit (live_count items.store + n) (memory_of items tables) (memory_of left after)
+  pub Grows-parts :
+      (limit n : ℕ) (left : SizedStore T) (after : TriTables)
+      → SlotsGrow limit (live_count items.store + n) items.capacity left.capacity
+      → TablesGrow n tables after
+      → Grows limit (live_count items.store + n) (memory_of items tables) (memory_of left after)
   Grows-parts limit n left after slots grow =
       let len = HaveLen-held items.store (maps_of tables) held in
       record {
@@ -161,7 +207,11 @@ module _ {T : Type 0} (items : SizedStore T) (tables : TriTables) (held : HoldLi
       omega (arith, len.first, len.second, len.third, has.first, has.second, has.third)
 
 -- a slot or a place under the limit is room of the store
-pub set_room-held : {T : Type 0} (items : SizedStore T) → IsValid items.store → live_count items.store + 1 ≤ min items.capacity items.store.limit → 1 ≤ set_room items
+pub set_room-held :
+    {T : Type 0} (items : SizedStore T)
+    → IsValid items.store
+    → live_count items.store + 1 ≤ min items.capacity items.store.limit
+    → 1 ≤ set_room items
 set_room-held items valid fits = omega (arith, valid.counted, valid.small)
 
 same_sized : {T S : Type 0} (a b : SizedTri T S) → a.state ≡ b.state → a.memory ≡ b.memory → a ≡ b
@@ -169,7 +219,11 @@ same_sized a b state memory =
     let stage : a ≡ record { state = b.state; memory = a.memory } = ap (λ s. record { state = s; memory = a.memory }) state in
     stage ∙ ap (λ m. record { state = b.state; memory = m }) memory
 
-module _ {T S : Type 0} (hasher : S) (items left : SizedStore T) (tables after : TriTables) (held : HoldLive items.store (maps_of tables)) (same : left.store ≡ items.store) (same_maps : maps_of after ≡ maps_of tables) where
+module _
+    {T S : Type 0} (hasher : S) (items left : SizedStore T) (tables after : TriTables)
+    (held : HoldLive items.store (maps_of tables)) (same : left.store ≡ items.store)
+    (same_maps : maps_of after ≡ maps_of tables)
+    where
   same_state : tri_state_of hasher left.store after ≡ tri_state_of hasher items.store tables
   same_state = rw (same, same_maps) refl
 
@@ -189,20 +243,33 @@ module _ {T S : Type 0} (hasher : S) (items left : SizedStore T) (tables after :
         );
       }
 
-module _ {T : Type 0} (items left : SizedStore T) (tables after : TriTables) (held : HoldLive items.store (maps_of tables)) (valid : IsValid items.store) (least : ℕ) where
+module _
+    {T : Type 0} (items left : SizedStore T) (tables after : TriTables) (held : HoldLive items.store (maps_of tables))
+    (valid : IsValid items.store) (least : ℕ)
+    where
   abbrev slots_kept : ℕ
   slots_kept = max least (slot_count items.store)
 
   abbrev items_kept : ℕ
   items_kept = max least (live_count items.store)
 
-  counted : {A E : Type 0} (old new : TableMemory) (len : ℕ) (r : Result A E) → len ≡ live_count items.store → TableShrinks (max least len) old r new → TableShrinks items_kept old r new
+  counted :
+      {A E : Type 0} (old new : TableMemory) (len : ℕ) (r : Result A E)
+      → len ≡ live_count items.store
+      → TableShrinks (max least len) old r new
+      → TableShrinks items_kept old r new
   counted old new len r is shrinks = subst (λ l. TableShrinks (max least l) old r new) is shrinks
 
-  refused_else : {A E : Type 0} (old new : TableMemory) (r : Result A E) (error : E) → TableShrinks items_kept old r new → TableShrinks {A = A} items_kept old (Err error) new
+  refused_else :
+      {A E : Type 0} (old new : TableMemory) (r : Result A E) (error : E)
+      → TableShrinks items_kept old r new
+      → TableShrinks {A = A} items_kept old (Err error) new
   refused_else old new r error shrinks = record { never_more = shrinks.never_more; capacity_stays = shrinks.capacity_stays; shrunk = tt }
 
-  has_more : SomeHasMore least after → maps_of after ≡ maps_of tables → SomeTableHasMore items_kept (tables_memory after)
+  has_more :
+      SomeHasMore least after
+      → maps_of after ≡ maps_of tables
+      → SomeTableHasMore items_kept (tables_memory after)
   has_more some same =
       let len = HaveLen-held items.store (maps_of tables) held in
       let one = ap (λ (m : Maps). finite.len m.first) same in
@@ -216,7 +283,14 @@ module _ {T : Type 0} (items left : SizedStore T) (tables after : TriTables) (he
         ]
       ]
 
-  pub Shrinks-made : {A E : Type 0} (slots tabled : Result A E) → SetShrinks least items slots left → maps_of after ≡ maps_of tables → TablesShrink least tables tabled after → OnErr tabled (SomeHasMore least after) → (least ≡ 0 → HaveLen 0 (maps_of tables) → IsOk tabled) → TriShrinks slots_kept items_kept (memory_of items tables) (result_and slots tabled) (memory_of left after)
+  pub Shrinks-made :
+      {A E : Type 0} (slots tabled : Result A E)
+      → SetShrinks least items slots left
+      → maps_of after ≡ maps_of tables
+      → TablesShrink least tables tabled after
+      → OnErr tabled (SomeHasMore least after)
+      → (least ≡ 0 → HaveLen 0 (maps_of tables) → IsOk tabled)
+      → TriShrinks slots_kept items_kept (memory_of items tables) (result_and slots tabled) (memory_of left after)
   Shrinks-made (Ok done) tabled gave same shrank refused succeeds =
       let len = HaveLen-held items.store (maps_of tables) held in
       record {

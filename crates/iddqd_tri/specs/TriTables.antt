@@ -55,14 +55,21 @@ pub record HaveLen (n : ℕ) (maps : Maps) : Type 0 where
 -- each table took at most what it needs for so many more
 pub record TablesGrow (additional : ℕ) (old new : TriTables) : Type 0 where
   pub first : TableGrows (finite.len (filed old.first) + additional) (table_memory old.first) (table_memory new.first)
-  pub second : TableGrows (finite.len (filed old.second) + additional) (table_memory old.second) (table_memory new.second)
+  pub second :
+      TableGrows (finite.len (filed old.second) + additional) (table_memory old.second) (table_memory new.second)
   pub third : TableGrows (finite.len (filed old.third) + additional) (table_memory old.third) (table_memory new.third)
 
 -- each table gave back what it doesn't need for so many
-pub record TablesShrink {A E : Type 0} (least : ℕ) (old : TriTables) (result : Result A E) (new : TriTables) : Type 0 where
-  pub first : TableShrinks (max least (finite.len (filed old.first))) (table_memory old.first) result (table_memory new.first)
-  pub second : TableShrinks (max least (finite.len (filed old.second))) (table_memory old.second) result (table_memory new.second)
-  pub third : TableShrinks (max least (finite.len (filed old.third))) (table_memory old.third) result (table_memory new.third)
+pub record TablesShrink
+    {A E : Type 0} (least : ℕ) (old : TriTables) (result : Result A E) (new : TriTables)
+    : Type 0 where
+  pub first :
+      TableShrinks (max least (finite.len (filed old.first))) (table_memory old.first) result (table_memory new.first)
+  pub second :
+      TableShrinks (max least (finite.len (filed old.second)))
+      (table_memory old.second) result (table_memory new.second)
+  pub third :
+      TableShrinks (max least (finite.len (filed old.third))) (table_memory old.third) result (table_memory new.third)
 
 -- the table has more cells than so many need, or than its own indexes where these are more
 abbrev pub HasMore : ℕ → Table ℕ → Type 0

@@ -20,14 +20,20 @@ fewer (Some entry ∷ rest) = let less = fewer rest in omega arith
 fewer (None ∷ rest) = let less = fewer rest in omega arith
 
 -- where each slot has an entry, the names stand at its places
-aligned : (items : List (Option Entry)) → length (names_of items) ≡ length items → (n : ℕ) → slice_get (names_of items) n ≡ option_map name_of (get_or items n None)
+aligned :
+    (items : List (Option Entry))
+    → length (names_of items) ≡ length items
+    → (n : ℕ)
+    → slice_get (names_of items) n ≡ option_map name_of (get_or items n None)
 aligned [] dense zero = refl
 aligned [] dense (suc n) = refl
 aligned (None ∷ rest) dense n = absurd (let less = fewer rest in omega arith)
 aligned (Some entry ∷ rest) dense zero = refl
 aligned (Some entry ∷ rest) dense (suc n) = aligned rest (omega arith) n
 
-pub names_of-push : (items : List (Option Entry)) (entry : Entry) → names_of (items ++ Some entry ∷ []) ≡ names_of items ++ name_of entry ∷ []
+pub names_of-push :
+    (items : List (Option Entry)) (entry : Entry)
+    → names_of (items ++ Some entry ∷ []) ≡ names_of items ++ name_of entry ∷ []
 names_of-push [] entry = refl
 names_of-push (Some first ∷ rest) entry = ap (λ names. name_of first ∷ names) (names_of-push rest entry)
 names_of-push (None ∷ rest) entry = names_of-push rest entry

@@ -24,7 +24,10 @@ same a b e = grind (arith, nat_tests)
 itself : (a b : ℕ) → b ≡ a → nat_cmp a b ≡ Equal
 itself a b e = grind (arith, nat_tests)
 
-hit_at : (numbers : List ℕ) (sought : ℕ) (r : Option ℕ) → IfSome r (λ ix. nat_cmp sought (slice_index numbers ix) ≡ Equal) → IfSome r (λ ix. slice_index numbers ix ≡ sought)
+hit_at :
+    (numbers : List ℕ) (sought : ℕ) (r : Option ℕ)
+    → IfSome r (λ ix. nat_cmp sought (slice_index numbers ix) ≡ Equal)
+    → IfSome r (λ ix. slice_index numbers ix ≡ sought)
 hit_at numbers sought None h = tt
 hit_at numbers sought (Some ix) h = sym (same sought (slice_index numbers ix) h)
 

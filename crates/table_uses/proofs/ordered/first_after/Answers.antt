@@ -13,7 +13,11 @@ less_of Equal is = cc
 less_of Greater is = cc
 
 -- what stands first behind the place
-first_less : (a : ℕ → Ordering) (xs : List ℕ) (place x : ℕ) (rest : List ℕ) → IsPlace (λ ix. ordering_then (a ix) Greater) xs place → drop place xs ≡ x ∷ rest → a x ≡ Less
+first_less :
+    (a : ℕ → Ordering) (xs : List ℕ) (place x : ℕ) (rest : List ℕ)
+    → IsPlace (λ ix. ordering_then (a ix) Greater) xs place
+    → drop place xs ≡ x ∷ rest
+    → a x ≡ Less
 first_less a [] zero x rest p is = absurd (let never = is in cc)
 first_less a [] (suc i) x rest p is = absurd (let never = is in cc)
 first_less a (y ∷ ys) zero x rest p is =
@@ -28,7 +32,11 @@ first_less a (y ∷ ys) (suc i) x rest p is =
     }) is
 
 -- before the place none is
-none_less : (a : ℕ → Ordering) (xs : List ℕ) (place : ℕ) → IsPlace (λ ix. ordering_then (a ix) Greater) xs place → drop place xs ≡ [] → All (λ ix. a ix ≢ Less) xs
+none_less :
+    (a : ℕ → Ordering) (xs : List ℕ) (place : ℕ)
+    → IsPlace (λ ix. ordering_then (a ix) Greater) xs place
+    → drop place xs ≡ []
+    → All (λ ix. a ix ≢ Less) xs
 none_less a xs place p over k d lt less =
     let left : length xs - place ≡ 0 = sym (length-drop place xs) ∙ ap length over in
     let before : ordering_then (a (get_or xs k 0)) Greater ≡ Greater = p.greater_before k (omega (arith, left, lt)) in
@@ -36,7 +44,12 @@ none_less a xs place p over k d lt less =
     let never : Less ≡ Greater = subst (λ z. ordering_then z Greater ≡ Greater) here before in
     cc
 
-met_first : (a : ℕ → Ordering) (xs : List ℕ) (place : ℕ) (r : Option ℕ) (old new : List ℕ) → IsPlace (λ ix. ordering_then (a ix) Greater) xs place → old ≡ drop place xs → MatchOption r ((old ≡ []) × (new ≡ [])) (λ x. old ≡ x ∷ new) → MatchOption r (All (λ ix. a ix ≢ Less) xs) (λ ix. a ix ≡ Less)
+met_first :
+    (a : ℕ → Ordering) (xs : List ℕ) (place : ℕ) (r : Option ℕ) (old new : List ℕ)
+    → IsPlace (λ ix. ordering_then (a ix) Greater) xs place
+    → old ≡ drop place xs
+    → MatchOption r ((old ≡ []) × (new ≡ [])) (λ x. old ≡ x ∷ new)
+    → MatchOption r (All (λ ix. a ix ≢ Less) xs) (λ ix. a ix ≡ Less)
 met_first a xs place None old new p is gives = none_less a xs place p (sym is ∙ gives.0)
 met_first a xs place (Some x) old new p is gives = first_less a xs place x new p (sym is ∙ gives)
 

@@ -7,7 +7,10 @@ use Rattle.iddqd_maps.proofs.CallerLemmas.{found_passes}
 use Rattle.uses.specs.declared.stock.Part.{Part}
 use Rattle.uses.proofs.stock.part_of_kind.Goals as goal
 
-of_kind : (s : Store Part) (kind : ℕ) (found : Option Part) → FindsItem s (λ part. nat_eq kind part.kind) found → IfSome found (λ part. part.kind ≡ kind)
+of_kind :
+    (s : Store Part) (kind : ℕ) (found : Option Part)
+    → FindsItem s (λ part. nat_eq kind part.kind) found
+    → IfSome found (λ part. part.kind ≡ kind)
 of_kind s kind None finds = tt
 of_kind s kind (Some part) finds = sym (eqb-true _ _ (found_passes s (λ p. nat_eq kind p.kind) part finds))
 

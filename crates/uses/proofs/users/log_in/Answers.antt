@@ -14,7 +14,12 @@ use Rattle.uses.proofs.users.log_in.Goals as goal
 abbrev Counts : User → ℕ → User → Type 0
 Counts was count is = (count ≡ min (was.logins + 1) (2 ^ 32 - 1)) × (is ≡ record was { logins = count })
 
-logs_in : {F : Type 0} (g : Once F (MutBor User × Unit {0}) (ℕ × (MutBor User × Unit {0}))) (f : F) → ((user left : MutBor User) (count : ℕ) → g.post f (user, tt) (count, (left, tt)) → Counts user.now count left.now) → (old new : MapState User) (test : User → Bool) (result : Option ℕ) → Modifies g f old test result new → MatchOption result (HasNoHit old.store test) (λ count. LogsIn test count old new)
+logs_in :
+    {F : Type 0} (g : Once F (MutBor User × Unit {0}) (ℕ × (MutBor User × Unit {0}))) (f : F)
+    → ((user left : MutBor User) (count : ℕ) → g.post f (user, tt) (count, (left, tt)) → Counts user.now count left.now)
+    → (old new : MapState User) (test : User → Bool) (result : Option ℕ)
+    → Modifies g f old test result new
+    → MatchOption result (HasNoHit old.store test) (λ count. LogsIn test count old new)
 logs_in g f counts old new test None none = none.0
 logs_in g f counts old new test (Some count) hit =
     let user = hit.modified in

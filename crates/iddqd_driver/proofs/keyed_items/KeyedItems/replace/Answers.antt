@@ -52,7 +52,9 @@ live : (g : _) (c : After-rebind g) → IsLive (was g c).store c.args.ix
 live g c = search (rules, c.get.ensures, c.if-is_none.false)
 
 -- each look-up missed, or hit the index itself
-own1 : (g : _) (c : After-rebind g) → (c.hash_and_find-hash.result.1 ≡ None) ⊎ (c.hash_and_find-hash.result.1 ≡ Some c.args.ix)
+own1 :
+    (g : _) (c : After-rebind g)
+    → (c.hash_and_find-hash.result.1 ≡ None) ⊎ (c.hash_and_find-hash.result.1 ≡ Some c.args.ix)
 own1 g c =
     let none : c.other_than-first.result ≡ None = search (rules, c.if-is_some.false) in
     rw none at c.other_than-first.ensures
@@ -62,10 +64,14 @@ own2 g c =
     let none : c.other_than-second.result ≡ None = search (rules, c.if-is_some-2.false) in
     rw none at c.other_than-second.ensures
 
-first : (g : _) (c : After-rebind g) → LooksUp (first_side (keys g c)) (was g c) (g.T.KeyedItem.first_key c.args.item) c.hash_and_find-hash.result.1
+first :
+    (g : _) (c : After-rebind g)
+    → LooksUp (first_side (keys g c)) (was g c) (g.T.KeyedItem.first_key c.args.item) c.hash_and_find-hash.result.1
 first g c = rw (← c.self.view_is, c.key1.ensures) at c.hash_and_find-hash.ensures.found
 
-second : (g : _) (c : After-rebind g) → LooksUp (second_side (keys g c)) (was g c) (g.T.KeyedItem.second_key c.args.item) c.find2-at2.result
+second :
+    (g : _) (c : After-rebind g)
+    → LooksUp (second_side (keys g c)) (was g c) (g.T.KeyedItem.second_key c.args.item) c.find2-at2.result
 second g c = rw (← c.self.view_is, c.key2.ensures) at c.find2-at2.ensures.found
 
 keeps : (g : _) (c : After-rebind g) → Keeps (keys g c) (was g c) (is g c)

@@ -9,7 +9,9 @@ use Rattle.iddqd_driver.proofs.keyed_items.KeyedItems.validate.Goals.{After-from
 use Rattle.iddqd_driver.proofs.keyed_items.KeyedItems.validate.Goals as goal
 
 -- the hash table is refused for want of memory alone
-first_memory : (g : _) (c : After-from_residual-in_err-of_table g) → IfErr c.from_residual-in_err-of_table.result IsMemory
+first_memory :
+    (g : _) (c : After-from_residual-in_err-of_table g)
+    → IfErr c.from_residual-in_err-of_table.result IsMemory
 first_memory g c =
     let s = state_of c.self.inside.state c.self.inside.items.store c.self.inside.filed c.self.inside.order in
     let allowed = c.in_ok-validate.ensures.allows.0 refl in
@@ -28,7 +30,9 @@ returns-in_err-of_table-clause-in_order g c = λ ordered.
     Validates-refused (Allows c.args.compactness (length c.args.self.now.state.store.free)) c.from_residual-in_err-of_table.result c.from_residual-in_err-of_table.ensures.0 (first_memory g c)
 
 -- and so is the ordered table
-second_memory : (g : _) (c : After-from_residual-in_err-of_table-2 g) → IfErr c.from_residual-in_err-of_table-2.result IsMemory
+second_memory :
+    (g : _) (c : After-from_residual-in_err-of_table-2 g)
+    → IfErr c.from_residual-in_err-of_table-2.result IsMemory
 second_memory g c =
     let s = state_of c.self.inside.state c.self.inside.items.store c.self.inside.filed c.self.inside.order in
     let allowed = c.in_ok-validate.ensures.allows.0 refl in

@@ -5,13 +5,25 @@ use Rattle.std.proofs.lemmas.List.Edits.{insert-append_left, insert-append_right
 use Rattle.iddqd_order.proofs.btree_table.node.cut_children.Goals as goal
 
 -- one more goes to the lower part
-early : {X : Type 0} (ks lo hi : List X) (n i : ℕ) (a : X) → i + 1 ≤ n → n ≤ length ks → lo ≡ insert (take n ks) (i + 1) a → hi ≡ drop n ks → lo ++ hi ≡ insert ks (i + 1) a
+early :
+    {X : Type 0} (ks lo hi : List X) (n i : ℕ) (a : X)
+    → i + 1 ≤ n
+    → n ≤ length ks
+    → lo ≡ insert (take n ks) (i + 1) a
+    → hi ≡ drop n ks
+    → lo ++ hi ≡ insert ks (i + 1) a
 early ks lo hi n i a p q e f =
     let l : length (take n ks) ≡ n = length-take-le n ks q in
     rw (e, f) (sym (insert-append_left (take n ks) (drop n ks) (i + 1) a (omega arith)) ∙ ap (λ z. insert z (i + 1) a) (take-append-drop n ks))
 
 -- and to the upper one
-late : {X : Type 0} (ks lo hi : List X) (n i : ℕ) (a : X) → n ≤ i + 1 → n ≤ length ks → lo ≡ take n ks → hi ≡ insert (drop n ks) (i + 1 - n) a → lo ++ hi ≡ insert ks (i + 1) a
+late :
+    {X : Type 0} (ks lo hi : List X) (n i : ℕ) (a : X)
+    → n ≤ i + 1
+    → n ≤ length ks
+    → lo ≡ take n ks
+    → hi ≡ insert (drop n ks) (i + 1 - n) a
+    → lo ++ hi ≡ insert ks (i + 1) a
 late ks lo hi n i a p q e f =
     rw (e, f) (sym (insert-append_right (take n ks) (drop n ks) n (i + 1) a (length-take-le n ks q) p) ∙ ap (λ z. insert z (i + 1) a) (take-append-drop n ks))
 

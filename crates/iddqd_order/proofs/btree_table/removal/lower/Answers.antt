@@ -21,7 +21,9 @@ give-requires-clause-some c =
     let l = lowered c.args.height c.args.root.now c.in-Some.field-0 c.pop.new.self.items c.in-Some-pop.child c.in-Some.ensures.value c.requires.emptied c.in-Some-pop.ensures.items in
     omega (arith, l.inners)
 
-left : (c : goal.After-saturating_sub) → IsLowered c.args.height c.args.root.now c.in-Some.field-0 c.pop.new.self.items c.in-Some-pop.child
+left :
+    (c : goal.After-saturating_sub)
+    → IsLowered c.args.height c.args.root.now c.in-Some.field-0 c.pop.new.self.items c.in-Some-pop.child
 left c =
     lowered c.args.height c.args.root.now c.in-Some.field-0 c.pop.new.self.items c.in-Some-pop.child c.in-Some.ensures.value c.requires.emptied c.in-Some-pop.ensures.items
 

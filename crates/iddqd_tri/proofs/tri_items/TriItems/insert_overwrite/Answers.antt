@@ -94,7 +94,9 @@ pub returns-clause-state_after : goal.returns-clause-state_after
 returns-clause-state_after g c = (over g c).0
 
 -- over others the memory stays
-same : (g : _) (c : After-replace_clashes-ix g) → memory_of c.replace_clashes-ix.new.items c.replace_clashes-ix.new.tables ≡ c.args.self.now.memory
+same :
+    (g : _) (c : After-replace_clashes-ix g)
+    → memory_of c.replace_clashes-ix.new.items c.replace_clashes-ix.new.tables ≡ c.args.self.now.memory
 same g c = c.replace_clashes-ix.ensures.memory ∙ ap (λ (t : SizedTri _ _). t.memory) c.self.view_is
 
 pub returns-clause-over_others : goal.returns-clause-over_others

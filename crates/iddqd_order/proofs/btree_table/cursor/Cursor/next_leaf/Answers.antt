@@ -16,7 +16,9 @@ index-requires c =
     search (rules, lt)
 
 -- the node above the leaf has a next index
-stepped : (c : goal.After-get) → NextLow c.args.root.now c.args.height c.in-Some.low.now c.args.self.now.path c.args.self.now.at c.set.new.self
+stepped :
+    (c : goal.After-get)
+    → NextLow c.args.root.now c.args.height c.in-Some.low.now c.args.self.now.path c.args.self.now.at c.set.new.self
 stepped c =
     let low = rw c.in-Some.is at c.requires.stands.low in
     let len : c.len.result ≡ length (row c.in-Some.low.now) = c.len.ensures.length in

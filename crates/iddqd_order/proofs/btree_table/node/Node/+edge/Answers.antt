@@ -20,7 +20,13 @@ record Child (h i : ℕ) (n k : Node) : Type 0 where
   is : k ≡ child n i
   formed : IsFormed (h - 1) k
 
-child_at : (last : Bool) (h i : ℕ) (n k : Node) → h ≢ 0 → IsFormed h n → i ≡ edge_of last (length (row n)) → k ≡ get_or (children n) i k → Child h i n k
+child_at :
+    (last : Bool) (h i : ℕ) (n k : Node)
+    → h ≢ 0
+    → IsFormed h n
+    → i ≡ edge_of last (length (row n))
+    → k ≡ get_or (children n) i k
+    → Child h i n k
 child_at last h i n k ne f e is_k =
     let here = child-within h n i ne f (edge-within last (length (row n)) i e) in
     let is = child_is n i k here is_k in

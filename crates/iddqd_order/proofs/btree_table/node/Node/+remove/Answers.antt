@@ -49,7 +49,10 @@ remove-requires-else-height-level t c =
     (omega arith, (omega arith, (omega arith, (b.formed.1, (b.holds, omega (arith, k, c.requires.counted))))))
 
 -- what is mended, on both ways
-took : (t : ℕ) (c : goal.After-mend-arg-3-1 t) → TookNow c.args.height c.get-i.result c.args.self.now c.if-height-level.self (remove (flat c.args.height c.args.self.now) (spot c.args.level c.args.height c.args.self.now c.args.path.now))
+took :
+    (t : ℕ) (c : goal.After-mend-arg-3-1 t)
+    → TookNow c.args.height c.get-i.result c.args.self.now c.if-height-level.self
+        (remove (flat c.args.height c.args.self.now) (spot c.args.level c.args.height c.args.self.now c.args.path.now))
 took t c =
     elim c.if-height-level.branch [
       | then-height-level w ↦
@@ -63,7 +66,10 @@ took t c =
           took-now c.args.height c.get-i.result c.args.self.now c.if-height-level.self _ _ _ k (ap row w.self-is ∙ row-roll _) (ap children w.self-is ∙ children-roll _) (ap room w.self-is ∙ room-roll _))
     ]
 
-below : (t : ℕ) (c : goal.After-mend-arg-3-1 t) → Recounts c.args.reserve.now c.if-height-level.reserve (inners c.args.height c.args.self.now) (suc (inners_of (c.args.height - 1) (children c.if-height-level.self)))
+below :
+    (t : ℕ) (c : goal.After-mend-arg-3-1 t)
+    → Recounts c.args.reserve.now c.if-height-level.reserve (inners c.args.height c.args.self.now)
+      (suc (inners_of (c.args.height - 1) (children c.if-height-level.self)))
 below t c =
     elim c.if-height-level.branch [
       | then-height-level w ↦

@@ -9,7 +9,11 @@ cut_about xs i x n low high =
     record { is = refl; low_length = ((λ le. omega arith), (λ lt. omega arith)); high_length = omega (arith, length-drop i xs) }
 
 -- or goes to the lower part
-cut_low : (xs : List ℕ) (i x : ℕ) → length xs ≡ 11 → i < 5 → IsCut xs i x (insert (remove (take 5 xs) 4) i x) (get_or (take 5 xs) 4 0) (drop 5 xs)
+cut_low :
+    (xs : List ℕ) (i x : ℕ)
+    → length xs ≡ 11
+    → i < 5
+    → IsCut xs i x (insert (remove (take 5 xs) 4) i x) (get_or (take 5 xs) 4 0) (drop 5 xs)
 cut_low xs i x n p = record {
   is = same_lists _ _ (grind (arith, places)) (λ k d h. grind (arith, places));
   low_length = ((λ _. grind (arith, places)), (λ q. absurd (omega arith)));
@@ -17,7 +21,12 @@ cut_low xs i x n p = record {
 }
 
 -- or to the upper part
-cut_high : (xs : List ℕ) (i x : ℕ) → length xs ≡ 11 → 6 < i → i ≤ 11 → IsCut xs i x (take 6 xs) (get_or (drop 6 xs) 0 0) (insert (remove (drop 6 xs) 0) (i - 7) x)
+cut_high :
+    (xs : List ℕ) (i x : ℕ)
+    → length xs ≡ 11
+    → 6 < i
+    → i ≤ 11
+    → IsCut xs i x (take 6 xs) (get_or (drop 6 xs) 0 0) (insert (remove (drop 6 xs) 0) (i - 7) x)
 cut_high xs i x n p q = record {
   is = same_lists _ _ (grind (arith, places)) (λ k d h. grind (arith, places));
   low_length = ((λ q. absurd (omega arith)), (λ _. grind (arith, places)));

@@ -4,7 +4,11 @@ use Rattle.std.proofs.lemmas.Grind.{get_or-set_at}
 use Rattle.iddqd_order.proofs.btree_table.row.Row.insert.Goals as goal
 
 -- the indexes from a place on are moved up by one, and an index is written there
-moved_up : (items : List ℕ) (len at x : ℕ) → len < length items → at ≤ len → take (len + 1) (set (copy_within items at len (at + 1)) at x) ≡ insert (take len items) at x
+moved_up :
+    (items : List ℕ) (len at x : ℕ)
+    → len < length items
+    → at ≤ len
+    → take (len + 1) (set (copy_within items at len (at + 1)) at x) ≡ insert (take len items) at x
 moved_up items len at x p q = same_lists _ _ (grind (arith, places, length-set)) (λ k d h. grind (arith, places, length-set, get_or-set_at))
 
 pub returns : goal.returns

@@ -5,7 +5,11 @@ use Rattle.std.proofs.lemmas.List.{places}
 use Rattle.iddqd_order.proofs.btree_table.row.Row.remove.Goals as goal
 
 -- the indexes after a place are moved down by one
-moved_down : (items : List ℕ) (len at : ℕ) → len ≤ length items → at < len → take (len - 1) (copy_within items (at + 1) len at) ≡ remove (take len items) at
+moved_down :
+    (items : List ℕ) (len at : ℕ)
+    → len ≤ length items
+    → at < len
+    → take (len - 1) (copy_within items (at + 1) len at) ≡ remove (take len items) at
 moved_down items len at p q = same_lists _ _ (grind (arith, places)) (λ k d h. grind (arith, places))
 
 pub returns-clause-items : goal.returns-clause-items
