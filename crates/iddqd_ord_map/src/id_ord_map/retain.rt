@@ -3,9 +3,9 @@
 //! It is asked along the table, which stays as it is until all were asked; an item that it refuses
 //! leaves the store at once. Then one more walk takes the indexes without an item out of the table. So
 //! no key is compared, and each walk costs a step an item.
-ghost use Rattle.std.specs.Prelude.{◌≡◌, filter, is_some};
+ghost use Rattle.std.specs.Prelude.{◌≡◌, ◌≤◌, ◌+◌, filter, is_some};
 ghost use Rattle.std.specs.Fn.{TakesAt, CalledAt};
-ghost use Rattle.iddqd.specs.{get, IsValid};
+ghost use Rattle.iddqd.specs.{get, live_count, IsValid};
 ghost use Rattle.iddqd.specs.LiveItems.{live_items};
 ghost use Rattle.iddqd_hash.specs.Asks.{CanAsk};
 ghost use Rattle.iddqd_map.specs.Retain.{MayAsk};
@@ -24,20 +24,24 @@ use iddqd_order::btree_table::MapBTreeTable;
 use std::mem;
 
 impl<T: IdOrdItem> IdOrdMap<T> {
-    /// Keeps exactly the items at which the closure answers true, under their indexes.
+    /// Keeps exactly the items at which the closure answers true, under their indexes, and returns how many it removed.
     ///
     /// It is asked about each item once, in the order of the keys, and no more. The items that it
     /// refuses are removed, in this order. No memory is taken, no key is compared, and it costs a few
     /// steps an item.
-    pub fn retain<F: FnMut(&T) -> bool>(&mut self, mut f: F)
+    pub fn retain<F: FnMut(&T) -> bool>(&mut self, mut f: F) -> usize
         requires { MayAsk (TakesAt F.FnMut) (CalledAt F.FnMut) f (live_items self.old.store) }
-        ensures { RetainsAlong (IsKeyWalk T.key_of T.Key.cmp) (CalledAt F.FnMut) f self.old self.new }
+        ensures retained { RetainsAlong (IsKeyWalk T.key_of T.Key.cmp) (CalledAt F.FnMut) f self.old self.new }
+        ensures count { result + live_count self.new.store ≡ live_count self.old.store }
     {
+        let before = self.len();
         let (_, table) = self.parts();
         let none = Map::with_limit_and_hasher(table.allocator(), 0, ());
         let (mut items, mut index, state) = mem::replace(&mut self.map, none).into_parts();
         retain_in(&mut items, &mut index.table, &mut f);
+        let removed = before - items.len();
         self.map = Map::from_parts(items, index, state);
+        removed
     }
 }
 
@@ -54,6 +58,7 @@ fn retain_in<T: IdOrdItem, F: FnMut(&T) -> bool>(
     ensures sorted { Sorts T.key_of T.Key.cmp items.new.store (order_of table.new) }
     ensures retained { RetainsAlongTo (IsKeyWalk T.key_of T.Key.cmp) (CalledAt F.FnMut)
         f.old items.old.store items.new.store f.new }
+    ensures fewer { live_count items.new.store ≤ live_count items.old.store }
     ensures slots { items.new.capacity ≡ items.old.capacity }
     ensures memory { capacity table.new ≡ capacity table.old }
 {

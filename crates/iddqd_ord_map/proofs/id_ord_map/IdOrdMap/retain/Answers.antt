@@ -12,8 +12,8 @@ retain_in-requires-clause-can_ask g c =
     subst (λ s. CanAsk (TakesAt g.F.FnMut) (CalledAt g.F.FnMut) c.args.f (live_items s)) (sym same)
     (MayAsk-can (TakesAt g.F.FnMut) (CalledAt g.F.FnMut) c.args.f (live_items c.args.self.now.store) c.requires)
 
-pub returns : goal.returns
-returns g c =
+pub returns-clause-retained : goal.returns-clause-retained
+returns-clause-retained g c =
     let same = c.into_parts-items.ensures.map ∙ c.replace.ensures.value ∙ c.self.view_is in
     let did = c.retain_in.ensures in
     rw (c.from_parts.ensures, ← same) (record {

@@ -1,5 +1,9 @@
+use Rattle.std.proofs.Common.{length, filter, is_some, ap, arith}
+use Rattle.std.proofs.lemmas.List.Sums.{length-filter, count_by-le-length}
 use Rattle.std.specs.Fn.{CalledAt}
+use Rattle.iddqd.specs.Store.{get}
 use Rattle.iddqd_order.specs.MapBTreeTable.{order_of}
+use Rattle.iddqd_by_order.proofs.OrderedCountLemmas.{length-held}
 use Rattle.iddqd_ord_map.proofs.RetainLemmas.{Sorts-retained, RetainsAlongTo-keys}
 use Rattle.iddqd_ord_map.proofs.id_ord_map.retain.retain_in.Goals as goal
 
@@ -10,3 +14,20 @@ returns-clause-sorted g c =
 pub returns-clause-retained : goal.returns-clause-retained
 returns-clause-retained g c =
     RetainsAlongTo-keys g.T.IdOrdItem.key_of g.T.Key.Ord.cmp g.met.T.Key.Ord.total (CalledAt g.F.FnMut) c.args.f.now c.remove_refused.new.f c.args.items.now.store c.remove_refused.new.items.store (order_of c.args.table.now) (order_of c.forget_removed.new.table) c.requires.sorted c.remove_refused.ensures.retained
+
+pub returns-clause-fewer : goal.returns-clause-fewer
+returns-clause-fewer g c =
+    let order = order_of c.args.table.now in
+    let left = c.remove_refused.new.items.store in
+    let kept = λ ix. is_some (get left ix) in
+    let sorted = Sorts-retained g.T.IdOrdItem.key_of g.T.Key.Ord.cmp g.met.T.Key.Ord.total (CalledAt g.F.FnMut)
+        c.args.f.now c.remove_refused.new.f c.args.items.now.store left order (order_of c.forget_removed.new.table)
+        c.requires.sorted c.remove_refused.ensures.retained c.forget_removed.ensures.forgot in
+    omega (
+      arith,
+      length-held c.args.items.now.store order c.requires.sorted.held,
+      length-held left (order_of c.forget_removed.new.table) sorted.held,
+      ap length c.forget_removed.ensures.forgot,
+      length-filter kept order,
+      count_by-le-length kept order,
+    )
