@@ -12,7 +12,7 @@ use Rattle.iddqd_by_hash.proofs.ScanLemmas.{live_before}
 use Rattle.iddqd_map.specs.Map.{MapState, MapMemory}
 use Rattle.iddqd_map.specs.Memory.{MakesRoom}
 use Rattle.iddqd_map.specs.Calls.{InsertsAt, OverwritesAt}
-use Rattle.iddqd_map.specs.KeyIndex.{IsNextTold}
+use Rattle.iddqd_map.specs.KeyIndex.{IsNextReported}
 use Rattle.iddqd_map.specs.Several.{IsRising, padded, removed_all}
 use Rattle.iddqd_map.specs.Overwrite.{TakesAll}
 
@@ -177,43 +177,43 @@ abbrev IsAhead : Option ℕ → ℕ → Type 0
 IsAhead None ix = ⊥
 IsAhead (Some next) ix = next ≤ ix
 
--- of the indexes that were told, so many were removed; this is the next one
-pub record Taking {T : Type 0} (told : ℕ → Type 0) (places : ℕ) (old : Store T) (back : List (Option T)) (left : Store T)
+-- of the indexes that were reported, so many were removed; this is the next one
+pub record Taking {T : Type 0} (reported : ℕ → Type 0) (places : ℕ) (old : Store T) (back : List (Option T)) (left : Store T)
     (next : Option ℕ) (count : ℕ)
     : Type 0 where
   pub done : List ℕ
   pub counted : length done ≡ count
   pub rising : IsRising done
-  pub were_told : (ix : ℕ) → Contains done ix → told ix
-  pub ahead : (ix : ℕ) → told ix → Contains done ix ⊎ IsAhead next ix
-  pub next_told : (j : ℕ) → next ≡ Some j → told j × ((ix : ℕ) → Contains done ix → ix < j)
+  pub were_reported : (ix : ℕ) → Contains done ix → reported ix
+  pub ahead : (ix : ℕ) → reported ix → Contains done ix ⊎ IsAhead next ix
+  pub next_reported : (j : ℕ) → next ≡ Some j → reported j × ((ix : ℕ) → Contains done ix → ix < j)
   pub items : back ≡ padded places (map (get old) done)
   pub left_is : left ≡ removed_all old done
 
-module _ {T : Type 0} (told : ℕ → Type 0) (places : ℕ) (old : Store T) where
-  ahead_first : (next : Option ℕ) → IsNextTold told None next → (ix : ℕ) → told ix → IsAhead next ix
+module _ {T : Type 0} (reported : ℕ → Type 0) (places : ℕ) (old : Store T) where
+  ahead_first : (next : Option ℕ) → IsNextReported reported None next → (ix : ℕ) → reported ix → IsAhead next ix
   ahead_first None none ix here = none ix here tt
   ahead_first (Some j) first ix here = by_less (λ less. first.2 ix here tt less)
     where
       by_less : (ix < j → ⊥) → j ≤ ix
       by_less not = omega (arith, not)
 
-  told_first : (next : Option ℕ) → IsNextTold told None next → (j : ℕ) → next ≡ Some j → told j
-  told_first None none j is = absurd (cc)
-  told_first (Some k) first j is = let same : k ≡ j = cc in subst told same first.0
+  reported_first : (next : Option ℕ) → IsNextReported reported None next → (j : ℕ) → next ≡ Some j → reported j
+  reported_first None none j is = absurd (cc)
+  reported_first (Some k) first j is = let same : k ≡ j = cc in subst reported same first.0
 
   pub Taking-none :
       (back : List (Option T)) (next : Option ℕ)
-      → IsNextTold told None next
+      → IsNextReported reported None next
       → back ≡ padded places []
-      → Taking told places old back old next 0
+      → Taking reported places old back old next 0
   Taking-none back next first none = record {
     done = [];
     counted = refl;
     rising = tt;
-    were_told = λ ix here. absurd (contains_none ix here);
+    were_reported = λ ix here. absurd (contains_none ix here);
     ahead = λ ix here. inr (ahead_first next first ix here);
-    next_told = λ j is. (told_first next first j is, λ ix here. absurd (contains_none ix here));
+    next_reported = λ j is. (reported_first next first j is, λ ix here. absurd (contains_none ix here));
     items = none;
     left_is = refl;
   }
@@ -221,36 +221,36 @@ module _ {T : Type 0} (told : ℕ → Type 0) (places : ℕ) (old : Store T) whe
   -- the next one is none of those that were removed
   pub next_apart :
       (back : List (Option T)) (left : Store T) (j count : ℕ)
-      → Taking told places old back left (Some j) count
+      → Taking reported places old back left (Some j) count
       → get left j ≡ get old j
   next_apart back left j count t =
       ap (λ s. get s j) t.left_is
-      ∙ get-removed_all old t.done j (λ here. let less = (t.next_told j refl).1 j here in omega (arith, less))
+      ∙ get-removed_all old t.done j (λ here. let less = (t.next_reported j refl).1 j here in omega (arith, less))
 
   pub next_live :
       (back : List (Option T)) (left : Store T) (j count : ℕ)
-      → Taking told places old back left (Some j) count
-      → ((ix : ℕ) → told ix → IsLive old ix)
+      → Taking reported places old back left (Some j) count
+      → ((ix : ℕ) → reported ix → IsLive old ix)
       → IsLive left j
-  next_live back left j count t live = rw (next_apart back left j count t) (live j (t.next_told j refl).0)
+  next_live back left j count t live = rw (next_apart back left j count t) (live j (t.next_reported j refl).0)
 
   -- there is a place for it
   pub next_fits :
       (back : List (Option T)) (left : Store T) (j count : ℕ) (k : ℕ)
-      → Taking told places old back left (Some j) count
-      → (l : List ℕ) × (length l ≤ k) × ((ix : ℕ) → told ix → Contains l ix)
+      → Taking reported places old back left (Some j) count
+      → (l : List ℕ) × (length l ≤ k) × ((ix : ℕ) → reported ix → Contains l ix)
       → count < k
   next_fits back left j count k t (l, few, all) =
-      let fits = rising_fits (t.done ++ j ∷ []) l (IsRising-push t.done j t.rising (t.next_told j refl).1) (λ ix here.
+      let fits = rising_fits (t.done ++ j ∷ []) l (IsRising-push t.done j t.rising (t.next_reported j refl).1) (λ ix here.
       elim (contains_push t.done j ix here) [
-        | inl inside ↦ all ix (t.were_told ix inside)
-        | inr same ↦ all ix (subst told same (t.next_told j refl).0)
+        | inl inside ↦ all ix (t.were_reported ix inside)
+        | inr same ↦ all ix (subst reported same (t.next_reported j refl).0)
       ]) in
       omega (arith, fits, few, length_push t.done j, t.counted)
 
   pub place_vacant :
       (back : List (Option T)) (left : Store T) (next : Option ℕ) (count : ℕ)
-      → Taking told places old back left next count
+      → Taking reported places old back left next count
       → count < places
       → slice_get back count ≡ Some None
   place_vacant back left next count t within =
@@ -259,41 +259,52 @@ module _ {T : Type 0} (told : ℕ → Type 0) (places : ℕ) (old : Store T) whe
 
   pub places_left :
       (back : List (Option T)) (left : Store T) (next : Option ℕ) (count : ℕ)
-      → Taking told places old back left next count
+      → Taking reported places old back left next count
       → length back ≡ places
   places_left back left next count t = ap length t.items ∙ length-padded places (map (get old) t.done)
 
-  ahead_next : (j : ℕ) (next : Option ℕ) → IsNextTold told (Some j) next → (ix : ℕ) → told ix → j < ix → IsAhead next ix
+  ahead_next :
+      (j : ℕ) (next : Option ℕ)
+      → IsNextReported reported (Some j) next
+      → (ix : ℕ)
+      → reported ix
+      → j < ix
+      → IsAhead next ix
   ahead_next j None none ix here past = none ix here past
   ahead_next j (Some k) first ix here past = by_less (λ less. first.2 ix here past less)
     where
       by_less : (ix < k → ⊥) → k ≤ ix
       by_less not = omega (arith, not)
 
-  past_next : (j : ℕ) (next : Option ℕ) → IsNextTold told (Some j) next → (k : ℕ) → next ≡ Some k → told k × (j < k)
+  past_next :
+      (j : ℕ) (next : Option ℕ)
+      → IsNextReported reported (Some j) next
+      → (k : ℕ)
+      → next ≡ Some k
+      → reported k × (j < k)
   past_next j None none k is = absurd (cc)
-  past_next j (Some m) first k is = let same : m ≡ k = cc in subst (λ w. told w × (j < w)) same (first.0, first.1)
+  past_next j (Some m) first k is = let same : m ≡ k = cc in subst (λ w. reported w × (j < w)) same (first.0, first.1)
 
   pub Taking-next :
       (back back_now : List (Option T)) (left left_now : Store T) (j count : ℕ) (next : Option ℕ) (taken : Option T)
-      → Taking told places old back left (Some j) count
+      → Taking reported places old back left (Some j) count
       → count < places
-      → IsNextTold told (Some j) next
+      → IsNextReported reported (Some j) next
       → taken ≡ get left j
       → back_now ≡ slice_set back count taken
       → left_now ≡ removed left j
-      → Taking told places old back_now left_now next (count + 1)
+      → Taking reported places old back_now left_now next (count + 1)
   Taking-next back back_now left left_now j count next taken t within following value put gone =
-      let below = (t.next_told j refl).1 in
+      let below = (t.next_reported j refl).1 in
       let same = length-map t.done (get old) ∙ t.counted in
       let was : taken ≡ get old j = value ∙ next_apart back left j count t in
       record {
         done = t.done ++ j ∷ [];
         counted = let e = length_push t.done j in omega (arith, e, t.counted);
         rising = IsRising-push t.done j t.rising below;
-        were_told = λ ix here. elim (contains_push t.done j ix here) [
-          | inl inside ↦ t.were_told ix inside
-          | inr is ↦ subst told is (t.next_told j refl).0
+        were_reported = λ ix here. elim (contains_push t.done j ix here) [
+          | inl inside ↦ t.were_reported ix inside
+          | inr is ↦ subst reported is (t.next_reported j refl).0
         ];
         ahead = λ ix here. elim (t.ahead ix here) [
           | inl inside ↦ inl (push_keeps t.done j ix inside)
@@ -302,7 +313,7 @@ module _ {T : Type 0} (told : ℕ → Type 0) (places : ℕ) (old : Store T) whe
             | inr other ↦ inr (ahead_next j next following ix here (omega (arith, after, other)))
           ]
         ];
-        next_told = λ k is.
+        next_reported = λ k is.
             let (here, past) = past_next j next following k is in (
               here,
               λ ix inside. elim (contains_push t.done j ix inside) [
@@ -322,23 +333,23 @@ module _ {T : Type 0} (told : ℕ → Type 0) (places : ℕ) (old : Store T) whe
   -- where there is no next one, all were removed
   pub TakesAll-done :
       (back : List (Option T)) (left : Store T) (count : ℕ)
-      → Taking told places old back left None count
+      → Taking reported places old back left None count
       → count ≤ places
-      → TakesAll told places old back left
+      → TakesAll reported places old back left
   TakesAll-done back left count t within = record {
     indexes = t.done;
-    each = λ ix. (t.were_told ix, λ here. elim (t.ahead ix here) [ inl inside ↦ inside | inr never ↦ absurd never ]);
+    each = λ ix. (t.were_reported ix, λ here. elim (t.ahead ix here) [ inl inside ↦ inside | inr never ↦ absurd never ]);
     rising = t.rising;
     at_most = omega (arith, t.counted, within);
     items = t.items;
     left = t.left_is;
   }
 
-  -- and where one was told, one was removed
+  -- and where one was reported, one was removed
   pub some_done :
       (back : List (Option T)) (left : Store T) (count : ℕ)
-      → Taking told places old back left None count
-      → (ix : ℕ) × told ix
+      → Taking reported places old back left None count
+      → (ix : ℕ) × reported ix
       → 1 ≤ count
   some_done back left count t (ix, here) = elim (t.ahead ix here) [
     | inl inside ↦ by_done t.done t.counted inside
@@ -351,12 +362,12 @@ module _ {T : Type 0} (told : ℕ → Type 0) (places : ℕ) (old : Store T) whe
 
 -- the next one, where it is known
 pub taking_at :
-    {T : Type 0} {told : ℕ → Type 0} {places : ℕ} {old : Store T} {back : List (Option T)} {left : Store T}
+    {T : Type 0} {reported : ℕ → Type 0} {places : ℕ} {old : Store T} {back : List (Option T)} {left : Store T}
     {next is : Option ℕ} {count : ℕ}
     → next ≡ is
-    → Taking told places old back left next count
-    → Taking told places old back left is count
-taking_at {told = told} {places = places} {old = old} {back = back} {left = left} {count = count} same t = subst (λ n. Taking told places old back left n count) same t
+    → Taking reported places old back left next count
+    → Taking reported places old back left is count
+taking_at {reported = reported} {places = places} {old = old} {back = back} {left = left} {count = count} same t = subst (λ n. Taking reported places old back left n count) same t
 
 pub no_next : (next : Option ℕ) → ((j : ℕ) → next ≡ Some j → ⊥) → next ≡ None
 no_next None never = refl
@@ -399,8 +410,8 @@ module _ {T : Type 0} (alike : T → T → Bool) (most : ℕ → ℕ) where
 
   -- and where some do, which were removed
   module _
-      (told : ℕ → Type 0) (s : Store T) (item : T) (hits : (ix : ℕ) → told ix ↔ IsHit s (alike item) ix) (places : ℕ)
-      (back : List (Option T)) (left : Store T) (took : TakesAll told places s back left)
+      (reported : ℕ → Type 0) (s : Store T) (item : T) (hits : (ix : ℕ) → reported ix ↔ IsHit s (alike item) ix) (places : ℕ)
+      (back : List (Option T)) (left : Store T) (took : TakesAll reported places s back left)
     where
       removed_hit : (ix : ℕ) → Contains took.indexes ix ↔ IsHit s (alike item) ix
       removed_hit ix = (λ here. (hits ix).0 ((took.each ix).0 here), λ hit. (took.each ix).1 ((hits ix).1 hit))
@@ -411,7 +422,7 @@ module _ {T : Type 0} (alike : T → T → Bool) (most : ℕ → ℕ) where
       pub OverwritesAt-done :
           (old new : MapState T) (ix : ℕ)
           → old.store ≡ s
-          → (j : ℕ) × told j
+          → (j : ℕ) × reported j
           → ix ≡ next_index left
           → new.store ≡ inserted left item
           → new.memory ≡ old.memory

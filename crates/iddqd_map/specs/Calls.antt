@@ -52,7 +52,7 @@ module _ {T : Type 0} (alike : T → T → Bool) (most : ℕ → ℕ) where
     pub store_stays : new.store ≡ old.store
     pub memory : MakesRoom most old new.memory
 
-  -- `conflicts s item at` says that `at` tells the items that share a key with this one
+  -- `conflicts s item at` says that `at` reports the items that share a key with this one
   module _ {C : Type 0} (conflicts : Store T → T → C → Type 0) where
     -- what an insert may answer and leave
     abbrev pub Inserts : MapState T → T → Result ℕ (InsertRefusal T C) → MapState T → Type 0
@@ -122,7 +122,7 @@ module _ {T : Type 0} (alike same : T → T → Bool) (may_lack : Bool) where
     pub lacks : may_lack ≡ true
     pub past : old.memory.capacity < live_count old.store
 
-  -- `taken s ix item at` says that `at` tells the items, other than the one at the index, that have keys of this item
+  -- `taken s ix item at` says that `at` reports the items, other than the one at the index, that have keys of this item
   module _ {C : Type 0} (taken : Store T → ℕ → T → C → Type 0) where
     -- what may become of the item at a live index that is to become another one
     abbrev pub ReplacesAt : MapState T → ℕ → T → Result T (ReplaceRefusal T C) → MapState T → Type 0

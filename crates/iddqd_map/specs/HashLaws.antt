@@ -30,13 +30,13 @@ shares_laws key_of equal laws = record {
   congr = λ x y z. laws.congr (key_of x) (key_of y) (key_of z);
 }
 
--- of one index that was told the items that are alike are those at it
-pub told_one :
+-- of one index that was reported the items that are alike are those at it
+pub reported_one :
     {T : Type 0} (s : Store T) (test : T → Bool) (at : ℕ)
     → AnswersScan s test (Some at)
     → (ix : ℕ)
     → (ix ≡ at) ↔ IsHit s test ix
-told_one s test at scan ix = ((scan ix).1, (scan ix).0)
+reported_one s test at scan ix = ((scan ix).1, (scan ix).0)
 
 -- and it is one
 pub few_one : (at : ℕ) → (l : List ℕ) × (length l ≤ 1) × ((ix : ℕ) → ix ≡ at → Contains l ix)

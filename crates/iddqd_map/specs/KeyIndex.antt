@@ -72,12 +72,12 @@ module _ {T : Type 0} where
     pub slots : (ix : ℕ) (y : T) → get t ix ≡ Some y → (x : T) × (get s ix ≡ Some x) × (same x y ≡ true)
     pub items : (ix : ℕ) (x : T) → get s ix ≡ Some x → (y : T) × (get t ix ≡ Some y) × (same x y ≡ true)
 
--- the first index that was told past one, or the first of all where there is none such: none where there is no more
+-- the first index that was reported past one, or the first of all where there is none such: none where there is no more
 abbrev pub IsPast : Option ℕ → ℕ → Type 0
 IsPast None ix = Unit {0}
 IsPast (Some before) ix = before < ix
 
-abbrev pub IsNextTold : (ℕ → Type 0) → Option ℕ → Option ℕ → Type 0
-IsNextTold told before None = (ix : ℕ) → told ix → IsPast before ix → ⊥
-IsNextTold told before (Some next) =
-    told next × IsPast before next × ((ix : ℕ) → told ix → IsPast before ix → (ix < next → ⊥))
+abbrev pub IsNextReported : (ℕ → Type 0) → Option ℕ → Option ℕ → Type 0
+IsNextReported reported before None = (ix : ℕ) → reported ix → IsPast before ix → ⊥
+IsNextReported reported before (Some next) =
+    reported next × IsPast before next × ((ix : ℕ) → reported ix → IsPast before ix → (ix < next → ⊥))

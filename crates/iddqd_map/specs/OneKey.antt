@@ -1,4 +1,4 @@
--- What calls tell and do where items have one key.
+-- What calls report and do where items have one key.
 use Rattle.std.specs.Prelude.{◌≡◌, ◌≢◌, ℕ, Bool, Option, Some, None, Result, Ok, Err}
 use Rattle.iddqd.specs.Store.{Store, rebound}
 use Rattle.iddqd_by_hash.specs.Scan.{AnswersScan}
@@ -17,10 +17,10 @@ module _ {T : Type 0} (alike : T → T → Bool) (most : ℕ → ℕ) where
   OverwritesOne old item (Err (Full back)) new = RefusesFull alike most old item back new
   OverwritesOne old item (Err (Memory back)) new = RefusesMemory alike most old item back new
 
--- the item that is told has the key of this one, and no other has
-abbrev pub IsTold : {T : Type 0} → (T → T → Bool) → Store T → T → ℕ → Type 0
-IsTold alike s item at = AnswersScan s (alike item) (Some at)
+-- the item that is reported has the key of this one, and no other has
+abbrev pub IsReported : {T : Type 0} → (T → T → Bool) → Store T → T → ℕ → Type 0
+IsReported alike s item at = AnswersScan s (alike item) (Some at)
 
--- another item than the one at the index, which is told, has the key of this one
+-- another item than the one at the index, which is reported, has the key of this one
 abbrev pub IsTaken : {T : Type 0} → (T → T → Bool) → Store T → ℕ → T → ℕ → Type 0
 IsTaken alike s ix item at = (at ≢ ix) × AnswersScan s (alike item) (Some at)

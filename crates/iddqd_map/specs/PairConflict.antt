@@ -1,4 +1,4 @@
--- What the two key indexes of a pair tell of an item that shares keys with others.
+-- What the two key indexes of a pair report of an item that shares keys with others.
 use Rattle.std.specs.Prelude.{◌⊎◌, ℕ, Bool, Option, Some, None, IsSome, min}
 use Rattle.iddqd.specs.Store.{Store}
 use Rattle.iddqd_by_hash.specs.Scan.{HasNoHit}
@@ -6,7 +6,7 @@ use Rattle.iddqd_map.specs.Several.{HasNoOther}
 use Rattle.iddqd_map.specs.declared.pair_conflict.PairConflict.{PairConflict}
 use Rattle.iddqd_map.specs.declared.pair_conflict.PairConflict.TheVariants.{First, Second, Both}
 
--- what each of the two told, if it told anything
+-- what each of the two reported, if it reported anything
 module _ {A B : Type 0} where
   abbrev pub first_of : PairConflict A B → Option A
   first_of (First one) = Some one
@@ -26,42 +26,42 @@ module _ {A B : Type 0} where
   both_of None None = None
 
 module _ {T : Type 0} where
-  -- what one key index tells: the items that an item is alike to, or that there is none
-  abbrev pub Tells : {C : Type 0} → (T → T → Bool) → (Store T → T → C → Type 0) → Store T → T → Option C → Type 0
-  Tells alike conflicts s item None = HasNoHit s (alike item)
-  Tells alike conflicts s item (Some at) = conflicts s item at
+  -- what one key index reports: the items that an item is alike to, or that there is none
+  abbrev pub Reports : {C : Type 0} → (T → T → Bool) → (Store T → T → C → Type 0) → Store T → T → Option C → Type 0
+  Reports alike conflicts s item None = HasNoHit s (alike item)
+  Reports alike conflicts s item (Some at) = conflicts s item at
 
-  -- what both tell: of at least one
-  pub record TellBoth
+  -- what both report: of at least one
+  pub record ReportBoth
       {C D : Type 0} (alike1 alike2 : T → T → Bool) (conflicts1 : Store T → T → C → Type 0)
       (conflicts2 : Store T → T → D → Type 0) (s : Store T) (item : T) (one : Option C) (other : Option D)
       : Type 0 where
-    pub first : Tells alike1 conflicts1 s item one
-    pub second : Tells alike2 conflicts2 s item other
+    pub first : Reports alike1 conflicts1 s item one
+    pub second : Reports alike2 conflicts2 s item other
     pub some : IsSome one ⊎ IsSome other
 
   -- the same of items other than the one at the index
-  abbrev pub TellsOther :
+  abbrev pub ReportsOther :
       {C : Type 0} → (T → T → Bool) → (Store T → ℕ → T → C → Type 0) → Store T → ℕ → T → Option C → Type 0
-  TellsOther alike taken s ix item None = HasNoOther s (alike item) ix
-  TellsOther alike taken s ix item (Some at) = taken s ix item at
+  ReportsOther alike taken s ix item None = HasNoOther s (alike item) ix
+  ReportsOther alike taken s ix item (Some at) = taken s ix item at
 
-  pub record TellBothOther
+  pub record ReportBothOther
       {C D : Type 0} (alike1 alike2 : T → T → Bool) (taken1 : Store T → ℕ → T → C → Type 0)
       (taken2 : Store T → ℕ → T → D → Type 0) (s : Store T) (ix : ℕ) (item : T) (one : Option C) (other : Option D)
       : Type 0 where
-    pub first : TellsOther alike1 taken1 s ix item one
-    pub second : TellsOther alike2 taken2 s ix item other
+    pub first : ReportsOther alike1 taken1 s ix item one
+    pub second : ReportsOther alike2 taken2 s ix item other
     pub some : IsSome one ⊎ IsSome other
 
--- one of the two, if it told anything, told the index
-abbrev pub IsToldBy : {C : Type 0} → (C → ℕ → Type 0) → Option C → ℕ → Type 0
-IsToldBy tells None ix = ⊥
-IsToldBy tells (Some at) ix = tells at ix
+-- one of the two, if it reported anything, reported the index
+abbrev pub IsReportedBy : {C : Type 0} → (C → ℕ → Type 0) → Option C → ℕ → Type 0
+IsReportedBy reports None ix = ⊥
+IsReportedBy reports (Some at) ix = reports at ix
 
--- one or the other told the index
+-- one or the other reported the index
 abbrev pub IsEither : (ℕ → Type 0) → (ℕ → Type 0) → ℕ → Type 0
-IsEither told told_too ix = told ix ⊎ told_too ix
+IsEither reported reported_too ix = reported ix ⊎ reported_too ix
 
 -- the lesser of two indexes, or the one that there is
 abbrev pub lesser_of : Option ℕ → Option ℕ → Option ℕ

@@ -7,8 +7,8 @@ use Rattle.std.proofs.lemmas.List.{length-append}
 use Rattle.std.proofs.lemmas.Bool.{cases_lt}
 use Rattle.iddqd.specs.Store.{Store, get}
 use Rattle.iddqd_by_hash.specs.Scan.{IsHit, HasNoHit, AnswersScan, AreApart}
-use Rattle.iddqd_map.specs.KeyIndex.{HaveSameKeys, IsNextTold}
-use Rattle.iddqd_map.specs.PairConflict.{Tells, TellBoth, IsToldBy, IsEither, lesser_of}
+use Rattle.iddqd_map.specs.KeyIndex.{HaveSameKeys, IsNextReported}
+use Rattle.iddqd_map.specs.PairConflict.{Reports, ReportBoth, IsReportedBy, IsEither, lesser_of}
 use Rattle.iddqd_map.specs.Several.{either_key, both_keys, HasNoOther}
 
 either_true : (a b : Bool) → (a || b) ≡ true → (a ≡ true) ⊎ (b ≡ true)
@@ -102,94 +102,94 @@ pub few_both :
 few_both one other m n (k, few, holds) (l, few_too, holds_too) = (
   k ++ l,
   omega (arith, length-append k l, few, few_too),
-  λ ix told. elim told [
+  λ ix reported. elim reported [
     | inl here ↦ Contains-append_left k l ix (holds ix here)
     | inr there ↦ Contains-append_right k l ix (holds_too ix there)
   ],
 )
 
--- what one of the two told, if it told anything
-module _ {C : Type 0} (tells : C → ℕ → Type 0) where
-  pub told_by_one :
+-- what one of the two reported, if it reported anything
+module _ {C : Type 0} (reports : C → ℕ → Type 0) where
+  pub reported_by_one :
       {T : Type 0} (alike : T → T → Bool) (conflicts : Store T → T → C → Type 0) (s : Store T) (item : T)
-      → ((at : C) → conflicts s item at → (ix : ℕ) → tells at ix ↔ IsHit s (alike item) ix)
+      → ((at : C) → conflicts s item at → (ix : ℕ) → reports at ix ↔ IsHit s (alike item) ix)
       → (found : Option C)
-      → Tells alike conflicts s item found
-      → (ix : ℕ) → IsToldBy tells found ix ↔ IsHit s (alike item) ix
-  told_by_one alike conflicts s item law None none ix = (λ told. absurd told, λ hit. none ix hit)
-  told_by_one alike conflicts s item law (Some at) told ix = law at told ix
+      → Reports alike conflicts s item found
+      → (ix : ℕ) → IsReportedBy reports found ix ↔ IsHit s (alike item) ix
+  reported_by_one alike conflicts s item law None none ix = (λ reported. absurd reported, λ hit. none ix hit)
+  reported_by_one alike conflicts s item law (Some at) reported ix = law at reported ix
 
   pub few_by_one :
       (n : ℕ)
-      → ((at : C) → (l : List ℕ) × (length l ≤ n) × ((ix : ℕ) → tells at ix → Contains l ix))
+      → ((at : C) → (l : List ℕ) × (length l ≤ n) × ((ix : ℕ) → reports at ix → Contains l ix))
       → (found : Option C)
-      → (l : List ℕ) × (length l ≤ n) × ((ix : ℕ) → IsToldBy tells found ix → Contains l ix)
-  few_by_one n law None = ([], omega arith, λ ix told. absurd told)
+      → (l : List ℕ) × (length l ≤ n) × ((ix : ℕ) → IsReportedBy reports found ix → Contains l ix)
+  few_by_one n law None = ([], omega arith, λ ix reported. absurd reported)
   few_by_one n law (Some at) = law at
 
--- exactly the items are told by either that share a key of either
-pub told_both :
+-- exactly the items are reported by either that share a key of either
+pub reported_both :
     {T : Type 0} (first second : T → T → Bool) (s : Store T) (item : T) (one other : ℕ → Type 0) (ix : ℕ)
     → one ix ↔ IsHit s (first item) ix
     → other ix ↔ IsHit s (second item) ix
     → (one ix ⊎ other ix) ↔ IsHit s (either_key first second item) ix
-told_both first second s item one other ix a b =
+reported_both first second s item one other ix a b =
     let both = IsHit-either first second s item ix in (
-      λ told. both.1 (elim told [ inl here ↦ inl (a.0 here) | inr there ↦ inr (b.0 there) ]),
+      λ reported. both.1 (elim reported [ inl here ↦ inl (a.0 here) | inr there ↦ inr (b.0 there) ]),
       λ hit. elim (both.0 hit) [ inl here ↦ inl (a.1 here) | inr there ↦ inr (b.1 there) ],
     )
 
--- one of the two told an index
-pub told_some :
-    {T C D : Type 0} (tells : C → ℕ → Type 0) (tells_too : D → ℕ → Type 0)
+-- one of the two reported an index
+pub reported_some :
+    {T C D : Type 0} (reports : C → ℕ → Type 0) (reports_too : D → ℕ → Type 0)
     (conflicts : Store T → T → C → Type 0) (conflicts_too : Store T → T → D → Type 0) (s : Store T) (item : T)
     (alike alike_too : T → T → Bool)
-    → ((at : C) → conflicts s item at → (ix : ℕ) × tells at ix)
-    → ((at : D) → conflicts_too s item at → (ix : ℕ) × tells_too at ix)
+    → ((at : C) → conflicts s item at → (ix : ℕ) × reports at ix)
+    → ((at : D) → conflicts_too s item at → (ix : ℕ) × reports_too at ix)
     → (one : Option C) (other : Option D)
-    → TellBoth alike alike_too conflicts conflicts_too s item one other
-    → (ix : ℕ) × IsEither (IsToldBy tells one) (IsToldBy tells_too other) ix
-told_some tells tells_too conflicts conflicts_too s item alike alike_too law law_too (Some at) other told =
-    let (ix, is) = law at told.first in
+    → ReportBoth alike alike_too conflicts conflicts_too s item one other
+    → (ix : ℕ) × IsEither (IsReportedBy reports one) (IsReportedBy reports_too other) ix
+reported_some reports reports_too conflicts conflicts_too s item alike alike_too law law_too (Some at) other reported =
+    let (ix, is) = law at reported.first in
     (ix, inl is)
-told_some tells tells_too conflicts conflicts_too s item alike alike_too law law_too None (Some at) told =
-    let (ix, is) = law_too at told.second in
+reported_some reports reports_too conflicts conflicts_too s item alike alike_too law law_too None (Some at) reported =
+    let (ix, is) = law_too at reported.second in
     (ix, inr is)
-told_some tells tells_too conflicts conflicts_too s item alike alike_too law law_too None None told =
-    elim told.some [ inl none ↦ absurd (cc) | inr none ↦ absurd (cc) ]
+reported_some reports reports_too conflicts conflicts_too s item alike alike_too law law_too None None reported =
+    elim reported.some [ inl none ↦ absurd (cc) | inr none ↦ absurd (cc) ]
 
--- the next index that one of the two tells is the lesser of the next of each
-pub IsNextTold-lesser :
-    (told told_too : ℕ → Type 0) (before one other : Option ℕ)
-    → IsNextTold told before one
-    → IsNextTold told_too before other
-    → IsNextTold (IsEither told told_too) before (lesser_of one other)
-IsNextTold-lesser told told_too before None None a b = λ ix is past. elim is [ inl here ↦ a ix here past | inr there ↦ b ix there past ]
-IsNextTold-lesser told told_too before (Some x) None a b = (
+-- the next index that one of the two reports is the lesser of the next of each
+pub IsNextReported-lesser :
+    (reported reported_too : ℕ → Type 0) (before one other : Option ℕ)
+    → IsNextReported reported before one
+    → IsNextReported reported_too before other
+    → IsNextReported (IsEither reported reported_too) before (lesser_of one other)
+IsNextReported-lesser reported reported_too before None None a b = λ ix is past. elim is [ inl here ↦ a ix here past | inr there ↦ b ix there past ]
+IsNextReported-lesser reported reported_too before (Some x) None a b = (
   inl a.0,
   a.1,
   λ ix is past less. elim is [ inl here ↦ a.2 ix here past less | inr there ↦ b ix there past ],
 )
-IsNextTold-lesser told told_too before None (Some y) a b = (
+IsNextReported-lesser reported reported_too before None (Some y) a b = (
   inr b.0,
   b.1,
   λ ix is past less. elim is [ inl here ↦ a ix here past | inr there ↦ b.2 ix there past less ],
 )
-IsNextTold-lesser told told_too before (Some x) (Some y) a b =
+IsNextReported-lesser reported reported_too before (Some x) (Some y) a b =
     elim (cases_lt x y) [
       | inl less ↦
           let is : min x y ≡ x = omega (arith, less) in
           rw is (
             inl a.0,
             a.1,
-            λ ix told past below. elim told [ inl here ↦ a.2 ix here past below | inr there ↦ b.2 ix there past (omega (arith, below, less)) ],
+            λ ix reported past below. elim reported [ inl here ↦ a.2 ix here past below | inr there ↦ b.2 ix there past (omega (arith, below, less)) ],
           )
       | inr most ↦
           let is : min x y ≡ y = omega (arith, most) in
           rw is (
             inr b.0,
             b.1,
-            λ ix told past below. elim told [ inl here ↦ a.2 ix here past (omega (arith, below, most)) | inr there ↦ b.2 ix there past below ],
+            λ ix reported past below. elim reported [ inl here ↦ a.2 ix here past (omega (arith, below, most)) | inr there ↦ b.2 ix there past below ],
           )
     ]
 

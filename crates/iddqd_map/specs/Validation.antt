@@ -1,4 +1,4 @@
--- What a check of a map's table tells.
+-- What a check of a map's table reports.
 use Rattle.std.specs.Prelude.{◌≡◌, ℕ, List, ⊤}
 use Rattle.iddqd.specs.declared.internal.ValidateRefusal.{ValidateRefusal}
 use Rattle.iddqd.specs.declared.internal.ValidateRefusal.TheVariants.{Invalid, Memory}
@@ -7,6 +7,6 @@ use Rattle.iddqd.specs.declared.internal.ValidationError.TheVariants.{Table, Gen
 
 -- a refusal is the error of the table with this name, or else there was no memory
 abbrev pub NamesTable : List ℕ → ValidateRefusal ValidationError → Type 0
-NamesTable name (Invalid (Table told error)) = told.now ≡ name
+NamesTable name (Invalid (Table reported error)) = reported.now ≡ name
 NamesTable name (Invalid (General text)) = ⊥
 NamesTable name (Memory error) = ⊤

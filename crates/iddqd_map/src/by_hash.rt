@@ -59,7 +59,7 @@ where
     ghost use Rattle.iddqd_hash.specs.Sizes.{most_cells};
     ghost use Rattle.iddqd_hash.specs.MapHashTable.{filed};
     ghost use Rattle.iddqd_map.specs.Map.{shares};
-    ghost use Rattle.iddqd_map.specs.HashLaws.{shares_laws, Indexes-kept, Indexes-key_kept, Indexes-keys_shared, told_one, few_one};
+    ghost use Rattle.iddqd_map.specs.HashLaws.{shares_laws, Indexes-kept, Indexes-key_kept, Indexes-keys_shared, reported_one, few_one};
 
     type Conflict = ItemIndex;
 
@@ -92,7 +92,7 @@ where
 
     ghost taken = { λ s ix item at. (at ≢ ix) × AnswersScan s (shares E.key_of K.eq item) (Some at) };
 
-    ghost tells = { λ at ix. ix ≡ at };
+    ghost reports = { λ at ix. ix ≡ at };
 
     ghost same_as_itself = { λ x. refl };
 
@@ -109,11 +109,11 @@ where
 
     ghost equivalence = { shares_laws E.key_of K.eq K.Eq.laws };
 
-    ghost told = { λ s item at is ix. told_one s (shares E.key_of K.eq item) at is ix };
+    ghost reported = { λ s item at is ix. reported_one s (shares E.key_of K.eq item) at is ix };
 
-    ghost told_some = { λ s item at is. (at, refl) };
+    ghost reported_some = { λ s item at is. (at, refl) };
 
-    ghost few_told = { few_one };
+    ghost few_reported = { few_one };
 
     fn unasked() -> Option<MapHash> {
         None
@@ -215,7 +215,7 @@ where
         self.table.insert_prehashed_unchecked(known, ix);
     }
 
-    fn next_told(conflict: &ItemIndex, before: Option<ItemIndex>) -> Option<ItemIndex> {
+    fn next_reported(conflict: &ItemIndex, before: Option<ItemIndex>) -> Option<ItemIndex> {
         let at = *conflict;
         match before {
             Some(before) if at <= before => None,

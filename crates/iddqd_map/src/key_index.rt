@@ -10,7 +10,7 @@
 ghost use Rattle.std.specs.Prelude.{◌≡◌, ◌≢◌, ◌≤◌, ◌+◌, ◌<◌, true, false, min, max, length, IsOk, IfOk, OnOk, OnErr};
 ghost use Rattle.iddqd.specs.{next_index, removed, rebound, sentinel, live_count, IsValid, Allows, Validates};
 ghost use Rattle.iddqd_by_hash.specs.Scan.{AnswersScan, IsLive, HasNoHit, passes_by};
-ghost use Rattle.iddqd_map.specs.KeyIndex.{IndexesNone, IsNextOf, IsPlannedForOne, IndexesOneMore, IsRemapOfSome, IndexesCompacted, IndexesAllOf, IsNextTold, FindsSpot, PlansMove, TakesFound};
+ghost use Rattle.iddqd_map.specs.KeyIndex.{IndexesNone, IsNextOf, IsPlannedForOne, IndexesOneMore, IsRemapOfSome, IndexesCompacted, IndexesAllOf, IsNextReported, FindsSpot, PlansMove, TakesFound};
 
 use iddqd::index_remap::IndexRemap;
 use iddqd::internal::{ValidateCompact, ValidateRefusal, ValidationError};
@@ -76,7 +76,7 @@ pub trait KeyIndex<T, S>: Sized + Drop {
     ghost taken: { Store T → ℕ → T → Self.Conflict → Type 0 };
 
     // The index is one of these.
-    ghost tells: { Self.Conflict → ℕ → Type 0 };
+    ghost reports: { Self.Conflict → ℕ → Type 0 };
 
     /// Nothing that a look-up computed.
     fn unasked() -> Self::Asked;
@@ -99,15 +99,15 @@ pub trait KeyIndex<T, S>: Sized + Drop {
     // To share all keys is an equivalence.
     ghost equivalence: { IsEquivalence same_keys };
 
-    // What is told are exactly the items that the item is alike to.
-    ghost told: { (s : Store T) (item : T) (at : Self.Conflict) → conflicts s item at → (ix : ℕ)
-        → tells at ix ↔ IsHit s (alike item) ix };
+    // What is reported are exactly the items that the item is alike to.
+    ghost reported: { (s : Store T) (item : T) (at : Self.Conflict) → conflicts s item at → (ix : ℕ)
+        → reports at ix ↔ IsHit s (alike item) ix };
 
-    // At least one is told, and never more than there are keys.
-    ghost told_some: { (s : Store T) (item : T) (at : Self.Conflict) → conflicts s item at → (ix : ℕ) × tells at ix };
+    // At least one is reported, and never more than there are keys.
+    ghost reported_some: { (s : Store T) (item : T) (at : Self.Conflict) → conflicts s item at → (ix : ℕ) × reports at ix };
 
-    ghost few_told: { (at : Self.Conflict) → (l : List ℕ) × (length l ≤ key_count)
-        × ((ix : ℕ) → tells at ix → Contains l ix) };
+    ghost few_reported: { (at : Self.Conflict) → (l : List ℕ) × (length l ≤ key_count)
+        × ((ix : ℕ) → reports at ix → Contains l ix) };
 }
 
 /// A key index whose memory can be taken ahead and given back.
@@ -242,9 +242,9 @@ pub trait Inserts<T, S>: KeyIndex<T, S> {
         ensures capacity { Self.capacity self.new ≡ Self.capacity self.old }
         ensures cells { Self.cells self.new ≡ Self.cells self.old };
 
-    /// The next index of the items that were told, past one or from the first on.
-    fn next_told(conflict: &Self::Conflict, before: Option<ItemIndex>) -> Option<ItemIndex>
-        ensures { IsNextTold (Self.tells conflict.now) before result };
+    /// The next index of the items that were reported, past one or from the first on.
+    fn next_reported(conflict: &Self::Conflict, before: Option<ItemIndex>) -> Option<ItemIndex>
+        ensures { IsNextReported (Self.reports conflict.now) before result };
 
     /// Where an item may go that is alike to none.
     fn spot(&self, items: &ItemSet<T>, state: &S, known: Self::Known, item: &T) -> Self::Spot

@@ -5,13 +5,13 @@
 //!
 //! Invariant: each of the two indexes the same store under the same state.
 ghost use Rattle.std.specs.Prelude.{◌≡◌, Some};
-ghost use Rattle.iddqd_map.specs.KeyIndex.{IsNextTold};
-ghost use Rattle.iddqd_map.specs.PairConflict.{IsToldBy, first_of, second_of, lesser_of};
+ghost use Rattle.iddqd_map.specs.KeyIndex.{IsNextReported};
+ghost use Rattle.iddqd_map.specs.PairConflict.{IsReportedBy, first_of, second_of, lesser_of};
 
 use crate::key_index::{
     AsksAt, Checks, HashedAt, Inserts, KeyIndex, Left, Moves, Removes, Right, Sizes, TakesAt,
 };
-use crate::pair_conflict::{PairConflict, TellsPair};
+use crate::pair_conflict::{PairConflict, ReportsPair};
 use iddqd::index_remap::IndexRemap;
 use iddqd::internal::{ValidateCompact, ValidateRefusal, ValidationError};
 use iddqd::item_index::ItemIndex;
@@ -20,28 +20,28 @@ use iddqd_by_hash::query::HashQuery;
 use std::alloc::{AllocError, Global};
 use std::marker::PhantomData;
 
-/// Two key indexes over the same items. A conflict is told as `C`.
+/// Two key indexes over the same items. A conflict is reported as `C`.
 #[derive(Drop)]
 pub struct Pair<A, B, C = PairConflict<ItemIndex, ItemIndex>> {
     /// The one.
     pub first: A,
     /// The other.
     pub second: B,
-    told: PhantomData<C>,
+    reported: PhantomData<C>,
 }
 
 impl<T, S, A, B, C> KeyIndex<T, S> for Pair<A, B, C>
 where
     A: KeyIndex<T, S>,
     B: KeyIndex<T, S>,
-    C: TellsPair<A::Conflict, B::Conflict>,
+    C: ReportsPair<A::Conflict, B::Conflict>,
 {
     ghost use Rattle.std.specs.Prelude.{◌||◌, ◌+◌, ◌⊎◌, min};
     ghost use Rattle.iddqd_map.specs.Several.{either_key, both_keys};
-    ghost use Rattle.iddqd_map.specs.PairConflict.{TellBoth, TellBothOther, IsEither, IsToldBy};
+    ghost use Rattle.iddqd_map.specs.PairConflict.{ReportBoth, ReportBothOther, IsEither, IsReportedBy};
     ghost use Rattle.std.proofs.Common.{ap};
     ghost use Rattle.std.proofs.lemmas.Cmp.{and_equiv};
-    ghost use Rattle.iddqd_map.specs.PairLaws.{AreApart-either, HaveSameKeys-first, HaveSameKeys-second, alike_both, told_by_one, told_both, told_some, few_by_one, few_both};
+    ghost use Rattle.iddqd_map.specs.PairLaws.{AreApart-either, HaveSameKeys-first, HaveSameKeys-second, alike_both, reported_by_one, reported_both, reported_some, few_by_one, few_both};
 
     type Conflict = C;
 
@@ -69,13 +69,13 @@ where
 
     ghost key_count = { A.key_count + B.key_count };
 
-    ghost conflicts = { λ s item at. TellBoth A.alike B.alike A.conflicts B.conflicts s item (C.first at)
+    ghost conflicts = { λ s item at. ReportBoth A.alike B.alike A.conflicts B.conflicts s item (C.first at)
         (C.second at) };
 
-    ghost taken = { λ s ix item at. TellBothOther A.alike B.alike A.taken B.taken s ix item (C.first at)
+    ghost taken = { λ s ix item at. ReportBothOther A.alike B.alike A.taken B.taken s ix item (C.first at)
         (C.second at) };
 
-    ghost tells = { λ at. IsEither (IsToldBy A.tells (C.first at)) (IsToldBy B.tells (C.second at)) };
+    ghost reports = { λ at. IsEither (IsReportedBy A.reports (C.first at)) (IsReportedBy B.reports (C.second at)) };
 
     ghost same_as_itself = { λ x. (A.same_as_itself x.first, B.same_as_itself x.second) };
 
@@ -99,17 +99,17 @@ where
 
     ghost equivalence = { and_equiv A.equivalence B.equivalence };
 
-    ghost told = { λ s item at conflicts ix. told_both A.alike B.alike s item (IsToldBy A.tells (C.first at))
-        (IsToldBy B.tells (C.second at)) ix
-        (told_by_one A.tells A.alike A.conflicts s item (A.told s item) (C.first at) conflicts.first ix)
-        (told_by_one B.tells B.alike B.conflicts s item (B.told s item) (C.second at) conflicts.second ix) };
+    ghost reported = { λ s item at conflicts ix. reported_both A.alike B.alike s item (IsReportedBy A.reports (C.first at))
+        (IsReportedBy B.reports (C.second at)) ix
+        (reported_by_one A.reports A.alike A.conflicts s item (A.reported s item) (C.first at) conflicts.first ix)
+        (reported_by_one B.reports B.alike B.conflicts s item (B.reported s item) (C.second at) conflicts.second ix) };
 
-    ghost told_some = { λ s item at conflicts. told_some A.tells B.tells A.conflicts B.conflicts s item A.alike B.alike
-        (A.told_some s item) (B.told_some s item) (C.first at) (C.second at) conflicts };
+    ghost reported_some = { λ s item at conflicts. reported_some A.reports B.reports A.conflicts B.conflicts s item A.alike B.alike
+        (A.reported_some s item) (B.reported_some s item) (C.first at) (C.second at) conflicts };
 
-    ghost few_told = { λ at. few_both (IsToldBy A.tells (C.first at)) (IsToldBy B.tells (C.second at)) A.key_count
-        B.key_count (few_by_one A.tells A.key_count A.few_told (C.first at))
-        (few_by_one B.tells B.key_count B.few_told (C.second at)) };
+    ghost few_reported = { λ at. few_both (IsReportedBy A.reports (C.first at)) (IsReportedBy B.reports (C.second at)) A.key_count
+        B.key_count (few_by_one A.reports A.key_count A.few_reported (C.first at))
+        (few_by_one B.reports B.key_count B.few_reported (C.second at)) };
 
     fn unasked() -> (A::Asked, B::Asked) {
         (A::unasked(), B::unasked())
@@ -120,7 +120,7 @@ impl<T, S, A, B, C> Sizes<T, S> for Pair<A, B, C>
 where
     A: Sizes<T, S>,
     B: Sizes<T, S>,
-    C: TellsPair<A::Conflict, B::Conflict>,
+    C: ReportsPair<A::Conflict, B::Conflict>,
 {
     fn capacity(&self) -> usize {
         self.first.capacity().min(self.second.capacity())
@@ -130,7 +130,7 @@ where
         Pair {
             first: A::new(alloc),
             second: B::new(alloc),
-            told: PhantomData,
+            reported: PhantomData,
         }
     }
 
@@ -138,7 +138,7 @@ where
         Ok(Pair {
             first: A::with_capacity(alloc, wanted)?,
             second: B::with_capacity(alloc, wanted)?,
-            told: PhantomData,
+            reported: PhantomData,
         })
     }
 
@@ -162,7 +162,7 @@ impl<T, S, A, B, C> Inserts<T, S> for Pair<A, B, C>
 where
     A: Inserts<T, S>,
     B: Inserts<T, S>,
-    C: TellsPair<A::Conflict, B::Conflict>,
+    C: ReportsPair<A::Conflict, B::Conflict>,
 {
     type Known = (A::Known, B::Known);
 
@@ -203,9 +203,9 @@ where
         match first {
             Ok(first) => match second {
                 Ok(second) => Ok((first, second)),
-                Err(other) => Err(C::told(PairConflict::Second(other))),
+                Err(other) => Err(C::reported(PairConflict::Second(other))),
             },
-            Err(one) => Err(C::told(first_with(one, second.err()))),
+            Err(one) => Err(C::reported(first_with(one, second.err()))),
         }
     }
 
@@ -239,7 +239,7 @@ where
         self.second.insert(known.1, &plan.1, ix);
     }
 
-    fn next_told(conflict: &C, before: Option<ItemIndex>) -> Option<ItemIndex> {
+    fn next_reported(conflict: &C, before: Option<ItemIndex>) -> Option<ItemIndex> {
         let first = next_of::<T, S, A>(conflict.first(), &before);
         let second = next_of::<T, S, B>(conflict.second(), &before);
         lesser(first, second)
@@ -273,7 +273,7 @@ impl<T, S, A, B, C> Removes<T, S> for Pair<A, B, C>
 where
     A: Removes<T, S>,
     B: Removes<T, S>,
-    C: TellsPair<A::Conflict, B::Conflict>,
+    C: ReportsPair<A::Conflict, B::Conflict>,
 {
     fn remove(&mut self, items: &ItemSet<T>, state: &S, ix: ItemIndex) {
         self.first.remove(items, state, ix);
@@ -295,7 +295,7 @@ impl<T, S, A, B, C> Moves<T, S> for Pair<A, B, C>
 where
     A: Moves<T, S>,
     B: Moves<T, S>,
-    C: TellsPair<A::Conflict, B::Conflict>,
+    C: ReportsPair<A::Conflict, B::Conflict>,
 {
     ghost use Rattle.std.specs.Prelude.{◌||◌};
 
@@ -319,9 +319,9 @@ where
         match first {
             Ok(first) => match second {
                 Ok(second) => Ok((first, second)),
-                Err(other) => Err(C::told(PairConflict::Second(other))),
+                Err(other) => Err(C::reported(PairConflict::Second(other))),
             },
-            Err(one) => Err(C::told(first_with(one, second.err()))),
+            Err(one) => Err(C::reported(first_with(one, second.err()))),
         }
     }
 
@@ -355,7 +355,7 @@ impl<T, S, A, B, C> Checks<T, S> for Pair<A, B, C>
 where
     A: Checks<T, S>,
     B: Checks<T, S>,
-    C: TellsPair<A::Conflict, B::Conflict>,
+    C: ReportsPair<A::Conflict, B::Conflict>,
 {
     ghost use Rattle.iddqd_map.specs.PairLaws.{alike_both};
 
@@ -365,7 +365,7 @@ where
         Ok(Pair {
             first: self.first.copied()?,
             second: self.second.copied()?,
-            told: PhantomData,
+            reported: PhantomData,
         })
     }
 
@@ -393,7 +393,7 @@ where
     }
 }
 
-// What the first told, and the second where it told anything.
+// What the first reported, and the second where it reported anything.
 fn first_with<A, B>(one: A, other: Option<B>) -> PairConflict<A, B>
     ensures first { first_of result ≡ Some one }
     ensures second { second_of result ≡ other }
@@ -404,15 +404,15 @@ fn first_with<A, B>(one: A, other: Option<B>) -> PairConflict<A, B>
     }
 }
 
-// The next index past one that one of the two told, if it told any.
+// The next index past one that one of the two reported, if it reported any.
 fn next_of<T, S, X: Inserts<T, S>>(
     conflict: Option<X::Conflict>,
     before: &Option<ItemIndex>,
 ) -> Option<ItemIndex>
-    ensures { IsNextTold (IsToldBy X.tells conflict) before.now result }
+    ensures { IsNextReported (IsReportedBy X.reports conflict) before.now result }
 {
-    let told = conflict?;
-    X::next_told(&told, *before)
+    let reported = conflict?;
+    X::next_reported(&reported, *before)
 }
 
 // The lesser of two indexes, or the one that there is.
@@ -432,7 +432,7 @@ impl<P, T, S, A, B, C> HashedAt<Left<P>, T, S> for Pair<A, B, C>
 where
     A: HashedAt<P, T, S>,
     B: KeyIndex<T, S>,
-    C: TellsPair<A::Conflict, B::Conflict>,
+    C: ReportsPair<A::Conflict, B::Conflict>,
 {
     type Key = A::Key;
 
@@ -452,7 +452,7 @@ impl<P, T, S, A, B, C> TakesAt<Left<P>, T, S> for Pair<A, B, C>
 where
     A: TakesAt<P, T, S>,
     B: Removes<T, S>,
-    C: TellsPair<A::Conflict, B::Conflict>,
+    C: ReportsPair<A::Conflict, B::Conflict>,
 {
     fn take<Q: HashQuery<A::Key>>(
         &mut self,
@@ -470,7 +470,7 @@ impl<P, T, S, A, B, C> AsksAt<Left<P>, T, S> for Pair<A, B, C>
 where
     A: AsksAt<P, T, S>,
     B: KeyIndex<T, S>,
-    C: TellsPair<A::Conflict, B::Conflict>,
+    C: ReportsPair<A::Conflict, B::Conflict>,
 {
     fn ask<Q: HashQuery<A::Key>>(
         &self,
@@ -487,7 +487,7 @@ impl<P, T, S, A, B, C> HashedAt<Right<P>, T, S> for Pair<A, B, C>
 where
     A: KeyIndex<T, S>,
     B: HashedAt<P, T, S>,
-    C: TellsPair<A::Conflict, B::Conflict>,
+    C: ReportsPair<A::Conflict, B::Conflict>,
 {
     type Key = B::Key;
 
@@ -507,7 +507,7 @@ impl<P, T, S, A, B, C> TakesAt<Right<P>, T, S> for Pair<A, B, C>
 where
     A: Removes<T, S>,
     B: TakesAt<P, T, S>,
-    C: TellsPair<A::Conflict, B::Conflict>,
+    C: ReportsPair<A::Conflict, B::Conflict>,
 {
     fn take<Q: HashQuery<B::Key>>(
         &mut self,
@@ -525,7 +525,7 @@ impl<P, T, S, A, B, C> AsksAt<Right<P>, T, S> for Pair<A, B, C>
 where
     A: KeyIndex<T, S>,
     B: AsksAt<P, T, S>,
-    C: TellsPair<A::Conflict, B::Conflict>,
+    C: ReportsPair<A::Conflict, B::Conflict>,
 {
     fn ask<Q: HashQuery<B::Key>>(
         &self,

@@ -1,8 +1,8 @@
-//! What a pair of key indexes tells of an item that shares keys with others.
+//! What a pair of key indexes reports of an item that shares keys with others.
 ghost use Rattle.std.specs.Prelude.{◌≡◌};
 ghost use Rattle.iddqd_map.specs.PairConflict.{first_of, second_of};
 
-/// What the one key index of a pair told, or the other, or both.
+/// What the one key index of a pair reported, or the other, or both.
 #[derive(Clone, Copy, Debug, PartialEq, Eq, Drop)]
 pub enum PairConflict<A, B> {
     /// The first alone.
@@ -13,35 +13,35 @@ pub enum PairConflict<A, B> {
     Both(A, B),
 }
 
-/// What a pair tells, under names of its own.
-pub trait TellsPair<A, B>: Copy {
+/// What a pair reports, under names of its own.
+pub trait ReportsPair<A, B>: Copy {
     ghost use Rattle.std.specs.Prelude.{Option};
 
-    // What the first told, and what the second.
+    // What the first reported, and what the second.
     ghost first: { Self → Option A };
 
     ghost second: { Self → Option B };
 
-    /// What was told, under its names.
-    fn told(conflict: PairConflict<A, B>) -> Self
+    /// What was reported, under its names.
+    fn reported(conflict: PairConflict<A, B>) -> Self
         ensures first { first result ≡ first_of conflict }
         ensures second { second result ≡ second_of conflict };
 
-    /// What the first told, if it did.
+    /// What the first reported, if it did.
     fn first(&self) -> Option<A>
         ensures { result ≡ first self.now };
 
-    /// What the second told, if it did.
+    /// What the second reported, if it did.
     fn second(&self) -> Option<B>
         ensures { result ≡ second self.now };
 }
 
-impl<A: Copy, B: Copy> TellsPair<A, B> for PairConflict<A, B> {
+impl<A: Copy, B: Copy> ReportsPair<A, B> for PairConflict<A, B> {
     ghost first = { first_of };
 
     ghost second = { second_of };
 
-    fn told(conflict: PairConflict<A, B>) -> PairConflict<A, B>
+    fn reported(conflict: PairConflict<A, B>) -> PairConflict<A, B>
         ensures first { first_of result ≡ first_of conflict }
         ensures second { second_of result ≡ second_of conflict }
     {

@@ -16,7 +16,7 @@ pub fn refusal<T, C>(error: GrowError, item: T) -> InsertRefusal<T, C>
     }
 }
 
-/// Why an item has no place where a table was refused memory: a full store is told before that.
+/// Why an item has no place where a table was refused memory: a full store is reported before that.
 pub fn lack_of_place<T>(items: &mut ItemSet<T>) -> GrowError
     ensures full { (result ≡ GrowError.Full) ↔ IsFull items.old.store }
     ensures store { items.new.store ≡ items.old.store }

@@ -4,7 +4,7 @@
 //! indexes, each a [`by_hash::ByHash`], a [`by_order::ByOrder`] or a pair again.
 //!
 //! A map is seen as its items in slots under stable indexes, no two of which share a key. No call
-//! gives a stored item another key without telling the tables, so a look-up always answers as a scan
+//! gives a stored item another key without reporting the tables, so a look-up always answers as a scan
 //! of all items would.
 //!
 //! What callers name of the crates below, indexes, iterators, hashers, queries, refusals and what `validate` takes and

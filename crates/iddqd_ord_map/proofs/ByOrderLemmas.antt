@@ -1,4 +1,4 @@
--- What a table in order tells of a store's items, as a key index has it.
+-- What a table in order reports of a store's items, as a key index has it.
 use Rattle.std.proofs.Common.{◌≡◌, ◌≢◌, ◌∙◌, ◌-◌, ℕ, List, length, Option, None, Bool, true, false, not, Some, None, Result, Ok, Err, refl, sym, Ordering}
 use Rattle.std.specs.Cmp.{IsTotalOrder, eq_by_cmp_equiv}
 use Rattle.std.specs.Fn.{Mut}
@@ -60,7 +60,7 @@ module _ {T K : Type 0} (key_of : T → K) (compare : K → K → Ordering) (tot
   PlansMove-sorted (Ok plan) planned = (planned, no_other plan planned, moves_unlike plan planned)
   PlansMove-sorted (Err at) taken = taken
 
--- what a search for the place of an item's key tells, where each answer reads as the comparison with the key
+-- what a search for the place of an item's key reports, where each answer reads as the comparison with the key
 module _ {T K : Type 0} (key_of : T → K) (compare : K → K → Ordering) (total : IsTotalOrder compare) (s : Store T)
     (t : Order) (o : Sorts key_of compare s (order_of t)) (item : T) {F R : Type 0} (g : Mut F (ℕ × Unit {0}) R)
     (read : R → Ordering) (old new : Asking F)

@@ -32,21 +32,21 @@ module _ {T : Type 0} where
 
   -- an item that is given the place of the one that has its key
   module _ (alike : T → T → Bool) (old mid new : MapState T) (item back : T) (at : ℕ)
-      (told : (back ≡ item) × AnswersScan old.store (alike item) (Some at) × (mid ≡ old)) where
+      (reported : (back ≡ item) × AnswersScan old.store (alike item) (Some at) × (mid ≡ old)) where
     abbrev Did : Result T (ReplaceRefusal T ℕ) → Type 0
     Did r = ReplacesIfLive alike alike true (IsTakenAt alike) mid at back r new
 
     pub not_refused : (refusal : ReplaceRefusal T ℕ) → Did (Err refusal) → ⊥
     not_refused (Missing again) is =
-        let (same, none, unchanged) = rw (told.2, told.0) at is in
-        let (item, live, passed) = (told.1 at).1 refl in
+        let (same, none, unchanged) = rw (reported.2, reported.0) at is in
+        let (item, live, passed) = (reported.1 at).1 refl in
         cc (none, live)
     not_refused (Taken again other) is =
-        let (there, (same, (differs, only), unchanged)) = rw (told.2, told.0) at is in
-        differs (sym ((only at).0 ((told.1 at).1 refl)))
+        let (there, (same, (differs, only), unchanged)) = rw (reported.2, reported.0) at is in
+        differs (sym ((only at).0 ((reported.1 at).1 refl)))
     not_refused (Refused again) is =
-        let (there, (same, lacks, unchanged)) = rw (told.2, told.0) at is in
-        let (was, live, passed) = (told.1 at).1 refl in
+        let (there, (same, lacks, unchanged)) = rw (reported.2, reported.0) at is in
+        let (was, live, passed) = (reported.1 at).1 refl in
         let (other, is_there, differs) = lacks.changed in
         let one : Some was ≡ Some other = sym live ∙ is_there in
         cc
@@ -56,5 +56,5 @@ module _ {T : Type 0} where
         → Did (Ok was)
         → IsOnly old.store (alike item) at was × (new.store ≡ rebound old.store at item) × (new.memory ≡ old.memory)
     overwritten was is =
-        let did = rw (told.2, told.0) at is in
-        (record { live = did.1.live; only = told.1 }, did.1.left, did.1.memory)
+        let did = rw (reported.2, reported.0) at is in
+        (record { live = did.1.live; only = reported.1 }, did.1.left, did.1.memory)

@@ -20,17 +20,17 @@ use Rattle.iddqd_map.specs.Map.{shares}
 use Rattle.iddqd_ord_map.specs.ByOrder.{IsGapFor}
 use Rattle.iddqd_ord_map.specs.OrderedIndexing.{Sorts, has_key}
 
--- what one index conflicts with is the one that it tells
-pub told_one :
+-- what one index conflicts with is the one that it reports
+pub reported_one :
     {T : Type 0} (s : Store T) (test : T → Bool) (at : ℕ)
     → AnswersScan s test (Some at)
     → (ix : ℕ)
     → (ix ≡ at) ↔ IsHit s test ix
-told_one s test at scan ix = ((scan ix).1, (scan ix).0)
+reported_one s test at scan ix = ((scan ix).1, (scan ix).0)
 
 -- and that is one
-pub one_told : (at : ℕ) → (l : List ℕ) × (length l ≤ 1) × ((ix : ℕ) → ix ≡ at → Contains l ix)
-one_told at = (at ∷ [], le_refl 1, λ ix is. subst (Contains (at ∷ [])) (sym is) (contains_head at []))
+pub one_reported : (at : ℕ) → (l : List ℕ) × (length l ≤ 1) × ((ix : ℕ) → ix ≡ at → Contains l ix)
+one_reported at = (at ∷ [], le_refl 1, λ ix is. subst (Contains (at ∷ [])) (sym is) (contains_head at []))
 
 module _ {T K : Type 0} (key_of : T → K) (compare : K → K → Ordering) where
   pub Sorts-same_tree :

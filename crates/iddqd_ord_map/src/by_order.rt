@@ -162,7 +162,7 @@ where
     ghost use Rattle.iddqd_order.specs.MapBTreeTable.{HasSameTree};
     ghost use Rattle.iddqd_map.specs.Map.{shares};
     ghost use Rattle.iddqd_ord_map.specs.ByOrder.{reserved_for, most_cells};
-    ghost use Rattle.iddqd_ord_map.specs.ByOrderLaws.{Sorts-same_tree, Sorts-modified, Sorts-alike, shares_equivalence, told_one, one_told};
+    ghost use Rattle.iddqd_ord_map.specs.ByOrderLaws.{Sorts-same_tree, Sorts-modified, Sorts-alike, shares_equivalence, reported_one, one_reported};
 
     type Conflict = ItemIndex;
 
@@ -194,7 +194,7 @@ where
 
     ghost taken = { λ s ix item at. (at ≢ ix) × AnswersScan s (shares E.key_of (eq_by_cmp E.Key.cmp) item) (Some at) };
 
-    ghost tells = { λ at ix. ix ≡ at };
+    ghost reports = { λ at ix. ix ≡ at };
 
     ghost same_as_itself = { λ x. record { root = refl; height = refl } };
 
@@ -210,11 +210,11 @@ where
 
     ghost equivalence = { shares_equivalence E.key_of E.Key.cmp E.Key.total };
 
-    ghost told = { λ s item at scan ix. told_one s (shares E.key_of (eq_by_cmp E.Key.cmp) item) at scan ix };
+    ghost reported = { λ s item at scan ix. reported_one s (shares E.key_of (eq_by_cmp E.Key.cmp) item) at scan ix };
 
-    ghost told_some = { λ s item at scan. (at, refl) };
+    ghost reported_some = { λ s item at scan. (at, refl) };
 
-    ghost few_told = { λ at. one_told at };
+    ghost few_reported = { λ at. one_reported at };
 
     fn unasked() {}
 }
@@ -326,7 +326,7 @@ where
         self.table.insert_in(plan, ix, blocks);
     }
 
-    fn next_told(conflict: &ItemIndex, before: Option<ItemIndex>) -> Option<ItemIndex> {
+    fn next_reported(conflict: &ItemIndex, before: Option<ItemIndex>) -> Option<ItemIndex> {
         match before {
             Some(ix) if *conflict <= ix => None,
             _ => Some(*conflict),

@@ -181,9 +181,9 @@ impl<T: IdOrdItem> IdOrdMap<T> {
         self.map.get_at(ix)
     }
 
-    /// Takes an item whose key none has, and tells its index.
+    /// Takes an item whose key none has, and returns its index.
     ///
-    /// A duplicate is told even where the map is full or no memory is left, and a full map even where no memory is
+    /// A duplicate is reported even where the map is full or no memory is left, and a full map even where no memory is
     /// left. A refusal hands the item back, and the contents stay. The table is searched once.
     pub fn insert_unique(&mut self, item: T) -> Result<ItemIndex, InsertRefusal<T, ItemIndex>>
         ensures { let alike = shares T.key_of (eq_by_cmp T.Key.cmp) in
@@ -272,7 +272,7 @@ impl<T: IdOrdItem> IdOrdMap<T> {
         self.map.clear()
     }
 
-    /// Moves every item down to its rank, so that no slot is vacant, and tells the new names.
+    /// Moves every item down to its rank, so that no slot is vacant, and returns the new names.
     ///
     /// No key is compared. Where no slot is vacant it is `Identity` and takes no memory. Else it takes that of one index
     /// a slot before an item moves; where that is refused nothing changes.

@@ -1,8 +1,8 @@
-//! What a refused item is told of those that have its keys.
+//! Which items have keys of a refused one.
 ghost use Rattle.std.specs.Prelude.{◌≡◌, ◌⊎◌, ◌↔◌, IsTrue, IsSome};
 ghost use Rattle.iddqd_map.specs.PairConflict.{first_of, second_of};
 
-use crate::pair_conflict::{PairConflict, TellsPair};
+use crate::pair_conflict::{PairConflict, ReportsPair};
 use iddqd::item_index::{ItemIndex, OrDash};
 use std::fmt;
 
@@ -26,12 +26,12 @@ impl BiClash {
     }
 }
 
-impl TellsPair<ItemIndex, ItemIndex> for BiClash {
+impl ReportsPair<ItemIndex, ItemIndex> for BiClash {
     ghost first = { λ clash. clash.key1 };
 
     ghost second = { λ clash. clash.key2 };
 
-    fn told(conflict: PairConflict<ItemIndex, ItemIndex>) -> BiClash
+    fn reported(conflict: PairConflict<ItemIndex, ItemIndex>) -> BiClash
         ensures first { result.key1 ≡ first_of conflict }
         ensures second { result.key2 ≡ second_of conflict }
     {

@@ -39,12 +39,12 @@ impl<T: BiHashItem, S: BuildHasher> KeyIndex<T, S> for BiIndex<T> {
     ghost use Rattle.iddqd_hash.specs.Sizes.{most_cells};
     ghost use Rattle.iddqd_by_hash.specs.Hashed.{hashing_of};
     ghost use Rattle.iddqd_map.specs.HashLaws.{shares_laws, Indexes-kept, Indexes-key_kept, Indexes-keys_shared};
-    ghost use Rattle.iddqd_map.specs.KeyLaws.{IsOfTwo, told_two, some_two, few_two};
+    ghost use Rattle.iddqd_map.specs.KeyLaws.{IsOfTwo, reported_two, some_two, few_two};
     ghost use Rattle.iddqd_map.specs.PairLaws.{AreApart-either, HaveSameKeys-first, HaveSameKeys-second};
     ghost use Rattle.iddqd_by_hash.specs.KeyKeeping.{pair_keys};
     ghost use Rattle.iddqd_map.specs.Map.{shares};
     ghost use Rattle.iddqd_map.specs.Several.{either_key, both_keys};
-    ghost use Rattle.iddqd_map.specs.TwoKeys.{AreTold, AreTaken};
+    ghost use Rattle.iddqd_map.specs.TwoKeys.{AreReported, AreTaken};
 
     type Conflict = BiClash;
 
@@ -72,11 +72,11 @@ impl<T: BiHashItem, S: BuildHasher> KeyIndex<T, S> for BiIndex<T> {
 
     ghost key_count = { 2 };
 
-    ghost conflicts = { AreTold (shares T.first_key T.Key1.eq) (shares T.second_key T.Key2.eq) };
+    ghost conflicts = { AreReported (shares T.first_key T.Key1.eq) (shares T.second_key T.Key2.eq) };
 
     ghost taken = { AreTaken (shares T.first_key T.Key1.eq) (shares T.second_key T.Key2.eq) };
 
-    ghost tells = { λ at. IsOfTwo at.key1 at.key2 };
+    ghost reports = { λ at. IsOfTwo at.key1 at.key2 };
 
     fn unasked() -> (Option<MapHash>, Option<MapHash>) {
         <Tables<T> as KeyIndex<T, S>>::unasked()
@@ -112,12 +112,12 @@ impl<T: BiHashItem, S: BuildHasher> KeyIndex<T, S> for BiIndex<T> {
     ghost equivalence = { and_equiv (shares_laws T.first_key T.Key1.eq T.Key1.Eq.laws)
         (shares_laws T.second_key T.Key2.eq T.Key2.Eq.laws) };
 
-    ghost told = { λ s item at. told_two s item (shares T.first_key T.Key1.eq) (shares T.second_key T.Key2.eq) at.key1 at.key2 };
+    ghost reported = { λ s item at. reported_two s item (shares T.first_key T.Key1.eq) (shares T.second_key T.Key2.eq) at.key1 at.key2 };
 
-    ghost told_some = { λ s item at. some_two s item (shares T.first_key T.Key1.eq) (shares T.second_key T.Key2.eq)
+    ghost reported_some = { λ s item at. some_two s item (shares T.first_key T.Key1.eq) (shares T.second_key T.Key2.eq)
         at.key1 at.key2 };
 
-    ghost few_told = { λ at. few_two at.key1 at.key2 };
+    ghost few_reported = { λ at. few_two at.key1 at.key2 };
 }
 
 impl<T: BiHashItem, S: BuildHasher> Sizes<T, S> for BiIndex<T> {
@@ -206,8 +206,8 @@ impl<T: BiHashItem, S: BuildHasher> Inserts<T, S> for BiIndex<T> {
         <Tables<T> as Inserts<T, S>>::insert(&mut self.tables, known, plan, ix)
     }
 
-    fn next_told(conflict: &BiClash, before: Option<ItemIndex>) -> Option<ItemIndex> {
-        <Tables<T> as Inserts<T, S>>::next_told(conflict, before)
+    fn next_reported(conflict: &BiClash, before: Option<ItemIndex>) -> Option<ItemIndex> {
+        <Tables<T> as Inserts<T, S>>::next_reported(conflict, before)
     }
 
     fn spot(

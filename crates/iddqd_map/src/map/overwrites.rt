@@ -68,7 +68,7 @@ fn overwrite<T, X: Inserts<T, S>, S>(
 ) -> Result<ItemIndex, OverwriteRefusal<T>>
     requires map { IsIndexed (X.indexes indexes.old) state.now items.old.store }
     requires hashed { X.is_known state.now item known }
-    requires told { X.conflicts items.old.store item at.now }
+    requires reported { X.conflicts items.old.store item at.now }
     requires enough { X.key_count ≤ length places.old }
     requires vacant { places.old ≡ padded (length places.old) [] }
     ensures map { IsIndexed (X.indexes indexes.new) state.now items.new.store }
@@ -79,12 +79,12 @@ fn overwrite<T, X: Inserts<T, S>, S>(
     if let Err(AllocError) = indexes.ready_after(items, state) {
         return Err(OverwriteRefusal::Memory(item));
     }
-    remove_told(items, indexes, state, at, places);
+    remove_reported(items, indexes, state, at, places);
     Ok(enter_in_room(items, indexes, state, known, item))
 }
 
-// Removes the items that were told, at least one, into the places, by rising index.
-fn remove_told<T, X: Inserts<T, S>, S>(
+// Removes the items that were reported, at least one, into the places, by rising index.
+fn remove_reported<T, X: Inserts<T, S>, S>(
     items: &mut ItemSet<T>,
     indexes: &mut X,
     state: &S,
@@ -93,12 +93,12 @@ fn remove_told<T, X: Inserts<T, S>, S>(
 )
     requires map { IsIndexed (X.indexes indexes.old) state.now items.old.store }
     requires ready { X.is_ready_after indexes.old }
-    requires live { (ix : ℕ) → X.tells at.now ix → IsLive items.old.store ix }
-    requires some { (ix : ℕ) × X.tells at.now ix }
+    requires live { (ix : ℕ) → X.reports at.now ix → IsLive items.old.store ix }
+    requires some { (ix : ℕ) × X.reports at.now ix }
     requires enough { X.key_count ≤ length places.old }
     requires vacant { places.old ≡ padded (length places.old) [] }
     ensures map { IsIndexed (X.indexes indexes.new) state.now items.new.store }
-    ensures taken { TakesAll (X.tells at.now) (length places.old) items.old.store places.new items.new.store }
+    ensures taken { TakesAll (X.reports at.now) (length places.old) items.old.store places.new items.new.store }
     ensures slots { items.new.capacity ≡ items.old.capacity }
     ensures room { 1 ≤ room items.new }
     ensures roomy { (plan : X.Plan) → X.has_room_for indexes.new plan }
@@ -106,12 +106,12 @@ fn remove_told<T, X: Inserts<T, S>, S>(
     ensures cells { X.cells indexes.new ≡ X.cells indexes.old }
 {
     let mut count = 0;
-    let mut next = X::next_told(at, None);
+    let mut next = X::next_reported(at, None);
     while let Some(ix) = next {
         let taken = make_way(items, indexes, state, ix);
         put_into(places, count, taken);
         count += 1;
-        next = X::next_told(at, Some(ix));
+        next = X::next_reported(at, Some(ix));
     }
 }
 

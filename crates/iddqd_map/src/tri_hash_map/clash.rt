@@ -1,9 +1,9 @@
-//! What a refused item is told of those that have its keys.
+//! Which items have keys of a refused one.
 ghost use Rattle.std.specs.Prelude.{◌≡◌, ◌↔◌, IsTrue};
 ghost use Rattle.iddqd_map.specs.PairConflict.{first_of, second_of, both_of};
-ghost use Rattle.iddqd_map.specs.ThreeKeys.{TellsSome};
+ghost use Rattle.iddqd_map.specs.ThreeKeys.{ReportsSome};
 
-use crate::pair_conflict::{PairConflict, TellsPair};
+use crate::pair_conflict::{PairConflict, ReportsPair};
 use iddqd::item_index::{ItemIndex, OrDash};
 use std::fmt;
 
@@ -23,18 +23,18 @@ pub struct TriClash {
 impl TriClash {
     /// Whether an item has one of the keys.
     pub fn is_some(&self) -> bool
-        ensures { IsTrue result ↔ TellsSome self.now }
+        ensures { IsTrue result ↔ ReportsSome self.now }
     {
         self.key1.is_some() || self.key2.is_some() || self.key3.is_some()
     }
 }
 
-impl TellsPair<ItemIndex, PairConflict<ItemIndex, ItemIndex>> for TriClash {
+impl ReportsPair<ItemIndex, PairConflict<ItemIndex, ItemIndex>> for TriClash {
     ghost first = { λ clash. clash.key1 };
 
     ghost second = { λ clash. both_of clash.key2 clash.key3 };
 
-    fn told(conflict: PairConflict<ItemIndex, PairConflict<ItemIndex, ItemIndex>>) -> TriClash
+    fn reported(conflict: PairConflict<ItemIndex, PairConflict<ItemIndex, ItemIndex>>) -> TriClash
         ensures first { result.key1 ≡ first_of conflict }
         ensures second { both_of result.key2 result.key3 ≡ second_of conflict }
     {

@@ -39,12 +39,12 @@ impl<T: TriHashItem, S: BuildHasher> KeyIndex<T, S> for TriIndex<T> {
     ghost use Rattle.iddqd_hash.specs.Sizes.{most_cells};
     ghost use Rattle.iddqd_by_hash.specs.Hashed.{hashing_of};
     ghost use Rattle.iddqd_map.specs.HashLaws.{shares_laws, Indexes-kept, Indexes-key_kept, Indexes-keys_shared};
-    ghost use Rattle.iddqd_map.specs.KeyLaws.{IsOfThree, told_three, some_three, few_three};
+    ghost use Rattle.iddqd_map.specs.KeyLaws.{IsOfThree, reported_three, some_three, few_three};
     ghost use Rattle.iddqd_map.specs.PairLaws.{AreApart-either, HaveSameKeys-first, HaveSameKeys-second};
     ghost use Rattle.iddqd_by_hash.specs.KeyKeeping.{pair_keys};
     ghost use Rattle.iddqd_map.specs.Map.{shares};
     ghost use Rattle.iddqd_map.specs.Several.{either_key, both_keys};
-    ghost use Rattle.iddqd_map.specs.ThreeKeys.{any_key, all_keys, AreTold, AreTaken};
+    ghost use Rattle.iddqd_map.specs.ThreeKeys.{any_key, all_keys, AreReported, AreTaken};
 
     type Conflict = TriClash;
 
@@ -74,13 +74,13 @@ impl<T: TriHashItem, S: BuildHasher> KeyIndex<T, S> for TriIndex<T> {
 
     ghost key_count = { 3 };
 
-    ghost conflicts = { AreTold (shares T.first_key T.Key1.eq) (shares T.second_key T.Key2.eq)
+    ghost conflicts = { AreReported (shares T.first_key T.Key1.eq) (shares T.second_key T.Key2.eq)
         (shares T.third_key T.Key3.eq) };
 
     ghost taken = { AreTaken (shares T.first_key T.Key1.eq) (shares T.second_key T.Key2.eq)
         (shares T.third_key T.Key3.eq) };
 
-    ghost tells = { λ at. IsOfThree at.key1 at.key2 at.key3 };
+    ghost reports = { λ at. IsOfThree at.key1 at.key2 at.key3 };
 
     fn unasked() -> (Option<MapHash>, (Option<MapHash>, Option<MapHash>)) {
         <Tables<T> as KeyIndex<T, S>>::unasked()
@@ -137,13 +137,13 @@ impl<T: TriHashItem, S: BuildHasher> KeyIndex<T, S> for TriIndex<T> {
         (and_equiv (shares_laws T.second_key T.Key2.eq T.Key2.Eq.laws)
         (shares_laws T.third_key T.Key3.eq T.Key3.Eq.laws)) };
 
-    ghost told = { λ s item. told_three s item (shares T.first_key T.Key1.eq) (shares T.second_key T.Key2.eq)
+    ghost reported = { λ s item. reported_three s item (shares T.first_key T.Key1.eq) (shares T.second_key T.Key2.eq)
         (shares T.third_key T.Key3.eq) };
 
-    ghost told_some = { λ s item. some_three s item (shares T.first_key T.Key1.eq) (shares T.second_key T.Key2.eq)
+    ghost reported_some = { λ s item. some_three s item (shares T.first_key T.Key1.eq) (shares T.second_key T.Key2.eq)
         (shares T.third_key T.Key3.eq) };
 
-    ghost few_told = { λ at. few_three at.key1 at.key2 at.key3 };
+    ghost few_reported = { λ at. few_three at.key1 at.key2 at.key3 };
 }
 
 impl<T: TriHashItem, S: BuildHasher> Sizes<T, S> for TriIndex<T> {
@@ -232,8 +232,8 @@ impl<T: TriHashItem, S: BuildHasher> Inserts<T, S> for TriIndex<T> {
         <Tables<T> as Inserts<T, S>>::insert(&mut self.tables, known, plan, ix)
     }
 
-    fn next_told(conflict: &TriClash, before: Option<ItemIndex>) -> Option<ItemIndex> {
-        <Tables<T> as Inserts<T, S>>::next_told(conflict, before)
+    fn next_reported(conflict: &TriClash, before: Option<ItemIndex>) -> Option<ItemIndex> {
+        <Tables<T> as Inserts<T, S>>::next_reported(conflict, before)
     }
 
     fn spot(

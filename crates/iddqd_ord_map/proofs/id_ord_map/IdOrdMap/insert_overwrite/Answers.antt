@@ -6,11 +6,11 @@ use Rattle.iddqd_ord_map.proofs.id_ord_map.IdOrdMap.insert_overwrite.Goals as go
 pub unreachable-requires : goal.unreachable-requires
 unreachable-requires g c =
     let alike = shares g.T.IdOrdItem.key_of (eq_by_cmp g.T.Key.Ord.cmp) in
-    let told = rw c.in-Err-Duplicate.field-0-is at c.in-Err-Duplicate.ensures.inserts in
-    not_refused alike c.self.inside.map c.insert_unique.new.self c.replace_at.new.self c.args.item c.in-Err-Duplicate.item c.in-Err-Duplicate.at told c.in-Err.field-0 c.in-Err.ensures.replaces
+    let reported = rw c.in-Err-Duplicate.field-0-is at c.in-Err-Duplicate.ensures.inserts in
+    not_refused alike c.self.inside.map c.insert_unique.new.self c.replace_at.new.self c.args.item c.in-Err-Duplicate.item c.in-Err-Duplicate.at reported c.in-Err.field-0 c.in-Err.ensures.replaces
 
 pub returns-in-Ok-replace_at : goal.returns-in-Ok-replace_at
 returns-in-Ok-replace_at g c =
     let alike = shares g.T.IdOrdItem.key_of (eq_by_cmp g.T.Key.Ord.cmp) in
-    let told = rw c.in-Err-Duplicate.field-0-is at c.in-Err-Duplicate.ensures.inserts in
-    rw (← c.self.view_is) (overwritten alike c.self.inside.map c.insert_unique.new.self c.replace_at.new.self c.args.item c.in-Err-Duplicate.item c.in-Err-Duplicate.at told c.in-Ok-replace_at.was c.in-Ok-replace_at.ensures.replaces)
+    let reported = rw c.in-Err-Duplicate.field-0-is at c.in-Err-Duplicate.ensures.inserts in
+    rw (← c.self.view_is) (overwritten alike c.self.inside.map c.insert_unique.new.self c.replace_at.new.self c.args.item c.in-Err-Duplicate.item c.in-Err-Duplicate.at reported c.in-Ok-replace_at.was c.in-Ok-replace_at.ensures.replaces)

@@ -2,13 +2,13 @@ use Rattle.std.proofs.Common.{◌≡◌, ◌-◌, ◌≤◌, length}
 use Rattle.iddqd.specs.ItemSet.{room}
 use Rattle.iddqd_map.specs.KeyIndex.{IsIndexed}
 use Rattle.iddqd_map.proofs.OverwriteLemmas.{Taking}
-use Rattle.iddqd_map.proofs.map.overwrites.remove_told.Given as goal
+use Rattle.iddqd_map.proofs.map.overwrites.remove_reported.Given as goal
 
 abbrev pub invariant-loop-next : goal.invariant-loop-next
 invariant-loop-next g l = record {
   map : IsIndexed (g.X.KeyIndex.indexes l.indexes) l.state l.items.store;
   ready : g.X.Inserts.is_ready_after l.indexes;
-  taking : Taking (g.X.KeyIndex.tells l.at) (length l.fn.places) l.fn.items.store l.places l.items.store l.next l.count;
+  taking : Taking (g.X.KeyIndex.reports l.at) (length l.fn.places) l.fn.items.store l.places l.items.store l.next l.count;
   within : l.count ≤ length l.fn.places;
   slots : l.items.capacity ≡ l.fn.items.capacity;
   room : l.count ≤ room l.items;
