@@ -1,6 +1,6 @@
 //! The key index of a map whose items have three keys: a table by each of them.
 //!
-//! It is a pair of tables under a name of its own, and each step is the pair's. A caller's proof reads the three keys here, and
+//! It is a pair of tables under a name of its own, to which it forwards each step. So a caller's proof reads three keys, and
 //! no pair or table: it would pay for each of them in every function.
 use super::clash::TriClash;
 use super::item::{TriHashItem, First, Second, Third};
@@ -60,17 +60,17 @@ impl<T: TriHashItem, S: BuildHasher> KeyIndex<T, S> for TriIndex<T> {
     ghost same_keys = { all_keys (shares T.first_key T.Key1.eq) (shares T.second_key T.Key2.eq)
         (shares T.third_key T.Key3.eq) };
 
-    ghost indexes = { λ x. ⟦<Pair<ByHash<First, T::Key1>, Pair<ByHash<Second, T::Key2>, ByHash<Third, T::Key3>>, TriClash> as KeyIndex<T, S>>⟧.indexes x.tables };
+    ghost indexes = { λ x. ⟦<Tables<T> as KeyIndex<T, S>>⟧.indexes x.tables };
 
-    ghost capacity = { λ x. ⟦<Pair<ByHash<First, T::Key1>, Pair<ByHash<Second, T::Key2>, ByHash<Third, T::Key3>>, TriClash> as KeyIndex<T, S>>⟧.capacity x.tables };
+    ghost capacity = { λ x. ⟦<Tables<T> as KeyIndex<T, S>>⟧.capacity x.tables };
 
-    ghost cells = { λ x. ⟦<Pair<ByHash<First, T::Key1>, Pair<ByHash<Second, T::Key2>, ByHash<Third, T::Key3>>, TriClash> as KeyIndex<T, S>>⟧.cells x.tables };
+    ghost cells = { λ x. ⟦<Tables<T> as KeyIndex<T, S>>⟧.cells x.tables };
 
     ghost most = { λ n. most_cells n + (most_cells n + most_cells n) };
 
     ghost may_lack = { false };
 
-    ghost same = { λ x y. ⟦<Pair<ByHash<First, T::Key1>, Pair<ByHash<Second, T::Key2>, ByHash<Third, T::Key3>>, TriClash> as KeyIndex<T, S>>⟧.same x.tables y.tables };
+    ghost same = { λ x y. ⟦<Tables<T> as KeyIndex<T, S>>⟧.same x.tables y.tables };
 
     ghost key_count = { 3 };
 
@@ -184,15 +184,15 @@ impl<T: TriHashItem, S: BuildHasher> Inserts<T, S> for TriIndex<T> {
 
     type Plan = ((), ((), ()));
 
-    ghost is_known = { ⟦<Pair<ByHash<First, T::Key1>, Pair<ByHash<Second, T::Key2>, ByHash<Third, T::Key3>>, TriClash> as Inserts<T, S>>⟧.is_known };
+    ghost is_known = { ⟦<Tables<T> as Inserts<T, S>>⟧.is_known };
 
-    ghost is_spot = { λ x. ⟦<Pair<ByHash<First, T::Key1>, Pair<ByHash<Second, T::Key2>, ByHash<Third, T::Key3>>, TriClash> as Inserts<T, S>>⟧.is_spot x.tables };
+    ghost is_spot = { λ x. ⟦<Tables<T> as Inserts<T, S>>⟧.is_spot x.tables };
 
-    ghost is_planned = { λ x. ⟦<Pair<ByHash<First, T::Key1>, Pair<ByHash<Second, T::Key2>, ByHash<Third, T::Key3>>, TriClash> as Inserts<T, S>>⟧.is_planned x.tables };
+    ghost is_planned = { λ x. ⟦<Tables<T> as Inserts<T, S>>⟧.is_planned x.tables };
 
-    ghost has_room_for = { λ x. ⟦<Pair<ByHash<First, T::Key1>, Pair<ByHash<Second, T::Key2>, ByHash<Third, T::Key3>>, TriClash> as Inserts<T, S>>⟧.has_room_for x.tables };
+    ghost has_room_for = { λ x. ⟦<Tables<T> as Inserts<T, S>>⟧.has_room_for x.tables };
 
-    ghost is_ready_after = { λ x. ⟦<Pair<ByHash<First, T::Key1>, Pair<ByHash<Second, T::Key2>, ByHash<Third, T::Key3>>, TriClash> as Inserts<T, S>>⟧.is_ready_after x.tables };
+    ghost is_ready_after = { λ x. ⟦<Tables<T> as Inserts<T, S>>⟧.is_ready_after x.tables };
 
     fn known(state: &S, item: &T) -> (MapHash, (MapHash, MapHash)) {
         <Tables<T> as Inserts<T, S>>::known(state, item)
@@ -274,11 +274,11 @@ impl<T: TriHashItem, S: BuildHasher> Removes<T, S> for TriIndex<T> {
 impl<T: TriHashItem, S: BuildHasher> Moves<T, S> for TriIndex<T> {
     type Move = (Move, (Move, Move));
 
-    ghost is_move = { ⟦<Pair<ByHash<First, T::Key1>, Pair<ByHash<Second, T::Key2>, ByHash<Third, T::Key3>>, TriClash> as Moves<T, S>>⟧.is_move };
+    ghost is_move = { ⟦<Tables<T> as Moves<T, S>>⟧.is_move };
 
-    ghost moves = { ⟦<Pair<ByHash<First, T::Key1>, Pair<ByHash<Second, T::Key2>, ByHash<Third, T::Key3>>, TriClash> as Moves<T, S>>⟧.moves };
+    ghost moves = { ⟦<Tables<T> as Moves<T, S>>⟧.moves };
 
-    ghost is_ready = { λ x. ⟦<Pair<ByHash<First, T::Key1>, Pair<ByHash<Second, T::Key2>, ByHash<Third, T::Key3>>, TriClash> as Moves<T, S>>⟧.is_ready x.tables };
+    ghost is_ready = { λ x. ⟦<Tables<T> as Moves<T, S>>⟧.is_ready x.tables };
 
     fn plan_move(
         &self,
