@@ -1,4 +1,5 @@
--- For callers of the walks: each live index comes once with its item, by rising index, and there are as many as are live.
+-- For callers of the walks: each live index comes once with its item, by rising index, and there are as many as are
+-- live.
 use Rattle.std.proofs.Common.{◌≡◌, ℕ, zero, suc, ◌+◌, ◌<◌, ◌≤◌, List, [], ◌∷◌, ◌++◌, map, length, get_or, Option, Some, None, is_some, count_by, cond, slice_get, refl, ap, ◌∙◌, inl, inr, arith, add-zero, zero-add}
 use Rattle.std.specs.List.{Contains}
 use Rattle.std.proofs.lemmas.List.Sums.{sum_by-cons}

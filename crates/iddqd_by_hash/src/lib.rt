@@ -1,7 +1,7 @@
 //! What a hash table of a store's indexes means for one key of the store's items.
 //!
-//! Its calls are functions over the table and the store, and a type names the key. So a collection has both as plain fields;
-//! what a wrapper's field lends couldn't be handed on.
+//! Its calls are functions over the table and the store, and a type names the key. So a collection has both as plain
+//! fields; what a wrapper's field lends couldn't be handed on.
 #![tactic(auto)]
 
 pub mod hashed;

@@ -205,8 +205,8 @@ module _ {T S K1 K2 : Type 0} (keys : Keys T K1 K2 S) where
     few = few;
   }
 
-  -- For callers: where at each moment there are fewer items than could be held at the start, no item of a run is refused
-  -- for want of memory.
+  -- For callers: where at each moment there are fewer items than could be held at the start, no item of a run is
+  -- refused for want of memory.
   none_refused_along :
       (held : ℕ) {old new : State T S} {commands : List (Command T K1 K2)} {replies : List (Reply T)}
       {moments : List (State T S)} → IsStepChain keys old commands replies moments new

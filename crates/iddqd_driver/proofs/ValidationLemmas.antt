@@ -30,8 +30,8 @@ use Rattle.iddqd_driver.specs.State.{State, IsPaired}
 use Rattle.iddqd_driver.specs.Validation.{named}
 use Rattle.iddqd_driver.proofs.KeepsLemmas.{Holds-order}
 
--- A walk over the live items has these left, and the others pass: each that is left is live, and each live one is left or
--- passes.
+-- A walk over the live items has these left, and the others pass: each that is left is live, and each live one is left
+-- or passes.
 module _ {T : Type 0} (s : Store T) (Passes : ℕ → T → Type 0) where
   pub record Checked (left : List (ℕ × T)) : Type 0 where
     pub live : (ix : ℕ) (item : T) → Contains left (ix, item) → get s ix ≡ Some item

@@ -68,8 +68,8 @@ module _ {T S K1 K2 : Type 0} (keys : Keys T K1 K2 S) where
     pub adds : Adds old.order (next_index old.store) new.order
     pub state : new ≡ bound old item new.order
 
-  -- What an insert may answer and leave: what is told of its look-ups is what they may answer; the item is stored, or it
-  -- comes back and nothing changes.
+  -- What an insert may answer and leave: what is told of its look-ups is what they may answer; the item is stored, or
+  -- it comes back and nothing changes.
   pub record Inserts (old : State T S) (item : T) (result : Result ℕ (InsertRefusal T)) (new : State T S)
       : Type 0 where
     pub first : (first_side keys).Finds old (keys.first item) (finds_told result).0

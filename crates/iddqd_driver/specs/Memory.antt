@@ -19,8 +19,8 @@ use Rattle.iddqd_driver.specs.declared.command.Reply.TheVariants.{Refused}
 use Rattle.iddqd_driver.specs.declared.keyed_items.InsertRefusal.{InsertRefusal}
 use Rattle.iddqd_driver.specs.declared.keyed_items.InsertRefusal.TheVariants.{Memory as OutOfMemory}
 
--- How many slots the store's memory holds, how many indexes the hash table can hold, how many cells it has, and how many
--- indexes the ordered table can hold.
+-- How many slots the store's memory holds, how many indexes the hash table can hold, how many cells it has, and how
+-- many indexes the ordered table can hold.
 pub record Memory : Type 0 where
   pub slots : ℕ
   pub hashed : ℕ
@@ -97,8 +97,8 @@ pub record InsertsInMemory {T : Type 0} (has_room : Type 0) (old : Memory) (resu
   pub had_room : has_room → new ≡ old
   pub not_refused : has_room → IfErr result (λ refusal. IsForMemory refusal → ⊥)
 
--- What an insert beside so many items takes at most, whatever it answers: slots for twice as many, at least for four, and
--- none past the limit; and no more cells than one more index needs.
+-- What an insert beside so many items takes at most, whatever it answers: slots for twice as many, at least for four,
+-- and none past the limit; and no more cells than one more index needs.
 pub record TakesForOne (limit items : ℕ) (old new : Memory) : Type 0 where
   pub slots : new.slots ≤ max old.slots (min limit (max 4 (2 * items)))
   pub cells : new.cells ≤ max old.cells (most_cells (items + 1))
@@ -135,8 +135,8 @@ module _ {T S : Type 0} where
   reservable additional k = min additional (insertable k.state.store)
 
   -- What a reserve leaves: the contents; no part can hold less than before; at Ok there is room for so many more items,
-  -- or for as many as the limit leaves; where there was, nothing changes. The tables have no more than so many need, and
-  -- the store no more slots than that, or twice as many as it had.
+  -- or for as many as the limit leaves; where there was, nothing changes. The tables have no more than so many need,
+  -- and the store no more slots than that, or twice as many as it had.
   pub record ReservesInMemory {E : Type 0}
       (additional : ℕ) (old : SizedState T S) (result : Result (Unit {0}) E) (new : SizedState T S) : Type 0 where
     pub contents : new.state ≡ old.state
@@ -153,8 +153,8 @@ module _ {T S : Type 0} where
         new.memory.ordered
         ≤ max old.memory.ordered (capacity_for (live_count old.state.store + reservable additional old))
 
-  -- What a shrink to so many items leaves: the contents, and the capacity for as many, or for those that there are. At Ok
-  -- no part has more than that needs; of the store each slot stays, the vacant ones too.
+  -- What a shrink to so many items leaves: the contents, and the capacity for as many, or for those that there are. At
+  -- Ok no part has more than that needs; of the store each slot stays, the vacant ones too.
   pub record ShrinksInMemory {E : Type 0}
       (least : ℕ) (old : SizedState T S) (result : Result (Unit {0}) E) (new : SizedState T S) : Type 0 where
     pub contents : new.state ≡ old.state
@@ -182,9 +182,9 @@ module _ {T S : Type 0} where
       (live_count moment.store < held → RefusesMemory reply → ⊥) × IsServedBelow held next replies moments
   IsServedBelow held moment replies moments = ⊤
 
--- A run and its memory: no part can hold less than at the start; at each moment with fewer items than could be held at the
--- start, no item is refused for want of memory; and where there never are more than so many items, no more is taken than
--- an insert beside these may take.
+-- A run and its memory: no part can hold less than at the start; at each moment with fewer items than could be held at
+-- the start, no item is refused for want of memory; and where there never are more than so many items, no more is taken
+-- than an insert beside these may take.
 pub record RunsInMemory
     {T S K1 K2 : Type 0} (keys : Keys T K1 K2 S) (old : SizedState T S) (commands : List (Command T K1 K2))
     (replies : List (Reply T)) (new : SizedState T S) : Type 0 where

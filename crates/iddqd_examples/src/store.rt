@@ -58,7 +58,8 @@ fn permutes(set: &mut ItemSet<u32>, wanted: &[ItemIndex]) -> bool {
     }
 }
 
-// Makes an empty set one of six slots, of which 1, 3 and 5 are vacant, and tells whether each call answered as it should.
+// Makes an empty set one of six slots, of which 1, 3 and 5 are vacant, and tells whether each call answered as it
+// should.
 fn has_gaps(set: &mut ItemSet<u32>) -> bool {
     inserts(set, &[(0, 0), (10, 1), (20, 2), (30, 3), (40, 4), (50, 5)])
         && removes(set, &[(1, Some(10)), (3, Some(30)), (5, Some(50))])

@@ -1,8 +1,8 @@
 //! Items with two or three unique keys, commands over them, and the line protocol.
 //!
 //! [`keyed_items::KeyedItems`] keeps items with two keys, which may change without its tables being updated, and obeys
-//! commands. [`tri_items::TriItems`] keeps items with three keys. [`serve::serve`] reads commands from lines and answers
-//! each with a line, from a [`source::Source`] to a [`sink::Sink`].
+//! commands. [`tri_items::TriItems`] keeps items with three keys. [`serve::serve`] reads commands from lines and
+//! answers each with a line, from a [`source::Source`] to a [`sink::Sink`].
 //!
 //! It re-exports three crates, `iddqd_driver`, `iddqd_tri` and `iddqd_lines`, so that each is proved beside the others.
 #![tactic(auto)]

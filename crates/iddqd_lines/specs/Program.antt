@@ -99,8 +99,8 @@ default_hash state key = folding.finish (fold folding.write (initial_hasher stat
 abbrev pub IsDefaultHasher : BuildHasherDefault FoldHasher → Type 0
 IsDefaultHasher hasher = initial_hasher hasher ≡ folding.initial
 
--- Where `serve` ends so, the bytes that were written since `before` are outs of lines of the input, from the empty state
--- on, and then a part of the next line's: of which lines, and what part, the end tells.
+-- Where `serve` ends so, the bytes that were written since `before` are outs of lines of the input, from the empty
+-- state on, and then a part of the next line's: of which lines, and what part, the end tells.
 pub record ServesUntil (end : Result (Unit {0}) ServeFault) (input : List ℕ) (left before after : Option (List ℕ))
     : Type 0 where
   pub hasher : BuildHasherDefault FoldHasher
@@ -127,8 +127,8 @@ pub record ServesAll (input : List ℕ) (before after : Option (List ℕ)) : Typ
 abbrev pub most_reads : ℕ
 most_reads = 18446744073709551615
 
--- At the end of the input neither side has failed. At a fault that side alone has, but that a source of as many bytes as
--- the most reads, or more, need not have failed.
+-- At the end of the input neither side has failed. At a fault that side alone has, but that a source of as many bytes
+-- as the most reads, or more, need not have failed.
 abbrev pub FailsAt : Result (Unit {0}) ServeFault → Option (List ℕ) → Bool → Bool → Type 0
 FailsAt (Ok u) left reading writing = (reading ≡ false) × (writing ≡ false)
 FailsAt (Err Read) left reading writing =

@@ -49,8 +49,8 @@ module _ {S O : Type 0} (hash : S → ℕ → ℕ) (g : sink.Ghosts O) (old : Mo
     pub serves : Serves hash old.items lines out new.items
     pub sends : Sends g old.output old.waits out result new.output new.waits
 
-  -- A line had begun. These further bytes end some lines, which are answered, and begin another, which is kept where all
-  -- went well.
+  -- A line had begun. These further bytes end some lines, which are answered, and begin another, which is kept where
+  -- all went well.
   pub record Feeds (partial bytes : List ℕ) (result : Result (Unit {0}) (Unit {0})) (new : Moment S O) (kept : Option (List ℕ))
       : Type 0 where
     pub done : List (List ℕ)

@@ -4,8 +4,8 @@ use Rattle.iddqd.specs.Store.{slot_count, live_count}
 use Rattle.iddqd_map.specs.Map.{MapState, MapMemory, insertable, room}
 
 module _ {T : Type 0} (most : ℕ → ℕ) where
-  -- What is taken so that there is room for one more item: nothing where there was room. Else at most twice as many slots,
-  -- at least four, and never past the limit; and of the tables what so many indexes need. None is given back.
+  -- What is taken so that there is room for one more item: nothing where there was room. Else at most twice as many
+  -- slots, at least four, and never past the limit; and of the tables what so many indexes need. None is given back.
   pub record MakesRoom (old : MapState T) (new : MapMemory) : Type 0 where
     pub had_room : 1 ≤ room old → new ≡ old.memory
     pub slots_stay : old.memory.slots ≤ new.slots

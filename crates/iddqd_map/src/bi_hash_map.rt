@@ -65,8 +65,8 @@ impl<T: BiHashItem, S: BuildHasher> Map<T, BiIndex<T>, S> {
 
     /// Puts an item in the place of the one that has the first key, which is handed back.
     ///
-    /// The item may have other keys. It keeps the index. Where other items have a key of it, it comes back, and nothing changes. It
-    /// takes no memory, and touches no table whose key stays.
+    /// The item may have other keys. It keeps the index. Where other items have a key of it, it comes back, and nothing
+    /// changes. It takes no memory, and touches no table whose key stays.
     pub fn replace1<Q: HashQuery<T::Key1>>(
         &mut self,
         query: Q,
@@ -79,8 +79,8 @@ impl<T: BiHashItem, S: BuildHasher> Map<T, BiIndex<T>, S> {
         self.replace_by::<First, Q>(query, item)
     }
 
-    /// Puts what the closure makes of the item that has the first key in its place, and hands that item back; or answers
-    /// none, where no item has it.
+    /// Puts what the closure makes of the item that has the first key in its place, and hands that item back; or
+    /// answers none, where no item has it.
     ///
     /// The closure is called at most once, and not at all where no item has the key. Else as `replace1`.
     pub fn change1<Q: HashQuery<T::Key1>, F: FnOnce(&T) -> T>(
@@ -96,8 +96,8 @@ impl<T: BiHashItem, S: BuildHasher> Map<T, BiIndex<T>, S> {
         self.change_by::<First, Q, F>(query, f)
     }
 
-    /// Calls the closure with a `&mut` to the item that has the first key, as `modify_at`; or returns none, and doesn't call
-    /// it, where no item has the key. It is one look-up.
+    /// Calls the closure with a `&mut` to the item that has the first key, as `modify_at`; or returns none, and doesn't
+    /// call it, where no item has the key. It is one look-up.
     pub fn modify1<Q: HashQuery<T::Key1>, R, F: FnOnce(&mut T) -> R>(
         &mut self,
         query: Q,

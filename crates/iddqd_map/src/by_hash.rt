@@ -1,4 +1,5 @@
-//! A key index by one key, which no two items share: each index stands in a hash table, under the hash of its item's key.
+//! A key index by one key, which no two items share: each index stands in a hash table, under the hash of its item's
+//! key.
 //!
 //! Invariants, of a table that indexes a store under the state of a hasher:
 //!
@@ -6,8 +7,8 @@
 //! 2. each of them stands under the hash that its item's key has under this state;
 //! 3. no two items have equal keys.
 //!
-//! By these a look-up, which hashes once, answers as a scan of all items does. Keys are not copied: the table has hashes
-//! and indexes alone.
+//! By these a look-up, which hashes once, answers as a scan of all items does. Keys are not copied: the table has
+//! hashes and indexes alone.
 ghost use Rattle.std.specs.Prelude.{◌≡◌};
 ghost use Rattle.iddqd_hash.specs.{filed};
 ghost use Rattle.iddqd_by_hash.specs.Scan.{AnswersScan, passes_by};

@@ -65,8 +65,8 @@ impl<T: IdHashItem, S: BuildHasher> Map<T, IdIndex<T>, S> {
 
     /// Puts an item in the place of the one that has the key, which is handed back.
     ///
-    /// The item may have another key. It keeps the index. Where another item has its key, it comes back, and nothing changes. It
-    /// takes no memory, and touches no table whose key stays.
+    /// The item may have another key. It keeps the index. Where another item has its key, it comes back, and nothing
+    /// changes. It takes no memory, and touches no table whose key stays.
     pub fn replace<Q: HashQuery<T::Key>>(
         &mut self,
         query: Q,

@@ -385,7 +385,8 @@ pub trait Checks<T, S>: KeyIndex<T, S> {
     fn is_same(item: &T, other: &T) -> bool
         ensures { result ≡ Self.same_keys item.now other.now };
 
-    /// Whether the tables are sound over the store, as they are in every map, where the slots are as the mode wants them.
+    /// Whether the tables are sound over the store, as they are in every map, where the slots are as the mode wants
+    /// them.
     ///
     /// It sorts a copy of the indexes, whose memory may be refused.
     fn validate(

@@ -1,5 +1,5 @@
-//! A map of items that have three keys each, all found by their hashes: a [`Map`] whose key index is a table by the first and a pair of tables by the
-//! others.
+//! A map of items that have three keys each, all found by their hashes: a [`Map`] whose key index is a table by the
+//! first and a pair of tables by the others.
 //!
 //! All calls that name no key are `Map`'s. Here are those that do, each the call of `Map` at the place of its key.
 ghost use Rattle.std.specs.Prelude.{◌≡◌, ◌+◌, ◌↔◌, false, option_copied};
@@ -65,8 +65,8 @@ impl<T: TriHashItem, S: BuildHasher> Map<T, TriIndex<T>, S> {
 
     /// Puts an item in the place of the one that has the first key, which is handed back.
     ///
-    /// The item may have other keys. It keeps the index. Where other items have a key of it, it comes back, and nothing changes. It
-    /// takes no memory, and touches no table whose key stays.
+    /// The item may have other keys. It keeps the index. Where other items have a key of it, it comes back, and nothing
+    /// changes. It takes no memory, and touches no table whose key stays.
     pub fn replace1<Q: HashQuery<T::Key1>>(
         &mut self,
         query: Q,
@@ -81,8 +81,8 @@ impl<T: TriHashItem, S: BuildHasher> Map<T, TriIndex<T>, S> {
         self.replace_by::<First, Q>(query, item)
     }
 
-    /// Puts what the closure makes of the item that has the first key in its place, and hands that item back; or answers
-    /// none, where no item has it.
+    /// Puts what the closure makes of the item that has the first key in its place, and hands that item back; or
+    /// answers none, where no item has it.
     ///
     /// The closure is called at most once, and not at all where no item has the key. Else as `replace1`.
     pub fn change1<Q: HashQuery<T::Key1>, F: FnOnce(&T) -> T>(
@@ -100,8 +100,8 @@ impl<T: TriHashItem, S: BuildHasher> Map<T, TriIndex<T>, S> {
         self.change_by::<First, Q, F>(query, f)
     }
 
-    /// Calls the closure with a `&mut` to the item that has the first key, as `modify_at`; or returns none, and doesn't call
-    /// it, where no item has the key. It is one look-up.
+    /// Calls the closure with a `&mut` to the item that has the first key, as `modify_at`; or returns none, and doesn't
+    /// call it, where no item has the key. It is one look-up.
     pub fn modify1<Q: HashQuery<T::Key1>, R, F: FnOnce(&mut T) -> R>(
         &mut self,
         query: Q,
@@ -258,8 +258,8 @@ impl<T: TriHashItem, S: BuildHasher> Map<T, TriIndex<T>, S> {
         self.modify_by::<Third, Q, R, F>(query, f)
     }
 
-    /// Takes an item, and removes those that share a key with it, at most three, which it hands back by rising index from
-    /// the first place on.
+    /// Takes an item, and removes those that share a key with it, at most three, which it hands back by rising index
+    /// from the first place on.
     ///
     /// Then no memory is needed. Where none does, it is inserted, and may be refused, as by `insert_unique`.
     pub fn insert_overwrite(

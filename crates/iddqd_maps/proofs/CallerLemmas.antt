@@ -1,5 +1,6 @@
--- For callers of maps: what a look-up found passes the test; once the item with a key was removed, none has it; what each
--- call of a closure leaves holds of an item that was modified by it; and `retain` leaves no more items than there were.
+-- For callers of maps: what a look-up found passes the test; once the item with a key was removed, none has it; what
+-- each call of a closure leaves holds of an item that was modified by it; and `retain` leaves no more items than there
+-- were.
 use Rattle.std.proofs.Common.{◌≡◌, ◌≤◌, ℕ, zero, suc, Bool, true, List, [], ◌∷◌, slice_set, Option, Some, None, is_some, cond, refl, sym, subst, arith}
 use Rattle.std.specs.Borrow.{MutBor}
 use Rattle.std.specs.Fn.{Once, FnOnceReturnsAtMut}

@@ -174,7 +174,8 @@ mended-shared h i xs ks l r new_l m new_r n rows below left right =
     (mended h i xs (m ∷ []) ks (new_l ∷ new_r ∷ []) l r n refl (omega arith) (All-cons (IsChild h) new_l (new_r ∷ []) low (All-cons (IsChild h) new_r [] high (All-nil (IsChild h))))
     (flat-pair h new_l m new_r left.1 right.1 ∙ (λ j. weave (rows j) (lists (h - 1) (below j))) ∙ sym (flat-pair h l (get_or xs i 0) r a.0 b.0)))
 
--- an index, and a child if there is one, went from the end of the one to the beginning of the other, by the index between
+-- an index, and a child if there is one, went from the end of the one to the beginning of the other, by the index
+-- between
 pub record IsPassed (l : Node) (x : ℕ) (r new_l : Node) (m : ℕ) (new_r : Node) (moved : Option Node) : Type 0 where
   pub left : row l ≡ row new_l ++ m ∷ []
   pub right : row new_r ≡ x ∷ row r

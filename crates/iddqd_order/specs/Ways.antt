@@ -17,7 +17,8 @@ pub record IsWay (h : ℕ) (n : Node) (w : Way) : Type 0 where
   pub holds : w.place < length (flat h n) → Holds w.level h n w.path
   pub leads : w.place < length (flat h n) → spot w.level h n w.path ≡ w.place
 
--- the other tree has as many indexes, and each path that goes to an index of the one goes to the same place in the other
+-- the other tree has as many indexes, and each path that goes to an index of the one goes to the same place in the
+-- other
 pub record SamePlaces (h : ℕ) (n m : Node) : Type 0 where
   pub long : length (flat h m) ≡ length (flat h n)
   pub at : (l : ℕ) (p : List ℕ) → Holds l h n p → Holds l h m p × (spot l h m p ≡ spot l h n p)

@@ -67,8 +67,8 @@ pub record TableGrows (wanted : ℕ) (old new : TableMemory) : Type 0 where
   pub cells_stay : old.cells ≤ new.cells
   pub few : new.cells ≤ max old.cells (most_cells wanted)
 
--- What the store takes so that it can have so many slots: nothing where it can already. It gives none back, and takes at
--- most twice what there was or what is wanted, at least four, and never past the limit.
+-- What the store takes so that it can have so many slots: nothing where it can already. It gives none back, and takes
+-- at most twice what there was or what is wanted, at least four, and never past the limit.
 pub record SlotsGrow (limit wanted old new : ℕ) : Type 0 where
   pub had_room : wanted ≤ old → new ≡ old
   pub slots_stay : old ≤ new
@@ -94,8 +94,8 @@ pub record TableShrinks {A E : Type 0} (wanted : ℕ) (old : TableMemory) (resul
   pub capacity_stays : min old.capacity wanted ≤ new.capacity
   pub shrunk : OnOk result (new.cells ≤ most_cells wanted)
 
--- What is given back of what so many items don't need, and no slot is lost that there is. A refusal means that some part
--- has more than is needed, and never comes where nothing is needed.
+-- What is given back of what so many items don't need, and no slot is lost that there is. A refusal means that some
+-- part has more than is needed, and never comes where nothing is needed.
 pub record Shrinks {A E : Type 0} (slots wanted : ℕ) (old : TriMemory) (result : Result A E) (new : TriMemory)
     : Type 0 where
   pub never_more : new.slots ≤ old.slots

@@ -1,7 +1,7 @@
 //! A registry of names: a name is registered once, and has its number for ever.
 //!
-//! It stands on a map, and its clauses don't speak of that: a registry is the list of its names, in which the place of a
-//! name is its number. Since no name leaves it, numbers count up from 0 without a gap.
+//! It stands on a map, and its clauses don't speak of that: a registry is the list of its names, in which the place of
+//! a name is its number. Since no name leaves it, numbers count up from 0 without a gap.
 ghost use Rattle.std.specs.Prelude.{◌≡◌, ◌↔◌, ◌++◌, ◌∷◌, [], ℕ, Some, Contains, IsOk, IfOk, IfErr, OnErr, length, slice_get};
 ghost use Rattle.std.specs.String.{string_bytes};
 ghost use Rattle.uses.specs.Registry.{TellsWhy};

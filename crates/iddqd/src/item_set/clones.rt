@@ -20,7 +20,8 @@ impl<T: Clone> Clone for ItemSlot<T> {
     }
 }
 
-/// The copy's memory is for exactly the slots that there are. Where memory is refused, the clones made so far are dropped.
+/// The copy's memory is for exactly the slots that there are. Where memory is refused, the clones made so far are
+/// dropped.
 impl<T: Clone> Clone for ItemSet<T> {
     ghost use Rattle.iddqd.specs.Clones.{IsStoreClone};
 

@@ -49,9 +49,9 @@ impl<T> ItemSet<T> {
     /// Takes memory for so many slots past those that there are, so that as many inserts need none.
     ///
     /// It is the capacity that inserts use, so removals, `clear` and `compact` between them lose nothing. Where it is
-    /// refused, or where no vector can hold so many, nothing changes. Memory may be taken past the limit of the
-    /// set, where it is no room. It is taken for twice as many slots as before where that is more, but then for none past the
-    /// limit.
+    /// refused, or where no vector can hold so many, nothing changes. Memory may be taken past the limit of the set,
+    /// where it is no room. It is taken for twice as many slots as before where that is more, but then for none past
+    /// the limit.
     pub fn reserve(&mut self, additional: usize) -> Result<(), AllocError>
         ensures memory { ReservesSlots additional self.old result self.new }
         ensures room { OnOk result (min additional (insertable self.new.store) ≤ room self.new) }

@@ -17,8 +17,8 @@ use std::alloc::{AllocError, Global};
 use std::hash::BuildHasher;
 
 impl<T: KeyedItem, S: BuildHasher> KeyedItems<T, S> {
-    /// No items, and memory for so many, or for as many as there are indexes but `SENTINEL` where that is fewer. With 0 it
-    /// takes no memory.
+    /// No items, and memory for so many, or for as many as there are indexes but `SENTINEL` where that is fewer. With 0
+    /// it takes no memory.
     pub fn with_capacity(
         alloc: Global,
         state: S,

@@ -1,9 +1,9 @@
 //! An item becomes another one, which may have other keys, and both tables are told.
 //!
-//! Each new key is looked up once. Where that hits the index itself its table stays as it is; where it misses, the index
-//! is taken out of the table, wherever it stands there, and goes where the new key belongs. So the call works after
-//! silent changes too. The ordered table takes its memory while the old item still stands everywhere; the hash table
-//! needs none.
+//! Each new key is looked up once. Where that hits the index itself its table stays as it is; where it misses, the
+//! index is taken out of the table, wherever it stands there, and goes where the new key belongs. So the call works
+//! after silent changes too. The ordered table takes its memory while the old item still stands everywhere; the hash
+//! table needs none.
 ghost use Rattle.std.specs.Prelude.{◌≡◌, ◌≤◌, length, Some, IsSome, IsOk, IfOk, OnOk, IfErr, OnErr};
 ghost use Rattle.std.specs.FinMap as finite;
 ghost use Rattle.iddqd.specs.{get, live_count, rebound};
@@ -43,7 +43,8 @@ pub enum ReplaceRefusal<T> {
         first: Option<ItemIndex>,
         second: Option<ItemIndex>,
     },
-    /// No other item has one of the keys, the second one is new to the index, and memory was refused to the ordered table.
+    /// No other item has one of the keys, the second one is new to the index, and memory was refused to the ordered
+    /// table.
     Memory(T),
 }
 
@@ -69,8 +70,8 @@ impl<T: fmt::Debug + Drop> Error for ReplaceRefusal<T> {}
 impl<T: KeyedItem, S: BuildHasher> KeyedItems<T, S> {
     /// Puts an item in the place of the one at a live index, which is handed back, and tells both tables.
     ///
-    /// The index stays, and each table is in order then where it was before. The item may have other keys, but none that
-    /// another item has. A refusal hands it back and changes nothing.
+    /// The index stays, and each table is in order then where it was before. The item may have other keys, but none
+    /// that another item has. A refusal hands it back and changes nothing.
     ///
     /// The hash table needs no memory for a new key: the removal of the old entry leaves the room. Nor does the ordered
     /// table while it holds no more indexes than its capacity; past that a new second key may be refused memory.

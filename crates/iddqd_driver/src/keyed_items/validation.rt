@@ -24,12 +24,12 @@ use std::hash::BuildHasher;
 impl<T: KeyedItem, S: BuildHasher> KeyedItems<T, S> {
     /// Whether store and tables are sound in the mode, and each item is found.
     ///
-    /// With `ValidateChaos::Yes` each index is sought by a walk over both tables, which always finds it. With `No` it is
-    /// sought by the keys that its item has now, which may miss where a key was changed by `overwrite`. The first check
-    /// that fails is told: of the store, of each table, of each item by rising index.
+    /// With `ValidateChaos::Yes` each index is sought by a walk over both tables, which always finds it. With `No` it
+    /// is sought by the keys that its item has now, which may miss where a key was changed by `overwrite`. The first
+    /// check that fails is told: of the store, of each table, of each item by rising index.
     ///
-    /// Memory is taken for sorted copies of the indexes and for the words of a refusal. With `Yes` the cost grows as the
-    /// square of the number of items, with `No` as sorting does.
+    /// Memory is taken for sorted copies of the indexes and for the words of a refusal. With `Yes` the cost grows as
+    /// the square of the number of items, with `No` as sorting does.
     pub fn validate(
         &self,
         compactness: ValidateCompact,

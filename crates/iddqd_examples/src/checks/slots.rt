@@ -7,8 +7,8 @@ use std::alloc::{AllocError, Global};
 use std::process::Abort;
 use std::test::Fail;
 
-// Slots, of which each has an item, or names the next vacant one; the head of the chain; how many items there should be;
-// and what is told.
+// Slots, of which each has an item, or names the next vacant one; the head of the chain; how many items there should
+// be; and what is told.
 type Case = (&'static [Option<u32>], u32, u32, &'static str);
 
 const ITEM: Option<u32> = None;

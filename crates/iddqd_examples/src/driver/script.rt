@@ -208,8 +208,8 @@ fn assert_run<S: BuildHasher>(
     assert_replies(rt, alloc, replies.as_slice(), script)
 }
 
-/// From no items under that hasher and within that limit the calls answer so; once all is cleared, so does a run of their
-/// commands.
+/// From no items under that hasher and within that limit the calls answer so; once all is cleared, so does a run of
+/// their commands.
 pub(super) fn assert_within<S: BuildHasher + Copy>(
     rt: &impl Abort,
     alloc: Global,

@@ -118,8 +118,8 @@ impl<T, X: Removes<T, S>, S> Map<T, X, S> {
 
     /// Moves every item down to its rank, so that no slot is vacant, and returns the new names.
     ///
-    /// No key is hashed or compared. Where no slot is vacant it is `Identity` and takes no memory. Else it takes that of
-    /// one index a slot before an item moves; where that is refused nothing changes.
+    /// No key is hashed or compared. Where no slot is vacant it is `Identity` and takes no memory. Else it takes that
+    /// of one index a slot before an item moves; where that is refused nothing changes.
     pub fn compact(&mut self) -> Result<IndexRemap, AllocError>
     where
         T: Drop,

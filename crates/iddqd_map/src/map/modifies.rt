@@ -24,8 +24,8 @@ impl<T, X: KeyIndex<T, S>, S> Map<T, X, S> {
         self.modify_live(ix, f)
     }
 
-    /// The same as `modify_at`, but requires in two clauses what that requires in one: each clause is a goal of its own at
-    /// a call, and both together are much cheaper to check than the one.
+    /// The same as `modify_at`, but requires in two clauses what that requires in one: each clause is a goal of its own
+    /// at a call, and both together are much cheaper to check than the one.
     pub fn modify_live<R, F: FnOnce(&mut T) -> R>(&mut self, ix: ItemIndex, f: F) -> Option<R>
         requires callable { (item : MutBor T) → get self.old.store ix ≡ Some item.now → F.FnOnce.pre f (item, tt) }
         requires keeps { KeepsKey F.FnOnce f X.keys (λ item. get self.old.store ix ≡ Some item) }

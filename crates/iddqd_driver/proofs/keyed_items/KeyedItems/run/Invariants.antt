@@ -9,8 +9,8 @@ use Rattle.iddqd_driver.specs.Memory.{IsNoLower, IsServedBelow, TakesForOne, cap
 use Rattle.iddqd_driver.specs.Run.{IsStepChain}
 use Rattle.iddqd_driver.proofs.keyed_items.KeyedItems.run.Given as goal
 
--- the replies so far answer the commands so far, none refuses memory where there was room at first, no more was taken than
--- the most items need, and there is room for a reply to each command left
+-- the replies so far answer the commands so far, none refuses memory where there was room at first, no more was taken
+-- than the most items need, and there is room for a reply to each command left
 abbrev pub invariant-loop-command : goal.invariant-loop-command
 invariant-loop-command g l =
     let keys = keys_of g.T.KeyedItem g.T.Key1.PartialEq.eq g.T.Key1.Hash.hash_input g.T.Key2.Ord.cmp g.S.BuildHasher
