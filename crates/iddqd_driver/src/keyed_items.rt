@@ -280,7 +280,8 @@ impl<T: KeyedItem, S: BuildHasher> KeyedItems<T, S> {
     /// vacant it is `Identity` and takes no memory. Else it takes the memory of one index a slot,
     /// before an item moves; where that is refused nothing changes.
     pub fn compact(&mut self) -> Result<IndexRemap, AllocError>
-        ensures compacts { IfOk result (λ remap. IsRemapOf self.old.state.store remap × Compacts self.old.state self.new.state) }
+        ensures compacts { IfOk result
+            (λ remap. IsRemapOf self.old.state.store remap × Compacts self.old.state self.new.state) }
         ensures refused { OnErr result (self.new.state ≡ self.old.state) }
         ensures dense { self.old.state.store.free ≡ [] → IsOk result }
         ensures keeps { Keeps ⟦<Self as Keyed>⟧.keys self.old.state self.new.state }

@@ -90,7 +90,8 @@ impl<T: BiHashItem, S: BuildHasher> Map<T, BiIndex<T>, S> {
     ) -> Result<Option<T>, ReplaceRefusal<T, BiClash>>
         requires { MayChange F.FnOnce f self.old.store (passes_by T.first_key (Q.stands_for query)) }
         ensures { let first = shares T.first_key T.Key1.eq in let second = shares T.second_key T.Key2.eq in
-            Changes (either_key first second) (both_keys first second) false (AreTaken first second) (FnOnceReturnsAt F.FnOnce f)
+            Changes (either_key first second) (both_keys first second) false (AreTaken first second)
+                (FnOnceReturnsAt F.FnOnce f)
             self.old (passes_by T.first_key (Q.stands_for query)) result self.new }
     {
         self.change_by::<First, Q, F>(query, f)
@@ -104,7 +105,8 @@ impl<T: BiHashItem, S: BuildHasher> Map<T, BiIndex<T>, S> {
         f: F,
     ) -> Option<R>
         requires { let named = passes_by T.first_key (Q.stands_for query) in
-            KeepsKey F.FnOnce f (pair_keys T.first_key T.second_key) (λ item. FindsItem self.old.store named (Some item)) }
+            KeepsKey F.FnOnce f (pair_keys T.first_key T.second_key)
+                (λ item. FindsItem self.old.store named (Some item)) }
         ensures { Modifies F.FnOnce f self.old (passes_by T.first_key (Q.stands_for query)) result self.new }
     {
         self.modify_by::<First, Q, R, F>(query, f)
@@ -159,7 +161,8 @@ impl<T: BiHashItem, S: BuildHasher> Map<T, BiIndex<T>, S> {
     ) -> Result<Option<T>, ReplaceRefusal<T, BiClash>>
         requires { MayChange F.FnOnce f self.old.store (passes_by T.second_key (Q.stands_for query)) }
         ensures { let first = shares T.first_key T.Key1.eq in let second = shares T.second_key T.Key2.eq in
-            Changes (either_key first second) (both_keys first second) false (AreTaken first second) (FnOnceReturnsAt F.FnOnce f)
+            Changes (either_key first second) (both_keys first second) false (AreTaken first second)
+                (FnOnceReturnsAt F.FnOnce f)
             self.old (passes_by T.second_key (Q.stands_for query)) result self.new }
     {
         self.change_by::<Second, Q, F>(query, f)
@@ -172,7 +175,8 @@ impl<T: BiHashItem, S: BuildHasher> Map<T, BiIndex<T>, S> {
         f: F,
     ) -> Option<R>
         requires { let named = passes_by T.second_key (Q.stands_for query) in
-            KeepsKey F.FnOnce f (pair_keys T.first_key T.second_key) (λ item. FindsItem self.old.store named (Some item)) }
+            KeepsKey F.FnOnce f (pair_keys T.first_key T.second_key)
+                (λ item. FindsItem self.old.store named (Some item)) }
         ensures { Modifies F.FnOnce f self.old (passes_by T.second_key (Q.stands_for query)) result self.new }
     {
         self.modify_by::<Second, Q, R, F>(query, f)
@@ -187,7 +191,8 @@ impl<T: BiHashItem, S: BuildHasher> Map<T, BiIndex<T>, S> {
         item: T,
     ) -> Result<(ItemIndex, [Option<T>; 2]), OverwriteRefusal<T>>
         ensures { let first = shares T.first_key T.Key1.eq in let second = shares T.second_key T.Key2.eq in
-            Overwrites (either_key first second) (λ n. most_cells n + most_cells n) false 2 self.old item result self.new }
+            Overwrites (either_key first second) (λ n. most_cells n + most_cells n) false 2 self.old item result
+                self.new }
     {
         let mut places = [None, None];
         let ix = self.overwrite_into(item, &mut places)?;

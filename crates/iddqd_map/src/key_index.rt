@@ -238,7 +238,8 @@ pub trait Inserts<T, S>: KeyIndex<T, S> {
         requires assigned { ix ≢ sentinel }
         requires planned { IsPlannedForOne (λ state s item. is_planned self.old state s item plan.now) }
         ensures indexed { IndexesOneMore Self.alike (λ state item. is_known state item known)
-            (λ state s item. is_planned self.old state s item plan.now) (Self.indexes self.old) ix (Self.indexes self.new) }
+            (λ state s item. is_planned self.old state s item plan.now) (Self.indexes self.old) ix
+                (Self.indexes self.new) }
         ensures capacity { Self.capacity self.new ≡ Self.capacity self.old }
         ensures cells { Self.cells self.new ≡ Self.cells self.old };
 
@@ -329,7 +330,8 @@ pub trait Moves<T, S>: KeyIndex<T, S> {
     ) -> Result<Self::Move, Self::Conflict>
         requires live { IsLive items.now.store ix }
         requires indexed { Self.indexes self.now state.now items.now.store }
-        ensures { PlansMove (Self.alike item.now) (Self.same_keys item.now) (is_move state.now items.now.store ix item.now)
+        ensures { PlansMove (Self.alike item.now) (Self.same_keys item.now)
+            (is_move state.now items.now.store ix item.now)
             moves (Self.taken items.now.store ix item.now) items.now.store ix result };
 
     /// Makes ready for a move. Up to the capacity it takes no memory, nor where all keys stay.

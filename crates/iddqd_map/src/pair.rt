@@ -99,15 +99,18 @@ where
 
     ghost equivalence = { and_equiv A.equivalence B.equivalence };
 
-    ghost reported = { λ s item at conflicts ix. reported_both A.alike B.alike s item (IsReportedBy A.reports (C.first at))
+    ghost reported = { λ s item at conflicts ix. reported_both A.alike B.alike s item
+        (IsReportedBy A.reports (C.first at))
         (IsReportedBy B.reports (C.second at)) ix
         (reported_by_one A.reports A.alike A.conflicts s item (A.reported s item) (C.first at) conflicts.first ix)
         (reported_by_one B.reports B.alike B.conflicts s item (B.reported s item) (C.second at) conflicts.second ix) };
 
-    ghost reported_some = { λ s item at conflicts. reported_some A.reports B.reports A.conflicts B.conflicts s item A.alike B.alike
+    ghost reported_some = { λ s item at conflicts. reported_some A.reports B.reports A.conflicts B.conflicts s item
+        A.alike B.alike
         (A.reported_some s item) (B.reported_some s item) (C.first at) (C.second at) conflicts };
 
-    ghost few_reported = { λ at. few_both (IsReportedBy A.reports (C.first at)) (IsReportedBy B.reports (C.second at)) A.key_count
+    ghost few_reported = { λ at. few_both (IsReportedBy A.reports (C.first at)) (IsReportedBy B.reports (C.second at))
+        A.key_count
         B.key_count (few_by_one A.reports A.key_count A.few_reported (C.first at))
         (few_by_one B.reports B.key_count B.few_reported (C.second at)) };
 

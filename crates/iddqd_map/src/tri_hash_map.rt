@@ -108,7 +108,8 @@ impl<T: TriHashItem, S: BuildHasher> Map<T, TriIndex<T>, S> {
         f: F,
     ) -> Option<R>
         requires { let named = passes_by T.first_key (Q.stands_for query) in
-            KeepsKey F.FnOnce f (pair_keys T.first_key (pair_keys T.second_key T.third_key)) (λ item. FindsItem self.old.store named (Some item)) }
+            KeepsKey F.FnOnce f (pair_keys T.first_key (pair_keys T.second_key T.third_key))
+                (λ item. FindsItem self.old.store named (Some item)) }
         ensures { Modifies F.FnOnce f self.old (passes_by T.first_key (Q.stands_for query)) result self.new }
     {
         self.modify_by::<First, Q, R, F>(query, f)
@@ -180,7 +181,8 @@ impl<T: TriHashItem, S: BuildHasher> Map<T, TriIndex<T>, S> {
         f: F,
     ) -> Option<R>
         requires { let named = passes_by T.second_key (Q.stands_for query) in
-            KeepsKey F.FnOnce f (pair_keys T.first_key (pair_keys T.second_key T.third_key)) (λ item. FindsItem self.old.store named (Some item)) }
+            KeepsKey F.FnOnce f (pair_keys T.first_key (pair_keys T.second_key T.third_key))
+                (λ item. FindsItem self.old.store named (Some item)) }
         ensures { Modifies F.FnOnce f self.old (passes_by T.second_key (Q.stands_for query)) result self.new }
     {
         self.modify_by::<Second, Q, R, F>(query, f)
@@ -252,7 +254,8 @@ impl<T: TriHashItem, S: BuildHasher> Map<T, TriIndex<T>, S> {
         f: F,
     ) -> Option<R>
         requires { let named = passes_by T.third_key (Q.stands_for query) in
-            KeepsKey F.FnOnce f (pair_keys T.first_key (pair_keys T.second_key T.third_key)) (λ item. FindsItem self.old.store named (Some item)) }
+            KeepsKey F.FnOnce f (pair_keys T.first_key (pair_keys T.second_key T.third_key))
+                (λ item. FindsItem self.old.store named (Some item)) }
         ensures { Modifies F.FnOnce f self.old (passes_by T.third_key (Q.stands_for query)) result self.new }
     {
         self.modify_by::<Third, Q, R, F>(query, f)

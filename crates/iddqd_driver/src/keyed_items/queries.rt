@@ -62,7 +62,8 @@ impl<T: KeyedItem, S: BuildHasher> KeyedItems<T, S> {
 
     /// The item with the second key for which the query stands, found as `find2_by` finds its index.
     pub fn get2_by<Q: OrdQuery<T::Key2>>(&self, query: Q) -> Option<&T>
-        ensures { let finds = LooksUpBy (second_side ⟦<Self as Keyed>⟧.keys) self.now.state (is_equal (Q.compare query)) in
+        ensures { let finds = LooksUpBy (second_side ⟦<Self as Keyed>⟧.keys) self.now.state
+            (is_equal (Q.compare query)) in
             GivesFound self.now.state.store finds (option_copied result) }
     {
         self.items.get(self.find2_by(query)?)
@@ -70,7 +71,8 @@ impl<T: KeyedItem, S: BuildHasher> KeyedItems<T, S> {
 
     /// Removes the item with the first key for which the query stands. It takes no memory.
     pub fn remove1_by<Q: HashQuery<T::Key1>>(&mut self, query: Q) -> Option<(ItemIndex, T)>
-        ensures removes { let finds = LooksUpBy (first_side ⟦<Self as Keyed>⟧.keys) self.old.state (Q.stands_for query) in
+        ensures removes { let finds = LooksUpBy (first_side ⟦<Self as Keyed>⟧.keys) self.old.state
+            (Q.stands_for query) in
             RemovesFound finds self.old.state result self.new.state }
         ensures keeps { Keeps ⟦<Self as Keyed>⟧.keys self.old.state self.new.state }
         ensures memory { self.new.memory ≡ self.old.memory }
@@ -84,7 +86,8 @@ impl<T: KeyedItem, S: BuildHasher> KeyedItems<T, S> {
     /// Removes the item with the second key for which the query stands. It takes no memory.
     #[tactic(auto, using(crate::proofs::KeepsLemmas::order_held))]
     pub fn remove2_by<Q: OrdQuery<T::Key2>>(&mut self, query: Q) -> Option<(ItemIndex, T)>
-        ensures removes { let finds = LooksUpBy (second_side ⟦<Self as Keyed>⟧.keys) self.old.state (is_equal (Q.compare query)) in
+        ensures removes { let finds = LooksUpBy (second_side ⟦<Self as Keyed>⟧.keys) self.old.state
+            (is_equal (Q.compare query)) in
             RemovesFound finds self.old.state result self.new.state }
         ensures keeps { Keeps ⟦<Self as Keyed>⟧.keys self.old.state self.new.state }
         ensures memory { self.new.memory ≡ self.old.memory }

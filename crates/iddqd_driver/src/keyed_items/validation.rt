@@ -49,7 +49,8 @@ impl<T: KeyedItem, S: BuildHasher> KeyedItems<T, S> {
             → Validates (Allows compactness (length self.now.state.store.free)) result }
 
         // By keys it is Ok only where each index is filed under the hash of its first key.
-        ensures by_keys { chaos ≡ ValidateChaos.No → IsOk result → (first_side ⟦<Self as Keyed>⟧.keys).IsInPlace self.now.state }
+        ensures by_keys { chaos ≡ ValidateChaos.No → IsOk result
+            → (first_side ⟦<Self as Keyed>⟧.keys).IsInPlace self.now.state }
     {
         self.items.validate(compactness)?;
         let len = self.items.len();

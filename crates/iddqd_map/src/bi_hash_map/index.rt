@@ -112,7 +112,8 @@ impl<T: BiHashItem, S: BuildHasher> KeyIndex<T, S> for BiIndex<T> {
     ghost equivalence = { and_equiv (shares_laws T.first_key T.Key1.eq T.Key1.Eq.laws)
         (shares_laws T.second_key T.Key2.eq T.Key2.Eq.laws) };
 
-    ghost reported = { λ s item at. reported_two s item (shares T.first_key T.Key1.eq) (shares T.second_key T.Key2.eq) at.key1 at.key2 };
+    ghost reported = { λ s item at. reported_two s item (shares T.first_key T.Key1.eq) (shares T.second_key T.Key2.eq)
+        at.key1 at.key2 };
 
     ghost reported_some = { λ s item at. some_two s item (shares T.first_key T.Key1.eq) (shares T.second_key T.Key2.eq)
         at.key1 at.key2 };

@@ -33,7 +33,8 @@ impl<T, X: Inserts<T, S>, S> Map<T, X, S> {
     ) -> Result<ItemIndex, OverwriteRefusal<T>>
         requires enough { X.key_count ≤ length places.old }
         requires vacant { places.old ≡ padded (length places.old) [] }
-        ensures { OverwritesInto X.alike X.most X.may_lack (length places.old) self.old item result places.new self.new }
+        ensures { OverwritesInto X.alike X.most X.may_lack (length places.old) self.old item result places.new
+            self.new }
     {
         let known = X::known(&self.state, &item);
         match insert(&mut self.items, &mut self.indexes, &self.state, known, item) {
