@@ -1,5 +1,6 @@
 -- Walks past places that are neither empty nor have a tag.
-use Rattle.std.proofs.Common.{◌≡◌, ◌≢◌, ◌∙◌, ◌==◌, ◌||◌, ℕ, ◌+◌, ◌-◌, ◌%◌, ◌<◌, ◌≤◌, Bool, true, false, List, Option, Some, length, slice_index, ltb, ltb-true, ltb-false, eq-eqb, refl, sym, ap, subst, arith}
+use Rattle.std.proofs.Common.{◌≡◌, ◌≢◌, ◌∙◌, ◌==◌, ◌||◌, ℕ, ◌+◌, ◌-◌, ◌%◌, ◌<◌, ◌≤◌, Bool, true, false, List, Option, Some, length, slice_index, ltb, ltb-true, ltb-false, eq-eqb, ne_eqb, inl, inr, refl, sym, ap, subst, arith}
+use Rattle.std.proofs.lemmas.Bool.{cases_eq}
 use Rattle.std.proofs.Math.Nat.{mod-eq_of_lt, mod-lt}
 use Rattle.iddqd_hash.specs.OpenTable.{tag_of, is_stop, slot_at, NoStops, AllFull, Skips, IsReached, IsProbed, PassesBy}
 use Rattle.iddqd_hash.proofs.OpenWalkLemmas.{onward}
@@ -15,6 +16,16 @@ other_tag tag here other =
     let both = or_false (here == tag) (here == 0) other in
     let some : here ≢ 0 = λ none. let yes : (here == 0) ≡ true = eq-eqb here 0 none in let no : (here == 0) ≡ false = both.1 in cc in
     (λ same. let yes : (here == tag) ≡ true = eq-eqb here tag same in let no : (here == tag) ≡ false = both.0 in cc, omega arith)
+
+-- a stop that hasn't the tag is empty
+pub stop_empty : (tag here : ℕ) → is_stop tag here ≡ true → here ≢ tag → here ≡ 0
+stop_empty tag here stop other =
+    let no : (here == tag) ≡ false = ne_eqb here tag other in
+    let none : (here == 0) ≡ true = rw no at stop in
+    elim (cases_eq here 0) [
+      | inl same ↦ same
+      | inr some ↦ absurd (let not_none : (here == 0) ≡ false = ne_eqb here 0 some in cc)
+    ]
 
 pub Skips-run : (tags : List ℕ) (tag at run place : ℕ) → at + run ≤ length tags → NoStops tag tags at run → (at + run) % length tags ≡ place → Skips tags tag at place
 Skips-run tags tag at run place inside none is =

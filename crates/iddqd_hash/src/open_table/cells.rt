@@ -10,7 +10,9 @@ ghost use Rattle.iddqd_hash.specs.OpenWalk.{IsInSixteens};
 ghost use Rattle.iddqd_hash.specs.OpenTable.{tag_of, limit_of, is_used, hashes_of, pair_in, slots_of, slot_at, pairs, IsPowerOfTwo, HasEmpty, IsProbed, FindsNext};
 
 use crate::open_table::places::FullPlaces;
-use crate::open_table::tags::{LARGE, free_near_home, home_of, next, past_others, tag_of};
+use crate::open_table::tags::{
+    LARGE, free_near_home, home_of, near_stop, next, past_others, tag_of,
+};
 use std::mem::{self, ManuallyDrop};
 
 /// A place for a pair. The hash means something where there is a value.
@@ -77,8 +79,18 @@ pub fn first_match<T>(tags: &[u8], cells: &[Cell<T>], hash: u64) -> Option<usize
     ensures { FindsNext tags.now (slots_of cells.now) hash (hash % length tags.now) result }
 {
     let home = home_of(hash, tags.len());
-    if tags.len() > LARGE && tags[home] == tag_of(hash) && cells[home].hash == hash {
-        return Some(home);
+    let tag = tag_of(hash);
+    if tags.len() > LARGE {
+        if tags[home] == tag && cells[home].hash == hash {
+            return Some(home);
+        }
+    } else if let Some(near) = near_stop(tags, home, tag) {
+        if tags[near] != tag {
+            return None;
+        }
+        if cells[near].hash == hash {
+            return Some(near);
+        }
     }
     next_match(tags, cells, home, hash)
 }

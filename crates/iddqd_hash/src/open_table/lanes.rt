@@ -1,7 +1,7 @@
 //! Sixteen tags at a time.
 ghost use Rattle.std.specs.Int.{w64, trailing_zeros};
-ghost use Rattle.std.specs.Prelude.{if◌then◌else◌, ◌==◌, ◌≡◌, ◌+◌, ◌<◌, ◌≤◌, length};
-ghost use Rattle.iddqd_hash.specs.OpenTable.{NoStops, AllFull};
+ghost use Rattle.std.specs.Prelude.{if◌then◌else◌, ◌==◌, ◌≡◌, ◌+◌, ◌<◌, ◌≤◌, true, length, slice_index};
+ghost use Rattle.iddqd_hash.specs.OpenTable.{is_stop, NoStops, AllFull};
 ghost use Rattle.iddqd_hash.specs.OpenWalk.{full_mask};
 
 use std::simd::prelude::*;
@@ -20,10 +20,12 @@ pub fn run_of_others(tags: &[u8], at: usize, tag: u8) -> usize
     }
 }
 
-fn first_stop(tags: &[u8], at: usize, tag: u8) -> usize
+/// How many of the sixteen places from `at` on come before the first one that is empty or has the tag: 16 where none is.
+pub fn first_stop(tags: &[u8], at: usize, tag: u8) -> usize
     requires { at + 16 ≤ length tags.now }
     ensures inside { at + result ≤ length tags.now }
     ensures others { NoStops tag tags.now at result }
+    ensures stop { result < 16 → is_stop tag (slice_index tags.now (at + result)) ≡ true }
 {
     let lanes = u8x16::from_slice(&tags[at..]);
     let stops = lanes.simd_eq(u8x16::splat(tag)) | lanes.simd_eq(u8x16::splat(0));

@@ -3,12 +3,12 @@
 //! A tag is 0 where its cell is empty and 1 where a pair was removed from it. From 128 on the cell is
 //! full, and the tag has the top seven bits of the hash. A walk goes from the home of a hash by steps of
 //! one, the first place after the last, up to an empty cell.
-ghost use Rattle.std.specs.Prelude.{◌≡◌, ◌+◌, ◌<◌, ◌≤◌, ◌%◌, length, IfSome};
-ghost use Rattle.iddqd_hash.specs.OpenTable.{tag_of, limit_of, usable_of, IsPowerOfTwo, HasEmpty, Skips, IsFree};
+ghost use Rattle.std.specs.Prelude.{◌≡◌, ◌+◌, ◌<◌, ◌≤◌, ◌%◌, true, length, slice_index, IfSome};
+ghost use Rattle.iddqd_hash.specs.OpenTable.{tag_of, limit_of, usable_of, is_stop, IsPowerOfTwo, HasEmpty, Skips, IsFree};
 ghost use Rattle.iddqd_hash.specs.OpenRebuild.{IsPastFull};
 ghost use Rattle.iddqd_hash.specs.Sizes.{most_cells};
 
-use crate::open_table::lanes::{run_of_full, run_of_others};
+use crate::open_table::lanes::{first_stop, run_of_full, run_of_others};
 
 // Up to so many cells a walk begins with sixteen tags, past them with the home alone: there a cell is mostly
 // far off, and the processor fetches that of the home before it has the tag.
@@ -105,6 +105,21 @@ pub fn past_others(tags: &[u8], at: usize, tag: u8) -> usize
     ensures { Skips tags.now tag at result }
 {
     (at + run_of_others(tags, at, tag)) & (tags.len() - 1)
+}
+
+/// The first of the sixteen places from `at` on that is empty or has the tag, where that is known at once.
+pub fn near_stop(tags: &[u8], at: usize, tag: u8) -> Option<usize>
+    requires power { IsPowerOfTwo (length tags.now) }
+    requires inside { at < length tags.now }
+    ensures inside { IfSome result (λ place. place < length tags.now) }
+    ensures skips { IfSome result (λ place. Skips tags.now tag at place) }
+    ensures stop { IfSome result (λ place. is_stop tag (slice_index tags.now place) ≡ true) }
+{
+    if tags.len() - at < 16 {
+        return None;
+    }
+    let run = first_stop(tags, at, tag);
+    if run < 16 { Some(at + run) } else { None }
 }
 
 /// How many of so many cells may be full or marked: seven of eight.

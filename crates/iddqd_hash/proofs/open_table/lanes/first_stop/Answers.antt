@@ -2,7 +2,7 @@ use Rattle.std.proofs.Common.{◌≡◌, ◌==◌, ◌%◌, ◌^◌, ◌∙◌, 
 use Rattle.std.specs.Int.{w64, trailing_zeros}
 use Rattle.std.specs.List.{prefix_len}
 use Rattle.std.specs.Prelude.{replicate}
-use Rattle.std.proofs.lemmas.Simd.{first_set_mask_l, run_in_chunk_fails, run_in_chunk_le, length-chunk}
+use Rattle.std.proofs.lemmas.Simd.{first_set_mask_l, run_in_chunk_fails, run_in_chunk_le, run_in_chunk_stops, length-chunk}
 use lib.Lanes.{zip2, mask_l, top, chunk}
 use Rattle.iddqd_hash.specs.OpenTable.{is_stop}
 use Rattle.iddqd_hash.proofs.OpenLaneLemmas.{same, stops_mask}
@@ -23,3 +23,6 @@ returns-clause-inside c =
 
 pub returns-clause-others : goal.returns-clause-others
 returns-clause-others c = run_in_chunk_fails (is_stop c.args.tag) c.args.tags.now c.args.at 16 _ 0 c.requires (counted c)
+
+pub returns-clause-stop : goal.returns-clause-stop
+returns-clause-stop c = run_in_chunk_stops (is_stop c.args.tag) c.args.tags.now c.args.at 16 _ 0 c.requires (counted c)
