@@ -24,8 +24,10 @@
 //! An insert writes its cell unread, since safe code would load the cell to drop what stood there: the
 //! one `unsafe` line. `grow`, `rebuild` and `later_match` stand apart, so that what runs mostly is short
 //! enough for the caller's loop, and an insert is inlined there: called, it took an eighth more
-//! instructions. A walk keeps the full ones of its sixteen places as bits. A clone copies tags and cells
-//! in place, marks too, so that no hash is looked at.
+//! instructions. A walk keeps the full ones of its sixteen places as bits. A clone leaves each pair
+//! in its place, and marks too, so that no hash is looked at. That of a table of indexes copies tags and cells
+//! as memory. Value by value it goes from one full cell to the next: with a test of each cell it took 4.8
+//! times hashbrown's time at 1,000 entries, and 1.3 so, since the processor guessed half of the tests wrong.
 ghost use Rattle.std.specs.Prelude.{◌≡◌, ◌∷◌, ◌≤◌, ◌<◌, ◌+◌, ◌-◌, [], Some, length, option_copied, IfOk, IfSome, OnOk, OnErr};
 ghost use Rattle.std.specs.List.Sorted.{IsPermutation};
 ghost use Rattle.std.specs.List.{Contains};

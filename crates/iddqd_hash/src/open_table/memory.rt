@@ -22,6 +22,7 @@ pub fn empty_tags(alloc: Global, count: usize) -> Result<Vec<u8>, AllocError>
 /// So many empty cells.
 pub fn empty_cells<T>(alloc: Global, count: usize) -> Result<Vec<Cell<T>>, AllocError>
     ensures cells { IfOk result (λ cells. slots_of cells.items ≡ replicate count None) }
+    ensures len { IfOk result (λ cells. vec_len cells ≡ count) }
     ensures exact { IfOk result IsExact }
 {
     let mut cells = Vec::with_capacity(alloc, count)?;
