@@ -10,10 +10,21 @@ module _ {F T : Type 0} (takes : F → T → Type 0) (ask : F → T → Bool →
   pub CanAsk-takes : (f : F) (xs : List T) (x : T) → CanAsk takes ask f xs → Contains xs x → takes f x
   CanAsk-takes f xs x can here = (can.at (x ∷ []) here).0
 
-  pub CanAsk-asked : (f : F) (xs : List T) (x : T) (r : Bool) (f' : F) → CanAsk takes ask f xs → Contains xs x → ask f x r f' → CanAsk takes ask f' xs
+  pub CanAsk-asked :
+      (f : F) (xs : List T) (x : T) (r : Bool) (f' : F)
+      → CanAsk takes ask f xs
+      → Contains xs x
+      → ask f x r f'
+      → CanAsk takes ask f' xs
   CanAsk-asked f xs x r f' can here called = record { at = λ ys. (can.at (x ∷ ys) here).1 r f' called }
 
-  pub CanAsk-by : (I : F → Type 0) (xs : List T) → ((s : F) (x : T) → Contains xs x → I s → takes s x) → ((s : F) (x : T) (r : Bool) (t : F) → Contains xs x → I s → ask s x r t → I t) → (f : F) → I f → CanAsk takes ask f xs
+  pub CanAsk-by :
+      (I : F → Type 0) (xs : List T)
+      → ((s : F) (x : T) → Contains xs x → I s → takes s x)
+      → ((s : F) (x : T) (r : Bool) (t : F) → Contains xs x → I s → ask s x r t → I t)
+      → (f : F)
+      → I f
+      → CanAsk takes ask f xs
   CanAsk-by I xs asks keeps f i = record { at = λ ys. in_turn ys f i }
     where
       in_turn : (ys : List T) (f : F) → I f → CanAskInTurn takes ask f xs ys
@@ -27,18 +38,35 @@ pub or_true : (a : Bool) → (a || true) ≡ true
 or_true true = refl
 or_true false = refl
 
-list_any-at : {X : Type 0} (test : X → Bool) (xs : List X) (x : X) (k : ℕ) → k < length xs → get_or xs k x ≡ x → test x ≡ true → list_any test xs ≡ true
+list_any-at :
+    {X : Type 0} (test : X → Bool) (xs : List X) (x : X) (k : ℕ)
+    → k < length xs
+    → get_or xs k x ≡ x
+    → test x ≡ true
+    → list_any test xs ≡ true
 list_any-at test [] x k within is passes = absurd (omega arith)
 list_any-at test (y ∷ xs) x zero within is passes = rw (is, passes) refl
 list_any-at test (y ∷ xs) x (suc k) within is passes = rw (list_any-at test xs x k (omega arith) is passes) (or_true (test y))
 
-pub list_any-passed : {X : Type 0} (test : X → Bool) (xs : List X) (x : X) → Contains xs x → test x ≡ true → list_any test xs ≡ true
+pub list_any-passed :
+    {X : Type 0} (test : X → Bool) (xs : List X) (x : X)
+    → Contains xs x
+    → test x ≡ true
+    → list_any test xs ≡ true
 list_any-passed test xs x here = list_any-at test xs x here.0 here.1 here.2
 
 -- Where each answer on the values xs is a function of the value, in every state that asks lead to, a look-up is a
 -- search for a value that passes the test.
-module _ {F T : Type 0} (ask : F → T → Bool → F → Type 0) (I : F → Type 0) (test : T → Bool) (xs : List T) (says : (s : F) (x : T) (b : Bool) (t : F) → Contains xs x → I s → ask s x b t → (b ≡ test x) × I t) where
-  AllRefused-tested : (f : F) (ys : List T) (last : F) → ((x : T) → Contains ys x → Contains xs x) → I f → AllRefused ask f ys last → (list_any test ys ≡ false) × I last
+module _
+    {F T : Type 0} (ask : F → T → Bool → F → Type 0) (I : F → Type 0) (test : T → Bool) (xs : List T)
+    (says : (s : F) (x : T) (b : Bool) (t : F) → Contains xs x → I s → ask s x b t → (b ≡ test x) × I t)
+    where
+  AllRefused-tested :
+      (f : F) (ys : List T) (last : F)
+      → ((x : T) → Contains ys x → Contains xs x)
+      → I f
+      → AllRefused ask f ys last
+      → (list_any test ys ≡ false) × I last
   AllRefused-tested f [] last among i same = (refl, subst I same i)
   AllRefused-tested f (y ∷ ys) last among i asks =
       let one = says f y false asks.0 (among y (0, omega arith, refl)) i asks.1 in

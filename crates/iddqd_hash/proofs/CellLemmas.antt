@@ -7,12 +7,19 @@ use Rattle.std.proofs.lemmas.Option.{slice_get-map, slice_get_within}
 use Rattle.iddqd_hash.specs.HashTable.{Table, listed, entries, pair_at, room, memory, HasNoMemory, KeepsMemory, UsesRoom}
 use Rattle.iddqd_hash.specs.Sizes.{most_cells, Reserves}
 
-some_within : {X : Type 0} (xs : List X) (place : ℕ) (o : Option X) → slice_get xs place ≡ o → IsSome o → place < length xs
+some_within :
+    {X : Type 0} (xs : List X) (place : ℕ) (o : Option X)
+    → slice_get xs place ≡ o
+    → IsSome o
+    → place < length xs
 some_within xs place None is here = absurd (let never : false ≡ true = here in cc)
 some_within xs place (Some x) is here = slice_get_within xs place x is
 
 -- what is pushed stands at the length
-pub slice_get_pushed : {X : Type 0} (xs : List X) (x : X) (place : ℕ) → place ≡ length xs → slice_get (xs ++ x ∷ []) place ≡ Some x
+pub slice_get_pushed :
+    {X : Type 0} (xs : List X) (x : X) (place : ℕ)
+    → place ≡ length xs
+    → slice_get (xs ++ x ∷ []) place ≡ Some x
 slice_get_pushed xs x place is = rw is (at_end xs)
   where
     at_end : (xs : List _) → slice_get (xs ++ x ∷ []) (length xs) ≡ Some x
@@ -51,11 +58,18 @@ module _ {T : Type 0} where
         let there : IsSome (slice_get es place) = rw pair_at-listed at here in
         some_within es place (slice_get es place) refl there
 
-  pub HasNoMemory-listed : (es : List (ℕ × T)) (spare held : ℕ) → spare ≡ 0 → held ≡ 0 → HasNoMemory (listed es spare held)
+  pub HasNoMemory-listed :
+      (es : List (ℕ × T)) (spare held : ℕ)
+      → spare ≡ 0
+      → held ≡ 0
+      → HasNoMemory (listed es spare held)
   HasNoMemory-listed es spare held no_room no_cell =
       record { no_room = room-listed es spare held ∙ no_room; no_cell = memory-listed es spare held ∙ no_cell }
 
-  module _ (xs ys : List (ℕ × T)) (before held after holds : ℕ) (same : holds ≡ held) (kept : length ys + after ≡ length xs + before) where
+  module _
+      (xs ys : List (ℕ × T)) (before held after holds : ℕ) (same : holds ≡ held)
+      (kept : length ys + after ≡ length xs + before)
+      where
     pub KeepsMemory-listed : before ≤ after → KeepsMemory (listed xs before held) (listed ys after holds)
     KeepsMemory-listed stays =
         record {
@@ -72,7 +86,10 @@ module _ {T : Type 0} where
           same_memory = rw (memory-listed xs, memory-listed ys) same;
         }
 
-  pub Reserves-unneeded : {A E : Type 0} (additional : ℕ) (t : Table T) (x : A) → additional ≤ room t → Reserves {A = A} {E = E} additional t (Ok x) t
+  pub Reserves-unneeded :
+      {A E : Type 0} (additional : ℕ) (t : Table T) (x : A)
+      → additional ≤ room t
+      → Reserves {A = A} {E = E} additional t (Ok x) t
   Reserves-unneeded additional t x here =
       record {
         reserved = here;
@@ -83,7 +100,11 @@ module _ {T : Type 0} where
         few = omega arith;
       }
 
-  pub Reserves-denied : {A E : Type 0} (additional : ℕ) (t : Table T) (r : Result A E) → IsErr r → room t < additional → Reserves additional t r t
+  pub Reserves-denied :
+      {A E : Type 0} (additional : ℕ) (t : Table T) (r : Result A E)
+      → IsErr r
+      → room t < additional
+      → Reserves additional t r t
   Reserves-denied additional t (Ok x) failed short = absurd (let never : false ≡ true = failed in cc)
   Reserves-denied additional t (Err e) failed short =
       record {
@@ -96,8 +117,16 @@ module _ {T : Type 0} where
       }
 
   -- a vector that had less room than was asked for, and was asked to hold at least twice as many pairs
-  module _ (es : List (ℕ × T)) (additional len now held wanted holds : ℕ) (counted : len ≡ length es) (short : held - len < additional) (full : len ≤ held) (same : now ≡ len) (enough : len + additional ≤ wanted) (few : wanted ≤ max (len + additional) (held * 2)) (more : held ≤ holds) where
-    pub Reserves-listed : {A E : Type 0} (r : Result A E) → OnOk r (holds ≡ max held wanted) → OnErr r (holds ≡ held) → Reserves additional (listed es (held - len) held) r (listed es (holds - now) holds)
+  module _
+      (es : List (ℕ × T)) (additional len now held wanted holds : ℕ) (counted : len ≡ length es)
+      (short : held - len < additional) (full : len ≤ held) (same : now ≡ len) (enough : len + additional ≤ wanted)
+      (few : wanted ≤ max (len + additional) (held * 2)) (more : held ≤ holds)
+      where
+    pub Reserves-listed :
+        {A E : Type 0} (r : Result A E)
+        → OnOk r (holds ≡ max held wanted)
+        → OnErr r (holds ≡ held)
+        → Reserves additional (listed es (held - len) held) r (listed es (holds - now) holds)
     Reserves-listed r reserved refused =
         record {
           reserved = rw room-listed (roomy r reserved);
@@ -112,10 +141,17 @@ module _ {T : Type 0} where
         roomy (Ok x) is = omega arith
         roomy (Err e) is = tt
 
-        stays : {A E : Type 0} (r : Result A E) → OnErr r (holds ≡ held) → OnErr r (listed es (holds - now) holds ≡ listed es (held - len) held)
+        stays :
+            {A E : Type 0} (r : Result A E)
+            → OnErr r (holds ≡ held)
+            → OnErr r (listed es (holds - now) holds ≡ listed es (held - len) held)
         stays (Ok x) is = tt
         stays (Err e) is = λ i. listed es (is i - same i) (is i)
 
-        at_most : {A E : Type 0} (r : Result A E) → OnOk r (holds ≡ max held wanted) → OnErr r (holds ≡ held) → holds ≤ max held (most_cells (length es + additional))
+        at_most :
+            {A E : Type 0} (r : Result A E)
+            → OnOk r (holds ≡ max held wanted)
+            → OnErr r (holds ≡ held)
+            → holds ≤ max held (most_cells (length es + additional))
         at_most (Ok x) is refused = omega arith
         at_most (Err e) is refused = omega arith

@@ -11,14 +11,23 @@ use Rattle.iddqd_hash.specs.OpenTable.{hashes_of, slot_at, pairs, IsProbed, None
 use Rattle.iddqd_hash.proofs.OpenSlotLemmas.{free_slot}
 
 module _ {T : Type 0} (is_clone : T → T → Type 0) where
-  pub Rewrites-cloned : (es copies : List (ℕ × T)) → AllZip (λ e w. (w.0 ≡ e.0) × is_clone e.1 w.1) es copies → Rewrites is_clone es copies
+  pub Rewrites-cloned :
+      (es copies : List (ℕ × T))
+      → AllZip (λ e w. (w.0 ≡ e.0) × is_clone e.1 w.1) es copies
+      → Rewrites is_clone es copies
   Rewrites-cloned es copies all = record { rewritten = copies; each = all; moved = IsPermutation-refl copies }
 
-  same_hash : (slot copy : Option (ℕ × T)) → IsSlotClone is_clone slot copy → option_map {U = ℕ} (λ pair. pair.0) copy ≡ option_map {U = ℕ} (λ pair. pair.0) slot
+  same_hash :
+      (slot copy : Option (ℕ × T))
+      → IsSlotClone is_clone slot copy
+      → option_map {U = ℕ} (λ pair. pair.0) copy ≡ option_map {U = ℕ} (λ pair. pair.0) slot
   same_hash None copy is = ap (option_map {U = ℕ} (λ (pair : ℕ × T). pair.0)) is
   same_hash (Some pair) copy is = ap (option_map {U = ℕ} (λ (pair : ℕ × T). pair.0)) is.1
 
-  pub hashes_of_clones : (slots copies : List (Option (ℕ × T))) → AllZip (IsSlotClone is_clone) slots copies → hashes_of copies ≡ hashes_of slots
+  pub hashes_of_clones :
+      (slots copies : List (Option (ℕ × T)))
+      → AllZip (IsSlotClone is_clone) slots copies
+      → hashes_of copies ≡ hashes_of slots
   hashes_of_clones [] [] all = refl
   hashes_of_clones [] (copy ∷ copies) all = absurd all
   hashes_of_clones (slot ∷ slots) [] all = absurd all
@@ -27,17 +36,27 @@ module _ {T : Type 0} (is_clone : T → T → Type 0) where
       let rest = hashes_of_clones slots copies all.1 in
       λ i. first i ∷ rest i
 
-  one_more : (slot copy : Option (ℕ × T)) (slots copies : List (Option (ℕ × T))) → IsSlotClone is_clone slot copy → AllZip (λ e w. (w.0 ≡ e.0) × is_clone e.1 w.1) (pairs slots) (pairs copies) → AllZip (λ e w. (w.0 ≡ e.0) × is_clone e.1 w.1) (pairs (slot ∷ slots)) (pairs (copy ∷ copies))
+  one_more :
+      (slot copy : Option (ℕ × T)) (slots copies : List (Option (ℕ × T)))
+      → IsSlotClone is_clone slot copy
+      → AllZip (λ e w. (w.0 ≡ e.0) × is_clone e.1 w.1) (pairs slots) (pairs copies)
+      → AllZip (λ e w. (w.0 ≡ e.0) × is_clone e.1 w.1) (pairs (slot ∷ slots)) (pairs (copy ∷ copies))
   one_more None copy slots copies is rest = rw is rest
   one_more (Some pair) copy slots copies is rest = rw is.1 ((refl, is.2), rest)
 
-  pairs_are_clones : (slots copies : List (Option (ℕ × T))) → AllZip (IsSlotClone is_clone) slots copies → AllZip (λ e w. (w.0 ≡ e.0) × is_clone e.1 w.1) (pairs slots) (pairs copies)
+  pairs_are_clones :
+      (slots copies : List (Option (ℕ × T)))
+      → AllZip (IsSlotClone is_clone) slots copies
+      → AllZip (λ e w. (w.0 ≡ e.0) × is_clone e.1 w.1) (pairs slots) (pairs copies)
   pairs_are_clones [] [] all = tt
   pairs_are_clones [] (copy ∷ copies) all = absurd all
   pairs_are_clones (slot ∷ slots) [] all = absurd all
   pairs_are_clones (slot ∷ slots) (copy ∷ copies) all = one_more slot copy slots copies all.0 (pairs_are_clones slots copies all.1)
 
-  pub Rewrites-slots : (slots copies : List (Option (ℕ × T))) → AllZip (IsSlotClone is_clone) slots copies → Rewrites is_clone (pairs slots) (pairs copies)
+  pub Rewrites-slots :
+      (slots copies : List (Option (ℕ × T)))
+      → AllZip (IsSlotClone is_clone) slots copies
+      → Rewrites is_clone (pairs slots) (pairs copies)
   Rewrites-slots slots copies all = Rewrites-cloned (pairs slots) (pairs copies) (pairs_are_clones slots copies all)
 
   none_everywhere : (n k : ℕ) → slot_at (replicate {A = Option (ℕ × T)} n None) k ≡ None
@@ -55,7 +74,11 @@ module _ {T : Type 0} (is_clone : T → T → Type 0) where
   some_pair None some = absurd (let never : false ≡ true = some in cc)
   some_pair (Some pair) some = (pair, refl)
 
-  by_place : (slots copies : List (Option (ℕ × T))) → length copies ≡ length slots → ((k : ℕ) → k < length slots → IsSlotClone is_clone (slot_at slots k) (slot_at copies k)) → AllZip (IsSlotClone is_clone) slots copies
+  by_place :
+      (slots copies : List (Option (ℕ × T)))
+      → length copies ≡ length slots
+      → ((k : ℕ) → k < length slots → IsSlotClone is_clone (slot_at slots k) (slot_at copies k))
+      → AllZip (IsSlotClone is_clone) slots copies
   by_place [] [] same each = tt
   by_place [] (copy ∷ copies) same each = absurd (omega arith)
   by_place (slot ∷ slots) [] same each = absurd (omega arith)
@@ -68,7 +91,12 @@ module _ {T : Type 0} (is_clone : T → T → Type 0) where
     pub cloned : (k : ℕ) → k < at → IsSlotClone is_clone (slot_at slots k) (slot_at copies k)
     pub empty : (k : ℕ) → at ≤ k → slot_at copies k ≡ None
 
-  pub Cloning-start : (slots copies : List (Option (ℕ × T))) (at n : ℕ) → at ≡ 0 → n ≡ length slots → copies ≡ replicate n None → Cloning slots copies at
+  pub Cloning-start :
+      (slots copies : List (Option (ℕ × T))) (at n : ℕ)
+      → at ≡ 0
+      → n ≡ length slots
+      → copies ≡ replicate n None
+      → Cloning slots copies at
   Cloning-start slots copies at n none count is =
       record {
         same_length = ap length is ∙ length-replicate n None ∙ count;
@@ -78,7 +106,13 @@ module _ {T : Type 0} (is_clone : T → T → Type 0) where
 
   module _ (slots copies : List (Option (ℕ × T))) (at : ℕ) (state : Cloning slots copies at) where
     -- no cell between is full
-    pub Cloning-gaps : (tags : List ℕ) (to : ℕ) → IsProbed tags slots → at ≤ to → to < length tags → NoneFull tags at (to - at) → Cloning slots copies to
+    pub Cloning-gaps :
+        (tags : List ℕ) (to : ℕ)
+        → IsProbed tags slots
+        → at ≤ to
+        → to < length tags
+        → NoneFull tags at (to - at)
+        → Cloning slots copies to
     Cloning-gaps tags to probed onward inside gaps =
         record {
           same_length = state.same_length;
@@ -93,7 +127,11 @@ module _ {T : Type 0} (is_clone : T → T → Type 0) where
           empty = λ k past. state.empty k (omega arith);
         }
 
-    pub Cloning-put : (copy : Option (ℕ × T)) → at < length slots → IsSlotClone is_clone (slot_at slots at) copy → Cloning slots (set copies at copy) (at + 1)
+    pub Cloning-put :
+        (copy : Option (ℕ × T))
+        → at < length slots
+        → IsSlotClone is_clone (slot_at slots at) copy
+        → Cloning slots (set copies at copy) (at + 1)
     Cloning-put copy inside is =
         record {
           same_length = length-set copies at copy ∙ state.same_length;

@@ -47,7 +47,11 @@ module _ (hash : ℕ) where
   abbrev hashed : List (ℕ × ℕ) → List (ℕ × ℕ)
   hashed es = filter (λ (e : ℕ × ℕ). e.1 == hash) es
 
-  find_from_stands : (es : List (ℕ × ℕ)) (ix : ℕ) → Holds (is_sorted nat_cmp es) → stands (hashed es) ix ≡ true → find nat_cmp ix es ≡ Some hash
+  find_from_stands :
+      (es : List (ℕ × ℕ)) (ix : ℕ)
+      → Holds (is_sorted nat_cmp es)
+      → stands (hashed es) ix ≡ true
+      → find nat_cmp ix es ≡ Some hash
   find_from_stands [] ix rising here = cc
   find_from_stands (e ∷ es) ix rising here =
       let parts = both_hold _ _ rising in
@@ -92,23 +96,47 @@ module _ (m : FinMap nat_cmp ℕ) (hash : ℕ) where
   under_from_filed ix is = Contains-from_any same_index ix _ (stands_from_find hash (finite.entries m) ix (sym (finite.get-entries m ix) ∙ is))
 
   -- what holds of each index that is filed holds of those under the hash, as that a lookup may be called on them
-  pub under_all_filed : (P : ℕ → Type 0) → ((ix : ℕ) → IsSome (finite.get m ix) → P ix) → (ix : ℕ) → Contains (indexes_under hash m) ix → P ix
+  pub under_all_filed :
+      (P : ℕ → Type 0)
+      → ((ix : ℕ) → IsSome (finite.get m ix) → P ix)
+      → (ix : ℕ)
+      → Contains (indexes_under hash m) ix
+      → P ix
   under_all_filed P all ix here =
       let is = filed_from_under ix here in
       all ix (rw is refl)
 
   -- Where each answer on an index under the hash is a function of the index, in every state that asks lead to, a hit
   -- passes the test, and at a miss no index under the hash does.
-  module _ {F : Type 0} (ask : F → ℕ → Bool → F → Type 0) (I : F → Type 0) (test : ℕ → Bool) (says : (s : F) (ix : ℕ) (b : Bool) (t : F) → finite.get m ix ≡ Some hash → I s → ask s ix b t → (b ≡ test ix) × I t) where
-    says_under : (s : F) (ix : ℕ) (b : Bool) (t : F) → Contains (indexes_under hash m) ix → I s → ask s ix b t → (b ≡ test ix) × I t
+  module _
+      {F : Type 0} (ask : F → ℕ → Bool → F → Type 0) (I : F → Type 0) (test : ℕ → Bool)
+      (says : (s : F) (ix : ℕ) (b : Bool) (t : F) → finite.get m ix ≡ Some hash → I s → ask s ix b t → (b ≡ test ix) × I
+          t)
+      where
+    says_under :
+        (s : F) (ix : ℕ) (b : Bool) (t : F)
+        → Contains (indexes_under hash m) ix
+        → I s
+        → ask s ix b t
+        → (b ≡ test ix) × I t
     says_under s ix b t here = says s ix b t (filed_from_under ix here)
 
-    pub Hits-filed : (f : F) (ix : ℕ) → I f → Hits ask f (indexes_under hash m) ix → (finite.get m ix ≡ Some hash) × (test ix ≡ true)
+    pub Hits-filed :
+        (f : F) (ix : ℕ)
+        → I f
+        → Hits ask f (indexes_under hash m) ix
+        → (finite.get m ix ≡ Some hash) × (test ix ≡ true)
     Hits-filed f ix i hit =
         let found = Hits-tested ask I test _ says_under f ix i hit in
         (filed_from_under ix found.0, found.1)
 
-    pub Misses-filed : (f : F) → I f → Misses ask f (indexes_under hash m) → (ix : ℕ) → finite.get m ix ≡ Some hash → test ix ≡ false
+    pub Misses-filed :
+        (f : F)
+        → I f
+        → Misses ask f (indexes_under hash m)
+        → (ix : ℕ)
+        → finite.get m ix ≡ Some hash
+        → test ix ≡ false
     Misses-filed f i miss ix is =
         let none = Misses-tested ask I test _ says_under f i miss in
         elim (test ix) as (λ b. test ix ≡ b → b ≡ false) [
@@ -116,12 +144,21 @@ module _ (m : FinMap nat_cmp ℕ) (hash : ℕ) where
           | false ↦ λ _. refl
         ] refl
 
-    pub FindsWhere-looked_up : (f : F) (r : Option ℕ) → I f → LooksUp ask f (indexes_under hash m) r → FindsWhere test hash m r
+    pub FindsWhere-looked_up :
+        (f : F) (r : Option ℕ)
+        → I f
+        → LooksUp ask f (indexes_under hash m) r
+        → FindsWhere test hash m r
     FindsWhere-looked_up f None i miss = Misses-filed f i miss
     FindsWhere-looked_up f (Some ix) i hit = Hits-filed f ix i hit
 
   -- the same of a look-up by a query, where the query is equivalent to each key that the lookup gives as the test says
-  pub FindsWhere-by_key : {F Q K : Type 0} (g : Shared F (ℕ × Unit {0}) K) (equivalent : Q → K → Bool) (lookup : F) (query : Q) (test : ℕ → Bool) (r : Option ℕ) → LooksUp (AsksKey g equivalent lookup query) tt (indexes_under hash m) r → ((ix : ℕ) (key : K) → finite.get m ix ≡ Some hash → g.post lookup (ix, tt) key → equivalent query key ≡ test ix) → FindsWhere test hash m r
+  pub FindsWhere-by_key :
+      {F Q K : Type 0} (g : Shared F (ℕ × Unit {0}) K) (equivalent : Q → K → Bool) (lookup : F) (query : Q)
+      (test : ℕ → Bool) (r : Option ℕ)
+      → LooksUp (AsksKey g equivalent lookup query) tt (indexes_under hash m) r
+      → ((ix : ℕ) (key : K) → finite.get m ix ≡ Some hash → g.post lookup (ix, tt) key → equivalent query key ≡ test ix)
+      → FindsWhere test hash m r
   FindsWhere-by_key g equivalent lookup query test r looked_up agrees =
       FindsWhere-looked_up (AsksKey g equivalent lookup query) (λ _. Unit {0}) test (λ _ ix b _ is _ asked. (asked.is ∙ agrees ix asked.key is asked.gives, tt)) tt r tt looked_up
 
@@ -136,7 +173,11 @@ AllBelow-fresh m n below =
       | None ↦ λ _. refl
     ] refl
 
-pub AllBelow-insert : (m : FinMap nat_cmp ℕ) (n ix hash : ℕ) → ix ≡ n → AllBelow m n → AllBelow (finite.insert m ix hash) (n + 1)
+pub AllBelow-insert :
+    (m : FinMap nat_cmp ℕ) (n ix hash : ℕ)
+    → ix ≡ n
+    → AllBelow m n
+    → AllBelow (finite.insert m ix hash) (n + 1)
 AllBelow-insert m n ix hash last below q stored =
     let opened : IsSome (cond (eq_by_cmp nat_cmp q ix) (Some hash) (finite.get m q)) = rw (finite.get-insert nat_cmp_total) at stored in
     elim (eq_by_cmp nat_cmp q ix) as (λ b. eq_by_cmp nat_cmp q ix ≡ b → IsSome (cond b (Some hash) (finite.get m q)) → q < n + 1) [

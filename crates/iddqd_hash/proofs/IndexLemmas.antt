@@ -39,29 +39,47 @@ either_is_some : (b : Bool) (hash : ℕ) (rest : Option ℕ) → (b || is_some r
 either_is_some true hash rest = refl
 either_is_some false hash rest = refl
 
-found_in : (ix : ℕ) (es : List (ℕ × ℕ)) → list_any (λ at. at == ix) (values es) ≡ is_some (find nat_cmp ix (map turned es))
+found_in :
+    (ix : ℕ) (es : List (ℕ × ℕ))
+    → list_any (λ at. at == ix) (values es) ≡ is_some (find nat_cmp ix (map turned es))
 found_in ix [] = refl
 found_in ix (e ∷ es) =
     ap (λ b. b || list_any (λ at. at == ix) (values es)) (same_test ix e.1)
     ∙ ap (λ b. eq_by_cmp nat_cmp ix e.1 || b) (found_in ix es)
     ∙ either_is_some (eq_by_cmp nat_cmp ix e.1) e.0 (find nat_cmp ix (map turned es))
 
-pub contains_is : (ix : ℕ) (es : List (ℕ × ℕ)) (walk : List ℕ) → IsPermutation (values es) walk → list_any (λ at. at == ix) walk ≡ is_some (finite.get (filed_from es) ix)
+pub contains_is :
+    (ix : ℕ) (es : List (ℕ × ℕ)) (walk : List ℕ)
+    → IsPermutation (values es) walk
+    → list_any (λ at. at == ix) walk ≡ is_some (finite.get (filed_from es) ix)
 contains_is ix es walk moved =
     sym (list_any-IsPermutation (λ at. at == ix) (values es) walk moved) ∙ found_in ix es
     ∙ ap is_some (sym (finite.get-from_entries nat_cmp_total (map turned es) ix))
 
--- A retain is one by other questions too, where each question of the first is one of the second, and of the same pairs in
--- another order.
-module _ {F G : Type 0} (ask : F → ℕ → Bool → F → Type 0) (asks : G → ℕ → Bool → G → Type 0) (R : F → G → Type 0) (follows : (f : F) (k : G) (x : ℕ) (b : Bool) (f' : F) → R f k → ask f x b f' → (k' : G) × asks k x b k' × R f' k') where
-  asked_follows : (f : F) (k : G) (list : List ((ℕ × ℕ) × Bool)) (last : F) → R f k → FoldsTo (λ p a q. ask p a.0.1 a.1 q) f list last → (end : G) × FoldsTo (λ p a q. asks p a.0.1 a.1 q) k list end
+-- A retain is one by other questions too, where each question of the first is one of the second, and of the same pairs
+-- in another order.
+module _
+    {F G : Type 0} (ask : F → ℕ → Bool → F → Type 0) (asks : G → ℕ → Bool → G → Type 0) (R : F → G → Type 0)
+    (follows : (f : F) (k : G) (x : ℕ) (b : Bool) (f' : F) → R f k → ask f x b f' → (k' : G) × asks k x b k' × R f' k')
+    where
+  asked_follows :
+      (f : F) (k : G) (list : List ((ℕ × ℕ) × Bool)) (last : F)
+      → R f k
+      → FoldsTo (λ p a q. ask p a.0.1 a.1 q) f list last
+      → (end : G) × FoldsTo (λ p a q. asks p a.0.1 a.1 q) k list end
   asked_follows f k [] last r same = (k, refl)
   asked_follows f k (a ∷ list) last r calls =
       let one = follows f k a.0.1 a.1 calls.0 r calls.1 in
       let rest = asked_follows calls.0 one.0 list last one.2 calls.2 in
       (rest.0, (one.0, one.1, rest.1))
 
-  pub Keeps-follows : (f : F) (k : G) (old new olds news : List (ℕ × ℕ)) → R f k → IsPermutation old olds → IsPermutation new news → Keeps ask f old new → Keeps asks k olds news
+  pub Keeps-follows :
+      (f : F) (k : G) (old new olds news : List (ℕ × ℕ))
+      → R f k
+      → IsPermutation old olds
+      → IsPermutation new news
+      → Keeps ask f old new
+      → Keeps asks k olds news
   Keeps-follows f k old new olds news r moved left told =
       let keeps = told.kept in
       let asked = asked_follows f k keeps.asks told.last r keeps.were_asked in
@@ -75,7 +93,12 @@ module _ {F G : Type 0} (ask : F → ℕ → Bool → F → Type 0) (asks : G �
         };
       }
 
-  pub FindsPlace-follows : (f : F) (k : G) (hash : ℕ) (xs ys : List ℕ) (pair_in : ℕ → Option (ℕ × ℕ)) (r : Option ℕ) → R f k → IsPermutation xs ys → FindsPlace ask f hash xs pair_in r → FindsPlace asks k hash ys pair_in r
+  pub FindsPlace-follows :
+      (f : F) (k : G) (hash : ℕ) (xs ys : List ℕ) (pair_in : ℕ → Option (ℕ × ℕ)) (r : Option ℕ)
+      → R f k
+      → IsPermutation xs ys
+      → FindsPlace ask f hash xs pair_in r
+      → FindsPlace asks k hash ys pair_in r
   FindsPlace-follows f k hash xs ys pair_in None r moved miss = LooksUp-follows ask asks R follows f k xs ys None r moved miss
   FindsPlace-follows f k hash xs ys pair_in (Some place) r moved found =
       record {
@@ -85,7 +108,10 @@ module _ {F G : Type 0} (ask : F → ℕ → Bool → F → Type 0) (asks : G �
       }
 
 -- what passed some asks stands once where all do
-apart_passed : (k : ℕ) (asks : List ((ℕ × ℕ) × Bool)) → AllByRecursion (λ y. eq_by_cmp nat_cmp k y ≡ false) (values (map (λ a. a.0) asks)) → AllByRecursion (λ y. eq_by_cmp nat_cmp k y ≡ false) (values (map (λ a. a.0) (filter (λ a. a.1) asks)))
+apart_passed :
+    (k : ℕ) (asks : List ((ℕ × ℕ) × Bool))
+    → AllByRecursion (λ y. eq_by_cmp nat_cmp k y ≡ false) (values (map (λ a. a.0) asks))
+    → AllByRecursion (λ y. eq_by_cmp nat_cmp k y ≡ false) (values (map (λ a. a.0) (filter (λ a. a.1) asks)))
 apart_passed k [] apart = tt
 apart_passed k (a ∷ asks) apart =
     let passed = filter (λ (a : (ℕ × ℕ) × Bool). a.1) asks in
@@ -94,7 +120,10 @@ apart_passed k (a ∷ asks) apart =
       | false ↦ apart_passed k asks apart.1
     ]
 
-distinct_passed : (asks : List ((ℕ × ℕ) × Bool)) → IsDistinctlyFiled (map (λ a. a.0) asks) → IsDistinctlyFiled (map (λ a. a.0) (filter (λ a. a.1) asks))
+distinct_passed :
+    (asks : List ((ℕ × ℕ) × Bool))
+    → IsDistinctlyFiled (map (λ a. a.0) asks)
+    → IsDistinctlyFiled (map (λ a. a.0) (filter (λ a. a.1) asks))
 distinct_passed [] apart = apart
 distinct_passed (a ∷ asks) apart =
     let passed = filter (λ (a : (ℕ × ℕ) × Bool). a.1) asks in
@@ -104,7 +133,11 @@ distinct_passed (a ∷ asks) apart =
       | false ↦ rest
     ]
 
-pub distinct_retained : {F : Type 0} (ask : F → ℕ → Bool → F → Type 0) (f : F) (old new : List (ℕ × ℕ)) → Keeps ask f old new → IsDistinctlyFiled old → IsDistinctlyFiled new
+pub distinct_retained :
+    {F : Type 0} (ask : F → ℕ → Bool → F → Type 0) (f : F) (old new : List (ℕ × ℕ))
+    → Keeps ask f old new
+    → IsDistinctlyFiled old
+    → IsDistinctlyFiled new
 distinct_retained ask f old new told apart =
     let keeps = told.kept in
     distinct_moved _ _ keeps.kept (distinct_passed keeps.asks (distinct_moved _ _ keeps.each_once apart))

@@ -22,7 +22,12 @@ trailing-shifted (suc s) k n =
     ∙ ap suc (trailing-shifted s k n)
     ∙ sym (suc-add s (count_trailing_zeros k n))
 
-cleared-even : (t n : ℕ) → 0 < n → n % 2 ≡ 0 → bit_and (n / 2) (n / 2 - 1) ≡ 2 ^ (t + 1) * (n / 2 / 2 ^ (t + 1)) → bit_and n (n - 1) ≡ 2 ^ (suc t + 1) * (n / 2 ^ (suc t + 1))
+cleared-even :
+    (t n : ℕ)
+    → 0 < n
+    → n % 2 ≡ 0
+    → bit_and (n / 2) (n / 2 - 1) ≡ 2 ^ (t + 1) * (n / 2 / 2 ^ (t + 1))
+    → bit_and n (n - 1) ≡ 2 ^ (suc t + 1) * (n / 2 ^ (suc t + 1))
 cleared-even t n some even rest =
     let before : (n - 1) / 2 ≡ n / 2 - 1 = omega arith in
     let same : suc (t + 1) ≡ suc t + 1 = omega arith in
@@ -51,13 +56,22 @@ half_lower : (k n : ℕ) → n < 2 ^ suc k → n / 2 < 2 ^ k
 half_lower k n lt = let power : 2 ^ suc k ≡ 2 ^ k * 2 = pow-suc 2 k in omega arith
 
 -- Clearing the lowest bit keeps those above it.
-pub lowest_cleared : (k n : ℕ) → 0 < n → n < 2 ^ k → bit_and n (n - 1) ≡ 2 ^ (count_trailing_zeros k n + 1) * (n / 2 ^ (count_trailing_zeros k n + 1))
+pub lowest_cleared :
+    (k n : ℕ)
+    → 0 < n
+    → n < 2 ^ k
+    → bit_and n (n - 1) ≡ 2 ^ (count_trailing_zeros k n + 1) * (n / 2 ^ (count_trailing_zeros k n + 1))
 unfolding count_trailing_zeros
 lowest_cleared zero n some lt = absurd (omega arith)
 lowest_cleared (suc k) n some lt = by_digit (n % 2) refl (λ more. lowest_cleared k (n / 2) more (half_lower k n lt))
   where
-    by_digit : (d : ℕ) → n % 2 ≡ d → (0 < n / 2 → bit_and (n / 2) (n / 2 - 1) ≡ 2 ^ (count_trailing_zeros k (n / 2) + 1) * (n / 2 / 2 ^ (count_trailing_zeros k (n / 2) + 1)))
-        → bit_and n (n - 1) ≡ 2 ^ (under (n % 2) (count_trailing_zeros k (n / 2)) + 1) * (n / 2 ^ (under (n % 2) (count_trailing_zeros k (n / 2)) + 1))
+    by_digit :
+        (d : ℕ)
+        → n % 2 ≡ d
+        → (0 < n / 2 → bit_and (n / 2) (n / 2 - 1) ≡ 2 ^ (count_trailing_zeros k (n / 2) + 1) *
+            (n / 2 / 2 ^ (count_trailing_zeros k (n / 2) + 1)))
+        → bit_and n (n - 1) ≡ 2 ^ (under (n % 2) (count_trailing_zeros k (n / 2)) + 1) *
+            (n / 2 ^ (under (n % 2) (count_trailing_zeros k (n / 2)) + 1))
     by_digit zero even rest =
         cleared-even (count_trailing_zeros k (n / 2)) n some even (rest (omega arith))
         ∙ ap (λ d. 2 ^ (under d (count_trailing_zeros k (n / 2)) + 1) * (n / 2 ^ (under d (count_trailing_zeros k (n / 2)) + 1))) (sym even)

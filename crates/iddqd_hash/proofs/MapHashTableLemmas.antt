@@ -27,7 +27,10 @@ module _ {K X : Type 0} (R : K → K → Ordering) where
         | Greater ↦ λ is. rw is (IsPermutation-trans _ _ _ (IsPermutation-turn (k, v) e es) (IsPermutation-cons e _ _ (put_new k v es (rw is at absent))))
       ] refl
 
-  find_absent : (k : K) (es : List (K × X)) → AllByRecursion (λ y. eq_by_cmp R k y ≡ false) (map (λ e. e.0) es) → find R k es ≡ None
+  find_absent :
+      (k : K) (es : List (K × X))
+      → AllByRecursion (λ y. eq_by_cmp R k y ≡ false) (map (λ e. e.0) es)
+      → find R k es ≡ None
   find_absent k [] apart = refl
   find_absent k (e ∷ es) apart = rw apart.0 (find_absent k es apart.1)
 
@@ -36,7 +39,10 @@ no_entries [] e = refl
 no_entries (x ∷ es) e = absurd (omega arith)
 
 module _ {K X : Type 0} {R : K → K → Ordering} (o : IsTotalOrder R) where
-  pub entries-from_entries : (es : List (K × X)) → IsDistinct (eq_by_cmp R) (map (λ e. e.0) es) → IsPermutation es (finite.entries (finite.from_entries {R = R} es))
+  pub entries-from_entries :
+      (es : List (K × X))
+      → IsDistinct (eq_by_cmp R) (map (λ e. e.0) es)
+      → IsPermutation es (finite.entries (finite.from_entries {R = R} es))
   entries-from_entries [] apart =
       rw (no_entries (finite.entries (finite.empty {X = X} {R = R})) (sym (finite.len-entries _) ∙ finite.len-empty R X)) (IsPermutation-refl [])
   entries-from_entries (e ∷ es) apart =
@@ -45,7 +51,9 @@ module _ {K X : Type 0} {R : K → K → Ordering} (o : IsTotalOrder R) where
       sym (finite.get-entries rest e.0) ∙ finite.get-from_entries o es e.0 ∙ find_absent R e.0 es (IsDistinct-head _ _ _ apart) in
       rw (finite.entries-insert o) (IsPermutation-trans _ _ _ (IsPermutation-cons e _ _ (entries-from_entries es (IsDistinct-tail _ _ _ apart))) (put_new R e.0 e.1 _ new))
 
-turned_under : (h : ℕ) (es : List (ℕ × ℕ)) → map (λ (e : ℕ × ℕ). e.0) (filter (λ (e : ℕ × ℕ). e.1 == h) (map turned es)) ≡ under h es
+turned_under :
+    (h : ℕ) (es : List (ℕ × ℕ))
+    → map (λ (e : ℕ × ℕ). e.0) (filter (λ (e : ℕ × ℕ). e.1 == h) (map turned es)) ≡ under h es
 turned_under h [] = refl
 turned_under h (e ∷ es) =
     elim (e.0 == h) as (λ b. map (λ (e : ℕ × ℕ). e.0) (cond b ((e.1, e.0) ∷ filter (λ (e : ℕ × ℕ). e.1 == h) (map turned es)) (filter (λ (e : ℕ × ℕ). e.1 == h) (map turned es))) ≡ map (λ (e : ℕ × ℕ). e.1) (cond b (e ∷ filter (λ (e : ℕ × ℕ). e.0 == h) es) (filter (λ (e : ℕ × ℕ). e.0 == h) es))) [
@@ -58,26 +66,45 @@ turned_keys [] = refl
 turned_keys (e ∷ es) = ap (λ xs. e.1 ∷ xs) (turned_keys es)
 
 -- the entries of the map are those of the bag
-pub filed_entries : (es : List (ℕ × ℕ)) → IsDistinctlyFiled es → IsPermutation (map turned es) (finite.entries (filed_from es))
+pub filed_entries :
+    (es : List (ℕ × ℕ))
+    → IsDistinctlyFiled es
+    → IsPermutation (map turned es) (finite.entries (filed_from es))
 filed_entries es apart = entries-from_entries nat_cmp_total _ (rw (turned_keys es) apart)
 
-pub under_filed : (h : ℕ) (es : List (ℕ × ℕ)) → IsDistinctlyFiled es → IsPermutation (under h es) (indexes_under h (filed_from es))
+pub under_filed :
+    (h : ℕ) (es : List (ℕ × ℕ))
+    → IsDistinctlyFiled es
+    → IsPermutation (under h es) (indexes_under h (filed_from es))
 under_filed h es apart =
     rw (← turned_under h es) (IsPermutation-map (λ (e : ℕ × ℕ). e.0) _ _ (IsPermutation-filter (λ (e : ℕ × ℕ). e.1 == h) _ _ (filed_entries es apart)))
 
 pub len_filed : (es : List (ℕ × ℕ)) → IsDistinctlyFiled es → length es ≡ finite.len (filed_from es)
 len_filed es apart = sym (length-map es turned) ∙ sym (length_permutation _ _ (filed_entries es apart)) ∙ sym (finite.len-entries _)
 
--- A look-up is one by other questions too, where each question of the first is one of the second, and in another order of the values.
-module _ {F G T : Type 0} (ask : F → T → Bool → F → Type 0) (asks : G → T → Bool → G → Type 0) (R : F → G → Type 0) (follows : (f : F) (k : G) (x : T) (b : Bool) (f' : F) → R f k → ask f x b f' → (k' : G) × asks k x b k' × R f' k') where
-  refused_follows : (f : F) (k : G) (xs : List T) (last : F) → R f k → AllRefused ask f xs last → (end : G) × AllRefused asks k xs end × R last end
+-- A look-up is one by other questions too, where each question of the first is one of the second, and in another order
+-- of the values.
+module _
+    {F G T : Type 0} (ask : F → T → Bool → F → Type 0) (asks : G → T → Bool → G → Type 0) (R : F → G → Type 0)
+    (follows : (f : F) (k : G) (x : T) (b : Bool) (f' : F) → R f k → ask f x b f' → (k' : G) × asks k x b k' × R f' k')
+    where
+  refused_follows :
+      (f : F) (k : G) (xs : List T) (last : F)
+      → R f k
+      → AllRefused ask f xs last
+      → (end : G) × AllRefused asks k xs end × R last end
   refused_follows f k [] last r same = (k, refl, subst (λ s. R s k) same r)
   refused_follows f k (x ∷ xs) last r calls =
       let one = follows f k x false calls.0 r calls.1 in
       let rest = refused_follows calls.0 one.0 xs last one.2 calls.2 in
       (rest.0, (one.0, one.1, rest.1), rest.2)
 
-  pub LooksUp-follows : (f : F) (k : G) (xs ys : List T) (r : Option T) → R f k → IsPermutation xs ys → LooksUp ask f xs r → LooksUp asks k ys r
+  pub LooksUp-follows :
+      (f : F) (k : G) (xs ys : List T) (r : Option T)
+      → R f k
+      → IsPermutation xs ys
+      → LooksUp ask f xs r
+      → LooksUp asks k ys r
   LooksUp-follows f k xs ys None r moved miss =
       let end = refused_follows f k miss.asked miss.last r miss.were_refused in
       record {
@@ -127,7 +154,10 @@ choose true false x y z never = refl
 choose false b x y z never = refl
 
 -- two inserts at different keys, in either order
-inserts_turn : (m : FinMap nat_cmp ℕ) (j k u v : ℕ) → eq_by_cmp nat_cmp j k ≡ false → finite.insert (finite.insert m k v) j u ≡ finite.insert (finite.insert m j u) k v
+inserts_turn :
+    (m : FinMap nat_cmp ℕ) (j k u v : ℕ)
+    → eq_by_cmp nat_cmp j k ≡ false
+    → finite.insert (finite.insert m k v) j u ≡ finite.insert (finite.insert m j u) k v
 inserts_turn m j k u v apart = finite.same_map nat_cmp_total finite.nat_cmp-IsAntisymmetric _ _ at
   where
     never : (q : ℕ) → eq_by_cmp nat_cmp q j ≡ true → eq_by_cmp nat_cmp q k ≡ true → ⊥
@@ -136,7 +166,10 @@ inserts_turn m j k u v apart = finite.same_map nat_cmp_total finite.nat_cmp-IsAn
         let e = ap (λ x. eq_by_cmp nat_cmp x k) (sym same) in
         let f : false ≡ true = sym apart ∙ e ∙ b in cc
 
-    at : (q : ℕ) → finite.get (finite.insert (finite.insert m k v) j u) q ≡ finite.get (finite.insert (finite.insert m j u) k v) q
+    at :
+        (q : ℕ)
+        → finite.get (finite.insert (finite.insert m k v) j u) q ≡ finite.get (finite.insert (finite.insert m j u) k v)
+            q
     at q =
         rw (finite.get-insert nat_cmp_total, finite.get-insert nat_cmp_total, finite.get-insert nat_cmp_total, finite.get-insert nat_cmp_total) (choose _ _ _ _ _ (never q))
 
@@ -159,7 +192,10 @@ filed_moved xs ys moved = (along_permutation MovesMap same skip turn chain xs ys
     chain : (xs ys zs : List (ℕ × ℕ)) → MovesMap xs ys → MovesMap ys zs → MovesMap xs zs
     chain xs ys zs h k = (IsPermutation-trans _ _ _ h.0 k.0, λ d. h.1 d ∙ k.1 (distinct_moved xs ys h.0 d))
 
-all_apart : (k : ℕ) (es : List (ℕ × ℕ)) → find nat_cmp k (map turned es) ≡ None → AllByRecursion (λ y. eq_by_cmp nat_cmp k y ≡ false) (values es)
+all_apart :
+    (k : ℕ) (es : List (ℕ × ℕ))
+    → find nat_cmp k (map turned es) ≡ None
+    → AllByRecursion (λ y. eq_by_cmp nat_cmp k y ≡ false) (values es)
 all_apart k [] absent = tt
 all_apart k (e ∷ es) absent =
     elim (eq_by_cmp nat_cmp k e.1) as (λ b. eq_by_cmp nat_cmp k e.1 ≡ b → cond b (Some e.0) (find nat_cmp k (map turned es)) ≡ None → AllByRecursion (λ y. eq_by_cmp nat_cmp k y ≡ false) (values (e ∷ es))) [
@@ -168,14 +204,23 @@ all_apart k (e ∷ es) absent =
     ] refl absent
 
 -- an index that is not filed is added
-pub distinct_added : (es new : List (ℕ × ℕ)) (hash ix : ℕ) → finite.get (filed_from es) ix ≡ None → IsPermutation ((hash, ix) ∷ es) new → IsDistinctlyFiled es → IsDistinctlyFiled new × (filed_from new ≡ finite.insert (filed_from es) ix hash)
+pub distinct_added :
+    (es new : List (ℕ × ℕ)) (hash ix : ℕ)
+    → finite.get (filed_from es) ix ≡ None
+    → IsPermutation ((hash, ix) ∷ es) new
+    → IsDistinctlyFiled es
+    → IsDistinctlyFiled new × (filed_from new ≡ finite.insert (filed_from es) ix hash)
 distinct_added es new hash ix absent moved apart =
     let none = sym (finite.get-from_entries nat_cmp_total (map turned es) ix) ∙ absent in
     let more : IsDistinctlyFiled ((hash, ix) ∷ es) = IsDistinct-cons _ ix (values es) (all_apart ix es none) apart in
     (distinct_moved _ _ moved more, sym (filed_moved _ _ moved more))
 
 -- an index that is filed is removed
-pub distinct_removed : (es new : List (ℕ × ℕ)) (hash ix : ℕ) → IsPermutation es ((hash, ix) ∷ new) → IsDistinctlyFiled es → IsDistinctlyFiled new × (filed_from new ≡ finite.remove (filed_from es) ix)
+pub distinct_removed :
+    (es new : List (ℕ × ℕ)) (hash ix : ℕ)
+    → IsPermutation es ((hash, ix) ∷ new)
+    → IsDistinctlyFiled es
+    → IsDistinctlyFiled new × (filed_from new ≡ finite.remove (filed_from es) ix)
 distinct_removed es new hash ix moved apart =
     let more : IsDistinctlyFiled ((hash, ix) ∷ new) = distinct_moved _ _ moved apart in
     let none : finite.get (filed_from new) ix ≡ None =
@@ -193,7 +238,10 @@ abbrev others : ℕ → List (ℕ × ℕ) → List (ℕ × ℕ)
 others ix es = filter (λ (e : ℕ × ℕ). not (e.1 == ix)) es
 
 module _ (ix : ℕ) where
-  apart_others : (k : ℕ) (es : List (ℕ × ℕ)) → AllByRecursion (λ y. eq_by_cmp nat_cmp k y ≡ false) (values es) → AllByRecursion (λ y. eq_by_cmp nat_cmp k y ≡ false) (values (others ix es))
+  apart_others :
+      (k : ℕ) (es : List (ℕ × ℕ))
+      → AllByRecursion (λ y. eq_by_cmp nat_cmp k y ≡ false) (values es)
+      → AllByRecursion (λ y. eq_by_cmp nat_cmp k y ≡ false) (values (others ix es))
   apart_others k [] apart = tt
   apart_others k (e ∷ es) apart =
       elim (not (e.1 == ix)) as (λ b. AllByRecursion (λ y. eq_by_cmp nat_cmp k y ≡ false) (values (cond b (e ∷ others ix es) (others ix es)))) [
@@ -218,7 +266,9 @@ module _ (ix : ℕ) where
   absorbed true x y = refl
   absorbed false x y = refl
 
-  find_others : (q : ℕ) (es : List (ℕ × ℕ)) → find nat_cmp q (map turned (others ix es)) ≡ cond (eq_by_cmp nat_cmp q ix) None (find nat_cmp q (map turned es))
+  find_others :
+      (q : ℕ) (es : List (ℕ × ℕ))
+      → find nat_cmp q (map turned (others ix es)) ≡ cond (eq_by_cmp nat_cmp q ix) None (find nat_cmp q (map turned es))
   find_others q [] = either_way (eq_by_cmp nat_cmp q ix) None
   find_others q (e ∷ es) =
       let rest = find_others q es in
@@ -243,13 +293,23 @@ module _ (ix : ℕ) where
           ∙ rw (finite.get-remove nat_cmp_total, finite.get-from_entries nat_cmp_total) refl
 
   -- where all other indexes are kept, one is removed
-  pub distinct_kept : (es new : List (ℕ × ℕ)) → IsPermutation (others ix es) new → IsDistinctlyFiled es → IsDistinctlyFiled new × (filed_from new ≡ finite.remove (filed_from es) ix)
+  pub distinct_kept :
+      (es new : List (ℕ × ℕ))
+      → IsPermutation (others ix es) new
+      → IsDistinctlyFiled es
+      → IsDistinctlyFiled new × (filed_from new ≡ finite.remove (filed_from es) ix)
   distinct_kept es new moved apart =
       let kept = distinct_others es apart in
       (distinct_moved _ _ moved kept, sym (filed_moved _ _ moved kept) ∙ filed_others es)
 
 -- a removed index leaves one pair fewer
-pub removed_len : (es new : List (ℕ × ℕ)) (ix : ℕ) → IsDistinctlyFiled es → IsDistinctlyFiled new → filed_from new ≡ finite.remove (filed_from es) ix → IsSome (finite.get (filed_from es) ix) → length new + 1 ≡ length es
+pub removed_len :
+    (es new : List (ℕ × ℕ)) (ix : ℕ)
+    → IsDistinctlyFiled es
+    → IsDistinctlyFiled new
+    → filed_from new ≡ finite.remove (filed_from es) ix
+    → IsSome (finite.get (filed_from es) ix)
+    → length new + 1 ≡ length es
 removed_len es new ix apart apart_new gone here =
     let long = finite.len (filed_from es) in
     let fewer : finite.len (finite.remove (filed_from es) ix) ≡ finite.len (filed_from es) - 1 =

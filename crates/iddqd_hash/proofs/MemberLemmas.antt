@@ -39,7 +39,11 @@ pub filed_at : (o : Option ℕ) (hash : ℕ) → o ≡ Some hash → IsSome o
 filed_at o hash is = rw is refl
 
 -- names that agree on what is filed rename alike
-pub Renames-alike : (f g : ℕ → ℕ) (old new : FinMap nat_cmp ℕ) → ((ix : ℕ) → IsSome (finite.get old ix) → f ix ≡ g ix) → Renames f old new → Renames g old new
+pub Renames-alike :
+    (f g : ℕ → ℕ) (old new : FinMap nat_cmp ℕ)
+    → ((ix : ℕ) → IsSome (finite.get old ix) → f ix ≡ g ix)
+    → Renames f old new
+    → Renames g old new
 Renames-alike f g old new same renames = record {
   each = λ ix hash is. subst (λ at. finite.get new at ≡ Some hash) (same ix (filed_at _ hash is)) (renames.each ix hash is);
   no_other = λ at hash is.

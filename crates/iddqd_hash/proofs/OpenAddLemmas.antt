@@ -9,7 +9,10 @@ use Rattle.iddqd_hash.proofs.OpenSlotLemmas.{pairs-put, free_slot, used_count}
 use Rattle.iddqd_hash.proofs.OpenTableLemmas.{IsSound-rebuilt, IsSound-put}
 
 -- a table, and the same table after it was rebuilt, if it had to be
-pub record Roomy {T : Type 0} (tags : List ℕ) (slots : List (Option (ℕ × T))) (len : ℕ) (now_tags : List ℕ) (now_slots : List (Option (ℕ × T))) (now : ℕ) : Type 0 where
+pub record Roomy
+    {T : Type 0} (tags : List ℕ) (slots : List (Option (ℕ × T))) (len : ℕ) (now_tags : List ℕ)
+    (now_slots : List (Option (ℕ × T))) (now : ℕ)
+    : Type 0 where
   pub same : length now_tags ≡ length tags
   pub sound : IsSound now_tags now_slots len now
   pub moved : IsPermutation (pairs slots) (pairs now_slots)
@@ -17,7 +20,16 @@ pub record Roomy {T : Type 0} (tags : List ℕ) (slots : List (Option (ℕ × T)
   pub room : len < usable_of (length tags)
 
 module _ {T : Type 0} where
-  pub Roomy-rebuilt : (tags now_tags : List ℕ) (slots now_slots : List (Option (ℕ × T))) (len used now : ℕ) → IsSound tags slots len used → len < usable_of (length tags) → length now_tags ≡ length tags → IsProbed now_tags now_slots → IsPermutation (pairs slots) (pairs now_slots) → now ≡ count_by is_used now_tags → now < limit_of (length tags) → Roomy tags slots len now_tags now_slots now
+  pub Roomy-rebuilt :
+      (tags now_tags : List ℕ) (slots now_slots : List (Option (ℕ × T))) (len used now : ℕ)
+      → IsSound tags slots len used
+      → len < usable_of (length tags)
+      → length now_tags ≡ length tags
+      → IsProbed now_tags now_slots
+      → IsPermutation (pairs slots) (pairs now_slots)
+      → now ≡ count_by is_used now_tags
+      → now < limit_of (length tags)
+      → Roomy tags slots len now_tags now_slots now
   Roomy-rebuilt tags now_tags slots now_slots len used now sound room same probed moved marked limited =
       record {
         same = same;
@@ -27,14 +39,21 @@ module _ {T : Type 0} where
         room = room;
       }
 
-  module _ (tags now_tags : List ℕ) (slots now_slots : List (Option (ℕ × T))) (len now : ℕ) (roomy : Roomy tags slots len now_tags now_slots now) (place hash : ℕ) (value : T) (free : IsFree now_tags place) where
+  module _
+      (tags now_tags : List ℕ) (slots now_slots : List (Option (ℕ × T))) (len now : ℕ)
+      (roomy : Roomy tags slots len now_tags now_slots now) (place hash : ℕ) (value : T) (free : IsFree now_tags place)
+      where
     pub add-free : slot_at now_slots place ≡ None
     add-free = free_slot (slice_index now_tags place) (slot_at now_slots place) (roomy.sound.probed.suited place free.within) free.free
 
     pub add-within : place < length now_slots
     add-within = omega (arith, free.within, roomy.sound.probed.same_length)
 
-    pub add-sound : IsPastFull now_tags hash place → (after : ℕ) → after + used_count (slice_index now_tags place) ≡ now + 1 → IsSound (set now_tags place (tag_of hash)) (set now_slots place (Some (hash, value))) (len + 1) after
+    pub add-sound :
+        IsPastFull now_tags hash place
+        → (after : ℕ)
+        → after + used_count (slice_index now_tags place) ≡ now + 1
+        → IsSound (set now_tags place (tag_of hash)) (set now_slots place (Some (hash, value))) (len + 1) after
     add-sound walk after counts =
         IsSound-put now_tags now_slots len now roomy.sound place hash value after free.within free.free (IsReached-past_full now_tags hash place walk) counts
         (rw roomy.same (omega (arith, roomy.limited, counts))) (rw roomy.same roomy.room)

@@ -30,11 +30,18 @@ shifted (b ∷ ms) (suc k) =
     let same : 1 + k ≡ suc k = omega arith in
     ap (λ n. mask_l (b ∷ ms) / 2 ^ n) (sym same) ∙ sym split ∙ ap (λ n. n / 2 ^ k) one ∙ shifted ms k
 
-first_below : {X : Type 0} (p : X → Bool) (xs : List X) → 0 < mask_l (map p xs) → prefix_len (λ x. not (p x)) xs < length xs
+first_below :
+    {X : Type 0} (p : X → Bool) (xs : List X)
+    → 0 < mask_l (map p xs)
+    → prefix_len (λ x. not (p x)) xs < length xs
 first_below p [] some = absurd (omega arith)
 first_below p (x ∷ xs) some = by_first (p x) refl (first_below p xs)
   where
-    by_first : (b : Bool) → p x ≡ b → (0 < mask_l (map p xs) → prefix_len (λ x. not (p x)) xs < length xs) → prefix_len (λ x. not (p x)) (x ∷ xs) < length (x ∷ xs)
+    by_first :
+        (b : Bool)
+        → p x ≡ b
+        → (0 < mask_l (map p xs) → prefix_len (λ x. not (p x)) xs < length xs)
+        → prefix_len (λ x. not (p x)) (x ∷ xs) < length (x ∷ xs)
     by_first true is further = rw is (omega arith)
     by_first false is further =
         let more : 0 < cond {A = ℕ} false 1 0 + 2 * mask_l (map p xs) = subst (λ b. 0 < cond {A = ℕ} b 1 0 + 2 * mask_l (map p xs)) is some in
@@ -42,7 +49,10 @@ first_below p (x ∷ xs) some = by_first (p x) refl (first_below p xs)
         rw is (omega arith)
 
 -- a mask without the bits of the first places
-pub full_mask-shifted : (tags : List ℕ) (at end n : ℕ) → at + n ≤ end → full_mask tags at end / 2 ^ n ≡ full_mask tags (at + n) end
+pub full_mask-shifted :
+    (tags : List ℕ) (at end n : ℕ)
+    → at + n ≤ end
+    → full_mask tags at end / 2 ^ n ≡ full_mask tags (at + n) end
 full_mask-shifted tags at end n within =
     let m : ℕ = end - (at + n) in
     let parts : end - at ≡ n + m = omega arith in
@@ -133,7 +143,8 @@ module _ (tags : List ℕ) (at end mask : ℕ) (ahead : IsAhead tags at end mask
     first-full = subst (λ k. 128 ≤ slice_index tags k) (sym first-is) (leb-true 128 _ (run_in_chunk_stops is_full tags at (end - at) gaps 0 room refl below))
 
     -- the places behind the first full one
-    mask_behind : mask / 2 ^ (count_trailing_zeros 64 mask + 1) ≡ full_mask tags (end - 16 + count_trailing_zeros 64 mask + 1) end
+    mask_behind :
+        mask / 2 ^ (count_trailing_zeros 64 mask + 1) ≡ full_mask tags (end - 16 + count_trailing_zeros 64 mask + 1) end
     mask_behind =
         let is : end - 16 + count_trailing_zeros 64 mask ≡ at + gaps = first-is in
         let less : gaps < end - at = below in
@@ -148,7 +159,9 @@ module _ (tags : List ℕ) (at end mask : ℕ) (ahead : IsAhead tags at end mask
         ∙ full_mask-shifted tags at end (gaps + 1) (omega arith)
         ∙ ap (λ n. full_mask tags n end) place
 
-    pub IsAhead-behind : mask < 2 ^ 64 → IsAhead tags (end - 16 + count_trailing_zeros 64 mask + 1) end (bit_and mask (mask - 1))
+    pub IsAhead-behind :
+        mask < 2 ^ 64
+        → IsAhead tags (end - 16 + count_trailing_zeros 64 mask + 1) end (bit_and mask (mask - 1))
     IsAhead-behind fits =
         let onward : at ≤ end - 16 + count_trailing_zeros 64 mask = first-onward in
         let within : end - 16 + count_trailing_zeros 64 mask < end = first-inside in
@@ -171,7 +184,12 @@ sixteen_more count end k (n, is) (m, end_is) from below =
     let fewer : m < n = omega arith in
     omega arith
 
-pub IsAhead-next : (tags : List ℕ) (end mask : ℕ) → IsInSixteens end → end + 16 ≤ length tags → mask ≡ full_mask tags end (end + 16) → IsAhead tags end (end + 16) mask
+pub IsAhead-next :
+    (tags : List ℕ) (end mask : ℕ)
+    → IsInSixteens end
+    → end + 16 ≤ length tags
+    → mask ≡ full_mask tags end (end + 16)
+    → IsAhead tags end (end + 16) mask
 IsAhead-next tags end mask (n, is) inside read =
     record {
       before_end = omega arith;
@@ -195,7 +213,11 @@ pub IsAhead-none : (tags : List ℕ) (at end mask : ℕ) → at ≡ 0 → end �
 IsAhead-none tags at end mask no_at no_end no_mask = rw (no_at, no_end, no_mask) (IsAhead-start tags)
 
 -- a tag that the walk has passed may change
-pub IsAhead-set : (tags : List ℕ) (at end mask place tag : ℕ) → place < at → IsAhead tags at end mask → IsAhead (set tags place tag) at end mask
+pub IsAhead-set :
+    (tags : List ℕ) (at end mask place tag : ℕ)
+    → place < at
+    → IsAhead tags at end mask
+    → IsAhead (set tags place tag) at end mask
 IsAhead-set tags at end mask place tag before ahead =
     record {
       before_end = ahead.before_end;
@@ -218,10 +240,18 @@ inside_full (tag ∷ tags) (suc at) full = omega (arith, inside_full tags at ful
 
 -- the pairs from a place on
 module _ {T : Type 0} where
-  pairs_one : (slots : List (Option (ℕ × T))) (at : ℕ) (slot : Option (ℕ × T)) → at < length slots → slot_at slots at ≡ slot → pairs (drop at slots) ≡ pairs (slot ∷ drop (at + 1) slots)
+  pairs_one :
+      (slots : List (Option (ℕ × T))) (at : ℕ) (slot : Option (ℕ × T))
+      → at < length slots
+      → slot_at slots at ≡ slot
+      → pairs (drop at slots) ≡ pairs (slot ∷ drop (at + 1) slots)
   pairs_one slots at slot below is = ap pairs (drop_more slots at None below ∙ ap (λ s. s ∷ drop (at + 1) slots) is)
 
-  pairs_skip : (slots : List (Option (ℕ × T))) (at run : ℕ) → at + run ≤ length slots → ((k : ℕ) → at ≤ k → k < at + run → slot_at slots k ≡ None) → pairs (drop at slots) ≡ pairs (drop (at + run) slots)
+  pairs_skip :
+      (slots : List (Option (ℕ × T))) (at run : ℕ)
+      → at + run ≤ length slots
+      → ((k : ℕ) → at ≤ k → k < at + run → slot_at slots k ≡ None)
+      → pairs (drop at slots) ≡ pairs (drop (at + run) slots)
   pairs_skip slots at zero within none = ap (λ n. pairs (drop n slots)) (let same : at ≡ at + 0 = omega arith in same)
   pairs_skip slots at (suc run) within none =
       pairs_skip slots at run (omega arith) (λ k from to. none k from (omega arith))
@@ -229,12 +259,23 @@ module _ {T : Type 0} where
       ∙ ap (λ n. pairs (drop n slots)) (let same : at + run + 1 ≡ at + suc run = omega arith in same)
 
   module _ (tags : List ℕ) (slots : List (Option (ℕ × T))) (probed : IsProbed tags slots) where
-    pub pairs-gaps : (at to : ℕ) → at ≤ to → to ≤ length tags → NoneFull tags at (to - at) → pairs (drop at slots) ≡ pairs (drop to slots)
+    pub pairs-gaps :
+        (at to : ℕ)
+        → at ≤ to
+        → to ≤ length tags
+        → NoneFull tags at (to - at)
+        → pairs (drop at slots) ≡ pairs (drop to slots)
     pairs-gaps at to onward inside gaps =
         pairs_skip slots at (to - at) (omega (arith, probed.same_length)) (λ k from below. free_slot _ _ (probed.suited k (omega arith)) (gaps k from below))
         ∙ ap (λ n. pairs (drop n slots)) (let same : at + (to - at) ≡ to = omega arith in same)
 
-    pub pairs-full : (at to : ℕ) (pair : ℕ × T) → at ≤ to → to < length tags → NoneFull tags at (to - at) → slot_at slots to ≡ Some pair → pairs (drop at slots) ≡ pair ∷ pairs (drop (to + 1) slots)
+    pub pairs-full :
+        (at to : ℕ) (pair : ℕ × T)
+        → at ≤ to
+        → to < length tags
+        → NoneFull tags at (to - at)
+        → slot_at slots to ≡ Some pair
+        → pairs (drop at slots) ≡ pair ∷ pairs (drop (to + 1) slots)
     pairs-full at to pair onward inside gaps is =
         pairs-gaps at to onward (omega arith) gaps ∙ pairs_one slots to (Some pair) (omega (arith, probed.same_length)) is
 
@@ -244,7 +285,11 @@ module _ {T : Type 0} where
         absurd (let none : drop at slots ≡ [] = drop_all at slots (omega (arith, probed.same_length)) in let never : 0 < length (pairs {T = T} []) = subst (λ xs. 0 < length (pairs xs)) none some in omega arith)
     SomeFull-pairs (suc fuel) at short some = by_tag (leb 128 (slice_index tags at)) refl (SomeFull-pairs fuel (at + 1) (omega arith))
       where
-        by_tag : (b : Bool) → leb 128 (slice_index tags at) ≡ b → (0 < length (pairs (drop (at + 1) slots)) → SomeFull tags (at + 1)) → SomeFull tags at
+        by_tag :
+            (b : Bool)
+            → leb 128 (slice_index tags at) ≡ b
+            → (0 < length (pairs (drop (at + 1) slots)) → SomeFull tags (at + 1))
+            → SomeFull tags at
         by_tag true is further = let full : 128 ≤ slice_index tags at = leb-true 128 _ is in (at, omega arith, inside_full tags at full, full)
         by_tag false is further =
             let here : NoneFull tags at (at + 1 - at) = λ k from to. subst (λ n. slice_index tags n < 128) (let same : at ≡ k = omega arith in same) (not_full _ is) in
@@ -262,7 +307,13 @@ module _ {T : Type 0} where
                 ] refl
 
 -- gaps up to a place, and gaps from there on
-pub gaps_on : (tags : List ℕ) (from at to : ℕ) → from ≤ at → at ≤ to → NoneFull tags from (at - from) → NoneFull tags at (to - at) → NoneFull tags from (to - from)
+pub gaps_on :
+    (tags : List ℕ) (from at to : ℕ)
+    → from ≤ at
+    → at ≤ to
+    → NoneFull tags from (at - from)
+    → NoneFull tags at (to - at)
+    → NoneFull tags from (to - from)
 gaps_on tags from at to before behind first rest k past below =
     elim (ltb k at) as (λ b. ltb k at ≡ b → slice_index tags k < 128) [
       | true ↦ λ is. let near : k < at = ltb-true _ _ is in first k past (omega arith)
@@ -270,7 +321,12 @@ gaps_on tags from at to before behind first rest k past below =
     ] refl
 
 -- a full place is behind the gaps
-pub full_behind : (tags : List ℕ) (from to : ℕ) → from ≤ to → NoneFull tags from (to - from) → SomeFull tags from → SomeFull tags to
+pub full_behind :
+    (tags : List ℕ) (from to : ℕ)
+    → from ≤ to
+    → NoneFull tags from (to - from)
+    → SomeFull tags from
+    → SomeFull tags to
 full_behind tags from to onward gaps (k, past, below, full) =
     elim (ltb k to) as (λ b. ltb k to ≡ b → SomeFull tags to) [
       | true ↦ λ is. absurd (let near : k < to = ltb-true _ _ is in let small : slice_index tags k < 128 = gaps k past (omega arith) in omega arith)
@@ -278,7 +334,10 @@ full_behind tags from to onward gaps (k, past, below, full) =
     ] refl
 
 -- Where no bit is set, no place up to the end is full, and there are sixteen more.
-module _ (tags : List ℕ) (from at end mask : ℕ) (ahead : IsAhead tags at end mask) (onward : from ≤ at) (gaps : NoneFull tags from (at - from)) (none : mask ≡ 0) where
+module _
+    (tags : List ℕ) (from at end mask : ℕ) (ahead : IsAhead tags at end mask) (onward : from ≤ at)
+    (gaps : NoneFull tags from (at - from)) (none : mask ≡ 0)
+    where
   pub gaps-passed : NoneFull tags from (end - from)
   gaps-passed = gaps_on tags from at end onward ahead.before_end gaps (gaps-to_end tags at end mask ahead none)
 
@@ -288,6 +347,12 @@ module _ (tags : List ℕ) (from at end mask : ℕ) (ahead : IsAhead tags at end
       let further : SomeFull tags end = full_behind tags from end (omega arith) gaps-passed some in
       sixteen_more _ _ further.0 sixteens ahead.in_sixteens further.1 further.2
 
-pub IsWalk-start : {T : Type 0} (tags : List ℕ) (slots : List (Option (ℕ × T))) (at end mask len used : ℕ) → IsSound tags slots len used → at ≡ 0 → end ≡ 0 → mask ≡ 0 → IsWalk tags slots at end mask len
+pub IsWalk-start :
+    {T : Type 0} (tags : List ℕ) (slots : List (Option (ℕ × T))) (at end mask len used : ℕ)
+    → IsSound tags slots len used
+    → at ≡ 0
+    → end ≡ 0
+    → mask ≡ 0
+    → IsWalk tags slots at end mask len
 IsWalk-start tags slots at end mask len used sound no_at no_end no_mask =
     record { count = sound.count; probed = sound.probed; ahead = IsAhead-none tags at end mask no_at no_end no_mask; counted = rw no_at sound.counted }

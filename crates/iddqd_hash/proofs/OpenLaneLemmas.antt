@@ -20,8 +20,11 @@ tops : (tag : ℕ) (v : List ℕ) → map (λ x. top 7 (bit_or (same x tag) (sam
 tops tag [] = refl
 tops tag (x ∷ v) = rw (top_joined (x == tag) (x == 0), tops tag v) refl
 
-pub stops_mask : (v : List ℕ) (tag : ℕ) → length v ≡ 16
-    → mask_l (map (top 7) (zip2 bit_or (zip2 same v (replicate 16 tag)) (zip2 same v (replicate 16 0)))) % 2 ^ 64 ≡ mask_l (map (is_stop tag) v)
+pub stops_mask :
+    (v : List ℕ) (tag : ℕ)
+    → length v ≡ 16
+    → mask_l (map (top 7) (zip2 bit_or (zip2 same v (replicate 16 tag)) (zip2 same v (replicate 16 0)))) % 2 ^ 64 ≡
+        mask_l (map (is_stop tag) v)
 stops_mask v tag long =
     rw (zip2_splat same v 16 tag long, zip2_splat same v 16 0 long, zip2-map bit_or (λ x. same x tag) (λ x. same x 0) v, map-map, tops tag v)
     (mask_l-mod (map (is_stop tag) v) 64 (omega (arith, length-map v (is_stop tag))))
@@ -41,7 +44,10 @@ free_tops : (v : List ℕ) → map (λ x. top 7 (less x 128)) v ≡ map is_free 
 free_tops [] = refl
 free_tops (x ∷ v) = rw (top_kept (ltb x 128), free_tops v) refl
 
-pub free_mask : (v : List ℕ) → length v ≡ 16 → mask_l (map (top 7) (zip2 less v (replicate 16 128))) % 2 ^ 64 ≡ mask_l (map is_free v)
+pub free_mask :
+    (v : List ℕ)
+    → length v ≡ 16
+    → mask_l (map (top 7) (zip2 less v (replicate 16 128))) % 2 ^ 64 ≡ mask_l (map is_free v)
 free_mask v long = rw (zip2_splat less v 16 128 long, map-map, free_tops v) (mask_l-mod (map is_free v) 64 (omega (arith, length-map v is_free)))
 
 pub not_free : (tag : ℕ) → is_free tag ≡ false → 128 ≤ tag
@@ -54,7 +60,10 @@ full_tops : (v : List ℕ) → map (λ x. top 7 (at_most 128 x)) v ≡ map is_fu
 full_tops [] = refl
 full_tops (x ∷ v) = rw (top_kept (is_full x), full_tops v) refl
 
-pub full_mask : (v : List ℕ) → length v ≡ 16 → mask_l (map (top 7) (zip2 at_most (replicate 16 128) v)) % 2 ^ 64 ≡ mask_l (map is_full v)
+pub full_mask :
+    (v : List ℕ)
+    → length v ≡ 16
+    → mask_l (map (top 7) (zip2 at_most (replicate 16 128) v)) % 2 ^ 64 ≡ mask_l (map is_full v)
 full_mask v long = rw (zip2_splat_left at_most 128 16 v long, map-map, full_tops v) (mask_l-mod (map is_full v) 64 (omega (arith, length-map v is_full)))
 
 pub not_full : (tag : ℕ) → is_full tag ≡ false → tag < 128

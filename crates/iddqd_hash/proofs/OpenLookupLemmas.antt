@@ -16,7 +16,12 @@ use Rattle.iddqd_hash.proofs.UnderLemmas.{under-append, under-cons_same, under-c
 use Rattle.iddqd_hash.proofs.OpenWalkLemmas.{onward, same_steps, steps_within, steps_to, steps_to-walked, places_left}
 
 -- a step round from a home, as an index before or behind the last place
-round : (n from k : ℕ) → 0 < n → k < n → ((k < n - from % n) × ((from + k) % n ≡ from % n + k)) ⊎ ((n - from % n ≤ k) × ((from + k) % n ≡ k - (n - from % n)))
+round :
+    (n from k : ℕ)
+    → 0 < n
+    → k < n
+    → ((k < n - from % n) × ((from + k) % n ≡ from % n + k)) ⊎
+        ((n - from % n ≤ k) × ((from + k) % n ≡ k - (n - from % n)))
 round n from k some below = by_side (ltb k (n - from % n)) refl
   where
     home_below : from % n < n
@@ -25,7 +30,11 @@ round n from k some below = by_side (ltb k (n - from % n)) refl
     parts : n * (from / n) + from % n ≡ from
     parts = div-add-mod from n
 
-    by_side : (b : Bool) → ltb k (n - from % n) ≡ b → ((k < n - from % n) × ((from + k) % n ≡ from % n + k)) ⊎ ((n - from % n ≤ k) × ((from + k) % n ≡ k - (n - from % n)))
+    by_side :
+        (b : Bool)
+        → ltb k (n - from % n) ≡ b
+        → ((k < n - from % n) × ((from + k) % n ≡ from % n + k)) ⊎
+            ((n - from % n ≤ k) × ((from + k) % n ≡ k - (n - from % n)))
     by_side true is =
         let near : k < n - from % n = ltb-true _ _ is in
         let low : from % n < n = home_below in
@@ -44,7 +53,10 @@ round n from k some below = by_side (ltb k (n - from % n)) refl
 abbrev pub from_home : {X : Type 0} → ℕ → List X → List X
 from_home hash xs = drop (hash % length xs) xs ++ take (hash % length xs) xs
 
-from_home-at : {X : Type 0} (hash : ℕ) (xs : List X) (k : ℕ) (d : X) → k < length xs → get_or (from_home hash xs) k d ≡ get_or xs ((hash + k) % length xs) d
+from_home-at :
+    {X : Type 0} (hash : ℕ) (xs : List X) (k : ℕ) (d : X)
+    → k < length xs
+    → get_or (from_home hash xs) k d ≡ get_or xs ((hash + k) % length xs) d
 from_home-at hash xs k d below =
     let home : ℕ = hash % length xs in
     let home_below : home < length xs = mod-lt hash (omega arith) in
@@ -79,7 +91,10 @@ module _ {T : Type 0} (hash : ℕ) where
   met_other None other = refl
   met_other (Some pair) other = under-cons_other hash pair.0 pair.1 [] (ne_eqb pair.0 hash (λ same. other pair.1 (ap (λ n. Some (n, pair.1)) same)))
 
-  met_none : (slots : List (Option (ℕ × T))) → ((k : ℕ) (value : T) → k < length slots → get_or slots k None ≢ Some (hash, value)) → met slots ≡ []
+  met_none :
+      (slots : List (Option (ℕ × T)))
+      → ((k : ℕ) (value : T) → k < length slots → get_or slots k None ≢ Some (hash, value))
+      → met slots ≡ []
   met_none [] others = refl
   met_none (slot ∷ slots) others =
       met-append (slot ∷ []) slots
@@ -96,11 +111,18 @@ module _ {T : Type 0} (hash : ℕ) where
         ∙ met-append (take k slots) (get_or slots k None ∷ drop (k + 1) slots)
         ∙ ap (λ xs. met (take k slots) ++ xs) (met-append (get_or slots k None ∷ []) (drop (k + 1) slots))
 
-    met_at : (value : T) → get_or slots k None ≡ Some (hash, value) → met slots ≡ met (take k slots) ++ value ∷ met (drop (k + 1) slots)
+    met_at :
+        (value : T)
+        → get_or slots k None ≡ Some (hash, value)
+        → met slots ≡ met (take k slots) ++ value ∷ met (drop (k + 1) slots)
     met_at value is = met_whole ∙ ap (λ xs. met (take k slots) ++ (xs ++ met (drop (k + 1) slots))) (met_same _ value is)
 
   -- a value that stands under the hash
-  pub Contains-met : (slots : List (Option (ℕ × T))) (k : ℕ) (value : T) → k < length slots → slot_at slots k ≡ Some (hash, value) → Contains (under hash (pairs slots)) value
+  pub Contains-met :
+      (slots : List (Option (ℕ × T))) (k : ℕ) (value : T)
+      → k < length slots
+      → slot_at slots k ≡ Some (hash, value)
+      → Contains (under hash (pairs slots)) value
   Contains-met slots k value below is =
       subst (λ xs. Contains xs value) (sym (met_at slots k below value is)) (Contains-append_right (met (take k slots)) _ value (0, omega arith, refl))
 
@@ -120,7 +142,12 @@ module _ {T : Type 0} (tags : List ℕ) (slots : List (Option (ℕ × T))) (hash
         others = λ k value below. absurd (omega arith);
       }
 
-  pub PassesBy-next : (at : ℕ) → PassesBy tags slots hash from at → 0 < slice_index tags at → ((value : T) → slot_at slots at ≢ Some (hash, value)) → PassesBy tags slots hash from ((at + 1) % length tags)
+  pub PassesBy-next :
+      (at : ℕ)
+      → PassesBy tags slots hash from at
+      → 0 < slice_index tags at
+      → ((value : T) → slot_at slots at ≢ Some (hash, value))
+      → PassesBy tags slots hash from ((at + 1) % length tags)
   PassesBy-next at by used other =
       record {
         walk = record {
@@ -135,20 +162,34 @@ module _ {T : Type 0} (tags : List ℕ) (slots : List (Option (ℕ × T))) (hash
   PassesBy-inside at some by = subst (λ x. x < length tags) by.walk.is_there (mod-lt (from + by.walk.steps) some)
 
 -- a walk that comes to no pair comes to an empty cell
-pub FindsNext-none : {T : Type 0} (tags : List ℕ) (slots : List (Option (ℕ × T))) (hash from : ℕ) (r : Option ℕ) → ((place : ℕ) → r ≡ Some place → ⊥) → FindsNext tags slots hash from r → FindsNext tags slots hash from None
+pub FindsNext-none :
+    {T : Type 0} (tags : List ℕ) (slots : List (Option (ℕ × T))) (hash from : ℕ) (r : Option ℕ)
+    → ((place : ℕ) → r ≡ Some place → ⊥)
+    → FindsNext tags slots hash from r
+    → FindsNext tags slots hash from None
 FindsNext-none tags slots hash from None none finds = finds
 FindsNext-none tags slots hash from (Some place) none finds = absurd (none place refl)
 
-some_value : {T : Type 0} (tag hash : ℕ) (o : Option T) → Suits tag (option_map {U = ℕ × T} (λ value. (hash, value)) o) → 1 < tag → (value : T) × (option_map {U = ℕ × T} (λ value. (hash, value)) o ≡ Some (hash, value))
+some_value :
+    {T : Type 0} (tag hash : ℕ) (o : Option T)
+    → Suits tag (option_map {U = ℕ × T} (λ value. (hash, value)) o)
+    → 1 < tag
+    → (value : T) × (option_map {U = ℕ × T} (λ value. (hash, value)) o ≡ Some (hash, value))
 some_value tag hash None suits full = absurd (omega arith)
 some_value tag hash (Some value) suits full = (value, refl)
 
-same_hash : {T : Type 0} (stored hash : ℕ) (o : Option T) (value : T) → option_map {U = ℕ × T} (λ value. (stored, value)) o ≡ Some (hash, value) → stored ≡ hash
+same_hash :
+    {T : Type 0} (stored hash : ℕ) (o : Option T) (value : T)
+    → option_map {U = ℕ × T} (λ value. (stored, value)) o ≡ Some (hash, value)
+    → stored ≡ hash
 same_hash stored hash None value is = absurd (cc)
 same_hash {T} stored hash (Some held) value is = let pair : (ℕ × T) = (stored, held) in let same : pair ≡ (hash, value) = cc in ap (λ (p : ℕ × T). p.0) same
 
 -- a cell that is read beside its tag
-module _ {T : Type 0} (tags : List ℕ) (cells : List (Cell T)) (at : ℕ) (cell : Cell T) (inside : at < length tags) (read : cell ≡ get_or cells at cell) (probed : IsProbed tags (slots_of cells)) where
+module _
+    {T : Type 0} (tags : List ℕ) (cells : List (Cell T)) (at : ℕ) (cell : Cell T) (inside : at < length tags)
+    (read : cell ≡ get_or cells at cell) (probed : IsProbed tags (slots_of cells))
+    where
   pub slot_read : slot_at (slots_of cells) at ≡ pair_in cell
   slot_read =
       let same : length (slots_of cells) ≡ length tags = probed.same_length in
@@ -158,7 +199,11 @@ module _ {T : Type 0} (tags : List ℕ) (cells : List (Cell T)) (at : ℕ) (cell
   suits_read = subst (λ o. Suits (slice_index tags at) o) slot_read (probed.suited at inside)
 
   -- a full cell has a value, under its hash
-  pub full_read : (hash : ℕ) → 1 < slice_index tags at → (get_or cells at cell).hash ≡ hash → (value : T) × (slot_at (slots_of cells) at ≡ Some (hash, value))
+  pub full_read :
+      (hash : ℕ)
+      → 1 < slice_index tags at
+      → (get_or cells at cell).hash ≡ hash
+      → (value : T) × (slot_at (slots_of cells) at ≡ Some (hash, value))
   full_read hash full same =
       let here = some_value (slice_index tags at) cell.hash cell.value suits_read full in
       let stored : cell.hash ≡ hash = ap (λ (c : Cell T). c.hash) read ∙ same in
@@ -167,20 +212,34 @@ module _ {T : Type 0} (tags : List ℕ) (cells : List (Cell T)) (at : ℕ) (cell
   hash_is : (hash : ℕ) (value : T) → slot_at (slots_of cells) at ≡ Some (hash, value) → cell.hash ≡ hash
   hash_is hash value is = same_hash cell.hash hash cell.value value (sym slot_read ∙ is)
 
-  pub hash_read : (hash : ℕ) (value : T) → slot_at (slots_of cells) at ≡ Some (hash, value) → (get_or cells at cell).hash ≡ hash
+  pub hash_read :
+      (hash : ℕ) (value : T)
+      → slot_at (slots_of cells) at ≡ Some (hash, value)
+      → (get_or cells at cell).hash ≡ hash
   hash_read hash value is = ap (λ (c : Cell T). c.hash) (sym read) ∙ hash_is hash value is
 
   -- the value that is read where a look-up hits
-  pub value_read : (hash : ℕ) (found value : T) → slot_at (slots_of cells) at ≡ Some (hash, found) → pair_in cell ≡ Some (cell.hash, value) → slot_at (slots_of cells) at ≡ Some (hash, value)
+  pub value_read :
+      (hash : ℕ) (found value : T)
+      → slot_at (slots_of cells) at ≡ Some (hash, found)
+      → pair_in cell ≡ Some (cell.hash, value)
+      → slot_at (slots_of cells) at ≡ Some (hash, value)
   value_read hash found value is says = slot_read ∙ says ∙ ap (λ n. Some (n, value)) (hash_is hash found is)
 
 -- where a pair stands is its tag
-pub tag_read : {T : Type 0} (tags : List ℕ) (slots : List (Option (ℕ × T))) (at hash : ℕ) (value : T) → at < length tags → IsProbed tags slots → slot_at slots at ≡ Some (hash, value) → slice_index tags at ≡ tag_of hash
+pub tag_read :
+    {T : Type 0} (tags : List ℕ) (slots : List (Option (ℕ × T))) (at hash : ℕ) (value : T)
+    → at < length tags
+    → IsProbed tags slots
+    → slot_at slots at ≡ Some (hash, value)
+    → slice_index tags at ≡ tag_of hash
 tag_read tags slots at hash value inside probed is =
     subst (λ o. Suits (slice_index tags at) o) is (probed.suited at inside)
 
 -- A walk from the home of a hash that asked of each value under it that it came to.
-module _ {F T : Type 0} (ask : F → T → Bool → F → Type 0) (f : F) (tags : List ℕ) (slots : List (Option (ℕ × T))) (hash : ℕ) where
+module _
+    {F T : Type 0} (ask : F → T → Bool → F → Type 0) (f : F) (tags : List ℕ) (slots : List (Option (ℕ × T))) (hash : ℕ)
+    where
   -- the walk has come to a place, and each value under the hash before it was refused
   pub record Looking (at : ℕ) (last : F) : Type 0 where
     pub walk : IsReached tags hash at
@@ -194,13 +253,19 @@ module _ {F T : Type 0} (ask : F → T → Bool → F → Type 0) (f : F) (tags 
       }
 
   module _ (probed : IsProbed tags slots) (some : HasEmpty tags) where
-    read_at : (k : ℕ) → k < length tags → get_or (from_home hash slots) k None ≡ slot_at slots ((hash + k) % length tags)
+    read_at :
+        (k : ℕ)
+        → k < length tags
+        → get_or (from_home hash slots) k None ≡ slot_at slots ((hash + k) % length tags)
     read_at k below = from_home-at hash slots k None (omega (arith, probed.same_length)) ∙ ap (λ n. slot_at slots ((hash + k) % n)) probed.same_length
 
     long : 0 < length tags → length (from_home hash slots) ≡ length tags
     long some = from_home-length hash slots (omega (arith, probed.same_length)) ∙ probed.same_length
 
-    skipped : (s t : ℕ) → s + t < length tags → ((k : ℕ) (value : T) → k < t → slot_at slots ((hash + (s + k)) % length tags) ≢ Some (hash, value))
+    skipped :
+        (s t : ℕ)
+        → s + t < length tags
+        → ((k : ℕ) (value : T) → k < t → slot_at slots ((hash + (s + k)) % length tags) ≢ Some (hash, value))
         → under hash (pairs (take (s + t) (from_home hash slots))) ≡ under hash (pairs (take s (from_home hash slots)))
     skipped s zero below others = ap (λ n. under hash (pairs (take n (from_home hash slots)))) (add-zero s)
     skipped s (suc t) below others =
@@ -265,7 +330,9 @@ module _ {F T : Type 0} (ask : F → T → Bool → F → Type 0) (f : F) (tags 
         inside : looking.walk.steps < length (from_home hash slots)
         inside = let below : looking.walk.steps < length tags = within in omega (arith, long (omega arith))
 
-        pub HitsPair-looked : ask before value true last → HitsPair ask f hash (under hash (pairs slots)) (slot_at slots place)
+        pub HitsPair-looked :
+            ask before value true last
+            → HitsPair ask f hash (under hash (pairs slots)) (slot_at slots place)
         HitsPair-looked accepted =
             record {
               value = value;
@@ -301,7 +368,10 @@ module _ {F T : Type 0} (ask : F → T → Bool → F → Type 0) (f : F) (tags 
             }
 
       module _ (empty : slice_index tags place ≡ 0) where
-        none_later : (k : ℕ) (value : T) → k < length (drop looking.walk.steps (from_home hash slots)) → get_or (drop looking.walk.steps (from_home hash slots)) k None ≢ Some (hash, value)
+        none_later :
+            (k : ℕ) (value : T)
+            → k < length (drop looking.walk.steps (from_home hash slots))
+            → get_or (drop looking.walk.steps (from_home hash slots)) k None ≢ Some (hash, value)
         none_later k value below is =
             let low : looking.walk.steps < length tags = within in
             let s : ℕ = looking.walk.steps in

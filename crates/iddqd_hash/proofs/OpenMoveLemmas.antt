@@ -16,7 +16,11 @@ module _ {T : Type 0} where
     pub unmarked : (k : ℕ) → slice_index tags k ≢ 1
     pub counted : count_by is_used tags ≡ length (pairs slots)
 
-  pub Moving-start : (old : List (Option (ℕ × T))) (tags : List ℕ) (slots : List (Option (ℕ × T))) (n : ℕ) → tags ≡ replicate n 0 → slots ≡ replicate n None → Moving old old tags slots
+  pub Moving-start :
+      (old : List (Option (ℕ × T))) (tags : List ℕ) (slots : List (Option (ℕ × T))) (n : ℕ)
+      → tags ≡ replicate n 0
+      → slots ≡ replicate n None
+      → Moving old old tags slots
   Moving-start old tags slots n no_tag no_pair =
       rw (no_tag, no_pair)
       (record {
@@ -26,7 +30,10 @@ module _ {T : Type 0} where
         counted = unused n ∙ sym (ap length (pairs-empty n));
       })
 
-  module _ (old left : List (Option (ℕ × T))) (tags : List ℕ) (slots : List (Option (ℕ × T))) (state : Moving old left tags slots) where
+  module _
+      (old left : List (Option (ℕ × T))) (tags : List ℕ) (slots : List (Option (ℕ × T)))
+      (state : Moving old left tags slots)
+      where
     few : count_by is_used tags ≤ length (pairs old)
     few = omega (arith, state.counted, length_permutation _ _ state.moved, length-append (pairs slots) (pairs left))
 
@@ -42,7 +49,13 @@ module _ {T : Type 0} where
           counted = state.counted;
         }
 
-    pub Moving-put : (rest : List (Option (ℕ × T))) (place hash : ℕ) (value : T) → left ≡ rest ++ Some (hash, value) ∷ [] → place < length tags → slice_index tags place < 128 → IsReached tags hash place → Moving old rest (set tags place (tag_of hash)) (set slots place (Some (hash, value)))
+    pub Moving-put :
+        (rest : List (Option (ℕ × T))) (place hash : ℕ) (value : T)
+        → left ≡ rest ++ Some (hash, value) ∷ []
+        → place < length tags
+        → slice_index tags place < 128
+        → IsReached tags hash place
+        → Moving old rest (set tags place (tag_of hash)) (set slots place (Some (hash, value)))
     Moving-put rest place hash value is inside small reached =
         let within : place < length slots = omega (arith, state.probed.same_length) in
         let suits : Suits (slice_index tags place) (slot_at slots place) = state.probed.suited place inside in
@@ -66,5 +79,9 @@ module _ {T : Type 0} where
           counted = omega (arith, state.counted);
         }
 
-  pub Moving-end : (old left : List (Option (ℕ × T))) (tags : List ℕ) (slots : List (Option (ℕ × T))) → Moving old left tags slots → left ≡ [] → IsPermutation (pairs old) (pairs slots)
+  pub Moving-end :
+      (old left : List (Option (ℕ × T))) (tags : List ℕ) (slots : List (Option (ℕ × T)))
+      → Moving old left tags slots
+      → left ≡ []
+      → IsPermutation (pairs old) (pairs slots)
   Moving-end old left tags slots state none = subst (λ xs. IsPermutation (pairs old) xs) (ap (λ xs. pairs slots ++ pairs xs) none ∙ append-nil (pairs slots)) state.moved

@@ -22,7 +22,11 @@ IsPastFull-start tags from =
       full = λ k below. absurd (omega arith);
     }
 
-pub IsPastFull-next : (tags : List ℕ) (from at : ℕ) → IsPastFull tags from at → 128 ≤ slice_index tags at → IsPastFull tags from ((at + 1) % length tags)
+pub IsPastFull-next :
+    (tags : List ℕ) (from at : ℕ)
+    → IsPastFull tags from at
+    → 128 ≤ slice_index tags at
+    → IsPastFull tags from ((at + 1) % length tags)
 IsPastFull-next tags from at walk full =
     record {
       steps = walk.steps + 1;
@@ -50,7 +54,12 @@ module _ (tags : List ℕ) (from a b : ℕ) (walk : IsPastFull tags from a) (fur
   pub IsPastFull-on : IsPastFull tags from b
   IsPastFull-on = record { steps = walk.steps + further.steps; is_there = moved_on further.steps ∙ further.is_there; full = full_both }
 
-pub IsPastFull-run : (tags : List ℕ) (at run place : ℕ) → at + run ≤ length tags → AllFull tags at run → (at + run) % length tags ≡ place → IsPastFull tags at place
+pub IsPastFull-run :
+    (tags : List ℕ) (at run place : ℕ)
+    → at + run ≤ length tags
+    → AllFull tags at run
+    → (at + run) % length tags ≡ place
+    → IsPastFull tags at place
 IsPastFull-run tags at run place inside full is =
     record {
       steps = run;
@@ -59,7 +68,12 @@ IsPastFull-run tags at run place inside full is =
     }
 
 -- a walk past full cells goes on where more cells are full
-pub IsPastFull-kept : (tags now : List ℕ) (from at : ℕ) → length now ≡ length tags → ((k : ℕ) → 128 ≤ slice_index tags k → 128 ≤ slice_index now k) → IsPastFull tags from at → IsPastFull now from at
+pub IsPastFull-kept :
+    (tags now : List ℕ) (from at : ℕ)
+    → length now ≡ length tags
+    → ((k : ℕ) → 128 ≤ slice_index tags k → 128 ≤ slice_index now k)
+    → IsPastFull tags from at
+    → IsPastFull now from at
 IsPastFull-kept tags now from at same stays walk =
     record {
       steps = walk.steps;

@@ -16,7 +16,11 @@ abbrev pub pending_count : ℕ → ℕ
 pending_count tag = cond (is_pending tag) 1 0
 
 -- a pair that is placed in a pending cell leaves one pending cell fewer
-pub fewer_pending : (tags : List ℕ) (place hash : ℕ) → place < length tags → slice_index tags place ≡ pending → count_by is_pending (set tags place (tag_of hash)) < count_by is_pending tags
+pub fewer_pending :
+    (tags : List ℕ) (place hash : ℕ)
+    → place < length tags
+    → slice_index tags place ≡ pending
+    → count_by is_pending (set tags place (tag_of hash)) < count_by is_pending tags
 fewer_pending tags place hash inside is =
     let counts : count_by is_pending (set tags place (tag_of hash)) + pending_count (slice_index tags place) ≡ count_by is_pending tags + pending_count (tag_of hash) =
     sum_by-set pending_count tags place (tag_of hash) 0 inside in
@@ -28,12 +32,21 @@ fewer_pending tags place hash inside is =
     placed_count tag full = ap (λ b. cond {A = ℕ} b 1 0) (ne_eqb tag pending (λ same. absurd (omega arith)))
 
 -- a cell that isn't placed is set to another tag
-stays_full : (tags : List ℕ) (place tag k : ℕ) → slice_index tags place < 128 → 128 ≤ slice_index tags k → 128 ≤ slice_index (set tags place tag) k
+stays_full :
+    (tags : List ℕ) (place tag k : ℕ)
+    → slice_index tags place < 128
+    → 128 ≤ slice_index tags k
+    → 128 ≤ slice_index (set tags place tag) k
 stays_full tags place tag k free full =
     let other : k ≢ place = λ same. let is : slice_index tags k ≡ slice_index tags place = ap (slice_index tags) same in omega arith in
     rw (get_or-set_other tags place k tag 0 other) full
 
-pub NoMorePending-set : (old tags : List ℕ) (place tag : ℕ) → place < length tags → tag ≢ pending → NoMorePending old tags → NoMorePending old (set tags place tag)
+pub NoMorePending-set :
+    (old tags : List ℕ) (place tag : ℕ)
+    → place < length tags
+    → tag ≢ pending
+    → NoMorePending old tags
+    → NoMorePending old (set tags place tag)
 NoMorePending-set old tags place tag inside other none k is =
     elim (cases_eq k place) [
       | inl same ↦ absurd (other (sym (get_or-set_same tags place tag 0 inside) ∙ ap (slice_index (set tags place tag)) (sym same) ∙ is))
@@ -53,24 +66,41 @@ module _ {T : Type 0} where
   free_none tag (Some pair) suits small other = elim suits [ inl is ↦ absurd (other is) | inr is ↦ absurd (omega arith) ]
 
   -- the cells that aren't empty are those with a pair
-  counted : (tags : List ℕ) (slots : List (Option (ℕ × T))) → length slots ≡ length tags → ((place : ℕ) → place < length tags → SuitsOrPending (slice_index tags place) (slot_at slots place)) → count_by is_used tags ≡ length (pairs slots)
+  counted :
+      (tags : List ℕ) (slots : List (Option (ℕ × T)))
+      → length slots ≡ length tags
+      → ((place : ℕ) → place < length tags → SuitsOrPending (slice_index tags place) (slot_at slots place))
+      → count_by is_used tags ≡ length (pairs slots)
   counted [] [] same suited = refl
   counted [] (slot ∷ slots) same suited = absurd (omega arith)
   counted (tag ∷ tags) [] same suited = absurd (omega arith)
   counted (tag ∷ tags) (slot ∷ slots) same suited =
       used-cons tag tags ∙ by_slot slot (suited 0 (omega arith)) (counted tags slots (omega arith) (λ place below. suited (suc place) (omega arith)))
     where
-      by_slot : (slot : Option (ℕ × T)) → SuitsOrPending tag slot → count_by is_used tags ≡ length (pairs slots) → used_count tag + count_by is_used tags ≡ length (pairs (slot ∷ slots))
+      by_slot :
+          (slot : Option (ℕ × T))
+          → SuitsOrPending tag slot
+          → count_by is_used tags ≡ length (pairs slots)
+          → used_count tag + count_by is_used tags ≡ length (pairs (slot ∷ slots))
       by_slot None is rest = let none : used_count tag ≡ 0 = ap used_count is in omega (arith, rest)
       by_slot (Some pair) is rest =
           let some : 0 < tag = elim is [ inl one ↦ omega arith | inr full ↦ omega arith ] in
           let one : used_count tag ≡ 1 = used_one tag some in
           omega (arith, rest)
 
-  pub IsPartlyPlaced-counted : (tags : List ℕ) (slots : List (Option (ℕ × T))) → IsPartlyPlaced tags slots → count_by is_used tags ≡ length (pairs slots)
+  pub IsPartlyPlaced-counted :
+      (tags : List ℕ) (slots : List (Option (ℕ × T)))
+      → IsPartlyPlaced tags slots
+      → count_by is_used tags ≡ length (pairs slots)
   IsPartlyPlaced-counted tags slots state = counted tags slots state.same_length state.suited
 
-  pub IsPartlyPlaced-start : (tags now : List ℕ) (slots : List (Option (ℕ × T))) → IsProbed tags slots → length now ≡ length tags → ((k : ℕ) → 128 ≤ slice_index tags k → slice_index now k ≡ pending) → ((k : ℕ) → slice_index tags k < 128 → slice_index now k ≡ 0) → IsPartlyPlaced now slots
+  pub IsPartlyPlaced-start :
+      (tags now : List ℕ) (slots : List (Option (ℕ × T)))
+      → IsProbed tags slots
+      → length now ≡ length tags
+      → ((k : ℕ) → 128 ≤ slice_index tags k → slice_index now k ≡ pending)
+      → ((k : ℕ) → slice_index tags k < 128 → slice_index now k ≡ 0)
+      → IsPartlyPlaced now slots
   IsPartlyPlaced-start tags now slots probed same full others =
       record {
         same_length = probed.same_length ∙ sym same;
@@ -83,11 +113,19 @@ module _ {T : Type 0} where
       inside : (place : ℕ) (pair : ℕ × T) → slot_at slots place ≡ Some pair → place < length tags
       inside place pair is = omega (arith, some_inside slots place (some_of _ pair is), probed.same_length)
 
-      by_slot : (place : ℕ) (slot : Option (ℕ × T)) → Suits (slice_index tags place) slot → SuitsOrPending (slice_index now place) slot
+      by_slot :
+          (place : ℕ) (slot : Option (ℕ × T))
+          → Suits (slice_index tags place) slot
+          → SuitsOrPending (slice_index now place) slot
       by_slot place None suits = others place (omega arith)
       by_slot place (Some pair) suits = inl (full place (omega arith))
 
-  pub IsProbed-rebuilt : (tags : List ℕ) (slots : List (Option (ℕ × T))) (at : ℕ) → IsPartlyPlaced tags slots → length tags ≤ at → ((k : ℕ) → k < at → slice_index tags k ≢ pending) → IsProbed tags slots
+  pub IsProbed-rebuilt :
+      (tags : List ℕ) (slots : List (Option (ℕ × T))) (at : ℕ)
+      → IsPartlyPlaced tags slots
+      → length tags ≤ at
+      → ((k : ℕ) → k < at → slice_index tags k ≢ pending)
+      → IsProbed tags slots
   IsProbed-rebuilt tags slots at state all none =
       record {
         same_length = state.same_length;
@@ -105,11 +143,19 @@ module _ {T : Type 0} where
           let suits : Suits (slice_index tags place) (Some pair) = subst (λ o. Suits (slice_index tags place) o) is (by_slot (slice_index tags place) (slot_at slots place) (none place (omega arith)) (state.suited place below)) in
           omega arith
 
-  module _ (tags : List ℕ) (slots : List (Option (ℕ × T))) (state : IsPartlyPlaced tags slots) (place : ℕ) (inside : place < length tags) (free : slice_index tags place < 128) where
+  module _
+      (tags : List ℕ) (slots : List (Option (ℕ × T))) (state : IsPartlyPlaced tags slots) (place : ℕ)
+      (inside : place < length tags) (free : slice_index tags place < 128)
+      where
     within : place < length slots
     within = omega (arith, state.same_length)
 
-    suited-set : (tag : ℕ) (slot : Option (ℕ × T)) → SuitsOrPending tag slot → (k : ℕ) → k < length (set tags place tag) → SuitsOrPending (slice_index (set tags place tag) k) (slot_at (set slots place slot) k)
+    suited-set :
+        (tag : ℕ) (slot : Option (ℕ × T))
+        → SuitsOrPending tag slot
+        → (k : ℕ)
+        → k < length (set tags place tag)
+        → SuitsOrPending (slice_index (set tags place tag) k) (slot_at (set slots place slot) k)
     suited-set tag slot suits k below =
         elim (cases_eq k place) [
           | inl same ↦ rw (same, get_or-set_same tags place tag 0 inside, get_or-set_same slots place slot None within) suits
@@ -120,12 +166,20 @@ module _ {T : Type 0} where
     kept tag from at = IsPastFull-kept tags (set tags place tag) from at (length-set tags place tag) (λ k. stays_full tags place tag k free)
 
     -- what stands in another place stays placed
-    placed_other : (tag : ℕ) (slot : Option (ℕ × T)) (at : ℕ) (pair : ℕ × T) → at ≢ place → slot_at (set slots place slot) at ≡ Some pair → 128 ≤ slice_index (set tags place tag) at → IsPastFull (set tags place tag) pair.0 at
+    placed_other :
+        (tag : ℕ) (slot : Option (ℕ × T)) (at : ℕ) (pair : ℕ × T)
+        → at ≢ place
+        → slot_at (set slots place slot) at ≡ Some pair
+        → 128 ≤ slice_index (set tags place tag) at
+        → IsPastFull (set tags place tag) pair.0 at
     placed_other tag slot at pair other is high =
         kept tag pair.0 at (state.placed at pair (sym (get_or-set_other slots place at slot None other) ∙ is) (subst (λ n. 128 ≤ n) (get_or-set_other tags place at tag 0 other) high))
 
     -- a pair that is put where none is placed
-    pub IsPartlyPlaced-put : (hash : ℕ) (value : T) → IsPastFull tags hash place → IsPartlyPlaced (set tags place (tag_of hash)) (set slots place (Some (hash, value)))
+    pub IsPartlyPlaced-put :
+        (hash : ℕ) (value : T)
+        → IsPastFull tags hash place
+        → IsPartlyPlaced (set tags place (tag_of hash)) (set slots place (Some (hash, value)))
     IsPartlyPlaced-put hash value walk =
         record {
           same_length = length-set slots place (Some (hash, value)) ∙ state.same_length ∙ sym (length-set tags place (tag_of hash));
@@ -154,7 +208,11 @@ module _ {T : Type 0} where
         }
 
   -- one pair is exchanged for another
-  pairs-exchanged : (slots : List (Option (ℕ × T))) (place : ℕ) (pair was : ℕ × T) → place < length slots → slot_at slots place ≡ Some was → IsPermutation (pair ∷ pairs slots) (was ∷ pairs (set slots place (Some pair)))
+  pairs-exchanged :
+      (slots : List (Option (ℕ × T))) (place : ℕ) (pair was : ℕ × T)
+      → place < length slots
+      → slot_at slots place ≡ Some was
+      → IsPermutation (pair ∷ pairs slots) (was ∷ pairs (set slots place (Some pair)))
   pairs-exchanged slots place pair was inside is =
       let empty : length (set slots place None) ≡ length slots = length-set slots place None in
       let out : IsPermutation (pair ∷ pairs slots) (pair ∷ was ∷ pairs (set slots place None)) = IsPermutation-cons pair _ _ (pairs-taken slots place was inside is) in
@@ -164,14 +222,24 @@ module _ {T : Type 0} where
       let both : IsPermutation (pair ∷ pairs (set slots place None)) (pairs (set slots place (Some pair))) = subst (λ xs. IsPermutation (pair ∷ pairs (set slots place None)) (pairs xs)) (set-set slots place None (Some pair)) put in
       IsPermutation-trans _ _ _ out (IsPermutation-trans _ _ _ turned (IsPermutation-cons was _ _ both))
 
-  -- one pair was taken out of the slots and isn't put back yet; the cell from which the first one came has none to be placed
-  pub record Carrying (old_tags : List ℕ) (old : List (Option (ℕ × T))) (at hash : ℕ) (value : T) (tags : List ℕ) (slots : List (Option (ℕ × T))) : Type 0 where
+  -- one pair was taken out of the slots and isn't put back yet; the cell from which the first one came has none to be
+  -- placed
+  pub record Carrying
+      (old_tags : List ℕ) (old : List (Option (ℕ × T))) (at hash : ℕ) (value : T) (tags : List ℕ)
+      (slots : List (Option (ℕ × T)))
+      : Type 0 where
     pub partly_placed : IsPartlyPlaced tags slots
     pub moved : IsPermutation (pairs old) ((hash, value) ∷ pairs slots)
     pub not_pending : slice_index tags at ≢ pending
     pub no_more : NoMorePending old_tags tags
 
-  pub Carrying-start : (tags : List ℕ) (slots : List (Option (ℕ × T))) (at : ℕ) (pair : ℕ × T) → IsPartlyPlaced tags slots → at < length tags → slice_index tags at ≡ pending → slot_at slots at ≡ Some pair → Carrying tags slots at pair.0 pair.1 (set tags at 0) (set slots at None)
+  pub Carrying-start :
+      (tags : List ℕ) (slots : List (Option (ℕ × T))) (at : ℕ) (pair : ℕ × T)
+      → IsPartlyPlaced tags slots
+      → at < length tags
+      → slice_index tags at ≡ pending
+      → slot_at slots at ≡ Some pair
+      → Carrying tags slots at pair.0 pair.1 (set tags at 0) (set slots at None)
   Carrying-start tags slots at pair state inside is here =
       record {
         partly_placed = IsPartlyPlaced-lifted tags slots state at inside (omega arith);
@@ -180,18 +248,31 @@ module _ {T : Type 0} where
         no_more = NoMorePending-set tags tags at 0 inside (λ none. absurd (omega arith)) (λ k is. is);
       }
 
-  module _ (old_tags : List ℕ) (old : List (Option (ℕ × T))) (at hash : ℕ) (value : T) (tags : List ℕ) (slots : List (Option (ℕ × T))) (state : Carrying old_tags old at hash value tags slots) where
+  module _
+      (old_tags : List ℕ) (old : List (Option (ℕ × T))) (at hash : ℕ) (value : T) (tags : List ℕ)
+      (slots : List (Option (ℕ × T))) (state : Carrying old_tags old at hash value tags slots)
+      where
     -- an empty cell is there as long as not more pairs are there than fit
     pub Carrying-room : length (pairs old) ≤ limit_of (length tags) → HasEmpty tags
     Carrying-room fits = some_empty tags (omega (arith, IsPartlyPlaced-counted tags slots state.partly_placed, length_permutation _ _ state.moved))
 
-    not_pending-set : (place tag : ℕ) → place < length tags → tag ≢ pending → slice_index (set tags place tag) at ≢ pending
+    not_pending-set :
+        (place tag : ℕ)
+        → place < length tags
+        → tag ≢ pending
+        → slice_index (set tags place tag) at ≢ pending
     not_pending-set place tag inside other = NoMorePending-at (NoMorePending-set tags tags place tag inside other (λ k is. is))
       where
         NoMorePending-at : NoMorePending tags (set tags place tag) → slice_index (set tags place tag) at ≢ pending
         NoMorePending-at none is = state.not_pending (none at is)
 
-    pub Carrying-next : (place : ℕ) (was : ℕ × T) → place < length tags → slice_index tags place ≡ pending → IsPastFull tags hash place → slot_at slots place ≡ Some was → Carrying old_tags old at was.0 was.1 (set tags place (tag_of hash)) (set slots place (Some (hash, value)))
+    pub Carrying-next :
+        (place : ℕ) (was : ℕ × T)
+        → place < length tags
+        → slice_index tags place ≡ pending
+        → IsPastFull tags hash place
+        → slot_at slots place ≡ Some was
+        → Carrying old_tags old at was.0 was.1 (set tags place (tag_of hash)) (set slots place (Some (hash, value)))
     Carrying-next place was inside is walk here =
         let other : tag_of hash ≢ pending = λ same. absurd (omega arith) in
         record {
@@ -201,7 +282,10 @@ module _ {T : Type 0} where
           no_more = NoMorePending-set old_tags tags place (tag_of hash) inside other state.no_more;
         }
 
-    module _ (place : ℕ) (inside : place < length tags) (free : slice_index tags place < 128) (empty : slice_index tags place ≢ pending) (walk : IsPastFull tags hash place) where
+    module _
+        (place : ℕ) (inside : place < length tags) (free : slice_index tags place < 128)
+        (empty : slice_index tags place ≢ pending) (walk : IsPastFull tags hash place)
+        where
       pub Carrying-free : slot_at slots place ≡ None
       Carrying-free = free_none (slice_index tags place) (slot_at slots place) (state.partly_placed.suited place inside) free empty
 
@@ -229,7 +313,13 @@ pub record TagsReset (old tags : List ℕ) (at : ℕ) : Type 0 where
 pub TagsReset-start : (tags : List ℕ) → TagsReset tags tags 0
 TagsReset-start tags = record { full = λ k below. absurd (omega arith); others = λ k below. absurd (omega arith); later = λ k past. refl }
 
-pub TagsReset-more : (old tags : List ℕ) (at tag : ℕ) → at < length tags → TagsReset old tags at → (128 ≤ slice_index tags at → tag ≡ pending) → (slice_index tags at < 128 → tag ≡ 0) → TagsReset old (set tags at tag) (at + 1)
+pub TagsReset-more :
+    (old tags : List ℕ) (at tag : ℕ)
+    → at < length tags
+    → TagsReset old tags at
+    → (128 ≤ slice_index tags at → tag ≡ pending)
+    → (slice_index tags at < 128 → tag ≡ 0)
+    → TagsReset old (set tags at tag) (at + 1)
 TagsReset-more old tags at tag inside state full others =
     let here : slice_index (set tags at tag) at ≡ tag = get_or-set_same tags at tag 0 inside in
     let was : slice_index tags at ≡ slice_index old at = state.later at (omega arith) in

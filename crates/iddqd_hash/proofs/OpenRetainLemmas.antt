@@ -15,19 +15,35 @@ use Rattle.iddqd_hash.proofs.OpenSlotLemmas.{pairs-push, free_slot}
 use Rattle.iddqd_hash.proofs.RetainLemmas.{Contains-values}
 
 module _ {T : Type 0} where
-  pairs_more : (slots : List (Option (ℕ × T))) (at : ℕ) (slot : Option (ℕ × T)) → at < length slots → slot_at slots at ≡ slot → pairs (take (at + 1) slots) ≡ pairs (take at slots) ++ pairs (slot ∷ [])
+  pairs_more :
+      (slots : List (Option (ℕ × T))) (at : ℕ) (slot : Option (ℕ × T))
+      → at < length slots
+      → slot_at slots at ≡ slot
+      → pairs (take (at + 1) slots) ≡ pairs (take at slots) ++ pairs (slot ∷ [])
   pairs_more slots at slot below is = ap pairs (take_more slots at None below ∙ ap (λ s. take at slots ++ s ∷ []) is) ∙ pairs-push (take at slots) slot
 
-  pairs_more_set : (slots : List (Option (ℕ × T))) (at : ℕ) (slot : Option (ℕ × T)) → at < length slots → pairs (take (at + 1) (set slots at slot)) ≡ pairs (take at slots) ++ pairs (slot ∷ [])
+  pairs_more_set :
+      (slots : List (Option (ℕ × T))) (at : ℕ) (slot : Option (ℕ × T))
+      → at < length slots
+      → pairs (take (at + 1) (set slots at slot)) ≡ pairs (take at slots) ++ pairs (slot ∷ [])
   pairs_more_set slots at slot below = ap pairs (take_more_set slots at slot below) ∙ pairs-push (take at slots) slot
 
   -- what two lists have from a place on is the same there and after it
-  both_ways : (old now : List (Option (ℕ × T))) (at : ℕ) → at < length old → at < length now → drop at now ≡ drop at old → (slot_at old at ≡ slot_at now at) × (drop (at + 1) now ≡ drop (at + 1) old)
+  both_ways :
+      (old now : List (Option (ℕ × T))) (at : ℕ)
+      → at < length old
+      → at < length now
+      → drop at now ≡ drop at old
+      → (slot_at old at ≡ slot_at now at) × (drop (at + 1) now ≡ drop (at + 1) old)
   both_ways old now at in_old in_now same =
       let both : slot_at old at ∷ drop (at + 1) old ≡ slot_at now at ∷ drop (at + 1) now = sym (drop_more old at None in_old) ∙ sym same ∙ drop_more now at None in_now in
       (cc, sym (ap (drop 1) both))
 
-  Contains-slot : (slots : List (Option (ℕ × T))) (at : ℕ) (pair : ℕ × T) → at < length slots → slot_at slots at ≡ Some pair → Contains (values (pairs slots)) pair.1
+  Contains-slot :
+      (slots : List (Option (ℕ × T))) (at : ℕ) (pair : ℕ × T)
+      → at < length slots
+      → slot_at slots at ≡ Some pair
+      → Contains (values (pairs slots)) pair.1
   Contains-slot slots at pair below is =
       let split : pairs slots ≡ pairs (take at slots) ++ (pair ∷ pairs (drop (at + 1) slots)) =
       ap pairs (sym (take-append-drop at slots) ∙ ap (λ xs. take at slots ++ xs) (drop_more slots at None below ∙ ap (λ s. s ∷ drop (at + 1) slots) is))
@@ -39,14 +55,19 @@ module _ {T : Type 0} where
   none_of_length (e ∷ es) none = absurd (omega arith)
 
   -- where no pair stands from a place on, all stand before it
-  all_taken : (slots : List (Option (ℕ × T))) (at : ℕ) → pairs (drop at slots) ≡ [] → pairs (take at slots) ≡ pairs slots
+  all_taken :
+      (slots : List (Option (ℕ × T))) (at : ℕ)
+      → pairs (drop at slots) ≡ []
+      → pairs (take at slots) ≡ pairs slots
   all_taken slots at none =
       sym (append-nil _) ∙ ap (λ es. pairs (take at slots) ++ es) (sym none)
       ∙ sym (filter_map-append (λ (slot : Option (ℕ × T)). slot) (take at slots) (drop at slots))
       ∙ ap pairs (take-append-drop at slots)
 
   -- the pairs behind one that was taken out
-  pub drop-taken : (slots : List (Option (ℕ × T))) (at : ℕ) → pairs (drop (at + 1) (set slots at None)) ≡ pairs (drop (at + 1) slots)
+  pub drop-taken :
+      (slots : List (Option (ℕ × T))) (at : ℕ)
+      → pairs (drop (at + 1) (set slots at None)) ≡ pairs (drop (at + 1) slots)
   drop-taken slots at = ap pairs (drop-set-lt (at + 1) slots at None (omega arith))
 
 module _ {F T : Type 0} (ask : F → T → Bool → F → Type 0) (f : F) (old : List (Option (ℕ × T))) where
@@ -62,7 +83,9 @@ module _ {F T : Type 0} (ask : F → T → Bool → F → Type 0) (f : F) (old :
   pub Keeping-start : Keeping f old 0
   Keeping-start = record { same_length = refl; asks = []; asked = refl; were_asked = refl; kept = refl; behind = refl }
 
-  module _ (before : F) (now : List (Option (ℕ × T))) (at : ℕ) (within : at < length old) (state : Keeping before now at) where
+  module _
+      (before : F) (now : List (Option (ℕ × T))) (at : ℕ) (within : at < length old) (state : Keeping before now at)
+      where
     in_now : at < length now
     in_now = omega (arith, state.same_length)
 
@@ -114,19 +137,35 @@ module _ {F T : Type 0} (ask : F → T → Bool → F → Type 0) (f : F) (old :
           }
 
   -- so many places without a pair
-  pub Keeping-skip : (before : F) (now : List (Option (ℕ × T))) (at run : ℕ) → at + run ≤ length old → ((k : ℕ) → at ≤ k → k < at + run → slot_at now k ≡ None) → Keeping before now at → Keeping before now (at + run)
+  pub Keeping-skip :
+      (before : F) (now : List (Option (ℕ × T))) (at run : ℕ)
+      → at + run ≤ length old
+      → ((k : ℕ) → at ≤ k → k < at + run → slot_at now k ≡ None)
+      → Keeping before now at
+      → Keeping before now (at + run)
   Keeping-skip before now at zero within none state = subst (Keeping before now) (let same : at ≡ at + 0 = omega arith in same) state
   Keeping-skip before now at (suc run) within none state =
       subst (Keeping before now) (let same : at + run + 1 ≡ at + suc run = omega arith in same)
       (Keeping-none before now (at + run) (omega arith) (Keeping-skip before now at run (omega arith) (λ k from to. none k from (omega arith)) state) (none (at + run) (omega arith) (omega arith)))
 
-  pub Keeping-gaps : (before : F) (now : List (Option (ℕ × T))) (at to : ℕ) (tags : List ℕ) → IsProbed tags now → at ≤ to → to < length tags → NoneFull tags at (to - at) → Keeping before now at → Keeping before now to
+  pub Keeping-gaps :
+      (before : F) (now : List (Option (ℕ × T))) (at to : ℕ) (tags : List ℕ)
+      → IsProbed tags now
+      → at ≤ to
+      → to < length tags
+      → NoneFull tags at (to - at)
+      → Keeping before now at
+      → Keeping before now to
   Keeping-gaps before now at to tags probed onward inside gaps state =
       subst (Keeping before now) (let same : at + (to - at) ≡ to = omega arith in same)
       (Keeping-skip before now at (to - at) (omega (arith, state.same_length, probed.same_length)) (λ k from below. free_slot _ _ (probed.suited k (omega arith)) (gaps k from below)) state)
 
   -- where no pair is left, all were asked
-  pub Keeps-at_end : (last : F) (now : List (Option (ℕ × T))) (at : ℕ) → length (pairs (drop at now)) ≡ 0 → Keeping last now at → KeepsTo ask f (pairs old) (pairs now) last
+  pub Keeps-at_end :
+      (last : F) (now : List (Option (ℕ × T))) (at : ℕ)
+      → length (pairs (drop at now)) ≡ 0
+      → Keeping last now at
+      → KeepsTo ask f (pairs old) (pairs now) last
   Keeps-at_end last now at ended state =
       let none_now : pairs (drop at now) ≡ [] = none_of_length (pairs (drop at now)) ended in
       let none_old : pairs (drop at old) ≡ [] = ap pairs (sym state.behind) ∙ none_now in
@@ -147,7 +186,10 @@ module _ {T : Type 0} (gives : T → T → Type 0) (old : List (Option (ℕ × T
   pub Rewriting-start : Rewriting old 0
   Rewriting-start = record { same_hashes = refl; each = tt; behind = refl }
 
-  module _ (now : List (Option (ℕ × T))) (at : ℕ) (within : at < length old) (same_length : length now ≡ length old) (state : Rewriting now at) where
+  module _
+      (now : List (Option (ℕ × T))) (at : ℕ) (within : at < length old) (same_length : length now ≡ length old)
+      (state : Rewriting now at)
+      where
     pub Rewriting-none : slot_at now at ≡ None → Rewriting now (at + 1)
     Rewriting-none is =
         let both = both_ways old now at within (omega arith) state.behind in
@@ -172,7 +214,12 @@ module _ {T : Type 0} (gives : T → T → Type 0) (old : List (Option (ℕ × T
             behind = drop-set-lt (at + 1) now at (Some (hash, answer)) (omega arith) ∙ both.1;
           }
 
-  pub Rewrites-from_rewriting : (now : List (Option (ℕ × T))) (at : ℕ) → length old ≤ at → length now ≡ length old → Rewriting now at → Rewrites gives (pairs old) (pairs now)
+  pub Rewrites-from_rewriting :
+      (now : List (Option (ℕ × T))) (at : ℕ)
+      → length old ≤ at
+      → length now ≡ length old
+      → Rewriting now at
+      → Rewrites gives (pairs old) (pairs now)
   Rewrites-from_rewriting now at past same_length state =
       record {
         rewritten = pairs now;

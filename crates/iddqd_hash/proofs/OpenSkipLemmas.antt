@@ -27,7 +27,12 @@ stop_empty tag here stop other =
       | inr some ↦ absurd (let not_none : (here == 0) ≡ false = ne_eqb here 0 some in cc)
     ]
 
-pub Skips-run : (tags : List ℕ) (tag at run place : ℕ) → at + run ≤ length tags → NoStops tag tags at run → (at + run) % length tags ≡ place → Skips tags tag at place
+pub Skips-run :
+    (tags : List ℕ) (tag at run place : ℕ)
+    → at + run ≤ length tags
+    → NoStops tag tags at run
+    → (at + run) % length tags ≡ place
+    → Skips tags tag at place
 Skips-run tags tag at run place inside none is =
     record {
       steps = run;
@@ -35,7 +40,12 @@ Skips-run tags tag at run place inside none is =
       others = λ k below. subst (λ x. is_stop tag (slice_index tags x) ≡ false) (sym (mod-eq_of_lt (omega arith))) (none (at + k) (omega arith) (omega arith));
     }
 
-pub IsReached-run : (tags : List ℕ) (at run place : ℕ) → at + run ≤ length tags → AllFull tags at run → (at + run) % length tags ≡ place → IsReached tags at place
+pub IsReached-run :
+    (tags : List ℕ) (at run place : ℕ)
+    → at + run ≤ length tags
+    → AllFull tags at run
+    → (at + run) % length tags ≡ place
+    → IsReached tags at place
 IsReached-run tags at run place inside full is =
     record {
       steps = run;
@@ -55,7 +65,10 @@ IsReached-skips tags tag from at skips =
     }
 
 -- a walk that passes by what isn't under a hash goes on past places that have other tags
-module _ {T : Type 0} (tags : List ℕ) (slots : List (Option (ℕ × T))) (hash from a b : ℕ) (probed : IsProbed tags slots) (some : 0 < length tags) (by : PassesBy tags slots hash from a) (skips : Skips tags (tag_of hash) a b) where
+module _
+    {T : Type 0} (tags : List ℕ) (slots : List (Option (ℕ × T))) (hash from a b : ℕ) (probed : IsProbed tags slots)
+    (some : 0 < length tags) (by : PassesBy tags slots hash from a) (skips : Skips tags (tag_of hash) a b)
+    where
   on_from : (k : ℕ) → (from + (by.walk.steps + k)) % length tags ≡ (a + k) % length tags
   on_from k = sym (onward (length tags) from by.walk.steps k) ∙ ap (λ x. (x + k) % length tags) by.walk.is_there
 
@@ -79,7 +92,12 @@ module _ {T : Type 0} (tags : List ℕ) (slots : List (Option (ℕ × T))) (hash
             ] refl;
       }
     where
-      beyond : (k : ℕ) → k < by.walk.steps + skips.steps → by.walk.steps ≤ k → (slice_index tags ((from + k) % length tags) ≢ tag_of hash) × (0 < slice_index tags ((from + k) % length tags))
+      beyond :
+          (k : ℕ)
+          → k < by.walk.steps + skips.steps
+          → by.walk.steps ≤ k
+          → (slice_index tags ((from + k) % length tags) ≢ tag_of hash) ×
+              (0 < slice_index tags ((from + k) % length tags))
       beyond k below past =
           let j : ℕ = k - by.walk.steps in
           let k-is : k ≡ by.walk.steps + j = omega arith in

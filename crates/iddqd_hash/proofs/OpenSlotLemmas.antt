@@ -11,7 +11,12 @@ use Rattle.std.specs.Option.{option_map}
 use Rattle.iddqd_hash.specs.OpenTable.{tag_of, is_used, slot_at, hashes_of, pairs, Suits, IsReached, IsProbed}
 
 -- a place of more used cells is reached as before
-IsReached-kept : (tags now : List ℕ) (hash place : ℕ) → length now ≡ length tags → ((k : ℕ) → 0 < slice_index tags k → 0 < slice_index now k) → IsReached tags hash place → IsReached now hash place
+IsReached-kept :
+    (tags now : List ℕ) (hash place : ℕ)
+    → length now ≡ length tags
+    → ((k : ℕ) → 0 < slice_index tags k → 0 < slice_index now k)
+    → IsReached tags hash place
+    → IsReached now hash place
 IsReached-kept tags now hash place same stays reached =
     record {
       steps = reached.steps;
@@ -41,16 +46,24 @@ zero_everywhere (suc n) zero = refl
 zero_everywhere (suc n) (suc at) = zero_everywhere n at
 
 module _ {T : Type 0} where
-  pub pairs-push : (slots : List (Option (ℕ × T))) (slot : Option (ℕ × T)) → pairs (slots ++ slot ∷ []) ≡ pairs slots ++ pairs (slot ∷ [])
+  pub pairs-push :
+      (slots : List (Option (ℕ × T))) (slot : Option (ℕ × T))
+      → pairs (slots ++ slot ∷ []) ≡ pairs slots ++ pairs (slot ∷ [])
   pairs-push slots slot = filter_map-append (λ (slot : Option (ℕ × T)). slot) slots (slot ∷ [])
 
-  pairs_at : (slots : List (Option (ℕ × T))) (place : ℕ) → place < length slots → pairs slots ≡ pairs (take place slots) ++ (pairs (slot_at slots place ∷ []) ++ pairs (drop (place + 1) slots))
+  pairs_at :
+      (slots : List (Option (ℕ × T))) (place : ℕ)
+      → place < length slots
+      → pairs slots ≡ pairs (take place slots) ++ (pairs (slot_at slots place ∷ []) ++ pairs (drop (place + 1) slots))
   pairs_at slots place inside =
       ap pairs (sym (take-append-drop place slots) ∙ ap (λ xs. take place slots ++ xs) (drop_more slots place None inside))
       ∙ filter_map-append (λ (slot : Option (ℕ × T)). slot) (take place slots) (slot_at slots place ∷ drop (place + 1) slots)
       ∙ ap (λ xs. pairs (take place slots) ++ xs) (filter_map-append (λ (slot : Option (ℕ × T)). slot) (slot_at slots place ∷ []) (drop (place + 1) slots))
 
-  pairs-set : (slots : List (Option (ℕ × T))) (place : ℕ) (slot : Option (ℕ × T)) → place < length slots → pairs (set slots place slot) ≡ pairs (take place slots) ++ (pairs (slot ∷ []) ++ pairs (drop (place + 1) slots))
+  pairs-set :
+      (slots : List (Option (ℕ × T))) (place : ℕ) (slot : Option (ℕ × T))
+      → place < length slots
+      → pairs (set slots place slot) ≡ pairs (take place slots) ++ (pairs (slot ∷ []) ++ pairs (drop (place + 1) slots))
   pairs-set slots place slot inside =
       ap pairs (set_split slots place slot inside)
       ∙ filter_map-append (λ (slot : Option (ℕ × T)). slot) (take place slots) (slot ∷ drop (suc place) slots)
@@ -58,23 +71,39 @@ module _ {T : Type 0} where
       ∙ ap (λ n. pairs (take place slots) ++ (pairs (slot ∷ []) ++ pairs (drop n slots))) (sym (add-one place))
 
   -- a pair that was put into a free slot, and no other
-  pub pairs-put : (slots : List (Option (ℕ × T))) (place : ℕ) (pair : ℕ × T) → place < length slots → slot_at slots place ≡ None → IsPermutation (pair ∷ pairs slots) (pairs (set slots place (Some pair)))
+  pub pairs-put :
+      (slots : List (Option (ℕ × T))) (place : ℕ) (pair : ℕ × T)
+      → place < length slots
+      → slot_at slots place ≡ None
+      → IsPermutation (pair ∷ pairs slots) (pairs (set slots place (Some pair)))
   pairs-put slots place pair inside free =
       let before : pairs slots ≡ pairs (take place slots) ++ pairs (drop (place + 1) slots) =
       pairs_at slots place inside ∙ ap (λ s. pairs (take place slots) ++ (pairs (s ∷ []) ++ pairs (drop (place + 1) slots))) free in
       rw (before, pairs-set slots place (Some pair) inside) (IsPermutation-sym _ _ (IsPermutation-middle (pairs (take place slots)) pair (pairs (drop (place + 1) slots))))
 
   -- a pair that was taken out of its slot, and no other
-  pub pairs-taken : (slots : List (Option (ℕ × T))) (place : ℕ) (pair : ℕ × T) → place < length slots → slot_at slots place ≡ Some pair → IsPermutation (pairs slots) (pair ∷ pairs (set slots place None))
+  pub pairs-taken :
+      (slots : List (Option (ℕ × T))) (place : ℕ) (pair : ℕ × T)
+      → place < length slots
+      → slot_at slots place ≡ Some pair
+      → IsPermutation (pairs slots) (pair ∷ pairs (set slots place None))
   pairs-taken slots place pair inside full =
       let before : pairs slots ≡ pairs (take place slots) ++ pair ∷ pairs (drop (place + 1) slots) =
       pairs_at slots place inside ∙ ap (λ s. pairs (take place slots) ++ (pairs (s ∷ []) ++ pairs (drop (place + 1) slots))) full in
       rw (before, pairs-set slots place None inside) (IsPermutation-middle (pairs (take place slots)) pair (pairs (drop (place + 1) slots)))
 
-  pub length-put : (slots : List (Option (ℕ × T))) (place : ℕ) (pair : ℕ × T) → place < length slots → slot_at slots place ≡ None → length (pairs (set slots place (Some pair))) ≡ length (pairs slots) + 1
+  pub length-put :
+      (slots : List (Option (ℕ × T))) (place : ℕ) (pair : ℕ × T)
+      → place < length slots
+      → slot_at slots place ≡ None
+      → length (pairs (set slots place (Some pair))) ≡ length (pairs slots) + 1
   length-put slots place pair inside free = length_permutation _ _ (pairs-put slots place pair inside free) ∙ omega arith
 
-  pub length-taken : (slots : List (Option (ℕ × T))) (place : ℕ) (pair : ℕ × T) → place < length slots → slot_at slots place ≡ Some pair → length (pairs (set slots place None)) + 1 ≡ length (pairs slots)
+  pub length-taken :
+      (slots : List (Option (ℕ × T))) (place : ℕ) (pair : ℕ × T)
+      → place < length slots
+      → slot_at slots place ≡ Some pair
+      → length (pairs (set slots place None)) + 1 ≡ length (pairs slots)
   length-taken slots place pair inside full = let same = length_permutation _ _ (pairs-taken slots place pair inside full) in omega arith
 
   -- there is no more pair than slots
@@ -102,8 +131,16 @@ module _ {T : Type 0} where
   full_slot tag None suits full = absurd (omega arith)
   full_slot tag (Some pair) suits full = refl
 
-  module _ (tags : List ℕ) (slots : List (Option (ℕ × T))) (probed : IsProbed tags slots) (place : ℕ) (inside : place < length tags) where
-    suited-set : (tag : ℕ) (slot : Option (ℕ × T)) → Suits tag slot → (k : ℕ) → k < length (set tags place tag) → Suits (slice_index (set tags place tag) k) (slot_at (set slots place slot) k)
+  module _
+      (tags : List ℕ) (slots : List (Option (ℕ × T))) (probed : IsProbed tags slots) (place : ℕ)
+      (inside : place < length tags)
+      where
+    suited-set :
+        (tag : ℕ) (slot : Option (ℕ × T))
+        → Suits tag slot
+        → (k : ℕ)
+        → k < length (set tags place tag)
+        → Suits (slice_index (set tags place tag) k) (slot_at (set slots place slot) k)
     suited-set tag slot suits k below =
         elim (cases_eq k place) [
           | inl same ↦ rw (same, get_or-set_same tags place tag 0 inside, get_or-set_same slots place slot None (omega (arith, probed.same_length))) suits
@@ -116,7 +153,10 @@ module _ {T : Type 0} where
     reached-set : (tag at : ℕ) (hash : ℕ) → 0 < tag → IsReached tags hash at → IsReached (set tags place tag) hash at
     reached-set tag at hash some = IsReached-kept tags (set tags place tag) hash at (length-set tags place tag) (λ k used. set_used tags place tag k some used)
 
-    pub IsProbed-put : (hash : ℕ) (value : T) → IsReached tags hash place → IsProbed (set tags place (tag_of hash)) (set slots place (Some (hash, value)))
+    pub IsProbed-put :
+        (hash : ℕ) (value : T)
+        → IsReached tags hash place
+        → IsProbed (set tags place (tag_of hash)) (set slots place (Some (hash, value)))
     IsProbed-put hash value reached =
         record {
           same_length = same_lengths (tag_of hash) (Some (hash, value));
@@ -124,7 +164,10 @@ module _ {T : Type 0} where
           reached = λ at pair is. reached-set (tag_of hash) at pair.0 (omega arith) (by_place at pair is);
         }
       where
-        by_place : (at : ℕ) (pair : ℕ × T) → slot_at (set slots place (Some (hash, value))) at ≡ Some pair → IsReached tags pair.0 at
+        by_place :
+            (at : ℕ) (pair : ℕ × T)
+            → slot_at (set slots place (Some (hash, value))) at ≡ Some pair
+            → IsReached tags pair.0 at
         by_place at pair is =
             elim (cases_eq at place) [
               | inl same ↦
@@ -180,18 +223,28 @@ module _ {T : Type 0} where
   Suits-hash tag (Some a) None same suits = absurd (cc)
   Suits-hash tag (Some a) (Some b) same suits = let hash : b.0 ≡ a.0 = cc in suits ∙ ap tag_of (sym hash)
 
-  hash_at : (slots now : List (Option (ℕ × T))) (place : ℕ) → hashes_of now ≡ hashes_of slots → hash_in (slot_at now place) ≡ hash_in (slot_at slots place)
+  hash_at :
+      (slots now : List (Option (ℕ × T))) (place : ℕ)
+      → hashes_of now ≡ hashes_of slots
+      → hash_in (slot_at now place) ≡ hash_in (slot_at slots place)
   hash_at [] [] place same = refl
   hash_at [] (n ∷ now) place same = absurd (cc)
   hash_at (s ∷ slots) [] place same = absurd (cc)
   hash_at (s ∷ slots) (n ∷ now) zero same = let first : hash_in n ≡ hash_in s = cc in first
   hash_at (s ∷ slots) (n ∷ now) (suc place) same = hash_at slots now place (let rest : hashes_of now ≡ hashes_of slots = cc in rest)
 
-  pair_was : (slot : Option (ℕ × T)) (pair : ℕ × T) → Some pair.0 ≡ hash_in slot → (was : ℕ × T) × (slot ≡ Some was) × (was.0 ≡ pair.0)
+  pair_was :
+      (slot : Option (ℕ × T)) (pair : ℕ × T)
+      → Some pair.0 ≡ hash_in slot
+      → (was : ℕ × T) × (slot ≡ Some was) × (was.0 ≡ pair.0)
   pair_was None pair same = absurd (cc)
   pair_was (Some was) pair same = (was, refl, let hash : pair.0 ≡ was.0 = cc in sym hash)
 
-  pub IsProbed-rewritten : (tags : List ℕ) (slots now : List (Option (ℕ × T))) → IsProbed tags slots → hashes_of now ≡ hashes_of slots → IsProbed tags now
+  pub IsProbed-rewritten :
+      (tags : List ℕ) (slots now : List (Option (ℕ × T)))
+      → IsProbed tags slots
+      → hashes_of now ≡ hashes_of slots
+      → IsProbed tags now
   IsProbed-rewritten tags slots now probed same =
       record {
         same_length = sym (length-map now hash_in) ∙ ap length same ∙ length-map slots hash_in ∙ probed.same_length;
@@ -201,7 +254,10 @@ module _ {T : Type 0} where
             subst (λ n. IsReached tags n place) was.2 (probed.reached place was.0 was.1);
       }
 
-  pub length-rewritten : (slots now : List (Option (ℕ × T))) → hashes_of now ≡ hashes_of slots → length (pairs now) ≡ length (pairs slots)
+  pub length-rewritten :
+      (slots now : List (Option (ℕ × T)))
+      → hashes_of now ≡ hashes_of slots
+      → length (pairs now) ≡ length (pairs slots)
   length-rewritten [] [] same = refl
   length-rewritten [] (n ∷ now) same = absurd (cc)
   length-rewritten (s ∷ slots) [] same = absurd (cc)
@@ -224,5 +280,9 @@ pub unused : (n : ℕ) → count_by is_used (replicate n 0) ≡ 0
 unused n = sum_by-replicate used_count n 0 ∙ omega arith
 
 -- how many cells are full or marked after a write of a tag
-pub used-set : (tags : List ℕ) (place tag : ℕ) → place < length tags → count_by is_used (set tags place tag) + used_count (slice_index tags place) ≡ count_by is_used tags + used_count tag
+pub used-set :
+    (tags : List ℕ) (place tag : ℕ)
+    → place < length tags
+    → count_by is_used (set tags place tag) + used_count (slice_index tags place) ≡ count_by is_used tags + used_count
+        tag
 used-set tags place tag inside = sum_by-set used_count tags place tag 0 inside

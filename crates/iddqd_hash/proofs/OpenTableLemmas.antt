@@ -27,20 +27,27 @@ module _ {T : Type 0} (slots : List (Option (ℕ × T))) where
   unfolding memory opened
   memory-opened = refl
 
-  pub capacity-opened : length (pairs slots) ≤ usable_of (length slots) → capacity (opened slots) ≡ usable_of (length slots)
+  pub capacity-opened :
+      length (pairs slots) ≤ usable_of (length slots)
+      → capacity (opened slots) ≡ usable_of (length slots)
   capacity-opened fits = rw (entries-opened, room-opened) (omega arith)
 
   pub pair_at-opened : (place : ℕ) → pair_at (opened slots) place ≡ slot_at slots place
   unfolding pair_at opened
   pair_at-opened place = flattened slots place
     where
-      flattened : (slots : List (Option (ℕ × T))) (place : ℕ) → option_flatten (slice_get slots place) ≡ slot_at slots place
+      flattened :
+          (slots : List (Option (ℕ × T))) (place : ℕ)
+          → option_flatten (slice_get slots place) ≡ slot_at slots place
       flattened [] place = refl
       flattened (None ∷ slots) zero = refl
       flattened (Some pair ∷ slots) zero = refl
       flattened (slot ∷ slots) (suc place) = flattened slots place
 
-module _ {T : Type 0} (old new : List (Option (ℕ × T))) (same : length new ≡ length old) (fits : length (pairs old) ≤ usable_of (length old)) where
+module _
+    {T : Type 0} (old new : List (Option (ℕ × T))) (same : length new ≡ length old)
+    (fits : length (pairs old) ≤ usable_of (length old))
+    where
   pub KeepsMemory-opened : length (pairs new) ≤ length (pairs old) → KeepsMemory (opened old) (opened new)
   KeepsMemory-opened fewer =
       record {
@@ -49,7 +56,10 @@ module _ {T : Type 0} (old new : List (Option (ℕ × T))) (same : length new �
         same_memory = rw (memory-opened old, memory-opened new) same;
       }
 
-  pub UsesRoom-opened : length (pairs new) ≡ length (pairs old) + 1 → length (pairs old) < usable_of (length old) → UsesRoom (opened old) (opened new)
+  pub UsesRoom-opened :
+      length (pairs new) ≡ length (pairs old) + 1
+      → length (pairs old) < usable_of (length old)
+      → UsesRoom (opened old) (opened new)
   UsesRoom-opened more some =
       record {
         one_less = rw (room-opened old, room-opened new, same) (omega arith);
@@ -58,7 +68,11 @@ module _ {T : Type 0} (old new : List (Option (ℕ × T))) (same : length new �
       }
 
 -- all room is there where no pair is left
-pub KeepsMemory-cleared : {T : Type 0} (old new : Table T) → KeepsMemory old new → entries new ≡ [] → room new ≡ capacity old
+pub KeepsMemory-cleared :
+    {T : Type 0} (old new : Table T)
+    → KeepsMemory old new
+    → entries new ≡ []
+    → room new ≡ capacity old
 KeepsMemory-cleared old new kept none = omega (arith, kept.same_capacity, ap length none)
 
 pub HasNoMemory-opened : {T : Type 0} (cells : List (Cell T)) → cells ≡ [] → HasNoMemory (opened (slots_of cells))
@@ -69,17 +83,27 @@ HasNoMemory-opened cells none =
     }
 
 -- a place that is found in slots
-pub FindsPlace-opened : {F T : Type 0} (ask : F → T → Bool → F → Type 0) (f : F) (hash : ℕ) (xs : List T) (slots : List (Option (ℕ × T))) (r : Option ℕ) → FindsPlace ask f hash xs (slot_at slots) r → FindsPlace ask f hash xs (pair_at (opened slots)) r
+pub FindsPlace-opened :
+    {F T : Type 0} (ask : F → T → Bool → F → Type 0) (f : F) (hash : ℕ) (xs : List T) (slots : List (Option (ℕ × T)))
+    (r : Option ℕ)
+    → FindsPlace ask f hash xs (slot_at slots) r
+    → FindsPlace ask f hash xs (pair_at (opened slots)) r
 FindsPlace-opened ask f hash xs slots None finds = finds
 FindsPlace-opened ask f hash xs slots (Some place) finds = subst (λ o. HitsPair ask f hash xs o) (sym (pair_at-opened slots place)) finds
 
 -- what is said of the pair that it hit, if it hit one
-pub IfSome-opened : {T V : Type 0} (value : V → T) (hash : ℕ) (slots : List (Option (ℕ × T))) (r : Option (ℕ × V)) → IfSome r (λ found. slot_at slots found.0 ≡ Some (hash, value found.1)) → IfSome r (λ found. pair_at (opened slots) found.0 ≡ Some (hash, value found.1))
+pub IfSome-opened :
+    {T V : Type 0} (value : V → T) (hash : ℕ) (slots : List (Option (ℕ × T))) (r : Option (ℕ × V))
+    → IfSome r (λ found. slot_at slots found.0 ≡ Some (hash, value found.1))
+    → IfSome r (λ found. pair_at (opened slots) found.0 ≡ Some (hash, value found.1))
 IfSome-opened value hash slots None is = tt
 IfSome-opened value hash slots (Some found) is = pair_at-opened slots found.0 ∙ is
 
 -- a look-up where there is no cell
-pub Misses-nothing : {F T : Type 0} (ask : F → T → Bool → F → Type 0) (f : F) (hash : ℕ) (slots : List (Option (ℕ × T))) → length slots ≡ 0 → Misses ask f (under hash (pairs slots))
+pub Misses-nothing :
+    {F T : Type 0} (ask : F → T → Bool → F → Type 0) (f : F) (hash : ℕ) (slots : List (Option (ℕ × T)))
+    → length slots ≡ 0
+    → Misses ask f (under hash (pairs slots))
 Misses-nothing {T} ask f hash slots none = rw (nil_from_length slots none) (record { asked = []; each_once = IsPermutation-refl []; last = f; were_refused = refl })
 
 pub cells_long : {T : Type 0} (cells : List (Cell T)) → length (slots_of cells) ≡ length cells
@@ -90,7 +114,11 @@ either_counts true = refl
 either_counts false = refl
 
 -- a cell that is full or marked from now on counts as one more if it was empty
-pub was_empty_counts : (tags : List ℕ) (place tag : ℕ) → place < length tags → tag ≡ get_or tags place tag → bool_byte (eqb tag 0) + used_count (slice_index tags place) ≡ 1
+pub was_empty_counts :
+    (tags : List ℕ) (place tag : ℕ)
+    → place < length tags
+    → tag ≡ get_or tags place tag
+    → bool_byte (eqb tag 0) + used_count (slice_index tags place) ≡ 1
 was_empty_counts tags place tag inside read =
     let is : tag ≡ slice_index tags place = read ∙ get_or_default tags place tag 0 inside in
     ap (λ t. bool_byte (eqb tag 0) + used_count t) (sym is) ∙ either_counts (eqb tag 0)
@@ -103,14 +131,23 @@ some_empty (suc tag ∷ tags) less =
     (suc rest.0, omega (arith, rest.1), rest.2)
 
 -- each pair stands in a cell that counts as used
-pairs_used : {T : Type 0} (tags : List ℕ) (slots : List (Option (ℕ × T))) → length slots ≡ length tags → ((place : ℕ) → place < length tags → Suits (slice_index tags place) (slot_at slots place)) → length (pairs slots) ≤ count_by is_used tags
+pairs_used :
+    {T : Type 0} (tags : List ℕ) (slots : List (Option (ℕ × T)))
+    → length slots ≡ length tags
+    → ((place : ℕ) → place < length tags → Suits (slice_index tags place) (slot_at slots place))
+    → length (pairs slots) ≤ count_by is_used tags
 pairs_used [] [] same suited = omega arith
 pairs_used [] (slot ∷ slots) same suited = absurd (omega arith)
 pairs_used (tag ∷ tags) [] same suited = absurd (omega arith)
 pairs_used {T} (tag ∷ tags) (slot ∷ slots) same suited =
     by_slot slot (suited 0 (omega arith)) (used-cons tag tags) (pairs_used tags slots (omega arith) (λ place below. suited (suc place) (omega arith)))
   where
-    by_slot : (slot : Option (ℕ × T)) → Suits tag slot → count_by is_used (tag ∷ tags) ≡ used_count tag + count_by is_used tags → length (pairs slots) ≤ count_by is_used tags → length (pairs (slot ∷ slots)) ≤ count_by is_used (tag ∷ tags)
+    by_slot :
+        (slot : Option (ℕ × T))
+        → Suits tag slot
+        → count_by is_used (tag ∷ tags) ≡ used_count tag + count_by is_used tags
+        → length (pairs slots) ≤ count_by is_used tags
+        → length (pairs (slot ∷ slots)) ≤ count_by is_used (tag ∷ tags)
     by_slot None is counts rest = omega (arith, counts, rest)
     by_slot (Some pair) is counts rest =
         let some : 0 < tag = omega arith in
@@ -118,7 +155,9 @@ pairs_used {T} (tag ∷ tags) (slot ∷ slots) same suited =
         omega (arith, counts, rest)
 
 -- where there are cells
-module _ {T : Type 0} (tags : List ℕ) (slots : List (Option (ℕ × T))) (len used : ℕ) (sound : IsSound tags slots len used) where
+module _
+    {T : Type 0} (tags : List ℕ) (slots : List (Option (ℕ × T))) (len used : ℕ) (sound : IsSound tags slots len used)
+    where
   pub power_from : 0 < length tags → IsPowerOfTwo (length tags)
   power_from some = elim sound.count [ inl none ↦ absurd (omega arith) | inr power ↦ power ]
 
@@ -140,7 +179,11 @@ module _ {T : Type 0} (tags : List ℕ) (slots : List (Option (ℕ × T))) (len 
   unused_empty none = nil_from_length (pairs slots) (omega (arith, sound.marked, pairs_used tags slots sound.probed.same_length sound.probed.suited))
 
 module _ {T : Type 0} where
-  pub IsSound-none : (tags : List ℕ) (cells : List (Cell T)) → tags ≡ [] → cells ≡ [] → IsSound tags (slots_of cells) 0 0
+  pub IsSound-none :
+      (tags : List ℕ) (cells : List (Cell T))
+      → tags ≡ []
+      → cells ≡ []
+      → IsSound tags (slots_of cells) 0 0
   IsSound-none tags cells no_tag no_cell = rw (no_tag, no_cell) nothing
     where
       nothing : IsSound {T = T} [] [] 0 0
@@ -159,7 +202,11 @@ module _ {T : Type 0} where
     same_power place tag = rw (length-set tags place tag) sound.count
 
     -- a pair that was taken out, and the mark that it left
-    pub IsSound-taken : (place : ℕ) (pair : ℕ × T) → place < length tags → slot_at slots place ≡ Some pair → IsSound (set tags place 1) (set slots place None) (len - 1) used
+    pub IsSound-taken :
+        (place : ℕ) (pair : ℕ × T)
+        → place < length tags
+        → slot_at slots place ≡ Some pair
+        → IsSound (set tags place 1) (set slots place None) (len - 1) used
     IsSound-taken place pair inside full =
         let within : place < length slots = omega (arith, sound.probed.same_length) in
         let fewer = length-taken slots place pair within full in
@@ -176,7 +223,15 @@ module _ {T : Type 0} where
         }
 
     -- a pair that was put into a free cell, which was empty or marked
-    pub IsSound-put : (place hash : ℕ) (value : T) (now : ℕ) → place < length tags → slice_index tags place < 128 → IsReached tags hash place → now + used_count (slice_index tags place) ≡ used + 1 → now ≤ limit_of (length tags) → len < usable_of (length tags) → IsSound (set tags place (tag_of hash)) (set slots place (Some (hash, value))) (len + 1) now
+    pub IsSound-put :
+        (place hash : ℕ) (value : T) (now : ℕ)
+        → place < length tags
+        → slice_index tags place < 128
+        → IsReached tags hash place
+        → now + used_count (slice_index tags place) ≡ used + 1
+        → now ≤ limit_of (length tags)
+        → len < usable_of (length tags)
+        → IsSound (set tags place (tag_of hash)) (set slots place (Some (hash, value))) (len + 1) now
     IsSound-put place hash value now inside small reached counts limited some =
         let within : place < length slots = omega (arith, sound.probed.same_length) in
         let free : slot_at slots place ≡ None = free_slot (slice_index tags place) (slot_at slots place) (sound.probed.suited place inside) small in
@@ -193,7 +248,14 @@ module _ {T : Type 0} where
         }
 
   -- what is left after some pairs were taken out, with marks in their places
-  pub IsSound-retained : (tags now_tags : List ℕ) (slots now_slots : List (Option (ℕ × T))) (len used removed : ℕ) → IsSound tags slots len used → length now_tags ≡ length tags → IsProbed now_tags now_slots → count_by is_used now_tags ≡ count_by is_used tags → removed + length (pairs now_slots) ≡ length (pairs slots) → IsSound now_tags now_slots (len - removed) used
+  pub IsSound-retained :
+      (tags now_tags : List ℕ) (slots now_slots : List (Option (ℕ × T))) (len used removed : ℕ)
+      → IsSound tags slots len used
+      → length now_tags ≡ length tags
+      → IsProbed now_tags now_slots
+      → count_by is_used now_tags ≡ count_by is_used tags
+      → removed + length (pairs now_slots) ≡ length (pairs slots)
+      → IsSound now_tags now_slots (len - removed) used
   IsSound-retained tags now_tags slots now_slots len used removed sound same probed marked counted =
       record {
         count = rw same sound.count;
@@ -205,7 +267,14 @@ module _ {T : Type 0} where
       }
 
   -- a table with the pairs that it had, after they were placed anew
-  pub IsSound-placed : (tags : List ℕ) (slots : List (Option (ℕ × T))) (len : ℕ) → IsPowerOfTwo (length tags) → IsProbed tags slots → count_by is_used tags ≡ length (pairs slots) → len ≡ length (pairs slots) → len ≤ usable_of (length tags) → IsSound tags slots len len
+  pub IsSound-placed :
+      (tags : List ℕ) (slots : List (Option (ℕ × T))) (len : ℕ)
+      → IsPowerOfTwo (length tags)
+      → IsProbed tags slots
+      → count_by is_used tags ≡ length (pairs slots)
+      → len ≡ length (pairs slots)
+      → len ≤ usable_of (length tags)
+      → IsSound tags slots len len
   IsSound-placed tags slots len power probed marked counted fits =
       record {
         count = inr power;
@@ -217,7 +286,15 @@ module _ {T : Type 0} where
       }
 
   -- a table with the pairs that it had, in the same cells, fewer of which are full or marked than may
-  pub IsSound-rebuilt : (tags now_tags : List ℕ) (slots now_slots : List (Option (ℕ × T))) (len used now : ℕ) → IsSound tags slots len used → length now_tags ≡ length tags → IsProbed now_tags now_slots → IsPermutation (pairs slots) (pairs now_slots) → now ≡ count_by is_used now_tags → now < limit_of (length tags) → IsSound now_tags now_slots len now
+  pub IsSound-rebuilt :
+      (tags now_tags : List ℕ) (slots now_slots : List (Option (ℕ × T))) (len used now : ℕ)
+      → IsSound tags slots len used
+      → length now_tags ≡ length tags
+      → IsProbed now_tags now_slots
+      → IsPermutation (pairs slots) (pairs now_slots)
+      → now ≡ count_by is_used now_tags
+      → now < limit_of (length tags)
+      → IsSound now_tags now_slots len now
   IsSound-rebuilt tags now_tags slots now_slots len used now sound same probed moved marked limited =
       record {
         count = rw same sound.count;
@@ -229,7 +306,12 @@ module _ {T : Type 0} where
       }
 
   -- cells that are all empty
-  pub IsSound-cleared : (tags now_tags : List ℕ) (slots now_slots : List (Option (ℕ × T))) (len used : ℕ) → IsSound tags slots len used → now_tags ≡ replicate (length tags) 0 → now_slots ≡ replicate (length tags) None → IsSound now_tags now_slots 0 0
+  pub IsSound-cleared :
+      (tags now_tags : List ℕ) (slots now_slots : List (Option (ℕ × T))) (len used : ℕ)
+      → IsSound tags slots len used
+      → now_tags ≡ replicate (length tags) 0
+      → now_slots ≡ replicate (length tags) None
+      → IsSound now_tags now_slots 0 0
   IsSound-cleared tags now_tags slots now_slots len used sound no_tag no_pair =
       rw (no_tag, no_pair)
       (record {
@@ -242,7 +324,11 @@ module _ {T : Type 0} where
       })
 
   -- slots with other values under the same hashes
-  pub IsSound-rewritten : (tags : List ℕ) (slots now : List (Option (ℕ × T))) (len used : ℕ) → IsSound tags slots len used → hashes_of now ≡ hashes_of slots → IsSound tags now len used
+  pub IsSound-rewritten :
+      (tags : List ℕ) (slots now : List (Option (ℕ × T))) (len used : ℕ)
+      → IsSound tags slots len used
+      → hashes_of now ≡ hashes_of slots
+      → IsSound tags now len used
   IsSound-rewritten tags slots now len used sound same =
       record {
         count = sound.count;
@@ -257,15 +343,32 @@ pub pow_some : (k : ℕ) → 0 < 2 ^ k
 pow_some k = pow_pos k
 
 -- what stands in a cell whose value is read
-pub slot_of_value : {T : Type 0} (cells : List (Cell T)) (at : ℕ) (d : Cell T) (o : Option T) → at < length cells → (get_or cells at d).value ≡ o → slot_at (slots_of cells) at ≡ option_map {U = ℕ × T} (λ v. ((get_or cells at d).hash, v)) o
+pub slot_of_value :
+    {T : Type 0} (cells : List (Cell T)) (at : ℕ) (d : Cell T) (o : Option T)
+    → at < length cells
+    → (get_or cells at d).value ≡ o
+    → slot_at (slots_of cells) at ≡ option_map {U = ℕ × T} (λ v. ((get_or cells at d).hash, v)) o
 slot_of_value {T} cells at d o inside is =
     get_or-map pair_in cells at d None inside ∙ ap (λ o. option_map {U = ℕ × T} (λ v. ((get_or cells at d).hash, v)) o) is
 
-pub same_value : {T : Type 0} (cells : List (Cell T)) (at : ℕ) (d e : Cell T) (o : Option T) → at < length cells → (get_or cells at d).value ≡ o → (get_or cells at e).value ≡ o
+pub same_value :
+    {T : Type 0} (cells : List (Cell T)) (at : ℕ) (d e : Cell T) (o : Option T)
+    → at < length cells
+    → (get_or cells at d).value ≡ o
+    → (get_or cells at e).value ≡ o
 same_value {T} cells at d e o inside is = ap (λ (c : Cell T). c.value) (get_or_default cells at e d inside) ∙ is
 
 -- a table whose pairs were placed anew, since there was less room than was asked for
-pub Reserves-placed : {T A E : Type 0} (additional : ℕ) (old new : Table T) (r : Result A E) (usable count : ℕ) → room old < additional → additional ≤ usable - length (entries old) → memory old ≤ count → count ≤ most_cells (length (entries old) + additional) → OnErr r (new ≡ old) → OnOk r (room new ≡ usable - length (entries old)) → OnOk r (memory new ≡ count) → Reserves additional old r new
+pub Reserves-placed :
+    {T A E : Type 0} (additional : ℕ) (old new : Table T) (r : Result A E) (usable count : ℕ)
+    → room old < additional
+    → additional ≤ usable - length (entries old)
+    → memory old ≤ count
+    → count ≤ most_cells (length (entries old) + additional)
+    → OnErr r (new ≡ old)
+    → OnOk r (room new ≡ usable - length (entries old))
+    → OnOk r (memory new ≡ count)
+    → Reserves additional old r new
 Reserves-placed additional old new (Ok x) usable count short enough more few refused roomy cells =
     record {
       reserved = omega arith;

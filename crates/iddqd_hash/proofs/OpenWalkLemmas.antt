@@ -84,7 +84,12 @@ module _ (tags : List ℕ) (from at : ℕ) (walk : IsReached tags from at) (used
 abbrev pub places_left : ℕ → ℕ → ℕ → ℕ
 places_left n from at = n - steps_to n from at
 
-pub places_left-next : (tags : List ℕ) (from at : ℕ) → HasEmpty tags → IsReached tags from at → 0 < slice_index tags at → places_left (length tags) from ((at + 1) % length tags) < places_left (length tags) from at
+pub places_left-next :
+    (tags : List ℕ) (from at : ℕ)
+    → HasEmpty tags
+    → IsReached tags from at
+    → 0 < slice_index tags at
+    → places_left (length tags) from ((at + 1) % length tags) < places_left (length tags) from at
 places_left-next tags from at some walk used =
     let n = length tags in
     let within : walk.steps + 1 < n = steps_within tags from (walk.steps + 1) some (one_more tags from at walk used) in
@@ -127,6 +132,9 @@ abbrev pub found_left : ℕ → ℕ → Option ℕ → ℕ
 found_left n from None = 0
 found_left n from (Some place) = places_left n from place + 1
 
-pub found_left-next : (n from place : ℕ) (r : Option ℕ) → ((next : ℕ) → r ≡ Some next → places_left n from next < places_left n from place) → found_left n from r < found_left n from (Some place)
+pub found_left-next :
+    (n from place : ℕ) (r : Option ℕ)
+    → ((next : ℕ) → r ≡ Some next → places_left n from next < places_left n from place)
+    → found_left n from r < found_left n from (Some place)
 found_left-next n from place None less = omega arith
 found_left-next n from place (Some next) less = let here : places_left n from next < places_left n from place = less next refl in omega arith

@@ -6,7 +6,12 @@ use Rattle.std.proofs.lemmas.List.Sorted.{IsPermutation-refl, IsPermutation-tran
 
 -- A relation that is reflexive and transitive, and goes under a head and over an exchange of two heads, holds along
 -- each permutation.
-module _ {X : Type 0} (R : List X → List X → Type 0) (same : (xs : List X) → R xs xs) (skip : (x : X) (xs ys : List X) → R xs ys → R (x ∷ xs) (x ∷ ys)) (turn : (x y : X) (xs : List X) → R (x ∷ y ∷ xs) (y ∷ x ∷ xs)) (chain : (xs ys zs : List X) → R xs ys → R ys zs → R xs zs) where
+module _
+    {X : Type 0} (R : List X → List X → Type 0) (same : (xs : List X) → R xs xs)
+    (skip : (x : X) (xs ys : List X) → R xs ys → R (x ∷ xs) (x ∷ ys))
+    (turn : (x y : X) (xs : List X) → R (x ∷ y ∷ xs) (y ∷ x ∷ xs))
+    (chain : (xs ys zs : List X) → R xs ys → R ys zs → R xs zs)
+    where
   -- the head and a later element, each in the other's place
   to_head : (x : X) (xs : List X) (k : ℕ) (d : X) → k < length xs → R (x ∷ xs) (get_or xs k d ∷ set xs k x)
   to_head x [] k d within = absurd (omega arith)
@@ -16,7 +21,11 @@ module _ {X : Type 0} (R : List X → List X → Type 0) (same : (xs : List X) �
       chain _ _ _ (turn x y ys) (chain _ _ _ behind (turn y (get_or ys k d) (set ys k x)))
 
   -- any two elements
-  exchanged : (xs : List X) (i j : ℕ) (d : X) → i < length xs → j < length xs → R xs (set (set xs i (get_or xs j d)) j (get_or xs i d))
+  exchanged :
+      (xs : List X) (i j : ℕ) (d : X)
+      → i < length xs
+      → j < length xs
+      → R xs (set (set xs i (get_or xs j d)) j (get_or xs i d))
   exchanged [] i j d p q = absurd (omega arith)
   exchanged (x ∷ xs) zero zero d p q = same (x ∷ xs)
   exchanged (x ∷ xs) zero (suc j) d p q = to_head x xs j d (omega arith)
@@ -35,11 +44,17 @@ pub IsPermutation-turn : {X : Type 0} (x y : X) (xs : List X) → IsPermutation 
 IsPermutation-turn x y xs = IsPermutation-append_left xs _ _ (IsPermutation-append_comm (x ∷ []) (y ∷ []))
 
 -- what passes a test is only moved where the whole is
-pub IsPermutation-filter : {X : Type 0} (p : X → Bool) (xs ys : List X) → IsPermutation xs ys → IsPermutation (filter p xs) (filter p ys)
+pub IsPermutation-filter :
+    {X : Type 0} (p : X → Bool) (xs ys : List X)
+    → IsPermutation xs ys
+    → IsPermutation (filter p xs) (filter p ys)
 IsPermutation-filter {X} p =
     along_permutation (λ xs ys. IsPermutation (filter p xs) (filter p ys)) (λ xs. IsPermutation-refl _) skip turn (λ xs ys zs. IsPermutation-trans _ _ _)
   where
-    skip : (x : X) (xs ys : List X) → IsPermutation (filter p xs) (filter p ys) → IsPermutation (filter p (x ∷ xs)) (filter p (x ∷ ys))
+    skip :
+        (x : X) (xs ys : List X)
+        → IsPermutation (filter p xs) (filter p ys)
+        → IsPermutation (filter p (x ∷ xs)) (filter p (x ∷ ys))
     skip x xs ys h =
         elim (p x) as (λ b. IsPermutation (cond b (x ∷ filter p xs) (filter p xs)) (cond b (x ∷ filter p ys) (filter p ys))) [ true ↦ IsPermutation-cons x _ _ h | false ↦ h ]
 

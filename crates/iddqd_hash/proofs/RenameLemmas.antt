@@ -55,7 +55,11 @@ module _ (name : ℕ → ℕ) where
   renamed_values (e ∷ es) = ap (λ xs. name e.1 ∷ xs) (renamed_values es)
 
   -- the new names of other indexes are other names
-  names_apart : (x : ℕ) (xs : List ℕ) → ((y : ℕ) → Contains xs y → name x ≡ name y → x ≡ y) → AllByRecursion (λ y. eq_by_cmp nat_cmp x y ≡ false) xs → AllByRecursion (λ y. eq_by_cmp nat_cmp (name x) y ≡ false) (map name xs)
+  names_apart :
+      (x : ℕ) (xs : List ℕ)
+      → ((y : ℕ) → Contains xs y → name x ≡ name y → x ≡ y)
+      → AllByRecursion (λ y. eq_by_cmp nat_cmp x y ≡ false) xs
+      → AllByRecursion (λ y. eq_by_cmp nat_cmp (name x) y ≡ false) (map name xs)
   names_apart x [] one apart = tt
   names_apart x (y ∷ ys) one apart =
       let other : name x ≡ name y → ⊥ = λ same.
@@ -64,7 +68,11 @@ module _ (name : ℕ → ℕ) where
       let never : false ≡ true = sym apart.0 ∙ tie in cc in
       (untied (name x) (name y) other, names_apart x ys (λ z here. one z (Contains-append_right (y ∷ []) ys z here)) apart.1)
 
-  names_distinct : (xs : List ℕ) → ((i j : ℕ) → Contains xs i → Contains xs j → name i ≡ name j → i ≡ j) → IsDistinct (eq_by_cmp nat_cmp) xs → IsDistinct (eq_by_cmp nat_cmp) (map name xs)
+  names_distinct :
+      (xs : List ℕ)
+      → ((i j : ℕ) → Contains xs i → Contains xs j → name i ≡ name j → i ≡ j)
+      → IsDistinct (eq_by_cmp nat_cmp) xs
+      → IsDistinct (eq_by_cmp nat_cmp) (map name xs)
   names_distinct [] one apart = apart
   names_distinct (x ∷ xs) one apart =
       let behind = λ (z : ℕ) (here : Contains xs z). Contains-append_right (x ∷ []) xs z here in
@@ -72,7 +80,13 @@ module _ (name : ℕ → ℕ) where
       (names_distinct xs (λ i j here there. one i j (behind i here) (behind j there)) (IsDistinct-tail _ _ _ apart))
 
   -- where each value becomes its name, and the names of other indexes are others, the map is renamed
-  module _ (gives : ℕ → ℕ → Type 0) (says : (v w : ℕ) → gives v w → w ≡ name v) (old new : List (ℕ × ℕ)) (apart : IsDistinctlyFiled old) (one : (i j : ℕ) → IsSome (finite.get (filed_from old) i) → IsSome (finite.get (filed_from old) j) → name i ≡ name j → i ≡ j) (rewrites : Rewrites gives old new) where
+  module _
+      (gives : ℕ → ℕ → Type 0) (says : (v w : ℕ) → gives v w → w ≡ name v) (old new : List (ℕ × ℕ))
+      (apart : IsDistinctlyFiled old)
+      (one : (i j : ℕ) → IsSome (finite.get (filed_from old) i) → IsSome (finite.get (filed_from old) j) → name i ≡ name
+          j → i ≡ j)
+      (rewrites : Rewrites gives old new)
+      where
     all_renamed : IsPermutation (map renamed old) new
     all_renamed = Rewrites-mapped gives name says old new rewrites
 
@@ -104,7 +118,11 @@ module _ (name : ℕ → ℕ) (old : FinMap nat_cmp ℕ) where
       ] here
 
   -- the indexes of a renamed map are the new names of the old ones
-  pub renamed_iff : (new : FinMap nat_cmp ℕ) → Renames name old new → (at : ℕ) → IsSome (finite.get new at) ↔ ((ix : ℕ) × (name ix ≡ at) × IsSome (finite.get old ix))
+  pub renamed_iff :
+      (new : FinMap nat_cmp ℕ)
+      → Renames name old new
+      → (at : ℕ)
+      → IsSome (finite.get new at) ↔ ((ix : ℕ) × (name ix ≡ at) × IsSome (finite.get old ix))
   renamed_iff new renames at = (to, from)
     where
       to : IsSome (finite.get new at) → (ix : ℕ) × (name ix ≡ at) × IsSome (finite.get old ix)
@@ -132,7 +150,13 @@ module _ (name : ℕ → ℕ) (old : FinMap nat_cmp ℕ) where
   same_renamed m n first second =
       finite.same_map nat_cmp_total finite.nat_cmp-IsAntisymmetric m n at
     where
-      follows : (l r : FinMap nat_cmp ℕ) → Renames name old l → Renames name old r → (q hash : ℕ) → finite.get l q ≡ Some hash → finite.get r q ≡ Some hash
+      follows :
+          (l r : FinMap nat_cmp ℕ)
+          → Renames name old l
+          → Renames name old r
+          → (q hash : ℕ)
+          → finite.get l q ≡ Some hash
+          → finite.get r q ≡ Some hash
       follows l r left right q hash is =
           let was = left.no_other q hash is in
           subst (λ x. finite.get r x ≡ Some hash) was.1 (right.each was.0 hash was.2)

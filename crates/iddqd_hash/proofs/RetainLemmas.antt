@@ -36,14 +36,20 @@ module _ {F T : Type 0} (ask : F → T → Bool → F → Type 0) where
       }
 
   -- what is moved goes to the place or beyond
-  take-swap_remove : {X : Type 0} (xs : List X) (i : ℕ) (d : X) → i < length xs → take i (swap_remove xs i d) ≡ take i xs
+  take-swap_remove :
+      {X : Type 0} (xs : List X) (i : ℕ) (d : X)
+      → i < length xs
+      → take i (swap_remove xs i d) ≡ take i xs
   take-swap_remove xs i d within = take-take i _ _ (omega arith) ∙ take-set xs i _
 
   to_back : {X : Type 0} (xs ys : List X) (x : X) → IsPermutation ((xs ++ x ∷ []) ++ ys) ((xs ++ ys) ++ x ∷ [])
   to_back xs ys x =
       rw append_assoc (IsPermutation-trans _ _ _ (IsPermutation-middle xs x ys) (IsPermutation-sym _ _ (IsPermutation-to_front (xs ++ ys) x)))
 
-  module _ (f : F) (old : List (ℕ × T)) (before : F) (now : List (ℕ × T)) (place : ℕ) (e : ℕ × T) (within : place < length now) (read : e ≡ get_or now place e) (state : Retaining f old before now place) where
+  module _
+      (f : F) (old : List (ℕ × T)) (before : F) (now : List (ℕ × T)) (place : ℕ) (e : ℕ × T)
+      (within : place < length now) (read : e ≡ get_or now place e) (state : Retaining f old before now place)
+      where
     asks_more : (b : Bool) → map (λ a. a.0) (state.asks ++ (e, b) ∷ []) ≡ map (λ a. a.0) state.asks ++ e ∷ []
     asks_more b = map-append (λ a. a.0) state.asks ((e, b) ∷ [])
 
@@ -66,7 +72,12 @@ module _ {F T : Type 0} (ask : F → T → Bool → F → Type 0) where
           kept = taken_more ∙ ap (λ xs. xs ++ e ∷ []) state.kept ∙ sym (ap (map (λ a. a.0)) (filter-append (λ a. a.1) state.asks ((e, true) ∷ [])) ∙ map-append (λ a. a.0) _ _);
         }
 
-    pub Retaining-drop : (last : F) (later : List (ℕ × T)) (x : ℕ × T) → x ≡ get_or now place x → later ≡ swap_remove now place x → ask before e.1 false last → Retaining f old last later place
+    pub Retaining-drop :
+        (last : F) (later : List (ℕ × T)) (x : ℕ × T)
+        → x ≡ get_or now place x
+        → later ≡ swap_remove now place x
+        → ask before e.1 false last
+        → Retaining f old last later place
     Retaining-drop last later x taken given called =
         let found = slice_get_read now (length now) place e refl within read in
         let e-is : x ≡ e = taken ∙ get_or_from_slice_get now place e x found in
@@ -82,7 +93,11 @@ module _ {F T : Type 0} (ask : F → T → Bool → F → Type 0) where
           kept = same ∙ state.kept ∙ sym (ap (map (λ a. a.0)) (filter-append (λ a. a.1) state.asks ((e, false) ∷ [])) ∙ map-append (λ a. a.0) _ _ ∙ append-nil _);
         }
 
-  pub Keeps-from_retaining : (f : F) (old : List (ℕ × T)) (last : F) (now : List (ℕ × T)) (place : ℕ) → length now ≤ place → Retaining f old last now place → KeepsTo ask f old now last
+  pub Keeps-from_retaining :
+      (f : F) (old : List (ℕ × T)) (last : F) (now : List (ℕ × T)) (place : ℕ)
+      → length now ≤ place
+      → Retaining f old last now place
+      → KeepsTo ask f old now last
   Keeps-from_retaining f old last now place past state =
       let all : take place now ≡ now = take_all place now past in
       let both : IsPermutation old (take place now ++ state.refused) =
@@ -95,8 +110,15 @@ module _ {F T : Type 0} (ask : F → T → Bool → F → Type 0) where
       }
 
 -- Where each answer is a function of the value, what is kept is what passes the test.
-module _ {F T : Type 0} (ask : F → T → Bool → F → Type 0) (I : F → Type 0) (test : T → Bool) (says : (s : F) (x : T) (b : Bool) (t : F) → I s → ask s x b t → (b ≡ test x) × I t) where
-  kept_passes : (f : F) (asks : List ((ℕ × T) × Bool)) (last : F) → I f → FoldsTo (λ p a q. ask p a.0.1 a.1 q) f asks last → map (λ a. a.0) (filter (λ a. a.1) asks) ≡ filter (λ e. test e.1) (map (λ a. a.0) asks)
+module _
+    {F T : Type 0} (ask : F → T → Bool → F → Type 0) (I : F → Type 0) (test : T → Bool)
+    (says : (s : F) (x : T) (b : Bool) (t : F) → I s → ask s x b t → (b ≡ test x) × I t)
+    where
+  kept_passes :
+      (f : F) (asks : List ((ℕ × T) × Bool)) (last : F)
+      → I f
+      → FoldsTo (λ p a q. ask p a.0.1 a.1 q) f asks last
+      → map (λ a. a.0) (filter (λ a. a.1) asks) ≡ filter (λ e. test e.1) (map (λ a. a.0) asks)
   kept_passes f [] last i asked = refl
   kept_passes f (a ∷ asks) last i asked =
       let one = says f a.0.1 a.1 asked.0 i asked.1 in
@@ -110,7 +132,11 @@ module _ {F T : Type 0} (ask : F → T → Bool → F → Type 0) (I : F → Typ
       ] in
       as_answered ∙ ap (λ b. cond b (a.0 ∷ passing) passing) one.0
 
-  pub Keeps-tested : (f : F) (old new : List (ℕ × T)) → I f → Keeps ask f old new → IsPermutation (filter (λ e. test e.1) old) new
+  pub Keeps-tested :
+      (f : F) (old new : List (ℕ × T))
+      → I f
+      → Keeps ask f old new
+      → IsPermutation (filter (λ e. test e.1) old) new
   Keeps-tested f old new i told =
       let keeps = told.kept in
       let passed = IsPermutation-filter (λ e. test e.1) _ _ keeps.each_once in

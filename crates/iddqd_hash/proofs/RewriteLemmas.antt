@@ -17,7 +17,10 @@ module _ {T : Type 0} (gives : T → T → Type 0) where
   pub Rewriting-start : (old : List (ℕ × T)) → Rewriting old old 0
   Rewriting-start old = record { each = tt; behind = refl }
 
-  module _ (old now : List (ℕ × T)) (at : ℕ) (e : ℕ × T) (same_length : length now ≡ length old) (within : at < length old) (read : e ≡ get_or now at e) (state : Rewriting old now at) where
+  module _
+      (old now : List (ℕ × T)) (at : ℕ) (e : ℕ × T) (same_length : length now ≡ length old) (within : at < length old)
+      (read : e ≡ get_or now at e) (state : Rewriting old now at)
+      where
     both_ways : get_or old at e ∷ drop (at + 1) old ≡ get_or now at e ∷ drop (at + 1) now
     both_ways = sym (drop_more old at e within) ∙ sym state.behind ∙ drop_more now at e (omega arith)
 
@@ -34,7 +37,12 @@ module _ {T : Type 0} (gives : T → T → Type 0) where
           behind = drop-set-lt (at + 1) now at (e.0, w) (omega arith) ∙ sym (ap (drop 1) both_ways);
         }
 
-  pub Rewrites-from_rewriting : (old now : List (ℕ × T)) (at : ℕ) → length now ≡ length old → length old ≤ at → Rewriting old now at → Rewrites gives old now
+  pub Rewrites-from_rewriting :
+      (old now : List (ℕ × T)) (at : ℕ)
+      → length now ≡ length old
+      → length old ≤ at
+      → Rewriting old now at
+      → Rewrites gives old now
   Rewrites-from_rewriting old now at same_length past state =
       record {
         rewritten = now;
@@ -44,13 +52,19 @@ module _ {T : Type 0} (gives : T → T → Type 0) where
 
 -- Where each new value is a function of the old one, the new pairs are those that it gives.
 module _ {T : Type 0} (gives : T → T → Type 0) (to : T → T) (says : (v w : T) → gives v w → w ≡ to v) where
-  pairs_mapped : (es ws : List (ℕ × T)) → AllZip (λ e w. (w.0 ≡ e.0) × gives e.1 w.1) es ws → ws ≡ map (λ e. (e.0, to e.1)) es
+  pairs_mapped :
+      (es ws : List (ℕ × T))
+      → AllZip (λ e w. (w.0 ≡ e.0) × gives e.1 w.1) es ws
+      → ws ≡ map (λ e. (e.0, to e.1)) es
   pairs_mapped [] [] each = refl
   pairs_mapped [] (w ∷ ws) each = absurd each
   pairs_mapped (e ∷ es) [] each = absurd each
   pairs_mapped (e ∷ es) (w ∷ ws) each = λ i. (each.0.0 i, says e.1 w.1 each.0.1 i) ∷ pairs_mapped es ws each.1 i
 
-  pub Rewrites-mapped : (old new : List (ℕ × T)) → Rewrites gives old new → IsPermutation (map (λ e. (e.0, to e.1)) old) new
+  pub Rewrites-mapped :
+      (old new : List (ℕ × T))
+      → Rewrites gives old new
+      → IsPermutation (map (λ e. (e.0, to e.1)) old) new
   Rewrites-mapped old new rewrites =
       subst (λ ws. IsPermutation ws new) (pairs_mapped old rewrites.rewritten rewrites.each) rewrites.moved
 

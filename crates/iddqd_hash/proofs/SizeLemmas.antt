@@ -13,7 +13,11 @@ use Rattle.iddqd_hash.proofs.OpenTableLemmas.{room-opened, memory-opened}
 
 module _ {T : Type 0} where
   -- an empty list, in memory for so many pairs
-  pub TakesRoom-listed : {E : Type 0} (n : ℕ) (es : List (ℕ × T)) (spare held : ℕ) → spare ≡ n → held ≡ n → TakesRoom {E = E} n (Ok (listed es spare held))
+  pub TakesRoom-listed :
+      {E : Type 0} (n : ℕ) (es : List (ℕ × T)) (spare held : ℕ)
+      → spare ≡ n
+      → held ≡ n
+      → TakesRoom {E = E} n (Ok (listed es spare held))
   TakesRoom-listed n es spare held roomy same =
       record {
         roomy = rw room-listed (omega arith);
@@ -22,8 +26,16 @@ module _ {T : Type 0} where
         no_memory = λ none. HasNoMemory-listed es spare held (omega arith) (omega arith);
       }
 
-  module _ (least len : ℕ) (es now_es : List (ℕ × T)) (counted now held holds : ℕ) (was : counted ≡ len) (same : now ≡ counted) (less : holds ≤ held) (enough : min (max least len) held ≤ holds) where
-    pub Shrinks-listed : {A E : Type 0} (r : Result A E) → OnOk r (holds ≤ max least len) → OnErr r (max least len < holds) → (max least len ≡ 0 → holds ≡ 0) → Shrinks least len (listed es (held - counted) held) r (listed now_es (holds - now) holds)
+  module _
+      (least len : ℕ) (es now_es : List (ℕ × T)) (counted now held holds : ℕ) (was : counted ≡ len)
+      (same : now ≡ counted) (less : holds ≤ held) (enough : min (max least len) held ≤ holds)
+      where
+    pub Shrinks-listed :
+        {A E : Type 0} (r : Result A E)
+        → OnOk r (holds ≤ max least len)
+        → OnErr r (max least len < holds)
+        → (max least len ≡ 0 → holds ≡ 0)
+        → Shrinks least len (listed es (held - counted) held) r (listed now_es (holds - now) holds)
     Shrinks-listed r shrunk refused frees =
         record {
           never_more = rw (memory-listed now_es, memory-listed es) less;
@@ -33,7 +45,10 @@ module _ {T : Type 0} where
           succeeds = λ none. served r refused (frees none);
         }
       where
-        few : {A E : Type 0} (r : Result A E) → OnOk r (holds ≤ max least len) → OnOk r (holds ≤ most_cells (max least len))
+        few :
+            {A E : Type 0} (r : Result A E)
+            → OnOk r (holds ≤ max least len)
+            → OnOk r (holds ≤ most_cells (max least len))
         few (Ok x) is = omega arith
         few (Err e) is = tt
 
@@ -42,7 +57,12 @@ module _ {T : Type 0} where
         served (Err e) more none = absurd (omega arith)
 
   -- cells that are all empty, for so many pairs
-  pub IsSound-empty : (tags : List ℕ) (slots : List (Option (ℕ × T))) (n : ℕ) → tags ≡ replicate n 0 → slots ≡ replicate n None → IsPowerOfTwo n → IsSound tags slots 0 0
+  pub IsSound-empty :
+      (tags : List ℕ) (slots : List (Option (ℕ × T))) (n : ℕ)
+      → tags ≡ replicate n 0
+      → slots ≡ replicate n None
+      → IsPowerOfTwo n
+      → IsSound tags slots 0 0
   IsSound-empty tags slots n no_tag no_pair power =
       rw (no_tag, no_pair)
       (record {
@@ -54,7 +74,13 @@ module _ {T : Type 0} where
         limited = omega arith;
       })
 
-  pub TakesRoom-opened : {E : Type 0} (n : ℕ) (slots : List (Option (ℕ × T))) → 0 < n → pairs slots ≡ [] → n ≤ usable_of (length slots) → length slots ≤ most_cells n → TakesRoom {E = E} n (Ok (opened slots))
+  pub TakesRoom-opened :
+      {E : Type 0} (n : ℕ) (slots : List (Option (ℕ × T)))
+      → 0 < n
+      → pairs slots ≡ []
+      → n ≤ usable_of (length slots)
+      → length slots ≤ most_cells n
+      → TakesRoom {E = E} n (Ok (opened slots))
   TakesRoom-opened n slots some none fits few =
       record {
         roomy = rw (room-opened, none) (omega arith);
@@ -64,10 +90,22 @@ module _ {T : Type 0} where
       }
 
   -- a table that is as it was, and one whose pairs were placed in fewer cells
-  pub Shrinks-same : {A E : Type 0} (least len : ℕ) (t : Table T) (x : A) → memory t ≤ most_cells (max least len) → Shrinks {E = E} least len t (Ok x) t
+  pub Shrinks-same :
+      {A E : Type 0} (least len : ℕ) (t : Table T) (x : A)
+      → memory t ≤ most_cells (max least len)
+      → Shrinks {E = E} least len t (Ok x) t
   Shrinks-same least len t x few = record { never_more = omega arith; room_stays = omega arith; shrunk = few; refused = tt; succeeds = λ none. refl }
 
-  pub Shrinks-placed : {A E : Type 0} (least len : ℕ) (old new : Table T) (r : Result A E) (count : ℕ) → 0 < max least len → max least len ≤ usable_of count → count < memory old → count ≤ most_cells (max least len) → OnErr r (new ≡ old) → OnOk r (room new ≡ usable_of count - len) → OnOk r (memory new ≡ count) → Shrinks least len old r new
+  pub Shrinks-placed :
+      {A E : Type 0} (least len : ℕ) (old new : Table T) (r : Result A E) (count : ℕ)
+      → 0 < max least len
+      → max least len ≤ usable_of count
+      → count < memory old
+      → count ≤ most_cells (max least len)
+      → OnErr r (new ≡ old)
+      → OnOk r (room new ≡ usable_of count - len)
+      → OnOk r (memory new ≡ count)
+      → Shrinks least len old r new
   Shrinks-placed least len old new (Ok x) count some fits fewer few refused roomy cells =
       record { never_more = omega arith; room_stays = omega arith; shrunk = omega arith; refused = tt; succeeds = λ none. refl }
   Shrinks-placed least len old new (Err e) count some fits fewer few refused roomy cells =
@@ -87,7 +125,12 @@ half_power count (suc k, is) more =
     (k, omega arith)
 
 -- so many cells are few where half of them would be too few
-pub few_halved : (count needed : ℕ) → IsPowerOfTwo count → 0 < needed → (16 < count → usable_of (count / 2) < needed) → count ≤ most_cells needed
+pub few_halved :
+    (count needed : ℕ)
+    → IsPowerOfTwo count
+    → 0 < needed
+    → (16 < count → usable_of (count / 2) < needed)
+    → count ≤ most_cells needed
 few_halved count needed (zero, is) some tried = omega (arith, is)
 few_halved count needed (suc k, is) some tried =
     let same : suc k + 4 ≡ 5 + k = omega arith in
@@ -97,7 +140,10 @@ few_halved count needed (suc k, is) some tried =
     omega arith
 
 -- cells with no pair, of which the last is let go
-module _ {T : Type 0} (cells rest : List (Cell T)) (cell : Cell T) (split : cells ≡ rest ++ cell ∷ []) (none : pairs (slots_of cells) ≡ []) where
+module _
+    {T : Type 0} (cells rest : List (Cell T)) (cell : Cell T) (split : cells ≡ rest ++ cell ∷ [])
+    (none : pairs (slots_of cells) ≡ [])
+    where
   parts : length (pairs (slots_of rest)) + length (pairs (pair_in cell ∷ [])) ≡ 0
   parts =
       sym (length-append (pairs (slots_of rest)) (pairs (pair_in cell ∷ [])))

@@ -19,22 +19,37 @@ module _ {T : Type 0} where
   under-cons_other h k x es other = rw other
 
   -- the entries fall into those before a place, the one there, and those after
-  pub split_at : (es : List (ℕ × T)) (i : ℕ) (d : ℕ × T) → i < length es → es ≡ take i es ++ get_or es i d ∷ drop (i + 1) es
+  pub split_at :
+      (es : List (ℕ × T)) (i : ℕ) (d : ℕ × T)
+      → i < length es
+      → es ≡ take i es ++ get_or es i d ∷ drop (i + 1) es
   split_at es i d within = sym (take-append-drop i es) ∙ ap (λ xs. take i es ++ xs) (drop_more es i d within)
 
-  pub under_at : (h : ℕ) (es : List (ℕ × T)) (i : ℕ) (d : ℕ × T) → i < length es → ((get_or es i d).0 == h) ≡ true → under h es ≡ under h (take i es) ++ (get_or es i d).1 ∷ under h (drop (i + 1) es)
+  pub under_at :
+      (h : ℕ) (es : List (ℕ × T)) (i : ℕ) (d : ℕ × T)
+      → i < length es
+      → ((get_or es i d).0 == h) ≡ true
+      → under h es ≡ under h (take i es) ++ (get_or es i d).1 ∷ under h (drop (i + 1) es)
   under_at h es i d within same =
       ap (under h) (split_at es i d within)
       ∙ under-append h (take i es) (get_or es i d ∷ drop (i + 1) es)
       ∙ ap (λ xs. under h (take i es) ++ xs) (under-cons_same h _ _ _ same)
 
-  pub under_more_same : (h : ℕ) (es : List (ℕ × T)) (i : ℕ) (d : ℕ × T) → i < length es → ((get_or es i d).0 == h) ≡ true → under h (take (i + 1) es) ≡ under h (take i es) ++ (get_or es i d).1 ∷ []
+  pub under_more_same :
+      (h : ℕ) (es : List (ℕ × T)) (i : ℕ) (d : ℕ × T)
+      → i < length es
+      → ((get_or es i d).0 == h) ≡ true
+      → under h (take (i + 1) es) ≡ under h (take i es) ++ (get_or es i d).1 ∷ []
   under_more_same h es i d within same =
       ap (under h) (take_more es i d within)
       ∙ under-append h (take i es) (get_or es i d ∷ [])
       ∙ ap (λ xs. under h (take i es) ++ xs) (under-cons_same h _ _ [] same)
 
-  pub under_more_other : (h : ℕ) (es : List (ℕ × T)) (i : ℕ) (d : ℕ × T) → i < length es → ((get_or es i d).0 == h) ≡ false → under h (take (i + 1) es) ≡ under h (take i es)
+  pub under_more_other :
+      (h : ℕ) (es : List (ℕ × T)) (i : ℕ) (d : ℕ × T)
+      → i < length es
+      → ((get_or es i d).0 == h) ≡ false
+      → under h (take (i + 1) es) ≡ under h (take i es)
   under_more_other h es i d within other =
       ap (under h) (take_more es i d within)
       ∙ under-append h (take i es) (get_or es i d ∷ [])
@@ -63,7 +78,11 @@ module _ {T : Type 0} where
         subst (λ xs. Contains xs e.1) (sym (under_read same)) (Contains-append_right (under h (take i es)) _ _ (0, omega arith, refl))
 
     module _ {F : Type 0} (ask : F → T → Bool → F → Type 0) (f before last : F) where
-      pub Hits-read : e.0 ≡ h → AllRefused ask f (under h (take i es)) before → ask before e.1 true last → Hits ask f (under h es) e.1
+      pub Hits-read :
+          e.0 ≡ h
+          → AllRefused ask f (under h (take i es)) before
+          → ask before e.1 true last
+          → Hits ask f (under h es) e.1
       Hits-read same refused called =
           record {
             refused = under h (take i es);
@@ -75,11 +94,19 @@ module _ {T : Type 0} where
             accepted = called;
           }
 
-      pub AllRefused-read : e.0 ≡ h → AllRefused ask f (under h (take i es)) before → ask before e.1 false last → AllRefused ask f (under h (take (i + 1) es)) last
+      pub AllRefused-read :
+          e.0 ≡ h
+          → AllRefused ask f (under h (take i es)) before
+          → ask before e.1 false last
+          → AllRefused ask f (under h (take (i + 1) es)) last
       AllRefused-read same refused called =
           rw (under_read_more same) (FoldsTo-push _ f _ before e.1 last refused called)
 
-      pub FindsPlace-read : e.0 ≡ h → AllRefused ask f (under h (take i es)) before → ask before e.1 true last → FindsPlace ask f h (under h es) (slice_get es) (Some i)
+      pub FindsPlace-read :
+          e.0 ≡ h
+          → AllRefused ask f (under h (take i es)) before
+          → ask before e.1 true last
+          → FindsPlace ask f h (under h es) (slice_get es) (Some i)
       FindsPlace-read same refused called =
           record {
             value = e.1;

@@ -5,7 +5,10 @@ use Rattle.iddqd_hash.specs.HashTable.{Table, room}
 use Rattle.iddqd_hash.specs.Sizes.{Reserves}
 
 -- once room for one was made, an entry has it
-pub IsVacancy-reserved : {T A E : Type 0} (hash : ℕ) (old new : Table T) (done : A) → Reserves {E = E} 1 old (Ok done) new → IsVacancy hash old hash new
+pub IsVacancy-reserved :
+    {T A E : Type 0} (hash : ℕ) (old new : Table T) (done : A)
+    → Reserves {E = E} 1 old (Ok done) new
+    → IsVacancy hash old hash new
 IsVacancy-reserved hash old new done made =
     record {
       same_hash = refl;
@@ -17,7 +20,10 @@ IsVacancy-reserved hash old new done made =
     }
 
 -- where room for one was refused there was none
-pub Reserves-refused : {T A E : Type 0} (old new : Table T) (error : E) → Reserves {A = A} 1 old (Err error) new → room old ≡ 0
+pub Reserves-refused :
+    {T A E : Type 0} (old new : Table T) (error : E)
+    → Reserves {A = A} 1 old (Err error) new
+    → room old ≡ 0
 Reserves-refused old new error kept =
     let none : 1 ≤ room old → ⊥ = λ some. cc ((kept.had_room some).0) in
     omega arith

@@ -4,8 +4,8 @@ use Rattle.iddqd_hash.specs.HashTable.{Table, entries, room, memory}
 use Rattle.iddqd_hash.specs.Sizes.{most_cells}
 
 module _ {T : Type 0} where
-  -- A vacant entry under this hash, in this table. Where there was room, the table is as it was; else room was made, and
-  -- no more memory was taken than the pairs need with one more.
+  -- A vacant entry under this hash, in this table. Where there was room, the table is as it was; else room was made,
+  -- and no more memory was taken than the pairs need with one more.
   pub record IsVacancy (hash : ℕ) (old : Table T) (under : ℕ) (new : Table T) : Type 0 where
     pub same_hash : under ≡ hash
     pub roomy : 1 ≤ room new

@@ -30,4 +30,8 @@ module _ {T : Type 0} where
   pub record IsPartlyPlaced (tags : List ℕ) (slots : List (Option (ℕ × T))) : Type 0 where
     pub same_length : length slots ≡ length tags
     pub suited : (place : ℕ) → place < length tags → SuitsOrPending (slice_index tags place) (slot_at slots place)
-    pub placed : (place : ℕ) (pair : ℕ × T) → slot_at slots place ≡ Some pair → 128 ≤ slice_index tags place → IsPastFull tags pair.0 place
+    pub placed :
+        (place : ℕ) (pair : ℕ × T)
+        → slot_at slots place ≡ Some pair
+        → 128 ≤ slice_index tags place
+        → IsPastFull tags pair.0 place

@@ -2,7 +2,8 @@
 use Rattle.std.specs.Prelude.{◌≡◌, ◌+◌, ◌-◌, ◌*◌, ◌<◌, ◌≤◌, ℕ, min, max, Result, IsOk, IfOk, OnOk, OnErr, length}
 use Rattle.iddqd_hash.specs.HashTable.{Table, entries, room, memory, HasNoMemory}
 
--- the most cells that a table takes, or keeps after a shrink, for so many pairs: sixteen for each, and of many pairs three
+-- the most cells that a table takes, or keeps after a shrink, for so many pairs: sixteen for each, and of many pairs
+-- three
 abbrev pub most_cells : ℕ → ℕ
 most_cells pairs = min (16 * pairs) (3 * pairs + 16)
 

@@ -151,7 +151,8 @@ impl<T> HashTable<T> {
         requires { CanAsk (TakesAt F.FnMut) (CalledAt F.FnMut) eq (under hash (entries self.old)) }
 
         // A hit is a pair under the hash, and the asks that led to it.
-        ensures found { IfOk result (λ e. HitsPair (CalledAt F.FnMut) eq hash (under hash (entries self.old)) (entry_pair e)) }
+        ensures found { IfOk result
+            (λ e. HitsPair (CalledAt F.FnMut) eq hash (under hash (entries self.old)) (entry_pair e)) }
         ensures missed { OnErr result (Misses (CalledAt F.FnMut) eq (under hash (entries self.old))) }
 
         // The table is as it was, and an entry borrows it.

@@ -13,13 +13,12 @@
 //! so that a table near its capacity isn't rebuilt again and again. More pairs take twice as many cells.
 //! Thirteen of sixteen keeps 100,000 pairs in 131,072 cells, which three of four would double.
 //!
-//! Tags stand apart from cells, since at 1,000 entries a miss took
-//! 1.4 times hashbrown's time so, and 7.7 times in one vector of cells. Up to 65536 cells a walk
-//! begins with sixteen tags, which spares a branch guessed wrong: at 1,000 a hit took 2.1 times
-//! hashbrown's time without that, and 1.8 with it. The first of the sixteen that stops the walk mostly
-//! decides the look-up, so it is tried before the loop: a hit takes a tenth less time. Past them it begins with the home's tag alone,
-//! since then the processor fetches the home's cell before it has the tag: with sixteen a hit took
-//! 1.5 times as long.
+//! Tags stand apart from cells, since at 1,000 entries a miss took 1.4 times hashbrown's time so, and 7.7 times in one
+//! vector of cells. Up to 65536 cells a walk begins with sixteen tags, which spares a branch guessed wrong: at 1,000 a
+//! hit took 2.1 times hashbrown's time without that, and 1.8 with it. The first of the sixteen that stops the walk
+//! mostly decides the look-up, so it is tried before the loop: a hit takes a tenth less time. Past them it begins with
+//! the home's tag alone, since then the processor fetches the home's cell before it has the tag: with sixteen a hit
+//! took 1.5 times as long.
 //!
 //! An insert writes its cell unread, since safe code would load the cell to drop what stood there: the
 //! one `unsafe` line. `grow`, `rebuild` and `later_match` stand apart, so that what runs mostly is short
@@ -211,7 +210,8 @@ impl<T> OpenHashTable<T> {
         requires { CanAsk (TakesAt F.FnMut) (CalledAt F.FnMut) eq (under hash (entries self.old)) }
 
         // A hit is a pair under the hash, and the asks that led to it.
-        ensures found { IfOk result (λ e. HitsPair (CalledAt F.FnMut) eq hash (under hash (entries self.old)) (entry_pair e)) }
+        ensures found { IfOk result
+            (λ e. HitsPair (CalledAt F.FnMut) eq hash (under hash (entries self.old)) (entry_pair e)) }
         ensures missed { OnErr result (Misses (CalledAt F.FnMut) eq (under hash (entries self.old))) }
 
         // The table is as it was, and an entry borrows it.
@@ -296,7 +296,8 @@ impl<T> OpenHashTable<T> {
     // The cell and the value of the pair that a look-up hits.
     fn seek<F: FnMut(&T) -> bool>(&self, hash: u64, eq: F) -> Option<(usize, &T)>
         requires { CanAsk (TakesAt F.FnMut) (CalledAt F.FnMut) eq (under hash (entries self.now)) }
-        ensures place { FindsPlace (CalledAt F.FnMut) eq hash (under hash (entries self.now)) (pair_at self.now) (option_map (λ found. found.0) result) }
+        ensures place { FindsPlace (CalledAt F.FnMut) eq hash (under hash (entries self.now)) (pair_at self.now)
+            (option_map (λ found. found.0) result) }
         ensures value { IfSome result (λ found. pair_at self.now found.0 ≡ Some (hash, found.1.now)) }
     {
         let count = self.tags.len();

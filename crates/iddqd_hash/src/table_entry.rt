@@ -19,7 +19,8 @@ pub trait PairCells {
     /// The cell of the pair that a look-up hits.
     fn place_of<F: FnMut(&Self::Value) -> bool>(&self, hash: u64, eq: F) -> Option<usize>
         requires { CanAsk (TakesAt F.FnMut) (CalledAt F.FnMut) eq (under hash (entries (seen self.now))) }
-        ensures { FindsPlace (CalledAt F.FnMut) eq hash (under hash (entries (seen self.now))) (pair_at (seen self.now)) result };
+        ensures { FindsPlace (CalledAt F.FnMut) eq hash (under hash (entries (seen self.now))) (pair_at (seen self.now))
+            result };
 
     /// The pair in a cell.
     fn pair_at(&self, place: usize) -> (u64, &Self::Value)
@@ -93,7 +94,8 @@ impl<'a, C: PairCells> VacantEntry<'a, C> {
     /// Adds a value under the hash of the entry, and takes no memory.
     pub fn insert(self, value: C::Value) -> OccupiedEntry<'a, C>
         ensures pair { entry_pair result ≡ Some (vacant_hash self.entry, value) }
-        ensures added { IsPermutation ((vacant_hash self.entry, value) ∷ entries (vacant_table self.entry)) (entries (entry_table result)) }
+        ensures added { IsPermutation ((vacant_hash self.entry, value) ∷ entries (vacant_table self.entry))
+            (entries (entry_table result)) }
         ensures memory { UsesRoom (vacant_table self.entry) (entry_table result) }
         ensures same_reference { entry_lender result ≡ vacant_lender self.entry }
     {

@@ -51,8 +51,8 @@ impl<T: Copy> OpenHashTable<T> {
     }
 }
 
-/// A copy has no more cells than the table. Each pair keeps its place, so no hash is looked at. Where memory is refused, the
-/// clones made so far are dropped.
+/// A copy has no more cells than the table. Each pair keeps its place, so no hash is looked at. Where memory is
+/// refused, the clones made so far are dropped.
 impl<T: Clone> Clone for OpenHashTable<T> {
     ghost use Rattle.iddqd_hash.specs.HashTable.{entries, Rewrites};
 
@@ -73,8 +73,8 @@ impl<T: Clone> Clone for OpenHashTable<T> {
     }
 }
 
-// A clone of each value in the place of that value, in memory for so many cells and no more. Going from one full cell to the
-// next guesses fewer branches wrong than a test of each cell.
+// A clone of each value in the place of that value, in memory for so many cells and no more. Going from one full cell
+// to the next guesses fewer branches wrong than a test of each cell.
 fn cloned_cells<T: Clone>(
     alloc: Global,
     tags: &[u8],

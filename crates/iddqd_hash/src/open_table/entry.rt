@@ -33,7 +33,8 @@ impl<T> OpenHashTable<T> {
         requires { CanAsk (TakesAt F.FnMut) (CalledAt F.FnMut) eq (under hash (entries self.old)) }
 
         // A hit is a pair under the hash, in the table as it was, and the asks that led to it.
-        ensures found { IfOccupied result (λ e. HitsPair (CalledAt F.FnMut) eq hash (under hash (entries self.old)) (entry_pair e)) }
+        ensures found { IfOccupied result
+            (λ e. HitsPair (CalledAt F.FnMut) eq hash (under hash (entries self.old)) (entry_pair e)) }
         ensures same_table { IfOccupied result (λ e. entry_table e ≡ self.old) }
 
         // Else each value under the hash was refused, and the pairs stay.

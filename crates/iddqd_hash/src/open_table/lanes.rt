@@ -20,7 +20,8 @@ pub fn run_of_others(tags: &[u8], at: usize, tag: u8) -> usize
     }
 }
 
-/// How many of the sixteen places from `at` on come before the first one that is empty or has the tag: 16 where none is.
+/// How many of the sixteen places from `at` on come before the first one that is empty or has the tag: 16 where none
+/// is.
 pub fn first_stop(tags: &[u8], at: usize, tag: u8) -> usize
     requires { at + 16 ≤ length tags.now }
     ensures inside { at + result ≤ length tags.now }

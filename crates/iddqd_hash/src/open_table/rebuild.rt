@@ -1,8 +1,8 @@
 //! Rebuilds a table in the cells that it has: every pair is placed anew, and no mark is left. No memory is taken.
 //!
-//! First the tag of every full cell becomes `PENDING`, and every mark becomes the tag of an empty cell. Then each pending
-//! pair is taken out of its cell and put into the first cell from its home that is empty or pending. If that cell is
-//! pending, its own pair is taken out in exchange and placed next.
+//! First the tag of every full cell becomes `PENDING`, and every mark becomes the tag of an empty cell. Then each
+//! pending pair is taken out of its cell and put into the first cell from its home that is empty or pending. If that
+//! cell is pending, its own pair is taken out in exchange and placed next.
 //!
 //! A placed pair never moves again, and a walk from its home comes to it past placed pairs alone: this is what
 //! `IsPartlyPlaced` says. Each exchange leaves one pending tag fewer, so the exchanges end. The full hashes are kept beside
@@ -40,8 +40,8 @@ pub fn rebuild_at_limit<T>(tags: &mut [u8], cells: &mut [Cell<T>], used: usize, 
     len
 }
 
-// Places every pair anew in the same cells, and leaves no mark. It costs a walk over the cells, and one from the home of
-// each pair.
+// Places every pair anew in the same cells, and leaves no mark. It costs a walk over the cells, and one from the home
+// of each pair.
 #[cold]
 #[inline(never)]
 fn rebuild<T>(tags: &mut [u8], cells: &mut [Cell<T>])

@@ -7,7 +7,9 @@ use lib.Lanes.{zip2, mask_l, top, chunk}
 use Rattle.iddqd_hash.proofs.OpenLaneLemmas.{less, is_free, free_mask, not_free}
 use Rattle.iddqd_hash.proofs.open_table.lanes.first_free.Goals as goal
 
-counted : (c : goal.After-first_set) → c.first_set.result ≡ prefix_len (λ x. not (is_free x)) (chunk c.args.at 16 c.args.tags.now)
+counted :
+    (c : goal.After-first_set)
+    → c.first_set.result ≡ prefix_len (λ x. not (is_free x)) (chunk c.args.at 16 c.args.tags.now)
 counted c =
     let v = chunk c.args.at 16 c.args.tags.now in
     let long = length-chunk c.args.at 16 c.args.tags.now c.requires in

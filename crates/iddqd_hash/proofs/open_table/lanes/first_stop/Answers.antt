@@ -8,7 +8,9 @@ use Rattle.iddqd_hash.specs.OpenTable.{is_stop}
 use Rattle.iddqd_hash.proofs.OpenLaneLemmas.{same, stops_mask}
 use Rattle.iddqd_hash.proofs.open_table.lanes.first_stop.Goals as goal
 
-counted : (c : goal.After-first_set) → c.first_set.result ≡ prefix_len (λ x. not (is_stop c.args.tag x)) (chunk c.args.at 16 c.args.tags.now)
+counted :
+    (c : goal.After-first_set)
+    → c.first_set.result ≡ prefix_len (λ x. not (is_stop c.args.tag x)) (chunk c.args.at 16 c.args.tags.now)
 counted c =
     let v = chunk c.args.at 16 c.args.tags.now in
     let long = length-chunk c.args.at 16 c.args.tags.now c.requires in

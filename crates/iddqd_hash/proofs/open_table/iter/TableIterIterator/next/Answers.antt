@@ -26,7 +26,11 @@ value_in-requires g c =
     let some = full_slot _ (slot_at (slots_of cells) here) (probed.suited here c.next-here.ensures.inside) c.next-here.ensures.full in
     subst (λ o. IsSome o) (slot_read tags cells here _ c.next-here.ensures.inside c.index-self-here.is probed ∙ ap pair_in c.index-self-here.is) some
 
-pair_here : (g : _) (c : goal.After-value_in g) → pairs (drop c.self.inside.places.at (slots_of c.self.inside.cells.now)) ≡ ((slice_index_or c.self.inside.cells.now c.next-here.result c.index-self-here.result).hash, c.value_in.result.now) ∷ pairs (drop c.next-here.new.self.at (slots_of c.self.inside.cells.now))
+pair_here :
+    (g : _) (c : goal.After-value_in g)
+    → pairs (drop c.self.inside.places.at (slots_of c.self.inside.cells.now)) ≡
+        ((slice_index_or c.self.inside.cells.now c.next-here.result c.index-self-here.result).hash,
+            c.value_in.result.now) ∷ pairs (drop c.next-here.new.self.at (slots_of c.self.inside.cells.now))
 pair_here g c =
     let probed = c.self.invariant.probed in
     let tags = c.self.inside.tags.now in
