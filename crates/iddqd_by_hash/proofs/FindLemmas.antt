@@ -8,8 +8,8 @@ use Rattle.std.specs.declared.hash.BuildHasher as builder
 use Rattle.iddqd.specs.MapHash.{hash_one}
 use Rattle.iddqd.specs.Store.{Store, get}
 use Rattle.iddqd_hash.specs.MapHashTable.{FindsWhere}
-use Rattle.iddqd_by_hash.specs.Scan.{IsHit, AnswersScan, passes_by}
-use Rattle.iddqd_by_hash.proofs.ScanLemmas.{AnswersScan-hit}
+use Rattle.iddqd_keys.specs.Scan.{IsHit, AnswersScan, passes_by}
+use Rattle.iddqd_keys.proofs.ScanLemmas.{AnswersScan-hit}
 use Rattle.iddqd_by_hash.specs.Hashed.{Hashing, hashing_of, IsLawful, StandsForOne, AsksAt, Finds, IsExact, LooksUp}
 
 -- keys whose bounds keep their laws

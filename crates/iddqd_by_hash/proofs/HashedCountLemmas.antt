@@ -14,7 +14,7 @@ use Rattle.iddqd.specs.Store.{Store, live_count}
 use Rattle.iddqd_hash.specs.MapHashTable.{indexes_of}
 use Rattle.iddqd_hash.proofs.FiledLemmas.{same_index}
 use Rattle.iddqd_by_hash.specs.Hashed as hashed
-use Rattle.iddqd_by_hash.proofs.CountLemmas.{length-listed}
+use Rattle.iddqd_keys.proofs.CountLemmas.{length-listed}
 
 both_hold : (a b : Bool) → Holds (a && b) → Holds a × Holds b
 both_hold true b h = (tt, h)

@@ -11,9 +11,9 @@ use Rattle.iddqd.proofs.LiveLemmas.{none_not_live, item_at, live_at, next_vacant
 use Rattle.iddqd.proofs.CompactionLemmas.{get-compacted, live-compacted}
 use Rattle.iddqd_hash.specs.MapHashTable.{Renames}
 use Rattle.iddqd_hash.proofs.MemberLemmas.{get-insert_at, get-insert_other, get-remove_at, get-remove_other, filed_hash, filed_at, Renames-alike}
-use Rattle.iddqd_by_hash.specs.Scan.{IsLive}
+use Rattle.iddqd_keys.specs.Scan.{IsLive}
 use Rattle.iddqd_by_hash.specs.Hashed.{Holds}
-use Rattle.iddqd_by_hash.proofs.ScanLemmas.{live_rebound}
+use Rattle.iddqd_keys.proofs.ScanLemmas.{live_rebound}
 
 module _ {T : Type 0} where
   Holds-none : (s : Store T) → ((ix : ℕ) → IsLive s ix → ⊥) → Holds s finite.empty

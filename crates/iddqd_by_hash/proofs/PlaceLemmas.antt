@@ -9,10 +9,10 @@ use Rattle.iddqd.proofs.LiveLemmas.{none_live}
 use Rattle.iddqd.proofs.CompactionLemmas.{live-compacted}
 use Rattle.iddqd_hash.specs.MapHashTable.{Renames}
 use Rattle.iddqd_hash.proofs.MemberLemmas.{get-insert_at, get-insert_other, get-remove_other}
-use Rattle.iddqd_by_hash.specs.Scan.{HasNoHit, passes_by}
-use Rattle.iddqd_by_hash.specs.Side.{ChangesAt}
+use Rattle.iddqd_keys.specs.Scan.{HasNoHit, passes_by}
+use Rattle.iddqd_keys.specs.Side.{ChangesAt}
 use Rattle.iddqd_by_hash.specs.Hashed.{Hashing, IsLawful, Finds, IsInPlace, IsExact, Keeps}
-use Rattle.iddqd_by_hash.proofs.ScanLemmas.{live_before, live_cases, rebound_cases, passes_unless, AreApart-bare, AreApart-removed, AreApart-inserted, AreApart-compacted, AreApart-rebound}
+use Rattle.iddqd_keys.proofs.ScanLemmas.{live_before, live_cases, rebound_cases, passes_unless, AreApart-bare, AreApart-removed, AreApart-inserted, AreApart-compacted, AreApart-rebound}
 use Rattle.iddqd_by_hash.proofs.FindLemmas.{AnswersScan-found, StandsForOne-key}
 
 module _ {T K : Type 0} (key_of : T → K) (hashing : Hashing K) where

@@ -8,8 +8,8 @@ use Rattle.std.specs.declared.hash.Hasher as hasher
 use Rattle.std.specs.declared.hash.BuildHasher as builder
 use Rattle.iddqd.specs.MapHash.{hash_one}
 use Rattle.iddqd.specs.Store.{Store, get}
-use Rattle.iddqd_by_hash.specs.Scan.{IsLive, IsHit, AnswersScan, passes_by}
-use Rattle.iddqd_by_hash.specs.Side.{HasExactly, IsExactOver, KeepsOver}
+use Rattle.iddqd_keys.specs.Scan.{IsLive, IsHit, AnswersScan, passes_by}
+use Rattle.iddqd_keys.specs.Side.{HasExactly, IsExactOver, KeepsOver}
 
 -- when two keys are equal, and the hash of a key
 pub record Hashing (K : Type 0) : Type 0 where

@@ -8,10 +8,10 @@ ghost use Rattle.std.specs.FinMap as finite;
 ghost use Rattle.iddqd.specs.MapHash.{hash_one};
 ghost use Rattle.iddqd_hash.specs.HashTable.{room, KeepsMemory};
 ghost use Rattle.iddqd_hash.specs.{filed};
-ghost use Rattle.iddqd_by_hash.specs.Scan.{IsLive, IsKeyAt};
+ghost use Rattle.iddqd_keys.specs.Scan.{IsLive, IsKeyAt};
 ghost use Rattle.iddqd_by_hash.specs.Hashed.{AreLive, AsksAt, LooksUp, Takes};
 
-use crate::key_of::{KeyOf, Lent, key_at};
+use iddqd_keys::key_of::{KeyOf, Lent, key_at};
 use iddqd::item_index::ItemIndex;
 use iddqd::item_set::ItemSet;
 use iddqd::map_hash::{Equivalent, MapHash};

@@ -6,5 +6,3 @@
 
 pub mod hashed;
 pub mod hashed_move;
-pub mod key_of;
-pub mod query;

@@ -6,7 +6,7 @@ use Rattle.iddqd.specs.Validation.{Allows, AreAsExpected}
 use Rattle.iddqd.specs.declared.internal.ValidateCompact.{ValidateCompact}
 use Rattle.iddqd.specs.declared.internal.ValidateCompact.TheVariants.{Compact, NonCompact}
 use Rattle.iddqd.proofs.StoreLemmas.{live_within}
-use Rattle.iddqd_by_hash.proofs.CountLemmas.{length-listed}
+use Rattle.iddqd_keys.proofs.CountLemmas.{length-listed}
 use Rattle.iddqd_by_order.specs.Ordered.{Holds}
 
 module _ {T : Type 0} where

@@ -18,10 +18,10 @@ use Rattle.iddqd_order.specs.KeyOrder.{IsInKeyOrder}
 use Rattle.iddqd_order.specs.Search as search
 use Rattle.iddqd_order.specs.Search.{IsSteady, IsSteadyRising, IsRising, with_ties}
 use Rattle.iddqd_order.proofs.KeyOrderLemmas.{IsRising-from_query}
-use Rattle.iddqd_by_hash.specs.Scan.{IsHit, HasNoHit, passes_by}
-use Rattle.iddqd_by_order.specs.OrderedQuery.{IsQuery}
+use Rattle.iddqd_keys.specs.Scan.{IsHit, HasNoHit, passes_by}
+use Rattle.iddqd_keys.specs.OrderedQuery.{IsQuery}
 use Rattle.iddqd_by_order.specs.Ordered.{Holds, IsInPlace, Finds, LooksUp, Enters, IsVacantAt, is_equal, compared, key_at}
-use Rattle.iddqd_by_hash.proofs.ScanLemmas.{AnswersScan-hit}
+use Rattle.iddqd_keys.proofs.ScanLemmas.{AnswersScan-hit}
 
 module _ {K : Type 0} (compare : K → K → Ordering) where
   -- a query whose type keeps its laws does

@@ -12,9 +12,9 @@ use Rattle.iddqd_order.specs.MapBTreeTable.{without}
 use Rattle.iddqd_order.proofs.IndexListLemmas.{IsDistinct-insert, IsDistinct-filter}
 use Rattle.iddqd_order.proofs.MemberLemmas.{contains-inserted_at, contains-inserted_other, contains-inserted_cases, contains-without, contains-from_without, map-alike}
 use Rattle.iddqd_order.proofs.RenameLemmas.{Contains-map, Contains-from_map, IsDistinct-map}
-use Rattle.iddqd_by_hash.specs.Scan.{IsLive}
+use Rattle.iddqd_keys.specs.Scan.{IsLive}
 use Rattle.iddqd_by_order.specs.Ordered.{Holds, Adds}
-use Rattle.iddqd_by_hash.proofs.ScanLemmas.{live_rebound}
+use Rattle.iddqd_keys.proofs.ScanLemmas.{live_rebound}
 
 module _ {T : Type 0} where
   Holds-none : (s : Store T) → ((ix : ℕ) → IsLive s ix → ⊥) → Holds s []

@@ -25,10 +25,10 @@ use Rattle.iddqd_order.specs.Search.{IsPlace}
 use Rattle.iddqd_order.specs.declared.btree_table.entry.VacantEntry.{VacantEntry}
 use Rattle.iddqd_order.proofs.KeyOrderLemmas.{key_then_index-total, IsStrictlySortedBy-insert, IsInKeyOrder-renamed}
 use Rattle.iddqd_order.proofs.MemberLemmas.{contains-from_without}
-use Rattle.iddqd_by_hash.specs.Scan.{IsLive, passes_by}
-use Rattle.iddqd_by_hash.specs.Side.{ChangesAt}
+use Rattle.iddqd_keys.specs.Scan.{IsLive, passes_by}
+use Rattle.iddqd_keys.specs.Side.{ChangesAt}
 use Rattle.iddqd_by_order.specs.Ordered.{Holds, AddsInPlace, IsInPlace, IsExact, IsVacantAt, Keeps, LooksUp, compared, key_at}
-use Rattle.iddqd_by_hash.proofs.ScanLemmas.{passes_unless, AreApart-bare, AreApart-removed, AreApart-inserted, AreApart-compacted, AreApart-rebound}
+use Rattle.iddqd_keys.proofs.ScanLemmas.{passes_unless, AreApart-bare, AreApart-removed, AreApart-inserted, AreApart-compacted, AreApart-rebound}
 
 -- a list without members
 no_members : (xs : List ℕ) → ((x : ℕ) → Contains xs x → ⊥) → xs ≡ []

@@ -19,7 +19,7 @@ use Rattle.iddqd_order.specs.Range.{Begins, Ends, WalksBetween, indexes_ahead}
 use Rattle.iddqd_order.specs.Search.{IsSteady, IsSteadyRising, IsPlace}
 use Rattle.iddqd_order.specs.declared.btree_table.asking.Asking.{Asking}
 use Rattle.iddqd_order.specs.declared.btree_table.range.Range.{Range}
-use Rattle.iddqd_by_order.specs.OrderedQuery.{IsQuery, is_from, is_up_to, is_between}
+use Rattle.iddqd_keys.specs.OrderedQuery.{IsQuery, is_from, is_up_to, is_between}
 use Rattle.iddqd_by_order.specs.Ordered.{Holds, IsInPlace, compared, key_at}
 use Rattle.iddqd_by_order.specs.OrderedWalk.{SortsWithin}
 use Rattle.iddqd_by_order.specs.OrderedWalk.{WalksWithin}

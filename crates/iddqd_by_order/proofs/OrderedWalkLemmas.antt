@@ -7,7 +7,7 @@ use Rattle.std.proofs.lemmas.Map.Keys.{IsDistinct-cons, IsDistinct-head, IsDisti
 use Rattle.iddqd.specs.Store.{Store, get}
 use Rattle.iddqd.proofs.StoreLemmas.{contains_head, contains_tail, contains_none}
 use Rattle.iddqd_order.specs.Cursor.{part}
-use Rattle.iddqd_by_hash.specs.Scan.{IsLive}
+use Rattle.iddqd_keys.specs.Scan.{IsLive}
 use Rattle.iddqd_by_order.specs.Ordered.{AreLive}
 use Rattle.iddqd_by_order.specs.OrderedWalk.{IsRunOf, pair_at, pairs_at}
 

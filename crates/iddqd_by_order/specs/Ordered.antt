@@ -12,8 +12,8 @@ use Rattle.iddqd_order.specs.MapBTreeTable.{without}
 use Rattle.iddqd_order.specs.Search.{IsPlace}
 use Rattle.iddqd_order.specs.declared.btree_table.entry.Entry.{Entry}
 use Rattle.iddqd_order.specs.declared.btree_table.entry.Entry.TheVariants.{Occupied, Vacant}
-use Rattle.iddqd_by_hash.specs.Scan.{IsLive, IsHit, HasNoHit, passes_by}
-use Rattle.iddqd_by_hash.specs.Side.{HasExactly, IsExactOver, KeepsOver, LooksUpOver}
+use Rattle.iddqd_keys.specs.Scan.{IsLive, IsHit, HasNoHit, passes_by}
+use Rattle.iddqd_keys.specs.Side.{HasExactly, IsExactOver, KeepsOver, LooksUpOver}
 
 -- what taking the index that a look-up found leaves of the list
 abbrev pub Takes : List ℕ → Option ℕ → List ℕ → Type 0

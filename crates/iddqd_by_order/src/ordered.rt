@@ -10,16 +10,16 @@
 ghost use Rattle.std.specs.Prelude.{◌≡◌, ◌≤◌};
 ghost use Rattle.std.specs.Range.Bound.{bound_map};
 ghost use Rattle.iddqd_order.specs.{capacity, entry_table, indexes_ahead, order_of, without};
-ghost use Rattle.iddqd_by_hash.specs.Scan.{IsLive, IsKeyAt};
+ghost use Rattle.iddqd_keys.specs.Scan.{IsLive, IsKeyAt};
 ghost use Rattle.iddqd_by_order.specs.Ordered.{AreLive, Enters, Holds, LooksUp, Takes};
-ghost use Rattle.iddqd_by_order.specs.OrderedQuery.{is_between};
+ghost use Rattle.iddqd_keys.specs.OrderedQuery.{is_between};
 ghost use Rattle.iddqd_by_order.specs.OrderedWalk.{WalksWithin};
 
-use crate::order_query::{OrdQuery, RankedLent};
+use iddqd_keys::order_query::{OrdQuery, RankedLent};
 use iddqd::item_index::ItemIndex;
 use iddqd::item_set::ItemSet;
 use iddqd::map_hash::Comparable;
-use iddqd_by_hash::key_of::{KeyOf, key_at};
+use iddqd_keys::key_of::{KeyOf, key_at};
 use iddqd_order::btree_table::{Asking, Entry, MapBTreeTable, Range};
 use std::cmp::Ordering;
 use std::ops::Bound;

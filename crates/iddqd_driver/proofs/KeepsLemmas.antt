@@ -7,7 +7,7 @@ use Rattle.iddqd.specs.Compaction.{rank}
 use Rattle.iddqd.proofs.StoreLemmas.{IsValid-empty, IsValid-cleared, IsValid-inserted, IsValid-removed, IsValid-rebound}
 use Rattle.iddqd.proofs.CompactionLemmas.{IsValid-compacted}
 use Rattle.iddqd_hash.specs.MapHashTable.{Renames}
-use Rattle.iddqd_by_hash.specs.Scan.{passes_by}
+use Rattle.iddqd_keys.specs.Scan.{passes_by}
 use Rattle.iddqd_by_hash.specs.Hashed as hashed
 use Rattle.iddqd_by_order.specs.Ordered as ordered
 use Rattle.iddqd_by_hash.proofs.FindLemmas.{StandsForOne-key}

@@ -5,9 +5,9 @@ use Rattle.std.specs.Cmp.{IsEquivalence, tied_itself}
 use Rattle.std.specs.Fn.{Once}
 use Rattle.std.specs.Ordering.{is_eq}
 use Rattle.iddqd.specs.Store.{Store, get, rebound}
-use Rattle.iddqd_by_hash.specs.Scan.{IsHit}
-use Rattle.iddqd_by_hash.specs.Side.{ChangesAt}
-use Rattle.iddqd_by_hash.specs.KeyKeeping.{pair_keys}
+use Rattle.iddqd_keys.specs.Scan.{IsHit}
+use Rattle.iddqd_keys.specs.Side.{ChangesAt}
+use Rattle.iddqd_keys.specs.KeyKeeping.{pair_keys}
 use Rattle.iddqd_driver.specs.Keys.{Keys, equal_second}
 use Rattle.iddqd_driver.specs.Modify.{ModifiesAt, ModifiesFound}
 use Rattle.iddqd_driver.specs.Sides.{Keeps}

@@ -4,7 +4,7 @@ use Rattle.std.specs.Ordering.{is_eq}
 use Rattle.std.specs.Cmp.{Equal-is}
 use Rattle.std.specs.declared.cmp.Ordering.TheVariants.{Equal}
 use Rattle.iddqd.specs.Store.{Store}
-use Rattle.iddqd_by_hash.specs.Scan.{IsHit, passes_by}
+use Rattle.iddqd_keys.specs.Scan.{IsHit, passes_by}
 use Rattle.iddqd_by_hash.specs.Hashed as hashed
 use Rattle.iddqd_by_order.specs.Ordered as ordered
 use Rattle.iddqd_driver.specs.Keys.{Keys, first_hashing}

@@ -25,7 +25,7 @@ use Rattle.iddqd_order.proofs.IndexListLemmas.{IsDistinct-insert, IsDistinct-fil
 use Rattle.iddqd_order.proofs.KeyOrderLemmas.{IsRising-from_sorted, IsStrictlySortedBy-insert, key_then_index-total, with_ties-key}
 use Rattle.iddqd_order.proofs.MemberLemmas.{contains-inserted_at, contains-inserted_other, contains-inserted_cases, contains-without, contains-from_without}
 use Rattle.std.proofs.lemmas.Bool.Decides.{nat_tests}
-use Rattle.iddqd_by_hash.specs.Scan.{IsLive, IsHit, AnswersScan, AreApart, passes_by}
+use Rattle.iddqd_keys.specs.Scan.{IsLive, IsHit, AnswersScan, AreApart, passes_by}
 use Rattle.iddqd_by_hash.specs.Hashed as hashed
 use Rattle.iddqd_by_order.specs.Ordered as ordered
 use Rattle.iddqd_by_order.specs.Ordered.{Adds}
@@ -33,8 +33,8 @@ use Rattle.iddqd_by_hash.specs.HashedMove.{moved}
 use Rattle.iddqd_by_hash.specs.declared.hashed_move.Move.TheVariants.{To}
 use Rattle.iddqd_by_order.proofs.OrderedHoldsLemmas as order_holds
 use Rattle.iddqd_by_order.proofs.OrderedPlaceLemmas as order_place
-use Rattle.iddqd_by_hash.proofs.ScanLemmas.{rebound_cases, live_rebound}
-use Rattle.iddqd_by_hash.specs.Side.{ChangesAt}
+use Rattle.iddqd_keys.proofs.ScanLemmas.{rebound_cases, live_rebound}
+use Rattle.iddqd_keys.specs.Side.{ChangesAt}
 use Rattle.iddqd_driver.specs.Keys.{Keys, first_hashing}
 use Rattle.iddqd_driver.specs.State.{State, IsPaired}
 use Rattle.iddqd_driver.specs.Sides.{hash_in, first_side, second_side, LooksUp, Keeps}

@@ -23,7 +23,7 @@ use Rattle.iddqd.proofs.LiveItemLemmas.{IsWalkOf-live_pairs}
 use Rattle.iddqd.proofs.StoreLemmas.{contains_head, contains_tail, contains_cases, differs}
 use Rattle.iddqd_hash.specs.MapHashTable.{indexes_of}
 use Rattle.iddqd_hash.proofs.FiledLemmas.{same_index}
-use Rattle.iddqd_by_hash.specs.Scan.{IsHit, AnswersScan}
+use Rattle.iddqd_keys.specs.Scan.{IsHit, AnswersScan}
 use Rattle.iddqd_by_order.specs.Ordered as ordered
 use Rattle.iddqd_by_order.proofs.OrderedCountLemmas.{AreAsExpected-listed}
 use Rattle.iddqd_driver.specs.State.{State, IsPaired}

@@ -4,7 +4,7 @@ use Rattle.std.specs.Option.{option_map}
 use Rattle.std.specs.FinMap as finite
 use Rattle.iddqd.specs.Store.{Store, get, next_index, inserted, rebound, IsFull}
 use Rattle.iddqd.specs.Compaction.{IsRemapOf}
-use Rattle.iddqd_by_hash.specs.Scan.{AnswersScan}
+use Rattle.iddqd_keys.specs.Scan.{AnswersScan}
 use Rattle.iddqd_by_order.specs.Ordered.{Adds}
 use Rattle.iddqd_driver.specs.Keys.{Keys}
 use Rattle.iddqd_driver.specs.State.{State, cleared_state, unbound, Compacts, IsPaired}

@@ -3,7 +3,7 @@ use Rattle.std.specs.Prelude.{◌≡◌, ℕ, Option, Some, None}
 use Rattle.std.specs.Borrow.{MutBor}
 use Rattle.std.specs.Fn.{Once}
 use Rattle.iddqd.specs.Store.{get}
-use Rattle.iddqd_by_hash.specs.KeyKeeping.{ModifiesItem}
+use Rattle.iddqd_keys.specs.KeyKeeping.{ModifiesItem}
 use Rattle.iddqd_driver.specs.State.{State}
 
 module _ {F T R S : Type 0} (g : Once F (MutBor T × Unit {0}) (R × (MutBor T × Unit {0}))) (f : F) where

@@ -1,7 +1,7 @@
 -- What a look-up by a query answers, and what a look-up gives.
 use Rattle.std.specs.Prelude.{◌≡◌, ℕ, Bool, true, Option, Some, None, IfSome}
 use Rattle.iddqd.specs.Store.{Store, get}
-use Rattle.iddqd_by_hash.specs.Scan.{IsHit, AnswersScan, passes_by}
+use Rattle.iddqd_keys.specs.Scan.{IsHit, AnswersScan, passes_by}
 use Rattle.iddqd_driver.specs.State.{State}
 use Rattle.iddqd_driver.specs.Sides.{Side, IsExact}
 

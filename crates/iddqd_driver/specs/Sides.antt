@@ -3,8 +3,8 @@ use Rattle.std.specs.Prelude.{ℕ, Bool, List, Option, None, Result, Err, ⊤}
 use Rattle.std.specs.List.{Contains}
 use Rattle.std.specs.Option.{option_map}
 use Rattle.iddqd.specs.Store.{Store}
-use Rattle.iddqd_by_hash.specs.Scan.{AnswersScan, passes_by}
-use Rattle.iddqd_by_hash.specs.Side.{HasExactly, IsExactOver, KeepsOver, LooksUpOver, ChangesAt}
+use Rattle.iddqd_keys.specs.Scan.{AnswersScan, passes_by}
+use Rattle.iddqd_keys.specs.Side.{HasExactly, IsExactOver, KeepsOver, LooksUpOver, ChangesAt}
 use Rattle.iddqd_by_hash.specs.Hashed as hashed
 use Rattle.iddqd_by_order.specs.Ordered as ordered
 use Rattle.iddqd_driver.specs.Keys.{Keys, first_hashing, equal_second}

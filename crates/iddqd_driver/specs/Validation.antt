@@ -10,7 +10,7 @@ use Rattle.iddqd.specs.declared.internal.ValidateRefusal.TheVariants.{Invalid, M
 use Rattle.iddqd.specs.declared.internal.ValidationError.{ValidationError}
 use Rattle.iddqd.specs.declared.internal.ValidationError.TheVariants.{Table}
 use Rattle.iddqd.specs.Store.{Store}
-use Rattle.iddqd_by_hash.specs.Scan.{IsLive}
+use Rattle.iddqd_keys.specs.Scan.{IsLive}
 
 -- what a table was answered, told with its name
 abbrev pub named :

@@ -3,7 +3,7 @@ use crate::driver::hashers::Constant;
 use crate::driver::script::{assert_answer, halves, ix, printed, words};
 use iddqd::hash_builder::DefaultHashBuilder;
 use iddqd::item_index::ItemIndex;
-use iddqd_by_hash::key_of::ByKey;
+use iddqd_keys::key_of::ByKey;
 use iddqd_tri::tri_item::TriItem;
 use iddqd_tri::tri_items::TriItems;
 use iddqd_tri::tri_refusal::TriRefusal;

@@ -2,8 +2,8 @@
 pub use Rattle.iddqd.specs.Store
 pub use Rattle.iddqd.specs.Compaction
 pub use Rattle.iddqd_order.specs.Iter
-pub use Rattle.iddqd_by_hash.specs.Scan
-pub use Rattle.iddqd_by_hash.specs.Side
+pub use Rattle.iddqd_keys.specs.Scan
+pub use Rattle.iddqd_keys.specs.Side
 pub use Rattle.iddqd_by_hash.specs.Hashed
 pub use Rattle.iddqd_driver.specs.Keys
 pub use Rattle.iddqd_driver.specs.State
@@ -32,9 +32,9 @@ pub use Rattle.iddqd_lines.specs.Stream
 pub use Rattle.iddqd.specs.Store.{get, live_count, next_index, IsFull}
 pub use Rattle.iddqd.specs.Compaction.{rank, IsRemapOf}
 pub use Rattle.iddqd_order.specs.Iter.{indexes_left}
-pub use Rattle.iddqd_by_hash.specs.Scan.{IsLive, AnswersScan}
+pub use Rattle.iddqd_keys.specs.Scan.{IsLive, AnswersScan}
 pub use Rattle.iddqd_by_order.specs.OrderedWalk.{WalksWithin, pairs_at}
-pub use Rattle.iddqd_by_hash.specs.KeyKeeping.{KeepsKey, ModifiesItem, pair_keys}
+pub use Rattle.iddqd_keys.specs.KeyKeeping.{KeepsKey, ModifiesItem, pair_keys}
 pub use Rattle.iddqd_driver.specs.Keys.{keys_of}
 pub use Rattle.iddqd_driver.specs.State.{empty_state, empty_state_within, cleared_state, unbound, Compacts, IsPaired}
 pub use Rattle.iddqd_driver.specs.Sides.{hash_in, has, first_side, second_side, IsExact, LooksUp, AsScan}

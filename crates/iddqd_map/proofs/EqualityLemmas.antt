@@ -8,7 +8,7 @@ use Rattle.std.proofs.lemmas.List.Folds.{list_all-append, list_any-append}
 use Rattle.iddqd.specs.Store.{Store, get, live_count}
 use Rattle.iddqd.specs.LiveItems.{items_in, live_items}
 use Rattle.iddqd.proofs.LiveItemLemmas.{length-items_in}
-use Rattle.iddqd_by_hash.specs.Scan.{IsLive, HasNoHit, AnswersScan, AreApart}
+use Rattle.iddqd_keys.specs.Scan.{IsLive, HasNoHit, AnswersScan, AreApart}
 use Rattle.iddqd_map.specs.Map.{FindsItem}
 use Rattle.iddqd_map.specs.Equality.{each_among, has_same_items}
 use Rattle.iddqd_map.specs.EqualityLaws.{both_true, or_true, or_cases, same_laws}

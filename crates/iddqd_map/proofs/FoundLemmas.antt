@@ -5,7 +5,7 @@ use Rattle.std.specs.Fn.{Once}
 use Rattle.std.specs.Option.{IfSome}
 use Rattle.iddqd.proofs.LiveLemmas.{live_at}
 use Rattle.iddqd.specs.Store.{Store, get}
-use Rattle.iddqd_by_hash.specs.Scan.{IsLive, HasNoHit, AnswersScan}
+use Rattle.iddqd_keys.specs.Scan.{IsLive, HasNoHit, AnswersScan}
 use Rattle.iddqd_map.specs.Map.{MapState, FindsItem}
 use Rattle.iddqd_map.specs.Calls.{MayChange}
 use Rattle.iddqd_map.specs.Modify.{ModifiesAt, Modifies}

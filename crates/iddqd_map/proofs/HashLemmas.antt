@@ -9,7 +9,7 @@ use Rattle.iddqd.specs.Store.{Store, get}
 use Rattle.iddqd_hash.specs.HashTable.{Table, entries, room, capacity}
 use Rattle.iddqd_hash.specs.MapHashTable.{filed, turned}
 use Rattle.iddqd_hash.proofs.MemberLemmas.{get-insert_at}
-use Rattle.iddqd_by_hash.specs.Scan.{AnswersScan}
+use Rattle.iddqd_keys.specs.Scan.{AnswersScan}
 use Rattle.iddqd_by_hash.specs.Hashed.{Hashing, IsLawful, Takes}
 use Rattle.iddqd_by_hash.specs.declared.hashed_move.Move.{Move}
 use Rattle.iddqd_by_hash.specs.declared.hashed_move.Move.TheVariants.{Stays, To}

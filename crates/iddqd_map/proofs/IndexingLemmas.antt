@@ -12,7 +12,7 @@ use Rattle.iddqd.specs.Compaction.{compacted, rank}
 use Rattle.iddqd.proofs.LiveLemmas.{live_at}
 use Rattle.iddqd_hash.specs.MapHashTable.{Renames}
 use Rattle.iddqd_hash.proofs.MemberLemmas.{get-insert_at, get-insert_other, get-remove_other}
-use Rattle.iddqd_by_hash.specs.Scan.{IsLive, IsHit, HasNoHit, AreApart}
+use Rattle.iddqd_keys.specs.Scan.{IsLive, IsHit, HasNoHit, AreApart}
 use Rattle.iddqd_by_hash.specs.Hashed.{Hashing, hashing_of, IsLawful, StandsForOne, IsInPlace}
 use Rattle.iddqd_by_hash.specs.HashedMove.{moved}
 use Rattle.iddqd_map.specs.Indexing.{Indexes, shares_key, Plans}
@@ -20,7 +20,7 @@ use Rattle.iddqd_by_hash.specs.declared.hashed_move.Move.{Move}
 use Rattle.iddqd_by_hash.specs.declared.hashed_move.Move.TheVariants.{Stays, To}
 use Rattle.iddqd_by_hash.proofs.HoldsLemmas.{Holds-empty, Holds-cleared, Holds-removed, Holds-inserted, Holds-compacted, Holds-rebound}
 use Rattle.iddqd_by_hash.proofs.PlaceLemmas.{IsExact-empty, IsExact-inserted, Keeps-cleared, Keeps-removed, Keeps-compacted, Keeps-rebound}
-use Rattle.iddqd_by_hash.proofs.ScanLemmas.{rebound_cases, live_rebound}
+use Rattle.iddqd_keys.proofs.ScanLemmas.{rebound_cases, live_rebound}
 
 -- a query that keeps the laws stands for one key, under its hash
 pub StandsForOne-query :

@@ -7,7 +7,7 @@ use Rattle.iddqd.proofs.LiveLemmas.{item_at}
 use Rattle.iddqd.specs.Compaction.{compacted}
 use Rattle.iddqd.specs.Store.{Store, IsFull, IsValid, slot_limit, get, cleared, empty_within, inserted, removed, rebound}
 use Rattle.iddqd.specs.ItemSet.{SizedStore, room as set_room}
-use Rattle.iddqd_by_hash.specs.Scan.{IsLive}
+use Rattle.iddqd_keys.specs.Scan.{IsLive}
 use Rattle.iddqd_map.specs.KeyIndex.{IsIndexed, IndexesNone}
 
 module _ {S T : Type 0} (new : S → Store T → Type 0) (state : S) where

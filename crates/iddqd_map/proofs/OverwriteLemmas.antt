@@ -7,8 +7,8 @@ use Rattle.std.specs.List.{Contains}
 use Rattle.iddqd.specs.Store.{Store, get, next_index, inserted, removed}
 use Rattle.iddqd.proofs.LiveLemmas.{item_at, get-removed_other}
 use Rattle.iddqd.proofs.StoreLemmas.{contains_head, contains_tail, contains_cases, contains_none}
-use Rattle.iddqd_by_hash.specs.Scan.{IsLive, IsHit, HasNoHit}
-use Rattle.iddqd_by_hash.proofs.ScanLemmas.{live_before}
+use Rattle.iddqd_keys.specs.Scan.{IsLive, IsHit, HasNoHit}
+use Rattle.iddqd_keys.proofs.ScanLemmas.{live_before}
 use Rattle.iddqd_map.specs.Map.{MapState, MapMemory}
 use Rattle.iddqd_map.specs.Memory.{MakesRoom}
 use Rattle.iddqd_map.specs.Calls.{InsertsAt, OverwritesAt}

@@ -3,7 +3,7 @@ use Rattle.std.proofs.Common.{◌≡◌, ℕ, Bool, Option, Some, None, refl, ap
 use Rattle.std.specs.Option.{OnSome}
 use Rattle.iddqd.specs.Store.{Store, IsValid, get, removed}
 use Rattle.iddqd.specs.ItemSet.{SizedStore}
-use Rattle.iddqd_by_hash.specs.Scan.{HasNoHit, AnswersScan}
+use Rattle.iddqd_keys.specs.Scan.{HasNoHit, AnswersScan}
 use Rattle.iddqd_map.specs.KeyIndex.{IsIndexed}
 use Rattle.iddqd_map.specs.Map.{Removes, map_with}
 use Rattle.iddqd_map.proofs.MapLemmas.{IsIndexed-removed, set_left}

@@ -5,7 +5,7 @@ use Rattle.std.specs.Fn.{Once}
 use Rattle.std.specs.List.{Contains}
 use Rattle.iddqd.specs.Store.{Store, IsFull, get, live_count, next_index, inserted, rebound}
 use Rattle.iddqd.specs.Compaction.{compacted}
-use Rattle.iddqd_by_hash.specs.Scan.{IsLive, IsHit, HasNoHit, AnswersScan}
+use Rattle.iddqd_keys.specs.Scan.{IsLive, IsHit, HasNoHit, AnswersScan}
 use Rattle.iddqd_map.specs.Map.{MapState, FindsItem, room}
 use Rattle.iddqd_map.specs.Memory.{MakesRoom}
 use Rattle.iddqd_map.specs.Several.{IsRising, padded, removed_all, HasNoOther}

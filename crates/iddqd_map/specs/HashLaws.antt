@@ -10,7 +10,7 @@ use Rattle.std.specs.Ordering.{nat_cmp}
 use Rattle.std.specs.FinMap.{FinMap}
 use Rattle.iddqd.specs.Store.{Store, get, rebound}
 use Rattle.iddqd.proofs.LiveLemmas.{item_at, live_at}
-use Rattle.iddqd_by_hash.specs.Scan.{IsHit, AnswersScan}
+use Rattle.iddqd_keys.specs.Scan.{IsHit, AnswersScan}
 use Rattle.iddqd_by_hash.specs.Hashed.{Hashing, hashing_of, IsLawful}
 use Rattle.iddqd_by_hash.proofs.FindLemmas.{IsLawful-from_bounds}
 use Rattle.iddqd_by_hash.proofs.HoldsLemmas.{Holds-rebound}

@@ -3,7 +3,7 @@ use Rattle.std.specs.Prelude.{◌≡◌, ◌<◌, ℕ, Bool, true, not, Option, 
 use Rattle.iddqd.specs.Store.{Store, IsValid, IsFull, empty_within, get, next_index, inserted, removed}
 use Rattle.iddqd.specs.Compaction.{compacted, IsRemapOf}
 use Rattle.iddqd.specs.declared.index_remap.IndexRemap.{IndexRemap}
-use Rattle.iddqd_by_hash.specs.Scan.{HasNoHit}
+use Rattle.iddqd_keys.specs.Scan.{HasNoHit}
 use Rattle.iddqd_map.specs.Several.{HasNoOther}
 
 -- `old state s` says that what there was indexes the store under the state, and `new state s` that what there is now does

@@ -3,7 +3,7 @@ use Rattle.std.specs.Prelude.{◌≡◌, ◌≤◌, ◌↔◌, ℕ, Bool, List, 
 use Rattle.std.proofs.Common.{refl}
 use Rattle.std.specs.List.{Contains}
 use Rattle.iddqd.specs.Store.{Store}
-use Rattle.iddqd_by_hash.specs.Scan.{IsHit}
+use Rattle.iddqd_keys.specs.Scan.{IsHit}
 use Rattle.iddqd_map.specs.HashLaws.{reported_one, few_one}
 use Rattle.iddqd_map.specs.OneKey.{IsReported}
 use Rattle.iddqd_map.specs.PairConflict.{ReportBoth, IsReportedBy, IsEither, first_of, second_of, both_of}

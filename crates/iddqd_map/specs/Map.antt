@@ -3,7 +3,7 @@ use Rattle.std.specs.Prelude.{◌≡◌, ◌-◌, ℕ, Bool, Option, Some, None,
 use Rattle.std.specs.Coded.{Coded, code_by, coded×, coded_ℕ}
 use Rattle.iddqd.specs.Store.{Store, store_code, IsValid, empty_within, get, live_count, removed}
 use Rattle.iddqd.specs.ItemSet.{SizedStore}
-use Rattle.iddqd_by_hash.specs.Scan.{HasNoHit, AnswersScan, AreApart}
+use Rattle.iddqd_keys.specs.Scan.{HasNoHit, AnswersScan, AreApart}
 
 -- How many slots the memory of the store holds, how many indexes each table can hold without more memory, and how much
 -- memory the tables hold in all, in cells.

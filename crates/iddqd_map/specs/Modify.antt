@@ -3,8 +3,8 @@ use Rattle.std.specs.Prelude.{◌≡◌, ℕ, Bool, true, Option, Some, None}
 use Rattle.std.specs.Borrow.{MutBor}
 use Rattle.std.specs.Fn.{Once}
 use Rattle.iddqd.specs.Store.{get}
-use Rattle.iddqd_by_hash.specs.Scan.{HasNoHit}
-use Rattle.iddqd_by_hash.specs.KeyKeeping.{ModifiesItem}
+use Rattle.iddqd_keys.specs.Scan.{HasNoHit}
+use Rattle.iddqd_keys.specs.KeyKeeping.{ModifiesItem}
 use Rattle.iddqd_map.specs.Map.{MapState, IsOnly}
 
 module _ {F T R : Type 0} (g : Once F (MutBor T × Unit {0}) (R × (MutBor T × Unit {0}))) (f : F) where

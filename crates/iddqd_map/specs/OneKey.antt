@@ -1,7 +1,7 @@
 -- What calls report and do where items have one key.
 use Rattle.std.specs.Prelude.{◌≡◌, ◌≢◌, ℕ, Bool, Option, Some, None, Result, Ok, Err}
 use Rattle.iddqd.specs.Store.{Store, rebound}
-use Rattle.iddqd_by_hash.specs.Scan.{AnswersScan}
+use Rattle.iddqd_keys.specs.Scan.{AnswersScan}
 use Rattle.iddqd_map.specs.Map.{MapState, IsOnly}
 use Rattle.iddqd_map.specs.Calls.{InsertsAt, RefusesFull, RefusesMemory}
 use Rattle.iddqd_map.specs.declared.refusal.OverwriteRefusal.{OverwriteRefusal}

@@ -1,7 +1,7 @@
 -- What the two key indexes of a pair report of an item that shares keys with others.
 use Rattle.std.specs.Prelude.{◌⊎◌, ℕ, Bool, Option, Some, None, IsSome, min}
 use Rattle.iddqd.specs.Store.{Store}
-use Rattle.iddqd_by_hash.specs.Scan.{HasNoHit}
+use Rattle.iddqd_keys.specs.Scan.{HasNoHit}
 use Rattle.iddqd_map.specs.Several.{HasNoOther}
 use Rattle.iddqd_map.specs.declared.pair_conflict.PairConflict.{PairConflict}
 use Rattle.iddqd_map.specs.declared.pair_conflict.PairConflict.TheVariants.{First, Second, Both}

@@ -6,7 +6,7 @@ use Rattle.std.proofs.lemmas.List.Elements.{Contains-append_left, Contains-appen
 use Rattle.std.proofs.lemmas.List.{length-append}
 use Rattle.std.proofs.lemmas.Bool.{cases_lt}
 use Rattle.iddqd.specs.Store.{Store, get}
-use Rattle.iddqd_by_hash.specs.Scan.{IsHit, HasNoHit, AnswersScan, AreApart}
+use Rattle.iddqd_keys.specs.Scan.{IsHit, HasNoHit, AnswersScan, AreApart}
 use Rattle.iddqd_map.specs.KeyIndex.{HaveSameKeys, IsNextReported}
 use Rattle.iddqd_map.specs.PairConflict.{Reports, ReportBoth, IsReportedBy, IsEither, lesser_of}
 use Rattle.iddqd_map.specs.Several.{either_key, both_keys, HasNoOther}

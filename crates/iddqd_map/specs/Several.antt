@@ -2,7 +2,7 @@
 use Rattle.std.specs.Prelude.{◌≡◌, ◌≢◌, ◌<◌, ◌&&◌, ◌||◌, ℕ, zero, suc, Bool, List, [], ◌∷◌, Option, Some, None}
 use Rattle.std.specs.List.{Contains}
 use Rattle.iddqd.specs.Store.{Store, removed}
-use Rattle.iddqd_by_hash.specs.Scan.{IsHit, AnswersScan}
+use Rattle.iddqd_keys.specs.Scan.{IsHit, AnswersScan}
 
 -- the items share one of two keys, or one of more where these tests are such
 abbrev pub either_key : {T : Type 0} → (T → T → Bool) → (T → T → Bool) → T → T → Bool

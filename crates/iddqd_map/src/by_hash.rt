@@ -11,7 +11,7 @@
 //! hashes and indexes alone.
 ghost use Rattle.std.specs.Prelude.{◌≡◌};
 ghost use Rattle.iddqd_hash.specs.{filed};
-ghost use Rattle.iddqd_by_hash.specs.Scan.{AnswersScan, passes_by};
+ghost use Rattle.iddqd_keys.specs.Scan.{AnswersScan, passes_by};
 ghost use Rattle.iddqd_by_hash.specs.Hashed.{hashing_of};
 ghost use Rattle.iddqd_map.specs.Indexing.{Indexes};
 
@@ -29,8 +29,8 @@ use iddqd::map_hash::MapHash;
 use iddqd_hash::hash_table::MapHashTable;
 use iddqd_by_hash::hashed::{hash_of, query_hash};
 use iddqd_by_hash::hashed_move::Move;
-use iddqd_by_hash::key_of::KeyOf;
-use iddqd_by_hash::query::HashQuery;
+use iddqd_keys::key_of::KeyOf;
+use iddqd_keys::query::HashQuery;
 use std::alloc::{AllocError, Global};
 use std::hash::{BuildHasher, Hash};
 use std::marker::PhantomData;

@@ -1,7 +1,7 @@
 //! What has to become of a live index that is given an item that may have another key: by one look-up of
 //! the new key, and none where the key stays.
 ghost use Rattle.iddqd_hash.specs.{filed};
-ghost use Rattle.iddqd_by_hash.specs.Scan.{IsLive};
+ghost use Rattle.iddqd_keys.specs.Scan.{IsLive};
 ghost use Rattle.iddqd_by_hash.specs.Hashed.{hashing_of};
 ghost use Rattle.iddqd_map.specs.Indexing.{Indexes, PlansOrConflicts};
 
@@ -10,7 +10,7 @@ use iddqd::item_set::ItemSet;
 use iddqd_hash::hash_table::MapHashTable;
 use iddqd_by_hash::hashed::{self, hash_of};
 use iddqd_by_hash::hashed_move::Move;
-use iddqd_by_hash::key_of::{ByKey, KeyOf, key_at};
+use iddqd_keys::key_of::{ByKey, KeyOf, key_at};
 use std::hash::{BuildHasher, Hash};
 
 /// What has to become of a live index that is given this item; or the index of another item that has

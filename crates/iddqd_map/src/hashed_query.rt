@@ -6,7 +6,7 @@ ghost use Rattle.std.specs.Prelude.{◌≡◌};
 ghost use Rattle.iddqd.specs.{hash_one};
 ghost use Rattle.iddqd_hash.specs.{filed};
 ghost use Rattle.iddqd_hash.specs.HashTable.{KeepsMemory};
-ghost use Rattle.iddqd_by_hash.specs.Scan.{AnswersScan, passes_by};
+ghost use Rattle.iddqd_keys.specs.Scan.{AnswersScan, passes_by};
 ghost use Rattle.iddqd_by_hash.specs.Hashed.{hashing_of, Takes};
 ghost use Rattle.iddqd_map.specs.Indexing.{Indexes};
 
@@ -15,8 +15,8 @@ use iddqd::item_set::ItemSet;
 use iddqd::map_hash::MapHash;
 use iddqd_hash::hash_table::MapHashTable;
 use iddqd_by_hash::hashed::{self, query_hash};
-use iddqd_by_hash::key_of::KeyOf;
-use iddqd_by_hash::query::{Asked, HashQuery};
+use iddqd_keys::key_of::KeyOf;
+use iddqd_keys::query::{Asked, HashQuery};
 use std::hash::{BuildHasher, Hash};
 
 /// The index of the item that has the key for which the query stands, whose hash was computed before.

@@ -4,8 +4,8 @@
 ghost use Rattle.std.specs.Prelude.{◌≡◌, ◌↔◌, false, Some, Ok, option_copied};
 ghost use Rattle.std.specs.Fn.{FnOnceReturnsAt};
 ghost use Rattle.iddqd_hash.specs.Sizes.{most_cells};
-ghost use Rattle.iddqd_by_hash.specs.Scan.{HasNoHit, AnswersScan, passes_by};
-ghost use Rattle.iddqd_by_hash.specs.KeyKeeping.{KeepsKey};
+ghost use Rattle.iddqd_keys.specs.Scan.{HasNoHit, AnswersScan, passes_by};
+ghost use Rattle.iddqd_keys.specs.KeyKeeping.{KeepsKey};
 ghost use Rattle.iddqd_map.specs.Map.{shares, FindsItem, Removes};
 ghost use Rattle.iddqd_map.specs.Calls.{MayChange, Replaces, Changes};
 ghost use Rattle.iddqd_map.specs.Modify.{Modifies};
@@ -22,7 +22,7 @@ use crate::refusal::{InsertRefusal, OverwriteRefusal, ReplaceRefusal};
 pub use clones::IdHashClone;
 use iddqd::hash_builder::DefaultHashBuilder;
 use iddqd::item_index::ItemIndex;
-use iddqd_by_hash::query::HashQuery;
+use iddqd_keys::query::HashQuery;
 pub use item::{IdHashItem, ItsKey};
 use std::hash::BuildHasher;
 

@@ -9,14 +9,14 @@
 //! memory.
 ghost use Rattle.std.specs.Prelude.{◌≡◌, ◌≢◌, ◌≤◌, ◌+◌, ◌<◌, true, false, min, max, length, IsOk, IfOk, OnOk, OnErr};
 ghost use Rattle.iddqd.specs.{next_index, removed, rebound, sentinel, live_count, IsValid, Allows, Validates};
-ghost use Rattle.iddqd_by_hash.specs.Scan.{AnswersScan, IsLive, HasNoHit, passes_by};
+ghost use Rattle.iddqd_keys.specs.Scan.{AnswersScan, IsLive, HasNoHit, passes_by};
 ghost use Rattle.iddqd_map.specs.KeyIndex.{IndexesNone, IsNextOf, IsPlannedForOne, IndexesOneMore, IsRemapOfSome, IndexesCompacted, IndexesAllOf, IsNextReported, FindsSpot, PlansMove, TakesFound};
 
 use iddqd::index_remap::IndexRemap;
 use iddqd::internal::{ValidateCompact, ValidateRefusal, ValidationError};
 use iddqd::item_index::ItemIndex;
 use iddqd::item_set::ItemSet;
-use iddqd_by_hash::query::HashQuery;
+use iddqd_keys::query::HashQuery;
 use std::alloc::{AllocError, Global};
 use std::hash::Hash;
 use std::marker::PhantomData;
@@ -31,7 +31,7 @@ pub trait KeyIndex<T, S>: Sized + Drop {
     ghost use Rattle.std.specs.List.{Contains};
     ghost use Rattle.std.specs.Cmp.{IsEquivalence};
     ghost use Rattle.iddqd.specs.Store.{Store, get};
-    ghost use Rattle.iddqd_by_hash.specs.Scan.{AreApart, IsHit};
+    ghost use Rattle.iddqd_keys.specs.Scan.{AreApart, IsHit};
     ghost use Rattle.iddqd_map.specs.KeyIndex.{HaveSameKeys};
 
     /// The items that an item is alike to: at least one.

@@ -5,7 +5,7 @@ ghost use Rattle.iddqd.specs.Validation.{AreAsExpected};
 ghost use Rattle.iddqd.specs.{Validates};
 ghost use Rattle.iddqd_hash.specs.{filed, indexes_of};
 ghost use Rattle.iddqd_hash.specs.HashTable.{room, KeepsMemory};
-ghost use Rattle.iddqd_by_hash.specs.Scan.{IsLive, AnswersScan};
+ghost use Rattle.iddqd_keys.specs.Scan.{IsLive, AnswersScan};
 ghost use Rattle.iddqd_by_hash.specs.Hashed.{hashing_of};
 ghost use Rattle.iddqd_by_hash.specs.HashedMove.{IfStays, moved};
 ghost use Rattle.iddqd_map.specs.Indexing.{Indexes};
@@ -20,7 +20,7 @@ use iddqd::map_hash::MapHash;
 use iddqd_hash::hash_table::MapHashTable;
 use iddqd_by_hash::hashed::{hash_of, take_index};
 use iddqd_by_hash::hashed_move::{Move, commit_move};
-use iddqd_by_hash::key_of::KeyOf;
+use iddqd_keys::key_of::KeyOf;
 use std::hash::{BuildHasher, Hash};
 
 /// The index of the item that has this key of an item, whose hash was computed before.

@@ -16,7 +16,7 @@ use iddqd::index_remap::IndexRemap;
 use iddqd::internal::{ValidateCompact, ValidateRefusal, ValidationError};
 use iddqd::item_index::ItemIndex;
 use iddqd::item_set::ItemSet;
-use iddqd_by_hash::query::HashQuery;
+use iddqd_keys::query::HashQuery;
 use std::alloc::{AllocError, Global};
 use std::marker::PhantomData;
 

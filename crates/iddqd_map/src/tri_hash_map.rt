@@ -5,8 +5,8 @@
 ghost use Rattle.std.specs.Prelude.{◌≡◌, ◌+◌, ◌↔◌, false, option_copied};
 ghost use Rattle.std.specs.Fn.{FnOnceReturnsAt};
 ghost use Rattle.iddqd_hash.specs.Sizes.{most_cells};
-ghost use Rattle.iddqd_by_hash.specs.Scan.{HasNoHit, AnswersScan, passes_by};
-ghost use Rattle.iddqd_by_hash.specs.KeyKeeping.{KeepsKey, pair_keys};
+ghost use Rattle.iddqd_keys.specs.Scan.{HasNoHit, AnswersScan, passes_by};
+ghost use Rattle.iddqd_keys.specs.KeyKeeping.{KeepsKey, pair_keys};
 ghost use Rattle.iddqd_map.specs.Map.{shares, FindsItem, Removes};
 ghost use Rattle.iddqd_map.specs.Calls.{MayChange, Overwrites, Replaces, Changes};
 ghost use Rattle.iddqd_map.specs.Modify.{Modifies};
@@ -25,7 +25,7 @@ pub use clones::TriHashClone;
 pub use index::TriIndex;
 use iddqd::hash_builder::DefaultHashBuilder;
 use iddqd::item_index::ItemIndex;
-use iddqd_by_hash::query::HashQuery;
+use iddqd_keys::query::HashQuery;
 pub use item::{First, Second, Third, TriHashItem};
 use std::hash::BuildHasher;
 

@@ -7,8 +7,8 @@ use Rattle.std.specs.Fn.{Once, FnOnceReturnsAtMut}
 use Rattle.std.specs.List.{count_by}
 use Rattle.std.proofs.lemmas.List.Sums.{sum_by-cons}
 use Rattle.iddqd.specs.Store.{Store, get, live_count, removed}
-use Rattle.iddqd_by_hash.specs.Scan.{HasNoHit, AnswersScan}
-use Rattle.iddqd_by_hash.proofs.ScanLemmas.{HasNoHit-hit_removed}
+use Rattle.iddqd_keys.specs.Scan.{HasNoHit, AnswersScan}
+use Rattle.iddqd_keys.proofs.ScanLemmas.{HasNoHit-hit_removed}
 use Rattle.iddqd_map.specs.Map.{MapState, FindsItem, Removes}
 use Rattle.iddqd_map.specs.Several.{removed_all}
 use Rattle.iddqd_map.specs.Retain.{Retains, refused_of}

@@ -1,5 +1,5 @@
 -- lemmas that callers' proofs cite, from one place
-pub use Rattle.iddqd_by_hash.proofs.ScanLemmas
+pub use Rattle.iddqd_keys.proofs.ScanLemmas
 pub mod CallerLemmas
 pub mod KeyLemmas
 pub mod RetainedLemmas

@@ -4,8 +4,8 @@ pub use Rattle.iddqd.specs.LiveItems
 pub use Rattle.iddqd.specs.Sizes
 pub use Rattle.iddqd.specs.Compaction
 pub use Rattle.iddqd.specs.Validation
-pub use Rattle.iddqd_by_hash.specs.Scan
-pub use Rattle.iddqd_by_hash.specs.KeyKeeping
+pub use Rattle.iddqd_keys.specs.Scan
+pub use Rattle.iddqd_keys.specs.KeyKeeping
 pub use Rattle.iddqd_map.specs.Map
 pub use Rattle.iddqd_map.specs.Memory
 pub use Rattle.iddqd_map.specs.Calls

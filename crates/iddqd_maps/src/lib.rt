@@ -24,5 +24,5 @@ pub use iddqd_map::{
     refusal as refusal, tri_hash_map as tri_hash_map,
 };
 pub use iddqd_ord_map::{by_order as by_order, id_ord_map as id_ord_map};
-pub use iddqd_by_hash::{key_of as key_of, query as query};
-pub use iddqd_by_order::order_query as order_query;
+pub use iddqd_keys::{key_of as key_of, query as query};
+pub use iddqd_keys::order_query as order_query;

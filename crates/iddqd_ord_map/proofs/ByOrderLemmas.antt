@@ -11,8 +11,8 @@ use Rattle.iddqd_order.specs.Search.{IsSteady}
 use Rattle.iddqd_order.specs.declared.btree_table.asking.Asking.{Asking}
 use Rattle.iddqd_order.specs.declared.btree_table.gap.Gap.{Gap}
 use Rattle.iddqd_by_order.specs.Ordered.{IsSortedScan, Takes}
-use Rattle.iddqd_by_order.specs.OrderedQuery.{IsQuery-key}
-use Rattle.iddqd_by_hash.specs.Scan.{AnswersScan}
+use Rattle.iddqd_keys.specs.OrderedQuery.{IsQuery-key}
+use Rattle.iddqd_keys.specs.Scan.{AnswersScan}
 use Rattle.iddqd_by_order.proofs.OrderedFindLemmas.{answer, LooksUp-stored, IsVacantAt-placed}
 use Rattle.iddqd_map.specs.KeyIndex.{PlansMove, TakesFound}
 use Rattle.iddqd_map.specs.Map.{shares}

@@ -1,7 +1,7 @@
 -- What a call at the index that a look-up found is by the key.
 use Rattle.std.proofs.Common.{◌≡◌, ℕ, Bool, Some, Result, Ok, Err, true, refl, sym, ◌∙◌}
 use Rattle.iddqd.specs.Store.{get, rebound}
-use Rattle.iddqd_by_hash.specs.Scan.{AnswersScan}
+use Rattle.iddqd_keys.specs.Scan.{AnswersScan}
 use Rattle.iddqd_map.specs.Calls.{ReplacesAt, ReplacesIfLive, Replaces}
 use Rattle.iddqd_map.specs.Map.{MapState, IsOnly}
 use Rattle.iddqd_map.specs.declared.refusal.ReplaceRefusal.{ReplaceRefusal}

@@ -14,7 +14,7 @@ use Rattle.std.proofs.lemmas.Option.{get_or_from_slice_get, slice_get_within, sl
 use Rattle.iddqd.specs.Store.{Store, get}
 use Rattle.iddqd.proofs.LiveLemmas.{item_at, live_at}
 use Rattle.iddqd_order.specs.KeyOrder.{key_then_index}
-use Rattle.iddqd_by_hash.specs.Scan.{IsLive}
+use Rattle.iddqd_keys.specs.Scan.{IsLive}
 use Rattle.iddqd_by_order.specs.Ordered.{Holds, IsInPlace, key_at, HasLeastKey, HasGreatestKey}
 
 -- of two in order, the first hasn't the greater key

@@ -4,12 +4,12 @@ use Rattle.std.specs.Cmp.{IsTotalOrder, eq_by_cmp_equiv}
 use Rattle.iddqd.specs.Store.{Store, IsValid, empty_within, cleared, get, inserted, removed}
 use Rattle.iddqd.specs.Compaction.{compacted, rank}
 use Rattle.iddqd_order.specs.MapBTreeTable.{without}
-use Rattle.iddqd_by_hash.specs.Scan.{HasNoHit}
+use Rattle.iddqd_keys.specs.Scan.{HasNoHit}
 use Rattle.iddqd_by_order.specs.Ordered.{AddsInPlace}
 use Rattle.iddqd_ord_map.specs.OrderedIndexing.{Sorts, has_key}
 use Rattle.iddqd_by_order.proofs.OrderedHoldsLemmas.{Holds-empty, Holds-cleared, Holds-removed, Holds-inserted, Holds-compacted}
 use Rattle.iddqd_by_order.proofs.OrderedPlaceLemmas.{IsExact-empty, Keeps-cleared, Keeps-removed, Keeps-compacted}
-use Rattle.iddqd_by_hash.proofs.ScanLemmas.{AreApart-inserted}
+use Rattle.iddqd_keys.proofs.ScanLemmas.{AreApart-inserted}
 
 module _ {T K : Type 0} (key_of : T → K) (compare : K → K → Ordering) where
   pub Sorts-empty : (limit : ℕ) → Sorts key_of compare (empty_within limit) []

@@ -21,11 +21,11 @@ use Rattle.iddqd_order.specs.declared.btree_table.asking.Asking.{Asking}
 use Rattle.iddqd_order.proofs.IndexListLemmas.{IsDistinct-insert, IsDistinct-filter}
 use Rattle.iddqd_order.proofs.KeyOrderLemmas.{key_then_index-total, with_ties-key, IsRising-from_sorted, IsStrictlySortedBy-insert}
 use Rattle.iddqd_order.proofs.MemberLemmas.{contains-inserted_at, contains-inserted_other, contains-inserted_cases, contains-without, contains-from_without}
-use Rattle.iddqd_by_hash.specs.Scan.{IsLive, IsHit, HasNoHit, AreApart}
+use Rattle.iddqd_keys.specs.Scan.{IsLive, IsHit, HasNoHit, AreApart}
 use Rattle.iddqd_by_order.specs.Ordered.{IsInPlace, compared, key_at}
 use Rattle.iddqd_ord_map.specs.OrderedIndexing.{Sorts, has_key}
 use Rattle.iddqd_by_order.proofs.OrderedPlaceLemmas.{IsInPlace-alike}
-use Rattle.iddqd_by_hash.proofs.ScanLemmas.{rebound_cases, live_rebound}
+use Rattle.iddqd_keys.proofs.ScanLemmas.{rebound_cases, live_rebound}
 
 -- an index that hits is another one than an index whose item doesn't pass
 pub other_hit : {T : Type 0} (s : Store T) (test : T → Bool) (ix at : ℕ) (was : T) → get s ix ≡ Some was → test was ≡ false → IsHit s test at → at ≢ ix

@@ -17,7 +17,7 @@ use Rattle.iddqd_hash.specs.Asks.{CanAsk}
 use Rattle.iddqd_hash.proofs.AskLemmas.{CanAsk-takes, CanAsk-asked}
 use Rattle.iddqd_order.specs.Retain.{Retains}
 use Rattle.iddqd_order.proofs.IndexListLemmas.{IsDistinct-filter}
-use Rattle.iddqd_by_hash.specs.Scan.{IsLive}
+use Rattle.iddqd_keys.specs.Scan.{IsLive}
 use Rattle.iddqd_by_order.specs.Ordered.{AreLive, Holds}
 use Rattle.iddqd_ord_map.specs.OrderedIndexing.{Sorts}
 use Rattle.iddqd_by_order.proofs.OrderedPlaceLemmas.{IsInPlace-alike}

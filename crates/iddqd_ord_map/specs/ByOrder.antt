@@ -5,7 +5,7 @@ use Rattle.iddqd.specs.Store.{Store, live_count}
 use Rattle.iddqd_order.specs.MapBTreeTable.{Order, order_of, capacity, needed_blocks, move_blocks}
 use Rattle.iddqd_order.specs.Gap.{Fits, gap_place, gap_blocks}
 use Rattle.iddqd_order.specs.declared.btree_table.gap.Gap.{Gap}
-use Rattle.iddqd_by_hash.specs.Scan.{HasNoHit, AnswersScan}
+use Rattle.iddqd_keys.specs.Scan.{HasNoHit, AnswersScan}
 use Rattle.iddqd_by_order.specs.Ordered.{IsVacantAt, HasLeastKey, HasGreatestKey}
 use Rattle.iddqd_ord_map.specs.OrderedIndexing.{has_key}
 use Rattle.iddqd_ord_map.specs.declared.ordered_move.Move.{Move}

@@ -12,7 +12,7 @@ use Rattle.iddqd_order.specs.MapBTreeTable.{Order, HasSameTree, order_of}
 use Rattle.iddqd_order.specs.declared.btree_table.gap.Gap.{Gap}
 use Rattle.iddqd_order.proofs.GapLemmas.{order-same, place-same, Fits-same}
 use Rattle.iddqd_by_order.specs.Ordered.{key_at}
-use Rattle.iddqd_by_hash.specs.Scan.{AnswersScan, AreApart, IsHit, IsLive}
+use Rattle.iddqd_keys.specs.Scan.{AnswersScan, AreApart, IsHit, IsLive}
 use Rattle.iddqd_by_order.proofs.OrderedHoldsLemmas.{Holds-rebound}
 use Rattle.iddqd_by_order.proofs.OrderedPlaceLemmas.{IsInPlace-tied, Keeps-rebound}
 use Rattle.iddqd_map.specs.KeyIndex.{HaveSameKeys}

@@ -5,7 +5,7 @@ use Rattle.iddqd_map.specs.Calls.{InsertsAt, RefusesFull, RefusesMemory}
 use Rattle.iddqd_map.specs.Map.{MapState, IsOnly}
 use Rattle.iddqd_map.specs.declared.refusal.OverwriteRefusal.{OverwriteRefusal}
 use Rattle.iddqd_map.specs.declared.refusal.OverwriteRefusal.TheVariants.{Full, Memory}
-use Rattle.iddqd_by_hash.specs.Scan.{AnswersScan}
+use Rattle.iddqd_keys.specs.Scan.{AnswersScan}
 
 module _ {T : Type 0} (alike : T → T → Bool) where
   -- the one item that shares the key with this one is at this index

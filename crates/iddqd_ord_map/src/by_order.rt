@@ -16,9 +16,9 @@ ghost use Rattle.iddqd_order.specs.MapBTreeTable.{order_of};
 ghost use Rattle.iddqd_ord_map.specs.ByOrder.{FindsGreatest, FindsLeast, LooksPlaceUp, waiting};
 ghost use Rattle.iddqd_ord_map.specs.OrderedIndexing.{Sorts};
 ghost use Rattle.iddqd_by_order.specs.Ordered.{is_equal, IsSortedScan};
-ghost use Rattle.iddqd_by_order.specs.OrderedQuery.{is_between};
+ghost use Rattle.iddqd_keys.specs.OrderedQuery.{is_between};
 ghost use Rattle.iddqd_by_order.specs.OrderedWalk.{SortsWithin};
-ghost use Rattle.iddqd_by_hash.specs.Scan.{AnswersScan, IsLive, IsKeyAt, passes_by};
+ghost use Rattle.iddqd_keys.specs.Scan.{AnswersScan, IsLive, IsKeyAt, passes_by};
 
 use crate::ordered_move::{Move, plan_move, relocate};
 use crate::ordered_query::{find_by, range_by, take_by};
@@ -30,8 +30,8 @@ use iddqd_map::key_index::{
     Checks, Inserts, KeyIndex, Moves, Removes, Sizes, TakesQuery,
 };
 use iddqd_order::btree_table::{Asking, Blocks, Gap, Iter, MapBTreeTable, Range};
-use iddqd_by_hash::key_of::{ByKey, KeyOf, key_at};
-use iddqd_by_order::order_query::OrdQuery;
+use iddqd_keys::key_of::{ByKey, KeyOf, key_at};
+use iddqd_keys::order_query::OrdQuery;
 use iddqd_by_order::ordered;
 use iddqd_by_order::ordered::take_index;
 use std::alloc::{AllocError, Global};

@@ -5,13 +5,13 @@
 ghost use Rattle.std.specs.Prelude.{◌≡◌, ◌≤◌};
 ghost use Rattle.iddqd.specs.{rebound};
 ghost use Rattle.iddqd_order.specs.MapBTreeTable.{order_of, capacity, move_blocks};
-ghost use Rattle.iddqd_by_hash.specs.Scan.{HasNoHit, IsLive, IsKeyAt};
+ghost use Rattle.iddqd_keys.specs.Scan.{HasNoHit, IsLive, IsKeyAt};
 ghost use Rattle.iddqd_ord_map.specs.OrderedIndexing.{PlansOrConflicts, Sorts, has_key};
 
 use iddqd::item_index::ItemIndex;
 use iddqd::item_set::ItemSet;
 use iddqd_order::btree_table::{Asking, Blocks, MapBTreeTable};
-use iddqd_by_hash::key_of::{ByKey, KeyOf, key_at};
+use iddqd_keys::key_of::{ByKey, KeyOf, key_at};
 use iddqd_by_order::ordered;
 
 /// What has to become of a live index that is given another item.

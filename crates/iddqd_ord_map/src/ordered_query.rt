@@ -5,17 +5,17 @@
 ghost use Rattle.std.specs.Prelude.{◌≡◌};
 ghost use Rattle.std.specs.Range.Bound.{bound_map};
 ghost use Rattle.iddqd_order.specs.{capacity, indexes_ahead, order_of};
-ghost use Rattle.iddqd_by_hash.specs.Scan.{AnswersScan, passes_by};
+ghost use Rattle.iddqd_keys.specs.Scan.{AnswersScan, passes_by};
 ghost use Rattle.iddqd_by_order.specs.Ordered.{Takes, is_equal};
-ghost use Rattle.iddqd_by_order.specs.OrderedQuery.{is_between};
+ghost use Rattle.iddqd_keys.specs.OrderedQuery.{is_between};
 ghost use Rattle.iddqd_by_order.specs.OrderedWalk.{SortsWithin};
 ghost use Rattle.iddqd_ord_map.specs.OrderedIndexing.{Sorts};
 
 use iddqd::item_index::ItemIndex;
 use iddqd::item_set::ItemSet;
 use iddqd_order::btree_table::{MapBTreeTable, Range};
-use iddqd_by_hash::key_of::KeyOf;
-use iddqd_by_order::order_query::{OrdQuery, Ranked};
+use iddqd_keys::key_of::KeyOf;
+use iddqd_keys::order_query::{OrdQuery, Ranked};
 use iddqd_by_order::ordered;
 use std::ops::Bound;
 

@@ -4,7 +4,7 @@ use Rattle.std.specs.List.{Contains}
 use Rattle.iddqd.specs.Store.{Store, IsValid, get, removed}
 use Rattle.iddqd.proofs.LiveLemmas.{item_at, get-removed_other}
 use Rattle.iddqd.proofs.StoreLemmas.{contains_head, contains_tail, contains_cases, contains_none, IsValid-removed}
-use Rattle.iddqd_by_hash.specs.Scan.{IsLive}
+use Rattle.iddqd_keys.specs.Scan.{IsLive}
 use Rattle.iddqd_tri.specs.Clashes.{IsBefore, IsOneOf, IsOneOfTwo, AreInOrder}
 use Rattle.iddqd_tri.specs.TriState.{IsRising, removed_all}
 

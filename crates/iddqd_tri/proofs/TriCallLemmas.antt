@@ -9,10 +9,10 @@ use Rattle.iddqd.specs.Store.{Store, IsFull, get, next_index, inserted, removed}
 use Rattle.iddqd.specs.ItemSet.{SizedStore}
 use Rattle.iddqd.proofs.LiveLemmas.{live_at}
 use Rattle.iddqd.proofs.StoreLemmas.{contains_head, contains_none}
-use Rattle.iddqd_by_hash.specs.Scan.{IsLive, IsHit, passes_by}
+use Rattle.iddqd_keys.specs.Scan.{IsLive, IsHit, passes_by}
 use Rattle.iddqd_by_hash.specs.Hashed.{IsLawful, IsExact, Finds, LooksUp}
 use Rattle.iddqd_by_hash.proofs.FindLemmas.{StandsForOne-key}
-use Rattle.iddqd_by_hash.proofs.ScanLemmas.{scan_hits}
+use Rattle.iddqd_keys.proofs.ScanLemmas.{scan_hits}
 use Rattle.iddqd_tri.specs.Clashes.{IsOneOf, AreInOrder}
 use Rattle.iddqd_tri.specs.TriKeys.{ItemKey, TriKeys, hashing_in, shares, hashes_in}
 use Rattle.iddqd_tri.specs.TriState.{Maps, TriState, unbound_all, bound, removed_all, maps_without, maps_without_all, maps_with, IsTriState, ClashesAt, HasNoClash, AreClashes}

@@ -6,12 +6,12 @@ use Rattle.std.specs.declared.hash.Hasher as hasher
 use Rattle.std.specs.declared.hash.BuildHasher as builder
 use Rattle.iddqd.specs.Store.{Store, IsValid, IsFull, slot_limit, get, next_index, inserted, removed}
 use Rattle.iddqd.proofs.StoreLemmas.{contains_cases, contains_none, IsValid-empty, IsValid-removed, IsValid-inserted}
-use Rattle.iddqd_by_hash.specs.Scan.{IsHit}
+use Rattle.iddqd_keys.specs.Scan.{IsHit}
 use Rattle.iddqd_by_hash.specs.Hashed.{IsLawful}
 use Rattle.iddqd_by_hash.proofs.FindLemmas.{IsLawful-from_bounds}
 use Rattle.iddqd_by_hash.proofs.HoldsLemmas.{next_unfiled, Holds-empty, Holds-removed, Holds-inserted}
 use Rattle.iddqd_by_hash.proofs.PlaceLemmas.{IsExact-empty, IsExact-inserted, Keeps-removed}
-use Rattle.iddqd_by_hash.proofs.ScanLemmas.{live_before}
+use Rattle.iddqd_keys.proofs.ScanLemmas.{live_before}
 use Rattle.iddqd_tri.specs.TriKeys.{Three, TriKeys, hashing_in, hashes_in, tri_keys_of}
 use Rattle.iddqd_tri.specs.TriState.{Maps, TriState, empty_tri_state, unbound, unbound_all, bound, removed_all, maps_without, maps_with, HoldLive, IsTriState, HasNoClash, AreClashes}
 use Rattle.iddqd_tri.specs.TriTables.{AreUnfiled}

@@ -7,7 +7,7 @@ pub mod TriTables
 pub mod TriCalls
 -- what a caller's clauses cite, from one place: of the crates below, and of this one
 pub use Rattle.iddqd.specs.Store
-pub use Rattle.iddqd_by_hash.specs.Scan
+pub use Rattle.iddqd_keys.specs.Scan
 pub use Rattle.iddqd_by_hash.specs.Hashed
 pub use Rattle.iddqd.specs.Store.{get, live_count, next_index, IsFull}
 pub use Rattle.iddqd_tri.specs.TriKeys.{tri_keys_of, hashing_in, shares}

@@ -1,7 +1,7 @@
 -- What each call of items with three unique keys may answer, and what state it leaves.
 use Rattle.std.specs.Prelude.{◌≡◌, ℕ, suc, zero, Bool, List, [], ◌∷◌, map, Option, Some, None, Result, Ok, Err}
 use Rattle.iddqd.specs.Store.{Store, get, next_index, IsFull}
-use Rattle.iddqd_by_hash.specs.Scan.{IsHit, AnswersScan, passes_by}
+use Rattle.iddqd_keys.specs.Scan.{IsHit, AnswersScan, passes_by}
 use Rattle.iddqd_by_hash.specs.Hashed.{StandsForOne}
 use Rattle.iddqd_tri.specs.TriKeys.{ItemKey, TriKeys, hashing_in}
 use Rattle.iddqd_tri.specs.TriState.{TriState, unbound, unbound_all, bound, HasNoClash, AreClashes}

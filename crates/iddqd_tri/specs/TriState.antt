@@ -6,7 +6,7 @@ use Rattle.std.specs.FinMap as finite
 use Rattle.std.specs.FinMap.{FinMap}
 use Rattle.std.specs.Coded.{Coded, code_by, coded×, coded_ℕ}
 use Rattle.iddqd.specs.Store.{Store, store_code, IsValid, empty_within, next_index, inserted, removed}
-use Rattle.iddqd_by_hash.specs.Scan.{IsHit}
+use Rattle.iddqd_keys.specs.Scan.{IsHit}
 use Rattle.iddqd_by_hash.specs.Hashed.{Holds, IsExact}
 use Rattle.iddqd_tri.specs.TriKeys.{Three, TriKeys, hashing_in, shares, hashes_in}
 

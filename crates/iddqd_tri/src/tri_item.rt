@@ -4,7 +4,7 @@
 //! said once, of any key: users implement [`TriItem`] alone.
 ghost use Rattle.std.specs.Prelude.{◌≡◌};
 
-use iddqd_by_hash::key_of::KeyOf;
+use iddqd_keys::key_of::KeyOf;
 use std::hash::Hash;
 
 /// An item with three keys, each a function of the item's value.

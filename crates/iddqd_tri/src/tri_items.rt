@@ -12,7 +12,7 @@
 //! equation.
 ghost use Rattle.std.specs.Prelude.{◌≡◌, ◌↔◌, ◌+◌, ◌≤◌, ℕ, min, max, IsTrue, IsOk, IfOk, Err, option_copied};
 ghost use Rattle.iddqd.specs.{get, hash_one, slot_count, live_count};
-ghost use Rattle.iddqd_by_hash.specs.Scan.{IsLive};
+ghost use Rattle.iddqd_keys.specs.Scan.{IsLive};
 ghost use Rattle.iddqd_by_hash.specs.Hashed.{AreLive, LooksUp};
 ghost use Rattle.iddqd_hash.specs.{filed};
 ghost use Rattle.iddqd_tri.specs.Clashes.{AreInOrder, IsOneOf};
@@ -32,7 +32,7 @@ use iddqd::item_set::ItemSet;
 use iddqd::map_hash::{Equivalent, MapHash};
 use iddqd_hash::hash_table::MapHashTable;
 use iddqd_by_hash::hashed;
-use iddqd_by_hash::key_of::{ByKey, KeyOf};
+use iddqd_keys::key_of::{ByKey, KeyOf};
 use std::alloc::{AllocError, Global};
 use std::hash::{BuildHasher, Hash};
 use std::marker::Model;

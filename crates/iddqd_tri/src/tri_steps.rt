@@ -6,7 +6,7 @@
 ghost use Rattle.std.specs.Prelude.{◌≡◌, ◌≤◌, ◌+◌, ℕ, [], ◌∷◌, map, Some, None, IsSome, IsOk, IfOk, OnOk, IfErr, OnErr, OnSome, IfSome, IfNone};
 ghost use Rattle.std.specs.Option.{option_and_then};
 ghost use Rattle.iddqd.specs.{get, room, live_count, next_index, inserted, removed, IsFull, IsValid};
-ghost use Rattle.iddqd_by_hash.specs.Scan.{IsLive};
+ghost use Rattle.iddqd_keys.specs.Scan.{IsLive};
 ghost use Rattle.iddqd_tri.specs.Clashes.{AreInOrder, IsOneOf, clashing};
 ghost use Rattle.iddqd_tri.specs.TriState.{maps_without, maps_with, maps_without_all, removed_all, HoldLive};
 ghost use Rattle.iddqd_tri.specs.TriMemory.{SlotsGrow};

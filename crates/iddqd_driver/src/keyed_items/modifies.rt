@@ -2,7 +2,7 @@
 ghost use Rattle.std.specs.Borrow.{MutBor};
 ghost use Rattle.std.specs.Prelude.{◌≡◌, Some};
 ghost use Rattle.iddqd.specs.{get};
-ghost use Rattle.iddqd_by_hash.specs.KeyKeeping.{KeepsKey, pair_keys};
+ghost use Rattle.iddqd_keys.specs.KeyKeeping.{KeepsKey, pair_keys};
 ghost use Rattle.iddqd_driver.specs.Sides.{first_side, second_side, LooksUp, Keeps};
 ghost use Rattle.iddqd_driver.specs.Queries.{GivesFound};
 ghost use Rattle.iddqd_driver.specs.Modify.{ModifiesAt, ModifiesFound};

@@ -11,7 +11,7 @@ ghost use Rattle.iddqd_hash.specs.{filed};
 ghost use Rattle.iddqd_hash.specs.HashTable.{KeepsMemory};
 ghost use Rattle.iddqd_order.specs.{order_of};
 ghost use Rattle.iddqd_order.specs.MapBTreeTable.{capacity as ordered_capacity};
-ghost use Rattle.iddqd_by_hash.specs.Scan.{IsLive, IsKeyAt};
+ghost use Rattle.iddqd_keys.specs.Scan.{IsLive, IsKeyAt};
 ghost use Rattle.iddqd_by_order.specs.Ordered as ordered_side;
 ghost use Rattle.iddqd_by_hash.specs.HashedMove.{moved};
 ghost use Rattle.iddqd_driver.specs.Sides.{Keeps};

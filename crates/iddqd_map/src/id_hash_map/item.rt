@@ -1,7 +1,7 @@
 //! What an item lends as its key.
 ghost use Rattle.std.specs.Prelude.{◌≡◌};
 
-use iddqd_by_hash::key_of::KeyOf;
+use iddqd_keys::key_of::KeyOf;
 use std::hash::Hash;
 
 /// An item with a key, which is a function of the item's value.

@@ -3,8 +3,8 @@
 //! A map with a name of its own has the same calls under the names of its keys.
 ghost use Rattle.std.specs.Prelude.{◌≡◌, ◌↔◌, ◌≤◌, false, option_copied};
 ghost use Rattle.std.specs.Fn.{FnOnceReturnsAt};
-ghost use Rattle.iddqd_by_hash.specs.Scan.{HasNoHit, AnswersScan, passes_by};
-ghost use Rattle.iddqd_by_hash.specs.KeyKeeping.{KeepsKey};
+ghost use Rattle.iddqd_keys.specs.Scan.{HasNoHit, AnswersScan, passes_by};
+ghost use Rattle.iddqd_keys.specs.KeyKeeping.{KeepsKey};
 ghost use Rattle.iddqd_map.specs.Map.{room, FindsItem, Removes};
 ghost use Rattle.iddqd_map.specs.Calls.{MayChange, Replaces, Changes};
 ghost use Rattle.iddqd_map.specs.Modify.{Modifies};
@@ -15,7 +15,7 @@ use super::replaces::replace_found;
 use crate::key_index::{AsksAt, HashedAt, KeyIndex, Moves, TakesAt, TakesQuery};
 use crate::refusal::ReplaceRefusal;
 use iddqd::item_index::ItemIndex;
-use iddqd_by_hash::query::HashQuery;
+use iddqd_keys::query::HashQuery;
 
 impl<T, X: KeyIndex<T, S>, S> Map<T, X, S> {
     /// The index of the item that has the key for which the query stands.

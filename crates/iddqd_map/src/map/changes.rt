@@ -3,7 +3,7 @@ ghost use Rattle.std.specs.Prelude.{◌≡◌, ◌≤◌, Bool, Some, IfSome};
 ghost use Rattle.std.specs.Borrow.{Bor};
 ghost use Rattle.std.specs.Fn.{FnOnceReturnsAt};
 ghost use Rattle.iddqd.specs.{get};
-ghost use Rattle.iddqd_by_hash.specs.Scan.{IsLive, AnswersScan};
+ghost use Rattle.iddqd_keys.specs.Scan.{IsLive, AnswersScan};
 ghost use Rattle.iddqd_map.specs.Map.{map_with, room};
 ghost use Rattle.iddqd_map.specs.Calls.{Changes};
 ghost use Rattle.iddqd_map.specs.KeyIndex.{IsIndexed};

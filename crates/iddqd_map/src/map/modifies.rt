@@ -2,7 +2,7 @@
 ghost use Rattle.std.specs.Prelude.{◌≡◌, ◌≤◌, Some};
 ghost use Rattle.std.specs.Borrow.{MutBor};
 ghost use Rattle.iddqd.specs.{get};
-ghost use Rattle.iddqd_by_hash.specs.KeyKeeping.{KeepsKey};
+ghost use Rattle.iddqd_keys.specs.KeyKeeping.{KeepsKey};
 ghost use Rattle.iddqd_map.specs.Map.{room};
 ghost use Rattle.iddqd_map.specs.Modify.{ModifiesAt};
 

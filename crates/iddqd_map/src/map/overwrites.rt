@@ -4,7 +4,7 @@
 //! item leaves a slot.
 ghost use Rattle.std.specs.Prelude.{◌≡◌, ◌+◌, ◌≤◌, ℕ, [], length};
 ghost use Rattle.iddqd.specs.{get, next_index, inserted, removed, room};
-ghost use Rattle.iddqd_by_hash.specs.Scan.{IsLive, HasNoHit};
+ghost use Rattle.iddqd_keys.specs.Scan.{IsLive, HasNoHit};
 ghost use Rattle.iddqd_map.specs.Map.{map_with};
 ghost use Rattle.iddqd_map.specs.Calls.{OverwritesInto};
 ghost use Rattle.iddqd_map.specs.KeyIndex.{IsIndexed};

@@ -1,6 +1,6 @@
 //! An item becomes another one, which may have other keys.
 ghost use Rattle.std.specs.Prelude.{◌≤◌, Bool, IfSome};
-ghost use Rattle.iddqd_by_hash.specs.Scan.{IsLive, AnswersScan};
+ghost use Rattle.iddqd_keys.specs.Scan.{IsLive, AnswersScan};
 ghost use Rattle.iddqd_map.specs.Map.{map_with, room};
 ghost use Rattle.iddqd_map.specs.Calls.{ReplacesAt, ReplacesIfLive, Replaces};
 ghost use Rattle.iddqd_map.specs.KeyIndex.{IsIndexed};

@@ -1,7 +1,7 @@
 //! What a map's store and its key index do together in one step.
 ghost use Rattle.std.specs.Prelude.{◌≡◌, ◌≢◌, ◌+◌, ◌<◌, ◌≤◌, length, Some, None, slice_get, slice_set};
 ghost use Rattle.iddqd.specs.{get, next_index, inserted, removed, room, sentinel};
-ghost use Rattle.iddqd_by_hash.specs.Scan.{IsLive};
+ghost use Rattle.iddqd_keys.specs.Scan.{IsLive};
 ghost use Rattle.iddqd_map.specs.KeyIndex.{IsIndexed};
 
 use crate::key_index::Removes;

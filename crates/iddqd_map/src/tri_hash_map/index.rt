@@ -15,7 +15,7 @@ use iddqd::item_index::ItemIndex;
 use iddqd::item_set::ItemSet;
 use iddqd::map_hash::MapHash;
 use iddqd_by_hash::hashed_move::Move;
-use iddqd_by_hash::query::HashQuery;
+use iddqd_keys::query::HashQuery;
 use std::alloc::{AllocError, Global};
 use std::hash::BuildHasher;
 
@@ -41,7 +41,7 @@ impl<T: TriHashItem, S: BuildHasher> KeyIndex<T, S> for TriIndex<T> {
     ghost use Rattle.iddqd_map.specs.HashLaws.{shares_laws, Indexes-kept, Indexes-key_kept, Indexes-keys_shared};
     ghost use Rattle.iddqd_map.specs.KeyLaws.{IsOfThree, reported_three, some_three, few_three};
     ghost use Rattle.iddqd_map.specs.PairLaws.{AreApart-either, HaveSameKeys-first, HaveSameKeys-second};
-    ghost use Rattle.iddqd_by_hash.specs.KeyKeeping.{pair_keys};
+    ghost use Rattle.iddqd_keys.specs.KeyKeeping.{pair_keys};
     ghost use Rattle.iddqd_map.specs.Map.{shares};
     ghost use Rattle.iddqd_map.specs.Several.{either_key, both_keys};
     ghost use Rattle.iddqd_map.specs.ThreeKeys.{any_key, all_keys, AreReported, AreTaken};

@@ -5,7 +5,7 @@ ghost use Rattle.std.specs.Prelude.{◌≡◌, ⊤, Some, IfSome, length};
 ghost use Rattle.std.specs.Iterator.{YieldsFirstBy, YieldsLastBy, item_count, at_most, UpTo};
 ghost use Rattle.std.specs.Iterator.SizeHint.{IsWithinCount};
 ghost use Rattle.iddqd.specs.{get};
-ghost use Rattle.iddqd_by_hash.specs.Scan.{IsLive};
+ghost use Rattle.iddqd_keys.specs.Scan.{IsLive};
 
 use iddqd::item_index::ItemIndex;
 use iddqd::item_set::ItemSet;

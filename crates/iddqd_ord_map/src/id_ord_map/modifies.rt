@@ -3,13 +3,13 @@ ghost use Rattle.std.specs.Prelude.{◌≡◌, Some};
 ghost use Rattle.iddqd.specs.{get};
 ghost use Rattle.iddqd_map.specs.Map.{FindsItem};
 ghost use Rattle.iddqd_map.specs.Modify.{Modifies, ModifiesAt};
-ghost use Rattle.iddqd_by_hash.specs.KeyKeeping.{KeepsKey};
+ghost use Rattle.iddqd_keys.specs.KeyKeeping.{KeepsKey};
 ghost use Rattle.iddqd_by_order.specs.Ordered.{is_equal};
-ghost use Rattle.iddqd_by_hash.specs.Scan.{passes_by};
+ghost use Rattle.iddqd_keys.specs.Scan.{passes_by};
 
 use super::{IdOrdItem, IdOrdMap};
 use iddqd::item_index::ItemIndex;
-use iddqd_by_order::order_query::OrdQuery;
+use iddqd_keys::order_query::OrdQuery;
 
 impl<T: IdOrdItem> IdOrdMap<T> {
     /// Calls the closure with a `&mut` to the item that has the key, and returns what the closure returns; or returns

@@ -8,13 +8,13 @@ ghost use Rattle.iddqd_map.specs.Calls.{ReplacesIfLive, Replaces, Changes, MayCh
 ghost use Rattle.iddqd_map.specs.Map.{shares};
 ghost use Rattle.iddqd_ord_map.specs.OrdMap.{IsTakenAt};
 ghost use Rattle.iddqd_by_order.specs.Ordered.{is_equal};
-ghost use Rattle.iddqd_by_hash.specs.Scan.{IsLive, passes_by};
+ghost use Rattle.iddqd_keys.specs.Scan.{IsLive, passes_by};
 
 use super::iter::item_at;
 use super::{IdOrdItem, IdOrdMap};
 use iddqd::item_index::ItemIndex;
 use iddqd_map::refusal::ReplaceRefusal;
-use iddqd_by_order::order_query::OrdQuery;
+use iddqd_keys::order_query::OrdQuery;
 
 impl<T: IdOrdItem> IdOrdMap<T> {
     /// Puts an item in the place of the one that has the key, which is handed back.

@@ -3,14 +3,14 @@ ghost use Rattle.std.specs.Prelude.{◌≡◌, length, option_copied};
 ghost use Rattle.std.specs.Range.Bound.{bound_map};
 ghost use Rattle.std.specs.declared.cmp.Ordering.TheVariants.{Less, Greater};
 ghost use Rattle.iddqd.specs.{live_count};
-ghost use Rattle.iddqd_by_order.specs.OrderedQuery.{is_between};
+ghost use Rattle.iddqd_keys.specs.OrderedQuery.{is_between};
 ghost use Rattle.iddqd_ord_map.specs.ByOrder.{FindsGreatest, FindsLeast};
 ghost use Rattle.iddqd_ord_map.specs.KeyOrder.{AreInKeyOrder, FindsEnd, IsKeyWalk, IsWalkWithin, PopsEnd};
 
 use super::{IdOrdItem, IdOrdMap, IntoValues, Iter, ItsKey, Range, Values};
 use crate::ordered_query::range_by;
 use iddqd::item_index::ItemIndex;
-use iddqd_by_order::order_query::OrdQuery;
+use iddqd_keys::order_query::OrdQuery;
 use std::fmt;
 use std::ops::Bound;
 

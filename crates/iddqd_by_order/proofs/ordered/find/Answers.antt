@@ -2,7 +2,7 @@ use Rattle.std.proofs.Common.{rules, ◌≡◌, ◌∙◌, refl, sym}
 use Rattle.iddqd_order.specs.Asking.{closure_of}
 use Rattle.iddqd_order.specs.MapBTreeTable.{order_of}
 use Rattle.iddqd_order.proofs.AskLemmas.{CanAsk-by, Steady-by}
-use Rattle.iddqd_by_hash.specs.Scan.{IsLive, IsKeyAt}
+use Rattle.iddqd_keys.specs.Scan.{IsLive, IsKeyAt}
 use Rattle.iddqd_by_order.proofs.OrderedFindLemmas.{IsQuery-lawful, answer_at, LooksUp-from_finds}
 use Rattle.iddqd_by_order.proofs.ordered.find.Goals as goal
 

@@ -2,7 +2,7 @@ use Rattle.std.proofs.Common.{rules, ◌≡◌, ◌∙◌, refl, ap, sym}
 use Rattle.iddqd_order.specs.Asking.{closure_of}
 use Rattle.iddqd_order.specs.MapBTreeTable.{order_of}
 use Rattle.iddqd_order.proofs.AskLemmas.{CanAsk-by, Steady-by}
-use Rattle.iddqd_by_hash.specs.Scan.{IsLive, IsKeyAt}
+use Rattle.iddqd_keys.specs.Scan.{IsLive, IsKeyAt}
 use Rattle.iddqd_by_order.proofs.OrderedFindLemmas.{answer_at}
 use Rattle.iddqd_by_order.proofs.OrderedRangeLemmas.{WalksWithin-walked, reads_lent}
 use Rattle.iddqd_by_order.proofs.ordered.range.Goals as goal

@@ -1,5 +1,5 @@
 use Rattle.std.proofs.Common.{subst}
-use Rattle.iddqd_by_hash.specs.Scan.{AnswersScan, passes_by}
+use Rattle.iddqd_keys.specs.Scan.{AnswersScan, passes_by}
 use Rattle.iddqd_map.proofs.of_item.find_item.Goals as goal
 
 pub returns : goal.returns

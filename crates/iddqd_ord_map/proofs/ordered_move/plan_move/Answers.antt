@@ -1,5 +1,5 @@
 use Rattle.std.proofs.Common.{◌≡◌, false, Some, refl, subst}
-use Rattle.iddqd_by_hash.specs.Scan.{HasNoHit, AnswersScan}
+use Rattle.iddqd_keys.specs.Scan.{HasNoHit, AnswersScan}
 use Rattle.iddqd_ord_map.specs.OrderedIndexing.{has_key}
 use Rattle.iddqd_ord_map.proofs.OrderedMoveLemmas.{other_hit}
 use Rattle.iddqd_ord_map.proofs.ordered_move.plan_move.Goals as goal

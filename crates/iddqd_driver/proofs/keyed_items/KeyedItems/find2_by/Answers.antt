@@ -1,4 +1,4 @@
-use Rattle.iddqd_by_order.specs.OrderedQuery.{compares_as_key}
+use Rattle.iddqd_keys.specs.OrderedQuery.{compares_as_key}
 use Rattle.iddqd_driver.specs.Keys.{keys_of}
 use Rattle.iddqd_driver.proofs.QueryLemmas.{LooksUpBy-ordered}
 use Rattle.iddqd_driver.proofs.keyed_items.KeyedItems.find2_by.Goals as goal

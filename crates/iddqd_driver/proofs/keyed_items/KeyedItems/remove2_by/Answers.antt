@@ -1,6 +1,6 @@
 use Rattle.std.proofs.Common.{rules, ◌≡◌, None, refl, arith}
 use Rattle.std.proofs.lemmas.Grind.{common_steps}
-use Rattle.iddqd_by_order.specs.OrderedQuery.{compares_as_key}
+use Rattle.iddqd_keys.specs.OrderedQuery.{compares_as_key}
 use Rattle.iddqd_driver.proofs.KeyLemmas.{AreLawful-from_bounds}
 use Rattle.iddqd_driver.specs.Keys.{keys_of}
 use Rattle.iddqd_driver.proofs.KeepsLemmas.{IsPaired-unbound, Keeps-unbound}

@@ -5,7 +5,7 @@ use Rattle.iddqd_order.specs.Asking.{closure_of}
 use Rattle.iddqd_order.specs.MapBTreeTable.{order_of}
 use Rattle.iddqd_order.specs.PreparedBTreeMove.{table_of, index_of}
 use Rattle.iddqd_order.proofs.AskLemmas.{CanAsk-by, Steady-by}
-use Rattle.iddqd_by_hash.specs.Scan.{IsLive, IsKeyAt}
+use Rattle.iddqd_keys.specs.Scan.{IsLive, IsKeyAt}
 use Rattle.iddqd_driver.proofs.ReplacementLemmas.{answer_at, MovesInPlace-put_in}
 use Rattle.iddqd_driver.proofs.keyed_items.replaces.move_in_order.Goals as goal
 

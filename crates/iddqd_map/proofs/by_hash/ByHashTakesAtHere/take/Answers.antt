@@ -1,5 +1,5 @@
 use Rattle.iddqd_hash.specs.MapHashTable.{filed}
-use Rattle.iddqd_by_hash.specs.Scan.{passes_by}
+use Rattle.iddqd_keys.specs.Scan.{passes_by}
 use Rattle.iddqd_by_hash.specs.Hashed.{hashing_of}
 use Rattle.iddqd_map.proofs.HashLemmas.{TakesFound-taken}
 use Rattle.iddqd_map.proofs.by_hash.ByHashTakesAtHere.take.Goals as goal

@@ -1,6 +1,6 @@
 use Rattle.std.proofs.Common.{rules, ◌≡◌, Some, Err}
 use Rattle.std.specs.Fn.{FnOnceReturnsAt}
-use Rattle.iddqd_by_hash.specs.Scan.{AnswersScan}
+use Rattle.iddqd_keys.specs.Scan.{AnswersScan}
 use Rattle.iddqd_map.proofs.map.changes.change_found.Goals as goal
 
 pub returns-in_err-was-clause-changes : goal.returns-in_err-was-clause-changes

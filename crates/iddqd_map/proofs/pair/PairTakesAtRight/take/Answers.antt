@@ -1,4 +1,4 @@
-use Rattle.iddqd_by_hash.specs.Scan.{passes_by}
+use Rattle.iddqd_keys.specs.Scan.{passes_by}
 use Rattle.iddqd_map.proofs.FoundLemmas.{hit_live}
 use Rattle.iddqd_map.proofs.pair.PairTakesAtRight.take.Goals as goal
 

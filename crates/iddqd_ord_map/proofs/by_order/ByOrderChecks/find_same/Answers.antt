@@ -1,5 +1,5 @@
 use Rattle.std.proofs.Common.{subst}
-use Rattle.iddqd_by_hash.specs.Scan.{AnswersScan}
+use Rattle.iddqd_keys.specs.Scan.{AnswersScan}
 use Rattle.iddqd_ord_map.specs.OrderedIndexing.{has_key}
 use Rattle.iddqd_ord_map.proofs.by_order.ByOrderChecks.find_same.Goals as goal
 

@@ -1,6 +1,6 @@
 use Rattle.iddqd_order.specs.MapBTreeTable.{order_of}
 use Rattle.iddqd_by_order.specs.Ordered.{is_equal}
-use Rattle.iddqd_by_hash.specs.Scan.{passes_by}
+use Rattle.iddqd_keys.specs.Scan.{passes_by}
 use Rattle.iddqd_ord_map.proofs.ByOrderLemmas.{TakesFound-taken}
 use Rattle.iddqd_ord_map.proofs.by_order.ByOrderTakesQuery.take_query.Goals as goal
 

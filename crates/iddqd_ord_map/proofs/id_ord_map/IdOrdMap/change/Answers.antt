@@ -1,7 +1,7 @@
 use Rattle.std.proofs.Common.{rules, ◌≡◌, true, Ok, Err, refl, subst}
 use Rattle.std.specs.Ordering.{eq_by_cmp}
 use Rattle.iddqd_by_order.specs.Ordered.{is_equal}
-use Rattle.iddqd_by_hash.specs.Scan.{passes_by}
+use Rattle.iddqd_keys.specs.Scan.{passes_by}
 use Rattle.iddqd_map.specs.Calls.{ReplacesIfLive}
 use Rattle.iddqd_map.specs.Map.{MapState, shares}
 use Rattle.iddqd_map.proofs.FoundLemmas.{hit_live}

@@ -1,4 +1,4 @@
-use Rattle.iddqd_by_hash.specs.Scan.{passes_by}
+use Rattle.iddqd_keys.specs.Scan.{passes_by}
 use Rattle.iddqd_by_order.specs.Ordered.{is_equal}
 use Rattle.iddqd_map.proofs.FoundLemmas.{scan_misses}
 use Rattle.iddqd_ord_map.proofs.id_ord_map.IdOrdMap.contains_key.Goals as goal

@@ -1,5 +1,5 @@
 use Rattle.std.proofs.Common.{subst}
-use Rattle.iddqd_by_hash.specs.Scan.{AnswersScan, passes_by}
+use Rattle.iddqd_keys.specs.Scan.{AnswersScan, passes_by}
 use Rattle.iddqd_by_order.specs.Ordered.{is_equal}
 use Rattle.iddqd_ord_map.proofs.id_ord_map.IdOrdMap.find.Goals as goal
 

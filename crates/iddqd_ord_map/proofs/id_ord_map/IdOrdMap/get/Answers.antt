@@ -1,4 +1,4 @@
-use Rattle.iddqd_by_hash.specs.Scan.{passes_by}
+use Rattle.iddqd_keys.specs.Scan.{passes_by}
 use Rattle.iddqd_by_order.specs.Ordered.{is_equal}
 use Rattle.iddqd_map.proofs.FoundLemmas.{FindsItem-found}
 use Rattle.iddqd_ord_map.proofs.id_ord_map.IdOrdMap.get.Goals as goal

@@ -1,7 +1,7 @@
 use Rattle.std.proofs.Common.{rules, ◌≡◌, Some, sym, subst}
 use Rattle.std.specs.Fn.{FnOnceReturnsAt}
 use Rattle.iddqd.specs.Store.{get}
-use Rattle.iddqd_by_hash.specs.Scan.{IsLive}
+use Rattle.iddqd_keys.specs.Scan.{IsLive}
 use Rattle.iddqd_ord_map.proofs.id_ord_map.IdOrdMap.made.Goals as goal
 
 pub item_at-requires : goal.item_at-requires

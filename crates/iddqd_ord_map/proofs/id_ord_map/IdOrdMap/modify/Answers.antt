@@ -1,7 +1,7 @@
 use Rattle.std.proofs.Common.{◌≡◌, Some, subst}
 use Rattle.iddqd.specs.Store.{get}
 use Rattle.iddqd_map.specs.Map.{MapState}
-use Rattle.iddqd_by_hash.specs.Scan.{passes_by}
+use Rattle.iddqd_keys.specs.Scan.{passes_by}
 use Rattle.iddqd_by_order.specs.Ordered.{is_equal}
 use Rattle.iddqd_map.proofs.FoundLemmas.{Modifies-found}
 use Rattle.iddqd_ord_map.proofs.id_ord_map.IdOrdMap.modify.Goals as goal

@@ -1,7 +1,7 @@
 use Rattle.std.proofs.Common.{subst, sym}
 use Rattle.std.specs.Range.Bound.{bound_map}
 use Rattle.iddqd_order.specs.Range.{indexes_ahead}
-use Rattle.iddqd_by_order.specs.OrderedQuery.{is_between}
+use Rattle.iddqd_keys.specs.OrderedQuery.{is_between}
 use Rattle.iddqd_by_order.specs.OrderedWalk.{pairs_at}
 use Rattle.iddqd_ord_map.specs.KeyOrder.{IsWalkWithin}
 use Rattle.iddqd_ord_map.proofs.WalkLemmas.{AreLive-within, IsWalkWithin-sorted}

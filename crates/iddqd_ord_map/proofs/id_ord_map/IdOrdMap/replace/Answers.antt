@@ -1,6 +1,6 @@
 use Rattle.std.proofs.Common.{true, refl}
 use Rattle.std.specs.Ordering.{eq_by_cmp}
-use Rattle.iddqd_by_hash.specs.Scan.{passes_by}
+use Rattle.iddqd_keys.specs.Scan.{passes_by}
 use Rattle.iddqd_by_order.specs.Ordered.{is_equal}
 use Rattle.iddqd_map.specs.Map.{shares}
 use Rattle.iddqd_ord_map.proofs.CallLemmas.{Replaces-at}

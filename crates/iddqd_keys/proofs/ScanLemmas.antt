@@ -6,7 +6,7 @@ use Rattle.iddqd.specs.Compaction.{compacted, rank}
 use Rattle.iddqd.proofs.StoreLemmas.{get-rebound_at, get-rebound_other}
 use Rattle.iddqd.proofs.LiveLemmas.{none_live, get-removed_at, get-removed_other, get-inserted_at, get-inserted_other}
 use Rattle.iddqd.proofs.CompactionLemmas.{live-compacted}
-use Rattle.iddqd_by_hash.specs.Scan.{IsLive, IsHit, HasNoHit, AnswersScan, AreApart}
+use Rattle.iddqd_keys.specs.Scan.{IsLive, IsHit, HasNoHit, AnswersScan, AreApart}
 
 module _ {T : Type 0} where
   -- an index that is live after a removal is another one, and has what it had

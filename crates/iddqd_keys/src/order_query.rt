@@ -9,7 +9,7 @@ ghost use Rattle.std.specs.Cmp.Lexicographic.{slice_cmp, lists_total, nat_list_c
 ghost use Rattle.std.specs.Ordering.{is_eq, nat_cmp};
 ghost use Rattle.std.specs.String.{string_bytes};
 ghost use Rattle.std.specs.declared.cmp.Ordering.{Ordering};
-ghost use Rattle.iddqd_by_order.specs.OrderedQuery.{IsQuery, IsQuery-key, IsQuery-on, compares_as_key};
+ghost use Rattle.iddqd_keys.specs.OrderedQuery.{IsQuery, IsQuery-key, IsQuery-on, compares_as_key};
 
 use iddqd::map_hash::{Comparable, Equivalent};
 use std::alloc::Allocator;

@@ -1,7 +1,7 @@
 -- What a table of a store's indexes promises for one key of the items, whatever kind of table it is.
 use Rattle.std.specs.Prelude.{◌↔◌, ℕ, Bool, not, Option}
 use Rattle.iddqd.specs.Store.{Store}
-use Rattle.iddqd_by_hash.specs.Scan.{IsLive, IsHit, AnswersScan, AreApart}
+use Rattle.iddqd_keys.specs.Scan.{IsLive, IsHit, AnswersScan, AreApart}
 
 module _ {T : Type 0} where
   -- a table whose indexes are those with this property has exactly the live ones

@@ -1,6 +1,6 @@
 //! The key of an item that a side goes by.
 ghost use Rattle.std.specs.Prelude.{◌≡◌};
-ghost use Rattle.iddqd_by_hash.specs.Scan.{IsLive, IsKeyAt};
+ghost use Rattle.iddqd_keys.specs.Scan.{IsLive, IsKeyAt};
 
 use iddqd::item_index::ItemIndex;
 use iddqd::item_set::ItemSet;

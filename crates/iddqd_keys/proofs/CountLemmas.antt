@@ -10,7 +10,7 @@ use Rattle.iddqd.specs.LiveItems.{live_pairs, pairs_from}
 use Rattle.iddqd.proofs.LiveItemLemmas.{IsWalkOf-live_pairs, length-pairs_from}
 use Rattle.iddqd.proofs.LiveLemmas.{item_at, live_at}
 use Rattle.iddqd.proofs.StoreLemmas.{contains_head, contains_tail, contains_cases, contains_none, differs}
-use Rattle.iddqd_by_hash.specs.Scan.{IsLive}
+use Rattle.iddqd_keys.specs.Scan.{IsLive}
 
 -- two lists of distinct numbers with the same members are as long
 same_count :

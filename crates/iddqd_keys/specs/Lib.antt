@@ -1,0 +1,4 @@
+pub mod Scan
+pub mod Side
+pub mod KeyKeeping
+pub mod OrderedQuery
