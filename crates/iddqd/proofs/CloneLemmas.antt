@@ -71,29 +71,29 @@ module _ {T : Type 0} (is_clone : T → T → Type 0) where
   module _
       {limit : ℕ} {slots : List (ItemSlot T)} {head len : ℕ} (bounded : IsSoundWithin limit slots head len)
       (copies : List (ItemSlot T)) (all : AllZip (IsSlotClone is_clone) slots copies)
-      where
-    pub IsSoundWithin-clone : IsSoundWithin limit copies head len
-    IsSoundWithin-clone =
-        let same = length_all_zip _ slots copies all in
-        record {
-          sound = record {
-            counted = bounded.sound.counted ∙ sym (count_of_clones slots copies all);
-            chain = bounded.sound.chain;
-            distinct = bounded.sound.distinct;
-            chained = chain_in_clones slots copies head bounded.sound.chain all bounded.sound.chained;
-            complete = λ ix next vacant. bounded.sound.complete ix next (vacant_before slots copies ix next all vacant);
-          };
-          small = omega (arith, bounded.small, same);
-          named = bounded.named;
-        }
+    where
+      pub IsSoundWithin-clone : IsSoundWithin limit copies head len
+      IsSoundWithin-clone =
+          let same = length_all_zip _ slots copies all in
+          record {
+            sound = record {
+              counted = bounded.sound.counted ∙ sym (count_of_clones slots copies all);
+              chain = bounded.sound.chain;
+              distinct = bounded.sound.distinct;
+              chained = chain_in_clones slots copies head bounded.sound.chain all bounded.sound.chained;
+              complete = λ ix next vacant. bounded.sound.complete ix next (vacant_before slots copies ix next all vacant);
+            };
+            small = omega (arith, bounded.small, same);
+            named = bounded.named;
+          }
 
-    pub IsStoreClone-clone : IsStoreClone is_clone (store_of slots head limit) (store_of copies head limit)
-    unfolding IsSoundWithin-clone
-    IsStoreClone-clone = record {
-      items = items_are_clones slots copies all;
-      free = free_is IsSoundWithin-clone ∙ sym (free_is bounded);
-      limit = refl;
-    }
+      pub IsStoreClone-clone : IsStoreClone is_clone (store_of slots head limit) (store_of copies head limit)
+      unfolding IsSoundWithin-clone
+      IsStoreClone-clone = record {
+        items = items_are_clones slots copies all;
+        free = free_is IsSoundWithin-clone ∙ sym (free_is bounded);
+        limit = refl;
+      }
 
   -- where clones of items equal them, a clone of a store equals it
   same_items :

@@ -49,7 +49,7 @@ module _ {T : Type 0} where
           (items : List (Option T)) (free : List ℕ)
           → IsValid (record { items = items; free = free; limit = s.limit })
           → get (inserted (record { items = items; free = free; limit = s.limit }) item)
-            (next_index (record { items = items; free = free; limit = s.limit })) ≡ Some item
+          (next_index (record { items = items; free = free; limit = s.limit })) ≡ Some item
       by_free items [] valid = get_or_push items (Some item) None (length items) refl
       by_free items (ix ∷ rest) valid = get_or-set_same items ix (Some item) None ((valid.vacant ix).0 (contains_head ix rest)).0
 

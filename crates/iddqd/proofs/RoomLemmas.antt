@@ -35,7 +35,7 @@ module _ {T : Type 0} where
           (items : List (Option T)) (free : List ℕ)
           → 1 ≤ room (sized (record { items = items; free = free; limit = s.limit }) capacity)
           → room (sized (inserted (record { items = items; free = free; limit = s.limit }) item) capacity) + 1 ≡ room
-              (sized (record { items = items; free = free; limit = s.limit }) capacity)
+          (sized (record { items = items; free = free; limit = s.limit }) capacity)
       by_free items [] some = omega (arith, length_push items (Some item))
       by_free items (ix ∷ rest) some = omega (arith, length-set items ix (Some item))
 

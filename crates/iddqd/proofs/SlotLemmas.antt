@@ -19,7 +19,7 @@ module _ {T : Type 0} where
       (slots : List (ItemSlot T)) (ix : ℕ) (old new : ItemSlot T)
       → slice_get slots ix ≡ Some old
       → count_by is_some (map item_of (set slots ix new)) + cond (is_some (item_of old)) 1 0 ≡ count_by is_some
-          (map item_of slots) + cond (is_some (item_of new)) 1 0
+      (map item_of slots) + cond (is_some (item_of new)) 1 0
   count-set slots ix old new found =
       let within = slice_get_within slots ix old found in
       let read : get_or (map item_of slots) ix None ≡ item_of old =
@@ -104,16 +104,16 @@ module _ {T : Type 0} where
     -- the chain ends here, or begins with a vacant slot
     pub head_cases :
         ((head ≡ sentinel) × (bounded.sound.chain ≡ [])) ⊎
-            ((next : ℕ) × (rest : List ℕ) × (head < length slots) × (bounded.sound.chain ≡ head ∷ rest) ×
-                (slice_get slots head ≡ Some (Vacant next)) × IsChain slots next rest)
+        ((next : ℕ) × (rest : List ℕ) × (head < length slots) × (bounded.sound.chain ≡ head ∷ rest) ×
+        (slice_get slots head ≡ Some (Vacant next)) × IsChain slots next rest)
     head_cases = by_chain bounded.sound.chain bounded.sound.chained
       where
         by_chain :
             (list : List ℕ)
             → IsChain slots head list
             → ((head ≡ sentinel) × (list ≡ [])) ⊎
-                ((next : ℕ) × (rest : List ℕ) × (head < length slots) × (list ≡ head ∷ rest) ×
-                    (slice_get slots head ≡ Some (Vacant next)) × IsChain slots next rest)
+            ((next : ℕ) × (rest : List ℕ) × (head < length slots) × (list ≡ head ∷ rest) ×
+            (slice_get slots head ≡ Some (Vacant next)) × IsChain slots next rest)
         by_chain [] p = inl (p, refl)
         by_chain (ix ∷ rest) p = inr (p.0, rest, slice_get_within slots head _ p.3, ap (λ i. i ∷ rest) p.1, p.3, p.4)
 

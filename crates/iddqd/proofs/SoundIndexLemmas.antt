@@ -150,7 +150,7 @@ arranged-from_below (suc n) xs size apart below = by_test (λ rest. arranged-fro
   where
     by_test :
         ((rest : List ℕ) → length rest ≡ n → IsDistinct nat_eq rest → All (λ x. x < n) rest → IsPermutation (numbers n)
-            rest)
+        rest)
         → (b : Bool)
         → is_member nat_eq xs n ≡ b
         → IsPermutation (numbers (suc n)) xs
@@ -201,22 +201,22 @@ module _ (mode : ValidateCompact) (expected : ℕ) (xs : List ℕ) where
 module _
     {E : Type 0} (mode : ValidateCompact) (expected : ℕ) (xs : List ℕ) (apart : IsDistinct nat_eq xs)
     (result : Result (Unit {0}) (ValidateRefusal E))
-    where
-  pub Validates-listed :
-      (ys : List ℕ)
-      → IsPermutation xs ys
-      → Validates (AreSound mode expected ys) result
-      → Validates (AreAsExpected mode expected xs) result
-  Validates-listed ys moved =
-      let same = AreSound-as_expected mode expected ys (distinct-moved xs ys moved apart) in
-      Validates-alike (AreSound mode expected ys) (AreAsExpected mode expected xs) result
-      (λ sound. AreAsExpected-moved mode expected ys xs (IsPermutation-sym xs ys moved) (same.0 sound))
-      (λ told. same.1 (AreAsExpected-moved mode expected xs ys moved told))
+  where
+    pub Validates-listed :
+        (ys : List ℕ)
+        → IsPermutation xs ys
+        → Validates (AreSound mode expected ys) result
+        → Validates (AreAsExpected mode expected xs) result
+    Validates-listed ys moved =
+        let same = AreSound-as_expected mode expected ys (distinct-moved xs ys moved apart) in
+        Validates-alike (AreSound mode expected ys) (AreAsExpected mode expected xs) result
+        (λ sound. AreAsExpected-moved mode expected ys xs (IsPermutation-sym xs ys moved) (same.0 sound))
+        (λ told. same.1 (AreAsExpected-moved mode expected xs ys moved told))
 
-  pub Validates-in_order :
-      (Contains xs sentinel → ⊥)
-      → Validates (AreSoundInOrder mode expected xs) result
-      → Validates (AreAsExpected mode expected xs) result
-  Validates-in_order assigned =
-      let same = AreSound-as_expected mode expected xs apart in
-      Validates-alike (AreSoundInOrder mode expected xs) (AreAsExpected mode expected xs) result (λ sound. same.0 sound.0) (λ told. (same.1 told, assigned))
+    pub Validates-in_order :
+        (Contains xs sentinel → ⊥)
+        → Validates (AreSoundInOrder mode expected xs) result
+        → Validates (AreAsExpected mode expected xs) result
+    Validates-in_order assigned =
+        let same = AreSound-as_expected mode expected xs apart in
+        Validates-alike (AreSoundInOrder mode expected xs) (AreAsExpected mode expected xs) result (λ sound. same.0 sound.0) (λ told. (same.1 told, assigned))

@@ -192,7 +192,7 @@ module _ {T : Type 0} where
           (items : List (Option T)) (free : List ℕ)
           → count_by is_some items + length free ≡ length items
           → GrowsIfDense (record { items = items; free = free; limit = s.limit })
-            (inserted (record { items = items; free = free; limit = s.limit }) item)
+          (inserted (record { items = items; free = free; limit = s.limit }) item)
       by_free items [] counted = record { dense = λ _. length_push items (Some item); vacant = λ below. absurd (omega arith) }
       by_free items (ix ∷ rest) counted = record { dense = λ all. absurd (omega arith); vacant = λ _. length-set items ix (Some item) }
 

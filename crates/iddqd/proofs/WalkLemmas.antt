@@ -11,8 +11,8 @@ module _ {T : Type 0} where
   pairs_from-push :
       (first : ℕ) (rest : List (ItemSlot T)) (slot : ItemSlot T)
       → pairs_from first (map item_of (rest ++ slot ∷ [])) ≡ pairs_from first (map item_of rest) ++ pairs_from
-          (first + length rest)
-        (item_of slot ∷ [])
+      (first + length rest)
+      (item_of slot ∷ [])
   pairs_from-push first rest slot = rw (map_push item_of rest slot, pairs_from-append, length-map)
 
   items_in-push :

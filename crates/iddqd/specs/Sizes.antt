@@ -26,7 +26,7 @@ module _ {T : Type 0} where
     pub reserved : OnOk result (slot_count old.store + additional ≤ new.capacity)
     pub grows :
         OnOk result (old.capacity < slot_count old.store + additional → new.capacity ≡ grown
-            (slot_count old.store + additional) old)
+        (slot_count old.store + additional) old)
     pub refused : OnErr result (new ≡ old)
     pub fitted : slot_count old.store + additional ≤ old.capacity → IsOk result × (new ≡ old)
 

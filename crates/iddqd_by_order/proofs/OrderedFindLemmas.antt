@@ -78,85 +78,85 @@ module _ {K : Type 0} (compare : K → K → Ordering) where
 module _
     {T K : Type 0} (key_of : T → K) (compare : K → K → Ordering) (s : Store T) (order : List ℕ)
     (comparing : K → Ordering)
-    where
-  -- how a query compares with the key at an index
-  abbrev pub answer : ℕ → Ordering
-  answer ix = compared comparing (key_at key_of s ix)
+  where
+    -- how a query compares with the key at an index
+    abbrev pub answer : ℕ → Ordering
+    answer ix = compared comparing (key_at key_of s ix)
 
-  pub answer_at : (ix : ℕ) (item : T) → get s ix ≡ Some item → answer ix ≡ comparing (key_of item)
-  answer_at ix item is = rw is refl
+    pub answer_at : (ix : ℕ) (item : T) → get s ix ≡ Some item → answer ix ≡ comparing (key_of item)
+    answer_at ix item is = rw is refl
 
-  -- where the side is exact, what a look-up answers is a scan's answer
-  pub LooksUp-found :
-      IsQuery compare comparing
-      → (r : Option ℕ)
-      → Finds key_of compare s order comparing r
-      → LooksUp key_of compare s order comparing r
-  LooksUp-found query None missed = record { found = missed; as_scan = λ o. missed o.placed }
-  LooksUp-found query (Some ix) hit = record {
-    found = hit;
-    as_scan = λ o. AnswersScan-hit _ s _ ix (λ x y p q. ap is_eq (query.one_key (key_of x) (key_of y) ((Equal-is _).0 p) ((Equal-is _).0 q))) o.apart hit;
-  }
+    -- where the side is exact, what a look-up answers is a scan's answer
+    pub LooksUp-found :
+        IsQuery compare comparing
+        → (r : Option ℕ)
+        → Finds key_of compare s order comparing r
+        → LooksUp key_of compare s order comparing r
+    LooksUp-found query None missed = record { found = missed; as_scan = λ o. missed o.placed }
+    LooksUp-found query (Some ix) hit = record {
+      found = hit;
+      as_scan = λ o. AnswersScan-hit _ s _ ix (λ x y p q. ap is_eq (query.one_key (key_of x) (key_of y) ((Equal-is _).0 p) ((Equal-is _).0 q))) o.apart hit;
+    }
 
-  module _ (holds : Holds s order) where
-    -- a stored index at which the query compares Equal
-    equal_hit : (ix : ℕ) → Contains order ix → answer ix ≡ Equal → IsHit s (passes_by key_of (is_equal comparing)) ix
-    equal_hit ix here equal =
-        let (item, is) = item_at s ix ((holds.each ix).0 here) in
-        (item, is, ap is_eq (sym (answer_at ix item is) ∙ equal))
+    module _ (holds : Holds s order) where
+      -- a stored index at which the query compares Equal
+      equal_hit : (ix : ℕ) → Contains order ix → answer ix ≡ Equal → IsHit s (passes_by key_of (is_equal comparing)) ix
+      equal_hit ix here equal =
+          let (item, is) = item_at s ix ((holds.each ix).0 here) in
+          (item, is, ap is_eq (sym (answer_at ix item is) ∙ equal))
 
-    -- no stored index at which it does
-    equal_miss : All (λ ix. answer ix ≢ Equal) order → HasNoHit s (passes_by key_of (is_equal comparing))
-    equal_miss none ix (item, is, passed) =
-        All-contains (λ j. answer j ≢ Equal) order ix none ((holds.each ix).1 (live_at s ix item is)) (answer_at ix item is ∙ (Equal-is _).0 passed)
+      -- no stored index at which it does
+      equal_miss : All (λ ix. answer ix ≢ Equal) order → HasNoHit s (passes_by key_of (is_equal comparing))
+      equal_miss none ix (item, is, passed) =
+          All-contains (λ j. answer j ≢ Equal) order ix none ((holds.each ix).1 (live_at s ix item is)) (answer_at ix item is ∙ (Equal-is _).0 passed)
 
-    -- what a find or an entry of the table tells, where each answer reads as the comparison of the query with the key
-    module _
-        {F R : Type 0} (g : Mut F (ℕ × Unit {0}) R) (read : R → Ordering) (old new : Asking F)
-        (total : IsTotalOrder compare) (query : IsQuery compare comparing)
-        (steady : IsSteady g order None read answer old)
+      -- what a find or an entry of the table tells, where each answer reads as the comparison of the query with the key
+      module _
+          {F R : Type 0} (g : Mut F (ℕ × Unit {0}) R) (read : R → Ordering) (old new : Asking F)
+          (total : IsTotalOrder compare) (query : IsQuery compare comparing)
+          (steady : IsSteady g order None read answer old)
         where
-      rises : IsInPlace key_of compare s order → IsSteadyRising g order None read answer old
-      rises placed = record { steady = steady; rising = IsRising-query compare comparing query total (key_at key_of s) order placed }
+          rises : IsInPlace key_of compare s order → IsSteadyRising g order None read answer old
+          rises placed = record { steady = steady; rising = IsRising-query compare comparing query total (key_at key_of s) order placed }
 
-      Finds-from_finds : (r : Option ℕ) → search.Finds g read order old r new → Finds key_of compare s order comparing r
-      Finds-from_finds None finds = λ placed. equal_miss (finds.miss answer (rises placed) refl)
-      Finds-from_finds (Some ix) finds = equal_hit ix finds.stored (finds.hit answer steady)
+          Finds-from_finds : (r : Option ℕ) → search.Finds g read order old r new → Finds key_of compare s order comparing r
+          Finds-from_finds None finds = λ placed. equal_miss (finds.miss answer (rises placed) refl)
+          Finds-from_finds (Some ix) finds = equal_hit ix finds.stored (finds.hit answer steady)
 
-      pub LooksUp-from_finds :
-          (r : Option ℕ)
-          → search.Finds g read order old r new
-          → LooksUp key_of compare s order comparing r
-      LooksUp-from_finds r finds = LooksUp-found query r (Finds-from_finds r finds)
+          pub LooksUp-from_finds :
+              (r : Option ℕ)
+              → search.Finds g read order old r new
+              → LooksUp key_of compare s order comparing r
+          LooksUp-from_finds r finds = LooksUp-found query r (Finds-from_finds r finds)
 
-      pub Enters-from_enters :
-          (e : Entry)
-          → table_entry.Enters g read order old e new
-          → Enters key_of compare s order comparing e
-      Enters-from_enters (Occupied entry) enters =
-          LooksUp-found query (Some _) (equal_hit _ enters.stored (enters.hit answer steady))
-      Enters-from_enters (Vacant entry) enters = record {
-        missed = LooksUp-found query None (λ placed. equal_miss (enters.miss answer (rises placed)));
-        within = enters.within;
-        is_place = λ placed. enters.place answer (rises placed);
-      }
+          pub Enters-from_enters :
+              (e : Entry)
+              → table_entry.Enters g read order old e new
+              → Enters key_of compare s order comparing e
+          Enters-from_enters (Occupied entry) enters =
+              LooksUp-found query (Some _) (equal_hit _ enters.stored (enters.hit answer steady))
+          Enters-from_enters (Vacant entry) enters = record {
+            missed = LooksUp-found query None (λ placed. equal_miss (enters.miss answer (rises placed)));
+            within = enters.within;
+            is_place = λ placed. enters.place answer (rises placed);
+          }
 
-      -- the same of a place that isn't lent
-      pub LooksUp-stored :
-          (ix : ℕ)
-          → Contains order ix
-          → ((a : ℕ → Ordering) → IsSteady g order None read a old → a ix ≡ Equal)
-          → LooksUp key_of compare s order comparing (Some ix)
-      LooksUp-stored ix stored hit = LooksUp-found query (Some ix) (equal_hit ix stored (hit answer steady))
+          -- the same of a place that isn't lent
+          pub LooksUp-stored :
+              (ix : ℕ)
+              → Contains order ix
+              → ((a : ℕ → Ordering) → IsSteady g order None read a old → a ix ≡ Equal)
+              → LooksUp key_of compare s order comparing (Some ix)
+          LooksUp-stored ix stored hit = LooksUp-found query (Some ix) (equal_hit ix stored (hit answer steady))
 
-      pub IsVacantAt-placed :
-          (place : ℕ)
-          → place ≤ length order
-          → ((a : ℕ → Ordering) → IsSteadyRising g order None read a old → search.IsPlace a order place)
-          → ((a : ℕ → Ordering) → IsSteadyRising g order None read a old → All (λ ix. a ix ≢ Equal) order)
-          → IsVacantAt key_of compare s order comparing place
-      IsVacantAt-placed place within is_place miss = record {
-        missed = LooksUp-found query None (λ placed. equal_miss (miss answer (rises placed)));
-        within = within;
-        is_place = λ placed. is_place answer (rises placed);
-      }
+          pub IsVacantAt-placed :
+              (place : ℕ)
+              → place ≤ length order
+              → ((a : ℕ → Ordering) → IsSteadyRising g order None read a old → search.IsPlace a order place)
+              → ((a : ℕ → Ordering) → IsSteadyRising g order None read a old → All (λ ix. a ix ≢ Equal) order)
+              → IsVacantAt key_of compare s order comparing place
+          IsVacantAt-placed place within is_place miss = record {
+            missed = LooksUp-found query None (λ placed. equal_miss (miss answer (rises placed)));
+            within = within;
+            is_place = λ placed. is_place answer (rises placed);
+          }

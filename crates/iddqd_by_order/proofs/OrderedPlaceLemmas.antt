@@ -174,78 +174,78 @@ module _ {T K : Type 0} (key_of : T → K) (compare : K → K → Ordering) (tot
   module _
       (s : Store T) (item : T) (order : List ℕ) (comparing : K → Ordering) (valid : IsValid s) (holds : Holds s order)
       (as_key : (k : K) → comparing k ≡ compare (key_of item) k)
-      where
-    abbrev after : Store T
-    after = inserted s item
+    where
+      abbrev after : Store T
+      after = inserted s item
 
-    abbrev next : ℕ
-    next = next_index s
+      abbrev next : ℕ
+      next = next_index s
 
-    abbrev answer : ℕ → Ordering
-    answer ix = compared comparing (key_at key_of s ix)
+      abbrev answer : ℕ → Ordering
+      answer ix = compared comparing (key_at key_of s ix)
 
-    others : (j : ℕ) → Contains order j → get after j ≡ get s j
-    others j here =
-        get-inserted_other s item j (λ same. none_not_live s next (next_vacant s valid) (subst (IsLive s) same ((holds.each j).0 here)))
+      others : (j : ℕ) → Contains order j → get after j ≡ get s j
+      others j here =
+          get-inserted_other s item j (λ same. none_not_live s next (next_vacant s valid) (subst (IsLive s) same ((holds.each j).0 here)))
 
-    as_optional_key : (o : Option K) → compared comparing o ≡ option_cmp compare (Some (key_of item)) o
-    as_optional_key None = refl
-    as_optional_key (Some k) = as_key k
+      as_optional_key : (o : Option K) → compared comparing o ≡ option_cmp compare (Some (key_of item)) o
+      as_optional_key None = refl
+      as_optional_key (Some k) = as_key k
 
-    compares : ComparesKeys (option_cmp compare (key_at key_of after next)) (key_at key_of after) answer order
-    compares k d within =
-        let j = get_or order k d in
-        let own : key_at key_of after next ≡ Some (key_of item) = ap (λ o. option_map key_of o) (get-inserted_at s item valid) in
-        let other : key_at key_of after j ≡ key_at key_of s j = ap (λ o. option_map key_of o) (others j (Contains-get_or order k d within)) in
-        as_optional_key (key_at key_of s j)
-        ∙ ap (λ a. option_cmp compare a (key_at key_of s j)) (sym own) ∙ ap (λ b. option_cmp compare (key_at key_of after next) b) (sym other)
+      compares : ComparesKeys (option_cmp compare (key_at key_of after next)) (key_at key_of after) answer order
+      compares k d within =
+          let j = get_or order k d in
+          let own : key_at key_of after next ≡ Some (key_of item) = ap (λ o. option_map key_of o) (get-inserted_at s item valid) in
+          let other : key_at key_of after j ≡ key_at key_of s j = ap (λ o. option_map key_of o) (others j (Contains-get_or order k d within)) in
+          as_optional_key (key_at key_of s j)
+          ∙ ap (λ a. option_cmp compare a (key_at key_of s j)) (sym own) ∙ ap (λ b. option_cmp compare (key_at key_of after next) b) (sym other)
 
-    -- beside its place no index ties with the new one
-    untied :
-        (place : ℕ)
-        → IsPlace answer order place
-        → (k : ℕ)
-        → k < length order
-        → answer (get_or order k 0) ≡ key_then_index (option_cmp compare) (key_at key_of after) next (get_or order k 0)
-    untied place is_place k within =
-        let tie = nat_cmp next (get_or order k 0) in
-        let same = ap (λ r. ordering_then r tie) (compares k 0 within) in
-        elim (cases_lt k place) [
-          | inl before ↦ let greater = is_place.greater_before k before in greater ∙ ap (λ r. ordering_then r tie) (sym greater) ∙ same
-          | inr from ↦ let less = is_place.less_from k from within in less ∙ ap (λ r. ordering_then r tie) (sym less) ∙ same
-        ]
+      -- beside its place no index ties with the new one
+      untied :
+          (place : ℕ)
+          → IsPlace answer order place
+          → (k : ℕ)
+          → k < length order
+          → answer (get_or order k 0) ≡ key_then_index (option_cmp compare) (key_at key_of after) next (get_or order k 0)
+      untied place is_place k within =
+          let tie = nat_cmp next (get_or order k 0) in
+          let same = ap (λ r. ordering_then r tie) (compares k 0 within) in
+          elim (cases_lt k place) [
+            | inl before ↦ let greater = is_place.greater_before k before in greater ∙ ap (λ r. ordering_then r tie) (sym greater) ∙ same
+            | inr from ↦ let less = is_place.less_from k from within in less ∙ ap (λ r. ordering_then r tie) (sym less) ∙ same
+          ]
 
-    IsInPlace-inserted :
-        (place : ℕ)
-        → IsPlace answer order place
-        → IsInPlace key_of compare s order
-        → IsInPlace key_of compare after (insert order place next)
-    IsInPlace-inserted place is_place placed =
-        IsStrictlySortedBy-insert (totals after) order (IsInPlace-alike s after order others placed) next answer (untied place is_place) place is_place
+      IsInPlace-inserted :
+          (place : ℕ)
+          → IsPlace answer order place
+          → IsInPlace key_of compare s order
+          → IsInPlace key_of compare after (insert order place next)
+      IsInPlace-inserted place is_place placed =
+          IsStrictlySortedBy-insert (totals after) order (IsInPlace-alike s after order others placed) next answer (untied place is_place) place is_place
 
-    -- the index was put into the list by an insert that a vacant entry prepared
-    pub AddsInPlace-prepared :
-        (vacant : VacantEntry) (prepared : Prepared) (ix : ℕ) (new : List ℕ)
-        → order_of (vacant_table vacant).now ≡ order
-        → IsVacantAt key_of compare s order comparing (vacant_place vacant)
-        → FillsEntry vacant ix prepared
-        → ix ≡ next_index s
-        → new ≡ insert (order_of (table_of prepared).now) (place_of prepared) (index_of prepared)
-        → AddsInPlace key_of compare s item order new
-    AddsInPlace-prepared vacant prepared ix new table room fills same_index is =
-        let added : new ≡ insert order (vacant_place vacant) next = rw (← same_index, ← fills.index, ← fills.place, ← table, ← fills.table) is in
-        record {
-          adds = record { place = vacant_place vacant; within = room.within; added = added };
-          placed = λ placed. rw added (IsInPlace-inserted (vacant_place vacant) (room.is_place placed) placed);
-        }
+      -- the index was put into the list by an insert that a vacant entry prepared
+      pub AddsInPlace-prepared :
+          (vacant : VacantEntry) (prepared : Prepared) (ix : ℕ) (new : List ℕ)
+          → order_of (vacant_table vacant).now ≡ order
+          → IsVacantAt key_of compare s order comparing (vacant_place vacant)
+          → FillsEntry vacant ix prepared
+          → ix ≡ next_index s
+          → new ≡ insert (order_of (table_of prepared).now) (place_of prepared) (index_of prepared)
+          → AddsInPlace key_of compare s item order new
+      AddsInPlace-prepared vacant prepared ix new table room fills same_index is =
+          let added : new ≡ insert order (vacant_place vacant) next = rw (← same_index, ← fills.index, ← fills.place, ← table, ← fills.table) is in
+          record {
+            adds = record { place = vacant_place vacant; within = room.within; added = added };
+            placed = λ placed. rw added (IsInPlace-inserted (vacant_place vacant) (room.is_place placed) placed);
+          }
 
-    -- and by an insert at the vacant place
-    pub AddsInPlace-placed :
-        (place : ℕ) (new : List ℕ)
-        → IsVacantAt key_of compare s order comparing place
-        → new ≡ insert order place (next_index s)
-        → AddsInPlace key_of compare s item order new
-    AddsInPlace-placed place new room is = record {
-      adds = record { place = place; within = room.within; added = is };
-      placed = λ placed. rw is (IsInPlace-inserted place (room.is_place placed) placed);
-    }
+      -- and by an insert at the vacant place
+      pub AddsInPlace-placed :
+          (place : ℕ) (new : List ℕ)
+          → IsVacantAt key_of compare s order comparing place
+          → new ≡ insert order place (next_index s)
+          → AddsInPlace key_of compare s item order new
+      AddsInPlace-placed place new room is = record {
+        adds = record { place = place; within = room.within; added = is };
+        placed = λ placed. rw is (IsInPlace-inserted place (room.is_place placed) placed);
+      }

@@ -96,137 +96,137 @@ gt_greater Greater = refl
 module _
     {T K Q : Type 0} (key_of : T → K) (compare : K → K → Ordering) (cmp : Q → K → Ordering) (s : Store T)
     (order : List ℕ)
-    where
-  -- how a query answers at an index
-  abbrev answers : Q → ℕ → Ordering
-  answers q ix = compared (cmp q) (key_at key_of s ix)
+  where
+    -- how a query answers at an index
+    abbrev answers : Q → ℕ → Ordering
+    answers q ix = compared (cmp q) (key_at key_of s ix)
 
-  -- the answers by which the places of two bounds are found
-  abbrev lower_at : Bound Q → ℕ → Ordering
-  lower_at (Included q) ix = ordering_then (answers q ix) Less
-  lower_at (Excluded q) ix = ordering_then (answers q ix) Greater
-  lower_at Unbounded ix = Less
+    -- the answers by which the places of two bounds are found
+    abbrev lower_at : Bound Q → ℕ → Ordering
+    lower_at (Included q) ix = ordering_then (answers q ix) Less
+    lower_at (Excluded q) ix = ordering_then (answers q ix) Greater
+    lower_at Unbounded ix = Less
 
-  abbrev upper_at : Bound Q → ℕ → Ordering
-  upper_at (Included q) ix = ordering_then (answers q ix) Greater
-  upper_at (Excluded q) ix = ordering_then (answers q ix) Less
-  upper_at Unbounded ix = Greater
+    abbrev upper_at : Bound Q → ℕ → Ordering
+    upper_at (Included q) ix = ordering_then (answers q ix) Greater
+    upper_at (Excluded q) ix = ordering_then (answers q ix) Less
+    upper_at Unbounded ix = Greater
 
-  from_at :
-      (lower : Bound Q) (ix : ℕ) (item : T)
-      → get s ix ≡ Some item
-      → not (is_gt (lower_at lower ix)) ≡ is_from (bound_map cmp lower) (key_of item)
-  from_at (Included q) ix item is =
-      not_gt_less (answers q ix) ∙ ap (λ r. not (is_gt r)) (answer_at key_of compare s order (cmp q) ix item is)
-  from_at (Excluded q) ix item is =
-      not_gt_greater (answers q ix) ∙ ap is_lt (answer_at key_of compare s order (cmp q) ix item is)
-  from_at Unbounded ix item is = refl
+    from_at :
+        (lower : Bound Q) (ix : ℕ) (item : T)
+        → get s ix ≡ Some item
+        → not (is_gt (lower_at lower ix)) ≡ is_from (bound_map cmp lower) (key_of item)
+    from_at (Included q) ix item is =
+        not_gt_less (answers q ix) ∙ ap (λ r. not (is_gt r)) (answer_at key_of compare s order (cmp q) ix item is)
+    from_at (Excluded q) ix item is =
+        not_gt_greater (answers q ix) ∙ ap is_lt (answer_at key_of compare s order (cmp q) ix item is)
+    from_at Unbounded ix item is = refl
 
-  up_to_at :
-      (upper : Bound Q) (ix : ℕ) (item : T)
-      → get s ix ≡ Some item
-      → is_gt (upper_at upper ix) ≡ is_up_to (bound_map cmp upper) (key_of item)
-  up_to_at (Included q) ix item is =
-      gt_greater (answers q ix) ∙ ap (λ r. not (is_lt r)) (answer_at key_of compare s order (cmp q) ix item is)
-  up_to_at (Excluded q) ix item is =
-      gt_less (answers q ix) ∙ ap is_gt (answer_at key_of compare s order (cmp q) ix item is)
-  up_to_at Unbounded ix item is = refl
+    up_to_at :
+        (upper : Bound Q) (ix : ℕ) (item : T)
+        → get s ix ≡ Some item
+        → is_gt (upper_at upper ix) ≡ is_up_to (bound_map cmp upper) (key_of item)
+    up_to_at (Included q) ix item is =
+        gt_greater (answers q ix) ∙ ap (λ r. not (is_lt r)) (answer_at key_of compare s order (cmp q) ix item is)
+    up_to_at (Excluded q) ix item is =
+        gt_less (answers q ix) ∙ ap is_gt (answer_at key_of compare s order (cmp q) ix item is)
+    up_to_at Unbounded ix item is = refl
 
-  module _ (lower upper : Bound Q) (holds : Holds s order) where
-    abbrev chosen : ℕ → Bool
-    chosen = is_within (lower_at lower) (upper_at upper)
+    module _ (lower upper : Bound Q) (holds : Holds s order) where
+      abbrev chosen : ℕ → Bool
+      chosen = is_within (lower_at lower) (upper_at upper)
 
-    abbrev between : K → Bool
-    between = is_between (bound_map cmp lower) (bound_map cmp upper)
+      abbrev between : K → Bool
+      between = is_between (bound_map cmp lower) (bound_map cmp upper)
 
-    chosen_at : (ix : ℕ) (item : T) → get s ix ≡ Some item → chosen ix ≡ between (key_of item)
-    chosen_at ix item is =
-        ap (λ b. b && is_gt (upper_at upper ix)) (from_at lower ix item is)
-        ∙ ap (λ b. is_from (bound_map cmp lower) (key_of item) && b) (up_to_at upper ix item is)
+      chosen_at : (ix : ℕ) (item : T) → get s ix ≡ Some item → chosen ix ≡ between (key_of item)
+      chosen_at ix item is =
+          ap (λ b. b && is_gt (upper_at upper ix)) (from_at lower ix item is)
+          ∙ ap (λ b. is_from (bound_map cmp lower) (key_of item) && b) (up_to_at upper ix item is)
 
-    SortsWithin-chosen : IsInPlace key_of compare s order → SortsWithin key_of compare between s (filter chosen order)
-    SortsWithin-chosen placed = record {
-      each = λ ix. (
-        λ here.
-            let (stored, passes) = kept_from chosen order ix here in
-            let (item, is) = item_at s ix ((holds.each ix).0 stored) in
-            (item, is, sym (chosen_at ix item is) ∙ passes),
-        λ (item, is, passes). keeps chosen order ix ((holds.each ix).1 (live_at s ix item is)) (chosen_at ix item is ∙ passes),
-      );
-      placed = IsStrictlySortedBy-filter _ chosen order placed;
-    }
+      SortsWithin-chosen : IsInPlace key_of compare s order → SortsWithin key_of compare between s (filter chosen order)
+      SortsWithin-chosen placed = record {
+        each = λ ix. (
+          λ here.
+              let (stored, passes) = kept_from chosen order ix here in
+              let (item, is) = item_at s ix ((holds.each ix).0 stored) in
+              (item, is, sym (chosen_at ix item is) ∙ passes),
+          λ (item, is, passes). keeps chosen order ix ((holds.each ix).1 (live_at s ix item is)) (chosen_at ix item is ∙ passes),
+        );
+        placed = IsStrictlySortedBy-filter _ chosen order placed;
+      }
 
-    module _
-        {F : Type 0} (g : Mut F (ℕ × Unit {0}) (Bor K)) (old new : Asking F) (total : IsTotalOrder compare)
-        (lawful : (q : Q) → IsQuery compare (cmp q))
-        (steady : (q : Q) → IsSteady g order None (λ k. cmp q k.now) (answers q) old)
+      module _
+          {F : Type 0} (g : Mut F (ℕ × Unit {0}) (Bor K)) (old new : Asking F) (total : IsTotalOrder compare)
+          (lawful : (q : Q) → IsQuery compare (cmp q))
+          (steady : (q : Q) → IsSteady g order None (λ k. cmp q k.now) (answers q) old)
         where
-      abbrev reads : Bound Q → Bound (Bor K → Ordering)
-      reads b = reads_by cmp b
+          abbrev reads : Bound Q → Bound (Bor K → Ordering)
+          reads b = reads_by cmp b
 
-      module _ (placed : IsInPlace key_of compare s order) where
-        rising : (q : Q) → IsSteadyRising g order None (λ k. cmp q k.now) (answers q) old
-        rising q = record {
-          steady = steady q;
-          rising = IsRising-query compare (cmp q) (lawful q) total (key_at key_of s) order placed;
-        }
+          module _ (placed : IsInPlace key_of compare s order) where
+            rising : (q : Q) → IsSteadyRising g order None (λ k. cmp q k.now) (answers q) old
+            rising q = record {
+              steady = steady q;
+              rising = IsRising-query compare (cmp q) (lawful q) total (key_at key_of s) order placed;
+            }
 
-        begins_at :
-            (lower : Bound Q) (place : ℕ)
-            → Begins g order (reads lower) old place
-            → IsPlace (lower_at lower) order place
-        begins_at (Included q) place begins = begins (answers q) (rising q)
-        begins_at (Excluded q) place begins = begins (answers q) (rising q)
-        begins_at Unbounded place begins = record {
-          within = omega (arith, begins);
-          greater_before = λ k lt. absurd (omega (arith, begins, lt));
-          less_from = λ k from lt. refl;
-        }
+            begins_at :
+                (lower : Bound Q) (place : ℕ)
+                → Begins g order (reads lower) old place
+                → IsPlace (lower_at lower) order place
+            begins_at (Included q) place begins = begins (answers q) (rising q)
+            begins_at (Excluded q) place begins = begins (answers q) (rising q)
+            begins_at Unbounded place begins = record {
+              within = omega (arith, begins);
+              greater_before = λ k lt. absurd (omega (arith, begins, lt));
+              less_from = λ k from lt. refl;
+            }
 
-        ends_at :
-            (upper : Bound Q) (place : ℕ)
-            → Ends g order (reads upper) old place
-            → IsPlace (upper_at upper) order place
-        ends_at (Included q) place ends = ends (answers q) (rising q)
-        ends_at (Excluded q) place ends = ends (answers q) (rising q)
-        ends_at Unbounded place ends = record {
-          within = omega (arith, ends);
-          greater_before = λ k lt. refl;
-          less_from = λ k from lt. absurd (omega (arith, ends, from, lt));
-        }
+            ends_at :
+                (upper : Bound Q) (place : ℕ)
+                → Ends g order (reads upper) old place
+                → IsPlace (upper_at upper) order place
+            ends_at (Included q) place ends = ends (answers q) (rising q)
+            ends_at (Excluded q) place ends = ends (answers q) (rising q)
+            ends_at Unbounded place ends = record {
+              within = omega (arith, ends);
+              greater_before = λ k lt. refl;
+              less_from = λ k from lt. absurd (omega (arith, ends, from, lt));
+            }
 
-        SortsWithin-part :
-            (from to : ℕ)
-            → Begins g order (reads lower) old from
-            → Ends g order (reads upper) old to
-            → SortsWithin key_of compare between s (part from to order)
-        SortsWithin-part from to begins ends =
-            subst (SortsWithin key_of compare between s)
-            (sym (part-within (lower_at lower) (upper_at upper) order from to (begins_at lower from begins) (ends_at upper to ends)))
-            (SortsWithin-chosen placed)
+            SortsWithin-part :
+                (from to : ℕ)
+                → Begins g order (reads lower) old from
+                → Ends g order (reads upper) old to
+                → SortsWithin key_of compare between s (part from to order)
+            SortsWithin-part from to begins ends =
+                subst (SortsWithin key_of compare between s)
+                (sym (part-within (lower_at lower) (upper_at upper) order from to (begins_at lower from begins) (ends_at upper to ends)))
+                (SortsWithin-chosen placed)
 
-      WalksWithin-part :
-          (from to : ℕ)
-          → Begins g order (reads lower) old from
-          → Ends g order (reads upper) old to
-          → WalksWithin key_of compare between s order (part from to order)
-      WalksWithin-part from to begins ends =
-          let run = IsRunOf-part order from to in
-          record {
-            run = run;
-            live = λ ix here. (holds.each ix).0 (Contains-run order (part from to order) run ix here);
-            once = IsDistinct-run order (part from to order) run holds.once;
-            in_place = λ placed. SortsWithin-part placed from to begins ends;
-          }
+          WalksWithin-part :
+              (from to : ℕ)
+              → Begins g order (reads lower) old from
+              → Ends g order (reads upper) old to
+              → WalksWithin key_of compare between s order (part from to order)
+          WalksWithin-part from to begins ends =
+              let run = IsRunOf-part order from to in
+              record {
+                run = run;
+                live = λ ix here. (holds.each ix).0 (Contains-run order (part from to order) run ix here);
+                once = IsDistinct-run order (part from to order) run holds.once;
+                in_place = λ placed. SortsWithin-part placed from to begins ends;
+              }
 
-      pub WalksWithin-walked :
-          (from to : Bound (Bor K → Ordering))
-          → from ≡ reads lower
-          → to ≡ reads upper
-          → (walk : Range)
-          → WalksBetween g order from to old walk new
-          → WalksWithin key_of compare between s order (indexes_ahead walk)
-      WalksWithin-walked from to from_is to_is walk walks =
-          let begins = subst (λ b. Begins g order b old walks.from) from_is walks.begins in
-          let ends = subst (λ b. Ends g order b old walks.to) to_is walks.ends in
-          subst (WalksWithin key_of compare between s order) (sym walks.ahead.ahead) (WalksWithin-part walks.from walks.to begins ends)
+          pub WalksWithin-walked :
+              (from to : Bound (Bor K → Ordering))
+              → from ≡ reads lower
+              → to ≡ reads upper
+              → (walk : Range)
+              → WalksBetween g order from to old walk new
+              → WalksWithin key_of compare between s order (indexes_ahead walk)
+          WalksWithin-walked from to from_is to_is walk walks =
+              let begins = subst (λ b. Begins g order b old walks.from) from_is walks.begins in
+              let ends = subst (λ b. Ends g order b old walks.to) to_is walks.ends in
+              subst (WalksWithin key_of compare between s order) (sym walks.ahead.ahead) (WalksWithin-part walks.from walks.to begins ends)

@@ -5,3 +5,4 @@
 
 pub mod ordered;
 pub mod ordered_walk;
+mod ranked;

@@ -1,4 +1,4 @@
-//! A side that goes by the order of a key: a table of indexes, sorted by key, ties by index.
+//! A table of indexes beside a store, in the order of a key, ties by index.
 //!
 //! Keys may change behind the table's back. Then it may be in no order: a search may miss, but never
 //! hits an index whose item compares otherwise now, a walk between two bounds gives a run of the list,
@@ -15,11 +15,12 @@ ghost use Rattle.iddqd_by_order.specs.Ordered.{AreLive, Enters, Holds, LooksUp, 
 ghost use Rattle.iddqd_keys.specs.OrderedQuery.{is_between};
 ghost use Rattle.iddqd_by_order.specs.OrderedWalk.{WalksWithin};
 
-use iddqd_keys::order_query::{OrdQuery, RankedLent};
+use crate::ranked::RankedLent;
 use iddqd::item_index::ItemIndex;
 use iddqd::item_set::ItemSet;
 use iddqd::map_hash::Comparable;
 use iddqd_keys::key_of::{KeyOf, key_at};
+use iddqd_keys::order_query::OrdQuery;
 use iddqd_order::btree_table::{Asking, Entry, MapBTreeTable, Range};
 use std::cmp::Ordering;
 use std::ops::Bound;

@@ -96,10 +96,10 @@ module _ {T : Type 0} where
           (items : List (Option T)) (free : List ℕ)
           → live_count (record { items = items; free = free; limit = s.limit }) + length free ≡ length items
           → live_count (inserted (record { items = items; free = free; limit = s.limit }) item) + length
-              (inserted (record { items = items; free = free; limit = s.limit }) item).free ≡ length
-                  (inserted (record { items = items; free = free; limit = s.limit }) item).items
+          (inserted (record { items = items; free = free; limit = s.limit }) item).free ≡ length
+          (inserted (record { items = items; free = free; limit = s.limit }) item).items
           → live_count (inserted (record { items = items; free = free; limit = s.limit }) item) ≡ live_count
-              (record { items = items; free = free; limit = s.limit }) + 1
+          (record { items = items; free = free; limit = s.limit }) + 1
       by_free items [] was is = omega (arith, length_push items (Some item))
       by_free items (ix ∷ rest) was is = omega (arith, length-set items ix (Some item))
 

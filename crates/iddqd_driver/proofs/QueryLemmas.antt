@@ -113,10 +113,10 @@ module _ {T S K1 K2 : Type 0} (keys : Keys T K1 K2 S) where
 -- a query that is a key itself
 module _
     {T S K1 K2 K : Type 0} (side : Side T S K1 K2 K) (s : State T S) (key : K) (itself : side.equal key key ≡ true)
-    where
-  pub RemovesBy-query :
-      (removed : Option (ℕ × T)) (new : State T S)
-      → RemovesFound (LooksUpBy side s (side.equal key)) s removed new
-      → RemovesBy side s key removed new
-  RemovesBy-query None new (looked, same) = record { removes = (looked.as_key key itself, same); as_scan = looked.as_scan }
-  RemovesBy-query (Some (ix, item)) new (looked, removes) = record { removes = (looked.as_key key itself, removes); as_scan = looked.as_scan }
+  where
+    pub RemovesBy-query :
+        (removed : Option (ℕ × T)) (new : State T S)
+        → RemovesFound (LooksUpBy side s (side.equal key)) s removed new
+        → RemovesBy side s key removed new
+    RemovesBy-query None new (looked, same) = record { removes = (looked.as_key key itself, same); as_scan = looked.as_scan }
+    RemovesBy-query (Some (ix, item)) new (looked, removes) = record { removes = (looked.as_key key itself, removes); as_scan = looked.as_scan }

@@ -134,26 +134,26 @@ module _ {T : Type 0} (s : Store T) (ix : ℕ) (item was : T) (live : get s ix �
 
     module _
         {K : Type 0} (key_of : T → K) (hashing : hashed.Hashing K) (is : hash ≡ hashing.hash_of (key_of item))
-        where
-      pub IsInPlace-refiled : hashed.IsInPlace key_of hashing s m → hashed.IsInPlace key_of hashing after there
-      IsInPlace-refiled placed j y stands =
-          elim (rebound_cases s ix item was live j y stands) [
-            | inl a ↦ rw (a.0, ← a.1) (get-insert_at m ix hash ∙ ap Some is)
-            | inr b ↦ get-insert_other m ix hash j b.0 ∙ placed j y b.1
-          ]
+      where
+        pub IsInPlace-refiled : hashed.IsInPlace key_of hashing s m → hashed.IsInPlace key_of hashing after there
+        IsInPlace-refiled placed j y stands =
+            elim (rebound_cases s ix item was live j y stands) [
+              | inl a ↦ rw (a.0, ← a.1) (get-insert_at m ix hash ∙ ap Some is)
+              | inr b ↦ get-insert_other m ix hash j b.0 ∙ placed j y b.1
+            ]
 
-      pub Keeps-refiled :
-          hashed.IsLawful hashing
-          → (hashed.IsExact key_of hashing s m → (j : ℕ) → IsHit s (passes_by key_of (hashing.equal (key_of item))) j →
-              j ≡ ix)
-          → hashed.Keeps key_of hashing s m after there
-      Keeps-refiled lawful alone = record {
-        placed = IsInPlace-refiled;
-        exact = λ o. record {
-          placed = IsInPlace-refiled o.placed;
-          apart = AreApart-alone _ (λ x y. lawful.equivalence.symm (key_of x) (key_of y)) (alone o) o.apart;
-        };
-      }
+        pub Keeps-refiled :
+            hashed.IsLawful hashing
+            → (hashed.IsExact key_of hashing s m → (j : ℕ) → IsHit s (passes_by key_of (hashing.equal (key_of item))) j →
+            j ≡ ix)
+            → hashed.Keeps key_of hashing s m after there
+        Keeps-refiled lawful alone = record {
+          placed = IsInPlace-refiled;
+          exact = λ o. record {
+            placed = IsInPlace-refiled o.placed;
+            apart = AreApart-alone _ (λ x y. lawful.equivalence.symm (key_of x) (key_of y)) (alone o) o.apart;
+          };
+        }
 
   -- ---- the ordered table
 

@@ -60,34 +60,34 @@ list_any-passed test xs x here = list_any-at test xs x here.0 here.1 here.2
 module _
     {F T : Type 0} (ask : F → T → Bool → F → Type 0) (I : F → Type 0) (test : T → Bool) (xs : List T)
     (says : (s : F) (x : T) (b : Bool) (t : F) → Contains xs x → I s → ask s x b t → (b ≡ test x) × I t)
-    where
-  AllRefused-tested :
-      (f : F) (ys : List T) (last : F)
-      → ((x : T) → Contains ys x → Contains xs x)
-      → I f
-      → AllRefused ask f ys last
-      → (list_any test ys ≡ false) × I last
-  AllRefused-tested f [] last among i same = (refl, subst I same i)
-  AllRefused-tested f (y ∷ ys) last among i asks =
-      let one = says f y false asks.0 (among y (0, omega arith, refl)) i asks.1 in
-      let rest = AllRefused-tested asks.0 ys last (λ x here. among x (Contains-append_right (y ∷ []) ys x here)) one.1 asks.2 in
-      (rw (← one.0) rest.0, rest.1)
+  where
+    AllRefused-tested :
+        (f : F) (ys : List T) (last : F)
+        → ((x : T) → Contains ys x → Contains xs x)
+        → I f
+        → AllRefused ask f ys last
+        → (list_any test ys ≡ false) × I last
+    AllRefused-tested f [] last among i same = (refl, subst I same i)
+    AllRefused-tested f (y ∷ ys) last among i asks =
+        let one = says f y false asks.0 (among y (0, omega arith, refl)) i asks.1 in
+        let rest = AllRefused-tested asks.0 ys last (λ x here. among x (Contains-append_right (y ∷ []) ys x here)) one.1 asks.2 in
+        (rw (← one.0) rest.0, rest.1)
 
-  pub Misses-tested : (f : F) → I f → Misses ask f xs → list_any test xs ≡ false
-  Misses-tested f i miss =
-      let among = λ (x : T) (here : Contains miss.asked x). Contains-permutation _ _ x (IsPermutation-sym _ _ miss.each_once) here in
-      list_any-IsPermutation test _ _ miss.each_once ∙ (AllRefused-tested f miss.asked miss.last among i miss.were_refused).0
+    pub Misses-tested : (f : F) → I f → Misses ask f xs → list_any test xs ≡ false
+    Misses-tested f i miss =
+        let among = λ (x : T) (here : Contains miss.asked x). Contains-permutation _ _ x (IsPermutation-sym _ _ miss.each_once) here in
+        list_any-IsPermutation test _ _ miss.each_once ∙ (AllRefused-tested f miss.asked miss.last among i miss.were_refused).0
 
-  pub Hits-tested : (f : F) (v : T) → I f → Hits ask f xs v → Contains xs v × (test v ≡ true)
-  Hits-tested f v i hit =
-      let back = IsPermutation-sym _ _ hit.each_once in
-      let among = λ (x : T) (here : Contains hit.refused x). Contains-permutation _ _ x back (Contains-append_left hit.refused _ x here) in
-      let at = (AllRefused-tested f hit.refused hit.before among i hit.were_refused).1 in
-      let here = Contains-permutation _ _ v back (Contains-append_right hit.refused _ v (0, omega arith, refl)) in
-      (here, sym (says hit.before v true hit.last here at hit.accepted).0)
+    pub Hits-tested : (f : F) (v : T) → I f → Hits ask f xs v → Contains xs v × (test v ≡ true)
+    Hits-tested f v i hit =
+        let back = IsPermutation-sym _ _ hit.each_once in
+        let among = λ (x : T) (here : Contains hit.refused x). Contains-permutation _ _ x back (Contains-append_left hit.refused _ x here) in
+        let at = (AllRefused-tested f hit.refused hit.before among i hit.were_refused).1 in
+        let here = Contains-permutation _ _ v back (Contains-append_right hit.refused _ v (0, omega arith, refl)) in
+        (here, sym (says hit.before v true hit.last here at hit.accepted).0)
 
-  pub LooksUp-tested : (f : F) (r : Option T) → I f → LooksUp ask f xs r → is_some r ≡ list_any test xs
-  LooksUp-tested f None i miss = sym (Misses-tested f i miss)
-  LooksUp-tested f (Some v) i hit =
-      let found = Hits-tested f v i hit in
-      sym (list_any-passed test xs v found.0 found.1)
+    pub LooksUp-tested : (f : F) (r : Option T) → I f → LooksUp ask f xs r → is_some r ≡ list_any test xs
+    LooksUp-tested f None i miss = sym (Misses-tested f i miss)
+    LooksUp-tested f (Some v) i hit =
+        let found = Hits-tested f v i hit in
+        sym (list_any-passed test xs v found.0 found.1)

@@ -69,22 +69,22 @@ module _ {T : Type 0} where
   module _
       (xs ys : List (ℕ × T)) (before held after holds : ℕ) (same : holds ≡ held)
       (kept : length ys + after ≡ length xs + before)
-      where
-    pub KeepsMemory-listed : before ≤ after → KeepsMemory (listed xs before held) (listed ys after holds)
-    KeepsMemory-listed stays =
-        record {
-          room_stays = rw (room-listed xs, room-listed ys) stays;
-          same_capacity = rw (entries-listed xs, entries-listed ys, room-listed xs, room-listed ys) kept;
-          same_memory = rw (memory-listed xs, memory-listed ys) same;
-        }
+    where
+      pub KeepsMemory-listed : before ≤ after → KeepsMemory (listed xs before held) (listed ys after holds)
+      KeepsMemory-listed stays =
+          record {
+            room_stays = rw (room-listed xs, room-listed ys) stays;
+            same_capacity = rw (entries-listed xs, entries-listed ys, room-listed xs, room-listed ys) kept;
+            same_memory = rw (memory-listed xs, memory-listed ys) same;
+          }
 
-    pub UsesRoom-listed : before ≡ after + 1 → UsesRoom (listed xs before held) (listed ys after holds)
-    UsesRoom-listed less =
-        record {
-          one_less = rw (room-listed xs, room-listed ys) less;
-          same_capacity = rw (entries-listed xs, entries-listed ys, room-listed xs, room-listed ys) kept;
-          same_memory = rw (memory-listed xs, memory-listed ys) same;
-        }
+      pub UsesRoom-listed : before ≡ after + 1 → UsesRoom (listed xs before held) (listed ys after holds)
+      UsesRoom-listed less =
+          record {
+            one_less = rw (room-listed xs, room-listed ys) less;
+            same_capacity = rw (entries-listed xs, entries-listed ys, room-listed xs, room-listed ys) kept;
+            same_memory = rw (memory-listed xs, memory-listed ys) same;
+          }
 
   pub Reserves-unneeded :
       {A E : Type 0} (additional : ℕ) (t : Table T) (x : A)
@@ -121,37 +121,37 @@ module _ {T : Type 0} where
       (es : List (ℕ × T)) (additional len now held wanted holds : ℕ) (counted : len ≡ length es)
       (short : held - len < additional) (full : len ≤ held) (same : now ≡ len) (enough : len + additional ≤ wanted)
       (few : wanted ≤ max (len + additional) (held * 2)) (more : held ≤ holds)
-      where
-    pub Reserves-listed :
-        {A E : Type 0} (r : Result A E)
-        → OnOk r (holds ≡ max held wanted)
-        → OnErr r (holds ≡ held)
-        → Reserves additional (listed es (held - len) held) r (listed es (holds - now) holds)
-    Reserves-listed r reserved refused =
-        record {
-          reserved = rw room-listed (roomy r reserved);
-          refused = stays r refused;
-          had_room = λ had. absurd (let room : additional ≤ held - len = rw room-listed at had in omega arith);
-          room_stays = rw (room-listed es _ held, room-listed es _ holds) (omega arith);
-          memory_stays = rw (memory-listed es _ held, memory-listed es _ holds) more;
-          few = rw (entries-listed es _ held, memory-listed es _ held, memory-listed es _ holds) (at_most r reserved refused);
-        }
-      where
-        roomy : {A E : Type 0} (r : Result A E) → OnOk r (holds ≡ max held wanted) → OnOk r (additional ≤ holds - now)
-        roomy (Ok x) is = omega arith
-        roomy (Err e) is = tt
+    where
+      pub Reserves-listed :
+          {A E : Type 0} (r : Result A E)
+          → OnOk r (holds ≡ max held wanted)
+          → OnErr r (holds ≡ held)
+          → Reserves additional (listed es (held - len) held) r (listed es (holds - now) holds)
+      Reserves-listed r reserved refused =
+          record {
+            reserved = rw room-listed (roomy r reserved);
+            refused = stays r refused;
+            had_room = λ had. absurd (let room : additional ≤ held - len = rw room-listed at had in omega arith);
+            room_stays = rw (room-listed es _ held, room-listed es _ holds) (omega arith);
+            memory_stays = rw (memory-listed es _ held, memory-listed es _ holds) more;
+            few = rw (entries-listed es _ held, memory-listed es _ held, memory-listed es _ holds) (at_most r reserved refused);
+          }
+        where
+          roomy : {A E : Type 0} (r : Result A E) → OnOk r (holds ≡ max held wanted) → OnOk r (additional ≤ holds - now)
+          roomy (Ok x) is = omega arith
+          roomy (Err e) is = tt
 
-        stays :
-            {A E : Type 0} (r : Result A E)
-            → OnErr r (holds ≡ held)
-            → OnErr r (listed es (holds - now) holds ≡ listed es (held - len) held)
-        stays (Ok x) is = tt
-        stays (Err e) is = λ i. listed es (is i - same i) (is i)
+          stays :
+              {A E : Type 0} (r : Result A E)
+              → OnErr r (holds ≡ held)
+              → OnErr r (listed es (holds - now) holds ≡ listed es (held - len) held)
+          stays (Ok x) is = tt
+          stays (Err e) is = λ i. listed es (is i - same i) (is i)
 
-        at_most :
-            {A E : Type 0} (r : Result A E)
-            → OnOk r (holds ≡ max held wanted)
-            → OnErr r (holds ≡ held)
-            → holds ≤ max held (most_cells (length es + additional))
-        at_most (Ok x) is refused = omega arith
-        at_most (Err e) is refused = omega arith
+          at_most :
+              {A E : Type 0} (r : Result A E)
+              → OnOk r (holds ≡ max held wanted)
+              → OnErr r (holds ≡ held)
+              → holds ≤ max held (most_cells (length es + additional))
+          at_most (Ok x) is refused = omega arith
+          at_most (Err e) is refused = omega arith

@@ -111,46 +111,46 @@ module _ (m : FinMap nat_cmp ℕ) (hash : ℕ) where
   module _
       {F : Type 0} (ask : F → ℕ → Bool → F → Type 0) (I : F → Type 0) (test : ℕ → Bool)
       (says : (s : F) (ix : ℕ) (b : Bool) (t : F) → finite.get m ix ≡ Some hash → I s → ask s ix b t → (b ≡ test ix) × I
-          t)
-      where
-    says_under :
-        (s : F) (ix : ℕ) (b : Bool) (t : F)
-        → Contains (indexes_under hash m) ix
-        → I s
-        → ask s ix b t
-        → (b ≡ test ix) × I t
-    says_under s ix b t here = says s ix b t (filed_from_under ix here)
+      t)
+    where
+      says_under :
+          (s : F) (ix : ℕ) (b : Bool) (t : F)
+          → Contains (indexes_under hash m) ix
+          → I s
+          → ask s ix b t
+          → (b ≡ test ix) × I t
+      says_under s ix b t here = says s ix b t (filed_from_under ix here)
 
-    pub Hits-filed :
-        (f : F) (ix : ℕ)
-        → I f
-        → Hits ask f (indexes_under hash m) ix
-        → (finite.get m ix ≡ Some hash) × (test ix ≡ true)
-    Hits-filed f ix i hit =
-        let found = Hits-tested ask I test _ says_under f ix i hit in
-        (filed_from_under ix found.0, found.1)
+      pub Hits-filed :
+          (f : F) (ix : ℕ)
+          → I f
+          → Hits ask f (indexes_under hash m) ix
+          → (finite.get m ix ≡ Some hash) × (test ix ≡ true)
+      Hits-filed f ix i hit =
+          let found = Hits-tested ask I test _ says_under f ix i hit in
+          (filed_from_under ix found.0, found.1)
 
-    pub Misses-filed :
-        (f : F)
-        → I f
-        → Misses ask f (indexes_under hash m)
-        → (ix : ℕ)
-        → finite.get m ix ≡ Some hash
-        → test ix ≡ false
-    Misses-filed f i miss ix is =
-        let none = Misses-tested ask I test _ says_under f i miss in
-        elim (test ix) as (λ b. test ix ≡ b → b ≡ false) [
-          | true ↦ λ passes. sym (list_any-passed test _ ix (under_from_filed ix is) passes) ∙ none
-          | false ↦ λ _. refl
-        ] refl
+      pub Misses-filed :
+          (f : F)
+          → I f
+          → Misses ask f (indexes_under hash m)
+          → (ix : ℕ)
+          → finite.get m ix ≡ Some hash
+          → test ix ≡ false
+      Misses-filed f i miss ix is =
+          let none = Misses-tested ask I test _ says_under f i miss in
+          elim (test ix) as (λ b. test ix ≡ b → b ≡ false) [
+            | true ↦ λ passes. sym (list_any-passed test _ ix (under_from_filed ix is) passes) ∙ none
+            | false ↦ λ _. refl
+          ] refl
 
-    pub FindsWhere-looked_up :
-        (f : F) (r : Option ℕ)
-        → I f
-        → LooksUp ask f (indexes_under hash m) r
-        → FindsWhere test hash m r
-    FindsWhere-looked_up f None i miss = Misses-filed f i miss
-    FindsWhere-looked_up f (Some ix) i hit = Hits-filed f ix i hit
+      pub FindsWhere-looked_up :
+          (f : F) (r : Option ℕ)
+          → I f
+          → LooksUp ask f (indexes_under hash m) r
+          → FindsWhere test hash m r
+      FindsWhere-looked_up f None i miss = Misses-filed f i miss
+      FindsWhere-looked_up f (Some ix) i hit = Hits-filed f ix i hit
 
   -- the same of a look-up by a query, where the query is equivalent to each key that the lookup gives as the test says
   pub FindsWhere-by_key :

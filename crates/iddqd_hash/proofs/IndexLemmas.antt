@@ -61,51 +61,51 @@ contains_is ix es walk moved =
 module _
     {F G : Type 0} (ask : F → ℕ → Bool → F → Type 0) (asks : G → ℕ → Bool → G → Type 0) (R : F → G → Type 0)
     (follows : (f : F) (k : G) (x : ℕ) (b : Bool) (f' : F) → R f k → ask f x b f' → (k' : G) × asks k x b k' × R f' k')
-    where
-  asked_follows :
-      (f : F) (k : G) (list : List ((ℕ × ℕ) × Bool)) (last : F)
-      → R f k
-      → FoldsTo (λ p a q. ask p a.0.1 a.1 q) f list last
-      → (end : G) × FoldsTo (λ p a q. asks p a.0.1 a.1 q) k list end
-  asked_follows f k [] last r same = (k, refl)
-  asked_follows f k (a ∷ list) last r calls =
-      let one = follows f k a.0.1 a.1 calls.0 r calls.1 in
-      let rest = asked_follows calls.0 one.0 list last one.2 calls.2 in
-      (rest.0, (one.0, one.1, rest.1))
+  where
+    asked_follows :
+        (f : F) (k : G) (list : List ((ℕ × ℕ) × Bool)) (last : F)
+        → R f k
+        → FoldsTo (λ p a q. ask p a.0.1 a.1 q) f list last
+        → (end : G) × FoldsTo (λ p a q. asks p a.0.1 a.1 q) k list end
+    asked_follows f k [] last r same = (k, refl)
+    asked_follows f k (a ∷ list) last r calls =
+        let one = follows f k a.0.1 a.1 calls.0 r calls.1 in
+        let rest = asked_follows calls.0 one.0 list last one.2 calls.2 in
+        (rest.0, (one.0, one.1, rest.1))
 
-  pub Keeps-follows :
-      (f : F) (k : G) (old new olds news : List (ℕ × ℕ))
-      → R f k
-      → IsPermutation old olds
-      → IsPermutation new news
-      → Keeps ask f old new
-      → Keeps asks k olds news
-  Keeps-follows f k old new olds news r moved left told =
-      let keeps = told.kept in
-      let asked = asked_follows f k keeps.asks told.last r keeps.were_asked in
-      record {
-        last = asked.0;
-        kept = record {
-          asks = keeps.asks;
-          each_once = IsPermutation-trans _ _ _ (IsPermutation-sym _ _ moved) keeps.each_once;
-          were_asked = asked.1;
-          kept = IsPermutation-trans _ _ _ keeps.kept left;
-        };
-      }
+    pub Keeps-follows :
+        (f : F) (k : G) (old new olds news : List (ℕ × ℕ))
+        → R f k
+        → IsPermutation old olds
+        → IsPermutation new news
+        → Keeps ask f old new
+        → Keeps asks k olds news
+    Keeps-follows f k old new olds news r moved left told =
+        let keeps = told.kept in
+        let asked = asked_follows f k keeps.asks told.last r keeps.were_asked in
+        record {
+          last = asked.0;
+          kept = record {
+            asks = keeps.asks;
+            each_once = IsPermutation-trans _ _ _ (IsPermutation-sym _ _ moved) keeps.each_once;
+            were_asked = asked.1;
+            kept = IsPermutation-trans _ _ _ keeps.kept left;
+          };
+        }
 
-  pub FindsPlace-follows :
-      (f : F) (k : G) (hash : ℕ) (xs ys : List ℕ) (pair_in : ℕ → Option (ℕ × ℕ)) (r : Option ℕ)
-      → R f k
-      → IsPermutation xs ys
-      → FindsPlace ask f hash xs pair_in r
-      → FindsPlace asks k hash ys pair_in r
-  FindsPlace-follows f k hash xs ys pair_in None r moved miss = LooksUp-follows ask asks R follows f k xs ys None r moved miss
-  FindsPlace-follows f k hash xs ys pair_in (Some place) r moved found =
-      record {
-        value = found.value;
-        is_pair = found.is_pair;
-        hit = LooksUp-follows ask asks R follows f k xs ys (Some found.value) r moved found.hit;
-      }
+    pub FindsPlace-follows :
+        (f : F) (k : G) (hash : ℕ) (xs ys : List ℕ) (pair_in : ℕ → Option (ℕ × ℕ)) (r : Option ℕ)
+        → R f k
+        → IsPermutation xs ys
+        → FindsPlace ask f hash xs pair_in r
+        → FindsPlace asks k hash ys pair_in r
+    FindsPlace-follows f k hash xs ys pair_in None r moved miss = LooksUp-follows ask asks R follows f k xs ys None r moved miss
+    FindsPlace-follows f k hash xs ys pair_in (Some place) r moved found =
+        record {
+          value = found.value;
+          is_pair = found.is_pair;
+          hit = LooksUp-follows ask asks R follows f k xs ys (Some found.value) r moved found.hit;
+        }
 
 -- what passed some asks stands once where all do
 apart_passed :

@@ -69,9 +69,9 @@ lowest_cleared (suc k) n some lt = by_digit (n % 2) refl (λ more. lowest_cleare
         (d : ℕ)
         → n % 2 ≡ d
         → (0 < n / 2 → bit_and (n / 2) (n / 2 - 1) ≡ 2 ^ (count_trailing_zeros k (n / 2) + 1) *
-            (n / 2 / 2 ^ (count_trailing_zeros k (n / 2) + 1)))
+        (n / 2 / 2 ^ (count_trailing_zeros k (n / 2) + 1)))
         → bit_and n (n - 1) ≡ 2 ^ (under (n % 2) (count_trailing_zeros k (n / 2)) + 1) *
-            (n / 2 ^ (under (n % 2) (count_trailing_zeros k (n / 2)) + 1))
+        (n / 2 ^ (under (n % 2) (count_trailing_zeros k (n / 2)) + 1))
     by_digit zero even rest =
         cleared-even (count_trailing_zeros k (n / 2)) n some even (rest (omega arith))
         ∙ ap (λ d. 2 ^ (under d (count_trailing_zeros k (n / 2)) + 1) * (n / 2 ^ (under d (count_trailing_zeros k (n / 2)) + 1))) (sym even)

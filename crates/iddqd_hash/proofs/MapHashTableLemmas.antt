@@ -87,44 +87,44 @@ len_filed es apart = sym (length-map es turned) ∙ sym (length_permutation _ _ 
 module _
     {F G T : Type 0} (ask : F → T → Bool → F → Type 0) (asks : G → T → Bool → G → Type 0) (R : F → G → Type 0)
     (follows : (f : F) (k : G) (x : T) (b : Bool) (f' : F) → R f k → ask f x b f' → (k' : G) × asks k x b k' × R f' k')
-    where
-  refused_follows :
-      (f : F) (k : G) (xs : List T) (last : F)
-      → R f k
-      → AllRefused ask f xs last
-      → (end : G) × AllRefused asks k xs end × R last end
-  refused_follows f k [] last r same = (k, refl, subst (λ s. R s k) same r)
-  refused_follows f k (x ∷ xs) last r calls =
-      let one = follows f k x false calls.0 r calls.1 in
-      let rest = refused_follows calls.0 one.0 xs last one.2 calls.2 in
-      (rest.0, (one.0, one.1, rest.1), rest.2)
+  where
+    refused_follows :
+        (f : F) (k : G) (xs : List T) (last : F)
+        → R f k
+        → AllRefused ask f xs last
+        → (end : G) × AllRefused asks k xs end × R last end
+    refused_follows f k [] last r same = (k, refl, subst (λ s. R s k) same r)
+    refused_follows f k (x ∷ xs) last r calls =
+        let one = follows f k x false calls.0 r calls.1 in
+        let rest = refused_follows calls.0 one.0 xs last one.2 calls.2 in
+        (rest.0, (one.0, one.1, rest.1), rest.2)
 
-  pub LooksUp-follows :
-      (f : F) (k : G) (xs ys : List T) (r : Option T)
-      → R f k
-      → IsPermutation xs ys
-      → LooksUp ask f xs r
-      → LooksUp asks k ys r
-  LooksUp-follows f k xs ys None r moved miss =
-      let end = refused_follows f k miss.asked miss.last r miss.were_refused in
-      record {
-        asked = miss.asked;
-        each_once = IsPermutation-trans _ _ _ (IsPermutation-sym _ _ moved) miss.each_once;
-        last = end.0;
-        were_refused = end.1;
-      }
-  LooksUp-follows f k xs ys (Some v) r moved hit =
-      let end = refused_follows f k hit.refused hit.before r hit.were_refused in
-      let yes = follows hit.before end.0 v true hit.last end.2 hit.accepted in
-      record {
-        refused = hit.refused;
-        unasked = hit.unasked;
-        each_once = IsPermutation-trans _ _ _ (IsPermutation-sym _ _ moved) hit.each_once;
-        before = end.0;
-        were_refused = end.1;
-        last = yes.0;
-        accepted = yes.1;
-      }
+    pub LooksUp-follows :
+        (f : F) (k : G) (xs ys : List T) (r : Option T)
+        → R f k
+        → IsPermutation xs ys
+        → LooksUp ask f xs r
+        → LooksUp asks k ys r
+    LooksUp-follows f k xs ys None r moved miss =
+        let end = refused_follows f k miss.asked miss.last r miss.were_refused in
+        record {
+          asked = miss.asked;
+          each_once = IsPermutation-trans _ _ _ (IsPermutation-sym _ _ moved) miss.each_once;
+          last = end.0;
+          were_refused = end.1;
+        }
+    LooksUp-follows f k xs ys (Some v) r moved hit =
+        let end = refused_follows f k hit.refused hit.before r hit.were_refused in
+        let yes = follows hit.before end.0 v true hit.last end.2 hit.accepted in
+        record {
+          refused = hit.refused;
+          unasked = hit.unasked;
+          each_once = IsPermutation-trans _ _ _ (IsPermutation-sym _ _ moved) hit.each_once;
+          before = end.0;
+          were_refused = end.1;
+          last = yes.0;
+          accepted = yes.1;
+        }
 
 pub tied : (x y : ℕ) → eq_by_cmp nat_cmp x y ≡ true → nat_cmp x y ≡ Equal
 tied x y is = by_answer (nat_cmp x y) is
@@ -169,7 +169,7 @@ inserts_turn m j k u v apart = finite.same_map nat_cmp_total finite.nat_cmp-IsAn
     at :
         (q : ℕ)
         → finite.get (finite.insert (finite.insert m k v) j u) q ≡ finite.get (finite.insert (finite.insert m j u) k v)
-            q
+        q
     at q =
         rw (finite.get-insert nat_cmp_total, finite.get-insert nat_cmp_total, finite.get-insert nat_cmp_total, finite.get-insert nat_cmp_total) (choose _ _ _ _ _ (never q))
 

@@ -42,24 +42,24 @@ module _ {T : Type 0} where
   module _
       (tags now_tags : List ℕ) (slots now_slots : List (Option (ℕ × T))) (len now : ℕ)
       (roomy : Roomy tags slots len now_tags now_slots now) (place hash : ℕ) (value : T) (free : IsFree now_tags place)
-      where
-    pub add-free : slot_at now_slots place ≡ None
-    add-free = free_slot (slice_index now_tags place) (slot_at now_slots place) (roomy.sound.probed.suited place free.within) free.free
+    where
+      pub add-free : slot_at now_slots place ≡ None
+      add-free = free_slot (slice_index now_tags place) (slot_at now_slots place) (roomy.sound.probed.suited place free.within) free.free
 
-    pub add-within : place < length now_slots
-    add-within = omega (arith, free.within, roomy.sound.probed.same_length)
+      pub add-within : place < length now_slots
+      add-within = omega (arith, free.within, roomy.sound.probed.same_length)
 
-    pub add-sound :
-        IsPastFull now_tags hash place
-        → (after : ℕ)
-        → after + used_count (slice_index now_tags place) ≡ now + 1
-        → IsSound (set now_tags place (tag_of hash)) (set now_slots place (Some (hash, value))) (len + 1) after
-    add-sound walk after counts =
-        IsSound-put now_tags now_slots len now roomy.sound place hash value after free.within free.free (IsReached-past_full now_tags hash place walk) counts
-        (rw roomy.same (omega (arith, roomy.limited, counts))) (rw roomy.same roomy.room)
+      pub add-sound :
+          IsPastFull now_tags hash place
+          → (after : ℕ)
+          → after + used_count (slice_index now_tags place) ≡ now + 1
+          → IsSound (set now_tags place (tag_of hash)) (set now_slots place (Some (hash, value))) (len + 1) after
+      add-sound walk after counts =
+          IsSound-put now_tags now_slots len now roomy.sound place hash value after free.within free.free (IsReached-past_full now_tags hash place walk) counts
+          (rw roomy.same (omega (arith, roomy.limited, counts))) (rw roomy.same roomy.room)
 
-    pub add-pairs : IsPermutation ((hash, value) ∷ pairs slots) (pairs (set now_slots place (Some (hash, value))))
-    add-pairs = IsPermutation-trans _ _ _ (IsPermutation-cons (hash, value) _ _ roomy.moved) (pairs-put now_slots place (hash, value) add-within add-free)
+      pub add-pairs : IsPermutation ((hash, value) ∷ pairs slots) (pairs (set now_slots place (Some (hash, value))))
+      add-pairs = IsPermutation-trans _ _ _ (IsPermutation-cons (hash, value) _ _ roomy.moved) (pairs-put now_slots place (hash, value) add-within add-free)
 
-    pub add-counted : length (pairs (set now_slots place (Some (hash, value)))) ≡ length (pairs slots) + 1
-    add-counted = omega (arith, length_permutation _ _ add-pairs)
+      pub add-counted : length (pairs (set now_slots place (Some (hash, value)))) ≡ length (pairs slots) + 1
+      add-counted = omega (arith, length_permutation _ _ add-pairs)

@@ -337,15 +337,15 @@ full_behind tags from to onward gaps (k, past, below, full) =
 module _
     (tags : List ℕ) (from at end mask : ℕ) (ahead : IsAhead tags at end mask) (onward : from ≤ at)
     (gaps : NoneFull tags from (at - from)) (none : mask ≡ 0)
-    where
-  pub gaps-passed : NoneFull tags from (end - from)
-  gaps-passed = gaps_on tags from at end onward ahead.before_end gaps (gaps-to_end tags at end mask ahead none)
+  where
+    pub gaps-passed : NoneFull tags from (end - from)
+    gaps-passed = gaps_on tags from at end onward ahead.before_end gaps (gaps-to_end tags at end mask ahead none)
 
-  pub sixteen-behind : IsInSixteens (length tags) → SomeFull tags from → end + 16 ≤ length tags
-  sixteen-behind sixteens some =
-      let before : at ≤ end = ahead.before_end in
-      let further : SomeFull tags end = full_behind tags from end (omega arith) gaps-passed some in
-      sixteen_more _ _ further.0 sixteens ahead.in_sixteens further.1 further.2
+    pub sixteen-behind : IsInSixteens (length tags) → SomeFull tags from → end + 16 ≤ length tags
+    sixteen-behind sixteens some =
+        let before : at ≤ end = ahead.before_end in
+        let further : SomeFull tags end = full_behind tags from end (omega arith) gaps-passed some in
+        sixteen_more _ _ further.0 sixteens ahead.in_sixteens further.1 further.2
 
 pub IsWalk-start :
     {T : Type 0} (tags : List ℕ) (slots : List (Option (ℕ × T))) (at end mask len used : ℕ)

@@ -24,7 +24,7 @@ pub stops_mask :
     (v : List ℕ) (tag : ℕ)
     → length v ≡ 16
     → mask_l (map (top 7) (zip2 bit_or (zip2 same v (replicate 16 tag)) (zip2 same v (replicate 16 0)))) % 2 ^ 64 ≡
-        mask_l (map (is_stop tag) v)
+    mask_l (map (is_stop tag) v)
 stops_mask v tag long =
     rw (zip2_splat same v 16 tag long, zip2_splat same v 16 0 long, zip2-map bit_or (λ x. same x tag) (λ x. same x 0) v, map-map, tops tag v)
     (mask_l-mod (map (is_stop tag) v) 64 (omega (arith, length-map v (is_stop tag))))

@@ -33,51 +33,51 @@ module _ {T : Type 0} where
   module _
       (old left : List (Option (ℕ × T))) (tags : List ℕ) (slots : List (Option (ℕ × T)))
       (state : Moving old left tags slots)
-      where
-    few : count_by is_used tags ≤ length (pairs old)
-    few = omega (arith, state.counted, length_permutation _ _ state.moved, length-append (pairs slots) (pairs left))
+    where
+      few : count_by is_used tags ≤ length (pairs old)
+      few = omega (arith, state.counted, length_permutation _ _ state.moved, length-append (pairs slots) (pairs left))
 
-    pub Moving-room : 0 < length tags → length (pairs old) ≤ limit_of (length tags) → HasEmpty tags
-    Moving-room some fits = some_empty tags (omega (arith, few))
+      pub Moving-room : 0 < length tags → length (pairs old) ≤ limit_of (length tags) → HasEmpty tags
+      Moving-room some fits = some_empty tags (omega (arith, few))
 
-    pub Moving-skip : (rest : List (Option (ℕ × T))) → left ≡ rest ++ None ∷ [] → Moving old rest tags slots
-    Moving-skip rest is =
-        record {
-          probed = state.probed;
-          moved = subst (λ xs. IsPermutation (pairs old) (pairs slots ++ xs)) (ap pairs is ∙ pairs-push rest None ∙ append-nil (pairs rest)) state.moved;
-          unmarked = state.unmarked;
-          counted = state.counted;
-        }
+      pub Moving-skip : (rest : List (Option (ℕ × T))) → left ≡ rest ++ None ∷ [] → Moving old rest tags slots
+      Moving-skip rest is =
+          record {
+            probed = state.probed;
+            moved = subst (λ xs. IsPermutation (pairs old) (pairs slots ++ xs)) (ap pairs is ∙ pairs-push rest None ∙ append-nil (pairs rest)) state.moved;
+            unmarked = state.unmarked;
+            counted = state.counted;
+          }
 
-    pub Moving-put :
-        (rest : List (Option (ℕ × T))) (place hash : ℕ) (value : T)
-        → left ≡ rest ++ Some (hash, value) ∷ []
-        → place < length tags
-        → slice_index tags place < 128
-        → IsReached tags hash place
-        → Moving old rest (set tags place (tag_of hash)) (set slots place (Some (hash, value)))
-    Moving-put rest place hash value is inside small reached =
-        let within : place < length slots = omega (arith, state.probed.same_length) in
-        let suits : Suits (slice_index tags place) (slot_at slots place) = state.probed.suited place inside in
-        let free : slot_at slots place ≡ None = free_slot (slice_index tags place) (slot_at slots place) suits small in
-        let low : slice_index tags place ≤ 1 = subst (λ o. Suits (slice_index tags place) o) free suits in
-        let empty : slice_index tags place ≡ 0 = omega (arith, state.unmarked place) in
-        let was : used_count (slice_index tags place) ≡ 0 = ap used_count empty in
-        let now : used_count (tag_of hash) ≡ 1 = used_one (tag_of hash) (omega arith) in
-        let counts = used-set tags place (tag_of hash) inside in
-        let more = length-put slots place (hash, value) within free in
-        let last : IsPermutation (pairs slots ++ pairs left) (((hash, value) ∷ pairs slots) ++ pairs rest) =
-        rw (is, pairs-push rest (Some (hash, value)), ← append_assoc) (IsPermutation-to_front (pairs slots ++ pairs rest) (hash, value)) in
-        record {
-          probed = IsProbed-put tags slots state.probed place inside hash value reached;
-          moved = IsPermutation-trans _ _ _ state.moved (IsPermutation-trans _ _ _ last (IsPermutation-append_left (pairs rest) _ _ (pairs-put slots place (hash, value) within free)));
-          unmarked = λ k one.
-              elim (cases_eq k place) [
-                | inl same ↦ absurd (let tag : slice_index (set tags place (tag_of hash)) k ≡ tag_of hash = rw same (get_or-set_same tags place (tag_of hash) 0 inside) in omega arith)
-                | inr other ↦ state.unmarked k (sym (get_or-set_other tags place k (tag_of hash) 0 other) ∙ one)
-              ];
-          counted = omega (arith, state.counted);
-        }
+      pub Moving-put :
+          (rest : List (Option (ℕ × T))) (place hash : ℕ) (value : T)
+          → left ≡ rest ++ Some (hash, value) ∷ []
+          → place < length tags
+          → slice_index tags place < 128
+          → IsReached tags hash place
+          → Moving old rest (set tags place (tag_of hash)) (set slots place (Some (hash, value)))
+      Moving-put rest place hash value is inside small reached =
+          let within : place < length slots = omega (arith, state.probed.same_length) in
+          let suits : Suits (slice_index tags place) (slot_at slots place) = state.probed.suited place inside in
+          let free : slot_at slots place ≡ None = free_slot (slice_index tags place) (slot_at slots place) suits small in
+          let low : slice_index tags place ≤ 1 = subst (λ o. Suits (slice_index tags place) o) free suits in
+          let empty : slice_index tags place ≡ 0 = omega (arith, state.unmarked place) in
+          let was : used_count (slice_index tags place) ≡ 0 = ap used_count empty in
+          let now : used_count (tag_of hash) ≡ 1 = used_one (tag_of hash) (omega arith) in
+          let counts = used-set tags place (tag_of hash) inside in
+          let more = length-put slots place (hash, value) within free in
+          let last : IsPermutation (pairs slots ++ pairs left) (((hash, value) ∷ pairs slots) ++ pairs rest) =
+          rw (is, pairs-push rest (Some (hash, value)), ← append_assoc) (IsPermutation-to_front (pairs slots ++ pairs rest) (hash, value)) in
+          record {
+            probed = IsProbed-put tags slots state.probed place inside hash value reached;
+            moved = IsPermutation-trans _ _ _ state.moved (IsPermutation-trans _ _ _ last (IsPermutation-append_left (pairs rest) _ _ (pairs-put slots place (hash, value) within free)));
+            unmarked = λ k one.
+                elim (cases_eq k place) [
+                  | inl same ↦ absurd (let tag : slice_index (set tags place (tag_of hash)) k ≡ tag_of hash = rw same (get_or-set_same tags place (tag_of hash) 0 inside) in omega arith)
+                  | inr other ↦ state.unmarked k (sym (get_or-set_other tags place k (tag_of hash) 0 other) ∙ one)
+                ];
+            counted = omega (arith, state.counted);
+          }
 
   pub Moving-end :
       (old left : List (Option (ℕ × T))) (tags : List ℕ) (slots : List (Option (ℕ × T)))

@@ -146,66 +146,66 @@ module _ {T : Type 0} where
   module _
       (tags : List ℕ) (slots : List (Option (ℕ × T))) (state : IsPartlyPlaced tags slots) (place : ℕ)
       (inside : place < length tags) (free : slice_index tags place < 128)
-      where
-    within : place < length slots
-    within = omega (arith, state.same_length)
+    where
+      within : place < length slots
+      within = omega (arith, state.same_length)
 
-    suited-set :
-        (tag : ℕ) (slot : Option (ℕ × T))
-        → SuitsOrPending tag slot
-        → (k : ℕ)
-        → k < length (set tags place tag)
-        → SuitsOrPending (slice_index (set tags place tag) k) (slot_at (set slots place slot) k)
-    suited-set tag slot suits k below =
-        elim (cases_eq k place) [
-          | inl same ↦ rw (same, get_or-set_same tags place tag 0 inside, get_or-set_same slots place slot None within) suits
-          | inr other ↦ rw (get_or-set_other tags place k tag 0 other, get_or-set_other slots place k slot None other) (state.suited k (omega (arith, length-set tags place tag)))
-        ]
+      suited-set :
+          (tag : ℕ) (slot : Option (ℕ × T))
+          → SuitsOrPending tag slot
+          → (k : ℕ)
+          → k < length (set tags place tag)
+          → SuitsOrPending (slice_index (set tags place tag) k) (slot_at (set slots place slot) k)
+      suited-set tag slot suits k below =
+          elim (cases_eq k place) [
+            | inl same ↦ rw (same, get_or-set_same tags place tag 0 inside, get_or-set_same slots place slot None within) suits
+            | inr other ↦ rw (get_or-set_other tags place k tag 0 other, get_or-set_other slots place k slot None other) (state.suited k (omega (arith, length-set tags place tag)))
+          ]
 
-    kept : (tag from at : ℕ) → IsPastFull tags from at → IsPastFull (set tags place tag) from at
-    kept tag from at = IsPastFull-kept tags (set tags place tag) from at (length-set tags place tag) (λ k. stays_full tags place tag k free)
+      kept : (tag from at : ℕ) → IsPastFull tags from at → IsPastFull (set tags place tag) from at
+      kept tag from at = IsPastFull-kept tags (set tags place tag) from at (length-set tags place tag) (λ k. stays_full tags place tag k free)
 
-    -- what stands in another place stays placed
-    placed_other :
-        (tag : ℕ) (slot : Option (ℕ × T)) (at : ℕ) (pair : ℕ × T)
-        → at ≢ place
-        → slot_at (set slots place slot) at ≡ Some pair
-        → 128 ≤ slice_index (set tags place tag) at
-        → IsPastFull (set tags place tag) pair.0 at
-    placed_other tag slot at pair other is high =
-        kept tag pair.0 at (state.placed at pair (sym (get_or-set_other slots place at slot None other) ∙ is) (subst (λ n. 128 ≤ n) (get_or-set_other tags place at tag 0 other) high))
+      -- what stands in another place stays placed
+      placed_other :
+          (tag : ℕ) (slot : Option (ℕ × T)) (at : ℕ) (pair : ℕ × T)
+          → at ≢ place
+          → slot_at (set slots place slot) at ≡ Some pair
+          → 128 ≤ slice_index (set tags place tag) at
+          → IsPastFull (set tags place tag) pair.0 at
+      placed_other tag slot at pair other is high =
+          kept tag pair.0 at (state.placed at pair (sym (get_or-set_other slots place at slot None other) ∙ is) (subst (λ n. 128 ≤ n) (get_or-set_other tags place at tag 0 other) high))
 
-    -- a pair that is put where none is placed
-    pub IsPartlyPlaced-put :
-        (hash : ℕ) (value : T)
-        → IsPastFull tags hash place
-        → IsPartlyPlaced (set tags place (tag_of hash)) (set slots place (Some (hash, value)))
-    IsPartlyPlaced-put hash value walk =
-        record {
-          same_length = length-set slots place (Some (hash, value)) ∙ state.same_length ∙ sym (length-set tags place (tag_of hash));
-          suited = suited-set (tag_of hash) (Some (hash, value)) (inr refl);
-          placed = λ at pair is high.
-              elim (cases_eq at place) [
-                | inl same ↦
-                    let both : Some (hash, value) ≡ Some pair = sym (get_or-set_same slots place (Some (hash, value)) None within) ∙ ap (slot_at (set slots place (Some (hash, value)))) (sym same) ∙ is in
-                    let here : (hash, value) ≡ pair = cc in
-                    subst (λ (p : ℕ × T). IsPastFull (set tags place (tag_of hash)) p.0 at) here (subst (λ n. IsPastFull (set tags place (tag_of hash)) hash n) (sym same) (kept (tag_of hash) hash place walk))
-                | inr other ↦ placed_other (tag_of hash) (Some (hash, value)) at pair other is high
-              ];
-        }
+      -- a pair that is put where none is placed
+      pub IsPartlyPlaced-put :
+          (hash : ℕ) (value : T)
+          → IsPastFull tags hash place
+          → IsPartlyPlaced (set tags place (tag_of hash)) (set slots place (Some (hash, value)))
+      IsPartlyPlaced-put hash value walk =
+          record {
+            same_length = length-set slots place (Some (hash, value)) ∙ state.same_length ∙ sym (length-set tags place (tag_of hash));
+            suited = suited-set (tag_of hash) (Some (hash, value)) (inr refl);
+            placed = λ at pair is high.
+                elim (cases_eq at place) [
+                  | inl same ↦
+                      let both : Some (hash, value) ≡ Some pair = sym (get_or-set_same slots place (Some (hash, value)) None within) ∙ ap (slot_at (set slots place (Some (hash, value)))) (sym same) ∙ is in
+                      let here : (hash, value) ≡ pair = cc in
+                      subst (λ (p : ℕ × T). IsPastFull (set tags place (tag_of hash)) p.0 at) here (subst (λ n. IsPastFull (set tags place (tag_of hash)) hash n) (sym same) (kept (tag_of hash) hash place walk))
+                  | inr other ↦ placed_other (tag_of hash) (Some (hash, value)) at pair other is high
+                ];
+          }
 
-    -- a pair that is taken out before it is placed
-    pub IsPartlyPlaced-lifted : IsPartlyPlaced (set tags place 0) (set slots place None)
-    IsPartlyPlaced-lifted =
-        record {
-          same_length = length-set slots place None ∙ state.same_length ∙ sym (length-set tags place 0);
-          suited = suited-set 0 None refl;
-          placed = λ at pair is high.
-              elim (cases_eq at place) [
-                | inl same ↦ absurd (let zero_here : slice_index (set tags place 0) at ≡ 0 = rw same (get_or-set_same tags place 0 0 inside) in omega arith)
-                | inr other ↦ placed_other 0 None at pair other is high
-              ];
-        }
+      -- a pair that is taken out before it is placed
+      pub IsPartlyPlaced-lifted : IsPartlyPlaced (set tags place 0) (set slots place None)
+      IsPartlyPlaced-lifted =
+          record {
+            same_length = length-set slots place None ∙ state.same_length ∙ sym (length-set tags place 0);
+            suited = suited-set 0 None refl;
+            placed = λ at pair is high.
+                elim (cases_eq at place) [
+                  | inl same ↦ absurd (let zero_here : slice_index (set tags place 0) at ≡ 0 = rw same (get_or-set_same tags place 0 0 inside) in omega arith)
+                  | inr other ↦ placed_other 0 None at pair other is high
+                ];
+          }
 
   -- one pair is exchanged for another
   pairs-exchanged :
@@ -251,58 +251,58 @@ module _ {T : Type 0} where
   module _
       (old_tags : List ℕ) (old : List (Option (ℕ × T))) (at hash : ℕ) (value : T) (tags : List ℕ)
       (slots : List (Option (ℕ × T))) (state : Carrying old_tags old at hash value tags slots)
-      where
-    -- an empty cell is there as long as not more pairs are there than fit
-    pub Carrying-room : length (pairs old) ≤ limit_of (length tags) → HasEmpty tags
-    Carrying-room fits = some_empty tags (omega (arith, IsPartlyPlaced-counted tags slots state.partly_placed, length_permutation _ _ state.moved))
+    where
+      -- an empty cell is there as long as not more pairs are there than fit
+      pub Carrying-room : length (pairs old) ≤ limit_of (length tags) → HasEmpty tags
+      Carrying-room fits = some_empty tags (omega (arith, IsPartlyPlaced-counted tags slots state.partly_placed, length_permutation _ _ state.moved))
 
-    not_pending-set :
-        (place tag : ℕ)
-        → place < length tags
-        → tag ≢ pending
-        → slice_index (set tags place tag) at ≢ pending
-    not_pending-set place tag inside other = NoMorePending-at (NoMorePending-set tags tags place tag inside other (λ k is. is))
-      where
-        NoMorePending-at : NoMorePending tags (set tags place tag) → slice_index (set tags place tag) at ≢ pending
-        NoMorePending-at none is = state.not_pending (none at is)
-
-    pub Carrying-next :
-        (place : ℕ) (was : ℕ × T)
-        → place < length tags
-        → slice_index tags place ≡ pending
-        → IsPastFull tags hash place
-        → slot_at slots place ≡ Some was
-        → Carrying old_tags old at was.0 was.1 (set tags place (tag_of hash)) (set slots place (Some (hash, value)))
-    Carrying-next place was inside is walk here =
-        let other : tag_of hash ≢ pending = λ same. absurd (omega arith) in
-        record {
-          partly_placed = IsPartlyPlaced-put tags slots state.partly_placed place inside (omega arith) hash value walk;
-          moved = IsPermutation-trans _ _ _ state.moved (pairs-exchanged slots place (hash, value) was (omega (arith, state.partly_placed.same_length)) here);
-          not_pending = not_pending-set place (tag_of hash) inside other;
-          no_more = NoMorePending-set old_tags tags place (tag_of hash) inside other state.no_more;
-        }
-
-    module _
-        (place : ℕ) (inside : place < length tags) (free : slice_index tags place < 128)
-        (empty : slice_index tags place ≢ pending) (walk : IsPastFull tags hash place)
+      not_pending-set :
+          (place tag : ℕ)
+          → place < length tags
+          → tag ≢ pending
+          → slice_index (set tags place tag) at ≢ pending
+      not_pending-set place tag inside other = NoMorePending-at (NoMorePending-set tags tags place tag inside other (λ k is. is))
         where
-      pub Carrying-free : slot_at slots place ≡ None
-      Carrying-free = free_none (slice_index tags place) (slot_at slots place) (state.partly_placed.suited place inside) free empty
+          NoMorePending-at : NoMorePending tags (set tags place tag) → slice_index (set tags place tag) at ≢ pending
+          NoMorePending-at none is = state.not_pending (none at is)
 
-      other_tag : tag_of hash ≢ pending
-      other_tag same = absurd (omega arith)
+      pub Carrying-next :
+          (place : ℕ) (was : ℕ × T)
+          → place < length tags
+          → slice_index tags place ≡ pending
+          → IsPastFull tags hash place
+          → slot_at slots place ≡ Some was
+          → Carrying old_tags old at was.0 was.1 (set tags place (tag_of hash)) (set slots place (Some (hash, value)))
+      Carrying-next place was inside is walk here =
+          let other : tag_of hash ≢ pending = λ same. absurd (omega arith) in
+          record {
+            partly_placed = IsPartlyPlaced-put tags slots state.partly_placed place inside (omega arith) hash value walk;
+            moved = IsPermutation-trans _ _ _ state.moved (pairs-exchanged slots place (hash, value) was (omega (arith, state.partly_placed.same_length)) here);
+            not_pending = not_pending-set place (tag_of hash) inside other;
+            no_more = NoMorePending-set old_tags tags place (tag_of hash) inside other state.no_more;
+          }
 
-      pub IsPartlyPlaced-end : IsPartlyPlaced (set tags place (tag_of hash)) (set slots place (Some (hash, value)))
-      IsPartlyPlaced-end = IsPartlyPlaced-put tags slots state.partly_placed place inside free hash value walk
+      module _
+          (place : ℕ) (inside : place < length tags) (free : slice_index tags place < 128)
+          (empty : slice_index tags place ≢ pending) (walk : IsPastFull tags hash place)
+        where
+          pub Carrying-free : slot_at slots place ≡ None
+          Carrying-free = free_none (slice_index tags place) (slot_at slots place) (state.partly_placed.suited place inside) free empty
 
-      pub moved-end : IsPermutation (pairs old) (pairs (set slots place (Some (hash, value))))
-      moved-end = IsPermutation-trans _ _ _ state.moved (pairs-put slots place (hash, value) (omega (arith, state.partly_placed.same_length)) Carrying-free)
+          other_tag : tag_of hash ≢ pending
+          other_tag same = absurd (omega arith)
 
-      pub not_pending-end : slice_index (set tags place (tag_of hash)) at ≢ pending
-      not_pending-end = not_pending-set place (tag_of hash) inside other_tag
+          pub IsPartlyPlaced-end : IsPartlyPlaced (set tags place (tag_of hash)) (set slots place (Some (hash, value)))
+          IsPartlyPlaced-end = IsPartlyPlaced-put tags slots state.partly_placed place inside free hash value walk
 
-      pub no_more-end : NoMorePending old_tags (set tags place (tag_of hash))
-      no_more-end = NoMorePending-set old_tags tags place (tag_of hash) inside other_tag state.no_more
+          pub moved-end : IsPermutation (pairs old) (pairs (set slots place (Some (hash, value))))
+          moved-end = IsPermutation-trans _ _ _ state.moved (pairs-put slots place (hash, value) (omega (arith, state.partly_placed.same_length)) Carrying-free)
+
+          pub not_pending-end : slice_index (set tags place (tag_of hash)) at ≢ pending
+          not_pending-end = not_pending-set place (tag_of hash) inside other_tag
+
+          pub no_more-end : NoMorePending old_tags (set tags place (tag_of hash))
+          no_more-end = NoMorePending-set old_tags tags place (tag_of hash) inside other_tag state.no_more
 
 -- the tags before a place belong to pairs to be placed, or to empty cells; those from there on are as they were
 pub record TagsReset (old tags : List ℕ) (at : ℕ) : Type 0 where

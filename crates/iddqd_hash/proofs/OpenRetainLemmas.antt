@@ -85,56 +85,56 @@ module _ {F T : Type 0} (ask : F → T → Bool → F → Type 0) (f : F) (old :
 
   module _
       (before : F) (now : List (Option (ℕ × T))) (at : ℕ) (within : at < length old) (state : Keeping before now at)
-      where
-    in_now : at < length now
-    in_now = omega (arith, state.same_length)
+    where
+      in_now : at < length now
+      in_now = omega (arith, state.same_length)
 
-    pub Keeping-none : slot_at now at ≡ None → Keeping before now (at + 1)
-    Keeping-none is =
-        let both = both_ways old now at within in_now state.behind in
-        record {
-          same_length = state.same_length;
-          asks = state.asks;
-          asked = state.asked ∙ sym (pairs_more old at None within (both.0 ∙ is) ∙ append-nil _);
-          were_asked = state.were_asked;
-          kept = state.kept ∙ sym (pairs_more now at None in_now is ∙ append-nil _);
-          behind = both.1;
-        }
-
-    module _ (pair : ℕ × T) (is : slot_at now at ≡ Some pair) where
-      pub Contains-asked : Contains (values (pairs old)) pair.1
-      Contains-asked = Contains-slot old at pair within ((both_ways old now at within in_now state.behind).0 ∙ is)
-
-      asks_more : (b : Bool) → map (λ a. a.0) (state.asks ++ (pair, b) ∷ []) ≡ pairs (take (at + 1) old)
-      asks_more b =
-          map-append (λ a. a.0) state.asks ((pair, b) ∷ []) ∙ ap (λ xs. xs ++ pair ∷ []) state.asked
-          ∙ sym (pairs_more old at (Some pair) within ((both_ways old now at within in_now state.behind).0 ∙ is))
-
-      pub Keeping-keep : (last : F) → ask before pair.1 true last → Keeping last now (at + 1)
-      Keeping-keep last called =
+      pub Keeping-none : slot_at now at ≡ None → Keeping before now (at + 1)
+      Keeping-none is =
+          let both = both_ways old now at within in_now state.behind in
           record {
             same_length = state.same_length;
-            asks = state.asks ++ (pair, true) ∷ [];
-            asked = asks_more true;
-            were_asked = FoldsTo-push _ f _ before (pair, true) last state.were_asked called;
-            kept =
-                ap (map (λ a. a.0)) (filter-append (λ a. a.1) state.asks ((pair, true) ∷ [])) ∙ map-append (λ a. a.0) (filter (λ a. a.1) state.asks) ((pair, true) ∷ [])
-                ∙ ap (λ xs. xs ++ pair ∷ []) state.kept ∙ sym (pairs_more now at (Some pair) in_now is);
-            behind = (both_ways old now at within in_now state.behind).1;
+            asks = state.asks;
+            asked = state.asked ∙ sym (pairs_more old at None within (both.0 ∙ is) ∙ append-nil _);
+            were_asked = state.were_asked;
+            kept = state.kept ∙ sym (pairs_more now at None in_now is ∙ append-nil _);
+            behind = both.1;
           }
 
-      pub Keeping-drop : (last : F) → ask before pair.1 false last → Keeping last (set now at None) (at + 1)
-      Keeping-drop last called =
-          record {
-            same_length = length-set now at None ∙ state.same_length;
-            asks = state.asks ++ (pair, false) ∷ [];
-            asked = asks_more false;
-            were_asked = FoldsTo-push _ f _ before (pair, false) last state.were_asked called;
-            kept =
-                ap (map (λ a. a.0)) (filter-append (λ a. a.1) state.asks ((pair, false) ∷ []) ∙ append-nil (filter (λ a. a.1) state.asks))
-                ∙ state.kept ∙ sym (pairs_more_set now at None in_now ∙ append-nil _);
-            behind = drop-set-lt (at + 1) now at None (omega arith) ∙ (both_ways old now at within in_now state.behind).1;
-          }
+      module _ (pair : ℕ × T) (is : slot_at now at ≡ Some pair) where
+        pub Contains-asked : Contains (values (pairs old)) pair.1
+        Contains-asked = Contains-slot old at pair within ((both_ways old now at within in_now state.behind).0 ∙ is)
+
+        asks_more : (b : Bool) → map (λ a. a.0) (state.asks ++ (pair, b) ∷ []) ≡ pairs (take (at + 1) old)
+        asks_more b =
+            map-append (λ a. a.0) state.asks ((pair, b) ∷ []) ∙ ap (λ xs. xs ++ pair ∷ []) state.asked
+            ∙ sym (pairs_more old at (Some pair) within ((both_ways old now at within in_now state.behind).0 ∙ is))
+
+        pub Keeping-keep : (last : F) → ask before pair.1 true last → Keeping last now (at + 1)
+        Keeping-keep last called =
+            record {
+              same_length = state.same_length;
+              asks = state.asks ++ (pair, true) ∷ [];
+              asked = asks_more true;
+              were_asked = FoldsTo-push _ f _ before (pair, true) last state.were_asked called;
+              kept =
+                  ap (map (λ a. a.0)) (filter-append (λ a. a.1) state.asks ((pair, true) ∷ [])) ∙ map-append (λ a. a.0) (filter (λ a. a.1) state.asks) ((pair, true) ∷ [])
+                  ∙ ap (λ xs. xs ++ pair ∷ []) state.kept ∙ sym (pairs_more now at (Some pair) in_now is);
+              behind = (both_ways old now at within in_now state.behind).1;
+            }
+
+        pub Keeping-drop : (last : F) → ask before pair.1 false last → Keeping last (set now at None) (at + 1)
+        Keeping-drop last called =
+            record {
+              same_length = length-set now at None ∙ state.same_length;
+              asks = state.asks ++ (pair, false) ∷ [];
+              asked = asks_more false;
+              were_asked = FoldsTo-push _ f _ before (pair, false) last state.were_asked called;
+              kept =
+                  ap (map (λ a. a.0)) (filter-append (λ a. a.1) state.asks ((pair, false) ∷ []) ∙ append-nil (filter (λ a. a.1) state.asks))
+                  ∙ state.kept ∙ sym (pairs_more_set now at None in_now ∙ append-nil _);
+              behind = drop-set-lt (at + 1) now at None (omega arith) ∙ (both_ways old now at within in_now state.behind).1;
+            }
 
   -- so many places without a pair
   pub Keeping-skip :
@@ -189,30 +189,30 @@ module _ {T : Type 0} (gives : T → T → Type 0) (old : List (Option (ℕ × T
   module _
       (now : List (Option (ℕ × T))) (at : ℕ) (within : at < length old) (same_length : length now ≡ length old)
       (state : Rewriting now at)
-      where
-    pub Rewriting-none : slot_at now at ≡ None → Rewriting now (at + 1)
-    Rewriting-none is =
-        let both = both_ways old now at within (omega arith) state.behind in
-        record {
-          same_hashes = state.same_hashes;
-          each = rw (pairs_more old at None within (both.0 ∙ is), pairs_more now at None (omega arith) is, append-nil, append-nil) state.each;
-          behind = both.1;
-        }
-
-    module _ (hash : ℕ) (value : T) (is : slot_at now at ≡ Some (hash, value)) where
-      pub Contains-rewritten : Contains (values (pairs old)) value
-      Contains-rewritten = Contains-slot old at (hash, value) within ((both_ways old now at within (omega arith) state.behind).0 ∙ is)
-
-      pub Rewriting-more : (answer : T) → gives value answer → Rewriting (set now at (Some (hash, answer))) (at + 1)
-      Rewriting-more answer given =
+    where
+      pub Rewriting-none : slot_at now at ≡ None → Rewriting now (at + 1)
+      Rewriting-none is =
           let both = both_ways old now at within (omega arith) state.behind in
           record {
-            same_hashes = map-set_same (λ slot. option_map (λ pair. pair.0) slot) now at (Some (hash, answer)) None (ap (option_map (λ pair. pair.0)) (sym is)) ∙ state.same_hashes;
-            each =
-                rw (pairs_more old at (Some (hash, value)) within (both.0 ∙ is), pairs_more_set now at (Some (hash, answer)) (omega arith))
-                (AllZip-push _ (pairs (take at old)) (pairs (take at now)) (hash, value) (hash, answer) state.each (refl, given));
-            behind = drop-set-lt (at + 1) now at (Some (hash, answer)) (omega arith) ∙ both.1;
+            same_hashes = state.same_hashes;
+            each = rw (pairs_more old at None within (both.0 ∙ is), pairs_more now at None (omega arith) is, append-nil, append-nil) state.each;
+            behind = both.1;
           }
+
+      module _ (hash : ℕ) (value : T) (is : slot_at now at ≡ Some (hash, value)) where
+        pub Contains-rewritten : Contains (values (pairs old)) value
+        Contains-rewritten = Contains-slot old at (hash, value) within ((both_ways old now at within (omega arith) state.behind).0 ∙ is)
+
+        pub Rewriting-more : (answer : T) → gives value answer → Rewriting (set now at (Some (hash, answer))) (at + 1)
+        Rewriting-more answer given =
+            let both = both_ways old now at within (omega arith) state.behind in
+            record {
+              same_hashes = map-set_same (λ slot. option_map (λ pair. pair.0) slot) now at (Some (hash, answer)) None (ap (option_map (λ pair. pair.0)) (sym is)) ∙ state.same_hashes;
+              each =
+                  rw (pairs_more old at (Some (hash, value)) within (both.0 ∙ is), pairs_more_set now at (Some (hash, answer)) (omega arith))
+                  (AllZip-push _ (pairs (take at old)) (pairs (take at now)) (hash, value) (hash, answer) state.each (refl, given));
+              behind = drop-set-lt (at + 1) now at (Some (hash, answer)) (omega arith) ∙ both.1;
+            }
 
   pub Rewrites-from_rewriting :
       (now : List (Option (ℕ × T))) (at : ℕ)

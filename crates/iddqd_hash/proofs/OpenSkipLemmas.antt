@@ -68,38 +68,38 @@ IsReached-skips tags tag from at skips =
 module _
     {T : Type 0} (tags : List ℕ) (slots : List (Option (ℕ × T))) (hash from a b : ℕ) (probed : IsProbed tags slots)
     (some : 0 < length tags) (by : PassesBy tags slots hash from a) (skips : Skips tags (tag_of hash) a b)
-    where
-  on_from : (k : ℕ) → (from + (by.walk.steps + k)) % length tags ≡ (a + k) % length tags
-  on_from k = sym (onward (length tags) from by.walk.steps k) ∙ ap (λ x. (x + k) % length tags) by.walk.is_there
+  where
+    on_from : (k : ℕ) → (from + (by.walk.steps + k)) % length tags ≡ (a + k) % length tags
+    on_from k = sym (onward (length tags) from by.walk.steps k) ∙ ap (λ x. (x + k) % length tags) by.walk.is_there
 
-  pub PassesBy-skips : PassesBy tags slots hash from b
-  PassesBy-skips =
-      record {
-        walk = record {
-          steps = by.walk.steps + skips.steps;
-          is_there = on_from skips.steps ∙ skips.is_there;
-          passed = λ k below.
-              elim (ltb k by.walk.steps) as (λ b. ltb k by.walk.steps ≡ b → 0 < slice_index tags ((from + k) % length tags)) [
-                | true ↦ λ is. by.walk.passed k (ltb-true _ _ is)
-                | false ↦ λ is. (beyond k below (ltb-false _ _ is)).1
+    pub PassesBy-skips : PassesBy tags slots hash from b
+    PassesBy-skips =
+        record {
+          walk = record {
+            steps = by.walk.steps + skips.steps;
+            is_there = on_from skips.steps ∙ skips.is_there;
+            passed = λ k below.
+                elim (ltb k by.walk.steps) as (λ b. ltb k by.walk.steps ≡ b → 0 < slice_index tags ((from + k) % length tags)) [
+                  | true ↦ λ is. by.walk.passed k (ltb-true _ _ is)
+                  | false ↦ λ is. (beyond k below (ltb-false _ _ is)).1
+                ] refl;
+          };
+          others = λ k value below.
+              elim (ltb k by.walk.steps) as (λ b. ltb k by.walk.steps ≡ b → slot_at slots ((from + k) % length tags) ≢ Some (hash, value)) [
+                | true ↦ λ is. by.others k value (ltb-true _ _ is)
+                | false ↦ λ is under.
+                    (beyond k below (ltb-false _ _ is)).0 (tag_read tags slots ((from + k) % length tags) hash value (mod-lt (from + k) some) probed under)
               ] refl;
-        };
-        others = λ k value below.
-            elim (ltb k by.walk.steps) as (λ b. ltb k by.walk.steps ≡ b → slot_at slots ((from + k) % length tags) ≢ Some (hash, value)) [
-              | true ↦ λ is. by.others k value (ltb-true _ _ is)
-              | false ↦ λ is under.
-                  (beyond k below (ltb-false _ _ is)).0 (tag_read tags slots ((from + k) % length tags) hash value (mod-lt (from + k) some) probed under)
-            ] refl;
-      }
-    where
-      beyond :
-          (k : ℕ)
-          → k < by.walk.steps + skips.steps
-          → by.walk.steps ≤ k
-          → (slice_index tags ((from + k) % length tags) ≢ tag_of hash) ×
-              (0 < slice_index tags ((from + k) % length tags))
-      beyond k below past =
-          let j : ℕ = k - by.walk.steps in
-          let k-is : k ≡ by.walk.steps + j = omega arith in
-          let same : (from + k) % length tags ≡ (a + j) % length tags = ap (λ x. (from + x) % length tags) k-is ∙ on_from j in
-          subst (λ x. (slice_index tags x ≢ tag_of hash) × (0 < slice_index tags x)) (sym same) (other_tag (tag_of hash) _ (skips.others j (omega arith)))
+        }
+      where
+        beyond :
+            (k : ℕ)
+            → k < by.walk.steps + skips.steps
+            → by.walk.steps ≤ k
+            → (slice_index tags ((from + k) % length tags) ≢ tag_of hash) ×
+            (0 < slice_index tags ((from + k) % length tags))
+        beyond k below past =
+            let j : ℕ = k - by.walk.steps in
+            let k-is : k ≡ by.walk.steps + j = omega arith in
+            let same : (from + k) % length tags ≡ (a + j) % length tags = ap (λ x. (from + x) % length tags) k-is ∙ on_from j in
+            subst (λ x. (slice_index tags x ≢ tag_of hash) × (0 < slice_index tags x)) (sym same) (other_tag (tag_of hash) _ (skips.others j (omega arith)))

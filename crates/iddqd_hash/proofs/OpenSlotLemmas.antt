@@ -134,65 +134,65 @@ module _ {T : Type 0} where
   module _
       (tags : List ℕ) (slots : List (Option (ℕ × T))) (probed : IsProbed tags slots) (place : ℕ)
       (inside : place < length tags)
-      where
-    suited-set :
-        (tag : ℕ) (slot : Option (ℕ × T))
-        → Suits tag slot
-        → (k : ℕ)
-        → k < length (set tags place tag)
-        → Suits (slice_index (set tags place tag) k) (slot_at (set slots place slot) k)
-    suited-set tag slot suits k below =
-        elim (cases_eq k place) [
-          | inl same ↦ rw (same, get_or-set_same tags place tag 0 inside, get_or-set_same slots place slot None (omega (arith, probed.same_length))) suits
-          | inr other ↦ rw (get_or-set_other tags place k tag 0 other, get_or-set_other slots place k slot None other) (probed.suited k (omega (arith, length-set tags place tag)))
-        ]
+    where
+      suited-set :
+          (tag : ℕ) (slot : Option (ℕ × T))
+          → Suits tag slot
+          → (k : ℕ)
+          → k < length (set tags place tag)
+          → Suits (slice_index (set tags place tag) k) (slot_at (set slots place slot) k)
+      suited-set tag slot suits k below =
+          elim (cases_eq k place) [
+            | inl same ↦ rw (same, get_or-set_same tags place tag 0 inside, get_or-set_same slots place slot None (omega (arith, probed.same_length))) suits
+            | inr other ↦ rw (get_or-set_other tags place k tag 0 other, get_or-set_other slots place k slot None other) (probed.suited k (omega (arith, length-set tags place tag)))
+          ]
 
-    same_lengths : (tag : ℕ) (slot : Option (ℕ × T)) → length (set slots place slot) ≡ length (set tags place tag)
-    same_lengths tag slot = length-set slots place slot ∙ probed.same_length ∙ sym (length-set tags place tag)
+      same_lengths : (tag : ℕ) (slot : Option (ℕ × T)) → length (set slots place slot) ≡ length (set tags place tag)
+      same_lengths tag slot = length-set slots place slot ∙ probed.same_length ∙ sym (length-set tags place tag)
 
-    reached-set : (tag at : ℕ) (hash : ℕ) → 0 < tag → IsReached tags hash at → IsReached (set tags place tag) hash at
-    reached-set tag at hash some = IsReached-kept tags (set tags place tag) hash at (length-set tags place tag) (λ k used. set_used tags place tag k some used)
+      reached-set : (tag at : ℕ) (hash : ℕ) → 0 < tag → IsReached tags hash at → IsReached (set tags place tag) hash at
+      reached-set tag at hash some = IsReached-kept tags (set tags place tag) hash at (length-set tags place tag) (λ k used. set_used tags place tag k some used)
 
-    pub IsProbed-put :
-        (hash : ℕ) (value : T)
-        → IsReached tags hash place
-        → IsProbed (set tags place (tag_of hash)) (set slots place (Some (hash, value)))
-    IsProbed-put hash value reached =
-        record {
-          same_length = same_lengths (tag_of hash) (Some (hash, value));
-          suited = suited-set (tag_of hash) (Some (hash, value)) refl;
-          reached = λ at pair is. reached-set (tag_of hash) at pair.0 (omega arith) (by_place at pair is);
-        }
-      where
-        by_place :
-            (at : ℕ) (pair : ℕ × T)
-            → slot_at (set slots place (Some (hash, value))) at ≡ Some pair
-            → IsReached tags pair.0 at
-        by_place at pair is =
-            elim (cases_eq at place) [
-              | inl same ↦
-                  let both : Some (hash, value) ≡ Some pair = sym (get_or-set_same slots place (Some (hash, value)) None (omega (arith, probed.same_length))) ∙ ap (slot_at (set slots place (Some (hash, value)))) (sym same) ∙ is in
-                  let here : (hash, value) ≡ pair = cc in
-                  subst (λ (p : ℕ × T). IsReached tags p.0 at) here (subst (λ n. IsReached tags hash n) (sym same) reached)
-              | inr other ↦ probed.reached at pair (sym (get_or-set_other slots place at (Some (hash, value)) None other) ∙ is)
-            ]
+      pub IsProbed-put :
+          (hash : ℕ) (value : T)
+          → IsReached tags hash place
+          → IsProbed (set tags place (tag_of hash)) (set slots place (Some (hash, value)))
+      IsProbed-put hash value reached =
+          record {
+            same_length = same_lengths (tag_of hash) (Some (hash, value));
+            suited = suited-set (tag_of hash) (Some (hash, value)) refl;
+            reached = λ at pair is. reached-set (tag_of hash) at pair.0 (omega arith) (by_place at pair is);
+          }
+        where
+          by_place :
+              (at : ℕ) (pair : ℕ × T)
+              → slot_at (set slots place (Some (hash, value))) at ≡ Some pair
+              → IsReached tags pair.0 at
+          by_place at pair is =
+              elim (cases_eq at place) [
+                | inl same ↦
+                    let both : Some (hash, value) ≡ Some pair = sym (get_or-set_same slots place (Some (hash, value)) None (omega (arith, probed.same_length))) ∙ ap (slot_at (set slots place (Some (hash, value)))) (sym same) ∙ is in
+                    let here : (hash, value) ≡ pair = cc in
+                    subst (λ (p : ℕ × T). IsReached tags p.0 at) here (subst (λ n. IsReached tags hash n) (sym same) reached)
+                | inr other ↦ probed.reached at pair (sym (get_or-set_other slots place at (Some (hash, value)) None other) ∙ is)
+              ]
 
-    pub IsProbed-taken : IsProbed (set tags place 1) (set slots place None)
-    IsProbed-taken =
-        record {
-          same_length = same_lengths 1 None;
-          suited = suited-set 1 None (omega arith);
-          reached = λ at pair is. reached-set 1 at pair.0 (omega arith) (by_place at pair is);
-        }
-      where
-        by_place : (at : ℕ) (pair : ℕ × T) → slot_at (set slots place None) at ≡ Some pair → IsReached tags pair.0 at
-        by_place at pair is =
-            elim (cases_eq at place) [
-              | inl same ↦
-                  let both : None ≡ Some pair = sym (get_or-set_same slots place None None (omega (arith, probed.same_length))) ∙ ap (slot_at (set slots place None)) (sym same) ∙ is in
-                  absurd (cc)
-              | inr other ↦ probed.reached at pair (sym (get_or-set_other slots place at None None other) ∙ is)
-            ]
+      pub IsProbed-taken : IsProbed (set tags place 1) (set slots place None)
+      IsProbed-taken =
+          record {
+            same_length = same_lengths 1 None;
+            suited = suited-set 1 None (omega arith);
+            reached = λ at pair is. reached-set 1 at pair.0 (omega arith) (by_place at pair is);
+          }
+        where
+          by_place : (at : ℕ) (pair : ℕ × T) → slot_at (set slots place None) at ≡ Some pair → IsReached tags pair.0 at
+          by_place at pair is =
+              elim (cases_eq at place) [
+                | inl same ↦
+                    let both : None ≡ Some pair = sym (get_or-set_same slots place None None (omega (arith, probed.same_length))) ∙ ap (slot_at (set slots place None)) (sym same) ∙ is in
+                    absurd (cc)
+                | inr other ↦ probed.reached at pair (sym (get_or-set_other slots place at None None other) ∙ is)
+              ]
 
   none_everywhere : (n at : ℕ) → ◌≡◌ {A = Option (ℕ × T)} (slot_at {T = T} (replicate n None) at) None
   none_everywhere zero at = refl
@@ -284,5 +284,5 @@ pub used-set :
     (tags : List ℕ) (place tag : ℕ)
     → place < length tags
     → count_by is_used (set tags place tag) + used_count (slice_index tags place) ≡ count_by is_used tags + used_count
-        tag
+    tag
 used-set tags place tag inside = sum_by-set used_count tags place tag 0 inside

@@ -47,25 +47,25 @@ module _ {T : Type 0} (slots : List (Option (ℕ × T))) where
 module _
     {T : Type 0} (old new : List (Option (ℕ × T))) (same : length new ≡ length old)
     (fits : length (pairs old) ≤ usable_of (length old))
-    where
-  pub KeepsMemory-opened : length (pairs new) ≤ length (pairs old) → KeepsMemory (opened old) (opened new)
-  KeepsMemory-opened fewer =
-      record {
-        room_stays = rw (room-opened old, room-opened new, same) (omega arith);
-        same_capacity = rw (entries-opened old, entries-opened new, room-opened old, room-opened new, same) (omega arith);
-        same_memory = rw (memory-opened old, memory-opened new) same;
-      }
+  where
+    pub KeepsMemory-opened : length (pairs new) ≤ length (pairs old) → KeepsMemory (opened old) (opened new)
+    KeepsMemory-opened fewer =
+        record {
+          room_stays = rw (room-opened old, room-opened new, same) (omega arith);
+          same_capacity = rw (entries-opened old, entries-opened new, room-opened old, room-opened new, same) (omega arith);
+          same_memory = rw (memory-opened old, memory-opened new) same;
+        }
 
-  pub UsesRoom-opened :
-      length (pairs new) ≡ length (pairs old) + 1
-      → length (pairs old) < usable_of (length old)
-      → UsesRoom (opened old) (opened new)
-  UsesRoom-opened more some =
-      record {
-        one_less = rw (room-opened old, room-opened new, same) (omega arith);
-        same_capacity = rw (entries-opened old, entries-opened new, room-opened old, room-opened new, same) (omega arith);
-        same_memory = rw (memory-opened old, memory-opened new) same;
-      }
+    pub UsesRoom-opened :
+        length (pairs new) ≡ length (pairs old) + 1
+        → length (pairs old) < usable_of (length old)
+        → UsesRoom (opened old) (opened new)
+    UsesRoom-opened more some =
+        record {
+          one_less = rw (room-opened old, room-opened new, same) (omega arith);
+          same_capacity = rw (entries-opened old, entries-opened new, room-opened old, room-opened new, same) (omega arith);
+          same_memory = rw (memory-opened old, memory-opened new) same;
+        }
 
 -- all room is there where no pair is left
 pub KeepsMemory-cleared :
@@ -157,26 +157,26 @@ pairs_used {T} (tag ∷ tags) (slot ∷ slots) same suited =
 -- where there are cells
 module _
     {T : Type 0} (tags : List ℕ) (slots : List (Option (ℕ × T))) (len used : ℕ) (sound : IsSound tags slots len used)
-    where
-  pub power_from : 0 < length tags → IsPowerOfTwo (length tags)
-  power_from some = elim sound.count [ inl none ↦ absurd (omega arith) | inr power ↦ power ]
+  where
+    pub power_from : 0 < length tags → IsPowerOfTwo (length tags)
+    power_from some = elim sound.count [ inl none ↦ absurd (omega arith) | inr power ↦ power ]
 
-  pub empty_from : 0 < length tags → HasEmpty tags
-  empty_from some = some_empty tags (omega (arith, sound.marked, sound.limited))
+    pub empty_from : 0 < length tags → HasEmpty tags
+    empty_from some = some_empty tags (omega (arith, sound.marked, sound.limited))
 
-  -- not more pairs stand in the cells than may
-  pub fits_from : length (pairs slots) ≤ usable_of (length slots)
-  fits_from = rw sound.probed.same_length (omega (arith, sound.counted, sound.fits))
+    -- not more pairs stand in the cells than may
+    pub fits_from : length (pairs slots) ≤ usable_of (length slots)
+    fits_from = rw sound.probed.same_length (omega (arith, sound.counted, sound.fits))
 
-  -- where there is room, fewer pairs stand in the cells than may
-  pub room_of : 1 ≤ room (opened slots) → len < usable_of (length tags)
-  room_of some =
-      let more : 1 ≤ usable_of (length slots) - length (pairs slots) = rw room-opened at some in
-      omega (arith, more, sound.counted, sound.probed.same_length)
+    -- where there is room, fewer pairs stand in the cells than may
+    pub room_of : 1 ≤ room (opened slots) → len < usable_of (length tags)
+    room_of some =
+        let more : 1 ≤ usable_of (length slots) - length (pairs slots) = rw room-opened at some in
+        omega (arith, more, sound.counted, sound.probed.same_length)
 
-  -- where no cell is full or marked, there is no pair
-  pub unused_empty : used ≡ 0 → pairs slots ≡ []
-  unused_empty none = nil_from_length (pairs slots) (omega (arith, sound.marked, pairs_used tags slots sound.probed.same_length sound.probed.suited))
+    -- where no cell is full or marked, there is no pair
+    pub unused_empty : used ≡ 0 → pairs slots ≡ []
+    unused_empty none = nil_from_length (pairs slots) (omega (arith, sound.marked, pairs_used tags slots sound.probed.same_length sound.probed.suited))
 
 module _ {T : Type 0} where
   pub IsSound-none :

@@ -11,34 +11,34 @@ module _
     (skip : (x : X) (xs ys : List X) → R xs ys → R (x ∷ xs) (x ∷ ys))
     (turn : (x y : X) (xs : List X) → R (x ∷ y ∷ xs) (y ∷ x ∷ xs))
     (chain : (xs ys zs : List X) → R xs ys → R ys zs → R xs zs)
-    where
-  -- the head and a later element, each in the other's place
-  to_head : (x : X) (xs : List X) (k : ℕ) (d : X) → k < length xs → R (x ∷ xs) (get_or xs k d ∷ set xs k x)
-  to_head x [] k d within = absurd (omega arith)
-  to_head x (y ∷ ys) zero d within = turn x y ys
-  to_head x (y ∷ ys) (suc k) d within =
-      let behind = skip y _ _ (to_head x ys k d (omega arith)) in
-      chain _ _ _ (turn x y ys) (chain _ _ _ behind (turn y (get_or ys k d) (set ys k x)))
+  where
+    -- the head and a later element, each in the other's place
+    to_head : (x : X) (xs : List X) (k : ℕ) (d : X) → k < length xs → R (x ∷ xs) (get_or xs k d ∷ set xs k x)
+    to_head x [] k d within = absurd (omega arith)
+    to_head x (y ∷ ys) zero d within = turn x y ys
+    to_head x (y ∷ ys) (suc k) d within =
+        let behind = skip y _ _ (to_head x ys k d (omega arith)) in
+        chain _ _ _ (turn x y ys) (chain _ _ _ behind (turn y (get_or ys k d) (set ys k x)))
 
-  -- any two elements
-  exchanged :
-      (xs : List X) (i j : ℕ) (d : X)
-      → i < length xs
-      → j < length xs
-      → R xs (set (set xs i (get_or xs j d)) j (get_or xs i d))
-  exchanged [] i j d p q = absurd (omega arith)
-  exchanged (x ∷ xs) zero zero d p q = same (x ∷ xs)
-  exchanged (x ∷ xs) zero (suc j) d p q = to_head x xs j d (omega arith)
-  exchanged (x ∷ xs) (suc i) zero d p q = to_head x xs i d (omega arith)
-  exchanged (x ∷ xs) (suc i) (suc j) d p q = skip x _ _ (exchanged xs i j d (omega arith) (omega arith))
+    -- any two elements
+    exchanged :
+        (xs : List X) (i j : ℕ) (d : X)
+        → i < length xs
+        → j < length xs
+        → R xs (set (set xs i (get_or xs j d)) j (get_or xs i d))
+    exchanged [] i j d p q = absurd (omega arith)
+    exchanged (x ∷ xs) zero zero d p q = same (x ∷ xs)
+    exchanged (x ∷ xs) zero (suc j) d p q = to_head x xs j d (omega arith)
+    exchanged (x ∷ xs) (suc i) zero d p q = to_head x xs i d (omega arith)
+    exchanged (x ∷ xs) (suc i) (suc j) d p q = skip x _ _ (exchanged xs i j d (omega arith) (omega arith))
 
-  swapped : (xs : List X) (i j : ℕ) → i < length xs → j < length xs → R xs (swap xs i j)
-  swapped [] i j p q = absurd (omega arith)
-  swapped (x ∷ xs) i j p q = exchanged (x ∷ xs) i j x p q
+    swapped : (xs : List X) (i j : ℕ) → i < length xs → j < length xs → R xs (swap xs i j)
+    swapped [] i j p q = absurd (omega arith)
+    swapped (x ∷ xs) i j p q = exchanged (x ∷ xs) i j x p q
 
-  pub along_permutation : (xs ys : List X) → IsPermutation xs ys → R xs ys
-  along_permutation xs ys moved =
-      IsPermutation-keeps xs (λ l. R xs l) (same xs) (λ l i j p q so_far. chain xs l (swap l i j) so_far (swapped l i j p q)) ys moved
+    pub along_permutation : (xs ys : List X) → IsPermutation xs ys → R xs ys
+    along_permutation xs ys moved =
+        IsPermutation-keeps xs (λ l. R xs l) (same xs) (λ l i j p q so_far. chain xs l (swap l i j) so_far (swapped l i j p q)) ys moved
 
 pub IsPermutation-turn : {X : Type 0} (x y : X) (xs : List X) → IsPermutation (x ∷ y ∷ xs) (y ∷ x ∷ xs)
 IsPermutation-turn x y xs = IsPermutation-append_left xs _ _ (IsPermutation-append_comm (x ∷ []) (y ∷ []))

@@ -84,29 +84,29 @@ module _ (name : ℕ → ℕ) where
       (gives : ℕ → ℕ → Type 0) (says : (v w : ℕ) → gives v w → w ≡ name v) (old new : List (ℕ × ℕ))
       (apart : IsDistinctlyFiled old)
       (one : (i j : ℕ) → IsSome (finite.get (filed_from old) i) → IsSome (finite.get (filed_from old) j) → name i ≡ name
-          j → i ≡ j)
+      j → i ≡ j)
       (rewrites : Rewrites gives old new)
-      where
-    all_renamed : IsPermutation (map renamed old) new
-    all_renamed = Rewrites-mapped gives name says old new rewrites
+    where
+      all_renamed : IsPermutation (map renamed old) new
+      all_renamed = Rewrites-mapped gives name says old new rewrites
 
-    pub distinct_renamed : IsDistinctlyFiled new
-    distinct_renamed =
-        let one_value = λ (i j : ℕ) (here : Contains (values old) i) (there : Contains (values old) j). one i j (filed_from_value old apart i here) (filed_from_value old apart j there) in
-        distinct_moved _ _ all_renamed (rw (renamed_values old) (names_distinct (values old) one_value apart))
+      pub distinct_renamed : IsDistinctlyFiled new
+      distinct_renamed =
+          let one_value = λ (i j : ℕ) (here : Contains (values old) i) (there : Contains (values old) j). one i j (filed_from_value old apart i here) (filed_from_value old apart j there) in
+          distinct_moved _ _ all_renamed (rw (renamed_values old) (names_distinct (values old) one_value apart))
 
-    pub Renames-from_rewrites : Renames name (filed_from old) (filed_from new)
-    Renames-from_rewrites =
-        record {
-          each = λ ix hash is.
-              let here = Contains-map renamed old (hash, ix) (pair_from_filed old apart hash ix is) in
-              filed_from_pair new distinct_renamed hash (name ix) (Contains-permutation _ _ _ all_renamed here);
-          no_other = λ at hash is.
-              let here = Contains-permutation _ _ _ (IsPermutation-sym _ _ all_renamed) (pair_from_filed new distinct_renamed hash at is) in
-              let found = Contains-from_map renamed old (0, 0) (hash, at) here in
-              let stood = filed_from_pair old apart found.0.0 found.0.1 found.1 in
-              (found.0.1, ap (λ p. p.1) found.2, stood ∙ ap (λ p. Some p.0) found.2);
-        }
+      pub Renames-from_rewrites : Renames name (filed_from old) (filed_from new)
+      Renames-from_rewrites =
+          record {
+            each = λ ix hash is.
+                let here = Contains-map renamed old (hash, ix) (pair_from_filed old apart hash ix is) in
+                filed_from_pair new distinct_renamed hash (name ix) (Contains-permutation _ _ _ all_renamed here);
+            no_other = λ at hash is.
+                let here = Contains-permutation _ _ _ (IsPermutation-sym _ _ all_renamed) (pair_from_filed new distinct_renamed hash at is) in
+                let found = Contains-from_map renamed old (0, 0) (hash, at) here in
+                let stood = filed_from_pair old apart found.0.0 found.0.1 found.1 in
+                (found.0.1, ap (λ p. p.1) found.2, stood ∙ ap (λ p. Some p.0) found.2);
+          }
 
 -- what a renamed map says to a caller
 module _ (name : ℕ → ℕ) (old : FinMap nat_cmp ℕ) where

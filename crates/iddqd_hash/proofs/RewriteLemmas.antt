@@ -20,22 +20,22 @@ module _ {T : Type 0} (gives : T → T → Type 0) where
   module _
       (old now : List (ℕ × T)) (at : ℕ) (e : ℕ × T) (same_length : length now ≡ length old) (within : at < length old)
       (read : e ≡ get_or now at e) (state : Rewriting old now at)
-      where
-    both_ways : get_or old at e ∷ drop (at + 1) old ≡ get_or now at e ∷ drop (at + 1) now
-    both_ways = sym (drop_more old at e within) ∙ sym state.behind ∙ drop_more now at e (omega arith)
+    where
+      both_ways : get_or old at e ∷ drop (at + 1) old ≡ get_or now at e ∷ drop (at + 1) now
+      both_ways = sym (drop_more old at e within) ∙ sym state.behind ∙ drop_more now at e (omega arith)
 
-    as_it_was : e ≡ get_or old at e
-    as_it_was = read ∙ sym (ap (λ es. get_or es 0 e) both_ways)
+      as_it_was : e ≡ get_or old at e
+      as_it_was = read ∙ sym (ap (λ es. get_or es 0 e) both_ways)
 
-    pub Contains-to_rewrite : Contains (values old) e.1
-    Contains-to_rewrite = Contains-values old e (at, within, sym as_it_was)
+      pub Contains-to_rewrite : Contains (values old) e.1
+      Contains-to_rewrite = Contains-values old e (at, within, sym as_it_was)
 
-    pub Rewriting-more : (w : T) → gives e.1 w → Rewriting old (set now at (e.0, w)) (at + 1)
-    Rewriting-more w given =
-        record {
-          each = rw (take_more_set now at (e.0, w) (omega arith)) (all_zip_more _ old (take at now) at e (e.0, w) within as_it_was state.each (refl, given));
-          behind = drop-set-lt (at + 1) now at (e.0, w) (omega arith) ∙ sym (ap (drop 1) both_ways);
-        }
+      pub Rewriting-more : (w : T) → gives e.1 w → Rewriting old (set now at (e.0, w)) (at + 1)
+      Rewriting-more w given =
+          record {
+            each = rw (take_more_set now at (e.0, w) (omega arith)) (all_zip_more _ old (take at now) at e (e.0, w) within as_it_was state.each (refl, given));
+            behind = drop-set-lt (at + 1) now at (e.0, w) (omega arith) ∙ sym (ap (drop 1) both_ways);
+          }
 
   pub Rewrites-from_rewriting :
       (old now : List (ℕ × T)) (at : ℕ)

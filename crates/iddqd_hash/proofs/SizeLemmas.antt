@@ -29,32 +29,32 @@ module _ {T : Type 0} where
   module _
       (least len : ℕ) (es now_es : List (ℕ × T)) (counted now held holds : ℕ) (was : counted ≡ len)
       (same : now ≡ counted) (less : holds ≤ held) (enough : min (max least len) held ≤ holds)
-      where
-    pub Shrinks-listed :
-        {A E : Type 0} (r : Result A E)
-        → OnOk r (holds ≤ max least len)
-        → OnErr r (max least len < holds)
-        → (max least len ≡ 0 → holds ≡ 0)
-        → Shrinks least len (listed es (held - counted) held) r (listed now_es (holds - now) holds)
-    Shrinks-listed r shrunk refused frees =
-        record {
-          never_more = rw (memory-listed now_es, memory-listed es) less;
-          room_stays = rw (room-listed es, room-listed now_es) (omega arith);
-          shrunk = rw (memory-listed now_es) (few r shrunk);
-          refused = rw (memory-listed now_es) refused;
-          succeeds = λ none. served r refused (frees none);
-        }
-      where
-        few :
-            {A E : Type 0} (r : Result A E)
-            → OnOk r (holds ≤ max least len)
-            → OnOk r (holds ≤ most_cells (max least len))
-        few (Ok x) is = omega arith
-        few (Err e) is = tt
+    where
+      pub Shrinks-listed :
+          {A E : Type 0} (r : Result A E)
+          → OnOk r (holds ≤ max least len)
+          → OnErr r (max least len < holds)
+          → (max least len ≡ 0 → holds ≡ 0)
+          → Shrinks least len (listed es (held - counted) held) r (listed now_es (holds - now) holds)
+      Shrinks-listed r shrunk refused frees =
+          record {
+            never_more = rw (memory-listed now_es, memory-listed es) less;
+            room_stays = rw (room-listed es, room-listed now_es) (omega arith);
+            shrunk = rw (memory-listed now_es) (few r shrunk);
+            refused = rw (memory-listed now_es) refused;
+            succeeds = λ none. served r refused (frees none);
+          }
+        where
+          few :
+              {A E : Type 0} (r : Result A E)
+              → OnOk r (holds ≤ max least len)
+              → OnOk r (holds ≤ most_cells (max least len))
+          few (Ok x) is = omega arith
+          few (Err e) is = tt
 
-        served : {A E : Type 0} (r : Result A E) → OnErr r (max least len < holds) → holds ≡ 0 → IsOk r
-        served (Ok x) more none = refl
-        served (Err e) more none = absurd (omega arith)
+          served : {A E : Type 0} (r : Result A E) → OnErr r (max least len < holds) → holds ≡ 0 → IsOk r
+          served (Ok x) more none = refl
+          served (Err e) more none = absurd (omega arith)
 
   -- cells that are all empty, for so many pairs
   pub IsSound-empty :
@@ -143,16 +143,16 @@ few_halved count needed (suc k, is) some tried =
 module _
     {T : Type 0} (cells rest : List (Cell T)) (cell : Cell T) (split : cells ≡ rest ++ cell ∷ [])
     (none : pairs (slots_of cells) ≡ [])
-    where
-  parts : length (pairs (slots_of rest)) + length (pairs (pair_in cell ∷ [])) ≡ 0
-  parts =
-      sym (length-append (pairs (slots_of rest)) (pairs (pair_in cell ∷ [])))
-      ∙ ap length (sym (pairs-push (slots_of rest) (pair_in cell)) ∙ ap pairs (sym (map_push pair_in rest cell)) ∙ ap (λ xs. pairs (slots_of xs)) (sym split) ∙ none)
+  where
+    parts : length (pairs (slots_of rest)) + length (pairs (pair_in cell ∷ [])) ≡ 0
+    parts =
+        sym (length-append (pairs (slots_of rest)) (pairs (pair_in cell ∷ [])))
+        ∙ ap length (sym (pairs-push (slots_of rest) (pair_in cell)) ∙ ap pairs (sym (map_push pair_in rest cell)) ∙ ap (λ xs. pairs (slots_of xs)) (sym split) ∙ none)
 
-  pub none_in_rest : pairs (slots_of rest) ≡ []
-  none_in_rest = nil_from_length (pairs (slots_of rest)) (omega (arith, parts))
+    pub none_in_rest : pairs (slots_of rest) ≡ []
+    none_in_rest = nil_from_length (pairs (slots_of rest)) (omega (arith, parts))
 
-  pub none_in_last : (value : T) → cell.value ≡ Some value → ⊥
-  none_in_last value is =
-      let one : length (pairs (pair_in cell ∷ [])) ≡ 1 = ap (λ o. length (pairs (option_map {U = ℕ × T} (λ v. (cell.hash, v)) o ∷ []))) is in
-      absurd (omega (arith, parts, one))
+    pub none_in_last : (value : T) → cell.value ≡ Some value → ⊥
+    none_in_last value is =
+        let one : length (pairs (pair_in cell ∷ [])) ≡ 1 = ap (λ o. length (pairs (option_map {U = ℕ × T} (λ v. (cell.hash, v)) o ∷ []))) is in
+        absurd (omega (arith, parts, one))

@@ -27,7 +27,6 @@ pub use Rattle.iddqd_tri.specs.TriCalls
 pub use Rattle.iddqd_lines.specs.Line
 pub use Rattle.iddqd_lines.specs.Program
 pub use Rattle.iddqd_lines.specs.Stream
-
 -- and by their names alone those of items with two keys
 pub use Rattle.iddqd.specs.Store.{get, live_count, next_index, IsFull}
 pub use Rattle.iddqd.specs.Compaction.{rank, IsRemapOf}

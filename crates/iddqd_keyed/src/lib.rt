@@ -7,10 +7,6 @@
 //! It re-exports three crates, `iddqd_driver`, `iddqd_tri` and `iddqd_lines`, so that each is proved beside the others.
 #![tactic(auto)]
 
-pub use iddqd_driver::{
-    command as command, keyed_item as keyed_item, keyed_items as keyed_items,
-};
+pub use iddqd_driver::{command as command, keyed_item as keyed_item, keyed_items as keyed_items};
 pub use iddqd_lines::{record as record, serve as serve, sink as sink, source as source};
-pub use iddqd_tri::{
-    tri_item as tri_item, tri_items as tri_items, tri_refusal as tri_refusal,
-};
+pub use iddqd_tri::{tri_item as tri_item, tri_items as tri_items, tri_refusal as tri_refusal};

@@ -126,39 +126,39 @@ module _ {O E : Type 0} (g : sink.Ghosts O) where
   module _
       {X : Type 0} (text : X → List ℕ) (xs : List X) (i : ℕ) (a b c : O) (waited mid : List ℕ)
       (so_far : Sends {E = E} g a waited (flat_map text (take i xs)) (Ok tt) b mid)
-      where
-    -- the text of one element more is sent, after room was made for it
-    pub Sends-element :
-        (x : X)
-        → i < length xs
-        → x ≡ get_or xs i x
-        → (made waits : List ℕ)
-        → Sends {E = E} g b mid [] (Ok tt) c made
-        → waits ≡ made ++ text x
-        → Sends {E = E} g a waited (flat_map text (take (i + 1) xs)) (Ok tt) c waits
-    Sends-element x within here made waits room is =
-        rw (take_more xs i x within, ← here, ← flat_map_more text [] (take i xs) x)
-        (Sends-more a b c waited (flat_map text (take i xs)) mid made (text x) waits so_far room is)
+    where
+      -- the text of one element more is sent, after room was made for it
+      pub Sends-element :
+          (x : X)
+          → i < length xs
+          → x ≡ get_or xs i x
+          → (made waits : List ℕ)
+          → Sends {E = E} g b mid [] (Ok tt) c made
+          → waits ≡ made ++ text x
+          → Sends {E = E} g a waited (flat_map text (take (i + 1) xs)) (Ok tt) c waits
+      Sends-element x within here made waits room is =
+          rw (take_more xs i x within, ← here, ← flat_map_more text [] (take i xs) x)
+          (Sends-more a b c waited (flat_map text (take i xs)) mid made (text x) waits so_far room is)
 
-    -- the text of all is sent
-    pub Sends-end :
-        length xs ≤ i
-        → (waits : List ℕ) (r : Result (Unit {0}) E)
-        → Sends g b mid [] r c waits
-        → Sends g a waited (flat_map text xs) r c waits
-    Sends-end all waits r room =
-        subst (λ l. Sends g a waited (flat_map text l) r c waits) (take_all i xs all) (Sends-last a b c waited (flat_map text (take i xs)) mid waits r so_far room)
+      -- the text of all is sent
+      pub Sends-end :
+          length xs ≤ i
+          → (waits : List ℕ) (r : Result (Unit {0}) E)
+          → Sends g b mid [] r c waits
+          → Sends g a waited (flat_map text xs) r c waits
+      Sends-end all waits r room =
+          subst (λ l. Sends g a waited (flat_map text l) r c waits) (take_all i xs all) (Sends-last a b c waited (flat_map text (take i xs)) mid waits r so_far room)
 
-    -- the text of all, where it failed at an element
-    pub Sends-stop :
-        (waits : List ℕ) (e : E) (r : Result (Unit {0}) E)
-        → IsErr r
-        → Sends g b mid [] (Err e) c waits
-        → Sends g a waited (flat_map text xs) r c waits
-    Sends-stop waits e r err room =
-        subst (λ l. Sends g a waited l r c waits)
-        (sym (flat_map-append text (take i xs) (drop i xs)) ∙ ap (flat_map text) (take-append-drop i xs))
-        (Sends-fails a c waited (flat_map text (take i xs)) (flat_map text (drop i xs)) waits e r err (Sends-last a b c waited (flat_map text (take i xs)) mid waits (Err e) so_far room))
+      -- the text of all, where it failed at an element
+      pub Sends-stop :
+          (waits : List ℕ) (e : E) (r : Result (Unit {0}) E)
+          → IsErr r
+          → Sends g b mid [] (Err e) c waits
+          → Sends g a waited (flat_map text xs) r c waits
+      Sends-stop waits e r err room =
+          subst (λ l. Sends g a waited l r c waits)
+          (sym (flat_map-append text (take i xs) (drop i xs)) ∙ ap (flat_map text) (take-append-drop i xs))
+          (Sends-fails a c waited (flat_map text (take i xs)) (flat_map text (drop i xs)) waits e r err (Sends-last a b c waited (flat_map text (take i xs)) mid waits (Err e) so_far room))
 
 -- what two reads took off the bytes
 pub Consumes-trans : (a b c : Option (List ℕ)) (x y : List ℕ) → Consumes a b x → Consumes b c y → Consumes a c (x ++ y)

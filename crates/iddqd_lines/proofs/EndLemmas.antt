@@ -72,7 +72,7 @@ ends_within :
     (xs ys part rest : List ℕ)
     → xs ++ ys ≡ part ++ rest
     → ((others : List ℕ) × (xs ≡ part ++ others) × (0 < length others)) ⊎
-        ((more : List ℕ) × (part ≡ xs ++ more) × (ys ≡ more ++ rest))
+    ((more : List ℕ) × (part ≡ xs ++ more) × (ys ≡ more ++ rest))
 ends_within [] ys part rest same = inr (part, refl, same)
 ends_within (x ∷ xs) ys [] rest same = inl (x ∷ xs, refl, omega arith)
 ends_within (x ∷ xs) ys (p ∷ part) rest same = one_more (let first : x ≡ p = cc in first) (ends_within xs ys part rest (let others : xs ++ ys ≡ part ++ rest = cc in others))
@@ -80,9 +80,9 @@ ends_within (x ∷ xs) ys (p ∷ part) rest same = one_more (let first : x ≡ p
     one_more :
         x ≡ p
         → (((others : List ℕ) × (xs ≡ part ++ others) × (0 < length others)) ⊎
-            ((more : List ℕ) × (part ≡ xs ++ more) × (ys ≡ more ++ rest)))
+        ((more : List ℕ) × (part ≡ xs ++ more) × (ys ≡ more ++ rest)))
         → (((others : List ℕ) × (x ∷ xs ≡ p ∷ part ++ others) × (0 < length others)) ⊎
-            ((more : List ℕ) × (p ∷ part ≡ x ∷ xs ++ more) × (ys ≡ more ++ rest)))
+        ((more : List ℕ) × (p ∷ part ≡ x ∷ xs ++ more) × (ys ≡ more ++ rest)))
     one_more first (inl (others, is, some)) = inl (others, rw (first, is) refl, some)
     one_more first (inr (more, is, others)) = inr (more, rw (first, is) refl, others)
 
@@ -134,7 +134,7 @@ module _ {S : Type 0} (hash : S → ℕ → ℕ) where
     where
       by_place :
           (((others : List ℕ) × (serves.0 ++ line_feed ∷ [] ≡ bytes ++ others) × (0 < length others)) ⊎
-              ((more : List ℕ) × (bytes ≡ (serves.0 ++ line_feed ∷ []) ++ more) × (serves.2 ≡ more ++ rest)))
+          ((more : List ℕ) × (bytes ≡ (serves.0 ++ line_feed ∷ []) ++ more) × (serves.2 ≡ more ++ rest)))
           → ((more : List ℕ) → serves.2 ≡ more ++ rest → BreaksOff serves.1 lines more)
           → BreaksOff old (line ∷ lines) bytes
       by_place (inl (others, is, lost)) further =
@@ -157,160 +157,160 @@ module _ {S : Type 0} (hash : S → ℕ → ℕ) where
 module _
     {O : Type 0} (g : sink.Ghosts O) (hasher : BuildHasherDefault FoldHasher) (is_default : IsDefaultHasher hasher)
     (output : O)
-    where
-  abbrev pub start : Moment (BuildHasherDefault FoldHasher) O
-  start = moment (empty_state hasher) output []
+  where
+    abbrev pub start : Moment (BuildHasherDefault FoldHasher) O
+    start = moment (empty_state hasher) output []
 
-  -- all lines are answered, and nothing waits
-  end_of_input :
-      (input : List ℕ) (left : Option (List ℕ)) (new : Moment (BuildHasherDefault FoldHasher) O)
-      → Obeys default_hash g start (lines_of input) (Ok tt) new
-      → new.waits ≡ []
-      → ServesUntil (Ok tt) input left (g.written output) (g.written new.output)
-  end_of_input input left new o none =
-      record {
-        hasher = hasher;
-        is_default = is_default;
-        lines = lines_of input;
-        bytes = o.out;
-        last = new.items;
-        serves = o.serves;
-        part = [];
-        written = rw append-nil (Sends-all {E = Unit {0}} g output new.output o.out (subst (λ w. Sends {E = Unit {0}} g output [] o.out (Ok tt) new.output w) none o.sends));
-        ends = (refl, refl);
-      }
+    -- all lines are answered, and nothing waits
+    end_of_input :
+        (input : List ℕ) (left : Option (List ℕ)) (new : Moment (BuildHasherDefault FoldHasher) O)
+        → Obeys default_hash g start (lines_of input) (Ok tt) new
+        → new.waits ≡ []
+        → ServesUntil (Ok tt) input left (g.written output) (g.written new.output)
+    end_of_input input left new o none =
+        record {
+          hasher = hasher;
+          is_default = is_default;
+          lines = lines_of input;
+          bytes = o.out;
+          last = new.items;
+          serves = o.serves;
+          part = [];
+          written = rw append-nil (Sends-all {E = Unit {0}} g output new.output o.out (subst (λ w. Sends {E = Unit {0}} g output [] o.out (Ok tt) new.output w) none o.sends));
+          ends = (refl, refl);
+        }
 
-  -- all whole lines that were read are
-  failed_read :
-      (input : List ℕ) (left : Option (List ℕ)) (seen : List ℕ) (new : Moment (BuildHasherDefault FoldHasher) O)
-      (kept : Option (List ℕ))
-      → Consumes (Some input) left seen
-      → Feeds default_hash g start [] seen (Ok tt) new kept
-      → new.waits ≡ []
-      → ServesUntil (Err Read) input left (g.written output) (g.written new.output)
-  failed_read input left seen new kept taken f none =
-      let o = f.obeys in
-      let keeps = f.keeps in
-      let whole : whole_lines_of seen ≡ f.done = ap whole_lines_of f.bytes_are ∙ whole_lines_of-ended f.done f.left f.each_one_line keeps.one_line in
-      record {
-        hasher = hasher;
-        is_default = is_default;
-        lines = f.done;
-        bytes = o.out;
-        last = new.items;
-        serves = o.serves;
-        part = [];
-        written = rw append-nil (Sends-all {E = Unit {0}} g output new.output o.out (subst (λ w. Sends {E = Unit {0}} g output [] o.out (Ok tt) new.output w) none o.sends));
-        ends = (seen, taken, sym whole, refl);
-      }
+    -- all whole lines that were read are
+    failed_read :
+        (input : List ℕ) (left : Option (List ℕ)) (seen : List ℕ) (new : Moment (BuildHasherDefault FoldHasher) O)
+        (kept : Option (List ℕ))
+        → Consumes (Some input) left seen
+        → Feeds default_hash g start [] seen (Ok tt) new kept
+        → new.waits ≡ []
+        → ServesUntil (Err Read) input left (g.written output) (g.written new.output)
+    failed_read input left seen new kept taken f none =
+        let o = f.obeys in
+        let keeps = f.keeps in
+        let whole : whole_lines_of seen ≡ f.done = ap whole_lines_of f.bytes_are ∙ whole_lines_of-ended f.done f.left f.each_one_line keeps.one_line in
+        record {
+          hasher = hasher;
+          is_default = is_default;
+          lines = f.done;
+          bytes = o.out;
+          last = new.items;
+          serves = o.serves;
+          part = [];
+          written = rw append-nil (Sends-all {E = Unit {0}} g output new.output o.out (subst (λ w. Sends {E = Unit {0}} g output [] o.out (Ok tt) new.output w) none o.sends));
+          ends = (seen, taken, sym whole, refl);
+        }
 
-  -- some first lines are, and a beginning of what they were answered is written
-  failed_write :
-      (e : Unit {0}) (input : List ℕ) (left : Option (List ℕ)) (lines more : List (List ℕ))
-      (new : Moment (BuildHasherDefault FoldHasher) O)
-      → Obeys default_hash g start lines (Err e) new
-      → lines_of input ≡ lines ++ more
-      → ServesUntil (Err Write) input left (g.written output) (g.written new.output)
-  failed_write e input left lines more new o are =
-      let s = o.sends in
-      let b = Serves-begins default_hash (empty_state hasher) new.items lines s.out s.others (subst (λ l. Serves default_hash (empty_state hasher) lines l new.items) s.parts o.serves) s.lost in
-      record {
-        hasher = hasher;
-        is_default = is_default;
-        lines = b.done;
-        bytes = b.whole;
-        last = b.mid;
-        serves = b.serves;
-        part = b.part;
-        written = subst (Appends (g.written output) (g.written new.output)) b.bytes_are s.written;
-        ends = (b.next, b.later ++ more, are ∙ ap (λ l. l ++ more) b.lines_are ∙ append_assoc b.done (b.next ∷ b.later) more, b.begins);
-      }
+    -- some first lines are, and a beginning of what they were answered is written
+    failed_write :
+        (e : Unit {0}) (input : List ℕ) (left : Option (List ℕ)) (lines more : List (List ℕ))
+        (new : Moment (BuildHasherDefault FoldHasher) O)
+        → Obeys default_hash g start lines (Err e) new
+        → lines_of input ≡ lines ++ more
+        → ServesUntil (Err Write) input left (g.written output) (g.written new.output)
+    failed_write e input left lines more new o are =
+        let s = o.sends in
+        let b = Serves-begins default_hash (empty_state hasher) new.items lines s.out s.others (subst (λ l. Serves default_hash (empty_state hasher) lines l new.items) s.parts o.serves) s.lost in
+        record {
+          hasher = hasher;
+          is_default = is_default;
+          lines = b.done;
+          bytes = b.whole;
+          last = b.mid;
+          serves = b.serves;
+          part = b.part;
+          written = subst (Appends (g.written output) (g.written new.output)) b.bytes_are s.written;
+          ends = (b.next, b.later ++ more, are ∙ ap (λ l. l ++ more) b.lines_are ∙ append_assoc b.done (b.next ∷ b.later) more, b.begins);
+        }
 
-  -- and so where the bytes that were read end them
-  failed_feed :
-      (e : Unit {0}) (input : List ℕ) (left : Option (List ℕ)) (seen : List ℕ)
-      (new : Moment (BuildHasherDefault FoldHasher) O) (kept : Option (List ℕ))
-      → Consumes (Some input) left seen
-      → Feeds default_hash g start [] seen (Err e) new kept
-      → ServesUntil (Err Write) input left (g.written output) (g.written new.output)
-  failed_feed e input left seen new kept taken f =
-      let r = Consumes-rest input left seen taken in
-      failed_write e input left f.done (lines_of (f.left ++ r.0)) new f.obeys
-      (ap lines_of (r.1 ∙ ap (λ l. l ++ r.0) f.bytes_are ∙ append_assoc (ended f.done) f.left r.0) ∙ lines_of-ended f.done (f.left ++ r.0) f.each_one_line)
+    -- and so where the bytes that were read end them
+    failed_feed :
+        (e : Unit {0}) (input : List ℕ) (left : Option (List ℕ)) (seen : List ℕ)
+        (new : Moment (BuildHasherDefault FoldHasher) O) (kept : Option (List ℕ))
+        → Consumes (Some input) left seen
+        → Feeds default_hash g start [] seen (Err e) new kept
+        → ServesUntil (Err Write) input left (g.written output) (g.written new.output)
+    failed_feed e input left seen new kept taken f =
+        let r = Consumes-rest input left seen taken in
+        failed_write e input left f.done (lines_of (f.left ++ r.0)) new f.obeys
+        (ap lines_of (r.1 ∙ ap (λ l. l ++ r.0) f.bytes_are ∙ append_assoc (ended f.done) f.left r.0) ∙ lines_of-ended f.done (f.left ++ r.0) f.each_one_line)
 
-  -- where the line that had begun is answered too, all lines are
-  all_lines :
-      (input : List ℕ) (left after : Option (List ℕ)) (count : ℕ) (now new : Moment (BuildHasherDefault FoldHasher) O)
-      (kept : Option (List ℕ)) (r : Result (Unit {0}) (Unit {0}))
-      → Reads default_hash g start input left count now kept
-      → Consumes left after []
-      → IsAtEnd after
-      → ((line : List ℕ) → IsKept kept line → Obeys default_hash g now (lines_of line) r new)
-      → Obeys default_hash g start (lines_of input) r new
-  all_lines input left after count now new kept r reads taken at_end finishes =
-      let f = reads.feeds in
-      let all : input ≡ ended f.done ++ f.left = Consumes-all input after (reads.seen ++ []) (Consumes-trans (Some input) left after reads.seen [] reads.taken taken) at_end ∙ append-nil reads.seen ∙ f.bytes_are in
-      let lines : lines_of input ≡ f.done ++ lines_of f.left = ap lines_of all ∙ lines_of-ended f.done f.left f.each_one_line in
-      subst (λ ls. Obeys default_hash g start ls r new) (sym lines) (Obeys-append default_hash g start now new f.done (lines_of f.left) r f.obeys (finishes f.left f.keeps))
+    -- where the line that had begun is answered too, all lines are
+    all_lines :
+        (input : List ℕ) (left after : Option (List ℕ)) (count : ℕ) (now new : Moment (BuildHasherDefault FoldHasher) O)
+        (kept : Option (List ℕ)) (r : Result (Unit {0}) (Unit {0}))
+        → Reads default_hash g start input left count now kept
+        → Consumes left after []
+        → IsAtEnd after
+        → ((line : List ℕ) → IsKept kept line → Obeys default_hash g now (lines_of line) r new)
+        → Obeys default_hash g start (lines_of input) r new
+    all_lines input left after count now new kept r reads taken at_end finishes =
+        let f = reads.feeds in
+        let all : input ≡ ended f.done ++ f.left = Consumes-all input after (reads.seen ++ []) (Consumes-trans (Some input) left after reads.seen [] reads.taken taken) at_end ∙ append-nil reads.seen ∙ f.bytes_are in
+        let lines : lines_of input ≡ f.done ++ lines_of f.left = ap lines_of all ∙ lines_of-ended f.done f.left f.each_one_line in
+        subst (λ ls. Obeys default_hash g start ls r new) (sym lines) (Obeys-append default_hash g start now new f.done (lines_of f.left) r f.obeys (finishes f.left f.keeps))
 
-  pub ends :
-      (told left after : Option (List ℕ)) (count : ℕ) (now new : Moment (BuildHasherDefault FoldHasher) O)
-      (kept : Option (List ℕ))
-      → IfSome told (λ bytes. Reads default_hash g start bytes left count now kept)
-      → Consumes left after []
-      → IsAtEnd after
-      → ((line : List ℕ) → IsKept kept line → Obeys default_hash g now (lines_of line) (Ok tt) new)
-      → new.waits ≡ []
-      → IfSome told (λ bytes. ServesUntil (Ok tt) bytes after (g.written output) (g.written new.output))
-  ends None left after count now new kept reads taken at_end finishes none = tt
-  ends (Some input) left after count now new kept reads taken at_end finishes none =
-      end_of_input input after new (all_lines input left after count now new kept (Ok tt) reads taken at_end finishes) none
+    pub ends :
+        (told left after : Option (List ℕ)) (count : ℕ) (now new : Moment (BuildHasherDefault FoldHasher) O)
+        (kept : Option (List ℕ))
+        → IfSome told (λ bytes. Reads default_hash g start bytes left count now kept)
+        → Consumes left after []
+        → IsAtEnd after
+        → ((line : List ℕ) → IsKept kept line → Obeys default_hash g now (lines_of line) (Ok tt) new)
+        → new.waits ≡ []
+        → IfSome told (λ bytes. ServesUntil (Ok tt) bytes after (g.written output) (g.written new.output))
+    ends None left after count now new kept reads taken at_end finishes none = tt
+    ends (Some input) left after count now new kept reads taken at_end finishes none =
+        end_of_input input after new (all_lines input left after count now new kept (Ok tt) reads taken at_end finishes) none
 
-  pub ends_at_finish :
-      (e : Unit {0}) (told left after : Option (List ℕ)) (count : ℕ)
-      (now new : Moment (BuildHasherDefault FoldHasher) O) (kept : Option (List ℕ))
-      → IfSome told (λ bytes. Reads default_hash g start bytes left count now kept)
-      → Consumes left after []
-      → IsAtEnd after
-      → ((line : List ℕ) → IsKept kept line → Obeys default_hash g now (lines_of line) (Err e) new)
-      → IfSome told (λ bytes. ServesUntil (Err Write) bytes after (g.written output) (g.written new.output))
-  ends_at_finish e None left after count now new kept reads taken at_end finishes = tt
-  ends_at_finish e (Some input) left after count now new kept reads taken at_end finishes =
-      failed_write e input after (lines_of input) [] new (all_lines input left after count now new kept (Err e) reads taken at_end finishes) (sym (append-nil (lines_of input)))
+    pub ends_at_finish :
+        (e : Unit {0}) (told left after : Option (List ℕ)) (count : ℕ)
+        (now new : Moment (BuildHasherDefault FoldHasher) O) (kept : Option (List ℕ))
+        → IfSome told (λ bytes. Reads default_hash g start bytes left count now kept)
+        → Consumes left after []
+        → IsAtEnd after
+        → ((line : List ℕ) → IsKept kept line → Obeys default_hash g now (lines_of line) (Err e) new)
+        → IfSome told (λ bytes. ServesUntil (Err Write) bytes after (g.written output) (g.written new.output))
+    ends_at_finish e None left after count now new kept reads taken at_end finishes = tt
+    ends_at_finish e (Some input) left after count now new kept reads taken at_end finishes =
+        failed_write e input after (lines_of input) [] new (all_lines input left after count now new kept (Err e) reads taken at_end finishes) (sym (append-nil (lines_of input)))
 
-  pub ends_at_read :
-      (told left after : Option (List ℕ)) (count : ℕ) (now : Moment (BuildHasherDefault FoldHasher) O)
-      (kept : Option (List ℕ))
-      → IfSome told (λ bytes. Reads default_hash g start bytes left count now kept)
-      → Keeps left after
-      → now.waits ≡ []
-      → IfSome told (λ bytes. ServesUntil (Err Read) bytes after (g.written output) (g.written now.output))
-  ends_at_read None left after count now kept reads none_taken none = tt
-  ends_at_read (Some input) left after count now kept reads none_taken none =
-      failed_read input after reads.seen now kept (Consumes-kept (Some input) left after reads.seen reads.taken none_taken) reads.feeds none
+    pub ends_at_read :
+        (told left after : Option (List ℕ)) (count : ℕ) (now : Moment (BuildHasherDefault FoldHasher) O)
+        (kept : Option (List ℕ))
+        → IfSome told (λ bytes. Reads default_hash g start bytes left count now kept)
+        → Keeps left after
+        → now.waits ≡ []
+        → IfSome told (λ bytes. ServesUntil (Err Read) bytes after (g.written output) (g.written now.output))
+    ends_at_read None left after count now kept reads none_taken none = tt
+    ends_at_read (Some input) left after count now kept reads none_taken none =
+        failed_read input after reads.seen now kept (Consumes-kept (Some input) left after reads.seen reads.taken none_taken) reads.feeds none
 
-  pub ends_at_flush :
-      (e : Unit {0}) (told left : Option (List ℕ)) (count : ℕ) (now : Moment (BuildHasherDefault FoldHasher) O)
-      (kept : Option (List ℕ)) (last : O) (waits : List ℕ)
-      → IfSome told (λ bytes. Reads default_hash g start bytes left count now kept)
-      → Sends {E = Unit {0}} g now.output now.waits [] (Err e) last waits
-      → IfSome told (λ bytes. ServesUntil (Err Write) bytes left (g.written output) (g.written last))
-  ends_at_flush e None left count now kept last waits reads flushed = tt
-  ends_at_flush e (Some input) left count now kept last waits reads flushed =
-      failed_feed e input left reads.seen (moment now.items last waits) kept reads.taken (Feeds-flush default_hash g start now [] reads.seen kept last waits (Err e) reads.feeds flushed)
+    pub ends_at_flush :
+        (e : Unit {0}) (told left : Option (List ℕ)) (count : ℕ) (now : Moment (BuildHasherDefault FoldHasher) O)
+        (kept : Option (List ℕ)) (last : O) (waits : List ℕ)
+        → IfSome told (λ bytes. Reads default_hash g start bytes left count now kept)
+        → Sends {E = Unit {0}} g now.output now.waits [] (Err e) last waits
+        → IfSome told (λ bytes. ServesUntil (Err Write) bytes left (g.written output) (g.written last))
+    ends_at_flush e None left count now kept last waits reads flushed = tt
+    ends_at_flush e (Some input) left count now kept last waits reads flushed =
+        failed_feed e input left reads.seen (moment now.items last waits) kept reads.taken (Feeds-flush default_hash g start now [] reads.seen kept last waits (Err e) reads.feeds flushed)
 
-  pub ends_at_feed :
-      (e : Unit {0}) (told left after : Option (List ℕ)) (count : ℕ)
-      (now new : Moment (BuildHasherDefault FoldHasher) O) (kept last : Option (List ℕ)) (bytes : List ℕ)
-      → IfSome told (λ all. Reads default_hash g start all left count now kept)
-      → Consumes left after bytes
-      → ((line : List ℕ) → IsKept kept line → Feeds default_hash g now line bytes (Err e) new last)
-      → IfSome told (λ all. ServesUntil (Err Write) all after (g.written output) (g.written new.output))
-  ends_at_feed e None left after count now new kept last bytes reads taken fed = tt
-  ends_at_feed e (Some input) left after count now new kept last bytes reads taken fed =
-      let f = reads.feeds in
-      failed_feed e input after (reads.seen ++ bytes) new last (Consumes-trans (Some input) left after reads.seen bytes reads.taken taken)
-      (Feeds-append default_hash g start now new [] reads.seen bytes kept last (Err e) f (fed f.left f.keeps))
+    pub ends_at_feed :
+        (e : Unit {0}) (told left after : Option (List ℕ)) (count : ℕ)
+        (now new : Moment (BuildHasherDefault FoldHasher) O) (kept last : Option (List ℕ)) (bytes : List ℕ)
+        → IfSome told (λ all. Reads default_hash g start all left count now kept)
+        → Consumes left after bytes
+        → ((line : List ℕ) → IsKept kept line → Feeds default_hash g now line bytes (Err e) new last)
+        → IfSome told (λ all. ServesUntil (Err Write) all after (g.written output) (g.written new.output))
+    ends_at_feed e None left after count now new kept last bytes reads taken fed = tt
+    ends_at_feed e (Some input) left after count now new kept last bytes reads taken fed =
+        let f = reads.feeds in
+        failed_feed e input after (reads.seen ++ bytes) new last (Consumes-trans (Some input) left after reads.seen bytes reads.taken taken)
+        (Feeds-append default_hash g start now new [] reads.seen bytes kept last (Err e) f (fed f.left f.keeps))
 
 -- so many reads that the bytes are too many
 pub fails_late :

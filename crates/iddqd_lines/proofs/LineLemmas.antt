@@ -80,7 +80,7 @@ pub digits_more :
     → list_all is_ascii_digit (take i word) ≡ true
     → value ≡ digits_value 10 (take i word)
     → (list_all is_ascii_digit (take (i + 1) word) ≡ true) ×
-        (10 * value + (get_or word i 0 - 48) ≡ digits_value 10 (take (i + 1) word))
+    (10 * value + (get_or word i 0 - 48) ≡ digits_value 10 (take (i + 1) word))
 digits_more word i value within digit digits so_far =
     let more = digits_value_more 10 word i within in
     let last = digit_value-ascii (get_or word i 0) digit in
@@ -124,7 +124,7 @@ two_numbers verb first word = by_number (number_of word)
     by_number :
         (o : Option ℕ)
         → option_and_then (λ ns. command_for verb (first ∷ ns))
-          (option_and_then (λ n. option_map (λ ns. n ∷ ns) (Some [])) o) ≡ None
+        (option_and_then (λ n. option_map (λ ns. n ∷ ns) (Some [])) o) ≡ None
     by_number None = refl
     by_number (Some n) = refl
 

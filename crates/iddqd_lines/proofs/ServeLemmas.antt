@@ -296,7 +296,7 @@ module _ {S O : Type 0} (hash : S → ℕ → ℕ) (g : sink.Ghosts O) where
       → kept ≡ Some []
       → waits ≡ []
       → IfSome left (λ bytes. Reads hash g (moment (empty_state items.hasher) output []) bytes left 0
-          (moment items output waits) kept)
+      (moment items output waits) kept)
   Reads-none left hasher items output kept waits none no_line no_reply = by_left left
     where
       feeds : Feeds hash g (moment (empty_state items.hasher) output []) [] [] (Ok tt) (moment items output waits) kept
@@ -307,7 +307,7 @@ module _ {S O : Type 0} (hash : S → ℕ → ℕ) (g : sink.Ghosts O) where
       by_left :
           (left : Option (List ℕ))
           → IfSome left (λ bytes. Reads hash g (moment (empty_state items.hasher) output []) bytes left 0
-              (moment items output waits) kept)
+          (moment items output waits) kept)
       by_left None = tt
       by_left (Some bytes) = record { seen = []; taken = refl; counted = omega arith; feeds = feeds }
 

@@ -35,7 +35,7 @@ none_first byte bytes none = λ k d inside. fails_before_first (λ b. b == byte)
   where
     at_end :
         ((position_or_len (λ b. b == byte) bytes < length bytes) ⊎
-            (length bytes ≤ position_or_len (λ b. b == byte) bytes))
+        (length bytes ≤ position_or_len (λ b. b == byte) bytes))
         → length bytes ≤ position_or_len (λ b. b == byte) bytes
     at_end (inl before) = absurd (grind (arith, nat_tests, none, before))
     at_end (inr past) = past

@@ -54,94 +54,94 @@ module _ {T : Type 0} (same : T → T → Bool) where
   module _
       (alike : T → T → Bool) (laws : IsPartialEquivalence alike)
       (keyed : (x y : T) → same x y ≡ true → alike x y ≡ true) (turn : (x y : T) → same x y ≡ same y x)
-      where
-    differs_from : (x z there : T) → alike x z ≡ false → same x there ≡ true → (b : Bool) → same z there ≡ b → b ≡ false
-    differs_from x z there apart is true also =
-        absurd (true≢false (sym (laws.trans x there z (keyed x there is) (laws.symm there z ∙ keyed z there also)) ∙ apart))
-    differs_from x z there apart is false also = refl
+    where
+      differs_from : (x z there : T) → alike x z ≡ false → same x there ≡ true → (b : Bool) → same z there ≡ b → b ≡ false
+      differs_from x z there apart is true also =
+          absurd (true≢false (sym (laws.trans x there z (keyed x there is) (laws.symm there z ∙ keyed z there also)) ∙ apart))
+      differs_from x z there apart is false also = refl
 
-    each_but :
-        (x : T) (xs front back : List T) (there : T)
-        → AllByRecursion (λ z. alike x z ≡ false) xs
-        → same x there ≡ true
-        → each_among same xs (front ++ there ∷ back) ≡ true
-        → each_among same xs (front ++ back) ≡ true
-    each_but x [] front back there apart is each = refl
-    each_but x (z ∷ xs) front back there apart is each =
-        let here = first_so (list_any (same z) (front ++ there ∷ back)) (each_among same xs (front ++ there ∷ back)) each in
-        let other = differs_from x z there apart.0 is (same z there) refl in
-        both_true (list_any (same z) (front ++ back)) (each_among same xs (front ++ back)) (any_but z front back there other here)
-        (each_but x xs front back there apart.1 is (second_so (list_any (same z) (front ++ there ∷ back)) (each_among same xs (front ++ there ∷ back)) each))
+      each_but :
+          (x : T) (xs front back : List T) (there : T)
+          → AllByRecursion (λ z. alike x z ≡ false) xs
+          → same x there ≡ true
+          → each_among same xs (front ++ there ∷ back) ≡ true
+          → each_among same xs (front ++ back) ≡ true
+      each_but x [] front back there apart is each = refl
+      each_but x (z ∷ xs) front back there apart is each =
+          let here = first_so (list_any (same z) (front ++ there ∷ back)) (each_among same xs (front ++ there ∷ back)) each in
+          let other = differs_from x z there apart.0 is (same z there) refl in
+          both_true (list_any (same z) (front ++ back)) (each_among same xs (front ++ back)) (any_but z front back there other here)
+          (each_but x xs front back there apart.1 is (second_so (list_any (same z) (front ++ there ∷ back)) (each_among same xs (front ++ there ∷ back)) each))
 
-    -- Where no two of the first are alike, each has one of its own among the second: so there are at least as many of
-    -- these, and where there are no more, each of them has one among the first.
-    record Covers (xs ys : List T) : Type 0 where
-      fits : length xs ≤ length ys
-      back : length ys ≤ length xs → each_among same ys xs ≡ true
+      -- Where no two of the first are alike, each has one of its own among the second: so there are at least as many of
+      -- these, and where there are no more, each of them has one among the first.
+      record Covers (xs ys : List T) : Type 0 where
+        fits : length xs ≤ length ys
+        back : length ys ≤ length xs → each_among same ys xs ≡ true
 
-    covers : (xs ys : List T) → IsDistinct alike xs → each_among same xs ys ≡ true → Covers xs ys
-    unfolding IsDistinct
-    covers [] [] distinct each = record { fits = omega arith; back = λ _. refl }
-    covers [] (y ∷ ys) distinct each = record { fits = omega arith; back = λ fewer. absurd (omega arith) }
-    covers (x ∷ xs) ys distinct each =
-        let split = split_at x ys (first_so (list_any (same x) ys) (each_among same xs ys) each) in
-        let rest : each_among same xs (split.front ++ split.there ∷ split.back) ≡ true =
-        subst (λ l. each_among same xs l ≡ true) split.whole (second_so (list_any (same x) ys) (each_among same xs ys) each) in
-        let others = covers xs (split.front ++ split.back) distinct.1 (each_but x xs split.front split.back split.there distinct.0 split.is rest) in
-        let long = ap length split.whole ∙ length-append split.front (split.there ∷ split.back) in
-        let short = length-append split.front split.back in
-        let fits = others.fits in
-        record {
-          fits = omega arith;
-          back = λ fewer.
-              let all = among_more (split.front ++ split.back) xs x (others.back (omega arith)) in
-              let parts = sym (list_all-append (λ z. list_any (same z) (x ∷ xs)) split.front split.back) ∙ all in
-              let front = first_so (each_among same split.front (x ∷ xs)) (each_among same split.back (x ∷ xs)) parts in
-              let back = second_so (each_among same split.front (x ∷ xs)) (each_among same split.back (x ∷ xs)) parts in
-              let there : list_any (same split.there) (x ∷ xs) ≡ true =
-              ap (λ b. b || list_any (same split.there) xs) (turn split.there x ∙ split.is) in
-              subst (λ l. each_among same l (x ∷ xs) ≡ true) (sym split.whole)
-              (list_all-append (λ z. list_any (same z) (x ∷ xs)) split.front (split.there ∷ split.back)
-              ∙ both_true (each_among same split.front (x ∷ xs)) (each_among same (split.there ∷ split.back) (x ∷ xs)) front
-              (both_true (list_any (same split.there) (x ∷ xs)) (each_among same split.back (x ∷ xs)) there back));
-        }
+      covers : (xs ys : List T) → IsDistinct alike xs → each_among same xs ys ≡ true → Covers xs ys
+      unfolding IsDistinct
+      covers [] [] distinct each = record { fits = omega arith; back = λ _. refl }
+      covers [] (y ∷ ys) distinct each = record { fits = omega arith; back = λ fewer. absurd (omega arith) }
+      covers (x ∷ xs) ys distinct each =
+          let split = split_at x ys (first_so (list_any (same x) ys) (each_among same xs ys) each) in
+          let rest : each_among same xs (split.front ++ split.there ∷ split.back) ≡ true =
+          subst (λ l. each_among same xs l ≡ true) split.whole (second_so (list_any (same x) ys) (each_among same xs ys) each) in
+          let others = covers xs (split.front ++ split.back) distinct.1 (each_but x xs split.front split.back split.there distinct.0 split.is rest) in
+          let long = ap length split.whole ∙ length-append split.front (split.there ∷ split.back) in
+          let short = length-append split.front split.back in
+          let fits = others.fits in
+          record {
+            fits = omega arith;
+            back = λ fewer.
+                let all = among_more (split.front ++ split.back) xs x (others.back (omega arith)) in
+                let parts = sym (list_all-append (λ z. list_any (same z) (x ∷ xs)) split.front split.back) ∙ all in
+                let front = first_so (each_among same split.front (x ∷ xs)) (each_among same split.back (x ∷ xs)) parts in
+                let back = second_so (each_among same split.front (x ∷ xs)) (each_among same split.back (x ∷ xs)) parts in
+                let there : list_any (same split.there) (x ∷ xs) ≡ true =
+                ap (λ b. b || list_any (same split.there) xs) (turn split.there x ∙ split.is) in
+                subst (λ l. each_among same l (x ∷ xs) ≡ true) (sym split.whole)
+                (list_all-append (λ z. list_any (same z) (x ∷ xs)) split.front (split.there ∷ split.back)
+                ∙ both_true (each_among same split.front (x ∷ xs)) (each_among same (split.there ∷ split.back) (x ∷ xs)) front
+                (both_true (list_any (same split.there) (x ∷ xs)) (each_among same split.back (x ∷ xs)) there back));
+          }
 
-    module _
-        (s t : Store T) (apart_s : IsDistinct alike (live_items s)) (apart_t : IsDistinct alike (live_items t))
+      module _
+          (s t : Store T) (apart_s : IsDistinct alike (live_items s)) (apart_t : IsDistinct alike (live_items t))
         where
-      fewer : each_among same (live_items s) (live_items t) ≡ true → live_count s ≤ live_count t
-      fewer each =
-          let fits = (covers (live_items s) (live_items t) apart_s each).fits in
-          let mine = length-items_in s.items in
-          let theirs = length-items_in t.items in
-          omega arith
-
-      -- stores with other numbers of items
-      pub same_items-unequal : (live_count s ≡ live_count t → ⊥) → false ≡ has_same_items same s t
-      same_items-unequal other = sym (none (has_same_items same s t) refl)
-        where
-          none : (b : Bool) → has_same_items same s t ≡ b → b ≡ false
-          none false is = refl
-          none true is =
-              let one = first_so (each_among same (live_items s) (live_items t)) (each_among same (live_items t) (live_items s)) is in
-              let two = second_so (each_among same (live_items s) (live_items t)) (each_among same (live_items t) (live_items s)) is in
-              let at_most = fewer one in
-              let turned = (covers (live_items t) (live_items s) apart_t two).fits in
+          fewer : each_among same (live_items s) (live_items t) ≡ true → live_count s ≤ live_count t
+          fewer each =
+              let fits = (covers (live_items s) (live_items t) apart_s each).fits in
               let mine = length-items_in s.items in
               let theirs = length-items_in t.items in
-              absurd (other (omega arith))
+              omega arith
 
-      -- stores with as many items: one way is enough
-      pub same_items-equal :
-          live_count s ≡ live_count t
-          → each_among same (live_items s) (live_items t) ≡ has_same_items same s t
-      same_items-equal as_many = both_ways (each_among same (live_items s) (live_items t)) (has_same_items same s t)
-          (λ one.
-          let back = (covers (live_items s) (live_items t) apart_s one).back in
-          let mine = length-items_in s.items in
-          let theirs = length-items_in t.items in
-          both_true (each_among same (live_items s) (live_items t)) (each_among same (live_items t) (live_items s)) one (back (omega arith)))
-          (λ both. first_so (each_among same (live_items s) (live_items t)) (each_among same (live_items t) (live_items s)) both)
+          -- stores with other numbers of items
+          pub same_items-unequal : (live_count s ≡ live_count t → ⊥) → false ≡ has_same_items same s t
+          same_items-unequal other = sym (none (has_same_items same s t) refl)
+            where
+              none : (b : Bool) → has_same_items same s t ≡ b → b ≡ false
+              none false is = refl
+              none true is =
+                  let one = first_so (each_among same (live_items s) (live_items t)) (each_among same (live_items t) (live_items s)) is in
+                  let two = second_so (each_among same (live_items s) (live_items t)) (each_among same (live_items t) (live_items s)) is in
+                  let at_most = fewer one in
+                  let turned = (covers (live_items t) (live_items s) apart_t two).fits in
+                  let mine = length-items_in s.items in
+                  let theirs = length-items_in t.items in
+                  absurd (other (omega arith))
+
+          -- stores with as many items: one way is enough
+          pub same_items-equal :
+              live_count s ≡ live_count t
+              → each_among same (live_items s) (live_items t) ≡ has_same_items same s t
+          same_items-equal as_many = both_ways (each_among same (live_items s) (live_items t)) (has_same_items same s t)
+              (λ one.
+              let back = (covers (live_items s) (live_items t) apart_s one).back in
+              let mine = length-items_in s.items in
+              let theirs = length-items_in t.items in
+              both_true (each_among same (live_items s) (live_items t)) (each_among same (live_items t) (live_items s)) one (back (omega arith)))
+              (λ both. first_so (each_among same (live_items s) (live_items t)) (each_among same (live_items t) (live_items s)) both)
 
 -- the items of slots, and a test
 module _ {T : Type 0} (test : T → Bool) where
@@ -244,17 +244,17 @@ module _ {T : Type 0} (alike equal : T → T → Bool) where
   module _
       (a : IsEquivalence alike) (b : IsPartialEquivalence equal) (s t : Store T) (apart_s : AreApart alike s)
       (apart_t : AreApart alike t)
-      where
-    pub unequal_counts : (live_count s ≡ live_count t → ⊥) → false ≡ has_same_items same s t
-    unequal_counts other =
-        same_items-unequal same alike (partial_equiv_from_equiv a) (λ x y. first_so (alike x y) (equal x y)) (same_laws alike equal a b).symm s t (IsDistinct-apart alike s apart_s) (IsDistinct-apart alike t apart_t) other
+    where
+      pub unequal_counts : (live_count s ≡ live_count t → ⊥) → false ≡ has_same_items same s t
+      unequal_counts other =
+          same_items-unequal same alike (partial_equiv_from_equiv a) (λ x y. first_so (alike x y) (equal x y)) (same_laws alike equal a b).symm s t (IsDistinct-apart alike s apart_s) (IsDistinct-apart alike t apart_t) other
 
-    -- and with as many: each item of the first has one that is the same in the second
-    pub equal_counts :
-        live_count s ≡ live_count t
-        → each_among same (live_items s) (live_items t) ≡ has_same_items same s t
-    equal_counts as_many =
-        same_items-equal same alike (partial_equiv_from_equiv a) (λ x y. first_so (alike x y) (equal x y)) (same_laws alike equal a b).symm s t (IsDistinct-apart alike s apart_s) (IsDistinct-apart alike t apart_t) as_many
+      -- and with as many: each item of the first has one that is the same in the second
+      pub equal_counts :
+          live_count s ≡ live_count t
+          → each_among same (live_items s) (live_items t) ≡ has_same_items same s t
+      equal_counts as_many =
+          same_items-equal same alike (partial_equiv_from_equiv a) (λ x y. first_so (alike x y) (equal x y)) (same_laws alike equal a b).symm s t (IsDistinct-apart alike s apart_s) (IsDistinct-apart alike t apart_t) as_many
 
 -- the index that a scan answers is live, and its item is the one that passes
 module _ {T : Type 0} (s : Store T) (test : T → Bool) (ix : ℕ) where

@@ -73,42 +73,42 @@ reserved_beside (Err error) live additional old new counted same roomy = tt
 module _
     {T K : Type 0} (key_of : T → K) (hashing : Hashing K) (lawful : IsLawful hashing) (s : Store T)
     (m : FinMap nat_cmp ℕ) (o : Indexes key_of hashing s m)
-    where
-  module _ (ix : ℕ) (item : T) where
-    -- who shares the key with the item is the one whose place it takes
-    no_other : (plan : Move) → Plans key_of hashing s ix item plan → HasNoOther s (shares key_of hashing.equal item) ix
-    no_other (To hash) planned j hit = absurd (planned.0 j hit)
-    no_other Stays (y, is, same) j (x, there, like) =
-        let e = lawful.equivalence in
-        o.exact.apart j ix x y there is (e.trans (key_of x) (key_of item) (key_of y) (e.symm (key_of x) (key_of item) ∙ like) same)
+  where
+    module _ (ix : ℕ) (item : T) where
+      -- who shares the key with the item is the one whose place it takes
+      no_other : (plan : Move) → Plans key_of hashing s ix item plan → HasNoOther s (shares key_of hashing.equal item) ix
+      no_other (To hash) planned j hit = absurd (planned.0 j hit)
+      no_other Stays (y, is, same) j (x, there, like) =
+          let e = lawful.equivalence in
+          o.exact.apart j ix x y there is (e.trans (key_of x) (key_of item) (key_of y) (e.symm (key_of x) (key_of item) ∙ like) same)
 
-    -- the index moves exactly where the key doesn't stay
-    moves_unlike :
-        (plan : Move)
-        → Plans key_of hashing s ix item plan
-        → (was : T)
-        → get s ix ≡ Some was
-        → moves plan ≡ not (shares key_of hashing.equal item was)
-    moves_unlike Stays (there, is, same) was live =
-        let one : there ≡ was = (let e : Some there ≡ Some was = sym is ∙ live in cc) in
-        rw (← one, same) refl
-    moves_unlike (To hash) planned was live = by_cases (shares key_of hashing.equal item was) refl
-      where
-        by_cases :
-            (b : Bool)
-            → shares key_of hashing.equal item was ≡ b
-            → true ≡ not (shares key_of hashing.equal item was)
-        by_cases true is = absurd (planned.0 ix (was, live, is))
-        by_cases false is = rw is refl
+      -- the index moves exactly where the key doesn't stay
+      moves_unlike :
+          (plan : Move)
+          → Plans key_of hashing s ix item plan
+          → (was : T)
+          → get s ix ≡ Some was
+          → moves plan ≡ not (shares key_of hashing.equal item was)
+      moves_unlike Stays (there, is, same) was live =
+          let one : there ≡ was = (let e : Some there ≡ Some was = sym is ∙ live in cc) in
+          rw (← one, same) refl
+      moves_unlike (To hash) planned was live = by_cases (shares key_of hashing.equal item was) refl
+        where
+          by_cases :
+              (b : Bool)
+              → shares key_of hashing.equal item was ≡ b
+              → true ≡ not (shares key_of hashing.equal item was)
+          by_cases true is = absurd (planned.0 ix (was, live, is))
+          by_cases false is = rw is refl
 
-    pub PlansMove-planned :
-        (r : Result Move ℕ)
-        → PlansOrConflicts key_of hashing s ix item r
-        → PlansMove (shares key_of hashing.equal item) (shares key_of hashing.equal item)
+      pub PlansMove-planned :
+          (r : Result Move ℕ)
+          → PlansOrConflicts key_of hashing s ix item r
+          → PlansMove (shares key_of hashing.equal item) (shares key_of hashing.equal item)
           (Plans key_of hashing s ix item) moves
-              (λ at. (at ≢ ix) × AnswersScan s (shares key_of hashing.equal item) (Some at)) s ix r
-    PlansMove-planned (Ok plan) planned = (planned, no_other plan planned, moves_unlike plan planned)
-    PlansMove-planned (Err at) taken = taken
+          (λ at. (at ≢ ix) × AnswersScan s (shares key_of hashing.equal item) (Some at)) s ix r
+      PlansMove-planned (Ok plan) planned = (planned, no_other plan planned, moves_unlike plan planned)
+      PlansMove-planned (Err at) taken = taken
 
 -- what taking the index that was found leaves indexes the store without it
 pub TakesFound-taken :

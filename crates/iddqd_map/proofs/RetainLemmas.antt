@@ -157,74 +157,74 @@ module _ {F T : Type 0} (takes : F → T → Type 0) (ask : F → T → Bool →
 
   module _
       (f : F) (old now : Store T) (p : ℕ) (state : F) (w : Retaining f old now p state) (within : p < length old.items)
-      where
-    -- a slot without an item
-    pub Retaining-vacant : get now p ≡ None → Retaining f old now (p + 1) state
-    Retaining-vacant vacant = record {
-      asks = w.asks;
-      each_once = w.each_once ∙ sym (pairs_vacant old.items p within (sym (w.rest p (omega arith)) ∙ vacant));
-      were_asked = w.were_asked;
-      kept = pairs_vacant now.items p (let counted = w.counted in omega arith) vacant ∙ w.kept;
-      left = w.left;
-      rest = λ ix from. w.rest ix (omega arith);
-      counted = w.counted;
-      can = w.can;
-    }
-
-    module _ (item : T) (live : get now p ≡ Some item) where
-      was_live : get old p ≡ Some item
-      was_live = sym (w.rest p (omega arith)) ∙ live
-
-      -- its item may be asked about
-      pub takes-next : takes state item
-      takes-next = CanAsk-takes takes ask state (live_items old) item w.can (Contains-live old p item was_live)
-
-      each-more :
-          (b : Bool)
-          → map (λ (a : (ℕ × T) × Bool). a.0) (w.asks ++ ((p, item), b) ∷ []) ≡ pairs_from 0 (take (p + 1) old.items)
-      each-more b =
-          map-append (λ (a : (ℕ × T) × Bool). a.0) w.asks (((p, item), b) ∷ [])
-          ∙ ap (λ l. l ++ (p, item) ∷ []) w.each_once
-          ∙ sym (pairs_more old.items p (Some item) within was_live)
-
-      can-more : (b : Bool) (next : F) → ask state item b next → CanAsk takes ask next (live_items old)
-      can-more b next asked = CanAsk-asked takes ask state (live_items old) item b next w.can (Contains-live old p item was_live) asked
-
-      -- it was answered true
-      pub Retaining-kept : (next : F) → ask state item true next → Retaining f old now (p + 1) next
-      Retaining-kept next asked = record {
-        asks = w.asks ++ ((p, item), true) ∷ [];
-        each_once = each-more true;
-        were_asked = FoldsTo-push (λ p a q. ask p a.0.1 a.1 q) f w.asks state ((p, item), true) next w.were_asked asked;
-        kept = pairs_more now.items p (Some item) (let counted = w.counted in omega arith) live ∙ ap (λ l. l ++ (p, item) ∷ []) w.kept ∙ sym (kept-push w.asks ((p, item), true));
-        left = w.left ∙ ap (removed_all old) (sym (refused-push w.asks ((p, item), true) ∙ append-nil _));
+    where
+      -- a slot without an item
+      pub Retaining-vacant : get now p ≡ None → Retaining f old now (p + 1) state
+      Retaining-vacant vacant = record {
+        asks = w.asks;
+        each_once = w.each_once ∙ sym (pairs_vacant old.items p within (sym (w.rest p (omega arith)) ∙ vacant));
+        were_asked = w.were_asked;
+        kept = pairs_vacant now.items p (let counted = w.counted in omega arith) vacant ∙ w.kept;
+        left = w.left;
         rest = λ ix from. w.rest ix (omega arith);
         counted = w.counted;
-        can = can-more true next asked;
+        can = w.can;
       }
 
-      -- it was answered false, and removed
-      pub Retaining-removed :
-          (after : Store T) (next : F)
-          → after ≡ removed now p
-          → ask state item false next
-          → Retaining f old after (p + 1) next
-      Retaining-removed after next gone asked =
-          let counted = w.counted in
-          let within_now : p < length now.items = omega arith in
-          let long = length-set now.items p None in
-          rw gone
-          (record {
-            asks = w.asks ++ ((p, item), false) ∷ [];
-            each_once = each-more false;
-            were_asked = FoldsTo-push (λ p a q. ask p a.0.1 a.1 q) f w.asks state ((p, item), false) next w.were_asked asked;
-            kept =
-                pairs_vacant (set now.items p None) p (omega arith) (get_or-set_same now.items p None None within_now)
-                ∙ ap (pairs_from 0) (take-set now.items p None) ∙ w.kept ∙ sym (kept-push w.asks ((p, item), false) ∙ append-nil _);
-            left =
-                ap (λ s. removed s p) w.left ∙ sym (removed_all-push old (refused_of w.asks) p)
-                ∙ ap (removed_all old) (sym (refused-push w.asks ((p, item), false)));
-            rest = λ ix from. get_or-set_other now.items p ix None None (λ same. omega arith) ∙ w.rest ix (omega arith);
-            counted = long ∙ counted;
-            can = can-more false next asked;
-          })
+      module _ (item : T) (live : get now p ≡ Some item) where
+        was_live : get old p ≡ Some item
+        was_live = sym (w.rest p (omega arith)) ∙ live
+
+        -- its item may be asked about
+        pub takes-next : takes state item
+        takes-next = CanAsk-takes takes ask state (live_items old) item w.can (Contains-live old p item was_live)
+
+        each-more :
+            (b : Bool)
+            → map (λ (a : (ℕ × T) × Bool). a.0) (w.asks ++ ((p, item), b) ∷ []) ≡ pairs_from 0 (take (p + 1) old.items)
+        each-more b =
+            map-append (λ (a : (ℕ × T) × Bool). a.0) w.asks (((p, item), b) ∷ [])
+            ∙ ap (λ l. l ++ (p, item) ∷ []) w.each_once
+            ∙ sym (pairs_more old.items p (Some item) within was_live)
+
+        can-more : (b : Bool) (next : F) → ask state item b next → CanAsk takes ask next (live_items old)
+        can-more b next asked = CanAsk-asked takes ask state (live_items old) item b next w.can (Contains-live old p item was_live) asked
+
+        -- it was answered true
+        pub Retaining-kept : (next : F) → ask state item true next → Retaining f old now (p + 1) next
+        Retaining-kept next asked = record {
+          asks = w.asks ++ ((p, item), true) ∷ [];
+          each_once = each-more true;
+          were_asked = FoldsTo-push (λ p a q. ask p a.0.1 a.1 q) f w.asks state ((p, item), true) next w.were_asked asked;
+          kept = pairs_more now.items p (Some item) (let counted = w.counted in omega arith) live ∙ ap (λ l. l ++ (p, item) ∷ []) w.kept ∙ sym (kept-push w.asks ((p, item), true));
+          left = w.left ∙ ap (removed_all old) (sym (refused-push w.asks ((p, item), true) ∙ append-nil _));
+          rest = λ ix from. w.rest ix (omega arith);
+          counted = w.counted;
+          can = can-more true next asked;
+        }
+
+        -- it was answered false, and removed
+        pub Retaining-removed :
+            (after : Store T) (next : F)
+            → after ≡ removed now p
+            → ask state item false next
+            → Retaining f old after (p + 1) next
+        Retaining-removed after next gone asked =
+            let counted = w.counted in
+            let within_now : p < length now.items = omega arith in
+            let long = length-set now.items p None in
+            rw gone
+            (record {
+              asks = w.asks ++ ((p, item), false) ∷ [];
+              each_once = each-more false;
+              were_asked = FoldsTo-push (λ p a q. ask p a.0.1 a.1 q) f w.asks state ((p, item), false) next w.were_asked asked;
+              kept =
+                  pairs_vacant (set now.items p None) p (omega arith) (get_or-set_same now.items p None None within_now)
+                  ∙ ap (pairs_from 0) (take-set now.items p None) ∙ w.kept ∙ sym (kept-push w.asks ((p, item), false) ∙ append-nil _);
+              left =
+                  ap (λ s. removed s p) w.left ∙ sym (removed_all-push old (refused_of w.asks) p)
+                  ∙ ap (removed_all old) (sym (refused-push w.asks ((p, item), false)));
+              rest = λ ix from. get_or-set_other now.items p ix None None (λ same. omega arith) ∙ w.rest ix (omega arith);
+              counted = long ∙ counted;
+              can = can-more false next asked;
+            })

@@ -111,19 +111,19 @@ module _ {T K S H : Type 0}
     (h : hasher.Ghosts H) (laws : IsEquivalence equal)
     (respects : (x y : K) → IsTrue (equal x y) → hash_input x ≡ hash_input y)
     (state : S) (s : Store T) (m : FinMap nat_cmp ℕ) (is : Indexes key_of (hashing_of equal hash_input b h state) s m)
-    where
-  lawful : IsLawful (hashing_of equal hash_input b h state)
-  lawful = IsLawful-from_bounds equal hash_input b h state (partial_equiv_from_equiv laws) respects
+  where
+    lawful : IsLawful (hashing_of equal hash_input b h state)
+    lawful = IsLawful-from_bounds equal hash_input b h state (partial_equiv_from_equiv laws) respects
 
-  pub Indexes-key_kept :
-      (ix : ℕ) (was item : T)
-      → get s ix ≡ Some was
-      → key_of item ≡ key_of was
-      → Indexes key_of (hashing_of equal hash_input b h state) (rebound s ix item) m
-  Indexes-key_kept = Indexes-modified key_of (hashing_of equal hash_input b h state) s m lawful laws.refl is
+    pub Indexes-key_kept :
+        (ix : ℕ) (was item : T)
+        → get s ix ≡ Some was
+        → key_of item ≡ key_of was
+        → Indexes key_of (hashing_of equal hash_input b h state) (rebound s ix item) m
+    Indexes-key_kept = Indexes-modified key_of (hashing_of equal hash_input b h state) s m lawful laws.refl is
 
-  pub Indexes-keys_shared :
-      (t : Store T)
-      → HaveSameKeys (shares key_of equal) s t
-      → Indexes key_of (hashing_of equal hash_input b h state) t m
-  Indexes-keys_shared = Indexes-same key_of (hashing_of equal hash_input b h state) s m lawful is
+    pub Indexes-keys_shared :
+        (t : Store T)
+        → HaveSameKeys (shares key_of equal) s t
+        → Indexes key_of (hashing_of equal hash_input b h state) t m
+    Indexes-keys_shared = Indexes-same key_of (hashing_of equal hash_input b h state) s m lawful is

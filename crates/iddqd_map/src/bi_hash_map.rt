@@ -22,10 +22,10 @@ use crate::map::Map;
 use crate::refusal::{OverwriteRefusal, ReplaceRefusal};
 pub use clash::BiClash;
 pub use clones::BiHashClone;
-pub use index::BiIndex;
 use iddqd::hash_builder::DefaultHashBuilder;
 use iddqd::item_index::ItemIndex;
 use iddqd_keys::query::HashQuery;
+pub use index::BiIndex;
 pub use item::{BiHashItem, First, Second};
 use std::hash::BuildHasher;
 
@@ -91,7 +91,7 @@ impl<T: BiHashItem, S: BuildHasher> Map<T, BiIndex<T>, S> {
         requires { MayChange F.FnOnce f self.old.store (passes_by T.first_key (Q.stands_for query)) }
         ensures { let first = shares T.first_key T.Key1.eq in let second = shares T.second_key T.Key2.eq in
             Changes (either_key first second) (both_keys first second) false (AreTaken first second)
-                (FnOnceReturnsAt F.FnOnce f)
+            (FnOnceReturnsAt F.FnOnce f)
             self.old (passes_by T.first_key (Q.stands_for query)) result self.new }
     {
         self.change_by::<First, Q, F>(query, f)
@@ -106,7 +106,7 @@ impl<T: BiHashItem, S: BuildHasher> Map<T, BiIndex<T>, S> {
     ) -> Option<R>
         requires { let named = passes_by T.first_key (Q.stands_for query) in
             KeepsKey F.FnOnce f (pair_keys T.first_key T.second_key)
-                (λ item. FindsItem self.old.store named (Some item)) }
+            (λ item. FindsItem self.old.store named (Some item)) }
         ensures { Modifies F.FnOnce f self.old (passes_by T.first_key (Q.stands_for query)) result self.new }
     {
         self.modify_by::<First, Q, R, F>(query, f)
@@ -162,7 +162,7 @@ impl<T: BiHashItem, S: BuildHasher> Map<T, BiIndex<T>, S> {
         requires { MayChange F.FnOnce f self.old.store (passes_by T.second_key (Q.stands_for query)) }
         ensures { let first = shares T.first_key T.Key1.eq in let second = shares T.second_key T.Key2.eq in
             Changes (either_key first second) (both_keys first second) false (AreTaken first second)
-                (FnOnceReturnsAt F.FnOnce f)
+            (FnOnceReturnsAt F.FnOnce f)
             self.old (passes_by T.second_key (Q.stands_for query)) result self.new }
     {
         self.change_by::<Second, Q, F>(query, f)
@@ -176,7 +176,7 @@ impl<T: BiHashItem, S: BuildHasher> Map<T, BiIndex<T>, S> {
     ) -> Option<R>
         requires { let named = passes_by T.second_key (Q.stands_for query) in
             KeepsKey F.FnOnce f (pair_keys T.first_key T.second_key)
-                (λ item. FindsItem self.old.store named (Some item)) }
+            (λ item. FindsItem self.old.store named (Some item)) }
         ensures { Modifies F.FnOnce f self.old (passes_by T.second_key (Q.stands_for query)) result self.new }
     {
         self.modify_by::<Second, Q, R, F>(query, f)
@@ -192,7 +192,7 @@ impl<T: BiHashItem, S: BuildHasher> Map<T, BiIndex<T>, S> {
     ) -> Result<(ItemIndex, [Option<T>; 2]), OverwriteRefusal<T>>
         ensures { let first = shares T.first_key T.Key1.eq in let second = shares T.second_key T.Key2.eq in
             Overwrites (either_key first second) (λ n. most_cells n + most_cells n) false 2 self.old item result
-                self.new }
+            self.new }
     {
         let mut places = [None, None];
         let ix = self.overwrite_into(item, &mut places)?;

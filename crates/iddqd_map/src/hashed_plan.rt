@@ -7,9 +7,9 @@ ghost use Rattle.iddqd_map.specs.Indexing.{Indexes, PlansOrConflicts};
 
 use iddqd::item_index::ItemIndex;
 use iddqd::item_set::ItemSet;
-use iddqd_hash::hash_table::MapHashTable;
 use iddqd_by_hash::hashed::{self, hash_of};
 use iddqd_by_hash::hashed_move::Move;
+use iddqd_hash::hash_table::MapHashTable;
 use iddqd_keys::key_of::{ByKey, KeyOf, key_at};
 use std::hash::{BuildHasher, Hash};
 

@@ -239,7 +239,7 @@ pub trait Inserts<T, S>: KeyIndex<T, S> {
         requires planned { IsPlannedForOne (λ state s item. is_planned self.old state s item plan.now) }
         ensures indexed { IndexesOneMore Self.alike (λ state item. is_known state item known)
             (λ state s item. is_planned self.old state s item plan.now) (Self.indexes self.old) ix
-                (Self.indexes self.new) }
+            (Self.indexes self.new) }
         ensures capacity { Self.capacity self.new ≡ Self.capacity self.old }
         ensures cells { Self.cells self.new ≡ Self.cells self.old };
 

@@ -17,9 +17,9 @@ use iddqd::internal::{ValidateCompact, ValidateRefusal, ValidationError};
 use iddqd::item_index::ItemIndex;
 use iddqd::item_set::ItemSet;
 use iddqd::map_hash::MapHash;
-use iddqd_hash::hash_table::MapHashTable;
 use iddqd_by_hash::hashed::{hash_of, take_index};
 use iddqd_by_hash::hashed_move::{Move, commit_move};
+use iddqd_hash::hash_table::MapHashTable;
 use iddqd_keys::key_of::KeyOf;
 use std::hash::{BuildHasher, Hash};
 

@@ -22,10 +22,10 @@ use crate::map::Map;
 use crate::refusal::{OverwriteRefusal, ReplaceRefusal};
 pub use clash::TriClash;
 pub use clones::TriHashClone;
-pub use index::TriIndex;
 use iddqd::hash_builder::DefaultHashBuilder;
 use iddqd::item_index::ItemIndex;
 use iddqd_keys::query::HashQuery;
+pub use index::TriIndex;
 pub use item::{First, Second, Third, TriHashItem};
 use std::hash::BuildHasher;
 
@@ -109,7 +109,7 @@ impl<T: TriHashItem, S: BuildHasher> Map<T, TriIndex<T>, S> {
     ) -> Option<R>
         requires { let named = passes_by T.first_key (Q.stands_for query) in
             KeepsKey F.FnOnce f (pair_keys T.first_key (pair_keys T.second_key T.third_key))
-                (λ item. FindsItem self.old.store named (Some item)) }
+            (λ item. FindsItem self.old.store named (Some item)) }
         ensures { Modifies F.FnOnce f self.old (passes_by T.first_key (Q.stands_for query)) result self.new }
     {
         self.modify_by::<First, Q, R, F>(query, f)
@@ -182,7 +182,7 @@ impl<T: TriHashItem, S: BuildHasher> Map<T, TriIndex<T>, S> {
     ) -> Option<R>
         requires { let named = passes_by T.second_key (Q.stands_for query) in
             KeepsKey F.FnOnce f (pair_keys T.first_key (pair_keys T.second_key T.third_key))
-                (λ item. FindsItem self.old.store named (Some item)) }
+            (λ item. FindsItem self.old.store named (Some item)) }
         ensures { Modifies F.FnOnce f self.old (passes_by T.second_key (Q.stands_for query)) result self.new }
     {
         self.modify_by::<Second, Q, R, F>(query, f)
@@ -255,7 +255,7 @@ impl<T: TriHashItem, S: BuildHasher> Map<T, TriIndex<T>, S> {
     ) -> Option<R>
         requires { let named = passes_by T.third_key (Q.stands_for query) in
             KeepsKey F.FnOnce f (pair_keys T.first_key (pair_keys T.second_key T.third_key))
-                (λ item. FindsItem self.old.store named (Some item)) }
+            (λ item. FindsItem self.old.store named (Some item)) }
         ensures { Modifies F.FnOnce f self.old (passes_by T.third_key (Q.stands_for query)) result self.new }
     {
         self.modify_by::<Third, Q, R, F>(query, f)

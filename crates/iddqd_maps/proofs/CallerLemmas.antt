@@ -46,13 +46,13 @@ module _
     {F T R : Type 0} (g : Once F (MutBor T × Unit {0}) (R × (MutBor T × Unit {0}))) (f : F)
     (Leaves : T → R → T → Type 0)
     (leaves : (item left : MutBor T) (result : R) → g.post f (item, tt) (result, (left, tt)) → Leaves item.now result
-        left.now)
-    where
-  -- so this holds of an item that was modified by it
-  pub called_leaves : (was is : T) (result : R) → FnOnceReturnsAtMut g f was result is → Leaves was result is
-  called_leaves was is result called =
-      let at_shown = subst (λ item. Leaves called.shown.now result item) called.leaves (leaves called.shown called.left result called.met) in
-      subst (λ item. Leaves item result is) called.shows at_shown
+    left.now)
+  where
+    -- so this holds of an item that was modified by it
+    pub called_leaves : (was is : T) (result : R) → FnOnceReturnsAtMut g f was result is → Leaves was result is
+    called_leaves was is result called =
+        let at_shown = subst (λ item. Leaves called.shown.now result item) called.leaves (leaves called.shown called.left result called.met) in
+        subst (λ item. Leaves item result is) called.shows at_shown
 
 -- a slot less
 fewer_set :

@@ -18,11 +18,10 @@ pub use iddqd::{
     hash_builder as hash_builder, index_remap as index_remap, item_index as item_index,
     item_set as item_set,
 };
+pub use iddqd_keys::{key_of as key_of, order_query as order_query, query as query};
 pub use iddqd_map::{
     bi_hash_map as bi_hash_map, by_hash as by_hash, id_hash_map as id_hash_map,
     key_index as key_index, map as map, pair as pair, pair_conflict as pair_conflict,
     refusal as refusal, tri_hash_map as tri_hash_map,
 };
 pub use iddqd_ord_map::{by_order as by_order, id_ord_map as id_ord_map};
-pub use iddqd_keys::{key_of as key_of, query as query};
-pub use iddqd_keys::order_query as order_query;

@@ -26,14 +26,12 @@ use iddqd::index_remap::IndexRemap;
 use iddqd::internal::{ValidateCompact, ValidateRefusal, ValidationError};
 use iddqd::item_index::ItemIndex;
 use iddqd::item_set::ItemSet;
-use iddqd_map::key_index::{
-    Checks, Inserts, KeyIndex, Moves, Removes, Sizes, TakesQuery,
-};
-use iddqd_order::btree_table::{Asking, Blocks, Gap, Iter, MapBTreeTable, Range};
-use iddqd_keys::key_of::{ByKey, KeyOf, key_at};
-use iddqd_keys::order_query::OrdQuery;
 use iddqd_by_order::ordered;
 use iddqd_by_order::ordered::take_index;
+use iddqd_keys::key_of::{ByKey, KeyOf, key_at};
+use iddqd_keys::order_query::OrdQuery;
+use iddqd_map::key_index::{Checks, Inserts, KeyIndex, Moves, Removes, Sizes, TakesQuery};
+use iddqd_order::btree_table::{Asking, Blocks, Gap, Iter, MapBTreeTable, Range};
 use std::alloc::{AllocError, Global};
 use std::cmp::Ordering;
 use std::marker::PhantomData;

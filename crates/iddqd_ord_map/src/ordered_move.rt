@@ -10,9 +10,9 @@ ghost use Rattle.iddqd_ord_map.specs.OrderedIndexing.{PlansOrConflicts, Sorts, h
 
 use iddqd::item_index::ItemIndex;
 use iddqd::item_set::ItemSet;
-use iddqd_order::btree_table::{Asking, Blocks, MapBTreeTable};
-use iddqd_keys::key_of::{ByKey, KeyOf, key_at};
 use iddqd_by_order::ordered;
+use iddqd_keys::key_of::{ByKey, KeyOf, key_at};
+use iddqd_order::btree_table::{Asking, Blocks, MapBTreeTable};
 
 /// What has to become of a live index that is given another item.
 #[derive(Clone, Copy)]

@@ -13,10 +13,10 @@ ghost use Rattle.iddqd_ord_map.specs.OrderedIndexing.{Sorts};
 
 use iddqd::item_index::ItemIndex;
 use iddqd::item_set::ItemSet;
-use iddqd_order::btree_table::{MapBTreeTable, Range};
+use iddqd_by_order::ordered;
 use iddqd_keys::key_of::KeyOf;
 use iddqd_keys::order_query::{OrdQuery, Ranked};
-use iddqd_by_order::ordered;
+use iddqd_order::btree_table::{MapBTreeTable, Range};
 use std::ops::Bound;
 
 /// The index of the item that has the key for which the query stands.

@@ -68,18 +68,18 @@ module _ {F R : Type 0} (g : Mut F (ℕ × Unit {0}) R) (P Q : ℕ → Type 0) (
 module _
     {F R : Type 0} (g : Mut F (ℕ × Unit {0}) R) (P : ℕ → Type 0) (I : F → Type 0)
     (keeps : (f f' : F) (ix : ℕ) (r : R) → I f → P ix → Called g f (ix, tt) r f' → I f')
-    where
-  pub After-keeps : {n : ℕ} {a b : F} → I a → After g P n a b → I b
-  After-keeps i At_once = i
-  After-keeps i (One_more p h e) = keeps _ _ _ _ (After-keeps i p) h e
+  where
+    pub After-keeps : {n : ℕ} {a b : F} → I a → After g P n a b → I b
+    After-keeps i At_once = i
+    After-keeps i (One_more p h e) = keeps _ _ _ _ (After-keeps i p) h e
 
-  pub CanAsk-by : ((f : F) (ix : ℕ) → I f → P ix → g.pre f (ix, tt)) → (f : F) → I f → CanAsk g P f
-  CanAsk-by asks f i = record { at = λ n f' p ix h. asks f' ix (After-keeps i p) h }
+    pub CanAsk-by : ((f : F) (ix : ℕ) → I f → P ix → g.pre f (ix, tt)) → (f : F) → I f → CanAsk g P f
+    CanAsk-by asks f i = record { at = λ n f' p ix h. asks f' ix (After-keeps i p) h }
 
-  pub Steady-by :
-      (read : R → Ordering) (answer : ℕ → Ordering)
-      → ((f f' : F) (ix : ℕ) (r : R) → I f → P ix → Called g f (ix, tt) r f' → read r ≡ answer ix)
-      → (f : F)
-      → I f
-      → Steady g P read answer f
-  Steady-by read answer says f i = record { at = λ n f' p ix h r f'' e. says f' f'' ix r (After-keeps i p) h e }
+    pub Steady-by :
+        (read : R → Ordering) (answer : ℕ → Ordering)
+        → ((f f' : F) (ix : ℕ) (r : R) → I f → P ix → Called g f (ix, tt) r f' → read r ≡ answer ix)
+        → (f : F)
+        → I f
+        → Steady g P read answer f
+    Steady-by read answer says f i = record { at = λ n f' p ix h r f'' e. says f' f'' ix r (After-keeps i p) h e }

@@ -418,7 +418,7 @@ pub steps-ahead :
     → at < length row
     → ix ≡ slice_index row at
     → IsAt t h p row (at + 1) × Steps true (in_order t h) (place_in t h (to_gap p at)) (Some ix)
-      (place_in t h (to_gap p (at + 1)))
+    (place_in t h (to_gap p (at + 1)))
 steps-ahead t h ix p row at tree a lt e =
     let m = IsAt-moved t h (at + 1) p row at tree a (omega arith) in
     let b = IsAt-read t h p row at tree a lt in let is = m.1 in
@@ -431,7 +431,7 @@ pub steps-back :
     → 0 < at
     → ix ≡ slice_index row (at - 1)
     → IsAt t h p row (at - 1) × Steps false (in_order t h) (place_in t h (to_gap p at)) (Some ix)
-      (place_in t h (to_gap p (at - 1)))
+    (place_in t h (to_gap p (at - 1)))
 steps-back t h ix p row at tree a some e =
     let within = a.within in
     let m = IsAt-moved t h (at - 1) p row at tree a (omega arith) in

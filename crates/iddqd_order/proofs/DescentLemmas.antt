@@ -182,7 +182,7 @@ pub child-read :
     → i < length (children n)
     → j < length (flat (l - 1) (child n i))
     → slice_index (flat l n)
-      (length (before i (row n) (lists (l - 1) (children n))) + j) ≡ slice_index (flat (l - 1) (child n i)) j
+    (length (before i (row n) (lists (l - 1) (children n))) + j) ≡ slice_index (flat (l - 1) (child n i)) j
 child-read l n i j ne f lt within = (child-part l n i ne f lt).at j within
 
 module _ {F R : Type 0} (g : Mut F (ℕ × Unit {0}) R) (read : R → Ordering) (tie : Option ℕ) where
@@ -201,7 +201,7 @@ module _ {F R : Type 0} (g : Mut F (ℕ × Unit {0}) R) (read : R → Ordering) 
       → IsFormed l n
       → SearchesWithin g read (row n) k tie a (Err i) b
       → LeadsTo g read tie k (length (before i (row n) (lists (l - 1) (children n)))) (flat (l - 1) (child n i))
-        (flat l n) a b
+      (flat l n) a b
   leads-below l n i a b ne f s =
       let xs : List ℕ = row n in let ks : List (List ℕ) = lists (l - 1) (children n) in
       let one : length ks ≡ length xs + 1 = lists-one_more l n ne f in
@@ -325,7 +325,7 @@ module _ {F R : Type 0} (g : Mut F (ℕ × Unit {0}) R) (read : R → Ordering) 
       → i < length (children n)
       → IfOk end (λ j. j < length (flat (l - 1) (child n i)))
       → index_at (flat (l - 1) (child n i)) end ≡ index_at (flat l n)
-        (shifted (length (before i (row n) (lists (l - 1) (children n)))) end)
+      (shifted (length (before i (row n) (lists (l - 1) (children n)))) end)
   read-below l n i (Err j) ne f lt found = refl
   read-below l n i (Ok j) ne f lt found = ap Some (sym (child-read l n i j ne f lt found))
 

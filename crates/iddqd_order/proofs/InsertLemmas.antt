@@ -70,7 +70,7 @@ inners_set :
     (h : ℕ) (old : Node) (p : List ℕ) (i : ℕ) (g k : Node)
     → IsTaken h old p i g
     → inners_of (h - 1) (set (children old) i k) + inners (h - 1) g ≡ inners_of (h - 1)
-      (children old) + inners (h - 1) k
+    (children old) + inners (h - 1) k
 inners_set h old p i g k t =
     let b = taken h old p i g t in
     omega (arith, sum_by-set (λ k. inners (h - 1) k) (children old) i k g b.here, ap (inners (h - 1)) t.is)

@@ -106,7 +106,7 @@ woven :
     → length ls ≡ length ys + 1
     → weave ys (lists h ls) ≡ flat h l ++ get_or xs i 0 ∷ flat h r
     → weave (take i xs ++ (ys ++ drop (suc i) xs))
-      (lists h (take i ks ++ (ls ++ drop (suc (suc i)) ks))) ≡ weave xs (lists h ks)
+    (lists h (take i ks ++ (ls ++ drop (suc (suc i)) ks))) ≡ weave xs (lists h ks)
 woven h i [] ys ks ls l r lt e el er n s = absurd (omega arith)
 woven h i (x ∷ xs) ys [] ls l r lt e el er n s = absurd (omega arith)
 woven h i (x ∷ xs) ys (k ∷ []) ls l r lt e el er n s = absurd (omega arith)

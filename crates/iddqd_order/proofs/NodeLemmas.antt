@@ -193,7 +193,7 @@ pub spot-at :
     → h ≢ 0
     → h ≡ l
     → spot l h n p ≡ length (before (slice_index p h) (row n) (lists (h - 1) (children n))) + length
-        (flat (h - 1) (child n (slice_index p h)))
+    (flat (h - 1) (child n (slice_index p h)))
 unfolding spot
 spot-at l zero n p ne e = absurd (ne refl)
 spot-at l (suc h) n p ne e = let t : nat_eq l (suc h) ≡ true = eq-eqb l (suc h) (sym e) in rw (t, sub-one)
@@ -203,7 +203,7 @@ pub spot-below :
     → h ≢ 0
     → h ≢ l
     → spot l h n p ≡ length (before (slice_index p h) (row n) (lists (h - 1) (children n))) + spot l (h - 1)
-      (child n (slice_index p h)) p
+    (child n (slice_index p h)) p
 unfolding spot
 spot-below l zero n p ne e = absurd (ne refl)
 spot-below l (suc h) n p ne e = let t : nat_eq l (suc h) ≡ false = ne_eqb l (suc h) (λ z. e (sym z)) in rw (t, sub-one)
@@ -307,7 +307,7 @@ pub place-inner :
     (h : ℕ) (n : Node) (p : List ℕ)
     → h ≢ 0
     → place h n p ≡ length (before (slice_index p h) (row n) (lists (h - 1) (children n))) + place (h - 1)
-      (child n (slice_index p h)) p
+    (child n (slice_index p h)) p
 place-inner h n p ne = spot-below 0 h n p ne ne
 
 pub place-within : (h : ℕ) (n : Node) (p : List ℕ) → IsFormed h n → Goes h n p → place h n p ≤ length (flat h n)

@@ -51,7 +51,7 @@ pub renamed :
     → arity h 11 ≤ room new
     → length (children new) ≡ length (children old)
     → ((j : ℕ) (d : Node) → j < length (children old) → IsRenamed f (h - 1) (get_or (children old) j d)
-        (get_or (children new) j d))
+    (get_or (children new) j d))
     → IsRenamed f h old new
 renamed f h old new fo er has_room count each =
     let a = formed-sized h old fo in
@@ -79,7 +79,7 @@ pub copied :
     → arity h 11 ≤ room m
     → length (children m) ≡ length (children n)
     → ((j : ℕ) (d : Node) → j < length (children n) → IsCopy (h - 1) (get_or (children n) j d)
-        (get_or (children m) j d))
+    (get_or (children m) j d))
     → IsCopy h n m
 copied h n m fn er has_room count each =
     let r = renamed (λ x. x) h n m fn (er ∙ sym (map-id (row n))) has_room count

@@ -70,34 +70,34 @@ module _ {F R : Type 0} (g : Mut F (ℕ × Unit {0}) R) (read : R → Ordering) 
   module _
       {xs ws : List ℕ} {e : ℕ → ℕ} (m : Embeds xs ws e) {n : ℕ} {old mid : Asking F}
       (led : AsksWithin g (Askable ws tie) n old mid)
-      where
-    -- asks in a part, after asks that led there, are asks in the whole
-    asked-part :
-        {k : ℕ} {new : Asking F}
-        → AsksWithin g (Askable xs tie) k mid new
-        → AsksWithin g (Askable ws tie) (n + k) old new
-    asked-part p = asks_then g (Askable ws tie) led (asks_wider g (Askable xs tie) (Askable ws tie) (Askable-whole m tie) p)
+    where
+      -- asks in a part, after asks that led there, are asks in the whole
+      asked-part :
+          {k : ℕ} {new : Asking F}
+          → AsksWithin g (Askable xs tie) k mid new
+          → AsksWithin g (Askable ws tie) (n + k) old new
+      asked-part p = asks_then g (Askable ws tie) led (asks_wider g (Askable xs tie) (Askable ws tie) (Askable-whole m tie) p)
 
-    steady-part :
-        (answer : ℕ → Ordering)
-        → Steady g (Askable ws tie) read answer (closure_of old)
-        → Steady g (Askable xs tie) read answer (closure_of mid)
-    steady-part answer s = Steady-fewer g (Askable xs tie) (Askable ws tie) (Askable-whole m tie) (Steady-later g (Askable ws tie) led.after s)
+      steady-part :
+          (answer : ℕ → Ordering)
+          → Steady g (Askable ws tie) read answer (closure_of old)
+          → Steady g (Askable xs tie) read answer (closure_of mid)
+      steady-part answer s = Steady-fewer g (Askable xs tie) (Askable ws tie) (Askable-whole m tie) (Steady-later g (Askable ws tie) led.after s)
 
-    -- a hit in the part is one in the whole
-    pub Searches-hit :
-        {k : ℕ} {new : Asking F} (i : ℕ)
-        → SearchesWithin g read xs k tie mid (Ok i) new
-        → SearchesWithin g read ws (n + k) tie old (Ok (e i)) new
-    Searches-hit i s = record {
-      asked = asked-part s.asked;
-      found = m.within i s.found;
-      missed = tt;
-      itself = λ ix same. m.at i s.found ∙ s.itself ix same;
-      hit = λ answer steady. ap (with_ties tie answer) (m.at i s.found) ∙ s.hit answer (steady-part answer steady);
-      place = λ answer rises. tt;
-      unequal = s.unequal;
-    }
+      -- a hit in the part is one in the whole
+      pub Searches-hit :
+          {k : ℕ} {new : Asking F} (i : ℕ)
+          → SearchesWithin g read xs k tie mid (Ok i) new
+          → SearchesWithin g read ws (n + k) tie old (Ok (e i)) new
+      Searches-hit i s = record {
+        asked = asked-part s.asked;
+        found = m.within i s.found;
+        missed = tt;
+        itself = λ ix same. m.at i s.found ∙ s.itself ix same;
+        hit = λ answer steady. ap (with_ties tie answer) (m.at i s.found) ∙ s.hit answer (steady-part answer steady);
+        place = λ answer rises. tt;
+        unequal = s.unequal;
+      }
 
   -- asks lead to the part that begins at low: if the answers rise, all is Greater before it and Less after it
   pub record LeadsTo (limit low : ℕ) (c ws : List ℕ) (old mid : Asking F) : Type 0 where

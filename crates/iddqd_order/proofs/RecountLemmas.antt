@@ -110,7 +110,7 @@ pub inners-alike :
     (h : ℕ) (n m : Node)
     → length (children m) ≡ length (children n)
     → ((j : ℕ) (d : Node) → j < length (children n) → inners (h - 1) (get_or (children m) j d) ≡ inners (h - 1)
-        (get_or (children n) j d))
+    (get_or (children n) j d))
     → inners h m ≡ inners h n
 unfolding inners
 inners-alike zero n m count each = refl

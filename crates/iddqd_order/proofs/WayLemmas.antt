@@ -282,7 +282,7 @@ put-inner :
     → (5 ≤ length (row k)) × IsFormed (h - 1) k
     → SamePlaces (h - 1) (child n i) k
     → weave (row m) (lists (h - 1) (set (children n) i k)) ≡ set (weave (row n) (lists (h - 1) (children n)))
-      (spot l h n p) x
+    (spot l h n p) x
     → IsPut h l n m p x
 put-inner h l i x n k m p ne f here rows ek more child_is same woven =
     let fs = formed-inner h n ne f in

@@ -14,56 +14,56 @@ module _
     (a_same : (ix : ℕ) → IsOneOfTwo low high ix ↔ IsOneOfTwo one two ix) (b : IsBefore low2 mid)
     (b_same : (ix : ℕ) → IsOneOfTwo low2 mid ix ↔ IsOneOfTwo low three ix) (c : IsBefore mid2 high2)
     (c_same : (ix : ℕ) → IsOneOfTwo mid2 high2 ix ↔ IsOneOfTwo high mid ix)
-    where
-  low_first : IsBefore low2 high
-  low_first y is =
-      let (x, low_is, less) = a y is in
-      elim ((b_same x).1 (inl low_is)) [
-        | inl here ↦ (x, here, less)
-        | inr behind ↦ let (w, here, below) = b x behind in (w, here, omega (arith, below, less))
-      ]
+  where
+    low_first : IsBefore low2 high
+    low_first y is =
+        let (x, low_is, less) = a y is in
+        elim ((b_same x).1 (inl low_is)) [
+          | inl here ↦ (x, here, less)
+          | inr behind ↦ let (w, here, below) = b x behind in (w, here, omega (arith, below, less))
+        ]
 
-  pub AreInOrder-sorted : AreInOrder low2 mid2 high2
-  AreInOrder-sorted = record {
-    first_second = λ y is. elim ((c_same y).0 (inl is)) [ inl high_is ↦ low_first y high_is | inr mid_is ↦ b y mid_is ];
-    second_third = c;
-  }
+    pub AreInOrder-sorted : AreInOrder low2 mid2 high2
+    AreInOrder-sorted = record {
+      first_second = λ y is. elim ((c_same y).0 (inl is)) [ inl high_is ↦ low_first y high_is | inr mid_is ↦ b y mid_is ];
+      second_third = c;
+    }
 
-  pub IsOneOf-sorted : (ix : ℕ) → IsOneOf low2 mid2 high2 ix ↔ IsOneOf one two three ix
-  IsOneOf-sorted ix = (
-    λ here. elim here [
-      | inl low_is ↦ back (inl low_is)
-      | inr rest ↦ elim ((c_same ix).0 rest) [
-        | inl high_is ↦ within ((a_same ix).0 (inr high_is))
-        | inr mid_is ↦ back (inr mid_is)
-      ]
-    ],
-    λ there. elim there [
-      | inl one_is ↦ forth ((a_same ix).1 (inl one_is))
-      | inr rest ↦ elim rest [
-        | inl two_is ↦ forth ((a_same ix).1 (inr two_is))
-        | inr three_is ↦ lower ((b_same ix).1 (inr three_is))
-      ]
-    ],
-  )
-    where
-      within : IsOneOfTwo one two ix → IsOneOf one two three ix
-      within (inl one_is) = inl one_is
-      within (inr two_is) = inr (inl two_is)
+    pub IsOneOf-sorted : (ix : ℕ) → IsOneOf low2 mid2 high2 ix ↔ IsOneOf one two three ix
+    IsOneOf-sorted ix = (
+      λ here. elim here [
+        | inl low_is ↦ back (inl low_is)
+        | inr rest ↦ elim ((c_same ix).0 rest) [
+          | inl high_is ↦ within ((a_same ix).0 (inr high_is))
+          | inr mid_is ↦ back (inr mid_is)
+        ]
+      ],
+      λ there. elim there [
+        | inl one_is ↦ forth ((a_same ix).1 (inl one_is))
+        | inr rest ↦ elim rest [
+          | inl two_is ↦ forth ((a_same ix).1 (inr two_is))
+          | inr three_is ↦ lower ((b_same ix).1 (inr three_is))
+        ]
+      ],
+    )
+      where
+        within : IsOneOfTwo one two ix → IsOneOf one two three ix
+        within (inl one_is) = inl one_is
+        within (inr two_is) = inr (inl two_is)
 
-      back : IsOneOfTwo low2 mid ix → IsOneOf one two three ix
-      back is = elim ((b_same ix).0 is) [
-        | inl low_is ↦ within ((a_same ix).0 (inl low_is))
-        | inr three_is ↦ inr (inr three_is)
-      ]
+        back : IsOneOfTwo low2 mid ix → IsOneOf one two three ix
+        back is = elim ((b_same ix).0 is) [
+          | inl low_is ↦ within ((a_same ix).0 (inl low_is))
+          | inr three_is ↦ inr (inr three_is)
+        ]
 
-      lower : IsOneOfTwo low2 mid ix → IsOneOf low2 mid2 high2 ix
-      lower (inl low_is) = inl low_is
-      lower (inr mid_is) = inr ((c_same ix).1 (inr mid_is))
+        lower : IsOneOfTwo low2 mid ix → IsOneOf low2 mid2 high2 ix
+        lower (inl low_is) = inl low_is
+        lower (inr mid_is) = inr ((c_same ix).1 (inr mid_is))
 
-      forth : IsOneOfTwo low high ix → IsOneOf low2 mid2 high2 ix
-      forth (inl low_is) = lower ((b_same ix).1 (inl low_is))
-      forth (inr high_is) = inr ((c_same ix).1 (inl high_is))
+        forth : IsOneOfTwo low high ix → IsOneOf low2 mid2 high2 ix
+        forth (inl low_is) = lower ((b_same ix).1 (inl low_is))
+        forth (inr high_is) = inr ((c_same ix).1 (inl high_is))
 
 -- the options as the list of those that are there
 abbrev pub listed : Option ℕ → Option ℕ → Option ℕ → List ℕ

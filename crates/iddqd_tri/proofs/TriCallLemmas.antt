@@ -28,27 +28,27 @@ use Rattle.iddqd_tri.proofs.TriLemmas.{AreLawful, IsTriState-unbound, IsTriState
 module _
     {T K S : Type 0} (key : ItemKey T K S) (s : TriState T S) (m : FinMap nat_cmp ℕ)
     (exact : IsExact key.key_of (hashing_in key s.hasher) s.store m)
-    where
-  pub FindsOne-exact :
-      (hash : ℕ) (test : K → Bool) (r : Option ℕ)
-      → LooksUp key.key_of s.store m hash test r
-      → FindsOne key s hash test r
-  FindsOne-exact hash test r looks = record {
-    hit = λ ix is. (subst (λ o. Finds s.store m hash (passes_by key.key_of test) o) is looks.found).hit;
-    as_scan = λ one. looks.as_scan (hashing_in key s.hasher) one exact;
-  }
+  where
+    pub FindsOne-exact :
+        (hash : ℕ) (test : K → Bool) (r : Option ℕ)
+        → LooksUp key.key_of s.store m hash test r
+        → FindsOne key s hash test r
+    FindsOne-exact hash test r looks = record {
+      hit = λ ix is. (subst (λ o. Finds s.store m hash (passes_by key.key_of test) o) is looks.found).hit;
+      as_scan = λ one. looks.as_scan (hashing_in key s.hasher) one exact;
+    }
 
-  -- a look-up by the key of an item hits exactly the index that shares it
-  pub shares_found :
-      (item : T) (hash : ℕ) (r : Option ℕ)
-      → IsLawful (hashing_in key s.hasher)
-      → hash ≡ key.hash_in s.hasher (key.key_of item)
-      → LooksUp key.key_of s.store m hash (key.equal (key.key_of item)) r
-      → (ix : ℕ)
-      → (r ≡ Some ix) ↔ IsHit s.store (shares key item) ix
-  shares_found item hash r lawful hashed looks ix =
-      let hashing = hashing_in key s.hasher in
-      scan_hits s.store (shares key item) r (looks.as_scan hashing (StandsForOne-key hashing (key.key_of item) hash lawful hashed) exact) ix
+    -- a look-up by the key of an item hits exactly the index that shares it
+    pub shares_found :
+        (item : T) (hash : ℕ) (r : Option ℕ)
+        → IsLawful (hashing_in key s.hasher)
+        → hash ≡ key.hash_in s.hasher (key.key_of item)
+        → LooksUp key.key_of s.store m hash (key.equal (key.key_of item)) r
+        → (ix : ℕ)
+        → (r ≡ Some ix) ↔ IsHit s.store (shares key item) ix
+    shares_found item hash r lawful hashed looks ix =
+        let hashing = hashing_in key s.hasher in
+        scan_hits s.store (shares key item) r (looks.as_scan hashing (StandsForOne-key hashing (key.key_of item) hash lawful hashed) exact) ix
 
 -- a store with a free index isn't full
 not_full_after : {T : Type 0} (s : Store T) (ix : ℕ) (rest : List ℕ) → IsFull (removed_all s (ix ∷ rest)) → ⊥
@@ -134,12 +134,12 @@ module _ {T K1 K2 K3 S : Type 0} (keys : TriKeys T K1 K2 K3 S) where
           → IfOk r (λ p. p.1 ≡ padded 3 (map (get s.store) clashes))
           → OnOk r (store ≡ inserted (removed_all s.store clashes) item)
           → OnOk r (maps ≡ maps_with (maps_without_all s.maps clashes) (next_index (removed_all s.store clashes))
-              (hashes_in keys s.hasher item))
+          (hashes_in keys s.hasher item))
           → IfErr r (λ e. RefusesItem keys s item e s)
           → OnErr r (store ≡ s.store)
           → OnErr r (maps ≡ s.maps)
           → IsTriState keys (record s { store = store; maps = maps }) × Overwriting keys s item r
-              (record s { store = store; maps = maps })
+          (record s { store = store; maps = maps })
       overwritten (Ok (ix, back)) store maps not_full place index values stored entered refused items_stay maps_stay = (
         rw (stored, entered) (IsTriState-overwritten not_full),
         record {
@@ -171,7 +171,7 @@ module _ {T K1 K2 K3 S : Type 0} (keys : TriKeys T K1 K2 K3 S) where
         → OnErr r (store ≡ s.store)
         → OnErr r (maps ≡ s.maps)
         → IsTriState keys (record s { store = store; maps = maps }) × Overwriting keys s item r
-            (record s { store = store; maps = maps })
+        (record s { store = store; maps = maps })
     inserted_apart clashes is_empty are r store maps not_full index values stored entered refused items_stay maps_stay =
         overwritten [] none r store maps (ok_full r not_full) (ok_place r not_full) index values stored entered (refuses r refused) items_stay maps_stay
       where
@@ -213,9 +213,9 @@ module _ {T K1 K2 K3 S : Type 0} (keys : TriKeys T K1 K2 K3 S) where
         → r.1 ≡ padded 3 (map (get s.store) clashes)
         → store ≡ inserted (removed_all s.store clashes) item
         → maps ≡ maps_with (maps_without_all s.maps clashes) (next_index (removed_all s.store clashes))
-          (hashes_in keys s.hasher item)
+        (hashes_in keys s.hasher item)
         → IsTriState keys (record s { store = store; maps = maps }) × Overwriting keys s item (Ok r)
-          (record s { store = store; maps = maps })
+        (record s { store = store; maps = maps })
     inserted_over clashes x rest some are r store maps index values stored entered =
         overwritten clashes are (Ok r) store maps not_full place index values stored entered tt tt tt
       where

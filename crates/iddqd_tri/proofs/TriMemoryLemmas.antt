@@ -223,105 +223,105 @@ module _
     {T S : Type 0} (hasher : S) (items left : SizedStore T) (tables after : TriTables)
     (held : HoldLive items.store (maps_of tables)) (same : left.store ≡ items.store)
     (same_maps : maps_of after ≡ maps_of tables)
-    where
-  same_state : tri_state_of hasher left.store after ≡ tri_state_of hasher items.store tables
-  same_state = rw (same, same_maps) refl
+  where
+    same_state : tri_state_of hasher left.store after ≡ tri_state_of hasher items.store tables
+    same_state = rw (same, same_maps) refl
 
-  pub ReservesItems-made : {A E : Type 0} (valid : IsValid items.store) (additional : ℕ) (result : Result A E) → let s = tri_state_of hasher items.store tables in let more = min additional (items.store.limit - live_count items.store) in SlotsGrow items.store.limit (reaching s additional) items.capacity left.capacity → reaching s additional ≤ left.capacity → TablesGrow more tables after → OnOk result (HaveRoom more after) → (HaveRoom more tables → IsOk result) → ReservesItems additional (sized_tri_of hasher items tables) result (sized_tri_of hasher left after)
-  ReservesItems-made valid additional result slots enough grow roomy had =
-      let more = min additional (items.store.limit - live_count items.store) in
-      let grows = Grows-parts items tables held items.store.limit more left after slots grow in
-      record {
-        state = same_state;
-        reserved = on_ok_weaker result (λ has.
-            let holds = capacity-held left after (rw (same, same_maps) held) more has in
-            omega (arith, holds, enough, ap live_count same, ap (λ (s : Store T). s.limit) same, valid.counted, valid.small)) roomy;
-        grows = grows;
-        had_room = λ fits. (
-          had (HaveRoom-held items tables held more (omega (arith, fits))),
-          same_sized (sized_tri_of hasher left after) (sized_tri_of hasher items tables) same_state (Grows-none items.store.limit (live_count items.store + more) _ _ (omega (arith, fits)) (omega (arith, fits)) grows),
-        );
-      }
+    pub ReservesItems-made : {A E : Type 0} (valid : IsValid items.store) (additional : ℕ) (result : Result A E) → let s = tri_state_of hasher items.store tables in let more = min additional (items.store.limit - live_count items.store) in SlotsGrow items.store.limit (reaching s additional) items.capacity left.capacity → reaching s additional ≤ left.capacity → TablesGrow more tables after → OnOk result (HaveRoom more after) → (HaveRoom more tables → IsOk result) → ReservesItems additional (sized_tri_of hasher items tables) result (sized_tri_of hasher left after)
+    ReservesItems-made valid additional result slots enough grow roomy had =
+        let more = min additional (items.store.limit - live_count items.store) in
+        let grows = Grows-parts items tables held items.store.limit more left after slots grow in
+        record {
+          state = same_state;
+          reserved = on_ok_weaker result (λ has.
+              let holds = capacity-held left after (rw (same, same_maps) held) more has in
+              omega (arith, holds, enough, ap live_count same, ap (λ (s : Store T). s.limit) same, valid.counted, valid.small)) roomy;
+          grows = grows;
+          had_room = λ fits. (
+            had (HaveRoom-held items tables held more (omega (arith, fits))),
+            same_sized (sized_tri_of hasher left after) (sized_tri_of hasher items tables) same_state (Grows-none items.store.limit (live_count items.store + more) _ _ (omega (arith, fits)) (omega (arith, fits)) grows),
+          );
+        }
 
 module _
     {T : Type 0} (items left : SizedStore T) (tables after : TriTables) (held : HoldLive items.store (maps_of tables))
     (valid : IsValid items.store) (least : ℕ)
-    where
-  abbrev slots_kept : ℕ
-  slots_kept = max least (slot_count items.store)
+  where
+    abbrev slots_kept : ℕ
+    slots_kept = max least (slot_count items.store)
 
-  abbrev items_kept : ℕ
-  items_kept = max least (live_count items.store)
+    abbrev items_kept : ℕ
+    items_kept = max least (live_count items.store)
 
-  counted :
-      {A E : Type 0} (old new : TableMemory) (len : ℕ) (r : Result A E)
-      → len ≡ live_count items.store
-      → TableShrinks (max least len) old r new
-      → TableShrinks items_kept old r new
-  counted old new len r is shrinks = subst (λ l. TableShrinks (max least l) old r new) is shrinks
+    counted :
+        {A E : Type 0} (old new : TableMemory) (len : ℕ) (r : Result A E)
+        → len ≡ live_count items.store
+        → TableShrinks (max least len) old r new
+        → TableShrinks items_kept old r new
+    counted old new len r is shrinks = subst (λ l. TableShrinks (max least l) old r new) is shrinks
 
-  refused_else :
-      {A E : Type 0} (old new : TableMemory) (r : Result A E) (error : E)
-      → TableShrinks items_kept old r new
-      → TableShrinks {A = A} items_kept old (Err error) new
-  refused_else old new r error shrinks = record { never_more = shrinks.never_more; capacity_stays = shrinks.capacity_stays; shrunk = tt }
+    refused_else :
+        {A E : Type 0} (old new : TableMemory) (r : Result A E) (error : E)
+        → TableShrinks items_kept old r new
+        → TableShrinks {A = A} items_kept old (Err error) new
+    refused_else old new r error shrinks = record { never_more = shrinks.never_more; capacity_stays = shrinks.capacity_stays; shrunk = tt }
 
-  has_more :
-      SomeHasMore least after
-      → maps_of after ≡ maps_of tables
-      → SomeTableHasMore items_kept (tables_memory after)
-  has_more some same =
-      let len = HaveLen-held items.store (maps_of tables) held in
-      let one = ap (λ (m : Maps). finite.len m.first) same in
-      let two = ap (λ (m : Maps). finite.len m.second) same in
-      let three = ap (λ (m : Maps). finite.len m.third) same in
-      elim some [
-        | inl more ↦ inl (omega (arith, more, one, len.first))
-        | inr rest ↦ elim rest [
-          | inl more ↦ inr (inl (omega (arith, more, two, len.second)))
-          | inr more ↦ inr (inr (omega (arith, more, three, len.third)))
+    has_more :
+        SomeHasMore least after
+        → maps_of after ≡ maps_of tables
+        → SomeTableHasMore items_kept (tables_memory after)
+    has_more some same =
+        let len = HaveLen-held items.store (maps_of tables) held in
+        let one = ap (λ (m : Maps). finite.len m.first) same in
+        let two = ap (λ (m : Maps). finite.len m.second) same in
+        let three = ap (λ (m : Maps). finite.len m.third) same in
+        elim some [
+          | inl more ↦ inl (omega (arith, more, one, len.first))
+          | inr rest ↦ elim rest [
+            | inl more ↦ inr (inl (omega (arith, more, two, len.second)))
+            | inr more ↦ inr (inr (omega (arith, more, three, len.third)))
+          ]
         ]
-      ]
 
-  pub Shrinks-made :
-      {A E : Type 0} (slots tabled : Result A E)
-      → SetShrinks least items slots left
-      → maps_of after ≡ maps_of tables
-      → TablesShrink least tables tabled after
-      → OnErr tabled (SomeHasMore least after)
-      → (least ≡ 0 → HaveLen 0 (maps_of tables) → IsOk tabled)
-      → TriShrinks slots_kept items_kept (memory_of items tables) (result_and slots tabled) (memory_of left after)
-  Shrinks-made (Ok done) tabled gave same shrank refused succeeds =
-      let len = HaveLen-held items.store (maps_of tables) held in
-      record {
-        never_more = gave.never_more;
-        slots_stay = gave.never_less;
-        shrunk = whatever tabled gave.shrunk;
-        first = counted _ _ _ tabled len.first shrank.first;
-        second = counted _ _ _ tabled len.second shrank.second;
-        third = counted _ _ _ tabled len.third shrank.third;
-        refused = on_err_weaker tabled (λ some. inr (has_more some same)) refused;
-        succeeds = λ none.
-            let no_item : live_count items.store ≡ 0 = omega (arith, none, valid.counted) in
-            succeeds (omega (arith, none)) (subst (λ n. HaveLen n (maps_of tables)) no_item len);
-      }
-    where
-      whatever : {A E P : Type 0} (r : Result A E) → P → OnOk r P
-      whatever (Ok x) is = is
-      whatever (Err e) is = tt
+    pub Shrinks-made :
+        {A E : Type 0} (slots tabled : Result A E)
+        → SetShrinks least items slots left
+        → maps_of after ≡ maps_of tables
+        → TablesShrink least tables tabled after
+        → OnErr tabled (SomeHasMore least after)
+        → (least ≡ 0 → HaveLen 0 (maps_of tables) → IsOk tabled)
+        → TriShrinks slots_kept items_kept (memory_of items tables) (result_and slots tabled) (memory_of left after)
+    Shrinks-made (Ok done) tabled gave same shrank refused succeeds =
+        let len = HaveLen-held items.store (maps_of tables) held in
+        record {
+          never_more = gave.never_more;
+          slots_stay = gave.never_less;
+          shrunk = whatever tabled gave.shrunk;
+          first = counted _ _ _ tabled len.first shrank.first;
+          second = counted _ _ _ tabled len.second shrank.second;
+          third = counted _ _ _ tabled len.third shrank.third;
+          refused = on_err_weaker tabled (λ some. inr (has_more some same)) refused;
+          succeeds = λ none.
+              let no_item : live_count items.store ≡ 0 = omega (arith, none, valid.counted) in
+              succeeds (omega (arith, none)) (subst (λ n. HaveLen n (maps_of tables)) no_item len);
+        }
+      where
+        whatever : {A E P : Type 0} (r : Result A E) → P → OnOk r P
+        whatever (Ok x) is = is
+        whatever (Err e) is = tt
 
-      on_err_weaker : {A E P Q : Type 0} (r : Result A E) → (P → Q) → OnErr r P → OnErr r Q
-      on_err_weaker (Ok x) then is = tt
-      on_err_weaker (Err e) then is = then is
-  Shrinks-made (Err error) tabled gave same shrank refused succeeds =
-      let len = HaveLen-held items.store (maps_of tables) held in
-      record {
-        never_more = gave.never_more;
-        slots_stay = gave.never_less;
-        shrunk = tt;
-        first = refused_else _ _ tabled error (counted _ _ _ tabled len.first shrank.first);
-        second = refused_else _ _ tabled error (counted _ _ _ tabled len.second shrank.second);
-        third = refused_else _ _ tabled error (counted _ _ _ tabled len.third shrank.third);
-        refused = inl gave.refused;
-        succeeds = λ none. gave.succeeds none;
-      }
+        on_err_weaker : {A E P Q : Type 0} (r : Result A E) → (P → Q) → OnErr r P → OnErr r Q
+        on_err_weaker (Ok x) then is = tt
+        on_err_weaker (Err e) then is = then is
+    Shrinks-made (Err error) tabled gave same shrank refused succeeds =
+        let len = HaveLen-held items.store (maps_of tables) held in
+        record {
+          never_more = gave.never_more;
+          slots_stay = gave.never_less;
+          shrunk = tt;
+          first = refused_else _ _ tabled error (counted _ _ _ tabled len.first shrank.first);
+          second = refused_else _ _ tabled error (counted _ _ _ tabled len.second shrank.second);
+          third = refused_else _ _ tabled error (counted _ _ _ tabled len.third shrank.third);
+          refused = inl gave.refused;
+          succeeds = λ none. gave.succeeds none;
+        }

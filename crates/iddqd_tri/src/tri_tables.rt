@@ -8,8 +8,8 @@ ghost use Rattle.iddqd_tri.specs.TriTables.{maps_of, hashes_of, tables_memory, H
 use crate::tri_item::{First, Second, Third, TriItem};
 use iddqd::item_index::ItemIndex;
 use iddqd::map_hash::MapHash;
-use iddqd_hash::hash_table::MapHashTable;
 use iddqd_by_hash::hashed;
+use iddqd_hash::hash_table::MapHashTable;
 use std::alloc::{AllocError, Global};
 use std::hash::BuildHasher;
 

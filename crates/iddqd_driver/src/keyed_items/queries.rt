@@ -11,11 +11,11 @@ ghost use Rattle.iddqd_driver.specs.Queries.{GivesFound, LooksUpBy};
 use super::{Keyed, KeyedItems, remove_item, take_item};
 use crate::keyed_item::{First, KeyedItem, Second};
 use iddqd::item_index::ItemIndex;
+use iddqd_by_hash::hashed;
 use iddqd_by_hash::hashed::query_hash;
+use iddqd_by_order::ordered;
 use iddqd_keys::order_query::{OrdQuery, Ranked};
 use iddqd_keys::query::{Asked, HashQuery};
-use iddqd_by_hash::hashed;
-use iddqd_by_order::ordered;
 use std::hash::BuildHasher;
 
 impl<T: KeyedItem, S: BuildHasher> KeyedItems<T, S> {

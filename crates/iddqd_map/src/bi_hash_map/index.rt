@@ -103,11 +103,11 @@ impl<T: BiHashItem, S: BuildHasher> KeyIndex<T, S> for BiIndex<T> {
 
     ghost same_items = { λ x state s t same is. let first = shares T.first_key T.Key1.eq in
         let second = shares T.second_key T.Key2.eq in (
-      Indexes-keys_shared T.first_key T.Key1.eq T.Key1.hash_input S.BuildHasher S.Hasher.Hasher T.Key1.Eq.laws
-          T.Key1.respects_eq state s (filed x.tables.first.table) is.0 t (HaveSameKeys-first first second s t same),
-      Indexes-keys_shared T.second_key T.Key2.eq T.Key2.hash_input S.BuildHasher S.Hasher.Hasher T.Key2.Eq.laws
-          T.Key2.respects_eq state s (filed x.tables.second.table) is.1 t (HaveSameKeys-second first second s t same),
-    ) };
+          Indexes-keys_shared T.first_key T.Key1.eq T.Key1.hash_input S.BuildHasher S.Hasher.Hasher T.Key1.Eq.laws
+              T.Key1.respects_eq state s (filed x.tables.first.table) is.0 t (HaveSameKeys-first first second s t same),
+          Indexes-keys_shared T.second_key T.Key2.eq T.Key2.hash_input S.BuildHasher S.Hasher.Hasher T.Key2.Eq.laws
+              T.Key2.respects_eq state s (filed x.tables.second.table) is.1 t (HaveSameKeys-second first second s t same),
+        ) };
 
     ghost equivalence = { and_equiv (shares_laws T.first_key T.Key1.eq T.Key1.Eq.laws)
         (shares_laws T.second_key T.Key2.eq T.Key2.Eq.laws) };
@@ -211,13 +211,7 @@ impl<T: BiHashItem, S: BuildHasher> Inserts<T, S> for BiIndex<T> {
         <Tables<T> as Inserts<T, S>>::next_reported(conflict, before)
     }
 
-    fn spot(
-        &self,
-        items: &ItemSet<T>,
-        state: &S,
-        known: (MapHash, MapHash),
-        item: &T,
-    ) -> ((), ()) {
+    fn spot(&self, items: &ItemSet<T>, state: &S, known: (MapHash, MapHash), item: &T) -> ((), ()) {
         self.tables.spot(items, state, known, item)
     }
 

@@ -3,7 +3,7 @@
 //! It is a pair of tables under a name of its own, to which it forwards each step. So a caller's proof reads three
 //! keys, and no pair or table: it would pay for each of them in every function.
 use super::clash::TriClash;
-use super::item::{TriHashItem, First, Second, Third};
+use super::item::{First, Second, Third, TriHashItem};
 use crate::by_hash::ByHash;
 use crate::key_index::{
     AsksAt, Checks, HashedAt, Here, Inserts, KeyIndex, Left, Moves, Removes, Right, Sizes, TakesAt,
@@ -120,18 +120,18 @@ impl<T: TriHashItem, S: BuildHasher> KeyIndex<T, S> for TriIndex<T> {
     ghost same_items = { λ x state s t same is. let first = shares T.first_key T.Key1.eq in
         let second = shares T.second_key T.Key2.eq in let third = shares T.third_key T.Key3.eq in
         let last = HaveSameKeys-second first (both_keys second third) s t same in (
-      Indexes-keys_shared T.first_key T.Key1.eq T.Key1.hash_input S.BuildHasher S.Hasher.Hasher T.Key1.Eq.laws
-          T.Key1.respects_eq state s (filed x.tables.first.table) is.0 t
-          (HaveSameKeys-first first (both_keys second third) s t same),
-      (
-        Indexes-keys_shared T.second_key T.Key2.eq T.Key2.hash_input S.BuildHasher S.Hasher.Hasher T.Key2.Eq.laws
-            T.Key2.respects_eq state s (filed x.tables.second.first.table) is.1.0 t
-            (HaveSameKeys-first second third s t last),
-        Indexes-keys_shared T.third_key T.Key3.eq T.Key3.hash_input S.BuildHasher S.Hasher.Hasher T.Key3.Eq.laws
-            T.Key3.respects_eq state s (filed x.tables.second.second.table) is.1.1 t
-            (HaveSameKeys-second second third s t last),
-      ),
-    ) };
+          Indexes-keys_shared T.first_key T.Key1.eq T.Key1.hash_input S.BuildHasher S.Hasher.Hasher T.Key1.Eq.laws
+              T.Key1.respects_eq state s (filed x.tables.first.table) is.0 t
+              (HaveSameKeys-first first (both_keys second third) s t same),
+          (
+            Indexes-keys_shared T.second_key T.Key2.eq T.Key2.hash_input S.BuildHasher S.Hasher.Hasher T.Key2.Eq.laws
+                T.Key2.respects_eq state s (filed x.tables.second.first.table) is.1.0 t
+                (HaveSameKeys-first second third s t last),
+            Indexes-keys_shared T.third_key T.Key3.eq T.Key3.hash_input S.BuildHasher S.Hasher.Hasher T.Key3.Eq.laws
+                T.Key3.respects_eq state s (filed x.tables.second.second.table) is.1.1 t
+                (HaveSameKeys-second second third s t last),
+          ),
+        ) };
 
     ghost equivalence = { and_equiv (shares_laws T.first_key T.Key1.eq T.Key1.Eq.laws)
         (and_equiv (shares_laws T.second_key T.Key2.eq T.Key2.Eq.laws)
@@ -228,7 +228,12 @@ impl<T: TriHashItem, S: BuildHasher> Inserts<T, S> for TriIndex<T> {
         self.tables.make_room(items, state, plan)
     }
 
-    fn insert(&mut self, known: (MapHash, (MapHash, MapHash)), plan: &((), ((), ())), ix: ItemIndex) {
+    fn insert(
+        &mut self,
+        known: (MapHash, (MapHash, MapHash)),
+        plan: &((), ((), ())),
+        ix: ItemIndex,
+    ) {
         <Tables<T> as Inserts<T, S>>::insert(&mut self.tables, known, plan, ix)
     }
 
@@ -377,7 +382,10 @@ impl<T: TriHashItem, S: BuildHasher> AsksAt<First, T, S> for TriIndex<T> {
         items: &ItemSet<T>,
         state: &S,
         query: Q,
-    ) -> (Option<ItemIndex>, (Option<MapHash>, (Option<MapHash>, Option<MapHash>))) {
+    ) -> (
+        Option<ItemIndex>,
+        (Option<MapHash>, (Option<MapHash>, Option<MapHash>)),
+    ) {
         <Tables<T> as AsksAt<Left<Here>, T, S>>::ask(&self.tables, items, state, query)
     }
 }
@@ -414,7 +422,10 @@ impl<T: TriHashItem, S: BuildHasher> AsksAt<Second, T, S> for TriIndex<T> {
         items: &ItemSet<T>,
         state: &S,
         query: Q,
-    ) -> (Option<ItemIndex>, (Option<MapHash>, (Option<MapHash>, Option<MapHash>))) {
+    ) -> (
+        Option<ItemIndex>,
+        (Option<MapHash>, (Option<MapHash>, Option<MapHash>)),
+    ) {
         <Tables<T> as AsksAt<Right<Left<Here>>, T, S>>::ask(&self.tables, items, state, query)
     }
 }
@@ -441,7 +452,12 @@ impl<T: TriHashItem, S: BuildHasher> TakesAt<Third, T, S> for TriIndex<T> {
         state: &S,
         query: Q,
     ) -> Option<ItemIndex> {
-        <Tables<T> as TakesAt<Right<Right<Here>>, T, S>>::take(&mut self.tables, items, state, query)
+        <Tables<T> as TakesAt<Right<Right<Here>>, T, S>>::take(
+            &mut self.tables,
+            items,
+            state,
+            query,
+        )
     }
 }
 
@@ -451,7 +467,10 @@ impl<T: TriHashItem, S: BuildHasher> AsksAt<Third, T, S> for TriIndex<T> {
         items: &ItemSet<T>,
         state: &S,
         query: Q,
-    ) -> (Option<ItemIndex>, (Option<MapHash>, (Option<MapHash>, Option<MapHash>))) {
+    ) -> (
+        Option<ItemIndex>,
+        (Option<MapHash>, (Option<MapHash>, Option<MapHash>)),
+    ) {
         <Tables<T> as AsksAt<Right<Right<Here>>, T, S>>::ask(&self.tables, items, state, query)
     }
 }

@@ -13,8 +13,8 @@ ghost use Rattle.iddqd_keys.specs.Scan.{IsLive, passes_by};
 use super::iter::item_at;
 use super::{IdOrdItem, IdOrdMap};
 use iddqd::item_index::ItemIndex;
-use iddqd_map::refusal::ReplaceRefusal;
 use iddqd_keys::order_query::OrdQuery;
+use iddqd_map::refusal::ReplaceRefusal;
 
 impl<T: IdOrdItem> IdOrdMap<T> {
     /// Puts an item in the place of the one that has the key, which is handed back.

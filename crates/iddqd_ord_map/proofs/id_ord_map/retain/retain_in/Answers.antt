@@ -21,8 +21,8 @@ returns-clause-fewer g c =
     let left = c.remove_refused.new.items.store in
     let kept = λ ix. is_some (get left ix) in
     let sorted = Sorts-retained g.T.IdOrdItem.key_of g.T.Key.Ord.cmp g.met.T.Key.Ord.total (CalledAt g.F.FnMut)
-        c.args.f.now c.remove_refused.new.f c.args.items.now.store left order (order_of c.forget_removed.new.table)
-        c.requires.sorted c.remove_refused.ensures.retained c.forget_removed.ensures.forgot in
+    c.args.f.now c.remove_refused.new.f c.args.items.now.store left order (order_of c.forget_removed.new.table)
+    c.requires.sorted c.remove_refused.ensures.retained c.forget_removed.ensures.forgot in
     omega (
       arith,
       length-held c.args.items.now.store order c.requires.sorted.held,

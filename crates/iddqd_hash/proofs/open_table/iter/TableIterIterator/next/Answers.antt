@@ -28,9 +28,10 @@ value_in-requires g c =
 
 pair_here :
     (g : _) (c : goal.After-value_in g)
-    → pairs (drop c.self.inside.places.at (slots_of c.self.inside.cells.now)) ≡
-        ((slice_index_or c.self.inside.cells.now c.next-here.result c.index-self-here.result).hash,
-            c.value_in.result.now) ∷ pairs (drop c.next-here.new.self.at (slots_of c.self.inside.cells.now))
+    → pairs (drop c.self.inside.places.at (slots_of c.self.inside.cells.now)) ≡ (
+      (slice_index_or c.self.inside.cells.now c.next-here.result c.index-self-here.result).hash,
+      c.value_in.result.now,
+    ) ∷ pairs (drop c.next-here.new.self.at (slots_of c.self.inside.cells.now))
 pair_here g c =
     let probed = c.self.invariant.probed in
     let tags = c.self.inside.tags.now in

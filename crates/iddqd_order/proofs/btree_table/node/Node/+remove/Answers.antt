@@ -52,7 +52,7 @@ remove-requires-else-height-level t c =
 took :
     (t : ℕ) (c : goal.After-mend-arg-3-1 t)
     → TookNow c.args.height c.get-i.result c.args.self.now c.if-height-level.self
-        (remove (flat c.args.height c.args.self.now) (spot c.args.level c.args.height c.args.self.now c.args.path.now))
+    (remove (flat c.args.height c.args.self.now) (spot c.args.level c.args.height c.args.self.now c.args.path.now))
 took t c =
     elim c.if-height-level.branch [
       | then-height-level w ↦
@@ -69,7 +69,7 @@ took t c =
 below :
     (t : ℕ) (c : goal.After-mend-arg-3-1 t)
     → Recounts c.args.reserve.now c.if-height-level.reserve (inners c.args.height c.args.self.now)
-      (suc (inners_of (c.args.height - 1) (children c.if-height-level.self)))
+    (suc (inners_of (c.args.height - 1) (children c.if-height-level.self)))
 below t c =
     elim c.if-height-level.branch [
       | then-height-level w ↦

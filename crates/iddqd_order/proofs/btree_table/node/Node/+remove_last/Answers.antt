@@ -26,7 +26,7 @@ remove_last-last-requires t c =
 took :
     (t : ℕ) (c : goal.After-mend-arg-3-1 t)
     → TookLast c.args.height c.len-count.result c.args.self.now
-        (set (children c.args.self.now) c.len-count.result c.remove_last-last.new.self) c.remove_last-last.result
+    (set (children c.args.self.now) c.len-count.result c.remove_last-last.new.self) c.remove_last-last.result
 took t c =
     let d = c.remove_last-last.ensures in
     took-last c.args.height c.len-count.result c.args.self.now c.index_mut.result.now c.remove_last-last.new.self c.remove_last-last.result c.if-height-eq0.false c.len-count.ensures.length c.requires.formed c.requires.some (search rules) d.items d.formed d.fewer
@@ -34,8 +34,8 @@ took t c =
 below :
     (t : ℕ) (c : goal.After-mend-arg-3-1 t)
     → Recounts c.args.reserve.now c.remove_last-last.new.reserve (inners c.args.height c.args.self.now)
-      (suc (inners_of (c.args.height - 1)
-          (set (children c.args.self.now) c.len-count.result c.remove_last-last.new.self)))
+    (suc (inners_of (c.args.height - 1)
+    (set (children c.args.self.now) c.len-count.result c.remove_last-last.new.self)))
 below t c =
     recounted-below c.args.height c.len-count.result c.args.self.now c.index_mut.result.now c.remove_last-last.new.self c.args.reserve.now c.remove_last-last.new.reserve c.if-height-eq0.false
     (child-within c.args.height c.args.self.now c.len-count.result c.if-height-eq0.false c.requires.formed (omega arith)) (search rules) c.remove_last-last.ensures.counted
