@@ -4,3 +4,4 @@ pub mod OrderedPlaceLemmas
 pub mod OrderedCountLemmas
 pub mod OrderedWalkLemmas
 pub mod OrderedRangeLemmas
+pub mod OrderedFirstLemmas

@@ -3,7 +3,7 @@ use Rattle.std.proofs.Common.{◌≡◌, ◌∙◌, ◌&&◌, inl, inr, ℕ, Boo
 use Rattle.std.specs.Cmp.{IsTotalOrder}
 use Rattle.std.specs.Fn.{Mut}
 use Rattle.std.specs.List.{Contains}
-use Rattle.std.specs.Ordering.{is_gt, is_lt, ordering_then}
+use Rattle.std.specs.Ordering.{is_eq, is_gt, is_lt, ordering_then}
 use Rattle.std.specs.Borrow.{Bor}
 use Rattle.std.specs.Range.Bound.{bound_map}
 use Rattle.std.specs.declared.cmp.Ordering.TheVariants.{Less, Equal, Greater}
@@ -20,7 +20,7 @@ use Rattle.iddqd_order.specs.Search.{IsSteady, IsSteadyRising, IsPlace}
 use Rattle.iddqd_order.specs.declared.btree_table.asking.Asking.{Asking}
 use Rattle.iddqd_order.specs.declared.btree_table.range.Range.{Range}
 use Rattle.iddqd_keys.specs.OrderedQuery.{IsQuery, is_from, is_up_to, is_between}
-use Rattle.iddqd_by_order.specs.Ordered.{Holds, IsInPlace, compared, key_at}
+use Rattle.iddqd_by_order.specs.Ordered.{Holds, IsInPlace, compared, is_equal, key_at}
 use Rattle.iddqd_by_order.specs.OrderedWalk.{SortsWithin}
 use Rattle.iddqd_by_order.specs.OrderedWalk.{WalksWithin}
 use Rattle.iddqd_by_order.proofs.OrderedFindLemmas.{answer_at, IsRising-query}
@@ -230,3 +230,14 @@ module _
               let begins = subst (λ b. Begins g order b old walks.from) from_is walks.begins in
               let ends = subst (λ b. Ends g order b old walks.to) to_is walks.ends in
               subst (WalksWithin key_of compare between s order) (sym walks.ahead.ahead) (WalksWithin-part walks.from walks.to begins ends)
+
+-- between a query and itself stand the keys at which it is Equal
+at_both : (r : Ordering) → (not (is_gt r) && not (is_lt r)) ≡ is_eq r
+at_both Less = refl
+at_both Equal = refl
+at_both Greater = refl
+
+pub between_equal :
+    {K : Type 0} (comparing : K → Ordering)
+    → is_between (Included comparing) (Included comparing) ≡ is_equal comparing
+between_equal comparing = λ i k. at_both (comparing k) i

@@ -1,11 +1,13 @@
 -- What a walk between two bounds of a key gives, and the items at its indexes.
-use Rattle.std.specs.Prelude.{◌≡◌, ◌↔◌, ◌++◌, ℕ, Bool, List, Option, filter_map, nat_eq}
+use Rattle.std.specs.Prelude.{◌≡◌, ◌≢◌, ◌↔◌, ◌++◌, ℕ, Bool, List, Option, Some, None, filter_map, nat_eq}
 use Rattle.std.specs.List.{Contains, IsDistinct}
-use Rattle.std.specs.Option.{option_map}
+use Rattle.std.specs.Option.{option_map, option_cmp}
 use Rattle.std.specs.declared.cmp.Ordering.{Ordering}
+use Rattle.std.specs.declared.cmp.Ordering.TheVariants.{Less}
 use Rattle.iddqd.specs.Store.{Store, get}
-use Rattle.iddqd_keys.specs.Scan.{IsHit, passes_by}
-use Rattle.iddqd_by_order.specs.Ordered.{AreLive, IsInPlace}
+use Rattle.iddqd_order.specs.KeyOrder.{key_then_index}
+use Rattle.iddqd_keys.specs.Scan.{IsHit, HasNoHit, passes_by}
+use Rattle.iddqd_by_order.specs.Ordered.{AreLive, IsInPlace, key_at}
 
 -- the members of a list that stand beside each other in another one
 pub record IsRunOf (whole run : List ℕ) : Type 0 where
@@ -38,3 +40,20 @@ pub record WalksWithin
   pub live : AreLive s indexes
   pub once : IsDistinct nat_eq indexes
   pub in_place : IsInPlace key_of compare s order → SortsWithin key_of compare within s indexes
+
+module _ {T K : Type 0} (key_of : T → K) (compare : K → K → Ordering) (s : Store T) where
+  -- the one live index comes before the other, by the keys of their items and then by index
+  abbrev pub ComesBefore : ℕ → ℕ → Type 0
+  ComesBefore i j = key_then_index (option_cmp compare) (key_at key_of s) i j ≡ Less
+
+  -- its item passes, and it comes before all others whose items do: none where none passes
+  abbrev pub IsFirstHit : (T → Bool) → Option ℕ → Type 0
+  IsFirstHit test None = HasNoHit s test
+  IsFirstHit test (Some ix) = IsHit s test ix × ((j : ℕ) → IsHit s test j → j ≢ ix → ComesBefore ix j)
+
+  -- its item passes, it comes behind this index, and before all others that do both: none where none does
+  abbrev pub IsNextHit : (T → Bool) → ℕ → Option ℕ → Type 0
+  IsNextHit test before None = (j : ℕ) → IsHit s test j → ComesBefore before j → ⊥
+  IsNextHit test before (Some ix) =
+      IsHit s test ix × ComesBefore before ix
+      × ((j : ℕ) → IsHit s test j → ComesBefore before j → j ≢ ix → ComesBefore ix j)

@@ -1,10 +1,10 @@
 -- What a contract sees of a place in a `MapBTreeTable` that isn't lent.
-use Rattle.std.specs.Prelude.{◌≡◌, ◌≢◌, ◌+◌, ◌≤◌, ℕ, All, Contains, None, Result, Ok, Err, length}
+use Rattle.std.specs.Prelude.{◌≡◌, ◌≢◌, ◌+◌, ◌≤◌, ℕ, All, Contains, Some, None, Result, Ok, Err, length}
 use Rattle.std.specs.Fn.{Mut}
 use Rattle.std.specs.declared.cmp.Ordering.{Ordering}
 use Rattle.std.specs.declared.cmp.Ordering.TheVariants.{Equal}
 use Rattle.iddqd_order.specs.MapBTreeTable.{Order, order_of, fresh_for}
-use Rattle.iddqd_order.specs.Search.{SearchAsks, IsSteady, IsSteadyRising, IsPlace}
+use Rattle.iddqd_order.specs.Search.{SearchAsks, IsSteady, IsSteadyRising, IsPlace, with_ties}
 use Rattle.iddqd_order.specs.Tree.{IsTree, GoesIn, FullIn, place_in}
 use Rattle.iddqd_order.specs.declared.btree_table.asking.Asking.{Asking}
 use Rattle.iddqd_order.specs.declared.btree_table.gap.Gap.{Gap}
@@ -42,3 +42,11 @@ module _ {F R : Type 0} (g : Mut F (ℕ × Unit {0}) R) (read : R → Ordering) 
   abbrev pub FindsGap : Asking F → Result Gap ℕ → Asking F → Type 0
   FindsGap old (Err ix) new = SearchAsks g (order_of t) None old new × FindsStored old ix
   FindsGap old (Ok gap) new = SearchAsks g (order_of t) None old new × FindsPlace old gap
+
+  -- a search for the place of an index that isn't stored, which stands among equal ones by its number
+  pub record FindsOwnGap (ix : ℕ) (old : Asking F) (gap : Gap) (new : Asking F) : Type 0 where
+    pub asked : SearchAsks g (order_of t) (Some ix) old new
+    pub fits : Fits t gap
+    pub within : gap_place t gap ≤ length (order_of t)
+    pub place : (answer : ℕ → Ordering) → IsSteadyRising g (order_of t) (Some ix) read answer old →
+        IsPlace (with_ties (Some ix) answer) (order_of t) (gap_place t gap)

@@ -5,7 +5,7 @@
 ghost use Rattle.std.specs.Prelude.{◌≡◌, ◌≢◌, ◌*◌, ◌+◌, ◌<◌, ◌≤◌, Some, IsOk, IfOk, Contains, length, insert};
 ghost use Rattle.iddqd_order.specs.Asks.{AsksWithin};
 ghost use Rattle.iddqd_order.specs.Digits.{bound};
-ghost use Rattle.iddqd_order.specs.Gap.{Fits, gap_place, gap_blocks, FindsGap};
+ghost use Rattle.iddqd_order.specs.Gap.{Fits, gap_place, gap_blocks, FindsGap, FindsOwnGap};
 ghost use Rattle.iddqd_order.specs.MapBTreeTable.{order_of, capacity, move_blocks, without, sentinel};
 ghost use Rattle.iddqd_order.specs.PreparedBTreeMove.{PutsIn};
 ghost use Rattle.iddqd_order.specs.Search.{Askable, CanSearch};
@@ -46,6 +46,22 @@ impl MapBTreeTable {
             Ok(level) => Err(self.index_at(&path, level)),
             Err(full) => Ok(Gap { path, full }),
         }
+    }
+
+    /// The place of an index that isn't stored, by answers about the others. Equal ones are ordered by the indexes.
+    ///
+    /// It asks at most `4 + 2 * digits(len)` times, and takes no memory.
+    pub fn find_own_gap_by<F: FnMut(ItemIndex) -> Ordering>(
+        &self,
+        ix: ItemIndex,
+        asking: &mut Asking<F>,
+    ) -> Gap
+        requires absent { Contains (order_of self.now) ix → ⊥ }
+        requires can_ask { CanSearch F.FnMut (order_of self.now) (Some ix) asking.old }
+        ensures { FindsOwnGap F.FnMut (λ r. r) self.now ix asking.old result asking.new }
+    {
+        let (path, full) = self.find_gap(ix, asking, &AsOrdering);
+        Gap { path, full }
     }
 
     /// No block: what an insert below the capacity needs. It takes no memory.

@@ -1,0 +1,162 @@
+-- For callers: the first of the live indexes whose items' keys are within, and what a list of them is without it.
+use Rattle.std.proofs.Common.{◌≡◌, ◌≢◌, ◌++◌, ◌∙◌, inl, inr, ℕ, Bool, List, [], ◌∷◌, Option, Some, None, MatchOption, refl, sym, Ordering}
+use Rattle.std.specs.Cmp.{IsTotalOrder}
+use Rattle.std.specs.List.{Contains}
+use Rattle.std.specs.List.Sorted.{IsStrictlySortedBy}
+use Rattle.std.proofs.lemmas.List.Elements.{All-contains, All-from_recursion, recursion_from_All, Contains-append_right, Contains-get_or, Contains-push_cases}
+use Rattle.std.proofs.lemmas.Bool.{cases_eq}
+use Rattle.iddqd.specs.Store.{Store, get, removed}
+use Rattle.iddqd.proofs.LiveLemmas.{get-removed_at, get-removed_other}
+use Rattle.iddqd.proofs.StoreLemmas.{contains_head, contains_tail, contains_cases, contains_none}
+use Rattle.iddqd_by_order.specs.Ordered.{IsInPlace}
+use Rattle.iddqd_by_order.specs.OrderedWalk.{SortsWithin, ComesBefore, IsFirstHit, pairs_at}
+use Rattle.iddqd_keys.specs.Scan.{IsHit, HasNoHit, passes_by}
+use Rattle.iddqd_by_order.proofs.OrderedPlaceLemmas.{IsInPlace-alike}
+use Rattle.iddqd_keys.proofs.ScanLemmas.{live_before}
+
+module _ {T K : Type 0} (key_of : T → K) (compare : K → K → Ordering) (s : Store T) where
+  in_front :
+      (ix : ℕ) (rest : List ℕ)
+      → IsInPlace key_of compare s (ix ∷ rest)
+      → (j : ℕ)
+      → Contains rest j
+      → ComesBefore key_of compare s ix j
+  unfolding IsStrictlySortedBy
+  in_front ix rest placed j there =
+      All-contains (λ j. ComesBefore key_of compare s ix j) rest j (All-from_recursion (λ j. ComesBefore key_of compare s ix j) rest placed.0) there
+
+  put_in_front :
+      (ix : ℕ) (rest : List ℕ)
+      → ((j : ℕ) → Contains rest j → ComesBefore key_of compare s ix j)
+      → IsInPlace key_of compare s rest
+      → IsInPlace key_of compare s (ix ∷ rest)
+  unfolding IsStrictlySortedBy
+  put_in_front ix rest before placed = (
+    recursion_from_All (λ j. ComesBefore key_of compare s ix j) rest (λ k d within. before _ (Contains-get_or rest k d within)),
+    placed,
+  )
+
+  at_end :
+      (ix : ℕ) (rest : List ℕ)
+      → IsInPlace key_of compare s (rest ++ ix ∷ [])
+      → (j : ℕ)
+      → Contains rest j
+      → ComesBefore key_of compare s j ix
+  unfolding IsStrictlySortedBy
+  at_end ix [] placed j there = absurd (contains_none j there)
+  at_end ix (y ∷ ys) placed j there =
+      elim (contains_cases y j ys there) [
+        | inl same ↦ rw (← same) (in_front y (ys ++ ix ∷ []) placed ix (Contains-append_right ys (ix ∷ []) ix (contains_head ix [])))
+        | inr behind ↦ at_end ix ys placed.1 j behind
+      ]
+
+  none_placed : IsInPlace key_of compare s []
+  unfolding IsStrictlySortedBy
+  none_placed = tt
+
+  module _ (within : K → Bool) where
+    pub SortsWithin-none : HasNoHit s (passes_by key_of within) → SortsWithin key_of compare within s []
+    SortsWithin-none none = record {
+      each = λ j. (λ here. absurd (contains_none j here), λ hit. absurd (none j hit));
+      placed = none_placed;
+    }
+
+    -- the first of a list of them, which may have none
+    pub IsFirstHit-none :
+        (indexes : List ℕ)
+        → SortsWithin key_of compare within s indexes
+        → indexes ≡ []
+        → HasNoHit s (passes_by key_of within)
+    IsFirstHit-none indexes sorts is j hit = contains_none j (rw is at ((sorts.each j).1 hit))
+
+    pub IsFirstHit-head :
+        (ix : ℕ) (rest indexes : List ℕ)
+        → SortsWithin key_of compare within s indexes
+        → indexes ≡ ix ∷ rest
+        → IsFirstHit key_of compare s (passes_by key_of within) (Some ix)
+    IsFirstHit-head ix rest indexes sorts is =
+        let each = λ (j : ℕ). rw is at (sorts.each j) in
+        let placed : IsInPlace key_of compare s (ix ∷ rest) = rw is at sorts.placed in (
+          (each ix).0 (contains_head ix rest),
+          λ j hit other. elim (contains_cases ix j rest ((each j).1 hit)) [
+            | inl same ↦ absurd (other (sym same))
+            | inr there ↦ in_front ix rest placed j there
+          ],
+        )
+
+    pub IsFirstHit-next :
+        (indexes rest : List ℕ) (r : Option ℕ)
+        → SortsWithin key_of compare within s indexes
+        → MatchOption r ((indexes ≡ []) × (rest ≡ [])) (λ ix. indexes ≡ ix ∷ rest)
+        → IsFirstHit key_of compare s (passes_by key_of within) r
+    IsFirstHit-next indexes rest None sorts is = IsFirstHit-none indexes sorts is.0
+    IsFirstHit-next indexes rest (Some ix) sorts is = IsFirstHit-head ix rest indexes sorts is
+
+    -- and its last
+    pub IsLastHit-end :
+        (ix : ℕ) (rest indexes : List ℕ)
+        → SortsWithin key_of compare within s indexes
+        → indexes ≡ rest ++ ix ∷ []
+        → IsHit s (passes_by key_of within) ix ×
+        ((j : ℕ) → IsHit s (passes_by key_of within) j → j ≢ ix → ComesBefore key_of compare s j ix)
+    IsLastHit-end ix rest indexes sorts is =
+        let each = λ (j : ℕ). rw is at (sorts.each j) in
+        let placed : IsInPlace key_of compare s (rest ++ ix ∷ []) = rw is at sorts.placed in (
+          (each ix).0 (Contains-append_right rest (ix ∷ []) ix (contains_head ix [])),
+          λ j hit other. elim (Contains-push_cases rest ix j ((each j).1 hit)) [
+            | inl there ↦ at_end ix rest placed j there
+            | inr same ↦ absurd (other (sym same))
+          ],
+        )
+
+    -- and the list of those that are left without it
+    module _
+        (total : IsTotalOrder compare) (ix : ℕ)
+        (first : IsFirstHit key_of compare s (passes_by key_of within) (Some ix))
+      where
+        -- a hit that is left was one, at another index
+        pub hit_before :
+            (j : ℕ)
+            → IsHit (removed s ix) (passes_by key_of within) j
+            → (j ≢ ix) × IsHit s (passes_by key_of within) j
+        hit_before j (y, there, passed) =
+            let (item, live, own) = first.0 in
+            let (apart, was) = live_before s ix j item y live there in
+            (apart, (y, was, passed))
+
+        pub hit_still :
+            (j : ℕ)
+            → j ≢ ix
+            → IsHit s (passes_by key_of within) j
+            → IsHit (removed s ix) (passes_by key_of within) j
+        hit_still j apart (y, there, passed) = (y, get-removed_other s ix j apart ∙ there, passed)
+
+        pub SortsWithin-first :
+            (rest : List ℕ)
+            → SortsWithin key_of compare within (removed s ix) rest
+            → SortsWithin key_of compare within s (ix ∷ rest)
+        SortsWithin-first rest sorts =
+            let left : (j : ℕ) → Contains rest j → (j ≢ ix) × IsHit s (passes_by key_of within) j = λ j there. hit_before j ((sorts.each j).0 there) in
+            record {
+              each = λ j. (
+                λ here. elim (contains_cases ix j rest here) [
+                  | inl same ↦ rw (← same) first.0
+                  | inr there ↦ (left j there).1
+                ],
+                λ hit. elim (cases_eq j ix) [
+                  | inl same ↦ rw same (contains_head ix rest)
+                  | inr other ↦ contains_tail ix j rest ((sorts.each j).1 (hit_still j other hit))
+                ],
+              );
+              placed = put_in_front ix rest (λ j there. first.1 j (left j there).1 (left j there).0)
+                  (IsInPlace-alike key_of compare total (removed s ix) s rest (λ j there. sym (get-removed_other s ix j (left j there).0)) sorts.placed);
+            }
+
+-- pairs of indexes whose items are the same
+pub pairs_at-alike :
+    {T : Type 0} (s t : Store T) (indexes : List ℕ)
+    → ((j : ℕ) → Contains indexes j → get t j ≡ get s j)
+    → pairs_at t indexes ≡ pairs_at s indexes
+pairs_at-alike s t [] same = refl
+pairs_at-alike s t (ix ∷ rest) same =
+    rw (same ix (contains_head ix rest), pairs_at-alike s t rest (λ j there. same j (contains_tail ix j rest there))) refl
