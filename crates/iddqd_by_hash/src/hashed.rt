@@ -1,6 +1,6 @@
-//! A side that goes by the hash and the equality of a key: a table of indexes under hashes.
+//! A hash table of a store's indexes, under the hashes of one key of the items.
 //!
-//! The hasher's state belongs to the collection, since several sides may share one; so each call is
+//! The hasher's state belongs to the collection, since several tables may share one; so each call is
 //! handed the hash, and a key is hashed once. An insert takes the table's own `try_reserve` and
 //! `insert_prehashed_unchecked`.
 ghost use Rattle.std.specs.Prelude.{◌≡◌, ◌+◌, IsSome};

@@ -1,7 +1,7 @@
 //! What a table does where a live index is given an item that may have another key.
 //!
 //! The removal of the old entry leaves the room that the insert of the new one takes, so a move takes no memory
-//! and can't fail. A collection plans on each of its sides before it moves on any.
+//! and can't fail. A collection plans the move in each of its tables before it moves in any.
 ghost use Rattle.std.specs.Prelude.{◌≡◌, IsSome};
 ghost use Rattle.std.specs.FinMap as finite;
 ghost use Rattle.iddqd_hash.specs.{filed};

@@ -1,7 +1,7 @@
 //! A walk over the indexes between two bounds of a key, with their items.
 //!
 //! It goes along the table, and reads each item from the store. It is generic over the item alone, so
-//! each collection over an ordered side lends it as its own, whether its keys may change untold or not.
+//! each collection with an ordered table re-exports it, whether or not its keys may change silently.
 ghost use Rattle.std.specs.Prelude.{◌≡◌, ⊤};
 ghost use Rattle.std.specs.Iterator.{YieldsFirstBy, YieldsLastBy, item_count};
 ghost use Rattle.iddqd_order.specs.Range.{indexes_ahead};

@@ -1,4 +1,4 @@
-//! The key of an item that a side goes by.
+//! The key of an item by which a table files its index.
 ghost use Rattle.std.specs.Prelude.{◌≡◌};
 ghost use Rattle.iddqd_keys.specs.Scan.{IsLive, IsKeyAt};
 

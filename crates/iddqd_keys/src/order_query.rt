@@ -1,7 +1,7 @@
 //! Queries by which a key is looked up in the order of the keys.
 //!
-//! A table in order finds a query only where its answers go along the order, and an insert of a key
-//! at which a query is Equal must be told by it alone. Both are laws of the trait, and so a look-up by
+//! A table in order finds a query only where its answers go along the order, and a query
+//! may be Equal only at keys that are equal to each other. Both are laws of the trait, and so a look-up by
 //! any query answers as a scan would.
 ghost use Rattle.std.specs.Prelude.{◌≡◌};
 ghost use Rattle.std.specs.Cmp.{Equal-is};

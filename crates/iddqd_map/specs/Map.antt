@@ -6,7 +6,8 @@ use Rattle.iddqd.specs.ItemSet.{SizedStore}
 use Rattle.iddqd_keys.specs.Scan.{HasNoHit, AnswersScan, AreApart}
 
 -- How many slots the memory of the store holds, how many indexes each table can hold without more memory, and how much
--- memory the tables hold in all, in cells.
+-- memory the tables have in all, in cells: all that a hash table holds, and what an ordered table has reserved. What an
+-- ordered table took as it grew isn't counted.
 pub record MapMemory : Type 0 where
   pub slots : ℕ
   pub capacity : ℕ

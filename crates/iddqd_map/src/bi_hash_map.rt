@@ -185,7 +185,8 @@ impl<T: BiHashItem, S: BuildHasher> Map<T, BiIndex<T>, S> {
     /// Takes an item, and removes those that share a key with it, at most two, which it hands back by rising index from
     /// the first place on.
     ///
-    /// Then no memory is needed. Where none does, it is inserted, and may be refused, as by `insert_unique`.
+    /// If it removes an item, it takes no memory and isn't refused. If it removes none, it inserts as `insert_unique`
+    /// does, and may be refused as there. Each key is hashed once.
     pub fn insert_overwrite(
         &mut self,
         item: T,

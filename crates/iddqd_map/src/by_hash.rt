@@ -38,7 +38,7 @@ use std::marker::PhantomData;
 /// A hash table by the key that `E` names. No two items have equal keys.
 ///
 /// A look-up hashes the query once, and compares it with keys of the same hash alone. Only `with_capacity`, `reserve`,
-/// `make_room`, `shrink_to` and `copied` take memory, and only they can fail for want of it; `validate` sorts a copy of
+/// `make_room`, `shrink_to` and `copied` take memory, and only they can run out of it; `validate` sorts a copy of
 /// the indexes.
 #[derive(Drop)]
 pub struct ByHash<E, K> {

@@ -112,7 +112,8 @@ impl<T: IdHashItem, S: BuildHasher> Map<T, IdIndex<T>, S> {
 
     /// Takes an item, in the place of the one that has its key, which is handed back with the index.
     ///
-    /// Then no memory is needed. Where none has its key, it is inserted, and may be refused, as by `insert_unique`.
+    /// If an item has its key, it takes no memory and isn't refused. If none has, it inserts as `insert_unique` does,
+    /// and may be refused as there.
     pub fn insert_overwrite(
         &mut self,
         item: T,

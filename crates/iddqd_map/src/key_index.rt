@@ -23,9 +23,9 @@ use std::marker::PhantomData;
 
 /// A table of a store's indexes by one key, or several tables by several keys.
 ///
-/// A contract sees of its memory how many indexes it can hold without more, its `capacity`, and how much it holds, in
-/// cells. An insert below the capacity takes none, and only `with_capacity`, `reserve`, `shrink_to` and an insert past
-/// the capacity change it.
+/// A contract sees its memory as two numbers: `capacity`, how many indexes it can hold without more, and `cells`, how
+/// much its hash tables hold and its ordered tables have reserved. An insert below the capacity takes no memory. Only
+/// `with_capacity`, `reserve`, `shrink_to` and an insert past the capacity change either number.
 pub trait KeyIndex<T, S>: Sized + Drop {
     ghost use Rattle.std.specs.Prelude.{ℕ, Bool, List, Some, ◌↔◌};
     ghost use Rattle.std.specs.List.{Contains};
@@ -36,7 +36,7 @@ pub trait KeyIndex<T, S>: Sized + Drop {
 
     /// The items that an item is alike to: at least one.
     type Conflict: Copy;
-    /// What a look-up computed of the keys of a stored item, as far as it did.
+    /// Those hashes of a stored item's keys that a look-up has computed already.
     type Asked: Copy;
 
     // The keys of an item.
@@ -61,10 +61,10 @@ pub trait KeyIndex<T, S>: Sized + Drop {
     // The most cells that it takes for so many indexes.
     ghost most: { ℕ → ℕ };
 
-    // An index that is entered where another was taken out may need memory, past the capacity.
+    // An insert that follows a removal may need memory, if there are more indexes than the capacity.
     ghost may_lack: { Bool };
 
-    // It means the same, whatever memory it has.
+    // The two have the same indexes at the same keys; their memory may differ.
     ghost same: { Self → Self → Type 0 };
 
     // How many items an item can be alike to: no more than there are keys.
@@ -81,7 +81,7 @@ pub trait KeyIndex<T, S>: Sized + Drop {
     /// Nothing that a look-up computed.
     fn unasked() -> Self::Asked;
 
-    // What means the same indexes the same, and keeps plans.
+    // `same` is reflexive, and key indexes that are the same index the same stores.
     ghost same_as_itself: { (x : Self) → same x x };
 
     ghost same_indexes: { (x y : Self) (state : S) (s : Store T) → same x y → indexes x state s → indexes y state s };
@@ -89,7 +89,7 @@ pub trait KeyIndex<T, S>: Sized + Drop {
     // No two items are alike.
     ghost apart: { (x : Self) (state : S) (s : Store T) → indexes x state s → AreApart alike s };
 
-    // Where the keys stay, it indexes the store still: an item that was modified, or all items copied.
+    // It still indexes the store if an item was modified and kept its keys, and a copy of it whose items kept theirs.
     ghost modified: { (x : Self) (state : S) (s : Store T) (ix : ℕ) (was item : T) → indexes x state s
         → get s ix ≡ Some was → keys item ≡ keys was → indexes x state (rebound s ix item) };
 
@@ -99,7 +99,7 @@ pub trait KeyIndex<T, S>: Sized + Drop {
     // To share all keys is an equivalence.
     ghost equivalence: { IsEquivalence same_keys };
 
-    // What is reported are exactly the items that the item is alike to.
+    // A conflict reports the stored items that share a key with the item, and no others.
     ghost reported: { (s : Store T) (item : T) (at : Self.Conflict) → conflicts s item at → (ix : ℕ)
         → reports at ix ↔ IsHit s (alike item) ix };
 
@@ -231,7 +231,7 @@ pub trait Inserts<T, S>: KeyIndex<T, S> {
         ensures capacity_stays { Self.capacity self.old ≤ Self.capacity self.new }
         ensures few { Self.cells self.new ≤ Self.cells self.old + Self.most (live_count items.now.store + 1) };
 
-    /// Enters an index as it was planned. It takes no memory.
+    /// Inserts an index as it was planned. It takes no memory.
     fn insert(&mut self, known: Self::Known, plan: &Self::Plan, ix: ItemIndex)
         requires room { has_room_for self.old plan.now }
         requires next { IsNextOf (Self.indexes self.old) ix }
@@ -243,7 +243,7 @@ pub trait Inserts<T, S>: KeyIndex<T, S> {
         ensures capacity { Self.capacity self.new ≡ Self.capacity self.old }
         ensures cells { Self.cells self.new ≡ Self.cells self.old };
 
-    /// The next index of the items that were reported, past one or from the first on.
+    /// The least index that was reported and is greater than `before`; the least of all if `before` is none.
     fn next_reported(conflict: &Self::Conflict, before: Option<ItemIndex>) -> Option<ItemIndex>
         ensures { IsNextReported (Self.reports conflict.now) before result };
 
@@ -278,7 +278,7 @@ pub trait Inserts<T, S>: KeyIndex<T, S> {
         → is_planned x state s item plan → is_planned y state s item plan };
 }
 
-/// A key index that drops an item, or all of them, or gives them other names. None of these takes memory.
+/// A key index that removes an index or all of them, or renames them. None of these takes memory.
 pub trait Removes<T, S>: KeyIndex<T, S> {
     /// Takes a live index out. It takes no memory.
     fn remove(&mut self, items: &ItemSet<T>, state: &S, ix: ItemIndex)
@@ -315,7 +315,7 @@ pub trait Moves<T, S>: KeyIndex<T, S> {
 
     ghost is_move: { S → Store T → ℕ → T → Self.Move → Type 0 };
 
-    // An index is entered anew.
+    // Some table has to move the index.
     ghost moves: { Self.Move → Bool };
 
     ghost is_ready: { Self → Self.Move → Type 0 };
@@ -439,7 +439,7 @@ pub trait HashedAt<P, T, S>: KeyIndex<T, S> {
         ensures { AnswersScan items.now.store (passes_by key_at (Q.stands_for query)) result };
 }
 
-/// The same, where the item that was found is to leave.
+/// A key index that finds an item by the key at the place `P`, and removes its index in the same search.
 pub trait TakesAt<P, T, S>: HashedAt<P, T, S> {
     /// Finds as `find` does, and takes the index out, by one search by that key. It takes no memory.
     fn take<Q: HashQuery<Self::Key>>(
@@ -455,7 +455,7 @@ pub trait TakesAt<P, T, S>: HashedAt<P, T, S> {
         ensures cells { Self.KeyIndex.cells self.new ≡ Self.KeyIndex.cells self.old };
 }
 
-/// A key index with a key for which a `Q` stands, where the item that was found is to leave.
+/// A key index that finds an item by a query `Q`, and removes its index in the same search.
 pub trait TakesQuery<Q, T, S>: KeyIndex<T, S> {
     ghost use Rattle.std.specs.Prelude.{Bool};
 
@@ -471,7 +471,7 @@ pub trait TakesQuery<Q, T, S>: KeyIndex<T, S> {
         ensures cells { Self.KeyIndex.cells self.new ≡ Self.KeyIndex.cells self.old };
 }
 
-/// The same, where the item that was found is to become another one.
+/// A key index whose look-up passes its hash on to the replacement of the item that it finds.
 pub trait AsksAt<P, T, S>: HashedAt<P, T, S> {
     /// Finds as `find` does, and keeps what was computed for that.
     fn ask<Q: HashQuery<Self::Key>>(

@@ -1,8 +1,9 @@
 //! A map: a store of items, and a key index by which no two of them are alike.
 //!
-//! Each call is said once here, whatever keys the items have: a map with a name of its own is a type name for `Map` at
-//! its key index, and has functions of its own only where it names a key. A call that takes an item computes each hash
-//! once and searches each table once. All conflicts are known, and all memory is taken, before anything is written.
+//! Each call is written and proved once, whatever keys the items have. `IdHashMap`, `BiHashMap` and `TriHashMap` are
+//! type names for `Map` with a key index of theirs, and have functions of their own only where a call names a key. An
+//! insert computes each hash once and looks each key up once. All conflicts are known, and all memory is taken, before
+//! anything is written.
 //!
 //! Invariants:
 //! 1. The store is sound: its free indexes are distinct and exactly the vacant ones.
@@ -57,7 +58,7 @@ impl<T, X: KeyIndex<T, S>, S> Model for Map<T, X, S> {
     ghost invariant = { λ m. IsIndexed (X.indexes m.indexes) m.state m.items.store };
 }
 
-/// The parts of a map, lent.
+/// The parts of a map, borrowed.
 #[derive(Drop)]
 pub struct Parts<'a, T, X, S> {
     /// The items.

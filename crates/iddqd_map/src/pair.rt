@@ -1,7 +1,7 @@
-//! A pair of key indexes over a store's items: each step is one of each.
+//! A pair of key indexes over a store's items: each call makes the same call on both.
 //!
-//! Two items are alike where they are by the one or by the other, and share all keys where they do by both. Pairs nest,
-//! so there may be any number of keys.
+//! Two items share a key if they share one of either index, and share all keys if they share all of both. Pairs nest,
+//! so items can have any number of keys.
 //!
 //! Invariant: each of the two indexes the same store under the same state.
 ghost use Rattle.std.specs.Prelude.{◌≡◌, Some};
@@ -23,9 +23,9 @@ use std::marker::PhantomData;
 /// Two key indexes over the same items. A conflict is reported as `C`.
 #[derive(Drop)]
 pub struct Pair<A, B, C = PairConflict<ItemIndex, ItemIndex>> {
-    /// The one.
+    /// The first key index: `Left` names the place of a key in it.
     pub first: A,
-    /// The other.
+    /// The second key index: `Right` names the place of a key in it.
     pub second: B,
     reported: PhantomData<C>,
 }

@@ -2,7 +2,7 @@
 ghost use Rattle.std.specs.Prelude.{◌≡◌};
 ghost use Rattle.iddqd_map.specs.PairConflict.{first_of, second_of};
 
-/// What the one key index of a pair reported, or the other, or both.
+/// The conflicts that the two key indexes of a pair reported.
 #[derive(Clone, Copy, Debug, PartialEq, Eq, Drop)]
 pub enum PairConflict<A, B> {
     /// The first alone.
@@ -13,7 +13,7 @@ pub enum PairConflict<A, B> {
     Both(A, B),
 }
 
-/// What a pair reports, under names of its own.
+/// A type in which a pair reports conflicts under names of its own, as `BiClash` does.
 pub trait ReportsPair<A, B>: Copy {
     ghost use Rattle.std.specs.Prelude.{Option};
 
@@ -22,7 +22,7 @@ pub trait ReportsPair<A, B>: Copy {
 
     ghost second: { Self → Option B };
 
-    /// What was reported, under its names.
+    /// The conflicts of a pair, as a value of this type.
     fn reported(conflict: PairConflict<A, B>) -> Self
         ensures first { first result ≡ first_of conflict }
         ensures second { second result ≡ second_of conflict };

@@ -1,4 +1,4 @@
-//! Why a map doesn't take an item. Each refusal hands the item back, and the map is as it was.
+//! Why a map doesn't take an item. Each refusal hands the item back, and the items of the map stay.
 ghost use Rattle.std.specs.Prelude.{◌≡◌};
 ghost use Rattle.iddqd_map.specs.Refusal.{insert_refusal_item, overwrite_refusal_item, replace_refusal_item};
 

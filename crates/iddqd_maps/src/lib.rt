@@ -3,9 +3,8 @@
 //! Four maps have names of their own. A map with any other mix of keys is a [`map::Map`] by a [`pair::Pair`] of key
 //! indexes, each a [`by_hash::ByHash`], a [`by_order::ByOrder`] or a pair again.
 //!
-//! A map is seen as its items in slots under stable indexes, no two of which share a key. No call
-//! gives a stored item another key without reporting the tables, so a look-up always answers as a scan
-//! of all items would.
+//! A contract sees a map as items in slots under stable indexes, no two of which share a key. No call gives a stored
+//! item another key without updating the tables, so a look-up always answers as a scan of all items would.
 //!
 //! What callers name of the crates below, indexes, iterators, hashers, queries, refusals and what `validate` takes and
 //! answers, is re-exported here.

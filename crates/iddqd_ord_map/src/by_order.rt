@@ -1,14 +1,14 @@
 //! A key index in the order of one key: the items' indexes in a sorted list, no two with equal keys.
 //!
-//! An insert goes where its look-up ended, so it compares no key. The blocks that it needs wait in the index; below the
-//! capacity it needs none.
+//! An insert goes where its look-up ended, so it compares no further key. `make_room` puts the blocks of memory that it
+//! needs into `blocks`; below the capacity it needs none.
 //!
 //! Invariants, given the store's items:
 //! 1. The list has exactly the live indexes, each once.
 //! 2. It is sorted by the keys of their items, and no two items have equal keys.
 //!
-//! A table holds ten indexes without any memory. They aren't counted: the capacity is what the reserved blocks hold,
-//! and ten more indexes fit always.
+//! A table holds ten indexes without any memory. The capacity doesn't count these: it is how many indexes the reserved
+//! blocks hold.
 ghost use Rattle.std.specs.Prelude.{◌≡◌};
 ghost use Rattle.std.specs.Range.Bound.{bound_map};
 ghost use Rattle.iddqd_order.specs.{indexes_ahead, indexes_left};

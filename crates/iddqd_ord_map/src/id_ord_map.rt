@@ -1,8 +1,9 @@
 //! A map of items that have one key each, found by its order.
 //!
-//! It is a `Map` by one key index in order, so each of its calls does what that of `Map` does, and its invariants are
-//! those of the `Map`. Walks, ends and `retain` go in the order of the keys, and are its own. Look-ups, removals and
-//! walks take no memory.
+//! It holds a `Map` with one key index in order, and forwards to it. It is no type name for that `Map`, since its
+//! iterators, its `retain` and its equality go in the order of the keys. Every call searches the table at most once,
+//! except `replace` and `change` where the key changes, and `range`, which searches once for each bound. Look-ups,
+//! removals and iteration take no memory.
 ghost use Rattle.std.specs.Prelude.{◌≡◌, ◌≤◌, ◌↔◌, false, [], min, max, length, IsTrue, IsOk, IfOk, OnOk, OnErr, option_copied};
 ghost use Rattle.std.specs.Ordering.{eq_by_cmp};
 ghost use Rattle.iddqd.specs.{get, live_count, slot_limit, empty, cleared, IsRemapOf};
@@ -194,7 +195,8 @@ impl<T: IdOrdItem> IdOrdMap<T> {
 
     /// Takes an item, in the place of the one that has its key, which is handed back with the index.
     ///
-    /// Then no memory is needed. Where none has its key, it is inserted, and may be refused, as by `insert_unique`.
+    /// If an item has its key, it takes no memory and isn't refused. If none has, it inserts as `insert_unique` does,
+    /// and may be refused as there.
     pub fn insert_overwrite(
         &mut self,
         item: T,
@@ -226,7 +228,8 @@ impl<T: IdOrdItem> IdOrdMap<T> {
         self.map.remove_at(ix)
     }
 
-    /// How many items there can be without more memory. No call lowers it but those that shrink.
+    /// How many items the reserved memory has room for: 0 where none was reserved, whatever the map holds. No call
+    /// lowers it but those that shrink.
     pub fn capacity(&self) -> usize
         ensures { result ≡ capacity self.now }
     {

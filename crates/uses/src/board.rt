@@ -50,7 +50,7 @@ pub fn keep_room(board: &mut Board, scores: usize) -> Result<(), AllocError>
     board.shrink_to(scores)
 }
 
-/// Closes the gaps, gives back the memory past the scores, and tells how many scores there is memory for.
+/// Closes the gaps, gives back the memory past the scores, and returns for how many scores memory is still reserved.
 pub fn pack(board: &mut Board) -> Result<usize, AllocError>
     ensures scores { OnOk result (board.new.store ≡ compacted board.old.store) }
     ensures slots { OnOk result (board.new.memory.slots ≤ slot_count board.new.store) }

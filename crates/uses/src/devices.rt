@@ -81,10 +81,10 @@ impl KeyOf<Device> for Name {
     }
 }
 
-/// Where a refused device has its serial number and its address from, or its tag and its name.
+/// Which devices have the serial number and the address of a refused one; or its tag and its name.
 pub type Taken = PairConflict<ItemIndex, ItemIndex>;
 
-/// The same of all four keys.
+/// Which devices have which of the four keys of a refused one.
 pub type TakenKeys = PairConflict<Taken, Taken>;
 
 type Numbers = Pair<ByHash<Serial, u64>, ByHash<Address, u32>>;

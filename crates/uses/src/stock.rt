@@ -34,7 +34,7 @@ pub enum Refused {
     Full,
 }
 
-/// Adds a part where there is room. That memory is refused then isn't handled, since it is proved never to be.
+/// Adds a part. The caller has reserved room, so the contract proves that running out of memory is impossible here.
 pub fn add(stock: &mut IdHashMap<Part>, part: Part) -> Result<ItemIndex, Refused>
     requires { 1 ≤ room stock.old }
     ensures { OnErr result (stock.new.store ≡ stock.old.store) }

@@ -1,7 +1,7 @@
 //! The key index of a map whose items have two keys: a table by each of them.
 //!
-//! It is a pair of tables under a name of its own, to which it forwards each step. So a caller's proof reads two keys,
-//! and no pair or table: it would pay for each of them in every function.
+//! It forwards each call to a pair of tables. A caller's proof sees two keys, and neither the pair nor the tables: each
+//! of these would cost proof time in every function that calls the map.
 use super::clash::BiClash;
 use super::item::{BiHashItem, First, Second};
 use crate::by_hash::ByHash;

@@ -1,4 +1,4 @@
-//! What an item lends as its two keys.
+//! The two keys of an item, and the types that name them.
 //!
 //! Each key is named by a type without values, so that what a table means for one key of an item is
 //! said once, of any key: users implement [`BiHashItem`] alone.

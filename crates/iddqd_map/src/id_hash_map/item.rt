@@ -1,4 +1,4 @@
-//! What an item lends as its key.
+//! The key of an item, and the type that names it.
 ghost use Rattle.std.specs.Prelude.{◌≡◌};
 
 use iddqd_keys::key_of::KeyOf;

@@ -1,4 +1,4 @@
-//! Items by a key that goes by its hash, at a place of the key index: `find_by::<Here, _>(query)`.
+//! Calls that name a hashed key by its place in the key index: `find_by::<Here, _>(query)`.
 //!
 //! A map with a name of its own has the same calls under the names of its keys.
 ghost use Rattle.std.specs.Prelude.{◌≡◌, ◌↔◌, ◌≤◌, false, option_copied};
@@ -63,6 +63,8 @@ impl<T, X: KeyIndex<T, S>, S> Map<T, X, S> {
     }
 
     /// Takes the item that has the key for which the query stands out of the map, by one search. It takes no memory.
+    ///
+    /// Only a map whose key index is a single `ByOrder` has this call.
     pub fn remove_query<Q>(&mut self, query: Q) -> Option<T>
     where
         X: TakesQuery<Q, T, S>,

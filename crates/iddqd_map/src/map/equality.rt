@@ -19,8 +19,8 @@ impl<T: PartialEq, X: Checks<T, S>, S> Map<T, X, S> {
     }
 }
 
-/// Two maps are equal that have as many items, where each item of one is equal to that with the same keys in the other.
-/// It looks up each item of one map once.
+/// Two maps are equal if they have equally many items, and each item of one equals the one with the same keys in the
+/// other. It looks up each item of one map once, by its first key alone, and compares the other keys.
 impl<T: PartialEq, X: Checks<T, S>, S> PartialEq for Map<T, X, S> {
     ghost use Rattle.iddqd_map.specs.Equality.{has_same_items};
     ghost use Rattle.iddqd_map.specs.EqualityLaws.{map_laws};

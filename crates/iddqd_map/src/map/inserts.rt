@@ -17,8 +17,7 @@ impl<T, X: Inserts<T, S>, S> Map<T, X, S> {
     /// Takes an item that shares no key with another, and returns its index.
     ///
     /// Conflicts are reported even where the map is full or no memory is left, and a full map even where no memory is
-    /// left. A refusal hands the item back, and the contents stay. Each key is hashed once, and each table searched
-    /// once.
+    /// left. A refusal hands the item back, and the contents stay. Each key is hashed once and looked up once.
     pub fn insert_unique(&mut self, item: T) -> Result<ItemIndex, InsertRefusal<T, X::Conflict>>
         ensures inserts { Inserts X.alike X.most X.conflicts self.old item result self.new }
         ensures room { room self.old ≤ room self.new + 1 }

@@ -53,7 +53,8 @@ impl<T, X: Sizes<T, S>, S> Map<T, X, S> {
         })
     }
 
-    /// How many items there can be without more memory. No call lowers it but those that shrink.
+    /// How many items the memory has room for. Of a key in order only reserved memory counts, so with such a key it may
+    /// be less than `len`. No call lowers it but those that shrink.
     pub fn capacity(&self) -> usize
         ensures { result ≡ capacity self.now }
     {

@@ -21,11 +21,11 @@ use iddqd::item_set::ItemSet;
 use std::alloc::AllocError;
 
 impl<T, X: Inserts<T, S>, S> Map<T, X, S> {
-    /// Takes an item, and removes those that share a key with it into the places, by rising index from the first on.
+    /// Inserts an item, and moves those that share a key with it into `places`, by rising index from the first one on.
     ///
-    /// Where none does, it is inserted, and may be refused, as by `insert_unique`. Where some do, the store needs no
-    /// memory, and a table may be refused the memory of one more index only past its capacity, before anything is
-    /// removed. A refusal hands the item back, and the contents stay. Each key of the item is hashed once.
+    /// If none does, it inserts as `insert_unique` does, and may be refused as there. If some do, it is refused only if
+    /// a table in order holds more than its capacity and gets no memory for one more index, before anything is removed.
+    /// A refusal hands the item back, and the contents stay. Each key of the item is hashed once.
     pub fn overwrite_into(
         &mut self,
         item: T,

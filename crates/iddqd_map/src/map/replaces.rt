@@ -13,7 +13,7 @@ use iddqd::item_set::ItemSet;
 use std::alloc::AllocError;
 
 impl<T, X: Moves<T, S>, S> Map<T, X, S> {
-    /// Puts an item in the place of the one at an index, which is handed back; or it is missing, where none is there.
+    /// Puts an item in the place of the one at an index, which is handed back; `Missing` if the index has no item.
     ///
     /// The item may have other keys. It keeps the index. Where other items have a key of it, or memory is refused, it
     /// comes back, and nothing changes. A table whose key stays isn't touched. A key that goes by its hash needs no

@@ -1,7 +1,7 @@
 //! The key index of a map whose items have three keys: a table by each of them.
 //!
-//! It is a pair of tables under a name of its own, to which it forwards each step. So a caller's proof reads three
-//! keys, and no pair or table: it would pay for each of them in every function.
+//! It forwards each call to two nested pairs of tables. A caller's proof sees three keys, and neither the pairs nor the
+//! tables: each of these would cost proof time in every function that calls the map.
 use super::clash::TriClash;
 use super::item::{First, Second, Third, TriHashItem};
 use crate::by_hash::ByHash;

@@ -13,8 +13,8 @@ pub trait IdOrdClone: IdOrdItem + Clone {
     ghost same_key: { (x y : Self) → Self.is_clone x y → Self.Key.cmp (Self.key_of x) (Self.key_of y) ≡ Equal };
 }
 
-/// Each item is cloned once, under its index, and no key is compared. Where memory is refused the clones
-/// made so far are let go.
+/// Each item is cloned once, under its index, and no key is compared. If memory runs out, the clones made so far are
+/// dropped.
 impl<T: IdOrdClone> Clone for IdOrdMap<T> {
     ghost use Rattle.iddqd.specs.Clones.{IsStoreClone};
 

@@ -1,8 +1,8 @@
 //! The items that a closure keeps.
 //!
-//! It is asked along the table, which stays as it is until all were asked; an item that it refuses
-//! leaves the store at once. Then one more walk takes the indexes without an item out of the table. So
-//! no key is compared, and each walk costs a step an item.
+//! The closure is called in the order of the table, which stays as it is until the last call. An item at which it
+//! answers false leaves the store at once. Then one pass over the table removes the indexes that have no item. So no
+//! key is compared, and each pass costs a step an item.
 ghost use Rattle.std.specs.Prelude.{◌≡◌, ◌≤◌, ◌+◌, filter, is_some};
 ghost use Rattle.std.specs.Fn.{TakesAt, CalledAt};
 ghost use Rattle.iddqd.specs.{get, live_count, IsValid};
@@ -26,9 +26,8 @@ use std::mem;
 impl<T: IdOrdItem> IdOrdMap<T> {
     /// Keeps exactly the items at which the closure answers true, under their indexes, and returns how many it removed.
     ///
-    /// It is asked about each item once, in the order of the keys, and no more. The items that it
-    /// refuses are removed, in this order. No memory is taken, no key is compared, and it costs a few
-    /// steps an item.
+    /// The closure is called once at each item, in the order of the keys. The items at which it answers false are
+    /// removed, in this order. No memory is taken, no key is compared, and it costs a few steps an item.
     pub fn retain<F: FnMut(&T) -> bool>(&mut self, mut f: F) -> usize
         requires { MayAsk (TakesAt F.FnMut) (CalledAt F.FnMut) f (live_items self.old.store) }
         ensures retained { RetainsAlong (IsKeyWalk T.key_of T.Key.cmp) (CalledAt F.FnMut) f self.old self.new }
