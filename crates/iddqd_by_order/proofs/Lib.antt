@@ -4,4 +4,3 @@ pub mod OrderedPlaceLemmas
 pub mod OrderedCountLemmas
 pub mod OrderedWalkLemmas
 pub mod OrderedRangeLemmas
-pub mod OrderedFirstLemmas

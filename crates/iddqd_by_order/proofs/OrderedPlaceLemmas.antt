@@ -28,6 +28,7 @@ use Rattle.iddqd_order.proofs.MemberLemmas.{contains-from_without}
 use Rattle.iddqd_keys.specs.Scan.{IsLive, passes_by}
 use Rattle.iddqd_keys.specs.Side.{ChangesAt}
 use Rattle.iddqd_by_order.specs.Ordered.{Holds, AddsInPlace, IsInPlace, IsExact, IsVacantAt, Keeps, LooksUp, compared, key_at}
+use Rattle.iddqd_keys.proofs.KeyWalkLemmas.{IsInPlace-tied, IsInPlace-alike}
 use Rattle.iddqd_keys.proofs.ScanLemmas.{passes_unless, AreApart-bare, AreApart-removed, AreApart-inserted, AreApart-compacted, AreApart-rebound}
 
 -- a list without members
@@ -67,38 +68,13 @@ module _ {T K : Type 0} (key_of : T → K) (compare : K → K → Ordering) (tot
   totals : (s : Store T) → IsTotalOrder (key_then_index (option_cmp compare) (key_at key_of s))
   totals s = key_then_index-total (options_total total) (key_at key_of s)
 
-  -- what is in place is so over every store whose keys there compare Equal with those
-  pub IsInPlace-tied :
-      (s t : Store T) (order : List ℕ)
-      → ((j : ℕ) → Contains order j → option_cmp compare (key_at key_of t j) (key_at key_of s j) ≡ Equal)
-      → IsInPlace key_of compare s order
-      → IsInPlace key_of compare t order
-  IsInPlace-tied s t order ties placed =
-      let o = options_total total in
-      sorted_from_all_adjacent (totals t) order 0 (λ k within.
-      let i = get_or order k 0 in
-      let j = get_or order (k + 1) 0 in
-      let left = o.congr (key_at key_of t i) (key_at key_of s i) (key_at key_of t j) (ties i (Contains-get_or order k 0 (omega arith))) in
-      let right = alike_right o (key_at key_of t j) (key_at key_of s j) (key_at key_of s i) (ties j (Contains-get_or order (k + 1) 0 within)) in
-      ap (λ r. ordering_then r (nat_cmp i j)) (left ∙ right)
-      ∙ Less-from_sorted _ order k (k + 1) 0 placed (omega arith) within)
-
-  -- and over every store that gives the same items
-  pub IsInPlace-alike :
-      (s t : Store T) (order : List ℕ)
-      → ((j : ℕ) → Contains order j → get t j ≡ get s j)
-      → IsInPlace key_of compare s order
-      → IsInPlace key_of compare t order
-  IsInPlace-alike s t order same = IsInPlace-tied s t order (λ j here.
-      subst (λ o. option_cmp compare (option_map key_of o) (key_at key_of s j) ≡ Equal) (sym (same j here)) (tied_itself (options_total total) (key_at key_of s j)))
-
   module _ (s : Store T) (order : List ℕ) where
     pub IsInPlace-removed :
         (ix : ℕ)
         → IsInPlace key_of compare s order
         → IsInPlace key_of compare (removed s ix) (without order ix)
     IsInPlace-removed ix placed =
-        IsInPlace-alike s (removed s ix) (without order ix)
+        IsInPlace-alike key_of compare total s (removed s ix) (without order ix)
         (λ j here. get-removed_other s ix j (contains-from_without order ix j here).1)
         (IsStrictlySortedBy-filter _ _ order placed)
 
@@ -150,7 +126,7 @@ module _ {T K : Type 0} (key_of : T → K) (compare : K → K → Ordering) (tot
           equal item was ≡ true
           → IsInPlace key_of compare s order
           → IsInPlace key_of compare (rebound s ix item) order
-      IsInPlace-rebound kept = IsInPlace-tied s (rebound s ix item) order (λ j _.
+      IsInPlace-rebound kept = IsInPlace-tied key_of compare total s (rebound s ix item) order (λ j _.
           elim (cases_eq j ix) [
             | inl same ↦ rw (same, key_at, get-rebound_at s ix item was live, live) ((Equal-is _).0 kept)
             | inr other ↦ rw (key_at, get-rebound_other s ix j item other) (tied_itself (options_total total) (key_at key_of s j))
@@ -221,7 +197,7 @@ module _ {T K : Type 0} (key_of : T → K) (compare : K → K → Ordering) (tot
           → IsInPlace key_of compare s order
           → IsInPlace key_of compare after (insert order place next)
       IsInPlace-inserted place is_place placed =
-          IsStrictlySortedBy-insert (totals after) order (IsInPlace-alike s after order others placed) next answer (untied place is_place) place is_place
+          IsStrictlySortedBy-insert (totals after) order (IsInPlace-alike key_of compare total s after order others placed) next answer (untied place is_place) place is_place
 
       -- the index was put into the list by an insert that a vacant entry prepared
       pub AddsInPlace-prepared :

@@ -230,14 +230,3 @@ module _
               let begins = subst (λ b. Begins g order b old walks.from) from_is walks.begins in
               let ends = subst (λ b. Ends g order b old walks.to) to_is walks.ends in
               subst (WalksWithin key_of compare between s order) (sym walks.ahead.ahead) (WalksWithin-part walks.from walks.to begins ends)
-
--- between a query and itself stand the keys at which it is Equal
-at_both : (r : Ordering) → (not (is_gt r) && not (is_lt r)) ≡ is_eq r
-at_both Less = refl
-at_both Equal = refl
-at_both Greater = refl
-
-pub between_equal :
-    {K : Type 0} (comparing : K → Ordering)
-    → is_between (Included comparing) (Included comparing) ≡ is_equal comparing
-between_equal comparing = λ i k. at_both (comparing k) i

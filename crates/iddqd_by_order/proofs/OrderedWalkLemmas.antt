@@ -70,13 +70,6 @@ module _ {T : Type 0} (s : Store T) where
   pub AreLive-none : (left : List ℕ) → left ≡ [] → AreLive s left
   AreLive-none left is ix here = absurd (contains_none ix (subst (λ xs. Contains xs ix) is here))
 
-  pub pairs_at-first :
-      (all left : List ℕ) (ix : ℕ) (item : T)
-      → all ≡ ix ∷ left
-      → get s ix ≡ Some item
-      → pairs_at s all ≡ (ix, item) ∷ pairs_at s left
-  pairs_at-first all left ix item given is = ap (pairs_at s) given ∙ rw is refl
-
   pub pairs_at-last :
       (all left : List ℕ) (ix : ℕ) (item : T)
       → all ≡ left ++ ix ∷ []

@@ -7,11 +7,12 @@ use Rattle.std.specs.declared.cmp.Ordering.{Ordering}
 use Rattle.std.specs.declared.cmp.Ordering.TheVariants.{Less, Greater}
 use Rattle.iddqd.specs.Store.{Store, get, next_index, inserted}
 use Rattle.iddqd_order.specs.Entry.{entry_index, vacant_place}
-use Rattle.iddqd_order.specs.KeyOrder.{IsInKeyOrder}
 use Rattle.iddqd_order.specs.MapBTreeTable.{without}
 use Rattle.iddqd_order.specs.Search.{IsPlace}
 use Rattle.iddqd_order.specs.declared.btree_table.entry.Entry.{Entry}
 use Rattle.iddqd_order.specs.declared.btree_table.entry.Entry.TheVariants.{Occupied, Vacant}
+pub use Rattle.iddqd_keys.specs.KeyWalk.{key_at, IsInPlace}
+pub use Rattle.iddqd_keys.specs.OrderedQuery.{is_equal}
 use Rattle.iddqd_keys.specs.Scan.{IsLive, IsHit, HasNoHit, passes_by}
 use Rattle.iddqd_keys.specs.Side.{HasExactly, IsExactOver, KeepsOver, LooksUpOver}
 
@@ -27,10 +28,6 @@ pub record Adds (old : List ℕ) (ix : ℕ) (new : List ℕ) : Type 0 where
   pub added : new ≡ insert old place ix
 
 module _ {K : Type 0} (comparing : K → Ordering) where
-  -- a query that compares so with keys compares Equal with this one
-  abbrev pub is_equal : K → Bool
-  is_equal key = is_eq (comparing key)
-
   -- how it compares with the key of a live index; behind an index that isn't live it stands
   abbrev pub compared : Option K → Ordering
   compared None = Greater
@@ -47,28 +44,20 @@ module _ {T : Type 0} where
     pub once : IsDistinct nat_eq order
 
 module _ {T K : Type 0} (key_of : T → K) where
-  -- the key of the item at an index, if it is live
-  abbrev pub key_at : Store T → ℕ → Option K
-  key_at s ix = option_map key_of (get s ix)
-
   module _ (compare : K → K → Ordering) where
-    -- the list is sorted by the keys as they are now, ties by index
-    abbrev pub IsInPlace : Store T → List ℕ → Type 0
-    IsInPlace s order = IsInKeyOrder (option_cmp compare) (key_at s) order
-
     -- the list is in place, and no two items share a key
     abbrev pub IsExact : Store T → List ℕ → Type 0
-    IsExact s order = IsExactOver key_of (eq_by_cmp compare) (IsInPlace s order) s
+    IsExact s order = IsExactOver key_of (eq_by_cmp compare) (IsInPlace key_of compare s order) s
 
     -- what a call keeps that changes no key of a live index
     abbrev pub Keeps : Store T → List ℕ → Store T → List ℕ → Type 0
     Keeps old old_order new new_order =
-        KeepsOver key_of (eq_by_cmp compare) (IsInPlace old old_order) old (IsInPlace new new_order) new
+        KeepsOver key_of (eq_by_cmp compare) (IsInPlace key_of compare old old_order) old (IsInPlace key_of compare new new_order) new
 
     -- what a look-up by a query may answer in any state: an index that hits; and, where the list is in place, none
     -- exactly where there is none
     abbrev pub Finds : Store T → List ℕ → (K → Ordering) → Option ℕ → Type 0
-    Finds s order comparing None = IsInPlace s order → HasNoHit s (passes_by key_of (is_equal comparing))
+    Finds s order comparing None = IsInPlace key_of compare s order → HasNoHit s (passes_by key_of (is_equal comparing))
     Finds s order comparing (Some ix) = IsHit s (passes_by key_of (is_equal comparing)) ix
 
     -- what a look-up by a query answers: what it may in any state; and where the side is exact, what a scan answers
@@ -93,7 +82,7 @@ module _ {T K : Type 0} (key_of : T → K) where
     pub record IsVacantAt (s : Store T) (order : List ℕ) (comparing : K → Ordering) (place : ℕ) : Type 0 where
       pub missed : LooksUp s order comparing None
       pub within : place ≤ length order
-      pub is_place : IsInPlace s order → IsPlace (λ ix. compared comparing (key_at s ix)) order place
+      pub is_place : IsInPlace key_of compare s order → IsPlace (λ ix. compared comparing (key_at key_of s ix)) order place
 
     -- what an entry by a query is: that of the index which a look-up found, or else of the place for such an index
     abbrev pub Enters : Store T → List ℕ → (K → Ordering) → Entry → Type 0
@@ -103,9 +92,9 @@ module _ {T K : Type 0} (key_of : T → K) where
     -- the next index was put into the list for an item: at some place, and in place where the list was in place
     pub record AddsInPlace (s : Store T) (item : T) (old new : List ℕ) : Type 0 where
       pub adds : Adds old (next_index s) new
-      pub placed : IsInPlace s old → IsInPlace (inserted s item) new
+      pub placed : IsInPlace key_of compare s old → IsInPlace key_of compare (inserted s item) new
 
     -- these are the live indexes, each once, sorted by key, ties by index
     pub record IsSortedScan (s : Store T) (indexes : List ℕ) : Type 0 where
       pub holds : Holds s indexes
-      pub placed : IsInPlace s indexes
+      pub placed : IsInPlace key_of compare s indexes

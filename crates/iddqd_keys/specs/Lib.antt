@@ -2,3 +2,4 @@ pub mod Scan
 pub mod Side
 pub mod KeyKeeping
 pub mod OrderedQuery
+pub mod KeyWalk

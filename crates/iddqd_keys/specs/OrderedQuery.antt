@@ -2,13 +2,17 @@
 use Rattle.std.specs.Prelude.{◌≡◌, ◌&&◌, Bool, true, not}
 use Rattle.std.proofs.Common.{◌∙◌, ap, refl, sym}
 use Rattle.std.specs.Cmp.{IsTotalOrder}
-use Rattle.std.specs.Ordering.{ordering_reverse, is_lt, is_gt}
+use Rattle.std.specs.Ordering.{ordering_reverse, is_eq, is_lt, is_gt}
 use Rattle.std.specs.declared.cmp.Ordering.{Ordering}
 use Rattle.std.specs.declared.cmp.Ordering.TheVariants.{Less, Equal, Greater}
 use Rattle.std.specs.declared.ops.Bound.{Bound}
 use Rattle.std.specs.declared.ops.Bound.TheVariants.{Included, Excluded, Unbounded}
 use Rattle.std.proofs.lemmas.Cmp.{alike_right}
 use Rattle.iddqd.specs.MapHashLaws.{greater_before_in}
+
+-- a query that compares so with keys compares Equal with this one
+abbrev pub is_equal : {K : Type 0} → (K → Ordering) → K → Bool
+is_equal comparing key = is_eq (comparing key)
 
 module _ {K : Type 0} (compare : K → K → Ordering) where
   -- A query that compares so with keys goes along their order, and stands for one key: along keys in order its answers

@@ -24,7 +24,7 @@ use Rattle.iddqd_order.proofs.MemberLemmas.{contains-inserted_at, contains-inser
 use Rattle.iddqd_keys.specs.Scan.{IsLive, IsHit, HasNoHit, AreApart}
 use Rattle.iddqd_by_order.specs.Ordered.{IsInPlace, compared, key_at}
 use Rattle.iddqd_ord_map.specs.OrderedIndexing.{Sorts, has_key}
-use Rattle.iddqd_by_order.proofs.OrderedPlaceLemmas.{IsInPlace-alike}
+use Rattle.iddqd_keys.proofs.KeyWalkLemmas.{IsInPlace-alike}
 use Rattle.iddqd_keys.proofs.ScanLemmas.{rebound_cases, live_rebound}
 
 -- an index that hits is another one than an index whose item doesn't pass

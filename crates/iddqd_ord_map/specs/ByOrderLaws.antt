@@ -14,7 +14,8 @@ use Rattle.iddqd_order.proofs.GapLemmas.{order-same, place-same, Fits-same}
 use Rattle.iddqd_by_order.specs.Ordered.{key_at}
 use Rattle.iddqd_keys.specs.Scan.{AnswersScan, AreApart, IsHit, IsLive}
 use Rattle.iddqd_by_order.proofs.OrderedHoldsLemmas.{Holds-rebound}
-use Rattle.iddqd_by_order.proofs.OrderedPlaceLemmas.{IsInPlace-tied, Keeps-rebound}
+use Rattle.iddqd_keys.proofs.KeyWalkLemmas.{IsInPlace-tied}
+use Rattle.iddqd_by_order.proofs.OrderedPlaceLemmas.{Keeps-rebound}
 use Rattle.iddqd_map.specs.KeyIndex.{HaveSameKeys}
 use Rattle.iddqd_map.specs.Map.{shares}
 use Rattle.iddqd_ord_map.specs.ByOrder.{IsGapFor}

@@ -1,18 +1,61 @@
--- For callers: the first of the live indexes whose items' keys are within, and what a list of them is without it.
-use Rattle.std.proofs.Common.{◌≡◌, ◌≢◌, ◌++◌, ◌∙◌, inl, inr, ℕ, Bool, List, [], ◌∷◌, Option, Some, None, MatchOption, refl, sym, Ordering}
+-- For callers: lists of live indexes in the order of a key, and the first of them whose items' keys are within.
+use Rattle.std.proofs.Common.{◌≡◌, ◌≢◌, ◌++◌, ◌∙◌, ◌+◌, ◌&&◌, inl, inr, ℕ, Bool, not, List, [], ◌∷◌, get_or, Option, Some, None, option_map, MatchOption, refl, sym, ap, subst, Ordering, arith}
 use Rattle.std.specs.Cmp.{IsTotalOrder}
+use Rattle.std.specs.Cmp.Lexicographic.{options_total}
 use Rattle.std.specs.List.{Contains}
 use Rattle.std.specs.List.Sorted.{IsStrictlySortedBy}
-use Rattle.std.proofs.lemmas.List.Elements.{All-contains, All-from_recursion, recursion_from_All, Contains-append_right, Contains-get_or, Contains-push_cases}
+use Rattle.std.specs.Option.{option_cmp}
+use Rattle.std.specs.Ordering.{nat_cmp, ordering_then, is_eq, is_lt, is_gt}
+use Rattle.std.specs.declared.cmp.Ordering.TheVariants.{Less, Equal, Greater}
+use Rattle.std.specs.declared.ops.Bound.TheVariants.{Included}
 use Rattle.std.proofs.lemmas.Bool.{cases_eq}
+use Rattle.std.proofs.lemmas.Cmp.{alike_right, tied_itself, then_total, on_total, nat_cmp_total}
+use Rattle.std.proofs.lemmas.List.Elements.{All-contains, All-from_recursion, recursion_from_All, Contains-append_right, Contains-get_or, Contains-push_cases}
+use Rattle.std.proofs.lemmas.Map.Keys.{Less-from_sorted, sorted_from_all_adjacent}
 use Rattle.iddqd.specs.Store.{Store, get, removed}
 use Rattle.iddqd.proofs.LiveLemmas.{get-removed_at, get-removed_other}
 use Rattle.iddqd.proofs.StoreLemmas.{contains_head, contains_tail, contains_cases, contains_none}
-use Rattle.iddqd_by_order.specs.Ordered.{IsInPlace}
-use Rattle.iddqd_by_order.specs.OrderedWalk.{SortsWithin, ComesBefore, IsFirstHit, pairs_at}
+use Rattle.iddqd_keys.specs.KeyWalk.{pairs_at, key_at, by_key_then_index, IsInPlace, ComesBefore, IsFirstHit, SortsWithin}
+use Rattle.iddqd_keys.specs.OrderedQuery.{is_between, is_equal}
 use Rattle.iddqd_keys.specs.Scan.{IsHit, HasNoHit, passes_by}
-use Rattle.iddqd_by_order.proofs.OrderedPlaceLemmas.{IsInPlace-alike}
 use Rattle.iddqd_keys.proofs.ScanLemmas.{live_before}
+
+module _ {T K : Type 0} (key_of : T → K) (compare : K → K → Ordering) (total : IsTotalOrder compare) where
+  totals : (s : Store T) → IsTotalOrder (by_key_then_index key_of compare s)
+  totals s = then_total (on_total (key_at key_of s) (options_total total)) nat_cmp_total
+
+  -- what is in place is so over every store whose keys there compare Equal with those
+  pub IsInPlace-tied :
+      (s t : Store T) (order : List ℕ)
+      → ((j : ℕ) → Contains order j → option_cmp compare (key_at key_of t j) (key_at key_of s j) ≡ Equal)
+      → IsInPlace key_of compare s order
+      → IsInPlace key_of compare t order
+  IsInPlace-tied s t order ties placed =
+      let o = options_total total in
+      sorted_from_all_adjacent (totals t) order 0 (λ k within.
+      let i = get_or order k 0 in
+      let j = get_or order (k + 1) 0 in
+      let left = o.congr (key_at key_of t i) (key_at key_of s i) (key_at key_of t j) (ties i (Contains-get_or order k 0 (omega arith))) in
+      let right = alike_right o (key_at key_of t j) (key_at key_of s j) (key_at key_of s i) (ties j (Contains-get_or order (k + 1) 0 within)) in
+      ap (λ r. ordering_then r (nat_cmp i j)) (left ∙ right)
+      ∙ Less-from_sorted _ order k (k + 1) 0 placed (omega arith) within)
+
+  -- and over every store that gives the same items
+  pub IsInPlace-alike :
+      (s t : Store T) (order : List ℕ)
+      → ((j : ℕ) → Contains order j → get t j ≡ get s j)
+      → IsInPlace key_of compare s order
+      → IsInPlace key_of compare t order
+  IsInPlace-alike s t order same = IsInPlace-tied s t order (λ j here.
+      subst (λ o. option_cmp compare (option_map key_of o) (key_at key_of s j) ≡ Equal) (sym (same j here)) (tied_itself (options_total total) (key_at key_of s j)))
+
+module _ {T : Type 0} (s : Store T) where
+  pub pairs_at-first :
+      (all left : List ℕ) (ix : ℕ) (item : T)
+      → all ≡ ix ∷ left
+      → get s ix ≡ Some item
+      → pairs_at s all ≡ (ix, item) ∷ pairs_at s left
+  pairs_at-first all left ix item given is = ap (pairs_at s) given ∙ rw is refl
 
 module _ {T K : Type 0} (key_of : T → K) (compare : K → K → Ordering) (s : Store T) where
   in_front :
@@ -160,3 +203,14 @@ pub pairs_at-alike :
 pairs_at-alike s t [] same = refl
 pairs_at-alike s t (ix ∷ rest) same =
     rw (same ix (contains_head ix rest), pairs_at-alike s t rest (λ j there. same j (contains_tail ix j rest there))) refl
+
+-- between a query and itself stand the keys at which it is Equal
+at_both : (r : Ordering) → (not (is_gt r) && not (is_lt r)) ≡ is_eq r
+at_both Less = refl
+at_both Equal = refl
+at_both Greater = refl
+
+pub between_equal :
+    {K : Type 0} (comparing : K → Ordering)
+    → is_between (Included comparing) (Included comparing) ≡ is_equal comparing
+between_equal comparing = λ i k. at_both (comparing k) i
