@@ -11,11 +11,12 @@ ghost use Rattle.iddqd_hash.specs.{filed};
 ghost use Rattle.iddqd_keys.specs.Scan.{IsLive, IsKeyAt};
 ghost use Rattle.iddqd_by_hash.specs.Hashed.{AreLive, AsksAt, LooksUp, Takes};
 
+use crate::lent::Lent;
 use iddqd::item_index::ItemIndex;
 use iddqd::item_set::ItemSet;
 use iddqd::map_hash::{Equivalent, MapHash};
 use iddqd_hash::hash_table::MapHashTable;
-use iddqd_keys::key_of::{KeyOf, Lent, key_at};
+use iddqd_keys::key_of::{KeyOf, key_at};
 use std::hash::{BuildHasher, Hash};
 
 /// The hash of the key of an item under a hasher's state.

@@ -6,3 +6,4 @@
 
 pub mod hashed;
 pub mod hashed_move;
+mod lent;

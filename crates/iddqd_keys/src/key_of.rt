@@ -67,18 +67,6 @@ impl<'a, K: Ord> Comparable<K> for ByKey<'a, K> {
     }
 }
 
-// A query, for keys that are lent.
-#[derive(Clone, Copy)]
-pub(crate) struct Lent<'a, Q>(pub(crate) &'a Q);
-
-impl<'a, 'b, K, Q: Equivalent<K>> Equivalent<&'b K> for Lent<'a, Q> {
-    ghost equivalent = { λ q k. Q.equivalent q.0.now k.now };
-
-    fn equivalent(&self, key: &&'b K) -> bool {
-        self.0.equivalent(*key)
-    }
-}
-
 /// The key of the item at a live index.
 pub fn key_at<T, E: KeyOf<T>>(items: &ItemSet<T>, ix: ItemIndex) -> &E::Key
     requires { IsLive items.now.store ix }
