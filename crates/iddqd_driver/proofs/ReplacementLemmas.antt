@@ -33,6 +33,7 @@ use Rattle.iddqd_by_hash.specs.HashedMove.{moved}
 use Rattle.iddqd_by_hash.specs.declared.hashed_move.Move.TheVariants.{To}
 use Rattle.iddqd_by_order.proofs.OrderedHoldsLemmas as order_holds
 use Rattle.iddqd_by_order.proofs.OrderedPlaceLemmas as order_place
+use Rattle.iddqd_keys.proofs.KeyWalkLemmas.{IsInPlace-alike}
 use Rattle.iddqd_keys.proofs.ScanLemmas.{rebound_cases, live_rebound}
 use Rattle.iddqd_keys.specs.Side.{ChangesAt}
 use Rattle.iddqd_driver.specs.Keys.{Keys, first_hashing}
@@ -217,7 +218,7 @@ module _ {T : Type 0} (s : Store T) (ix : ℕ) (item was : T) (live : get s ix �
       ties = with_ties-key (options_total total) key ix answer left compares
 
       sorted_left : ordered.IsInPlace key_of compare s order → ordered.IsInPlace key_of compare after left
-      sorted_left placed = order_place.IsInPlace-alike key_of compare total s after left left_alike (IsStrictlySortedBy-filter _ _ order placed)
+      sorted_left placed = IsInPlace-alike key_of compare total s after left left_alike (IsStrictlySortedBy-filter _ _ order placed)
 
       pub IsRising-left : ordered.IsInPlace key_of compare s order → IsRising (with_ties (Some ix) answer) left
       IsRising-left placed = IsRising-from_sorted (key_then_index-total (options_total total) key) left (sorted_left placed) ix _ ties

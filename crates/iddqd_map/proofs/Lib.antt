@@ -7,5 +7,6 @@ pub mod IndexingLemmas
 pub mod MapLemmas
 pub mod OneKeyLemmas
 pub mod OverwriteLemmas
+pub mod RangeLemmas
 pub mod RetainLemmas
 pub mod TakeLemmas

@@ -86,6 +86,7 @@ module _ {T : Type 0} (alike : T → T → Bool) (most : ℕ → ℕ) where
     -- A refusal for memory where items would be overwritten, before any was removed.
     pub record RefusesToOverwrite (old : MapState T) (item back : T) (new : MapState T) : Type 0 where
       pub given_back : back ≡ item
+      pub conflict : (ix : ℕ) × IsHit old.store (alike item) ix
       pub lacks : may_lack ≡ true
       pub past : old.memory.capacity < live_count old.store
       pub unchanged : new ≡ old

@@ -13,6 +13,7 @@ pub mod OneKey
 pub mod Overwrite
 pub mod PairConflict
 pub mod PairLaws
+pub mod Ranges
 pub mod Refusal
 pub mod Retain
 pub mod Several

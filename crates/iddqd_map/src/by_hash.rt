@@ -18,7 +18,7 @@ ghost use Rattle.iddqd_map.specs.Indexing.{Indexes};
 use crate::hashed_plan::plan_move;
 use crate::hashed_query::{find_under, take_by};
 use crate::key_index::{
-    AsksAt, Checks, HashedAt, Here, Inserts, KeyIndex, Moves, Removes, Sizes, TakesAt,
+    AsksAt, Checks, FindsSame, HashedAt, Here, Inserts, KeyIndex, Moves, Removes, Sizes, TakesAt,
 };
 use crate::of_item::{commit_item, find_item, take_item, validate_table};
 use iddqd::index_remap::IndexRemap;
@@ -305,24 +305,12 @@ where
     K: Eq + Hash + Drop,
     S: BuildHasher,
 {
-    ghost same_are_alike = { λ x y same. same };
-
     fn copied(&self) -> Result<ByHash<E, K>, AllocError> {
         Ok(ByHash {
             table: self.table.clone()?,
             of: PhantomData,
             by: PhantomData,
         })
-    }
-
-    fn find_same(&self, items: &ItemSet<T>, state: &S, item: &T) -> Option<ItemIndex> {
-        find_item::<T, E, S>(
-            &self.table,
-            items,
-            state,
-            hash_of::<T, E, S>(state, item),
-            item,
-        )
     }
 
     fn is_same(item: &T, other: &T) -> bool {
@@ -336,6 +324,25 @@ where
         compactness: ValidateCompact,
     ) -> Result<(), ValidateRefusal<ValidationError>> {
         validate_table("keys", &self.table, items.len(), compactness)
+    }
+}
+
+impl<T, S, E, K> FindsSame<T, S> for ByHash<E, K>
+where
+    E: KeyOf<T, Key = K>,
+    K: Eq + Hash + Drop,
+    S: BuildHasher,
+{
+    ghost same_are_alike = { λ x y same. same };
+
+    fn find_same(&self, items: &ItemSet<T>, state: &S, item: &T) -> Option<ItemIndex> {
+        find_item::<T, E, S>(
+            &self.table,
+            items,
+            state,
+            hash_of::<T, E, S>(state, item),
+            item,
+        )
     }
 }
 

@@ -9,6 +9,9 @@
 //! memory.
 ghost use Rattle.std.specs.Prelude.{◌≡◌, ◌≢◌, ◌≤◌, ◌+◌, ◌<◌, true, false, min, max, length, IsOk, IfOk, OnOk, OnErr};
 ghost use Rattle.iddqd.specs.{next_index, removed, rebound, sentinel, live_count, IsValid, Allows, Validates};
+ghost use Rattle.std.specs.Range.Bound.{bound_map};
+ghost use Rattle.iddqd_keys.specs.OrderedQuery.{is_between};
+ghost use Rattle.iddqd_keys.specs.KeyWalk.{IsFirstHit};
 ghost use Rattle.iddqd_keys.specs.Scan.{AnswersScan, IsLive, HasNoHit, passes_by};
 ghost use Rattle.iddqd_map.specs.KeyIndex.{IndexesNone, IsNextOf, IsPlannedForOne, IndexesOneMore, IsRemapOfSome, IndexesCompacted, IndexesAllOf, IsNextReported, FindsSpot, PlansMove, TakesFound};
 
@@ -16,10 +19,12 @@ use iddqd::index_remap::IndexRemap;
 use iddqd::internal::{ValidateCompact, ValidateRefusal, ValidationError};
 use iddqd::item_index::ItemIndex;
 use iddqd::item_set::ItemSet;
+use iddqd_keys::order_query::OrdQuery;
 use iddqd_keys::query::HashQuery;
 use std::alloc::{AllocError, Global};
 use std::hash::Hash;
 use std::marker::PhantomData;
+use std::ops::Bound;
 
 /// A table of a store's indexes by one key, or several tables by several keys.
 ///
@@ -369,19 +374,12 @@ pub trait Moves<T, S>: KeyIndex<T, S> {
         ensures cells { Self.cells self.new ≡ Self.cells self.old };
 }
 
-/// A key index that can be copied, compared and checked.
+/// A key index that can be copied and checked.
 pub trait Checks<T, S>: KeyIndex<T, S> {
-    ghost use Rattle.std.specs.Prelude.{true};
-
     /// One that indexes the same, and has no more memory.
     fn copied(&self) -> Result<Self, AllocError>
         ensures contents { IfOk result (λ copy. IndexesAllOf (Self.indexes self.now) (Self.indexes copy)) }
         ensures few { IfOk result (λ copy. Self.cells copy ≤ Self.cells self.now) };
-
-    /// The index of the item that shares all keys with this one.
-    fn find_same(&self, items: &ItemSet<T>, state: &S, item: &T) -> Option<ItemIndex>
-        requires indexed { Self.indexes self.now state.now items.now.store }
-        ensures { AnswersScan items.now.store (Self.same_keys item.now) result };
 
     /// Whether the items share all keys.
     fn is_same(item: &T, other: &T) -> bool
@@ -401,6 +399,16 @@ pub trait Checks<T, S>: KeyIndex<T, S> {
         requires allowed { Allows compactness (length items.now.store.free) }
         requires indexed { Self.indexes self.now state.now items.now.store }
         ensures { Validates (Allows compactness (length items.now.store.free)) result };
+}
+
+/// A key index that finds the one item that shares all keys with another: at least one of its keys is unique.
+pub trait FindsSame<T, S>: KeyIndex<T, S> {
+    ghost use Rattle.std.specs.Prelude.{true};
+
+    /// The index of the item that shares all keys with this one.
+    fn find_same(&self, items: &ItemSet<T>, state: &S, item: &T) -> Option<ItemIndex>
+        requires indexed { Self.indexes self.now state.now items.now.store }
+        ensures { AnswersScan items.now.store (Self.same_keys item.now) result };
 
     // Items that share all keys share one.
     ghost same_are_alike: { (x y : T) → Self.same_keys x y ≡ true → Self.alike x y ≡ true };
@@ -482,4 +490,24 @@ pub trait AsksAt<P, T, S>: HashedAt<P, T, S> {
     ) -> (Option<ItemIndex>, Self::Asked)
         requires indexed { Self.KeyIndex.indexes self.now state.now items.now.store }
         ensures { AnswersScan items.now.store (passes_by Self.HashedAt.key_at (Q.stands_for query)) result.0 };
+}
+
+/// A key index with a key by its order at the place `P`, which several items may have.
+pub trait OrderedAt<P, T, S>: KeyIndex<T, S> {
+    /// The key.
+    type Key: Ord;
+
+    ghost key_at: { T → Self.Key };
+
+    /// The first index whose item has a key within the bounds, by key and then by index.
+    fn first_between<Q: OrdQuery<Self::Key>>(
+        &self,
+        items: &ItemSet<T>,
+        state: &S,
+        lower: Bound<Q>,
+        upper: Bound<Q>,
+    ) -> Option<ItemIndex>
+        requires indexed { Self.KeyIndex.indexes self.now state.now items.now.store }
+        ensures { let within = is_between (bound_map Q.compare lower) (bound_map Q.compare upper) in
+            IsFirstHit key_at Self.Key.cmp items.now.store (passes_by key_at within) result };
 }

@@ -21,6 +21,7 @@ mod inserts;
 mod memory;
 mod modifies;
 mod overwrites;
+mod ranges;
 mod removals;
 mod replaces;
 mod retain;

@@ -9,16 +9,19 @@ ghost use Rattle.iddqd_map.specs.KeyIndex.{IsNextReported};
 ghost use Rattle.iddqd_map.specs.PairConflict.{IsReportedBy, first_of, second_of, lesser_of};
 
 use crate::key_index::{
-    AsksAt, Checks, HashedAt, Inserts, KeyIndex, Left, Moves, Removes, Right, Sizes, TakesAt,
+    AsksAt, Checks, FindsSame, HashedAt, Inserts, KeyIndex, Left, Moves, OrderedAt, Removes, Right,
+    Sizes, TakesAt,
 };
 use crate::pair_conflict::{PairConflict, ReportsPair};
 use iddqd::index_remap::IndexRemap;
 use iddqd::internal::{ValidateCompact, ValidateRefusal, ValidationError};
 use iddqd::item_index::ItemIndex;
 use iddqd::item_set::ItemSet;
+use iddqd_keys::order_query::OrdQuery;
 use iddqd_keys::query::HashQuery;
 use std::alloc::{AllocError, Global};
 use std::marker::PhantomData;
+use std::ops::Bound;
 
 /// Two key indexes over the same items. A conflict is reported as `C`.
 #[derive(Drop)]
@@ -360,25 +363,12 @@ where
     B: Checks<T, S>,
     C: ReportsPair<A::Conflict, B::Conflict>,
 {
-    ghost use Rattle.iddqd_map.specs.PairLaws.{alike_both};
-
-    ghost same_are_alike = { alike_both A.same_keys B.same_keys A.alike A.same_are_alike B.alike };
-
     fn copied(&self) -> Result<Pair<A, B, C>, AllocError> {
         Ok(Pair {
             first: self.first.copied()?,
             second: self.second.copied()?,
             reported: PhantomData,
         })
-    }
-
-    fn find_same(&self, items: &ItemSet<T>, state: &S, item: &T) -> Option<ItemIndex> {
-        let ix = self.first.find_same(items, state, item)?;
-        if B::is_same(item, &items[ix]) {
-            Some(ix)
-        } else {
-            None
-        }
     }
 
     fn is_same(item: &T, other: &T) -> bool {
@@ -393,6 +383,27 @@ where
     ) -> Result<(), ValidateRefusal<ValidationError>> {
         self.first.validate(items, state, compactness)?;
         self.second.validate(items, state, compactness)
+    }
+}
+
+// The first index finds the only item that can share all keys.
+impl<T, S, A, B, C> FindsSame<T, S> for Pair<A, B, C>
+where
+    A: FindsSame<T, S>,
+    B: Checks<T, S>,
+    C: ReportsPair<A::Conflict, B::Conflict>,
+{
+    ghost use Rattle.iddqd_map.specs.PairLaws.{alike_both};
+
+    ghost same_are_alike = { alike_both A.same_keys B.same_keys A.alike A.same_are_alike B.alike };
+
+    fn find_same(&self, items: &ItemSet<T>, state: &S, item: &T) -> Option<ItemIndex> {
+        let ix = self.first.find_same(items, state, item)?;
+        if B::is_same(item, &items[ix]) {
+            Some(ix)
+        } else {
+            None
+        }
     }
 }
 
@@ -538,5 +549,47 @@ where
     ) -> (Option<ItemIndex>, (A::Asked, B::Asked)) {
         let (found, asked) = self.second.ask(items, state, query);
         (found, (A::unasked(), asked))
+    }
+}
+
+impl<P, T, S, A, B, C> OrderedAt<Left<P>, T, S> for Pair<A, B, C>
+where
+    A: OrderedAt<P, T, S>,
+    B: KeyIndex<T, S>,
+    C: ReportsPair<A::Conflict, B::Conflict>,
+{
+    type Key = A::Key;
+
+    ghost key_at = { A.OrderedAt.key_at };
+
+    fn first_between<Q: OrdQuery<A::Key>>(
+        &self,
+        items: &ItemSet<T>,
+        state: &S,
+        lower: Bound<Q>,
+        upper: Bound<Q>,
+    ) -> Option<ItemIndex> {
+        self.first.first_between(items, state, lower, upper)
+    }
+}
+
+impl<P, T, S, A, B, C> OrderedAt<Right<P>, T, S> for Pair<A, B, C>
+where
+    A: KeyIndex<T, S>,
+    B: OrderedAt<P, T, S>,
+    C: ReportsPair<A::Conflict, B::Conflict>,
+{
+    type Key = B::Key;
+
+    ghost key_at = { B.OrderedAt.key_at };
+
+    fn first_between<Q: OrdQuery<B::Key>>(
+        &self,
+        items: &ItemSet<T>,
+        state: &S,
+        lower: Bound<Q>,
+        upper: Bound<Q>,
+    ) -> Option<ItemIndex> {
+        self.second.first_between(items, state, lower, upper)
     }
 }

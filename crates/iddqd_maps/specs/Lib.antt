@@ -6,11 +6,15 @@ pub use Rattle.iddqd.specs.Compaction
 pub use Rattle.iddqd.specs.Validation
 pub use Rattle.iddqd_keys.specs.Scan
 pub use Rattle.iddqd_keys.specs.KeyKeeping
+pub use Rattle.iddqd_keys.specs.OrderedQuery
+pub use Rattle.iddqd_by_order.specs.OrderedWalk
+pub use Rattle.iddqd_order.specs.Range
 pub use Rattle.iddqd_map.specs.Map
 pub use Rattle.iddqd_map.specs.Memory
 pub use Rattle.iddqd_map.specs.Calls
 pub use Rattle.iddqd_map.specs.Modify
 pub use Rattle.iddqd_map.specs.Several
+pub use Rattle.iddqd_map.specs.Ranges
 pub use Rattle.iddqd_map.specs.Retain
 pub use Rattle.iddqd_map.specs.Equality
 pub use Rattle.iddqd_map.specs.KeyIndex
@@ -19,5 +23,6 @@ pub use Rattle.iddqd_map.specs.OneKey
 pub use Rattle.iddqd_map.specs.TwoKeys
 pub use Rattle.iddqd_map.specs.ThreeKeys
 pub use Rattle.iddqd_ord_map.specs.ByOrder
+pub use Rattle.iddqd_ord_map.specs.ByOrderMulti
 pub use Rattle.iddqd_ord_map.specs.OrdMap
 pub use Rattle.iddqd_ord_map.specs.KeyOrder

@@ -1,7 +1,8 @@
 //! Maps whose keys live inside their values: a store of items, and a table for each key.
 //!
 //! Four maps have names of their own. A map with any other mix of keys is a [`map::Map`] by a [`pair::Pair`] of key
-//! indexes, each a [`by_hash::ByHash`], a [`by_order::ByOrder`] or a pair again.
+//! indexes, each a [`by_hash::ByHash`], a [`by_order::ByOrder`], a [`by_order_multi::ByOrderMulti`], whose key several
+//! items may have, or a pair again.
 //!
 //! A contract sees a map as items in slots under stable indexes, no two of which share a key. No call gives a stored
 //! item another key without updating the tables, so a look-up always answers as a scan of all items would.
@@ -23,4 +24,7 @@ pub use iddqd_map::{
     key_index as key_index, map as map, pair as pair, pair_conflict as pair_conflict,
     refusal as refusal, tri_hash_map as tri_hash_map,
 };
-pub use iddqd_ord_map::{by_order as by_order, id_ord_map as id_ord_map};
+pub use iddqd_ord_map::{
+    by_order as by_order, by_order_multi as by_order_multi, id_ord_map as id_ord_map,
+};
+pub use iddqd_order::btree_table as btree_table;

@@ -1,29 +1,30 @@
 -- What a table in order reports of a store's items, as a key index has it.
-use Rattle.std.proofs.Common.{◌≡◌, ◌≢◌, ◌∙◌, ◌-◌, ℕ, List, length, Option, None, Bool, true, false, not, Some, None, Result, Ok, Err, refl, sym, Ordering}
+use Rattle.std.proofs.Common.{◌≡◌, ◌≢◌, ◌∙◌, ℕ, List, Option, Bool, true, false, not, Some, None, Result, Ok, Err, refl, sym, Ordering}
 use Rattle.std.specs.Cmp.{IsTotalOrder, eq_by_cmp_equiv}
 use Rattle.std.specs.Fn.{Mut}
-use Rattle.std.specs.List.{slice_get}
 use Rattle.std.specs.Ordering.{eq_by_cmp}
-use Rattle.iddqd.specs.Store.{Store, get}
+use Rattle.iddqd.specs.Store.{Store, get, rebound}
 use Rattle.iddqd_order.specs.Gap.{FindsGap, gap_place}
 use Rattle.iddqd_order.specs.MapBTreeTable.{Order, order_of}
 use Rattle.iddqd_order.specs.Search.{IsSteady}
 use Rattle.iddqd_order.specs.declared.btree_table.asking.Asking.{Asking}
 use Rattle.iddqd_order.specs.declared.btree_table.gap.Gap.{Gap}
-use Rattle.iddqd_by_order.specs.Ordered.{IsSortedScan, Takes}
+use Rattle.iddqd_by_order.specs.Ordered.{Takes}
 use Rattle.iddqd_keys.specs.OrderedQuery.{IsQuery-key}
 use Rattle.iddqd_keys.specs.Scan.{AnswersScan}
+use Rattle.iddqd_keys.specs.Side.{IsApart}
 use Rattle.iddqd_by_order.proofs.OrderedFindLemmas.{answer, LooksUp-stored, IsVacantAt-placed}
 use Rattle.iddqd_map.specs.KeyIndex.{PlansMove, TakesFound}
 use Rattle.iddqd_map.specs.Map.{shares}
 use Rattle.iddqd_map.specs.Several.{HasNoOther}
-use Rattle.iddqd_ord_map.specs.ByOrder.{FindsGreatest, FindsLeast, LooksPlaceUp, moves}
+use Rattle.iddqd_ord_map.specs.ByOrder.{LooksPlaceUp}
+use Rattle.iddqd_ord_map.specs.ByOrderLaws.{Sorts-kept, Sorts-scan}
+use Rattle.iddqd_ord_map.specs.OrderedSteps.{moves, StaysByKey}
 use Rattle.iddqd_ord_map.specs.OrderedIndexing.{Sorts, PlansOrConflicts}
 use Rattle.iddqd_ord_map.specs.declared.ordered_move.Move.{Move}
 use Rattle.iddqd_ord_map.specs.declared.ordered_move.Move.TheVariants.{Stays, Moves}
-use Rattle.iddqd_ord_map.proofs.EndLemmas.{nothing_first, nothing_last}
-use Rattle.iddqd_ord_map.proofs.OrderedEndLemmas.{HasGreatestKey-last, HasLeastKey-first}
 use Rattle.iddqd_ord_map.proofs.OrderedIndexingLemmas.{Sorts-removed}
+use Rattle.iddqd_ord_map.proofs.OrderedMoveLemmas.{IsApart-moved}
 
 module _ {T K : Type 0} (key_of : T → K) (compare : K → K → Ordering) (total : IsTotalOrder compare) (s : Store T)
     (order : List ℕ) (o : Sorts key_of compare s order) (ix : ℕ) (item : T) where
@@ -72,20 +73,9 @@ module _ {T K : Type 0} (key_of : T → K) (compare : K → K → Ordering) (tot
       let vacant = IsVacantAt-placed key_of compare s (order_of t) (compare (key_of item)) o.held g read old new total (IsQuery-key compare total (key_of item)) steady (gap_place t gap) found.within found.place found.miss in
       (vacant.missed.as_scan o.exact, record { fits = found.fits; vacant = vacant })
 
--- what the ends of the table are
+-- what a removal leaves
 module _ {T K : Type 0} (key_of : T → K) (compare : K → K → Ordering) (total : IsTotalOrder compare) (s : Store T)
     (order : List ℕ) (o : Sorts key_of compare s order) where
-  pub FindsLeast-first : (r : Option ℕ) → r ≡ slice_get order 0 → FindsLeast key_of compare s r
-  FindsLeast-first (Some ix) is = HasLeastKey-first s order o.held key_of compare total o.exact.placed ix (sym is)
-  FindsLeast-first None is = nothing_first s order o.held (sym is)
-
-  pub FindsGreatest-last : (r : Option ℕ) → r ≡ slice_get order (length order - 1) → FindsGreatest key_of compare s r
-  FindsGreatest-last (Some ix) is = HasGreatestKey-last s order o.held key_of compare total o.exact.placed ix (sym is)
-  FindsGreatest-last None is = nothing_last s order o.held (sym is)
-
-  pub IsSortedScan-listed : (indexes : List ℕ) → indexes ≡ order → IsSortedScan key_of compare s indexes
-  IsSortedScan-listed indexes is = rw is (record { holds = o.held; placed = o.exact.placed })
-
   -- the index that a look-up found was taken out
   pub TakesFound-taken :
       {S : Type 0} (state : S) (test : T → Bool) (r : Option ℕ) (new : List ℕ)
@@ -96,3 +86,25 @@ module _ {T K : Type 0} (key_of : T → K) (compare : K → K → Ordering) (tot
       let (item, live, passed) = (scan ix).1 refl in
       rw is (Sorts-removed key_of compare s order o total ix item live)
   TakesFound-taken state test None new scan is = rw is o
+
+-- a planned move stays where the key does, and leaves no two items with one key
+module _ {T K : Type 0} (key_of : T → K) (compare : K → K → Ordering) where
+  pub stays_by_key :
+      (s : Store T) (ix : ℕ) (item : T) (plan : Move)
+      → PlansOrConflicts key_of compare s ix item (Ok plan)
+      → StaysByKey key_of compare s ix item plan
+  stays_by_key s ix item Stays planned = planned
+  stays_by_key s ix item Moves planned = tt
+
+  pub IsApart-planned :
+      (total : IsTotalOrder compare) (s : Store T) (order : List ℕ)
+      → Sorts key_of compare s order
+      → (ix : ℕ) (item was : T)
+      → get s ix ≡ Some was
+      → (plan : Move)
+      → PlansOrConflicts key_of compare s ix item (Ok plan)
+      → IsApart key_of (eq_by_cmp compare) (rebound s ix item)
+  IsApart-planned total s order o ix item was live Stays planned =
+      (Sorts-kept key_of compare total s order o ix item was live planned).exact.apart
+  IsApart-planned total s order o ix item was live Moves planned =
+      IsApart-moved key_of compare total s order (Sorts-scan key_of compare s order o) ix item was live o.exact.apart planned

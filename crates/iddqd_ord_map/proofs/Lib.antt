@@ -1,5 +1,7 @@
 pub mod ByOrderLemmas
+pub mod GroupLemmas
 pub mod SizeLemmas
+pub mod SortedScanLemmas
 pub mod OrderedIndexingLemmas
 pub mod OrderedMoveLemmas
 pub mod OrderedEndLemmas

@@ -3,7 +3,7 @@ use Rattle.std.proofs.Common.{◌≡◌, ◌+◌, ◌-◌, ◌≤◌, ℕ, lengt
 use Rattle.std.proofs.lemmas.Bool.{cases_lt}
 use Rattle.iddqd_order.specs.MapBTreeTable.{Order, order_of, capacity, capacity_for}
 use Rattle.iddqd_order.specs.Sizes.{Reserves, Shrinks}
-use Rattle.iddqd_ord_map.specs.ByOrder.{reserved_for, most_cells}
+use Rattle.iddqd_ord_map.specs.OrderedSteps.{reserved_for, most_cells}
 
 -- what holds either way holds where it went well, and where it didn't
 pub on_ok : {A E P Q : Type 0} (r : Result A E) → OnOk r P → (P → Q) → OnOk r Q

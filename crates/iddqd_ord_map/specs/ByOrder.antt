@@ -1,47 +1,13 @@
--- What an index by the order of a key plans, and the blocks that wait in it.
-use Rattle.std.specs.Prelude.{◌≡◌, ◌*◌, ◌+◌, ◌-◌, ◌≤◌, ℕ, Bool, true, false, Option, Some, None, Result, Ok, Err}
+-- What an index by the order of a key plans, and what its ends are.
+use Rattle.std.specs.Prelude.{◌≡◌, ℕ, Option, Some, None, Result, Ok, Err}
 use Rattle.std.specs.declared.cmp.Ordering.{Ordering}
 use Rattle.iddqd.specs.Store.{Store, live_count}
-use Rattle.iddqd_order.specs.MapBTreeTable.{Order, order_of, capacity, needed_blocks, move_blocks}
-use Rattle.iddqd_order.specs.Gap.{Fits, gap_place, gap_blocks}
+use Rattle.iddqd_order.specs.MapBTreeTable.{Order, order_of}
+use Rattle.iddqd_order.specs.Gap.{Fits, gap_place}
 use Rattle.iddqd_order.specs.declared.btree_table.gap.Gap.{Gap}
 use Rattle.iddqd_keys.specs.Scan.{HasNoHit, AnswersScan}
 use Rattle.iddqd_by_order.specs.Ordered.{IsVacantAt, HasLeastKey, HasGreatestKey}
 use Rattle.iddqd_ord_map.specs.OrderedIndexing.{has_key}
-use Rattle.iddqd_ord_map.specs.declared.ordered_move.Move.{Move}
-use Rattle.iddqd_ord_map.specs.declared.ordered_move.Move.TheVariants.{Stays, Moves}
-
--- How many indexes the blocks that a table reserved hold by themselves: beside the ten that any table holds, so it is
--- zero where nothing is reserved. It counts the reserved memory, too.
-abbrev pub reserved_for : Order → ℕ
-reserved_for t = capacity t - 10
-
--- the same of the blocks that so many indexes need
-abbrev pub most_cells : ℕ → ℕ
-most_cells indexes = 30 * needed_blocks (indexes + 10)
-
--- how many blocks wait for the next insert
-abbrev pub waiting : Option ℕ → ℕ
-waiting None = 0
-waiting (Some blocks) = blocks
-
--- whether an index is entered anew
-abbrev pub moves : Move → Bool
-moves Stays = false
-moves Moves = true
-
--- as many blocks wait as an insert at the place needs, if it is one of the table
-abbrev pub HasBlocksAt : Order → Option ℕ → Gap → Type 0
-HasBlocksAt t blocks gap = Fits t gap → gap_blocks t gap ≤ waiting blocks
-
--- as many blocks wait as a move to any place needs, or an insert after a removal
-abbrev pub HasBlocksAnywhere : Order → Option ℕ → Type 0
-HasBlocksAnywhere t blocks = move_blocks t ≤ waiting blocks
-
--- as many blocks wait as the move needs
-abbrev pub IsReadyFor : Order → Option ℕ → Move → Type 0
-IsReadyFor t blocks Stays = Unit {0}
-IsReadyFor t blocks Moves = HasBlocksAnywhere t blocks
 
 module _ {T K : Type 0} (key_of : T → K) (compare : K → K → Ordering) where
   -- the place is one of the table, where its list has room for the item's key

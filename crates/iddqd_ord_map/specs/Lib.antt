@@ -1,8 +1,12 @@
 pub mod ByOrder
 pub mod ByOrderLaws
+pub mod ByOrderMulti
+pub mod ByOrderMultiLaws
 pub mod Equality
 pub mod KeyOrder
 pub mod OrdMap
 pub mod OrderedIndexing
+pub mod OrderedSteps
 pub mod Pairs
 pub mod Retain
+pub mod SortedScanLaws

@@ -6,39 +6,35 @@
 //! Invariants, given the store's items:
 //! 1. The list has exactly the live indexes, each once.
 //! 2. It is sorted by the keys of their items, and no two items have equal keys.
-//!
-//! A table holds ten indexes without any memory. The capacity doesn't count these: it is how many indexes the reserved
-//! blocks hold.
 ghost use Rattle.std.specs.Prelude.{◌≡◌};
 ghost use Rattle.std.specs.Range.Bound.{bound_map};
 ghost use Rattle.iddqd_order.specs.{indexes_ahead, indexes_left};
 ghost use Rattle.iddqd_order.specs.MapBTreeTable.{order_of};
-ghost use Rattle.iddqd_ord_map.specs.ByOrder.{FindsGreatest, FindsLeast, LooksPlaceUp, waiting};
+ghost use Rattle.iddqd_ord_map.specs.ByOrder.{FindsGreatest, FindsLeast, LooksPlaceUp};
 ghost use Rattle.iddqd_ord_map.specs.OrderedIndexing.{Sorts};
 ghost use Rattle.iddqd_by_order.specs.Ordered.{is_equal, IsSortedScan};
 ghost use Rattle.iddqd_keys.specs.OrderedQuery.{is_between};
 ghost use Rattle.iddqd_by_order.specs.OrderedWalk.{SortsWithin};
 ghost use Rattle.iddqd_keys.specs.Scan.{AnswersScan, IsLive, IsKeyAt, passes_by};
 
-use crate::ordered_move::{Move, plan_move, relocate};
-use crate::ordered_query::{find_by, range_by, take_by};
+use crate::ordered_move::{Move, plan_move};
+use crate::ordered_query::{find_by, first_between, first_by, iter_by, last_by, range_by, take_by};
+use crate::ordered_steps;
 use iddqd::index_remap::IndexRemap;
 use iddqd::internal::{ValidateCompact, ValidateRefusal, ValidationError};
 use iddqd::item_index::ItemIndex;
 use iddqd::item_set::ItemSet;
 use iddqd_by_order::ordered;
-use iddqd_by_order::ordered::take_index;
 use iddqd_keys::key_of::{ByKey, KeyOf, key_at};
 use iddqd_keys::order_query::OrdQuery;
-use iddqd_map::key_index::{Checks, Inserts, KeyIndex, Moves, Removes, Sizes, TakesQuery};
+use iddqd_map::key_index::{
+    Checks, FindsSame, Here, Inserts, KeyIndex, Moves, OrderedAt, Removes, Sizes, TakesQuery,
+};
 use iddqd_order::btree_table::{Asking, Blocks, Gap, Iter, MapBTreeTable, Range};
 use std::alloc::{AllocError, Global};
 use std::cmp::Ordering;
 use std::marker::PhantomData;
 use std::ops::Bound;
-
-// A table holds so many indexes without reserved memory.
-const FREE_INDEXES: usize = 10;
 
 /// A key index in the order of the key that `E` names.
 #[derive(Drop)]
@@ -72,7 +68,7 @@ impl<E> ByOrder<E> {
         requires { ⟦<ByOrder<E> as KeyIndex<T, S>>⟧.indexes self.now state.now items.now.store }
         ensures { FindsLeast E.key_of E.Key.cmp items.now.store result }
     {
-        self.table.first()
+        first_by::<T, E>(&self.table, items)
     }
 
     /// The index of the item with the greatest key.
@@ -83,7 +79,7 @@ impl<E> ByOrder<E> {
         requires { ⟦<ByOrder<E> as KeyIndex<T, S>>⟧.indexes self.now state.now items.now.store }
         ensures { FindsGreatest E.key_of E.Key.cmp items.now.store result }
     {
-        self.table.last()
+        last_by::<T, E>(&self.table, items)
     }
 
     /// The live indexes, in the order of the keys, from both ends. It takes no memory.
@@ -94,7 +90,7 @@ impl<E> ByOrder<E> {
         requires { ⟦<ByOrder<E> as KeyIndex<T, S>>⟧.indexes self.now state.now items.now.store }
         ensures { IsSortedScan E.key_of E.Key.cmp items.now.store (indexes_left result) }
     {
-        self.table.iter()
+        iter_by::<T, E>(&self.table, items)
     }
 
     /// The indexes whose items have keys between two bounds, in the order of the keys, from both ends: none where the
@@ -118,16 +114,6 @@ impl<E> ByOrder<E> {
             SortsWithin E.key_of E.Key.cmp within items.now.store (indexes_ahead result) }
     {
         range_by::<T, E, Q>(&self.table, items, lower, upper)
-    }
-}
-
-// The blocks that wait for the next insert.
-fn take_waiting(blocks: &mut Option<Blocks>, table: &MapBTreeTable) -> Blocks
-    ensures { result ≡ waiting blocks.old }
-{
-    match blocks.take() {
-        Some(blocks) => blocks,
-        None => table.no_blocks(),
     }
 }
 
@@ -159,8 +145,9 @@ where
     ghost use Rattle.std.specs.Ordering.{eq_by_cmp};
     ghost use Rattle.iddqd_order.specs.MapBTreeTable.{HasSameTree};
     ghost use Rattle.iddqd_map.specs.Map.{shares};
-    ghost use Rattle.iddqd_ord_map.specs.ByOrder.{reserved_for, most_cells};
-    ghost use Rattle.iddqd_ord_map.specs.ByOrderLaws.{Sorts-same_tree, Sorts-modified, Sorts-alike, shares_equivalence, reported_one, one_reported};
+    ghost use Rattle.iddqd_ord_map.specs.OrderedSteps.{reserved_for, most_cells};
+    ghost use Rattle.iddqd_ord_map.specs.ByOrderLaws.{Sorts-same_tree, Sorts-modified, Sorts-alike, reported_one, one_reported};
+    ghost use Rattle.iddqd_ord_map.specs.SortedScanLaws.{shares_equivalence};
 
     type Conflict = ItemIndex;
 
@@ -223,7 +210,7 @@ where
     E::Key: Ord,
 {
     fn capacity(&self) -> usize {
-        self.table.capacity().saturating_sub(FREE_INDEXES)
+        ordered_steps::capacity(&self.table)
     }
 
     fn new(alloc: Global) -> ByOrder<E> {
@@ -235,11 +222,8 @@ where
     }
 
     fn with_capacity(alloc: Global, wanted: usize) -> Result<ByOrder<E>, AllocError> {
-        if wanted > usize::MAX - FREE_INDEXES {
-            return Err(AllocError);
-        }
         Ok(ByOrder {
-            table: MapBTreeTable::with_capacity(alloc, wanted + FREE_INDEXES)?,
+            table: ordered_steps::with_capacity(alloc, wanted)?,
             blocks: None,
             of: PhantomData,
         })
@@ -251,19 +235,12 @@ where
         state: &S,
         additional: usize,
     ) -> Result<(), AllocError> {
-        // The capacity has 64 bits, so there is no room for so many.
-        let _capacity = self.table.capacity();
-        if additional > usize::MAX - FREE_INDEXES {
-            return Err(AllocError);
-        }
-        self.table.try_reserve(additional + FREE_INDEXES)
+        ordered_steps::reserve(&mut self.table, items, additional)
     }
 
     fn shrink_to(&mut self, items: &ItemSet<T>, state: &S, least: usize) -> Result<(), AllocError> {
-        let indexes = least.max(self.table.len());
-        if indexes < self.table.capacity().saturating_sub(FREE_INDEXES) {
-            self.table.shrink_to(indexes + FREE_INDEXES);
-        }
+        self.blocks = None;
+        ordered_steps::shrink_to(&mut self.table, items, least);
         Ok(())
     }
 }
@@ -273,7 +250,8 @@ where
     E: KeyOf<T>,
     E::Key: Ord,
 {
-    ghost use Rattle.iddqd_ord_map.specs.ByOrder.{IsGapFor, HasBlocksAt, HasBlocksAnywhere};
+    ghost use Rattle.iddqd_ord_map.specs.ByOrder.{IsGapFor};
+    ghost use Rattle.iddqd_ord_map.specs.OrderedSteps.{HasBlocksAt, HasBlocksAnywhere};
     ghost use Rattle.iddqd_ord_map.specs.ByOrderLaws.{IsGapFor-same_tree};
 
     type Known = ();
@@ -312,16 +290,11 @@ where
     }
 
     fn make_room(&mut self, items: &ItemSet<T>, state: &S, plan: &Gap) -> Result<(), AllocError> {
-        if self.table.len() < self.table.capacity() {
-            return Ok(());
-        }
-        self.blocks = Some(self.table.blocks_at(plan)?);
-        Ok(())
+        ordered_steps::make_room(&self.table, &mut self.blocks, items, plan)
     }
 
     fn insert(&mut self, known: (), plan: &Gap, ix: ItemIndex) {
-        let blocks = take_waiting(&mut self.blocks, &self.table);
-        self.table.insert_in(plan, ix, blocks);
+        ordered_steps::insert(&mut self.table, &mut self.blocks, plan, ix);
     }
 
     fn next_reported(conflict: &ItemIndex, before: Option<ItemIndex>) -> Option<ItemIndex> {
@@ -339,12 +312,11 @@ where
     }
 
     fn ready_after(&mut self, items: &ItemSet<T>, state: &S) -> Result<(), AllocError> {
-        self.blocks = Some(self.table.blocks_anywhere()?);
-        Ok(())
+        ordered_steps::ready_anywhere(&self.table, &mut self.blocks, items)
     }
 
     fn give_way(&mut self, items: &ItemSet<T>, state: &S, ix: ItemIndex) {
-        take_index::<T, E>(&mut self.table, items, ix);
+        ordered_steps::take_out::<T, E>(&mut self.table, items, ix);
     }
 }
 
@@ -354,7 +326,7 @@ where
     E::Key: Ord,
 {
     fn remove(&mut self, items: &ItemSet<T>, state: &S, ix: ItemIndex) {
-        take_index::<T, E>(&mut self.table, items, ix);
+        ordered_steps::take_out::<T, E>(&mut self.table, items, ix);
     }
 
     fn clear(&mut self) {
@@ -362,7 +334,7 @@ where
     }
 
     fn remap(&mut self, remap: &IndexRemap) {
-        self.table.remap_indexes(remap);
+        ordered_steps::remap::<T>(&mut self.table, remap);
     }
 }
 
@@ -372,7 +344,7 @@ where
     E::Key: Ord,
 {
     ghost use Rattle.std.specs.Prelude.{Ok};
-    ghost use Rattle.iddqd_ord_map.specs.ByOrder.{IsReadyFor, moves};
+    ghost use Rattle.iddqd_ord_map.specs.OrderedSteps.{IsReadyFor, moves};
     ghost use Rattle.iddqd_ord_map.specs.OrderedIndexing.{PlansOrConflicts};
 
     type Move = Move;
@@ -394,10 +366,7 @@ where
     }
 
     fn ready_move(&mut self, items: &ItemSet<T>, state: &S, plan: &Move) -> Result<(), AllocError> {
-        if let Move::Moves = plan {
-            self.blocks = Some(self.table.blocks_anywhere()?);
-        }
-        Ok(())
+        ordered_steps::ready_move(&self.table, &mut self.blocks, items, plan)
     }
 
     fn commit_move(
@@ -409,13 +378,14 @@ where
         ix: ItemIndex,
         item: &T,
     ) {
-        match plan {
-            Move::Stays => (),
-            Move::Moves => {
-                let blocks = take_waiting(&mut self.blocks, &self.table);
-                relocate::<T, E>(&mut self.table, items, ix, item, blocks)
-            }
-        }
+        ordered_steps::commit_move::<T, E>(
+            &mut self.table,
+            &mut self.blocks,
+            items,
+            plan,
+            ix,
+            item,
+        );
     }
 }
 
@@ -424,18 +394,12 @@ where
     E: KeyOf<T>,
     E::Key: Ord,
 {
-    ghost same_are_alike = { λ x y same. same };
-
     fn copied(&self) -> Result<ByOrder<E>, AllocError> {
         Ok(ByOrder {
             table: self.table.clone()?,
             blocks: None,
             of: PhantomData,
         })
-    }
-
-    fn find_same(&self, items: &ItemSet<T>, state: &S, item: &T) -> Option<ItemIndex> {
-        ordered::find::<T, E, ByKey<E::Key>>(&self.table, items, &ByKey(E::key(item)))
     }
 
     fn is_same(item: &T, other: &T) -> bool {
@@ -448,14 +412,19 @@ where
         state: &S,
         compactness: ValidateCompact,
     ) -> Result<(), ValidateRefusal<ValidationError>> {
-        match self.table.validate(items.len(), compactness) {
-            Ok(()) => Ok(()),
-            Err(ValidateRefusal::Invalid(error)) => {
-                let name = "keys";
-                Err(ValidateRefusal::Invalid(ValidationError::Table { name, error }))
-            }
-            Err(ValidateRefusal::Memory(error)) => Err(ValidateRefusal::Memory(error)),
-        }
+        ordered_steps::validate(&self.table, items, compactness)
+    }
+}
+
+impl<T, S, E> FindsSame<T, S> for ByOrder<E>
+where
+    E: KeyOf<T>,
+    E::Key: Ord,
+{
+    ghost same_are_alike = { λ x y same. same };
+
+    fn find_same(&self, items: &ItemSet<T>, state: &S, item: &T) -> Option<ItemIndex> {
+        ordered::find::<T, E, ByKey<E::Key>>(&self.table, items, &ByKey(E::key(item)))
     }
 }
 
@@ -469,5 +438,25 @@ where
 
     fn take_query(&mut self, items: &ItemSet<T>, state: &S, query: Q) -> Option<ItemIndex> {
         take_by::<T, E, Q>(&mut self.table, items, query)
+    }
+}
+
+impl<T, S, E> OrderedAt<Here, T, S> for ByOrder<E>
+where
+    E: KeyOf<T>,
+    E::Key: Ord,
+{
+    type Key = E::Key;
+
+    ghost key_at = { E.key_of };
+
+    fn first_between<Q: OrdQuery<E::Key>>(
+        &self,
+        items: &ItemSet<T>,
+        state: &S,
+        lower: Bound<Q>,
+        upper: Bound<Q>,
+    ) -> Option<ItemIndex> {
+        first_between::<T, E, Q>(&self.table, items, lower, upper)
     }
 }

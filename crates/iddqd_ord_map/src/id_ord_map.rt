@@ -11,7 +11,7 @@ ghost use Rattle.iddqd_map.specs.Calls.{Compacts, Inserts};
 ghost use Rattle.iddqd_map.specs.Map.{empty_map, shares, capacity, room, IsMap, FindsItem, Removes, RemovesAt};
 ghost use Rattle.iddqd_map.specs.Memory.{ReservesItems, ShrinksItems};
 ghost use Rattle.iddqd_order.specs.MapBTreeTable.{order_of};
-ghost use Rattle.iddqd_ord_map.specs.ByOrder.{most_cells};
+ghost use Rattle.iddqd_ord_map.specs.OrderedSteps.{most_cells};
 ghost use Rattle.iddqd_ord_map.specs.OrdMap.{ConflictsAt, OverwritesOne};
 ghost use Rattle.iddqd_ord_map.specs.OrderedIndexing.{Sorts};
 ghost use Rattle.iddqd_by_order.specs.Ordered.{is_equal};

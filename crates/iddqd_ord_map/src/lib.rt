@@ -2,6 +2,8 @@
 #![tactic(auto)]
 
 pub mod by_order;
+pub mod by_order_multi;
 pub mod id_ord_map;
 pub mod ordered_move;
 pub mod ordered_query;
+pub mod ordered_steps;

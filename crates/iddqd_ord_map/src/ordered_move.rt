@@ -5,8 +5,9 @@
 ghost use Rattle.std.specs.Prelude.{◌≡◌, ◌≤◌};
 ghost use Rattle.iddqd.specs.{rebound};
 ghost use Rattle.iddqd_order.specs.MapBTreeTable.{order_of, capacity, move_blocks};
-ghost use Rattle.iddqd_keys.specs.Scan.{HasNoHit, IsLive, IsKeyAt};
-ghost use Rattle.iddqd_ord_map.specs.OrderedIndexing.{PlansOrConflicts, Sorts, has_key};
+ghost use Rattle.iddqd_by_order.specs.Ordered.{IsSortedScan};
+ghost use Rattle.iddqd_keys.specs.Scan.{IsLive, IsKeyAt};
+ghost use Rattle.iddqd_ord_map.specs.OrderedIndexing.{PlansOrConflicts, Sorts};
 
 use iddqd::item_index::ItemIndex;
 use iddqd::item_set::ItemSet;
@@ -51,7 +52,7 @@ where
     }
 }
 
-/// Moves a live index to the place of this item's key, which no item has. It takes no memory but the blocks.
+/// Moves a live index to the place of this item's key, ties by index. It takes no memory but the blocks.
 pub fn relocate<T, E>(
     table: &mut MapBTreeTable,
     items: &ItemSet<T>,
@@ -63,10 +64,9 @@ where
     E: KeyOf<T>,
     E::Key: Ord,
     requires live { IsLive items.now.store ix }
-    requires sorted { Sorts E.key_of E.Key.cmp items.now.store (order_of table.old) }
-    requires new_key { HasNoHit items.now.store (has_key E.key_of E.Key.cmp (E.key_of item.now)) }
+    requires sorted { IsSortedScan E.key_of E.Key.cmp items.now.store (order_of table.old) }
     requires enough { move_blocks table.old ≤ blocks }
-    ensures moved { Sorts E.key_of E.Key.cmp (rebound items.now.store ix item.now) (order_of table.new) }
+    ensures moved { IsSortedScan E.key_of E.Key.cmp (rebound items.now.store ix item.now) (order_of table.new) }
     ensures memory { capacity table.new ≡ capacity table.old }
 {
     let (old_key, new_key) = (key_at::<T, E>(items, ix), E::key(item));

@@ -1,14 +1,16 @@
 //! Look-ups in a table that has a store's indexes in the order of a key, by any query.
 //!
 //! Where the table is sorted by the keys as they are now, and no two items share a key, a look-up
-//! answers as a scan.
+//! answers as a scan. A range needs no such premise: items with equal keys are in it by index.
 ghost use Rattle.std.specs.Prelude.{◌≡◌};
 ghost use Rattle.std.specs.Range.Bound.{bound_map};
-ghost use Rattle.iddqd_order.specs.{capacity, indexes_ahead, order_of};
+ghost use Rattle.iddqd_order.specs.{capacity, indexes_ahead, indexes_left, order_of};
 ghost use Rattle.iddqd_keys.specs.Scan.{AnswersScan, passes_by};
-ghost use Rattle.iddqd_by_order.specs.Ordered.{Takes, is_equal};
+ghost use Rattle.iddqd_by_order.specs.Ordered.{Takes, IsSortedScan, is_equal};
 ghost use Rattle.iddqd_keys.specs.OrderedQuery.{is_between};
-ghost use Rattle.iddqd_by_order.specs.OrderedWalk.{SortsWithin};
+ghost use Rattle.iddqd_by_order.specs.OrderedWalk.{IsFirstHit, SortsWithin};
+ghost use Rattle.iddqd_ord_map.specs.ByOrder.{FindsGreatest, FindsLeast};
+ghost use Rattle.iddqd_ord_map.specs.ByOrderMulti.{Counts};
 ghost use Rattle.iddqd_ord_map.specs.OrderedIndexing.{Sorts};
 
 use iddqd::item_index::ItemIndex;
@@ -16,7 +18,7 @@ use iddqd::item_set::ItemSet;
 use iddqd_by_order::ordered;
 use iddqd_keys::key_of::KeyOf;
 use iddqd_keys::order_query::{OrdQuery, Ranked};
-use iddqd_order::btree_table::{MapBTreeTable, Range};
+use iddqd_order::btree_table::{Iter, MapBTreeTable, Range};
 use std::ops::Bound;
 
 /// The index of the item that has the key for which the query stands.
@@ -66,9 +68,91 @@ where
     E: KeyOf<T>,
     E::Key: Ord,
     Q: OrdQuery<E::Key>,
-    requires { Sorts E.key_of E.Key.cmp items.now.store (order_of table.now) }
+    requires { IsSortedScan E.key_of E.Key.cmp items.now.store (order_of table.now) }
     ensures { let within = is_between (bound_map Q.compare lower) (bound_map Q.compare upper) in
         SortsWithin E.key_of E.Key.cmp within items.now.store (indexes_ahead result) }
 {
     ordered::range::<T, E, Q>(table, items, lower, upper)
+}
+
+/// The index of the item with the least key, and of several such items the least index.
+pub fn first_by<T, E>(table: &MapBTreeTable, items: &ItemSet<T>) -> Option<ItemIndex>
+where
+    E: KeyOf<T>,
+    E::Key: Ord,
+    requires { IsSortedScan E.key_of E.Key.cmp items.now.store (order_of table.now) }
+    ensures { FindsLeast E.key_of E.Key.cmp items.now.store result }
+{
+    table.first()
+}
+
+/// The index of the item with the greatest key, and of several such items the greatest index.
+pub fn last_by<T, E>(table: &MapBTreeTable, items: &ItemSet<T>) -> Option<ItemIndex>
+where
+    E: KeyOf<T>,
+    E::Key: Ord,
+    requires { IsSortedScan E.key_of E.Key.cmp items.now.store (order_of table.now) }
+    ensures { FindsGreatest E.key_of E.Key.cmp items.now.store result }
+{
+    table.last()
+}
+
+/// The live indexes, in the order of the keys, and those with equal keys by index, from both ends. It takes no memory.
+pub fn iter_by<'t, T, E>(table: &'t MapBTreeTable, items: &ItemSet<T>) -> Iter<'t>
+where
+    E: KeyOf<T>,
+    E::Key: Ord,
+    requires { IsSortedScan E.key_of E.Key.cmp items.now.store (order_of table.now) }
+    ensures { IsSortedScan E.key_of E.Key.cmp items.now.store (indexes_left result) }
+{
+    table.iter()
+}
+
+/// The indexes whose items have the key for which the query stands, by index, from both ends.
+///
+/// It compares the query with at most 8 + 4d keys, where the length has d binary digits, and takes no memory.
+pub fn group_by<'t, T, E, Q>(table: &'t MapBTreeTable, items: &ItemSet<T>, query: Q) -> Range<'t>
+where
+    E: KeyOf<T>,
+    E::Key: Ord,
+    Q: OrdQuery<E::Key>,
+    requires { IsSortedScan E.key_of E.Key.cmp items.now.store (order_of table.now) }
+    ensures { SortsWithin E.key_of E.Key.cmp (is_equal (Q.compare query)) items.now.store (indexes_ahead result) }
+{
+    range_by::<T, E, Q>(table, items, Bound::Included(query), Bound::Included(query))
+}
+
+/// How many items have the key for which the query stands. It is one step more for each of them than `group_by`.
+pub fn count_by<T, E, Q>(table: &MapBTreeTable, items: &ItemSet<T>, query: Q) -> usize
+where
+    E: KeyOf<T>,
+    E::Key: Ord,
+    Q: OrdQuery<E::Key>,
+    requires { IsSortedScan E.key_of E.Key.cmp items.now.store (order_of table.now) }
+    ensures { Counts E.key_of E.Key.cmp (is_equal (Q.compare query)) items.now.store result }
+{
+    // The table counts its indexes in 64 bits.
+    let _len = table.len();
+    let (from, to) = (Bound::Included(query), Bound::Included(query));
+    ordered::range::<T, E, Q>(table, items, from, to).count()
+}
+
+/// The first index whose item has a key within the bounds, by key and then by index.
+///
+/// It compares each query with at most 4 + 2d keys, where the length has d binary digits.
+pub fn first_between<T, E, Q>(
+    table: &MapBTreeTable,
+    items: &ItemSet<T>,
+    lower: Bound<Q>,
+    upper: Bound<Q>,
+) -> Option<ItemIndex>
+where
+    E: KeyOf<T>,
+    E::Key: Ord,
+    Q: OrdQuery<E::Key>,
+    requires { IsSortedScan E.key_of E.Key.cmp items.now.store (order_of table.now) }
+    ensures { let within = is_between (bound_map Q.compare lower) (bound_map Q.compare upper) in
+        IsFirstHit E.key_of E.Key.cmp items.now.store (passes_by E.key_of within) result }
+{
+    range_by::<T, E, Q>(table, items, lower, upper).next()
 }

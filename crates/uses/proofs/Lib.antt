@@ -1,2 +1,3 @@
 pub mod RegistryLemmas
 pub mod CalendarLemmas
+pub mod LedgerLemmas

@@ -11,6 +11,7 @@ mod guests;
 mod hall;
 mod hashers;
 mod leases;
+mod ledger;
 mod lockers;
 mod registry;
 mod routes;
@@ -46,6 +47,7 @@ fn print_all(rt: &(impl Print + RandomSource), alloc: Global) -> io::Result<()> 
     print(rt, seats::line(alloc))?;
     print(rt, devices::line(alloc))?;
     print(rt, sessions::line(alloc))?;
+    print(rt, ledger::line(alloc))?;
     print(rt, calendar::line(alloc))?;
     print(rt, registry::line(alloc))
 }

@@ -6,7 +6,8 @@ use super::clash::BiClash;
 use super::item::{BiHashItem, First, Second};
 use crate::by_hash::ByHash;
 use crate::key_index::{
-    AsksAt, Checks, HashedAt, Here, Inserts, KeyIndex, Left, Moves, Removes, Right, Sizes, TakesAt,
+    AsksAt, Checks, FindsSame, HashedAt, Here, Inserts, KeyIndex, Left, Moves, Removes, Right,
+    Sizes, TakesAt,
 };
 use crate::pair::Pair;
 use iddqd::index_remap::IndexRemap;
@@ -282,17 +283,10 @@ impl<T: BiHashItem, S: BuildHasher> Moves<T, S> for BiIndex<T> {
 }
 
 impl<T: BiHashItem, S: BuildHasher> Checks<T, S> for BiIndex<T> {
-    ghost use Rattle.iddqd_map.specs.Map.{shares};
-    ghost use Rattle.iddqd_map.specs.PairLaws.{alike_both};
-
     fn copied(&self) -> Result<BiIndex<T>, AllocError> {
         Ok(BiIndex {
             tables: <Tables<T> as Checks<T, S>>::copied(&self.tables)?,
         })
-    }
-
-    fn find_same(&self, items: &ItemSet<T>, state: &S, item: &T) -> Option<ItemIndex> {
-        self.tables.find_same(items, state, item)
     }
 
     fn is_same(item: &T, other: &T) -> bool {
@@ -306,6 +300,15 @@ impl<T: BiHashItem, S: BuildHasher> Checks<T, S> for BiIndex<T> {
         compactness: ValidateCompact,
     ) -> Result<(), ValidateRefusal<ValidationError>> {
         self.tables.validate(items, state, compactness)
+    }
+}
+
+impl<T: BiHashItem, S: BuildHasher> FindsSame<T, S> for BiIndex<T> {
+    ghost use Rattle.iddqd_map.specs.Map.{shares};
+    ghost use Rattle.iddqd_map.specs.PairLaws.{alike_both};
+
+    fn find_same(&self, items: &ItemSet<T>, state: &S, item: &T) -> Option<ItemIndex> {
+        self.tables.find_same(items, state, item)
     }
 
     ghost same_are_alike = { let first = shares T.first_key T.Key1.eq in

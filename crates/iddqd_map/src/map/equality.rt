@@ -5,9 +5,9 @@ ghost use Rattle.std.specs.List.{list_any};
 ghost use Rattle.iddqd.specs.LiveItems.{live_items};
 
 use super::Map;
-use crate::key_index::Checks;
+use crate::key_index::FindsSame;
 
-impl<T: PartialEq, X: Checks<T, S>, S> Map<T, X, S> {
+impl<T: PartialEq, X: FindsSame<T, S>, S> Map<T, X, S> {
     // Whether an equal item is stored under the same keys.
     fn has(&self, item: &T) -> bool
         ensures { result ≡ list_any (eq_of_both X.same_keys T.eq item.now) (live_items self.now.store) }
@@ -21,7 +21,7 @@ impl<T: PartialEq, X: Checks<T, S>, S> Map<T, X, S> {
 
 /// Two maps are equal if they have equally many items, and each item of one equals the one with the same keys in the
 /// other. It looks up each item of one map once, by its first key alone, and compares the other keys.
-impl<T: PartialEq, X: Checks<T, S>, S> PartialEq for Map<T, X, S> {
+impl<T: PartialEq, X: FindsSame<T, S>, S> PartialEq for Map<T, X, S> {
     ghost use Rattle.iddqd_map.specs.Equality.{has_same_items};
     ghost use Rattle.iddqd_map.specs.EqualityLaws.{map_laws};
 
@@ -34,7 +34,7 @@ impl<T: PartialEq, X: Checks<T, S>, S> PartialEq for Map<T, X, S> {
     }
 }
 
-impl<T: Eq, X: Checks<T, S>, S> Eq for Map<T, X, S> {
+impl<T: Eq, X: FindsSame<T, S>, S> Eq for Map<T, X, S> {
     ghost use Rattle.iddqd_map.specs.EqualityLaws.{map_equivalence};
 
     ghost laws = { map_equivalence X.same_keys T.eq X.equivalence T.Eq.laws };

@@ -65,13 +65,3 @@ pub(super) fn put_into<T>(places: &mut [Option<T>], at: usize, taken: Option<T>)
         Some(_) => unreachable!(),
     }
 }
-
-/// Drops a place that has nothing, whatever its items are.
-pub(crate) fn drop_vacant<T>(place: Option<T>)
-    requires { place ≡ None }
-{
-    match place {
-        None => {}
-        Some(_) => unreachable!(),
-    }
-}

@@ -6,7 +6,8 @@ use super::clash::TriClash;
 use super::item::{First, Second, Third, TriHashItem};
 use crate::by_hash::ByHash;
 use crate::key_index::{
-    AsksAt, Checks, HashedAt, Here, Inserts, KeyIndex, Left, Moves, Removes, Right, Sizes, TakesAt,
+    AsksAt, Checks, FindsSame, HashedAt, Here, Inserts, KeyIndex, Left, Moves, Removes, Right,
+    Sizes, TakesAt,
 };
 use crate::pair::Pair;
 use iddqd::index_remap::IndexRemap;
@@ -318,18 +319,10 @@ impl<T: TriHashItem, S: BuildHasher> Moves<T, S> for TriIndex<T> {
 }
 
 impl<T: TriHashItem, S: BuildHasher> Checks<T, S> for TriIndex<T> {
-    ghost use Rattle.iddqd_map.specs.Map.{shares};
-    ghost use Rattle.iddqd_map.specs.PairLaws.{alike_both};
-    ghost use Rattle.iddqd_map.specs.Several.{either_key, both_keys};
-
     fn copied(&self) -> Result<TriIndex<T>, AllocError> {
         Ok(TriIndex {
             tables: <Tables<T> as Checks<T, S>>::copied(&self.tables)?,
         })
-    }
-
-    fn find_same(&self, items: &ItemSet<T>, state: &S, item: &T) -> Option<ItemIndex> {
-        self.tables.find_same(items, state, item)
     }
 
     fn is_same(item: &T, other: &T) -> bool {
@@ -343,6 +336,16 @@ impl<T: TriHashItem, S: BuildHasher> Checks<T, S> for TriIndex<T> {
         compactness: ValidateCompact,
     ) -> Result<(), ValidateRefusal<ValidationError>> {
         self.tables.validate(items, state, compactness)
+    }
+}
+
+impl<T: TriHashItem, S: BuildHasher> FindsSame<T, S> for TriIndex<T> {
+    ghost use Rattle.iddqd_map.specs.Map.{shares};
+    ghost use Rattle.iddqd_map.specs.PairLaws.{alike_both};
+    ghost use Rattle.iddqd_map.specs.Several.{either_key, both_keys};
+
+    fn find_same(&self, items: &ItemSet<T>, state: &S, item: &T) -> Option<ItemIndex> {
+        self.tables.find_same(items, state, item)
     }
 
     ghost same_are_alike = { let first = shares T.first_key T.Key1.eq in

@@ -1,7 +1,7 @@
 //! The check of a map's parts, which the invariant makes sound.
 ghost use Rattle.std.specs.Prelude.{length, IfErr};
 ghost use Rattle.iddqd.specs.{Allows, Validates};
-ghost use Rattle.iddqd.specs.Validation.{Reports, not_compact_text};
+ghost use Rattle.iddqd.specs.Validation.{Tells, not_compact_text};
 
 use super::{IdOrdItem, IdOrdMap};
 use iddqd::internal::{ValidateCompact, ValidateRefusal, ValidationError};
@@ -16,7 +16,7 @@ impl<T: IdOrdItem> IdOrdMap<T> {
     ) -> Result<(), ValidateRefusal<ValidationError>>
         ensures allows { Validates (Allows compactness (length self.now.store.free)) result }
         ensures not_compact { (Allows compactness (length self.now.store.free) → ⊥)
-            → IfErr result (Reports (not_compact_text (length self.now.store.free))) }
+            → IfErr result (Tells (not_compact_text (length self.now.store.free))) }
     {
         self.map.validate(compactness)
     }

@@ -4,17 +4,17 @@ use Rattle.iddqd_order.specs.MapBTreeTable.{order_of}
 use Rattle.iddqd_order.proofs.AskLemmas.{CanAsk-by, Steady-by}
 use Rattle.iddqd_keys.specs.Scan.{IsLive, IsKeyAt}
 use Rattle.iddqd_by_order.proofs.OrderedFindLemmas.{answer_at}
-use Rattle.iddqd_ord_map.proofs.OrderedMoveLemmas.{Sorts-put_in}
+use Rattle.iddqd_ord_map.proofs.OrderedMoveLemmas.{IsSortedScan-put_in}
 use Rattle.iddqd_ord_map.proofs.ordered_move.relocate.Goals as goal
 
 pub move_index-requires-clause-stored : goal.move_index-requires-clause-stored
-move_index-requires-clause-stored g c = (c.requires.sorted.held.each c.args.ix).1 c.requires.live
+move_index-requires-clause-stored g c = (c.requires.sorted.holds.each c.args.ix).1 c.requires.live
 
 pub move_index-requires-clause-can_search : goal.move_index-requires-clause-can_search
 move_index-requires-clause-can_search g c =
     CanAsk-by _ _ (λ f. f ≡ closure_of c.new-asking.result) (λ f f' ix r i h e. search rules)
     (λ f ix i h.
-    let live : IsLive c.args.items.now.store ix = (c.requires.sorted.held.each ix).0 h.0 in
+    let live : IsLive c.args.items.now.store ix = (c.requires.sorted.holds.each ix).0 h.0 in
     search rules)
     _ refl
 
@@ -26,7 +26,7 @@ returns-clause-moved g c =
     let order = order_of c.args.table.now in
     let item = c.args.item.now in
     let new_key = c.key-new_key.result.now in
-    Sorts-put_in key_of compare g.met.E.Key.Ord.total s order c.requires.sorted c.args.ix item c.key_at-old_key.ensures.0 c.key_at-old_key.ensures.1 c.requires.new_key _ _
+    IsSortedScan-put_in key_of compare g.met.E.Key.Ord.total s order c.requires.sorted c.args.ix item c.key_at-old_key.ensures.0 c.key_at-old_key.ensures.1 _ _
     order c.args.ix c.new-asking.result (order_of c.move_index.new.self) _ refl refl
     (Steady-by _ _ (λ f. f ≡ closure_of c.new-asking.result) (λ f f' ix r i h e. search rules) _ _
     (λ f f' ix r i h e.

@@ -1,7 +1,6 @@
 use Rattle.iddqd_order.specs.MapBTreeTable.{order_of}
-use Rattle.iddqd_ord_map.proofs.ByOrderLemmas.{FindsGreatest-last}
+use Rattle.iddqd_ord_map.specs.ByOrderLaws.{Sorts-scan}
 use Rattle.iddqd_ord_map.proofs.by_order.ByOrder.last.Goals as goal
 
-pub returns : goal.returns
-returns g c =
-    FindsGreatest-last g.E.KeyOf.key_of g.E.Key.Ord.cmp g.met.E.Key.Ord.total c.args.items.now.store (order_of c.args.self.now.table) c.requires c.last.result c.last.ensures
+pub last_by-requires : goal.last_by-requires
+last_by-requires g c = Sorts-scan _ _ c.args.items.now.store (order_of c.args.self.now.table) c.requires

@@ -1,17 +1,19 @@
-use Rattle.std.proofs.Common.{◌≤◌, subst, sym}
 use Rattle.iddqd.proofs.LiveLemmas.{item_at}
-use Rattle.iddqd_order.specs.MapBTreeTable.{order_of, move_blocks}
-use Rattle.iddqd_ord_map.specs.ByOrderLaws.{Sorts-kept}
+use Rattle.iddqd_order.specs.MapBTreeTable.{order_of}
+use Rattle.iddqd_ord_map.specs.ByOrderLaws.{Sorts-scan, Sorts-apart}
+use Rattle.iddqd_ord_map.proofs.ByOrderLemmas.{stays_by_key, IsApart-planned}
 use Rattle.iddqd_ord_map.proofs.by_order.ByOrderMoves.commit_move.Goals as goal
 
-pub returns-in-Stays-clause-indexed : goal.returns-in-Stays-clause-indexed
-returns-in-Stays-clause-indexed g c =
+pub commit_move-requires-clause-sorted : goal.commit_move-requires-clause-sorted
+commit_move-requires-clause-sorted g c = Sorts-scan _ _ c.args.items.now.store (order_of c.args.self.now.table) c.requires.indexed
+
+pub commit_move-requires-clause-stays : goal.commit_move-requires-clause-stays
+commit_move-requires-clause-stays g c =
+    stays_by_key g.E.KeyOf.key_of g.E.Key.Ord.cmp c.args.items.now.store c.args.ix c.args.item.now c.args.plan.now c.requires.planned
+
+pub returns-clause-indexed : goal.returns-clause-indexed
+returns-clause-indexed g c =
     let s = c.args.items.now.store in
     let (was, live) = item_at s c.args.ix c.requires.live in
-    let kept = rw c.in-Stays.is at c.requires.planned in
-    Sorts-kept g.E.KeyOf.key_of g.E.Key.Ord.cmp g.met.E.Key.Ord.total s (order_of c.args.self.now.table) c.requires.indexed c.args.ix c.args.item.now was live kept
-
-pub relocate-requires-clause-enough : goal.relocate-requires-clause-enough
-relocate-requires-clause-enough g c =
-    let ready = rw c.in-Moves.is at c.requires.ready in
-    subst (λ blocks. move_blocks c.args.self.now.table ≤ blocks) (sym c.take_waiting-blocks.ensures) ready
+    Sorts-apart _ _ _ _ c.commit_move.ensures.moved
+    (IsApart-planned g.E.KeyOf.key_of g.E.Key.Ord.cmp g.met.E.Key.Ord.total s (order_of c.args.self.now.table) c.requires.indexed c.args.ix c.args.item.now was live c.args.plan.now c.requires.planned)

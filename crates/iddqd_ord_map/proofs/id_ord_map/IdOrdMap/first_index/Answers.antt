@@ -1,7 +1,8 @@
 use Rattle.std.proofs.Common.{subst}
 use Rattle.iddqd_order.specs.MapBTreeTable.{order_of}
 use Rattle.iddqd_ord_map.specs.ByOrder.{FindsLeast}
-use Rattle.iddqd_ord_map.proofs.ByOrderLemmas.{FindsLeast-first}
+use Rattle.iddqd_ord_map.specs.ByOrderLaws.{Sorts-scan}
+use Rattle.iddqd_ord_map.proofs.SortedScanLemmas.{FindsLeast-first}
 use Rattle.iddqd_ord_map.proofs.id_ord_map.IdOrdMap.first_index.Goals as goal
 
 pub returns : goal.returns
@@ -9,4 +10,4 @@ returns g c =
     let key_of = g.T.IdOrdItem.key_of in
     let compare = g.T.Key.Ord.cmp in
     subst (λ s. FindsLeast key_of compare s c.first.result) c.parts.ensures.items
-    (FindsLeast-first key_of compare g.met.T.Key.Ord.total c.parts.result.0.now.store (order_of c.parts.result.1.now) c.parts.ensures.sorted c.first.result c.first.ensures)
+    (FindsLeast-first key_of compare _ _ (Sorts-scan key_of compare c.parts.result.0.now.store (order_of c.parts.result.1.now) c.parts.ensures.sorted) g.met.T.Key.Ord.total c.first.result c.first.ensures)

@@ -14,7 +14,7 @@ returns-then-len g c =
     let equal = g.T.PartialEq.eq in
     let s = c.args.self.now.store in
     let t = c.args.other.now.store in
-    let stronger = g.met.X.Checks.same_are_alike in
+    let stronger = g.met.X.FindsSame.same_are_alike in
     let apart_s = AreApart-stronger same g.X.KeyIndex.alike stronger s c.len.ensures.state.apart in
     let apart_t = AreApart-stronger same g.X.KeyIndex.alike stronger t c.len-2.ensures.state.apart in
     all_from_yields_List (λ x. list_any (eq_of_both same equal x) (live_items t)) _ _ c.all.result c.all.ensures.ran
@@ -28,7 +28,7 @@ returns-else-len g c =
     let same = g.X.KeyIndex.same_keys in
     let s = c.args.self.now.store in
     let t = c.args.other.now.store in
-    let stronger = g.met.X.Checks.same_are_alike in
+    let stronger = g.met.X.FindsSame.same_are_alike in
     let apart_s = AreApart-stronger same g.X.KeyIndex.alike stronger s c.len.ensures.state.apart in
     let apart_t = AreApart-stronger same g.X.KeyIndex.alike stronger t c.len-2.ensures.state.apart in
     differs c.len.result c.len-2.result c.if-len.false

@@ -1,0 +1,107 @@
+-- For maps: what calls leave that remove the items whose keys are within bounds, one after the other.
+use Rattle.std.proofs.Common.{◌≡◌, ◌≢◌, ◌∙◌, ◌+◌, inl, inr, ℕ, Bool, true, List, [], ◌∷◌, Some, None, refl, sym, subst, Ordering, arith, length-set}
+use Rattle.std.specs.Cmp.{IsTotalOrder}
+use Rattle.std.specs.List.{Contains, FoldsTo}
+use Rattle.std.specs.declared.ops.Bound.TheVariants.{Included}
+use Rattle.std.proofs.lemmas.Bool.{cases_eq}
+use Rattle.iddqd.specs.Store.{Store, IsValid, get, live_count, removed}
+use Rattle.iddqd.proofs.LiveLemmas.{get-removed_at, get-removed_other}
+use Rattle.iddqd_keys.specs.OrderedQuery.{is_equal}
+use Rattle.iddqd_keys.specs.OrderedQuery.{is_between}
+use Rattle.iddqd_keys.specs.KeyWalk.{SortsWithin, IsFirstHit, pairs_at}
+use Rattle.iddqd_keys.specs.Scan.{IsHit, HasNoHit, passes_by}
+use Rattle.iddqd_keys.proofs.KeyWalkLemmas.{SortsWithin-none, SortsWithin-first, hit_before, hit_still, pairs_at-alike}
+use Rattle.iddqd_keys.proofs.KeyWalkLemmas.{between_equal}
+use Rattle.iddqd_keys.proofs.KeyWalkLemmas.{pairs_at-first}
+use Rattle.iddqd_map.specs.Ranges.{LeavesOthers, RemovesAlong}
+use Rattle.iddqd_map.specs.Several.{removed_all}
+
+-- one item fewer is left
+pub live_count-removed :
+    {T : Type 0} (s now : Store T) (ix : ℕ)
+    → now ≡ removed s ix
+    → IsValid s
+    → IsValid now
+    → live_count s ≡ live_count now + 1
+live_count-removed s now ix gone valid after =
+    let was = valid.counted in
+    let is = (rw gone at after).counted in
+    rw gone (omega (arith, was, is, length-set s.items ix None))
+
+module _ {T : Type 0} (test : T → Bool) where
+  pub LeavesOthers-none : (s : Store T) → HasNoHit s test → LeavesOthers s test s
+  LeavesOthers-none s none = record { gone = λ j hit. absurd (none j hit); others = λ j other. refl }
+
+module _
+    {T K : Type 0} (key_of : T → K) (compare : K → K → Ordering) (total : IsTotalOrder compare) (within : K → Bool)
+  where
+    -- the first was removed, and then the others
+    pub LeavesOthers-first :
+        (s now new : Store T) (ix : ℕ)
+        → IsFirstHit key_of compare s (passes_by key_of within) (Some ix)
+        → now ≡ removed s ix
+        → LeavesOthers now (passes_by key_of within) new
+        → LeavesOthers s (passes_by key_of within) new
+    LeavesOthers-first s now new ix first gone leaves =
+        let left : LeavesOthers (removed s ix) (passes_by key_of within) new = rw gone at leaves in
+        record {
+          gone = λ j hit. elim (cases_eq j ix) [
+            | inl same ↦ rw same (
+                left.others ix (λ still. (hit_before key_of compare s within total ix first ix still).0 refl)
+                ∙ get-removed_at s ix first.0.0 first.0.1
+                )
+            | inr apart ↦ left.gone j (hit_still key_of compare s within total ix first j apart hit)
+          ];
+          others = λ j other.
+              let apart : j ≢ ix = λ same. other (rw same first.0) in
+              left.others j (λ hit. other (hit_before key_of compare s within total ix first j hit).1) ∙ get-removed_other s ix j apart;
+        }
+
+    module _ {F : Type 0} (give : F → T → F → Type 0) where
+      pub RemovesAlong-none :
+          (f : F) (s : Store T)
+          → HasNoHit s (passes_by key_of within)
+          → RemovesAlong key_of compare within give f s s f
+      RemovesAlong-none f s none = record {
+        indexes = [];
+        sorted = SortsWithin-none key_of compare s within none;
+        given = refl;
+        left = refl;
+      }
+
+      pub RemovesAlong-first :
+          (f next last : F) (s now new : Store T) (ix : ℕ) (item : T)
+          → IsFirstHit key_of compare s (passes_by key_of within) (Some ix)
+          → get s ix ≡ Some item
+          → now ≡ removed s ix
+          → give f item next
+          → RemovesAlong key_of compare within give next now new last
+          → RemovesAlong key_of compare within give f s new last
+      RemovesAlong-first f next last s now new ix item first live gone given along =
+          let then : RemovesAlong key_of compare within give next (removed s ix) new last = rw gone at along in
+          let rest = then.indexes in
+          let same : pairs_at (removed s ix) rest ≡ pairs_at s rest =
+          pairs_at-alike s (removed s ix) rest (λ j there.
+          get-removed_other s ix j (hit_before key_of compare s within total ix first j ((then.sorted.each j).0 there)).0) in
+          let pairs : pairs_at s (ix ∷ rest) ≡ (ix, item) ∷ pairs_at s rest = pairs_at-first s (ix ∷ rest) rest ix item refl live in
+          record {
+            indexes = ix ∷ rest;
+            sorted = SortsWithin-first key_of compare s within total ix first rest then.sorted;
+            given = rw pairs (next, given, rw same at then.given);
+            left = then.left;
+          }
+
+-- between a query and itself are the keys at which it is Equal
+module _ {T K : Type 0} (key_of : T → K) (comparing : K → Ordering) (old new : Store T) where
+  pub LeavesOthers-group :
+      LeavesOthers old (passes_by key_of (is_between (Included comparing) (Included comparing))) new
+      → LeavesOthers old (passes_by key_of (is_equal comparing)) new
+  LeavesOthers-group leaves =
+      subst (λ within. LeavesOthers old (passes_by key_of within) new) (between_equal comparing) leaves
+
+  pub RemovesAlong-group :
+      {F : Type 0} (compare : K → K → Ordering) (give : F → T → F → Type 0) (f last : F)
+      → RemovesAlong key_of compare (is_between (Included comparing) (Included comparing)) give f old new last
+      → RemovesAlong key_of compare (is_equal comparing) give f old new last
+  RemovesAlong-group compare give f last along =
+      subst (λ within. RemovesAlong key_of compare within give f old new last) (between_equal comparing) along

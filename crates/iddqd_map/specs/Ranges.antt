@@ -1,0 +1,38 @@
+-- The items whose keys are within bounds, in their order: the first, the next, and calls that remove them.
+use Rattle.std.specs.Prelude.{◌≡◌, ℕ, Bool, List, None}
+use Rattle.std.specs.Fn.{Mut, Called, Takes}
+use Rattle.std.specs.List.{FoldsTo}
+use Rattle.std.specs.declared.cmp.Ordering.{Ordering}
+use Rattle.iddqd.specs.Store.{Store, get}
+use Rattle.iddqd_keys.specs.KeyWalk.{SortsWithin, pairs_at}
+use Rattle.iddqd_keys.specs.Scan.{IsHit}
+use Rattle.iddqd_map.specs.Retain.{MayAsk}
+use Rattle.iddqd_map.specs.Several.{removed_all}
+
+module _ {T : Type 0} where
+  -- the items that pass were removed, and all others stay under their indexes
+  pub record LeavesOthers (old : Store T) (test : T → Bool) (new : Store T) : Type 0 where
+    pub gone : (ix : ℕ) → IsHit old test ix → get new ix ≡ None
+    pub others : (ix : ℕ) → (IsHit old test ix → ⊥) → get new ix ≡ get old ix
+
+-- what a closure takes that is handed an item, and what such a call leaves, as asks without an answer
+abbrev pub TakesItem : {F T : Type 0} → Mut F (T × Unit {0}) (Unit {0}) → F → T → Type 0
+TakesItem g f x = Takes g f (x, tt)
+
+abbrev pub GivesItem : {F T : Type 0} → Mut F (T × Unit {0}) (Unit {0}) → F → T → F → Type 0
+GivesItem g f x f' = Called g f (x, tt) tt f'
+
+-- each of the items may be handed to f, and again after any such calls
+abbrev pub MayGive : {F T : Type 0} → Mut F (T × Unit {0}) (Unit {0}) → F → List T → Type 0
+MayGive g f items = MayAsk (TakesItem g) (λ p x (b : Bool) q. GivesItem g p x q) f items
+
+-- `give p x q` says that a call of f in the state p, which is handed x, may leave the state q
+module _ {F T K : Type 0} (key_of : T → K) (compare : K → K → Ordering) (within : K → Bool)
+    (give : F → T → F → Type 0) where
+  -- The items whose keys are within were removed, and each was handed to f, by key and then by index, each time in the
+  -- state that the call before left.
+  pub record RemovesAlong (f : F) (old new : Store T) (last : F) : Type 0 where
+    pub indexes : List ℕ
+    pub sorted : SortsWithin key_of compare within old indexes
+    pub given : FoldsTo (λ p a q. give p a.1 q) f (pairs_at old indexes) last
+    pub left : new ≡ removed_all old indexes

@@ -1,0 +1,111 @@
+//! The items whose keys by an order are within bounds, at a place of the key index: they leave the map.
+//!
+//! Each item is found by one search of that order, and taken out of each key index by one removal. No memory is taken.
+ghost use Rattle.std.specs.Prelude.{◌≡◌, ◌≤◌, ◌+◌, Bool};
+ghost use Rattle.std.specs.Range.Bound.{bound_map};
+ghost use Rattle.iddqd.specs.{live_count};
+ghost use Rattle.iddqd.specs.LiveItems.{live_items};
+ghost use Rattle.iddqd_hash.specs.Asks.{CanAsk};
+ghost use Rattle.iddqd_keys.specs.OrderedQuery.{is_equal};
+ghost use Rattle.iddqd_keys.specs.OrderedQuery.{is_between};
+ghost use Rattle.iddqd_keys.specs.Scan.{passes_by};
+ghost use Rattle.iddqd_map.specs.KeyIndex.{IsIndexed};
+ghost use Rattle.iddqd_map.specs.Map.{room};
+ghost use Rattle.iddqd_map.specs.Ranges.{LeavesOthers, TakesItem, GivesItem, MayGive, RemovesAlong};
+
+use super::Map;
+use super::steps::take_out;
+use crate::key_index::{KeyIndex, OrderedAt, Removes};
+use iddqd::item_set::ItemSet;
+use iddqd_keys::order_query::OrdQuery;
+use std::ops::Bound;
+
+impl<T, X: KeyIndex<T, S>, S> Map<T, X, S> {
+    /// Removes the items whose keys at the place are within the bounds, and returns how many they were.
+    ///
+    /// The closure is handed each of them, by key and then by index. No memory is taken. It costs, for each item, a
+    /// search by that key, and a removal from each key index.
+    pub fn remove_range_by<P, Q, F: FnMut(T)>(
+        &mut self,
+        lower: Bound<Q>,
+        upper: Bound<Q>,
+        mut f: F,
+    ) -> usize
+    where
+        X: OrderedAt<P, T, S> + Removes<T, S>,
+        Q: OrdQuery<X::Key>,
+        requires { MayGive F.FnMut f (live_items self.old.store) }
+        ensures left { let within = is_between (bound_map Q.compare lower) (bound_map Q.compare upper) in
+            LeavesOthers self.old.store (passes_by X.key_at within) self.new.store }
+        ensures handed { let within = is_between (bound_map Q.compare lower) (bound_map Q.compare upper) in
+            (last : F) × RemovesAlong X.key_at X.Key.cmp within (GivesItem F.FnMut) f self.old.store self.new.store
+            last }
+        ensures memory { self.new.memory ≡ self.old.memory }
+        ensures room { room self.old ≤ room self.new }
+        ensures count { result + live_count self.new.store ≡ live_count self.old.store }
+    {
+        let before = self.items.len();
+        remove_within::<P, T, S, X, Q, F>(
+            &mut self.items,
+            &mut self.indexes,
+            &self.state,
+            lower,
+            upper,
+            &mut f,
+        );
+        before - self.items.len()
+    }
+
+    /// Removes the items that have the key for which the query stands, and returns how many they were; else as
+    /// `remove_range_by`. The closure is handed each of them, by index.
+    pub fn remove_group_by<P, Q, F: FnMut(T)>(&mut self, query: Q, f: F) -> usize
+    where
+        X: OrderedAt<P, T, S> + Removes<T, S>,
+        Q: OrdQuery<X::Key>,
+        requires { MayGive F.FnMut f (live_items self.old.store) }
+        ensures left { LeavesOthers self.old.store (passes_by X.key_at (is_equal (Q.compare query))) self.new.store }
+        ensures handed { (last : F) × RemovesAlong X.key_at X.Key.cmp (is_equal (Q.compare query))
+            (GivesItem F.FnMut) f self.old.store self.new.store last }
+        ensures memory { self.new.memory ≡ self.old.memory }
+        ensures room { room self.old ≤ room self.new }
+        ensures count { result + live_count self.new.store ≡ live_count self.old.store }
+    {
+        let (from, to) = (Bound::Included(query), Bound::Included(query));
+        self.remove_range_by::<P, Q, F>(from, to, f)
+    }
+}
+
+// Removes the items whose keys are within the bounds, and hands each to the closure, which is left as its last call
+// leaves it.
+fn remove_within<P, T, S, X, Q, F: FnMut(T)>(
+    items: &mut ItemSet<T>,
+    indexes: &mut X,
+    state: &S,
+    lower: Bound<Q>,
+    upper: Bound<Q>,
+    f: &mut F,
+)
+where
+    X: OrderedAt<P, T, S> + Removes<T, S>,
+    Q: OrdQuery<X::Key>,
+    requires indexed { IsIndexed (X.indexes indexes.old) state.now items.old.store }
+    requires can_give { CanAsk (TakesItem F.FnMut) (λ p x (b : Bool) q. GivesItem F.FnMut p x q) f.old
+        (live_items items.old.store) }
+    ensures indexed { IsIndexed (X.indexes indexes.new) state.now items.new.store }
+    ensures left { let within = is_between (bound_map Q.compare lower) (bound_map Q.compare upper) in
+        LeavesOthers items.old.store (passes_by X.key_at within) items.new.store }
+    ensures handed { let within = is_between (bound_map Q.compare lower) (bound_map Q.compare upper) in
+        RemovesAlong X.key_at X.Key.cmp within (GivesItem F.FnMut) f.old items.old.store items.new.store f.new }
+    ensures fewer { live_count items.new.store ≤ live_count items.old.store }
+    ensures limit { items.new.store.limit ≡ items.old.store.limit }
+    ensures slots { items.new.capacity ≡ items.old.capacity }
+    ensures capacity { X.capacity indexes.new ≡ X.capacity indexes.old }
+    ensures cells { X.cells indexes.new ≡ X.cells indexes.old }
+{
+    while let Some(ix) = indexes.first_between(items, state, lower, upper) {
+        match take_out(items, indexes, state, ix) {
+            Some(item) => f(item),
+            None => unreachable!(),
+        }
+    }
+}

@@ -1,0 +1,49 @@
+-- An index by the order of a key that several items may have: where it puts an index, and what it finds.
+use Rattle.std.specs.Prelude.{◌≡◌, ◌≤◌, ℕ, Bool, false, not, List, Option, Some, None, length}
+use Rattle.std.specs.Ordering.{eq_by_cmp}
+use Rattle.std.specs.declared.cmp.Ordering.{Ordering}
+use Rattle.iddqd.specs.Store.{Store, next_index}
+use Rattle.iddqd_order.specs.MapBTreeTable.{Order, order_of}
+use Rattle.iddqd_order.specs.Gap.{Fits, gap_place}
+use Rattle.iddqd_order.specs.Search.{IsPlace, with_ties}
+use Rattle.iddqd_order.specs.declared.btree_table.gap.Gap.{Gap}
+use Rattle.iddqd_keys.specs.Scan.{IsHit, HasNoHit}
+use Rattle.iddqd_by_order.specs.Ordered.{compared, key_at}
+use Rattle.iddqd_by_order.specs.OrderedWalk.{SortsWithin}
+use Rattle.iddqd_ord_map.specs.OrderedIndexing.{has_key}
+use Rattle.iddqd_ord_map.specs.declared.ordered_move.Move.{Move}
+use Rattle.iddqd_ord_map.specs.declared.ordered_move.Move.TheVariants.{Stays, Moves}
+
+-- no two items are alike: none is refused for its key
+abbrev pub never_alike : {T : Type 0} → T → T → Bool
+never_alike x y = false
+
+module _ {T : Type 0} where
+  -- the least of the live indexes whose items pass, or the greatest: none where none passes
+  abbrev pub IsLeastHit : Store T → (T → Bool) → Option ℕ → Type 0
+  IsLeastHit s test (Some ix) = IsHit s test ix × ((j : ℕ) → IsHit s test j → ix ≤ j)
+  IsLeastHit s test None = HasNoHit s test
+
+  abbrev pub IsGreatestHit : Store T → (T → Bool) → Option ℕ → Type 0
+  IsGreatestHit s test (Some ix) = IsHit s test ix × ((j : ℕ) → IsHit s test j → j ≤ ix)
+  IsGreatestHit s test None = HasNoHit s test
+
+module _ {T K : Type 0} (key_of : T → K) (compare : K → K → Ordering) where
+  -- there are so many live indexes whose items' keys are within
+  abbrev pub Counts : (K → Bool) → Store T → ℕ → Type 0
+  Counts within s count = (indexes : List ℕ) × SortsWithin key_of compare within s indexes × (count ≡ length indexes)
+
+  -- how the key of an item compares with the key of a live index
+  abbrev pub item_answer : Store T → T → ℕ → Ordering
+  item_answer s item ix = compared (compare (key_of item)) (key_at key_of s ix)
+
+  -- the place is one of the table, where its list has room for the next index under the item's key, ties by index
+  pub record IsOwnGapFor (s : Store T) (t : Order) (item : T) (gap : Gap) : Type 0 where
+    pub fits : Fits t gap
+    pub within : gap_place t gap ≤ length (order_of t)
+    pub is_place : IsPlace (with_ties (Some (next_index s)) (item_answer s item)) (order_of t) (gap_place t gap)
+
+  -- a live index stays exactly where its item's key does
+  abbrev pub IsMoveFor : Store T → ℕ → T → Move → Type 0
+  IsMoveFor s ix item Stays = IsHit s (has_key key_of compare (key_of item)) ix
+  IsMoveFor s ix item Moves = IsHit s (λ was. not (has_key key_of compare (key_of item) was)) ix

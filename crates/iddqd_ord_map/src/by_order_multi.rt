@@ -1,0 +1,491 @@
+//! A key index in the order of a key that several items may have: the items' indexes in a sorted list, those with equal
+//! keys by index.
+//!
+//! It refuses no item for its key, so an insert searches once: for the place of its index among those with an equal
+//! key. The blocks that it needs wait in the index; below the capacity it needs none.
+//!
+//! Invariants, given the store's items:
+//! 1. The list has exactly the live indexes, each once.
+//! 2. It is sorted by the keys of their items, and where these are equal by index.
+ghost use Rattle.std.specs.Prelude.{◌≡◌, ◌↔◌, false};
+ghost use Rattle.std.specs.Range.Bound.{bound_map};
+ghost use Rattle.iddqd.specs.{next_index, IsValid};
+ghost use Rattle.iddqd_order.specs.{indexes_ahead, indexes_left};
+ghost use Rattle.iddqd_order.specs.MapBTreeTable.{order_of};
+ghost use Rattle.iddqd_ord_map.specs.ByOrder.{FindsGreatest, FindsLeast};
+ghost use Rattle.iddqd_ord_map.specs.ByOrderMulti.{Counts, IsGreatestHit, IsLeastHit, IsOwnGapFor};
+ghost use Rattle.iddqd_by_order.specs.Ordered.{is_equal, IsSortedScan};
+ghost use Rattle.iddqd_keys.specs.OrderedQuery.{is_between};
+ghost use Rattle.iddqd_by_order.specs.OrderedWalk.{SortsWithin};
+ghost use Rattle.iddqd_keys.specs.Scan.{HasNoHit, IsLive, IsKeyAt, passes_by};
+
+use crate::ordered_move::Move;
+use crate::ordered_query::{
+    count_by, first_between, first_by, group_by, iter_by, last_by, range_by,
+};
+use crate::ordered_steps;
+use iddqd::index_remap::IndexRemap;
+use iddqd::internal::{ValidateCompact, ValidateRefusal, ValidationError};
+use iddqd::item_index::ItemIndex;
+use iddqd::item_set::ItemSet;
+use iddqd_keys::key_of::{KeyOf, key_at};
+use iddqd_keys::order_query::OrdQuery;
+use iddqd_map::key_index::{Checks, Here, Inserts, KeyIndex, Moves, OrderedAt, Removes, Sizes};
+use iddqd_order::btree_table::{Asking, Blocks, Gap, Iter, MapBTreeTable, Range};
+use std::alloc::{AllocError, Global};
+use std::cmp::Ordering;
+use std::marker::PhantomData;
+use std::ops::Bound;
+
+/// A key index in the order of the key that `E` names, which several items may have.
+#[derive(Drop)]
+pub struct ByOrderMulti<E> {
+    table: MapBTreeTable,
+    // The memory of the next insert, where that needs any.
+    blocks: Option<Blocks>,
+    of: PhantomData<E>,
+}
+
+impl<E> ByOrderMulti<E> {
+    /// The indexes whose items have the key for which the query stands, by index, from both ends.
+    ///
+    /// It compares the query with at most 8 + 4d keys, where the number of items has d binary digits, and takes no
+    /// memory.
+    pub fn group<T, S, Q>(&self, items: &ItemSet<T>, state: &S, query: Q) -> Range<'_>
+    where
+        E: KeyOf<T>,
+        E::Key: Ord,
+        Q: OrdQuery<E::Key>,
+        requires { ⟦<ByOrderMulti<E> as KeyIndex<T, S>>⟧.indexes self.now state.now items.now.store }
+        ensures { SortsWithin E.key_of E.Key.cmp (is_equal (Q.compare query)) items.now.store (indexes_ahead result) }
+    {
+        group_by::<T, E, Q>(&self.table, items, query)
+    }
+
+    /// The indexes whose items have keys between two bounds, by key and then by index, from both ends: none where the
+    /// lower bound is above the upper one.
+    ///
+    /// It compares each query with at most 4 + 2d keys, where the number of items has d binary digits, and takes no
+    /// memory.
+    pub fn range<T, S, Q>(
+        &self,
+        items: &ItemSet<T>,
+        state: &S,
+        lower: Bound<Q>,
+        upper: Bound<Q>,
+    ) -> Range<'_>
+    where
+        E: KeyOf<T>,
+        E::Key: Ord,
+        Q: OrdQuery<E::Key>,
+        requires { ⟦<ByOrderMulti<E> as KeyIndex<T, S>>⟧.indexes self.now state.now items.now.store }
+        ensures { let within = is_between (bound_map Q.compare lower) (bound_map Q.compare upper) in
+            SortsWithin E.key_of E.Key.cmp within items.now.store (indexes_ahead result) }
+    {
+        range_by::<T, E, Q>(&self.table, items, lower, upper)
+    }
+
+    /// The live indexes, by key and then by index, from both ends. It takes no memory.
+    pub fn iter<T, S>(&self, items: &ItemSet<T>, state: &S) -> Iter<'_>
+    where
+        E: KeyOf<T>,
+        E::Key: Ord,
+        requires { ⟦<ByOrderMulti<E> as KeyIndex<T, S>>⟧.indexes self.now state.now items.now.store }
+        ensures { IsSortedScan E.key_of E.Key.cmp items.now.store (indexes_left result) }
+    {
+        iter_by::<T, E>(&self.table, items)
+    }
+
+    /// The index of an item with the least key.
+    pub fn first<T, S>(&self, items: &ItemSet<T>, state: &S) -> Option<ItemIndex>
+    where
+        E: KeyOf<T>,
+        E::Key: Ord,
+        requires { ⟦<ByOrderMulti<E> as KeyIndex<T, S>>⟧.indexes self.now state.now items.now.store }
+        ensures { FindsLeast E.key_of E.Key.cmp items.now.store result }
+    {
+        first_by::<T, E>(&self.table, items)
+    }
+
+    /// The index of an item with the greatest key.
+    pub fn last<T, S>(&self, items: &ItemSet<T>, state: &S) -> Option<ItemIndex>
+    where
+        E: KeyOf<T>,
+        E::Key: Ord,
+        requires { ⟦<ByOrderMulti<E> as KeyIndex<T, S>>⟧.indexes self.now state.now items.now.store }
+        ensures { FindsGreatest E.key_of E.Key.cmp items.now.store result }
+    {
+        last_by::<T, E>(&self.table, items)
+    }
+
+    /// The least index whose item has the key for which the query stands. It costs as much as `group`.
+    pub fn first_of<T, S, Q>(&self, items: &ItemSet<T>, state: &S, query: Q) -> Option<ItemIndex>
+    where
+        E: KeyOf<T>,
+        E::Key: Ord,
+        Q: OrdQuery<E::Key>,
+        requires { ⟦<ByOrderMulti<E> as KeyIndex<T, S>>⟧.indexes self.now state.now items.now.store }
+        ensures { IsLeastHit items.now.store (passes_by E.key_of (is_equal (Q.compare query))) result }
+    {
+        self.group(items, state, query).next()
+    }
+
+    /// The greatest index whose item has the key for which the query stands. It costs as much as `group`.
+    pub fn last_of<T, S, Q>(&self, items: &ItemSet<T>, state: &S, query: Q) -> Option<ItemIndex>
+    where
+        E: KeyOf<T>,
+        E::Key: Ord,
+        Q: OrdQuery<E::Key>,
+        requires { ⟦<ByOrderMulti<E> as KeyIndex<T, S>>⟧.indexes self.now state.now items.now.store }
+        ensures { IsGreatestHit items.now.store (passes_by E.key_of (is_equal (Q.compare query))) result }
+    {
+        self.group(items, state, query).next_back()
+    }
+
+    /// Whether an item has the key for which the query stands. It costs as much as `group`.
+    pub fn contains_key<T, S, Q>(&self, items: &ItemSet<T>, state: &S, query: Q) -> bool
+    where
+        E: KeyOf<T>,
+        E::Key: Ord,
+        Q: OrdQuery<E::Key>,
+        requires { ⟦<ByOrderMulti<E> as KeyIndex<T, S>>⟧.indexes self.now state.now items.now.store }
+        ensures { (result ≡ false) ↔ HasNoHit items.now.store (passes_by E.key_of (is_equal (Q.compare query))) }
+    {
+        self.first_of(items, state, query).is_some()
+    }
+
+    /// How many items have the key for which the query stands.
+    ///
+    /// It costs as much as `group`, and a step for each of them: no table counts a group.
+    pub fn count_of<T, S, Q>(&self, items: &ItemSet<T>, state: &S, query: Q) -> usize
+    where
+        E: KeyOf<T>,
+        E::Key: Ord,
+        Q: OrdQuery<E::Key>,
+        requires { ⟦<ByOrderMulti<E> as KeyIndex<T, S>>⟧.indexes self.now state.now items.now.store }
+        ensures { Counts E.key_of E.Key.cmp (is_equal (Q.compare query)) items.now.store result }
+    {
+        count_by::<T, E, Q>(&self.table, items, query)
+    }
+}
+
+/// The conflict of an item by a key that several items may have: there is none.
+#[derive(Clone, Copy)]
+pub enum NoConflict {}
+
+// The place of the next index under an item's key.
+fn place_of<T, E>(table: &MapBTreeTable, items: &ItemSet<T>, ix: ItemIndex, item: &T) -> Gap
+where
+    E: KeyOf<T>,
+    E::Key: Ord,
+    requires valid { IsValid items.now.store }
+    requires sorted { IsSortedScan E.key_of E.Key.cmp items.now.store (order_of table.now) }
+    requires next { ix ≡ next_index items.now.store }
+    ensures { IsOwnGapFor E.key_of E.Key.cmp items.now.store table.now item.now result }
+{
+    let key = E::key(item);
+    let mut asking = Asking::new(
+        |at: ItemIndex| -> Ordering
+            requires { IsLive items.now.store at }
+            ensures { IsKeyAt (λ other. E.Key.cmp key.entry.now (E.key_of other)) items.entry.now.store at result }
+        { key.cmp(key_at::<T, E>(items, at)) },
+    );
+    table.find_own_gap_by(ix, &mut asking)
+}
+
+impl<T, S, E> KeyIndex<T, S> for ByOrderMulti<E>
+where
+    E: KeyOf<T>,
+    E::Key: Ord,
+{
+    ghost use Rattle.std.proofs.Common.{refl};
+    ghost use Rattle.std.specs.Prelude.{true};
+    ghost use Rattle.std.specs.Ordering.{eq_by_cmp};
+    ghost use Rattle.iddqd_order.specs.MapBTreeTable.{HasSameTree};
+    ghost use Rattle.iddqd_map.specs.Map.{shares};
+    ghost use Rattle.iddqd_ord_map.specs.ByOrderMulti.{never_alike};
+    ghost use Rattle.iddqd_ord_map.specs.ByOrderMultiLaws.{never_apart, none_named};
+    ghost use Rattle.iddqd_ord_map.specs.OrderedSteps.{reserved_for, most_cells};
+    ghost use Rattle.iddqd_ord_map.specs.SortedScanLaws.{IsSortedScan-same_tree, IsSortedScan-modified, IsSortedScan-alike, shares_equivalence};
+
+    type Conflict = NoConflict;
+
+    type Asked = ();
+
+    ghost Keys = { E.Key };
+
+    ghost keys = { E.key_of };
+
+    ghost alike = { never_alike };
+
+    ghost same_keys = { shares E.key_of (eq_by_cmp E.Key.cmp) };
+
+    ghost indexes = { λ x state s. IsSortedScan E.key_of E.Key.cmp s (order_of x.table) };
+
+    ghost capacity = { λ x. reserved_for x.table };
+
+    ghost cells = { λ x. reserved_for x.table };
+
+    ghost most = { most_cells };
+
+    ghost may_lack = { true };
+
+    ghost same = { λ x y. HasSameTree x.table y.table };
+
+    ghost key_count = { 0 };
+
+    ghost conflicts = { λ s item at. ⊥ };
+
+    ghost taken = { λ s ix item at. ⊥ };
+
+    ghost reports = { λ at ix. ⊥ };
+
+    ghost same_as_itself = { λ x. record { root = refl; height = refl } };
+
+    ghost same_indexes = { λ x y state s same is.
+        IsSortedScan-same_tree E.key_of E.Key.cmp s x.table y.table same is };
+
+    ghost apart = { λ x state s is. never_apart s };
+
+    ghost modified = { λ x state s ix was item is live same.
+        IsSortedScan-modified E.key_of E.Key.cmp E.Key.total s (order_of x.table) is ix item was live same };
+
+    ghost same_items = { λ x state s t same is.
+        IsSortedScan-alike E.key_of E.Key.cmp E.Key.total s t same (order_of x.table) is };
+
+    ghost equivalence = { shares_equivalence E.key_of E.Key.cmp E.Key.total };
+
+    ghost reported = { λ s item at conflicts ix. absurd conflicts };
+
+    ghost reported_some = { λ s item at conflicts. absurd conflicts };
+
+    ghost few_reported = { λ at. none_named };
+
+    fn unasked() {}
+}
+
+impl<T, S, E> Sizes<T, S> for ByOrderMulti<E>
+where
+    E: KeyOf<T>,
+    E::Key: Ord,
+{
+    fn capacity(&self) -> usize {
+        ordered_steps::capacity(&self.table)
+    }
+
+    fn new(alloc: Global) -> ByOrderMulti<E> {
+        ByOrderMulti {
+            table: MapBTreeTable::new(alloc),
+            blocks: None,
+            of: PhantomData,
+        }
+    }
+
+    fn with_capacity(alloc: Global, wanted: usize) -> Result<ByOrderMulti<E>, AllocError> {
+        Ok(ByOrderMulti {
+            table: ordered_steps::with_capacity(alloc, wanted)?,
+            blocks: None,
+            of: PhantomData,
+        })
+    }
+
+    fn reserve(
+        &mut self,
+        items: &ItemSet<T>,
+        state: &S,
+        additional: usize,
+    ) -> Result<(), AllocError> {
+        ordered_steps::reserve(&mut self.table, items, additional)
+    }
+
+    fn shrink_to(&mut self, items: &ItemSet<T>, state: &S, least: usize) -> Result<(), AllocError> {
+        self.blocks = None;
+        ordered_steps::shrink_to(&mut self.table, items, least);
+        Ok(())
+    }
+}
+
+impl<T, S, E> Inserts<T, S> for ByOrderMulti<E>
+where
+    E: KeyOf<T>,
+    E::Key: Ord,
+{
+    ghost use Rattle.iddqd_ord_map.specs.ByOrderMulti.{IsOwnGapFor};
+    ghost use Rattle.iddqd_ord_map.specs.ByOrderMultiLaws.{IsOwnGapFor-same_tree};
+    ghost use Rattle.iddqd_ord_map.specs.OrderedSteps.{HasBlocksAt, HasBlocksAnywhere};
+
+    type Known = ();
+
+    type Spot = ();
+
+    type Plan = Gap;
+
+    ghost is_known = { λ state item known. Unit {0} };
+
+    ghost is_spot = { λ x state s item spot. Unit {0} };
+
+    ghost is_planned = { λ x state s item gap. IsOwnGapFor E.key_of E.Key.cmp s x.table item gap };
+
+    ghost has_room_for = { λ x gap. HasBlocksAt x.table x.blocks gap };
+
+    ghost is_ready_after = { λ x. HasBlocksAnywhere x.table x.blocks };
+
+    ghost same_plans = { λ x y state s item gap same is.
+        IsOwnGapFor-same_tree E.key_of E.Key.cmp s x.table y.table item gap same is };
+
+    fn known(state: &S, item: &T) {}
+
+    fn look_up(
+        &self,
+        items: &ItemSet<T>,
+        state: &S,
+        known: (),
+        item: &T,
+    ) -> Result<(), NoConflict> {
+        Ok(())
+    }
+
+    fn plan(&self, items: &ItemSet<T>, state: &S, spot: (), ix: ItemIndex, item: &T) -> Gap {
+        place_of::<T, E>(&self.table, items, ix, item)
+    }
+
+    fn make_room(&mut self, items: &ItemSet<T>, state: &S, plan: &Gap) -> Result<(), AllocError> {
+        ordered_steps::make_room(&self.table, &mut self.blocks, items, plan)
+    }
+
+    fn insert(&mut self, known: (), plan: &Gap, ix: ItemIndex) {
+        ordered_steps::insert(&mut self.table, &mut self.blocks, plan, ix);
+    }
+
+    fn next_reported(conflict: &NoConflict, before: Option<ItemIndex>) -> Option<ItemIndex> {
+        None
+    }
+
+    fn spot(&self, items: &ItemSet<T>, state: &S, known: (), item: &T) {}
+
+    fn ready_after(&mut self, items: &ItemSet<T>, state: &S) -> Result<(), AllocError> {
+        ordered_steps::ready_anywhere(&self.table, &mut self.blocks, items)
+    }
+
+    fn give_way(&mut self, items: &ItemSet<T>, state: &S, ix: ItemIndex) {
+        ordered_steps::take_out::<T, E>(&mut self.table, items, ix);
+    }
+}
+
+impl<T, S, E> Removes<T, S> for ByOrderMulti<E>
+where
+    E: KeyOf<T>,
+    E::Key: Ord,
+{
+    fn remove(&mut self, items: &ItemSet<T>, state: &S, ix: ItemIndex) {
+        ordered_steps::take_out::<T, E>(&mut self.table, items, ix);
+    }
+
+    fn clear(&mut self) {
+        self.table.clear();
+    }
+
+    fn remap(&mut self, remap: &IndexRemap) {
+        ordered_steps::remap::<T>(&mut self.table, remap);
+    }
+}
+
+impl<T, S, E> Moves<T, S> for ByOrderMulti<E>
+where
+    E: KeyOf<T>,
+    E::Key: Ord,
+{
+    ghost use Rattle.iddqd_ord_map.specs.ByOrderMulti.{IsMoveFor};
+    ghost use Rattle.iddqd_ord_map.specs.OrderedSteps.{IsReadyFor, moves};
+
+    type Move = Move;
+
+    ghost is_move = { λ state s ix item plan. IsMoveFor E.key_of E.Key.cmp s ix item plan };
+
+    ghost moves = { moves };
+
+    ghost is_ready = { λ x plan. IsReadyFor x.table x.blocks plan };
+
+    fn plan_move(
+        &self,
+        items: &ItemSet<T>,
+        state: &S,
+        ix: ItemIndex,
+        item: &T,
+    ) -> Result<Move, NoConflict> {
+        if E::key(item).cmp(key_at::<T, E>(items, ix)).is_eq() {
+            return Ok(Move::Stays);
+        }
+        Ok(Move::Moves)
+    }
+
+    fn ready_move(&mut self, items: &ItemSet<T>, state: &S, plan: &Move) -> Result<(), AllocError> {
+        ordered_steps::ready_move(&self.table, &mut self.blocks, items, plan)
+    }
+
+    fn commit_move(
+        &mut self,
+        items: &ItemSet<T>,
+        state: &S,
+        asked: (),
+        plan: &Move,
+        ix: ItemIndex,
+        item: &T,
+    ) {
+        ordered_steps::commit_move::<T, E>(
+            &mut self.table,
+            &mut self.blocks,
+            items,
+            plan,
+            ix,
+            item,
+        );
+    }
+}
+
+impl<T, S, E> Checks<T, S> for ByOrderMulti<E>
+where
+    E: KeyOf<T>,
+    E::Key: Ord,
+{
+    fn copied(&self) -> Result<ByOrderMulti<E>, AllocError> {
+        Ok(ByOrderMulti {
+            table: self.table.clone()?,
+            blocks: None,
+            of: PhantomData,
+        })
+    }
+
+    fn is_same(item: &T, other: &T) -> bool {
+        E::key(item).cmp(E::key(other)) == Ordering::Equal
+    }
+
+    fn validate(
+        &self,
+        items: &ItemSet<T>,
+        state: &S,
+        compactness: ValidateCompact,
+    ) -> Result<(), ValidateRefusal<ValidationError>> {
+        ordered_steps::validate(&self.table, items, compactness)
+    }
+}
+
+impl<T, S, E> OrderedAt<Here, T, S> for ByOrderMulti<E>
+where
+    E: KeyOf<T>,
+    E::Key: Ord,
+{
+    type Key = E::Key;
+
+    ghost key_at = { E.key_of };
+
+    fn first_between<Q: OrdQuery<E::Key>>(
+        &self,
+        items: &ItemSet<T>,
+        state: &S,
+        lower: Bound<Q>,
+        upper: Bound<Q>,
+    ) -> Option<ItemIndex> {
+        first_between::<T, E, Q>(&self.table, items, lower, upper)
+    }
+}

@@ -1,0 +1,236 @@
+//! The steps that key indexes in the order of a key share, whether several items may have one key or not.
+//!
+//! A table holds ten indexes without any memory. They aren't counted: the capacity of a key index is what the reserved
+//! blocks hold, and ten more indexes fit always. The blocks of the next insert wait beside the table; below the
+//! capacity it needs none.
+ghost use Rattle.std.specs.Prelude.{◌≡◌, ◌≢◌, ◌+◌, ◌<◌, ◌≤◌, [], true, min, max, length, insert, map, Contains, IsOk, IfOk, OnOk, OnErr};
+ghost use Rattle.iddqd.specs.{live_count, rebound, sentinel, IsValid, Allows, Validates};
+ghost use Rattle.iddqd.specs.Compaction.{rank, IsRemapOf};
+ghost use Rattle.iddqd.specs.Store.{Store};
+ghost use Rattle.iddqd_order.specs.Gap.{Fits, gap_place, gap_blocks};
+ghost use Rattle.iddqd_order.specs.MapBTreeTable.{HasSameTree, order_of, move_blocks, without, capacity as table_capacity};
+ghost use Rattle.iddqd_order.specs.declared.btree_table.gap.Gap.{Gap as PlaceInTable};
+ghost use Rattle.iddqd_by_order.specs.Ordered.{Holds, IsSortedScan};
+ghost use Rattle.iddqd_keys.specs.Scan.{IsLive};
+ghost use Rattle.iddqd_ord_map.specs.OrderedSteps.{reserved_for, most_cells, waiting, moves, HasBlocksAt, HasBlocksAnywhere, IsReadyFor, StaysByKey};
+
+use crate::ordered_move::{Move, relocate};
+use iddqd::index_remap::IndexRemap;
+use iddqd::internal::{ValidateCompact, ValidateRefusal, ValidationError};
+use iddqd::item_index::ItemIndex;
+use iddqd::item_set::ItemSet;
+use iddqd_by_order::ordered::take_index;
+use iddqd_keys::key_of::KeyOf;
+use iddqd_order::btree_table::{Blocks, Gap, MapBTreeTable};
+use std::alloc::{AllocError, Global};
+
+// A table holds so many indexes without reserved memory.
+const FREE_INDEXES: usize = 10;
+
+/// How many indexes the reserved blocks hold.
+pub fn capacity(table: &MapBTreeTable) -> usize
+    ensures { result ≡ reserved_for table.now }
+{
+    table.capacity().saturating_sub(FREE_INDEXES)
+}
+
+/// An empty table whose reserved blocks hold so many indexes. With 0 it takes no memory.
+pub fn with_capacity(alloc: Global, wanted: usize) -> Result<MapBTreeTable, AllocError>
+    ensures empty { IfOk result (λ t. order_of t ≡ []) }
+    ensures capacity { IfOk result (λ t. wanted ≤ reserved_for t) }
+    ensures few { IfOk result (λ t. reserved_for t ≤ most_cells wanted) }
+    ensures succeeds { wanted ≡ 0 → IsOk result }
+{
+    if wanted > usize::MAX - FREE_INDEXES {
+        return Err(AllocError);
+    }
+    MapBTreeTable::with_capacity(alloc, wanted + FREE_INDEXES)
+}
+
+/// Makes room for so many more indexes than there are items. Where there is room it takes no memory.
+pub fn reserve<T>(
+    table: &mut MapBTreeTable,
+    items: &ItemSet<T>,
+    additional: usize,
+) -> Result<(), AllocError>
+    requires { Holds items.now.store (order_of table.old) }
+    ensures contents { HasSameTree table.old table.new }
+    ensures reserved { OnOk result (live_count items.now.store + additional ≤ reserved_for table.new) }
+    ensures had_room { live_count items.now.store + additional ≤ reserved_for table.old
+        → IsOk result × (table.new ≡ table.old) }
+    ensures capacity_stays { reserved_for table.old ≤ reserved_for table.new }
+    ensures few { reserved_for table.new
+        ≤ reserved_for table.old + most_cells (live_count items.now.store + additional) }
+{
+    // The capacity has 64 bits, so there is no room for so many.
+    let _capacity = table.capacity();
+    if additional > usize::MAX - FREE_INDEXES {
+        return Err(AllocError);
+    }
+    table.try_reserve(additional + FREE_INDEXES)
+}
+
+/// Gives back the blocks that so many indexes don't need, beside those that there are.
+pub fn shrink_to<T>(table: &mut MapBTreeTable, items: &ItemSet<T>, least: usize)
+    requires { Holds items.now.store (order_of table.old) }
+    ensures contents { HasSameTree table.old table.new }
+    ensures never_more { reserved_for table.new ≤ reserved_for table.old }
+    ensures capacity_stays { min (reserved_for table.old) (max least (live_count items.now.store))
+        ≤ reserved_for table.new }
+    ensures shrunk { reserved_for table.new ≤ most_cells (max least (live_count items.now.store)) }
+{
+    let indexes = least.max(table.len());
+    if indexes < table.capacity().saturating_sub(FREE_INDEXES) {
+        table.shrink_to(indexes + FREE_INDEXES);
+    }
+}
+
+/// Takes the blocks of an insert at a place. Where there is room it takes no memory.
+pub fn make_room<T>(
+    table: &MapBTreeTable,
+    blocks: &mut Option<Blocks>,
+    items: &ItemSet<T>,
+    gap: &Gap,
+) -> Result<(), AllocError>
+    requires { Holds items.now.store (order_of table.now) }
+    ensures ready { OnOk result (HasBlocksAt table.now blocks.new gap.now) }
+    ensures had_room { live_count items.now.store < reserved_for table.now
+        → IsOk result × (blocks.new ≡ blocks.old) }
+{
+    if table.len() < table.capacity() {
+        return Ok(());
+    }
+    *blocks = Some(table.blocks_at(gap)?);
+    Ok(())
+}
+
+/// Takes the blocks of a move, or of an insert that comes after a removal. Up to the capacity it takes no memory.
+pub fn ready_anywhere<T>(
+    table: &MapBTreeTable,
+    blocks: &mut Option<Blocks>,
+    items: &ItemSet<T>,
+) -> Result<(), AllocError>
+    requires { Holds items.now.store (order_of table.now) }
+    ensures ready { OnOk result (HasBlocksAnywhere table.now blocks.new) }
+    ensures past { OnErr result (reserved_for table.now < live_count items.now.store) }
+{
+    *blocks = Some(table.blocks_anywhere()?);
+    Ok(())
+}
+
+/// Takes the blocks of a planned move. Up to the capacity it takes no memory, nor where the key stays.
+pub fn ready_move<T>(
+    table: &MapBTreeTable,
+    blocks: &mut Option<Blocks>,
+    items: &ItemSet<T>,
+    plan: &Move,
+) -> Result<(), AllocError>
+    requires { Holds items.now.store (order_of table.now) }
+    ensures ready { OnOk result (IsReadyFor table.now blocks.new plan.now) }
+    ensures moves { OnErr result (moves plan.now ≡ true) }
+    ensures past { OnErr result (reserved_for table.now < live_count items.now.store) }
+{
+    match plan {
+        Move::Stays => Ok(()),
+        Move::Moves => ready_anywhere(table, blocks, items),
+    }
+}
+
+// The blocks that wait for the next insert.
+fn take_waiting(blocks: &mut Option<Blocks>, table: &MapBTreeTable) -> Blocks
+    ensures { result ≡ waiting blocks.old }
+{
+    match blocks.take() {
+        Some(blocks) => blocks,
+        None => table.no_blocks(),
+    }
+}
+
+/// Adds an index at a place, with the blocks that wait. It takes no memory.
+pub fn insert(table: &mut MapBTreeTable, blocks: &mut Option<Blocks>, gap: &Gap, ix: ItemIndex)
+    requires fits { Fits table.old gap.now }
+    requires room { HasBlocksAt table.old blocks.old gap.now }
+    requires absent { Contains (order_of table.old) ix → ⊥ }
+    requires assigned { ix ≢ sentinel }
+    ensures inserted { order_of table.new ≡ insert (order_of table.old) (gap_place table.old gap.now) ix }
+    ensures memory { table_capacity table.new ≡ table_capacity table.old }
+{
+    let blocks = take_waiting(blocks, table);
+    table.insert_in(gap, ix, blocks);
+}
+
+/// Takes a live index out. An insert needs no more blocks after it than a move did before. It takes no memory.
+pub fn take_out<T, E>(table: &mut MapBTreeTable, items: &ItemSet<T>, ix: ItemIndex)
+where
+    E: KeyOf<T>,
+    E::Key: Ord,
+    requires live { IsLive items.now.store ix }
+    requires held { Holds items.now.store (order_of table.old) }
+    ensures taken { order_of table.new ≡ without (order_of table.old) ix }
+    ensures memory { table_capacity table.new ≡ table_capacity table.old }
+    ensures no_more { move_blocks table.new ≤ move_blocks table.old }
+    ensures enough { (gap : PlaceInTable) → Fits table.new gap → gap_blocks table.new gap ≤ move_blocks table.old }
+{
+    take_index::<T, E>(table, items, ix);
+}
+
+/// Gives a live index the place of an item's key, as it was planned, with the blocks that wait. It takes no memory.
+pub fn commit_move<T, E>(
+    table: &mut MapBTreeTable,
+    blocks: &mut Option<Blocks>,
+    items: &ItemSet<T>,
+    plan: &Move,
+    ix: ItemIndex,
+    item: &T,
+)
+where
+    E: KeyOf<T>,
+    E::Key: Ord,
+    requires live { IsLive items.now.store ix }
+    requires sorted { IsSortedScan E.key_of E.Key.cmp items.now.store (order_of table.old) }
+    requires stays { StaysByKey E.key_of E.Key.cmp items.now.store ix item.now plan.now }
+    requires ready { IsReadyFor table.old blocks.old plan.now }
+    ensures moved { IsSortedScan E.key_of E.Key.cmp (rebound items.now.store ix item.now) (order_of table.new) }
+    ensures memory { table_capacity table.new ≡ table_capacity table.old }
+{
+    match plan {
+        Move::Stays => (),
+        Move::Moves => {
+            let blocks = take_waiting(blocks, table);
+            relocate::<T, E>(table, items, ix, item, blocks)
+        }
+    }
+}
+
+/// Gives each index its new name. It takes no memory.
+pub fn remap<T>(table: &mut MapBTreeTable, remap: &IndexRemap)
+    requires { (s : Store T) × Holds s (order_of table.old) × IsValid s × IsRemapOf s remap.now }
+    ensures renamed { (s : Store T) → Holds s (order_of table.old) → IsValid s → IsRemapOf s remap.now →
+        order_of table.new ≡ map (rank s) (order_of table.old) }
+    ensures memory { table_capacity table.new ≡ table_capacity table.old }
+{
+    table.remap_indexes(remap);
+}
+
+/// Whether the table is sound over the store, where the slots are as the mode wants them.
+///
+/// It sorts a copy of the indexes, whose memory may be refused.
+pub fn validate<T>(
+    table: &MapBTreeTable,
+    items: &ItemSet<T>,
+    compactness: ValidateCompact,
+) -> Result<(), ValidateRefusal<ValidationError>>
+    requires valid { IsValid items.now.store }
+    requires allowed { Allows compactness (length items.now.store.free) }
+    requires held { Holds items.now.store (order_of table.now) }
+    ensures { Validates (Allows compactness (length items.now.store.free)) result }
+{
+    match table.validate(items.len(), compactness) {
+        Ok(()) => Ok(()),
+        Err(ValidateRefusal::Invalid(error)) => {
+            let name = "keys";
+            Err(ValidateRefusal::Invalid(ValidationError::Table { name, error }))
+        }
+        Err(ValidateRefusal::Memory(error)) => Err(ValidateRefusal::Memory(error)),
+    }
+}
