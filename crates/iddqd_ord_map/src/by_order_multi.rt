@@ -171,7 +171,7 @@ impl<E> ByOrderMulti<E> {
 
 /// The conflict of an item by a key that several items may have: there is none.
 #[derive(Clone, Copy)]
-pub enum NoConflict {}
+pub struct NoConflict;
 
 // The place of the next index under an item's key.
 fn place_of<T, E>(table: &MapBTreeTable, items: &ItemSet<T>, ix: ItemIndex, item: &T) -> Gap

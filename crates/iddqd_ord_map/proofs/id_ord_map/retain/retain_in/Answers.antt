@@ -1,4 +1,4 @@
-use Rattle.std.proofs.Common.{length, filter, is_some, ap, arith}
+use Rattle.std.proofs.Common.{ℕ, length, is_some, ap, arith}
 use Rattle.std.proofs.lemmas.List.Sums.{length-filter, count_by-le-length}
 use Rattle.std.specs.Fn.{CalledAt}
 use Rattle.iddqd.specs.Store.{get}
@@ -19,7 +19,7 @@ pub returns-clause-fewer : goal.returns-clause-fewer
 returns-clause-fewer g c =
     let order = order_of c.args.table.now in
     let left = c.remove_refused.new.items.store in
-    let kept = λ ix. is_some (get left ix) in
+    let kept = λ (ix : ℕ). is_some (get left ix) in
     let sorted = Sorts-retained g.T.IdOrdItem.key_of g.T.Key.Ord.cmp g.met.T.Key.Ord.total (CalledAt g.F.FnMut)
     c.args.f.now c.remove_refused.new.f c.args.items.now.store left order (order_of c.forget_removed.new.table)
     c.requires.sorted c.remove_refused.ensures.retained c.forget_removed.ensures.forgot in
