@@ -1,0 +1,10 @@
+pub mod CloneLemmas
+pub mod CountLemmas
+pub mod EqualityLemmas
+pub mod FoundLemmas
+pub mod HashLemmas
+pub mod IndexingLemmas
+pub mod MapLemmas
+pub mod OverwriteLemmas
+pub mod RetainLemmas
+pub mod TakeLemmas

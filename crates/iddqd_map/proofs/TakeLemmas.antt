@@ -1,0 +1,52 @@
+-- What is left where the one item that passes a test was taken out.
+use Rattle.std.proofs.Common.{◌≡◌, ℕ, Bool, Option, Some, None, refl, ap}
+use Rattle.std.specs.Option.{OnSome}
+use Rattle.iddqd.specs.Store.{Store, IsValid, get, removed}
+use Rattle.iddqd.specs.ItemSet.{SizedStore}
+use Rattle.iddqd_sides.specs.Scan.{HasNoHit, AnswersScan}
+use Rattle.iddqd_map.specs.KeyIndex.{IsIndexed}
+use Rattle.iddqd_map.specs.Map.{Removes, map_with}
+use Rattle.iddqd_map.proofs.MapLemmas.{IsIndexed-removed, set_left}
+use Rattle.iddqd_map.proofs.FoundLemmas.{hit_live}
+
+-- r was at the index, which a scan hits, and was taken out of the store
+module _
+    {T : Type 0} (old left : SizedStore T) (test : T → Bool) (ix : ℕ) (r : Option T)
+    (scan : AnswersScan old.store test (Some ix))
+    (value : r ≡ get old.store ix)
+    (gone : OnSome r (left ≡ record old { store = removed old.store ix })) where
+  taken_is : left ≡ record old { store = removed old.store ix }
+  taken_is = set_left old left ix r (hit_live old.store test ix scan) value gone
+
+  pub IsIndexed-taken :
+      {S : Type 0} (new : S → Store T → Type 0) (state : S)
+      → IsValid old.store
+      → new state (removed old.store ix)
+      → IsIndexed new state left.store
+  IsIndexed-taken new state valid indexed =
+      let is = ap (λ (s : SizedStore _). s.store) taken_is in
+      IsIndexed-removed new state old.store left.store ix is valid (hit_live old.store test ix scan) indexed
+
+  pub Removes-hit :
+      (capacity cells after held : ℕ)
+      → after ≡ capacity
+      → held ≡ cells
+      → Removes (map_with old capacity cells) test r (map_with left after held)
+  Removes-hit capacity cells after held same few =
+      let (item, live, passed) = (scan ix).1 refl in
+      rw (value, live)
+      (record {
+        ix = ix;
+        hit = record { live = live; only = scan };
+        left = ap (λ (s : SizedStore _). s.store) taken_is;
+        memory = rw (ap (λ (s : SizedStore _). s.capacity) taken_is, same, few) refl;
+      })
+
+pub Removes-none :
+    {T : Type 0} (old : SizedStore T) (test : T → Bool) (r : Option T) (capacity cells after held : ℕ)
+    → r ≡ None
+    → HasNoHit old.store test
+    → after ≡ capacity
+    → held ≡ cells
+    → Removes (map_with old capacity cells) test r (map_with old after held)
+Removes-none old test r capacity cells after held none missed same few = rw none (missed, rw (same, few) refl)

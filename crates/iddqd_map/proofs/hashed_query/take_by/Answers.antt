@@ -1,0 +1,11 @@
+use Rattle.iddqd_sides.specs.Hashed.{Hashing, hashing_of}
+use Rattle.iddqd_map.proofs.IndexingLemmas.{StandsForOne-query}
+use Rattle.iddqd_map.proofs.hashed_query.take_by.Goals as goal
+
+pub returns-clause-found : goal.returns-clause-found
+returns-clause-found g c =
+    let state = c.args.state.now in
+    let hashing : Hashing _ = hashing_of g.E.Key.PartialEq.eq g.E.Key.Hash.hash_input g.S.BuildHasher g.S.Hasher.Hasher state in
+    let query = c.args.query in
+    let one = StandsForOne-query g.E.Key.PartialEq.eq g.E.Key.Hash.hash_input g.S.BuildHasher g.S.Hasher.Hasher state (g.Q.Hash.hash_input query) (g.Q.HashQuery.stands_for query) (g.met.Q.HashQuery.same_hash query) (g.met.Q.HashQuery.same_key query) in
+    c.take.ensures.found.as_scan hashing (rw c.query_hash-hash.ensures one) c.requires.exact

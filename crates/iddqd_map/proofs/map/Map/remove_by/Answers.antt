@@ -1,0 +1,28 @@
+use Rattle.iddqd_sides.specs.Scan.{passes_by}
+use Rattle.iddqd_map.proofs.TakeLemmas.{IsIndexed-taken, Removes-hit, Removes-none}
+use Rattle.iddqd_map.proofs.map.Map.remove_by.Goals as goal
+
+pub returns-in_err-ix-clause-removes : goal.returns-in_err-ix-clause-removes
+returns-in_err-ix-clause-removes g c =
+    let test = passes_by g.X.HashedAt.key_at (g.Q.HashQuery.stands_for c.args.query) in
+    let did = c.in_err-ix.ensures in
+    rw (← c.self.view_is)
+    (Removes-none c.self.inside.items test c.from_residual.result _ _ _ _ c.from_residual.ensures did.found
+    did.capacity did.cells)
+
+pub invariant_of-self-2 : goal.invariant_of-self-2
+invariant_of-self-2 g c =
+    let test = passes_by g.X.HashedAt.key_at (g.Q.HashQuery.stands_for c.args.query) in
+    let did = c.in_ok-ix.ensures in
+    let out = c.remove.ensures in
+    IsIndexed-taken c.self.inside.items c.remove.new.self test c.in_ok-ix.ix c.remove.result did.found out.value
+    out.removed _ c.self.inside.state c.self.invariant.valid did.taken
+
+pub returns-clause-removes : goal.returns-clause-removes
+returns-clause-removes g c =
+    let test = passes_by g.X.HashedAt.key_at (g.Q.HashQuery.stands_for c.args.query) in
+    let did = c.in_ok-ix.ensures in
+    let out = c.remove.ensures in
+    rw (← c.self.view_is)
+    (Removes-hit c.self.inside.items c.remove.new.self test c.in_ok-ix.ix c.remove.result did.found out.value
+    out.removed _ _ _ _ did.capacity did.cells)

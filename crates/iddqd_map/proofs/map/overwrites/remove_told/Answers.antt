@@ -1,0 +1,65 @@
+use Rattle.std.proofs.Common.{rules, ◌≡◌, ◌∙◌, ◌<◌, length, None, refl, ap, arith}
+use Rattle.iddqd.specs.ItemSet.{SizedStore}
+use Rattle.iddqd_map.proofs.OverwriteLemmas.{Taking-none, Taking-next, TakesAll-done, next_live, next_fits, no_next, place_vacant, places_left, taking_at}
+use Rattle.iddqd_map.proofs.map.overwrites.remove_told.Goals as goal
+
+pub loop-next-init : goal.loop-next-init
+loop-next-init g c = record {
+  map = c.requires.map;
+  ready = c.requires.ready;
+  taking = Taking-none _ _ c.args.items.now.store _ _ c.next_told-next.ensures c.requires.vacant;
+  within = omega arith;
+  slots = refl;
+  room = omega arith;
+  roomy = λ some. absurd (omega (arith, some));
+  capacity = refl;
+  cells = refl;
+}
+
+pub make_way-taken-requires-clause-live : goal.make_way-taken-requires-clause-live
+make_way-taken-requires-clause-live g c =
+    next_live _ _ c.args.items.now.store _ _ c.in-Some.ix _ (taking_at c.in-Some.is c.loop-next.invariant.taking) c.requires.live
+
+pub put_into-requires-clause-within : goal.put_into-requires-clause-within
+put_into-requires-clause-within g c =
+    let t = taking_at c.in-Some.is c.loop-next.invariant.taking in
+    let fits = next_fits _ _ c.args.items.now.store _ _ c.in-Some.ix _ (g.X.Conflicts.key_count) t (g.met.X.Conflicts.few_told c.args.at.now) in
+    let left = places_left _ _ c.args.items.now.store _ _ _ _ c.loop-next.invariant.taking in
+    omega (arith, fits, left, c.requires.enough)
+
+pub put_into-requires-clause-vacant : goal.put_into-requires-clause-vacant
+put_into-requires-clause-vacant g c =
+    let t = taking_at c.in-Some.is c.loop-next.invariant.taking in
+    let fits = next_fits _ _ c.args.items.now.store _ _ c.in-Some.ix _ (g.X.Conflicts.key_count) t (g.met.X.Conflicts.few_told c.args.at.now) in
+    place_vacant _ _ c.args.items.now.store _ _ _ _ c.loop-next.invariant.taking (omega (arith, fits, c.requires.enough))
+
+pub loop-next-smaller : goal.loop-next-smaller
+loop-next-smaller g c =
+    let t = taking_at c.in-Some.is c.loop-next.invariant.taking in
+    let fits = next_fits _ _ c.args.items.now.store _ _ c.in-Some.ix _ (g.X.Conflicts.key_count) t (g.met.X.Conflicts.few_told c.args.at.now) in
+    omega (arith, fits, c.requires.enough)
+
+pub loop-next-preserved : goal.loop-next-preserved
+loop-next-preserved g c =
+    let i = c.loop-next.invariant in
+    let took = c.make_way-taken.ensures in
+    let t = taking_at c.in-Some.is i.taking in
+    let fits = next_fits _ _ c.args.items.now.store _ _ c.in-Some.ix _ (g.X.Conflicts.key_count) t (g.met.X.Conflicts.few_told c.args.at.now) in
+    let within : c.loop-next.count < length c.args.places.now = omega (arith, fits, c.requires.enough) in
+    record {
+      map = took.map;
+      ready = took.ready i.ready;
+      taking = Taking-next _ _ c.args.items.now.store _ _ _ _ c.in-Some.ix _ _ _ t within c.next_told-next-in-Some.ensures took.value c.put_into.ensures (ap (λ (s : SizedStore _). s.store) took.removed);
+      within = omega (arith, within);
+      slots = ap (λ (s : SizedStore _). s.capacity) took.removed ∙ i.slots;
+      room = let r = i.room in let more = took.items_room in omega (arith, r, more);
+      roomy = λ _ plan. took.roomy plan i.ready;
+      capacity = took.capacity ∙ i.capacity;
+      cells = took.cells ∙ i.cells;
+    }
+
+pub returns-clause-taken : goal.returns-clause-taken
+returns-clause-taken g c =
+    let i = c.loop-next.invariant in
+    let none : c.loop-next.next ≡ None = no_next c.loop-next.next (search rules) in
+    TakesAll-done _ _ c.args.items.now.store _ _ _ (taking_at none i.taking) i.within

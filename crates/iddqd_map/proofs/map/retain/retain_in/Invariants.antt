@@ -1,0 +1,14 @@
+use Rattle.std.proofs.Common.{◌≡◌}
+use Rattle.std.specs.Fn.{TakesAt, CalledAt}
+use Rattle.iddqd_map.specs.KeyIndex.{IsIndexed}
+use Rattle.iddqd_map.proofs.RetainLemmas.{Retaining}
+use Rattle.iddqd_map.proofs.map.retain.retain_in.Given as goal
+
+abbrev pub invariant-loop-at : goal.invariant-loop-at
+invariant-loop-at g l = record {
+  kept : IsIndexed (g.X.KeyIndex.indexes l.indexes) l.state l.items.store;
+  retaining : Retaining (TakesAt g.F.FnMut) (CalledAt g.F.FnMut) l.fn.f l.fn.items.store l.items.store l.at l.f;
+  slots : l.items.capacity ≡ l.fn.items.capacity;
+  capacity : g.X.KeyIndex.capacity l.indexes ≡ g.X.KeyIndex.capacity l.fn.indexes;
+  cells : g.X.KeyIndex.cells l.indexes ≡ g.X.KeyIndex.cells l.fn.indexes;
+}

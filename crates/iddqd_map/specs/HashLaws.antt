@@ -1,0 +1,94 @@
+-- What a table of indexes under the hashes of a key keeps, as the laws of a key index say it.
+use Rattle.std.specs.Prelude.{◌≡◌, ◌≤◌, ◌↔◌, ℕ, Bool, true, not, List, [], ◌∷◌, length, Some}
+use Rattle.std.proofs.Common.{◌∙◌, ap, sym, subst, arith}
+use Rattle.std.specs.List.{Contains}
+use Rattle.iddqd.proofs.StoreLemmas.{contains_head}
+use Rattle.std.specs.Cmp.{IsEquivalence}
+use Rattle.std.specs.Ordering.{nat_cmp}
+use Rattle.std.specs.FinMap.{FinMap}
+use Rattle.iddqd.specs.Store.{Store, get, rebound}
+use Rattle.iddqd.proofs.LiveLemmas.{item_at, live_at}
+use Rattle.iddqd_sides.specs.Scan.{IsHit, AnswersScan}
+use Rattle.iddqd_sides.specs.Hashed.{Hashing, IsLawful}
+use Rattle.iddqd_sides.proofs.HoldsLemmas.{Holds-rebound}
+use Rattle.iddqd_sides.proofs.PlaceLemmas.{Keeps-rebound}
+use Rattle.iddqd_map.specs.Indexing.{Indexes}
+use Rattle.iddqd_map.specs.KeyIndex.{HaveSameKeys}
+use Rattle.iddqd_map.specs.Map.{shares}
+
+-- the laws of equality hold of items by their keys
+pub shares_laws :
+    {T K : Type 0} (key_of : T → K) (equal : K → K → Bool)
+    → IsEquivalence equal
+    → IsEquivalence (shares key_of equal)
+shares_laws key_of equal laws = record {
+  refl = λ x. laws.refl (key_of x);
+  symm = λ x y. laws.symm (key_of x) (key_of y);
+  congr = λ x y z. laws.congr (key_of x) (key_of y) (key_of z);
+}
+
+-- of one index that was told the items that are alike are those at it
+pub told_one :
+    {T : Type 0} (s : Store T) (test : T → Bool) (at : ℕ)
+    → AnswersScan s test (Some at)
+    → (ix : ℕ)
+    → (ix ≡ at) ↔ IsHit s test ix
+told_one s test at scan ix = ((scan ix).1, (scan ix).0)
+
+-- and it is one
+pub few_one : (at : ℕ) → (l : List ℕ) × (length l ≤ 1) × ((ix : ℕ) → ix ≡ at → Contains l ix)
+few_one at = (at ∷ [], omega arith, λ ix is. subst (Contains (at ∷ [])) (sym is) (contains_head at []))
+
+module _ {T K : Type 0} (key_of : T → K) (hashing : Hashing K) (s : Store T) (m : FinMap nat_cmp ℕ) where
+  -- an item that keeps its key
+  pub Indexes-modified :
+      IsLawful hashing
+      → ((x : K) → hashing.equal x x ≡ true)
+      → Indexes key_of hashing s m
+      → (ix : ℕ) (was item : T)
+      → get s ix ≡ Some was
+      → key_of item ≡ key_of was
+      → Indexes key_of hashing (rebound s ix item) m
+  Indexes-modified lawful reflexive o ix was item live same =
+      let alike : hashing.equal (key_of item) (key_of was) ≡ true =
+      ap (λ k. hashing.equal k (key_of was)) same ∙ reflexive (key_of was) in
+      let none : IsHit s (λ was. not (hashing.equal (key_of item) (key_of was))) ix → ⊥ =
+      λ other. (let one : Some was ≡ Some other.0 = sym live ∙ other.1 in let differs = other.2 in cc) in
+      record {
+        held = Holds-rebound s m o.held ix item was live;
+        exact = (Keeps-rebound key_of hashing s m ix item was live lawful none).exact o.exact;
+      }
+
+  -- items at the same indexes that share their keys
+  pub Indexes-same :
+      IsLawful hashing
+      → Indexes key_of hashing s m
+      → (t : Store T)
+      → HaveSameKeys (shares key_of hashing.equal) s t
+      → Indexes key_of hashing t m
+  Indexes-same lawful o t have =
+      let e = lawful.equivalence in
+      record {
+        held = λ ix. (
+          λ filed.
+              let (x, live) = item_at s ix ((o.held ix).0 filed) in
+              let (y, there, alike) = have.items ix x live in
+              live_at t ix y there,
+          λ live.
+              let (y, there) = item_at t ix live in
+              let (x, was, alike) = have.slots ix y there in
+              (o.held ix).1 (live_at s ix x was),
+        );
+        exact = record {
+          placed = λ ix y there.
+              let (x, was, alike) = have.slots ix y there in
+              o.exact.placed ix x was ∙ ap Some (lawful.equal_hash (key_of x) (key_of y) alike);
+          apart = λ i j x y p q same.
+              let (a, at_i, left) = have.slots i x p in
+              let (b, at_j, right) = have.slots j y q in
+              let one : hashing.equal (key_of a) (key_of y) ≡ true =
+              e.trans (key_of a) (key_of x) (key_of y) left same in
+              let other : hashing.equal (key_of y) (key_of b) ≡ true = e.symm (key_of y) (key_of b) ∙ right in
+              o.exact.apart i j a b at_i at_j (e.trans (key_of a) (key_of y) (key_of b) one other);
+        };
+      }

@@ -1,0 +1,31 @@
+-- A table of indexes under hashes by which each look-up of a store's items answers as a scan of them does.
+use Rattle.std.specs.Prelude.{◌≡◌, ◌≢◌, ℕ, Bool, Some, Result, Ok, Err}
+use Rattle.std.specs.Ordering.{nat_cmp}
+use Rattle.std.specs.FinMap.{FinMap}
+use Rattle.iddqd.specs.Store.{Store}
+use Rattle.iddqd_sides.specs.Scan.{IsHit, HasNoHit, AnswersScan, passes_by}
+use Rattle.iddqd_sides.specs.Hashed.{Hashing, Holds, IsExact}
+use Rattle.iddqd_sides.specs.declared.hashed_move.Move.{Move}
+use Rattle.iddqd_sides.specs.declared.hashed_move.Move.TheVariants.{Stays, To}
+
+module _ {T K : Type 0} (key_of : T → K) (hashing : Hashing K) where
+  -- the item has the key of this one
+  abbrev pub shares_key : T → T → Bool
+  shares_key item = passes_by key_of (hashing.equal (key_of item))
+
+  -- The map has exactly the live indexes, each under the hash of its item's key as it is now, and no two items share
+  -- a key.
+  pub record Indexes (s : Store T) (m : FinMap nat_cmp ℕ) : Type 0 where
+    pub held : Holds s m
+    pub exact : IsExact key_of hashing s m
+
+  -- What has to become of a live index that is given this item: it stays where the key stays, and else, where no item
+  -- has the key, it is filed under the key's hash.
+  abbrev pub Plans : Store T → ℕ → T → Move → Type 0
+  Plans s ix item Stays = IsHit s (shares_key item) ix
+  Plans s ix item (To hash) = HasNoHit s (shares_key item) × (hash ≡ hashing.hash_of (key_of item))
+
+  -- the plan, or the index of another item that has the key
+  abbrev pub PlansOrConflicts : Store T → ℕ → T → Result Move ℕ → Type 0
+  PlansOrConflicts s ix item (Ok plan) = Plans s ix item plan
+  PlansOrConflicts s ix item (Err at) = (at ≢ ix) × AnswersScan s (shares_key item) (Some at)

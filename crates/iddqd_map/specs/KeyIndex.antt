@@ -1,0 +1,83 @@
+-- What the calls of a key index leave, however many keys it goes by.
+use Rattle.std.specs.Prelude.{◌≡◌, ◌<◌, ℕ, Bool, true, not, Option, Some, None, Result, Ok, Err}
+use Rattle.iddqd.specs.Store.{Store, IsValid, IsFull, empty_within, get, next_index, inserted, removed}
+use Rattle.iddqd.specs.Compaction.{compacted, IsRemapOf}
+use Rattle.iddqd.specs.declared.index_remap.IndexRemap.{IndexRemap}
+use Rattle.iddqd_sides.specs.Scan.{HasNoHit}
+use Rattle.iddqd_map.specs.Several.{HasNoOther}
+
+-- `old state s` says that what there was indexes the store under the state, and `new state s` that what there is now does
+module _ {S T : Type 0} where
+  -- it indexes each store that has no item
+  abbrev pub IndexesNone : (S → Store T → Type 0) → Type 0
+  IndexesNone new = (state : S) (limit : ℕ) → new state (empty_within limit)
+
+  -- there is a store that it indexes, whose next index is this one
+  abbrev pub IsNextOf : (S → Store T → Type 0) → ℕ → Type 0
+  IsNextOf old ix = (state : S) × ((s : Store T) × old state s × IsValid s × (ix ≡ next_index s))
+
+  -- there is an item for which it was planned so
+  abbrev pub IsPlannedForOne : (S → Store T → T → Type 0) → Type 0
+  IsPlannedForOne planned = (state : S) × ((s : Store T) × ((item : T) × planned state s item))
+
+  -- Where it was planned so for an item that is alike to none, the item is indexed too that is stored at the index.
+  abbrev pub IndexesOneMore :
+      (T → T → Bool) → (S → T → Type 0) → (S → Store T → T → Type 0) → (S → Store T → Type 0) → ℕ
+      → (S → Store T → Type 0) → Type 0
+  IndexesOneMore alike known planned old ix new =
+      (state : S) (s : Store T) (item : T) → old state s → IsValid s → (IsFull s → ⊥) → ix ≡ next_index s
+      → HasNoHit s (alike item) → known state item → planned state s item → new state (inserted s item)
+
+  -- there is a store that it indexes, whose new names these are
+  abbrev pub IsRemapOfSome : (S → Store T → Type 0) → IndexRemap → Type 0
+  IsRemapOfSome old remap = (state : S) × ((s : Store T) × old state s × IsValid s × IsRemapOf s remap)
+
+  -- it indexes the compacted store
+  abbrev pub IndexesCompacted : (S → Store T → Type 0) → IndexRemap → (S → Store T → Type 0) → Type 0
+  IndexesCompacted old remap new =
+      (state : S) (s : Store T) → old state s → IsValid s → IsRemapOf s remap → new state (compacted s)
+
+  -- it indexes each store that what there was indexed
+  abbrev pub IndexesAllOf : (S → Store T → Type 0) → (S → Store T → Type 0) → Type 0
+  IndexesAllOf old new = (state : S) (s : Store T) → old state s → new state s
+
+  -- the index that was found, if one was, was taken out
+  abbrev pub TakesFound : (S → Store T → Type 0) → S → Store T → Option ℕ → Type 0
+  TakesFound new state s (Some ix) = new state (removed s ix)
+  TakesFound new state s None = new state s
+
+  -- the store is sound, and it is indexed
+  pub record IsIndexed (indexes : S → Store T → Type 0) (state : S) (s : Store T) : Type 0 where
+    pub valid : IsValid s
+    pub indexed : indexes state s
+
+module _ {T : Type 0} where
+  -- where an item goes that is alike to none, or those that it is alike to
+  abbrev pub FindsSpot :
+      {P C : Type 0} → (T → Bool) → (P → Type 0) → (C → Type 0) → Store T → Result P C → Type 0
+  FindsSpot alike is_spot conflicts s (Ok spot) = HasNoHit s alike × is_spot spot
+  FindsSpot alike is_spot conflicts s (Err at) = conflicts at
+
+  -- What becomes of a live index that is given an item: it is entered anew unless all keys stay. Or other items that
+  -- this one is alike to.
+  abbrev pub PlansMove :
+      {P C : Type 0} → (T → Bool) → (T → Bool) → (P → Type 0) → (P → Bool) → (C → Type 0) → Store T → ℕ
+      → Result P C → Type 0
+  PlansMove alike same is_move moves taken s ix (Ok plan) =
+      is_move plan × HasNoOther s alike ix × ((was : T) → get s ix ≡ Some was → moves plan ≡ not (same was))
+  PlansMove alike same is_move moves taken s ix (Err at) = taken at
+
+  -- the stores have the same live indexes, and their items at each share all keys
+  pub record HaveSameKeys (same : T → T → Bool) (s t : Store T) : Type 0 where
+    pub slots : (ix : ℕ) (y : T) → get t ix ≡ Some y → (x : T) × (get s ix ≡ Some x) × (same x y ≡ true)
+    pub items : (ix : ℕ) (x : T) → get s ix ≡ Some x → (y : T) × (get t ix ≡ Some y) × (same x y ≡ true)
+
+-- the first index that was told past one, or the first of all where there is none such: none where there is no more
+abbrev pub IsPast : Option ℕ → ℕ → Type 0
+IsPast None ix = Unit {0}
+IsPast (Some before) ix = before < ix
+
+abbrev pub IsNextTold : (ℕ → Type 0) → Option ℕ → Option ℕ → Type 0
+IsNextTold told before None = (ix : ℕ) → told ix → IsPast before ix → ⊥
+IsNextTold told before (Some next) =
+    told next × IsPast before next × ((ix : ℕ) → told ix → IsPast before ix → (ix < next → ⊥))

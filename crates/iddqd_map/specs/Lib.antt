@@ -1,0 +1,17 @@
+pub mod Calls
+pub mod Equality
+pub mod EqualityLaws
+pub mod HashLaws
+pub mod Hashed
+pub mod Indexing
+pub mod KeyIndex
+pub mod Map
+pub mod Memory
+pub mod Modify
+pub mod Overwrite
+pub mod PairConflict
+pub mod PairLaws
+pub mod Refusal
+pub mod Retain
+pub mod Several
+pub mod Validation

@@ -1,0 +1,42 @@
+-- What the calls of a map that take memory ahead, or give it back, may do with it.
+use Rattle.std.specs.Prelude.{◌≡◌, ◌+◌, ◌*◌, ◌<◌, ◌≤◌, ◌⊎◌, ℕ, min, max, Result, IsOk, OnOk, OnErr}
+use Rattle.iddqd.specs.Store.{slot_count, live_count}
+use Rattle.iddqd_map.specs.Map.{MapState, MapMemory, insertable, room}
+
+module _ {T : Type 0} (most : ℕ → ℕ) where
+  -- What is taken so that there is room for one more item: nothing where there was room. Else at most twice as many slots,
+  -- at least four, and never past the limit; and of the tables what so many indexes need. None is given back.
+  pub record MakesRoom (old : MapState T) (new : MapMemory) : Type 0 where
+    pub had_room : 1 ≤ room old → new ≡ old.memory
+    pub slots_stay : old.memory.slots ≤ new.slots
+    pub capacity_stays : old.memory.capacity ≤ new.capacity
+    pub few_slots : new.slots ≤ max old.memory.slots (min old.store.limit (max 4 (2 * old.memory.slots)))
+    pub few_cells : new.cells ≤ old.memory.cells + most (live_count old.store + 1)
+
+  -- Memory is there for so many more items, or for as many as there can be, and no more was taken than these need.
+  -- Where there was room, nothing changes. A refusal gives back nothing that there was, and the items stay.
+  pub record ReservesItems {A E : Type 0} (additional : ℕ) (old : MapState T) (result : Result A E) (new : MapState T)
+      : Type 0 where
+    pub store : new.store ≡ old.store
+    pub reserved : OnOk result (insertable old additional ≤ room new)
+    pub had_room : insertable old additional ≤ room old → IsOk result × (new ≡ old)
+    pub slots_stay : old.memory.slots ≤ new.memory.slots
+    pub capacity_stays : old.memory.capacity ≤ new.memory.capacity
+    pub few_slots : new.memory.slots ≤ max old.memory.slots
+        (min old.store.limit (max (live_count old.store + additional) (2 * old.memory.slots)))
+    pub few_cells : new.memory.cells ≤ old.memory.cells + most (live_count old.store + insertable old additional)
+
+  -- What is given back of what so many items don't need, beside the slots and the items that there are. A refusal means
+  -- that there is more than is needed, and never comes where nothing is needed. The items stay.
+  pub record ShrinksItems {A E : Type 0} (least : ℕ) (old : MapState T) (result : Result A E) (new : MapState T)
+      : Type 0 where
+    pub store : new.store ≡ old.store
+    pub slots_never_more : new.memory.slots ≤ old.memory.slots
+    pub cells_never_more : new.memory.cells ≤ old.memory.cells
+    pub slots_stay : min old.memory.slots (max least (slot_count old.store)) ≤ new.memory.slots
+    pub capacity_stays : min old.memory.capacity (max least (live_count old.store)) ≤ new.memory.capacity
+    pub slots_shrunk : OnOk result (new.memory.slots ≤ max least (slot_count old.store))
+    pub cells_shrunk : OnOk result (new.memory.cells ≤ most (max least (live_count old.store)))
+    pub refused : OnErr result ((max least (slot_count old.store) < new.memory.slots)
+        ⊎ (max least (live_count old.store) < new.memory.cells))
+    pub succeeds : max least (slot_count old.store) ≡ 0 → IsOk result

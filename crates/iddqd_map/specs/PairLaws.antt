@@ -1,0 +1,218 @@
+-- What two key indexes of the same items mean together.
+use Rattle.std.proofs.Common.{◌≡◌, ◌∙◌, inl, inr, ◌⊎◌, ◌&&◌, ◌||◌, ◌↔◌, ◌<◌, ◌≤◌, ◌+◌, ℕ, Bool, true, false, not, List, ◌++◌, [], length, min, Option, Some, None, refl, sym, subst, arith}
+use Rattle.std.specs.Cmp.{IsEquivalence}
+use Rattle.std.specs.List.{Contains}
+use Rattle.std.proofs.lemmas.List.Elements.{Contains-append_left, Contains-append_right}
+use Rattle.std.proofs.lemmas.List.{length-append}
+use Rattle.std.proofs.lemmas.Bool.{cases_lt}
+use Rattle.iddqd.specs.Store.{Store, get}
+use Rattle.iddqd_sides.specs.Scan.{IsHit, HasNoHit, AnswersScan, AreApart}
+use Rattle.iddqd_map.specs.KeyIndex.{HaveSameKeys, IsNextTold}
+use Rattle.iddqd_map.specs.PairConflict.{Tells, TellBoth, IsToldBy, IsEither, lesser_of}
+use Rattle.iddqd_map.specs.Several.{either_key, both_keys, HasNoOther}
+
+either_true : (a b : Bool) → (a || b) ≡ true → (a ≡ true) ⊎ (b ≡ true)
+either_true true b is = inl refl
+either_true false b is = inr is
+
+left_true : (a b : Bool) → a ≡ true → (a || b) ≡ true
+left_true true b is = refl
+left_true false b is = absurd (cc)
+
+right_true : (a b : Bool) → b ≡ true → (a || b) ≡ true
+right_true true b is = refl
+right_true false b is = is
+
+both_true : (a b : Bool) → (a && b) ≡ true → (a ≡ true) × (b ≡ true)
+both_true true b is = (refl, is)
+both_true false b is = absurd (cc)
+
+true_both : (a b : Bool) → a ≡ true → b ≡ true → (a && b) ≡ true
+true_both true b one other = other
+true_both false b one other = absurd (cc)
+
+-- one of two moves exactly where not both keys stay
+pub moves_either : (m n a b : Bool) → m ≡ not a → n ≡ not b → (m || n) ≡ not (a && b)
+moves_either m n true b one two = rw (one, two) refl
+moves_either m n false b one two = rw one refl
+
+module _ {T : Type 0} (first second : T → T → Bool) (s : Store T) (item : T) where
+  pub IsHit-either : (ix : ℕ) → IsHit s (either_key first second item) ix ↔ (IsHit s (first item) ix ⊎ IsHit s (second item) ix)
+  IsHit-either ix = (
+    λ hit. let (x, is, passed) = hit in
+        elim (either_true (first item x) (second item x) passed) [ inl one ↦ inl (x, is, one) | inr two ↦ inr (x, is, two) ],
+    λ hit. elim hit [
+      | inl one ↦ let (x, is, passed) = one in (x, is, left_true (first item x) (second item x) passed)
+      | inr two ↦ let (x, is, passed) = two in (x, is, right_true (first item x) (second item x) passed)
+    ],
+  )
+
+  pub HasNoHit-either : HasNoHit s (first item) → HasNoHit s (second item) → HasNoHit s (either_key first second item)
+  HasNoHit-either one two ix hit = elim ((IsHit-either ix).0 hit) [ inl h ↦ one ix h | inr h ↦ two ix h ]
+
+  pub HasNoHit-first : HasNoHit s (either_key first second item) → HasNoHit s (first item)
+  HasNoHit-first none ix hit = none ix ((IsHit-either ix).1 (inl hit))
+
+  pub HasNoHit-second : HasNoHit s (either_key first second item) → HasNoHit s (second item)
+  HasNoHit-second none ix hit = none ix ((IsHit-either ix).1 (inr hit))
+
+  pub HasNoOther-either :
+      (ix : ℕ)
+      → HasNoOther s (first item) ix
+      → HasNoOther s (second item) ix
+      → HasNoOther s (either_key first second item) ix
+  HasNoOther-either ix one two j hit = elim ((IsHit-either j).0 hit) [ inl h ↦ one j h | inr h ↦ two j h ]
+
+module _ {T : Type 0} (first second : T → T → Bool) where
+  -- items that share neither key with another
+  pub AreApart-either : (s : Store T) → AreApart first s → AreApart second s → AreApart (either_key first second) s
+  AreApart-either s one two i j x y p q alike =
+      elim (either_true (first x y) (second x y) alike) [ inl same ↦ one i j x y p q same | inr same ↦ two i j x y p q same ]
+
+  -- items that share both keys share each
+  pub HaveSameKeys-first : (s t : Store T) → HaveSameKeys (both_keys first second) s t → HaveSameKeys first s t
+  HaveSameKeys-first s t same = record {
+    slots = λ ix y live. (let (x, is, alike) = same.slots ix y live in (x, is, (both_true (first x y) (second x y) alike).0));
+    items = λ ix x live. (let (y, is, alike) = same.items ix x live in (y, is, (both_true (first x y) (second x y) alike).0));
+  }
+
+  pub HaveSameKeys-second : (s t : Store T) → HaveSameKeys (both_keys first second) s t → HaveSameKeys second s t
+  HaveSameKeys-second s t same = record {
+    slots = λ ix y live. (let (x, is, alike) = same.slots ix y live in (x, is, (both_true (first x y) (second x y) alike).1));
+    items = λ ix x live. (let (y, is, alike) = same.items ix x live in (y, is, (both_true (first x y) (second x y) alike).1));
+  }
+
+  -- and where sharing all of one's keys is sharing one of them, so it is of both
+  pub alike_both :
+      (alike : T → T → Bool)
+      → ((x y : T) → first x y ≡ true → alike x y ≡ true)
+      → (other : T → T → Bool) (x y : T)
+      → both_keys first second x y ≡ true
+      → either_key alike other x y ≡ true
+  alike_both alike so other x y both = left_true (alike x y) (other x y) (so x y (both_true (first x y) (second x y) both).0)
+
+-- no more is listed by both together than by each
+pub few_both :
+    (one other : ℕ → Type 0) (m n : ℕ)
+    → ((l : List ℕ) × (length l ≤ m) × ((ix : ℕ) → one ix → Contains l ix))
+    → ((l : List ℕ) × (length l ≤ n) × ((ix : ℕ) → other ix → Contains l ix))
+    → (l : List ℕ) × (length l ≤ m + n) × ((ix : ℕ) → one ix ⊎ other ix → Contains l ix)
+few_both one other m n (k, few, holds) (l, few_too, holds_too) = (
+  k ++ l,
+  omega (arith, length-append k l, few, few_too),
+  λ ix told. elim told [
+    | inl here ↦ Contains-append_left k l ix (holds ix here)
+    | inr there ↦ Contains-append_right k l ix (holds_too ix there)
+  ],
+)
+
+-- what one of the two told, if it told anything
+module _ {C : Type 0} (tells : C → ℕ → Type 0) where
+  pub told_one :
+      {T : Type 0} (alike : T → T → Bool) (conflicts : Store T → T → C → Type 0) (s : Store T) (item : T)
+      → ((at : C) → conflicts s item at → (ix : ℕ) → tells at ix ↔ IsHit s (alike item) ix)
+      → (found : Option C)
+      → Tells alike conflicts s item found
+      → (ix : ℕ) → IsToldBy tells found ix ↔ IsHit s (alike item) ix
+  told_one alike conflicts s item law None none ix = (λ told. absurd told, λ hit. none ix hit)
+  told_one alike conflicts s item law (Some at) told ix = law at told ix
+
+  pub few_one :
+      (n : ℕ)
+      → ((at : C) → (l : List ℕ) × (length l ≤ n) × ((ix : ℕ) → tells at ix → Contains l ix))
+      → (found : Option C)
+      → (l : List ℕ) × (length l ≤ n) × ((ix : ℕ) → IsToldBy tells found ix → Contains l ix)
+  few_one n law None = ([], omega arith, λ ix told. absurd told)
+  few_one n law (Some at) = law at
+
+-- exactly the items are told by either that share a key of either
+pub told_both :
+    {T : Type 0} (first second : T → T → Bool) (s : Store T) (item : T) (one other : ℕ → Type 0) (ix : ℕ)
+    → one ix ↔ IsHit s (first item) ix
+    → other ix ↔ IsHit s (second item) ix
+    → (one ix ⊎ other ix) ↔ IsHit s (either_key first second item) ix
+told_both first second s item one other ix a b =
+    let both = IsHit-either first second s item ix in (
+      λ told. both.1 (elim told [ inl here ↦ inl (a.0 here) | inr there ↦ inr (b.0 there) ]),
+      λ hit. elim (both.0 hit) [ inl here ↦ inl (a.1 here) | inr there ↦ inr (b.1 there) ],
+    )
+
+-- one of the two told an index
+pub told_some :
+    {T C D : Type 0} (tells : C → ℕ → Type 0) (tells_too : D → ℕ → Type 0)
+    (conflicts : Store T → T → C → Type 0) (conflicts_too : Store T → T → D → Type 0) (s : Store T) (item : T)
+    (alike alike_too : T → T → Bool)
+    → ((at : C) → conflicts s item at → (ix : ℕ) × tells at ix)
+    → ((at : D) → conflicts_too s item at → (ix : ℕ) × tells_too at ix)
+    → (one : Option C) (other : Option D)
+    → TellBoth alike alike_too conflicts conflicts_too s item one other
+    → (ix : ℕ) × IsEither (IsToldBy tells one) (IsToldBy tells_too other) ix
+told_some tells tells_too conflicts conflicts_too s item alike alike_too law law_too (Some at) other told =
+    let (ix, is) = law at told.first in
+    (ix, inl is)
+told_some tells tells_too conflicts conflicts_too s item alike alike_too law law_too None (Some at) told =
+    let (ix, is) = law_too at told.second in
+    (ix, inr is)
+told_some tells tells_too conflicts conflicts_too s item alike alike_too law law_too None None told =
+    elim told.some [ inl none ↦ absurd (cc) | inr none ↦ absurd (cc) ]
+
+-- the next index that one of the two tells is the lesser of the next of each
+pub IsNextTold-lesser :
+    (told told_too : ℕ → Type 0) (before one other : Option ℕ)
+    → IsNextTold told before one
+    → IsNextTold told_too before other
+    → IsNextTold (IsEither told told_too) before (lesser_of one other)
+IsNextTold-lesser told told_too before None None a b = λ ix is past. elim is [ inl here ↦ a ix here past | inr there ↦ b ix there past ]
+IsNextTold-lesser told told_too before (Some x) None a b = (
+  inl a.0,
+  a.1,
+  λ ix is past less. elim is [ inl here ↦ a.2 ix here past less | inr there ↦ b ix there past ],
+)
+IsNextTold-lesser told told_too before None (Some y) a b = (
+  inr b.0,
+  b.1,
+  λ ix is past less. elim is [ inl here ↦ a ix here past | inr there ↦ b.2 ix there past less ],
+)
+IsNextTold-lesser told told_too before (Some x) (Some y) a b =
+    elim (cases_lt x y) [
+      | inl less ↦
+          let is : min x y ≡ x = omega (arith, less) in
+          rw is (
+            inl a.0,
+            a.1,
+            λ ix told past below. elim told [ inl here ↦ a.2 ix here past below | inr there ↦ b.2 ix there past (omega (arith, below, less)) ],
+          )
+      | inr most ↦
+          let is : min x y ≡ y = omega (arith, most) in
+          rw is (
+            inr b.0,
+            b.1,
+            λ ix told past below. elim told [ inl here ↦ a.2 ix here past (omega (arith, below, most)) | inr there ↦ b.2 ix there past below ],
+          )
+    ]
+
+-- who shares all keys of both is who shares all keys of the first, where it shares those of the second too
+module _ {T : Type 0} (first second : T → T → Bool) (s : Store T) (item : T) where
+  pub HasNoHit-both : HasNoHit s (first item) → HasNoHit s (both_keys first second item)
+  HasNoHit-both none ix (x, is, same) = none ix (x, is, (both_true (first item x) (second item x) same).0)
+
+  module _ (ix : ℕ) (there : T) (live : get s ix ≡ Some there) (scan : AnswersScan s (first item) (Some ix)) where
+    is_there : (x : T) → get s ix ≡ Some x → x ≡ there
+    is_there x is = (let one : Some x ≡ Some there = sym is ∙ live in cc)
+
+    pub AnswersScan-both : second item there ≡ true → AnswersScan s (both_keys first second item) (Some ix)
+    AnswersScan-both same j = (
+      λ hit. (let (x, is, both) = hit in (scan j).0 (x, is, (both_true (first item x) (second item x) both).0)),
+      λ here. (
+          let (x, is, one) = (scan ix).1 refl in
+          let other : second item x ≡ true = subst (λ z. second item z ≡ true) (sym (is_there x is)) same in
+          subst (IsHit s (both_keys first second item)) (sym here) (x, is, true_both (first item x) (second item x) one other)),
+    )
+
+    pub HasNoHit-unlike : second item there ≡ false → HasNoHit s (both_keys first second item)
+    HasNoHit-unlike unlike j (x, is, both) =
+        let (one, other) = both_true (first item x) (second item x) both in
+        let at : j ≡ ix = (scan j).0 (x, is, one) in
+        let same : x ≡ there = is_there x (subst (λ k. get s k ≡ Some x) at is) in
+        let known : second item there ≡ true = subst (λ z. second item z ≡ true) same other in
+        absurd (cc)

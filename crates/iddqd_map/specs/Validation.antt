@@ -1,0 +1,12 @@
+-- What a check of a map's table tells.
+use Rattle.std.specs.Prelude.{◌≡◌, ℕ, List, ⊤}
+use Rattle.iddqd.specs.declared.internal.ValidateRefusal.{ValidateRefusal}
+use Rattle.iddqd.specs.declared.internal.ValidateRefusal.TheVariants.{Invalid, Memory}
+use Rattle.iddqd.specs.declared.internal.ValidationError.{ValidationError}
+use Rattle.iddqd.specs.declared.internal.ValidationError.TheVariants.{Table, General}
+
+-- a refusal is the error of the table with this name, or else there was no memory
+abbrev pub NamesTable : List ℕ → ValidateRefusal ValidationError → Type 0
+NamesTable name (Invalid (Table told error)) = told.now ≡ name
+NamesTable name (Invalid (General text)) = ⊥
+NamesTable name (Memory error) = ⊤

@@ -1,0 +1,453 @@
+//! A key index by one key, which no two items share: each index stands in a hash table, under the hash of its item's key.
+//!
+//! Invariants, of a table that indexes a store under the state of a hasher:
+//!
+//! 1. it has exactly the live indexes;
+//! 2. each of them stands under the hash that its item's key has under this state;
+//! 3. no two items have equal keys.
+//!
+//! By these a look-up, which hashes once, answers as a scan of all items does. Keys are not copied: the table has hashes
+//! and indexes alone.
+ghost use Rattle.std.specs.Prelude.{◌≡◌};
+ghost use Rattle.iddqd_hash.specs.{filed};
+ghost use Rattle.iddqd_sides.specs.Scan.{AnswersScan, passes_by};
+ghost use Rattle.iddqd_sides.specs.Hashed.{hashing_of};
+ghost use Rattle.iddqd_map.specs.Indexing.{Indexes};
+
+use crate::hashed_plan::plan_move;
+use crate::hashed_query::{find_under, take_by};
+use crate::key_index::{
+    AsksAt, Checks, Conflicts, HashedAt, Here, Inserts, KeyIndex, Moves, Overwrites, Removes,
+    Sizes, TakesAt,
+};
+use crate::of_item::{commit_item, find_item, take_item, validate_table};
+use iddqd::index_remap::IndexRemap;
+use iddqd::internal::{ValidateCompact, ValidateRefusal, ValidationError};
+use iddqd::item_index::ItemIndex;
+use iddqd::item_set::ItemSet;
+use iddqd::map_hash::MapHash;
+use iddqd_hash::hash_table::MapHashTable;
+use iddqd_sides::hashed::{hash_of, query_hash};
+use iddqd_sides::hashed_move::Move;
+use iddqd_sides::key_of::KeyOf;
+use iddqd_sides::query::HashQuery;
+use std::alloc::{AllocError, Global};
+use std::hash::{BuildHasher, Hash};
+use std::marker::PhantomData;
+
+/// A hash table by the key that `E` names. No two items have equal keys.
+///
+/// A look-up hashes the query once, and compares it with keys of the same hash alone. Only `with_capacity`, `reserve`,
+/// `make_room`, `shrink_to` and `copied` take memory, and only they can fail for want of it; `validate` sorts a copy of
+/// the indexes.
+#[derive(Drop)]
+pub struct ByHash<E, K> {
+    // Each live index, under the hash of its item's key.
+    table: MapHashTable,
+    of: PhantomData<E>,
+    by: PhantomData<K>,
+}
+
+impl<T, S, E, K> KeyIndex<T, S> for ByHash<E, K>
+where
+    E: KeyOf<T, Key = K>,
+    K: Eq + Hash + Drop,
+    S: BuildHasher,
+{
+    ghost use Rattle.std.proofs.Common.{refl, sym, subst};
+    ghost use Rattle.std.specs.Cmp.{partial_equiv_from_equiv};
+    ghost use Rattle.std.specs.Prelude.{◌≢◌, ◌≤◌, ℕ, Some, false};
+    ghost use Rattle.iddqd_hash.specs.HashTable.{room, capacity, memory};
+    ghost use Rattle.iddqd_hash.specs.Sizes.{most_cells};
+    ghost use Rattle.iddqd_hash.specs.MapHashTable.{filed};
+    ghost use Rattle.iddqd_map.specs.Map.{shares};
+    ghost use Rattle.iddqd_map.specs.Hashed.{moves};
+    ghost use Rattle.iddqd_map.specs.Indexing.{Plans};
+    ghost use Rattle.iddqd_map.specs.HashLaws.{shares_laws, Indexes-modified, Indexes-same, told_one, few_one};
+    ghost use Rattle.iddqd_sides.proofs.FindLemmas.{IsLawful-from_bounds};
+
+    ghost Keys = { K };
+
+    ghost keys = { E.key_of };
+
+    ghost alike = { shares E.key_of K.eq };
+
+    ghost same_keys = { shares E.key_of K.eq };
+
+    ghost indexes = { λ x state s. Indexes E.key_of (hashing_of K.eq K.hash_input S.BuildHasher
+        S.Hasher.Hasher state) s (filed x.table) };
+
+    ghost capacity = { λ x. capacity x.table };
+
+    ghost cells = { λ x. memory x.table };
+
+    ghost most = { most_cells };
+
+    ghost may_lack = { false };
+
+    ghost same = { λ x y. filed y.table ≡ filed x.table };
+
+    ghost same_as_itself = { λ x. refl };
+
+    ghost same_indexes = { λ x y state s same is. subst (λ m. Indexes E.key_of (hashing_of K.eq K.hash_input
+        S.BuildHasher S.Hasher.Hasher state) s m) (sym same) is };
+
+    ghost apart = { λ x state s is. is.exact.apart };
+
+    ghost modified = { λ x state s ix was item is live same. let hashing = hashing_of K.eq K.hash_input
+        S.BuildHasher S.Hasher.Hasher state in let lawful = IsLawful-from_bounds K.eq K.hash_input
+        S.BuildHasher S.Hasher.Hasher state (partial_equiv_from_equiv K.Eq.laws) K.respects_eq in
+        Indexes-modified E.key_of hashing s (filed x.table) lawful K.Eq.laws.refl is ix was item live same };
+
+    ghost same_items = { λ x state s t have is. let hashing = hashing_of K.eq K.hash_input
+        S.BuildHasher S.Hasher.Hasher state in let lawful = IsLawful-from_bounds K.eq K.hash_input
+        S.BuildHasher S.Hasher.Hasher state (partial_equiv_from_equiv K.Eq.laws) K.respects_eq in
+        Indexes-same E.key_of hashing s (filed x.table) lawful is t have };
+
+    ghost equivalence = { shares_laws E.key_of K.eq K.Eq.laws };
+
+    ghost same_are_alike = { λ x y same. same };
+
+    fn capacity(&self) -> usize {
+        self.table.capacity()
+    }
+}
+
+impl<T, S, E, K> Sizes<T, S> for ByHash<E, K>
+where
+    E: KeyOf<T, Key = K>,
+    K: Eq + Hash + Drop,
+    S: BuildHasher,
+{
+    fn new(alloc: Global) -> ByHash<E, K> {
+        ByHash {
+            table: MapHashTable::new(alloc),
+            of: PhantomData,
+            by: PhantomData,
+        }
+    }
+
+    fn with_capacity(alloc: Global, wanted: usize) -> Result<ByHash<E, K>, AllocError> {
+        Ok(ByHash {
+            table: MapHashTable::with_capacity(alloc, wanted)?,
+            of: PhantomData,
+            by: PhantomData,
+        })
+    }
+
+    fn reserve(
+        &mut self,
+        items: &ItemSet<T>,
+        state: &S,
+        additional: usize,
+    ) -> Result<(), AllocError> {
+        self.table.try_reserve(additional)
+    }
+
+    fn shrink_to(&mut self, items: &ItemSet<T>, state: &S, least: usize) -> Result<(), AllocError> {
+        self.table.shrink_to(least)
+    }
+}
+
+impl<T, S, E, K> Conflicts<T, S> for ByHash<E, K>
+where
+    E: KeyOf<T, Key = K>,
+    K: Eq + Hash + Drop,
+    S: BuildHasher,
+{
+    ghost use Rattle.std.proofs.Common.{refl, sym, subst};
+    ghost use Rattle.std.specs.Cmp.{partial_equiv_from_equiv};
+    ghost use Rattle.std.specs.Prelude.{◌≢◌, ◌≤◌, ℕ, Some, false};
+    ghost use Rattle.iddqd_hash.specs.HashTable.{room, capacity, memory};
+    ghost use Rattle.iddqd_hash.specs.Sizes.{most_cells};
+    ghost use Rattle.iddqd_hash.specs.MapHashTable.{filed};
+    ghost use Rattle.iddqd_map.specs.Map.{shares};
+    ghost use Rattle.iddqd_map.specs.Hashed.{moves};
+    ghost use Rattle.iddqd_map.specs.Indexing.{Plans};
+    ghost use Rattle.iddqd_map.specs.HashLaws.{shares_laws, Indexes-modified, Indexes-same, told_one, few_one};
+    ghost use Rattle.iddqd_sides.proofs.FindLemmas.{IsLawful-from_bounds};
+
+    type Conflict = ItemIndex;
+
+    ghost key_count = { 1 };
+
+    ghost conflicts = { λ s item at. AnswersScan s (shares E.key_of K.eq item) (Some at) };
+
+    ghost taken = { λ s ix item at. (at ≢ ix) × AnswersScan s (shares E.key_of K.eq item) (Some at) };
+
+    ghost tells = { λ at ix. ix ≡ at };
+
+    ghost told = { λ s item at is ix. told_one s (shares E.key_of K.eq item) at is ix };
+
+    ghost told_some = { λ s item at is. (at, refl) };
+
+    ghost few_told = { few_one };
+
+    fn next_told(conflict: &ItemIndex, before: Option<ItemIndex>) -> Option<ItemIndex> {
+        let at = *conflict;
+        match before {
+            Some(before) if at <= before => None,
+            _ => Some(at),
+        }
+    }
+}
+
+impl<T, S, E, K> Inserts<T, S> for ByHash<E, K>
+where
+    E: KeyOf<T, Key = K>,
+    K: Eq + Hash + Drop,
+    S: BuildHasher,
+{
+    ghost use Rattle.std.proofs.Common.{refl, sym, subst};
+    ghost use Rattle.std.specs.Cmp.{partial_equiv_from_equiv};
+    ghost use Rattle.std.specs.Prelude.{◌≢◌, ◌≤◌, ℕ, Some, false};
+    ghost use Rattle.iddqd_hash.specs.HashTable.{room, capacity, memory};
+    ghost use Rattle.iddqd_hash.specs.Sizes.{most_cells};
+    ghost use Rattle.iddqd_hash.specs.MapHashTable.{filed};
+    ghost use Rattle.iddqd_map.specs.Map.{shares};
+    ghost use Rattle.iddqd_map.specs.Hashed.{moves};
+    ghost use Rattle.iddqd_map.specs.Indexing.{Plans};
+    ghost use Rattle.iddqd_map.specs.HashLaws.{shares_laws, Indexes-modified, Indexes-same, told_one, few_one};
+    ghost use Rattle.iddqd_sides.proofs.FindLemmas.{IsLawful-from_bounds};
+
+    type Known = MapHash;
+
+    type Spot = ();
+
+    type Plan = ();
+
+    ghost is_known = { λ state item hash. hash ≡ (hashing_of K.eq K.hash_input S.BuildHasher
+        S.Hasher.Hasher state).hash_of (E.key_of item) };
+
+    ghost is_spot = { λ x state s item spot. Unit {0} };
+
+    ghost is_planned = { λ x state s item plan. Unit {0} };
+
+    ghost has_room_for = { λ x plan. 1 ≤ room x.table };
+
+    ghost same_plans = { λ x y state s item plan same is. is };
+
+    fn known(state: &S, item: &T) -> MapHash {
+        hash_of::<T, E, S>(state, item)
+    }
+
+    fn look_up(
+        &self,
+        items: &ItemSet<T>,
+        state: &S,
+        known: MapHash,
+        item: &T,
+    ) -> Result<(), ItemIndex> {
+        match find_item::<T, E, S>(&self.table, items, state, known, item) {
+            Some(at) => Err(at),
+            None => Ok(()),
+        }
+    }
+
+    fn plan(&self, items: &ItemSet<T>, state: &S, spot: (), ix: ItemIndex, item: &T) {}
+
+    fn make_room(&mut self, items: &ItemSet<T>, state: &S, plan: &()) -> Result<(), AllocError> {
+        self.table.try_reserve(1)
+    }
+
+    fn insert(&mut self, known: MapHash, plan: &(), ix: ItemIndex) {
+        self.table.insert_prehashed_unchecked(known, ix);
+    }
+}
+
+impl<T, S, E, K> Removes<T, S> for ByHash<E, K>
+where
+    E: KeyOf<T, Key = K>,
+    K: Eq + Hash + Drop,
+    S: BuildHasher,
+{
+    fn remove(&mut self, items: &ItemSet<T>, state: &S, ix: ItemIndex) {
+        take_item::<T, E, S>(&mut self.table, items, state, ix);
+    }
+
+    fn clear(&mut self) {
+        self.table.clear();
+    }
+
+    fn remap(&mut self, remap: &IndexRemap) {
+        self.table.remap_indexes(remap);
+    }
+}
+
+impl<T, S, E, K> Overwrites<T, S> for ByHash<E, K>
+where
+    E: KeyOf<T, Key = K>,
+    K: Eq + Hash + Drop,
+    S: BuildHasher,
+{
+    ghost use Rattle.std.proofs.Common.{refl, sym, subst};
+    ghost use Rattle.std.specs.Cmp.{partial_equiv_from_equiv};
+    ghost use Rattle.std.specs.Prelude.{◌≢◌, ◌≤◌, ℕ, Some, false};
+    ghost use Rattle.iddqd_hash.specs.HashTable.{room, capacity, memory};
+    ghost use Rattle.iddqd_hash.specs.Sizes.{most_cells};
+    ghost use Rattle.iddqd_hash.specs.MapHashTable.{filed};
+    ghost use Rattle.iddqd_map.specs.Map.{shares};
+    ghost use Rattle.iddqd_map.specs.Hashed.{moves};
+    ghost use Rattle.iddqd_map.specs.Indexing.{Plans};
+    ghost use Rattle.iddqd_map.specs.HashLaws.{shares_laws, Indexes-modified, Indexes-same, told_one, few_one};
+    ghost use Rattle.iddqd_sides.proofs.FindLemmas.{IsLawful-from_bounds};
+
+    ghost is_ready_after = { λ x. Unit {0} };
+
+    fn spot(&self, items: &ItemSet<T>, state: &S, known: MapHash, item: &T) {}
+
+    fn ready_after(&mut self, items: &ItemSet<T>, state: &S) -> Result<(), AllocError> {
+        Ok(())
+    }
+
+    fn give_way(&mut self, items: &ItemSet<T>, state: &S, ix: ItemIndex) {
+        take_item::<T, E, S>(&mut self.table, items, state, ix);
+    }
+}
+
+impl<T, S, E, K> Moves<T, S> for ByHash<E, K>
+where
+    E: KeyOf<T, Key = K>,
+    K: Eq + Hash + Drop,
+    S: BuildHasher,
+{
+    ghost use Rattle.std.proofs.Common.{refl, sym, subst};
+    ghost use Rattle.std.specs.Cmp.{partial_equiv_from_equiv};
+    ghost use Rattle.std.specs.Prelude.{◌≢◌, ◌≤◌, ℕ, Some, false};
+    ghost use Rattle.iddqd_hash.specs.HashTable.{room, capacity, memory};
+    ghost use Rattle.iddqd_hash.specs.Sizes.{most_cells};
+    ghost use Rattle.iddqd_hash.specs.MapHashTable.{filed};
+    ghost use Rattle.iddqd_map.specs.Map.{shares};
+    ghost use Rattle.iddqd_map.specs.Hashed.{moves};
+    ghost use Rattle.iddqd_map.specs.Indexing.{Plans};
+    ghost use Rattle.iddqd_map.specs.HashLaws.{shares_laws, Indexes-modified, Indexes-same, told_one, few_one};
+    ghost use Rattle.iddqd_sides.proofs.FindLemmas.{IsLawful-from_bounds};
+
+    type Asked = Option<MapHash>;
+
+    type Move = Move;
+
+    ghost is_move = { λ state s ix item plan. Plans E.key_of (hashing_of K.eq K.hash_input S.BuildHasher
+        S.Hasher.Hasher state) s ix item plan };
+
+    ghost moves = { moves };
+
+    ghost is_ready = { λ x plan. Unit {0} };
+
+    fn unasked() -> Option<MapHash> {
+        None
+    }
+
+    fn plan_move(
+        &self,
+        items: &ItemSet<T>,
+        state: &S,
+        ix: ItemIndex,
+        item: &T,
+    ) -> Result<Move, ItemIndex> {
+        plan_move::<T, E, S>(&self.table, items, state, ix, item)
+    }
+
+    fn ready_move(&mut self, items: &ItemSet<T>, state: &S, plan: &Move) -> Result<(), AllocError> {
+        Ok(())
+    }
+
+    fn commit_move(
+        &mut self,
+        items: &ItemSet<T>,
+        state: &S,
+        asked: Option<MapHash>,
+        plan: &Move,
+        ix: ItemIndex,
+        item: &T,
+    ) {
+        commit_item::<T, E, S>(&mut self.table, items, state, asked, plan, ix);
+    }
+}
+
+impl<T, S, E, K> Checks<T, S> for ByHash<E, K>
+where
+    E: KeyOf<T, Key = K>,
+    K: Eq + Hash + Drop,
+    S: BuildHasher,
+{
+    fn copied(&self) -> Result<ByHash<E, K>, AllocError> {
+        Ok(ByHash {
+            table: self.table.clone()?,
+            of: PhantomData,
+            by: PhantomData,
+        })
+    }
+
+    fn find_same(&self, items: &ItemSet<T>, state: &S, item: &T) -> Option<ItemIndex> {
+        find_item::<T, E, S>(
+            &self.table,
+            items,
+            state,
+            hash_of::<T, E, S>(state, item),
+            item,
+        )
+    }
+
+    fn is_same(item: &T, other: &T) -> bool {
+        *E::key(item) == *E::key(other)
+    }
+
+    fn validate(
+        &self,
+        items: &ItemSet<T>,
+        state: &S,
+        compactness: ValidateCompact,
+    ) -> Result<(), ValidateRefusal<ValidationError>> {
+        validate_table("keys", &self.table, items.len(), compactness)
+    }
+}
+
+impl<T, S, E, K> HashedAt<Here, T, S> for ByHash<E, K>
+where
+    E: KeyOf<T, Key = K>,
+    K: Eq + Hash + Drop,
+    S: BuildHasher,
+{
+    type Key = K;
+
+    ghost key_at = { E.key_of };
+
+    fn find<Q: HashQuery<K>>(&self, items: &ItemSet<T>, state: &S, query: Q) -> Option<ItemIndex> {
+        find_under::<T, E, S, Q>(&self.table, items, state, query_hash(state, query), query)
+    }
+}
+
+impl<T, S, E, K> TakesAt<Here, T, S> for ByHash<E, K>
+where
+    E: KeyOf<T, Key = K>,
+    K: Eq + Hash + Drop,
+    S: BuildHasher,
+{
+    fn take<Q: HashQuery<K>>(
+        &mut self,
+        items: &ItemSet<T>,
+        state: &S,
+        query: Q,
+    ) -> Option<ItemIndex> {
+        take_by::<T, E, S, Q>(&mut self.table, items, state, query)
+    }
+}
+
+impl<T, S, E, K> AsksAt<Here, T, S> for ByHash<E, K>
+where
+    E: KeyOf<T, Key = K>,
+    K: Eq + Hash + Drop,
+    S: BuildHasher,
+{
+    fn ask<Q: HashQuery<K>>(
+        &self,
+        items: &ItemSet<T>,
+        state: &S,
+        query: Q,
+    ) -> (Option<ItemIndex>, Option<MapHash>) {
+        let hash = query_hash(state, query);
+        let found = find_under::<T, E, S, Q>(&self.table, items, state, hash, query);
+        (found, Some(hash))
+    }
+}

@@ -1,0 +1,509 @@
+//! What the items of a store are found by: a table by one key, or several tables.
+//!
+//! A key index has each live index of a store, and by each of its keys no two items are alike. A leaf has one table by
+//! one key; a pair has two key indexes. A map is a store with a key index, so each call of a map is said once, however
+//! many keys its items have. A hasher's state belongs to the map, since several tables may share one.
+//!
+//! A call that takes memory does so before anything is written: `look_up`, `plan`, `make_room`, then `insert`;
+//! `plan_move`, `ready_move`, then `commit_move`. The plans in between are plain data: they lend nothing, and own no
+//! memory.
+ghost use Rattle.std.specs.Prelude.{◌≡◌, ◌≢◌, ◌≤◌, ◌+◌, ◌<◌, true, false, min, max, length, IsOk, IfOk, OnOk, OnErr};
+ghost use Rattle.iddqd.specs.{next_index, removed, rebound, sentinel, live_count, IsValid, Allows, Validates};
+ghost use Rattle.iddqd_sides.specs.Scan.{AnswersScan, IsLive, HasNoHit, passes_by};
+ghost use Rattle.iddqd_map.specs.KeyIndex.{IndexesNone, IsNextOf, IsPlannedForOne, IndexesOneMore, IsRemapOfSome, IndexesCompacted, IndexesAllOf, IsNextTold, FindsSpot, PlansMove, TakesFound};
+
+use iddqd::index_remap::IndexRemap;
+use iddqd::internal::{ValidateCompact, ValidateRefusal, ValidationError};
+use iddqd::item_index::ItemIndex;
+use iddqd::item_set::ItemSet;
+use iddqd_sides::query::HashQuery;
+use std::alloc::{AllocError, Global};
+use std::hash::Hash;
+use std::marker::PhantomData;
+
+/// A table of a store's indexes by one key, or several tables by several keys.
+///
+/// A contract sees of its memory how many indexes it can hold without more, its `capacity`, and how much it holds, in
+/// cells. An insert below the capacity takes none, and only `with_capacity`, `reserve`, `shrink_to` and an insert past
+/// the capacity change it.
+pub trait KeyIndex<T, S>: Sized + Drop {
+    ghost use Rattle.std.specs.Prelude.{ℕ, Bool, List, Some, ◌↔◌};
+    ghost use Rattle.std.specs.List.{Contains};
+    ghost use Rattle.std.specs.Cmp.{IsEquivalence};
+    ghost use Rattle.iddqd.specs.Store.{Store, get};
+    ghost use Rattle.iddqd_sides.specs.Scan.{AreApart, IsHit};
+    ghost use Rattle.iddqd_map.specs.KeyIndex.{HaveSameKeys};
+
+    // The keys of an item.
+    ghost Keys: { Type 0 };
+
+    ghost keys: { T → Self.Keys };
+
+    // The items share a key.
+    ghost alike: { T → T → Bool };
+
+    // They share all keys.
+    ghost same_keys: { T → T → Bool };
+
+    // It indexes the store, under the state of a hasher.
+    ghost indexes: { Self → S → Store T → Type 0 };
+
+    // How many indexes it can hold without more memory, and how much it holds.
+    ghost capacity: { Self → ℕ };
+
+    ghost cells: { Self → ℕ };
+
+    // The most cells that it takes for so many indexes.
+    ghost most: { ℕ → ℕ };
+
+    // An index that is entered where another was taken out may need memory, past the capacity.
+    ghost may_lack: { Bool };
+
+    // It means the same, whatever memory it has.
+    ghost same: { Self → Self → Type 0 };
+
+    /// How many indexes it can hold without more memory.
+    fn capacity(&self) -> usize
+        ensures { result ≡ capacity self.now };
+
+    // What means the same indexes the same, and keeps plans.
+    ghost same_as_itself: { (x : Self) → same x x };
+
+    ghost same_indexes: { (x y : Self) (state : S) (s : Store T) → same x y → indexes x state s → indexes y state s };
+
+    // No two items are alike.
+    ghost apart: { (x : Self) (state : S) (s : Store T) → indexes x state s → AreApart alike s };
+
+    // Where the keys stay, it indexes the store still: an item that was modified, or all items copied.
+    ghost modified: { (x : Self) (state : S) (s : Store T) (ix : ℕ) (was item : T) → indexes x state s
+        → get s ix ≡ Some was → keys item ≡ keys was → indexes x state (rebound s ix item) };
+
+    ghost same_items: { (x : Self) (state : S) (s t : Store T) → HaveSameKeys same_keys s t → indexes x state s
+        → indexes x state t };
+
+    // To share all keys is an equivalence.
+    ghost equivalence: { IsEquivalence same_keys };
+
+    // Items that share all keys share one.
+    ghost same_are_alike: { (x y : T) → same_keys x y ≡ true → alike x y ≡ true };
+}
+
+/// A key index whose memory can be taken ahead and given back.
+pub trait Sizes<T, S>: KeyIndex<T, S> {
+    /// One over a store without items. It takes no memory.
+    fn new(alloc: Global) -> Self
+        ensures none { IndexesNone (Self.indexes result) }
+        ensures capacity { Self.capacity result ≡ 0 }
+        ensures cells { Self.cells result ≡ 0 };
+
+    /// One over a store without items, that can hold so many indexes. With 0 it takes no memory.
+    fn with_capacity(alloc: Global, wanted: usize) -> Result<Self, AllocError>
+        ensures none { IfOk result (λ x. IndexesNone (Self.indexes x)) }
+        ensures capacity { IfOk result (λ x. wanted ≤ Self.capacity x) }
+        ensures few { IfOk result (λ x. Self.cells x ≤ Self.most wanted) }
+        ensures succeeds { wanted ≡ 0 → IsOk result };
+
+    /// Makes room for so many more indexes. Where there is room it takes no memory.
+    fn reserve(
+        &mut self,
+        items: &ItemSet<T>,
+        state: &S,
+        additional: usize,
+    ) -> Result<(), AllocError>
+        requires indexed { Self.indexes self.old state.now items.now.store }
+        ensures contents { Self.same self.old self.new }
+        ensures reserved { OnOk result (live_count items.now.store + additional ≤ Self.capacity self.new) }
+        ensures had_room { live_count items.now.store + additional ≤ Self.capacity self.old
+            → IsOk result × (self.new ≡ self.old) }
+        ensures capacity_stays { Self.capacity self.old ≤ Self.capacity self.new }
+        ensures few { Self.cells self.new ≤ Self.cells self.old + Self.most (live_count items.now.store + additional) };
+
+    /// Gives back what so many indexes don't need, beside those that there are.
+    ///
+    /// The memory may have to move to a smaller block, which may be refused.
+    fn shrink_to(&mut self, items: &ItemSet<T>, state: &S, least: usize) -> Result<(), AllocError>
+        requires indexed { Self.indexes self.old state.now items.now.store }
+        ensures contents { Self.same self.old self.new }
+        ensures never_more { Self.cells self.new ≤ Self.cells self.old }
+        ensures capacity_stays { min (Self.capacity self.old) (max least (live_count items.now.store))
+            ≤ Self.capacity self.new }
+        ensures shrunk { OnOk result (Self.cells self.new ≤ Self.most (max least (live_count items.now.store))) }
+        ensures refused { OnErr result (max least (live_count items.now.store) < Self.cells self.new) }
+        ensures succeeds { max least (live_count items.now.store) ≡ 0 → IsOk result };
+}
+
+/// A key index that tells which items share a key with one.
+pub trait Conflicts<T, S>: KeyIndex<T, S> {
+    ghost use Rattle.std.specs.Prelude.{ℕ, Bool, List, Some, ◌↔◌};
+    ghost use Rattle.std.specs.List.{Contains};
+    ghost use Rattle.std.specs.Cmp.{IsEquivalence};
+    ghost use Rattle.iddqd.specs.Store.{Store, get};
+    ghost use Rattle.iddqd_sides.specs.Scan.{AreApart, IsHit};
+    ghost use Rattle.iddqd_map.specs.KeyIndex.{HaveSameKeys};
+
+    /// The items that an item is alike to: at least one.
+    type Conflict: Copy;
+
+    // How many there are, and so how many items an item can be alike to.
+    ghost key_count: { ℕ };
+
+    ghost conflicts: { Store T → T → Self.Conflict → Type 0 };
+
+    // The same of items other than the one at the index.
+    ghost taken: { Store T → ℕ → T → Self.Conflict → Type 0 };
+
+    // The index is one of these.
+    ghost tells: { Self.Conflict → ℕ → Type 0 };
+
+    /// The next index of the items that were told, past one or from the first on.
+    fn next_told(conflict: &Self::Conflict, before: Option<ItemIndex>) -> Option<ItemIndex>
+        ensures { IsNextTold (tells conflict.now) before result };
+
+    // What is told are exactly the items that the item is alike to.
+    ghost told: { (s : Store T) (item : T) (at : Self.Conflict) → conflicts s item at → (ix : ℕ)
+        → tells at ix ↔ IsHit s (Self.alike item) ix };
+
+    // At least one is told, and never more than there are keys.
+    ghost told_some: { (s : Store T) (item : T) (at : Self.Conflict) → conflicts s item at → (ix : ℕ) × tells at ix };
+
+    ghost few_told: { (at : Self.Conflict) → (l : List ℕ) × (length l ≤ key_count)
+        × ((ix : ℕ) → tells at ix → Contains l ix) };
+}
+
+/// A key index that takes another item.
+///
+/// `look_up` finds where it may go, or the items that it shares a key with; `plan` says where under its index;
+/// `make_room` takes the memory; then `insert` can't fail.
+pub trait Inserts<T, S>: Conflicts<T, S> {
+    ghost use Rattle.std.specs.Prelude.{ℕ, Bool, List, Some, ◌↔◌};
+    ghost use Rattle.std.specs.List.{Contains};
+    ghost use Rattle.std.specs.Cmp.{IsEquivalence};
+    ghost use Rattle.iddqd.specs.Store.{Store, get};
+    ghost use Rattle.iddqd_sides.specs.Scan.{AreApart, IsHit};
+    ghost use Rattle.iddqd_map.specs.KeyIndex.{HaveSameKeys};
+
+    /// What is computed of an item's keys alone, once: their hashes.
+    type Known: Copy;
+    /// Where an item may go that is alike to none, whatever its index will be.
+    type Spot: Drop;
+    /// Where an item goes under its index.
+    type Plan: Drop;
+
+    ghost is_known: { S → T → Self.Known → Type 0 };
+
+    ghost is_spot: { Self → S → Store T → T → Self.Spot → Type 0 };
+
+    ghost is_planned: { Self → S → Store T → T → Self.Plan → Type 0 };
+
+    ghost has_room_for: { Self → Self.Plan → Type 0 };
+
+    /// What is computed of an item's keys alone.
+    fn known(state: &S, item: &T) -> Self::Known
+        ensures { is_known state.now item.now result };
+
+    /// Where an item may go, or the items that it is alike to. It takes no memory.
+    fn look_up(
+        &self,
+        items: &ItemSet<T>,
+        state: &S,
+        known: Self::Known,
+        item: &T,
+    ) -> Result<Self::Spot, Self::Conflict>
+        requires hashed { is_known state.now item.now known }
+        requires indexed { Self.indexes self.now state.now items.now.store }
+        ensures { FindsSpot (Self.alike item.now) (is_spot self.now state.now items.now.store item.now)
+            (Self.conflicts items.now.store item.now) items.now.store result };
+
+    /// Where an item goes under the next index.
+    fn plan(
+        &self,
+        items: &ItemSet<T>,
+        state: &S,
+        spot: Self::Spot,
+        ix: ItemIndex,
+        item: &T,
+    ) -> Self::Plan
+        requires valid { IsValid items.now.store }
+        requires indexed { Self.indexes self.now state.now items.now.store }
+        requires spot { is_spot self.now state.now items.now.store item.now spot }
+        requires next { ix ≡ next_index items.now.store }
+        ensures { is_planned self.now state.now items.now.store item.now result };
+
+    /// Makes the room for a planned insert. Where there is room it takes no memory.
+    fn make_room(
+        &mut self,
+        items: &ItemSet<T>,
+        state: &S,
+        plan: &Self::Plan,
+    ) -> Result<(), AllocError>
+        requires indexed { Self.indexes self.old state.now items.now.store }
+        ensures contents { Self.same self.old self.new }
+        ensures ready { OnOk result (has_room_for self.new plan.now) }
+        ensures had_room { live_count items.now.store < Self.capacity self.old → IsOk result × (self.new ≡ self.old) }
+        ensures capacity_stays { Self.capacity self.old ≤ Self.capacity self.new }
+        ensures few { Self.cells self.new ≤ Self.cells self.old + Self.most (live_count items.now.store + 1) };
+
+    /// Enters an index as it was planned. It takes no memory.
+    fn insert(&mut self, known: Self::Known, plan: &Self::Plan, ix: ItemIndex)
+        requires room { has_room_for self.old plan.now }
+        requires next { IsNextOf (Self.indexes self.old) ix }
+        requires assigned { ix ≢ sentinel }
+        requires planned { IsPlannedForOne (λ state s item. is_planned self.old state s item plan.now) }
+        ensures indexed { IndexesOneMore Self.alike (λ state item. is_known state item known)
+            (λ state s item. is_planned self.old state s item plan.now) (Self.indexes self.old) ix (Self.indexes self.new) }
+        ensures capacity { Self.capacity self.new ≡ Self.capacity self.old }
+        ensures cells { Self.cells self.new ≡ Self.cells self.old };
+
+    ghost same_plans: { (x y : Self) (state : S) (s : Store T) (item : T) (plan : Self.Plan) → Self.same x y
+        → is_planned x state s item plan → is_planned y state s item plan };
+}
+
+/// A key index that drops an item, or all of them, or gives them other names. None of these takes memory.
+pub trait Removes<T, S>: KeyIndex<T, S> {
+    /// Takes a live index out. It takes no memory.
+    fn remove(&mut self, items: &ItemSet<T>, state: &S, ix: ItemIndex)
+        requires live { IsLive items.now.store ix }
+        requires indexed { Self.indexes self.old state.now items.now.store }
+        ensures indexed { Self.indexes self.new state.now (removed items.now.store ix) }
+        ensures capacity { Self.capacity self.new ≡ Self.capacity self.old }
+        ensures cells { Self.cells self.new ≡ Self.cells self.old };
+
+    /// Forgets every index, and keeps the memory.
+    fn clear(&mut self)
+        ensures none { IndexesNone (Self.indexes self.new) }
+        ensures capacity { Self.capacity self.new ≡ Self.capacity self.old }
+        ensures cells { Self.cells self.new ≡ Self.cells self.old };
+
+    /// Gives each index its new name. It takes no memory.
+    fn remap(&mut self, remap: &IndexRemap)
+        requires names { IsRemapOfSome (Self.indexes self.old) remap.now }
+        ensures indexed { IndexesCompacted (Self.indexes self.old) remap.now (Self.indexes self.new) }
+        ensures capacity { Self.capacity self.new ≡ Self.capacity self.old }
+        ensures cells { Self.cells self.new ≡ Self.cells self.old };
+}
+
+/// A key index that takes an item in the place of those that share a key with it.
+///
+/// `ready_after` takes the memory, if any is needed; then those give way, and the insert that follows can't fail.
+pub trait Overwrites<T, S>: Inserts<T, S> {
+    ghost use Rattle.std.specs.Prelude.{ℕ, Bool, List, Some, ◌↔◌};
+    ghost use Rattle.std.specs.List.{Contains};
+    ghost use Rattle.std.specs.Cmp.{IsEquivalence};
+    ghost use Rattle.iddqd.specs.Store.{Store, get};
+    ghost use Rattle.iddqd_sides.specs.Scan.{AreApart, IsHit};
+    ghost use Rattle.iddqd_map.specs.KeyIndex.{HaveSameKeys};
+
+    // It is ready for an insert that comes after a removal.
+    ghost is_ready_after: { Self → Type 0 };
+
+    /// Where an item may go that is alike to none.
+    fn spot(&self, items: &ItemSet<T>, state: &S, known: Self::Known, item: &T) -> Self::Spot
+        requires hashed { Self.is_known state.now item.now known }
+        requires indexed { Self.indexes self.now state.now items.now.store }
+        requires apart { HasNoHit items.now.store (Self.alike item.now) }
+        ensures { Self.is_spot self.now state.now items.now.store item.now result };
+
+    /// Makes ready for an insert that comes after a removal. Below the capacity it takes no memory.
+    fn ready_after(&mut self, items: &ItemSet<T>, state: &S) -> Result<(), AllocError>
+        requires indexed { Self.indexes self.old state.now items.now.store }
+        ensures contents { Self.same self.old self.new }
+        ensures ready { OnOk result (is_ready_after self.new) }
+        ensures may_lack { OnErr result (Self.may_lack ≡ true) }
+        ensures past { OnErr result (Self.capacity self.old < live_count items.now.store) }
+        ensures capacity { Self.capacity self.new ≡ Self.capacity self.old }
+        ensures cells { Self.cells self.new ≡ Self.cells self.old };
+
+    /// Takes a live index out, as `remove`, so that there is room for the insert that follows.
+    fn give_way(&mut self, items: &ItemSet<T>, state: &S, ix: ItemIndex)
+        requires live { IsLive items.now.store ix }
+        requires indexed { Self.indexes self.old state.now items.now.store }
+        ensures indexed { Self.indexes self.new state.now (removed items.now.store ix) }
+        ensures capacity { Self.capacity self.new ≡ Self.capacity self.old }
+        ensures cells { Self.cells self.new ≡ Self.cells self.old }
+        ensures ready { is_ready_after self.old → is_ready_after self.new }
+        ensures roomy { (plan : Self.Plan) → is_ready_after self.old → Self.has_room_for self.new plan };
+}
+
+/// A key index that gives a live index another item.
+///
+/// `plan_move` finds what becomes of it, or the other items that share a key; `ready_move` takes the memory, if any is
+/// needed; then `commit_move` can't fail.
+pub trait Moves<T, S>: Conflicts<T, S> {
+    ghost use Rattle.std.specs.Prelude.{ℕ, Bool, List, Some, ◌↔◌};
+    ghost use Rattle.std.specs.List.{Contains};
+    ghost use Rattle.std.specs.Cmp.{IsEquivalence};
+    ghost use Rattle.iddqd.specs.Store.{Store, get};
+    ghost use Rattle.iddqd_sides.specs.Scan.{AreApart, IsHit};
+    ghost use Rattle.iddqd_map.specs.KeyIndex.{HaveSameKeys};
+
+    /// What a look-up computed of the keys of a stored item, as far as it did.
+    type Asked: Copy;
+    /// What becomes of a live index that is given another item.
+    type Move: Drop;
+
+    ghost is_move: { S → Store T → ℕ → T → Self.Move → Type 0 };
+
+    // An index is entered anew.
+    ghost moves: { Self.Move → Bool };
+
+    ghost is_ready: { Self → Self.Move → Type 0 };
+
+    /// Nothing that a look-up computed.
+    fn unasked() -> Self::Asked;
+
+    /// What becomes of a live index that is given this item, or the other items that it is alike to.
+    fn plan_move(
+        &self,
+        items: &ItemSet<T>,
+        state: &S,
+        ix: ItemIndex,
+        item: &T,
+    ) -> Result<Self::Move, Self::Conflict>
+        requires live { IsLive items.now.store ix }
+        requires indexed { Self.indexes self.now state.now items.now.store }
+        ensures { PlansMove (Self.alike item.now) (Self.same_keys item.now) (is_move state.now items.now.store ix item.now)
+            moves (Self.taken items.now.store ix item.now) items.now.store ix result };
+
+    /// Makes ready for a move. Up to the capacity it takes no memory, nor where all keys stay.
+    fn ready_move(
+        &mut self,
+        items: &ItemSet<T>,
+        state: &S,
+        plan: &Self::Move,
+    ) -> Result<(), AllocError>
+        requires indexed { Self.indexes self.old state.now items.now.store }
+        ensures contents { Self.same self.old self.new }
+        ensures ready { OnOk result (is_ready self.new plan.now) }
+        ensures moves { OnErr result (moves plan.now ≡ true) }
+        ensures may_lack { OnErr result (Self.may_lack ≡ true) }
+        ensures past { OnErr result (Self.capacity self.old < live_count items.now.store) }
+        ensures capacity { Self.capacity self.new ≡ Self.capacity self.old }
+        ensures cells { Self.cells self.new ≡ Self.cells self.old };
+
+    /// Enters a live index as it was planned, while the store has its old item. It takes no memory.
+    fn commit_move(
+        &mut self,
+        items: &ItemSet<T>,
+        state: &S,
+        asked: Self::Asked,
+        plan: &Self::Move,
+        ix: ItemIndex,
+        item: &T,
+    )
+        requires live { IsLive items.now.store ix }
+        requires indexed { Self.indexes self.old state.now items.now.store }
+        requires planned { is_move state.now items.now.store ix item.now plan.now }
+        requires ready { is_ready self.old plan.now }
+        ensures indexed { Self.indexes self.new state.now (rebound items.now.store ix item.now) }
+        ensures capacity { Self.capacity self.new ≡ Self.capacity self.old }
+        ensures cells { Self.cells self.new ≡ Self.cells self.old };
+}
+
+/// A key index that can be copied, compared and checked.
+pub trait Checks<T, S>: KeyIndex<T, S> {
+    /// One that indexes the same, and has no more memory.
+    fn copied(&self) -> Result<Self, AllocError>
+        ensures contents { IfOk result (λ copy. IndexesAllOf (Self.indexes self.now) (Self.indexes copy)) }
+        ensures few { IfOk result (λ copy. Self.cells copy ≤ Self.cells self.now) };
+
+    /// The index of the item that shares all keys with this one.
+    fn find_same(&self, items: &ItemSet<T>, state: &S, item: &T) -> Option<ItemIndex>
+        requires indexed { Self.indexes self.now state.now items.now.store }
+        ensures { AnswersScan items.now.store (Self.same_keys item.now) result };
+
+    /// Whether the items share all keys.
+    fn is_same(item: &T, other: &T) -> bool
+        ensures { result ≡ Self.same_keys item.now other.now };
+
+    /// Whether the tables are sound over the store, as they are in every map, where the slots are as the mode wants them.
+    ///
+    /// It sorts a copy of the indexes, whose memory may be refused.
+    fn validate(
+        &self,
+        items: &ItemSet<T>,
+        state: &S,
+        compactness: ValidateCompact,
+    ) -> Result<(), ValidateRefusal<ValidationError>>
+        requires valid { IsValid items.now.store }
+        requires allowed { Allows compactness (length items.now.store.free) }
+        requires indexed { Self.indexes self.now state.now items.now.store }
+        ensures { Validates (Allows compactness (length items.now.store.free)) result };
+}
+
+/// Where a key index has a key by its hash: `Here` in a leaf, else to the left or the right in a pair.
+pub enum Here {}
+
+/// Where the first index of a pair has the key.
+pub struct Left<P> {
+    of: PhantomData<P>,
+}
+
+/// Where the second index of a pair has the key.
+pub struct Right<P> {
+    of: PhantomData<P>,
+}
+
+/// A key index with a key by its hash at the place `P`.
+pub trait HashedAt<P, T, S>: KeyIndex<T, S> {
+    ghost use Rattle.std.specs.Prelude.{Bool};
+
+    /// The key.
+    type Key: Eq + Hash + Drop;
+
+    ghost key_at: { T → Self.Key };
+
+    /// The index of the item that has the key for which the query stands.
+    fn find<Q: HashQuery<Self::Key>>(
+        &self,
+        items: &ItemSet<T>,
+        state: &S,
+        query: Q,
+    ) -> Option<ItemIndex>
+        requires indexed { Self.KeyIndex.indexes self.now state.now items.now.store }
+        ensures { AnswersScan items.now.store (passes_by key_at (Q.stands_for query)) result };
+}
+
+/// The same, where the item that was found is to leave.
+pub trait TakesAt<P, T, S>: HashedAt<P, T, S> {
+    /// Finds as `find` does, and takes the index out, by one search by that key. It takes no memory.
+    fn take<Q: HashQuery<Self::Key>>(
+        &mut self,
+        items: &ItemSet<T>,
+        state: &S,
+        query: Q,
+    ) -> Option<ItemIndex>
+        requires indexed { Self.KeyIndex.indexes self.old state.now items.now.store }
+        ensures found { AnswersScan items.now.store (passes_by Self.HashedAt.key_at (Q.stands_for query)) result }
+        ensures taken { TakesFound (Self.KeyIndex.indexes self.new) state.now items.now.store result }
+        ensures capacity { Self.KeyIndex.capacity self.new ≡ Self.KeyIndex.capacity self.old }
+        ensures cells { Self.KeyIndex.cells self.new ≡ Self.KeyIndex.cells self.old };
+}
+
+/// A key index with a key for which a `Q` stands, where the item that was found is to leave.
+pub trait TakesQuery<Q, T, S>: KeyIndex<T, S> {
+    ghost use Rattle.std.specs.Prelude.{Bool};
+
+    // The query stands for the key of the item.
+    ghost stands_for: { Q → T → Bool };
+
+    /// Finds the item that has the key, and takes its index out, by one search. It takes no memory.
+    fn take_query(&mut self, items: &ItemSet<T>, state: &S, query: Q) -> Option<ItemIndex>
+        requires indexed { Self.KeyIndex.indexes self.old state.now items.now.store }
+        ensures found { AnswersScan items.now.store (stands_for query) result }
+        ensures taken { TakesFound (Self.KeyIndex.indexes self.new) state.now items.now.store result }
+        ensures capacity { Self.KeyIndex.capacity self.new ≡ Self.KeyIndex.capacity self.old }
+        ensures cells { Self.KeyIndex.cells self.new ≡ Self.KeyIndex.cells self.old };
+}
+
+/// The same, where the item that was found is to become another one.
+pub trait AsksAt<P, T, S>: HashedAt<P, T, S> + Moves<T, S> {
+    /// Finds as `find` does, and keeps what was computed for that.
+    fn ask<Q: HashQuery<Self::Key>>(
+        &self,
+        items: &ItemSet<T>,
+        state: &S,
+        query: Q,
+    ) -> (Option<ItemIndex>, Self::Asked)
+        requires indexed { Self.KeyIndex.indexes self.now state.now items.now.store }
+        ensures { AnswersScan items.now.store (passes_by Self.HashedAt.key_at (Q.stands_for query)) result.0 };
+}

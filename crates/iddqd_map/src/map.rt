@@ -1,0 +1,148 @@
+//! A map: a store of items, and a key index by which no two of them are alike.
+//!
+//! Each call is said once here, whatever keys the items have: a map with a name of its own is a type name for `Map` at
+//! its key index, and has functions of its own only where it names a key. A call that takes an item computes each hash
+//! once and searches each table once. All conflicts are known, and all memory is taken, before anything is written.
+//!
+//! Invariants:
+//! 1. The store is sound: its free indexes are distinct and exactly the vacant ones.
+//! 2. The key index has exactly the live indexes, each where its item's keys belong under the hasher's state.
+ghost use Rattle.std.specs.Prelude.{◌≡◌, ◌↔◌, IsTrue, option_copied};
+ghost use Rattle.iddqd.specs.{get, live_count};
+ghost use Rattle.iddqd_map.specs.Map.{empty_map, IsMap};
+
+mod by_place;
+mod changes;
+mod checks;
+mod clones;
+mod equality;
+mod inserts;
+mod memory;
+mod modifies;
+mod overwrites;
+mod removals;
+mod replaces;
+mod retain;
+mod steps;
+mod walks;
+mod whole;
+
+use crate::key_index::{KeyIndex, Sizes};
+use iddqd::hash_builder::DefaultHashBuilder;
+use iddqd::item_index::ItemIndex;
+use iddqd::item_set::ItemSet;
+use std::alloc::Global;
+use std::marker::Model;
+
+/// Items under stable indexes, no two of which are alike by their keys.
+///
+/// A contract sees it as the store of its items, and its memory beside that.
+#[derive(Drop)]
+pub struct Map<T, X: KeyIndex<T, S>, S = DefaultHashBuilder> {
+    items: ItemSet<T>,
+    indexes: X,
+    state: S,
+}
+
+impl<T, X: KeyIndex<T, S>, S> Model for Map<T, X, S> {
+    ghost use Rattle.iddqd_map.specs.Map.{MapState, map_code, map_with};
+    ghost use Rattle.iddqd_map.specs.KeyIndex.{IsIndexed};
+
+    ghost Value = { MapState T };
+
+    ghost coded = { map_code T.code };
+
+    ghost view = { λ m. map_with m.items (X.capacity m.indexes) (X.cells m.indexes) };
+
+    ghost invariant = { λ m. IsIndexed (X.indexes m.indexes) m.state m.items.store };
+}
+
+/// The parts of a map, lent.
+#[derive(Drop)]
+pub struct Parts<'a, T, X, S> {
+    /// The items.
+    pub items: &'a ItemSet<T>,
+    /// What they are found by.
+    pub indexes: &'a X,
+    /// The state of the hasher.
+    pub state: &'a S,
+}
+
+impl<T, X: Sizes<T, DefaultHashBuilder>> Map<T, X, DefaultHashBuilder> {
+    /// No items, slots for as many as there are indexes but `SENTINEL`, and the default hasher, whose seed is fixed. It
+    /// takes no memory.
+    pub fn new(alloc: Global) -> Map<T, X, DefaultHashBuilder>
+        ensures { result ≡ empty_map u32.MAX }
+    {
+        Map::with_hasher(alloc, DefaultHashBuilder::default())
+    }
+
+    /// No items, never more slots than the limit, and the default hasher. It takes no memory.
+    ///
+    /// No call changes the limit.
+    pub fn with_limit(alloc: Global, limit: u32) -> Map<T, X, DefaultHashBuilder>
+        ensures { result ≡ empty_map limit }
+    {
+        Map::with_limit_and_hasher(alloc, limit, DefaultHashBuilder::default())
+    }
+}
+
+impl<T, X: Sizes<T, S>, S> Map<T, X, S> {
+    /// No items, and slots for as many as there are indexes but `SENTINEL`. It takes no memory.
+    pub fn with_hasher(alloc: Global, state: S) -> Map<T, X, S>
+        ensures { result ≡ empty_map u32.MAX }
+    {
+        Map::with_limit_and_hasher(alloc, u32::MAX, state)
+    }
+
+    /// No items, and never more slots than the limit. It takes no memory.
+    ///
+    /// No call changes the limit.
+    pub fn with_limit_and_hasher(alloc: Global, limit: u32, state: S) -> Map<T, X, S>
+        ensures { result ≡ empty_map limit }
+    {
+        Map {
+            items: ItemSet::with_limit(alloc, limit),
+            indexes: X::new(alloc),
+            state,
+        }
+    }
+}
+
+impl<T, X: KeyIndex<T, S>, S> Map<T, X, S> {
+    /// The number of items.
+    pub fn len(&self) -> usize
+        ensures value { result ≡ live_count self.now.store }
+
+        // What every map keeps.
+        ensures state { IsMap X.alike self.now.store }
+    {
+        self.items.len()
+    }
+
+    /// Whether there is no item.
+    pub fn is_empty(&self) -> bool
+        ensures { IsTrue result ↔ (live_count self.now.store ≡ 0) }
+    {
+        self.items.is_empty()
+    }
+
+    /// The item at an index, if there is one.
+    pub fn get_at(&self, ix: ItemIndex) -> Option<&T>
+        ensures { option_copied result ≡ get self.now.store ix }
+    {
+        self.items.get(ix)
+    }
+
+    /// The parts, for look-ups by what a key index has of its own.
+    pub fn parts(&self) -> Parts<'_, T, X, S>
+        ensures items { result.items.now.store ≡ self.now.store }
+        ensures indexed { X.indexes result.indexes.now result.state.now result.items.now.store }
+    {
+        Parts {
+            items: &self.items,
+            indexes: &self.indexes,
+            state: &self.state,
+        }
+    }
+}

@@ -1,0 +1,143 @@
+//! Items by a key that goes by its hash, at a place of the key index: `find_by::<Here, _>(query)`.
+//!
+//! A map with a name of its own has the same calls under the names of its keys.
+ghost use Rattle.std.specs.Prelude.{◌≡◌, ◌↔◌, ◌≤◌, false, option_copied};
+ghost use Rattle.std.specs.Fn.{FnOnceReturnsAt};
+ghost use Rattle.iddqd_sides.specs.Scan.{HasNoHit, AnswersScan, passes_by};
+ghost use Rattle.iddqd_sides.specs.KeyKeeping.{KeepsKey};
+ghost use Rattle.iddqd_map.specs.Map.{room, FindsItem, Removes};
+ghost use Rattle.iddqd_map.specs.Calls.{MayChange, Replaces, Changes};
+ghost use Rattle.iddqd_map.specs.Modify.{Modifies};
+
+use super::Map;
+use super::changes::change_found;
+use super::replaces::replace_found;
+use crate::key_index::{AsksAt, HashedAt, KeyIndex, TakesAt, TakesQuery};
+use crate::refusal::ReplaceRefusal;
+use iddqd::item_index::ItemIndex;
+use iddqd_sides::query::HashQuery;
+
+impl<T, X: KeyIndex<T, S>, S> Map<T, X, S> {
+    /// The index of the item that has the key for which the query stands.
+    ///
+    /// The query is a `&K`, or what else stands for such a key. It is compared with keys of the same hash alone.
+    pub fn find_by<P, Q>(&self, query: Q) -> Option<ItemIndex>
+    where
+        X: HashedAt<P, T, S>,
+        Q: HashQuery<X::Key>,
+        ensures { AnswersScan self.now.store (passes_by X.key_at (Q.stands_for query)) result }
+    {
+        self.indexes.find(&self.items, &self.state, query)
+    }
+
+    /// Whether an item has the key.
+    pub fn contains_by<P, Q>(&self, query: Q) -> bool
+    where
+        X: HashedAt<P, T, S>,
+        Q: HashQuery<X::Key>,
+        ensures { (result ≡ false) ↔ HasNoHit self.now.store (passes_by X.key_at (Q.stands_for query)) }
+    {
+        self.find_by::<P, Q>(query).is_some()
+    }
+
+    /// The item that has the key.
+    pub fn get_by<P, Q>(&self, query: Q) -> Option<&T>
+    where
+        X: HashedAt<P, T, S>,
+        Q: HashQuery<X::Key>,
+        ensures { FindsItem self.now.store (passes_by X.key_at (Q.stands_for query)) (option_copied result) }
+    {
+        self.items.get(self.find_by::<P, Q>(query)?)
+    }
+
+    /// Takes the item that has the key out of the map. It takes no memory.
+    pub fn remove_by<P, Q>(&mut self, query: Q) -> Option<T>
+    where
+        X: TakesAt<P, T, S>,
+        Q: HashQuery<X::Key>,
+        ensures removes { Removes self.old (passes_by X.key_at (Q.stands_for query)) result self.new }
+        ensures room { room self.old ≤ room self.new }
+    {
+        let ix = self.indexes.take(&self.items, &self.state, query)?;
+        self.items.remove(ix)
+    }
+
+    /// Takes the item that has the key for which the query stands out of the map, by one search. It takes no memory.
+    pub fn remove_query<Q>(&mut self, query: Q) -> Option<T>
+    where
+        X: TakesQuery<Q, T, S>,
+        ensures removes { Removes self.old (X.stands_for query) result self.new }
+        ensures room { room self.old ≤ room self.new }
+    {
+        let ix = self.indexes.take_query(&self.items, &self.state, query)?;
+        self.items.remove(ix)
+    }
+
+    /// Puts an item in the place of the one that has the key, which is handed back; else as `replace_at`.
+    ///
+    /// The hash that the look-up computed isn't computed again.
+    pub fn replace_by<P, Q>(
+        &mut self,
+        query: Q,
+        item: T,
+    ) -> Result<T, ReplaceRefusal<T, X::Conflict>>
+    where
+        X: AsksAt<P, T, S>,
+        Q: HashQuery<X::Key>,
+        ensures replaces { Replaces X.alike X.same_keys X.may_lack X.taken self.old
+            (passes_by X.key_at (Q.stands_for query)) item result self.new }
+        ensures room { room self.old ≤ room self.new }
+    {
+        let (found, asked) = self.indexes.ask(&self.items, &self.state, query);
+        replace_found(
+            &mut self.items,
+            &mut self.indexes,
+            &self.state,
+            asked,
+            found,
+            item,
+        )
+    }
+
+    /// Puts what the closure makes of the item that has the key in its place, and hands that item back; or answers
+    /// none, where no item has it.
+    ///
+    /// The closure is called at most once, and not at all where no item has the key. Else as `replace_by`.
+    pub fn change_by<P, Q, F: FnOnce(&T) -> T>(
+        &mut self,
+        query: Q,
+        f: F,
+    ) -> Result<Option<T>, ReplaceRefusal<T, X::Conflict>>
+    where
+        X: AsksAt<P, T, S>,
+        Q: HashQuery<X::Key>,
+        requires { MayChange F.FnOnce f self.old.store (passes_by X.key_at (Q.stands_for query)) }
+        ensures changes { Changes X.alike X.same_keys X.may_lack X.taken (FnOnceReturnsAt F.FnOnce f) self.old
+            (passes_by X.key_at (Q.stands_for query)) result self.new }
+        ensures room { room self.old ≤ room self.new }
+    {
+        let (found, asked) = self.indexes.ask(&self.items, &self.state, query);
+        change_found(
+            &mut self.items,
+            &mut self.indexes,
+            &self.state,
+            asked,
+            found,
+            f,
+        )
+    }
+
+    /// Calls the closure with a `&mut` to the item that has the key, as `modify_at`; or returns none, and doesn't call
+    /// it, where no item has the key. It is one look-up.
+    pub fn modify_by<P, Q, R, F: FnOnce(&mut T) -> R>(&mut self, query: Q, f: F) -> Option<R>
+    where
+        X: HashedAt<P, T, S>,
+        Q: HashQuery<X::Key>,
+        requires { let named = passes_by X.key_at (Q.stands_for query) in
+            KeepsKey F.FnOnce f X.keys (λ item. FindsItem self.old.store named (Some item)) }
+        ensures modifies { Modifies F.FnOnce f self.old (passes_by X.key_at (Q.stands_for query)) result self.new }
+        ensures room { room self.old ≤ room self.new }
+    {
+        self.modify_live(self.find_by::<P, Q>(query)?, f)
+    }
+}

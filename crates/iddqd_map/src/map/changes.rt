@@ -1,0 +1,43 @@
+//! What a closure makes of an item takes its place.
+ghost use Rattle.std.specs.Prelude.{◌≡◌, ◌≤◌, Bool, Some, IfSome};
+ghost use Rattle.std.specs.Borrow.{Bor};
+ghost use Rattle.std.specs.Fn.{FnOnceReturnsAt};
+ghost use Rattle.iddqd.specs.{get};
+ghost use Rattle.iddqd_sides.specs.Scan.{IsLive, AnswersScan};
+ghost use Rattle.iddqd_map.specs.Map.{map_with, room};
+ghost use Rattle.iddqd_map.specs.Calls.{Changes};
+ghost use Rattle.iddqd_map.specs.KeyIndex.{IsIndexed};
+
+use super::replaces::replace;
+use crate::key_index::Moves;
+use crate::refusal::ReplaceRefusal;
+use iddqd::item_index::ItemIndex;
+use iddqd::item_set::ItemSet;
+
+// Puts what the closure makes of the item that a look-up found in its place; or answers none, and doesn't call it.
+pub(super) fn change_found<T, X: Moves<T, S>, S, F: FnOnce(&T) -> T>(
+    items: &mut ItemSet<T>,
+    indexes: &mut X,
+    state: &S,
+    asked: X::Asked,
+    found: Option<ItemIndex>,
+    f: F,
+) -> Result<Option<T>, ReplaceRefusal<T, X::Conflict>>
+    requires callable { IfSome found (λ ix. (item : Bor T) → get items.old.store ix ≡ Some item.now → F.pre f item) }
+    requires live { IfSome found (IsLive items.old.store) }
+    requires map { IsIndexed (X.indexes indexes.old) state.now items.old.store }
+    ensures map { IsIndexed (X.indexes indexes.new) state.now items.new.store }
+    ensures changes { (test : T → Bool) → AnswersScan items.old.store test found
+        → Changes X.alike X.same_keys X.may_lack X.taken (FnOnceReturnsAt F.FnOnce f)
+        (map_with items.old (X.capacity indexes.old) (X.cells indexes.old)) test result
+        (map_with items.new (X.capacity indexes.new) (X.cells indexes.new)) }
+    ensures room { room (map_with items.old (X.capacity indexes.old) (X.cells indexes.old))
+        ≤ room (map_with items.new (X.capacity indexes.new) (X.cells indexes.new)) }
+{
+    let Some(ix) = found else {
+        return Ok(None);
+    };
+    let item = f(&items[ix]);
+    let was = replace(items, indexes, state, asked, ix, item)?;
+    Ok(Some(was))
+}

@@ -1,0 +1,27 @@
+//! The check of a map's parts, which the invariant makes sound.
+ghost use Rattle.std.specs.Prelude.{length, IfErr};
+ghost use Rattle.iddqd.specs.{Allows, Validates};
+ghost use Rattle.iddqd.specs.Validation.{Tells, not_compact_text};
+
+use super::Map;
+use crate::key_index::Checks;
+use iddqd::internal::{ValidateCompact, ValidateRefusal, ValidationError};
+
+impl<T, X: Checks<T, S>, S> Map<T, X, S> {
+    /// Whether store and tables are sound, as they are in every map; in `Compact`, whether no slot is vacant.
+    ///
+    /// It sorts a copy of the indexes, whose memory may be refused.
+    pub fn validate(
+        &self,
+        compactness: ValidateCompact,
+    ) -> Result<(), ValidateRefusal<ValidationError>>
+        ensures allows { Validates (Allows compactness (length self.now.store.free)) result }
+        ensures not_compact { (Allows compactness (length self.now.store.free) → ⊥)
+            → IfErr result (Tells (not_compact_text (length self.now.store.free))) }
+    {
+        if let Err(refusal) = self.items.validate(compactness) {
+            return Err(refusal);
+        }
+        self.indexes.validate(&self.items, &self.state, compactness)
+    }
+}

@@ -1,0 +1,28 @@
+//! Copies of a map.
+//!
+//! Whether items keep their keys where they are cloned, only their type knows: so each kind of map has a `Clone` of its
+//! own, which calls this.
+ghost use Rattle.std.specs.Prelude.{◌≤◌, true, ◌≡◌, IfOk};
+ghost use Rattle.iddqd.specs.{slot_count};
+ghost use Rattle.iddqd.specs.Clones.{IsStoreClone};
+
+use super::Map;
+use crate::key_index::Checks;
+use std::alloc::AllocError;
+
+impl<T: Clone, X: Checks<T, S>, S: Copy> Map<T, X, S> {
+    /// A copy: each item is cloned once, under its index, and no key is hashed or compared. Where memory is refused the
+    /// clones made so far are dropped.
+    pub fn copied(&self) -> Result<Map<T, X, S>, AllocError>
+        requires { (x y : T) → T.is_clone x y → X.same_keys x y ≡ true }
+        ensures cloned { IfOk result (λ copy. IsStoreClone T.is_clone self.now.store copy.store) }
+        ensures slots { IfOk result (λ copy. copy.memory.slots ≡ slot_count self.now.store) }
+        ensures few { IfOk result (λ copy. copy.memory.cells ≤ self.now.memory.cells) }
+    {
+        Ok(Map {
+            items: self.items.clone()?,
+            indexes: self.indexes.copied()?,
+            state: self.state,
+        })
+    }
+}

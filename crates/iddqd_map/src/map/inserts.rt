@@ -1,0 +1,59 @@
+//! Items come into a map. All memory is taken before anything is written.
+ghost use Rattle.std.specs.Prelude.{◌+◌, ◌≤◌};
+ghost use Rattle.iddqd_map.specs.Map.{map_with, room};
+ghost use Rattle.iddqd_map.specs.Calls.{Inserts};
+ghost use Rattle.iddqd_map.specs.KeyIndex.{IsIndexed};
+
+use super::Map;
+use super::steps::store_in_room;
+use crate::key_index::Inserts;
+use crate::place::refusal;
+use crate::refusal::InsertRefusal;
+use iddqd::item_index::ItemIndex;
+use iddqd::item_set::ItemSet;
+use std::alloc::AllocError;
+
+impl<T, X: Inserts<T, S>, S> Map<T, X, S> {
+    /// Takes an item that shares no key with another, and tells its index.
+    ///
+    /// Conflicts are told even where the map is full or no memory is left, and a full map even where no memory is left.
+    /// A refusal hands the item back, and the contents stay. Each key is hashed once, and each table searched once.
+    pub fn insert_unique(&mut self, item: T) -> Result<ItemIndex, InsertRefusal<T, X::Conflict>>
+        ensures inserts { Inserts X.alike X.most X.conflicts self.old item result self.new }
+        ensures room { room self.old ≤ room self.new + 1 }
+    {
+        let known = X::known(&self.state, &item);
+        insert(&mut self.items, &mut self.indexes, &self.state, known, item)
+    }
+}
+
+/// Stores an item that shares no key with another, and enters its index.
+pub(super) fn insert<T, X: Inserts<T, S>, S>(
+    items: &mut ItemSet<T>,
+    indexes: &mut X,
+    state: &S,
+    known: X::Known,
+    item: T,
+) -> Result<ItemIndex, InsertRefusal<T, X::Conflict>>
+    requires map { IsIndexed (X.indexes indexes.old) state.now items.old.store }
+    requires hashed { X.is_known state.now item known }
+    ensures map { IsIndexed (X.indexes indexes.new) state.now items.new.store }
+    ensures inserts { Inserts X.alike X.most X.conflicts
+        (map_with items.old (X.capacity indexes.old) (X.cells indexes.old)) item result
+        (map_with items.new (X.capacity indexes.new) (X.cells indexes.new)) }
+{
+    let spot = match indexes.look_up(items, state, known, &item) {
+        Ok(spot) => spot,
+        Err(at) => return Err(InsertRefusal::Duplicate { item, at }),
+    };
+    let ix = match items.assert_can_grow() {
+        Ok(handle) => handle.next_index(),
+        Err(error) => return Err(refusal(error, item)),
+    };
+    let plan = indexes.plan(items, state, spot, ix, &item);
+    if let Err(AllocError) = indexes.make_room(items, state, &plan) {
+        return Err(InsertRefusal::Memory(item));
+    }
+    indexes.insert(known, &plan, ix);
+    Ok(store_in_room(items, item))
+}

@@ -1,0 +1,151 @@
+//! Memory that a map takes ahead and gives back, and its slots closed up.
+ghost use Rattle.std.specs.Prelude.{◌≡◌, ◌≤◌, ◌-◌, ◌*◌, [], length, min, max, IsOk, IfOk, OnOk, OnErr};
+ghost use Rattle.iddqd.specs.{slot_limit, empty, cleared, live_count, IsRemapOf};
+ghost use Rattle.iddqd_map.specs.Map.{capacity, room};
+ghost use Rattle.iddqd_map.specs.Memory.{ReservesItems, ShrinksItems};
+ghost use Rattle.iddqd_map.specs.Calls.{Compacts};
+
+use super::Map;
+use crate::key_index::{Removes, Sizes};
+use iddqd::hash_builder::DefaultHashBuilder;
+use iddqd::index_remap::IndexRemap;
+use iddqd::item_set::ItemSet;
+use std::alloc::{AllocError, Global};
+
+impl<T, X: Sizes<T, DefaultHashBuilder>> Map<T, X, DefaultHashBuilder> {
+    /// No items, memory for so many, and the default hasher. With 0 it takes no memory.
+    pub fn with_capacity(
+        alloc: Global,
+        wanted: usize,
+    ) -> Result<Map<T, X, DefaultHashBuilder>, AllocError>
+    where
+        T: Drop,
+        ensures contents { IfOk result (λ m. m.store ≡ empty) }
+        ensures room { IfOk result (λ m. min wanted slot_limit ≤ room m) }
+        ensures slots { IfOk result (λ m. m.memory.slots ≡ wanted) }
+        ensures cells { IfOk result (λ m. m.memory.cells ≤ X.most wanted) }
+        ensures none { wanted ≡ 0 → IsOk result }
+    {
+        Map::with_capacity_and_hasher(alloc, wanted, DefaultHashBuilder::default())
+    }
+}
+
+impl<T, X: Sizes<T, S>, S> Map<T, X, S> {
+    /// No items, and memory for so many. With 0 it takes none.
+    pub fn with_capacity_and_hasher(
+        alloc: Global,
+        wanted: usize,
+        state: S,
+    ) -> Result<Map<T, X, S>, AllocError>
+    where
+        T: Drop,
+        S: Drop,
+        ensures contents { IfOk result (λ m. m.store ≡ empty) }
+        ensures room { IfOk result (λ m. min wanted slot_limit ≤ room m) }
+        ensures slots { IfOk result (λ m. m.memory.slots ≡ wanted) }
+        ensures cells { IfOk result (λ m. m.memory.cells ≤ X.most wanted) }
+        ensures none { wanted ≡ 0 → IsOk result }
+    {
+        Ok(Map {
+            items: ItemSet::with_capacity(alloc, wanted)?,
+            indexes: X::with_capacity(alloc, wanted)?,
+            state,
+        })
+    }
+
+    /// How many items there can be without more memory. No call lowers it but those that shrink.
+    pub fn capacity(&self) -> usize
+        ensures { result ≡ capacity self.now }
+    {
+        let slots = self.items.capacity().min(self.items.limit());
+        slots.min(self.indexes.capacity())
+    }
+
+    /// How many inserts need no memory.
+    pub fn room(&self) -> usize
+        ensures { result ≡ room self.now }
+    {
+        self.capacity().saturating_sub(self.len())
+    }
+
+    /// Takes memory, so that as many inserts need none, or as many as there can be.
+    ///
+    /// Where there is room already it takes none. Where it is refused the items stay, and no memory is given back.
+    pub fn reserve(&mut self, additional: usize) -> Result<(), AllocError>
+        ensures { ReservesItems X.most additional self.old result self.new }
+    {
+        let len = self.items.len();
+        let more = additional.min(self.items.limit() - len);
+        if more <= self.room() {
+            return Ok(());
+        }
+        reserve_slots(&mut self.items, len + more)?;
+        self.indexes.reserve(&self.items, &self.state, more)
+    }
+
+    /// Gives back the memory that the slots and the tables don't need. Where smaller memory is refused the items stay.
+    pub fn shrink_to_fit(&mut self) -> Result<(), AllocError>
+        ensures shrinks { ShrinksItems X.most 0 self.old result self.new }
+        ensures fits { OnOk result (room self.new ≤ length self.old.store.free) }
+    {
+        self.shrink_to(0)
+    }
+
+    /// Gives back the memory that so many items don't need, beside the slots and the items that there are.
+    pub fn shrink_to(&mut self, least: usize) -> Result<(), AllocError>
+        ensures shrinks { ShrinksItems X.most least self.old result self.new }
+        ensures fits { OnOk result
+            (room self.new ≤ max (least - live_count self.old.store) (length self.old.store.free)) }
+    {
+        let slots = self.items.shrink_capacity_to(least);
+        let tables = self.indexes.shrink_to(&self.items, &self.state, least);
+        slots.and(tables)
+    }
+}
+
+impl<T, X: Removes<T, S>, S> Map<T, X, S> {
+    /// Forgets all items and all slots, so that the next index is 0. It keeps the memory.
+    pub fn clear(&mut self)
+    where
+        T: Drop,
+        ensures store { self.new.store ≡ cleared self.old.store }
+        ensures memory { self.new.memory ≡ self.old.memory }
+        ensures room { room self.old ≤ room self.new }
+    {
+        self.items.clear();
+        self.indexes.clear();
+    }
+
+    /// Moves every item down to its rank, so that no slot is vacant, and returns the new names.
+    ///
+    /// No key is hashed or compared. Where no slot is vacant it is `Identity` and takes no memory. Else it takes that of
+    /// one index a slot before an item moves; where that is refused nothing changes.
+    pub fn compact(&mut self) -> Result<IndexRemap, AllocError>
+    where
+        T: Drop,
+        ensures remap { IfOk result (IsRemapOf self.old.store) }
+        ensures compacted { OnOk result (Compacts self.old self.new) }
+        ensures refused { OnErr result (self.new ≡ self.old) }
+        ensures dense { self.old.store.free ≡ [] → IsOk result }
+        ensures room { room self.old ≤ room self.new }
+    {
+        let remap = self.items.compact()?;
+        self.indexes.remap(&remap);
+        Ok(remap)
+    }
+}
+
+// Takes memory for so many slots, where there aren't as many.
+fn reserve_slots<T>(items: &mut ItemSet<T>, wanted: usize) -> Result<(), AllocError>
+    requires { wanted ≤ items.old.store.limit }
+    ensures contents { items.new.store ≡ items.old.store }
+    ensures slots_stay { items.old.capacity ≤ items.new.capacity }
+    ensures reserved { OnOk result (wanted ≤ items.new.capacity) }
+    ensures few_slots { items.new.capacity
+        ≤ max items.old.capacity (min items.old.store.limit (max wanted (2 * items.old.capacity))) }
+{
+    if wanted <= items.capacity() {
+        return Ok(());
+    }
+    items.reserve(wanted - items.slot_count())
+}

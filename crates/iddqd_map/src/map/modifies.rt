@@ -1,0 +1,38 @@
+//! An item is modified in its place, and keeps its keys.
+ghost use Rattle.std.specs.Prelude.{◌≡◌, ◌≤◌, Some};
+ghost use Rattle.std.specs.Borrow.{MutBor};
+ghost use Rattle.iddqd.specs.{get};
+ghost use Rattle.iddqd_sides.specs.KeyKeeping.{KeepsKey};
+ghost use Rattle.iddqd_map.specs.Map.{room};
+ghost use Rattle.iddqd_map.specs.Modify.{ModifiesAt};
+
+use super::Map;
+use crate::key_index::KeyIndex;
+use iddqd::item_index::ItemIndex;
+
+impl<T, X: KeyIndex<T, S>, S> Map<T, X, S> {
+    /// Calls the closure with a `&mut` to the item at an index, and returns what the closure returns; or returns none,
+    /// and doesn't call it, where the index has no item.
+    ///
+    /// The caller proves that the closure leaves the item its keys. So the tables stay as they are: the call hashes no
+    /// key and takes no memory. To change a key, use `replace_at` and its like.
+    pub fn modify_at<R, F: FnOnce(&mut T) -> R>(&mut self, ix: ItemIndex, f: F) -> Option<R>
+        requires { KeepsKey F.FnOnce f X.keys (λ item. get self.old.store ix ≡ Some item) }
+        ensures modifies { ModifiesAt F.FnOnce f self.old ix result self.new }
+        ensures room { room self.old ≤ room self.new }
+    {
+        self.modify_live(ix, f)
+    }
+
+    /// The same as `modify_at`, but requires in two clauses what that requires in one: each clause is a goal of its own at
+    /// a call, and both together are much cheaper to check than the one.
+    pub fn modify_live<R, F: FnOnce(&mut T) -> R>(&mut self, ix: ItemIndex, f: F) -> Option<R>
+        requires callable { (item : MutBor T) → get self.old.store ix ≡ Some item.now → F.FnOnce.pre f (item, tt) }
+        requires keeps { KeepsKey F.FnOnce f X.keys (λ item. get self.old.store ix ≡ Some item) }
+        ensures modifies { ModifiesAt F.FnOnce f self.old ix result self.new }
+        ensures room { room self.old ≤ room self.new }
+    {
+        let item = self.items.get_mut(ix)?;
+        Some(f(item))
+    }
+}

@@ -1,0 +1,165 @@
+//! Items come into a map in the place of those that share a key with them.
+//!
+//! The memory of each table is asked for before an item is removed. The store needs none then, since the removal of an
+//! item leaves a slot.
+ghost use Rattle.std.specs.Prelude.{◌≡◌, ◌+◌, ◌≤◌, ℕ, [], length};
+ghost use Rattle.iddqd.specs.{get, next_index, inserted, removed, room};
+ghost use Rattle.iddqd_sides.specs.Scan.{IsLive, HasNoHit};
+ghost use Rattle.iddqd_map.specs.Map.{map_with};
+ghost use Rattle.iddqd_map.specs.Calls.{OverwritesInto};
+ghost use Rattle.iddqd_map.specs.KeyIndex.{IsIndexed};
+ghost use Rattle.iddqd_map.specs.Overwrite.{TakesAll};
+ghost use Rattle.iddqd_map.specs.Several.{padded};
+
+use super::Map;
+use super::inserts::insert;
+use super::steps::{next_in_room, put_into, store_in_room};
+use crate::key_index::Overwrites;
+use crate::refusal::{InsertRefusal, OverwriteRefusal};
+use iddqd::item_index::ItemIndex;
+use iddqd::item_set::ItemSet;
+use std::alloc::AllocError;
+
+impl<T, X: Overwrites<T, S>, S> Map<T, X, S> {
+    /// Takes an item, and removes those that share a key with it into the places, by rising index from the first on.
+    ///
+    /// Where none does, it is inserted, and may be refused, as by `insert_unique`. Where some do, the store needs no
+    /// memory, and a table may be refused the memory of one more index only past its capacity, before anything is
+    /// removed. A refusal hands the item back, and the contents stay. Each key of the item is hashed once.
+    pub fn overwrite_into(
+        &mut self,
+        item: T,
+        places: &mut [Option<T>],
+    ) -> Result<ItemIndex, OverwriteRefusal<T>>
+        requires enough { X.key_count ≤ length places.old }
+        requires vacant { places.old ≡ padded (length places.old) [] }
+        ensures { OverwritesInto X.alike X.most X.may_lack (length places.old) self.old item result places.new self.new }
+    {
+        let known = X::known(&self.state, &item);
+        match insert(&mut self.items, &mut self.indexes, &self.state, known, item) {
+            Ok(ix) => Ok(ix),
+            Err(InsertRefusal::Duplicate { item, at }) => {
+                overwrite(
+                    &mut self.items,
+                    &mut self.indexes,
+                    &self.state,
+                    known,
+                    item,
+                    &at,
+                    places,
+                )
+            }
+            Err(InsertRefusal::Full(item)) => Err(OverwriteRefusal::Full(item)),
+            Err(InsertRefusal::Memory(item)) => Err(OverwriteRefusal::Memory(item)),
+        }
+    }
+}
+
+// Removes the items that share a key with this one, stores it and enters its index; or hands it back where memory is
+// refused, before anything is removed.
+fn overwrite<T, X: Overwrites<T, S>, S>(
+    items: &mut ItemSet<T>,
+    indexes: &mut X,
+    state: &S,
+    known: X::Known,
+    item: T,
+    at: &X::Conflict,
+    places: &mut [Option<T>],
+) -> Result<ItemIndex, OverwriteRefusal<T>>
+    requires map { IsIndexed (X.indexes indexes.old) state.now items.old.store }
+    requires hashed { X.is_known state.now item known }
+    requires told { X.conflicts items.old.store item at.now }
+    requires enough { X.key_count ≤ length places.old }
+    requires vacant { places.old ≡ padded (length places.old) [] }
+    ensures map { IsIndexed (X.indexes indexes.new) state.now items.new.store }
+    ensures overwrites { OverwritesInto X.alike X.most X.may_lack (length places.old)
+        (map_with items.old (X.capacity indexes.old) (X.cells indexes.old)) item result places.new
+        (map_with items.new (X.capacity indexes.new) (X.cells indexes.new)) }
+{
+    if let Err(AllocError) = indexes.ready_after(items, state) {
+        return Err(OverwriteRefusal::Memory(item));
+    }
+    remove_told(items, indexes, state, at, places);
+    Ok(enter_in_room(items, indexes, state, known, item))
+}
+
+// Removes the items that were told, at least one, into the places, by rising index.
+fn remove_told<T, X: Overwrites<T, S>, S>(
+    items: &mut ItemSet<T>,
+    indexes: &mut X,
+    state: &S,
+    at: &X::Conflict,
+    places: &mut [Option<T>],
+)
+    requires map { IsIndexed (X.indexes indexes.old) state.now items.old.store }
+    requires ready { X.is_ready_after indexes.old }
+    requires live { (ix : ℕ) → X.tells at.now ix → IsLive items.old.store ix }
+    requires some { (ix : ℕ) × X.tells at.now ix }
+    requires enough { X.key_count ≤ length places.old }
+    requires vacant { places.old ≡ padded (length places.old) [] }
+    ensures map { IsIndexed (X.indexes indexes.new) state.now items.new.store }
+    ensures taken { TakesAll (X.tells at.now) (length places.old) items.old.store places.new items.new.store }
+    ensures slots { items.new.capacity ≡ items.old.capacity }
+    ensures room { 1 ≤ room items.new }
+    ensures roomy { (plan : X.Plan) → X.has_room_for indexes.new plan }
+    ensures capacity { X.capacity indexes.new ≡ X.capacity indexes.old }
+    ensures cells { X.cells indexes.new ≡ X.cells indexes.old }
+{
+    let mut count = 0;
+    let mut next = X::next_told(at, None);
+    while let Some(ix) = next {
+        let taken = make_way(items, indexes, state, ix);
+        put_into(places, count, taken);
+        count += 1;
+        next = X::next_told(at, Some(ix));
+    }
+}
+
+// Takes the item at a live index out of the store, and its index out of the key index, so that there is room for the
+// insert that follows. It takes no memory.
+fn make_way<T, X: Overwrites<T, S>, S>(
+    items: &mut ItemSet<T>,
+    indexes: &mut X,
+    state: &S,
+    ix: ItemIndex,
+) -> Option<T>
+    requires live { IsLive items.old.store ix }
+    requires map { IsIndexed (X.indexes indexes.old) state.now items.old.store }
+    ensures value { result ≡ get items.old.store ix }
+    ensures map { IsIndexed (X.indexes indexes.new) state.now items.new.store }
+    ensures removed { items.new ≡ record items.old { store = removed items.old.store ix } }
+    ensures items_room { room items.new ≡ room items.old + 1 }
+    ensures capacity { X.capacity indexes.new ≡ X.capacity indexes.old }
+    ensures cells { X.cells indexes.new ≡ X.cells indexes.old }
+    ensures ready { X.is_ready_after indexes.old → X.is_ready_after indexes.new }
+    ensures roomy { (plan : X.Plan) → X.is_ready_after indexes.old → X.has_room_for indexes.new plan }
+{
+    indexes.give_way(items, state, ix);
+    items.remove(ix)
+}
+
+// Stores an item that shares no key with another where there is room for it, and enters its index.
+fn enter_in_room<T, X: Overwrites<T, S>, S>(
+    items: &mut ItemSet<T>,
+    indexes: &mut X,
+    state: &S,
+    known: X::Known,
+    item: T,
+) -> ItemIndex
+    requires map { IsIndexed (X.indexes indexes.old) state.now items.old.store }
+    requires hashed { X.is_known state.now item known }
+    requires apart { HasNoHit items.old.store (X.alike item) }
+    requires room { 1 ≤ room items.old }
+    requires roomy { (plan : X.Plan) → X.has_room_for indexes.old plan }
+    ensures index { result ≡ next_index items.old.store }
+    ensures map { IsIndexed (X.indexes indexes.new) state.now items.new.store }
+    ensures stored { items.new ≡ record items.old { store = inserted items.old.store item } }
+    ensures capacity { X.capacity indexes.new ≡ X.capacity indexes.old }
+    ensures cells { X.cells indexes.new ≡ X.cells indexes.old }
+{
+    let spot = indexes.spot(items, state, known, &item);
+    let ix = next_in_room(items);
+    let plan = indexes.plan(items, state, spot, ix, &item);
+    indexes.insert(known, &plan, ix);
+    store_in_room(items, item)
+}

@@ -1,0 +1,21 @@
+//! Items leave a map. That takes no memory.
+ghost use Rattle.std.specs.Prelude.{◌≤◌};
+ghost use Rattle.iddqd_map.specs.Map.{RemovesAt, room};
+
+use super::Map;
+use super::steps::take_out;
+use crate::key_index::Removes;
+use iddqd::item_index::ItemIndex;
+
+impl<T, X: Removes<T, S>, S> Map<T, X, S> {
+    /// Takes the item at an index out of the map, if there is one. It takes no memory.
+    pub fn remove_at(&mut self, ix: ItemIndex) -> Option<T>
+        ensures removes { RemovesAt self.old ix result self.new }
+        ensures room { room self.old ≤ room self.new }
+    {
+        if self.items.get(ix).is_none() {
+            return None;
+        }
+        take_out(&mut self.items, &mut self.indexes, &self.state, ix)
+    }
+}

@@ -1,0 +1,95 @@
+//! An item becomes another one, which may have other keys.
+ghost use Rattle.std.specs.Prelude.{◌≤◌, Bool, IfSome};
+ghost use Rattle.iddqd_sides.specs.Scan.{IsLive, AnswersScan};
+ghost use Rattle.iddqd_map.specs.Map.{map_with, room};
+ghost use Rattle.iddqd_map.specs.Calls.{ReplacesAt, ReplacesIfLive, Replaces};
+ghost use Rattle.iddqd_map.specs.KeyIndex.{IsIndexed};
+
+use super::Map;
+use crate::key_index::Moves;
+use crate::refusal::ReplaceRefusal;
+use iddqd::item_index::ItemIndex;
+use iddqd::item_set::ItemSet;
+use std::alloc::AllocError;
+
+impl<T, X: Moves<T, S>, S> Map<T, X, S> {
+    /// Puts an item in the place of the one at an index, which is handed back; or it is missing, where none is there.
+    ///
+    /// The item may have other keys. It keeps the index. Where other items have a key of it, or memory is refused, it
+    /// comes back, and nothing changes. A table whose key stays isn't touched. A key that goes by its hash needs no
+    /// memory.
+    pub fn replace_at(
+        &mut self,
+        ix: ItemIndex,
+        item: T,
+    ) -> Result<T, ReplaceRefusal<T, X::Conflict>>
+        ensures replaces { ReplacesIfLive X.alike X.same_keys X.may_lack X.taken self.old ix item result self.new }
+        ensures room { room self.old ≤ room self.new }
+    {
+        if self.items.get(ix).is_none() {
+            return Err(ReplaceRefusal::Missing(item));
+        }
+        replace(
+            &mut self.items,
+            &mut self.indexes,
+            &self.state,
+            X::unasked(),
+            ix,
+            item,
+        )
+    }
+}
+
+// Puts an item in the place of the one at a live index. All memory is taken before anything is written.
+pub(super) fn replace<T, X: Moves<T, S>, S>(
+    items: &mut ItemSet<T>,
+    indexes: &mut X,
+    state: &S,
+    asked: X::Asked,
+    ix: ItemIndex,
+    item: T,
+) -> Result<T, ReplaceRefusal<T, X::Conflict>>
+    requires live { IsLive items.old.store ix }
+    requires map { IsIndexed (X.indexes indexes.old) state.now items.old.store }
+    ensures map { IsIndexed (X.indexes indexes.new) state.now items.new.store }
+    ensures replaces { ReplacesAt X.alike X.same_keys X.may_lack X.taken
+        (map_with items.old (X.capacity indexes.old) (X.cells indexes.old)) ix item result
+        (map_with items.new (X.capacity indexes.new) (X.cells indexes.new)) }
+    ensures room { room (map_with items.old (X.capacity indexes.old) (X.cells indexes.old))
+        ≤ room (map_with items.new (X.capacity indexes.new) (X.cells indexes.new)) }
+{
+    let plan = match indexes.plan_move(items, state, ix, &item) {
+        Ok(plan) => plan,
+        Err(at) => return Err(ReplaceRefusal::Duplicate { item, at }),
+    };
+    if let Err(AllocError) = indexes.ready_move(items, state, &plan) {
+        return Err(ReplaceRefusal::Memory(item));
+    }
+    indexes.commit_move(items, state, asked, &plan, ix, &item);
+    Ok(items.replace(ix, item))
+}
+
+// Puts an item in the place of the one that a look-up found.
+pub(super) fn replace_found<T, X: Moves<T, S>, S>(
+    items: &mut ItemSet<T>,
+    indexes: &mut X,
+    state: &S,
+    asked: X::Asked,
+    found: Option<ItemIndex>,
+    item: T,
+) -> Result<T, ReplaceRefusal<T, X::Conflict>>
+    requires live { IfSome found (IsLive items.old.store) }
+    requires map { IsIndexed (X.indexes indexes.old) state.now items.old.store }
+    ensures map { IsIndexed (X.indexes indexes.new) state.now items.new.store }
+    ensures replaces { (test : T → Bool) → AnswersScan items.old.store test found
+        → Replaces X.alike X.same_keys X.may_lack X.taken
+        (map_with items.old (X.capacity indexes.old) (X.cells indexes.old)) test item result
+        (map_with items.new (X.capacity indexes.new) (X.cells indexes.new)) }
+    ensures room { room (map_with items.old (X.capacity indexes.old) (X.cells indexes.old))
+        ≤ room (map_with items.new (X.capacity indexes.new) (X.cells indexes.new)) }
+{
+    match found {
+        Some(ix) => replace(items, indexes, state, asked, ix, item),
+        None => Err(ReplaceRefusal::Missing(item)),
+    }
+}

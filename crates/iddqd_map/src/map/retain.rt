@@ -1,0 +1,61 @@
+//! The items that a closure keeps.
+ghost use Rattle.std.specs.Prelude.{◌≡◌, ◌≤◌, ◌+◌};
+ghost use Rattle.std.specs.Fn.{TakesAt, CalledAt};
+ghost use Rattle.iddqd.specs.{live_count};
+ghost use Rattle.iddqd.specs.LiveItems.{live_items};
+ghost use Rattle.iddqd_hash.specs.Asks.{CanAsk};
+ghost use Rattle.iddqd_map.specs.Map.{room};
+ghost use Rattle.iddqd_map.specs.KeyIndex.{IsIndexed};
+ghost use Rattle.iddqd_map.specs.Retain.{MayAsk, Retains, RetainsTo};
+
+use super::Map;
+use super::steps::take_out;
+use crate::key_index::Removes;
+use iddqd::item_index::ItemIndex;
+use iddqd::item_set::ItemSet;
+
+impl<T, X: Removes<T, S>, S> Map<T, X, S> {
+    /// Keeps exactly the items at which the closure answers true, under their indexes, and returns how many it removed.
+    ///
+    /// The closure is called once at each item, by rising index. The items at which it answers false are removed, by
+    /// rising index. No memory is taken. It costs a step a slot, and looks up the keys of the removed items alone.
+    pub fn retain<F: FnMut(&T) -> bool>(&mut self, mut f: F) -> usize
+    where
+        T: Drop,
+        requires { MayAsk (TakesAt F.FnMut) (CalledAt F.FnMut) f (live_items self.old.store) }
+        ensures retained { Retains (CalledAt F.FnMut) f self.old self.new }
+        ensures room { room self.old ≤ room self.new }
+        ensures count { result + live_count self.new.store ≡ live_count self.old.store }
+    {
+        let before = self.items.len();
+        retain_in(&mut self.items, &mut self.indexes, &self.state, &mut f);
+        before - self.items.len()
+    }
+}
+
+// Keeps the items at which the closure answers true. The closure is left as its last call leaves it. An item at which
+// it answers false is removed at once, so no memory is taken.
+fn retain_in<T: Drop, S, X: Removes<T, S>, F: FnMut(&T) -> bool>(
+    items: &mut ItemSet<T>,
+    indexes: &mut X,
+    state: &S,
+    f: &mut F,
+)
+    requires indexed { IsIndexed (X.indexes indexes.old) state.now items.old.store }
+    requires can_ask { CanAsk (TakesAt F.FnMut) (CalledAt F.FnMut) f.old (live_items items.old.store) }
+    ensures indexed { IsIndexed (X.indexes indexes.new) state.now items.new.store }
+    ensures retained { RetainsTo (CalledAt F.FnMut) f.old items.old.store items.new.store f.new }
+    ensures slots { items.new.capacity ≡ items.old.capacity }
+    ensures capacity { X.capacity indexes.new ≡ X.capacity indexes.old }
+    ensures cells { X.cells indexes.new ≡ X.cells indexes.old }
+{
+    for at in 0..items.slot_count() {
+        let ix = ItemIndex::new(at as u32);
+        let Some(item) = items.get(ix) else {
+            continue;
+        };
+        if !f(item) {
+            drop(take_out(items, indexes, state, ix));
+        }
+    }
+}

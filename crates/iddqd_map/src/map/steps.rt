@@ -1,0 +1,77 @@
+//! What a map's store and its key index do together in one step.
+ghost use Rattle.std.specs.Prelude.{◌≡◌, ◌≢◌, ◌+◌, ◌<◌, ◌≤◌, length, Some, None, slice_get, slice_set};
+ghost use Rattle.iddqd.specs.{get, next_index, inserted, removed, room, sentinel};
+ghost use Rattle.iddqd_sides.specs.Scan.{IsLive};
+ghost use Rattle.iddqd_map.specs.KeyIndex.{IsIndexed};
+
+use crate::key_index::Removes;
+use iddqd::item_index::ItemIndex;
+use iddqd::item_set::ItemSet;
+use std::mem;
+
+/// Takes the item at a live index out of the store, and its index out of the key index. It takes no memory.
+pub(super) fn take_out<T, X: Removes<T, S>, S>(
+    items: &mut ItemSet<T>,
+    indexes: &mut X,
+    state: &S,
+    ix: ItemIndex,
+) -> Option<T>
+    requires live { IsLive items.old.store ix }
+    requires map { IsIndexed (X.indexes indexes.old) state.now items.old.store }
+    ensures value { result ≡ get items.old.store ix }
+    ensures map { IsIndexed (X.indexes indexes.new) state.now items.new.store }
+    ensures removed { items.new ≡ record items.old { store = removed items.old.store ix } }
+    ensures items_room { room items.new ≡ room items.old + 1 }
+    ensures capacity { X.capacity indexes.new ≡ X.capacity indexes.old }
+    ensures cells { X.cells indexes.new ≡ X.cells indexes.old }
+{
+    indexes.remove(items, state, ix);
+    items.remove(ix)
+}
+
+/// The index that an item gets that is stored next, where there is room for it.
+pub(super) fn next_in_room<T>(items: &mut ItemSet<T>) -> ItemIndex
+    requires { 1 ≤ room items.old }
+    ensures index { result ≡ next_index items.old.store }
+    ensures assigned { result ≢ sentinel }
+    ensures same { items.new ≡ items.old }
+{
+    match items.assert_can_grow() {
+        Ok(handle) => handle.next_index(),
+        Err(_) => unreachable!(),
+    }
+}
+
+/// Stores an item where there is room for it.
+pub(super) fn store_in_room<T>(items: &mut ItemSet<T>, item: T) -> ItemIndex
+    requires { 1 ≤ room items.old }
+    ensures index { result ≡ next_index items.old.store }
+    ensures stored { items.new ≡ record items.old { store = inserted items.old.store item } }
+{
+    match items.assert_can_grow() {
+        Ok(handle) => handle.insert(item),
+        Err(_) => unreachable!(),
+    }
+}
+
+/// Puts what was taken out, if anything was, into a place that has nothing.
+pub(super) fn put_into<T>(places: &mut [Option<T>], at: usize, taken: Option<T>)
+    requires within { at < length places.old }
+    requires vacant { slice_get places.old at ≡ Some None }
+    ensures { places.new ≡ slice_set places.old at taken }
+{
+    match mem::replace(&mut places[at], taken) {
+        None => {}
+        Some(_) => unreachable!(),
+    }
+}
+
+/// Drops a place that has nothing, whatever its items are.
+pub(crate) fn drop_vacant<T>(place: Option<T>)
+    requires { place ≡ None }
+{
+    match place {
+        None => {}
+        Some(_) => unreachable!(),
+    }
+}

@@ -1,0 +1,570 @@
+//! A pair of key indexes over a store's items: each step is one of each.
+//!
+//! Two items are alike where they are by the one or by the other, and share all keys where they do by both. Pairs nest,
+//! so there may be any number of keys.
+//!
+//! Invariant: each of the two indexes the same store under the same state.
+ghost use Rattle.std.specs.Prelude.{◌≡◌, Some};
+ghost use Rattle.iddqd_map.specs.KeyIndex.{IsNextTold};
+ghost use Rattle.iddqd_map.specs.PairConflict.{IsToldBy, first_of, second_of, lesser_of};
+
+use crate::key_index::{
+    AsksAt, Checks, Conflicts, HashedAt, Inserts, KeyIndex, Left, Moves, Overwrites, Removes,
+    Right, Sizes, TakesAt,
+};
+use crate::pair_conflict::{PairConflict, TellsPair};
+use iddqd::index_remap::IndexRemap;
+use iddqd::internal::{ValidateCompact, ValidateRefusal, ValidationError};
+use iddqd::item_index::ItemIndex;
+use iddqd::item_set::ItemSet;
+use iddqd_sides::query::HashQuery;
+use std::alloc::{AllocError, Global};
+use std::marker::PhantomData;
+
+/// Two key indexes over the same items. A conflict is told as `C`.
+#[derive(Drop)]
+pub struct Pair<A, B, C = PairConflict<ItemIndex, ItemIndex>> {
+    /// The one.
+    pub first: A,
+    /// The other.
+    pub second: B,
+    told: PhantomData<C>,
+}
+
+impl<T, S, A, B, C> KeyIndex<T, S> for Pair<A, B, C>
+where
+    A: KeyIndex<T, S>,
+    B: KeyIndex<T, S>,
+{
+    ghost use Rattle.std.specs.Prelude.{◌||◌, ◌+◌, ◌⊎◌, min};
+    ghost use Rattle.iddqd_map.specs.Several.{either_key, both_keys};
+    ghost use Rattle.iddqd_map.specs.PairConflict.{TellBoth, TellBothOther, IsEither, IsToldBy};
+    ghost use Rattle.std.proofs.Common.{ap};
+    ghost use Rattle.std.proofs.lemmas.Cmp.{and_equiv};
+    ghost use Rattle.iddqd_map.specs.PairLaws.{AreApart-either, HaveSameKeys-first, HaveSameKeys-second, alike_both, told_one, told_both, told_some, few_one, few_both};
+
+    ghost Keys = { A.Keys × B.Keys };
+
+    ghost keys = { λ item. (A.keys item, B.keys item) };
+
+    ghost alike = { either_key A.alike B.alike };
+
+    ghost same_keys = { both_keys A.same_keys B.same_keys };
+
+    ghost indexes = { λ x state s. A.indexes x.first state s × B.indexes x.second state s };
+
+    ghost capacity = { λ x. min (A.capacity x.first) (B.capacity x.second) };
+
+    ghost cells = { λ x. A.cells x.first + B.cells x.second };
+
+    ghost most = { λ n. A.most n + B.most n };
+
+    ghost may_lack = { A.may_lack || B.may_lack };
+
+    ghost same = { λ x y. A.same x.first y.first × B.same x.second y.second };
+
+    ghost same_as_itself = { λ x. (A.same_as_itself x.first, B.same_as_itself x.second) };
+
+    ghost same_indexes = { λ x y state s same is. (
+      A.same_indexes x.first y.first state s same.0 is.0,
+      B.same_indexes x.second y.second state s same.1 is.1,
+    ) };
+
+    ghost apart = { λ x state s is. AreApart-either A.alike B.alike s (A.apart x.first state s is.0)
+        (B.apart x.second state s is.1) };
+
+    ghost modified = { λ x state s ix was item is live same. (
+      A.modified x.first state s ix was item is.0 live (ap (λ both. both.0) same),
+      B.modified x.second state s ix was item is.1 live (ap (λ both. both.1) same),
+    ) };
+
+    ghost same_items = { λ x state s t same is. (
+      A.same_items x.first state s t (HaveSameKeys-first A.same_keys B.same_keys s t same) is.0,
+      B.same_items x.second state s t (HaveSameKeys-second A.same_keys B.same_keys s t same) is.1,
+    ) };
+
+    ghost equivalence = { and_equiv A.equivalence B.equivalence };
+
+    ghost same_are_alike = { alike_both A.same_keys B.same_keys A.alike A.same_are_alike B.alike };
+
+    fn capacity(&self) -> usize {
+        self.first.capacity().min(self.second.capacity())
+    }
+}
+
+impl<T, S, A, B, C> Sizes<T, S> for Pair<A, B, C>
+where
+    A: Sizes<T, S>,
+    B: Sizes<T, S>,
+{
+    fn new(alloc: Global) -> Pair<A, B, C> {
+        Pair {
+            first: A::new(alloc),
+            second: B::new(alloc),
+            told: PhantomData,
+        }
+    }
+
+    fn with_capacity(alloc: Global, wanted: usize) -> Result<Pair<A, B, C>, AllocError> {
+        Ok(Pair {
+            first: A::with_capacity(alloc, wanted)?,
+            second: B::with_capacity(alloc, wanted)?,
+            told: PhantomData,
+        })
+    }
+
+    fn reserve(
+        &mut self,
+        items: &ItemSet<T>,
+        state: &S,
+        additional: usize,
+    ) -> Result<(), AllocError> {
+        self.first.reserve(items, state, additional)?;
+        self.second.reserve(items, state, additional)
+    }
+
+    fn shrink_to(&mut self, items: &ItemSet<T>, state: &S, least: usize) -> Result<(), AllocError> {
+        self.first.shrink_to(items, state, least)?;
+        self.second.shrink_to(items, state, least)
+    }
+}
+
+impl<T, S, A, B, C> Conflicts<T, S> for Pair<A, B, C>
+where
+    A: Conflicts<T, S>,
+    B: Conflicts<T, S>,
+    C: TellsPair<A::Conflict, B::Conflict>,
+{
+    ghost use Rattle.std.specs.Prelude.{◌||◌, ◌+◌, ◌⊎◌, min};
+    ghost use Rattle.iddqd_map.specs.Several.{either_key, both_keys};
+    ghost use Rattle.iddqd_map.specs.PairConflict.{TellBoth, TellBothOther, IsEither, IsToldBy};
+    ghost use Rattle.std.proofs.Common.{ap};
+    ghost use Rattle.std.proofs.lemmas.Cmp.{and_equiv};
+    ghost use Rattle.iddqd_map.specs.PairLaws.{AreApart-either, HaveSameKeys-first, HaveSameKeys-second, alike_both, told_one, told_both, told_some, few_one, few_both};
+
+    type Conflict = C;
+
+    ghost key_count = { A.key_count + B.key_count };
+
+    ghost conflicts = { λ s item at. TellBoth A.alike B.alike A.conflicts B.conflicts s item (C.first at)
+        (C.second at) };
+
+    ghost taken = { λ s ix item at. TellBothOther A.alike B.alike A.taken B.taken s ix item (C.first at)
+        (C.second at) };
+
+    ghost tells = { λ at. IsEither (IsToldBy A.tells (C.first at)) (IsToldBy B.tells (C.second at)) };
+
+    ghost told = { λ s item at conflicts ix. told_both A.alike B.alike s item (IsToldBy A.tells (C.first at))
+        (IsToldBy B.tells (C.second at)) ix
+        (told_one A.tells A.alike A.conflicts s item (A.told s item) (C.first at) conflicts.first ix)
+        (told_one B.tells B.alike B.conflicts s item (B.told s item) (C.second at) conflicts.second ix) };
+
+    ghost told_some = { λ s item at conflicts. told_some A.tells B.tells A.conflicts B.conflicts s item A.alike B.alike
+        (A.told_some s item) (B.told_some s item) (C.first at) (C.second at) conflicts };
+
+    ghost few_told = { λ at. few_both (IsToldBy A.tells (C.first at)) (IsToldBy B.tells (C.second at)) A.key_count
+        B.key_count (few_one A.tells A.key_count A.few_told (C.first at))
+        (few_one B.tells B.key_count B.few_told (C.second at)) };
+
+    fn next_told(conflict: &C, before: Option<ItemIndex>) -> Option<ItemIndex> {
+        let first = next_of::<T, S, A>(conflict.first(), &before);
+        let second = next_of::<T, S, B>(conflict.second(), &before);
+        lesser(first, second)
+    }
+}
+
+impl<T, S, A, B, C> Inserts<T, S> for Pair<A, B, C>
+where
+    A: Inserts<T, S>,
+    B: Inserts<T, S>,
+    C: TellsPair<A::Conflict, B::Conflict>,
+{
+    ghost use Rattle.std.specs.Prelude.{◌||◌, ◌+◌, ◌⊎◌, min};
+    ghost use Rattle.iddqd_map.specs.Several.{either_key, both_keys};
+    ghost use Rattle.iddqd_map.specs.PairConflict.{TellBoth, TellBothOther, IsEither, IsToldBy};
+    ghost use Rattle.std.proofs.Common.{ap};
+    ghost use Rattle.std.proofs.lemmas.Cmp.{and_equiv};
+    ghost use Rattle.iddqd_map.specs.PairLaws.{AreApart-either, HaveSameKeys-first, HaveSameKeys-second, alike_both, told_one, told_both, told_some, few_one, few_both};
+
+    type Known = (A::Known, B::Known);
+
+    type Spot = (A::Spot, B::Spot);
+
+    type Plan = (A::Plan, B::Plan);
+
+    ghost is_known = { λ state item known. A.is_known state item known.0 × B.is_known state item known.1 };
+
+    ghost is_spot = { λ x state s item spot. A.is_spot x.first state s item spot.0
+        × B.is_spot x.second state s item spot.1 };
+
+    ghost is_planned = { λ x state s item plan. A.is_planned x.first state s item plan.0
+        × B.is_planned x.second state s item plan.1 };
+
+    ghost has_room_for = { λ x plan. A.has_room_for x.first plan.0 × B.has_room_for x.second plan.1 };
+
+    ghost same_plans = { λ x y state s item plan same is. (
+      A.same_plans x.first y.first state s item plan.0 same.0 is.0,
+      B.same_plans x.second y.second state s item plan.1 same.1 is.1,
+    ) };
+
+    fn known(state: &S, item: &T) -> (A::Known, B::Known) {
+        (A::known(state, item), B::known(state, item))
+    }
+
+    fn look_up(
+        &self,
+        items: &ItemSet<T>,
+        state: &S,
+        known: (A::Known, B::Known),
+        item: &T,
+    ) -> Result<(A::Spot, B::Spot), C> {
+        let first = self.first.look_up(items, state, known.0, item);
+        let second = self.second.look_up(items, state, known.1, item);
+        match first {
+            Ok(first) => match second {
+                Ok(second) => Ok((first, second)),
+                Err(other) => Err(C::told(PairConflict::Second(other))),
+            },
+            Err(one) => Err(C::told(first_with(one, second.err()))),
+        }
+    }
+
+    fn plan(
+        &self,
+        items: &ItemSet<T>,
+        state: &S,
+        spot: (A::Spot, B::Spot),
+        ix: ItemIndex,
+        item: &T,
+    ) -> (A::Plan, B::Plan) {
+        let (first, second) = spot;
+        (
+            self.first.plan(items, state, first, ix, item),
+            self.second.plan(items, state, second, ix, item),
+        )
+    }
+
+    fn make_room(
+        &mut self,
+        items: &ItemSet<T>,
+        state: &S,
+        plan: &(A::Plan, B::Plan),
+    ) -> Result<(), AllocError> {
+        self.first.make_room(items, state, &plan.0)?;
+        self.second.make_room(items, state, &plan.1)
+    }
+
+    fn insert(&mut self, known: (A::Known, B::Known), plan: &(A::Plan, B::Plan), ix: ItemIndex) {
+        self.first.insert(known.0, &plan.0, ix);
+        self.second.insert(known.1, &plan.1, ix);
+    }
+}
+
+impl<T, S, A, B, C> Removes<T, S> for Pair<A, B, C>
+where
+    A: Removes<T, S>,
+    B: Removes<T, S>,
+{
+    fn remove(&mut self, items: &ItemSet<T>, state: &S, ix: ItemIndex) {
+        self.first.remove(items, state, ix);
+        self.second.remove(items, state, ix);
+    }
+
+    fn clear(&mut self) {
+        self.first.clear();
+        self.second.clear();
+    }
+
+    fn remap(&mut self, remap: &IndexRemap) {
+        self.first.remap(remap);
+        self.second.remap(remap);
+    }
+}
+
+impl<T, S, A, B, C> Overwrites<T, S> for Pair<A, B, C>
+where
+    A: Overwrites<T, S>,
+    B: Overwrites<T, S>,
+    C: TellsPair<A::Conflict, B::Conflict>,
+{
+    ghost use Rattle.std.specs.Prelude.{◌||◌, ◌+◌, ◌⊎◌, min};
+    ghost use Rattle.iddqd_map.specs.Several.{either_key, both_keys};
+    ghost use Rattle.iddqd_map.specs.PairConflict.{TellBoth, TellBothOther, IsEither, IsToldBy};
+    ghost use Rattle.std.proofs.Common.{ap};
+    ghost use Rattle.std.proofs.lemmas.Cmp.{and_equiv};
+    ghost use Rattle.iddqd_map.specs.PairLaws.{AreApart-either, HaveSameKeys-first, HaveSameKeys-second, alike_both, told_one, told_both, told_some, few_one, few_both};
+
+    ghost is_ready_after = { λ x. A.is_ready_after x.first × B.is_ready_after x.second };
+
+    fn spot(
+        &self,
+        items: &ItemSet<T>,
+        state: &S,
+        known: (A::Known, B::Known),
+        item: &T,
+    ) -> (A::Spot, B::Spot) {
+        (
+            self.first.spot(items, state, known.0, item),
+            self.second.spot(items, state, known.1, item),
+        )
+    }
+
+    fn ready_after(&mut self, items: &ItemSet<T>, state: &S) -> Result<(), AllocError> {
+        self.first.ready_after(items, state)?;
+        self.second.ready_after(items, state)
+    }
+
+    fn give_way(&mut self, items: &ItemSet<T>, state: &S, ix: ItemIndex) {
+        self.first.give_way(items, state, ix);
+        self.second.give_way(items, state, ix);
+    }
+}
+
+impl<T, S, A, B, C> Moves<T, S> for Pair<A, B, C>
+where
+    A: Moves<T, S>,
+    B: Moves<T, S>,
+    C: TellsPair<A::Conflict, B::Conflict>,
+{
+    ghost use Rattle.std.specs.Prelude.{◌||◌, ◌+◌, ◌⊎◌, min};
+    ghost use Rattle.iddqd_map.specs.Several.{either_key, both_keys};
+    ghost use Rattle.iddqd_map.specs.PairConflict.{TellBoth, TellBothOther, IsEither, IsToldBy};
+    ghost use Rattle.std.proofs.Common.{ap};
+    ghost use Rattle.std.proofs.lemmas.Cmp.{and_equiv};
+    ghost use Rattle.iddqd_map.specs.PairLaws.{AreApart-either, HaveSameKeys-first, HaveSameKeys-second, alike_both, told_one, told_both, told_some, few_one, few_both};
+
+    type Asked = (A::Asked, B::Asked);
+
+    type Move = (A::Move, B::Move);
+
+    ghost is_move = { λ state s ix item plan. A.is_move state s ix item plan.0 × B.is_move state s ix item plan.1 };
+
+    ghost moves = { λ plan. A.moves plan.0 || B.moves plan.1 };
+
+    ghost is_ready = { λ x plan. A.is_ready x.first plan.0 × B.is_ready x.second plan.1 };
+
+    fn unasked() -> (A::Asked, B::Asked) {
+        (A::unasked(), B::unasked())
+    }
+
+    fn plan_move(
+        &self,
+        items: &ItemSet<T>,
+        state: &S,
+        ix: ItemIndex,
+        item: &T,
+    ) -> Result<(A::Move, B::Move), C> {
+        let first = self.first.plan_move(items, state, ix, item);
+        let second = self.second.plan_move(items, state, ix, item);
+        match first {
+            Ok(first) => match second {
+                Ok(second) => Ok((first, second)),
+                Err(other) => Err(C::told(PairConflict::Second(other))),
+            },
+            Err(one) => Err(C::told(first_with(one, second.err()))),
+        }
+    }
+
+    fn ready_move(
+        &mut self,
+        items: &ItemSet<T>,
+        state: &S,
+        plan: &(A::Move, B::Move),
+    ) -> Result<(), AllocError> {
+        self.first.ready_move(items, state, &plan.0)?;
+        self.second.ready_move(items, state, &plan.1)
+    }
+
+    fn commit_move(
+        &mut self,
+        items: &ItemSet<T>,
+        state: &S,
+        asked: (A::Asked, B::Asked),
+        plan: &(A::Move, B::Move),
+        ix: ItemIndex,
+        item: &T,
+    ) {
+        self.first
+            .commit_move(items, state, asked.0, &plan.0, ix, item);
+        self.second
+            .commit_move(items, state, asked.1, &plan.1, ix, item);
+    }
+}
+
+impl<T, S, A, B, C> Checks<T, S> for Pair<A, B, C>
+where
+    A: Checks<T, S>,
+    B: Checks<T, S>,
+{
+    fn copied(&self) -> Result<Pair<A, B, C>, AllocError> {
+        Ok(Pair {
+            first: self.first.copied()?,
+            second: self.second.copied()?,
+            told: PhantomData,
+        })
+    }
+
+    fn find_same(&self, items: &ItemSet<T>, state: &S, item: &T) -> Option<ItemIndex> {
+        let ix = self.first.find_same(items, state, item)?;
+        if B::is_same(item, &items[ix]) {
+            Some(ix)
+        } else {
+            None
+        }
+    }
+
+    fn is_same(item: &T, other: &T) -> bool {
+        A::is_same(item, other) && B::is_same(item, other)
+    }
+
+    fn validate(
+        &self,
+        items: &ItemSet<T>,
+        state: &S,
+        compactness: ValidateCompact,
+    ) -> Result<(), ValidateRefusal<ValidationError>> {
+        self.first.validate(items, state, compactness)?;
+        self.second.validate(items, state, compactness)
+    }
+}
+
+// What the first told, and the second where it told anything.
+fn first_with<A, B>(one: A, other: Option<B>) -> PairConflict<A, B>
+    ensures first { first_of result ≡ Some one }
+    ensures second { second_of result ≡ other }
+{
+    match other {
+        Some(other) => PairConflict::Both(one, other),
+        None => PairConflict::First(one),
+    }
+}
+
+// The next index past one that one of the two told, if it told any.
+fn next_of<T, S, X: Conflicts<T, S>>(
+    conflict: Option<X::Conflict>,
+    before: &Option<ItemIndex>,
+) -> Option<ItemIndex>
+    ensures { IsNextTold (IsToldBy X.tells conflict) before.now result }
+{
+    let told = conflict?;
+    X::next_told(&told, *before)
+}
+
+// The lesser of two indexes, or the one that there is.
+fn lesser(one: Option<ItemIndex>, other: Option<ItemIndex>) -> Option<ItemIndex>
+    ensures { result ≡ lesser_of one other }
+{
+    match other {
+        Some(at) => match one {
+            Some(ix) => Some(ix.min(at)),
+            None => Some(at),
+        },
+        None => one,
+    }
+}
+
+impl<P, T, S, A, B, C> HashedAt<Left<P>, T, S> for Pair<A, B, C>
+where
+    A: HashedAt<P, T, S>,
+    B: KeyIndex<T, S>,
+{
+    type Key = A::Key;
+
+    ghost key_at = { A.HashedAt.key_at };
+
+    fn find<Q: HashQuery<A::Key>>(
+        &self,
+        items: &ItemSet<T>,
+        state: &S,
+        query: Q,
+    ) -> Option<ItemIndex> {
+        self.first.find(items, state, query)
+    }
+}
+
+impl<P, T, S, A, B, C> TakesAt<Left<P>, T, S> for Pair<A, B, C>
+where
+    A: TakesAt<P, T, S>,
+    B: Removes<T, S>,
+{
+    fn take<Q: HashQuery<A::Key>>(
+        &mut self,
+        items: &ItemSet<T>,
+        state: &S,
+        query: Q,
+    ) -> Option<ItemIndex> {
+        let ix = self.first.take(items, state, query)?;
+        self.second.remove(items, state, ix);
+        Some(ix)
+    }
+}
+
+impl<P, T, S, A, B, C> AsksAt<Left<P>, T, S> for Pair<A, B, C>
+where
+    A: AsksAt<P, T, S>,
+    B: Moves<T, S>,
+    C: TellsPair<A::Conflict, B::Conflict>,
+{
+    fn ask<Q: HashQuery<A::Key>>(
+        &self,
+        items: &ItemSet<T>,
+        state: &S,
+        query: Q,
+    ) -> (Option<ItemIndex>, (A::Asked, B::Asked)) {
+        let (found, asked) = self.first.ask(items, state, query);
+        (found, (asked, B::unasked()))
+    }
+}
+
+impl<P, T, S, A, B, C> HashedAt<Right<P>, T, S> for Pair<A, B, C>
+where
+    A: KeyIndex<T, S>,
+    B: HashedAt<P, T, S>,
+{
+    type Key = B::Key;
+
+    ghost key_at = { B.HashedAt.key_at };
+
+    fn find<Q: HashQuery<B::Key>>(
+        &self,
+        items: &ItemSet<T>,
+        state: &S,
+        query: Q,
+    ) -> Option<ItemIndex> {
+        self.second.find(items, state, query)
+    }
+}
+
+impl<P, T, S, A, B, C> TakesAt<Right<P>, T, S> for Pair<A, B, C>
+where
+    A: Removes<T, S>,
+    B: TakesAt<P, T, S>,
+{
+    fn take<Q: HashQuery<B::Key>>(
+        &mut self,
+        items: &ItemSet<T>,
+        state: &S,
+        query: Q,
+    ) -> Option<ItemIndex> {
+        let ix = self.second.take(items, state, query)?;
+        self.first.remove(items, state, ix);
+        Some(ix)
+    }
+}
+
+impl<P, T, S, A, B, C> AsksAt<Right<P>, T, S> for Pair<A, B, C>
+where
+    A: Moves<T, S>,
+    B: AsksAt<P, T, S>,
+    C: TellsPair<A::Conflict, B::Conflict>,
+{
+    fn ask<Q: HashQuery<B::Key>>(
+        &self,
+        items: &ItemSet<T>,
+        state: &S,
+        query: Q,
+    ) -> (Option<ItemIndex>, (A::Asked, B::Asked)) {
+        let (found, asked) = self.second.ask(items, state, query);
+        (found, (A::unasked(), asked))
+    }
+}
