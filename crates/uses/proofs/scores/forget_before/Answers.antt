@@ -3,4 +3,4 @@ use Rattle.iddqd_maps.proofs.CallerLemmas.{retains_along_fewer}
 use Rattle.uses.proofs.scores.forget_before.Goals as goal
 
 pub returns : goal.returns
-returns c = omega (arith, retains_along_fewer _ _ _ _ _ c.retain.ensures)
+returns c = omega (arith, retains_along_fewer _ _ _ _ _ c.retain.ensures.retained)
