@@ -11,6 +11,7 @@ use Rattle.iddqd_hash.specs.MapHashTable.{FindsWhere}
 use Rattle.iddqd_keys.specs.Scan.{IsHit, AnswersScan, passes_by}
 use Rattle.iddqd_keys.proofs.ScanLemmas.{AnswersScan-hit}
 use Rattle.iddqd_by_hash.specs.Hashed.{Hashing, hashing_of, IsLawful, StandsForOne, AsksAt, Finds, IsExact, LooksUp}
+use Rattle.iddqd_by_hash.specs.HashedGroup.{passes}
 
 -- keys whose bounds keep their laws
 pub IsLawful-from_bounds :
@@ -36,18 +37,14 @@ StandsForOne-key hashing key hash lawful is =
     }
 
 module _ {T : Type 0} where
-  -- whether the index is live and its item passes the test
-  abbrev pub passes : Store T → (T → Bool) → ℕ → Bool
-  passes s test ix = elim (get s ix) [ None ↦ false | Some item ↦ test item ]
-
-  hit_from_passes : (s : Store T) (test : T → Bool) (ix : ℕ) → IsTrue (passes s test ix) → IsHit s test ix
+  pub hit_from_passes : (s : Store T) (test : T → Bool) (ix : ℕ) → IsTrue (passes s test ix) → IsHit s test ix
   hit_from_passes s test ix =
       elim (get s ix) as (λ o. get s ix ≡ o → IsTrue (elim o [ None ↦ false | Some item ↦ test item ]) → IsHit s test ix) [
         | Some item ↦ λ is passed. (item, is, passed)
         | None ↦ λ is passed. absurd (cc)
       ] refl
 
-  passes_from_hit : (s : Store T) (test : T → Bool) (ix : ℕ) → IsHit s test ix → passes s test ix ≡ true
+  pub passes_from_hit : (s : Store T) (test : T → Bool) (ix : ℕ) → IsHit s test ix → passes s test ix ≡ true
   passes_from_hit s test ix (item, is, passed) = rw (passes, is) passed
 
   -- a search under a hash for an item that passes

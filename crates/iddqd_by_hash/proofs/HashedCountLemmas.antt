@@ -1,5 +1,5 @@
 -- For callers: a map of hashes that has exactly the live indexes has as many of them as there are items.
-use Rattle.std.proofs.Common.{◌≡◌, ◌&&◌, ◌∙◌, ◌↔◌, ℕ, Bool, true, false, nat_eq, List, [], ◌∷◌, map, length, is_some, IsSome, refl, sym, ap, subst, eqb-true, T as Holds}
+use Rattle.std.proofs.Common.{◌≡◌, ◌&&◌, ◌∙◌, ◌↔◌, ℕ, Bool, true, false, nat_eq, List, [], ◌∷◌, map, is_some, IsSome, refl, sym, ap, subst, eqb-true, T as Holds}
 use Rattle.std.specs.Cmp.{eq_by_cmp_equiv}
 use Rattle.std.specs.List.{AllByRecursion, Contains, IsDistinct}
 use Rattle.std.specs.Ordering.{nat_cmp, is_lt}

@@ -2,3 +2,5 @@ pub mod FindLemmas
 pub mod HoldsLemmas
 pub mod PlaceLemmas
 pub mod HashedCountLemmas
+pub mod RetainLemmas
+mod GroupLemmas

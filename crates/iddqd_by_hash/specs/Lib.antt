@@ -1,2 +1,4 @@
 pub mod Hashed
+pub mod HashedGroup
 pub mod HashedMove
+pub mod Retain

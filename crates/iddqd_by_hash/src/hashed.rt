@@ -11,7 +11,7 @@ ghost use Rattle.iddqd_hash.specs.{filed};
 ghost use Rattle.iddqd_keys.specs.Scan.{IsLive, IsKeyAt};
 ghost use Rattle.iddqd_by_hash.specs.Hashed.{AreLive, AsksAt, LooksUp, Takes};
 
-use crate::lent::Lent;
+use crate::borrowed_key_query::BorrowedKeyQuery;
 use iddqd::item_index::ItemIndex;
 use iddqd::item_set::ItemSet;
 use iddqd::map_hash::{Equivalent, MapHash};
@@ -54,7 +54,7 @@ where
 {
     table.find_index_prehashed(
         hash,
-        &Lent(query),
+        &BorrowedKeyQuery(query),
         |at: ItemIndex|
             requires { IsLive items.now.store at }
             ensures { IsKeyAt E.key_of items.entry.now.store at result.now }

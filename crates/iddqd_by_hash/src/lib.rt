@@ -4,6 +4,7 @@
 //! fields; what a wrapper's field lends couldn't be handed on.
 #![tactic(auto)]
 
+mod borrowed_key_query;
 pub mod hashed;
+pub mod hashed_group;
 pub mod hashed_move;
-mod lent;

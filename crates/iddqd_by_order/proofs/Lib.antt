@@ -4,3 +4,5 @@ pub mod OrderedPlaceLemmas
 pub mod OrderedCountLemmas
 pub mod OrderedWalkLemmas
 pub mod OrderedRangeLemmas
+mod OrderedNextLemmas
+pub mod OrderedRetainLemmas

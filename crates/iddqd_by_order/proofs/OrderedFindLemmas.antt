@@ -1,4 +1,4 @@
--- For callers of look-ups in an ordered side: what an answer says of the items.
+-- For callers of look-ups in an ordered table beside a store: what an answer says of the items.
 use Rattle.std.proofs.Common.{◌≡◌, ◌≢◌, ◌∙◌, ◌↔◌, ◌≤◌, ℕ, Bool, IsTrue, List, length, Option, Some, None, refl, sym, ap, Ordering}
 use Rattle.std.specs.List.{Contains, All}
 use Rattle.std.specs.Option.{option_cmp}
@@ -86,7 +86,7 @@ module _
     pub answer_at : (ix : ℕ) (item : T) → get s ix ≡ Some item → answer ix ≡ comparing (key_of item)
     answer_at ix item is = rw is refl
 
-    -- where the side is exact, what a look-up answers is a scan's answer
+    -- where the table is exact, what a look-up answers is a scan's answer
     pub LooksUp-found :
         IsQuery compare comparing
         → (r : Option ℕ)
@@ -119,7 +119,10 @@ module _
           rises : IsInPlace key_of compare s order → IsSteadyRising g order None read answer old
           rises placed = record { steady = steady; rising = IsRising-query compare comparing query total (key_at key_of s) order placed }
 
-          Finds-from_finds : (r : Option ℕ) → search.Finds g read order old r new → Finds key_of compare s order comparing r
+          Finds-from_finds :
+              (r : Option ℕ)
+              → search.Finds g read order old r new
+              → Finds key_of compare s order comparing r
           Finds-from_finds None finds = λ placed. equal_miss (finds.miss answer (rises placed) refl)
           Finds-from_finds (Some ix) finds = equal_hit ix finds.stored (finds.hit answer steady)
 

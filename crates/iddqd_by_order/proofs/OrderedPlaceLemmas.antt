@@ -1,4 +1,4 @@
--- For callers: each step of a store and of a list keeps an ordered side in place, and exact.
+-- For callers: each step of a store and of a list keeps an ordered table in place, and exact.
 use Rattle.std.proofs.Common.{◌≡◌, ◌∙◌, ◌+◌, ◌<◌, ℕ, Bool, true, List, [], ◌∷◌, length, map, get_or, insert, inl, inr, Option, Some, None, option_map, refl, sym, ap, subst, Ordering, arith}
 use Rattle.std.specs.List.{Contains}
 use Rattle.std.specs.List.Sorted.{IsStrictlySortedBy}
@@ -182,7 +182,8 @@ module _ {T K : Type 0} (key_of : T → K) (compare : K → K → Ordering) (tot
           → IsPlace answer order place
           → (k : ℕ)
           → k < length order
-          → answer (get_or order k 0) ≡ key_then_index (option_cmp compare) (key_at key_of after) next (get_or order k 0)
+          → answer (get_or order k 0)
+          ≡ key_then_index (option_cmp compare) (key_at key_of after) next (get_or order k 0)
       untied place is_place k within =
           let tie = nat_cmp next (get_or order k 0) in
           let same = ap (λ r. ordering_then r tie) (compares k 0 within) in

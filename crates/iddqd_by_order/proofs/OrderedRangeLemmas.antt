@@ -3,7 +3,7 @@ use Rattle.std.proofs.Common.{◌≡◌, ◌∙◌, ◌&&◌, inl, inr, ℕ, Boo
 use Rattle.std.specs.Cmp.{IsTotalOrder}
 use Rattle.std.specs.Fn.{Mut}
 use Rattle.std.specs.List.{Contains}
-use Rattle.std.specs.Ordering.{is_eq, is_gt, is_lt, ordering_then}
+use Rattle.std.specs.Ordering.{is_gt, is_lt, ordering_then}
 use Rattle.std.specs.Borrow.{Bor}
 use Rattle.std.specs.Range.Bound.{bound_map}
 use Rattle.std.specs.declared.cmp.Ordering.TheVariants.{Less, Equal, Greater}
@@ -20,7 +20,7 @@ use Rattle.iddqd_order.specs.Search.{IsSteady, IsSteadyRising, IsPlace}
 use Rattle.iddqd_order.specs.declared.btree_table.asking.Asking.{Asking}
 use Rattle.iddqd_order.specs.declared.btree_table.range.Range.{Range}
 use Rattle.iddqd_keys.specs.OrderedQuery.{IsQuery, is_from, is_up_to, is_between}
-use Rattle.iddqd_by_order.specs.Ordered.{Holds, IsInPlace, compared, is_equal, key_at}
+use Rattle.iddqd_by_order.specs.Ordered.{Holds, IsInPlace, compared, key_at}
 use Rattle.iddqd_by_order.specs.OrderedWalk.{SortsWithin}
 use Rattle.iddqd_by_order.specs.OrderedWalk.{WalksWithin}
 use Rattle.iddqd_by_order.proofs.OrderedFindLemmas.{answer_at, IsRising-query}
@@ -34,23 +34,23 @@ bound_map-twice g f (Included x) = refl
 bound_map-twice g f (Excluded x) = refl
 bound_map-twice g f Unbounded = refl
 
--- how a bound reads a key that is lent
+-- how a bound reads a borrowed key
 abbrev pub reads_by : {Q K : Type 0} → (Q → K → Ordering) → Bound Q → Bound (Bor K → Ordering)
 reads_by cmp b = bound_map (λ q k. cmp q k.now) b
 
--- one that lends a query in another form reads as the query does
-pub reads_lent :
+-- one that borrows a query in another form reads as the query does
+pub reads_borrowed :
     {Q R K : Type 0} (of : R → Q) (cmp : Q → K → Ordering) (lent : Bound (Bor R)) (own : Bound R) (bound : Bound Q)
     → bound_map (λ r. r.now) lent ≡ own
     → bound_map of own ≡ bound
     → reads_by (λ (r : Bor R) k. cmp (of r.now) k) lent ≡ reads_by cmp bound
-reads_lent {Q} {R} {K} of cmp lent own bound is_own is_bound =
+reads_borrowed {Q} {R} {K} of cmp lent own bound is_own is_bound =
     let read : Q → Bor K → Ordering = λ q k. cmp q k.now in
     sym (bound_map-twice (λ r. read (of r)) (λ (r : Bor R). r.now) lent) ∙ ap (bound_map (λ r. read (of r))) is_own
     ∙ sym (bound_map-twice read of own) ∙ ap (bound_map read) is_bound
 
 -- what a filter keeps
-kept_from : (p : ℕ → Bool) (xs : List ℕ) (x : ℕ) → Contains (filter p xs) x → Contains xs x × (p x ≡ true)
+pub kept_from : (p : ℕ → Bool) (xs : List ℕ) (x : ℕ) → Contains (filter p xs) x → Contains xs x × (p x ≡ true)
 kept_from p [] x here = absurd (contains_none x here)
 kept_from p (y ∷ ys) x here =
     elim (p y) as (λ b. p y ≡ b → Contains (cond b (y ∷ filter p ys) (filter p ys)) x → Contains (y ∷ ys) x × (p x ≡ true)) [
@@ -61,7 +61,7 @@ kept_from p (y ∷ ys) x here =
       | false ↦ λ is listed. let later = kept_from p ys x listed in (contains_tail y x ys later.0, later.1)
     ] refl here
 
-keeps : (p : ℕ → Bool) (xs : List ℕ) (x : ℕ) → Contains xs x → p x ≡ true → Contains (filter p xs) x
+pub keeps : (p : ℕ → Bool) (xs : List ℕ) (x : ℕ) → Contains xs x → p x ≡ true → Contains (filter p xs) x
 keeps p [] x here passes = absurd (contains_none x here)
 keeps p (y ∷ ys) x here passes =
     elim (contains_cases y x ys here) [

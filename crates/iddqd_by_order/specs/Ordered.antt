@@ -52,7 +52,8 @@ module _ {T K : Type 0} (key_of : T → K) where
     -- what a call keeps that changes no key of a live index
     abbrev pub Keeps : Store T → List ℕ → Store T → List ℕ → Type 0
     Keeps old old_order new new_order =
-        KeepsOver key_of (eq_by_cmp compare) (IsInPlace key_of compare old old_order) old (IsInPlace key_of compare new new_order) new
+        KeepsOver key_of (eq_by_cmp compare)
+        (IsInPlace key_of compare old old_order) old (IsInPlace key_of compare new new_order) new
 
     -- what a look-up by a query may answer in any state: an index that hits; and, where the list is in place, none
     -- exactly where there is none
@@ -60,7 +61,7 @@ module _ {T K : Type 0} (key_of : T → K) where
     Finds s order comparing None = IsInPlace key_of compare s order → HasNoHit s (passes_by key_of (is_equal comparing))
     Finds s order comparing (Some ix) = IsHit s (passes_by key_of (is_equal comparing)) ix
 
-    -- what a look-up by a query answers: what it may in any state; and where the side is exact, what a scan answers
+    -- what a look-up by a query answers: what it may in any state; and where the table is exact, what a scan answers
     abbrev pub LooksUp : Store T → List ℕ → (K → Ordering) → Option ℕ → Type 0
     LooksUp s order comparing result =
         LooksUpOver (Finds s order comparing result) (IsExact s order) s (passes_by key_of (is_equal comparing)) result
@@ -82,7 +83,9 @@ module _ {T K : Type 0} (key_of : T → K) where
     pub record IsVacantAt (s : Store T) (order : List ℕ) (comparing : K → Ordering) (place : ℕ) : Type 0 where
       pub missed : LooksUp s order comparing None
       pub within : place ≤ length order
-      pub is_place : IsInPlace key_of compare s order → IsPlace (λ ix. compared comparing (key_at key_of s ix)) order place
+      pub is_place :
+          IsInPlace key_of compare s order
+          → IsPlace (λ ix. compared comparing (key_at key_of s ix)) order place
 
     -- what an entry by a query is: that of the index which a look-up found, or else of the place for such an index
     abbrev pub Enters : Store T → List ℕ → (K → Ordering) → Entry → Type 0

@@ -3,6 +3,7 @@
 //! Its calls are functions over the table and the store, as those of `iddqd_by_hash`.
 #![tactic(auto)]
 
+mod borrowed_key_query;
 pub mod ordered;
+pub mod ordered_next;
 pub mod ordered_walk;
-mod ranked;

@@ -15,7 +15,7 @@ ghost use Rattle.iddqd_by_order.specs.Ordered.{AreLive, Enters, Holds, LooksUp, 
 ghost use Rattle.iddqd_keys.specs.OrderedQuery.{is_between};
 ghost use Rattle.iddqd_by_order.specs.OrderedWalk.{WalksWithin};
 
-use crate::ranked::RankedLent;
+use crate::borrowed_key_query::BorrowedKeyQuery;
 use iddqd::item_index::ItemIndex;
 use iddqd::item_set::ItemSet;
 use iddqd::map_hash::Comparable;
@@ -136,18 +136,18 @@ where
             ensures { IsKeyAt E.key_of items.entry.now.store at result.now }
         { key_at::<T, E>(items, at) },
     );
-    let from = ranked(lower);
-    let to = ranked(upper);
+    let from = by_borrowed_key(lower);
+    let to = by_borrowed_key(upper);
     table.range(from.as_ref(), to.as_ref(), &mut asking)
 }
 
-// A bound by what the table is asked by.
-fn ranked<Q>(bound: Bound<Q>) -> Bound<RankedLent<Q>>
+// The bound, with its query compared with borrowed keys.
+fn by_borrowed_key<Q>(bound: Bound<Q>) -> Bound<BorrowedKeyQuery<Q>>
     ensures { bound_map (λ query. query.0) result ≡ bound }
 {
     match bound {
-        Bound::Included(query) => Bound::Included(RankedLent(query)),
-        Bound::Excluded(query) => Bound::Excluded(RankedLent(query)),
+        Bound::Included(query) => Bound::Included(BorrowedKeyQuery(query)),
+        Bound::Excluded(query) => Bound::Excluded(BorrowedKeyQuery(query)),
         Bound::Unbounded => Bound::Unbounded,
     }
 }

@@ -8,4 +8,5 @@ pub mod QueryLemmas
 pub mod WalkLemmas
 pub mod ReplacementLemmas
 pub mod ModifyLemmas
+pub mod RetainLemmas
 pub mod MemoryLemmas

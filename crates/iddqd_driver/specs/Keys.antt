@@ -1,7 +1,11 @@
 -- The keys that items lend, and how those are compared and hashed.
-use Rattle.std.specs.Prelude.{Bool, ℕ, List}
+use Rattle.std.specs.Prelude.{◌≡◌, Bool, ℕ, List}
 use Rattle.std.specs.Ordering.{eq_by_cmp}
 use Rattle.std.specs.declared.cmp.Ordering.{Ordering}
+use Rattle.std.specs.Hash.FoldHasher.{initial}
+use Rattle.std.specs.Hash.BuildHasherDefault.{initial_hasher}
+use Rattle.std.specs.declared.hash.FoldHasher.{FoldHasher}
+use Rattle.std.specs.declared.hash.BuildHasherDefault.{BuildHasherDefault}
 use Rattle.std.specs.declared.hash.Hasher as hasher
 use Rattle.std.specs.declared.hash.BuildHasher as builder
 use Rattle.iddqd.specs.MapHash.{hash_one}
@@ -38,3 +42,7 @@ module _ {T K1 K2 S : Type 0} (keys : Keys T K1 K2 S) where
   -- when two second keys are equal
   abbrev pub equal_second : K2 → K2 → Bool
   equal_second = eq_by_cmp keys.compare_second
+
+-- the state of the default build hasher
+abbrev pub IsDefaultHasher : BuildHasherDefault FoldHasher → Type 0
+IsDefaultHasher hasher = initial_hasher hasher ≡ initial

@@ -9,6 +9,7 @@ pub mod Queries
 pub mod Walks
 pub mod Replacement
 pub mod Modify
+pub mod Retain
 pub mod Memory
 -- what a caller's clauses cite, from one place: of the crates below, and of this one
 pub use Rattle.iddqd.specs.Store
@@ -23,7 +24,7 @@ pub use Rattle.iddqd_order.specs.Iter.{indexes_left}
 pub use Rattle.iddqd_keys.specs.Scan.{IsLive, AnswersScan}
 pub use Rattle.iddqd_by_order.specs.OrderedWalk.{WalksWithin, pairs_at}
 pub use Rattle.iddqd_keys.specs.KeyKeeping.{KeepsKey, ModifiesItem, pair_keys}
-pub use Rattle.iddqd_driver.specs.Keys.{keys_of}
+pub use Rattle.iddqd_driver.specs.Keys.{keys_of, IsDefaultHasher}
 pub use Rattle.iddqd_driver.specs.State.{empty_state, empty_state_within, cleared_state, unbound, Compacts, IsPaired}
 pub use Rattle.iddqd_driver.specs.Sides.{hash_in, has, first_side, second_side, IsExact, LooksUp, AsScan}
 pub use Rattle.iddqd_driver.specs.Sides.{FirstKeysInOrder, SecondKeysInOrder, InOrder, Keeps, KeepsUnlessChanged}
@@ -34,6 +35,8 @@ pub use Rattle.iddqd_driver.specs.Queries.{LooksUpBy, GivesFound}
 pub use Rattle.iddqd_driver.specs.Walks.{items_at, RangesWithin}
 pub use Rattle.iddqd_driver.specs.Replacement.{TellsOther, Becomes, Replaces}
 pub use Rattle.iddqd_driver.specs.Modify.{ModifiesAt, ModifiesFound}
+pub use Rattle.iddqd_by_hash.specs.Retain.{MayAsk, RetainsTo, kept_of, refused_of}
+pub use Rattle.iddqd_driver.specs.Retain.{unbound_all, Retains}
 pub use Rattle.iddqd_driver.specs.Memory.{SizedState, no_memory, capacity, room, reservable, IsNoLower, IsMadeFor}
 pub use Rattle.iddqd_driver.specs.Memory.{IsForMemory, InsertsInMemory, TakesForOne, ReservesInMemory, ShrinksInMemory}
 pub use Rattle.iddqd_driver.specs.Memory.{RefusesMemory, IsServedBelow, StepsInMemory, RunsInMemory}

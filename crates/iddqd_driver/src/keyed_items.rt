@@ -28,15 +28,18 @@ ghost use Rattle.iddqd_driver.specs.Machine.{Refuses, Inserts, TellsAsScan, Remo
 ghost use Rattle.iddqd_driver.specs.Run.{Run};
 ghost use Rattle.iddqd_driver.specs.Memory.{no_memory, capacity, room, memory_of, HasRoomInParts, InsertsInMemory, TakesForOne, StepsInMemory, RunsInMemory};
 
+mod defaults;
 mod memory;
 mod modifies;
 mod queries;
 mod replaces;
+mod retain;
 mod validation;
 mod walks;
 
 use crate::command::{Command, Reply};
 use crate::keyed_item::{First, KeyedItem, Second};
+use iddqd::hash_builder::DefaultHashBuilder;
 use iddqd::index_remap::IndexRemap;
 use iddqd::item_index::{ItemIndex, OrDash};
 use iddqd::item_set::{GrowError, ItemSet};
@@ -60,7 +63,7 @@ pub use walks::ValuesByKey2;
 /// An insert refuses an item one of whose keys a look-up finds. While no key is changed silently, by
 /// `overwrite`, that is each item one of whose keys is there.
 #[derive(Drop)]
-pub struct KeyedItems<T: KeyedItem, S: BuildHasher> {
+pub struct KeyedItems<T: KeyedItem, S: BuildHasher = DefaultHashBuilder> {
     items: ItemSet<T>,
     // Each live index, under the hash that its item's first key had when it was inserted.
     filed: MapHashTable,

@@ -1,13 +1,16 @@
 -- For callers of a table of indexes: what its map says of the indexes under a hash, and of look-ups among them.
 use Rattle.std.proofs.Common.{◌+◌, ◌<◌, arith, ◌≡◌, ◌==◌, ◌&&◌, ◌||◌, ◌∙◌, ℕ, Bool, true, false, cond, List, [], ◌∷◌, map, filter, Option, Some, None, IsSome, refl, sym, ap, subst, Contains, eqb-true, eq-eqb, T as Holds}
-use Rattle.std.specs.List.{list_any}
+use Rattle.std.specs.List.{list_any, IsDistinct, AllByRecursion}
 use Rattle.std.specs.Ordering.{nat_cmp, eq_by_cmp, is_eq, is_lt}
+use Rattle.std.specs.declared.cmp.Ordering.{Ordering}
 use Rattle.std.specs.declared.cmp.Ordering.TheVariants.{Less, Equal, Greater}
 use Rattle.std.specs.Cmp.{nat_cmp_total, eq_by_cmp_equiv}
 use Rattle.std.specs.FinMap as finite
 use Rattle.std.specs.FinMap.{FinMap}
 use Rattle.std.specs.FinMap.Entries.{find, is_sorted, below_all}
 use Rattle.std.specs.Fn.{Shared}
+use Rattle.std.proofs.lemmas.Map.Keys.{IsDistinct-cons}
+use Rattle.std.proofs.lemmas.Map.Made.{IsDistinct-keys_filter}
 use Rattle.std.proofs.lemmas.Map.Views.{list_any-from_Contains, Contains-from_any}
 use Rattle.iddqd_hash.specs.Asks.{Hits, Misses, LooksUp}
 use Rattle.iddqd_hash.specs.HashTable.{value_of}
@@ -86,6 +89,31 @@ module _ (hash : ℕ) where
             ]
       ] refl found
 
+-- indexes that rise differ
+less_apart : (r : Ordering) → Holds (is_lt r) → is_eq r ≡ false
+less_apart Less less = refl
+less_apart Equal less = absurd less
+less_apart Greater less = absurd less
+
+below_apart :
+    (k : ℕ) (es : List (ℕ × ℕ))
+    → Holds (below_all nat_cmp k es)
+    → AllByRecursion (λ y. eq_by_cmp nat_cmp k y ≡ false) (map (λ (e : ℕ × ℕ). e.0) es)
+below_apart k [] below = tt
+below_apart k (e ∷ es) below =
+    let parts = both_hold _ _ below in
+    (less_apart (nat_cmp k e.0) parts.0, below_apart k es parts.1)
+
+apart_if_rising :
+    (es : List (ℕ × ℕ))
+    → Holds (is_sorted nat_cmp es)
+    → IsDistinct (eq_by_cmp nat_cmp) (map (λ (e : ℕ × ℕ). e.0) es)
+unfolding IsDistinct
+apart_if_rising [] rising = tt
+apart_if_rising (e ∷ es) rising =
+    let parts = both_hold _ _ rising in
+    IsDistinct-cons (eq_by_cmp nat_cmp) e.0 (map (λ (e : ℕ × ℕ). e.0) es) (below_apart e.0 es parts.0) (apart_if_rising es parts.1)
+
 module _ (m : FinMap nat_cmp ℕ) (hash : ℕ) where
   -- the indexes under a hash are those that are filed with it
   pub filed_from_under : (ix : ℕ) → Contains (indexes_under hash m) ix → finite.get m ix ≡ Some hash
@@ -94,6 +122,10 @@ module _ (m : FinMap nat_cmp ℕ) (hash : ℕ) where
 
   pub under_from_filed : (ix : ℕ) → finite.get m ix ≡ Some hash → Contains (indexes_under hash m) ix
   under_from_filed ix is = Contains-from_any same_index ix _ (stands_from_find hash (finite.entries m) ix (sym (finite.get-entries m ix) ∙ is))
+
+  -- the indexes under a hash differ
+  pub distinct_under : IsDistinct (eq_by_cmp nat_cmp) (indexes_under hash m)
+  distinct_under = IsDistinct-keys_filter (eq_by_cmp nat_cmp) (λ (e : ℕ × ℕ). e.1 == hash) (finite.entries m) (apart_if_rising (finite.entries m) (finite.entries_sorted m))
 
   -- what holds of each index that is filed holds of those under the hash, as that a lookup may be called on them
   pub under_all_filed :

@@ -17,10 +17,12 @@ mod OpenMoveLemmas
 mod OpenPastFullLemmas
 mod OpenRetainLemmas
 mod OpenRebuildLemmas
+mod OpenRoundLemmas
 mod OpenSkipLemmas
 mod OpenSlotLemmas
 mod OpenTableLemmas
 mod OpenWalkLemmas
+mod OpenWalkUnderLemmas
 mod PermutationLemmas
 mod SizeLemmas
 mod UnderLemmas

@@ -1,137 +1,18 @@
--- What a walk from a home meets of the pairs under a hash.
-use Rattle.std.proofs.Common.{inl, inr, ◌⊎◌, Bool, true, false, ltb, ltb-true, ltb-false, eq-eqb, ne_eqb, ◌≡◌, ◌≢◌, ◌∙◌, ℕ, zero, suc, ◌+◌, ◌-◌, ◌*◌, ◌/◌, ◌%◌, ◌<◌, ◌≤◌, List, [], ◌∷◌, ◌++◌, Option, Some, None, length, take, drop, get_or, slice_index, refl, sym, ap, subst, arith, Contains, add-zero}
-use Rattle.std.proofs.Math.Nat.{mod-eq_of_lt, mod-lt, mul-add-mod_self_left, div-add-mod}
+-- How a look-up goes by what isn't under its hash, reads a cell beside its tag, and asks of each value under the hash.
+use Rattle.std.proofs.Common.{◌≡◌, ◌≢◌, ◌∙◌, ℕ, Bool, ◌+◌, ◌%◌, ◌<◌, List, ◌++◌, Option, Some, None, true, false, length, take, drop, get_or, slice_index, refl, sym, ap, subst, arith, add-zero}
+use Rattle.std.proofs.Math.Nat.{mod-eq_of_lt, mod-lt}
 use Rattle.std.specs.Option.{option_map}
 use Rattle.std.specs.List.Sorted.{IsPermutation}
-use Rattle.std.proofs.lemmas.List.{append-nil, take_more, drop_more, take-append-drop, get_or_append_left, get_or-append_right, get_or-drop, get_or-take, get_or-map, length-drop, length-append, length-take-le, length-map}
-use Rattle.std.proofs.lemmas.List.Elements.{filter_map-append, Contains-append_right}
-use Rattle.std.proofs.lemmas.List.Sorted.{IsPermutation-append_comm}
+use Rattle.std.proofs.lemmas.List.{append-nil, take-append-drop, get_or-map, length-map}
 use Rattle.std.proofs.lemmas.Fn.{FoldsTo-push}
 use borrow.Author.Count.{below_more}
 use Rattle.iddqd_hash.specs.Asks.{AllRefused, HitsPair, Misses}
 use Rattle.iddqd_hash.specs.HashTable.{under}
 use Rattle.iddqd_hash.specs.declared.open_table.cells.Cell.{Cell}
-use Rattle.iddqd_hash.specs.OpenTable.{tag_of, slot_at, slots_of, pair_in, pairs, Suits, HasEmpty, Passed, IsReached, IsProbed, PassesBy, FindsNext}
-use Rattle.iddqd_hash.proofs.UnderLemmas.{under-append, under-cons_same, under-cons_other}
-use Rattle.iddqd_hash.proofs.OpenWalkLemmas.{onward, same_steps, steps_within, steps_to, steps_to-walked, places_left}
-
--- a step round from a home, as an index before or behind the last place
-round :
-    (n from k : ℕ)
-    → 0 < n
-    → k < n
-    → ((k < n - from % n) × ((from + k) % n ≡ from % n + k)) ⊎
-    ((n - from % n ≤ k) × ((from + k) % n ≡ k - (n - from % n)))
-round n from k some below = by_side (ltb k (n - from % n)) refl
-  where
-    home_below : from % n < n
-    home_below = mod-lt from some
-
-    parts : n * (from / n) + from % n ≡ from
-    parts = div-add-mod from n
-
-    by_side :
-        (b : Bool)
-        → ltb k (n - from % n) ≡ b
-        → ((k < n - from % n) × ((from + k) % n ≡ from % n + k)) ⊎
-        ((n - from % n ≤ k) × ((from + k) % n ≡ k - (n - from % n)))
-    by_side true is =
-        let near : k < n - from % n = ltb-true _ _ is in
-        let low : from % n < n = home_below in
-        let split : n * (from / n) + from % n ≡ from = parts in
-        let as_parts : from + k ≡ n * (from / n) + (from % n + k) = omega arith in
-        inl (near, ap (λ x. x % n) as_parts ∙ mul-add-mod_self_left n (from / n) (from % n + k) ∙ mod-eq_of_lt (omega arith))
-    by_side false is =
-        let far : n - from % n ≤ k = ltb-false _ _ is in
-        let low : from % n < n = home_below in
-        let split : n * (from / n) + from % n ≡ from = parts in
-        let more : n * (from / n + 1) ≡ n * (from / n) + n = grind arith in
-        let as_parts : from + k ≡ n * (from / n + 1) + (k - (n - from % n)) = omega arith in
-        inr (far, ap (λ x. x % n) as_parts ∙ mul-add-mod_self_left n (from / n + 1) (k - (n - from % n)) ∙ mod-eq_of_lt (omega arith))
-
--- a list from the home of a hash on, the first after the last
-abbrev pub from_home : {X : Type 0} → ℕ → List X → List X
-from_home hash xs = drop (hash % length xs) xs ++ take (hash % length xs) xs
-
-from_home-at :
-    {X : Type 0} (hash : ℕ) (xs : List X) (k : ℕ) (d : X)
-    → k < length xs
-    → get_or (from_home hash xs) k d ≡ get_or xs ((hash + k) % length xs) d
-from_home-at hash xs k d below =
-    let home : ℕ = hash % length xs in
-    let home_below : home < length xs = mod-lt hash (omega arith) in
-    elim (round (length xs) hash k (omega arith) below) [
-      | inl near ↦
-          get_or_append_left (drop home xs) (take home xs) d k (omega (arith, length-drop home xs, near.0))
-          ∙ get_or-drop home xs k d ∙ ap (λ n. get_or xs n d) (sym near.1)
-      | inr far ↦
-          get_or-append_right (drop home xs) (take home xs) (length xs - home) k d (length-drop home xs) far.0
-          ∙ get_or-take home xs (k - (length xs - home)) d (omega (arith, far.0, home_below))
-          ∙ ap (λ n. get_or xs n d) (sym far.1)
-    ]
-
-from_home-length : {X : Type 0} (hash : ℕ) (xs : List X) → 0 < length xs → length (from_home hash xs) ≡ length xs
-from_home-length hash xs some =
-    let home : ℕ = hash % length xs in
-    let home_below : home < length xs = mod-lt hash some in
-    length-append (drop home xs) (take home xs) ∙ omega (arith, length-drop home xs, length-take-le home xs (omega arith))
-
-module _ {T : Type 0} (hash : ℕ) where
-  -- the values under the hash in slots
-  abbrev met : List (Option (ℕ × T)) → List T
-  met slots = under hash (pairs slots)
-
-  met-append : (xs ys : List (Option (ℕ × T))) → met (xs ++ ys) ≡ met xs ++ met ys
-  met-append xs ys = ap (under hash) (filter_map-append (λ (slot : Option (ℕ × T)). slot) xs ys) ∙ under-append hash (pairs xs) (pairs ys)
-
-  met_same : (slot : Option (ℕ × T)) (value : T) → slot ≡ Some (hash, value) → met (slot ∷ []) ≡ value ∷ []
-  met_same slot value is = ap (λ s. met (s ∷ [])) is ∙ under-cons_same hash hash value [] (eq-eqb hash hash refl)
-
-  met_other : (slot : Option (ℕ × T)) → ((value : T) → slot ≢ Some (hash, value)) → met (slot ∷ []) ≡ []
-  met_other None other = refl
-  met_other (Some pair) other = under-cons_other hash pair.0 pair.1 [] (ne_eqb pair.0 hash (λ same. other pair.1 (ap (λ n. Some (n, pair.1)) same)))
-
-  met_none :
-      (slots : List (Option (ℕ × T)))
-      → ((k : ℕ) (value : T) → k < length slots → get_or slots k None ≢ Some (hash, value))
-      → met slots ≡ []
-  met_none [] others = refl
-  met_none (slot ∷ slots) others =
-      met-append (slot ∷ []) slots
-      ∙ ap (λ xs. xs ++ met slots) (met_other slot (λ value. others 0 value (omega arith)))
-      ∙ met_none slots (λ k value below. others (suc k) value (omega arith))
-
-  module _ (slots : List (Option (ℕ × T))) (k : ℕ) (below : k < length slots) where
-    met_more : met (take (k + 1) slots) ≡ met (take k slots) ++ met (get_or slots k None ∷ [])
-    met_more = ap met (take_more slots k None below) ∙ met-append (take k slots) (get_or slots k None ∷ [])
-
-    met_whole : met slots ≡ met (take k slots) ++ (met (get_or slots k None ∷ []) ++ met (drop (k + 1) slots))
-    met_whole =
-        ap met (sym (take-append-drop k slots) ∙ ap (λ xs. take k slots ++ xs) (drop_more slots k None below))
-        ∙ met-append (take k slots) (get_or slots k None ∷ drop (k + 1) slots)
-        ∙ ap (λ xs. met (take k slots) ++ xs) (met-append (get_or slots k None ∷ []) (drop (k + 1) slots))
-
-    met_at :
-        (value : T)
-        → get_or slots k None ≡ Some (hash, value)
-        → met slots ≡ met (take k slots) ++ value ∷ met (drop (k + 1) slots)
-    met_at value is = met_whole ∙ ap (λ xs. met (take k slots) ++ (xs ++ met (drop (k + 1) slots))) (met_same _ value is)
-
-  -- a value that stands under the hash
-  pub Contains-met :
-      (slots : List (Option (ℕ × T))) (k : ℕ) (value : T)
-      → k < length slots
-      → slot_at slots k ≡ Some (hash, value)
-      → Contains (under hash (pairs slots)) value
-  Contains-met slots k value below is =
-      subst (λ xs. Contains xs value) (sym (met_at slots k below value is)) (Contains-append_right (met (take k slots)) _ value (0, omega arith, refl))
-
-  met_home : (slots : List (Option (ℕ × T))) → IsPermutation (met slots) (met (from_home hash slots))
-  met_home slots =
-      let n : ℕ = hash % length slots in
-      let first : met slots ≡ met (take n slots) ++ met (drop n slots) = ap met (sym (take-append-drop n slots)) ∙ met-append (take n slots) (drop n slots) in
-      let second : met (from_home hash slots) ≡ met (drop n slots) ++ met (take n slots) = met-append (drop n slots) (take n slots) in
-      rw (first, second) (IsPermutation-append_comm (met (take n slots)) (met (drop n slots)))
+use Rattle.iddqd_hash.specs.OpenTable.{tag_of, slot_at, slots_of, pair_in, pairs, Suits, HasEmpty, IsReached, IsProbed, PassesBy, FindsNext}
+use Rattle.iddqd_hash.specs.OpenWalkUnder.{from_home}
+use Rattle.iddqd_hash.proofs.OpenWalkLemmas.{onward, steps_within, IsReached-next, IsReached-on}
+use Rattle.iddqd_hash.proofs.OpenRoundLemmas.{met, met-append, met_same, met_more, met_at, met_home, met-skipped, met-ended, inside, read_here, used, others_on}
 
 -- a walk that passes by what isn't under the hash
 module _ {T : Type 0} (tags : List ℕ) (slots : List (Option (ℕ × T))) (hash from : ℕ) where
@@ -253,82 +134,30 @@ module _
         }
 
     module _ (probed : IsProbed tags slots) (some : HasEmpty tags) where
-      read_at :
-          (k : ℕ)
-          → k < length tags
-          → get_or (from_home hash slots) k None ≡ slot_at slots ((hash + k) % length tags)
-      read_at k below = from_home-at hash slots k None (omega (arith, probed.same_length)) ∙ ap (λ n. slot_at slots ((hash + k) % n)) probed.same_length
-
-      long : 0 < length tags → length (from_home hash slots) ≡ length tags
-      long some = from_home-length hash slots (omega (arith, probed.same_length)) ∙ probed.same_length
-
-      skipped :
-          (s t : ℕ)
-          → s + t < length tags
-          → ((k : ℕ) (value : T) → k < t → slot_at slots ((hash + (s + k)) % length tags) ≢ Some (hash, value))
-          → under hash (pairs (take (s + t) (from_home hash slots))) ≡ under hash (pairs (take s (from_home hash slots)))
-      skipped s zero below others = ap (λ n. under hash (pairs (take n (from_home hash slots)))) (add-zero s)
-      skipped s (suc t) below others =
-          let within : s + t < length (from_home hash slots) = omega (arith, long (omega arith)) in
-          let here : (value : T) → get_or (from_home hash slots) (s + t) None ≢ Some (hash, value) =
-          λ value is. others t value (omega arith) (sym (read_at (s + t) (omega arith)) ∙ is) in
-          let next : s + suc t ≡ s + t + 1 = omega arith in
-          ap (λ n. under hash (pairs (take n (from_home hash slots)))) next
-          ∙ met_more hash (from_home hash slots) (s + t) within
-          ∙ ap (λ xs. under hash (pairs (take (s + t) (from_home hash slots))) ++ xs) (met_other hash _ here)
-          ∙ append-nil _
-          ∙ skipped s t (omega arith) (λ k value less. others k value (omega arith))
-
-      module _ (at place : ℕ) (last : F) (looking : Looking at last) (by : PassesBy tags slots hash at place) where
-        total : ℕ
-        total = looking.walk.steps + by.walk.steps
-
-        moved : (k : ℕ) → (hash + (looking.walk.steps + k)) % length tags ≡ (at + k) % length tags
-        moved k = sym (onward (length tags) hash looking.walk.steps k) ∙ ap (λ x. (x + k) % length tags) looking.walk.is_there
-
-        passed_both : Passed tags hash (looking.walk.steps + by.walk.steps)
-        passed_both k below =
-            elim (ltb k looking.walk.steps) as (λ b. ltb k looking.walk.steps ≡ b → 0 < slice_index tags ((hash + k) % length tags)) [
-              | true ↦ λ is. looking.walk.passed k (ltb-true _ _ is)
-              | false ↦ λ is.
-                  let past : looking.walk.steps ≤ k = ltb-false _ _ is in
-                  let j : ℕ = k - looking.walk.steps in
-                  let k-is : k ≡ looking.walk.steps + j = omega arith in
-                  let same : (hash + k) % length tags ≡ (at + j) % length tags = ap (λ x. (hash + x) % length tags) k-is ∙ moved j in
-                  subst (λ x. 0 < slice_index tags x) (sym same) (by.walk.passed j (omega arith))
-            ] refl
-
-        pub Looking-passed : Looking place last
-        Looking-passed =
-            let within : looking.walk.steps + by.walk.steps < length tags = steps_within tags hash (looking.walk.steps + by.walk.steps) some passed_both in
-            record {
-              walk = record { steps = looking.walk.steps + by.walk.steps; is_there = moved by.walk.steps ∙ by.walk.is_there; passed = passed_both };
-              were_refused =
-                  subst (λ xs. AllRefused ask f xs last)
-                  (sym (skipped looking.walk.steps by.walk.steps within (λ k value below is. by.others k value below (ap (slot_at slots) (sym (moved k)) ∙ is))))
-                  looking.were_refused;
-            }
-
-        -- the walk has no more places before it
-        pub passed_left : places_left (length tags) hash place ≤ places_left (length tags) hash at
-        passed_left =
-            let n : ℕ = length tags in
-            let within : looking.walk.steps + by.walk.steps < n = steps_within tags hash (looking.walk.steps + by.walk.steps) some passed_both in
-            let now : steps_to n hash at ≡ looking.walk.steps = subst (λ x. steps_to n hash x ≡ looking.walk.steps) looking.walk.is_there (steps_to-walked n hash looking.walk.steps (omega arith)) in
-            let then : steps_to n hash place ≡ looking.walk.steps + by.walk.steps =
-            subst (λ x. steps_to n hash x ≡ looking.walk.steps + by.walk.steps) (moved by.walk.steps ∙ by.walk.is_there) (steps_to-walked n hash (looking.walk.steps + by.walk.steps) within) in
-            omega arith
+      pub Looking-passed :
+          (at place : ℕ) (last : F)
+          → Looking at last
+          → PassesBy tags slots hash at place
+          → Looking place last
+      Looking-passed at place last looking by =
+          let walk : IsReached tags hash place = IsReached-on tags hash at place looking.walk by.walk in
+          let below : looking.walk.steps + by.walk.steps < length tags = steps_within tags hash walk.steps some walk.passed in
+          let within : looking.walk.steps + by.walk.steps < length (from_home hash slots) = inside tags slots hash probed some place walk in
+          record {
+            walk = walk;
+            were_refused =
+                subst (λ xs. AllRefused ask f xs last)
+                (sym (met-skipped hash (from_home hash slots) looking.walk.steps by.walk.steps (omega arith) (λ k value less. others_on tags slots hash probed some at place looking.walk by k value below less)))
+                looking.were_refused;
+          }
 
       module _ (place : ℕ) (before : F) (looking : Looking place before) where
-        within : looking.walk.steps < length tags
-        within = steps_within tags hash looking.walk.steps some looking.walk.passed
+        inside_here : looking.walk.steps < length (from_home hash slots)
+        inside_here = inside tags slots hash probed some place looking.walk
 
         module _ (value : T) (last : F) (is : slot_at slots place ≡ Some (hash, value)) where
-          read_here : get_or (from_home hash slots) looking.walk.steps None ≡ Some (hash, value)
-          read_here = read_at looking.walk.steps within ∙ ap (slot_at slots) looking.walk.is_there ∙ is
-
-          inside : looking.walk.steps < length (from_home hash slots)
-          inside = let below : looking.walk.steps < length tags = within in omega (arith, long (omega arith))
+          read : get_or (from_home hash slots) looking.walk.steps None ≡ Some (hash, value)
+          read = read_here tags slots hash probed some place looking.walk value is
 
           pub HitsPair-looked :
               ask before value true last
@@ -340,7 +169,7 @@ module _
                 hit = record {
                   refused = under hash (pairs (take looking.walk.steps (from_home hash slots)));
                   unasked = under hash (pairs (drop (looking.walk.steps + 1) (from_home hash slots)));
-                  each_once = subst (λ xs. IsPermutation (under hash (pairs slots)) xs) (met_at hash (from_home hash slots) looking.walk.steps inside value read_here) (met_home hash slots);
+                  each_once = subst (λ xs. IsPermutation (under hash (pairs slots)) xs) (met_at hash (from_home hash slots) looking.walk.steps inside_here value read) (met_home hash slots);
                   before = before;
                   were_refused = looking.were_refused;
                   last = last;
@@ -348,60 +177,25 @@ module _
                 };
               }
 
-          pub used : 0 < slice_index tags place
-          used =
-              let here : place < length tags = subst (λ x. x < length tags) looking.walk.is_there (mod-lt (hash + looking.walk.steps) (let below : looking.walk.steps < length tags = within in omega arith)) in
-              let suits : Suits (slice_index tags place) (Some (hash, value)) = subst (λ s. Suits (slice_index tags place) s) is (probed.suited place here) in
-              omega arith
-
           pub Looking-next : ask before value false last → Looking ((place + 1) % length tags) last
           Looking-next refused =
               record {
-                walk = record {
-                  steps = looking.walk.steps + 1;
-                  is_there = sym (onward (length tags) hash looking.walk.steps 1) ∙ ap (λ x. (x + 1) % length tags) looking.walk.is_there;
-                  passed = below_more (λ k. 0 < slice_index tags ((hash + k) % length tags)) looking.walk.steps looking.walk.passed (subst (λ x. 0 < slice_index tags x) (sym looking.walk.is_there) used);
-                };
+                walk = IsReached-next tags hash place looking.walk (used tags slots hash probed some place looking.walk value is);
                 were_refused =
-                    rw (met_more hash (from_home hash slots) looking.walk.steps inside, met_same hash _ value read_here)
+                    rw (met_more hash (from_home hash slots) looking.walk.steps inside_here, met_same hash _ value read)
                     (FoldsTo-push _ f _ before value last looking.were_refused refused);
               }
 
-        module _ (empty : slice_index tags place ≡ 0) where
-          none_later :
-              (k : ℕ) (value : T)
-              → k < length (drop looking.walk.steps (from_home hash slots))
-              → get_or (drop looking.walk.steps (from_home hash slots)) k None ≢ Some (hash, value)
-          none_later k value below is =
-              let low : looking.walk.steps < length tags = within in
-              let s : ℕ = looking.walk.steps in
-              let inside : s + k < length tags = omega (arith, length-drop s (from_home hash slots), long (omega arith)) in
-              let there : slot_at slots ((hash + (s + k)) % length tags) ≡ Some (hash, value) = sym (read_at (s + k) inside) ∙ sym (get_or-drop s (from_home hash slots) k None) ∙ is in
-              let reached : IsReached tags hash ((hash + (s + k)) % length tags) = probed.reached _ (hash, value) there in
-              let reached_within : reached.steps < length tags = steps_within tags hash reached.steps some reached.passed in
-              let same : reached.steps ≡ s + k = same_steps (length tags) hash reached.steps (s + k) reached_within inside reached.is_there in
-              let not_used : slice_index tags ((hash + s) % length tags) ≡ 0 = ap (slice_index tags) looking.walk.is_there ∙ empty in
-              elim k as (λ j. k ≡ j → ⊥) [
-                | zero ↦ λ first.
-                    let at : (hash + (s + k)) % length tags ≡ place = ap (λ x. (hash + x) % length tags) (let sum : s + k ≡ s = omega arith in sum) ∙ looking.walk.is_there in
-                    let suits : Suits (slice_index tags place) (slot_at slots place) = probed.suited place (subst (λ x. x < length tags) looking.walk.is_there (mod-lt (hash + s) (omega arith))) in
-                    let tag : slice_index tags place ≡ tag_of hash = subst (λ o. Suits (slice_index tags place) o) (ap (slot_at slots) (sym at) ∙ there) suits in
-                    omega arith
-                | suc j ↦ λ later.
-                    let passed_it : 0 < slice_index tags ((hash + s) % length tags) = reached.passed s (omega arith) in
-                    omega arith
-              ] refl
-
-          pub Misses-looked : Misses ask f (under hash (pairs slots))
-          Misses-looked =
-              let whole : met hash (from_home hash slots) ≡ met hash (take looking.walk.steps (from_home hash slots)) =
-              ap (met hash) (sym (take-append-drop looking.walk.steps (from_home hash slots)))
-              ∙ met-append hash (take looking.walk.steps (from_home hash slots)) (drop looking.walk.steps (from_home hash slots))
-              ∙ ap (λ xs. met hash (take looking.walk.steps (from_home hash slots)) ++ xs) (met_none hash (drop looking.walk.steps (from_home hash slots)) none_later)
-              ∙ append-nil _ in
-              record {
-                asked = under hash (pairs (take looking.walk.steps (from_home hash slots)));
-                each_once = subst (λ xs. IsPermutation (under hash (pairs slots)) xs) whole (met_home hash slots);
-                last = before;
-                were_refused = looking.were_refused;
-              }
+        pub Misses-looked : slice_index tags place ≡ 0 → Misses ask f (under hash (pairs slots))
+        Misses-looked empty =
+            let whole : met hash (from_home hash slots) ≡ met hash (take looking.walk.steps (from_home hash slots)) =
+            ap (met hash) (sym (take-append-drop looking.walk.steps (from_home hash slots)))
+            ∙ met-append hash (take looking.walk.steps (from_home hash slots)) (drop looking.walk.steps (from_home hash slots))
+            ∙ ap (λ xs. met hash (take looking.walk.steps (from_home hash slots)) ++ xs) (met-ended tags slots hash probed some place looking.walk empty)
+            ∙ append-nil _ in
+            record {
+              asked = under hash (pairs (take looking.walk.steps (from_home hash slots)));
+              each_once = subst (λ xs. IsPermutation (under hash (pairs slots)) xs) whole (met_home hash slots);
+              last = before;
+              were_refused = looking.were_refused;
+            }

@@ -3,14 +3,11 @@ use Rattle.std.proofs.Common.{◌≡◌, ◌∙◌, ℕ, ◌+◌, ◌-◌, ◌*�
 use Rattle.std.proofs.Math.Nat.{mod-add-mod, add-mod-mod, mod-eq_of_lt, mod-lt, mul-add-mod_self_left, div-add-mod}
 use borrow.Author.Count.{below_more}
 use Rattle.iddqd_hash.specs.OpenTable.{HasEmpty, Passed, IsReached}
+use Rattle.iddqd_hash.specs.OpenWalkUnder.{steps_to}
 
 -- two walks, one from the end of the other
 pub onward : (n from a b : ℕ) → ((from + a) % n + b) % n ≡ (from + (a + b)) % n
 onward n from a b = mod-add-mod (from + a) n b ∙ ap (λ x. x % n) (add_assoc from a b)
-
--- the way from the home of `from` back to the start, as a number of steps
-abbrev pub steps_to : ℕ → ℕ → ℕ → ℕ
-steps_to n from at = (at + (n - from % n)) % n
 
 whole : (n from k : ℕ) → 0 < n → from + (n - from % n) + k ≡ n * (from / n + 1) + k
 whole n from k some =
@@ -57,7 +54,7 @@ steps_within tags from s (k, inside, empty) passed =
           absurd (omega arith)
     ] refl
 
-pub IsReached-start : (tags : List ℕ) (from : ℕ) → IsReached tags from (from % length tags)
+abbrev pub IsReached-start : (tags : List ℕ) (from : ℕ) → IsReached tags from (from % length tags)
 IsReached-start tags from =
     record {
       steps = 0;
@@ -66,13 +63,13 @@ IsReached-start tags from =
     }
 
 module _ (tags : List ℕ) (from at : ℕ) (walk : IsReached tags from at) (used : 0 < slice_index tags at) where
-  one_more : Passed tags from (walk.steps + 1)
+  pub one_more : Passed tags from (walk.steps + 1)
   one_more = below_more (λ k. 0 < slice_index tags ((from + k) % length tags)) walk.steps walk.passed (subst (λ x. 0 < slice_index tags x) (sym walk.is_there) used)
 
-  one_on : (from + (walk.steps + 1)) % length tags ≡ (at + 1) % length tags
+  pub one_on : (from + (walk.steps + 1)) % length tags ≡ (at + 1) % length tags
   one_on = sym (onward (length tags) from walk.steps 1) ∙ ap (λ x. (x + 1) % length tags) walk.is_there
 
-  pub IsReached-next : IsReached tags from ((at + 1) % length tags)
+  abbrev pub IsReached-next : IsReached tags from ((at + 1) % length tags)
   IsReached-next =
       record {
         steps = walk.steps + 1;
@@ -100,10 +97,10 @@ places_left-next tags from at some walk used =
 
 -- one walk, and another from its end
 module _ (tags : List ℕ) (from a b : ℕ) (walk : IsReached tags from a) (further : IsReached tags a b) where
-  moved_on : (k : ℕ) → (from + (walk.steps + k)) % length tags ≡ (a + k) % length tags
+  pub moved_on : (k : ℕ) → (from + (walk.steps + k)) % length tags ≡ (a + k) % length tags
   moved_on k = sym (onward (length tags) from walk.steps k) ∙ ap (λ x. (x + k) % length tags) walk.is_there
 
-  passed_both : Passed tags from (walk.steps + further.steps)
+  pub passed_both : Passed tags from (walk.steps + further.steps)
   passed_both k below =
       elim (ltb k walk.steps) as (λ b. ltb k walk.steps ≡ b → 0 < slice_index tags ((from + k) % length tags)) [
         | true ↦ λ is. walk.passed k (ltb-true _ _ is)
@@ -115,7 +112,7 @@ module _ (tags : List ℕ) (from a b : ℕ) (walk : IsReached tags from a) (furt
             subst (λ x. 0 < slice_index tags x) (sym same) (further.passed j (omega arith))
       ] refl
 
-  pub IsReached-on : IsReached tags from b
+  abbrev pub IsReached-on : IsReached tags from b
   IsReached-on = record { steps = walk.steps + further.steps; is_there = moved_on further.steps ∙ further.is_there; passed = passed_both }
 
   pub places_left-on : HasEmpty tags → places_left (length tags) from b ≤ places_left (length tags) from a

@@ -1,7 +1,8 @@
 -- The values under a hash, as a walk over a list of pairs meets them.
-use Rattle.std.proofs.Common.{zero, suc, ⊎_elim, eqb-true, slice_get, eq-eqb, ne_eqb, ◌≡◌, ◌==◌, ℕ, ◌+◌, ◌<◌, Bool, true, false, List, [], ◌∷◌, ◌++◌, length, take, drop, get_or, Some, refl, sym, ap, subst, ◌∙◌, arith, Contains}
-use Rattle.std.proofs.lemmas.List.{map-append, take_more, drop_more, take-append-drop, append-nil}
+use Rattle.std.proofs.Common.{zero, suc, ⊎_elim, eqb-true, slice_get, eq-eqb, ne_eqb, ◌≡◌, ◌==◌, ℕ, ◌+◌, ◌<◌, ◌≤◌, not, filter, Bool, true, false, List, [], ◌∷◌, ◌++◌, length, take, drop, get_or, Some, refl, sym, ap, subst, ◌∙◌, arith, Contains}
+use Rattle.std.proofs.lemmas.List.{length-map, map-append, take_more, drop_more, take-append-drop, append-nil}
 use Rattle.std.proofs.lemmas.List.Elements.{filter-append, Contains-append_right, Contains-append_cases}
+use Rattle.std.proofs.lemmas.List.Filters.{length-filter_both}
 use Rattle.std.proofs.lemmas.List.Sorted.{IsPermutation-refl}
 use Rattle.std.proofs.lemmas.Fn.{FoldsTo-push}
 use Rattle.std.proofs.lemmas.Option.{slice_get_read}
@@ -113,6 +114,12 @@ module _ {T : Type 0} where
             is_pair = slice_get_read es (length es) i e refl within read ∙ ap (λ hash. Some (hash, e.1)) same;
             hit = Hits-read same refused called;
           }
+
+-- no more values stand under a hash than there are pairs
+pub under_few : {T : Type 0} (hash : ℕ) (es : List (ℕ × T)) → length (under hash es) ≤ length es
+under_few {T} hash es =
+    let parts : length (filter (λ e. e.0 == hash) es) + length (filter (λ e. not (e.0 == hash)) es) ≡ length es = length-filter_both (λ (e : ℕ × T). e.0 == hash) (λ e. not (e.0 == hash)) (λ e. refl) es in
+    omega (arith, parts, length-map (filter (λ e. e.0 == hash) es) (λ (e : ℕ × T). e.1))
 
 Contains-singleton : {X : Type 0} (y x : X) → Contains (y ∷ []) x → y ≡ x
 Contains-singleton y x (zero, within, is) = is

@@ -7,6 +7,7 @@ pub mod MapHashTableEntry
 pub mod OpenRebuild
 pub mod OpenTable
 pub mod OpenWalk
+pub mod OpenWalkUnder
 pub mod OpenTableSizes
 pub mod Sizes
 pub mod TableEntry

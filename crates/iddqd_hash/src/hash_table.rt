@@ -23,6 +23,7 @@ ghost use Rattle.iddqd_hash.specs.MapHashTable.{filed, indexes_under, AsksKey, R
 mod copies;
 mod entry;
 mod indexes;
+mod indexes_under;
 mod sizes;
 mod validation;
 
@@ -33,6 +34,7 @@ use iddqd::index_remap::IndexRemap;
 use iddqd::item_index::ItemIndex;
 use iddqd::map_hash::{Equivalent, MapHash};
 pub use indexes::Indexes;
+pub use indexes_under::IndexesUnder;
 use std::alloc::{AllocError, Global};
 use std::hash::{BuildHasher, Hash};
 use std::marker::Model;

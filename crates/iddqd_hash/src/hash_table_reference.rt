@@ -18,11 +18,13 @@ ghost use Rattle.iddqd_hash.specs.Sizes.{Reserves};
 mod copies;
 mod entry;
 mod iter;
+mod iter_hash;
 mod sizes;
 
 use crate::table_entry::{self, PairCells};
 pub use entry::{Entry, VacantEntry};
 pub use iter::TableIter;
+pub use iter_hash::IterHash;
 use std::alloc::{AllocError, Global};
 use std::marker::Model;
 

@@ -53,6 +53,7 @@ mod cells;
 mod copies;
 mod entry;
 mod iter;
+mod iter_hash;
 mod lanes;
 mod memory;
 mod places;
@@ -62,6 +63,7 @@ mod tags;
 
 pub use entry::{Entry, VacantEntry};
 pub use iter::TableIter;
+pub use iter_hash::IterHash;
 
 /// Values under hashes, in no order that a caller can rely on.
 ///

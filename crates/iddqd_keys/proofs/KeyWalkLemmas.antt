@@ -13,7 +13,7 @@ use Rattle.std.proofs.lemmas.Cmp.{alike_right, tied_itself, then_total, on_total
 use Rattle.std.proofs.lemmas.List.Elements.{All-contains, All-from_recursion, recursion_from_All, Contains-append_right, Contains-get_or, Contains-push_cases}
 use Rattle.std.proofs.lemmas.Map.Keys.{Less-from_sorted, sorted_from_all_adjacent}
 use Rattle.iddqd.specs.Store.{Store, get, removed}
-use Rattle.iddqd.proofs.LiveLemmas.{get-removed_at, get-removed_other}
+use Rattle.iddqd.proofs.LiveLemmas.{get-removed_other}
 use Rattle.iddqd.proofs.StoreLemmas.{contains_head, contains_tail, contains_cases, contains_none}
 use Rattle.iddqd_keys.specs.KeyWalk.{pairs_at, key_at, by_key_then_index, IsInPlace, ComesBefore, IsFirstHit, SortsWithin}
 use Rattle.iddqd_keys.specs.OrderedQuery.{is_between, is_equal}
@@ -21,7 +21,7 @@ use Rattle.iddqd_keys.specs.Scan.{IsHit, HasNoHit, passes_by}
 use Rattle.iddqd_keys.proofs.ScanLemmas.{live_before}
 
 module _ {T K : Type 0} (key_of : T → K) (compare : K → K → Ordering) (total : IsTotalOrder compare) where
-  totals : (s : Store T) → IsTotalOrder (by_key_then_index key_of compare s)
+  pub totals : (s : Store T) → IsTotalOrder (by_key_then_index key_of compare s)
   totals s = then_total (on_total (key_at key_of s) (options_total total)) nat_cmp_total
 
   -- what is in place is so over every store whose keys there compare Equal with those
@@ -58,7 +58,7 @@ module _ {T : Type 0} (s : Store T) where
   pairs_at-first all left ix item given is = ap (pairs_at s) given ∙ rw is refl
 
 module _ {T K : Type 0} (key_of : T → K) (compare : K → K → Ordering) (s : Store T) where
-  in_front :
+  pub in_front :
       (ix : ℕ) (rest : List ℕ)
       → IsInPlace key_of compare s (ix ∷ rest)
       → (j : ℕ)
@@ -68,7 +68,7 @@ module _ {T K : Type 0} (key_of : T → K) (compare : K → K → Ordering) (s :
   in_front ix rest placed j there =
       All-contains (λ j. ComesBefore key_of compare s ix j) rest j (All-from_recursion (λ j. ComesBefore key_of compare s ix j) rest placed.0) there
 
-  put_in_front :
+  pub put_in_front :
       (ix : ℕ) (rest : List ℕ)
       → ((j : ℕ) → Contains rest j → ComesBefore key_of compare s ix j)
       → IsInPlace key_of compare s rest
@@ -93,7 +93,7 @@ module _ {T K : Type 0} (key_of : T → K) (compare : K → K → Ordering) (s :
         | inr behind ↦ at_end ix ys placed.1 j behind
       ]
 
-  none_placed : IsInPlace key_of compare s []
+  pub none_placed : IsInPlace key_of compare s []
   unfolding IsStrictlySortedBy
   none_placed = tt
 

@@ -41,6 +41,13 @@ module _ {T K : Type 0} (key_of : T → K) where
     IsFirstHit s test None = HasNoHit s test
     IsFirstHit s test (Some ix) = IsHit s test ix × ((j : ℕ) → IsHit s test j → j ≢ ix → ComesBefore s ix j)
 
+    -- its item passes, and it is the first of those behind an index whose items do: none where none is behind it
+    abbrev pub IsNextHit : Store T → (T → Bool) → ℕ → Option ℕ → Type 0
+    IsNextHit s test after None = (j : ℕ) → IsHit s test j → ComesBefore s after j → ⊥
+    IsNextHit s test after (Some ix) =
+        IsHit s test ix × ComesBefore s after ix
+        × ((j : ℕ) → IsHit s test j → ComesBefore s after j → j ≢ ix → ComesBefore s ix j)
+
 -- these are exactly the live indexes whose items' keys pass, sorted by key
 pub record SortsWithin
     {T K : Type 0} (key_of : T → K) (compare : K → K → Ordering) (within : K → Bool) (s : Store T) (indexes : List ℕ)

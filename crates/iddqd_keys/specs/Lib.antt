@@ -3,3 +3,4 @@ pub mod Side
 pub mod KeyKeeping
 pub mod OrderedQuery
 pub mod KeyWalk
+pub mod Removals

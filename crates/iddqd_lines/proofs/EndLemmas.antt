@@ -10,7 +10,8 @@ use Rattle.iddqd_driver.specs.State.{State, empty_state}
 use Rattle.iddqd_lines.specs.Line.{line_feed, is_line_feed, lines_of, whole_lines_of, without_empty_last, without_last}
 use Rattle.iddqd_lines.specs.Split.{HasNo}
 use Rattle.iddqd_lines.specs.Replies.{Sends}
-use Rattle.iddqd_lines.specs.Program.{Line, Serves, Begins, default_hash, IsDefaultHasher, ServesUntil, ServesAll, most_reads, FailsAt}
+use Rattle.iddqd_driver.specs.Keys.{IsDefaultHasher}
+use Rattle.iddqd_lines.specs.Program.{Line, Serves, Begins, default_hash, ServesUntil, ServesAll, most_reads, FailsAt}
 use Rattle.iddqd_lines.specs.Serve.{Moment, moment, ended, IsKept, Obeys, Feeds}
 use Rattle.iddqd_lines.specs.declared.record.Record.{Record}
 use Rattle.iddqd_lines.specs.declared.serve.ServeFault.{ServeFault}

@@ -1,6 +1,6 @@
 -- Numbers and words of a line.
-use Rattle.std.proofs.Common.{◌≡◌, ◌&&◌, ◌+◌, ◌*◌, ◌-◌, ◌^◌, ◌<◌, ◌≤◌, ℕ, Bool, true, false, cond, List, [], ◌∷◌, ◌++◌, length, take, drop, get_or, nat_lt, nat_le, Option, Some, None, codes, refl, sym, ap, arith, length-append}
-use Rattle.std.specs.List.{list_all, slice_split}
+use Rattle.std.proofs.Common.{◌≡◌, ◌∙◌, ◌⊎◌, inl, inr, ◌&&◌, ◌+◌, ◌*◌, ◌-◌, ◌^◌, ◌<◌, ◌≤◌, ℕ, Bool, true, false, cond, List, [], ◌∷◌, ◌++◌, length, take, drop, get_or, nat_lt, nat_le, Option, Some, None, codes, refl, sym, ap, arith, length-append, append_assoc, set, length-set}
+use Rattle.std.specs.List.{list_all}
 use Rattle.std.specs.Option.{option_map, option_and_then}
 use Rattle.std.specs.Char.{is_ascii_digit, digit_value}
 use Rattle.std.specs.Fmt.{decimal}
@@ -9,12 +9,13 @@ use Rattle.std.specs.Str.Parse.{digits_value, digits_value_after}
 use Rattle.std.proofs.lemmas.Bool.Decides.{nat_tests, same_from_decides}
 use Rattle.std.proofs.lemmas.Slice.Eq.{bytes_eq-Decides}
 use Rattle.std.proofs.lemmas.Fmt.{length-decimal-le}
-use Rattle.std.proofs.lemmas.List.{take-append-drop}
+use Rattle.std.proofs.lemmas.List.{take-append-drop, take_more, take-set, get_or-set_same}
 use Rattle.std.proofs.lemmas.Int.Digits.{digits_value_more}
 use Rattle.std.proofs.lemmas.List.Folds.{list_all_more}
-use Rattle.std.proofs.lemmas.List.Splits.{length-slice_split}
 use Rattle.iddqd.specs.Validation.{not_compact_text}
-use Rattle.iddqd_lines.specs.Line.{max_line, is_space, number_of, numbers_of, only, command_for, request_of}
+use Rattle.iddqd_lines.specs.Line.{max_line, number_of, numbers_of, command_for, request_of}
+use Rattle.iddqd_lines.specs.declared.record.Record.{Record}
+use Rattle.iddqd_driver.specs.declared.command.Command.{Command}
 use Rattle.iddqd_lines.specs.Serve.{kept_of}
 
 -- three tests and what they choose
@@ -86,65 +87,67 @@ digits_more word i value within digit digits so_far =
     let last = digit_value-ascii (get_or word i 0) digit in
     (rw (list_all_more is_ascii_digit word i 0 within, digits, digit) refl, omega (arith, more, last))
 
--- some bytes are one word or more, and so no empty list of numbers
-some_number : (words : List ℕ) → numbers_of (slice_split is_space words) ≡ Some [] → ⊥
-some_number words none = by_parts (slice_split is_space words) refl none
-  where
-    by_numbers :
-        (a : Option ℕ) (o : Option (List ℕ))
-        → option_and_then (λ n. option_map (λ ns. n ∷ ns) o) a ≡ Some []
-        → ⊥
-    by_numbers None o p = absurd (cc)
-    by_numbers (Some n) None p = absurd (cc)
-    by_numbers (Some n) (Some ns) p = absurd (cc)
+-- ---- a line's numbers, one after the other
 
-    by_parts : (parts : List (List ℕ)) → slice_split is_space words ≡ parts → numbers_of parts ≡ Some [] → ⊥
-    by_parts [] split p = absurd (omega (arith, ap length split, length-slice_split is_space words))
-    by_parts (w ∷ ws) split p = by_numbers (number_of w) (numbers_of ws) p
+-- behind these numbers the words are read, and give a command of the verb
+abbrev pub reads : List ℕ → List ℕ → List (List ℕ) → Option (Command Record ℕ ℕ)
+reads verb numbers words = option_and_then (λ ns. command_for verb (numbers ++ ns)) (numbers_of words)
 
--- more words than one are not one number
-pub two_words : (word rest : List ℕ) → option_and_then only (numbers_of (word ∷ slice_split is_space rest)) ≡ None
-two_words word rest = by_numbers (number_of word) (numbers_of (slice_split is_space rest)) (some_number rest)
-  where
-    by_numbers :
-        (a : Option ℕ) (o : Option (List ℕ))
-        → (o ≡ Some [] → ⊥)
-        → option_and_then only (option_and_then (λ n. option_map (λ ns. n ∷ ns) o) a) ≡ None
-    by_numbers None o some = refl
-    by_numbers (Some n) None some = refl
-    by_numbers (Some n) (Some []) some = absurd (some refl)
-    by_numbers (Some n) (Some (m ∷ ns)) some = refl
+module _ (verb numbers word : List ℕ) (rest : List (List ℕ)) where
+  pub reads-number :
+      (n : ℕ)
+      → number_of word ≡ Some n
+      → reads verb numbers (word ∷ rest) ≡ reads verb (numbers ++ n ∷ []) rest
+  reads-number n is = rw is (by (numbers_of rest))
+    where
+      by :
+          (o : Option (List ℕ))
+          → option_and_then (λ ns. command_for verb (numbers ++ ns)) (option_map (λ ns. n ∷ ns) o)
+          ≡ option_and_then (λ ns. command_for verb ((numbers ++ n ∷ []) ++ ns)) o
+      by None = refl
+      by (Some ns) = ap (command_for verb) (sym (append_assoc numbers (n ∷ []) ns))
 
--- no verb takes two numbers
-pub two_numbers :
-    (verb : List ℕ) (first : ℕ) (word : List ℕ)
-    → option_and_then (λ ns. command_for verb (first ∷ ns)) (numbers_of (word ∷ [])) ≡ None
-two_numbers verb first word = by_number (number_of word)
-  where
-    by_number :
-        (o : Option ℕ)
-        → option_and_then (λ ns. command_for verb (first ∷ ns))
-        (option_and_then (λ n. option_map (λ ns. n ∷ ns) (Some [])) o) ≡ None
-    by_number None = refl
-    by_number (Some n) = refl
+-- no verb takes two numbers, or more than four
+pub other_numbers :
+    (verb numbers : List ℕ)
+    → (length numbers ≡ 2) ⊎ (4 < length numbers)
+    → None ≡ command_for verb numbers
+other_numbers verb (a ∷ b ∷ []) other = refl
+other_numbers verb (a ∷ b ∷ c ∷ d ∷ e ∷ numbers) other = refl
+other_numbers verb [] (inl two) = absurd (cc)
+other_numbers verb [] (inr more) = absurd (omega arith)
+other_numbers verb (a ∷ []) (inl two) = absurd (omega arith)
+other_numbers verb (a ∷ []) (inr more) = absurd (omega arith)
+other_numbers verb (a ∷ b ∷ c ∷ []) (inl two) = absurd (omega arith)
+other_numbers verb (a ∷ b ∷ c ∷ []) (inr more) = absurd (omega arith)
+other_numbers verb (a ∷ b ∷ c ∷ d ∷ []) (inl two) = absurd (omega arith)
+other_numbers verb (a ∷ b ∷ c ∷ d ∷ []) (inr more) = absurd (omega arith)
 
--- what isn't one number behind three
-pub not_four_numbers :
-    (verb : List ℕ) (a b c : ℕ) (word rest : List ℕ)
-    → Some c ≡ number_of word
-    → None ≡ option_and_then only (numbers_of (slice_split is_space rest))
-    → option_and_then (λ ns. command_for verb (a ∷ b ∷ ns)) (numbers_of (word ∷ slice_split is_space rest)) ≡ None
-not_four_numbers verb a b c word rest is not_one = rw (← is) (by_numbers (numbers_of (slice_split is_space rest)) (some_number rest) not_one)
+-- so no command has more words
+pub reads-past_four :
+    (verb numbers word : List ℕ) (rest : List (List ℕ))
+    → length numbers ≡ 4
+    → reads verb numbers (word ∷ rest) ≡ None
+reads-past_four verb numbers word rest four = by (number_of word) (numbers_of rest)
   where
-    by_numbers :
-        (o : Option (List ℕ))
-        → (o ≡ Some [] → ⊥)
-        → None ≡ option_and_then only o
-        → option_and_then (λ ns. command_for verb (a ∷ b ∷ ns)) (option_map (λ ns. c ∷ ns) o) ≡ None
-    by_numbers None some not_one = refl
-    by_numbers (Some []) some not_one = absurd (some refl)
-    by_numbers (Some (n ∷ [])) some not_one = absurd (cc)
-    by_numbers (Some (n ∷ m ∷ ns)) some not_one = refl
+    by :
+        (n : Option ℕ) (o : Option (List ℕ))
+        → option_and_then (λ ns. command_for verb (numbers ++ ns)) (option_and_then (λ n. option_map (λ ns. n ∷ ns) o) n)
+        ≡ None
+    by None o = refl
+    by (Some n) None = refl
+    by (Some n) (Some ns) =
+        sym (other_numbers verb (numbers ++ n ∷ ns) (inr (omega (arith, four, length-append numbers (n ∷ ns)))))
+
+-- one number more in an array
+pub take-put :
+    (numbers : List ℕ) (count n : ℕ)
+    → count < length numbers
+    → take (count + 1) (set numbers count n) ≡ take count numbers ++ n ∷ []
+take-put numbers count n within =
+    take_more (set numbers count n) count 0 (omega (arith, length-set numbers count n))
+    ∙ ap (λ l. l ++ get_or (set numbers count n) count 0 ∷ []) (take-set numbers count n)
+    ∙ ap (λ x. take count numbers ++ x ∷ []) (get_or-set_same numbers count n 0 within)
 
 -- what is too long for a line is no request
 long_line : (line : List ℕ) → nat_le (length line) max_line ≡ false → request_of line ≡ None

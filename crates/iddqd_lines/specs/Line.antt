@@ -1,5 +1,6 @@
 -- The lines of the program: what a line asks for, and the words of each reply.
 use Rattle.std.specs.Prelude.{◌==◌, ◌&&◌, ℕ, Bool, List, [], ◌∷◌, ◌++◌, length, Option, Some, None, Result, Ok, nat_le, nat_lt, codes, if◌then◌else◌}
+use Rattle.std.specs.Borrow.{Bor}
 use Rattle.std.specs.Option.{option_map, option_and_then}
 use Rattle.std.specs.List.{slice_split, list_all, join_by, flat_map}
 use Rattle.std.specs.Char.{is_ascii_digit}
@@ -59,6 +60,11 @@ lines_of bytes = without_empty_last (slice_split is_line_feed bytes)
 abbrev pub whole_lines_of : List ℕ → List (List ℕ)
 whole_lines_of bytes = without_last (slice_split is_line_feed bytes)
 
+-- the words of these bytes, if there are bytes
+abbrev pub words_in : Option (Bor (List ℕ)) → List (List ℕ)
+words_in None = []
+words_in (Some words) = slice_split is_space words.now
+
 -- the number that a word is: one ASCII digit or more, of a value that fits 32 bits
 abbrev pub number_of : List ℕ → Option ℕ
 number_of word =
@@ -71,11 +77,6 @@ abbrev pub numbers_of : List (List ℕ) → Option (List ℕ)
 numbers_of [] = Some []
 numbers_of (word ∷ words) =
     option_and_then (λ n. option_map (λ ns. n ∷ ns) (numbers_of words)) (number_of word)
-
--- the one number that there is
-abbrev pub only : List ℕ → Option ℕ
-only (n ∷ []) = Some n
-only numbers = None
 
 -- the record of three numbers
 abbrev pub record_of : ℕ → ℕ → ℕ → Record

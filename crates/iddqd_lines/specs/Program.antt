@@ -12,7 +12,7 @@ use Rattle.std.specs.declared.hash.Hasher as hasher
 use Rattle.std.specs.declared.hash.BuildHasher as builder
 use Rattle.iddqd.specs.MapHash.{hash_one}
 use Rattle.iddqd.specs.Validation.{not_compact_text}
-use Rattle.iddqd_driver.specs.Keys.{Keys}
+use Rattle.iddqd_driver.specs.Keys.{Keys, IsDefaultHasher}
 use Rattle.iddqd_driver.specs.State.{State, empty_state}
 use Rattle.iddqd_driver.specs.Machine.{Step}
 use Rattle.iddqd_lines.specs.Line.{line_feed, lines_of, whole_lines_of, request_of, index_of, text_of}
@@ -94,10 +94,6 @@ hash_u32 b h state key = hash_one b h state (fed.u32 key)
 -- how a default build hasher hashes a number of 32 bits
 abbrev pub default_hash : BuildHasherDefault FoldHasher → ℕ → ℕ
 default_hash state key = folding.finish (fold folding.write (initial_hasher state) (fed.u32 key))
-
--- the state of the default build hasher
-abbrev pub IsDefaultHasher : BuildHasherDefault FoldHasher → Type 0
-IsDefaultHasher hasher = initial_hasher hasher ≡ folding.initial
 
 -- Where `serve` ends so, the bytes that were written since `before` are outs of lines of the input, from the empty
 -- state on, and then a part of the next line's: of which lines, and what part, the end tells.

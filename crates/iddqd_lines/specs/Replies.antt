@@ -1,5 +1,5 @@
 -- What the program has written, and what waits in its block of replies.
-use Rattle.std.specs.Prelude.{◌≡◌, ◌<◌, ◌++◌, ◌∷◌, ℕ, List, length, Result, OnOk, OnErr}
+use Rattle.std.specs.Prelude.{◌≡◌, ◌<◌, ◌≤◌, ◌+◌, ◌++◌, ◌∷◌, ℕ, List, length, Result, OnOk, OnErr}
 use Rattle.std.specs.Fmt.{decimal}
 use Rattle.std.specs.Io.KnownBytes.{Appends}
 use Rattle.iddqd_lines.specs.Line.{space, name_or_dash}
@@ -26,3 +26,8 @@ spaced ix = space ∷ decimal ix
 -- a new name, or a dash, with a space before it
 abbrev pub spaced_name : ℕ → List ℕ
 spaced_name name = space ∷ name_or_dash name
+
+-- a text of so many bytes at most was put behind the bytes that waited
+pub record Puts (most : ℕ) (waited text waits : List ℕ) : Type 0 where
+  pub appends : waits ≡ waited ++ text
+  pub grows : length waits ≤ length waited + most

@@ -1,9 +1,8 @@
 //! Lines, read as requests.
-ghost use Rattle.std.specs.Prelude.{◌≡◌, ◌∷◌, [], MatchOption};
-ghost use Rattle.std.specs.Option.{option_and_then};
+ghost use Rattle.std.specs.Prelude.{◌≡◌, ◌∷◌, []};
 ghost use Rattle.std.specs.List.{slice_split};
-ghost use Rattle.iddqd_lines.specs.Line.{is_space, number_of, numbers_of, only, command_for, command_of, request_of, index_of};
-ghost use Rattle.iddqd_lines.specs.Line.{named, record_commands, index_commands};
+ghost use Rattle.iddqd_lines.specs.Line.{is_space, words_in, number_of, command_for, command_of};
+ghost use Rattle.iddqd_lines.specs.Line.{record_of, record_commands, index_commands, named, request_of, index_of};
 
 use crate::record::Record;
 use crate::split::split_at_first;
@@ -18,6 +17,9 @@ pub(crate) const SPACE: u8 = b' ';
 
 /// The most bytes of a line that is a request.
 pub(crate) const MAX_LINE: usize = 128;
+
+// The most numbers that a verb takes.
+const MAX_NUMBERS: usize = 4;
 
 /// What a line asks for.
 #[derive(Drop)]
@@ -38,17 +40,26 @@ pub(crate) fn parse(line: &[u8]) -> Option<Request<Command<Record>>>
     Some(Request::Run(command_in(line)?))
 }
 
-// The command that a line is.
+// The command that a line is. The line is split once, into a verb and the numbers behind it.
 fn command_in(line: &[u8]) -> Option<Command<Record>>
     ensures { result ≡ command_of line.now }
 {
     if line.len() > MAX_LINE {
         return None;
     }
-    match split_word(line) {
-        (verb, Some(words)) => command(verb, words),
-        (verb, None) => lone_command(verb),
+    let (verb, mut behind) = split_word(line);
+    let mut numbers = [0; MAX_NUMBERS];
+    let mut count = 0;
+    'words: while let Some(words) = behind {
+        let (word, others) = split_word(words);
+        if count == MAX_NUMBERS {
+            return None;
+        }
+        numbers[count] = number(word)?;
+        count += 1;
+        behind = others;
     }
+    command(verb, &numbers[..count])
 }
 
 /// The index that an overwrite names.
@@ -57,6 +68,22 @@ pub(crate) fn named_index(command: &Command<Record>) -> Option<ItemIndex>
 {
     match command {
         Command::Overwrite(ix, _) => Some(*ix),
+        _ => None,
+    }
+}
+
+// The command of a verb and its numbers.
+fn command(verb: &[u8], numbers: &[u32]) -> Option<Command<Record>>
+    ensures { result ≡ command_for verb.now numbers.now }
+{
+    match numbers {
+        [] => lone_command(verb),
+        [number] => number_command(verb, *number),
+        [_, _] => None,
+        [first, second, value] => record_command(verb, record(*first, *second, *value)),
+        [ix, first, second, value] => {
+            index_command(verb, ItemIndex::new(*ix), record(*first, *second, *value))
+        }
         _ => None,
     }
 }
@@ -73,53 +100,6 @@ fn lone_command(verb: &[u8]) -> Option<Command<Record>>
         Some(Command::Clear)
     } else {
         None
-    }
-}
-
-// The command of a verb and the words behind it.
-fn command(verb: &[u8], words: &[u8]) -> Option<Command<Record>>
-    ensures { result ≡ option_and_then (command_for verb.now) (numbers_of (slice_split is_space words.now)) }
-{
-    match split_word(words) {
-        (word, Some(words)) => long_command(verb, number(word)?, words),
-        (word, None) => number_command(verb, number(word)?),
-    }
-}
-
-// The command of a verb, a number and the words behind it.
-fn long_command(verb: &[u8], first: u32, words: &[u8]) -> Option<Command<Record>>
-    ensures { let numbers = numbers_of (slice_split is_space words.now) in
-        result ≡ option_and_then (λ ns. command_for verb.now (first ∷ ns)) numbers }
-{
-    match split_word(words) {
-        (word, Some(words)) => longer_command(verb, first, number(word)?, words),
-        (_, None) => None,
-    }
-}
-
-// The command of a verb, two numbers and the words behind them.
-fn longer_command(verb: &[u8], first: u32, second: u32, words: &[u8]) -> Option<Command<Record>>
-    ensures { let numbers = numbers_of (slice_split is_space words.now) in
-        result ≡ option_and_then (λ ns. command_for verb.now (first ∷ second ∷ ns)) numbers }
-{
-    match split_word(words) {
-        (word, Some(last)) => index_command(
-            verb,
-            ItemIndex::new(first),
-            Record {
-                first: second,
-                second: number(word)?,
-                value: last_number(last)?,
-            },
-        ),
-        (word, None) => record_command(
-            verb,
-            Record {
-                first,
-                second,
-                value: number(word)?,
-            },
-        ),
     }
 }
 
@@ -164,24 +144,23 @@ fn index_command(verb: &[u8], ix: ItemIndex, item: Record) -> Option<Command<Rec
     }
 }
 
+fn record(first: u32, second: u32, value: u32) -> Record
+    ensures { result ≡ record_of first second value }
+{
+    Record {
+        first,
+        second,
+        value,
+    }
+}
+
 // The first word, and what stands behind the space after it.
 fn split_word(words: &[u8]) -> (&[u8], Option<&[u8]>)
-    ensures { let all = slice_split is_space words.now in
-        MatchOption result.1 (all ≡ result.0.now ∷ []) (λ rest. all ≡ result.0.now ∷ slice_split is_space rest.now) }
+    ensures { slice_split is_space words.now ≡ result.0.now ∷ words_in result.1 }
 {
     match split_at_first(words, SPACE) {
         Some((word, rest)) => (word, Some(rest)),
         None => (words, None),
-    }
-}
-
-// The number that one word is, where there are no more.
-fn last_number(words: &[u8]) -> Option<u32>
-    ensures { result ≡ option_and_then only (numbers_of (slice_split is_space words.now)) }
-{
-    match split_word(words) {
-        (word, None) => number(word),
-        (_, Some(_)) => None,
     }
 }
 

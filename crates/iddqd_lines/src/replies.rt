@@ -6,7 +6,7 @@ ghost use Rattle.iddqd_lines.specs.Line.{line_feed, record_text, found_text, rem
 ghost use Rattle.iddqd_lines.specs.Line.{walk_text, remap_text, text_of};
 ghost use Rattle.iddqd.specs.{index_or_dash};
 ghost use Rattle.iddqd_driver.specs.{refusal_text};
-ghost use Rattle.iddqd_lines.specs.Replies.{Sends, spaced, spaced_name};
+ghost use Rattle.iddqd_lines.specs.Replies.{Sends, Puts, spaced, spaced_name};
 
 use crate::digits::{Digits, MAX_DIGITS};
 use crate::line::{LINE_FEED, SPACE};
@@ -25,6 +25,9 @@ const BLOCK: usize = 8192;
 /// The most bytes that are put between two looks for room: a reply's line without its list, or one
 /// index of a list, with the line feed.
 pub(crate) const MAX_REPLY: usize = 64;
+
+// The same without the line feed.
+const MAX_TEXT: usize = MAX_REPLY - 1;
 
 /// The replies that wait to be written.
 #[derive(Drop)]
@@ -207,8 +210,7 @@ impl Replies {
     // The index of a new item.
     fn put_inserted(&mut self, ix: ItemIndex)
         requires { length self.old + MAX_REPLY ≤ BLOCK }
-        ensures text { self.new ≡ self.old ++ (codes "inserted " ++ decimal ix) }
-        ensures grows { length self.new < length self.old + MAX_REPLY }
+        ensures { Puts MAX_TEXT self.old (codes "inserted " ++ decimal ix) self.new }
     {
         self.put_bytes(b"inserted ");
         self.put_number(ix.as_u32());
@@ -217,8 +219,7 @@ impl Replies {
     // The index that was found and its record, if there is one.
     fn put_found<S: BuildHasher>(&mut self, items: &KeyedItems<Record, S>, found: Option<ItemIndex>)
         requires { length self.old + MAX_REPLY ≤ BLOCK }
-        ensures text { self.new ≡ self.old ++ found_text items.now.state.store found }
-        ensures grows { length self.new < length self.old + MAX_REPLY }
+        ensures { Puts MAX_TEXT self.old (found_text items.now.state.store found) self.new }
     {
         let Some(ix) = found else {
             self.put_bytes(b"none");
@@ -233,8 +234,7 @@ impl Replies {
     // The index and the record that were removed, if there were any.
     fn put_removed(&mut self, removed: &Option<(ItemIndex, Record)>)
         requires { length self.old + MAX_REPLY ≤ BLOCK }
-        ensures text { self.new ≡ self.old ++ removed_text removed.now }
-        ensures grows { length self.new < length self.old + MAX_REPLY }
+        ensures { Puts MAX_TEXT self.old (removed_text removed.now) self.new }
     {
         match removed {
             Some((ix, record)) => self.put_record(*ix, record),
@@ -245,8 +245,7 @@ impl Replies {
     // Why an item wasn't taken.
     fn put_refusal(&mut self, refusal: &InsertRefusal<Record>)
         requires { length self.old + MAX_REPLY ≤ BLOCK }
-        ensures text { self.new ≡ self.old ++ refusal_text refusal.now }
-        ensures grows { length self.new < length self.old + MAX_REPLY }
+        ensures { Puts MAX_TEXT self.old (refusal_text refusal.now) self.new }
     {
         match refusal {
             InsertRefusal::Duplicate { first, second, .. } => {
@@ -263,8 +262,7 @@ impl Replies {
     // The index that an overwrite named and the record that it had, or that it isn't live.
     fn put_overwritten(&mut self, named: Option<ItemIndex>, outcome: &Result<Record, Record>)
         requires { length self.old + MAX_REPLY ≤ BLOCK }
-        ensures text { self.new ≡ self.old ++ overwritten_text named outcome.now }
-        ensures grows { length self.new < length self.old + MAX_REPLY }
+        ensures { Puts MAX_TEXT self.old (overwritten_text named outcome.now) self.new }
     {
         match (named, outcome) {
             (Some(ix), Ok(was)) => self.put_record(ix, was),
@@ -275,8 +273,7 @@ impl Replies {
     // An index and its record.
     fn put_record(&mut self, ix: ItemIndex, entry: &Record)
         requires { length self.old + MAX_REPLY ≤ BLOCK }
-        ensures text { self.new ≡ self.old ++ record_text ix entry.now }
-        ensures grows { length self.new < length self.old + MAX_REPLY }
+        ensures { Puts MAX_TEXT self.old (record_text ix entry.now) self.new }
     {
         self.put_number(ix.as_u32());
         self.put(SPACE);
@@ -290,8 +287,7 @@ impl Replies {
     // An index, or a dash for none.
     fn put_index(&mut self, ix: &Option<ItemIndex>)
         requires { length self.old + MAX_DIGITS ≤ BLOCK }
-        ensures text { self.new ≡ self.old ++ index_or_dash ix.now }
-        ensures grows { length self.new ≤ length self.old + MAX_DIGITS }
+        ensures { Puts MAX_DIGITS self.old (index_or_dash ix.now) self.new }
     {
         match ix {
             Some(ix) => self.put_number(ix.as_u32()),
@@ -302,8 +298,7 @@ impl Replies {
     // An index with a space before it.
     fn put_spaced(&mut self, ix: ItemIndex)
         requires { length self.old + MAX_REPLY ≤ BLOCK }
-        ensures text { self.new ≡ self.old ++ spaced ix }
-        ensures grows { length self.new < length self.old + MAX_REPLY }
+        ensures { Puts MAX_TEXT self.old (spaced ix) self.new }
     {
         self.put_bytes(b" ");
         self.put_number(ix.as_u32());
@@ -312,8 +307,7 @@ impl Replies {
     // A new name, or a dash for a slot that was vacant, with a space before it.
     fn put_name(&mut self, name: ItemIndex)
         requires { length self.old + MAX_REPLY ≤ BLOCK }
-        ensures text { self.new ≡ self.old ++ spaced_name name }
-        ensures grows { length self.new < length self.old + MAX_REPLY }
+        ensures { Puts MAX_TEXT self.old (spaced_name name) self.new }
     {
         self.put(SPACE);
         if name == ItemIndex::SENTINEL {
@@ -325,16 +319,14 @@ impl Replies {
 
     fn put_number(&mut self, number: u32)
         requires { length self.old + MAX_DIGITS ≤ BLOCK }
-        ensures text { self.new ≡ self.old ++ decimal number }
-        ensures grows { length self.new ≤ length self.old + MAX_DIGITS }
+        ensures { Puts MAX_DIGITS self.old (decimal number) self.new }
     {
         self.put_bytes(Digits::of(number).as_slice());
     }
 
     fn put_bytes(&mut self, bytes: &[u8])
         requires { length self.old + length bytes.now ≤ BLOCK }
-        ensures text { self.new ≡ self.old ++ bytes.now }
-        ensures grows { length self.new ≡ length self.old + length bytes.now }
+        ensures { Puts (length bytes.now) self.old bytes.now self.new }
     {
         for byte in bytes {
             self.put(*byte);
@@ -343,8 +335,7 @@ impl Replies {
 
     fn put(&mut self, byte: u8)
         requires { length self.old < BLOCK }
-        ensures text { self.new ≡ self.old ++ byte ∷ [] }
-        ensures grows { length self.new ≡ length self.old + 1 }
+        ensures { Puts 1 self.old (byte ∷ []) self.new }
     {
         self.bytes[self.len] = byte;
         self.len += 1;

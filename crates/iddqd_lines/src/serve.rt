@@ -11,7 +11,8 @@ ghost use Rattle.std.specs.Prelude.{◌≡◌, ◌∷◌, ◌++◌, [], List, �
 ghost use Rattle.std.specs.Option.{option_and_then};
 ghost use Rattle.iddqd_driver.specs.State.{empty_state};
 ghost use Rattle.iddqd_lines.specs.Line.{lines_of, request_of};
-ghost use Rattle.iddqd_lines.specs.Program.{hash_u32, IsDefaultHasher, ServesUntil, FailsAt};
+ghost use Rattle.iddqd_lines.specs.Program.{hash_u32, ServesUntil, FailsAt};
+ghost use Rattle.iddqd_driver.specs.Keys.{IsDefaultHasher};
 ghost use Rattle.iddqd_lines.specs.Serve.{moment, kept_of, IsKept, Obeys, Feeds, Tells};
 ghost use Rattle.iddqd_lines.specs.declared.line.Request.TheVariants.{Run, Validate};
 ghost use Rattle.iddqd_lines.specs.Stream.{FailsOnErr};
@@ -94,7 +95,7 @@ pub fn serve<I: Source, O: Sink>(
     // Neither has failed where all went well, and a fault comes only from the side that has.
     ensures faults { FailsAt result (I.left input.old) (I.has_failed input.new) (O.has_failed output.new) }
 {
-    let mut items = KeyedItems::new(alloc, DefaultHashBuilder::default());
+    let mut items = KeyedItems::with_default_hasher(alloc);
     let mut partial = LineBuffer::new();
     let mut replies = Replies::new();
     let mut block = [0; BLOCK];

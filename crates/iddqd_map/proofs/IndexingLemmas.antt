@@ -20,7 +20,8 @@ use Rattle.iddqd_by_hash.specs.declared.hashed_move.Move.{Move}
 use Rattle.iddqd_by_hash.specs.declared.hashed_move.Move.TheVariants.{Stays, To}
 use Rattle.iddqd_by_hash.proofs.HoldsLemmas.{Holds-empty, Holds-cleared, Holds-removed, Holds-inserted, Holds-compacted, Holds-rebound}
 use Rattle.iddqd_by_hash.proofs.PlaceLemmas.{IsExact-empty, IsExact-inserted, Keeps-cleared, Keeps-removed, Keeps-compacted, Keeps-rebound}
-use Rattle.iddqd_keys.proofs.ScanLemmas.{rebound_cases, live_rebound}
+use Rattle.iddqd_keys.proofs.ScanLemmas.{rebound_cases}
+use Rattle.iddqd_map.proofs.FilesLemmas.{Files-moved}
 
 -- a query that keeps the laws stands for one key, under its hash
 pub StandsForOne-query :
@@ -80,26 +81,6 @@ module _ {T K : Type 0} (key_of : T → K) (hashing : Hashing K) where
           }
 
       module _ (hash : ℕ) (plan : Plans key_of hashing s ix item (To hash)) where
-        abbrev there : FinMap nat_cmp ℕ
-        there = moved m ix (To hash)
-
-        filed_there : (j : ℕ) → j ≢ ix → finite.get there j ≡ finite.get m j
-        filed_there j other = get-insert_other (finite.remove m ix) ix hash j other ∙ get-remove_other m ix j other
-
-        holds_at : (j : ℕ) → (j ≡ ix) ⊎ (j ≡ ix → ⊥) → IsSome (finite.get there j) ↔ IsLive (rebound s ix item) j
-        holds_at j (inl same) =
-            let here : finite.get there j ≡ Some hash = rw same (get-insert_at (finite.remove m ix) ix hash) in
-            let stays : IsLive (rebound s ix item) j = rw (live_rebound s ix item was live j) (live_at s j was (rw same live)) in
-            (λ _. stays, λ _. rw here refl)
-        holds_at j (inr other) = rw (filed_there j other, live_rebound s ix item was live j) (o.held j)
-
-        placed_at : IsInPlace key_of hashing (rebound s ix item) there
-        placed_at j y is =
-            elim (rebound_cases s ix item was live j y is) [
-              | inl a ↦ rw (a.0, ← a.1) (get-insert_at (finite.remove m ix) ix hash ∙ ap Some plan.1)
-              | inr b ↦ filed_there j b.0 ∙ o.exact.placed j y b.1
-            ]
-
         apart_at : AreApart (λ x y. hashing.equal (key_of x) (key_of y)) (rebound s ix item)
         apart_at i j x y p q same =
             let symm = lawful.equivalence.symm in
@@ -114,8 +95,10 @@ module _ {T K : Type 0} (key_of : T → K) (hashing : Hashing K) where
               ]
             ]
 
-        went : Indexes key_of hashing (rebound s ix item) there
-        went = record { held = λ j. holds_at j (cases_eq j ix); exact = record { placed = placed_at; apart = apart_at } }
+        went : Indexes key_of hashing (rebound s ix item) (moved m ix (To hash))
+        went =
+            let files = Files-moved key_of hashing s m (record { held = o.held; placed = o.exact.placed }) ix item was live hash plan.1 in
+            record { held = files.held; exact = record { placed = files.placed; apart = apart_at } }
 
       pub Indexes-rebound :
           (plan : Move)

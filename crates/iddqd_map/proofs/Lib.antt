@@ -1,12 +1,15 @@
 pub mod CloneLemmas
 pub mod CountLemmas
 pub mod EqualityLemmas
+pub mod FilesLemmas
 pub mod FoundLemmas
+pub mod GroupLemmas
 pub mod HashLemmas
 pub mod IndexingLemmas
 pub mod MapLemmas
 pub mod OneKeyLemmas
 pub mod OverwriteLemmas
 pub mod RangeLemmas
+pub mod RangeRetainLemmas
 pub mod RetainLemmas
 pub mod TakeLemmas

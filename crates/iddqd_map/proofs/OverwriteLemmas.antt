@@ -5,15 +5,16 @@ use Rattle.std.proofs.lemmas.List.{map-append, length-map, length_push}
 use Rattle.std.proofs.lemmas.Bool.{cases_eq}
 use Rattle.std.specs.List.{Contains}
 use Rattle.iddqd.specs.Store.{Store, get, next_index, inserted, removed}
-use Rattle.iddqd.proofs.LiveLemmas.{item_at, get-removed_other}
+use Rattle.iddqd.proofs.LiveLemmas.{get-removed_other}
 use Rattle.iddqd.proofs.StoreLemmas.{contains_head, contains_tail, contains_cases, contains_none}
 use Rattle.iddqd_keys.specs.Scan.{IsLive, IsHit, HasNoHit}
+use Rattle.iddqd_keys.proofs.RemovalLemmas.{AreLiveInTurn, AreLiveInTurn-rising}
 use Rattle.iddqd_keys.proofs.ScanLemmas.{live_before}
 use Rattle.iddqd_map.specs.Map.{MapState, MapMemory}
 use Rattle.iddqd_map.specs.Memory.{MakesRoom}
 use Rattle.iddqd_map.specs.Calls.{InsertsAt, OverwritesAt}
 use Rattle.iddqd_map.specs.KeyIndex.{IsNextReported}
-use Rattle.iddqd_map.specs.Several.{IsRising, padded, removed_all}
+use Rattle.iddqd_keys.specs.Removals.{IsRising, padded, removed_all}
 use Rattle.iddqd_map.specs.Overwrite.{TakesAll}
 
 -- a rising list has no more members than a list that has them all
@@ -114,25 +115,6 @@ module _ {T : Type 0} where
   padded-push (suc n) (x ∷ rest) item less = ap (λ l. x ∷ l) (padded-push n rest item (omega (arith, less)))
 
 module _ {T : Type 0} where
-  -- each of these indexes is live once those before it were removed
-  abbrev pub AreLiveInTurn : Store T → List ℕ → Type 0
-  AreLiveInTurn s [] = Unit {0}
-  AreLiveInTurn s (ix ∷ rest) = ((item : T) × (get s ix ≡ Some item)) × AreLiveInTurn (removed s ix) rest
-
-  pub AreLiveInTurn-rising :
-      (s : Store T) (indexes : List ℕ)
-      → IsRising indexes
-      → ((ix : ℕ) → Contains indexes ix → IsLive s ix)
-      → AreLiveInTurn s indexes
-  AreLiveInTurn-rising s [] rising live = tt
-  AreLiveInTurn-rising s (x ∷ rest) rising live = (
-    item_at s x (live x (contains_head x rest)),
-    AreLiveInTurn-rising (removed s x) rest rising.1 (λ ix here.
-        let above = rising.0 ix here in
-        let other : ix ≢ x = λ same. omega (arith, same, above) in
-        rw (get-removed_other s x ix other) (live ix (contains_tail x ix rest here))),
-  )
-
   -- a hit that is left was one, and at another index than those that were removed
   hit_left :
       (s : Store T) (indexes : List ℕ) (test : T → Bool)

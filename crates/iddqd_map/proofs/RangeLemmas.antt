@@ -14,7 +14,7 @@ use Rattle.iddqd_keys.proofs.KeyWalkLemmas.{SortsWithin-none, SortsWithin-first,
 use Rattle.iddqd_keys.proofs.KeyWalkLemmas.{between_equal}
 use Rattle.iddqd_keys.proofs.KeyWalkLemmas.{pairs_at-first}
 use Rattle.iddqd_map.specs.Ranges.{LeavesOthers, RemovesAlong}
-use Rattle.iddqd_map.specs.Several.{removed_all}
+use Rattle.iddqd_keys.specs.Removals.{removed_all}
 
 -- one item fewer is left
 pub live_count-removed :
@@ -28,35 +28,9 @@ live_count-removed s now ix gone valid after =
     let is = (rw gone at after).counted in
     rw gone (omega (arith, was, is, length-set s.items ix None))
 
-module _ {T : Type 0} (test : T → Bool) where
-  pub LeavesOthers-none : (s : Store T) → HasNoHit s test → LeavesOthers s test s
-  LeavesOthers-none s none = record { gone = λ j hit. absurd (none j hit); others = λ j other. refl }
-
 module _
     {T K : Type 0} (key_of : T → K) (compare : K → K → Ordering) (total : IsTotalOrder compare) (within : K → Bool)
   where
-    -- the first was removed, and then the others
-    pub LeavesOthers-first :
-        (s now new : Store T) (ix : ℕ)
-        → IsFirstHit key_of compare s (passes_by key_of within) (Some ix)
-        → now ≡ removed s ix
-        → LeavesOthers now (passes_by key_of within) new
-        → LeavesOthers s (passes_by key_of within) new
-    LeavesOthers-first s now new ix first gone leaves =
-        let left : LeavesOthers (removed s ix) (passes_by key_of within) new = rw gone at leaves in
-        record {
-          gone = λ j hit. elim (cases_eq j ix) [
-            | inl same ↦ rw same (
-                left.others ix (λ still. (hit_before key_of compare s within total ix first ix still).0 refl)
-                ∙ get-removed_at s ix first.0.0 first.0.1
-                )
-            | inr apart ↦ left.gone j (hit_still key_of compare s within total ix first j apart hit)
-          ];
-          others = λ j other.
-              let apart : j ≢ ix = λ same. other (rw same first.0) in
-              left.others j (λ hit. other (hit_before key_of compare s within total ix first j hit).1) ∙ get-removed_other s ix j apart;
-        }
-
     module _ {F : Type 0} (give : F → T → F → Type 0) where
       pub RemovesAlong-none :
           (f : F) (s : Store T)

@@ -1,11 +1,12 @@
 -- What is left where the one item that passes a test was taken out.
-use Rattle.std.proofs.Common.{◌≡◌, ℕ, Bool, Option, Some, None, refl, ap}
+use Rattle.std.proofs.Common.{◌≡◌, ℕ, Bool, Option, Some, None, refl, ap, sym, subst}
 use Rattle.std.specs.Option.{OnSome}
 use Rattle.iddqd.specs.Store.{Store, IsValid, get, removed}
 use Rattle.iddqd.specs.ItemSet.{SizedStore}
 use Rattle.iddqd_keys.specs.Scan.{HasNoHit, AnswersScan}
+use Rattle.iddqd_keys.proofs.ScanLemmas.{HasNoHit-hit_removed}
 use Rattle.iddqd_map.specs.KeyIndex.{IsIndexed}
-use Rattle.iddqd_map.specs.Map.{Removes, map_with}
+use Rattle.iddqd_map.specs.Map.{MapState, Removes, map_with}
 use Rattle.iddqd_map.proofs.MapLemmas.{IsIndexed-removed, set_left}
 use Rattle.iddqd_map.proofs.FoundLemmas.{hit_live}
 
@@ -50,3 +51,12 @@ pub Removes-none :
     → held ≡ cells
     → Removes (map_with old capacity cells) test r (map_with old after held)
 Removes-none old test r capacity cells after held none missed same few = rw none (missed, rw (same, few) refl)
+
+-- then no item passes
+pub Removes-gone :
+    {T : Type 0} (old new : MapState T) (test : T → Bool) (taken : Option T)
+    → Removes old test taken new
+    → HasNoHit new.store test
+Removes-gone old new test None removes = subst (λ m. HasNoHit m.store test) (sym removes.1) removes.0
+Removes-gone old new test (Some item) removes =
+    subst (λ s. HasNoHit s test) (sym removes.left) (HasNoHit-hit_removed old.store test removes.ix removes.hit.only)

@@ -8,7 +8,8 @@ use Rattle.iddqd.specs.Compaction.{compacted}
 use Rattle.iddqd_keys.specs.Scan.{IsLive, IsHit, HasNoHit, AnswersScan}
 use Rattle.iddqd_map.specs.Map.{MapState, FindsItem, room}
 use Rattle.iddqd_map.specs.Memory.{MakesRoom}
-use Rattle.iddqd_map.specs.Several.{IsRising, padded, removed_all, HasNoOther}
+use Rattle.iddqd_keys.specs.Removals.{IsRising, padded, removed_all}
+use Rattle.iddqd_map.specs.Several.{HasNoOther}
 use Rattle.iddqd_map.specs.declared.refusal.InsertRefusal.{InsertRefusal}
 use Rattle.iddqd_map.specs.declared.refusal.InsertRefusal.TheVariants.{Duplicate, Full, Memory}
 use Rattle.iddqd_map.specs.declared.refusal.OverwriteRefusal.{OverwriteRefusal}

@@ -9,12 +9,12 @@ use Rattle.std.specs.declared.hash.BuildHasher as builder
 use Rattle.std.specs.Ordering.{nat_cmp}
 use Rattle.std.specs.FinMap.{FinMap}
 use Rattle.iddqd.specs.Store.{Store, get, rebound}
-use Rattle.iddqd.proofs.LiveLemmas.{item_at, live_at}
 use Rattle.iddqd_keys.specs.Scan.{IsHit, AnswersScan}
 use Rattle.iddqd_by_hash.specs.Hashed.{Hashing, hashing_of, IsLawful}
 use Rattle.iddqd_by_hash.proofs.FindLemmas.{IsLawful-from_bounds}
 use Rattle.iddqd_by_hash.proofs.HoldsLemmas.{Holds-rebound}
 use Rattle.iddqd_by_hash.proofs.PlaceLemmas.{Keeps-rebound}
+use Rattle.iddqd_map.specs.ByHashMultiLaws.{Files-same}
 use Rattle.iddqd_map.specs.Indexing.{Indexes}
 use Rattle.iddqd_map.specs.KeyIndex.{HaveSameKeys}
 use Rattle.iddqd_map.specs.Map.{shares}
@@ -71,21 +71,11 @@ module _ {T K : Type 0} (key_of : T → K) (hashing : Hashing K) (s : Store T) (
       → Indexes key_of hashing t m
   Indexes-same lawful o t have =
       let e = lawful.equivalence in
+      let files = Files-same key_of hashing s m lawful (record { held = o.held; placed = o.exact.placed }) t have in
       record {
-        held = λ ix. (
-          λ filed.
-              let (x, live) = item_at s ix ((o.held ix).0 filed) in
-              let (y, there, alike) = have.items ix x live in
-              live_at t ix y there,
-          λ live.
-              let (y, there) = item_at t ix live in
-              let (x, was, alike) = have.slots ix y there in
-              (o.held ix).1 (live_at s ix x was),
-        );
+        held = files.held;
         exact = record {
-          placed = λ ix y there.
-              let (x, was, alike) = have.slots ix y there in
-              o.exact.placed ix x was ∙ ap Some (lawful.equal_hash (key_of x) (key_of y) alike);
+          placed = files.placed;
           apart = λ i j x y p q same.
               let (a, at_i, left) = have.slots i x p in
               let (b, at_j, right) = have.slots j y q in

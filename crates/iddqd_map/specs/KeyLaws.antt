@@ -72,7 +72,8 @@ module _ {T : Type 0} (s : Store T) (item : T) where
         → ReportBoth first second (IsReported first) (IsReported second) s item a b
         → (ix : ℕ) × IsOfTwo a b ix
     some_two a b reported =
-        reported_some IsIt IsIt (IsReported first) (IsReported second) s item first second (some_key first) (some_key second) a b
+        reported_some IsIt IsIt (IsReported first) (IsReported second) s item first second
+        (some_key first) (some_key second) a b
         reported
 
   module _ (first second third : T → T → Bool) where

@@ -1,6 +1,9 @@
+pub mod ByHashMulti
+pub mod ByHashMultiLaws
 pub mod Calls
 pub mod Equality
 pub mod EqualityLaws
+pub mod Groups
 pub mod HashLaws
 pub mod Hashed
 pub mod Indexing
@@ -9,10 +12,12 @@ pub mod KeyLaws
 pub mod Map
 pub mod Memory
 pub mod Modify
+pub mod NoConflict
 pub mod OneKey
 pub mod Overwrite
 pub mod PairConflict
 pub mod PairLaws
+pub mod RangeRetain
 pub mod Ranges
 pub mod Refusal
 pub mod Retain

@@ -2,10 +2,11 @@
 use Rattle.std.specs.Prelude.{◌≡◌, ◌↔◌, ◌≤◌, ℕ, List, length, map, Option}
 use Rattle.std.specs.List.{Contains}
 use Rattle.iddqd.specs.Store.{Store, get}
-use Rattle.iddqd_map.specs.Several.{IsRising, padded, removed_all}
+use Rattle.iddqd_keys.specs.Removals.{IsRising, padded, removed_all}
 
 -- the items at the indexes that were reported, so many at most, were removed by rising index, and are in the places
-pub record TakesAll {T : Type 0} (reported : ℕ → Type 0) (places : ℕ) (old : Store T) (back : List (Option T)) (new : Store T)
+pub record TakesAll
+    {T : Type 0} (reported : ℕ → Type 0) (places : ℕ) (old : Store T) (back : List (Option T)) (new : Store T)
     : Type 0 where
   pub indexes : List ℕ
   pub each : (ix : ℕ) → Contains indexes ix ↔ reported ix

@@ -42,7 +42,10 @@ module _ {T : Type 0} (first second : T → T → Bool) (s : Store T) (item : T)
       → IsHit s (either_key first second item) ix ↔ (IsHit s (first item) ix ⊎ IsHit s (second item) ix)
   IsHit-either ix = (
     λ hit. let (x, is, passed) = hit in
-        elim (either_true (first item x) (second item x) passed) [ inl one ↦ inl (x, is, one) | inr two ↦ inr (x, is, two) ],
+        elim (either_true (first item x) (second item x) passed) [
+          | inl one ↦ inl (x, is, one)
+          | inr two ↦ inr (x, is, two)
+        ],
     λ hit. elim hit [
       | inl one ↦ let (x, is, passed) = one in (x, is, left_true (first item x) (second item x) passed)
       | inr two ↦ let (x, is, passed) = two in (x, is, right_true (first item x) (second item x) passed)
@@ -69,19 +72,30 @@ module _ {T : Type 0} (first second : T → T → Bool) where
   -- items that share neither key with another
   pub AreApart-either : (s : Store T) → AreApart first s → AreApart second s → AreApart (either_key first second) s
   AreApart-either s one two i j x y p q alike =
-      elim (either_true (first x y) (second x y) alike) [ inl same ↦ one i j x y p q same | inr same ↦ two i j x y p q same ]
+      elim (either_true (first x y) (second x y) alike) [
+        | inl same ↦ one i j x y p q same
+        | inr same ↦ two i j x y p q same
+      ]
 
   -- items that share both keys share each
   pub HaveSameKeys-first : (s t : Store T) → HaveSameKeys (both_keys first second) s t → HaveSameKeys first s t
   HaveSameKeys-first s t same = record {
-    slots = λ ix y live. (let (x, is, alike) = same.slots ix y live in (x, is, (both_true (first x y) (second x y) alike).0));
-    items = λ ix x live. (let (y, is, alike) = same.items ix x live in (y, is, (both_true (first x y) (second x y) alike).0));
+    slots = λ ix y live.
+        let (x, is, alike) = same.slots ix y live in
+        (x, is, (both_true (first x y) (second x y) alike).0);
+    items = λ ix x live.
+        let (y, is, alike) = same.items ix x live in
+        (y, is, (both_true (first x y) (second x y) alike).0);
   }
 
   pub HaveSameKeys-second : (s t : Store T) → HaveSameKeys (both_keys first second) s t → HaveSameKeys second s t
   HaveSameKeys-second s t same = record {
-    slots = λ ix y live. (let (x, is, alike) = same.slots ix y live in (x, is, (both_true (first x y) (second x y) alike).1));
-    items = λ ix x live. (let (y, is, alike) = same.items ix x live in (y, is, (both_true (first x y) (second x y) alike).1));
+    slots = λ ix y live.
+        let (x, is, alike) = same.slots ix y live in
+        (x, is, (both_true (first x y) (second x y) alike).1);
+    items = λ ix x live.
+        let (y, is, alike) = same.items ix x live in
+        (y, is, (both_true (first x y) (second x y) alike).1);
   }
 
   -- and where sharing all of one's keys is sharing one of them, so it is of both
@@ -91,7 +105,8 @@ module _ {T : Type 0} (first second : T → T → Bool) where
       → (other : T → T → Bool) (x y : T)
       → both_keys first second x y ≡ true
       → either_key alike other x y ≡ true
-  alike_both alike so other x y both = left_true (alike x y) (other x y) (so x y (both_true (first x y) (second x y) both).0)
+  alike_both alike so other x y both =
+      left_true (alike x y) (other x y) (so x y (both_true (first x y) (second x y) both).0)
 
 -- no more is listed by both together than by each
 pub few_both :
@@ -164,7 +179,8 @@ pub IsNextReported-lesser :
     → IsNextReported reported before one
     → IsNextReported reported_too before other
     → IsNextReported (IsEither reported reported_too) before (lesser_of one other)
-IsNextReported-lesser reported reported_too before None None a b = λ ix is past. elim is [ inl here ↦ a ix here past | inr there ↦ b ix there past ]
+IsNextReported-lesser reported reported_too before None None a b =
+    λ ix is past. elim is [ inl here ↦ a ix here past | inr there ↦ b ix there past ]
 IsNextReported-lesser reported reported_too before (Some x) None a b = (
   inl a.0,
   a.1,
@@ -182,14 +198,20 @@ IsNextReported-lesser reported reported_too before (Some x) (Some y) a b =
           rw is (
             inl a.0,
             a.1,
-            λ ix reported past below. elim reported [ inl here ↦ a.2 ix here past below | inr there ↦ b.2 ix there past (omega (arith, below, less)) ],
+            λ ix reported past below. elim reported [
+              | inl here ↦ a.2 ix here past below
+              | inr there ↦ b.2 ix there past (omega (arith, below, less))
+            ],
           )
       | inr most ↦
           let is : min x y ≡ y = omega (arith, most) in
           rw is (
             inr b.0,
             b.1,
-            λ ix reported past below. elim reported [ inl here ↦ a.2 ix here past (omega (arith, below, most)) | inr there ↦ b.2 ix there past below ],
+            λ ix reported past below. elim reported [
+              | inl here ↦ a.2 ix here past (omega (arith, below, most))
+              | inr there ↦ b.2 ix there past below
+            ],
           )
     ]
 
@@ -208,7 +230,8 @@ module _ {T : Type 0} (first second : T → T → Bool) (s : Store T) (item : T)
       λ here. (
           let (x, is, one) = (scan ix).1 refl in
           let other : second item x ≡ true = subst (λ z. second item z ≡ true) (sym (is_there x is)) same in
-          subst (IsHit s (both_keys first second item)) (sym here) (x, is, true_both (first item x) (second item x) one other)),
+          subst (IsHit s (both_keys first second item)) (sym here)
+          (x, is, true_both (first item x) (second item x) one other)),
     )
 
     pub HasNoHit-unlike : second item there ≡ false → HasNoHit s (both_keys first second item)

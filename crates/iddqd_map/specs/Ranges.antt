@@ -7,7 +7,7 @@ use Rattle.iddqd.specs.Store.{Store, get}
 use Rattle.iddqd_keys.specs.KeyWalk.{SortsWithin, pairs_at}
 use Rattle.iddqd_keys.specs.Scan.{IsHit}
 use Rattle.iddqd_map.specs.Retain.{MayAsk}
-use Rattle.iddqd_map.specs.Several.{removed_all}
+use Rattle.iddqd_keys.specs.Removals.{removed_all}
 
 module _ {T : Type 0} where
   -- the items that pass were removed, and all others stay under their indexes

@@ -1,42 +1,12 @@
--- What `retain` asks of a closure, and what it leaves.
-use Rattle.std.specs.Prelude.{◌≡◌, ℕ, Bool, not, List, map, filter}
-use Rattle.std.specs.List.{FoldsTo}
-use Rattle.iddqd.specs.Store.{Store}
-use Rattle.iddqd.specs.LiveItems.{live_pairs}
-use Rattle.iddqd_hash.specs.Asks.{CanAsk}
+-- What `retain` of a map leaves.
+use Rattle.std.specs.Prelude.{◌≡◌, Bool}
 use Rattle.iddqd_map.specs.Map.{MapState}
-use Rattle.iddqd_map.specs.Several.{removed_all}
-
-module _ {T : Type 0} where
-  -- of asks, each of an index with its item, and its answer: those that were answered true
-  abbrev pub kept_of : List ((ℕ × T) × Bool) → List (ℕ × T)
-  kept_of asks = map (λ a. a.0) (filter (λ a. a.1) asks)
-
-  -- and the indexes of those that were answered false
-  abbrev pub refused_of : List ((ℕ × T) × Bool) → List ℕ
-  refused_of asks = map (λ a. a.0.0) (filter (λ a. not a.1) asks)
-
--- `takes p x` says that x may be asked in the state p, and `ask p x b q` that it may be answered b and leave the state q
-module _ {F T : Type 0} (takes : F → T → Type 0) (ask : F → T → Bool → F → Type 0) where
-  -- Each of the items may be asked, and again after any such asks: it is as strong as `CanAsk`, since the premise that
-  -- it grants, that this holds where everything may be asked in every state, is a lemma (`CanAsk-everywhere`). Said so,
-  -- a search shows it of a closure that requires nothing, and its caller needs no proof.
-  abbrev pub MayAsk : F → List T → Type 0
-  MayAsk f items = (((p : F) (x : T) → takes p x) → CanAsk takes ask f items) → CanAsk takes ask f items
+pub use Rattle.iddqd_by_hash.specs.Retain.{kept_of, refused_of, MayAsk, RetainsTo}
 
 -- `ask p x b q` says that x, asked in the state p, may be answered b and leave the state q
 module _ {F T : Type 0} (ask : F → T → Bool → F → Type 0) where
-  -- f was asked about each item once, by rising index, each time in the state that the ask before left, and is then
-  -- left in the last state. The items are left that were answered true, under their indexes; the others were removed.
-  pub record RetainsTo (f : F) (old new : Store T) (last : F) : Type 0 where
-    pub asks : List ((ℕ × T) × Bool)
-    pub each_once : map (λ a. a.0) asks ≡ live_pairs old
-    pub were_asked : FoldsTo (λ p a q. ask p a.0.1 a.1 q) f asks last
-    pub kept : live_pairs new ≡ kept_of asks
-    pub left : new ≡ removed_all old (refused_of asks)
-
-  -- the same, where f isn't handed back, and no memory of the map is taken or given back
+  -- what is said of the items alone, where f isn't handed back, and no memory of the map is taken or given back
   pub record Retains (f : F) (old new : MapState T) : Type 0 where
     pub last : F
-    pub retained : RetainsTo f old.store new.store last
+    pub retained : RetainsTo ask f old.store new.store last
     pub memory : new.memory ≡ old.memory

@@ -24,12 +24,14 @@ module _ {T : Type 0} (first second third : T → T → Bool) where
 
   -- where the items are that have the second or the third key of this one
   abbrev pub AreReportedLast : Store T → T → PairConflict ℕ ℕ → Type 0
-  AreReportedLast s item at = ReportBoth second third (IsReported second) (IsReported third) s item (first_of at) (second_of at)
+  AreReportedLast s item at =
+      ReportBoth second third (IsReported second) (IsReported third) s item (first_of at) (second_of at)
 
   -- for each key where the item is that has that of this item, and there is one that has one
   abbrev pub AreReported : Store T → T → TriClash → Type 0
   AreReported s item at =
-      ReportBoth first (either_key second third) (IsReported first) AreReportedLast s item at.key1 (both_of at.key2 at.key3)
+      ReportBoth first (either_key second third) (IsReported first) AreReportedLast s item at.key1
+      (both_of at.key2 at.key3)
 
   -- the same of items other than the one at the index
   abbrev pub AreTakenLast : Store T → ℕ → T → PairConflict ℕ ℕ → Type 0

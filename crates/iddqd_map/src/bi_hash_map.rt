@@ -1,12 +1,12 @@
 //! A map of items that have two keys each, both found by their hashes: a [`Map`] whose key index is a pair of tables.
 //!
 //! All calls that name no key are `Map`'s. Here are those that do, each the call of `Map` at the place of its key.
-ghost use Rattle.std.specs.Prelude.{◌≡◌, ◌+◌, ◌↔◌, false, option_copied};
+ghost use Rattle.std.specs.Prelude.{◌≡◌, ◌≤◌, ◌+◌, ◌↔◌, false, option_copied};
 ghost use Rattle.std.specs.Fn.{FnOnceReturnsAt};
 ghost use Rattle.iddqd_hash.specs.Sizes.{most_cells};
 ghost use Rattle.iddqd_keys.specs.Scan.{HasNoHit, AnswersScan, passes_by};
 ghost use Rattle.iddqd_keys.specs.KeyKeeping.{KeepsKey, pair_keys};
-ghost use Rattle.iddqd_map.specs.Map.{shares, FindsItem, Removes};
+ghost use Rattle.iddqd_map.specs.Map.{room, shares, FindsItem, Removes};
 ghost use Rattle.iddqd_map.specs.Several.{either_key, both_keys};
 ghost use Rattle.iddqd_map.specs.Calls.{MayChange, Overwrites, Replaces, Changes};
 ghost use Rattle.iddqd_map.specs.Modify.{Modifies};
@@ -58,7 +58,9 @@ impl<T: BiHashItem, S: BuildHasher> Map<T, BiIndex<T>, S> {
 
     /// Takes the item that has the first key out of the map. It takes no memory.
     pub fn remove1<Q: HashQuery<T::Key1>>(&mut self, query: Q) -> Option<T>
-        ensures { Removes self.old (passes_by T.first_key (Q.stands_for query)) result self.new }
+        ensures removes { Removes self.old (passes_by T.first_key (Q.stands_for query)) result self.new }
+        ensures gone { HasNoHit self.new.store (passes_by T.first_key (Q.stands_for query)) }
+        ensures room { room self.old ≤ room self.new }
     {
         self.remove_by::<First, Q>(query)
     }
@@ -72,9 +74,10 @@ impl<T: BiHashItem, S: BuildHasher> Map<T, BiIndex<T>, S> {
         query: Q,
         item: T,
     ) -> Result<T, ReplaceRefusal<T, BiClash>>
-        ensures { let first = shares T.first_key T.Key1.eq in let second = shares T.second_key T.Key2.eq in
+        ensures replaces { let first = shares T.first_key T.Key1.eq in let second = shares T.second_key T.Key2.eq in
             Replaces (either_key first second) (both_keys first second) false (AreTaken first second) self.old
             (passes_by T.first_key (Q.stands_for query)) item result self.new }
+        ensures room { room self.old ≤ room self.new }
     {
         self.replace_by::<First, Q>(query, item)
     }
@@ -89,10 +92,11 @@ impl<T: BiHashItem, S: BuildHasher> Map<T, BiIndex<T>, S> {
         f: F,
     ) -> Result<Option<T>, ReplaceRefusal<T, BiClash>>
         requires { MayChange F.FnOnce f self.old.store (passes_by T.first_key (Q.stands_for query)) }
-        ensures { let first = shares T.first_key T.Key1.eq in let second = shares T.second_key T.Key2.eq in
+        ensures changes { let first = shares T.first_key T.Key1.eq in let second = shares T.second_key T.Key2.eq in
             Changes (either_key first second) (both_keys first second) false (AreTaken first second)
             (FnOnceReturnsAt F.FnOnce f)
             self.old (passes_by T.first_key (Q.stands_for query)) result self.new }
+        ensures room { room self.old ≤ room self.new }
     {
         self.change_by::<First, Q, F>(query, f)
     }
@@ -107,7 +111,8 @@ impl<T: BiHashItem, S: BuildHasher> Map<T, BiIndex<T>, S> {
         requires { let named = passes_by T.first_key (Q.stands_for query) in
             KeepsKey F.FnOnce f (pair_keys T.first_key T.second_key)
             (λ item. FindsItem self.old.store named (Some item)) }
-        ensures { Modifies F.FnOnce f self.old (passes_by T.first_key (Q.stands_for query)) result self.new }
+        ensures modifies { Modifies F.FnOnce f self.old (passes_by T.first_key (Q.stands_for query)) result self.new }
+        ensures room { room self.old ≤ room self.new }
     {
         self.modify_by::<First, Q, R, F>(query, f)
     }
@@ -135,7 +140,9 @@ impl<T: BiHashItem, S: BuildHasher> Map<T, BiIndex<T>, S> {
 
     /// Takes the item that has the second key out of the map. It takes no memory.
     pub fn remove2<Q: HashQuery<T::Key2>>(&mut self, query: Q) -> Option<T>
-        ensures { Removes self.old (passes_by T.second_key (Q.stands_for query)) result self.new }
+        ensures removes { Removes self.old (passes_by T.second_key (Q.stands_for query)) result self.new }
+        ensures gone { HasNoHit self.new.store (passes_by T.second_key (Q.stands_for query)) }
+        ensures room { room self.old ≤ room self.new }
     {
         self.remove_by::<Second, Q>(query)
     }
@@ -146,9 +153,10 @@ impl<T: BiHashItem, S: BuildHasher> Map<T, BiIndex<T>, S> {
         query: Q,
         item: T,
     ) -> Result<T, ReplaceRefusal<T, BiClash>>
-        ensures { let first = shares T.first_key T.Key1.eq in let second = shares T.second_key T.Key2.eq in
+        ensures replaces { let first = shares T.first_key T.Key1.eq in let second = shares T.second_key T.Key2.eq in
             Replaces (either_key first second) (both_keys first second) false (AreTaken first second) self.old
             (passes_by T.second_key (Q.stands_for query)) item result self.new }
+        ensures room { room self.old ≤ room self.new }
     {
         self.replace_by::<Second, Q>(query, item)
     }
@@ -160,10 +168,11 @@ impl<T: BiHashItem, S: BuildHasher> Map<T, BiIndex<T>, S> {
         f: F,
     ) -> Result<Option<T>, ReplaceRefusal<T, BiClash>>
         requires { MayChange F.FnOnce f self.old.store (passes_by T.second_key (Q.stands_for query)) }
-        ensures { let first = shares T.first_key T.Key1.eq in let second = shares T.second_key T.Key2.eq in
+        ensures changes { let first = shares T.first_key T.Key1.eq in let second = shares T.second_key T.Key2.eq in
             Changes (either_key first second) (both_keys first second) false (AreTaken first second)
             (FnOnceReturnsAt F.FnOnce f)
             self.old (passes_by T.second_key (Q.stands_for query)) result self.new }
+        ensures room { room self.old ≤ room self.new }
     {
         self.change_by::<Second, Q, F>(query, f)
     }
@@ -177,7 +186,8 @@ impl<T: BiHashItem, S: BuildHasher> Map<T, BiIndex<T>, S> {
         requires { let named = passes_by T.second_key (Q.stands_for query) in
             KeepsKey F.FnOnce f (pair_keys T.first_key T.second_key)
             (λ item. FindsItem self.old.store named (Some item)) }
-        ensures { Modifies F.FnOnce f self.old (passes_by T.second_key (Q.stands_for query)) result self.new }
+        ensures modifies { Modifies F.FnOnce f self.old (passes_by T.second_key (Q.stands_for query)) result self.new }
+        ensures room { room self.old ≤ room self.new }
     {
         self.modify_by::<Second, Q, R, F>(query, f)
     }

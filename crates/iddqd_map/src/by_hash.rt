@@ -16,11 +16,11 @@ ghost use Rattle.iddqd_by_hash.specs.Hashed.{hashing_of};
 ghost use Rattle.iddqd_map.specs.Indexing.{Indexes};
 
 use crate::hashed_plan::plan_move;
-use crate::hashed_query::{find_under, take_by};
+use crate::hashed_query::{find_item, find_under, take_by};
+use crate::hashed_steps;
 use crate::key_index::{
     AsksAt, Checks, FindsSame, HashedAt, Here, Inserts, KeyIndex, Moves, Removes, Sizes, TakesAt,
 };
-use crate::of_item::{commit_item, find_item, take_item, validate_table};
 use iddqd::index_remap::IndexRemap;
 use iddqd::internal::{ValidateCompact, ValidateRefusal, ValidationError};
 use iddqd::item_index::ItemIndex;
@@ -38,8 +38,8 @@ use std::marker::PhantomData;
 /// A hash table by the key that `E` names. No two items have equal keys.
 ///
 /// A look-up hashes the query once, and compares it with keys of the same hash alone. Only `with_capacity`, `reserve`,
-/// `make_room`, `shrink_to` and `copied` take memory, and only they can run out of it; `validate` sorts a copy of
-/// the indexes.
+/// `make_room`, `shrink_to`, `copied` and `validate`, which sorts a copy of the indexes, take memory, and only they can run
+/// out of it.
 #[derive(Drop)]
 pub struct ByHash<E, K> {
     // Each live index, under the hash of its item's key.
@@ -133,7 +133,7 @@ where
 
     fn new(alloc: Global) -> ByHash<E, K> {
         ByHash {
-            table: MapHashTable::new(alloc),
+            table: hashed_steps::new(alloc),
             of: PhantomData,
             by: PhantomData,
         }
@@ -153,11 +153,11 @@ where
         state: &S,
         additional: usize,
     ) -> Result<(), AllocError> {
-        self.table.try_reserve(additional)
+        hashed_steps::reserve(&mut self.table, items, additional)
     }
 
     fn shrink_to(&mut self, items: &ItemSet<T>, state: &S, least: usize) -> Result<(), AllocError> {
-        self.table.shrink_to(least)
+        hashed_steps::shrink_to(&mut self.table, items, least)
     }
 }
 
@@ -209,7 +209,7 @@ where
     fn plan(&self, items: &ItemSet<T>, state: &S, spot: (), ix: ItemIndex, item: &T) {}
 
     fn make_room(&mut self, items: &ItemSet<T>, state: &S, plan: &()) -> Result<(), AllocError> {
-        self.table.try_reserve(1)
+        hashed_steps::make_room(&mut self.table, items)
     }
 
     fn insert(&mut self, known: MapHash, plan: &(), ix: ItemIndex) {
@@ -231,7 +231,7 @@ where
     }
 
     fn give_way(&mut self, items: &ItemSet<T>, state: &S, ix: ItemIndex) {
-        take_item::<T, E, S>(&mut self.table, items, state, ix);
+        hashed_steps::take_out::<T, E, S>(&mut self.table, items, state, ix);
     }
 }
 
@@ -242,7 +242,7 @@ where
     S: BuildHasher,
 {
     fn remove(&mut self, items: &ItemSet<T>, state: &S, ix: ItemIndex) {
-        take_item::<T, E, S>(&mut self.table, items, state, ix);
+        hashed_steps::take_out::<T, E, S>(&mut self.table, items, state, ix);
     }
 
     fn clear(&mut self) {
@@ -250,7 +250,7 @@ where
     }
 
     fn remap(&mut self, remap: &IndexRemap) {
-        self.table.remap_indexes(remap);
+        hashed_steps::remap::<T>(&mut self.table, remap);
     }
 }
 
@@ -295,7 +295,7 @@ where
         ix: ItemIndex,
         item: &T,
     ) {
-        commit_item::<T, E, S>(&mut self.table, items, state, asked, plan, ix);
+        hashed_steps::commit_move::<T, E, S>(&mut self.table, items, state, asked, plan, ix);
     }
 }
 
@@ -323,7 +323,7 @@ where
         state: &S,
         compactness: ValidateCompact,
     ) -> Result<(), ValidateRefusal<ValidationError>> {
-        validate_table("keys", &self.table, items.len(), compactness)
+        hashed_steps::validate(&self.table, items, compactness)
     }
 }
 

@@ -3,6 +3,7 @@
 ghost use Rattle.iddqd_hash.specs.{filed};
 ghost use Rattle.iddqd_keys.specs.Scan.{IsLive};
 ghost use Rattle.iddqd_by_hash.specs.Hashed.{hashing_of};
+ghost use Rattle.iddqd_map.specs.ByHashMulti.{IsMoveFor};
 ghost use Rattle.iddqd_map.specs.Indexing.{Indexes, PlansOrConflicts};
 
 use iddqd::item_index::ItemIndex;
@@ -35,13 +36,31 @@ where
     ensures { let hashing = hashing_of E.Key.eq E.Key.hash_input S.BuildHasher S.Hasher.Hasher state.now in
         PlansOrConflicts E.key_of hashing items.now.store ix item.now result }
 {
-    let key = E::key(item);
-    if *key == *key_at::<T, E>(items, ix) {
-        return Ok(Move::Stays);
+    match move_of::<T, E, S>(items, state, ix, item) {
+        Move::Stays => Ok(Move::Stays),
+        Move::To(hash) => {
+            match hashed::find::<T, E, ByKey<E::Key>>(table, items, hash, &ByKey(E::key(item))) {
+                Some(at) => Err(at),
+                None => Ok(Move::To(hash)),
+            }
+        }
     }
-    let hash = hash_of::<T, E, S>(state, item);
-    match hashed::find::<T, E, ByKey<E::Key>>(table, items, hash, &ByKey(key)) {
-        Some(at) => Err(at),
-        None => Ok(Move::To(hash)),
+}
+
+/// What becomes of a live index that is given this item, where other items may have its key.
+///
+/// It compares the item's key with the one that stands there. Only where they differ is it hashed, once.
+pub fn move_of<T, E, S>(items: &ItemSet<T>, state: &S, ix: ItemIndex, item: &T) -> Move
+where
+    E: KeyOf<T>,
+    E::Key: Eq + Hash,
+    S: BuildHasher,
+    requires { IsLive items.now.store ix }
+    ensures { let hashing = hashing_of E.Key.eq E.Key.hash_input S.BuildHasher S.Hasher.Hasher state.now in
+        IsMoveFor E.key_of hashing items.now.store ix item.now result }
+{
+    if *E::key(item) == *key_at::<T, E>(items, ix) {
+        return Move::Stays;
     }
+    Move::To(hash_of::<T, E, S>(state, item))
 }

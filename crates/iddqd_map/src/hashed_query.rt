@@ -1,25 +1,32 @@
 //! Look-ups in a hash table that indexes a store, by any query.
 //!
 //! Where each live index is filed under the hash of its item's key as it is now, and no two items share a key, a
-//! look-up answers as a scan does.
+//! look-up answers as a scan does. Where several items may share a key, it finds one of them.
 ghost use Rattle.std.specs.Prelude.{◌≡◌};
 ghost use Rattle.iddqd.specs.{hash_one};
 ghost use Rattle.iddqd_hash.specs.{filed};
 ghost use Rattle.iddqd_hash.specs.HashTable.{KeepsMemory};
 ghost use Rattle.iddqd_keys.specs.Scan.{AnswersScan, passes_by};
 ghost use Rattle.iddqd_by_hash.specs.Hashed.{hashing_of, Takes};
+ghost use Rattle.iddqd_map.specs.ByHashMulti.{Files};
+ghost use Rattle.iddqd_map.specs.Groups.{AreHits, CountsHits, FindsSome};
 ghost use Rattle.iddqd_map.specs.Indexing.{Indexes};
+ghost use Rattle.iddqd_map.specs.Map.{shares};
 
 use iddqd::item_index::ItemIndex;
 use iddqd::item_set::ItemSet;
 use iddqd::map_hash::MapHash;
 use iddqd_by_hash::hashed::{self, query_hash};
+use iddqd_by_hash::hashed_group::{Group, group_of};
 use iddqd_hash::hash_table::MapHashTable;
 use iddqd_keys::key_of::KeyOf;
 use iddqd_keys::query::{Asked, HashQuery};
 use std::hash::{BuildHasher, Hash};
 
 /// The index of the item that has the key for which the query stands, whose hash was computed before.
+///
+/// Look-ups and inserts share it. Called, a look-up took half as many instructions again, so it is inlined.
+#[inline(always)]
 pub fn find_under<T, E, S, Q>(
     table: &MapHashTable,
     items: &ItemSet<T>,
@@ -60,4 +67,86 @@ where
 {
     let hash = query_hash(state, query);
     hashed::take::<T, E, Asked<Q>>(table, items, hash, &Asked(query))
+}
+
+/// The index of the item that has this key of an item, whose hash was computed before.
+pub fn find_item<T, E, S>(
+    table: &MapHashTable,
+    items: &ItemSet<T>,
+    state: &S,
+    hash: MapHash,
+    item: &T,
+) -> Option<ItemIndex>
+where
+    E: KeyOf<T>,
+    E::Key: Eq + Hash,
+    S: BuildHasher,
+    requires hash { let hashing = hashing_of E.Key.eq E.Key.hash_input S.BuildHasher S.Hasher.Hasher state.now in
+        hash ≡ hashing.hash_of (E.key_of item.now) }
+    requires indexed { let hashing = hashing_of E.Key.eq E.Key.hash_input S.BuildHasher S.Hasher.Hasher state.now in
+        Indexes E.key_of hashing items.now.store (filed table.now) }
+    ensures { AnswersScan items.now.store (shares E.key_of E.Key.eq item.now) result }
+{
+    find_under::<T, E, S, &E::Key>(table, items, state, hash, E::key(item))
+}
+
+/// The index of some item that has the key for which the query stands, where several items may have it.
+pub fn find_any<T, E, S, Q>(
+    table: &MapHashTable,
+    items: &ItemSet<T>,
+    state: &S,
+    query: Q,
+) -> Option<ItemIndex>
+where
+    E: KeyOf<T>,
+    E::Key: Eq + Hash,
+    S: BuildHasher,
+    Q: HashQuery<E::Key>,
+    requires { let hashing = hashing_of E.Key.eq E.Key.hash_input S.BuildHasher S.Hasher.Hasher state.now in
+        Files E.key_of hashing items.now.store (filed table.now) }
+    ensures { FindsSome items.now.store (passes_by E.key_of (Q.stands_for query)) result }
+{
+    let hash = query_hash(state, query);
+    hashed::find::<T, E, Asked<Q>>(table, items, hash, &Asked(query))
+}
+
+/// The indexes whose items have the key for which the query stands, each once, in no order that a caller can rely on.
+///
+/// It compares the query with keys of the same hash alone, with none twice, and takes no memory.
+pub fn group_by<'t, T, E, S, Q>(
+    table: &'t MapHashTable,
+    items: &'t ItemSet<T>,
+    state: &S,
+    query: Q,
+) -> Group<'t, T, E, Asked<Q>>
+where
+    E: KeyOf<T>,
+    E::Key: Eq + Hash,
+    S: BuildHasher,
+    Q: HashQuery<E::Key>,
+    requires { let hashing = hashing_of E.Key.eq E.Key.hash_input S.BuildHasher S.Hasher.Hasher state.now in
+        Files E.key_of hashing items.now.store (filed table.now) }
+    ensures { AreHits items.now.store (passes_by E.key_of (Q.stands_for query)) result }
+{
+    let hash = query_hash(state, query);
+    group_of::<T, E, Asked<Q>>(table, items, hash, Asked(query))
+}
+
+/// How many items have the key for which the query stands. It goes over all of them.
+pub fn count_by<T, E, S, Q>(table: &MapHashTable, items: &ItemSet<T>, state: &S, query: Q) -> usize
+where
+    E: KeyOf<T>,
+    E::Key: Eq + Hash,
+    S: BuildHasher,
+    Q: HashQuery<E::Key>,
+    requires { let hashing = hashing_of E.Key.eq E.Key.hash_input S.BuildHasher S.Hasher.Hasher state.now in
+        Files E.key_of hashing items.now.store (filed table.now) }
+    ensures { CountsHits items.now.store (passes_by E.key_of (Q.stands_for query)) result }
+{
+    let group = group_by::<T, E, S, Q>(table, items, state, query);
+    // The bound has 64 bits, so the count fits.
+    match group.size_hint().1 {
+        Some(_most) => group.count(),
+        None => unreachable!(),
+    }
 }

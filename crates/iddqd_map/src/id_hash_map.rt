@@ -1,12 +1,12 @@
 //! A map of items that have one key each, found by its hash: a [`Map`] whose key index is one table.
 //!
 //! All calls that name no key are `Map`'s. Here are those that do, each the call of `Map` at the place of its key.
-ghost use Rattle.std.specs.Prelude.{◌≡◌, ◌↔◌, false, Some, Ok, option_copied};
+ghost use Rattle.std.specs.Prelude.{◌≡◌, ◌≤◌, ◌↔◌, false, Some, Ok, option_copied};
 ghost use Rattle.std.specs.Fn.{FnOnceReturnsAt};
 ghost use Rattle.iddqd_hash.specs.Sizes.{most_cells};
 ghost use Rattle.iddqd_keys.specs.Scan.{HasNoHit, AnswersScan, passes_by};
 ghost use Rattle.iddqd_keys.specs.KeyKeeping.{KeepsKey};
-ghost use Rattle.iddqd_map.specs.Map.{shares, FindsItem, Removes};
+ghost use Rattle.iddqd_map.specs.Map.{room, shares, FindsItem, Removes};
 ghost use Rattle.iddqd_map.specs.Calls.{MayChange, Replaces, Changes};
 ghost use Rattle.iddqd_map.specs.Modify.{Modifies};
 ghost use Rattle.iddqd_map.specs.OneKey.{IsTaken, OverwritesOne};
@@ -58,7 +58,9 @@ impl<T: IdHashItem, S: BuildHasher> Map<T, IdIndex<T>, S> {
 
     /// Takes the item that has the key out of the map. It takes no memory.
     pub fn remove<Q: HashQuery<T::Key>>(&mut self, query: Q) -> Option<T>
-        ensures { Removes self.old (passes_by T.key_of (Q.stands_for query)) result self.new }
+        ensures removes { Removes self.old (passes_by T.key_of (Q.stands_for query)) result self.new }
+        ensures gone { HasNoHit self.new.store (passes_by T.key_of (Q.stands_for query)) }
+        ensures room { room self.old ≤ room self.new }
     {
         self.remove_by::<Here, Q>(query)
     }
@@ -72,9 +74,10 @@ impl<T: IdHashItem, S: BuildHasher> Map<T, IdIndex<T>, S> {
         query: Q,
         item: T,
     ) -> Result<T, ReplaceRefusal<T, ItemIndex>>
-        ensures { let alike = shares T.key_of T.Key.eq in
+        ensures replaces { let alike = shares T.key_of T.Key.eq in
             Replaces alike alike false (IsTaken alike) self.old
             (passes_by T.key_of (Q.stands_for query)) item result self.new }
+        ensures room { room self.old ≤ room self.new }
     {
         self.replace_by::<Here, Q>(query, item)
     }
@@ -89,9 +92,10 @@ impl<T: IdHashItem, S: BuildHasher> Map<T, IdIndex<T>, S> {
         f: F,
     ) -> Result<Option<T>, ReplaceRefusal<T, ItemIndex>>
         requires { MayChange F.FnOnce f self.old.store (passes_by T.key_of (Q.stands_for query)) }
-        ensures { let alike = shares T.key_of T.Key.eq in
+        ensures changes { let alike = shares T.key_of T.Key.eq in
             Changes alike alike false (IsTaken alike) (FnOnceReturnsAt F.FnOnce f)
             self.old (passes_by T.key_of (Q.stands_for query)) result self.new }
+        ensures room { room self.old ≤ room self.new }
     {
         self.change_by::<Here, Q, F>(query, f)
     }
@@ -105,7 +109,8 @@ impl<T: IdHashItem, S: BuildHasher> Map<T, IdIndex<T>, S> {
     ) -> Option<R>
         requires { let named = passes_by T.key_of (Q.stands_for query) in
             KeepsKey F.FnOnce f T.key_of (λ item. FindsItem self.old.store named (Some item)) }
-        ensures { Modifies F.FnOnce f self.old (passes_by T.key_of (Q.stands_for query)) result self.new }
+        ensures modifies { Modifies F.FnOnce f self.old (passes_by T.key_of (Q.stands_for query)) result self.new }
+        ensures room { room self.old ≤ room self.new }
     {
         self.modify_by::<Here, Q, R, F>(query, f)
     }

@@ -109,7 +109,8 @@ pub trait KeyIndex<T, S>: Sized + Drop {
         → reports at ix ↔ IsHit s (alike item) ix };
 
     // At least one is reported, and never more than there are keys.
-    ghost reported_some: { (s : Store T) (item : T) (at : Self.Conflict) → conflicts s item at → (ix : ℕ) × reports at ix };
+    ghost reported_some: { (s : Store T) (item : T) (at : Self.Conflict) → conflicts s item at
+        → (ix : ℕ) × reports at ix };
 
     ghost few_reported: { (at : Self.Conflict) → (l : List ℕ) × (length l ≤ key_count)
         × ((ix : ℕ) → reports at ix → Contains l ix) };

@@ -2,12 +2,12 @@
 //! first and a pair of tables by the others.
 //!
 //! All calls that name no key are `Map`'s. Here are those that do, each the call of `Map` at the place of its key.
-ghost use Rattle.std.specs.Prelude.{◌≡◌, ◌+◌, ◌↔◌, false, option_copied};
+ghost use Rattle.std.specs.Prelude.{◌≡◌, ◌≤◌, ◌+◌, ◌↔◌, false, option_copied};
 ghost use Rattle.std.specs.Fn.{FnOnceReturnsAt};
 ghost use Rattle.iddqd_hash.specs.Sizes.{most_cells};
 ghost use Rattle.iddqd_keys.specs.Scan.{HasNoHit, AnswersScan, passes_by};
 ghost use Rattle.iddqd_keys.specs.KeyKeeping.{KeepsKey, pair_keys};
-ghost use Rattle.iddqd_map.specs.Map.{shares, FindsItem, Removes};
+ghost use Rattle.iddqd_map.specs.Map.{room, shares, FindsItem, Removes};
 ghost use Rattle.iddqd_map.specs.Calls.{MayChange, Overwrites, Replaces, Changes};
 ghost use Rattle.iddqd_map.specs.Modify.{Modifies};
 ghost use Rattle.iddqd_map.specs.ThreeKeys.{any_key, all_keys, AreTaken};
@@ -58,7 +58,9 @@ impl<T: TriHashItem, S: BuildHasher> Map<T, TriIndex<T>, S> {
 
     /// Takes the item that has the first key out of the map. It takes no memory.
     pub fn remove1<Q: HashQuery<T::Key1>>(&mut self, query: Q) -> Option<T>
-        ensures { Removes self.old (passes_by T.first_key (Q.stands_for query)) result self.new }
+        ensures removes { Removes self.old (passes_by T.first_key (Q.stands_for query)) result self.new }
+        ensures gone { HasNoHit self.new.store (passes_by T.first_key (Q.stands_for query)) }
+        ensures room { room self.old ≤ room self.new }
     {
         self.remove_by::<First, Q>(query)
     }
@@ -72,11 +74,12 @@ impl<T: TriHashItem, S: BuildHasher> Map<T, TriIndex<T>, S> {
         query: Q,
         item: T,
     ) -> Result<T, ReplaceRefusal<T, TriClash>>
-        ensures { let first = shares T.first_key T.Key1.eq in let second = shares T.second_key T.Key2.eq in
+        ensures replaces { let first = shares T.first_key T.Key1.eq in let second = shares T.second_key T.Key2.eq in
             let third = shares T.third_key T.Key3.eq in
             Replaces (any_key first second third) (all_keys first second third) false
             (AreTaken first second third) self.old
             (passes_by T.first_key (Q.stands_for query)) item result self.new }
+        ensures room { room self.old ≤ room self.new }
     {
         self.replace_by::<First, Q>(query, item)
     }
@@ -91,11 +94,12 @@ impl<T: TriHashItem, S: BuildHasher> Map<T, TriIndex<T>, S> {
         f: F,
     ) -> Result<Option<T>, ReplaceRefusal<T, TriClash>>
         requires { MayChange F.FnOnce f self.old.store (passes_by T.first_key (Q.stands_for query)) }
-        ensures { let first = shares T.first_key T.Key1.eq in let second = shares T.second_key T.Key2.eq in
+        ensures changes { let first = shares T.first_key T.Key1.eq in let second = shares T.second_key T.Key2.eq in
             let third = shares T.third_key T.Key3.eq in
             Changes (any_key first second third) (all_keys first second third) false
             (AreTaken first second third) (FnOnceReturnsAt F.FnOnce f)
             self.old (passes_by T.first_key (Q.stands_for query)) result self.new }
+        ensures room { room self.old ≤ room self.new }
     {
         self.change_by::<First, Q, F>(query, f)
     }
@@ -110,7 +114,8 @@ impl<T: TriHashItem, S: BuildHasher> Map<T, TriIndex<T>, S> {
         requires { let named = passes_by T.first_key (Q.stands_for query) in
             KeepsKey F.FnOnce f (pair_keys T.first_key (pair_keys T.second_key T.third_key))
             (λ item. FindsItem self.old.store named (Some item)) }
-        ensures { Modifies F.FnOnce f self.old (passes_by T.first_key (Q.stands_for query)) result self.new }
+        ensures modifies { Modifies F.FnOnce f self.old (passes_by T.first_key (Q.stands_for query)) result self.new }
+        ensures room { room self.old ≤ room self.new }
     {
         self.modify_by::<First, Q, R, F>(query, f)
     }
@@ -138,7 +143,9 @@ impl<T: TriHashItem, S: BuildHasher> Map<T, TriIndex<T>, S> {
 
     /// Takes the item that has the second key out of the map. It takes no memory.
     pub fn remove2<Q: HashQuery<T::Key2>>(&mut self, query: Q) -> Option<T>
-        ensures { Removes self.old (passes_by T.second_key (Q.stands_for query)) result self.new }
+        ensures removes { Removes self.old (passes_by T.second_key (Q.stands_for query)) result self.new }
+        ensures gone { HasNoHit self.new.store (passes_by T.second_key (Q.stands_for query)) }
+        ensures room { room self.old ≤ room self.new }
     {
         self.remove_by::<Second, Q>(query)
     }
@@ -149,11 +156,12 @@ impl<T: TriHashItem, S: BuildHasher> Map<T, TriIndex<T>, S> {
         query: Q,
         item: T,
     ) -> Result<T, ReplaceRefusal<T, TriClash>>
-        ensures { let first = shares T.first_key T.Key1.eq in let second = shares T.second_key T.Key2.eq in
+        ensures replaces { let first = shares T.first_key T.Key1.eq in let second = shares T.second_key T.Key2.eq in
             let third = shares T.third_key T.Key3.eq in
             Replaces (any_key first second third) (all_keys first second third) false
             (AreTaken first second third) self.old
             (passes_by T.second_key (Q.stands_for query)) item result self.new }
+        ensures room { room self.old ≤ room self.new }
     {
         self.replace_by::<Second, Q>(query, item)
     }
@@ -165,11 +173,12 @@ impl<T: TriHashItem, S: BuildHasher> Map<T, TriIndex<T>, S> {
         f: F,
     ) -> Result<Option<T>, ReplaceRefusal<T, TriClash>>
         requires { MayChange F.FnOnce f self.old.store (passes_by T.second_key (Q.stands_for query)) }
-        ensures { let first = shares T.first_key T.Key1.eq in let second = shares T.second_key T.Key2.eq in
+        ensures changes { let first = shares T.first_key T.Key1.eq in let second = shares T.second_key T.Key2.eq in
             let third = shares T.third_key T.Key3.eq in
             Changes (any_key first second third) (all_keys first second third) false
             (AreTaken first second third) (FnOnceReturnsAt F.FnOnce f)
             self.old (passes_by T.second_key (Q.stands_for query)) result self.new }
+        ensures room { room self.old ≤ room self.new }
     {
         self.change_by::<Second, Q, F>(query, f)
     }
@@ -183,7 +192,8 @@ impl<T: TriHashItem, S: BuildHasher> Map<T, TriIndex<T>, S> {
         requires { let named = passes_by T.second_key (Q.stands_for query) in
             KeepsKey F.FnOnce f (pair_keys T.first_key (pair_keys T.second_key T.third_key))
             (λ item. FindsItem self.old.store named (Some item)) }
-        ensures { Modifies F.FnOnce f self.old (passes_by T.second_key (Q.stands_for query)) result self.new }
+        ensures modifies { Modifies F.FnOnce f self.old (passes_by T.second_key (Q.stands_for query)) result self.new }
+        ensures room { room self.old ≤ room self.new }
     {
         self.modify_by::<Second, Q, R, F>(query, f)
     }
@@ -211,7 +221,9 @@ impl<T: TriHashItem, S: BuildHasher> Map<T, TriIndex<T>, S> {
 
     /// Takes the item that has the third key out of the map. It takes no memory.
     pub fn remove3<Q: HashQuery<T::Key3>>(&mut self, query: Q) -> Option<T>
-        ensures { Removes self.old (passes_by T.third_key (Q.stands_for query)) result self.new }
+        ensures removes { Removes self.old (passes_by T.third_key (Q.stands_for query)) result self.new }
+        ensures gone { HasNoHit self.new.store (passes_by T.third_key (Q.stands_for query)) }
+        ensures room { room self.old ≤ room self.new }
     {
         self.remove_by::<Third, Q>(query)
     }
@@ -222,11 +234,12 @@ impl<T: TriHashItem, S: BuildHasher> Map<T, TriIndex<T>, S> {
         query: Q,
         item: T,
     ) -> Result<T, ReplaceRefusal<T, TriClash>>
-        ensures { let first = shares T.first_key T.Key1.eq in let second = shares T.second_key T.Key2.eq in
+        ensures replaces { let first = shares T.first_key T.Key1.eq in let second = shares T.second_key T.Key2.eq in
             let third = shares T.third_key T.Key3.eq in
             Replaces (any_key first second third) (all_keys first second third) false
             (AreTaken first second third) self.old
             (passes_by T.third_key (Q.stands_for query)) item result self.new }
+        ensures room { room self.old ≤ room self.new }
     {
         self.replace_by::<Third, Q>(query, item)
     }
@@ -238,11 +251,12 @@ impl<T: TriHashItem, S: BuildHasher> Map<T, TriIndex<T>, S> {
         f: F,
     ) -> Result<Option<T>, ReplaceRefusal<T, TriClash>>
         requires { MayChange F.FnOnce f self.old.store (passes_by T.third_key (Q.stands_for query)) }
-        ensures { let first = shares T.first_key T.Key1.eq in let second = shares T.second_key T.Key2.eq in
+        ensures changes { let first = shares T.first_key T.Key1.eq in let second = shares T.second_key T.Key2.eq in
             let third = shares T.third_key T.Key3.eq in
             Changes (any_key first second third) (all_keys first second third) false
             (AreTaken first second third) (FnOnceReturnsAt F.FnOnce f)
             self.old (passes_by T.third_key (Q.stands_for query)) result self.new }
+        ensures room { room self.old ≤ room self.new }
     {
         self.change_by::<Third, Q, F>(query, f)
     }
@@ -256,7 +270,8 @@ impl<T: TriHashItem, S: BuildHasher> Map<T, TriIndex<T>, S> {
         requires { let named = passes_by T.third_key (Q.stands_for query) in
             KeepsKey F.FnOnce f (pair_keys T.first_key (pair_keys T.second_key T.third_key))
             (λ item. FindsItem self.old.store named (Some item)) }
-        ensures { Modifies F.FnOnce f self.old (passes_by T.third_key (Q.stands_for query)) result self.new }
+        ensures modifies { Modifies F.FnOnce f self.old (passes_by T.third_key (Q.stands_for query)) result self.new }
+        ensures room { room self.old ≤ room self.new }
     {
         self.modify_by::<Third, Q, R, F>(query, f)
     }

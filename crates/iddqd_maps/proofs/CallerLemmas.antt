@@ -1,17 +1,22 @@
--- For callers of maps: what a look-up found passes the test; once the item with a key was removed, none has it; what
--- each call of a closure leaves holds of an item that was modified by it; and `retain` leaves no more items than there
--- were.
-use Rattle.std.proofs.Common.{◌≡◌, ◌≤◌, ℕ, zero, suc, Bool, true, List, [], ◌∷◌, slice_set, Option, Some, None, is_some, cond, refl, sym, subst, arith}
+-- For callers of maps: what a look-up found passes the test; what an item became that was replaced, changed or modified;
+-- what each call of a closure leaves holds of an item that was modified by it; what a removal
+-- leaves of the others; and `retain` leaves no more items than there were.
+use Rattle.std.proofs.Common.{◌≡◌, ◌∙◌, ◌≤◌, ℕ, zero, suc, Bool, true, false, List, [], ◌∷◌, slice_set, Option, Some, None, is_some, cond, refl, sym, subst, ap, arith}
+use Rattle.std.specs.Prelude.{Result, Ok, Err, IfOk, MatchOption}
 use Rattle.std.specs.Borrow.{MutBor}
 use Rattle.std.specs.Fn.{Once, FnOnceReturnsAtMut}
 use Rattle.std.specs.List.{count_by}
 use Rattle.std.proofs.lemmas.List.Sums.{sum_by-cons}
-use Rattle.iddqd.specs.Store.{Store, get, live_count, removed}
-use Rattle.iddqd_keys.specs.Scan.{HasNoHit, AnswersScan}
-use Rattle.iddqd_keys.proofs.ScanLemmas.{HasNoHit-hit_removed}
-use Rattle.iddqd_map.specs.Map.{MapState, FindsItem, Removes}
-use Rattle.iddqd_map.specs.Several.{removed_all}
+use Rattle.iddqd.proofs.LiveLemmas.{get-removed_other}
+use Rattle.iddqd.specs.Store.{Store, get, live_count, rebound, removed}
+use Rattle.iddqd_keys.specs.Scan.{IsHit, HasNoHit, AnswersScan}
+use Rattle.iddqd_map.specs.Calls.{Changes, Replaces}
+use Rattle.iddqd_map.specs.Map.{MapState, FindsItem, IsOnly, Removes}
+use Rattle.iddqd_map.specs.Modify.{Modifies}
+use Rattle.iddqd_map.specs.RangeRetain.{KeepsMisses}
+use Rattle.iddqd_keys.specs.Removals.{removed_all}
 use Rattle.iddqd_map.specs.Retain.{Retains, refused_of}
+use Rattle.iddqd_map.specs.declared.refusal.ReplaceRefusal.{ReplaceRefusal}
 use Rattle.iddqd_ord_map.specs.Retain.{RetainsAlong}
 
 module _ {T : Type 0} (s : Store T) (test : T → Bool) where
@@ -34,12 +39,48 @@ module _ {T : Type 0} (s : Store T) (test : T → Bool) where
       let here = one.live in
       cc
 
-module _ {T : Type 0} (old new : MapState T) where
-  -- after a removal by a test no item passes it
-  pub none_left : (test : T → Bool) (taken : Option T) → Removes old test taken new → HasNoHit new.store test
-  none_left test None removes = subst (λ m. HasNoHit m.store test) (sym removes.1) removes.0
-  none_left test (Some item) removes =
-      subst (λ s. HasNoHit s test) (sym removes.left) (HasNoHit-hit_removed old.store test removes.ix removes.hit.only)
+module _ {T C : Type 0} (alike same : T → T → Bool) (may_lack : Bool) (taken : Store T → ℕ → T → C → Type 0)
+    (old new : MapState T) (test : T → Bool)
+  where
+    -- a replacement hands back the one item that passed, at whose index the new one is now
+    pub replaced_one :
+        (item : T) (result : Result T (ReplaceRefusal T C))
+        → Replaces alike same may_lack taken old test item result new
+        → IfOk result (λ was. (ix : ℕ) × IsOnly old.store test ix was × (new.store ≡ rebound old.store ix item))
+    replaced_one item (Ok was) (ix, only, becomes) = (ix, record { live = becomes.live; only = only }, becomes.left)
+    replaced_one item (Err refusal) replaces = tt
+
+    -- and a change, at whose index what the closure made of it is now
+    pub changed_one :
+        (gives : T → T → Type 0) (was : T)
+        → Changes alike same may_lack taken gives old test (Ok (Some was)) new
+        → (ix : ℕ) × (item : T) × IsOnly old.store test ix was × gives was item
+        × (new.store ≡ rebound old.store ix item)
+    changed_one gives was (ix, only, (one, item, live, gave, becomes)) =
+        let here : Some one ≡ Some was = sym live ∙ becomes.live in
+        let same_one : one ≡ was = cc in
+        (ix, item, record { live = becomes.live; only = only }, subst (λ x. gives x item) same_one gave, becomes.left)
+
+-- a removal leaves the items that don't pass where they were
+pub removed_keeps :
+    {T : Type 0} (old new : MapState T) (test : T → Bool) (taken : Option T)
+    → Removes old test taken new
+    → KeepsMisses old.store test new.store
+removed_keeps old new test None removes = λ ix misses. ap (λ m. get m.store ix) removes.1
+removed_keeps old new test (Some item) removes = λ ix misses.
+    ap (λ s. get s ix) removes.left
+    ∙ get-removed_other old.store removes.ix ix
+    (λ same. misses (subst (IsHit old.store test) (sym same) ((removes.hit.only removes.ix).1 refl)))
+
+-- after a call that keeps the items that fail a test such an item is still at its index, and a vacant index is vacant
+module _ {T : Type 0} (old new : Store T) (test : T → Bool) (others : KeepsMisses old test new) where
+  pub other_stays : (ix : ℕ) (item : T) → get old ix ≡ Some item → test item ≡ false → get new ix ≡ Some item
+  other_stays ix item live fails =
+      others ix (λ (one, is, passes). (let same : Some one ≡ Some item = sym is ∙ live in cc)) ∙ live
+
+  pub vacant_stays : (ix : ℕ) → get old ix ≡ None → get new ix ≡ None
+  vacant_stays ix vacant =
+      others ix (λ (one, is, passes). (let both : None ≡ Some one = sym vacant ∙ is in cc)) ∙ vacant
 
 -- each call of the closure at an item answers and leaves what `Leaves was result is` says
 module _
@@ -53,6 +94,17 @@ module _
     called_leaves was is result called =
         let at_shown = subst (λ item. Leaves called.shown.now result item) called.leaves (leaves called.shown called.left result called.met) in
         subst (λ item. Leaves item result is) called.shows at_shown
+
+    -- and the one item that a test finds is modified so, if there is one
+    pub modified_one :
+        (old new : MapState T) (test : T → Bool) (result : Option R)
+        → Modifies g f old test result new
+        → MatchOption result (HasNoHit old.store test × (new ≡ old)) (λ r. (ix : ℕ) × (was is : T)
+        × IsOnly old.store test ix was × Leaves was r is × (new.store ≡ rebound old.store ix is))
+    modified_one old new test None none = none
+    modified_one old new test (Some r) hit =
+        let one = hit.modified in
+        (hit.ix, one.was, one.is, hit.hit, called_leaves one.was one.is r one.called, one.left)
 
 -- a slot less
 fewer_set :

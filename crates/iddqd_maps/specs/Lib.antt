@@ -7,6 +7,7 @@ pub use Rattle.iddqd.specs.Validation
 pub use Rattle.iddqd_keys.specs.Scan
 pub use Rattle.iddqd_keys.specs.KeyKeeping
 pub use Rattle.iddqd_keys.specs.OrderedQuery
+pub use Rattle.iddqd_keys.specs.Removals
 pub use Rattle.iddqd_by_order.specs.OrderedWalk
 pub use Rattle.iddqd_order.specs.Range
 pub use Rattle.iddqd_map.specs.Map
@@ -15,6 +16,9 @@ pub use Rattle.iddqd_map.specs.Calls
 pub use Rattle.iddqd_map.specs.Modify
 pub use Rattle.iddqd_map.specs.Several
 pub use Rattle.iddqd_map.specs.Ranges
+pub use Rattle.iddqd_map.specs.RangeRetain
+pub use Rattle.iddqd_map.specs.Groups
+pub use Rattle.iddqd_map.specs.NoConflict
 pub use Rattle.iddqd_map.specs.Retain
 pub use Rattle.iddqd_map.specs.Equality
 pub use Rattle.iddqd_map.specs.KeyIndex

@@ -1,11 +1,11 @@
 //! Maps whose keys live inside their values: a store of items, and a table for each key.
 //!
 //! Four maps have names of their own. A map with any other mix of keys is a [`map::Map`] by a [`pair::Pair`] of key
-//! indexes, each a [`by_hash::ByHash`], a [`by_order::ByOrder`], a [`by_order_multi::ByOrderMulti`], whose key several
-//! items may have, or a pair again.
+//! indexes, each a [`by_hash::ByHash`], a [`by_order::ByOrder`], a [`by_hash_multi::ByHashMulti`] or a
+//! [`by_order_multi::ByOrderMulti`], whose key several items may have, or a pair again.
 //!
-//! A contract sees a map as items in slots under stable indexes, no two of which share a key. No call gives a stored
-//! item another key without updating the tables, so a look-up always answers as a scan of all items would.
+//! A contract sees a map as items in slots under stable indexes, no two of which share a unique key. No call gives
+//! a stored item another key without updating the tables, so a look-up always answers as a scan of all items would.
 //!
 //! What callers name of the crates below, indexes, iterators, hashers, queries, refusals and what `validate` takes and
 //! answers, is re-exported here.
@@ -18,10 +18,12 @@ pub use iddqd::{
     hash_builder as hash_builder, index_remap as index_remap, item_index as item_index,
     item_set as item_set,
 };
+pub use iddqd_by_hash::hashed_group as hashed_group;
 pub use iddqd_keys::{key_of as key_of, order_query as order_query, query as query};
 pub use iddqd_map::{
-    bi_hash_map as bi_hash_map, by_hash as by_hash, id_hash_map as id_hash_map,
-    key_index as key_index, map as map, pair as pair, pair_conflict as pair_conflict,
+    bi_hash_map as bi_hash_map, by_hash as by_hash, by_hash_multi as by_hash_multi,
+    grouped_at as grouped_at, id_hash_map as id_hash_map, key_index as key_index, map as map,
+    next_at as next_at, no_conflict as no_conflict, pair as pair, pair_conflict as pair_conflict,
     refusal as refusal, tri_hash_map as tri_hash_map,
 };
 pub use iddqd_ord_map::{

@@ -21,7 +21,7 @@ use Rattle.iddqd_keys.specs.Scan.{IsLive}
 use Rattle.iddqd_by_order.specs.Ordered.{AreLive, Holds}
 use Rattle.iddqd_ord_map.specs.OrderedIndexing.{Sorts}
 use Rattle.iddqd_keys.proofs.KeyWalkLemmas.{IsInPlace-alike}
-use Rattle.iddqd_map.specs.Several.{removed_all}
+use Rattle.iddqd_keys.specs.Removals.{removed_all}
 use Rattle.iddqd_map.specs.Retain.{kept_of, refused_of}
 use Rattle.iddqd_map.proofs.RetainLemmas.{Contains-live}
 use Rattle.iddqd_ord_map.specs.KeyOrder.{IsKeyWalk}

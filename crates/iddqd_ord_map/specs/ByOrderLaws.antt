@@ -74,7 +74,9 @@ module _ {T K : Type 0} (key_of : T → K) (compare : K → K → Ordering) wher
         → Sorts key_of compare (rebound s ix item) order
     Sorts-kept s order o ix item was live hit = record {
       held = Holds-rebound s order o.held ix item was live;
-      exact = (Keeps-rebound key_of compare total s order ix item was live (unchanged key_of compare total s ix item hit)).exact o.exact;
+      exact =
+          (Keeps-rebound key_of compare total s order ix item was live
+          (unchanged key_of compare total s ix item hit)).exact o.exact;
     }
 
     -- an item that was modified, and has its key still

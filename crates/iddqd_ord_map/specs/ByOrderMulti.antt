@@ -1,5 +1,5 @@
 -- An index by the order of a key that several items may have: where it puts an index, and what it finds.
-use Rattle.std.specs.Prelude.{◌≡◌, ◌≤◌, ℕ, Bool, false, not, List, Option, Some, None, length}
+use Rattle.std.specs.Prelude.{◌≡◌, ◌≤◌, ℕ, Bool, not, List, Option, Some, None, length}
 use Rattle.std.specs.Ordering.{eq_by_cmp}
 use Rattle.std.specs.declared.cmp.Ordering.{Ordering}
 use Rattle.iddqd.specs.Store.{Store, next_index}
@@ -13,10 +13,6 @@ use Rattle.iddqd_by_order.specs.OrderedWalk.{SortsWithin}
 use Rattle.iddqd_ord_map.specs.OrderedIndexing.{has_key}
 use Rattle.iddqd_ord_map.specs.declared.ordered_move.Move.{Move}
 use Rattle.iddqd_ord_map.specs.declared.ordered_move.Move.TheVariants.{Stays, Moves}
-
--- no two items are alike: none is refused for its key
-abbrev pub never_alike : {T : Type 0} → T → T → Bool
-never_alike x y = false
 
 module _ {T : Type 0} where
   -- the least of the live indexes whose items pass, or the greatest: none where none passes

@@ -3,7 +3,7 @@ use Rattle.std.specs.Prelude.{◌≡◌, ℕ, Bool, List, map}
 use Rattle.std.specs.List.{FoldsTo}
 use Rattle.iddqd.specs.Store.{Store}
 use Rattle.iddqd_map.specs.Map.{MapState}
-use Rattle.iddqd_map.specs.Several.{removed_all}
+use Rattle.iddqd_keys.specs.Removals.{removed_all}
 use Rattle.iddqd_map.specs.Retain.{kept_of, refused_of}
 
 -- `is_walk s pairs` says that these are the live indexes of the store with their items, in their order, and

@@ -71,8 +71,11 @@ module _ {T K : Type 0} (key_of : T → K) (compare : K → K → Ordering) wher
         → get s ix ≡ Some was
         → key_of item ≡ key_of was
         → IsHit s (has_key key_of compare (key_of item)) ix
-    has_its_key s ix item was live same =
-        (was, live, subst (λ k. eq_by_cmp compare k (key_of was) ≡ true) (sym same) ((eq_by_cmp_equiv total).refl (key_of was)))
+    has_its_key s ix item was live same = (
+      was,
+      live,
+      subst (λ k. eq_by_cmp compare k (key_of was) ≡ true) (sym same) ((eq_by_cmp_equiv total).refl (key_of was)),
+    )
 
     pub IsSortedScan-modified :
         (s : Store T) (order : List ℕ)

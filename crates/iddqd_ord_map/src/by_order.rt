@@ -25,11 +25,13 @@ use iddqd::internal::{ValidateCompact, ValidateRefusal, ValidationError};
 use iddqd::item_index::ItemIndex;
 use iddqd::item_set::ItemSet;
 use iddqd_by_order::ordered;
+use iddqd_by_order::ordered_next::next_between;
 use iddqd_keys::key_of::{ByKey, KeyOf, key_at};
 use iddqd_keys::order_query::OrdQuery;
 use iddqd_map::key_index::{
     Checks, FindsSame, Here, Inserts, KeyIndex, Moves, OrderedAt, Removes, Sizes, TakesQuery,
 };
+use iddqd_map::next_at::NextAt;
 use iddqd_order::btree_table::{Asking, Blocks, Gap, Iter, MapBTreeTable, Range};
 use std::alloc::{AllocError, Global};
 use std::cmp::Ordering;
@@ -458,5 +460,21 @@ where
         upper: Bound<Q>,
     ) -> Option<ItemIndex> {
         first_between::<T, E, Q>(&self.table, items, lower, upper)
+    }
+}
+
+impl<T, S, E> NextAt<Here, T, S> for ByOrder<E>
+where
+    E: KeyOf<T>,
+    E::Key: Ord,
+{
+    fn next_between<Q: OrdQuery<E::Key>>(
+        &self,
+        items: &ItemSet<T>,
+        state: &S,
+        after: ItemIndex,
+        upper: Bound<Q>,
+    ) -> Option<ItemIndex> {
+        next_between::<T, E, Q>(&self.table, items, after, upper)
     }
 }

@@ -28,9 +28,12 @@ use iddqd::index_remap::IndexRemap;
 use iddqd::internal::{ValidateCompact, ValidateRefusal, ValidationError};
 use iddqd::item_index::ItemIndex;
 use iddqd::item_set::ItemSet;
+use iddqd_by_order::ordered_next::next_between;
 use iddqd_keys::key_of::{KeyOf, key_at};
 use iddqd_keys::order_query::OrdQuery;
 use iddqd_map::key_index::{Checks, Here, Inserts, KeyIndex, Moves, OrderedAt, Removes, Sizes};
+use iddqd_map::next_at::NextAt;
+pub use iddqd_map::no_conflict::NoConflict;
 use iddqd_order::btree_table::{Asking, Blocks, Gap, Iter, MapBTreeTable, Range};
 use std::alloc::{AllocError, Global};
 use std::cmp::Ordering;
@@ -169,10 +172,6 @@ impl<E> ByOrderMulti<E> {
     }
 }
 
-/// The conflict of an item by a key that several items may have: there is none.
-#[derive(Clone, Copy)]
-pub struct NoConflict;
-
 // The place of the next index under an item's key.
 fn place_of<T, E>(table: &MapBTreeTable, items: &ItemSet<T>, ix: ItemIndex, item: &T) -> Gap
 where
@@ -203,8 +202,7 @@ where
     ghost use Rattle.std.specs.Ordering.{eq_by_cmp};
     ghost use Rattle.iddqd_order.specs.MapBTreeTable.{HasSameTree};
     ghost use Rattle.iddqd_map.specs.Map.{shares};
-    ghost use Rattle.iddqd_ord_map.specs.ByOrderMulti.{never_alike};
-    ghost use Rattle.iddqd_ord_map.specs.ByOrderMultiLaws.{never_apart, none_named};
+    ghost use Rattle.iddqd_map.specs.NoConflict.{never_alike, never_apart, none_named};
     ghost use Rattle.iddqd_ord_map.specs.OrderedSteps.{reserved_for, most_cells};
     ghost use Rattle.iddqd_ord_map.specs.SortedScanLaws.{IsSortedScan-same_tree, IsSortedScan-modified, IsSortedScan-alike, shares_equivalence};
 
@@ -487,5 +485,21 @@ where
         upper: Bound<Q>,
     ) -> Option<ItemIndex> {
         first_between::<T, E, Q>(&self.table, items, lower, upper)
+    }
+}
+
+impl<T, S, E> NextAt<Here, T, S> for ByOrderMulti<E>
+where
+    E: KeyOf<T>,
+    E::Key: Ord,
+{
+    fn next_between<Q: OrdQuery<E::Key>>(
+        &self,
+        items: &ItemSet<T>,
+        state: &S,
+        after: ItemIndex,
+        upper: Bound<Q>,
+    ) -> Option<ItemIndex> {
+        next_between::<T, E, Q>(&self.table, items, after, upper)
     }
 }

@@ -1,5 +1,5 @@
 -- A gap of a tree and the gaps beside it, one level at a time, and what a walk has left between two gaps.
-use Rattle.iddqd_order.proofs.Names.{◌≡◌, ◌≢◌, ◌∙◌, ℕ, zero, suc, ◌+◌, ◌-◌, ◌<◌, ◌≤◌, List, [], ◌∷◌, ◌++◌, Bool, true, false, not, Option, Some, None, IfSome, length, take, drop, get_or, length-set, set-get_or, slice_index, slice_set, refl, sym, ap, subst, arith, sub-one, append-nil, drop_all, length-append, length-drop, length-map, length-take-le, slice_get-get_or, cases_lt, inl, inr, Compares, Ordering, Less, Equal, Greater, Node, row, children, child, before, flat, IsFormed, Goes, place, in_order, IsTree, place_in, AreBeside, AtEdge, Over, IsAt, IsBehind, IsGap, IsLow, Steps, between, edge_of, leaf, low, to_gap}
+use Rattle.iddqd_order.proofs.Names.{◌≡◌, ◌≢◌, ◌∙◌, ℕ, zero, suc, ◌+◌, ◌-◌, ◌<◌, ◌≤◌, List, [], ◌∷◌, ◌++◌, End, Front, Back, opposite, Option, Some, None, IfSome, length, take, drop, get_or, length-set, set-get_or, slice_index, slice_set, refl, sym, ap, subst, arith, sub-one, append-nil, drop_all, length-append, length-drop, length-map, length-take-le, slice_get-get_or, cases_lt, inl, inr, Compares, Ordering, Less, Equal, Greater, Node, row, children, child, before, flat, IsFormed, Goes, place, in_order, IsTree, place_in, AreBeside, AtEdge, Over, IsAt, IsBehind, IsGap, IsLow, Steps, between, edge_of, leaf, low, to_gap, CAPACITY, LEVELS, InGap}
 use Rattle.std.proofs.Common.{get_or-drop}
 use Rattle.std.proofs.Math.Seq.{drop-cons, take-suc}
 use Rattle.std.proofs.lemmas.Option.{slice_get_past}
@@ -78,16 +78,16 @@ pub low-above : (h i : ℕ) (n : Node) (p : List ℕ) (k : Option (Bor Node)) �
 low-above h i n p None ge e is = tt
 low-above h i n p (Some k) ge e is = (omega arith, is.1 ∙ sym (low-at h i n p ge e))
 
-pub edge-within : (last : Bool) (count i : ℕ) → i ≡ edge_of last count → i ≤ count
-edge-within true count i e = omega arith
-edge-within false count i e = omega arith
+pub edge-within : (end : End) (count i : ℕ) → i ≡ edge_of end count → i ≤ count
+edge-within Back count i e = omega arith
+edge-within Front count i e = omega arith
 
 pub beside-within :
-    (ahead : Bool) (count i : ℕ) (r : ℕ × ℕ)
-    → AreBeside ahead count i (Some r)
+    (towards : End) (count i : ℕ) (r : ℕ × ℕ)
+    → AreBeside towards count i (Some r)
     → (r.0 < count) × (r.1 ≤ count)
-beside-within true count i r b = let at = b.0 in let to = b.2 in (at, omega arith)
-beside-within false count i r b = let at = b.0 in let to = b.2 in (at, omega arith)
+beside-within Back count i r b = let at = b.0 in let to = b.2 in (at, omega arith)
+beside-within Front count i r b = let at = b.0 in let to = b.2 in (at, omega arith)
 
 -- the index at a place of the i-th list
 behind-below :
@@ -103,32 +103,32 @@ behind-below h i j ix n ne f here b =
 
 -- a step below the i-th child is one in the whole
 steps-below :
-    (ahead : Bool) (h i ix : ℕ) (n : Node) (p q : List ℕ)
+    (towards : End) (h i ix : ℕ) (n : Node) (p q : List ℕ)
     → h ≢ 0
     → IsFormed h n
     → i < length (children n)
     → slice_index p h ≡ i
     → slice_index q h ≡ i
-    → Steps ahead (flat (h - 1) (child n i)) (place (h - 1) (child n i) p) (Some ix) (place (h - 1) (child n i) q)
-    → Steps ahead (flat h n) (place h n p) (Some ix) (place h n q)
-steps-below true h i ix n p q ne f here ep eq s =
+    → Steps towards (flat (h - 1) (child n i)) (place (h - 1) (child n i) p) (Some ix) (place (h - 1) (child n i) q)
+    → Steps towards (flat h n) (place h n p) (Some ix) (place h n q)
+steps-below Back h i ix n p q ne f here ep eq s =
     let at = place-at h i n p ne ep in let to = place-at h i n q ne eq in let one = s.1 in
     (rw at (behind-below h i _ ix n ne f here s.0), omega arith)
-steps-below false h i ix n p q ne f here ep eq s =
+steps-below Front h i ix n p q ne f here ep eq s =
     let at = place-at h i n p ne ep in let to = place-at h i n q ne eq in let one = s.1 in
     (rw to (behind-below h i _ ix n ne f here s.0), omega arith)
 
 -- the last gap of a node is that of its last child, and the first one that of its first
 pub edge-inner :
-    (last : Bool) (h i : ℕ) (n : Node) (p : List ℕ)
+    (end : End) (h i : ℕ) (n : Node) (p : List ℕ)
     → h ≢ 0
     → IsFormed h n
     → i < length (children n)
     → slice_index p h ≡ i
-    → i ≡ edge_of last (length (row n))
-    → place (h - 1) (child n i) p ≡ edge_of last (length (flat (h - 1) (child n i)))
-    → place h n p ≡ edge_of last (length (flat h n))
-edge-inner true h i n p ne f here ep ei on =
+    → i ≡ edge_of end (length (row n))
+    → place (h - 1) (child n i) p ≡ edge_of end (length (flat (h - 1) (child n i)))
+    → place h n p ≡ edge_of end (length (flat h n))
+edge-inner Back h i n p ne f here ep ei on =
     let xs : List ℕ = row n in let ks : List (List ℕ) = lists (h - 1) (children n) in
     let one = lists-one_more h n ne f in
     let whole : flat h n ≡ before i xs ks ++ (get_or ks i [] ++ []) = flat-inner h n ne ∙ apart i xs ks [] (omega arith) one ∙ ap (λ z. before i xs ks ++ (get_or ks i [] ++ z)) (after-last i xs ks (omega arith) one) in
@@ -136,45 +136,45 @@ edge-inner true h i n p ne f here ep ei on =
     ap length whole ∙ length-append (before i xs ks) (get_or ks i [] ++ []) ∙ ap (λ z. length (before i xs ks) + length z) (append-nil (get_or ks i []) ∙ lists-at (h - 1) n i here) in
     let at = place-at h i n p ne ep in
     omega arith
-edge-inner false h i n p ne f here ep ei on =
+edge-inner Front h i n p ne f here ep ei on =
     let none : length (before i (row n) (lists (h - 1) (children n))) ≡ 0 = rw ei refl in
     let at = place-at h i n p ne ep in
     omega arith
 
 edge-leaf :
-    (last : Bool) (h i : ℕ) (n : Node) (p : List ℕ)
+    (end : End) (h i : ℕ) (n : Node) (p : List ℕ)
     → h ≡ 0
     → slice_index p h ≡ i
-    → i ≡ edge_of last (length (row n))
-    → place h n p ≡ edge_of last (length (flat h n))
-edge-leaf last h i n p e ep ei = place-leaf h n p e ∙ ap (slice_index p) (sym e) ∙ ep ∙ ei ∙ ap (λ z. edge_of last (length z)) (sym (flat-leaf h n e))
+    → i ≡ edge_of end (length (row n))
+    → place h n p ≡ edge_of end (length (flat h n))
+edge-leaf end h i n p e ep ei = place-leaf h n p e ∙ ap (slice_index p) (sym e) ∙ ep ∙ ei ∙ ap (λ z. edge_of end (length z)) (sym (flat-leaf h n e))
 
 pub at_edge-leaf :
-    (last : Bool) (h i : ℕ) (n : Node) (xs p : List ℕ)
+    (end : End) (h i : ℕ) (n : Node) (xs p : List ℕ)
     → h ≡ 0
     → slice_index p h ≡ i
-    → i ≡ edge_of last (length (row n))
+    → i ≡ edge_of end (length (row n))
     → xs ≡ row n
-    → AtEdge last h n xs p
-at_edge-leaf last h i n xs p e ep ei ex =
-    let within = edge-within last (length (row n)) i ei in
+    → AtEdge end h n xs p
+at_edge-leaf end h i n xs p e ep ei ex =
+    let within = edge-within end (length (row n)) i ei in
     let here = ap (slice_index p) (sym e) ∙ ep in
-    record { goes = rw e (reaches-here true 0 n p (omega arith)); place_is = edge-leaf last h i n p e ep ei; leaf_is = ex ∙ sym (leaf-zero h n p e) }
+    record { goes = rw e (reaches-here InGap 0 n p (omega arith)); place_is = edge-leaf end h i n p e ep ei; leaf_is = ex ∙ sym (leaf-zero h n p e) }
 
 pub at_edge-inner :
-    (last : Bool) (h i : ℕ) (n k : Node) (xs p : List ℕ)
+    (end : End) (h i : ℕ) (n k : Node) (xs p : List ℕ)
     → h ≢ 0
     → IsFormed h n
     → i < length (children n)
     → k ≡ child n i
     → slice_index p h ≡ i
-    → i ≡ edge_of last (length (row n))
-    → AtEdge last (h - 1) k xs p
-    → AtEdge last h n xs p
-at_edge-inner last h i n k xs p ne f here is ep ei on =
+    → i ≡ edge_of end (length (row n))
+    → AtEdge end (h - 1) k xs p
+    → AtEdge end h n xs p
+at_edge-inner end h i n k xs p ne f here is ep ei on =
     record {
       goes = goes-at h i n p ne ep here (rw is at on.goes);
-      place_is = edge-inner last h i n p ne f here ep ei (rw is at on.place_is);
+      place_is = edge-inner end h i n p ne f here ep ei (rw is at on.place_is);
       leaf_is = rw is at on.leaf_is ∙ sym (leaf-at h i n p ne ep);
     }
 
@@ -201,103 +201,103 @@ turn-at h i n p q ne f lt ep eq last first =
 
 -- a step over an index of a node itself
 steps-here :
-    (ahead : Bool) (h i : ℕ) (r : ℕ × ℕ) (n : Node) (p q : List ℕ)
+    (towards : End) (h i : ℕ) (r : ℕ × ℕ) (n : Node) (p q : List ℕ)
     → h ≢ 0
     → IsFormed h n
-    → AreBeside ahead (length (row n)) i (Some r)
+    → AreBeside towards (length (row n)) i (Some r)
     → slice_index p h ≡ i
     → slice_index q h ≡ r.1
-    → place (h - 1) (child n i) p ≡ edge_of ahead (length (flat (h - 1) (child n i)))
-    → place (h - 1) (child n r.1) q ≡ edge_of (not ahead) (length (flat (h - 1) (child n r.1)))
-    → Steps ahead (flat h n) (place h n p) (Some (slice_index (row n) r.0)) (place h n q)
-steps-here true h i r n p q ne f b ep eq last first =
+    → place (h - 1) (child n i) p ≡ edge_of towards (length (flat (h - 1) (child n i)))
+    → place (h - 1) (child n r.1) q ≡ edge_of (opposite towards) (length (flat (h - 1) (child n r.1)))
+    → Steps towards (flat h n) (place h n p) (Some (slice_index (row n) r.0)) (place h n q)
+steps-here Back h i r n p q ne f b ep eq last first =
     let from = b.1 in let to = b.2 in turn-at h r.0 n p q ne f b.0 (ep ∙ from) (eq ∙ to) (rw from at last) (rw to at first)
-steps-here false h i r n p q ne f b ep eq last first =
+steps-here Front h i r n p q ne f b ep eq last first =
     let from = b.1 in let to = b.2 in turn-at h r.0 n q p ne f b.0 (eq ∙ to) (ep ∙ from) (rw to at first) (rw from at last)
 
 steps-leaf :
-    (ahead : Bool) (h i : ℕ) (r : ℕ × ℕ) (n : Node) (p q : List ℕ)
+    (towards : End) (h i : ℕ) (r : ℕ × ℕ) (n : Node) (p q : List ℕ)
     → h ≡ 0
-    → AreBeside ahead (length (row n)) i (Some r)
+    → AreBeside towards (length (row n)) i (Some r)
     → slice_index p h ≡ i
     → slice_index q h ≡ r.1
-    → Steps ahead (flat h n) (place h n p) (Some (slice_index (row n) r.0)) (place h n q)
-steps-leaf true h i r n p q e b ep eq =
+    → Steps towards (flat h n) (place h n p) (Some (slice_index (row n) r.0)) (place h n q)
+steps-leaf Back h i r n p q e b ep eq =
     let is : place h n p ≡ r.0 = place-leaf h n p e ∙ ap (slice_index p) (sym e) ∙ ep ∙ b.1 in
     ((rw (is, flat-leaf h n e) b.0, rw (is, flat-leaf h n e)), place-leaf h n q e ∙ ap (slice_index q) (sym e) ∙ eq ∙ b.2 ∙ ap (λ z. z + 1) (sym is))
-steps-leaf false h i r n p q e b ep eq =
+steps-leaf Front h i r n p q e b ep eq =
     let is : place h n q ≡ r.0 = place-leaf h n q e ∙ ap (slice_index q) (sym e) ∙ eq ∙ b.2 in
     ((rw (is, flat-leaf h n e) b.0, rw (is, flat-leaf h n e)), place-leaf h n p e ∙ ap (slice_index p) (sym e) ∙ ep ∙ b.1 ∙ ap (λ z. z + 1) (sym is))
 
 pub over-below :
-    (ahead : Bool) (h i ix : ℕ) (n k : Node) (p xs q : List ℕ)
+    (towards : End) (h i ix : ℕ) (n k : Node) (p xs q : List ℕ)
     → h ≢ 0
     → IsFormed h n
     → Below h i n k p
     → i ≡ slice_index p h
     → slice_index q h ≡ slice_index p h
-    → Over ahead (h - 1) k p ix xs q
-    → Over ahead h n p ix xs q
-over-below ahead h i ix n k p xs q ne f b ei eq o =
+    → Over towards (h - 1) k p ix xs q
+    → Over towards h n p ix xs q
+over-below towards h i ix n k p xs q ne f b ei eq o =
     let to = eq ∙ sym ei in
     record {
       goes = goes-at h i n q ne to b.here (rw b.is at o.goes);
-      steps = steps-below ahead h i ix n p q ne f b.here (sym ei) to (rw b.is at o.steps);
+      steps = steps-below towards h i ix n p q ne f b.here (sym ei) to (rw b.is at o.steps);
       leaf_is = rw b.is at o.leaf_is ∙ sym (leaf-at h i n q ne to);
     }
 
 pub over-leaf :
-    (ahead : Bool) (h i : ℕ) (r : ℕ × ℕ) (n : Node) (p xs q : List ℕ)
+    (towards : End) (h i : ℕ) (r : ℕ × ℕ) (n : Node) (p xs q : List ℕ)
     → h ≡ 0
-    → AreBeside ahead (length (row n)) i (Some r)
+    → AreBeside towards (length (row n)) i (Some r)
     → i ≡ slice_index p h
     → slice_index q h ≡ r.1
     → xs ≡ row n
-    → Over ahead h n p (slice_index (row n) r.0) xs q
-over-leaf ahead h i r n p xs q e b ei eq ex =
-    let inside = beside-within ahead (length (row n)) i r b in
+    → Over towards h n p (slice_index (row n) r.0) xs q
+over-leaf towards h i r n p xs q e b ei eq ex =
+    let inside = beside-within towards (length (row n)) i r b in
     let here = ap (slice_index q) (sym e) ∙ eq in
-    record { goes = rw e (reaches-here true 0 n q (omega arith)); steps = steps-leaf ahead h i r n p q e b (sym ei) eq; leaf_is = ex ∙ sym (leaf-zero h n q e) }
+    record { goes = rw e (reaches-here InGap 0 n q (omega arith)); steps = steps-leaf towards h i r n p q e b (sym ei) eq; leaf_is = ex ∙ sym (leaf-zero h n q e) }
 
 pub over-here :
-    (ahead : Bool) (h i : ℕ) (r : ℕ × ℕ) (n k j : Node) (p xs q : List ℕ)
+    (towards : End) (h i : ℕ) (r : ℕ × ℕ) (n k j : Node) (p xs q : List ℕ)
     → h ≢ 0
     → IsFormed h n
     → Below h i n k p
     → i ≡ slice_index p h
-    → AreBeside ahead (length (row n)) i (Some r)
-    → place (h - 1) k p ≡ edge_of ahead (length (flat (h - 1) k))
+    → AreBeside towards (length (row n)) i (Some r)
+    → place (h - 1) k p ≡ edge_of towards (length (flat (h - 1) k))
     → r.1 < length (children n)
     → j ≡ child n r.1
     → slice_index q h ≡ r.1
-    → AtEdge (not ahead) (h - 1) j xs q
-    → Over ahead h n p (slice_index (row n) r.0) xs q
-over-here ahead h i r n k j p xs q ne f b ei beside last here is eq first =
+    → AtEdge (opposite towards) (h - 1) j xs q
+    → Over towards h n p (slice_index (row n) r.0) xs q
+over-here towards h i r n k j p xs q ne f b ei beside last here is eq first =
     record {
       goes = goes-at h r.1 n q ne eq here (rw is at first.goes);
-      steps = steps-here ahead h i r n p q ne f beside (sym ei) eq (rw b.is at last) (rw is at first.place_is);
+      steps = steps-here towards h i r n p q ne f beside (sym ei) eq (rw b.is at last) (rw is at first.place_is);
       leaf_is = rw is at first.leaf_is ∙ sym (leaf-at h r.1 n q ne eq);
     }
 
--- no index is on that side
+-- there is no index towards that end
 pub ended-leaf :
-    (ahead : Bool) (h i : ℕ) (n : Node) (p : List ℕ)
+    (towards : End) (h i : ℕ) (n : Node) (p : List ℕ)
     → h ≡ 0
-    → AreBeside ahead (length (row n)) i None
+    → AreBeside towards (length (row n)) i None
     → i ≡ slice_index p h
-    → place h n p ≡ edge_of ahead (length (flat h n))
-ended-leaf ahead h i n p e b ei = edge-leaf ahead h i n p e (sym ei) b
+    → place h n p ≡ edge_of towards (length (flat h n))
+ended-leaf towards h i n p e b ei = edge-leaf towards h i n p e (sym ei) b
 
 pub ended-here :
-    (ahead : Bool) (h i : ℕ) (n k : Node) (p : List ℕ)
+    (towards : End) (h i : ℕ) (n k : Node) (p : List ℕ)
     → h ≢ 0
     → IsFormed h n
     → Below h i n k p
     → i ≡ slice_index p h
-    → AreBeside ahead (length (row n)) i None
-    → place (h - 1) k p ≡ edge_of ahead (length (flat (h - 1) k))
-    → place h n p ≡ edge_of ahead (length (flat h n))
-ended-here ahead h i n k p ne f b ei beside last = edge-inner ahead h i n p ne f b.here (sym ei) beside (rw b.is at last)
+    → AreBeside towards (length (row n)) i None
+    → place (h - 1) k p ≡ edge_of towards (length (flat (h - 1) k))
+    → place h n p ≡ edge_of towards (length (flat h n))
+ended-here towards h i n k p ne f b ei beside last = edge-inner towards h i n p ne f b.here (sym ei) beside (rw b.is at last)
 
 -- another gap of the same leaf
 pub record Moved (h : ℕ) (n : Node) (p q : List ℕ) : Type 0 where
@@ -314,7 +314,7 @@ pub moved :
 moved zero n p q g le same =
     let from = place-leaf 0 n p refl in let to = place-leaf 0 n q refl in
     record {
-      goes = reaches-here true 0 n q (rw (leaf-zero 0 n p refl) at le);
+      goes = reaches-here InGap 0 n q (rw (leaf-zero 0 n p refl) at le);
       same_leaf = leaf-zero 0 n q refl ∙ sym (leaf-zero 0 n p refl);
       place_is = omega arith;
     }
@@ -335,7 +335,7 @@ moved (suc h) n p q g le same =
     }
 
 -- a leaf, of which at most eleven indexes are at their places in the whole list
-pub leaf-few : (h : ℕ) (n : Node) (p : List ℕ) → IsFormed h n → Goes h n p → length (leaf h n p) ≤ 11
+pub leaf-few : (h : ℕ) (n : Node) (p : List ℕ) → IsFormed h n → Goes h n p → length (leaf h n p) ≤ CAPACITY
 leaf-few zero n p f g = rw (leaf-zero 0 n p refl) (formed-within 0 n f)
 leaf-few (suc h) n p f g =
     let at = goes-inner (suc h) n p (λ e. absurd (omega arith)) g in
@@ -367,7 +367,7 @@ leaf-read (suc h) n p f g lt =
 pub IsAt-whole :
     (t : Option Node) (h : ℕ) (n : Node) (p row : List ℕ) (at : ℕ)
     → t ≡ Some n
-    → length p ≡ 12
+    → length p ≡ LEVELS
     → Goes h n p
     → row ≡ leaf h n p
     → at ≡ slice_index p 0
@@ -417,7 +417,7 @@ pub steps-ahead :
     → IsAt t h p row at
     → at < length row
     → ix ≡ slice_index row at
-    → IsAt t h p row (at + 1) × Steps true (in_order t h) (place_in t h (to_gap p at)) (Some ix)
+    → IsAt t h p row (at + 1) × Steps Back (in_order t h) (place_in t h (to_gap p at)) (Some ix)
     (place_in t h (to_gap p (at + 1)))
 steps-ahead t h ix p row at tree a lt e =
     let m = IsAt-moved t h (at + 1) p row at tree a (omega arith) in
@@ -430,7 +430,7 @@ pub steps-back :
     → IsAt t h p row at
     → 0 < at
     → ix ≡ slice_index row (at - 1)
-    → IsAt t h p row (at - 1) × Steps false (in_order t h) (place_in t h (to_gap p at)) (Some ix)
+    → IsAt t h p row (at - 1) × Steps Front (in_order t h) (place_in t h (to_gap p at)) (Some ix)
     (place_in t h (to_gap p (at - 1)))
 steps-back t h ix p row at tree a some e =
     let within = a.within in
@@ -443,7 +443,7 @@ pub IsGap-few :
     → t ≡ Some n
     → IsTree t h
     → IsGap t h p at
-    → at ≤ 11
+    → at ≤ CAPACITY
 IsGap-few t h n p at e tree g =
     let goes : Goes h n (to_gap p at) = rw e at g.goes in
     let formed : IsTree (Some n) h = subst (λ t. IsTree t h) e tree in
@@ -451,7 +451,11 @@ IsGap-few t h n p at e tree g =
     let within = goes-within h n (to_gap p at) goes in let few = leaf-few h n (to_gap p at) formed.0 goes in
     omega arith
 
-pub IsAt-few : (t : Option Node) (h : ℕ) (p row : List ℕ) (at : ℕ) → IsTree t h → IsAt t h p row at → length row ≤ 11
+pub IsAt-few :
+    (t : Option Node) (h : ℕ) (p row : List ℕ) (at : ℕ)
+    → IsTree t h
+    → IsAt t h p row at
+    → length row ≤ CAPACITY
 IsAt-few None h p row at t a = let none = ap length a.leaf in omega arith
 IsAt-few (Some n) h p row at t a = let few = leaf-few h n (to_gap p at) t.0 a.gap.goes in let len = ap length a.leaf in omega arith
 
@@ -476,7 +480,7 @@ low-same (suc (suc h)) n p q same = rw (same (suc (suc h)) (omega arith)) (low-s
 
 record LowStep (h : ℕ) (n k : Node) (p q : List ℕ) : Type 0 where
   inside : slice_index p 1 + 1 < length (children k)
-  over : Over true h n p (slice_index (row k) (slice_index p 1)) (row (child k (slice_index p 1 + 1))) q
+  over : Over Back h n p (slice_index (row k) (slice_index p 1)) (row (child k (slice_index p 1 + 1))) q
 
 low-step :
     (h : ℕ) (n : Node) (p q : List ℕ)
@@ -500,9 +504,9 @@ low-step (suc zero) n p q some f g end first next same lt =
     let whole : slice_index p 0 ≡ length (row k) = (let le = goes-leaf 0 k p refl at.on in let is = ap length (leaf-at 1 i n p ne refl ∙ leaf-zero 0 k p refl) in omega arith) in
     record {
       inside = inside;
-      over = over-here true 1 i (i, i + 1) n k (child n (i + 1)) p (row (child n (i + 1))) q ne f
+      over = over-here Back 1 i (i, i + 1) n k (child n (i + 1)) p (row (child n (i + 1))) q ne f
           (record { here = at.here; is = refl; formed = child-formed 1 n i ne f at.here; goes = at.on }) refl (lt, refl, refl)
-          (place-leaf 0 k p refl ∙ whole ∙ ap length (sym (flat-leaf 0 k refl))) inside refl next (at_edge-leaf false 0 0 (child n (i + 1)) _ q refl first refl refl);
+          (place-leaf 0 k p refl ∙ whole ∙ ap length (sym (flat-leaf 0 k refl))) inside refl next (at_edge-leaf Front 0 0 (child n (i + 1)) _ q refl first refl refl);
     }
 low-step (suc (suc h)) n p q some f g end first next same lt =
     let ne : suc (suc h) ≢ 0 = λ e. cc in
@@ -512,14 +516,14 @@ low-step (suc (suc h)) n p q some f g end first next same lt =
     let b : Below (suc (suc h)) i n k p = record { here = at.here; is = refl; formed = child-formed (suc (suc h)) n i ne f at.here; goes = at.on } in
     let is : leaf (suc (suc h)) n p ≡ leaf (suc h) k p = rw sub-one at (leaf-at (suc (suc h)) i n p ne refl) in
     let ih = low-step (suc h) k p q (omega arith) (rw sub-one at b.formed) (rw sub-one at b.goes) (rw is at end) first next same lt in
-    record { inside = ih.inside; over = over-below true (suc (suc h)) i _ n k p _ q ne f b refl (same (suc (suc h)) (omega arith)) (rw sub-one ih.over) }
+    record { inside = ih.inside; over = over-below Back (suc (suc h)) i _ n k p _ q ne f b refl (same (suc (suc h)) (omega arith)) (rw sub-one ih.over) }
 
 pub record NextLow (t : Option Node) (h : ℕ) (k : Node) (p : List ℕ) (at : ℕ) (q : List ℕ) : Type 0 where
   pub inside : slice_index p 1 + 1 < length (children k)
   pub at_is : IsAt t h q (row (child k (slice_index p 1 + 1))) 0
   pub low_is : (b : Bor Node) → b.now ≡ k → IsLow t h q (Some b)
   pub steps :
-      Steps true (in_order t h) (place_in t h (to_gap p at)) (Some (slice_index (row k) (slice_index p 1)))
+      Steps Back (in_order t h) (place_in t h (to_gap p at)) (Some (slice_index (row k) (slice_index p 1)))
       (place_in t h (to_gap q 0))
 
 pub next-low :
@@ -534,7 +538,7 @@ pub next-low :
 next-low None h b p row_is at q tree a end l lt eq = absurd l
 next-low (Some n) h b p row_is at q tree a end l lt eq =
     let whole = a.gap.whole in
-    let len : length q ≡ 12 = ap length eq ∙ length-set p 1 _ ∙ whole in
+    let len : length q ≡ LEVELS = ap length eq ∙ length-set p 1 _ ∙ whole in
     let r : List ℕ = to_gap p at in
     let s : List ℕ = to_gap q 0 in
     let was : slice_index r 0 ≡ at = path-here p r 0 at whole (omega arith) refl in
@@ -560,7 +564,7 @@ pub left-ahead :
     → count ≢ 0
     → i + count ≡ k
     → k ≤ length xs
-    → Steps true xs i r j
+    → Steps Back xs i r j
     → (j + (count - 1) ≡ k) × YieldsFirst (λ (ys : List ℕ). ys) (between count i xs) r (between (count - 1) j xs)
 left-ahead count i j k xs None some e le s = let end = s.0 in absurd (omega arith)
 left-ahead count i j k xs (Some ix) some e le s =
@@ -576,7 +580,7 @@ pub left-back :
     → count ≢ 0
     → i + count ≡ k
     → k ≤ length xs
-    → Steps false xs k r j
+    → Steps Front xs k r j
     → (i + (count - 1) ≡ j) × YieldsLast (λ (ys : List ℕ). ys) (between count i xs) r (between (count - 1) i xs)
 left-back count i j k xs None some e le s = let end = s.0 in absurd (omega arith)
 left-back count i j k xs (Some ix) some e le s =
@@ -591,20 +595,20 @@ left-back count i j k xs (Some ix) some e le s =
 -- and what is left behind a gap
 pub rest-ahead :
     (i j : ℕ) (xs : List ℕ) (r : Option ℕ)
-    → Steps true xs i r j
+    → Steps Back xs i r j
     → YieldsFirst (λ (ys : List ℕ). ys) (drop i xs) r (drop j xs)
 rest-ahead i j xs None s = let none = drop_all i xs (omega arith) in (none, ap (λ n. drop n xs) s.1 ∙ none)
 rest-ahead i j xs (Some ix) s = let up : j ≡ suc i = (let e = s.1 in omega arith) in drop-cons xs i 0 s.0.0 ∙ ap (λ z. z ∷ drop (suc i) xs) (sym s.0.1) ∙ ap (λ n. ix ∷ drop n xs) (sym up)
 
 -- the first index, and the last
-pub first-is : (i j : ℕ) (xs : List ℕ) (r : Option ℕ) → i ≡ 0 → Steps true xs i r j → r ≡ slice_get xs 0
+pub first-is : (i j : ℕ) (xs : List ℕ) (r : Option ℕ) → i ≡ 0 → Steps Back xs i r j → r ≡ slice_get xs 0
 first-is i j xs None e s = sym (slice_get_past xs 0 (omega arith))
 first-is i j xs (Some ix) e s = ap Some s.0.1 ∙ sym (slice_get-get_or xs i 0 s.0.0) ∙ ap (slice_get xs) e
 
 pub last-is :
     (i j : ℕ) (xs : List ℕ) (r : Option ℕ)
     → i ≡ length xs
-    → Steps false xs i r j
+    → Steps Front xs i r j
     → r ≡ slice_get xs (length xs - 1)
 last-is i j xs None e s = sym (slice_get_past xs (length xs - 1) (omega arith))
 last-is i j xs (Some ix) e s = let last : j ≡ length xs - 1 = (let down = s.1 in omega arith) in ap Some s.0.1 ∙ sym (slice_get-get_or xs j 0 s.0.0) ∙ ap (slice_get xs) last
@@ -701,5 +705,5 @@ at-same (Some n) h p row i q other j t a b same =
     sym (path-here p (to_gap p i) 0 i a.gap.whole (omega arith) refl) ∙ gaps-same h n (to_gap p i) (to_gap q j) t.0 a.gap.goes b.gap.goes same ∙ path-here q (to_gap q j) 0 j b.gap.whole (omega arith) refl
 
 -- a place of a leaf
-pub IsAt-low : (t : Option Node) (h : ℕ) (p row : List ℕ) (at : ℕ) → IsTree t h → IsAt t h p row at → at ≤ 11
+pub IsAt-low : (t : Option Node) (h : ℕ) (p row : List ℕ) (at : ℕ) → IsTree t h → IsAt t h p row at → at ≤ CAPACITY
 IsAt-low t h p row at tree a = let few = IsAt-few t h p row at tree a in let within = a.within in omega arith

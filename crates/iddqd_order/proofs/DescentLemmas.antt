@@ -1,5 +1,5 @@
 -- A walk down a tree: what the search of a row says of the search of the tree.
-use Rattle.iddqd_order.proofs.Names.{◌*◌, HoldsIndex, get_or_default, append-nil, cases_lt, get_or_at, get_or_append_left, sub-one, true, ◌≡◌, ◌≢◌, ◌∙◌, ℕ, zero, suc, ◌+◌, ◌-◌, ◌<◌, ◌≤◌, List, [], ◌∷◌, ◌++◌, length, get_or, drop, slice_index, Contains, refl, sym, ap, subst, arith, inl, inr, Option, Some, None, Result, Ok, Err, IfOk, length-append, append_assoc, sub-one, add-one, cases_lt, true≢false, get_or-append-add, length-map, Contains-append_cases, Ordering, Greater, Mut, Asking, Node, row, children, child, weave, before, after, flat, IsFormed, spot, FullBelow, IsFullBelow, Askable, CanSearch, with_ties, IsRising, IsPlace, SearchesWithin, Searches, Finds, end_at, level_of, IfErr-weaker, index_at, Descends, FindsIn}
+use Rattle.iddqd_order.proofs.Names.{◌*◌, HoldsIndex, get_or_default, append-nil, cases_lt, get_or_at, get_or_append_left, sub-one, ◌≡◌, ◌≢◌, ◌∙◌, ℕ, zero, suc, ◌+◌, ◌-◌, ◌<◌, ◌≤◌, List, [], ◌∷◌, ◌++◌, length, get_or, drop, slice_index, Contains, refl, sym, ap, subst, arith, inl, inr, Option, Some, None, Result, Ok, Err, IfOk, length-append, append_assoc, sub-one, add-one, cases_lt, true≢false, get_or-append-add, length-map, Contains-append_cases, Ordering, Greater, Mut, Asking, Node, row, children, child, weave, before, after, flat, IsFormed, spot, FullBelow, IsFullBelow, Askable, CanSearch, with_ties, IsRising, IsPlace, SearchesWithin, Searches, Finds, end_at, level_of, IfErr-weaker, index_at, Descends, FindsIn, CAPACITY, row_asks, InGap}
 use Rattle.iddqd.proofs.StoreLemmas.{contains_cases}
 use Rattle.iddqd_order.proofs.AskLemmas.{asks_none, asks_wider, CanAsk-fewer, CanAsk-later, Steady-fewer}
 pub use Rattle.iddqd_order.proofs.NodeLemmas.{lists-one_more, lists-at, child-within, child-formed, path-here, path-above, holds-here, below-holds}
@@ -160,8 +160,8 @@ full-at k (suc l) n p h below = (h, rw sub-one at (below (λ e. absurd (omega ar
 -- how many full nodes are at the lower end, seen from a node and from the one below it
 pub record Counts (n : Node) (full l full_below : ℕ) : Type 0 where
   pub above : l < full
-  pub not_full : length (row n) < 11 → full_below ≡ l
-  pub is_full : 11 ≤ length (row n) → full_below ≡ full
+  pub not_full : length (row n) < CAPACITY → full_below ≡ l
+  pub is_full : CAPACITY ≤ length (row n) → full_below ≡ full
 
 -- and what it says of the node
 pub counts_here :
@@ -170,7 +170,7 @@ pub counts_here :
     → (l ≤ k → k ≡ full_below)
     → FullBelow k l n × (l < k → k ≡ full)
 counts_here n full l full_below k c on =
-    elim (cases_lt (length (row n)) 11) [
+    elim (cases_lt (length (row n)) CAPACITY) [
       | inl lt ↦ (let is = c.not_full lt in ((λ up. absurd (omega arith), λ e. lt), λ up. absurd (omega arith)))
       | inr ge ↦ (let is = c.is_full ge in let up = c.above in ((λ _. ge, λ e. absurd (omega arith)), λ up. omega arith))
     ]
@@ -232,9 +232,9 @@ module _ {F R : Type 0} (g : Mut F (ℕ × Unit {0}) R) (read : R → Ordering) 
   -- a hit in the row is one in the tree
   Searches-row :
       (limit l : ℕ) (n : Node) (i : ℕ) (a b : Asking F)
-      → 4 ≤ limit
+      → row_asks ≤ limit
       → IsFormed l n
-      → SearchesWithin g read (row n) 4 tie a (Ok i) b
+      → SearchesWithin g read (row n) row_asks tie a (Ok i) b
       → SearchesWithin g read (flat l n) limit tie a (Ok (row_place l n i)) b
   Searches-row limit l n i a b le f s = SearchesWithin-more g read tie (omega arith) (Searches-hit g read tie (row-part l n f) (asks_none g (Askable (flat l n) tie) a) i s)
 
@@ -245,9 +245,9 @@ module _ {F R : Type 0} (g : Mut F (ℕ × Unit {0}) R) (read : R → Ordering) 
   -- the walk ends at an index of the node
   pub Descends-hit :
       (limit full l : ℕ) (n : Node) (p : List ℕ) (a b : Asking F)
-      → 4 ≤ limit
+      → row_asks ≤ limit
       → IsFormed l n
-      → SearchesWithin g read (row n) 4 tie a (Ok (slice_index p l)) b
+      → SearchesWithin g read (row n) row_asks tie a (Ok (slice_index p l)) b
       → Descends g read tie limit full l n a p (Ok l) b
   Descends-hit limit full l n p a b le f s =
       let lt = s.found in
@@ -260,10 +260,10 @@ module _ {F R : Type 0} (g : Mut F (ℕ × Unit {0}) R) (read : R → Ordering) 
   -- or in a leaf
   pub Descends-leaf :
       (limit full full_below l : ℕ) (n : Node) (p : List ℕ) (a b : Asking F)
-      → 4 ≤ limit
+      → row_asks ≤ limit
       → l ≡ 0
       → IsFormed l n
-      → SearchesWithin g read (row n) 4 tie a (Err (slice_index p l)) b
+      → SearchesWithin g read (row n) row_asks tie a (Err (slice_index p l)) b
       → Counts n full l full_below
       → Descends g read tie limit full l n a p (Err full_below) b
   Descends-leaf limit full full_below (suc h) n p a b le e f s c = absurd (omega arith)
@@ -271,17 +271,17 @@ module _ {F R : Type 0} (g : Mut F (ℕ × Unit {0}) R) (read : R → Ordering) 
       let here = counts_here n full 0 full_below full_below c (λ _. refl) in
       record {
         searches = rw (flat-leaf zero n refl, spot-leaf zero zero n p refl) (SearchesWithin-more g read tie le s);
-        reaches = reaches-here true zero n p s.missed;
+        reaches = reaches-here InGap zero n p s.missed;
         lower_end = (full-at full_below zero n p here.0 (λ ne. absurd (ne refl)), here.1);
       }
 
   -- or below the node
   pub Descends-below :
       {m : ℕ} (limit full full_below l : ℕ) (n : Node) (p : List ℕ) (end : Result ℕ ℕ) (a b c : Asking F)
-      → 4 + m ≤ limit
+      → row_asks + m ≤ limit
       → l ≢ 0
       → IsFormed l n
-      → SearchesWithin g read (row n) 4 tie a (Err (slice_index p l)) b
+      → SearchesWithin g read (row n) row_asks tie a (Err (slice_index p l)) b
       → Counts n full l full_below
       → Descends g read tie m full_below (l - 1) (child n (slice_index p l)) b p end c
       → Descends g read tie limit full l n a p end c
@@ -300,12 +300,12 @@ module _ {F R : Type 0} (g : Mut F (ℕ × Unit {0}) R) (read : R → Ordering) 
   pub FindsIn-hit :
       (l : ℕ) (n : Node) (i ix : ℕ) (a b : Asking F)
       → IsFormed l n
-      → SearchesWithin g read (row n) 4 tie a (Ok i) b
+      → SearchesWithin g read (row n) row_asks tie a (Ok i) b
       → ix ≡ slice_index (row n) i
       → FindsIn g read tie l n a (Some ix) b
   FindsIn-hit l n i ix a b f s e = record {
     end = Ok (row_place l n i);
-    searches = Searches-row (4 * (l + 1)) l n i a b (omega arith) f s;
+    searches = Searches-row (row_asks * (l + 1)) l n i a b (omega arith) f s;
     index = ap Some (e ∙ sym ((row-part l n f).at i s.found));
   }
 
@@ -314,7 +314,7 @@ module _ {F R : Type 0} (g : Mut F (ℕ × Unit {0}) R) (read : R → Ordering) 
       (l : ℕ) (n : Node) (i : ℕ) (a b : Asking F)
       → l ≡ 0
       → IsFormed l n
-      → SearchesWithin g read (row n) 4 tie a (Err i) b
+      → SearchesWithin g read (row n) row_asks tie a (Err i) b
       → FindsIn g read tie l n a None b
   FindsIn-leaf l n i a b e f s = record { end = Err i; searches = rw (flat-leaf l n e) (SearchesWithin-more g read tie (omega arith) s); index = refl }
 
@@ -334,7 +334,7 @@ module _ {F R : Type 0} (g : Mut F (ℕ × Unit {0}) R) (read : R → Ordering) 
       (l : ℕ) (n : Node) (i : ℕ) (found : Option ℕ) (a b c : Asking F)
       → l ≢ 0
       → IsFormed l n
-      → SearchesWithin g read (row n) 4 tie a (Err i) b
+      → SearchesWithin g read (row n) row_asks tie a (Err i) b
       → FindsIn g read tie (l - 1) (child n i) b found c
       → FindsIn g read tie l n a found c
   FindsIn-below l n i found a b c ne f s t =

@@ -1,5 +1,5 @@
 -- The number of binary digits.
-use Rattle.iddqd_order.proofs.Names.{◌≡◌, ℕ, zero, suc, ◌+◌, ◌/◌, ◌<◌, ◌≤◌, refl, ap, sym, ◌∙◌, arith, digits, digits_within}
+use Rattle.iddqd_order.proofs.Names.{◌≡◌, ℕ, zero, suc, ◌+◌, ◌/◌, ◌<◌, ◌≤◌, refl, ap, sym, ◌∙◌, arith, digits, digits_within, row_asks}
 
 pub digits_within-zero : (k : ℕ) → digits_within k 0 ≡ 0
 digits_within-zero zero = refl
@@ -32,10 +32,10 @@ digits-mono a b h =
     let l : digits_within b a ≤ digits_within b b = digits_within-mono b a b h in
     omega arith
 
-digits-fifteen : digits 15 ≤ 4
+digits-fifteen : digits 15 ≤ row_asks
 unfolding digits
 digits-fifteen = omega arith
 
 -- four asks tell fifteen places apart
-pub four_digits : (n : ℕ) → n ≤ 15 → digits n ≤ 4
-four_digits n le = let four : digits 15 ≤ 4 = digits-fifteen in omega (arith, digits-mono n 15 le)
+pub four_digits : (n : ℕ) → n ≤ 15 → digits n ≤ row_asks
+four_digits n le = let four : digits 15 ≤ row_asks = digits-fifteen in omega (arith, digits-mono n 15 le)

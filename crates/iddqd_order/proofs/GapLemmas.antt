@@ -1,5 +1,5 @@
 -- For callers: which blocks an insert at a place needs.
-use Rattle.std.proofs.Common.{◌≡◌, ◌+◌, ◌-◌, ◌<◌, ◌≤◌, ℕ, List, length, sym, subst, arith, inl, inr}
+use Rattle.std.proofs.Common.{◌≡◌, ◌<◌, ◌≤◌, ℕ, length, arith, inl, inr}
 use Rattle.std.proofs.lemmas.Bool.{cases_lt}
 use Rattle.iddqd_order.specs.MapBTreeTable.{Order, HasSameTree, order_of, capacity, capacity_of, move_blocks}
 use Rattle.iddqd_order.specs.Gap.{Fits, gap_place, gap_blocks}

@@ -1,4 +1,5 @@
 -- How many inner nodes a tree of so many indexes has at most.
+use Rattle.iddqd_order.proofs.Names.{LEAST}
 use Rattle.std.proofs.Common.{All, ◌≡◌, ℕ, zero, suc, ◌+◌, ◌*◌, ◌≤◌, List, [], ◌∷◌, length, map, sum_by, arith}
 use Rattle.std.proofs.lemmas.List.{length-append}
 use Rattle.std.proofs.lemmas.List.Elements.{All-head, All-tail}
@@ -20,7 +21,11 @@ wide f g (x ∷ xs) (n ∷ ns) e a =
     let rest = wide f g xs ns (omega arith) (All-tail (λ n. 30 * g n + 5 ≤ length (f n)) n ns a) in
     omega (arith, sum_by-cons g n ns, length-append (f n) (x ∷ weave xs (map f ns)))
 
-pub inners-below : (h : ℕ) (n : Node) → IsFormed h n → 5 ≤ length (row n) → 30 * inners h n + 5 ≤ length (flat h n)
+pub inners-below :
+    (h : ℕ) (n : Node)
+    → IsFormed h n
+    → LEAST ≤ length (row n)
+    → 30 * inners h n + LEAST ≤ length (flat h n)
 unfolding inners flat IsFormed
 inners-below zero n f le = omega arith
 inners-below (suc h) n f le =

@@ -1,5 +1,5 @@
 -- What an insert leaves of a node.
-use Rattle.iddqd_order.proofs.Names.{IsChild, IsPut, ◌≡◌, ◌≢◌, ℕ, zero, suc, ◌+◌, ◌-◌, ◌<◌, ◌≤◌, true, List, [], ◌∷◌, ◌++◌, length, set, get_or, slice_index, refl, ap, sym, ◌∙◌, arith, inl, inr, All, cases_lt, insert, length-append, length-set, length-map, length-insert, get_or_default, map-set, map-append, All-set, Node, row, children, child, room, weave, before, flat, IsInner, IsFormed, Goes, place, IsFullBelow, IsCut}
+use Rattle.iddqd_order.proofs.Names.{IsChild, IsPut, ◌≡◌, ◌≢◌, ℕ, zero, suc, ◌+◌, ◌-◌, ◌<◌, ◌≤◌, List, [], ◌∷◌, ◌++◌, length, set, get_or, slice_index, refl, ap, sym, ◌∙◌, arith, inl, inr, All, cases_lt, insert, length-append, length-set, length-map, length-insert, get_or_default, map-set, map-append, All-set, Node, row, children, child, room, weave, before, flat, IsInner, IsFormed, Goes, place, IsFullBelow, IsCut, CAPACITY, LEAST, CHILDREN, InGap}
 use Rattle.std.proofs.lemmas.List.Sums.{sum_by-set, sum_by-insert, sum_by-append}
 use Rattle.iddqd_order.specs.Node.{inners}
 use Rattle.iddqd_order.specs.Removal.{inners_of}
@@ -31,7 +31,7 @@ pub record Taken (h : ℕ) (old : Node) (p : List ℕ) (i : ℕ) (g : Node) : Ty
   pub here : i < length (children old)
   pub node : IsInner old
   pub below : AreChildren (h - 1) (children old)
-  pub least : 5 ≤ length (row g)
+  pub least : LEAST ≤ length (row g)
   pub formed : IsFormed (h - 1) g
   pub goes : Goes (h - 1) g p
   pub list : get_or (lists (h - 1) (children old)) i [] ≡ flat (h - 1) g
@@ -42,7 +42,7 @@ pub taken : (h : ℕ) (old : Node) (p : List ℕ) (i : ℕ) (g : Node) → IsTak
 taken h old p i g t =
     let fs = formed-inner h old t.inner t.formed in
     let ne = t.inner in
-    let b : GoesDown true h 0 i old p = goes-below h 0 i old p (omega arith) t.at t.formed t.goes in
+    let b : GoesDown InGap h 0 i old p = goes-below h 0 i old p (omega arith) t.at t.formed t.goes in
     let same : g ≡ child old i = t.is ∙ get_or_default (children old) i g old b.here in
     let list = lists-at (h - 1) old i b.here in
     rw same (record {
@@ -61,8 +61,8 @@ taken h old p i g t =
 -- an index was put in, and the node is cut in two about the index m
 pub record Cut (h : ℕ) (old new : Node) (m : ℕ) (up : Node) (p : List ℕ) (x : ℕ) : Type 0 where
   pub items : flat h new ++ m ∷ flat h up ≡ insert (flat h old) (place h old p) x
-  pub low : (5 ≤ length (row new)) × IsFormed h new
-  pub high : (5 ≤ length (row up)) × IsFormed h up
+  pub low : (LEAST ≤ length (row new)) × IsFormed h new
+  pub high : (LEAST ≤ length (row up)) × IsFormed h up
   pub inner : inners h new + inners h up ≡ inners h old + h
 
 -- the inner nodes below, where k stands in the place of the child that the path takes
@@ -82,7 +82,7 @@ pub put_below :
     → IsPut (h - 1) g k p x more
     → row new ≡ row old
     → children new ≡ set (children old) i k
-    → 12 ≤ room new
+    → CHILDREN ≤ room new
     → IsPut h old new p x more
 put_below h old new p x i g k t d er ek rm =
     let b = taken h old p i g t in
@@ -92,7 +92,7 @@ put_below h old new p x i g k t d er ek rm =
     let few = b.node.within in
     let counted = lists-one_more h old t.inner t.formed in
     let here = b.here in
-    let k_least : 5 ≤ length (row k) = let a = b.least in let l = d.longer in omega arith in
+    let k_least : LEAST ≤ length (row k) = let a = b.least in let l = d.longer in omega arith in
     let e1 : lists (h - 1) (children new) ≡ set ls i (f k) = ap (λ z. lists (h - 1) z) ek ∙ map-set f (children old) i k in
     let e2 = edited i (row old) ls [] (f k) (place (h - 1) g p) x (omega arith) counted b.within (d.items ∙ ap (λ z. insert z (place (h - 1) g p) x) (sym b.list)) in
     let ln : length (children new) ≡ length (children old) = ap length ek ∙ length-set (children old) i k in
@@ -108,10 +108,10 @@ pub put_here :
     (h : ℕ) (old new : Node) (p : List ℕ) (x : ℕ) (i : ℕ) (g k : Node) (m : ℕ) (u : Node)
     → IsTaken h old p i g
     → Cut (h - 1) g k m u p x
-    → length (row old) < 11
+    → length (row old) < CAPACITY
     → row new ≡ insert (row old) i m
     → children new ≡ insert (set (children old) i k) (i + 1) u
-    → 12 ≤ room new
+    → CHILDREN ≤ room new
     → IsPut h old new p x (h - 1)
 put_here h old new p x i g k m u t d lt er ek rm =
     let b = taken h old p i g t in
@@ -137,10 +137,10 @@ put_here h old new p x i g k m u t d lt er ek rm =
 cut_sizes :
     {xs : List ℕ} {i x : ℕ} {low : List ℕ} {m : ℕ} {high : List ℕ}
     → IsCut xs i x low m high
-    → (5 ≤ length low) × (length low ≤ 6) × (5 ≤ length high) × (length high ≤ 6)
+    → (LEAST ≤ length low) × (length low ≤ LEAST + 1) × (LEAST ≤ length high) × (length high ≤ LEAST + 1)
 cut_sizes {i = i} c =
     let sum = c.high_length in
-    elim (cases_lt 5 i) [
+    elim (cases_lt LEAST i) [
       | inl q ↦ let e = c.low_length.1 q in (omega arith, omega arith, omega arith, omega arith)
       | inr q ↦ let e = c.low_length.0 q in (omega arith, omega arith, omega arith, omega arith)
     ]
@@ -153,8 +153,8 @@ pub cut_here :
     → IsCut (row old) i m (row new) m2 (row up)
     → children new ++ children up ≡ insert (set (children old) i k) (i + 1) u
     → length (children new) ≡ length (row new) + 1
-    → 12 ≤ room new
-    → 12 ≤ room up
+    → CHILDREN ≤ room new
+    → CHILDREN ≤ room up
     → Cut h old new m2 up p x
 cut_here h old new m2 up p x i g k m u t d c ek lk rm ru =
     let b = taken h old p i g t in
@@ -196,7 +196,7 @@ pub put_leaf :
     → IsFormed h old
     → Goes h old p
     → i ≡ slice_index p h
-    → length (row old) < 11
+    → length (row old) < CAPACITY
     → row new ≡ insert (row old) i x
     → children new ≡ children old
     → IsPut h old new p x 0
@@ -245,7 +245,7 @@ full_child k h old p i g t f =
     rw same on
 
 -- a full node, among full ones
-pub full_row : (h : ℕ) (n : Node) (p : List ℕ) → IsFormed h n → IsFullBelow (h + 1) h n p → length (row n) ≡ 11
+pub full_row : (h : ℕ) (n : Node) (p : List ℕ) → IsFormed h n → IsFullBelow (h + 1) h n p → length (row n) ≡ CAPACITY
 full_row h n p f full =
     let most = formed-within h n f in
     let least = (full-here (h + 1) h n p full).0 (omega arith) in

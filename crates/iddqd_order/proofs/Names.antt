@@ -6,12 +6,12 @@ pub use Rattle.iddqd.specs.declared.index_remap.IndexRemap.TheVariants.{Identity
 pub use Rattle.iddqd_order.specs.Asking.{ask_count, closure_of}
 pub use Rattle.iddqd_order.specs.Asks.{After, AsksWithin, At_once, CanAsk, One_more, Steady}
 pub use Rattle.iddqd_order.specs.Copies.{IsCopy}
-pub use Rattle.iddqd_order.specs.Descent.{Descends, FindsIn, index_at, EndsIn, end_at, level_of}
-pub use Rattle.iddqd_order.specs.Digits.{bound, digits_within}
+pub use Rattle.iddqd_order.specs.Descent.{Descends, FindsIn, index_at, EndsIn, stop_of, end_at, level_of}
+pub use Rattle.iddqd_order.specs.Digits.{bound, digits_within, row_asks}
 unfoldable pub use Rattle.iddqd_order.specs.Digits.{digits}
 pub use Rattle.iddqd_order.specs.KeyOrder.{ComparesKeys, IsInKeyOrder, key_then_index}
 pub use Rattle.iddqd_order.specs.MapBTreeTable.{IsIndexList, sentinel, without, Order}
-pub use Rattle.iddqd_order.specs.Node.{FullBelow, IsInner, IsLeaf, after, before, child, children, room, row, weave, Fits, Goes, Holds, HoldsIndex, IsPut, place, Reaches}
+pub use Rattle.iddqd_order.specs.Node.{AtIndex, FullBelow, InGap, Stop, IsInner, IsLeaf, after, before, child, children, room, row, weave, Fits, Goes, Holds, HoldsIndex, IsPut, place, Reaches}
 unfoldable pub use Rattle.iddqd_order.specs.Node.{IsFormed, IsFullBelow, flat, spot, Passes}
 pub use Rattle.iddqd_order.specs.Removal.{IsChild, IsEmptied, IsMended, MayLackOne}
 pub use Rattle.iddqd_order.specs.Row.{IsCut}
@@ -20,6 +20,12 @@ pub use Rattle.iddqd_order.specs.Tree.{GoesIn, HoldsIn, IsTree, in_order, inners
 pub use Rattle.iddqd_order.specs.Ways.{IsWay, SamePlaces, StepsOn}
 pub use Rattle.iddqd_order.specs.declared.btree_table.asking.Asking.{Asking}
 pub use Rattle.iddqd_order.specs.declared.btree_table.node.Node.{Node}
+pub use Rattle.iddqd_order.specs.declared.btree_table.gap.Gap.{Gap}
+pub use Rattle.iddqd_order.specs.declared.btree_table.node.TheConstants.{CHILDREN}
+pub use Rattle.iddqd_order.specs.declared.btree_table.path.Spot.{Spot}
+pub use Rattle.iddqd_order.specs.declared.btree_table.path.TheConstants.{LEVELS}
+pub use Rattle.iddqd_order.specs.declared.btree_table.reserve.TheConstants.{FREE_INDEXES, INDEXES_OF_A_BLOCK, MOST_INDEXES}
+pub use Rattle.iddqd_order.specs.declared.btree_table.row.TheConstants.{CAPACITY, LEAST}
 pub use Rattle.iddqd_order.specs.declared.btree_table.node.Node.TheOpen.{Node-F}
 pub use Rattle.iddqd_order.specs.declared.btree_table.node.Node.TheViews.{out-Node, out-roll-Node, roll-Node, roll-out-Node}
 pub use Rattle.iddqd_order.specs.declared.btree_table.ways.Way.{Way}
@@ -44,7 +50,9 @@ unfoldable pub use Rattle.std.specs.List.{IsDistinct}
 pub use Rattle.std.specs.Ordering.{MatchOrdering, nat_cmp, ordering_reverse, ordering_then}
 pub use Rattle.std.specs.Vec.{with_item}
 pub use Rattle.std.specs.declared.cmp.Ordering.TheVariants.{Equal, Greater, Less}
-pub use Rattle.iddqd_order.specs.Cursor.{AreBeside, AtEdge, Compares, IsAt, IsBehind, IsGap, IsLow, Over, Stands, Steps, between, part, edge_of, gap_of, leaf_in, to_gap}
+pub use Rattle.iddqd_order.specs.declared.btree_table.cursor.End.{End}
+pub use Rattle.iddqd_order.specs.declared.btree_table.cursor.End.TheVariants.{Back, Front}
+pub use Rattle.iddqd_order.specs.Cursor.{AreBeside, AtEdge, Compares, IsAt, IsBehind, IsGap, IsLow, Over, Stands, Steps, between, part, edge_of, gap_of, leaf_in, opposite, to_gap}
 unfoldable pub use Rattle.iddqd_order.specs.Cursor.{leaf, low}
 unfoldable pub use Rattle.iddqd_order.specs.MapBTreeTable.{order_of}
 pub use Rattle.std.proofs.Math.Seq.{drop-append_seam, take-append_seam}

@@ -1,11 +1,11 @@
 -- One level of a tree at a time, and of a path down it.
-use Rattle.iddqd_order.proofs.Names.{Bool, true, false, ◌∙◌, sym, slice_set, get_or-set_same, get_or-set_other, nat_eq, eq-eqb, ne_eqb, cases_eq, inl, inr, Fits, Passes, Reaches, Holds, spot, ◌≡◌, ℕ, zero, suc, ◌+◌, ◌-◌, ◌<◌, ◌≤◌, ◌≢◌, List, [], ◌∷◌, length, get_or, map, slice_index, refl, ap, arith, sub-one, All, vec_capacity, insert, length-map, get_or-map, All-permutation, IsPermutation-insert, All-cons, Node, Node-F, roll-Node, out-roll-Node, row, children, child, room, weave, before, flat, IsInner, IsLeaf, IsFormed, Goes, place, FullBelow, IsFullBelow}
+use Rattle.iddqd_order.proofs.Names.{true, false, ◌∙◌, sym, slice_set, get_or-set_same, get_or-set_other, nat_eq, eq-eqb, ne_eqb, cases_eq, inl, inr, Fits, Passes, Reaches, Holds, spot, ◌≡◌, ℕ, zero, suc, ◌+◌, ◌-◌, ◌<◌, ◌≤◌, ◌≢◌, List, [], ◌∷◌, length, get_or, map, slice_index, refl, ap, arith, sub-one, All, vec_capacity, insert, length-map, get_or-map, All-permutation, IsPermutation-insert, All-cons, Node, Node-F, roll-Node, out-roll-Node, row, children, child, room, weave, before, flat, IsInner, IsLeaf, IsFormed, Goes, place, FullBelow, IsFullBelow, CAPACITY, LEAST, CHILDREN, LEVELS, Stop, AtIndex, InGap}
 use Rattle.iddqd_order.proofs.WeaveLemmas.{within, index_place}
 use Rattle.iddqd_order.proofs.WeaveRemovalLemmas.{weave-within, weave-within_at}
 
 -- what the children of a node at level h + 1 are
 abbrev pub AreChildren : ℕ → List Node → Type 0
-AreChildren h ks = All (λ k. (5 ≤ length (row k)) × IsFormed h k) ks
+AreChildren h ks = All (λ k. (LEAST ≤ length (row k)) × IsFormed h k) ks
 
 -- their lists
 abbrev pub lists : ℕ → List Node → List (List ℕ)
@@ -39,7 +39,7 @@ unfolding IsFormed
 inner-formed zero n e i b = absurd (e refl)
 inner-formed (suc h) n e i b = (i, rw sub-one at b)
 
-pub formed-within : (h : ℕ) (n : Node) → IsFormed h n → length (row n) ≤ 11
+pub formed-within : (h : ℕ) (n : Node) → IsFormed h n → length (row n) ≤ CAPACITY
 unfolding IsFormed
 formed-within zero n f = f.within
 formed-within (suc h) n f = f.0.within
@@ -111,27 +111,27 @@ children-roll r = ap (λ z. z.children.items) (out-roll-Node r)
 pub room-roll : (r : Node-F Node) → room (roll-Node r) ≡ vec_capacity r.children
 room-roll r = ap (λ z. vec_capacity z.children) (out-roll-Node r)
 
-pub room-from : (r : Node-F Node) → 12 ≤ vec_capacity r.children → 12 ≤ room (roll-Node r)
+pub room-from : (r : Node-F Node) → CHILDREN ≤ vec_capacity r.children → CHILDREN ≤ room (roll-Node r)
 room-from r h = rw room-roll h
 
 -- what a write to a path leaves
-pub path-here : (p q : List ℕ) (l i : ℕ) → length p ≡ 12 → l ≤ 11 → q ≡ slice_set p l i → slice_index q l ≡ i
+pub path-here : (p q : List ℕ) (l i : ℕ) → length p ≡ LEVELS → l < LEVELS → q ≡ slice_set p l i → slice_index q l ≡ i
 path-here p q l i len le e = ap (λ z. slice_index z l) e ∙ get_or-set_same p l i 0 (omega arith)
 
 pub path-above : (p q : List ℕ) (l i m : ℕ) → q ≡ slice_set p l i → l < m → slice_index q m ≡ slice_index p m
 path-above p q l i m e lt = ap (λ z. slice_index z m) e ∙ get_or-set_other p l m i 0 (λ same. absurd (omega arith))
 
 -- a path that goes down to a level, one level at a time
-pub record HoldsBelow (gap : Bool) (l h : ℕ) (n : Node) (p : List ℕ) : Type 0 where
+pub record HoldsBelow (stop : Stop) (l h : ℕ) (n : Node) (p : List ℕ) : Type 0 where
   pub here : slice_index p h < length (children n)
-  pub on : Reaches gap l (h - 1) (child n (slice_index p h)) p
+  pub on : Reaches stop l (h - 1) (child n (slice_index p h)) p
 
-module _ {gap : Bool} where
+module _ {stop : Stop} where
   pub holds-leaf :
       (l h : ℕ) (n : Node) (p : List ℕ)
       → h ≡ 0
-      → Reaches gap l h n p
-      → Fits gap (slice_index p 0) (length (row n))
+      → Reaches stop l h n p
+      → Fits stop (slice_index p 0) (length (row n))
   unfolding Passes
   holds-leaf l h n p e w = (rw e at w.passes).1
 
@@ -139,18 +139,18 @@ module _ {gap : Bool} where
       (l h : ℕ) (n : Node) (p : List ℕ)
       → h ≢ 0
       → h ≡ l
-      → Reaches gap l h n p
-      → Fits gap (slice_index p h) (length (row n))
+      → Reaches stop l h n p
+      → Fits stop (slice_index p h) (length (row n))
   unfolding Passes
   holds-at l zero n p ne e w = absurd (ne refl)
   holds-at l (suc h) n p ne e w = w.passes.1 (sym e)
 
-  pub holds-level : (l h : ℕ) (n : Node) (p : List ℕ) → Reaches gap l h n p → l ≤ h
+  pub holds-level : (l h : ℕ) (n : Node) (p : List ℕ) → Reaches stop l h n p → l ≤ h
   unfolding Passes
   holds-level l zero n p w = w.passes.0
   holds-level l (suc h) n p w = w.passes.0
 
-  pub holds-below : (l h : ℕ) (n : Node) (p : List ℕ) → h ≢ 0 → h ≢ l → Reaches gap l h n p → HoldsBelow gap l h n p
+  pub holds-below : (l h : ℕ) (n : Node) (p : List ℕ) → h ≢ 0 → h ≢ l → Reaches stop l h n p → HoldsBelow stop l h n p
   unfolding Passes
   holds-below l zero n p ne e w = absurd (ne refl)
   holds-below l (suc h) n p ne e w =
@@ -163,8 +163,8 @@ module _ {gap : Bool} where
       (m l : ℕ) (n : Node) (p : List ℕ)
       → l ≢ 0
       → slice_index p l < length (children n)
-      → Reaches gap m (l - 1) (child n (slice_index p l)) p
-      → Reaches gap m l n p
+      → Reaches stop m (l - 1) (child n (slice_index p l)) p
+      → Reaches stop m l n p
   unfolding Passes
   below-holds m zero n p ne lt h = absurd (ne refl)
   below-holds m (suc l) n p ne lt h =
@@ -174,15 +174,15 @@ module _ {gap : Bool} where
 
 -- and one that ends at the node itself
 pub reaches-here :
-    (gap : Bool) (l : ℕ) (n : Node) (p : List ℕ)
-    → Fits gap (slice_index p l) (length (row n))
-    → Reaches gap l l n p
+    (stop : Stop) (l : ℕ) (n : Node) (p : List ℕ)
+    → Fits stop (slice_index p l) (length (row n))
+    → Reaches stop l l n p
 unfolding Passes
-reaches-here gap zero n p fits = record { passes = (omega arith, fits) }
-reaches-here gap (suc h) n p fits = record { passes = (omega arith, λ _. fits, λ le. absurd (omega arith)) }
+reaches-here stop zero n p fits = record { passes = (omega arith, fits) }
+reaches-here stop (suc h) n p fits = record { passes = (omega arith, λ _. fits, λ le. absurd (omega arith)) }
 
 pub holds-here : (l : ℕ) (n : Node) (p : List ℕ) → slice_index p l < length (row n) → Holds l l n p
-holds-here l n p lt = reaches-here false l n p lt
+holds-here l n p lt = reaches-here AtIndex l n p lt
 
 pub spot-leaf : (l h : ℕ) (n : Node) (p : List ℕ) → h ≡ 0 → spot l h n p ≡ slice_index p 0
 unfolding spot
@@ -209,36 +209,36 @@ spot-below l zero n p ne e = absurd (ne refl)
 spot-below l (suc h) n p ne e = let t : nat_eq l (suc h) ≡ false = ne_eqb l (suc h) (λ z. e (sym z)) in rw (t, sub-one)
 
 -- a place of a row, and one of a list between its indexes, is one of the whole list
-Fits-le : (gap : Bool) (i count : ℕ) → Fits gap i count → i ≤ count
-Fits-le false i count lt = omega arith
-Fits-le true i count le = le
+Fits-le : (stop : Stop) (i count : ℕ) → Fits stop i count → i ≤ count
+Fits-le AtIndex i count lt = omega arith
+Fits-le InGap i count le = le
 
 Fits-row :
-    (gap : Bool) (i : ℕ) (xs : List ℕ) (ks : List (List ℕ))
+    (stop : Stop) (i : ℕ) (xs : List ℕ) (ks : List (List ℕ))
     → length ks ≡ length xs + 1
-    → Fits gap i (length xs)
-    → Fits gap (index_place i xs ks) (length (weave xs ks))
-Fits-row false i xs ks one lt = weave-within_at i xs ks [] lt one
-Fits-row true i xs ks one le = within i xs ks [] (length (get_or ks i [])) (omega arith) one (omega arith)
+    → Fits stop i (length xs)
+    → Fits stop (index_place i xs ks) (length (weave xs ks))
+Fits-row AtIndex i xs ks one lt = weave-within_at i xs ks [] lt one
+Fits-row InGap i xs ks one le = within i xs ks [] (length (get_or ks i [])) (omega arith) one (omega arith)
 
 Fits-list :
-    (gap : Bool) (i : ℕ) (xs : List ℕ) (ks : List (List ℕ)) (q : ℕ)
+    (stop : Stop) (i : ℕ) (xs : List ℕ) (ks : List (List ℕ)) (q : ℕ)
     → length ks ≡ length xs + 1
     → i < length ks
-    → Fits gap q (length (get_or ks i []))
-    → Fits gap (length (before i xs ks) + q) (length (weave xs ks))
-Fits-list false i xs ks q one lt low = weave-within i xs ks [] q lt one low
-Fits-list true i xs ks q one lt low = within i xs ks [] q lt one low
+    → Fits stop q (length (get_or ks i []))
+    → Fits stop (length (before i xs ks) + q) (length (weave xs ks))
+Fits-list AtIndex i xs ks q one lt low = weave-within i xs ks [] q lt one low
+Fits-list InGap i xs ks q one lt low = within i xs ks [] q lt one low
 
 -- an index or gap to which a path goes is a place in the list
 pub spot-within :
-    {gap : Bool} (l h : ℕ) (n : Node) (p : List ℕ)
+    {stop : Stop} (l h : ℕ) (n : Node) (p : List ℕ)
     → IsFormed h n
-    → Reaches gap l h n p
-    → Fits gap (spot l h n p) (length (flat h n))
+    → Reaches stop l h n p
+    → Fits stop (spot l h n p) (length (flat h n))
 unfolding Passes spot flat IsFormed
 spot-within l zero n p f w = w.passes.1
-spot-within {gap = gap} l (suc h) n p f w =
+spot-within {stop = stop} l (suc h) n p f w =
     let i : ℕ = slice_index p (suc h) in
     let ks : List (List ℕ) = lists h (children n) in
     let len = length-map (children n) (λ k. flat h k) in
@@ -246,42 +246,42 @@ spot-within {gap = gap} l (suc h) n p f w =
     elim (cases_eq l (suc h)) [
       | inl e ↦
           (let t : nat_eq l (suc h) ≡ true = eq-eqb l (suc h) e in
-          let le = Fits-le gap i (length (row n)) (w.passes.1 e) in
-          rw t (rw (lists-at h n i (omega arith)) at (Fits-row gap i (row n) ks (omega arith) (w.passes.1 e))))
+          let le = Fits-le stop i (length (row n)) (w.passes.1 e) in
+          rw t (rw (lists-at h n i (omega arith)) at (Fits-row stop i (row n) ks (omega arith) (w.passes.1 e))))
       | inr e ↦
           (let t : nat_eq l (suc h) ≡ false = ne_eqb l (suc h) e in
           let le = w.passes.0 in
           let down = w.passes.2 (omega arith) in
-          let below = spot-within {gap = gap} l h (child n i) p (f.1 i n down.0).1 (record { passes = down.1 }) in
-          rw t (Fits-list gap i (row n) ks (spot l h (child n i) p) (omega arith) (omega arith) (rw (lists-at h n i down.0) below)))
+          let below = spot-within {stop = stop} l h (child n i) p (f.1 i n down.0).1 (record { passes = down.1 }) in
+          rw t (Fits-list stop i (row n) ks (spot l h (child n i) p) (omega arith) (omega arith) (rw (lists-at h n i down.0) below)))
     ]
 
 -- a path goes on into the i-th child
-pub record GoesDown (gap : Bool) (h l i : ℕ) (n : Node) (p : List ℕ) : Type 0 where
+pub record GoesDown (stop : Stop) (h l i : ℕ) (n : Node) (p : List ℕ) : Type 0 where
   pub inner : h ≢ 0
   pub here : i < length (children n)
-  pub five : 5 ≤ length (row (child n i))
+  pub five : LEAST ≤ length (row (child n i))
   pub formed : IsFormed (h - 1) (child n i)
-  pub holds : Reaches gap l (h - 1) (child n i) p
-  pub within : Fits gap (spot l (h - 1) (child n i) p) (length (flat (h - 1) (child n i)))
+  pub holds : Reaches stop l (h - 1) (child n i) p
+  pub within : Fits stop (spot l (h - 1) (child n i) p) (length (flat (h - 1) (child n i)))
   pub place : spot l h n p ≡ length (before i (row n) (lists (h - 1) (children n))) + spot l (h - 1) (child n i) p
 
 abbrev pub GoesBelow : ℕ → ℕ → ℕ → Node → List ℕ → Type 0
-GoesBelow h l i n p = GoesDown false h l i n p
+GoesBelow h l i n p = GoesDown AtIndex h l i n p
 
 pub goes-below :
-    {gap : Bool} (h l i : ℕ) (n : Node) (p : List ℕ)
+    {stop : Stop} (h l i : ℕ) (n : Node) (p : List ℕ)
     → l < h
     → i ≡ slice_index p h
     → IsFormed h n
-    → Reaches gap l h n p
-    → GoesDown gap h l i n p
-goes-below {gap = gap} h l i n p lt ei f w =
+    → Reaches stop l h n p
+    → GoesDown stop h l i n p
+goes-below {stop = stop} h l i n p lt ei f w =
     let ne : h ≢ 0 = λ e. absurd (omega arith) in
     let other : h ≢ l = λ e. absurd (omega arith) in
     let down = holds-below l h n p ne other w in
     let here : i < length (children n) = rw ei down.here in
-    let on : Reaches gap l (h - 1) (child n i) p = rw ei down.on in
+    let on : Reaches stop l (h - 1) (child n i) p = rw ei down.on in
     let below = (formed-inner h n ne f).below i n here in
     record {
       inner = ne;
@@ -297,7 +297,7 @@ goes-below {gap = gap} h l i n p lt ei f w =
 pub goes-leaf : (h : ℕ) (n : Node) (p : List ℕ) → h ≡ 0 → Goes h n p → slice_index p 0 ≤ length (row n)
 goes-leaf h n p e g = holds-leaf 0 h n p e g
 
-pub goes-inner : (h : ℕ) (n : Node) (p : List ℕ) → h ≢ 0 → Goes h n p → HoldsBelow true 0 h n p
+pub goes-inner : (h : ℕ) (n : Node) (p : List ℕ) → h ≢ 0 → Goes h n p → HoldsBelow InGap 0 h n p
 goes-inner h n p ne g = holds-below 0 h n p ne ne g
 
 pub place-leaf : (h : ℕ) (n : Node) (p : List ℕ) → h ≡ 0 → place h n p ≡ slice_index p 0

@@ -1,5 +1,5 @@
 -- Walks between places, which are found by answers of which none is Equal.
-use Rattle.iddqd_order.proofs.Names.{◌≡◌, ◌≢◌, ◌↔◌, ℕ, ◌-◌, ◌≤◌, List, [], length, drop, slice_index, refl, ap, Option, Bool, arith, None, Err, length-drop, take_all, Ordering, Less, Equal, Greater, ordering_then, Mut, Asking, AsksWithin, Askable, IsTrue, Compares, IsRising, IsSteadyRising, Searches, Steps, between, part, true, false}
+use Rattle.iddqd_order.proofs.Names.{◌≡◌, ◌≢◌, ◌↔◌, ℕ, ◌-◌, ◌≤◌, List, [], length, drop, slice_index, refl, ap, Option, Bool, arith, None, Err, length-drop, take_all, Ordering, Less, Equal, Greater, ordering_then, Mut, Asking, AsksWithin, Askable, IsTrue, Compares, IsRising, IsSteadyRising, Searches, Steps, between, part, false, Back, Front}
 use Rattle.std.specs.Iterator.{YieldsFirst, YieldsLast}
 use Rattle.std.specs.Ordering.{is_eq}
 use Rattle.std.specs.declared.ops.Bound.{Bound}
@@ -113,33 +113,37 @@ ended-told Less i j xs lt le within = (λ t. absurd (cc), λ e. absurd (let same
 ended-told Equal i j xs e le within = (λ t. (part-empty i j xs le within).0 e, λ z. refl)
 ended-told Greater i j xs gt le within = absurd (omega arith)
 
--- after a step from the one end or the other
-pub part-ahead :
-    (i j k : ℕ) (xs : List ℕ) (r : Option ℕ)
-    → (b : Bool)
+-- what hasn't ended has an index left
+pub some-left :
+    (i k : ℕ) (xs : List ℕ) (b : Bool)
     → IsTrue b ↔ (part i k xs ≡ [])
     → b ≡ false
     → i ≤ k
     → k ≤ length xs
-    → Steps true xs i r j
+    → k - i ≢ 0
+some-left i k xs b told some le within none = let t = told.1 ((part-empty i k xs le within).0 (omega arith)) in absurd (cc)
+
+-- after a step from the one end or the other
+pub part-ahead :
+    (i j k : ℕ) (xs : List ℕ) (r : Option ℕ)
+    → k - i ≢ 0
+    → i ≤ k
+    → k ≤ length xs
+    → Steps Back xs i r j
     → (j ≤ k) × YieldsFirst (λ (ys : List ℕ). ys) (part i k xs) r (part j k xs)
-part-ahead i j k xs r b told some le within s =
-    let ne : k - i ≢ 0 = λ e. (let t = told.1 ((part-empty i k xs le within).0 (omega arith)) in absurd (cc)) in
+part-ahead i j k xs r ne le within s =
     let l = left-ahead (k - i) i j k xs r ne (omega arith) within s in
     let at = l.0 in let same : k - i - 1 ≡ k - j = omega arith in
     (omega arith, rw same at l.1)
 
 pub part-back :
     (i j k : ℕ) (xs : List ℕ) (r : Option ℕ)
-    → (b : Bool)
-    → IsTrue b ↔ (part i k xs ≡ [])
-    → b ≡ false
+    → k - i ≢ 0
     → i ≤ k
     → k ≤ length xs
-    → Steps false xs k r j
+    → Steps Front xs k r j
     → (i ≤ j) × YieldsLast (λ (ys : List ℕ). ys) (part i k xs) r (part i j xs)
-part-back i j k xs r b told some le within s =
-    let ne : k - i ≢ 0 = λ e. (let t = told.1 ((part-empty i k xs le within).0 (omega arith)) in absurd (cc)) in
+part-back i j k xs r ne le within s =
     let l = left-back (k - i) i j k xs r ne (omega arith) within s in
     let at = l.0 in let same : k - i - 1 ≡ j - i = omega arith in
     (omega arith, rw same at l.1)

@@ -1,4 +1,5 @@
 -- An insert below the capacity needs no more blocks than are reserved.
+use Rattle.iddqd_order.proofs.Names.{LEAST, LEVELS, INDEXES_OF_A_BLOCK, FREE_INDEXES}
 use Rattle.std.proofs.Common.{All, ◌≡◌, ℕ, zero, suc, ◌+◌, ◌-◌, ◌*◌, ◌<◌, ◌≤◌, List, [], ◌∷◌, true, false, nat_lt, Option, Some, None, length, map, sum_by, get_or, slice_index, arith, inl, inr}
 use Rattle.std.proofs.lemmas.Bool.{cases_lt, lt-ltb, le-ltb}
 use Rattle.std.proofs.lemmas.List.{length-append}
@@ -50,7 +51,7 @@ widened h k n p f g some le =
 path-full :
     (h k : ℕ) (n : Node) (p : List ℕ)
     → IsFormed h n
-    → 5 ≤ length (row n)
+    → LEAST ≤ length (row n)
     → Goes h n p
     → 1 ≤ k
     → k ≤ h + 1
@@ -108,7 +109,7 @@ pub none-fresh :
     → GoesIn r h p
     → FullIn k r h p
     → k ≤ h + 1
-    → length (in_order r h) < 30 * blocks + 10
+    → length (in_order r h) < INDEXES_OF_A_BLOCK * blocks + FREE_INDEXES
     → blocks_for h k - (blocks - inners_in r h) ≡ 0
 none-fresh None h blocks k p t g full le lt = rw (t, full) (omega arith)
 none-fresh (Some n) h blocks k p t g full le lt = let w = root-full h k n p t.0 t.1 g le full in omega arith
@@ -120,7 +121,7 @@ move-none t le = let b : nat_lt (capacity t) (length (order_of t)) ≡ false = l
 pub move-most : (t : Order) → capacity t < length (order_of t) → move_blocks t ≡ t.height + 1
 move-most t lt = let b : nat_lt (capacity t) (length (order_of t)) ≡ true = lt-ltb (capacity t) (length (order_of t)) lt in rw b
 
-pub move-few : (t : Order) → t.height ≤ 11 → move_blocks t ≤ 12
+pub move-few : (t : Order) → t.height < LEVELS → move_blocks t ≤ LEVELS
 move-few t low = elim (cases_lt (capacity t) (length (order_of t))) [ inl lt ↦ omega (arith, move-most t lt) | inr le ↦ omega (arith, move-none t le) ]
 
 -- what an insert takes is there: below the capacity beside the tree, and else in the blocks of a move

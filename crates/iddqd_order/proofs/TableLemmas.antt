@@ -1,5 +1,5 @@
 -- What a table's calls leave of its parts.
-use Rattle.iddqd_order.proofs.Names.{◌≡◌, ◌≢◌, ℕ, ◌+◌, ◌-◌, ◌*◌, ◌<◌, ◌≤◌, List, [], length, get_or, map, slice_index, refl, ap, sym, ◌∙◌, arith, Option, Some, None, Result, Err, Bool, true, false, nat_lt, if◌then◌else◌, All, Contains, not, ◌==◌, Ordering, insert, remove, length-insert, length-remove, length-map, All-nil, All-weaker, All-filter, All-map, Contains-get_or, IfErr-weaker, cases_lt, inl, inr, CanRemap, remapped, IndexRemap, Mut, Asking, Node, Descends, EndsIn, in_order, inners_in, IsTree, IsTable, IsFullBelow, GoesIn, place_in, HoldsIn, spot_in, blocks_for, order_of, IsIndexList, without, sentinel, Askable, Searches}
+use Rattle.iddqd_order.proofs.Names.{Ok, ◌≡◌, ◌≢◌, ℕ, ◌+◌, ◌-◌, ◌*◌, ◌<◌, ◌≤◌, List, [], length, get_or, map, slice_index, refl, ap, sym, ◌∙◌, arith, Option, Some, None, Err, Bool, true, false, nat_lt, if◌then◌else◌, All, Contains, not, ◌==◌, Ordering, insert, remove, length-insert, length-remove, length-map, All-nil, All-weaker, All-filter, All-map, Contains-get_or, cases_lt, inl, inr, CanRemap, remapped, IndexRemap, Mut, Asking, Node, Descends, EndsIn, in_order, inners_in, IsTree, IsTable, GoesIn, place_in, HoldsIn, spot_in, blocks_for, order_of, IsIndexList, without, sentinel, Askable, Searches, MOST_INDEXES, row_asks, Gap, Spot, AtIndex, InGap}
 use Rattle.iddqd_order.proofs.AskLemmas.{asks_more, asks_none}
 use Rattle.iddqd_order.proofs.NodeLemmas.{All-insert}
 use Rattle.iddqd_order.proofs.IndexListLemmas.{IsIndexList-nil, IsDistinct-insert, IsDistinct-filter, remove-distinct}
@@ -16,7 +16,7 @@ pub index_list : {q : ℕ} (r : Option Node) (h n : ℕ) → IsTable r h n q →
 index_list r h n t = record { distinct = t.distinct; assigned = All-weaker (λ ix. ix < sentinel) (λ ix. ix ≢ sentinel) (λ ix lt e. absurd (omega arith)) (in_order r h) t.assigned }
 
 -- an index has 32 bits, so there are no more
-pub few : {q : ℕ} (r : Option Node) (h n : ℕ) → IsTable r h n q → n < 4294967296
+pub few : {q : ℕ} (r : Option Node) (h n : ℕ) → IsTable r h n q → n ≤ MOST_INDEXES
 few r h n t = let most = few_indexes sentinel (in_order r h) t.distinct t.assigned in let counted = t.counted in omega arith
 
 -- at most one block for each of twelve levels
@@ -42,24 +42,47 @@ module _ {F R : Type 0} (g : Mut F (ℕ × Unit {0}) R) (read : R → Ordering) 
 
   -- without a root it asks nothing
   pub EndsIn-none :
-      (h blocks : ℕ) (p : List ℕ) (a : Asking F)
-      → EndsIn g read sought (record { root = None; height = h; reserved = blocks }) a p (Err 0) a
+      (h blocks : ℕ) (gap : Gap) (a : Asking F)
+      → IsTree None h
+      → gap.full ≡ 0
+      → EndsIn g read sought (record { root = None; height = h; reserved = blocks }) a (Err gap) a
   unfolding order_of
-  EndsIn-none h blocks p a = record { searches = Searches-nil a; reaches = omega arith; full_below = refl; level = (omega arith, omega arith) }
+  EndsIn-none h blocks gap a low none = record {
+    searches = Searches-nil a;
+    holds = tt;
+    fits = record { tree = low; goes = omega arith; full = none; levels = omega arith };
+  }
 
   -- and else it is a walk down from the root
-  pub EndsIn-root :
-      {limit : ℕ} (h blocks : ℕ) (n : Node) (p : List ℕ) (end : Result ℕ ℕ) (a b : Asking F)
-      → limit ≤ 4 * (h + 1) + 2
+  pub EndsIn-spot :
+      {limit : ℕ} (h blocks : ℕ) (n : Node) (spot : Spot) (a b : Asking F)
+      → limit ≤ row_asks * (h + 1) + 2
       → IsTree (Some n) h
-      → Descends g read sought limit (h + 1) h n a p end b
-      → EndsIn g read sought (record { root = Some n; height = h; reserved = blocks }) a p end b
+      → Descends g read sought limit (h + 1) h n a spot.path (Ok spot.level) b
+      → EndsIn g read sought (record { root = Some n; height = h; reserved = blocks }) a (Ok spot) b
   unfolding order_of
-  EndsIn-root h blocks n p end a b le t d = record {
+  EndsIn-spot h blocks n spot a b le t d = record {
     searches = SearchesWithin-more g read sought (let asks = reckoning h n t.0 t.1 in omega arith) d.searches;
-    reaches = d.reaches;
-    full_below = IfErr-weaker end _ (λ k. IsFullBelow k h n p) (λ k q. q.0) d.lower_end;
-    level = IfErr-weaker end _ (λ k. (k ≤ h + 1) × (k ≤ 12)) (λ k q. let low = t.2 in let le : k ≤ h + 1 = elim (cases_lt h k) [ inl lt ↦ omega (arith, q.1 lt) | inr le ↦ omega arith ] in (le, omega arith)) d.lower_end;
+    holds = d.reaches;
+    fits = tt;
+  }
+
+  pub EndsIn-gap :
+      {limit : ℕ} (h blocks : ℕ) (n : Node) (gap : Gap) (a b : Asking F)
+      → limit ≤ row_asks * (h + 1) + 2
+      → IsTree (Some n) h
+      → Descends g read sought limit (h + 1) h n a gap.path (Err gap.full) b
+      → EndsIn g read sought (record { root = Some n; height = h; reserved = blocks }) a (Err gap) b
+  unfolding order_of
+  EndsIn-gap h blocks n gap a b le t d = record {
+    searches = SearchesWithin-more g read sought (let asks = reckoning h n t.0 t.1 in omega arith) d.searches;
+    holds = tt;
+    fits = record {
+      tree = t;
+      goes = d.reaches;
+      full = d.lower_end.0;
+      levels = elim (cases_lt h gap.full) [ inl lt ↦ omega (arith, d.lower_end.1 lt) | inr le ↦ omega arith ];
+    };
   }
 
 -- the indexes with one more
@@ -75,7 +98,7 @@ pub IsTable-put :
     → IsTable s k (n + 1) o
 IsTable-put r h n p ix s k t goes absent small tree items inner =
     let xs : List ℕ = in_order r h in
-    let more = length-insert xs (place_in r h p) ix (spot_in-within true 0 r h p t.tree goes) in
+    let more = length-insert xs (place_in r h p) ix (spot_in-within InGap 0 r h p t.tree goes) in
     let counted = t.counted in
     let len = ap length items in
     record {
@@ -104,7 +127,7 @@ pub shorter :
 shorter r h n l p ix s k t held there tree items inner =
     let xs : List ℕ = in_order r h in
     let at : ℕ = spot_in l r h p in
-    let within : at < length xs = spot_in-within false l r h p t.tree held in
+    let within : at < length xs = spot_in-within AtIndex l r h p t.tree held in
     let same : in_order s k ≡ without xs ix = items ∙ remove-distinct xs at t.distinct within ∙ ap (without xs) there in
     let fewer : length (remove xs at) + 1 ≡ length xs = length-remove xs at within in
     let counted = t.counted in
@@ -125,13 +148,13 @@ shorter r h n l p ix s k t held there tree items inner =
 pub IsTable-renamed : {q : ℕ} (r : Option Node) (h n : ℕ) (s : Option Node) (remap : IndexRemap) → IsTable r h n q
     → ((ix : ℕ) → Contains (in_order r h) ix → CanRemap remap ix)
     → ((i j : ℕ) → Contains (in_order r h) i → Contains (in_order r h) j → remapped remap i ≡ remapped remap j → i ≡ j)
-    → ((ix : ℕ) → ix < 4294967296 → CanRemap remap ix → remapped remap ix < 4294967296)
+    → ((ix : ℕ) → ix ≤ MOST_INDEXES → CanRemap remap ix → remapped remap ix ≤ MOST_INDEXES)
     → IsTree s h → in_order s h ≡ map (remapped remap) (in_order r h) → inners_in s h ≡ inners_in r h → IsTable s h n q
 IsTable-renamed r h n s remap t can unshared fits tree items inner =
     let xs : List ℕ = in_order r h in
     let named : IsIndexList (map (remapped remap) xs) = IsIndexList-remapped remap xs can unshared (index_list r h n t) in
-    let small : All (λ ix. ix < 4294967296) (map (remapped remap) xs) =
-    All-map (λ ix. ix < 4294967296) (remapped remap) xs (λ k d lt. let below = t.assigned k d lt in fits (get_or xs k d) (omega arith) (can (get_or xs k d) (Contains-get_or xs k d lt))) in
+    let small : All (λ ix. ix ≤ MOST_INDEXES) (map (remapped remap) xs) =
+    All-map (λ ix. ix ≤ MOST_INDEXES) (remapped remap) xs (λ k d lt. let below = t.assigned k d lt in fits (get_or xs k d) (omega arith) (can (get_or xs k d) (Contains-get_or xs k d lt))) in
     let assigned : All (λ ix. ix < sentinel) (map (remapped remap) xs) = λ k d lt. let ne = named.assigned k d lt in let below = small k d lt in omega arith in
     let counted = t.counted in
     let len = ap length items in

@@ -1,5 +1,5 @@
 -- What an insert leaves of a tree.
-use Rattle.iddqd_order.proofs.Names.{Bool, true, GoesIn, place_in, Fits, ReachesIn, spot_in, ◌≡◌, ℕ, ◌+◌, ◌-◌, ◌<◌, ◌≤◌, ◌≢◌, List, [], ◌∷◌, length, refl, ap, ◌∙◌, arith, Option, Some, None, insert, length-insert, All-cons, All-nil, Node, row, children, room, flat, IsFormed, Goes, place, in_order, IsTree, IsChild}
+use Rattle.iddqd_order.proofs.Names.{GoesIn, place_in, Fits, ReachesIn, spot_in, ◌≡◌, ℕ, ◌+◌, ◌-◌, ◌<◌, ◌≤◌, ◌≢◌, List, [], ◌∷◌, length, refl, ap, ◌∙◌, arith, Option, Some, None, insert, length-insert, All-cons, All-nil, Node, row, children, room, flat, IsFormed, Goes, place, in_order, IsTree, IsChild, CHILDREN, LEVELS, MOST_INDEXES, Stop, InGap}
 use Rattle.iddqd_order.proofs.NodeLemmas.{AreChildren, leaf-formed, flat-leaf, inner-formed, flat-inner, place-within, spot-within}
 use Rattle.iddqd_order.proofs.InsertLemmas.{Cut}
 use Rattle.iddqd_order.proofs.ReckoningLemmas.{twelve_levels}
@@ -10,7 +10,7 @@ use Rattle.iddqd_order.proofs.RecountLemmas.{inners-inner}
 
 -- a root at level h, and the indexes of its tree
 pub record IsRoot (h : ℕ) (n : Node) (xs : List ℕ) : Type 0 where
-  pub low : h ≤ 11
+  pub low : h < LEVELS
   pub formed : IsFormed h n
   pub root : 1 ≤ length (row n)
   pub items : flat h n ≡ xs
@@ -33,8 +33,8 @@ pub new_root :
     → Cut h old lower m upper p x
     → row new ≡ m ∷ []
     → children new ≡ lower ∷ upper ∷ []
-    → 12 ≤ room new
-    → length (flat h old) < 4294967296
+    → CHILDREN ≤ room new
+    → length (flat h old) ≤ MOST_INDEXES
     → IsRoot (h + 1) new (insert (flat h old) (place h old p) x)
 new_root h old lower new m upper p x f g c er ek rm small =
     let ne : h + 1 ≢ 0 = λ z. absurd (omega arith) in
@@ -45,7 +45,7 @@ new_root h old lower new m upper p x f g c er ek rm small =
     let formed : IsFormed (h + 1) new = inner-formed (h + 1) new ne (record { within = omega arith; one_more = omega arith; has_room = rm }) below in
     let items : flat (h + 1) new ≡ insert (flat h old) (place h old p) x = flat-inner (h + 1) new ne ∙ rw (er, ek, same) c.items in
     let one : 1 ≤ length (row new) = omega arith in
-    let len : length (flat (h + 1) new) ≤ 4294967296 = rw items (omega (arith, length-insert (flat h old) (place h old p) x (place-within h old p f g))) in
+    let len : length (flat (h + 1) new) ≤ MOST_INDEXES + 1 = rw items (omega (arith, length-insert (flat h old) (place h old p) x (place-within h old p f g))) in
     record { low = twelve_levels (h + 1) new formed one len; formed = formed; root = one; items = items }
 
 -- it takes a block for each level, and one for the new root
@@ -63,22 +63,22 @@ new_root-inners h old lower new m upper p x c ek =
     omega (arith, inners-inner (h + 1) new ne)
 
 -- a tree has at most twelve levels
-pub IsTree-low : (r : Option Node) (h : ℕ) → IsTree r h → h ≤ 11
+pub IsTree-low : (r : Option Node) (h : ℕ) → IsTree r h → h < LEVELS
 IsTree-low None h t = omega arith
 IsTree-low (Some n) h t = t.2
 
 -- a path leads to a place in the list
 pub spot_in-within :
-    (gap : Bool) (l : ℕ) (r : Option Node) (h : ℕ) (p : List ℕ)
+    (stop : Stop) (l : ℕ) (r : Option Node) (h : ℕ) (p : List ℕ)
     → IsTree r h
-    → ReachesIn gap l r h p
-    → Fits gap (spot_in l r h p) (length (in_order r h))
-spot_in-within gap l None h p t w = w
-spot_in-within gap l (Some n) h p t w = spot-within l h n p t.0 w
+    → ReachesIn stop l r h p
+    → Fits stop (spot_in l r h p) (length (in_order r h))
+spot_in-within stop l None h p t w = w
+spot_in-within stop l (Some n) h p t w = spot-within l h n p t.0 w
 
 pub place_in-within :
     (r : Option Node) (h : ℕ) (p : List ℕ)
     → IsTree r h
     → GoesIn r h p
     → place_in r h p ≤ length (in_order r h)
-place_in-within r h p t g = spot_in-within true 0 r h p t g
+place_in-within r h p t g = spot_in-within InGap 0 r h p t g

@@ -1,5 +1,5 @@
 -- Ways: what a step along one leaves, and what stays of them where an index is put in the place of another.
-use Rattle.iddqd_order.proofs.Names.{◌≡◌, ◌≢◌, ◌∙◌, ℕ, zero, suc, ◌+◌, ◌-◌, ◌<◌, ◌≤◌, List, [], ◌++◌, length, get_or, set, slice_index, slice_set, refl, sym, ap, subst, arith, Option, Some, None, is_some, true, false, sub-one, length-append, length-set, get_or-set_same, get_or-set_other, inl, inr, cases_eq, length-map, map-set, All-set, Node, Way, row, children, child, room, weave, before, after, flat, IsFormed, Holds, spot, StepsOn, SamePlaces, IsWay, get_or_default, add-one, set-get_or}
+use Rattle.iddqd_order.proofs.Names.{◌≡◌, ◌≢◌, ◌∙◌, ℕ, zero, suc, ◌+◌, ◌-◌, ◌<◌, ◌≤◌, List, [], ◌++◌, length, get_or, set, slice_index, slice_set, refl, sym, ap, subst, arith, Option, Some, None, is_some, true, false, sub-one, length-append, length-set, get_or-set_same, get_or-set_other, inl, inr, cases_eq, length-map, map-set, All-set, Node, Way, row, children, child, room, weave, before, after, flat, IsFormed, Holds, spot, StepsOn, SamePlaces, IsWay, get_or_default, add-one, set-get_or, CAPACITY, LEAST, LEVELS}
 use Rattle.iddqd_order.proofs.NodeLemmas.{lists, AreChildren, formed-within, formed-leaf, leaf-formed, flat-leaf, formed-inner, inner-formed, flat-inner}
 use Rattle.iddqd_order.proofs.RemovalLemmas.{GoesBelow, goes-below, ends-inner, holds-leaf, holds-at, holds-level, holds-below, spot-leaf, spot-at, spot-below}
 use Rattle.iddqd_order.proofs.DescentLemmas.{after-last, before-next, lists-one_more, lists-at, child-formed, child-read, child_is, holds-here, below-holds, spot-row}
@@ -157,7 +157,7 @@ holds-row (suc h) l i n p e ei w = rw ei (holds-at l (suc h) n p (λ z. absurd (
 pub record EndsHere (h l i : ℕ) (n : Node) (p : List ℕ) : Type 0 where
   pub level : h ≡ l
   pub within : i < length (row n)
-  pub low : i < 11
+  pub low : i < CAPACITY
   pub spot_is : slice_index (flat h n) (spot l h n p) ≡ slice_index (row n) i
 
 pub ends-here :
@@ -279,7 +279,7 @@ put-inner :
     → length (row m) ≡ length (row n)
     → children m ≡ set (children n) i k
     → room n ≤ room m
-    → (5 ≤ length (row k)) × IsFormed (h - 1) k
+    → (LEAST ≤ length (row k)) × IsFormed (h - 1) k
     → SamePlaces (h - 1) (child n i) k
     → weave (row m) (lists (h - 1) (set (children n) i k)) ≡ set (weave (row n) (lists (h - 1) (children n)))
     (spot l h n p) x
@@ -289,7 +289,7 @@ put-inner h l i x n k m p ne f here rows ek more child_is same woven =
     let one = fs.inner.one_more in let within = fs.inner.within in let has_room = fs.inner.has_room in
     let count = ap length ek ∙ length-set (children n) i k in
     let formed : IsFormed h m = inner-formed h m ne (record { within = omega arith; one_more = omega arith; has_room = omega arith })
-    (subst (AreChildren (h - 1)) (sym ek) (All-set (λ z. (5 ≤ length (row z)) × IsFormed (h - 1) z) (children n) i k child_is fs.below)) in
+    (subst (AreChildren (h - 1)) (sym ek) (All-set (λ z. (LEAST ≤ length (row z)) × IsFormed (h - 1) z) (children n) i k child_is fs.below)) in
     let items : flat h m ≡ set (flat h n) (spot l h n p) x =
     flat-inner h m ne ∙ ap (λ z. weave (row m) (lists (h - 1) z)) ek ∙ woven ∙ ap (λ z. set z (spot l h n p) x) (sym (flat-inner h n ne)) in
     record {
@@ -366,19 +366,19 @@ pub IsWay-first :
     (h : ℕ) (n : Node) (w : Way)
     → IsFormed h n
     → 1 ≤ length (row n)
-    → h ≤ 11
-    → length w.path ≡ 12
-    → ((l : ℕ) → slice_index w.path l ≡ 0)
-    → w.level ≡ 0
+    → h < LEVELS
+    → length w.spot.path ≡ LEVELS
+    → ((l : ℕ) → slice_index w.spot.path l ≡ 0)
+    → w.spot.level ≡ 0
     → w.place ≡ 0
     → IsWay h n w
 IsWay-first h n w f some low path zeros level place =
-    let first = first-way h n w.path f some (λ m le. zeros m) in
+    let first = first-way h n w.spot.path f some (λ m le. zeros m) in
     record {
       path = path;
       within = omega arith;
-      holds = λ more. subst (λ l. Holds l h n w.path) (sym level) first.holds;
-      leads = λ more. ap (λ l. spot l h n w.path) level ∙ first.place ∙ sym place;
+      holds = λ more. subst (λ l. Holds l h n w.spot.path) (sym level) first.holds;
+      leads = λ more. ap (λ l. spot l h n w.spot.path) level ∙ first.place ∙ sym place;
     }
 
 -- a way stays one where the tree changes indexes alone
@@ -388,6 +388,6 @@ IsWay-same h n m w same is =
     record {
       path = is.path;
       within = omega arith;
-      holds = λ more. (same.at w.level w.path (is.holds (omega arith))).0;
-      leads = λ more. (same.at w.level w.path (is.holds (omega arith))).1 ∙ is.leads (omega arith);
+      holds = λ more. (same.at w.spot.level w.spot.path (is.holds (omega arith))).0;
+      leads = λ more. (same.at w.spot.level w.spot.path (is.holds (omega arith))).1 ∙ is.leads (omega arith);
     }

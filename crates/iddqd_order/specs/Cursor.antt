@@ -1,12 +1,15 @@
 -- Where a walk along a tree stands: in a gap before, between or behind the indexes of a leaf.
-use Rattle.std.specs.Prelude.{◌≡◌, ℕ, zero, suc, ◌+◌, ◌-◌, ◌<◌, ◌≤◌, List, [], Bool, true, false, Option, Some, None, ⊤, length, take, drop, slice_index, slice_set}
+use Rattle.std.specs.Prelude.{◌≡◌, ℕ, zero, suc, ◌+◌, ◌-◌, ◌<◌, ◌≤◌, List, [], Option, Some, None, ⊤, length, take, drop, slice_index, slice_set}
 use Rattle.std.specs.Borrow.{Bor}
 use Rattle.std.specs.Ordering.{MatchOrdering}
 use Rattle.std.specs.declared.cmp.Ordering.{Ordering}
 use Rattle.iddqd_order.specs.declared.btree_table.cursor.Cursor.{Cursor}
+use Rattle.iddqd_order.specs.declared.btree_table.cursor.End.{End}
+use Rattle.iddqd_order.specs.declared.btree_table.cursor.End.TheVariants.{Front, Back}
 use Rattle.iddqd_order.specs.declared.btree_table.node.Node.{Node}
 use Rattle.iddqd_order.specs.Node.{row, child, flat, Goes, place}
 use Rattle.iddqd_order.specs.Tree.{GoesIn, place_in}
+use Rattle.iddqd_order.specs.declared.btree_table.path.TheConstants.{LEVELS}
 
 -- how two gaps stand to each other
 abbrev pub Compares : Ordering → ℕ → ℕ → Type 0
@@ -16,22 +19,26 @@ Compares r i j = MatchOrdering r (i < j) (i ≡ j) (j < i)
 abbrev pub IsBehind : List ℕ → ℕ → ℕ → Type 0
 IsBehind xs i ix = (i < length xs) × (ix ≡ slice_index xs i)
 
--- the last gap of so many indexes, or the first
-abbrev pub edge_of : Bool → ℕ → ℕ
-edge_of true count = count
-edge_of false count = 0
+abbrev pub opposite : End → End
+opposite Front = Back
+opposite Back = Front
 
--- a step from the i-th gap ahead, or back, goes over an index to the j-th, or stays where there is none
-abbrev pub Steps : Bool → List ℕ → ℕ → Option ℕ → ℕ → Type 0
-Steps ahead xs i None j = (i ≡ edge_of ahead (length xs)) × (j ≡ i)
-Steps true xs i (Some ix) j = IsBehind xs i ix × (j ≡ i + 1)
-Steps false xs i (Some ix) j = IsBehind xs j ix × (i ≡ j + 1)
+-- the gap at an end of so many indexes
+abbrev pub edge_of : End → ℕ → ℕ
+edge_of Front count = 0
+edge_of Back count = count
 
--- of so many indexes in a row, the place of the one beside a gap and the gap behind it, if there is one
-abbrev pub AreBeside : Bool → ℕ → ℕ → Option (ℕ × ℕ) → Type 0
-AreBeside ahead count place None = place ≡ edge_of ahead count
-AreBeside true count place (Some r) = (r.0 < count) × (place ≡ r.0) × (r.1 ≡ r.0 + 1)
-AreBeside false count place (Some r) = (r.0 < count) × (place ≡ r.0 + 1) × (r.1 ≡ r.0)
+-- a step from the i-th gap towards an end goes over an index to the j-th, or stays where there is none
+abbrev pub Steps : End → List ℕ → ℕ → Option ℕ → ℕ → Type 0
+Steps towards xs i None j = (i ≡ edge_of towards (length xs)) × (j ≡ i)
+Steps Front xs i (Some ix) j = IsBehind xs j ix × (i ≡ j + 1)
+Steps Back xs i (Some ix) j = IsBehind xs i ix × (j ≡ i + 1)
+
+-- of so many indexes in a row, the place of the one next to a gap and the gap beyond it, if there is one
+abbrev pub AreBeside : End → ℕ → ℕ → Option (ℕ × ℕ) → Type 0
+AreBeside towards count place None = place ≡ edge_of towards count
+AreBeside Front count place (Some r) = (r.0 < count) × (place ≡ r.0 + 1) × (r.1 ≡ r.0)
+AreBeside Back count place (Some r) = (r.0 < count) × (place ≡ r.0) × (r.1 ≡ r.0 + 1)
 
 -- the leaf to which a path goes
 unfoldable pub leaf : ℕ → Node → List ℕ → List ℕ
@@ -44,16 +51,16 @@ low zero n p = n
 low (suc zero) n p = n
 low (suc (suc h)) n p = low (suc h) (child n (slice_index p (suc (suc h)))) p
 
--- the path p goes to the last gap of n, or to the first, in the leaf xs
-pub record AtEdge (last : Bool) (h : ℕ) (n : Node) (xs p : List ℕ) : Type 0 where
+-- the path p goes to the gap at an end of n, in the leaf xs
+pub record AtEdge (end : End) (h : ℕ) (n : Node) (xs p : List ℕ) : Type 0 where
   pub goes : Goes h n p
-  pub place_is : place h n p ≡ edge_of last (length (flat h n))
+  pub place_is : place h n p ≡ edge_of end (length (flat h n))
   pub leaf_is : xs ≡ leaf h n p
 
 -- from the gap to which p goes, q goes over the index ix to a gap of the leaf xs
-pub record Over (ahead : Bool) (h : ℕ) (n : Node) (p : List ℕ) (ix : ℕ) (xs q : List ℕ) : Type 0 where
+pub record Over (towards : End) (h : ℕ) (n : Node) (p : List ℕ) (ix : ℕ) (xs q : List ℕ) : Type 0 where
   pub goes : Goes h n q
-  pub steps : Steps ahead (flat h n) (place h n p) (Some ix) (place h n q)
+  pub steps : Steps towards (flat h n) (place h n p) (Some ix) (place h n q)
   pub leaf_is : xs ≡ leaf h n q
 
 -- the same in a tree, or in none
@@ -72,7 +79,7 @@ to_gap path at = slice_set path 0 at
 
 -- the path goes to a leaf, which has a gap at the place
 pub record IsGap (t : Option Node) (h : ℕ) (path : List ℕ) (at : ℕ) : Type 0 where
-  pub whole : length path ≡ 12
+  pub whole : length path ≡ LEVELS
   pub goes : GoesIn t h (to_gap path at)
 
 -- and the leaf is `row`

@@ -11,6 +11,10 @@ digits_within (suc k) (suc n) = 1 + digits_within k (suc n / 2)
 unfoldable pub digits : ℕ → ℕ
 digits n = digits_within n n
 
+-- the most asks of a search in one row
+abbrev pub row_asks : ℕ
+row_asks = 4
+
 -- the most asks of a search in n indexes
 abbrev pub bound : ℕ → ℕ
 bound n = 4 + 2 * digits n

@@ -4,15 +4,16 @@ use Rattle.std.specs.Borrow.{MutBor}
 use Rattle.std.specs.Fn.{Mut}
 use Rattle.std.specs.declared.cmp.Ordering.{Ordering}
 use Rattle.std.specs.declared.cmp.Ordering.TheVariants.{Equal}
-use Rattle.iddqd_order.specs.MapBTreeTable.{Order, order_of}
+use Rattle.iddqd_order.specs.Gap.{gap_place}
+use Rattle.iddqd_order.specs.MapBTreeTable.{Order, order_of, spot_place}
 use Rattle.iddqd_order.specs.PreparedBTreeInsert.{Prepared, table_of, index_of, place_of, blocks_of}
 use Rattle.iddqd_order.specs.Search.{SearchAsks, IsSteady, IsSteadyRising, IsPlace}
-use Rattle.iddqd_order.specs.Tree.{place_in, spot_in}
 use Rattle.iddqd_order.specs.declared.btree_table.asking.Asking.{Asking}
 use Rattle.iddqd_order.specs.declared.btree_table.entry.Entry.{Entry}
 use Rattle.iddqd_order.specs.declared.btree_table.entry.Entry.TheVariants.{Occupied, Vacant}
 use Rattle.iddqd_order.specs.declared.btree_table.entry.OccupiedEntry.{OccupiedEntry}
 use Rattle.iddqd_order.specs.declared.btree_table.entry.VacantEntry.{VacantEntry}
+use Rattle.iddqd_order.specs.declared.btree_table.path.TheConstants.{LEVELS}
 
 -- the table that an occupied entry borrows
 abbrev pub occupied_table : OccupiedEntry → MutBor Order
@@ -20,7 +21,7 @@ occupied_table e = e.table
 
 -- the index that stands there
 unfoldable pub entry_index : OccupiedEntry → ℕ
-entry_index e = slice_index (order_of e.table.now) (spot_in e.level e.table.now.root e.table.now.height e.path)
+entry_index e = slice_index (order_of e.table.now) (spot_place e.table.now e.spot)
 
 -- the table that a vacant entry borrows
 abbrev pub vacant_table : VacantEntry → MutBor Order
@@ -28,7 +29,7 @@ vacant_table e = e.table
 
 -- how many indexes stand before it
 unfoldable pub vacant_place : VacantEntry → ℕ
-vacant_place e = place_in e.table.now.root e.table.now.height e.path
+vacant_place e = gap_place e.table.now e.gap
 
 -- the table that either entry borrows
 abbrev pub entry_table : Entry → MutBor Order
@@ -64,4 +65,4 @@ pub record FillsEntry (v : VacantEntry) (ix : ℕ) (p : Prepared) : Type 0 where
   pub table : order_of (table_of p).now ≡ order_of (vacant_table v).now
   pub index : index_of p ≡ ix
   pub place : place_of p ≡ vacant_place v
-  pub few_blocks : blocks_of p ≤ 12
+  pub few_blocks : blocks_of p ≤ LEVELS

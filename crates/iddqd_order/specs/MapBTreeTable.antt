@@ -1,12 +1,15 @@
 -- What a contract sees of a `MapBTreeTable`.
-use Rattle.std.specs.Prelude.{◌≡◌, ◌≢◌, ◌<◌, ◌+◌, ◌-◌, ◌*◌, ◌/◌, ℕ, List, Option, ◌==◌, nat_eq, nat_lt, if◌then◌else◌, not, filter, All, length, slice_index, Some, None, ⊤, false}
+use Rattle.std.specs.Prelude.{◌≡◌, ◌≢◌, ◌<◌, ◌+◌, ◌-◌, ◌*◌, ◌/◌, ℕ, List, Option, ◌==◌, nat_eq, nat_lt, if◌then◌else◌, not, filter, All, length, slice_index, Some, None, ⊤}
 use Rattle.std.specs.List.{IsDistinct}
 use Rattle.std.specs.Option.{ForSome}
 use Rattle.std.specs.Coded.{×_prop, Unit-prop}
 use native.Mathlib.Nat.{ℕ_set}
 use Rattle.iddqd_order.specs.declared.btree_table.node.Node.{Node}
+use Rattle.iddqd_order.specs.declared.btree_table.path.Spot.{Spot}
+use Rattle.iddqd_order.specs.Node.{AtIndex}
 use Rattle.iddqd_order.specs.Tree.{in_order, inners_in, blocks_for, HoldsIn, spot_in, ReachesIn-prop}
 pub use Rattle.iddqd.specs.Compaction.{sentinel}
+use Rattle.iddqd_order.specs.declared.btree_table.reserve.TheConstants.{INDEXES_OF_A_BLOCK, FREE_INDEXES}
 
 -- the tree, its root and the levels above its leaves, and how many blocks are reserved for its inner nodes
 pub record Order : Type 0 where
@@ -25,11 +28,11 @@ pub record HasSameTree (t u : Order) : Type 0 where
 
 -- how many indexes so many blocks always suffice for
 abbrev pub capacity_of : ℕ → ℕ
-capacity_of blocks = 30 * blocks + 10
+capacity_of blocks = INDEXES_OF_A_BLOCK * blocks + FREE_INDEXES
 
 -- how many blocks the most inner nodes of so many indexes take
 abbrev pub needed_blocks : ℕ → ℕ
-needed_blocks indexes = (indexes + 19) / 30
+needed_blocks indexes = (indexes + (INDEXES_OF_A_BLOCK - FREE_INDEXES - 1)) / INDEXES_OF_A_BLOCK
 
 -- the capacity of a table that is made for so many indexes
 abbrev pub capacity_for : ℕ → ℕ
@@ -68,12 +71,18 @@ fresh_for t full = blocks_for t.height full - spare_blocks t
 abbrev pub move_blocks : Order → ℕ
 move_blocks t = if nat_lt (capacity t) (length (order_of t)) then t.height + 1 else 0
 
--- if there is a way, a path and a level, it goes to the index
-abbrev pub LeadsTo : Order → ℕ → Option (List ℕ × ℕ) → Type 0
-LeadsTo t ix None = ⊤
-LeadsTo t ix (Some way) = HoldsIn way.1 t.root t.height way.0
-    × (slice_index (in_order t.root t.height) (spot_in way.1 t.root t.height way.0) ≡ ix)
+-- a stored index stands at the spot, at this place of the list
+abbrev pub IsSpot : Order → Spot → Type 0
+IsSpot t spot = HoldsIn spot.level t.root t.height spot.path
 
-pub LeadsTo-prop : (t : Order) (ix : ℕ) (way : Option (List ℕ × ℕ)) → IsProp (LeadsTo t ix way)
+abbrev pub spot_place : Order → Spot → ℕ
+spot_place t spot = spot_in spot.level t.root t.height spot.path
+
+-- if there is a spot, the index stands there
+abbrev pub LeadsTo : Order → ℕ → Option Spot → Type 0
+LeadsTo t ix None = ⊤
+LeadsTo t ix (Some spot) = IsSpot t spot × (slice_index (in_order t.root t.height) (spot_place t spot) ≡ ix)
+
+pub LeadsTo-prop : (t : Order) (ix : ℕ) (spot : Option Spot) → IsProp (LeadsTo t ix spot)
 LeadsTo-prop t ix None = Unit-prop
-LeadsTo-prop t ix (Some way) = ×_prop (ReachesIn-prop false way.1 t.root t.height way.0) (ℕ_set _ _)
+LeadsTo-prop t ix (Some spot) = ×_prop (ReachesIn-prop AtIndex spot.level t.root t.height spot.path) (ℕ_set _ _)

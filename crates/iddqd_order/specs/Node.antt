@@ -1,10 +1,12 @@
 -- What a node of the tree represents, and what holds of it. A tree is read with its height: h levels of
 -- inner nodes above the leaves.
-use Rattle.std.specs.Prelude.{◌≡◌, ℕ, zero, suc, ◌+◌, ◌<◌, ◌≤◌, List, [], ◌∷◌, ◌++◌, All, length, map, sum_by, slice_index, slice_index_or, vec_capacity, Vec, Bool, true, false, nat_eq, if◌then◌else◌}
+use Rattle.std.specs.Prelude.{◌≡◌, ℕ, zero, suc, ◌+◌, ◌<◌, ◌≤◌, List, [], ◌∷◌, ◌++◌, All, length, map, sum_by, slice_index, slice_index_or, vec_capacity, Vec, nat_eq, if◌then◌else◌}
 use Rattle.std.specs.List.{insert}
 use Rattle.std.specs.declared.alloc.Global.{Global}
 use Rattle.iddqd_order.specs.declared.btree_table.node.Node.{Node}
 use Rattle.iddqd_order.specs.declared.btree_table.node.Node.TheViews.{out-Node}
+use Rattle.iddqd_order.specs.declared.btree_table.node.TheConstants.{CHILDREN}
+use Rattle.iddqd_order.specs.declared.btree_table.row.TheConstants.{CAPACITY, LEAST}
 
 -- the indexes that a node itself holds
 abbrev pub row : Node → List ℕ
@@ -56,34 +58,39 @@ inners (suc h) n = suc (sum_by (λ k. inners h k) (children n))
 
 -- at most eleven indexes, and no child
 pub record IsLeaf (n : Node) : Type 0 where
-  pub within : length (row n) ≤ 11
+  pub within : length (row n) ≤ CAPACITY
   pub childless : children n ≡ []
 
 -- at most eleven indexes, one child more than indexes, and room for twelve children
 pub record IsInner (n : Node) : Type 0 where
-  pub within : length (row n) ≤ 11
+  pub within : length (row n) ≤ CAPACITY
   pub one_more : length (children n) ≡ length (row n) + 1
-  pub has_room : 12 ≤ room n
+  pub has_room : CHILDREN ≤ room n
 
 -- all leaves are equally deep, and each node below the root has five indexes or more
 unfoldable pub IsFormed : ℕ → Node → Type 0
 IsFormed zero n = IsLeaf n
-IsFormed (suc h) n = IsInner n × All (λ k. (5 ≤ length (row k)) × IsFormed h k) (children n)
+IsFormed (suc h) n = IsInner n × All (λ k. (LEAST ≤ length (row k)) × IsFormed h k) (children n)
+
+-- where a path ends: at an index, or else in a gap
+pub data Stop : Type 0 where
+  AtIndex : Stop
+  InGap : Stop
 
 -- a place of one of so many indexes, or else of one of their gaps, of which there is one more
-abbrev pub Fits : Bool → ℕ → ℕ → Type 0
-Fits false i count = i < count
-Fits true i count = i ≤ count
+abbrev pub Fits : Stop → ℕ → ℕ → Type 0
+Fits AtIndex i count = i < count
+Fits InGap i count = i ≤ count
 
 -- a path p has at each level above l the place of the child taken there, and at level l a place in the row
-unfoldable pub Passes : Bool → ℕ → ℕ → Node → List ℕ → Type 0
-Passes gap l zero n p = (l ≤ 0) × Fits gap (slice_index p 0) (length (row n))
-Passes gap l (suc h) n p = (l ≤ suc h) × (l ≡ suc h → Fits gap (slice_index p (suc h)) (length (row n)))
-    × (l ≤ h → (slice_index p (suc h) < length (children n)) × Passes gap l h (child n (slice_index p (suc h))) p)
+unfoldable pub Passes : Stop → ℕ → ℕ → Node → List ℕ → Type 0
+Passes stop l zero n p = (l ≤ 0) × Fits stop (slice_index p 0) (length (row n))
+Passes stop l (suc h) n p = (l ≤ suc h) × (l ≡ suc h → Fits stop (slice_index p (suc h)) (length (row n)))
+    × (l ≤ h → (slice_index p (suc h) < length (children n)) × Passes stop l h (child n (slice_index p (suc h))) p)
 
 -- a path goes down to level l, and there to an index, or else to a gap
-pub record Reaches (gap : Bool) (l h : ℕ) (n : Node) (p : List ℕ) : Type 0 where
-  pub passes : Passes gap l h n p
+pub record Reaches (stop : Stop) (l h : ℕ) (n : Node) (p : List ℕ) : Type 0 where
+  pub passes : Passes stop l h n p
 
 -- the place in the whole list of the index or gap to which a path goes at level l: in an inner node it stands
 -- after the child of its own place
@@ -95,7 +102,7 @@ spot l (suc h) n p = length (before (slice_index p (suc h)) (row n) (map (λ k. 
 
 -- a path goes down to level l, and there to an index
 abbrev pub Holds : ℕ → ℕ → Node → List ℕ → Type 0
-Holds l h n p = Reaches false l h n p
+Holds l h n p = Reaches AtIndex l h n p
 
 -- and this index is ix
 abbrev pub HoldsIndex : ℕ → ℕ → Node → List ℕ → ℕ → Type 0
@@ -103,14 +110,14 @@ HoldsIndex l h n p ix = Holds l h n p × (slice_index (flat h n) (spot l h n p) 
 
 -- a path goes to a gap, which is one of a leaf; the place of this gap in the whole list
 abbrev pub Goes : ℕ → Node → List ℕ → Type 0
-Goes h n p = Reaches true 0 h n p
+Goes h n p = Reaches InGap 0 h n p
 
 abbrev pub place : ℕ → Node → List ℕ → ℕ
 place h n p = spot 0 h n p
 
 -- the node at level l is as it has to be where the nodes at levels below k are full, and the one at level k isn't
 abbrev pub FullBelow : ℕ → ℕ → Node → Type 0
-FullBelow k l n = (l < k → 11 ≤ length (row n)) × (l ≡ k → length (row n) < 11)
+FullBelow k l n = (l < k → CAPACITY ≤ length (row n)) × (l ≡ k → length (row n) < CAPACITY)
 
 -- the nodes on a path at levels below k are full, and the one at level k isn't; where k is the number
 -- of levels, all are full
@@ -120,7 +127,7 @@ IsFullBelow k (suc h) n p = FullBelow k (suc h) n × IsFullBelow k h (child n (s
 
 -- an empty block with room for twelve children
 abbrev pub IsSpare : Vec Node Global → Type 0
-IsSpare s = (s.items ≡ []) × (12 ≤ vec_capacity s)
+IsSpare s = (s.items ≡ []) × (CHILDREN ≤ vec_capacity s)
 
 -- the index x was put in where the path goes, with so many more inner nodes, and the node is as it has to be
 pub record IsPut (h : ℕ) (old new : Node) (p : List ℕ) (x more : ℕ) : Type 0 where

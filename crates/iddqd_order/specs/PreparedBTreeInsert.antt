@@ -3,13 +3,14 @@ use Rattle.std.specs.Prelude.{◌≡◌, ◌≤◌, ℕ, List, Some, Result, len
 use Rattle.std.specs.Borrow.{RestsIfErr, Fml, MutBor}
 use Rattle.std.specs.Fn.{Mut}
 use Rattle.std.specs.declared.cmp.Ordering.{Ordering}
+use Rattle.iddqd_order.specs.Gap.{gap_place}
 use Rattle.iddqd_order.specs.MapBTreeTable.{Order, order_of}
 use Rattle.iddqd_order.specs.Search.{IsSteadyRising, IsPlace, with_ties}
-use Rattle.iddqd_order.specs.Tree.{place_in}
 use Rattle.iddqd_order.specs.contracts.btree_table.blocks.BlocksHoldsBlocks.TheImpl.{ghosts}
 use Rattle.iddqd_order.specs.contracts.btree_table.table.MapBTreeTable.{the_row}
 use Rattle.iddqd_order.specs.declared.btree_table.asking.Asking.{Asking}
 use Rattle.iddqd_order.specs.declared.btree_table.prepared_insert.PreparedBTreeInsert.{PreparedBTreeInsert}
+use Rattle.iddqd_order.specs.declared.btree_table.path.TheConstants.{LEVELS}
 
 -- a prepared insert with its blocks, which a contract sees as their number
 abbrev pub Prepared : Type 0
@@ -25,7 +26,7 @@ index_of p = p.ix
 
 -- how many indexes will stand before it
 unfoldable pub place_of : Prepared → ℕ
-place_of p = place_in p.table.now.root p.table.now.height p.path
+place_of p = gap_place p.table.now p.gap
 
 -- how many blocks of memory it holds, each for the children of one node
 unfoldable pub blocks_of : Prepared → ℕ
@@ -42,6 +43,6 @@ module _ {F R : Type 0} (g : Mut F (ℕ × Unit {0}) R) (read : R → Ordering) 
     pub table : order_of (table_of p).now ≡ xs
     pub index : index_of p ≡ ix
     pub within : place_of p ≤ length xs
-    pub few_blocks : blocks_of p ≤ 12
+    pub few_blocks : blocks_of p ≤ LEVELS
     pub place : (answer : ℕ → Ordering) → IsSteadyRising g xs (Some ix) read answer old →
         IsPlace (with_ties (Some ix) answer) xs (place_of p)

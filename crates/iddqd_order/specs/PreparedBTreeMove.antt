@@ -9,6 +9,7 @@ use Rattle.iddqd_order.specs.contracts.btree_table.blocks.BlocksHoldsBlocks.TheI
 use Rattle.iddqd_order.specs.contracts.btree_table.table.MapBTreeTable.{the_row}
 use Rattle.iddqd_order.specs.declared.btree_table.asking.Asking.{Asking}
 use Rattle.iddqd_order.specs.declared.btree_table.prepared_move.PreparedBTreeMove.{PreparedBTreeMove}
+use Rattle.iddqd_order.specs.declared.btree_table.path.TheConstants.{LEVELS}
 
 -- a prepared move with its blocks, which a contract sees as their number
 abbrev pub PreparedMove : Type 0
@@ -34,7 +35,7 @@ rests_if_refused t r = RestsIfErr the_row t (λ p. p.table.ghost_name) r (λ n. 
 pub record PreparesMove (xs : List ℕ) (ix : ℕ) (p : PreparedMove) : Type 0 where
   pub table : order_of (table_of p).now ≡ xs
   pub index : index_of p ≡ ix
-  pub few_blocks : blocks_of p ≤ 12
+  pub few_blocks : blocks_of p ≤ LEVELS
 
 -- ix is put in among the indexes xs, by answers that are so read: where Greater ends, if they rise
 module _ {F R : Type 0} (g : Mut F (ℕ × Unit {0}) R) (read : R → Ordering) (xs : List ℕ) (ix : ℕ) where

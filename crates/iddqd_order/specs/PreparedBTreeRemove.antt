@@ -18,7 +18,7 @@ index_of p = p.ix
 
 -- whether the search found the index
 unfoldable pub is_found : PreparedBTreeRemove → Bool
-is_found p = is_some p.way
+is_found p = is_some p.spot
 
 -- a removal of ix from the indexes xs is prepared, by answers that are so read: it is found only where
 -- it is stored, and then if the answers rise; `SENTINEL` is missing with no ask

@@ -3,23 +3,25 @@ use Rattle.std.specs.Prelude.{◌≡◌, ◌≢◌, ℕ, ◌+◌, ◌<◌, ◌�
 use Rattle.iddqd_order.specs.declared.btree_table.node.Node.{Node}
 use Rattle.iddqd_order.specs.Node.{row, weave, flat, inners, IsFormed}
 use Rattle.iddqd_order.specs.Reserve.{Reserved}
+use Rattle.iddqd_order.specs.declared.btree_table.path.TheConstants.{LEVELS}
+use Rattle.iddqd_order.specs.declared.btree_table.row.TheConstants.{CAPACITY, LEAST}
 
 -- a node below another one, over h levels
 abbrev pub IsChild : ℕ → Node → Type 0
-IsChild h k = (5 ≤ length (row k)) × IsFormed h k
+IsChild h k = (LEAST ≤ length (row k)) × IsFormed h k
 
 -- a node's indexes and its children, which are as they have to be but that the i-th child may have one index too few
 pub record MayLackOne (h i : ℕ) (xs : List ℕ) (ks : List Node) : Type 0 where
   pub some : 1 ≤ length xs
-  pub within : length xs ≤ 11
+  pub within : length xs ≤ CAPACITY
   pub one_more : length ks ≡ length xs + 1
   pub here : i < length ks
-  pub at : (d : Node) → (4 ≤ length (row (slice_index_or ks i d))) × IsFormed h (slice_index_or ks i d)
+  pub at : (d : Node) → (LEAST ≤ length (row (slice_index_or ks i d)) + 1) × IsFormed h (slice_index_or ks i d)
   pub others : (j : ℕ) (d : Node) → j < length ks → j ≢ i → IsChild h (slice_index_or ks j d)
 
 -- what mending makes of a node's indexes and its children: all are as they have to be, and the order is as before
 pub record IsMended (h : ℕ) (xs : List ℕ) (ks : List Node) (new_xs : List ℕ) (new_ks : List Node) : Type 0 where
-  pub within : length new_xs ≤ 11
+  pub within : length new_xs ≤ CAPACITY
   pub fewer : length xs ≤ length new_xs + 1
   pub one_more : length new_ks ≡ length new_xs + 1
   pub below : All (IsChild h) new_ks
@@ -37,4 +39,4 @@ pub record Recounts (r new : Reserved) (was now : ℕ) : Type 0 where
 -- a root without indexes
 abbrev pub IsEmptied : Option Node → ℕ → Type 0
 IsEmptied None h = ⊥
-IsEmptied (Some n) h = IsFormed h n × (row n ≡ []) × (h ≤ 11)
+IsEmptied (Some n) h = IsFormed h n × (row n ≡ []) × (h < LEVELS)

@@ -1,6 +1,7 @@
 -- How a table takes blocks ahead, and gives them back.
 use Rattle.std.specs.Prelude.{◌≡◌, ◌+◌, ◌<◌, ◌≤◌, ℕ, [], min, max, Result, IsOk, IfOk, OnOk, OnErr, length}
 use Rattle.iddqd_order.specs.MapBTreeTable.{Order, order_of, capacity, room, capacity_for, HasSameTree}
+use Rattle.iddqd_order.specs.declared.btree_table.reserve.TheConstants.{FREE_INDEXES}
 
 -- A new table is made for so many indexes: its capacity is that of the blocks that they need. Where they need none, it
 -- takes no memory, and succeeds.
@@ -8,7 +9,7 @@ pub record TakesRoom {E : Type 0} (indexes : ℕ) (result : Result Order E) : Ty
   pub empty : IfOk result (λ t. order_of t ≡ [])
   pub made : IfOk result (λ t. capacity t ≡ capacity_for indexes)
   pub roomy : IfOk result (λ t. indexes ≤ capacity t)
-  pub succeeds : indexes ≤ 10 → IsOk result
+  pub succeeds : indexes ≤ FREE_INDEXES → IsOk result
 
 -- Room was made for so many indexes more: the capacity is that of the blocks which all of them need. Or else nothing
 -- changed. Where there was room, it succeeds and nothing changed.

@@ -1,11 +1,12 @@
 -- What a table's tree holds: the tree below a root, or nothing.
-use Rattle.std.specs.Prelude.{◌≡◌, ℕ, zero, suc, ◌<◌, ◌≤◌, List, [], All, length, slice_index, Option, Some, None, nat_eq, nat_lt, if◌then◌else◌, ◌-◌, Bool, true, false}
+use Rattle.std.specs.Prelude.{◌≡◌, ℕ, zero, suc, ◌<◌, ◌≤◌, List, [], All, length, slice_index, Option, Some, None, nat_eq, nat_lt, if◌then◌else◌, ◌-◌}
 use Rattle.std.specs.List.{IsDistinct}
 use Rattle.std.specs.Coded.{×_prop, →_prop, le_prop}
 use native.Mathlib.Nat.{ℕ_set}
 use Rattle.iddqd.specs.Compaction.{sentinel}
 use Rattle.iddqd_order.specs.declared.btree_table.node.Node.{Node}
-use Rattle.iddqd_order.specs.Node.{row, child, flat, inners, IsFormed, Fits, Passes, Reaches, spot, FullBelow, IsFullBelow}
+use Rattle.iddqd_order.specs.Node.{row, child, flat, inners, IsFormed, Stop, AtIndex, InGap, Fits, Passes, Reaches, spot, FullBelow, IsFullBelow}
+use Rattle.iddqd_order.specs.declared.btree_table.path.TheConstants.{LEVELS}
 
 -- its indexes, in order
 abbrev pub in_order : Option Node → ℕ → List ℕ
@@ -20,12 +21,12 @@ inners_in (Some n) h = inners h n
 -- the root has an index, and there are at most twelve levels
 abbrev pub IsTree : Option Node → ℕ → Type 0
 IsTree None h = h ≡ 0
-IsTree (Some n) h = IsFormed h n × (1 ≤ length (row n)) × (h ≤ 11)
+IsTree (Some n) h = IsFormed h n × (1 ≤ length (row n)) × (h < LEVELS)
 
 -- a path goes down to level l, and there to an index, or else to a gap; where there is nothing, to the only gap
-abbrev pub ReachesIn : Bool → ℕ → Option Node → ℕ → List ℕ → Type 0
-ReachesIn gap l None h p = Fits gap 0 0
-ReachesIn gap l (Some n) h p = Reaches gap l h n p
+abbrev pub ReachesIn : Stop → ℕ → Option Node → ℕ → List ℕ → Type 0
+ReachesIn stop l None h p = Fits stop 0 0
+ReachesIn stop l (Some n) h p = Reaches stop l h n p
 
 -- the place of that index or gap
 abbrev pub spot_in : ℕ → Option Node → ℕ → List ℕ → ℕ
@@ -34,11 +35,11 @@ spot_in l (Some n) h p = spot l h n p
 
 -- a path goes down to level l, and there to an index
 abbrev pub HoldsIn : ℕ → Option Node → ℕ → List ℕ → Type 0
-HoldsIn l r h p = ReachesIn false l r h p
+HoldsIn l r h p = ReachesIn AtIndex l r h p
 
 -- a path goes to a gap; the place of this gap
 abbrev pub GoesIn : Option Node → ℕ → List ℕ → Type 0
-GoesIn r h p = ReachesIn true 0 r h p
+GoesIn r h p = ReachesIn InGap 0 r h p
 
 abbrev pub place_in : Option Node → ℕ → List ℕ → ℕ
 place_in r h p = spot_in 0 r h p
@@ -73,19 +74,19 @@ pub FullIn-prop : (k : ℕ) (r : Option Node) (h : ℕ) (p : List ℕ) → IsPro
 FullIn-prop k None h p = ℕ_set _ _
 FullIn-prop k (Some n) h p = IsFullBelow-prop k h n p
 
-Fits-prop : (gap : Bool) (i count : ℕ) → IsProp (Fits gap i count)
-Fits-prop false i count = le_prop
-Fits-prop true i count = le_prop
+Fits-prop : (stop : Stop) (i count : ℕ) → IsProp (Fits stop i count)
+Fits-prop AtIndex i count = le_prop
+Fits-prop InGap i count = le_prop
 
-Passes-prop : (gap : Bool) (l h : ℕ) (n : Node) (p : List ℕ) → IsProp (Passes gap l h n p)
+Passes-prop : (stop : Stop) (l h : ℕ) (n : Node) (p : List ℕ) → IsProp (Passes stop l h n p)
 unfolding Passes
-Passes-prop gap l zero n p u v = ×_prop le_prop (Fits-prop gap (slice_index p 0) (length (row n))) u v
-Passes-prop gap l (suc h) n p u v = λ i. (
+Passes-prop stop l zero n p u v = ×_prop le_prop (Fits-prop stop (slice_index p 0) (length (row n))) u v
+Passes-prop stop l (suc h) n p u v = λ i. (
   le_prop u.0 v.0 i,
-  →_prop (Fits-prop gap (slice_index p (suc h)) (length (row n))) u.1 v.1 i,
-  →_prop (×_prop le_prop (Passes-prop gap l h (child n (slice_index p (suc h))) p)) u.2 v.2 i,
+  →_prop (Fits-prop stop (slice_index p (suc h)) (length (row n))) u.1 v.1 i,
+  →_prop (×_prop le_prop (Passes-prop stop l h (child n (slice_index p (suc h))) p)) u.2 v.2 i,
 )
 
-pub ReachesIn-prop : (gap : Bool) (l : ℕ) (r : Option Node) (h : ℕ) (p : List ℕ) → IsProp (ReachesIn gap l r h p)
-ReachesIn-prop gap l None h p u v = Fits-prop gap 0 0 u v
-ReachesIn-prop gap l (Some n) h p u v = λ i. record { passes = Passes-prop gap l h n p u.passes v.passes i }
+pub ReachesIn-prop : (stop : Stop) (l : ℕ) (r : Option Node) (h : ℕ) (p : List ℕ) → IsProp (ReachesIn stop l r h p)
+ReachesIn-prop stop l None h p u v = Fits-prop stop 0 0 u v
+ReachesIn-prop stop l (Some n) h p u v = λ i. record { passes = Passes-prop stop l h n p u.passes v.passes i }

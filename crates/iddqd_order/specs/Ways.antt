@@ -3,6 +3,7 @@ use Rattle.std.specs.Prelude.{◌≡◌, ℕ, ◌+◌, ◌<◌, ◌≤◌, List,
 use Rattle.iddqd_order.specs.declared.btree_table.node.Node.{Node}
 use Rattle.iddqd_order.specs.declared.btree_table.ways.Way.{Way}
 use Rattle.iddqd_order.specs.Node.{flat, Holds, spot}
+use Rattle.iddqd_order.specs.declared.btree_table.path.TheConstants.{LEVELS}
 
 -- from the index to which the path p goes at level l, the path q goes to the next one, at the level that is
 -- answered, if there is one below n
@@ -12,10 +13,10 @@ StepsOn h n l p (Some m) q = Holds m h n q × (spot m h n q ≡ spot l h n p + 1
 
 -- the way goes to the index at its place, if there is one
 pub record IsWay (h : ℕ) (n : Node) (w : Way) : Type 0 where
-  pub path : length w.path ≡ 12
+  pub path : length w.spot.path ≡ LEVELS
   pub within : w.place ≤ length (flat h n)
-  pub holds : w.place < length (flat h n) → Holds w.level h n w.path
-  pub leads : w.place < length (flat h n) → spot w.level h n w.path ≡ w.place
+  pub holds : w.place < length (flat h n) → Holds w.spot.level h n w.spot.path
+  pub leads : w.place < length (flat h n) → spot w.spot.level h n w.spot.path ≡ w.place
 
 -- the other tree has as many indexes, and each path that goes to an index of the one goes to the same place in the
 -- other

@@ -1,12 +1,9 @@
--- At most three indexes in order: what is among them, and what their removal leaves of a store.
+-- At most three indexes in order: what is among them.
 use Rattle.std.proofs.Common.{◌≡◌, ◌≢◌, ◌⊎◌, inl, inr, ◌↔◌, ◌<◌, ◌≤◌, ℕ, List, [], ◌∷◌, length, filter_map, Option, Some, None, IsSome, refl, sym, ap, subst, arith}
 use Rattle.std.specs.List.{Contains}
-use Rattle.iddqd.specs.Store.{Store, IsValid, get, removed}
-use Rattle.iddqd.proofs.LiveLemmas.{item_at, get-removed_other}
-use Rattle.iddqd.proofs.StoreLemmas.{contains_head, contains_tail, contains_cases, contains_none, IsValid-removed}
-use Rattle.iddqd_keys.specs.Scan.{IsLive}
+use Rattle.iddqd.proofs.StoreLemmas.{contains_head, contains_tail, contains_cases, contains_none}
 use Rattle.iddqd_tri.specs.Clashes.{IsBefore, IsOneOf, IsOneOfTwo, AreInOrder}
-use Rattle.iddqd_tri.specs.TriState.{IsRising, removed_all}
+use Rattle.iddqd_keys.specs.Removals.{IsRising}
 
 -- two steps and a third put three in order
 module _
@@ -172,31 +169,3 @@ none_listed a b c o none = by_view (view a b c o) none
     by_view one_there none = absurd (cc)
     by_view (two_there less) none = absurd (cc)
     by_view (three_there less more) none = absurd (cc)
-
-module _ {T : Type 0} where
-  -- each of these indexes is live once those before it were removed
-  abbrev pub AreLiveInTurn : Store T → List ℕ → Type 0
-  AreLiveInTurn s [] = Unit {0}
-  AreLiveInTurn s (ix ∷ rest) = ((item : T) × (get s ix ≡ Some item)) × AreLiveInTurn (removed s ix) rest
-
-  pub AreLiveInTurn-rising :
-      (s : Store T) (indexes : List ℕ)
-      → IsRising indexes
-      → ((ix : ℕ) → Contains indexes ix → IsLive s ix)
-      → AreLiveInTurn s indexes
-  AreLiveInTurn-rising s [] rising live = tt
-  AreLiveInTurn-rising s (x ∷ rest) rising live = (
-    item_at s x (live x (contains_head x rest)),
-    AreLiveInTurn-rising (removed s x) rest rising.1 (λ ix here.
-        let above = rising.0 ix here in
-        let other : ix ≢ x = λ same. omega (arith, same, above) in
-        rw (get-removed_other s x ix other) (live ix (contains_tail x ix rest here))),
-  )
-
-  pub IsValid-removed_all :
-      (s : Store T) (indexes : List ℕ)
-      → AreLiveInTurn s indexes
-      → IsValid s
-      → IsValid (removed_all s indexes)
-  IsValid-removed_all s [] live valid = valid
-  IsValid-removed_all s (x ∷ rest) live valid = IsValid-removed_all (removed s x) rest live.1 (IsValid-removed s x live.0.0 valid live.0.1)

@@ -15,13 +15,16 @@ use Rattle.iddqd_by_hash.proofs.FindLemmas.{StandsForOne-key}
 use Rattle.iddqd_keys.proofs.ScanLemmas.{scan_hits}
 use Rattle.iddqd_tri.specs.Clashes.{IsOneOf, AreInOrder}
 use Rattle.iddqd_tri.specs.TriKeys.{ItemKey, TriKeys, hashing_in, shares, hashes_in}
-use Rattle.iddqd_tri.specs.TriState.{Maps, TriState, unbound_all, bound, removed_all, maps_without, maps_without_all, maps_with, IsTriState, ClashesAt, HasNoClash, AreClashes}
+use Rattle.iddqd_keys.specs.Removals.{removed_all}
+use Rattle.iddqd_tri.specs.TriState.{Maps, TriState, unbound_all, bound, maps_without, maps_without_all, maps_with, IsTriState, ClashesAt, HasNoClash, AreClashes}
 use Rattle.iddqd_tri.specs.TriTables.{maps_of, tri_state_of}
-use Rattle.iddqd_tri.specs.TriCalls.{padded, FindsOne, RefusesItem, Overwriting, HasNoPlace}
+use Rattle.iddqd_keys.specs.Removals.{padded}
+use Rattle.iddqd_tri.specs.TriCalls.{FindsOne, RefusesItem, Overwriting, HasNoPlace}
 use Rattle.iddqd_tri.specs.declared.tri_tables.TriTables.{TriTables}
 use Rattle.iddqd_tri.specs.declared.tri_refusal.TriRefusal.{TriRefusal}
 use Rattle.iddqd_tri.specs.declared.tri_refusal.TriRefusal.TheVariants.{Full, Memory}
-use Rattle.iddqd_tri.proofs.ClashLemmas.{listed, Contains-listed, IsRising-listed, at_most_three, AreLiveInTurn, AreLiveInTurn-rising}
+use Rattle.iddqd_keys.proofs.RemovalLemmas.{AreLiveInTurn, AreLiveInTurn-rising}
+use Rattle.iddqd_tri.proofs.ClashLemmas.{listed, Contains-listed, IsRising-listed, at_most_three}
 use Rattle.iddqd_tri.proofs.TriLemmas.{AreLawful, IsTriState-unbound, IsTriState-unbound_all, IsTriState-bound, HasNoClash-removed}
 
 -- look-ups in a table that is exact

@@ -13,10 +13,11 @@ use Rattle.iddqd_by_hash.proofs.HoldsLemmas.{next_unfiled, Holds-empty, Holds-re
 use Rattle.iddqd_by_hash.proofs.PlaceLemmas.{IsExact-empty, IsExact-inserted, Keeps-removed}
 use Rattle.iddqd_keys.proofs.ScanLemmas.{live_before}
 use Rattle.iddqd_tri.specs.TriKeys.{Three, TriKeys, hashing_in, hashes_in, tri_keys_of}
-use Rattle.iddqd_tri.specs.TriState.{Maps, TriState, empty_tri_state, unbound, unbound_all, bound, removed_all, maps_without, maps_with, HoldLive, IsTriState, HasNoClash, AreClashes}
+use Rattle.iddqd_keys.specs.Removals.{removed_all}
+use Rattle.iddqd_tri.specs.TriState.{Maps, TriState, empty_tri_state, unbound, unbound_all, bound, maps_without, maps_with, HoldLive, IsTriState, HasNoClash, AreClashes}
 use Rattle.iddqd_tri.specs.TriTables.{AreUnfiled}
 use Rattle.iddqd_tri.specs.declared.tri_item.TriItem.{Ghosts}
-use Rattle.iddqd_tri.proofs.ClashLemmas.{AreLiveInTurn}
+use Rattle.iddqd_keys.proofs.RemovalLemmas.{AreLiveInTurn}
 
 module _ {T : Type 0} where
   pub AreUnfiled-next : (s : Store T) (maps : Maps) → HoldLive s maps → IsValid s → AreUnfiled maps (next_index s)

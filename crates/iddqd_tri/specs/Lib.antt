@@ -14,5 +14,6 @@ pub use Rattle.iddqd_tri.specs.TriKeys.{tri_keys_of, hashing_in, shares}
 pub use Rattle.iddqd_tri.specs.TriState.{empty_tri_state, unbound, unbound_all, bound}
 pub use Rattle.iddqd_tri.specs.TriState.{IsTriState, HasNoClash, AreClashes}
 pub use Rattle.iddqd_tri.specs.TriMemory.{no_memory, capacity, room, reaching, Grows, Shrinks, ReservesItems, NeedsMemory}
-pub use Rattle.iddqd_tri.specs.TriCalls.{padded, FindsOne, RemovesItem, Overwriting}
+pub use Rattle.iddqd_keys.specs.Removals.{padded}
+pub use Rattle.iddqd_tri.specs.TriCalls.{FindsOne, RemovesItem, Overwriting}
 pub use Rattle.iddqd_tri.specs.TriRefusal.{tri_refusal_text}

@@ -1,18 +1,13 @@
 -- What each call of items with three unique keys may answer, and what state it leaves.
 use Rattle.std.specs.Prelude.{◌≡◌, ℕ, suc, zero, Bool, List, [], ◌∷◌, map, Option, Some, None, Result, Ok, Err}
 use Rattle.iddqd.specs.Store.{Store, get, next_index, IsFull}
+use Rattle.iddqd_keys.specs.Removals.{padded}
 use Rattle.iddqd_keys.specs.Scan.{IsHit, AnswersScan, passes_by}
 use Rattle.iddqd_by_hash.specs.Hashed.{StandsForOne}
 use Rattle.iddqd_tri.specs.TriKeys.{ItemKey, TriKeys, hashing_in}
 use Rattle.iddqd_tri.specs.TriState.{TriState, unbound, unbound_all, bound, HasNoClash, AreClashes}
 use Rattle.iddqd_tri.specs.declared.tri_refusal.TriRefusal.{TriRefusal}
 use Rattle.iddqd_tri.specs.declared.tri_refusal.TriRefusal.TheVariants.{Full, Memory}
-
--- so many: what the list has, and then none
-abbrev pub padded : {T : Type 0} → ℕ → List (Option T) → List (Option T)
-padded zero items = []
-padded (suc n) [] = None ∷ padded n []
-padded (suc n) (item ∷ rest) = item ∷ padded n rest
 
 -- The item comes back: the store is full, or else memory was refused.
 abbrev pub HasNoPlace : {T : Type 0} → Store T → T → TriRefusal T → Type 0

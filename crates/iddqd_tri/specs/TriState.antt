@@ -6,6 +6,7 @@ use Rattle.std.specs.FinMap as finite
 use Rattle.std.specs.FinMap.{FinMap}
 use Rattle.std.specs.Coded.{Coded, code_by, coded×, coded_ℕ}
 use Rattle.iddqd.specs.Store.{Store, store_code, IsValid, empty_within, next_index, inserted, removed}
+use Rattle.iddqd_keys.specs.Removals.{IsRising, removed_all}
 use Rattle.iddqd_keys.specs.Scan.{IsHit}
 use Rattle.iddqd_by_hash.specs.Hashed.{Holds, IsExact}
 use Rattle.iddqd_tri.specs.TriKeys.{Three, TriKeys, hashing_in, shares, hashes_in}
@@ -64,11 +65,6 @@ abbrev pub maps_without_all : Maps → List ℕ → Maps
 maps_without_all maps [] = maps
 maps_without_all maps (ix ∷ rest) = maps_without_all (maps_without maps ix) rest
 
--- the store after the removal of these live indexes, one after the other
-abbrev pub removed_all : {T : Type 0} → Store T → List ℕ → Store T
-removed_all s [] = s
-removed_all s (ix ∷ rest) = removed_all (removed s ix) rest
-
 -- each of the maps has exactly the live indexes
 pub record HoldLive {T : Type 0} (s : Store T) (maps : Maps) : Type 0 where
   pub first : Holds s maps.first
@@ -88,11 +84,6 @@ module _ {T S : Type 0} where
   abbrev pub unbound_all : TriState T S → List ℕ → TriState T S
   unbound_all s indexes =
       record s { store = removed_all s.store indexes; maps = maps_without_all s.maps indexes }
-
--- each member is less than all behind it
-abbrev pub IsRising : List ℕ → Type 0
-IsRising [] = ⊤
-IsRising (x ∷ rest) = ((y : ℕ) → Contains rest y → x < y) × IsRising rest
 
 module _ {T K1 K2 K3 S : Type 0} (keys : TriKeys T K1 K2 K3 S) where
   -- the item was stored under the next index, and that index was entered under the hash of each key

@@ -8,10 +8,12 @@ ghost use Rattle.std.specs.Option.{option_and_then};
 ghost use Rattle.iddqd.specs.{get, room, live_count, next_index, inserted, removed, IsFull, IsValid};
 ghost use Rattle.iddqd_keys.specs.Scan.{IsLive};
 ghost use Rattle.iddqd_tri.specs.Clashes.{AreInOrder, IsOneOf, clashing};
-ghost use Rattle.iddqd_tri.specs.TriState.{maps_without, maps_with, maps_without_all, removed_all, HoldLive};
+ghost use Rattle.iddqd_keys.specs.Removals.{removed_all};
+ghost use Rattle.iddqd_tri.specs.TriState.{maps_without, maps_with, maps_without_all, HoldLive};
 ghost use Rattle.iddqd_tri.specs.TriMemory.{SlotsGrow};
 ghost use Rattle.iddqd_tri.specs.TriTables.{maps_of, hashes_of, memory_of, tables_memory, HaveRoom, TablesGrow, maps_without_one, removed_one};
-ghost use Rattle.iddqd_tri.specs.TriCalls.{padded, HasNoPlace};
+ghost use Rattle.iddqd_keys.specs.Removals.{padded};
+ghost use Rattle.iddqd_tri.specs.TriCalls.{HasNoPlace};
 
 use crate::clashes::Clashes;
 use crate::tri_item::TriItem;

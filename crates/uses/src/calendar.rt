@@ -89,7 +89,8 @@ impl Calendar {
 
     /// The appointment with this number, exactly where there is one.
     pub fn numbered(&self, number: u32) -> Option<Appointment>
-        ensures { (a : Appointment) → (result ≡ Some a) ↔ (IsBooked self.now.booked.state.store a × (a.number ≡ number)) }
+        ensures { (a : Appointment) → (result ≡ Some a)
+            ↔ (IsBooked self.now.booked.state.store a × (a.number ≡ number)) }
     {
         match self.booked.get1(&number) {
             Some(appointment) => Some(*appointment),

@@ -1,10 +1,10 @@
 //! A diary of appointments: the calls of keyed items that `calendar` and `guests` don't make, and what each promises.
-ghost use Rattle.std.specs.Prelude.{◌≡◌, ◌↔◌, ◌≤◌, ℕ, IsTrue, Some, IfSome, IfOk, OnOk, min};
+ghost use Rattle.std.specs.Prelude.{◌≡◌, ◌↔◌, ◌≤◌, ◌+◌, ℕ, IsTrue, Some, IfSome, IfOk, OnOk, min};
 ghost use Rattle.std.specs.Ordering.{nat_cmp, eq_by_cmp};
 ghost use Rattle.iddqd_maps.specs.LiveItems.{live_pairs};
 ghost use Rattle.iddqd_keyed.specs.Scan.{IsHit};
 ghost use Rattle.iddqd_keyed.specs.Store.{get, live_count, rebound};
-ghost use Rattle.iddqd_keyed.specs.{capacity, room, reservable};
+ghost use Rattle.iddqd_keyed.specs.{capacity, empty_state, empty_state_within, no_memory, room, reservable};
 ghost use Rattle.uses.specs.declared.calendar.Appointment.{Appointment};
 
 use crate::calendar::Appointment;
@@ -14,7 +14,7 @@ use iddqd_maps::item_index::ItemIndex;
 use iddqd_maps::item_set::Iter;
 use std::alloc::{AllocError, Global};
 
-type Diary = KeyedItems<Appointment, DefaultHashBuilder>;
+type Diary = KeyedItems<Appointment>;
 
 /// How many appointments there are.
 pub fn count(diary: &Diary) -> usize
@@ -86,7 +86,42 @@ pub fn extend_at(diary: &mut Diary, ix: ItemIndex, minutes: u32) -> Option<()>
 pub fn with_room(alloc: Global, appointments: u32) -> Result<Diary, AllocError>
     ensures { IfOk result (λ diary. appointments ≤ room diary) }
 {
-    KeyedItems::with_capacity(alloc, DefaultHashBuilder::default(), appointments as usize)
+    KeyedItems::with_capacity_and_default_hasher(alloc, appointments as usize)
+}
+
+/// The same under a hasher with a seed of one's own.
+pub fn with_room_and_hasher(
+    alloc: Global,
+    hasher: DefaultHashBuilder,
+    appointments: u32,
+) -> Result<Diary, AllocError>
+    ensures { IfOk result (λ diary. appointments ≤ room diary) }
+{
+    KeyedItems::with_capacity(alloc, hasher, appointments as usize)
+}
+
+/// An empty diary, which takes no memory.
+pub fn empty(alloc: Global) -> Diary
+    ensures state { result.state ≡ empty_state result.state.hasher }
+    ensures memory { result.memory ≡ no_memory }
+{
+    KeyedItems::with_default_hasher(alloc)
+}
+
+/// An empty diary for at most so many appointments, which takes no memory.
+pub fn within(alloc: Global, limit: u32) -> Diary
+    ensures state { result.state ≡ empty_state_within limit result.state.hasher }
+    ensures memory { result.memory ≡ no_memory }
+{
+    KeyedItems::with_limit_and_default_hasher(alloc, limit)
+}
+
+/// Removes the appointments that start before then, and returns how many they were. It takes no memory.
+pub fn close_before(diary: &mut Diary, start: u32) -> usize
+    ensures count { result + live_count diary.new.state.store ≡ live_count diary.old.state.store }
+    ensures memory { diary.new.memory ≡ diary.old.memory }
+{
+    diary.retain(|appointment| appointment.start >= start)
 }
 
 /// How many appointments it can hold without asking for memory.

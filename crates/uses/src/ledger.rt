@@ -113,6 +113,24 @@ pub fn close_before(ledger: &mut Ledger, day: u32) -> usize
     ledger.remove_range_by::<ByDay, _, _>(Bound::Unbounded, Bound::Excluded(&day), |_order| ())
 }
 
+/// Removes those orders of a day that come to less than so much, and returns how many they were.
+pub fn drop_small(ledger: &mut Ledger, day: u32, least: u64) -> usize
+    ensures count { result + live_count ledger.new.store ≡ live_count ledger.old.store }
+    ensures memory { ledger.new.memory ≡ ledger.old.memory }
+{
+    ledger.retain_group_by::<ByDay, _, _>(&day, |order| order.amount >= least)
+}
+
+/// The same of the orders up to a day.
+pub fn drop_small_until(ledger: &mut Ledger, day: u32, least: u64) -> usize
+    ensures count { result + live_count ledger.new.store ≡ live_count ledger.old.store }
+    ensures memory { ledger.new.memory ≡ ledger.old.memory }
+{
+    ledger.retain_range_by::<ByDay, _, _>(Bound::Unbounded, Bound::Included(&day), |order| {
+        order.amount >= least
+    })
+}
+
 /// Removes the orders of a day, and returns what they come to, or the greatest number where that is more.
 pub fn close_day(ledger: &mut Ledger, day: u32) -> u64
     ensures closed { (ix : ℕ) (order : Order) → get ledger.old.store ix ≡ Some order → order.day ≡ day →

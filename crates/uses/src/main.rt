@@ -4,6 +4,7 @@
 mod badges;
 mod board;
 mod calendar;
+mod customers;
 mod depot;
 mod devices;
 mod diary;

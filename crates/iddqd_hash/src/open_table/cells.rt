@@ -70,21 +70,21 @@ fn later_match<T>(tags: &[u8], cells: &[Cell<T>], from: usize, hash: u64) -> Opt
     next_match(tags, cells, from, hash)
 }
 
-/// The first place from the home of a hash on that has a pair under it, or none where an empty cell comes first.
+/// What `next_match` gives, for a place that is mostly near: that is tried before the loop.
 #[inline(always)]
-pub fn first_match<T>(tags: &[u8], cells: &[Cell<T>], hash: u64) -> Option<usize>
+pub fn near_match<T>(tags: &[u8], cells: &[Cell<T>], from: usize, hash: u64) -> Option<usize>
     requires power { IsPowerOfTwo (length tags.now) }
     requires ends { HasEmpty tags.now }
     requires probed { IsProbed tags.now (slots_of cells.now) }
-    ensures { FindsNext tags.now (slots_of cells.now) hash (hash % length tags.now) result }
+    requires inside { from < length tags.now }
+    ensures { FindsNext tags.now (slots_of cells.now) hash from result }
 {
-    let home = home_of(hash, tags.len());
     let tag = tag_of(hash);
     if tags.len() > LARGE {
-        if tags[home] == tag && cells[home].hash == hash {
-            return Some(home);
+        if tags[from] == tag && cells[from].hash == hash {
+            return Some(from);
         }
-    } else if let Some(near) = near_stop(tags, home, tag) {
+    } else if let Some(near) = near_stop(tags, from, tag) {
         if tags[near] != tag {
             return None;
         }
@@ -92,7 +92,7 @@ pub fn first_match<T>(tags: &[u8], cells: &[Cell<T>], hash: u64) -> Option<usize
             return Some(near);
         }
     }
-    next_match(tags, cells, home, hash)
+    next_match(tags, cells, from, hash)
 }
 
 /// The place and the value of the pair that a look-up hits.
@@ -111,7 +111,7 @@ pub fn find_cell<'a, T, F: FnMut(&T) -> bool>(
         (slot_at (slots_of cells.now)) (option_map (λ found. found.0) result) }
     ensures value { IfSome result (λ found. slot_at (slots_of cells.now) found.0 ≡ Some (hash, found.1.now)) }
 {
-    let mut found = first_match(tags, cells, hash);
+    let mut found = near_match(tags, cells, home_of(hash, tags.len()), hash);
     while let Some(place) = found {
         let value = value_in(&cells[place]);
         if eq(value) {

@@ -107,7 +107,8 @@ impl<T: BiHashItem, S: BuildHasher> KeyIndex<T, S> for BiIndex<T> {
           Indexes-keys_shared T.first_key T.Key1.eq T.Key1.hash_input S.BuildHasher S.Hasher.Hasher T.Key1.Eq.laws
               T.Key1.respects_eq state s (filed x.tables.first.table) is.0 t (HaveSameKeys-first first second s t same),
           Indexes-keys_shared T.second_key T.Key2.eq T.Key2.hash_input S.BuildHasher S.Hasher.Hasher T.Key2.Eq.laws
-              T.Key2.respects_eq state s (filed x.tables.second.table) is.1 t (HaveSameKeys-second first second s t same),
+              T.Key2.respects_eq state s (filed x.tables.second.table) is.1 t
+              (HaveSameKeys-second first second s t same),
         ) };
 
     ghost equivalence = { and_equiv (shares_laws T.first_key T.Key1.eq T.Key1.Eq.laws)

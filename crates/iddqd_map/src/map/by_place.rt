@@ -56,6 +56,7 @@ impl<T, X: KeyIndex<T, S>, S> Map<T, X, S> {
         X: TakesAt<P, T, S>,
         Q: HashQuery<X::Key>,
         ensures removes { Removes self.old (passes_by X.key_at (Q.stands_for query)) result self.new }
+        ensures gone { HasNoHit self.new.store (passes_by X.key_at (Q.stands_for query)) }
         ensures room { room self.old ≤ room self.new }
     {
         let ix = self.indexes.take(&self.items, &self.state, query)?;
@@ -69,6 +70,7 @@ impl<T, X: KeyIndex<T, S>, S> Map<T, X, S> {
     where
         X: TakesQuery<Q, T, S>,
         ensures removes { Removes self.old (X.stands_for query) result self.new }
+        ensures gone { HasNoHit self.new.store (X.stands_for query) }
         ensures room { room self.old ≤ room self.new }
     {
         let ix = self.indexes.take_query(&self.items, &self.state, query)?;

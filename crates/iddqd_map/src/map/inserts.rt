@@ -1,5 +1,6 @@
 //! Items come into a map. All memory is taken before anything is written.
-ghost use Rattle.std.specs.Prelude.{◌+◌, ◌≤◌};
+ghost use Rattle.std.specs.Prelude.{◌≡◌, ◌+◌, ◌≤◌, IfOk, OnOk, OnErr};
+ghost use Rattle.iddqd.specs.{inserted, next_index};
 ghost use Rattle.iddqd_map.specs.Map.{map_with, room};
 ghost use Rattle.iddqd_map.specs.Calls.{Inserts};
 ghost use Rattle.iddqd_map.specs.KeyIndex.{IsIndexed};
@@ -20,6 +21,9 @@ impl<T, X: Inserts<T, S>, S> Map<T, X, S> {
     /// left. A refusal hands the item back, and the contents stay. Each key is hashed once and looked up once.
     pub fn insert_unique(&mut self, item: T) -> Result<ItemIndex, InsertRefusal<T, X::Conflict>>
         ensures inserts { Inserts X.alike X.most X.conflicts self.old item result self.new }
+        ensures index { IfOk result (λ ix. ix ≡ next_index self.old.store) }
+        ensures stored { OnOk result (self.new.store ≡ inserted self.old.store item) }
+        ensures unchanged { OnErr result (self.new.store ≡ self.old.store) }
         ensures room { room self.old ≤ room self.new + 1 }
     {
         let known = X::known(&self.state, &item);

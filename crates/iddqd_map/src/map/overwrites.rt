@@ -9,7 +9,7 @@ ghost use Rattle.iddqd_map.specs.Map.{map_with};
 ghost use Rattle.iddqd_map.specs.Calls.{OverwritesInto};
 ghost use Rattle.iddqd_map.specs.KeyIndex.{IsIndexed};
 ghost use Rattle.iddqd_map.specs.Overwrite.{TakesAll};
-ghost use Rattle.iddqd_map.specs.Several.{padded};
+ghost use Rattle.iddqd_keys.specs.Removals.{padded};
 
 use super::Map;
 use super::inserts::insert;

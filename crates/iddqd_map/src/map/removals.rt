@@ -1,5 +1,6 @@
 //! Items leave a map. That takes no memory.
-ghost use Rattle.std.specs.Prelude.{◌≤◌};
+ghost use Rattle.std.specs.Prelude.{◌≡◌, ◌≤◌, None};
+ghost use Rattle.iddqd.specs.{get};
 ghost use Rattle.iddqd_map.specs.Map.{RemovesAt, room};
 
 use super::Map;
@@ -11,6 +12,8 @@ impl<T, X: Removes<T, S>, S> Map<T, X, S> {
     /// Takes the item at an index out of the map, if there is one. It takes no memory.
     pub fn remove_at(&mut self, ix: ItemIndex) -> Option<T>
         ensures removes { RemovesAt self.old ix result self.new }
+        ensures value { result ≡ get self.old.store ix }
+        ensures gone { get self.new.store ix ≡ None }
         ensures room { room self.old ≤ room self.new }
     {
         if self.items.get(ix).is_none() {

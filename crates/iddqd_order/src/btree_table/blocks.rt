@@ -2,8 +2,7 @@
 ghost use Rattle.std.specs.Prelude.{◌≡◌, ℕ, ◌+◌, ◌<◌, IfOk, IsOk};
 ghost use Rattle.iddqd_order.specs.Node.{IsSpare};
 
-use crate::btree_table::node::Node;
-use crate::btree_table::row::CAPACITY;
+use crate::btree_table::node::{CHILDREN, Node};
 use std::alloc::{AllocError, Global};
 use std::marker::Model;
 
@@ -60,7 +59,7 @@ impl Blocks {
     {
         let mut blocks = Vec::with_capacity(alloc, count)?;
         while blocks.len() < count {
-            let block = Vec::with_capacity(alloc, CAPACITY + 1)?;
+            let block = Vec::with_capacity(alloc, CHILDREN)?;
             blocks.push_reserved(block);
         }
         Ok(Blocks { blocks })

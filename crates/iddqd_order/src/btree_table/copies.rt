@@ -4,8 +4,7 @@ ghost use Rattle.iddqd_order.specs.Copies.{IsCopy, IsTreeCopy};
 ghost use Rattle.iddqd_order.specs.Node.{IsFormed};
 ghost use Rattle.iddqd_order.specs.Tree.{IsTree};
 
-use crate::btree_table::node::Node;
-use crate::btree_table::row::CAPACITY;
+use crate::btree_table::node::{CHILDREN, Node};
 use std::alloc::{AllocError, Global};
 
 // Copies a tree, node by node. Refused, it lets go of all.
@@ -35,7 +34,7 @@ impl Node {
                 children: Vec::new(alloc),
             });
         }
-        let mut children = Vec::with_capacity(alloc, CAPACITY + 1)?;
+        let mut children = Vec::with_capacity(alloc, CHILDREN)?;
         for i in 0..self.children.len() {
             children.push_reserved(self.children[i].copy(height - 1, alloc)?);
         }

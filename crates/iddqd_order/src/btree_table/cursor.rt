@@ -1,19 +1,37 @@
-//! A gap in a tree, from which a walk goes on to either side.
+//! A gap in a tree, from which a walk goes on towards either end.
 //!
 //! Beside the path from the root a cursor keeps the leaf, so that it comes down from the root for a new leaf alone. A
 //! walk ahead keeps the node above the leaf too, and comes down once in some nine leaves: once a leaf, a walk along
 //! 1,000 indexes took twice the time, and one along a million 1.4 times.
-ghost use Rattle.std.specs.Prelude.{◌≡◌, ℕ, ◌<◌, ◌≤◌, length, slice_index, IfSome, IsNone, true, false};
-ghost use Rattle.iddqd_order.specs.Cursor.{AreBeside, AtEdge, Compares, Over, Steps, IsGap, Stands, edge_of, gap_of, leaf, low, to_gap};
+ghost use Rattle.std.specs.Prelude.{◌≡◌, ℕ, ◌<◌, ◌≤◌, length, slice_index, IfSome, IsNone};
+ghost use Rattle.iddqd_order.specs.Cursor.{AreBeside, AtEdge, Compares, Over, Steps, IsGap, Stands, edge_of, gap_of, leaf, low, opposite, to_gap};
 ghost use Rattle.iddqd_order.specs.declared.btree_table.node.Node.{Node as NodeOf};
 ghost use Rattle.iddqd_order.specs.Node.{flat, Goes, IsFormed, place};
 ghost use Rattle.iddqd_order.specs.Tree.{IsTree, GoesIn, in_order, place_in};
 
 use crate::btree_table::node::Node;
-use crate::btree_table::path::Path;
-use crate::btree_table::row::Row;
+use crate::btree_table::path::{LEVELS, Path};
+use crate::btree_table::row::{CAPACITY, Row};
 use iddqd::item_index::ItemIndex;
 use std::cmp::Ordering;
+
+// An end of the list of all indexes, to which a walk goes.
+#[derive(Clone, Copy)]
+pub enum End {
+    Front,
+    Back,
+}
+
+impl End {
+    fn opposite(self) -> End
+        ensures { result ≡ opposite self }
+    {
+        match self {
+            End::Front => End::Back,
+            End::Back => End::Front,
+        }
+    }
+}
 
 // A leaf and a place in it, with the way from the root to the leaf. The path's own place in the leaf is
 // another one.
@@ -27,11 +45,11 @@ pub struct Cursor<'a> {
 }
 
 impl<'a> Cursor<'a> {
-    // The last gap of a tree, or the first.
-    pub fn end(root: &'a Option<Node>, height: usize, last: bool) -> Cursor<'a>
+    // The gap at an end of a tree.
+    pub fn at_end(root: &'a Option<Node>, height: usize, end: End) -> Cursor<'a>
         requires { IsTree root.now height }
         ensures stands { Stands root.now height result }
-        ensures gap { gap_of root.now height result ≡ edge_of last (length (in_order root.now height)) }
+        ensures gap { gap_of root.now height result ≡ edge_of end (length (in_order root.now height)) }
     {
         let mut path = Path::new();
         match root {
@@ -42,7 +60,7 @@ impl<'a> Cursor<'a> {
                 low: None,
             },
             Some(node) => {
-                let row = node.edge(height, &mut path, last);
+                let row = node.edge(height, &mut path, end);
                 Cursor {
                     path,
                     row,
@@ -61,17 +79,13 @@ impl<'a> Cursor<'a> {
         ensures gap { gap_of root.now height result ≡ place_in root.now height path.now }
     {
         match root {
-            None => Cursor::end(root, height, false),
-            Some(node) => {
-                path.is_whole();
-                let at = path.get(0);
-                Cursor {
-                    path: *path,
-                    row: node.leaf(height, path),
-                    at,
-                    low: None,
-                }
-            }
+            None => Cursor::at_end(root, height, End::Front),
+            Some(node) => Cursor {
+                path: *path,
+                row: node.leaf(height, path),
+                at: path.leaf_place(),
+                low: None,
+            },
         }
     }
 
@@ -80,7 +94,7 @@ impl<'a> Cursor<'a> {
         requires tree { IsTree root.now height }
         requires stands { Stands root.now height self.old }
         ensures stands { Stands root.now height self.new }
-        ensures next { Steps true (in_order root.now height)
+        ensures next { Steps End.Back (in_order root.now height)
             (gap_of root.now height self.old) result (gap_of root.now height self.new) }
     {
         match self.row.get(self.at) {
@@ -97,14 +111,14 @@ impl<'a> Cursor<'a> {
         requires tree { IsTree root.now height }
         requires stands { Stands root.now height self.old }
         ensures stands { Stands root.now height self.new }
-        ensures next { Steps false (in_order root.now height)
+        ensures next { Steps End.Front (in_order root.now height)
             (gap_of root.now height self.old) result (gap_of root.now height self.new) }
     {
         if self.at > 0 {
             self.at -= 1;
             return Some(self.row[self.at]);
         }
-        self.leave(root, height, false)
+        self.leave(root, height, End::Front)
     }
 
     // The index behind the leaf.
@@ -114,7 +128,7 @@ impl<'a> Cursor<'a> {
         requires stands { Stands root.now height self.old }
         requires end { length self.old.row.now ≤ self.old.at }
         ensures stands { Stands root.now height self.new }
-        ensures next { Steps true (in_order root.now height)
+        ensures next { Steps End.Back (in_order root.now height)
             (gap_of root.now height self.old) result (gap_of root.now height self.new) }
     {
         let known = self.low;
@@ -127,39 +141,46 @@ impl<'a> Cursor<'a> {
                 return Some(low.row.get(place));
             }
         }
-        self.leave(root, height, true)
+        self.leave(root, height, End::Back)
     }
 
-    // The index on a side of the leaf, by a way down from the root.
-    pub fn leave(&mut self, root: &'a Option<Node>, height: usize, ahead: bool) -> Option<ItemIndex>
+    // The index that stands next to the leaf towards an end, by a way down from the root.
+    pub fn leave(
+        &mut self,
+        root: &'a Option<Node>,
+        height: usize,
+        towards: End,
+    ) -> Option<ItemIndex>
         requires tree { IsTree root.now height }
         requires gap { IsGap root.now height self.old.path self.old.at }
         ensures stands { IfSome result (λ _. Stands root.now height self.new) }
         ensures unchanged { IsNone result → self.new ≡ self.old }
-        ensures next { Steps ahead (in_order root.now height)
+        ensures next { Steps towards (in_order root.now height)
             (gap_of root.now height self.old) result (gap_of root.now height self.new) }
     {
         let Some(node) = root else {
             return None;
         };
         let mut path = self.gap();
-        let Some(found) = node.step_over(height, &mut path, ahead) else {
+        let Some(found) = node.step_over(height, &mut path, towards) else {
             return None;
         };
         self.row = found.1;
         self.at = path.get(0);
         self.path = path;
         self.low = None;
-        if !ahead {
-            return Some(found.0);
+        match towards {
+            End::Front => Some(found.0),
+            End::Back => {
+                self.low = node.low(height, &path);
+                Some(found.0)
+            }
         }
-        self.low = node.low(height, &path);
-        Some(found.0)
     }
 
     // The path to the gap.
     pub fn gap(&self) -> Path
-        requires { self.now.at ≤ 12 }
+        requires { self.now.at ≤ CAPACITY }
         ensures { result ≡ to_gap self.now.path self.now.at }
     {
         let mut path = self.path;
@@ -184,7 +205,7 @@ impl<'a> Cursor<'a> {
 impl Path {
     // How the gap to which the path goes stands to that of another path, from a level down.
     pub fn compare(&self, other: &Path, level: usize) -> Ordering
-        requires { level ≤ 11 }
+        requires { level < LEVELS }
         ensures { (n : NodeOf) → IsFormed level n → Goes level n self.now → Goes level n other.now →
             Compares result (place level n self.now) (place level n other.now) }
     {
@@ -196,53 +217,50 @@ impl Path {
     }
 }
 
-// The last place of a row, or the first.
-fn edge_place(row: &Row, last: bool) -> usize
-    ensures { result ≡ edge_of last (length row.now) }
+// The place of the gap at an end of a row.
+fn edge_place(row: &Row, end: End) -> usize
+    ensures { result ≡ edge_of end (length row.now) }
 {
-    if last { row.len() } else { 0 }
+    match end {
+        End::Front => 0,
+        End::Back => row.len(),
+    }
 }
 
-// The place in a row of the index beside a gap, and the gap behind it.
-fn beside(place: usize, count: usize, ahead: bool) -> Option<(usize, usize)>
+// The place in a row of the index next to a gap towards an end, and the gap beyond that index.
+fn beside(place: usize, count: usize, towards: End) -> Option<(usize, usize)>
     requires { place ≤ count }
-    ensures { AreBeside ahead count place result }
+    ensures { AreBeside towards count place result }
 {
-    if ahead {
-        if place < count {
-            Some((place, place + 1))
-        } else {
-            None
-        }
-    } else if place > 0 {
-        Some((place - 1, place - 1))
-    } else {
-        None
+    match towards {
+        End::Front if place > 0 => Some((place - 1, place - 1)),
+        End::Back if place < count => Some((place, place + 1)),
+        _ => None,
     }
 }
 
 impl Node {
-    // Makes a path go to the last gap below a node, or to the first, and answers its leaf.
-    fn edge(&self, level: usize, path: &mut Path, last: bool) -> &[ItemIndex]
+    // Makes a path go to the gap at an end of what is below a node, and answers its leaf.
+    fn edge(&self, level: usize, path: &mut Path, end: End) -> &[ItemIndex]
         requires formed { IsFormed level self.now }
-        requires levels { level ≤ 11 }
-        requires path { length path.old ≡ 12 }
-        ensures edge { AtEdge last level self.now result.now path.new }
-        ensures path { length path.new ≡ 12 }
+        requires levels { level < LEVELS }
+        requires path { length path.old ≡ LEVELS }
+        ensures edge { AtEdge end level self.now result.now path.new }
+        ensures path { length path.new ≡ LEVELS }
         ensures above { (m : ℕ) → level < m → slice_index path.new m ≡ slice_index path.old m }
     {
-        let place = edge_place(&self.row, last);
+        let place = edge_place(&self.row, end);
         path.set(level, place);
         if level == 0 {
             return self.row.as_slice();
         }
-        self.children[place].edge(level - 1, path, last)
+        self.children[place].edge(level - 1, path, end)
     }
 
     // The leaf to which a path goes.
     fn leaf(&self, level: usize, path: &Path) -> &[ItemIndex]
         requires formed { IsFormed level self.now }
-        requires levels { level ≤ 11 }
+        requires levels { level < LEVELS }
         requires goes { Goes level self.now path.now }
         ensures { result.now ≡ leaf level self.now path.now }
     {
@@ -255,7 +273,7 @@ impl Node {
     // The node above that leaf, if the tree is more than a leaf.
     fn low(&self, level: usize, path: &Path) -> Option<&Node>
         requires formed { IsFormed level self.now }
-        requires levels { level ≤ 11 }
+        requires levels { level < LEVELS }
         requires goes { Goes level self.now path.now }
         ensures { IfSome result (λ k. (0 < level) × (k.now ≡ low level self.now path.now)) }
     {
@@ -268,40 +286,40 @@ impl Node {
         self.children[path.get(level)].low(level - 1, path)
     }
 
-    // The index beside the gap to which a path goes, on a side. The path then goes to the gap behind it,
-    // whose leaf is answered too.
+    // The index next to the gap to which a path goes, towards an end. The path then goes to the gap beyond that
+    // index, whose leaf is answered too.
     pub fn step_over(
         &self,
         level: usize,
         path: &mut Path,
-        ahead: bool,
+        towards: End,
     ) -> Option<(ItemIndex, &[ItemIndex])>
         requires formed { IsFormed level self.now }
-        requires levels { level ≤ 11 }
-        requires path { length path.old ≡ 12 }
+        requires levels { level < LEVELS }
+        requires path { length path.old ≡ LEVELS }
         requires goes { Goes level self.now path.old }
-        ensures ended { IsNone result → place level self.now path.old ≡ edge_of ahead (length (flat level self.now)) }
+        ensures ended { IsNone result → place level self.now path.old ≡ edge_of towards (length (flat level self.now)) }
         ensures unchanged { IsNone result → path.new ≡ path.old }
-        ensures over { IfSome result (λ r. Over ahead level self.now path.old r.0 r.1.now path.new) }
-        ensures path { length path.new ≡ 12 }
+        ensures over { IfSome result (λ r. Over towards level self.now path.old r.0 r.1.now path.new) }
+        ensures path { length path.new ≡ LEVELS }
         ensures above { (m : ℕ) → level < m → slice_index path.new m ≡ slice_index path.old m }
     {
         let place = path.get(level);
         if level == 0 {
-            let Some((at, next)) = beside(place, self.row.len(), ahead) else {
+            let Some((at, next)) = beside(place, self.row.len(), towards) else {
                 return None;
             };
             path.set(0, next);
             return Some((self.row.get(at), self.row.as_slice()));
         }
-        if let Some(found) = self.children[place].step_over(level - 1, path, ahead) {
+        if let Some(found) = self.children[place].step_over(level - 1, path, towards) {
             return Some(found);
         }
-        let Some((at, next)) = beside(place, self.row.len(), ahead) else {
+        let Some((at, next)) = beside(place, self.row.len(), towards) else {
             return None;
         };
         path.set(level, next);
-        let row = self.children[next].edge(level - 1, path, !ahead);
+        let row = self.children[next].edge(level - 1, path, towards.opposite());
         Some((self.row.get(at), row))
     }
 }

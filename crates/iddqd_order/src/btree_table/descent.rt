@@ -4,16 +4,17 @@
 //! bound. A path is written only where it leaves the left edge: before, it is what it began as.
 ghost use Rattle.std.specs.Prelude.{◌≡◌, ℕ, ◌+◌, ◌*◌, ◌<◌, ◌≤◌, Some, None, IfSome, IsNone, Contains, length, slice_index};
 ghost use Rattle.iddqd_order.specs.Descent.{Descends, FindsIn};
+ghost use Rattle.iddqd_order.specs.Digits.{row_asks};
 ghost use Rattle.iddqd_order.specs.MapBTreeTable.{StandsAt};
 ghost use Rattle.iddqd_order.specs.Node.{flat, IsFormed, HoldsIndex};
 ghost use Rattle.iddqd_order.specs.Search.{CanSearch, SearchesWithin};
 
 use crate::btree_table::asking::Asking;
 use crate::btree_table::node::Node;
-use crate::btree_table::path::Path;
+use crate::btree_table::path::{LEVELS, Path};
 use crate::btree_table::reading::Reads;
 use crate::btree_table::row::{CAPACITY, Row};
-use crate::btree_table::search::search;
+use crate::btree_table::search::{Split, search};
 use iddqd::item_index::ItemIndex;
 
 impl Node {
@@ -47,7 +48,7 @@ impl Node {
 
     // Writes the way of a search to a path of first places. It answers the level at which the search
     // ends, or, where it ends in a leaf, how many nodes at the lower end of the way are full. As long as
-    // the way is the leftmost, the search leans to the left.
+    // the way is the leftmost, rows are split at the left.
     pub fn descend<R, F: FnMut(ItemIndex) -> R, H: Reads<R>>(
         &self,
         height: usize,
@@ -57,12 +58,12 @@ impl Node {
         path: &mut Path,
     ) -> Result<usize, usize>
         requires formed { IsFormed height self.now }
-        requires levels { height ≤ 11 }
-        requires path { length path.old ≡ 12 }
+        requires levels { height < LEVELS }
+        requires path { length path.old ≡ LEVELS }
         requires first { (l : ℕ) → l ≤ height → slice_index path.old l ≡ 0 }
         requires can_search { CanSearch F.FnMut (flat height self.now) tie.now asking.old }
-        ensures path { length path.new ≡ 12 }
-        ensures descends { Descends F.FnMut (H.reading how.now) tie.now (4 * (height + 1)) (height + 1)
+        ensures path { length path.new ≡ LEVELS }
+        ensures descends { Descends F.FnMut (H.reading how.now) tie.now (row_asks * (height + 1)) (height + 1)
             height self.now asking.old path.new result asking.new }
     {
         let mut node = self;
@@ -93,11 +94,11 @@ impl Node {
     // in the path.
     pub fn locate(&self, height: usize, ix: ItemIndex, path: &mut Path) -> Option<usize>
         requires formed { IsFormed height self.now }
-        requires levels { height ≤ 11 }
-        requires path { length path.old ≡ 12 }
+        requires levels { height < LEVELS }
+        requires path { length path.old ≡ LEVELS }
         ensures there { IfSome result (λ l. HoldsIndex l height self.now path.new ix) }
         ensures missing { IsNone result → Contains (flat height self.now) ix → ⊥ }
-        ensures path { length path.new ≡ 12 }
+        ensures path { length path.new ≡ LEVELS }
         ensures above { (l : ℕ) → height < l → slice_index path.new l ≡ slice_index path.old l }
     {
         if let Some(i) = position(self.row.as_slice(), ix) {
@@ -123,31 +124,34 @@ impl Node {
 fn full_from(row: &Row, level: usize, full: usize) -> usize
     requires { level < full }
     ensures above { level ≤ result }
-    ensures not_full { length row.now < 11 → result ≡ level }
-    ensures is_full { 11 ≤ length row.now → result ≡ full }
-    ensures few { length row.now ≤ 11 }
+    ensures not_full { length row.now < CAPACITY → result ≡ level }
+    ensures is_full { CAPACITY ≤ length row.now → result ≡ full }
+    ensures few { length row.now ≤ CAPACITY }
 {
     if row.len() < CAPACITY { level } else { full }
 }
 
-// The place in a row of what is sought, or where it would go. A search that leans to the left asks as
-// often as may be: four asks tell fifteen places apart.
+// Four asks tell so many places apart, and a row has no more.
+const ROW_PLACES: usize = 15;
+
+// The place in a row of what is sought, or where it would go. At the left edge of the tree it asks as often
+// as may be.
 fn search_row<R, F: FnMut(ItemIndex) -> R, H: Reads<R>>(
     row: &Row,
-    leans: bool,
+    is_leftmost: bool,
     asking: &mut Asking<F>,
     how: &H,
     tie: &Option<ItemIndex>,
 ) -> Result<usize, usize>
     requires { CanSearch F.FnMut row.now tie.now asking.old }
-    ensures { SearchesWithin F.FnMut (H.reading how.now) row.now 4 tie.now asking.old result asking.new }
+    ensures { SearchesWithin F.FnMut (H.reading how.now) row.now row_asks tie.now asking.old result asking.new }
 {
     let len = row.len();
     let items = row.as_slice();
-    if leans {
-        search(items, 15, true, asking, how, tie)
+    if is_leftmost {
+        search(items, ROW_PLACES, Split::Left, asking, how, tie)
     } else {
-        search(items, len, false, asking, how, tie)
+        search(items, len, Split::Middle, asking, how, tie)
     }
 }
 

@@ -2,13 +2,15 @@
 //!
 //! An entry keeps the way that its search went, so a removal, or an insert at the place, asks nothing.
 //! Equal answers are a hit, so no order of two indexes is needed to find a vacant place.
-ghost use Rattle.std.specs.Prelude.{false, true, ◌≡◌, ◌≢◌, ◌+◌, ◌<◌, ◌≤◌, None, IsOk, IfOk, Contains, length};
+ghost use Rattle.std.specs.Prelude.{◌≡◌, ◌≢◌, ◌+◌, ◌<◌, ◌≤◌, None, IsOk, IfOk, Contains, length};
 ghost use Rattle.iddqd_order.specs.MapBTreeTable.{order_of, capacity, without, sentinel};
+ghost use Rattle.iddqd_order.specs.Node.{AtIndex, InGap};
 ghost use Rattle.iddqd_order.specs.Search.{CanSearch};
 ghost use Rattle.iddqd_order.specs.Tree.{GoesIn, FullIn, HoldsIn, ReachesIn-prop, FullIn-prop};
 
 use crate::btree_table::asking::Asking;
-use crate::btree_table::path::Path;
+use crate::btree_table::gap::Gap;
+use crate::btree_table::path::Spot;
 use crate::btree_table::prepared_insert::PreparedBTreeInsert;
 use crate::btree_table::reading::{AsOrdering, ByQuery, Reads};
 use crate::btree_table::table::MapBTreeTable;
@@ -30,21 +32,18 @@ pub enum Entry<'a> {
 #[derive(Drop)]
 pub struct OccupiedEntry<'a> {
     table: &'a mut MapBTreeTable,
-    path: Path,
-    level: usize,
-    ghost holds: { HoldsIn level table.now.root table.now.height path } by { ReachesIn-prop false level table.now.root table.now.height path },
+    spot: Spot,
+    ghost holds: { HoldsIn spot.level table.now.root table.now.height spot.path } by { ReachesIn-prop AtIndex spot.level table.now.root table.now.height spot.path },
 }
 
 /// A place for an index among those of a table. Let go, it leaves the table as it was.
 #[derive(Drop)]
 pub struct VacantEntry<'a> {
     pub(super) table: &'a mut MapBTreeTable,
-    pub(super) path: Path,
-    // How many nodes at the lower end of the path are full.
-    pub(super) full: usize,
-    ghost goes: { GoesIn table.now.root table.now.height path } by { ReachesIn-prop true 0 table.now.root table.now.height path },
-    ghost full_nodes: { FullIn full table.now.root table.now.height path } by { FullIn-prop full table.now.root table.now.height path },
-    ghost levels: { full ≤ table.now.height + 1 },
+    pub(super) gap: Gap,
+    ghost goes: { GoesIn table.now.root table.now.height gap.path } by { ReachesIn-prop InGap 0 table.now.root table.now.height gap.path },
+    ghost full_nodes: { FullIn gap.full table.now.root table.now.height gap.path } by { FullIn-prop gap.full table.now.root table.now.height gap.path },
+    ghost levels: { gap.full ≤ table.now.height + 1 },
 }
 
 impl MapBTreeTable {
@@ -93,18 +92,9 @@ impl MapBTreeTable {
         ensures table { (entry_table result).now ≡ self.old }
         ensures entered { Enters F.FnMut (H.reading how.now) (order_of self.old) asking.old result asking.new }
     {
-        let (path, end) = self.descend(asking, how, &None);
-        match end {
-            Ok(level) => Entry::Occupied(OccupiedEntry {
-                table: self,
-                path,
-                level,
-            }),
-            Err(full) => Entry::Vacant(VacantEntry {
-                table: self,
-                path,
-                full,
-            }),
+        match self.descend(asking, how, &None) {
+            Ok(spot) => Entry::Occupied(OccupiedEntry { table: self, spot }),
+            Err(gap) => Entry::Vacant(VacantEntry { table: self, gap }),
         }
     }
 }
@@ -117,7 +107,7 @@ impl<'a> OccupiedEntry<'a> {
     pub fn get(&self) -> ItemIndex
         ensures { result ≡ entry_index self.now }
     {
-        self.table.index_at(&self.path, self.level)
+        self.table.index_at(&self.spot)
     }
 
     /// Removes the index, and hands it back. It asks nothing and takes no memory. The others keep
@@ -129,10 +119,9 @@ impl<'a> OccupiedEntry<'a> {
             ≡ without (order_of (occupied_table self.entry).now) (entry_index self.entry) }
         ensures memory { capacity self.exit.0.now ≡ capacity (occupied_table self.entry).now }
     {
-        let path = self.path;
-        let level = self.level;
-        let ix = self.table.index_at(&path, level);
-        self.table.remove_at(ix, &path, level);
+        let spot = self.spot;
+        let ix = self.table.index_at(&spot);
+        self.table.remove_at(ix, &spot);
         ix
     }
 }
@@ -162,15 +151,14 @@ impl<'a> VacantEntry<'a> {
         ensures no_blocks { length (order_of (vacant_table self.entry).now) < capacity (vacant_table self.entry).now →
             IfOk result (λ p. prepared_insert.blocks_of p ≡ 0) }
     {
-        let VacantEntry { table, path, full } = self;
-        let blocks = match table.take_blocks(full) {
+        let VacantEntry { table, gap } = self;
+        let blocks = match table.take_blocks(gap.full) {
             Ok(blocks) => blocks,
             Err(AllocError) => return Err(AllocError),
         };
         Ok(PreparedBTreeInsert {
             table,
-            path,
-            full,
+            gap,
             ix,
             blocks,
         })

@@ -22,9 +22,9 @@ use std::cmp::Ordering;
 /// A place for an index among those of a table.
 #[derive(Drop)]
 pub struct Gap {
-    path: Path,
+    pub(super) path: Path,
     // How many nodes at the lower end of the path are full.
-    full: usize,
+    pub(super) full: usize,
 }
 
 #[tactic(auto, unfolding(crate::specs::MapBTreeTable::order_of, crate::specs::MapBTreeTable::capacity))]
@@ -40,11 +40,9 @@ impl MapBTreeTable {
         requires { CanSearch F.FnMut (order_of self.now) None asking.old }
         ensures { FindsGap F.FnMut (λ r. r) self.now asking.old result asking.new }
     {
-        let _tree = self.tree();
-        let (path, end) = self.descend(asking, &AsOrdering, &None);
-        match end {
-            Ok(level) => Err(self.index_at(&path, level)),
-            Err(full) => Ok(Gap { path, full }),
+        match self.descend(asking, &AsOrdering, &None) {
+            Ok(spot) => Err(self.index_at(&spot)),
+            Err(gap) => Ok(gap),
         }
     }
 
@@ -60,8 +58,7 @@ impl MapBTreeTable {
         requires can_ask { CanSearch F.FnMut (order_of self.now) (Some ix) asking.old }
         ensures { FindsOwnGap F.FnMut (λ r. r) self.now ix asking.old result asking.new }
     {
-        let (path, full) = self.find_gap(ix, asking, &AsOrdering);
-        Gap { path, full }
+        self.find_gap(ix, asking, &AsOrdering)
     }
 
     /// No block: what an insert below the capacity needs. It takes no memory.
@@ -99,7 +96,7 @@ impl MapBTreeTable {
         ensures inserted { order_of self.new ≡ insert (order_of self.old) (gap_place self.old gap.now) ix }
         ensures memory { capacity self.new ≡ capacity self.old }
     {
-        self.insert_at(&gap.path, gap.full, ix, blocks);
+        self.insert_at(gap, ix, blocks);
     }
 
     /// Takes a stored index out and puts it where its new key belongs. The others keep their order. Equal keys are

@@ -1,11 +1,11 @@
 //! The walk along a table that is given up.
 //!
 //! It owns the tree, so it has no reference into it: each end has a copy of its leaf.
-ghost use Rattle.std.specs.Prelude.{◌≡◌, length, true, false};
+ghost use Rattle.std.specs.Prelude.{◌≡◌, length};
 ghost use Rattle.iddqd_order.specs.Cursor.{IsAt, Steps, edge_of, to_gap};
 ghost use Rattle.iddqd_order.specs.Tree.{IsTree, in_order, place_in};
 
-use crate::btree_table::cursor::Cursor;
+use crate::btree_table::cursor::{Cursor, End};
 use crate::btree_table::node::Node;
 use crate::btree_table::path::Path;
 use crate::btree_table::row::Row;
@@ -14,25 +14,24 @@ use std::fmt::{self, Debug, Formatter, Write};
 use std::iter::{DoubleEndedIterator, ExactSizeIterator, FusedIterator};
 use std::marker::Model;
 
-// One end of what is left: a copy of a leaf, a place in it, and the way from the root to that leaf. The
-// path's own place in the leaf is another one.
+// A cursor with a copy of its leaf. The path's own place in the leaf is another one.
 #[derive(Drop)]
-struct End {
+struct OwnedCursor {
     path: Path,
     row: Row,
     at: usize,
 }
 
-impl End {
-    // The last gap of a tree, or the first.
-    fn new(root: &Option<Node>, height: usize, last: bool) -> End
+impl OwnedCursor {
+    // The gap at an end of a tree.
+    fn at_end(root: &Option<Node>, height: usize, end: End) -> OwnedCursor
         requires { IsTree root.now height }
         ensures at { IsAt root.now height result.path result.row result.at }
         ensures gap { place_in root.now height (to_gap result.path result.at)
-            ≡ edge_of last (length (in_order root.now height)) }
+            ≡ edge_of end (length (in_order root.now height)) }
     {
-        let cursor = Cursor::end(root, height, last);
-        End {
+        let cursor = Cursor::at_end(root, height, end);
+        OwnedCursor {
             path: cursor.path,
             row: Row::of(cursor.row),
             at: cursor.at,
@@ -44,7 +43,7 @@ impl End {
         requires tree { IsTree root.now height }
         requires at { IsAt root.now height self.old.path self.old.row self.old.at }
         ensures at { IsAt root.now height self.new.path self.new.row self.new.at }
-        ensures next { Steps true (in_order root.now height)
+        ensures next { Steps End.Back (in_order root.now height)
             (place_in root.now height (to_gap self.old.path self.old.at))
             result (place_in root.now height (to_gap self.new.path self.new.at)) }
     {
@@ -53,7 +52,7 @@ impl End {
             self.at += 1;
             return Some(ix);
         }
-        self.leave(root, height, true)
+        self.leave(root, height, End::Back)
     }
 
     // The index before.
@@ -61,7 +60,7 @@ impl End {
         requires tree { IsTree root.now height }
         requires at { IsAt root.now height self.old.path self.old.row self.old.at }
         ensures at { IsAt root.now height self.new.path self.new.row self.new.at }
-        ensures next { Steps false (in_order root.now height)
+        ensures next { Steps End.Front (in_order root.now height)
             (place_in root.now height (to_gap self.old.path self.old.at))
             result (place_in root.now height (to_gap self.new.path self.new.at)) }
     {
@@ -69,15 +68,15 @@ impl End {
             self.at -= 1;
             return Some(self.row.get(self.at));
         }
-        self.leave(root, height, false)
+        self.leave(root, height, End::Front)
     }
 
-    // The index on a side, beyond the leaf.
-    fn leave(&mut self, root: &Option<Node>, height: usize, ahead: bool) -> Option<ItemIndex>
+    // The index that stands next to the leaf towards an end.
+    fn leave(&mut self, root: &Option<Node>, height: usize, towards: End) -> Option<ItemIndex>
         requires tree { IsTree root.now height }
         requires at { IsAt root.now height self.old.path self.old.row self.old.at }
         ensures at { IsAt root.now height self.new.path self.new.row self.new.at }
-        ensures next { Steps ahead (in_order root.now height)
+        ensures next { Steps towards (in_order root.now height)
             (place_in root.now height (to_gap self.old.path self.old.at))
             result (place_in root.now height (to_gap self.new.path self.new.at)) }
     {
@@ -87,7 +86,7 @@ impl End {
             at: self.at,
             low: None,
         };
-        let Some(ix) = cursor.leave(root, height, ahead) else {
+        let Some(ix) = cursor.leave(root, height, towards) else {
             return None;
         };
         self.path = cursor.path;
@@ -105,8 +104,8 @@ impl End {
 pub struct IntoIter {
     root: Option<Node>,
     height: usize,
-    front: End,
-    back: End,
+    front: OwnedCursor,
+    back: OwnedCursor,
     left: usize,
 }
 
@@ -139,8 +138,8 @@ impl IntoIter {
         requires counted { len ≡ length (in_order root height) }
         ensures { indexes_to_come result ≡ in_order root height }
     {
-        let front = End::new(&root, height, false);
-        let back = End::new(&root, height, true);
+        let front = OwnedCursor::at_end(&root, height, End::Front);
+        let back = OwnedCursor::at_end(&root, height, End::Back);
         IntoIter {
             root,
             height,

@@ -1,5 +1,5 @@
 //! The walk along a table.
-use crate::btree_table::cursor::Cursor;
+use crate::btree_table::cursor::{Cursor, End};
 use crate::btree_table::node::Node;
 use iddqd::item_index::ItemIndex;
 use std::fmt::{self, Debug, Formatter, Write};
@@ -47,8 +47,8 @@ impl<'a> Iter<'a> {
         Iter {
             root,
             height,
-            front: Cursor::end(root, height, false),
-            back: Cursor::end(root, height, true),
+            front: Cursor::at_end(root, height, End::Front),
+            back: Cursor::at_end(root, height, End::Back),
             left: len,
         }
     }

@@ -6,12 +6,9 @@ ghost use Rattle.std.specs.Prelude.{◌≡◌, ◌<◌, ◌≤◌};
 ghost use Rattle.iddqd_order.specs.MapBTreeTable.{capacity, room};
 ghost use Rattle.iddqd_order.specs.Sizes.{TakesRoom, Reserves, Shrinks};
 
-use crate::btree_table::reserve::needed_blocks;
+use crate::btree_table::reserve::{MOST_INDEXES, needed_blocks};
 use crate::btree_table::table::MapBTreeTable;
 use std::alloc::{AllocError, Global};
-
-// There are no more indexes than those below `SENTINEL`.
-const MOST_INDEXES: usize = 4294967295;
 
 #[tactic(auto, unfolding(crate::specs::MapBTreeTable::order_of, crate::specs::MapBTreeTable::capacity))]
 impl MapBTreeTable {

@@ -6,13 +6,16 @@ ghost use Rattle.iddqd_order.specs.Reserve.{spare};
 ghost use Rattle.iddqd_order.specs.Row.{IsCut};
 
 use crate::btree_table::blocks::Blocks;
-use crate::btree_table::path::Path;
-use crate::btree_table::reserve::Reserve;
-use crate::btree_table::row::Row;
+use crate::btree_table::path::{LEVELS, Path};
+use crate::btree_table::reserve::{MOST_INDEXES, Reserve};
+use crate::btree_table::row::{CAPACITY, LEAST, Row};
 use iddqd::item_index::ItemIndex;
 use std::alloc::Global;
 
-// A node and all below it. The children lie in one block with room for twelve; a leaf has none.
+/// The most children of a node. A block has room for so many.
+pub const CHILDREN: usize = CAPACITY + 1;
+
+// A node and all below it. The children lie in one block; a leaf has none.
 #[derive(Drop)]
 pub struct Node {
     pub row: Row,
@@ -38,17 +41,17 @@ fn move_tail(from: &mut Vec<Node>, at: usize, to: &mut Vec<Node>)
 
 // Puts one more node after the i-th of twelve, and moves all but the first `low` to an empty block.
 fn cut_children(children: &mut Vec<Node>, low: usize, i: usize, after: Node, upper: &mut Vec<Node>)
-    requires full { vec_len children.old ≡ 12 }
+    requires full { vec_len children.old ≡ CHILDREN }
     requires some { 1 ≤ low }
-    requires not_all { low ≤ 12 }
-    requires within { i ≤ 11 }
+    requires not_all { low ≤ CHILDREN }
+    requires within { i ≤ CAPACITY }
     requires empty { upper.old.items ≡ [] }
-    requires room { 12 ≤ vec_capacity children.old }
-    requires other_room { 12 ≤ vec_capacity upper.old }
+    requires room { CHILDREN ≤ vec_capacity children.old }
+    requires other_room { CHILDREN ≤ vec_capacity upper.old }
     ensures parts { children.new.items ++ upper.new.items ≡ insert children.old.items (i + 1) after }
     ensures low { vec_len children.new ≡ low }
-    ensures capacity { 12 ≤ vec_capacity children.new }
-    ensures other_capacity { 12 ≤ vec_capacity upper.new }
+    ensures capacity { CHILDREN ≤ vec_capacity children.new }
+    ensures other_capacity { CHILDREN ≤ vec_capacity upper.new }
 {
     if i + 1 < low {
         move_tail(children, low - 1, upper);
@@ -62,12 +65,12 @@ fn cut_children(children: &mut Vec<Node>, low: usize, i: usize, after: Node, upp
 // Puts an index and the child after it into an inner node that isn't full.
 fn put_between(row: &mut Row, children: &mut Vec<Node>, i: usize, ix: ItemIndex, after: Node)
     requires within { i ≤ length row.old }
-    requires room { length row.old < 11 }
+    requires room { length row.old < CAPACITY }
     requires one_more { vec_len children.old ≡ length row.old + 1 }
-    requires has_room { 12 ≤ vec_capacity children.old }
+    requires has_room { CHILDREN ≤ vec_capacity children.old }
     ensures row { row.new ≡ insert row.old i ix }
     ensures children { children.new.items ≡ insert children.old.items (i + 1) after }
-    ensures has_room { 12 ≤ vec_capacity children.new }
+    ensures has_room { CHILDREN ≤ vec_capacity children.new }
 {
     row.insert(i, ix);
     let _ = children.insert(i + 1, after);
@@ -84,15 +87,15 @@ fn cut_inner(
     upper: &mut Vec<Node>,
 ) -> (ItemIndex, Row)
     requires within { i ≤ length row.old }
-    requires full { length row.old ≡ 11 }
-    requires one_more { vec_len children.old ≡ 12 }
-    requires has_room { 12 ≤ vec_capacity children.old }
+    requires full { length row.old ≡ CAPACITY }
+    requires one_more { vec_len children.old ≡ CHILDREN }
+    requires has_room { CHILDREN ≤ vec_capacity children.old }
     requires spare { IsSpare upper.old }
     ensures cut { IsCut row.old i ix row.new result.0 result.1 }
     ensures parts { children.new.items ++ upper.new.items ≡ insert children.old.items (i + 1) after }
     ensures one_more { vec_len children.new ≡ length row.new + 1 }
-    ensures has_room { 12 ≤ vec_capacity children.new }
-    ensures other_room { 12 ≤ vec_capacity upper.new }
+    ensures has_room { CHILDREN ≤ vec_capacity children.new }
+    ensures other_room { CHILDREN ≤ vec_capacity upper.new }
 {
     let (middle, upper_row) = row.cut(i, ix);
     cut_children(children, row.len() + 1, i, after, upper);
@@ -102,7 +105,7 @@ fn cut_inner(
 impl Node {
     // Puts an index where the path goes, in a leaf that isn't full.
     pub fn put_in_leaf(&mut self, height: usize, path: &Path, ix: ItemIndex)
-        requires low { height ≤ 11 }
+        requires low { height < LEVELS }
         requires formed { IsFormed height self.old }
         requires goes { Goes height self.old path.now }
         requires room { IsFullBelow 0 height self.old path.now }
@@ -129,14 +132,14 @@ impl Node {
         fresh: &mut Blocks,
         alloc: Global,
     )
-        requires low { height ≤ 11 }
+        requires low { height < LEVELS }
         requires some { 0 < full }
         requires not_all { full ≤ height }
         requires formed { IsFormed height self.old }
         requires goes { Goes height self.old path.now }
         requires full { IsFullBelow full height self.old path.now }
         requires enough { full ≤ (spare reserve.old + fresh.old) + 1 }
-        requires fits { reserve.old.inners + full ≤ 4294967296 }
+        requires fits { reserve.old.inners + full ≤ MOST_INDEXES + 1 }
         ensures put { IsPut height self.old self.new path.now ix (full - 1) }
         ensures counted { reserve.new.inners + 1 ≡ reserve.old.inners + full }
         ensures reserved { reserve.new.reserved ≡ reserve.old.reserved }
@@ -162,16 +165,16 @@ impl Node {
         fresh: &mut Blocks,
         alloc: Global,
     ) -> (ItemIndex, Node)
-        requires low { height ≤ 11 }
+        requires low { height < LEVELS }
         requires formed { IsFormed height self.old }
         requires goes { Goes height self.old path.now }
         requires full { IsFullBelow (height + 1) height self.old path.now }
         requires enough { height ≤ spare reserve.old + fresh.old }
-        requires fits { reserve.old.inners + height ≤ 4294967296 }
+        requires fits { reserve.old.inners + height ≤ MOST_INDEXES + 1 }
         ensures items { flat height self.new ++ result.0 ∷ flat height result.1
             ≡ insert (flat height self.old) (place height self.old path.now) ix }
-        ensures low { (5 ≤ length (row self.new)) × IsFormed height self.new }
-        ensures high { (5 ≤ length (row result.1)) × IsFormed height result.1 }
+        ensures low { (LEAST ≤ length (row self.new)) × IsFormed height self.new }
+        ensures high { (LEAST ≤ length (row result.1)) × IsFormed height result.1 }
         ensures inner { inners height self.new + inners height result.1 ≡ inners height self.old + height }
         ensures counted { reserve.new.inners ≡ reserve.old.inners + height }
         ensures reserved { reserve.new.reserved ≡ reserve.old.reserved }

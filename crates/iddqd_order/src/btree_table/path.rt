@@ -1,10 +1,18 @@
 //! A way down the tree.
 ghost use Rattle.std.specs.Prelude.{◌≡◌, ℕ, ◌<◌, ◌≤◌, List, IsTrue, length, slice_index, slice_set};
 
+use crate::btree_table::row::CAPACITY;
 use std::marker::Model;
 
 /// The most levels of a tree.
 pub const LEVELS: usize = 12;
+
+// The level at which a stored index stands, and a path that goes to it there.
+#[derive(Clone, Copy)]
+pub struct Spot {
+    pub path: Path,
+    pub level: usize,
+}
 
 // A place for each level: at level 0 a place in the leaf, and at a level above the leaves the place
 // of the child that is taken there.
@@ -23,14 +31,14 @@ impl Model for Path {
 
 impl Path {
     pub fn new() -> Path
-        ensures { length result ≡ 12 }
+        ensures { length result ≡ LEVELS }
     {
         Path::first()
     }
 
     // The path of first places.
     pub fn first() -> Path
-        ensures length { length result ≡ 12 }
+        ensures length { length result ≡ LEVELS }
         ensures places { (l : ℕ) → slice_index result l ≡ 0 }
     {
         Path {
@@ -38,15 +46,17 @@ impl Path {
         }
     }
 
-    // A law for proofs, which does nothing when it runs: there is a place for each level.
-    pub fn is_whole(&self)
-        ensures { length self.now ≡ 12 }
+    // The place in the leaf.
+    pub fn leaf_place(&self) -> usize
+        ensures place { result ≡ slice_index self.now 0 }
+        ensures length { length self.now ≡ LEVELS }
     {
-        let _places = &self.places;
+        let places = &self.places;
+        places[0] as usize
     }
 
     pub fn get(&self, level: usize) -> usize
-        requires { level < 12 }
+        requires { level < LEVELS }
         ensures { result ≡ slice_index self.now level }
     {
         let places = &self.places;
@@ -54,10 +64,10 @@ impl Path {
     }
 
     pub fn set(&mut self, level: usize, place: usize)
-        requires level { level < 12 }
-        requires place { place ≤ 12 }
+        requires level { level < LEVELS }
+        requires place { place ≤ CAPACITY }
         ensures place { self.new ≡ slice_set self.old level place }
-        ensures length { length self.new ≡ 12 }
+        ensures length { length self.new ≡ LEVELS }
     {
         self.places[level] = place as u8;
     }
@@ -65,12 +75,12 @@ impl Path {
     // Sets the place at a level, where the path hasn't got it. A path that is read soon after a write
     // waits for it.
     pub fn keep_or_set(&mut self, has_it: bool, level: usize, place: usize)
-        requires path { length self.old ≡ 12 }
-        requires level { level < 12 }
-        requires place { place ≤ 12 }
+        requires path { length self.old ≡ LEVELS }
+        requires level { level < LEVELS }
+        requires place { place ≤ CAPACITY }
         requires has_it { IsTrue has_it → slice_index self.old level ≡ place }
         ensures place { self.new ≡ slice_set self.old level place }
-        ensures length { length self.new ≡ 12 }
+        ensures length { length self.new ≡ LEVELS }
     {
         if !has_it {
             self.set(level, place);
@@ -79,13 +89,13 @@ impl Path {
 
     // Sets the place at a level, and the first place at each level below.
     pub fn turn(&mut self, level: usize, place: usize)
-        requires path { length self.old ≡ 12 }
-        requires level { level < 12 }
-        requires place { place ≤ 12 }
+        requires path { length self.old ≡ LEVELS }
+        requires level { level < LEVELS }
+        requires place { place ≤ CAPACITY }
         ensures here { slice_index self.new level ≡ place }
         ensures below { (l : ℕ) → l < level → slice_index self.new l ≡ 0 }
         ensures above { (l : ℕ) → level < l → slice_index self.new l ≡ slice_index self.old l }
-        ensures length { length self.new ≡ 12 }
+        ensures length { length self.new ≡ LEVELS }
     {
         for l in 0..level {
             self.set(l, 0);

@@ -5,12 +5,13 @@
 //! tree; the spare ones stay there until the insert. A refusal gives all back, and so does an insert that is
 //! let go. The blocks are of a type parameter, since a check follows no loan in a struct that owns memory by
 //! itself.
-ghost use Rattle.std.specs.Prelude.{true, ◌≡◌, ◌≢◌, insert, Contains};
+ghost use Rattle.std.specs.Prelude.{◌≡◌, ◌≢◌, insert, Contains};
 ghost use Rattle.iddqd_order.specs.MapBTreeTable.{order_of, capacity, fresh_for, sentinel};
+ghost use Rattle.iddqd_order.specs.Node.{InGap};
 ghost use Rattle.iddqd_order.specs.Tree.{GoesIn, FullIn, ReachesIn-prop, FullIn-prop};
 
 use crate::btree_table::blocks::{Blocks, HoldsBlocks};
-use crate::btree_table::path::Path;
+use crate::btree_table::gap::Gap;
 use crate::btree_table::table::MapBTreeTable;
 use iddqd::item_index::ItemIndex;
 
@@ -19,14 +20,12 @@ use iddqd::item_index::ItemIndex;
 #[must_use]
 pub struct PreparedBTreeInsert<'a, B: HoldsBlocks = Blocks> {
     pub(super) table: &'a mut MapBTreeTable,
-    pub(super) path: Path,
-    // How many nodes at the lower end of the path are full.
-    pub(super) full: usize,
+    pub(super) gap: Gap,
     pub(super) ix: ItemIndex,
     pub(super) blocks: B,
-    ghost goes: { GoesIn table.now.root table.now.height path } by { ReachesIn-prop true 0 table.now.root table.now.height path },
-    ghost full_nodes: { FullIn full table.now.root table.now.height path } by { FullIn-prop full table.now.root table.now.height path },
-    ghost as_many: { B.count blocks ≡ fresh_for table.now full },
+    ghost goes: { GoesIn table.now.root table.now.height gap.path } by { ReachesIn-prop InGap 0 table.now.root table.now.height gap.path },
+    ghost full_nodes: { FullIn gap.full table.now.root table.now.height gap.path } by { FullIn-prop gap.full table.now.root table.now.height gap.path },
+    ghost as_many: { B.count blocks ≡ fresh_for table.now gap.full },
     ghost absent: { Contains (order_of table.now) ix → ⊥ },
     ghost assigned: { ix ≢ sentinel },
 }
@@ -44,12 +43,11 @@ impl<'a> PreparedBTreeInsert<'a> {
     {
         let PreparedBTreeInsert {
             table,
-            path,
-            full,
+            gap,
             ix,
             blocks,
         } = self;
-        table.insert_at(&path, full, ix, blocks);
+        table.insert_at(&gap, ix, blocks);
         table
     }
 }
@@ -60,8 +58,7 @@ impl<B: HoldsBlocks> Drop for PreparedBTreeInsert<'_, B> {
     {
         let PreparedBTreeInsert {
             table: _,
-            path: _,
-            full: _,
+            gap: _,
             ix: _,
             blocks: _,
         } = self;

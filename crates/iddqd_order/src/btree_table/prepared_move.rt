@@ -75,8 +75,8 @@ impl MapBTreeTable {
         ensures reserved { self.new.reserved ≡ self.old.reserved }
         ensures asked { SearchAsks F.FnMut (order_of self.old) (Some ix) asking.old asking.new }
     {
-        let way = self.find_way(ix, asking, how);
-        if !self.remove_found(ix, &way) {
+        let spot = self.find_spot(ix, asking, how);
+        if !self.remove_found(ix, &spot) {
             self.remove_by_walk(ix);
         }
     }
@@ -97,8 +97,8 @@ impl MapBTreeTable {
         ensures entered { PutsIn F.FnMut (H.reading how.now) (order_of self.old) ix asking.old (order_of self.new) }
         ensures reserved { self.new.reserved ≡ self.old.reserved }
     {
-        let (path, full) = self.find_gap(ix, asking, how);
-        self.insert_at(&path, full, ix, blocks);
+        let gap = self.find_gap(ix, asking, how);
+        self.insert_at(&gap, ix, blocks);
     }
 }
 

@@ -5,7 +5,7 @@
 ghost use Rattle.std.specs.Prelude.{◌≡◌, ◌≤◌, IsTrue, false};
 ghost use Rattle.iddqd_order.specs.MapBTreeTable.{order_of, capacity, without, LeadsTo, LeadsTo-prop};
 
-use crate::btree_table::path::Path;
+use crate::btree_table::path::Spot;
 use crate::btree_table::table::MapBTreeTable;
 use iddqd::item_index::ItemIndex;
 
@@ -15,9 +15,8 @@ use iddqd::item_index::ItemIndex;
 pub struct PreparedBTreeRemove<'a> {
     pub(super) table: &'a mut MapBTreeTable,
     pub(super) ix: ItemIndex,
-    // The way to the index, a path and a level.
-    pub(super) way: Option<(Path, usize)>,
-    ghost there: { LeadsTo table.now ix way } by { LeadsTo-prop table.now ix way },
+    pub(super) spot: Option<Spot>,
+    ghost there: { LeadsTo table.now ix spot } by { LeadsTo-prop table.now ix spot },
 }
 
 impl<'a> PreparedBTreeRemove<'a> {
@@ -28,7 +27,7 @@ impl<'a> PreparedBTreeRemove<'a> {
     pub fn is_found(&self) -> bool
         ensures { result ≡ is_found self.now }
     {
-        self.way.is_some()
+        self.spot.is_some()
     }
 
     /// Removes the index, if the search found it, and says whether it did. The others keep their
@@ -43,7 +42,7 @@ impl<'a> PreparedBTreeRemove<'a> {
         ensures memory { capacity self.exit.0.now ≡ capacity (table_of self.entry).now }
     {
         let ix = self.ix;
-        let way = self.way;
-        self.table.remove_found(ix, &way)
+        let spot = self.spot;
+        self.table.remove_found(ix, &spot)
     }
 }

@@ -20,7 +20,7 @@ ghost use Rattle.iddqd_order.specs.Search.{CanSearch, SearchAsks};
 ghost use Rattle.iddqd_order.specs.Tree.{GoesIn, place_in};
 
 use crate::btree_table::asking::Asking;
-use crate::btree_table::cursor::Cursor;
+use crate::btree_table::cursor::{Cursor, End};
 use crate::btree_table::node::Node;
 use crate::btree_table::path::Path;
 use crate::btree_table::reading::{AsOrdering, ByQuery, Reads, Unequal};
@@ -96,7 +96,7 @@ impl<'a> Range<'a> {
             root,
             height,
             front: Cursor::new(root, height, front),
-            back: Cursor::end(root, height, true),
+            back: Cursor::at_end(root, height, End::Back),
         }
     }
 
@@ -279,7 +279,7 @@ impl MapBTreeTable {
         match lower {
             Bound::Included(query) => self.find_bound(asking, &ByQuery(query), Ordering::Less),
             Bound::Excluded(query) => self.find_bound(asking, &ByQuery(query), Ordering::Greater),
-            Bound::Unbounded => self.end(false),
+            Bound::Unbounded => self.end_path(End::Front),
         }
     }
 
@@ -298,7 +298,7 @@ impl MapBTreeTable {
         match upper {
             Bound::Included(query) => self.find_bound(asking, &ByQuery(query), Ordering::Greater),
             Bound::Excluded(query) => self.find_bound(asking, &ByQuery(query), Ordering::Less),
-            Bound::Unbounded => self.end(true),
+            Bound::Unbounded => self.end_path(End::Back),
         }
     }
 
@@ -316,21 +316,20 @@ impl MapBTreeTable {
         ensures bound { IsBoundBy F.FnMut (H.reading how.now) at_equal (order_of self.now) asking.old
             (place_in self.now.root self.now.height result) }
     {
-        let (path, end) = self.descend(asking, &Unequal { how, at_equal }, &None);
-        match end {
+        match self.descend(asking, &Unequal { how, at_equal }, &None) {
             // No answer is read as Equal.
             Ok(_) => unreachable!(),
-            Err(_) => path,
+            Err(gap) => gap.path,
         }
     }
 
-    // The way to the last gap, or to the first.
-    fn end(&self, last: bool) -> Path
+    // The way to the gap at an end.
+    fn end_path(&self, end: End) -> Path
         ensures goes { GoesIn self.now.root self.now.height result }
-        ensures gap { place_in self.now.root self.now.height result ≡ edge_of last (length (order_of self.now)) }
+        ensures gap { place_in self.now.root self.now.height result ≡ edge_of end (length (order_of self.now)) }
     {
         let (root, height) = self.tree();
-        Cursor::end(root, height, last).gap()
+        Cursor::at_end(root, height, end).gap()
     }
 
     // The indexes from one gap on up to another one, and none where that stands before.

@@ -11,10 +11,10 @@ ghost use Rattle.iddqd_order.specs.Node.{row, children, room, row as row_of, fla
 ghost use Rattle.iddqd_order.specs.Removal.{MayLackOne, IsMended, IsEmptied, inners_of, Recounts};
 ghost use Rattle.iddqd_order.specs.Tree.{in_order, inners_in, IsTree, HoldsIn, spot_in};
 
-use crate::btree_table::node::Node;
-use crate::btree_table::path::Path;
+use crate::btree_table::node::{CHILDREN, Node};
+use crate::btree_table::path::{LEVELS, Path};
 use crate::btree_table::reserve::Reserve;
-use crate::btree_table::row::{LEAST, Row};
+use crate::btree_table::row::{CAPACITY, LEAST, Row};
 use iddqd::item_index::ItemIndex;
 
 // Takes out the index to which the path goes at the level, and answers the new height. It takes no
@@ -71,7 +71,7 @@ impl Node {
     // Takes out the index to which the path goes at the level. The node may be left with one index
     // less.
     pub fn remove(&mut self, height: usize, path: &Path, level: usize, reserve: &mut Reserve)
-        requires low { height ≤ 11 }
+        requires low { height < LEVELS }
         requires some { 1 ≤ length (row self.old) }
         requires formed { IsFormed height self.old }
         requires holds { Holds level height self.old path.now }
@@ -144,7 +144,7 @@ impl Node {
 
     // Puts an index, and a child if there is one, before the others.
     fn put_first(&mut self, ix: ItemIndex, child: Option<Node>)
-        requires fits { length (row self.old) < 11 }
+        requires fits { length (row self.old) < CAPACITY }
         requires room { length (option_to_list child) + length (children self.old) ≤ room self.old }
         ensures row { row self.new ≡ ix ∷ row self.old }
         ensures children { children self.new ≡ option_to_list child ++ children self.old }
@@ -158,7 +158,7 @@ impl Node {
 
     // Puts an index, and a child if there is one, after the others.
     fn put_last(&mut self, ix: ItemIndex, child: Option<Node>)
-        requires fits { length (row self.old) < 11 }
+        requires fits { length (row self.old) < CAPACITY }
         requires room { length (option_to_list child) + length (children self.old) ≤ room self.old }
         ensures row { row self.new ≡ row self.old ++ ix ∷ [] }
         ensures children { children self.new ≡ children self.old ++ option_to_list child }
@@ -173,9 +173,9 @@ impl Node {
     // Puts an index and all of another node after the others. The other's block, if it has children,
     // goes to the reserve.
     fn join(&mut self, middle: ItemIndex, other: Node, reserve: &mut Reserve)
-        requires fits { length (row self.old) + length (row other) ≤ 10 }
+        requires fits { length (row self.old) + length (row other) < CAPACITY }
         requires room { length (children self.old) + length (children other) ≤ room self.old }
-        requires block { 0 < length (children other) → 12 ≤ room other }
+        requires block { 0 < length (children other) → CHILDREN ≤ room other }
         requires some { 1 ≤ reserve.old.inners }
         ensures row { row self.new ≡ row self.old ++ middle ∷ row other }
         ensures children { children self.new ≡ children self.old ++ children other }
@@ -213,7 +213,7 @@ fn mend(row: &mut Row, children: &mut Vec<Node>, i: usize, reserve: &mut Reserve
 #[inline(never)]
 fn fill_up(row: &mut Row, children: &mut Vec<Node>, i: usize, reserve: &mut Reserve)
     requires lacks { (h : ℕ) × MayLackOne h i row.old children.old.items }
-    requires poor { (d : Node) → length (row_of (slice_index_or children.old.items i d)) < 5 }
+    requires poor { (d : Node) → length (row_of (slice_index_or children.old.items i d)) < LEAST }
     requires some { 1 ≤ reserve.old.inners }
     ensures mended { (h : ℕ) → MayLackOne h i row.old children.old.items →
         IsMended h row.old children.old.items row.new children.new.items }
@@ -238,8 +238,8 @@ fn fill_up(row: &mut Row, children: &mut Vec<Node>, i: usize, reserve: &mut Rese
 // which has one too few.
 fn borrow_left(row: &mut Row, children: &mut Vec<Node>, left: usize)
     requires lacks { (h : ℕ) × MayLackOne h (left + 1) row.old children.old.items }
-    requires more { (d : Node) → 5 < length (row_of (slice_index_or children.old.items left d)) }
-    requires poor { (d : Node) → length (row_of (slice_index_or children.old.items (left + 1) d)) < 5 }
+    requires more { (d : Node) → LEAST < length (row_of (slice_index_or children.old.items left d)) }
+    requires poor { (d : Node) → length (row_of (slice_index_or children.old.items (left + 1) d)) < LEAST }
     ensures mended { (h : ℕ) → MayLackOne h (left + 1) row.old children.old.items →
         IsMended h row.old children.old.items row.new children.new.items }
     ensures inners { (h : ℕ) → inners_of h children.new.items ≡ inners_of h children.old.items }
@@ -256,8 +256,8 @@ fn borrow_left(row: &mut Row, children: &mut Vec<Node>, left: usize)
 fn borrow_right(row: &mut Row, children: &mut Vec<Node>, left: usize)
     requires lacks { (h : ℕ) × MayLackOne h left row.old children.old.items }
     requires within { left < length row.old }
-    requires more { (d : Node) → 5 < length (row_of (slice_index_or children.old.items (left + 1) d)) }
-    requires poor { (d : Node) → length (row_of (slice_index_or children.old.items left d)) < 5 }
+    requires more { (d : Node) → LEAST < length (row_of (slice_index_or children.old.items (left + 1) d)) }
+    requires poor { (d : Node) → length (row_of (slice_index_or children.old.items left d)) < LEAST }
     ensures mended { (h : ℕ) → MayLackOne h left row.old children.old.items →
         IsMended h row.old children.old.items row.new children.new.items }
     ensures inners { (h : ℕ) → inners_of h children.new.items ≡ inners_of h children.old.items }
@@ -274,7 +274,7 @@ fn merge(row: &mut Row, children: &mut Vec<Node>, left: usize, reserve: &mut Res
     requires lacks { (h : ℕ) × ((i : ℕ) × ((left ≤ i) × ((i ≤ left + 1) × MayLackOne h i row.old children.old.items))) }
     requires within { left < length row.old }
     requires few { (d : Node) → length (row_of (slice_index_or children.old.items left d))
-        + length (row_of (slice_index_or children.old.items (left + 1) d)) ≤ 10 }
+        + length (row_of (slice_index_or children.old.items (left + 1) d)) < CAPACITY }
     requires some { 1 ≤ reserve.old.inners }
     ensures mended { (h i : ℕ) → left ≤ i → i ≤ left + 1 → MayLackOne h i row.old children.old.items →
         IsMended h row.old children.old.items row.new children.new.items }

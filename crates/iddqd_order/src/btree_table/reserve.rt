@@ -10,17 +10,19 @@ ghost use Rattle.iddqd_order.specs.Node.{IsSpare};
 ghost use Rattle.iddqd_order.specs.Reserve.{spare, most_blocks};
 
 use crate::btree_table::blocks::Blocks;
-use crate::btree_table::node::Node;
-use crate::btree_table::row::CAPACITY;
+use crate::btree_table::node::{CHILDREN, Node};
 use std::alloc::{AllocError, Global};
 use std::marker::Model;
 
 // An inner node below the root has six children or more, of five indexes each at least. So each one more comes with
 // thirty indexes more.
-const INDEXES_OF_A_BLOCK: usize = 30;
+pub const INDEXES_OF_A_BLOCK: usize = 30;
 
 // So many indexes need no inner node: the root alone holds them.
-const FREE_INDEXES: usize = 10;
+pub const FREE_INDEXES: usize = 10;
+
+// There are no more indexes than those below `SENTINEL`.
+pub const MOST_INDEXES: usize = 4294967295;
 
 /// How many blocks so many indexes need at most.
 pub fn needed_blocks(indexes: usize) -> usize
@@ -43,7 +45,7 @@ fn add_blocks(blocks: &mut Vec<Vec<Node>>, count: usize, alloc: Global) -> Resul
     let kept = blocks.len();
     let wanted = kept + count;
     while blocks.len() < wanted {
-        match Vec::with_capacity(alloc, CAPACITY + 1) {
+        match Vec::with_capacity(alloc, CHILDREN) {
             Ok(block) => blocks.push_reserved(block),
             Err(AllocError) => {
                 blocks.truncate(kept);
@@ -119,7 +121,7 @@ impl Reserve {
     /// A block for one more inner node: one of these, or else one of the fresh ones.
     pub fn take(&mut self, fresh: &mut Blocks) -> Vec<Node>
         requires some { 0 < spare self.old + fresh.old }
-        requires fits { self.old.inners < 4294967296 }
+        requires fits { self.old.inners ≤ MOST_INDEXES }
         ensures block { IsSpare result }
         ensures one_more { self.new.inners ≡ self.old.inners + 1 }
         ensures reserved { self.new.reserved ≡ self.old.reserved }

@@ -6,13 +6,14 @@
 //!
 //! To read from a copy of each leaf, and to leave those before the first refusal where they are, took 0.85
 //! of the time where half stay, and a quarter where all do.
-ghost use Rattle.std.specs.Prelude.{◌≡◌, ℕ, ◌+◌, ◌-◌, ◌≤◌, length, take, Contains};
+ghost use Rattle.std.specs.Prelude.{◌≡◌, ℕ, ◌+◌, ◌-◌, ◌<◌, ◌≤◌, length, take, Contains};
 ghost use Rattle.iddqd_order.specs.Asks.{CanAsk};
 ghost use Rattle.iddqd_order.specs.Node.{row, flat, inners, IsFormed};
 ghost use Rattle.iddqd_order.specs.Retain.{RetainsTo};
 ghost use Rattle.iddqd_order.specs.Tree.{in_order, inners_in, IsTree};
 
 use crate::btree_table::node::Node;
+use crate::btree_table::path::LEVELS;
 use crate::btree_table::removal::lower;
 use crate::btree_table::reserve::Reserve;
 use crate::btree_table::ways::Way;
@@ -54,7 +55,7 @@ fn gather<F: FnMut(ItemIndex) -> bool>(
 ) -> usize
     requires formed { IsFormed height root.old }
     requires some { 1 ≤ length (row root.old) }
-    requires levels { height ≤ 11 }
+    requires levels { height < LEVELS }
     requires counted { len ≡ length (flat height root.old) }
     requires can_ask { CanAsk F.FnMut (Contains (flat height root.old)) f.old }
     ensures formed { IsFormed height root.new }

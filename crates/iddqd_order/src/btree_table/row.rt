@@ -2,6 +2,7 @@
 ghost use Rattle.std.specs.Prelude.{◌≡◌, ℕ, ◌+◌, ◌<◌, ◌≤◌, List, [], ◌∷◌, ◌++◌, length, take, drop, slice_index, slice_set};
 ghost use Rattle.std.specs.List.{insert, remove};
 ghost use Rattle.iddqd_order.specs.Row.{IsCut};
+ghost use Rattle.iddqd_order.specs.declared.btree_table.row.TheConstants.{CAPACITY};
 
 use iddqd::item_index::ItemIndex;
 use std::marker::Model;
@@ -24,7 +25,7 @@ impl Model for Row {
 
     ghost view = { λ a. take a.len a.items };
 
-    ghost invariant = { λ a. (length a.items ≡ 11) × (a.len ≤ 11) };
+    ghost invariant = { λ a. (length a.items ≡ CAPACITY) × (a.len ≤ CAPACITY) };
 }
 
 impl Row {
@@ -38,7 +39,7 @@ impl Row {
     }
 
     pub fn of(from: &[ItemIndex]) -> Row
-        requires { length from.now ≤ 11 }
+        requires { length from.now ≤ CAPACITY }
         ensures { result ≡ from.now }
     {
         let count = from.len() as u8;
@@ -49,7 +50,7 @@ impl Row {
 
     pub fn len(&self) -> usize
         ensures length { result ≡ length self.now }
-        ensures within { result ≤ 11 }
+        ensures within { result ≤ CAPACITY }
     {
         self.len as usize
     }
@@ -95,7 +96,7 @@ impl Row {
 
     pub fn insert(&mut self, at: usize, ix: ItemIndex)
         requires in_bounds { at ≤ length self.old }
-        requires room { length self.old < 11 }
+        requires room { length self.old < CAPACITY }
         ensures { self.new ≡ insert self.old at ix }
     {
         let len = self.len as usize;
@@ -105,7 +106,7 @@ impl Row {
     }
 
     pub fn push(&mut self, ix: ItemIndex)
-        requires { length self.old < 11 }
+        requires { length self.old < CAPACITY }
         ensures { self.new ≡ self.old ++ ix ∷ [] }
     {
         self.insert(self.len(), ix);
@@ -138,7 +139,7 @@ impl Row {
     }
 
     pub fn append(&mut self, other: &Row)
-        requires { length self.old + length other.now ≤ 11 }
+        requires { length self.old + length other.now ≤ CAPACITY }
         ensures { self.new ≡ self.old ++ other.now }
     {
         let len = self.len as usize;
@@ -151,25 +152,25 @@ impl Row {
     // Puts an index into a full row and cuts it in two: the index in the middle and the upper part
     // are answered.
     pub fn cut(&mut self, at: usize, ix: ItemIndex) -> (ItemIndex, Row)
-        requires full { length self.old ≡ 11 }
+        requires full { length self.old ≡ CAPACITY }
         requires in_bounds { at ≤ length self.old }
         ensures { IsCut self.old at ix self.new result.0 result.1 }
     {
-        if at <= 5 {
-            let upper = self.split_off(5);
-            if at == 5 {
+        if at <= LEAST {
+            let upper = self.split_off(LEAST);
+            if at == LEAST {
                 return (ix, upper);
             }
-            let middle = self.remove(4);
+            let middle = self.remove(LEAST - 1);
             self.insert(at, ix);
             (middle, upper)
         } else {
-            let mut upper = self.split_off(6);
-            if at == 6 {
+            let mut upper = self.split_off(LEAST + 1);
+            if at == LEAST + 1 {
                 return (ix, upper);
             }
             let middle = upper.remove(0);
-            upper.insert(at - 7, ix);
+            upper.insert(at - (LEAST + 2), ix);
             (middle, upper)
         }
     }

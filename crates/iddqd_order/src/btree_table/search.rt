@@ -49,29 +49,35 @@ pub(super) fn compare<R, F: FnMut(ItemIndex) -> R, H: Reads<R>>(
     }
 }
 
+// Where a search asks first: in the middle, or as far to the left as the number of its asks allows.
+#[derive(Clone, Copy)]
+pub(super) enum Split {
+    Middle,
+    Left,
+}
+
 // How many of so many indexes stand before the one that is asked about: half of them, or as few as
 // leave no more than `reach` behind it.
-fn count_before(leans: bool, count: usize, reach: usize) -> usize
+fn count_before(split: Split, count: usize, reach: usize) -> usize
     requires some { 0 < count }
     requires few { count ≤ 2 * reach + 1 }
     ensures within { result < count }
     ensures in_front { result ≤ reach }
     ensures behind { count ≤ result + reach + 1 }
 {
-    if leans {
-        (count - 1).saturating_sub(reach)
-    } else {
-        count / 2
+    match split {
+        Split::Middle => count / 2,
+        Split::Left => (count - 1).saturating_sub(reach),
     }
 }
 
 // The place of what is sought, or where it would go. It asks as often as tells `reach` places apart.
-// A search that leans reaches the first places the sooner, the fewer there are.
+// Split at the left, it reaches the first places the sooner, the fewer there are.
 #[inline(always)]
 pub(super) fn search<R, F: FnMut(ItemIndex) -> R, H: Reads<R>>(
     items: &[ItemIndex],
     reach: usize,
-    leans: bool,
+    split: Split,
     asking: &mut Asking<F>,
     how: &H,
     tie: &Option<ItemIndex>,
@@ -85,7 +91,7 @@ pub(super) fn search<R, F: FnMut(ItemIndex) -> R, H: Reads<R>>(
     let mut reach = reach;
     while low < high {
         reach /= 2;
-        let middle = low + count_before(leans, high - low, reach);
+        let middle = low + count_before(split, high - low, reach);
         match compare(asking, how, tie, items[middle]) {
             Ordering::Less => high = middle,
             Ordering::Equal => return Ok(middle),

@@ -3,25 +3,28 @@ ghost use Rattle.std.specs.Prelude.{◌≡◌, ◌≢◌, ◌↔◌, ℕ, ◌+�
 ghost use Rattle.std.specs.declared.cmp.Ordering.{Ordering};
 ghost use Rattle.iddqd.specs.Compaction.{CanRemap, remapped};
 ghost use Rattle.iddqd_order.specs.Descent.{EndsIn};
-ghost use Rattle.iddqd_order.specs.MapBTreeTable.{order_of, capacity, spare_blocks, fresh_for, move_blocks, without, sentinel, IsIndexList, LeadsTo};
+ghost use Rattle.iddqd_order.specs.Gap.{FindsOwnGap, gap_place};
+ghost use Rattle.iddqd_order.specs.MapBTreeTable.{order_of, capacity, spare_blocks, fresh_for, move_blocks, without, sentinel, IsIndexList, IsSpot, LeadsTo, spot_place};
 ghost use Rattle.iddqd_order.specs.Tree.{IsTree, GoesIn, place_in, FullIn, HoldsIn, spot_in, blocks_for};
+ghost use Rattle.iddqd_order.specs.declared.btree_table.reserve.TheConstants.{FREE_INDEXES};
 ghost use Rattle.iddqd_order.specs.Search.{CanSearch, SearchAsks, IsSteadyRising, IsPlace, Finds, with_ties};
 
 use crate::btree_table::asking::Asking;
 use crate::btree_table::blocks::Blocks;
 use crate::btree_table::clearing::clear_in;
 use crate::btree_table::copies::copy_of;
-use crate::btree_table::cursor::Cursor;
+use crate::btree_table::cursor::{Cursor, End};
+use crate::btree_table::gap::Gap;
 use crate::btree_table::into_iter::IntoIter;
 use crate::btree_table::iter::{Iter, Rest};
 use crate::btree_table::node::Node;
-use crate::btree_table::path::Path;
+use crate::btree_table::path::{LEVELS, Path, Spot};
 use crate::btree_table::prepared_insert::PreparedBTreeInsert;
 use crate::btree_table::prepared_remove::PreparedBTreeRemove;
 use crate::btree_table::reading::{AsOrdering, ByKey, ByQuery, Reads};
 use crate::btree_table::removal::take_out;
 use crate::btree_table::renaming::rename_in;
-use crate::btree_table::reserve::Reserve;
+use crate::btree_table::reserve::{MOST_INDEXES, Reserve};
 use crate::btree_table::retain::retain_in;
 use crate::btree_table::state::State;
 use crate::btree_table::tree::put_in;
@@ -88,7 +91,7 @@ impl MapBTreeTable {
     /// The empty table. It takes no memory, and holds ten indexes without any.
     pub fn new(alloc: Global) -> MapBTreeTable
         ensures empty { order_of result ≡ [] }
-        ensures memory { capacity result ≡ 10 }
+        ensures memory { capacity result ≡ FREE_INDEXES }
     {
         MapBTreeTable {
             root: None,
@@ -119,14 +122,14 @@ impl MapBTreeTable {
     pub fn first(&self) -> Option<ItemIndex>
         ensures { result ≡ slice_get (order_of self.now) 0 }
     {
-        Cursor::end(&self.root, self.height, false).next(&self.root, self.height)
+        Cursor::at_end(&self.root, self.height, End::Front).next(&self.root, self.height)
     }
 
     /// The last index in the table's order.
     pub fn last(&self) -> Option<ItemIndex>
         ensures { result ≡ slice_get (order_of self.now) (length (order_of self.now) - 1) }
     {
-        Cursor::end(&self.root, self.height, true).next_back(&self.root, self.height)
+        Cursor::at_end(&self.root, self.height, End::Back).next_back(&self.root, self.height)
     }
 
     /// The indexes in the table's order. It takes no memory.
@@ -158,8 +161,8 @@ impl MapBTreeTable {
         self.locate(ix).is_some()
     }
 
-    // The way to a stored index, a path and a level, by a walk that asks nothing.
-    pub(super) fn locate(&self, ix: ItemIndex) -> Option<(Path, usize)>
+    // Where an index is stored, by a walk that asks nothing.
+    pub(super) fn locate(&self, ix: ItemIndex) -> Option<Spot>
         ensures there { LeadsTo self.now ix result }
         ensures found { IsTrue (is_some result) ↔ Contains (order_of self.now) ix }
     {
@@ -168,7 +171,7 @@ impl MapBTreeTable {
         };
         let mut path = Path::new();
         let level = root.locate(self.height, ix, &mut path)?;
-        Some((path, level))
+        Some(Spot { path, level })
     }
 
     /// Keeps exactly the indexes at which `f` answers true, in their order.
@@ -331,70 +334,60 @@ impl MapBTreeTable {
         ensures no_blocks { length (order_of self.old) < capacity self.old →
             IfOk result (λ p. prepared_insert.blocks_of p ≡ 0) }
     {
-        let (path, full) = self.find_gap(ix, asking, how);
-        let blocks = match self.take_blocks(full) {
+        let gap = self.find_gap(ix, asking, how);
+        let blocks = match self.take_blocks(gap.full) {
             Ok(blocks) => blocks,
             Err(AllocError) => return Err(AllocError),
         };
         Ok(PreparedBTreeInsert {
             table: self,
-            path,
-            full,
+            gap,
             ix,
             blocks,
         })
     }
 
-    // Where an index goes that is not stored: the way, and how many nodes at its lower end are full.
+    // Where an index goes that is not stored.
     pub(super) fn find_gap<R, F: FnMut(ItemIndex) -> R, H: Reads<R>>(
         &self,
         ix: ItemIndex,
         asking: &mut Asking<F>,
         how: &H,
-    ) -> (Path, usize)
+    ) -> Gap
         requires absent { Contains (order_of self.now) ix → ⊥ }
         requires can_ask { CanSearch F.FnMut (order_of self.now) (Some ix) asking.old }
-        ensures tree { IsTree self.now.root self.now.height }
-        ensures goes { GoesIn self.now.root self.now.height result.0 }
-        ensures full { FullIn result.1 self.now.root self.now.height result.0 }
-        ensures levels { (result.1 ≤ self.now.height + 1) × (result.1 ≤ 12) }
-        ensures within { place_in self.now.root self.now.height result.0 ≤ length (order_of self.now) }
-        ensures asked { SearchAsks F.FnMut (order_of self.now) (Some ix) asking.old asking.new }
-        ensures place { (answer : ℕ → Ordering) →
-            IsSteadyRising F.FnMut (order_of self.now) (Some ix) (H.reading how.now) answer asking.old →
-            IsPlace (with_ties (Some ix) answer) (order_of self.now) (place_in self.now.root self.now.height result.0) }
+        ensures { FindsOwnGap F.FnMut (H.reading how.now) self.now ix asking.old result asking.new }
     {
-        let _root = &self.root;
-        let (path, end) = self.descend(asking, how, &Some(ix));
-        match end {
+        match self.descend(asking, how, &Some(ix)) {
             Ok(_) => unreachable!(),
-            Err(full) => (path, full),
+            Err(gap) => gap,
         }
     }
 
-    // The search from the root down: the way, and the level at which it ends, or else how many nodes at
-    // its lower end are full.
+    // The search from the root down: where it meets what is sought, or else where that would go.
     pub(super) fn descend<R, F: FnMut(ItemIndex) -> R, H: Reads<R>>(
         &self,
         asking: &mut Asking<F>,
         how: &H,
         tie: &Option<ItemIndex>,
-    ) -> (Path, Result<usize, usize>)
+    ) -> Result<Spot, Gap>
         requires { CanSearch F.FnMut (order_of self.now) tie.now asking.old }
-        ensures { EndsIn F.FnMut (H.reading how.now) tie.now self.now asking.old result.0 result.1 asking.new }
+        ensures { EndsIn F.FnMut (H.reading how.now) tie.now self.now asking.old result asking.new }
     {
         let mut path = Path::first();
         let Some(root) = &self.root else {
-            return (path, Err(0));
+            return Err(Gap { path, full: 0 });
         };
-        let end = root.descend(self.height, asking, how, tie, &mut path);
-        (path, end)
+        match root.descend(self.height, asking, how, tie, &mut path) {
+            Ok(level) => Ok(Spot { path, level }),
+            Err(full) => Err(Gap { path, full }),
+        }
     }
 
     // The memory of a move: none up to the capacity, and else what any insert into a tree of this height can need.
     pub(super) fn take_move_blocks(&self) -> Result<Blocks, AllocError>
         ensures blocks { IfOk result (λ blocks. blocks ≡ move_blocks self.now) }
-        ensures few { move_blocks self.now ≤ 12 }
+        ensures few { move_blocks self.now ≤ LEVELS }
         ensures roomy { length (order_of self.now) ≤ capacity self.now → move_blocks self.now ≡ 0 }
         ensures none { move_blocks self.now ≡ 0 → IsOk result }
     {
@@ -409,7 +402,7 @@ impl MapBTreeTable {
     // The memory of an insert through so many full nodes, beyond the spare blocks.
     pub(super) fn take_blocks(&self, full: usize) -> Result<Blocks, AllocError>
         ensures blocks { IfOk result (λ blocks. blocks ≡ fresh_for self.now full) }
-        ensures few { full ≤ self.now.height + 1 → fresh_for self.now full ≤ 12 }
+        ensures few { full ≤ self.now.height + 1 → fresh_for self.now full ≤ LEVELS }
         ensures roomy { (path : List ℕ) → GoesIn self.now.root self.now.height path →
             FullIn full self.now.root self.now.height path → full ≤ self.now.height + 1 →
             length (order_of self.now) < capacity self.now → fresh_for self.now full ≡ 0 }
@@ -473,21 +466,21 @@ impl MapBTreeTable {
         ensures prepared { PreparesRemoval F.FnMut (H.reading how.now) (order_of self.old) ix
             asking.old result asking.new }
     {
-        let way = self.find_way(ix, asking, how);
+        let spot = self.find_spot(ix, asking, how);
         PreparedBTreeRemove {
             table: self,
             ix,
-            way,
+            spot,
         }
     }
 
-    // The way to a stored index, if the search meets it: a path and a level.
-    pub(super) fn find_way<R, F: FnMut(ItemIndex) -> R, H: Reads<R>>(
+    // Where an index is stored, if the search meets it.
+    pub(super) fn find_spot<R, F: FnMut(ItemIndex) -> R, H: Reads<R>>(
         &self,
         ix: ItemIndex,
         asking: &mut Asking<F>,
         how: &H,
-    ) -> Option<(Path, usize)>
+    ) -> Option<Spot>
         requires { CanSearch F.FnMut (order_of self.now) (Some ix) asking.old }
         ensures there { LeadsTo self.now ix result }
         ensures stored { IsSome result → Contains (order_of self.now) ix }
@@ -502,9 +495,8 @@ impl MapBTreeTable {
         if ix == ItemIndex::SENTINEL {
             return None;
         }
-        let (path, end) = self.descend(asking, how, &Some(ix));
-        match end {
-            Ok(level) => Some((path, level)),
+        match self.descend(asking, how, &Some(ix)) {
+            Ok(spot) => Some(spot),
             Err(_) => None,
         }
     }
@@ -532,8 +524,8 @@ impl MapBTreeTable {
         ensures lower { self.new.height ≤ self.old.height }
         ensures reserved { self.new.reserved ≡ self.old.reserved }
     {
-        let way = self.locate(ix);
-        self.remove_found(ix, &way);
+        let spot = self.locate(ix);
+        self.remove_found(ix, &spot);
     }
 
     /// Gives each index its new name in its place, in one walk, or in none where all names stay. It
@@ -554,7 +546,7 @@ impl MapBTreeTable {
 
     // A law for proofs, which changes nothing when it runs: the new names have 32 bits.
     fn names_fit(remap: &IndexRemap)
-        ensures { (ix : ℕ) → ix < 4294967296 → CanRemap remap.now ix → remapped remap.now ix < 4294967296 }
+        ensures { (ix : ℕ) → ix ≤ MOST_INDEXES → CanRemap remap.now ix → remapped remap.now ix ≤ MOST_INDEXES }
     {
         if let IndexRemap::Permuted(names) = remap {
             for name in names {
@@ -563,15 +555,15 @@ impl MapBTreeTable {
         }
     }
 
-    // The index to which the path goes at the level.
-    pub(super) fn index_at(&self, path: &Path, level: usize) -> ItemIndex
-        requires { HoldsIn level self.now.root self.now.height path.now }
-        ensures { result ≡ slice_index (order_of self.now) (spot_in level self.now.root self.now.height path.now) }
+    // The index that stands at a spot.
+    pub(super) fn index_at(&self, spot: &Spot) -> ItemIndex
+        requires { IsSpot self.now spot.now }
+        ensures { result ≡ slice_index (order_of self.now) (spot_place self.now spot.now) }
     {
         let Some(root) = &self.root else {
             unreachable!()
         };
-        root.index_on(self.height, path, level)
+        root.index_on(self.height, &spot.path, spot.level)
     }
 
     // The root of the tree, and the levels above its leaves.
@@ -583,15 +575,15 @@ impl MapBTreeTable {
         (&self.root, self.height)
     }
 
-    // Adds `ix` where the path goes, through so many full nodes at its lower end. It takes the spare blocks first.
-    pub(super) fn insert_at(&mut self, path: &Path, full: usize, ix: ItemIndex, mut fresh: Blocks)
-        requires goes { GoesIn self.old.root self.old.height path.now }
-        requires full { FullIn full self.old.root self.old.height path.now }
-        requires enough { blocks_for self.old.height full ≤ spare_blocks self.old + fresh }
+    // Adds `ix` in the gap. It takes the spare blocks first.
+    pub(super) fn insert_at(&mut self, gap: &Gap, ix: ItemIndex, mut fresh: Blocks)
+        requires goes { GoesIn self.old.root self.old.height gap.now.path }
+        requires full { FullIn gap.now.full self.old.root self.old.height gap.now.path }
+        requires enough { blocks_for self.old.height gap.now.full ≤ spare_blocks self.old + fresh }
         requires absent { Contains (order_of self.old) ix → ⊥ }
         requires assigned { ix ≢ sentinel }
         ensures inserted { order_of self.new
-            ≡ insert (order_of self.old) (place_in self.old.root self.old.height path.now) ix }
+            ≡ insert (order_of self.old) (gap_place self.old gap.now) ix }
         ensures reserved { self.new.reserved ≡ self.old.reserved }
     {
         let _number = ix.as_u32();
@@ -600,8 +592,8 @@ impl MapBTreeTable {
         self.height = put_in(
             &mut self.root,
             height,
-            path,
-            full,
+            &gap.path,
+            gap.full,
             ix,
             &mut self.reserve,
             &mut fresh,
@@ -610,32 +602,38 @@ impl MapBTreeTable {
         self.len += 1;
     }
 
-    // Removes `ix`, if there is a way to it, and says whether there is one.
-    pub(super) fn remove_found(&mut self, ix: ItemIndex, way: &Option<(Path, usize)>) -> bool
-        requires { LeadsTo self.old ix way.now }
-        ensures found { result ≡ is_some way.now }
+    // Removes `ix`, if it stands at a spot, and says whether it does.
+    pub(super) fn remove_found(&mut self, ix: ItemIndex, spot: &Option<Spot>) -> bool
+        requires { LeadsTo self.old ix spot.now }
+        ensures found { result ≡ is_some spot.now }
         ensures removed { IsTrue result → order_of self.new ≡ without (order_of self.old) ix }
         ensures kept { result ≡ false → self.new ≡ self.old }
         ensures lower { self.new.height ≤ self.old.height }
         ensures reserved { self.new.reserved ≡ self.old.reserved }
     {
-        match way {
-            Some((path, level)) => {
-                self.remove_at(ix, path, *level);
+        match spot {
+            Some(spot) => {
+                self.remove_at(ix, spot);
                 true
             }
             None => false,
         }
     }
 
-    // Removes `ix`, to which the path goes at the level.
-    pub(super) fn remove_at(&mut self, ix: ItemIndex, path: &Path, level: usize)
-        requires { LeadsTo self.old ix (Some (path.now, level)) }
+    // Removes `ix`, which stands at the spot.
+    pub(super) fn remove_at(&mut self, ix: ItemIndex, spot: &Spot)
+        requires { LeadsTo self.old ix (Some spot.now) }
         ensures removed { order_of self.new ≡ without (order_of self.old) ix }
         ensures lower { self.new.height ≤ self.old.height }
         ensures reserved { self.new.reserved ≡ self.old.reserved }
     {
-        self.height = take_out(&mut self.root, self.height, path, level, &mut self.reserve);
+        self.height = take_out(
+            &mut self.root,
+            self.height,
+            &spot.path,
+            spot.level,
+            &mut self.reserve,
+        );
         self.len -= 1;
     }
 }
@@ -643,7 +641,7 @@ impl MapBTreeTable {
 // The copy reserves nothing. Where memory is refused, the nodes copied so far are let go.
 #[tactic(auto, unfolding(crate::specs::MapBTreeTable::order_of, crate::specs::MapBTreeTable::capacity))]
 impl Clone for MapBTreeTable {
-    ghost is_clone = { λ table copy. (order_of copy ≡ order_of table) × (capacity copy ≡ 10) };
+    ghost is_clone = { λ table copy. (order_of copy ≡ order_of table) × (capacity copy ≡ FREE_INDEXES) };
 
     fn clone(&self) -> Result<MapBTreeTable, AllocError> {
         Ok(MapBTreeTable {

@@ -6,9 +6,9 @@ ghost use Rattle.iddqd_order.specs.Reserve.{spare};
 ghost use Rattle.iddqd_order.specs.Tree.{in_order, inners_in, IsTree, GoesIn, place_in, FullIn, blocks_for};
 
 use crate::btree_table::blocks::Blocks;
-use crate::btree_table::node::Node;
-use crate::btree_table::path::Path;
-use crate::btree_table::reserve::Reserve;
+use crate::btree_table::node::{CHILDREN, Node};
+use crate::btree_table::path::{LEVELS, Path};
+use crate::btree_table::reserve::{MOST_INDEXES, Reserve};
 use crate::btree_table::row::Row;
 use iddqd::item_index::ItemIndex;
 use std::alloc::Global;
@@ -29,7 +29,7 @@ pub fn put_in(
     requires tree { IsTree root.old height }
     requires goes { GoesIn root.old height path.now }
     requires full { FullIn full root.old height path.now }
-    requires fits { length (in_order root.old height) < 4294967296 }
+    requires fits { length (in_order root.old height) ≤ MOST_INDEXES }
     requires enough { blocks_for height full ≤ spare reserve.old + fresh.old }
     requires inners { reserve.old.inners ≡ inners_in root.old height }
     ensures tree { IsTree root.new result }
@@ -69,16 +69,16 @@ fn put_and_cut(
     fresh: &mut Blocks,
     alloc: Global,
 ) -> usize
-    requires low { height ≤ 11 }
+    requires low { height < LEVELS }
     requires some { 0 < full }
     requires formed { IsFormed height node.old }
     requires goes { Goes height node.old path.now }
     requires full { IsFullBelow full height node.old path.now }
     requires root { 1 ≤ length (row node.old) }
-    requires fits { length (flat height node.old) < 4294967296 }
+    requires fits { length (flat height node.old) ≤ MOST_INDEXES }
     requires enough { blocks_for height full ≤ spare reserve.old + fresh.old }
     requires inners { reserve.old.inners ≡ inners height node.old }
-    ensures low { result ≤ 11 }
+    ensures low { result < LEVELS }
     ensures formed { IsFormed result node.new }
     ensures root { 1 ≤ length (row node.new) }
     ensures items { flat result node.new ≡ insert (flat height node.old) (place height node.old path.now) ix }
@@ -100,7 +100,7 @@ fn grow(node: &mut Node, middle: ItemIndex, upper: Node, block: Vec<Node>)
     requires { IsSpare block }
     ensures root_row { row node.new ≡ middle ∷ [] }
     ensures root_children { children node.new ≡ node.old ∷ upper ∷ [] }
-    ensures has_room { 12 ≤ room node.new }
+    ensures has_room { CHILDREN ≤ room node.new }
 {
     let mut row = Row::new();
     row.insert(0, middle);

@@ -6,28 +6,29 @@ ghost use Rattle.iddqd_order.specs.Node.{row, flat, inners, IsFormed, Holds, spo
 ghost use Rattle.iddqd_order.specs.Ways.{IsWay, StepsOn, SamePlaces};
 
 use crate::btree_table::node::Node;
-use crate::btree_table::path::Path;
+use crate::btree_table::path::{LEVELS, Path, Spot};
 use iddqd::item_index::ItemIndex;
 
-// A path that goes to an index at a level, and the place of that index among all.
+// Where an index is stored, and its place among all.
 #[derive(Clone, Copy)]
 pub struct Way {
-    pub path: Path,
-    pub level: usize,
+    pub spot: Spot,
     pub place: usize,
 }
 
 impl Way {
     // The way to the first index.
     pub fn first() -> Way
-        ensures path { length result.path ≡ 12 }
-        ensures places { (l : ℕ) → slice_index result.path l ≡ 0 }
-        ensures level { result.level ≡ 0 }
+        ensures path { length result.spot.path ≡ LEVELS }
+        ensures places { (l : ℕ) → slice_index result.spot.path l ≡ 0 }
+        ensures level { result.spot.level ≡ 0 }
         ensures place { result.place ≡ 0 }
     {
         Way {
-            path: Path::first(),
-            level: 0,
+            spot: Spot {
+                path: Path::first(),
+                level: 0,
+            },
             place: 0,
         }
     }
@@ -35,7 +36,7 @@ impl Way {
     // The index to which the way goes. The way then goes to the next one.
     pub fn step(&mut self, root: &Node, height: usize) -> ItemIndex
         requires formed { IsFormed height root.now }
-        requires levels { height ≤ 11 }
+        requires levels { height < LEVELS }
         requires way { IsWay height root.now self.old }
         requires more { self.old.place < length (flat height root.now) }
         requires few { length (flat height root.now) ≤ usize.MAX }
@@ -43,8 +44,8 @@ impl Way {
         ensures way { IsWay height root.now self.new }
         ensures place { self.new.place ≡ self.old.place + 1 }
     {
-        let (ix, next) = root.step(height, &mut self.path, self.level);
-        self.level = next.unwrap_or(0);
+        let (ix, next) = root.step(height, &mut self.spot.path, self.spot.level);
+        self.spot.level = next.unwrap_or(0);
         self.place += 1;
         ix
     }
@@ -52,7 +53,7 @@ impl Way {
     // Puts an index in the place of that to which the way goes. The way then goes to the next one.
     pub fn put(&mut self, root: &mut Node, height: usize, ix: ItemIndex)
         requires formed { IsFormed height root.old }
-        requires levels { height ≤ 11 }
+        requires levels { height < LEVELS }
         requires way { IsWay height root.old self.old }
         requires more { self.old.place < length (flat height root.old) }
         requires few { length (flat height root.old) ≤ usize.MAX }
@@ -64,7 +65,7 @@ impl Way {
         ensures way { IsWay height root.new self.new }
         ensures place { self.new.place ≡ self.old.place + 1 }
     {
-        let here = *self;
+        let here = self.spot;
         self.step(root, height);
         root.put(height, &here.path, here.level, ix);
     }
@@ -75,12 +76,12 @@ impl Node {
     // made to go, if there is one below this node.
     pub fn step(&self, height: usize, path: &mut Path, level: usize) -> (ItemIndex, Option<usize>)
         requires formed { IsFormed height self.now }
-        requires levels { height ≤ 11 }
-        requires path { length path.old ≡ 12 }
+        requires levels { height < LEVELS }
+        requires path { length path.old ≡ LEVELS }
         requires holds { Holds level height self.now path.old }
         ensures index { result.0 ≡ slice_index (flat height self.now) (spot level height self.now path.old) }
         ensures next { StepsOn height self.now level path.old result.1 path.new }
-        ensures path { length path.new ≡ 12 }
+        ensures path { length path.new ≡ LEVELS }
         ensures above { (l : ℕ) → height < l → slice_index path.new l ≡ slice_index path.old l }
         ensures ended { result.1 ≡ None → path.new ≡ path.old }
     {
@@ -110,7 +111,7 @@ impl Node {
     // The index to which a path goes at a level.
     pub fn index_on(&self, height: usize, path: &Path, level: usize) -> ItemIndex
         requires formed { IsFormed height self.now }
-        requires levels { height ≤ 11 }
+        requires levels { height < LEVELS }
         requires holds { Holds level height self.now path.now }
         ensures { result ≡ slice_index (flat height self.now) (spot level height self.now path.now) }
     {
@@ -124,7 +125,7 @@ impl Node {
     // Puts an index in the place of that to which a path goes at a level.
     pub fn put(&mut self, height: usize, path: &Path, level: usize, ix: ItemIndex)
         requires formed { IsFormed height self.old }
-        requires levels { height ≤ 11 }
+        requires levels { height < LEVELS }
         requires holds { Holds level height self.old path.now }
         ensures items { flat height self.new
             ≡ slice_set (flat height self.old) (spot level height self.old path.now) ix }

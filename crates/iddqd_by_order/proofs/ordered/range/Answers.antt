@@ -4,7 +4,7 @@ use Rattle.iddqd_order.specs.MapBTreeTable.{order_of}
 use Rattle.iddqd_order.proofs.AskLemmas.{CanAsk-by, Steady-by}
 use Rattle.iddqd_keys.specs.Scan.{IsLive, IsKeyAt}
 use Rattle.iddqd_by_order.proofs.OrderedFindLemmas.{answer_at}
-use Rattle.iddqd_by_order.proofs.OrderedRangeLemmas.{WalksWithin-walked, reads_lent}
+use Rattle.iddqd_by_order.proofs.OrderedRangeLemmas.{WalksWithin-walked, reads_borrowed}
 use Rattle.iddqd_by_order.proofs.ordered.range.Goals as goal
 
 pub range-requires : goal.range-requires
@@ -28,6 +28,6 @@ returns g c =
     let read : IsKeyAt key_of s ix r.now = search (rules, i, e) in
     ap (cmp q) read.2 ∙ sym (answer_at key_of compare s order (cmp q) ix read.0 read.1))
     _ refl)
-    _ _ (reads_lent (λ r. r.0) cmp c.as_ref.result c.ranked-from.result c.args.lower c.as_ref.ensures c.ranked-from.ensures)
-    (reads_lent (λ r. r.0) cmp c.as_ref-2.result c.ranked-to.result c.args.upper c.as_ref-2.ensures c.ranked-to.ensures)
+    _ _ (reads_borrowed (λ r. r.0) cmp c.as_ref.result c.by_borrowed_key-from.result c.args.lower c.as_ref.ensures c.by_borrowed_key-from.ensures)
+    (reads_borrowed (λ r. r.0) cmp c.as_ref-2.result c.by_borrowed_key-to.result c.args.upper c.as_ref-2.ensures c.by_borrowed_key-to.ensures)
     c.range.result c.range.ensures

@@ -1,6 +1,7 @@
 use Rattle.iddqd_tri.specs.Clashes.{clashing}
 use Rattle.iddqd_tri.specs.TriTables.{maps_of}
-use Rattle.iddqd_tri.proofs.ClashLemmas.{Contains-listed, IsRising-listed, AreLiveInTurn-rising, IsValid-removed_all}
+use Rattle.iddqd_keys.proofs.RemovalLemmas.{AreLiveInTurn-rising, IsValid-removed_all}
+use Rattle.iddqd_tri.proofs.ClashLemmas.{Contains-listed, IsRising-listed}
 use Rattle.iddqd_tri.proofs.TriLemmas.{AreUnfiled-next}
 use Rattle.iddqd_tri.proofs.tri_steps.replace_clashes.Goals as goal
 

@@ -34,4 +34,4 @@ logs_in g f counts old new test (Some count) hit =
     }
 
 pub returns : goal.returns
-returns c = logs_in _ _ (λ user left count called. (search rules, search rules)) c.args.users.now c.modify.new.self (is_named c.args.name.now) c.modify.result c.modify.ensures
+returns c = logs_in _ _ (λ user left count called. (search rules, search rules)) c.args.users.now c.modify.new.self (is_named c.args.name.now) c.modify.result c.modify.ensures.modifies

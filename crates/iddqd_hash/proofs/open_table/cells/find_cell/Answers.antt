@@ -1,16 +1,17 @@
 use Rattle.iddqd_hash.proofs.OpenTableLemmas.{cells_long}
 use Rattle.std.proofs.Common.{◌<◌, ◌≤◌, ◌%◌, ◌+◌, length, true, false, refl, arith}
-use Rattle.std.proofs.Math.Nat.{lt_of_le_of_lt}
+use Rattle.std.proofs.Math.Nat.{lt_of_le_of_lt, mod-lt}
 use Rattle.std.proofs.lemmas.Grind.{common_steps}
 use Rattle.std.specs.Fn.{TakesAt, CalledAt}
 use Rattle.iddqd_hash.specs.OpenTable.{slots_of, FindsNext}
 use Rattle.iddqd_hash.proofs.AskLemmas.{CanAsk-takes, CanAsk-asked}
-use Rattle.iddqd_hash.proofs.OpenWalkLemmas.{places_left, places_left-next, found_left-next}
-use Rattle.iddqd_hash.proofs.OpenLookupLemmas.{Looking-start, Looking-passed, Looking-next, HitsPair-looked, Misses-looked, passed_left, used, PassesBy-inside, FindsNext-none, Contains-met, value_read}
+use Rattle.iddqd_hash.proofs.OpenWalkLemmas.{places_left, places_left-next, places_left-on, found_left-next}
+use Rattle.iddqd_hash.proofs.OpenLookupLemmas.{Looking-start, Looking-passed, Looking-next, HitsPair-looked, Misses-looked, PassesBy-inside, FindsNext-none, value_read}
+use Rattle.iddqd_hash.proofs.OpenRoundLemmas.{used, Contains-met}
 use Rattle.iddqd_hash.proofs.open_table.cells.find_cell.Goals as goal
 
 pub loop-found-init : goal.loop-found-init
-loop-found-init g c = (c.requires.callable, (_, Looking-start _ _ _ _ _, c.first_match-found.ensures))
+loop-found-init g c = (c.requires.callable, (_, Looking-start _ _ _ _ _, rw c.home_of.ensures at c.near_match-found.ensures))
 
 pub eq-requires : goal.eq-requires
 eq-requires g c =
@@ -37,7 +38,7 @@ loop-found-smaller g c =
     let called : CalledAt g.F.FnMut c.loop-found.eq c.value_in-value.result.now false c.eq.new.self =
     record { shown = _; shows = refl; called = rw c.if-eq.false at c.eq.ensures } in
     let looking = Looking-passed (CalledAt g.F.FnMut) _ _ _ _ c.requires.probed c.requires.ends _ _ _ c.loop-found.invariant.1.1 finds.0 in
-    let here = used (CalledAt g.F.FnMut) _ _ _ _ c.requires.probed c.requires.ends _ _ looking _ c.eq.new.self finds.1.1 in
+    let here = used _ _ _ c.requires.probed c.requires.ends _ looking.walk _ finds.1.1 in
     let next = Looking-next (CalledAt g.F.FnMut) _ _ _ _ c.requires.probed c.requires.ends _ _ looking _ _ found called in
     let after : places_left n c.args.hash ((c.in-Some.place + 1) % n) < places_left n c.args.hash c.in-Some.place = places_left-next _ _ _ c.requires.ends looking.walk here in
     let further : FindsNext c.args.tags.now (slots_of c.args.cells.now) c.args.hash ((c.in-Some.place + 1) % n) c.later_match-found.result = rw c.next.ensures at c.later_match-found.ensures in
@@ -46,7 +47,7 @@ loop-found-smaller g c =
     (λ place is.
     let onward = rw is at further in
     let no_more : places_left n c.args.hash place ≤ places_left n c.args.hash ((c.in-Some.place + 1) % n) =
-    passed_left (CalledAt g.F.FnMut) _ _ _ _ c.requires.probed c.requires.ends _ _ _ next onward.0 in
+    places_left-on _ _ _ _ next.walk onward.0.walk c.requires.ends in
     lt_of_le_of_lt no_more after))
 
 pub loop-found-preserved : goal.loop-found-preserved
@@ -85,6 +86,9 @@ returns-then-eq-clause-value g c =
     let finds = rw c.in-Some.is at c.loop-found.invariant.1.2 in
     let inside : c.in-Some.place < length c.args.tags.now = PassesBy-inside _ _ _ _ _ (omega arith) finds.0 in
     value_read c.args.tags.now c.args.cells.now c.in-Some.place _ inside c.index-cells-place.is c.requires.probed _ _ _ finds.1.1 c.value_in-value.ensures
+
+pub near_match-found-requires-clause-inside : goal.near_match-found-requires-clause-inside
+near_match-found-requires-clause-inside g c = rw c.home_of.ensures (mod-lt c.args.hash (omega arith))
 
 pub next-requires-clause-inside : goal.next-requires-clause-inside
 next-requires-clause-inside g c = grind (arith, common_steps)

@@ -4,7 +4,7 @@ use Rattle.iddqd_lines.proofs.replies.Replies.put_indexes.Goals as goal
 
 pub loop-ix-preserved : goal.loop-ix-preserved
 loop-ix-preserved g c =
-    Sends-element g.O.Sink spaced c.args.indexes.now c.loop-ix.ix-index _ _ _ _ _ c.loop-ix.invariant c.ix-item.result c.loop-ix-test.true c.ix-item.is _ _ c.in_ok-make_room.ensures.sends c.put_spaced.ensures.text
+    Sends-element g.O.Sink spaced c.args.indexes.now c.loop-ix.ix-index _ _ _ _ _ c.loop-ix.invariant c.ix-item.result c.loop-ix-test.true c.ix-item.is _ _ c.in_ok-make_room.ensures.sends c.put_spaced.ensures.appends
 
 pub returns-in_err-make_room-clause-sends : goal.returns-in_err-make_room-clause-sends
 returns-in_err-make_room-clause-sends g c =

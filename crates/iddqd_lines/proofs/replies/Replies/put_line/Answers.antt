@@ -9,5 +9,5 @@ returns-in_err-make_room g c =
 
 pub returns : goal.returns
 returns g c =
-    let text = c.put_bytes-2.ensures.text ∙ ap (λ bytes. bytes ++ line_feed ∷ []) c.put_bytes.ensures.text ∙ append_assoc _ c.args.text.now (line_feed ∷ []) in
+    let text = c.put_bytes-2.ensures.appends ∙ ap (λ bytes. bytes ++ line_feed ∷ []) c.put_bytes.ensures.appends ∙ append_assoc _ c.args.text.now (line_feed ∷ []) in
     Sends-then g.O.Sink _ _ _ _ _ _ _ _ _ c.in_ok-make_room.ensures.sends (Sends-put g.O.Sink _ _ _ _ text)

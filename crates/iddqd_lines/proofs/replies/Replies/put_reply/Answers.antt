@@ -14,4 +14,4 @@ pub returns : goal.returns
 returns g c =
     Sends-then g.O.Sink _ _ _ _ _ _ _ _ _
     (Sends-then g.O.Sink _ _ _ _ _ _ _ _ _ c.in_ok-make_room.ensures.sends c.in_ok-put_words.ensures.sends)
-    (Sends-put g.O.Sink _ _ _ _ c.put.ensures.text)
+    (Sends-put g.O.Sink _ _ _ _ c.put.ensures.appends)

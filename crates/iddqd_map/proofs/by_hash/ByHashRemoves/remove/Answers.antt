@@ -8,4 +8,4 @@ pub returns-clause-indexed : goal.returns-clause-indexed
 returns-clause-indexed g c =
     let s = c.args.items.now.store in
     let (item, live) = item_at s c.args.ix c.requires.live in
-    rw c.take_item.ensures.taken (Indexes-removed _ _ s (filed c.args.self.now.table) c.requires.indexed c.args.ix item live)
+    rw c.take_out.ensures.taken (Indexes-removed _ _ s (filed c.args.self.now.table) c.requires.indexed c.args.ix item live)

@@ -1,5 +1,5 @@
 use Rattle.iddqd_keys.specs.Scan.{passes_by}
-use Rattle.iddqd_map.proofs.TakeLemmas.{IsIndexed-taken, Removes-hit, Removes-none}
+use Rattle.iddqd_map.proofs.TakeLemmas.{IsIndexed-taken, Removes-gone, Removes-hit, Removes-none}
 use Rattle.iddqd_map.proofs.map.Map.remove_by.Goals as goal
 
 pub returns-in_err-ix-clause-removes : goal.returns-in_err-ix-clause-removes
@@ -26,3 +26,13 @@ returns-clause-removes g c =
     rw (← c.self.view_is)
     (Removes-hit c.self.inside.items c.remove.new.self test c.in_ok-ix.ix c.remove.result did.found out.value
     out.removed _ _ _ _ did.capacity did.cells)
+
+pub returns-in_err-ix-clause-gone : goal.returns-in_err-ix-clause-gone
+returns-in_err-ix-clause-gone g c =
+    let test = passes_by g.X.HashedAt.key_at (g.Q.HashQuery.stands_for c.args.query) in
+    Removes-gone _ _ test c.from_residual.result (returns-in_err-ix-clause-removes g c)
+
+pub returns-clause-gone : goal.returns-clause-gone
+returns-clause-gone g c =
+    let test = passes_by g.X.HashedAt.key_at (g.Q.HashQuery.stands_for c.args.query) in
+    Removes-gone _ _ test c.remove.result (returns-clause-removes g c)

@@ -8,7 +8,8 @@ use Rattle.iddqd_keys.specs.OrderedQuery.{is_between}
 use Rattle.iddqd_keys.specs.Scan.{passes_by}
 use Rattle.iddqd_keys.proofs.ScanLemmas.{live_before}
 use Rattle.iddqd_map.specs.Ranges.{TakesItem, GivesItem}
-use Rattle.iddqd_map.proofs.RangeLemmas.{live_count-removed, LeavesOthers-none, LeavesOthers-first, RemovesAlong-none, RemovesAlong-first}
+use Rattle.iddqd_map.proofs.GroupLemmas.{LeavesOthers-none, LeavesOthers-hit}
+use Rattle.iddqd_map.proofs.RangeLemmas.{live_count-removed, RemovesAlong-none, RemovesAlong-first}
 use Rattle.iddqd_map.proofs.RetainLemmas.{Contains-live}
 use Rattle.iddqd_map.proofs.map.ranges.remove_within.Goals as goal
 
@@ -40,7 +41,7 @@ loop-ix-preserved g c =
       can = CanAsk-asked (TakesItem g.F.FnMut) (λ p x (b : Bool) q. GivesItem g.F.FnMut p x q) c.loop-ix.f (live_items old) item true c.f.new.self i.can
           (Contains-live old ix item (i.among ix item live)) c.f.ensures;
       among = λ j x there. i.among j x (live_before now ix j item x live (rw gone at there)).1;
-      leaves = λ new left. i.leaves new (LeavesOthers-first key_at compare total within now _ new ix c.in-Some.ensures gone left);
+      leaves = λ new left. i.leaves new (LeavesOthers-hit (passes_by key_at within) now ix c.in-Some.ensures.0 _ new gone left);
       removes = λ new last along.
           i.removes new last
           (RemovesAlong-first key_at compare total within (GivesItem g.F.FnMut) c.loop-ix.f c.f.new.self last now _ new ix item c.in-Some.ensures live gone c.f.ensures along);

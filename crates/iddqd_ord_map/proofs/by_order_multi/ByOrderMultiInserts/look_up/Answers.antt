@@ -1,4 +1,4 @@
-use Rattle.iddqd_ord_map.specs.ByOrderMultiLaws.{never_hit}
+use Rattle.iddqd_map.specs.NoConflict.{never_hit}
 use Rattle.iddqd_ord_map.proofs.by_order_multi.ByOrderMultiInserts.look_up.Goals as goal
 
 pub returns : goal.returns

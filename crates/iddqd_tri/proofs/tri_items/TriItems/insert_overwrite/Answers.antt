@@ -3,7 +3,8 @@ use Rattle.std.specs.Result.{OnOk}
 use Rattle.iddqd.specs.Store.{next_index, live_count}
 use Rattle.iddqd_tri.specs.Clashes.{clashing}
 use Rattle.iddqd_tri.specs.TriKeys.{TriKeys, tri_keys_of}
-use Rattle.iddqd_tri.specs.TriState.{IsTriState, HasNoClash, removed_all, maps_with, maps_without_all}
+use Rattle.iddqd_keys.specs.Removals.{removed_all}
+use Rattle.iddqd_tri.specs.TriState.{IsTriState, HasNoClash, maps_with, maps_without_all}
 use Rattle.iddqd_tri.specs.TriMemory.{SizedTri, Grows, room}
 use Rattle.iddqd_tri.specs.declared.tri_refusal.TriRefusal.TheVariants.{Memory}
 use Rattle.iddqd_tri.specs.TriTables.{maps_of, tri_state_of, memory_of, sized_tri_of}

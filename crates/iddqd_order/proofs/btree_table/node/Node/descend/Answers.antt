@@ -1,6 +1,6 @@
 use Rattle.std.proofs.Common.{arith}
 use Rattle.std.proofs.lemmas.Grind.{common_steps}
-use Rattle.iddqd_order.proofs.Names.{◌≡◌, ◌+◌, ◌-◌, ◌*◌, ◌<◌, Ok, Err, length, slice_index, arith, sym, ap, ◌∙◌, subst, rules, Descends, children, child}
+use Rattle.iddqd_order.proofs.Names.{◌≡◌, ◌+◌, ◌-◌, ◌*◌, ◌<◌, Ok, Err, length, slice_index, arith, sym, ap, ◌∙◌, subst, rules, Descends, children, child, row_asks}
 use Rattle.iddqd_order.proofs.NodeLemmas.{child-formed, child-within, path-here, path-above}
 use Rattle.iddqd_order.proofs.DescentLemmas.{Counts, Descends-hit, Descends-leaf, Descends-below, can_ask_row, can_ask_below, child_is}
 use Rattle.iddqd_order.proofs.btree_table.node.Node.descend.Goals as goal
@@ -27,7 +27,7 @@ returns-in-Ok-clause-descends g c =
     let held = c.loop-i.invariant in
     let here : slice_index p l ≡ c.in-Ok.i = path-here c.loop-i.path p l c.in-Ok.i held.path held.levels c.set.ensures.place in
     held.rest p (Ok l) b (λ m lt. path-above c.loop-i.path p l c.in-Ok.i m c.set.ensures.place lt)
-    (Descends-hit g.F.FnMut read c.args.tie.now (4 * (l + 1)) c.loop-i.full l n p a b (omega arith) held.formed (rw here c.in-Ok.ensures))
+    (Descends-hit g.F.FnMut read c.args.tie.now (row_asks * (l + 1)) c.loop-i.full l n p a b (omega arith) held.formed (rw here c.in-Ok.ensures))
 
 pub returns-then-level-eq0-clause-descends : goal.returns-then-level-eq0-clause-descends
 returns-then-level-eq0-clause-descends g c =
@@ -36,7 +36,7 @@ returns-then-level-eq0-clause-descends g c =
     let held = c.loop-i.invariant in let counted = c.full_from-full.ensures in
     let here : slice_index p l ≡ c.in-Err.i = path-here c.loop-i.path p l c.in-Err.i held.path held.levels c.keep_or_set.ensures.place in
     held.rest p (Err c.full_from-full.result) b (λ m lt. path-above c.loop-i.path p l c.in-Err.i m c.keep_or_set.ensures.place lt)
-    (Descends-leaf g.F.FnMut read c.args.tie.now (4 * (l + 1)) c.loop-i.full c.full_from-full.result l n p a b (omega arith) c.if-level-eq0.true held.formed (rw here c.in-Err.ensures)
+    (Descends-leaf g.F.FnMut read c.args.tie.now (row_asks * (l + 1)) c.loop-i.full c.full_from-full.result l n p a b (omega arith) c.if-level-eq0.true held.formed (rw here c.in-Err.ensures)
     (record { above = held.above; not_full = counted.not_full; is_full = counted.is_full }))
 
 pub index-node-requires : goal.index-node-requires
@@ -65,7 +65,7 @@ loop-i-preserved g c =
       rest = λ p end new on d.
           let here : slice_index p l ≡ i = on l (omega arith) ∙ path-here c.loop-i.path path l i held.path held.levels c.keep_or_set.ensures.place in
           held.rest p end new (λ m up. on m (omega arith) ∙ path-above c.loop-i.path path l i m c.keep_or_set.ensures.place up)
-          (Descends-below g.F.FnMut read tie (4 * (l + 1)) c.loop-i.full full l n p end a b new (omega arith) ne held.formed (rw here s) counts (subst (λ z. Descends g.F.FnMut read tie (4 * (l - 1 + 1)) full (l - 1) z b p end new) (same ∙ ap (child n) (sym here)) d));
+          (Descends-below g.F.FnMut read tie (row_asks * (l + 1)) c.loop-i.full full l n p end a b new (omega arith) ne held.formed (rw here s) counts (subst (λ z. Descends g.F.FnMut read tie (row_asks * (l - 1 + 1)) full (l - 1) z b p end new) (same ∙ ap (child n) (sym here)) d));
     }
 
 pub keep_or_set-requires-clause-has_it : goal.keep_or_set-requires-clause-has_it

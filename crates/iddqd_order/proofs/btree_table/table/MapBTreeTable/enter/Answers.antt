@@ -7,7 +7,7 @@ use Rattle.iddqd_order.proofs.btree_table.table.MapBTreeTable.enter.Goals as goa
 pub returns-in-Ok-clause-entered : goal.returns-in-Ok-clause-entered
 unfolding entry_index
 returns-in-Ok-clause-entered g c =
-    let s = (rw c.in-Ok.is at c.descend-path.ensures).searches in
+    let s = c.in-Ok.ensures.searches in
     record {
       asked = s.asked;
       stored = Contains-at _ _ _ s.found refl;
@@ -20,7 +20,7 @@ returns-in-Ok-clause-entered g c =
 pub returns-in-Err-clause-entered : goal.returns-in-Err-clause-entered
 unfolding vacant_place
 returns-in-Err-clause-entered g c =
-    let s = (rw c.in-Err.is at c.descend-path.ensures).searches in
+    let s = c.in-Err.ensures.searches in
     record {
       asked = s.asked;
       stored = tt;

@@ -5,16 +5,16 @@ use Rattle.iddqd_order.proofs.btree_table.table.MapBTreeTable.find_gap_by.Goals 
 
 pub returns-in-Ok : goal.returns-in-Ok
 returns-in-Ok g c =
-    let s = (rw c.in-Ok.is at c.descend-path.ensures).searches in
+    let s = c.in-Ok.ensures.searches in
     (s.asked, record { stored = rw c.index_at.ensures (Contains-at _ _ _ s.found refl); hit = λ answer steady. rw c.index_at.ensures (s.hit answer steady) })
 
 pub returns-in-Err : goal.returns-in-Err
 returns-in-Err g c =
-    let e = rw c.in-Err.is at c.descend-path.ensures in
+    let e = c.in-Err.ensures in
     let s = e.searches in (
       s.asked,
       record {
-        fits = record { tree = c.tree-tree.ensures.tree; goes = e.reaches; full = e.full_below; levels = e.level.0 };
+        fits = e.fits;
         within = s.missed;
         place = s.place;
         miss = λ answer rises. none_at_place answer _ _ (s.place answer rises);

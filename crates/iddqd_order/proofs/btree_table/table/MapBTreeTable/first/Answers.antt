@@ -4,4 +4,4 @@ use Rattle.iddqd_order.proofs.btree_table.table.MapBTreeTable.first.Goals as goa
 
 pub returns : goal.returns
 unfolding order_of
-returns c = rw (← c.self.view_is) (first-is _ _ _ c.next.result c.end.ensures.gap c.next.ensures.next)
+returns c = rw (← c.self.view_is) (first-is _ _ _ c.next.result c.at_end.ensures.gap c.next.ensures.next)

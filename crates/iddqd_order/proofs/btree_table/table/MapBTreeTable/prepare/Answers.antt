@@ -5,15 +5,15 @@ use Rattle.iddqd_order.proofs.btree_table.table.MapBTreeTable.prepare.Goals as g
 pub returns : goal.returns
 unfolding place_of index_of blocks_of
 returns g c =
-    let gap = c.find_gap-path.ensures in let taken = c.in-Ok.ensures in (
+    let gap = c.find_gap-gap.ensures in let taken = c.in-Ok.ensures in (
       (refl, λ w. refl, tt),
       record {
         unchanged = tt;
         same_reference = refl;
         asked = gap.asked;
-        prepared = record { table = refl; index = refl; within = gap.within; few_blocks = rw taken.blocks (taken.few gap.levels.0); place = gap.place };
+        prepared = record { table = refl; index = refl; within = gap.within; few_blocks = rw taken.blocks (taken.few gap.fits.levels); place = gap.place };
         memory = refl;
         roomy = λ _. refl;
-        no_blocks = λ lt. taken.blocks ∙ taken.roomy _ gap.goes gap.full gap.levels.0 lt;
+        no_blocks = λ lt. taken.blocks ∙ taken.roomy _ gap.fits.goes gap.fits.full gap.fits.levels lt;
       },
     )

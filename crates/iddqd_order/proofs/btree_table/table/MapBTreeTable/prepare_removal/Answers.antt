@@ -5,12 +5,12 @@ use Rattle.iddqd_order.proofs.btree_table.table.MapBTreeTable.prepare_removal.Go
 pub returns-clause-prepared : goal.returns-clause-prepared
 unfolding index_of is_found
 returns-clause-prepared g c =
-    let way = c.find_way-way.ensures in
+    let spot = c.find_spot-spot.ensures in
     record {
       index = refl;
-      stored = way.stored;
-      asked = way.asked;
-      missing = λ e. ap is_some (way.missing e);
-      unasked = way.unasked;
-      rising = way.rising;
+      stored = spot.stored;
+      asked = spot.asked;
+      missing = λ e. ap is_some (spot.missing e);
+      unasked = spot.unasked;
+      rising = spot.rising;
     }

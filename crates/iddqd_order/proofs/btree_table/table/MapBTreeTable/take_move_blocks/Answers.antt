@@ -1,4 +1,4 @@
-use Rattle.std.proofs.Common.{◌≤◌, arith}
+use Rattle.iddqd_order.proofs.Names.{◌<◌, arith, LEVELS}
 use Rattle.iddqd_order.proofs.RoomLemmas.{move-few, move-none}
 use Rattle.iddqd_order.proofs.TreeLemmas.{IsTree-low}
 use Rattle.iddqd_order.proofs.btree_table.table.MapBTreeTable.take_move_blocks.Goals as goal
@@ -8,7 +8,7 @@ overflow_add-count c = let low = IsTree-low _ _ c.self.invariant.tree in omega a
 
 pub returns-clause-few : goal.returns-clause-few
 returns-clause-few c =
-    let low : c.args.self.now.height ≤ 11 = rw (← c.self.view_is) (IsTree-low _ _ c.self.invariant.tree) in
+    let low : c.args.self.now.height < LEVELS = rw (← c.self.view_is) (IsTree-low _ _ c.self.invariant.tree) in
     move-few c.args.self.now low
 
 pub returns-clause-roomy : goal.returns-clause-roomy

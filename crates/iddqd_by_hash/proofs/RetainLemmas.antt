@@ -1,0 +1,418 @@
+-- For callers: what asks up to a slot leave, where each item that is refused is removed before the next is asked about;
+-- that each index is live when it is removed; and which indexes a hash table keeps by a test.
+use Rattle.std.proofs.Common.{◌≡◌, ◌≢◌, ◌∙◌, inl, inr, ℕ, suc, ◌+◌, ◌<◌, ◌≤◌, List, [], ◌∷◌, ◌++◌, length, get_or, take, set, map, filter, cond, not, Bool, true, false, Option, Some, None, slice_get, refl, sym, ap, subst, arith, Contains, ◌==◌, eqb-true, eq-eqb, length-set, length-take-le, append-nil}
+use Rattle.std.specs.Ordering.{nat_cmp}
+use Rattle.std.specs.FinMap as finite
+use Rattle.std.specs.FinMap.{FinMap}
+use Rattle.std.specs.List.{FoldsTo}
+use Rattle.std.proofs.lemmas.Bool.{cases_eq, cases_lt}
+use Rattle.std.proofs.lemmas.Fn.{FoldsTo-push}
+use Rattle.std.proofs.lemmas.List.{map-append, length-map, get_or-map, take_all, take_more, take-set, get_or_past, get_or-set_same, get_or-set_other}
+use Rattle.std.proofs.lemmas.List.Elements.{filter-append}
+use Rattle.std.proofs.lemmas.List.Sorted.{IsPermutation-sym, Contains-permutation}
+use Rattle.std.proofs.lemmas.Option.{slice_get_read}
+use Rattle.iddqd.specs.Store.{Store, get, live_count, removed}
+use Rattle.iddqd.specs.LiveItems.{pairs_from, live_pairs, live_items}
+use Rattle.iddqd.proofs.StoreLemmas.{contains_head, contains_tail, contains_cases, contains_none}
+use Rattle.iddqd.proofs.LiveLemmas.{live_at, get-removed_other}
+use Rattle.iddqd.proofs.LiveItemLemmas.{pairs_from-append, length-pairs_from, items_of_pairs, IsWalkOf-live_pairs}
+use Rattle.iddqd_hash.specs.Asks.{CanAsk, Keeps}
+use Rattle.iddqd_hash.specs.MapHashTable.{turned, pairs_of}
+use Rattle.iddqd_hash.proofs.AskLemmas.{CanAsk-takes, CanAsk-asked, CanAsk-everywhere}
+use Rattle.iddqd_hash.proofs.FiledLemmas.{filed_from_under, under_from_filed}
+use Rattle.iddqd_hash.proofs.RetainLemmas.{Contains-values, Keeps-tested}
+use Rattle.iddqd_keys.specs.Scan.{IsLive}
+use Rattle.iddqd_keys.specs.Removals.{removed_all}
+use Rattle.iddqd_by_hash.specs.Retain.{MayAsk, kept_of, refused_of, RetainsTo}
+
+module _ {T : Type 0} where
+  -- the walk over one slot more
+  pairs_more :
+      (items : List (Option T)) (p : ℕ) (slot : Option T)
+      → p < length items
+      → get_or items p None ≡ slot
+      → pairs_from 0 (take (p + 1) items) ≡ pairs_from 0 (take p items) ++ pairs_from p (slot ∷ [])
+  pairs_more items p slot within is =
+      let at : 0 + length (take p items) ≡ p = omega (arith, length-take-le p items (omega arith)) in
+      ap (pairs_from 0) (take_more items p None within ∙ ap (λ o. take p items ++ o ∷ []) is)
+      ∙ pairs_from-append 0 (take p items) (slot ∷ [])
+      ∙ ap (λ n. pairs_from 0 (take p items) ++ pairs_from n (slot ∷ [])) at
+
+  pairs_vacant :
+      (items : List (Option T)) (p : ℕ)
+      → p < length items
+      → get_or items p None ≡ None
+      → pairs_from 0 (take (p + 1) items) ≡ pairs_from 0 (take p items)
+  pairs_vacant items p within is = pairs_more items p None within is ∙ append-nil _
+
+  removed_all-push :
+      (s : Store T) (ixs : List ℕ) (ix : ℕ)
+      → removed_all s (ixs ++ ix ∷ []) ≡ removed (removed_all s ixs) ix
+  removed_all-push s [] ix = refl
+  removed_all-push s (at ∷ ixs) ix = removed_all-push (removed s at) ixs ix
+
+  kept-push :
+      (asks : List ((ℕ × T) × Bool)) (a : (ℕ × T) × Bool)
+      → kept_of (asks ++ a ∷ []) ≡ kept_of asks ++ kept_of (a ∷ [])
+  kept-push asks a = ap (map (λ (a : (ℕ × T) × Bool). a.0)) (filter-append (λ (a : (ℕ × T) × Bool). a.1) asks (a ∷ [])) ∙ map-append (λ (a : (ℕ × T) × Bool). a.0) _ _
+
+  refused-push :
+      (asks : List ((ℕ × T) × Bool)) (a : (ℕ × T) × Bool)
+      → refused_of (asks ++ a ∷ []) ≡ refused_of asks ++ refused_of (a ∷ [])
+  refused-push asks a = ap (map (λ (a : (ℕ × T) × Bool). a.0.0)) (filter-append (λ (a : (ℕ × T) × Bool). not a.1) asks (a ∷ [])) ∙ map-append (λ (a : (ℕ × T) × Bool). a.0.0) _ _
+
+  -- a live item is one of the items
+  pub Contains-live : (s : Store T) (ix : ℕ) (item : T) → get s ix ≡ Some item → Contains (live_items s) item
+  Contains-live s ix item live =
+      subst (λ l. Contains l item) (items_of_pairs 0 s.items) (Contains-values (live_pairs s) (ix, item) (((IsWalkOf-live_pairs s).live ix item).1 live))
+
+  -- no more are kept than were asked about
+  kept_fewer : (asks : List ((ℕ × T) × Bool)) → length (kept_of asks) ≤ length asks
+  kept_fewer [] = omega arith
+  kept_fewer ((a, true) ∷ asks) = omega (arith, kept_fewer asks)
+  kept_fewer ((a, false) ∷ asks) = omega (arith, kept_fewer asks)
+
+  pub removed_all-limit : (s : Store T) (ixs : List ℕ) → (removed_all s ixs).limit ≡ s.limit
+  removed_all-limit s [] = refl
+  removed_all-limit s (ix ∷ ixs) = removed_all-limit (removed s ix) ixs
+
+  -- what there is after a removal was there before
+  from_removed : (s : Store T) (ix j : ℕ) (item : T) → get (removed s ix) j ≡ Some item → get s j ≡ Some item
+  from_removed s ix j item is =
+      elim (cases_eq j ix) [
+        | inl same ↦
+            let here : get (removed s ix) ix ≡ Some item = subst (λ k. get (removed s ix) k ≡ Some item) same is in
+            elim (cases_lt ix (length s.items)) [
+              | inl within ↦
+                  let gone = get_or-set_same s.items ix None None within in
+                  absurd (cc)
+              | inr past ↦
+                  let long = length-set s.items ix None in
+                  let gone : get (removed s ix) ix ≡ None =
+                  get_or_past (removed s ix).items ix None (omega (arith, past, long)) in
+                  absurd (cc)
+            ]
+        | inr other ↦ sym (get-removed_other s ix j other) ∙ is
+      ]
+
+  -- and so after several
+  pub was_there :
+      (s : Store T) (ixs : List ℕ) (j : ℕ) (item : T)
+      → get (removed_all s ixs) j ≡ Some item
+      → get s j ≡ Some item
+  was_there s [] j item is = is
+  was_there s (ix ∷ ixs) j item is = from_removed s ix j item (was_there (removed s ix) ixs j item is)
+
+-- `ask p x b q` says that x, asked in the state p, may be answered b and leave the state q
+module _ {F T : Type 0} (ask : F → T → Bool → F → Type 0) where
+  -- no more items are left than there were
+  pub RetainsTo-fewer :
+      (f : F) (old now : Store T) (last : F)
+      → RetainsTo ask f old now last
+      → live_count now ≤ live_count old
+  RetainsTo-fewer f old now last w =
+      let asked = ap length w.each_once in
+      let kept = ap length w.kept in
+      omega (
+        arith,
+        kept_fewer w.asks,
+        length-map w.asks (λ (a : (ℕ × T) × Bool). a.0),
+        asked,
+        kept,
+        length-pairs_from 0 now.items,
+        length-pairs_from 0 old.items,
+      )
+
+module _ {F T : Type 0} (takes : F → T → Type 0) (ask : F → T → Bool → F → Type 0) where
+  pub MayAsk-can : (f : F) (items : List T) → MayAsk takes ask f items → CanAsk takes ask f items
+  MayAsk-can f items may = may (CanAsk-everywhere takes ask f items)
+
+  -- the slots before p were asked about, and from p on all is as it was
+  pub record Retaining (f : F) (old now : Store T) (p : ℕ) (state : F) : Type 0 where
+    pub asks : List ((ℕ × T) × Bool)
+    pub each_once : map (λ a. a.0) asks ≡ pairs_from 0 (take p old.items)
+    pub were_asked : FoldsTo (λ p a q. ask p a.0.1 a.1 q) f asks state
+    pub kept : pairs_from 0 (take p now.items) ≡ kept_of asks
+    pub left : now ≡ removed_all old (refused_of asks)
+    pub rest : (ix : ℕ) → p ≤ ix → get now ix ≡ get old ix
+    pub counted : length now.items ≡ length old.items
+    pub can : CanAsk takes ask state (live_items old)
+
+  pub Retaining-none : (f : F) (old : Store T) → CanAsk takes ask f (live_items old) → Retaining f old old 0 f
+  Retaining-none f old can = record {
+    asks = [];
+    each_once = refl;
+    were_asked = refl;
+    kept = refl;
+    left = refl;
+    rest = λ ix from. refl;
+    counted = refl;
+    can = can;
+  }
+
+  -- all slots were asked about
+  pub Retaining-all :
+      (f : F) (old now : Store T) (p : ℕ) (state : F)
+      → Retaining f old now p state
+      → length old.items ≤ p
+      → RetainsTo ask f old now state
+  Retaining-all f old now p state w past = record {
+    asks = w.asks;
+    each_once = w.each_once ∙ ap (pairs_from 0) (take_all p old.items past);
+    were_asked = w.were_asked;
+    kept = sym (ap (pairs_from 0) (take_all p now.items (let counted = w.counted in omega arith))) ∙ w.kept;
+    left = w.left;
+  }
+
+  module _
+      (f : F) (old now : Store T) (p : ℕ) (state : F) (w : Retaining f old now p state) (within : p < length old.items)
+    where
+      -- a slot without an item
+      pub Retaining-vacant : get now p ≡ None → Retaining f old now (p + 1) state
+      Retaining-vacant vacant = record {
+        asks = w.asks;
+        each_once = w.each_once ∙ sym (pairs_vacant old.items p within (sym (w.rest p (omega arith)) ∙ vacant));
+        were_asked = w.were_asked;
+        kept = pairs_vacant now.items p (let counted = w.counted in omega arith) vacant ∙ w.kept;
+        left = w.left;
+        rest = λ ix from. w.rest ix (omega arith);
+        counted = w.counted;
+        can = w.can;
+      }
+
+      module _ (item : T) (live : get now p ≡ Some item) where
+        was_live : get old p ≡ Some item
+        was_live = sym (w.rest p (omega arith)) ∙ live
+
+        -- its item may be asked about
+        pub takes-next : takes state item
+        takes-next = CanAsk-takes takes ask state (live_items old) item w.can (Contains-live old p item was_live)
+
+        each-more :
+            (b : Bool)
+            → map (λ (a : (ℕ × T) × Bool). a.0) (w.asks ++ ((p, item), b) ∷ []) ≡ pairs_from 0 (take (p + 1) old.items)
+        each-more b =
+            map-append (λ (a : (ℕ × T) × Bool). a.0) w.asks (((p, item), b) ∷ [])
+            ∙ ap (λ l. l ++ (p, item) ∷ []) w.each_once
+            ∙ sym (pairs_more old.items p (Some item) within was_live)
+
+        can-more : (b : Bool) (next : F) → ask state item b next → CanAsk takes ask next (live_items old)
+        can-more b next asked = CanAsk-asked takes ask state (live_items old) item b next w.can (Contains-live old p item was_live) asked
+
+        -- it was answered true
+        pub Retaining-kept : (next : F) → ask state item true next → Retaining f old now (p + 1) next
+        Retaining-kept next asked = record {
+          asks = w.asks ++ ((p, item), true) ∷ [];
+          each_once = each-more true;
+          were_asked = FoldsTo-push (λ p a q. ask p a.0.1 a.1 q) f w.asks state ((p, item), true) next w.were_asked asked;
+          kept = pairs_more now.items p (Some item) (let counted = w.counted in omega arith) live ∙ ap (λ l. l ++ (p, item) ∷ []) w.kept ∙ sym (kept-push w.asks ((p, item), true));
+          left = w.left ∙ ap (removed_all old) (sym (refused-push w.asks ((p, item), true) ∙ append-nil _));
+          rest = λ ix from. w.rest ix (omega arith);
+          counted = w.counted;
+          can = can-more true next asked;
+        }
+
+        -- it was answered false, and removed
+        pub Retaining-removed :
+            (after : Store T) (next : F)
+            → after ≡ removed now p
+            → ask state item false next
+            → Retaining f old after (p + 1) next
+        Retaining-removed after next gone asked =
+            let counted = w.counted in
+            let within_now : p < length now.items = omega arith in
+            let long = length-set now.items p None in
+            rw gone
+            (record {
+              asks = w.asks ++ ((p, item), false) ∷ [];
+              each_once = each-more false;
+              were_asked = FoldsTo-push (λ p a q. ask p a.0.1 a.1 q) f w.asks state ((p, item), false) next w.were_asked asked;
+              kept =
+                  pairs_vacant (set now.items p None) p (omega arith) (get_or-set_same now.items p None None within_now)
+                  ∙ ap (pairs_from 0) (take-set now.items p None) ∙ w.kept ∙ sym (kept-push w.asks ((p, item), false) ∙ append-nil _);
+              left =
+                  ap (λ s. removed s p) w.left ∙ sym (removed_all-push old (refused_of w.asks) p)
+                  ∙ ap (removed_all old) (sym (refused-push w.asks ((p, item), false)));
+              rest = λ ix from. get_or-set_other now.items p ix None None (λ same. omega arith) ∙ w.rest ix (omega arith);
+              counted = long ∙ counted;
+              can = can-more false next asked;
+            })
+
+-- ---- each index that is removed is live then
+
+module _ {T : Type 0} where
+  -- these indexes are removed in turn, each while it is live
+  abbrev pub AreLiveInTurn : Store T → List ℕ → Type 0
+  AreLiveInTurn s [] = Unit {0}
+  AreLiveInTurn s (ix ∷ rest) = IsLive s ix × AreLiveInTurn (removed s ix) rest
+
+  -- no two of these asks are about the same index
+  abbrev AreApart : List ((ℕ × T) × Bool) → Type 0
+  AreApart [] = Unit {0}
+  AreApart (a ∷ asks) = ((b : (ℕ × T) × Bool) → Contains asks b → b.0.0 ≢ a.0.0) × AreApart asks
+
+  -- asks by rising index are such
+  apart_by_rising :
+      (asks : List ((ℕ × T) × Bool))
+      → ((i j : ℕ) (a b : ℕ × T) → i < j → slice_get (map (λ (a : (ℕ × T) × Bool). a.0) asks) i ≡ Some a
+      → slice_get (map (λ (a : (ℕ × T) × Bool). a.0) asks) j ≡ Some b → a.0 < b.0)
+      → AreApart asks
+  apart_by_rising [] rising = tt
+  apart_by_rising (a ∷ asks) rising = (
+    λ b here same.
+        let pairs = map (λ (a : (ℕ × T) × Bool). a.0) asks in
+        let within : here.0 < length pairs = omega (arith, length-map asks (λ (a : (ℕ × T) × Bool). a.0), here.1) in
+        let read : b.0 ≡ get_or pairs here.0 b.0 =
+        sym (get_or-map (λ (a : (ℕ × T) × Bool). a.0) asks here.0 b b.0 here.1 ∙ ap (λ (a : (ℕ × T) × Bool). a.0) here.2) in
+        let less = rising 0 (suc here.0) a.0 b.0 (omega arith) refl (slice_get_read pairs (length pairs) here.0 b.0 refl within read) in
+        omega (arith, less, same),
+    apart_by_rising asks (λ i j x y less at_i at_j. rising (suc i) (suc j) x y (omega arith) at_i at_j),
+  )
+
+  live_in_turn :
+      (s : Store T) (asks : List ((ℕ × T) × Bool))
+      → ((b : (ℕ × T) × Bool) → Contains asks b → IsLive s b.0.0)
+      → AreApart asks
+      → AreLiveInTurn s (refused_of asks)
+  live_in_turn s [] live apart = tt
+  live_in_turn s ((pair, true) ∷ asks) live apart =
+      live_in_turn s asks (λ b here. live b (contains_tail (pair, true) b asks here)) apart.1
+  live_in_turn s ((pair, false) ∷ asks) live apart = (
+    live (pair, false) (contains_head (pair, false) asks),
+    live_in_turn (removed s pair.0) asks
+        (λ b here.
+        rw (get-removed_other s pair.0 b.0.0 (apart.0 b here)) (live b (contains_tail (pair, false) b asks here)))
+        apart.1,
+  )
+
+  -- so are the indexes of the items that were answered false
+  pub AreLiveInTurn-refused :
+      {F : Type 0} (ask : F → T → Bool → F → Type 0) (f : F) (old now : Store T) (last : F)
+      (r : RetainsTo ask f old now last)
+      → AreLiveInTurn old (refused_of r.asks)
+  AreLiveInTurn-refused ask f old now last r =
+      let walk = IsWalkOf-live_pairs old in
+      live_in_turn old r.asks
+      (λ b here.
+      let pairs = map (λ (a : (ℕ × T) × Bool). a.0) r.asks in
+      let listed : Contains pairs b.0 = (
+        here.0,
+        omega (arith, length-map r.asks (λ (a : (ℕ × T) × Bool). a.0), here.1),
+        get_or-map (λ (a : (ℕ × T) × Bool). a.0) r.asks here.0 b b.0 here.1 ∙ ap (λ (a : (ℕ × T) × Bool). a.0) here.2,
+      ) in
+      live_at old b.0.0 b.0.1 ((walk.live b.0.0 b.0.1).0 (rw r.each_once at listed)))
+      (apart_by_rising r.asks (rw r.each_once walk.rising))
+
+-- ---- what a hash table keeps by a test
+
+contains_pair : (es : List (ℕ × ℕ)) (hash ix : ℕ) → Contains (map turned es) (hash, ix) → Contains es (ix, hash)
+contains_pair [] hash ix here = absurd (contains_none _ here)
+contains_pair (e ∷ es) hash ix here =
+    elim (contains_cases _ _ _ here) [
+      | inl same ↦ subst (Contains (e ∷ es)) (ap turned same) (contains_head e es)
+      | inr there ↦ contains_tail e (ix, hash) es (contains_pair es hash ix there)
+    ]
+
+contains_mapped : {X Y : Type 0} (f : X → Y) (xs : List X) (x : X) → Contains xs x → Contains (map f xs) (f x)
+contains_mapped f [] x here = absurd (contains_none x here)
+contains_mapped f (y ∷ xs) x here =
+    elim (contains_cases y x xs here) [
+      | inl same ↦ subst (λ z. Contains (f y ∷ map f xs) (f z)) same (contains_head (f y) (map f xs))
+      | inr there ↦ contains_tail (f y) (f x) (map f xs) (contains_mapped f xs x there)
+    ]
+
+from_mapped : {X Y : Type 0} (f : X → Y) (xs : List X) (y : Y) → Contains (map f xs) y → (x : X) × Contains xs x × (f x ≡ y)
+from_mapped f [] y here = absurd (contains_none y here)
+from_mapped f (x ∷ xs) y here =
+    elim (contains_cases (f x) y (map f xs) here) [
+      | inl same ↦ (x, contains_head x xs, same)
+      | inr there ↦
+          let (z, in_rest, is) = from_mapped f xs y there in
+          (z, contains_tail x z xs in_rest, is)
+    ]
+
+contains_passed :
+    {X : Type 0} (t : X → Bool) (xs : List X) (x : X)
+    → Contains xs x
+    → t x ≡ true
+    → Contains (filter t xs) x
+contains_passed t [] x here passes = here
+contains_passed t (y ∷ xs) x here passes =
+    elim (contains_cases y x xs here) [
+      | inl same ↦
+          let kept : t y ≡ true = ap t same ∙ passes in
+          rw kept (subst (Contains (y ∷ filter t xs)) same (contains_head y (filter t xs)))
+      | inr there ↦
+          let later = contains_passed t xs x there passes in
+          elim (t y) as (λ b. Contains (cond b (y ∷ filter t xs) (filter t xs)) x) [
+            | true ↦ contains_tail y x (filter t xs) later
+            | false ↦ later
+          ]
+    ]
+
+from_passed :
+    {X : Type 0} (t : X → Bool) (xs : List X) (x : X)
+    → Contains (filter t xs) x
+    → Contains xs x × (t x ≡ true)
+from_passed t [] x here = absurd (contains_none x here)
+from_passed t (y ∷ xs) x here =
+    elim (t y) as (λ b. t y ≡ b → Contains (cond b (y ∷ filter t xs) (filter t xs)) x → Contains (y ∷ xs) x × (t x ≡ true)) [
+      | true ↦ λ yes here.
+          elim (contains_cases y x (filter t xs) here) [
+            | inl same ↦ (subst (Contains (y ∷ xs)) same (contains_head y xs), ap t (sym same) ∙ yes)
+            | inr there ↦
+                let rest = from_passed t xs x there in
+                (contains_tail y x xs rest.0, rest.1)
+          ]
+      | false ↦ λ no here.
+          let rest = from_passed t xs x here in
+          (contains_tail y x xs rest.0, rest.1)
+    ] refl here
+
+module _ (m : FinMap nat_cmp ℕ) (hash ix : ℕ) where
+  pair_filed : Contains (pairs_of m) (hash, ix) → finite.get m ix ≡ Some hash
+  pair_filed here =
+      let entry = contains_pair (finite.entries m) hash ix here in
+      let under_hash : (e : ℕ × ℕ) → Bool = λ e. e.1 == hash in
+      filed_from_under m hash ix
+      (contains_mapped (λ (e : ℕ × ℕ). e.0) (filter under_hash (finite.entries m)) (ix, hash)
+      (contains_passed under_hash (finite.entries m) (ix, hash) entry (eq-eqb hash hash refl)))
+
+  filed_pair : finite.get m ix ≡ Some hash → Contains (pairs_of m) (hash, ix)
+  filed_pair is =
+      let under_hash : (e : ℕ × ℕ) → Bool = λ e. e.1 == hash in
+      let (e, passed, at) = from_mapped (λ (e : ℕ × ℕ). e.0) (filter under_hash (finite.entries m)) ix (under_from_filed m hash ix is) in
+      let both = from_passed under_hash (finite.entries m) e passed in
+      let same : e ≡ (ix, hash) = λ i. (at i, eqb-true e.1 hash both.1 i) in
+      contains_mapped turned (finite.entries m) (ix, hash) (subst (Contains (finite.entries m)) same both.0)
+
+-- where each answer is a function of the index, an index is kept exactly where it passes the test, under its hash
+pub filed_kept :
+    {F : Type 0} (ask : F → ℕ → Bool → F → Type 0) (I : F → Type 0) (test : ℕ → Bool)
+    → ((s : F) (ix : ℕ) (b : Bool) (t : F) → I s → ask s ix b t → (b ≡ test ix) × I t)
+    → (f : F) (old new : FinMap nat_cmp ℕ)
+    → I f
+    → Keeps ask f (pairs_of old) (pairs_of new)
+    → (ix : ℕ)
+    → finite.get new ix ≡ cond (test ix) (finite.get old ix) None
+filed_kept ask I test says f old new i keeps ix =
+    let moved = Keeps-tested ask I test says f (pairs_of old) (pairs_of new) i keeps in
+    let passes : ℕ × ℕ → Bool = λ (e : ℕ × ℕ). test e.1 in
+    elim (finite.get new ix) as (λ o. finite.get new ix ≡ o → o ≡ cond (test ix) (finite.get old ix) None) [
+      | Some hash ↦ λ is.
+          let here = Contains-permutation _ _ (hash, ix) (IsPermutation-sym _ _ moved) (filed_pair new hash ix is) in
+          let both = from_passed passes (pairs_of old) (hash, ix) here in
+          rw (both.1, pair_filed old hash ix both.0) refl
+      | None ↦ λ none.
+          elim (test ix) as (λ b. test ix ≡ b → None ≡ cond b (finite.get old ix) None) [
+            | false ↦ λ _. refl
+            | true ↦ λ yes.
+                elim (finite.get old ix) as (λ o. finite.get old ix ≡ o → None ≡ o) [
+                  | None ↦ λ _. refl
+                  | Some hash ↦ λ was.
+                      let here = contains_passed passes (pairs_of old) (hash, ix) (filed_pair old hash ix was) yes in
+                      let found = pair_filed new hash ix (Contains-permutation _ _ (hash, ix) moved here) in
+                      absurd (cc)
+                ] refl
+          ] refl
+    ] refl

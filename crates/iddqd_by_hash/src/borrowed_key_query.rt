@@ -1,0 +1,14 @@
+//! A query as what a hash table is asked by.
+use iddqd::map_hash::Equivalent;
+
+/// A query as what a hash table is asked by, for keys that are borrowed.
+#[derive(Clone, Copy)]
+pub struct BorrowedKeyQuery<'a, Q>(pub &'a Q);
+
+impl<'a, 'b, K, Q: Equivalent<K>> Equivalent<&'b K> for BorrowedKeyQuery<'a, Q> {
+    ghost equivalent = { λ q k. Q.equivalent q.0.now k.now };
+
+    fn equivalent(&self, key: &&'b K) -> bool {
+        self.0.equivalent(*key)
+    }
+}

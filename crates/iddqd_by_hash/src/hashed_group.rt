@@ -1,0 +1,115 @@
+//! The items whose keys a query is equivalent to: a walk over their indexes, where several items may have one key.
+ghost use Rattle.std.specs.Prelude.{◌≡◌, ℕ, Contains, IfSome, IsSome, length};
+ghost use Rattle.std.specs.Iterator.{YieldsFirst, item_count, at_most, UpTo};
+ghost use Rattle.std.specs.Iterator.SizeHint.{IsWithinCount};
+ghost use Rattle.iddqd_hash.specs.{filed};
+ghost use Rattle.iddqd_keys.specs.Scan.{IsLive, passes_by};
+ghost use Rattle.iddqd_by_hash.specs.Hashed.{AreLive};
+ghost use Rattle.iddqd_by_hash.specs.HashedGroup.{FindsFirst, IsGroupOf};
+
+use iddqd::item_index::ItemIndex;
+use iddqd::item_set::ItemSet;
+use iddqd::map_hash::{Equivalent, MapHash};
+use iddqd_hash::hash_table::{IndexesUnder, MapHashTable};
+use iddqd_keys::key_of::{KeyOf, key_at};
+use std::fmt;
+use std::iter::FusedIterator;
+use std::marker::{Model, PhantomData};
+
+/// The indexes under a hash whose items have keys that a query is equivalent to, each once, in no order that a caller
+/// can rely on. Once it has ended it stays ended.
+///
+/// It takes no memory, and reads the keys of indexes under that hash alone, of each once.
+#[derive(Drop)]
+pub struct Group<'a, T, E: KeyOf<T>, Q: Equivalent<E::Key>> {
+    indexes: IndexesUnder<'a>,
+    items: &'a ItemSet<T>,
+    query: Q,
+    key: PhantomData<E>,
+}
+
+impl<'a, T, E: KeyOf<T>, Q: Equivalent<E::Key>> Model for Group<'a, T, E, Q> {
+    ghost use Rattle.std.specs.Prelude.{ℕ, List, Contains};
+    ghost use Rattle.iddqd_keys.specs.Scan.{IsLive, passes_by};
+    ghost use Rattle.iddqd_by_hash.specs.HashedGroup.{hits_among};
+
+    ghost Value = { List ℕ };
+
+    ghost view = { λ it. hits_among it.items.now.store (passes_by E.key_of (Q.equivalent it.query)) it.indexes };
+
+    ghost invariant = { λ it. (ix : ℕ) → Contains it.indexes ix → IsLive it.items.now.store ix };
+}
+
+/// The indexes under a hash whose items have keys that the query is equivalent to, each once.
+///
+/// It reads no key. The walk reads the keys of indexes under that hash alone, of each once.
+pub fn group_of<'a, T, E, Q>(
+    table: &'a MapHashTable,
+    items: &'a ItemSet<T>,
+    hash: MapHash,
+    query: Q,
+) -> Group<'a, T, E, Q>
+where
+    E: KeyOf<T>,
+    Q: Equivalent<E::Key>,
+    requires { AreLive items.now.store (filed table.now) }
+    ensures { IsGroupOf E.key_of items.now.store (filed table.now) hash (Q.equivalent query) result }
+{
+    Group {
+        indexes: table.indexes_under(hash),
+        items,
+        query,
+        key: PhantomData,
+    }
+}
+
+impl<'a, T, E: KeyOf<T>, Q: Equivalent<E::Key> + Drop> Iterator for Group<'a, T, E, Q> {
+    type Item = ItemIndex;
+
+    ghost next_gives = { YieldsFirst (λ rest. rest) };
+
+    ghost remaining = { item_count (λ rest. rest) };
+
+    fn next(&mut self) -> Option<ItemIndex> {
+        next_hit::<T, E, Q>(&mut self.indexes, self.items, &self.query)
+    }
+
+    fn size_hint(&self) -> (usize, Option<usize>)
+        ensures lower { IsWithinCount result.0 (at_most (length self.now)) }
+        ensures upper { IfSome result.1 (UpTo (at_most (length self.now))) }
+        ensures least { result.0 ≡ 0 }
+        ensures bounded { IsSome result.1 }
+    {
+        self.indexes.size_hint()
+    }
+}
+
+impl<'a, T, E: KeyOf<T>, Q: Equivalent<E::Key> + Drop> FusedIterator for Group<'a, T, E, Q> {}
+
+impl<'a, T, E: KeyOf<T>, Q: Equivalent<E::Key>> fmt::Debug for Group<'a, T, E, Q> {
+    fn fmt<W: fmt::Write>(&self, f: &mut fmt::Formatter<W>) -> fmt::Result {
+        write!(f, "Group")
+    }
+}
+
+// The first of some indexes whose item's key the query is equivalent to. It leaves those behind it.
+fn next_hit<T, E, Q>(
+    indexes: &mut IndexesUnder<'_>,
+    items: &ItemSet<T>,
+    query: &Q,
+) -> Option<ItemIndex>
+where
+    E: KeyOf<T>,
+    Q: Equivalent<E::Key>,
+    requires { (ix : ℕ) → Contains indexes.old ix → IsLive items.now.store ix }
+    ensures live { (ix : ℕ) → Contains indexes.new ix → IsLive items.now.store ix }
+    ensures first { FindsFirst items.now.store (passes_by E.key_of (Q.equivalent query.now))
+        indexes.old result indexes.new }
+{
+    'passing: while let Some(ix) = indexes.next() {
+        if query.equivalent(key_at::<T, E>(items, ix)) {
+            return Some(ix);
+        }
+    }
+    None
+}

@@ -1,0 +1,72 @@
+use Rattle.std.proofs.Common.{◌≡◌, refl, arith}
+use Rattle.std.specs.Fn.{TakesAt, CalledAt}
+use Rattle.iddqd_by_hash.proofs.RetainLemmas.{MayAsk-can, RetainsTo-fewer}
+use Rattle.iddqd_driver.specs.State.{state_of}
+use Rattle.iddqd_driver.specs.Memory.{memory_of, sized_of}
+use Rattle.iddqd_driver.specs.Retain.{Retains}
+use Rattle.iddqd_driver.proofs.KeyLemmas.{AreLawful-from_bounds}
+use Rattle.iddqd_driver.proofs.RetainLemmas.{Retains-from_parts, Keeps-retained, IsPaired-retained, limit-retained, capacity-same, room-more}
+use Rattle.iddqd_driver.proofs.keyed_items.KeyedItems.retain.Goals.{After-drop-f}
+use Rattle.iddqd_driver.proofs.keyed_items.KeyedItems.retain.Goals as goal
+
+pub remove_refused-requires : goal.remove_refused-requires
+remove_refused-requires g c =
+    rw (← c.self.view_is) at (MayAsk-can (TakesAt g.F.FnMut) (CalledAt g.F.FnMut) _ _ c.requires)
+
+-- what was done, over the parts of the collection
+did : (g : _) (c : After-drop-f g)
+    → Retains (CalledAt g.F.FnMut) c.args.f
+    (state_of c.self.inside.state c.self.inside.items.store c.self.inside.filed c.self.inside.order)
+    (state_of c.self.inside.state c.remove_refused.new.items.store c.forget_filed.new.table c.forget_ordered.new.table)
+did g c =
+    Retains-from_parts (CalledAt g.F.FnMut) c.args.f _ _ c.remove_refused.new.f c.self.invariant
+    c.remove_refused.ensures.retained refl c.forget_filed.ensures.filed c.forget_ordered.ensures.order
+
+pub invariant_of-self : goal.invariant_of-self
+invariant_of-self g c = IsPaired-retained (CalledAt g.F.FnMut) c.args.f _ _ c.self.invariant (did g c)
+
+pub returns-clause-retained : goal.returns-clause-retained
+returns-clause-retained g c = rw (← c.self.view_is) (did g c)
+
+pub returns-clause-keeps : goal.returns-clause-keeps
+returns-clause-keeps g c =
+    rw (← c.self.view_is)
+    (Keeps-retained _ (CalledAt g.F.FnMut) c.args.f _ _
+    (AreLawful-from_bounds {item = g.T.KeyedItem} g.S.BuildHasher g.S.Hasher.Hasher g.met.T.Key1.PartialEq.laws
+    g.met.T.Key1.Hash.respects_eq g.met.T.Key2.Ord.total) c.self.invariant (did g c))
+
+same_memory : (g : _) (c : After-drop-f g)
+    → memory_of c.remove_refused.new.items c.forget_filed.new.table c.forget_ordered.new.table
+    ≡ memory_of c.self.inside.items c.self.inside.filed c.self.inside.order
+same_memory g c =
+    let hashed = c.forget_filed.ensures.memory in
+    rw (c.remove_refused.ensures.slots, hashed.same_capacity, hashed.same_memory, c.forget_ordered.ensures.memory) refl
+
+pub returns-clause-memory : goal.returns-clause-memory
+returns-clause-memory g c = rw (← c.self.view_is) (same_memory g c)
+
+pub returns-clause-capacity : goal.returns-clause-capacity
+returns-clause-capacity g c =
+    let whole = sized_of c.self.inside.state c.self.inside.items c.self.inside.filed c.self.inside.order in
+    let left = sized_of c.self.inside.state c.remove_refused.new.items c.forget_filed.new.table c.forget_ordered.new.table in
+    let limit = limit-retained (CalledAt g.F.FnMut) c.args.f whole.state left.state (did g c) in
+    rw (← c.self.view_is) (capacity-same whole left limit (same_memory g c))
+
+pub returns-clause-room : goal.returns-clause-room
+returns-clause-room g c =
+    let whole = sized_of c.self.inside.state c.self.inside.items c.self.inside.filed c.self.inside.order in
+    let left = sized_of c.self.inside.state c.remove_refused.new.items c.forget_filed.new.table c.forget_ordered.new.table in
+    let limit = limit-retained (CalledAt g.F.FnMut) c.args.f whole.state left.state (did g c) in
+    let fewer = RetainsTo-fewer (CalledAt g.F.FnMut) _ _ _ _ c.remove_refused.ensures.retained in
+    rw (← c.self.view_is)
+    (room-more whole left limit (same_memory g c) _ (omega (arith, fewer, c.len.ensures, c.len-before.ensures)))
+
+pub overflow_sub-result : goal.overflow_sub-result
+overflow_sub-result g c =
+    let fewer = RetainsTo-fewer (CalledAt g.F.FnMut) _ _ _ _ c.remove_refused.ensures.retained in
+    omega (arith, fewer, c.len.ensures, c.len-before.ensures)
+
+pub returns-clause-count : goal.returns-clause-count
+returns-clause-count g c =
+    let fewer = RetainsTo-fewer (CalledAt g.F.FnMut) _ _ _ _ c.remove_refused.ensures.retained in
+    rw (← c.self.view_is) (omega (arith, fewer, c.len.ensures, c.len-before.ensures))

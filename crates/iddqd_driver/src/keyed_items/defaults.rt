@@ -1,0 +1,53 @@
+//! Collections with the default hasher.
+//!
+//! `new`, `with_limit` and `with_capacity` take the state of a hasher. The calls here use `DefaultHashBuilder`, whose
+//! seed is fixed: it doesn't resist first keys that are chosen to collide.
+ghost use Rattle.std.specs.Prelude.{◌≡◌, ◌≤◌, min, IsOk, IfOk};
+ghost use Rattle.iddqd.specs.{slot_limit};
+ghost use Rattle.iddqd_driver.specs.Keys.{IsDefaultHasher};
+ghost use Rattle.iddqd_driver.specs.State.{empty_state, empty_state_within};
+ghost use Rattle.iddqd_driver.specs.Memory.{no_memory, room, IsMadeFor};
+
+use super::KeyedItems;
+use crate::keyed_item::KeyedItem;
+use iddqd::hash_builder::DefaultHashBuilder;
+use std::alloc::{AllocError, Global};
+
+impl<T: KeyedItem> KeyedItems<T, DefaultHashBuilder> {
+    /// No items, slots for as many as there are indexes but `SENTINEL`, and the default hasher. It takes no memory.
+    pub fn with_default_hasher(alloc: Global) -> KeyedItems<T, DefaultHashBuilder>
+        ensures hasher { IsDefaultHasher result.state.hasher }
+        ensures state { result.state ≡ empty_state result.state.hasher }
+        ensures memory { result.memory ≡ no_memory }
+    {
+        KeyedItems::new(alloc, DefaultHashBuilder::default())
+    }
+
+    /// No items, never more slots than the limit, and the default hasher. It takes no memory.
+    pub fn with_limit_and_default_hasher(
+        alloc: Global,
+        limit: u32,
+    ) -> KeyedItems<T, DefaultHashBuilder>
+        ensures hasher { IsDefaultHasher result.state.hasher }
+        ensures state { result.state ≡ empty_state_within limit result.state.hasher }
+        ensures memory { result.memory ≡ no_memory }
+    {
+        KeyedItems::with_limit(alloc, DefaultHashBuilder::default(), limit)
+    }
+
+    /// No items, memory for so many, or for as many as there are indexes but `SENTINEL` where that is fewer, and the
+    /// default hasher. With 0 it takes no memory.
+    pub fn with_capacity_and_default_hasher(
+        alloc: Global,
+        items: usize,
+    ) -> Result<KeyedItems<T, DefaultHashBuilder>, AllocError>
+        ensures hasher { IfOk result (λ k. IsDefaultHasher k.state.hasher) }
+        ensures state { IfOk result (λ k. k.state ≡ empty_state k.state.hasher) }
+        ensures room { IfOk result (λ k. min items slot_limit ≤ room k) }
+        ensures made { IfOk result (λ k. IsMadeFor (min items slot_limit) k.memory) }
+        ensures none { items ≡ 0 → IsOk result }
+        ensures no_memory { items ≡ 0 → IfOk result (λ k. k.memory ≡ no_memory) }
+    {
+        KeyedItems::with_capacity(alloc, DefaultHashBuilder::default(), items)
+    }
+}

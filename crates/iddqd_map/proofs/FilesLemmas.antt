@@ -1,0 +1,135 @@
+-- Each step of a store and of a hash table that files it by a key, which several items may have, keeps it so.
+use Rattle.std.proofs.Common.{◌≡◌, ◌≢◌, ◌∙◌, ◌⊎◌, inl, inr, ◌↔◌, ℕ, Bool, true, false, not, List, Option, Some, None, IsSome, Ok, refl, sym, ap}
+use Rattle.std.proofs.lemmas.Bool.{cases_eq}
+use Rattle.std.specs.Ordering.{nat_cmp}
+use Rattle.std.specs.FinMap as finite
+use Rattle.std.specs.FinMap.{FinMap}
+use Rattle.iddqd.specs.Store.{Store, IsValid, empty_within, get, next_index, inserted, removed, rebound}
+use Rattle.iddqd.specs.Compaction.{compacted, rank}
+use Rattle.iddqd.proofs.LiveLemmas.{live_at}
+use Rattle.iddqd_hash.specs.MapHashTable.{Renames}
+use Rattle.iddqd_hash.proofs.MemberLemmas.{get-insert_at, get-insert_other, get-remove_other}
+use Rattle.iddqd_keys.specs.Scan.{IsLive, HasNoHit, passes_by}
+use Rattle.iddqd_by_hash.specs.Hashed.{Hashing, IsLawful, StandsForOne, IsInPlace, Finds}
+use Rattle.iddqd_by_hash.specs.HashedGroup.{IsGroupOf}
+use Rattle.iddqd_by_hash.specs.HashedMove.{moved}
+use Rattle.iddqd_by_hash.specs.declared.hashed_move.Move.{Move}
+use Rattle.iddqd_by_hash.specs.declared.hashed_move.Move.TheVariants.{Stays, To}
+use Rattle.iddqd_by_hash.proofs.HoldsLemmas.{Holds-empty, Holds-removed, Holds-inserted, Holds-compacted}
+use Rattle.iddqd_by_hash.proofs.PlaceLemmas.{IsExact-empty, IsInPlace-inserted, Keeps-removed, Keeps-compacted}
+use Rattle.iddqd_keys.proofs.ScanLemmas.{rebound_cases, live_rebound}
+use Rattle.iddqd_map.specs.ByHashMulti.{Files, IsMoveFor}
+use Rattle.iddqd_map.specs.ByHashMultiLaws.{Files-rebound_same}
+use Rattle.iddqd_map.specs.Groups.{AreHits, FindsSome}
+use Rattle.iddqd_map.specs.Hashed.{moves}
+use Rattle.iddqd_map.specs.KeyIndex.{PlansMove}
+use Rattle.iddqd_map.specs.Map.{shares}
+use Rattle.iddqd_map.specs.NoConflict.{never_alike, never_hit}
+
+module _ {T K : Type 0} (key_of : T → K) (hashing : Hashing K) where
+  pub Files-empty : (limit : ℕ) → Files key_of hashing (empty_within limit) finite.empty
+  Files-empty limit = record { held = Holds-empty T limit; placed = (IsExact-empty key_of hashing limit).placed }
+
+  module _ (s : Store T) (m : FinMap nat_cmp ℕ) (o : Files key_of hashing s m) where
+    pub Files-removed :
+        (ix : ℕ) (item : T)
+        → get s ix ≡ Some item
+        → Files key_of hashing (removed s ix) (finite.remove m ix)
+    Files-removed ix item live = record {
+      held = Holds-removed s m o.held ix item live;
+      placed = (Keeps-removed key_of hashing s m ix item live).placed o.placed;
+    }
+
+    pub Files-inserted :
+        (item : T)
+        → IsValid s
+        → Files key_of hashing (inserted s item) (finite.insert m (next_index s) (hashing.hash_of (key_of item)))
+    Files-inserted item valid = record {
+      held = Holds-inserted s m o.held item (hashing.hash_of (key_of item)) valid;
+      placed = IsInPlace-inserted key_of hashing s m item valid o.placed;
+    }
+
+    pub Files-compacted : (new : FinMap nat_cmp ℕ) → Renames (rank s) m new → Files key_of hashing (compacted s) new
+    Files-compacted new named = record {
+      held = Holds-compacted s m o.held new named;
+      placed = (Keeps-compacted key_of hashing s m new named).placed o.placed;
+    }
+
+    -- what a look-up finds in any state is some item that passes, and it misses none that it should find
+    pub FindsSome-found :
+        (hash : ℕ) (test : K → Bool) (r : Option ℕ)
+        → StandsForOne hashing hash test
+        → Finds s m hash (passes_by key_of test) r
+        → FindsSome s (passes_by key_of test) r
+    FindsSome-found hash test None one misses = λ ix hit.
+        misses ix (record { hit = hit; filed = o.placed ix hit.0 hit.1 ∙ ap Some (one.hashed (key_of hit.0) hit.2) })
+    FindsSome-found hash test (Some ix) one found = found.hit
+
+    -- the indexes of a group under the hash of its key are exactly the hits
+    pub AreHits-group :
+        (hash : ℕ) (test : K → Bool) (indexes : List ℕ)
+        → StandsForOne hashing hash test
+        → IsGroupOf key_of s m hash test indexes
+        → AreHits s (passes_by key_of test) indexes
+    AreHits-group hash test indexes one group =
+        record { each = group.as_scan hashing one.hashed o.placed; once = group.once }
+
+    module _ (ix : ℕ) (item was : T) (live : get s ix ≡ Some was) where
+      -- a live index that is filed under the hash of another item's key
+      module _ (hash : ℕ) (is : hash ≡ hashing.hash_of (key_of item)) where
+        abbrev there : FinMap nat_cmp ℕ
+        there = moved m ix (To hash)
+
+        filed_there : (j : ℕ) → j ≢ ix → finite.get there j ≡ finite.get m j
+        filed_there j other = get-insert_other (finite.remove m ix) ix hash j other ∙ get-remove_other m ix j other
+
+        holds_at : (j : ℕ) → (j ≡ ix) ⊎ (j ≡ ix → ⊥) → IsSome (finite.get there j) ↔ IsLive (rebound s ix item) j
+        holds_at j (inl same) =
+            let here : finite.get there j ≡ Some hash = rw same (get-insert_at (finite.remove m ix) ix hash) in
+            let stays : IsLive (rebound s ix item) j = rw (live_rebound s ix item was live j) (live_at s j was (rw same live)) in
+            (λ _. stays, λ _. rw here refl)
+        holds_at j (inr other) = rw (filed_there j other, live_rebound s ix item was live j) (o.held j)
+
+        placed_at : IsInPlace key_of hashing (rebound s ix item) there
+        placed_at j y at =
+            elim (rebound_cases s ix item was live j y at) [
+              | inl a ↦ rw (a.0, ← a.1) (get-insert_at (finite.remove m ix) ix hash ∙ ap Some is)
+              | inr b ↦ filed_there j b.0 ∙ o.placed j y b.1
+            ]
+
+        pub Files-moved : Files key_of hashing (rebound s ix item) there
+        Files-moved = record { held = λ j. holds_at j (cases_eq j ix); placed = placed_at }
+
+      -- it is given an item, as it was planned
+      pub Files-rebound :
+          IsLawful hashing
+          → (plan : Move)
+          → IsMoveFor key_of hashing s ix item plan
+          → Files key_of hashing (rebound s ix item) (moved m ix plan)
+      Files-rebound lawful Stays (y, is, alike) =
+          let one : y ≡ was = (let e : Some y ≡ Some was = sym is ∙ live in cc) in
+          Files-rebound_same key_of hashing s m lawful o ix item was live (rw one at alike)
+      Files-rebound lawful (To hash) planned = Files-moved hash planned.1
+
+  -- the plan of a move, where no item conflicts
+  pub PlansMove-free :
+      (s : Store T) (ix : ℕ) (item : T) (plan : Move)
+      → IsMoveFor key_of hashing s ix item plan
+      → {C : Type 0} (taken : C → Type 0)
+      → PlansMove (never_alike item) (shares key_of hashing.equal item) (IsMoveFor key_of hashing s ix item) moves taken s
+      ix (Ok plan)
+  PlansMove-free s ix item plan planned taken =
+      (planned, λ j hit. absurd (never_hit s item j hit), moves_unlike plan planned)
+    where
+      moves_unlike :
+          (plan : Move)
+          → IsMoveFor key_of hashing s ix item plan
+          → (was : T)
+          → get s ix ≡ Some was
+          → moves plan ≡ not (shares key_of hashing.equal item was)
+      moves_unlike Stays (y, is, alike) was live =
+          let one : y ≡ was = (let e : Some y ≡ Some was = sym is ∙ live in cc) in
+          rw (← one, alike) refl
+      moves_unlike (To hash) ((y, is, differs), hashed) was live =
+          let one : y ≡ was = (let e : Some y ≡ Some was = sym is ∙ live in cc) in
+          rw (← one) (sym differs)

@@ -1,0 +1,26 @@
+use Rattle.std.proofs.Common.{Bool, ap, arith}
+use Rattle.iddqd_map.specs.Map.{MapMemory, map_with}
+use Rattle.iddqd_map.specs.Ranges.{TakesItem, GivesItem}
+use Rattle.iddqd_map.proofs.RetainLemmas.{MayAsk-can, same_memory}
+use Rattle.iddqd_map.proofs.map.Map.remove_hashed_group_by.Goals as goal
+
+pub remove_each-requires-clause-can_give : goal.remove_each-requires-clause-can_give
+remove_each-requires-clause-can_give g c =
+    rw (← c.self.view_is) at (MayAsk-can (TakesItem g.F.FnMut) (λ p x (b : Bool) q. GivesItem g.F.FnMut p x q) _ _ c.requires)
+
+pub overflow_sub-result : goal.overflow_sub-result
+overflow_sub-result g c = omega (arith, c.remove_each.ensures.fewer, c.len.ensures, c.len-before.ensures)
+
+pub returns-clause-memory : goal.returns-clause-memory
+returns-clause-memory g c =
+    let did = c.remove_each.ensures in
+    rw (← c.self.view_is) (same_memory did.slots did.capacity did.cells)
+
+pub returns-clause-room : goal.returns-clause-room
+returns-clause-room g c =
+    let did = c.remove_each.ensures in
+    rw (← c.self.view_is) (omega (arith, did.fewer, did.limit, did.slots, did.capacity))
+
+pub returns-clause-count : goal.returns-clause-count
+returns-clause-count g c =
+    rw (← c.self.view_is) (omega (arith, c.remove_each.ensures.fewer, c.len.ensures, c.len-before.ensures))

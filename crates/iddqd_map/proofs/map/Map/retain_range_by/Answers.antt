@@ -1,0 +1,25 @@
+use Rattle.std.proofs.Common.{arith}
+use Rattle.std.specs.Fn.{TakesAt, CalledAt}
+use Rattle.iddqd_map.proofs.RetainLemmas.{MayAsk-can, same_memory}
+use Rattle.iddqd_map.proofs.map.Map.retain_range_by.Goals as goal
+
+pub retain_within-requires-clause-can_ask : goal.retain_within-requires-clause-can_ask
+retain_within-requires-clause-can_ask g c =
+    rw (← c.self.view_is) at (MayAsk-can (TakesAt g.F.FnMut) (CalledAt g.F.FnMut) _ _ c.requires)
+
+pub overflow_sub-result : goal.overflow_sub-result
+overflow_sub-result g c = omega (arith, c.retain_within.ensures.fewer, c.len.ensures, c.len-before.ensures)
+
+pub returns-clause-memory : goal.returns-clause-memory
+returns-clause-memory g c =
+    let did = c.retain_within.ensures in
+    rw (← c.self.view_is) (same_memory did.slots did.capacity did.cells)
+
+pub returns-clause-room : goal.returns-clause-room
+returns-clause-room g c =
+    let did = c.retain_within.ensures in
+    rw (← c.self.view_is) (omega (arith, did.fewer, did.limit, did.slots, did.capacity))
+
+pub returns-clause-count : goal.returns-clause-count
+returns-clause-count g c =
+    rw (← c.self.view_is) (omega (arith, c.retain_within.ensures.fewer, c.len.ensures, c.len-before.ensures))

@@ -1,0 +1,37 @@
+use Rattle.std.proofs.Common.{◌≡◌, ◌≤◌, ℕ, Some}
+use Rattle.std.specs.Fn.{TakesAt, CalledAt}
+use Rattle.std.specs.Range.Bound.{bound_map}
+use Rattle.iddqd.specs.LiveItems.{live_items}
+use Rattle.iddqd.specs.Store.{Store, get, live_count}
+use Rattle.iddqd_hash.specs.Asks.{CanAsk}
+use Rattle.iddqd_keys.specs.OrderedQuery.{is_between}
+use Rattle.iddqd_keys.specs.Scan.{IsHit, passes_by}
+use Rattle.iddqd_map.specs.KeyIndex.{IsIndexed}
+use Rattle.iddqd_map.specs.RangeRetain.{KeepsMisses, RetainsWithin}
+use Rattle.iddqd_map.proofs.RangeRetainLemmas.{RetainsFrom, to_ask}
+use Rattle.iddqd_map.proofs.map.range_retain.retain_within.Given as goal
+
+-- what the asks that are still to come leave is what all of them leave
+abbrev pub invariant-loop-next : goal.invariant-loop-next
+invariant-loop-next g l =
+    let key_at = g.X.OrderedAt.key_at in
+    let compare = g.X.Key.Ord.cmp in
+    let within = is_between (bound_map g.Q.OrdQuery.compare l.fn.lower) (bound_map g.Q.OrdQuery.compare l.fn.upper) in
+    record {
+      kept : IsIndexed (g.X.KeyIndex.indexes l.indexes) l.fn.state l.items.store;
+      can : CanAsk (TakesAt g.F.FnMut) (CalledAt g.F.FnMut) l.f (live_items l.fn.items.store);
+      among : (j : ℕ) (x : _) → get l.items.store j ≡ Some x → get l.fn.items.store j ≡ Some x;
+      passing : (n : ℕ) → l.next ≡ Some n → IsHit l.items.store (passes_by key_at within) n;
+      retains : (new : Store _) (last : _)
+          → RetainsFrom key_at compare g.met.X.Key.Ord.total within (CalledAt g.F.FnMut) l.f l.items.store l.next new last
+          → RetainsWithin key_at compare within (CalledAt g.F.FnMut) l.fn.f l.fn.items.store new last;
+      others : KeepsMisses l.fn.items.store (passes_by key_at within) l.items.store;
+      fewer : live_count l.items.store ≤ live_count l.fn.items.store;
+      limit : l.items.store.limit ≡ l.fn.items.store.limit;
+      slots : l.items.capacity ≡ l.fn.items.capacity;
+      capacity : g.X.KeyIndex.capacity l.indexes ≡ g.X.KeyIndex.capacity l.fn.indexes;
+      cells : g.X.KeyIndex.cells l.indexes ≡ g.X.KeyIndex.cells l.fn.indexes;
+    }
+
+abbrev pub decreases-loop-next : goal.decreases-loop-next
+decreases-loop-next g l = to_ask g.X.OrderedAt.key_at g.X.Key.Ord.cmp l.items.store l.next

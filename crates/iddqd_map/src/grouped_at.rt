@@ -1,0 +1,69 @@
+//! A key by its hash that several items may have, at a place of a key index: the items that have one key are a group.
+ghost use Rattle.iddqd_keys.specs.Scan.{passes_by};
+ghost use Rattle.iddqd_map.specs.Groups.{FindsSome};
+
+use crate::key_index::{KeyIndex, Left, Right};
+use crate::pair::Pair;
+use crate::pair_conflict::ReportsPair;
+use iddqd::item_index::ItemIndex;
+use iddqd::item_set::ItemSet;
+use iddqd_keys::query::HashQuery;
+use std::hash::Hash;
+
+/// A key index with a key by its hash at the place `P`, which several items may have.
+pub trait GroupedAt<P, T, S>: KeyIndex<T, S> {
+    /// The key.
+    type Key: Eq + Hash + Drop;
+
+    ghost key_at: { T → Self.Key };
+
+    /// The index of some item that has the key for which the query stands, by one look-up.
+    fn find_any_at<Q: HashQuery<Self::Key>>(
+        &self,
+        items: &ItemSet<T>,
+        state: &S,
+        query: Q,
+    ) -> Option<ItemIndex>
+        requires indexed { Self.KeyIndex.indexes self.now state.now items.now.store }
+        ensures { FindsSome items.now.store (passes_by key_at (Q.stands_for query)) result };
+}
+
+impl<P, T, S, A, B, C> GroupedAt<Left<P>, T, S> for Pair<A, B, C>
+where
+    A: GroupedAt<P, T, S>,
+    B: KeyIndex<T, S>,
+    C: ReportsPair<A::Conflict, B::Conflict>,
+{
+    type Key = A::Key;
+
+    ghost key_at = { A.GroupedAt.key_at };
+
+    fn find_any_at<Q: HashQuery<A::Key>>(
+        &self,
+        items: &ItemSet<T>,
+        state: &S,
+        query: Q,
+    ) -> Option<ItemIndex> {
+        self.first.find_any_at(items, state, query)
+    }
+}
+
+impl<P, T, S, A, B, C> GroupedAt<Right<P>, T, S> for Pair<A, B, C>
+where
+    A: KeyIndex<T, S>,
+    B: GroupedAt<P, T, S>,
+    C: ReportsPair<A::Conflict, B::Conflict>,
+{
+    type Key = B::Key;
+
+    ghost key_at = { B.GroupedAt.key_at };
+
+    fn find_any_at<Q: HashQuery<B::Key>>(
+        &self,
+        items: &ItemSet<T>,
+        state: &S,
+        query: Q,
+    ) -> Option<ItemIndex> {
+        self.second.find_any_at(items, state, query)
+    }
+}

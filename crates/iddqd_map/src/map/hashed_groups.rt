@@ -1,0 +1,106 @@
+//! Calls on a group: the items that share a hashed key which several items may have. One finds some item of the group, one
+//! removes them all.
+//!
+//! A removal finds each item by a look-up of that key, and takes it out of each key index by one removal. No memory is
+//! taken.
+ghost use Rattle.std.specs.Prelude.{◌≡◌, ◌≤◌, ◌+◌, ◌↔◌, Bool, false};
+ghost use Rattle.iddqd.specs.{live_count};
+ghost use Rattle.iddqd.specs.LiveItems.{live_items};
+ghost use Rattle.iddqd_hash.specs.Asks.{CanAsk};
+ghost use Rattle.iddqd_keys.specs.Scan.{HasNoHit, passes_by};
+ghost use Rattle.iddqd_map.specs.Groups.{FindsSome, RemovesEach};
+ghost use Rattle.iddqd_map.specs.KeyIndex.{IsIndexed};
+ghost use Rattle.iddqd_map.specs.Map.{room};
+ghost use Rattle.iddqd_map.specs.Ranges.{LeavesOthers, TakesItem, GivesItem, MayGive};
+
+use super::Map;
+use super::steps::take_out;
+use crate::grouped_at::GroupedAt;
+use crate::key_index::{KeyIndex, Removes};
+use iddqd::item_index::ItemIndex;
+use iddqd::item_set::ItemSet;
+use iddqd_keys::query::HashQuery;
+
+impl<T, X: KeyIndex<T, S>, S> Map<T, X, S> {
+    /// The index of some item that has the key for which the query stands: none exactly where no item has it.
+    ///
+    /// The query is a `&K`, or what else stands for such a key. It is compared with keys of the same hash alone.
+    pub fn find_any_by<P, Q>(&self, query: Q) -> Option<ItemIndex>
+    where
+        X: GroupedAt<P, T, S>,
+        Q: HashQuery<X::Key>,
+        ensures { FindsSome self.now.store (passes_by X.key_at (Q.stands_for query)) result }
+    {
+        self.indexes.find_any_at(&self.items, &self.state, query)
+    }
+
+    /// Whether any item has the key.
+    pub fn contains_any_by<P, Q>(&self, query: Q) -> bool
+    where
+        X: GroupedAt<P, T, S>,
+        Q: HashQuery<X::Key>,
+        ensures { (result ≡ false) ↔ HasNoHit self.now.store (passes_by X.key_at (Q.stands_for query)) }
+    {
+        self.find_any_by::<P, Q>(query).is_some()
+    }
+
+    /// Removes the items that have the key for which the query stands, and returns how many they were.
+    ///
+    /// The closure is handed each of them once, in no particular order. No memory is taken. It costs, for each item, a
+    /// look-up of that key, and a removal from each key index. Each removal from the hash table costs a step for each
+    /// item of the group, so a group of n items costs n * n steps.
+    pub fn remove_hashed_group_by<P, Q, F: FnMut(T)>(&mut self, query: Q, mut f: F) -> usize
+    where
+        X: GroupedAt<P, T, S> + Removes<T, S>,
+        Q: HashQuery<X::Key>,
+        requires { MayGive F.FnMut f (live_items self.old.store) }
+        ensures left { LeavesOthers self.old.store (passes_by X.key_at (Q.stands_for query)) self.new.store }
+        ensures handed { (last : F) × RemovesEach (passes_by X.key_at (Q.stands_for query)) (GivesItem F.FnMut) f
+            self.old.store self.new.store last }
+        ensures memory { self.new.memory ≡ self.old.memory }
+        ensures room { room self.old ≤ room self.new }
+        ensures count { result + live_count self.new.store ≡ live_count self.old.store }
+    {
+        let before = self.items.len();
+        remove_each::<P, T, S, X, Q, F>(
+            &mut self.items,
+            &mut self.indexes,
+            &self.state,
+            query,
+            &mut f,
+        );
+        before - self.items.len()
+    }
+}
+
+// Removes the items that have the key, and hands each to the closure, which is left as its last call leaves it.
+fn remove_each<P, T, S, X, Q, F: FnMut(T)>(
+    items: &mut ItemSet<T>,
+    indexes: &mut X,
+    state: &S,
+    query: Q,
+    f: &mut F,
+)
+where
+    X: GroupedAt<P, T, S> + Removes<T, S>,
+    Q: HashQuery<X::Key>,
+    requires indexed { IsIndexed (X.indexes indexes.old) state.now items.old.store }
+    requires can_give { CanAsk (TakesItem F.FnMut) (λ p x (b : Bool) q. GivesItem F.FnMut p x q) f.old
+        (live_items items.old.store) }
+    ensures indexed { IsIndexed (X.indexes indexes.new) state.now items.new.store }
+    ensures left { LeavesOthers items.old.store (passes_by X.key_at (Q.stands_for query)) items.new.store }
+    ensures handed { RemovesEach (passes_by X.key_at (Q.stands_for query)) (GivesItem F.FnMut) f.old
+        items.old.store items.new.store f.new }
+    ensures fewer { live_count items.new.store ≤ live_count items.old.store }
+    ensures limit { items.new.store.limit ≡ items.old.store.limit }
+    ensures slots { items.new.capacity ≡ items.old.capacity }
+    ensures capacity { X.capacity indexes.new ≡ X.capacity indexes.old }
+    ensures cells { X.cells indexes.new ≡ X.cells indexes.old }
+{
+    while let Some(ix) = indexes.find_any_at(items, state, query) {
+        match take_out(items, indexes, state, ix) {
+            Some(item) => f(item),
+            None => unreachable!(),
+        }
+    }
+}
