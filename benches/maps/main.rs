@@ -1,10 +1,11 @@
-//! The maps with one key beside std's, whose keys are stored twice, over the same items: the least nanoseconds an item over
-//! some rounds, and the ratio of the two.
+//! The maps with one key beside std's, whose keys are stored twice, and a map with several keys beside
+//! Boost.MultiIndex, over the same items: the least nanoseconds an item over some rounds, and the ratio of the two.
 use shared::{Random, Record, bench_now};
 use std::collections::{BTreeMap, HashMap};
 use std::hash::{BuildHasherDefault, Hasher};
 use std::hint::black_box;
 
+mod several;
 #[path = "../shared.rs"]
 mod shared;
 
@@ -192,4 +193,6 @@ fn main() {
             println!();
         }
     }
+    println!();
+    several::print(&sizes.map(|(count, rounds)| (count, rounds.div_ceil(4))));
 }
