@@ -20,7 +20,7 @@ use Rattle.iddqd_order.specs.Search.{IsSteady, IsSteadyRising, IsRising, with_ti
 use Rattle.iddqd_order.proofs.KeyOrderLemmas.{IsRising-from_query}
 use Rattle.iddqd_keys.specs.Scan.{IsHit, HasNoHit, passes_by}
 use Rattle.iddqd_keys.specs.OrderedQuery.{IsQuery}
-use Rattle.iddqd_by_order.specs.Ordered.{Holds, IsInPlace, Finds, LooksUp, Enters, IsVacantAt, is_equal, compared, key_at}
+use Rattle.iddqd_by_order.specs.Ordered.{Holds, IsInPlace, Finds, LooksUp, IsEntryOf, IsVacantAt, is_equal, compared, key_at}
 use Rattle.iddqd_keys.proofs.ScanLemmas.{AnswersScan-hit}
 
 module _ {K : Type 0} (compare : K → K → Ordering) where
@@ -132,13 +132,13 @@ module _
               → LooksUp key_of compare s order comparing r
           LooksUp-from_finds r finds = LooksUp-found query r (Finds-from_finds r finds)
 
-          pub Enters-from_enters :
+          pub IsEntryOf-from_table :
               (e : Entry)
-              → table_entry.Enters g read order old e new
-              → Enters key_of compare s order comparing e
-          Enters-from_enters (Occupied entry) enters =
+              → table_entry.FindsEntry g read order old e new
+              → IsEntryOf key_of compare s order comparing e
+          IsEntryOf-from_table (Occupied entry) enters =
               LooksUp-found query (Some _) (equal_hit _ enters.stored (enters.hit answer steady))
-          Enters-from_enters (Vacant entry) enters = record {
+          IsEntryOf-from_table (Vacant entry) enters = record {
             missed = LooksUp-found query None (λ placed. equal_miss (enters.miss answer (rises placed)));
             within = enters.within;
             is_place = λ placed. enters.place answer (rises placed);

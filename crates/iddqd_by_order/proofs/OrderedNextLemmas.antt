@@ -1,5 +1,5 @@
 -- What stands behind an index of a sorted list.
-use Rattle.std.proofs.Common.{◌≡◌, ◌∙◌, ◌&&◌, ◌≤◌, ◌-◌, inl, inr, ℕ, Bool, true, not, List, [], ◌∷◌, drop, filter, length, Option, Some, None, MatchOption, refl, sym, ap, Ordering, arith, length-drop, take_all}
+use Rattle.std.proofs.Common.{◌≡◌, ◌↔◌, ◌∙◌, ◌&&◌, ◌≤◌, ◌-◌, inl, inr, ℕ, Bool, true, not, List, [], ◌∷◌, drop, filter, length, Option, Some, None, MatchOption, refl, sym, ap, Ordering, arith, length-drop, take_all}
 use Rattle.std.specs.Cmp.{IsTotalOrder}
 use Rattle.std.specs.List.{Contains}
 use Rattle.std.specs.Ordering.{is_gt, ordering_then}
@@ -47,15 +47,16 @@ module _
             less_from = λ k from less. absurd (omega (arith, from, less));
           })
 
-      stands_behind : (j : ℕ) → Contains (filter behind order) j → IsHit s (λ _. true) j × ComesBefore key_of compare s after j
-      stands_behind j here =
-          let (stored, chosen) = kept_from behind order j here in
-          let (item, is) = item_at s j ((o.holds.each j).0 stored) in
-          ((item, is, refl), behind_is (answer j) chosen)
-
-      all_behind : (j : ℕ) → IsHit s (λ _. true) j → ComesBefore key_of compare s after j → Contains (filter behind order) j
-      all_behind j (item, is, _) before =
-          keeps behind order j ((o.holds.each j).1 (live_at s j item is)) (ap (λ r. not (is_gt (ordering_then r Greater)) && true) before)
+      each_behind :
+          (j : ℕ) → Contains (filter behind order) j ↔ (IsHit s (λ _. true) j × ComesBefore key_of compare s after j)
+      each_behind j = (
+        λ here.
+            let (stored, chosen) = kept_from behind order j here in
+            let (item, is) = item_at s j ((o.holds.each j).0 stored) in
+            ((item, is, refl), behind_is (answer j) chosen),
+        λ ((item, is, _), before).
+            keeps behind order j ((o.holds.each j).1 (live_at s j item is)) (ap (λ r. not (is_gt (ordering_then r Greater)) && true) before),
+      )
 
       placed : IsInPlace key_of compare s (filter behind order)
       placed = IsStrictlySortedBy-filter _ behind order o.placed
@@ -67,15 +68,14 @@ module _
           → MatchOption r ((ahead ≡ []) × (rest ≡ [])) (λ ix. ahead ≡ ix ∷ rest)
           → IsNextHit key_of compare s (λ _. true) after r
       IsNextHit-ahead ahead rest None is (none, _) = λ j hit before.
-          let there = all_behind j hit before in
-          contains_none j (rw (sym chosen ∙ sym is ∙ none) at there)
+          contains_none j (rw (sym chosen ∙ sym is ∙ none) at ((each_behind j).1 (hit, before)))
       IsNextHit-ahead ahead rest (Some ix) is first =
           let all : filter behind order ≡ ix ∷ rest = sym chosen ∙ sym is ∙ first in
           let sorted : IsInPlace key_of compare s (ix ∷ rest) = rw all at placed in
-          let own = stands_behind ix (rw all (contains_head ix rest)) in (
+          let own = (each_behind ix).0 (rw all (contains_head ix rest)) in (
             own.0,
             own.1,
-            λ j hit before apart. elim (contains_cases ix j rest (rw all at (all_behind j hit before))) [
+            λ j hit before apart. elim (contains_cases ix j rest (rw all at ((each_behind j).1 (hit, before)))) [
               | inl same ↦ absurd (apart (sym same))
               | inr there ↦ in_front key_of compare s ix rest sorted j there
             ],

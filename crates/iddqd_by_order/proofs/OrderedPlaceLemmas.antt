@@ -26,8 +26,8 @@ use Rattle.iddqd_order.specs.declared.btree_table.entry.VacantEntry.{VacantEntry
 use Rattle.iddqd_order.proofs.KeyOrderLemmas.{key_then_index-total, IsStrictlySortedBy-insert, IsInKeyOrder-renamed}
 use Rattle.iddqd_order.proofs.MemberLemmas.{contains-from_without}
 use Rattle.iddqd_keys.specs.Scan.{IsLive, passes_by}
-use Rattle.iddqd_keys.specs.Side.{ChangesAt}
-use Rattle.iddqd_by_order.specs.Ordered.{Holds, AddsInPlace, IsInPlace, IsExact, IsVacantAt, Keeps, LooksUp, compared, key_at}
+use Rattle.iddqd_keys.specs.KeyIndex.{ChangesAt}
+use Rattle.iddqd_by_order.specs.Ordered.{Holds, AddsInPlace, IsInPlace, IsInSync, IsVacantAt, Keeps, LooksUp, compared, key_at}
 use Rattle.iddqd_keys.proofs.KeyWalkLemmas.{IsInPlace-tied, IsInPlace-alike}
 use Rattle.iddqd_keys.proofs.ScanLemmas.{passes_unless, AreApart-bare, AreApart-removed, AreApart-inserted, AreApart-compacted, AreApart-rebound}
 
@@ -44,22 +44,26 @@ module _ {T K : Type 0} (key_of : T → K) (compare : K → K → Ordering) wher
   IsInPlace-nil : (s : Store T) → IsInPlace key_of compare s []
   IsInPlace-nil s = sorted_nil _
 
-  IsExact-nil : (s : Store T) → live_count s ≡ 0 → IsExact key_of compare s []
-  IsExact-nil s none = record { placed = IsInPlace-nil s; apart = AreApart-bare _ s none }
+  IsInSync-nil : (s : Store T) → live_count s ≡ 0 → IsInSync key_of compare s []
+  IsInSync-nil s none = record { placed = IsInPlace-nil s; apart = AreApart-bare _ s none }
 
-  pub IsExact-empty : (limit : ℕ) → IsExact key_of compare (empty_within limit) []
-  IsExact-empty limit = IsExact-nil (empty_within limit) refl
+  pub IsInSync-empty : (limit : ℕ) → IsInSync key_of compare (empty_within limit) []
+  IsInSync-empty limit = IsInSync-nil (empty_within limit) refl
 
   pub Keeps-cleared : (s : Store T) (order : List ℕ) → Keeps key_of compare s order (cleared s) []
   Keeps-cleared s order =
-      let o = IsExact-nil (cleared s) refl in
+      let o = IsInSync-nil (cleared s) refl in
       record { placed = λ _. o.placed; exact = λ _. o }
 
   -- where nothing is live
-  pub IsExact-bare : (s : Store T) (order : List ℕ) → Holds s order → live_count s ≡ 0 → IsExact key_of compare s order
-  IsExact-bare s order holds none =
+  pub IsInSync-bare :
+      (s : Store T) (order : List ℕ)
+      → Holds s order
+      → live_count s ≡ 0
+      → IsInSync key_of compare s order
+  IsInSync-bare s order holds none =
       let empty : order ≡ [] = no_members order (λ ix here. let (item, is) = item_at s ix ((holds.each ix).0 here) in none_live s ix item none is) in
-      subst (IsExact key_of compare s) (sym empty) (IsExact-nil s none)
+      subst (IsInSync key_of compare s) (sym empty) (IsInSync-nil s none)
 
 module _ {T K : Type 0} (key_of : T → K) (compare : K → K → Ordering) (total : IsTotalOrder compare) where
   abbrev equal : T → T → Bool

@@ -14,9 +14,9 @@ use Rattle.iddqd_order.specs.declared.btree_table.entry.Entry.TheVariants.{Occup
 pub use Rattle.iddqd_keys.specs.KeyWalk.{key_at, IsInPlace}
 pub use Rattle.iddqd_keys.specs.OrderedQuery.{is_equal}
 use Rattle.iddqd_keys.specs.Scan.{IsLive, IsHit, HasNoHit, passes_by}
-use Rattle.iddqd_keys.specs.Side.{HasExactly, IsExactOver, KeepsOver, LooksUpOver}
+use Rattle.iddqd_keys.specs.KeyIndex.{HasExactly, IsInSyncOver, KeepsOver, LooksUpOver}
 
--- what taking the index that a look-up found leaves of the list
+-- what the removal of the index that a look-up found leaves of the list
 abbrev pub Takes : List ℕ → Option ℕ → List ℕ → Type 0
 Takes old (Some ix) new = new ≡ without old ix
 Takes old None new = new ≡ old
@@ -28,7 +28,7 @@ pub record Adds (old : List ℕ) (ix : ℕ) (new : List ℕ) : Type 0 where
   pub added : new ≡ insert old place ix
 
 module _ {K : Type 0} (comparing : K → Ordering) where
-  -- how it compares with the key of a live index; behind an index that isn't live it stands
+  -- how it compares with the key at an index; it counts as Greater where the index isn't live
   abbrev pub compared : Option K → Ordering
   compared None = Greater
   compared (Some key) = comparing key
@@ -46,8 +46,8 @@ module _ {T : Type 0} where
 module _ {T K : Type 0} (key_of : T → K) where
   module _ (compare : K → K → Ordering) where
     -- the list is in place, and no two items share a key
-    abbrev pub IsExact : Store T → List ℕ → Type 0
-    IsExact s order = IsExactOver key_of (eq_by_cmp compare) (IsInPlace key_of compare s order) s
+    abbrev pub IsInSync : Store T → List ℕ → Type 0
+    IsInSync s order = IsInSyncOver key_of (eq_by_cmp compare) (IsInPlace key_of compare s order) s
 
     -- what a call keeps that changes no key of a live index
     abbrev pub Keeps : Store T → List ℕ → Store T → List ℕ → Type 0
@@ -61,10 +61,10 @@ module _ {T K : Type 0} (key_of : T → K) where
     Finds s order comparing None = IsInPlace key_of compare s order → HasNoHit s (passes_by key_of (is_equal comparing))
     Finds s order comparing (Some ix) = IsHit s (passes_by key_of (is_equal comparing)) ix
 
-    -- what a look-up by a query answers: what it may in any state; and where the table is exact, what a scan answers
+    -- what a look-up by a query answers: what it may in any state; and where the table is in sync, what a scan answers
     abbrev pub LooksUp : Store T → List ℕ → (K → Ordering) → Option ℕ → Type 0
     LooksUp s order comparing result =
-        LooksUpOver (Finds s order comparing result) (IsExact s order) s (passes_by key_of (is_equal comparing)) result
+        LooksUpOver (Finds s order comparing result) (IsInSync s order) s (passes_by key_of (is_equal comparing)) result
 
     -- the index is live, and no live index has an item with a lesser key
     abbrev pub HasLeastKey : Store T → ℕ → Type 0
@@ -88,9 +88,9 @@ module _ {T K : Type 0} (key_of : T → K) where
           → IsPlace (λ ix. compared comparing (key_at key_of s ix)) order place
 
     -- what an entry by a query is: that of the index which a look-up found, or else of the place for such an index
-    abbrev pub Enters : Store T → List ℕ → (K → Ordering) → Entry → Type 0
-    Enters s order comparing (Occupied entry) = LooksUp s order comparing (Some (entry_index entry))
-    Enters s order comparing (Vacant entry) = IsVacantAt s order comparing (vacant_place entry)
+    abbrev pub IsEntryOf : Store T → List ℕ → (K → Ordering) → Entry → Type 0
+    IsEntryOf s order comparing (Occupied entry) = LooksUp s order comparing (Some (entry_index entry))
+    IsEntryOf s order comparing (Vacant entry) = IsVacantAt s order comparing (vacant_place entry)
 
     -- the next index was put into the list for an item: at some place, and in place where the list was in place
     pub record AddsInPlace (s : Store T) (item : T) (old new : List ℕ) : Type 0 where

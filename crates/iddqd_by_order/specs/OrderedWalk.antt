@@ -9,14 +9,14 @@ use Rattle.iddqd_keys.specs.Scan.{IsHit, HasNoHit, passes_by}
 use Rattle.iddqd_by_order.specs.Ordered.{AreLive, IsInPlace, key_at}
 pub use Rattle.iddqd_keys.specs.KeyWalk.{pair_at, pairs_at, ComesBefore, IsFirstHit, SortsWithin}
 
--- the members of a list that stand beside each other in another one
+-- `run` has consecutive members of `whole`, in their order
 pub record IsRunOf (whole run : List ℕ) : Type 0 where
   pub before : List ℕ
   pub after : List ℕ
   pub joined : whole ≡ before ++ (run ++ after)
 
--- What a walk between two bounds gives of a table's list: a run of it, of live indexes, each once; and where the list
--- is in place, exactly the live indexes whose items' keys are within, sorted by key.
+-- What an iteration between two bounds gives of a table's list: a run of it, of live indexes, each once; and if the
+-- list is sorted by the keys, exactly the live indexes whose items' keys are within, in the order of the keys.
 pub record WalksWithin
     {T K : Type 0} (key_of : T → K) (compare : K → K → Ordering) (within : K → Bool) (s : Store T) (order : List ℕ)
     (indexes : List ℕ) : Type 0 where

@@ -8,9 +8,9 @@ use iddqd::map_hash::{Comparable, Equivalent};
 use iddqd_keys::order_query::OrdQuery;
 use std::cmp::Ordering;
 
-/// An ordered query that compares with keys behind a reference, as the table is given them.
+// An ordered query that compares with keys behind a reference, as the table is given them.
 #[derive(Clone, Copy)]
-pub struct BorrowedKeyQuery<Q>(pub Q);
+pub(crate) struct BorrowedKeyQuery<Q>(pub(crate) Q);
 
 impl<'b, K: Ord, Q: OrdQuery<K>> Equivalent<&'b K> for BorrowedKeyQuery<Q> {
     ghost equivalent = { λ q k. is_eq (Q.compare q.0 k.now) };

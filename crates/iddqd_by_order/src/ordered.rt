@@ -1,17 +1,18 @@
 //! A table of indexes beside a store, in the order of a key, ties by index.
 //!
-//! Keys may change behind the table's back. Then it may be in no order: a search may miss, but never
-//! hits an index whose item compares otherwise now, a walk between two bounds gives a run of the list,
-//! and an index is still taken out by `take_index`.
-//! An insert takes `entry`, which finds its place or the index that has the key by one search; the
-//! table is lent alone then, so the store may be changed before the index is put there.
+//! Keys may change behind the table's back. Then the list may be out of order: a search may miss, but it never
+//! hits an index whose item's key doesn't compare Equal now. A walk between two bounds gives a run of the list,
+//! and `take_index` still removes an index.
+//!
+//! An insert goes through `entry`, which finds its place, or the index that has the key, by one search. The entry
+//! borrows the table and not the store, so the store may change before the index is inserted.
 //!
 //! No query needs a premise: by the laws of `Comparable` it stands for one key.
 ghost use Rattle.std.specs.Prelude.{◌≡◌, ◌≤◌};
 ghost use Rattle.std.specs.Range.Bound.{bound_map};
 ghost use Rattle.iddqd_order.specs.{capacity, entry_table, indexes_ahead, order_of, without};
 ghost use Rattle.iddqd_keys.specs.Scan.{IsLive, IsKeyAt};
-ghost use Rattle.iddqd_by_order.specs.Ordered.{AreLive, Enters, Holds, LooksUp, Takes};
+ghost use Rattle.iddqd_by_order.specs.Ordered.{AreLive, IsEntryOf, Holds, LooksUp, Takes};
 ghost use Rattle.iddqd_keys.specs.OrderedQuery.{is_between};
 ghost use Rattle.iddqd_by_order.specs.OrderedWalk.{WalksWithin};
 
@@ -57,7 +58,7 @@ where
     requires { Holds items.now.store (order_of table.old) }
     ensures same_reference { (entry_table result).ghost_name ≡ table.entry.ghost_name }
     ensures table { (entry_table result).now ≡ table.old }
-    ensures entered { Enters E.key_of E.Key.cmp items.now.store (order_of table.old) (Q.compare query.now) result }
+    ensures made { IsEntryOf E.key_of E.Key.cmp items.now.store (order_of table.old) (Q.compare query.now) result }
 {
     let mut asking = Asking::new(
         |at: ItemIndex| -> Ordering
@@ -68,7 +69,7 @@ where
     table.entry_by(&mut asking)
 }
 
-/// Finds as `find` does, and takes the index out of the table, by one search. It takes no memory.
+/// Finds as `find` does, and removes the index from the table, by one search. It takes no memory.
 pub fn take<T, E, Q>(table: &mut MapBTreeTable, items: &ItemSet<T>, query: &Q) -> Option<ItemIndex>
 where
     E: KeyOf<T>,
@@ -85,7 +86,7 @@ where
     }
 }
 
-/// Takes a live index out of the table, whatever its key is now: by a search for the key, or else by a
+/// Removes a live index from the table, whatever its key is now: by a search for the key, or else by a
 /// walk. It takes no memory.
 pub fn take_index<T, E>(table: &mut MapBTreeTable, items: &ItemSet<T>, ix: ItemIndex)
 where
@@ -111,7 +112,7 @@ where
 }
 
 /// The indexes whose items have keys between two bounds, in the order of the keys: none where the
-/// lower bound stands above the upper one. Where the list isn't in place they are those between some
+/// lower bound stands above the upper one. Where the list isn't sorted they are those between some
 /// two places of it.
 ///
 /// It compares each query with at most 4 + 2d keys, where the length has d binary digits, and takes

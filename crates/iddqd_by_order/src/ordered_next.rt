@@ -1,6 +1,7 @@
 //! The next index behind another one, in a table that has a store's indexes in the order of a key.
 //!
-//! A caller goes from index to index by it while the items change that it has come past: nothing is lent in between.
+//! It is for a caller that goes along the table and changes or removes items as it goes. An iterator would borrow the
+//! table and the store all the while; here nothing is borrowed between two steps.
 ghost use Rattle.std.specs.Prelude.{◌≡◌, true};
 ghost use Rattle.std.specs.Ordering.{nat_cmp, ordering_then};
 ghost use Rattle.std.specs.Range.Bound.{bound_map};

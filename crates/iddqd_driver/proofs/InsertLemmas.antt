@@ -8,11 +8,11 @@ use Rattle.iddqd.specs.Store.{Store, IsFull, next_index, inserted}
 use Rattle.iddqd_by_order.specs.Ordered.{AddsInPlace}
 use Rattle.iddqd_driver.specs.Keys.{Keys}
 use Rattle.iddqd_driver.specs.State.{State, IsPaired}
-use Rattle.iddqd_driver.specs.Sides.{finds_told, hash_in, first_side, second_side, LooksUp, Keeps}
+use Rattle.iddqd_driver.specs.KeyIndexes.{finds_reported, hash_in, first_key_index, second_key_index, LooksUp, Keeps}
 use Rattle.iddqd_driver.specs.Machine.{StoresAt}
 use Rattle.iddqd_driver.specs.declared.keyed_items.InsertRefusal.{InsertRefusal}
 use Rattle.iddqd_driver.proofs.KeyLemmas.{AreLawful}
-use Rattle.iddqd_driver.proofs.KeepsLemmas.{Keeps-same, Keeps-bound}
+use Rattle.iddqd_driver.proofs.KeepsLemmas.{Keeps-same, Keeps-inserted_state}
 
 module _ {T S K1 K2 : Type 0} (keys : Keys T K1 K2 S) (s : State T S) (item : T) (store : Store T)
     (filed : FinMap nat_cmp ℕ) (order : List ℕ) where
@@ -39,10 +39,10 @@ module _ {T S K1 K2 : Type 0} (keys : Keys T K1 K2 S) (s : State T S) (item : T)
 
   pub Keeps-from_stored :
       AreLawful keys → IsPaired s → (r : Result ℕ (InsertRefusal T))
-      → LooksUp (first_side keys) s (keys.first item) (finds_told r).0
-      → LooksUp (second_side keys) s (keys.second item) (finds_told r).1
+      → LooksUp (first_key_index keys) s (keys.first item) (finds_reported r).0
+      → LooksUp (second_key_index keys) s (keys.second item) (finds_reported r).1
       → IfOk r (λ ix. StoresAt keys s item ix new) → OnOk r Adds → OnErr r (new ≡ s) → Keeps keys s new
   Keeps-from_stored lawful paired (Ok ix) first second stored adds same =
       subst (Keeps keys s) (sym stored.state)
-      (Keeps-bound keys s paired lawful item order stored.not_full first.found second adds)
+      (Keeps-inserted_state keys s paired lawful item order stored.not_full first.found second adds)
   Keeps-from_stored lawful paired (Err refusal) first second stored adds same = Keeps-same keys s paired new same

@@ -1,4 +1,4 @@
--- Each step of keyed items keeps store and tables paired, and each side in place and exact.
+-- Each step of keyed items keeps store and tables paired, and each key index in place and exact.
 use Rattle.std.proofs.Common.{◌≡◌, ◌∙◌, ◌≤◌, ℕ, List, Option, Some, None, sym, ap, subst}
 use Rattle.std.specs.Ordering.{nat_cmp}
 use Rattle.std.specs.FinMap.{FinMap}
@@ -17,8 +17,8 @@ use Rattle.iddqd_by_order.proofs.OrderedHoldsLemmas as order_holds
 use Rattle.iddqd_by_order.proofs.OrderedPlaceLemmas as order_place
 use Rattle.iddqd_driver.specs.Keys.{Keys, first_hashing}
 use Rattle.iddqd_driver.specs.State.{State, empty_state_within, cleared_state, unbound, compacted_state, IsPaired, IsEmpty}
-use Rattle.iddqd_driver.specs.Sides.{hash_in, first_side, second_side, LooksUp, FirstKeysInOrder, SecondKeysInOrder, Keeps, KeepsUnlessChanged}
-use Rattle.iddqd_driver.specs.Machine.{bound}
+use Rattle.iddqd_driver.specs.KeyIndexes.{hash_in, first_key_index, second_key_index, LooksUp, FirstKeysInOrder, SecondKeysInOrder, Keeps, KeepsUnlessChanged}
+use Rattle.iddqd_driver.specs.Machine.{inserted_state}
 use Rattle.iddqd_driver.proofs.KeyLemmas.{AreLawful}
 
 module _ {T S : Type 0} where
@@ -66,18 +66,18 @@ module _ {T S : Type 0} where
 module _ {T S K1 K2 : Type 0} (keys : Keys T K1 K2 S) where
   -- where nothing is live
   pub FirstKeysInOrder-bare : (s : State T S) → IsPaired s → IsEmpty s → FirstKeysInOrder keys s
-  FirstKeysInOrder-bare s paired = filed_place.IsExact-bare keys.first (first_hashing keys s.hasher) s.store s.filed
+  FirstKeysInOrder-bare s paired = filed_place.IsInSync-bare keys.first (first_hashing keys s.hasher) s.store s.filed
 
   pub SecondKeysInOrder-bare : (s : State T S) → IsPaired s → IsEmpty s → SecondKeysInOrder keys s
   SecondKeysInOrder-bare s paired =
-      order_place.IsExact-bare keys.second keys.compare_second s.store s.order (Holds-order s paired)
+      order_place.IsInSync-bare keys.second keys.compare_second s.store s.order (Holds-order s paired)
 
   -- a look-up in the hash table, seen in its parts, under the hash of a lawful key
   pub LooksUp-hashed :
       (parts s : State T S) → parts ≡ s → AreLawful keys → (key : K1) (hash : ℕ) (r : Option ℕ)
       → hash ≡ hash_in keys parts key
       → hashed.LooksUp keys.first parts.store parts.filed hash (keys.equal_first key) r
-      → LooksUp (first_side keys) s key r
+      → LooksUp (first_key_index keys) s key r
   LooksUp-hashed parts s seen lawful key hash r is looked =
       let hashing = first_hashing keys s.hasher in
       let equal = keys.equal_first key in
@@ -115,12 +115,12 @@ module _ {T S K1 K2 : Type 0} (keys : Keys T K1 K2 S) where
             order_place.Keeps-removed keys.second keys.compare_second lawful.second s.store s.order ix item live;
       }
 
-      pub Keeps-bound :
-          (item : T) (order : List ℕ) → (IsFull s.store → ⊥) → (first_side keys).Finds s (keys.first item) None
-          → LooksUp (second_side keys) s (keys.second item) None
+      pub Keeps-inserted_state :
+          (item : T) (order : List ℕ) → (IsFull s.store → ⊥) → (first_key_index keys).Finds s (keys.first item) None
+          → LooksUp (second_key_index keys) s (keys.second item) None
           → ordered.AddsInPlace keys.second keys.compare_second s.store item s.order order
-          → Keeps keys s (bound keys s item order)
-      Keeps-bound item order not_full first second adds = record {
+          → Keeps keys s (inserted_state keys s item order)
+      Keeps-inserted_state item order not_full first second adds = record {
         paired = (
           paired,
           paired_by _ (IsValid-inserted s.store item paired.valid not_full)

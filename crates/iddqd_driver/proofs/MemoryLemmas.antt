@@ -212,8 +212,9 @@ module _
   is = sized_of hasher new_items new_table new_order
 
   module _
-      {E : Type 0} (wanted : ℕ) (r : Result (Unit {0}) E) (paired : IsPaired was.state) (meant : wanted ≡ reservable additional was)
-      (lacks : room was < wanted) (same_store : new_items.store ≡ items.store) (slots_stay : items.capacity ≤ new_items.capacity)
+      {E : Type 0} (wanted : ℕ) (r : Result (Unit {0}) E) (paired : IsPaired was.state)
+      (meant : wanted ≡ reservable additional was) (lacks : room was < wanted)
+      (same_store : new_items.store ≡ items.store) (slots_stay : items.capacity ≤ new_items.capacity)
       (slots : live_count items.store + wanted ≤ min new_items.capacity items.store.limit)
       (few : new_items.capacity
       ≤ max items.capacity (max (live_count items.store + wanted) (min items.store.limit (2 * items.capacity))))
@@ -292,7 +293,8 @@ module _
       (slots_fall : new_items.capacity ≤ items.capacity)
       (slots_fit : OnOk r (new_items.capacity ≡ min items.capacity (max additional (slot_count items.store))))
       (same_filed : filed new_table ≡ filed table)
-      (hashed_stays : min (hashed_capacity table) (max additional (finite.len (filed table))) ≤ hashed_capacity new_table)
+      (hashed_stays :
+      min (hashed_capacity table) (max additional (finite.len (filed table))) ≤ hashed_capacity new_table)
       (cells_fall : hashed_cells new_table ≤ hashed_cells table)
       (cells_fit : OnOk r (hashed_cells new_table ≤ most_cells (max additional (finite.len (filed table)))))
       (ordered : order_sizes.Shrinks additional order new_order) where

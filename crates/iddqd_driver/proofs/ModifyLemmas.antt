@@ -1,4 +1,4 @@
--- A modification that leaves an item its keys keeps each side, and is one of the item that a look-up found.
+-- A modification that leaves an item its keys keeps each key index, and is one of the item that a look-up found.
 use Rattle.std.proofs.Common.{◌≡◌, ℕ, Bool, true, Option, Some, None, ap}
 use Rattle.std.specs.Borrow.{MutBor}
 use Rattle.std.specs.Cmp.{IsEquivalence, tied_itself}
@@ -6,11 +6,11 @@ use Rattle.std.specs.Fn.{Once}
 use Rattle.std.specs.Ordering.{is_eq}
 use Rattle.iddqd.specs.Store.{Store, get, rebound}
 use Rattle.iddqd_keys.specs.Scan.{IsHit}
-use Rattle.iddqd_keys.specs.Side.{ChangesAt}
+use Rattle.iddqd_keys.specs.KeyIndex.{ChangesAt}
 use Rattle.iddqd_keys.specs.KeyKeeping.{pair_keys}
 use Rattle.iddqd_driver.specs.Keys.{Keys, equal_second}
 use Rattle.iddqd_driver.specs.Modify.{ModifiesAt, ModifiesFound}
-use Rattle.iddqd_driver.specs.Sides.{Keeps}
+use Rattle.iddqd_driver.specs.KeyIndexes.{Keeps}
 use Rattle.iddqd_driver.specs.State.{State, IsPaired}
 use Rattle.iddqd_driver.proofs.KeepsLemmas.{KeepsUnlessChanged-rebound}
 use Rattle.iddqd_driver.proofs.KeyLemmas.{AreLawful}

@@ -9,7 +9,7 @@ use Rattle.iddqd_by_hash.specs.Hashed as hashed
 use Rattle.iddqd_by_order.specs.Ordered as ordered
 use Rattle.iddqd_driver.specs.Keys.{Keys, first_hashing}
 use Rattle.iddqd_driver.specs.State.{State}
-use Rattle.iddqd_driver.specs.Sides.{Side, hash_in, first_side, second_side}
+use Rattle.iddqd_driver.specs.KeyIndexes.{KeyIndex, hash_in, first_key_index, second_key_index}
 use Rattle.iddqd_driver.specs.Machine.{RemovesBy, RemovesFound}
 use Rattle.iddqd_driver.specs.Queries.{LooksUpBy}
 
@@ -23,7 +23,8 @@ IsHit-alike s p q ix passes (item, live, passed) = (item, live, passes item pass
 
 module _ {T S K1 K2 : Type 0} (keys : Keys T K1 K2 S) where
   -- a query of the hash table, seen in its parts, that is hashed as each key for which it stands
-  module _ (s : State T S) (test : K1 → Bool) (hash : ℕ) (same_hash : (key : K1) → test key ≡ true → hash ≡ hash_in keys s key)
+  module _ (s : State T S) (test : K1 → Bool) (hash : ℕ)
+      (same_hash : (key : K1) → test key ≡ true → hash ≡ hash_in keys s key)
       (same_key : (x y : K1) → test x ≡ true → test y ≡ keys.equal_first x y) where
     abbrev first : T → K1
     first = keys.first
@@ -39,7 +40,7 @@ module _ {T S K1 K2 : Type 0} (keys : Keys T K1 K2 S) where
         → hashed.Finds s.store s.filed hash (passes_by first test) r
         → (key : K1)
         → test key ≡ true
-        → (first_side keys).Finds s key r
+        → (first_key_index keys).Finds s key r
     found_as_key None misses key passed = λ ix found.
         misses ix (record {
           hit = IsHit-alike s.store _ _ ix (λ item equal. same_key key (first item) passed ∙ equal) found.hit;
@@ -60,7 +61,7 @@ module _ {T S K1 K2 : Type 0} (keys : Keys T K1 K2 S) where
     looks_up_hashed :
         (r : Option ℕ)
         → hashed.LooksUp first s.store s.filed hash test r
-        → LooksUpBy (first_side keys) s test r
+        → LooksUpBy (first_key_index keys) s test r
     looks_up_hashed r looked = record {
       as_key = found_as_key r looked.found;
       hit = hit_found r looked.found;
@@ -72,9 +73,9 @@ module _ {T S K1 K2 : Type 0} (keys : Keys T K1 K2 S) where
       (parts s : State T S) → parts ≡ s → (test : K1 → Bool) (hash : ℕ) (r : Option ℕ)
       → ((key : K1) → test key ≡ true → hash ≡ hash_in keys parts key)
       → ((x y : K1) → test x ≡ true → test y ≡ keys.equal_first x y)
-      → hashed.LooksUp keys.first parts.store parts.filed hash test r → LooksUpBy (first_side keys) s test r
+      → hashed.LooksUp keys.first parts.store parts.filed hash test r → LooksUpBy (first_key_index keys) s test r
   LooksUpBy-hashed parts s seen test hash r same_hash same_key looked =
-      subst (λ t. LooksUpBy (first_side keys) t test r) seen (looks_up_hashed parts test hash same_hash same_key r looked)
+      subst (λ t. LooksUpBy (first_key_index keys) t test r) seen (looks_up_hashed parts test hash same_hash same_key r looked)
 
   -- a query of the ordered table that compares as each key for which it stands
   module _ (s : State T S) (comparing : K2 → Ordering)
@@ -87,7 +88,7 @@ module _ {T S K1 K2 : Type 0} (keys : Keys T K1 K2 S) where
         → ordered.Finds keys.second keys.compare_second s.store s.order comparing r
         → (key : K2)
         → stands key ≡ true
-        → (second_side keys).Finds s key r
+        → (second_key_index keys).Finds s key r
     ordered_as_key None misses key passed = λ placed ix hit.
         misses placed ix (IsHit-alike s.store _ _ ix (λ item equal. ap is_eq (as_key key (keys.second item) ((Equal-is _).0 passed)) ∙ equal) hit)
     ordered_as_key (Some ix) hit key passed =
@@ -103,7 +104,7 @@ module _ {T S K1 K2 : Type 0} (keys : Keys T K1 K2 S) where
     pub LooksUpBy-ordered :
         (r : Option ℕ)
         → ordered.LooksUp keys.second keys.compare_second s.store s.order comparing r
-        → LooksUpBy (second_side keys) s stands r
+        → LooksUpBy (second_key_index keys) s stands r
     LooksUpBy-ordered r looked = record {
       as_key = ordered_as_key r looked.found;
       hit = hit_ordered r looked.found;
@@ -112,11 +113,11 @@ module _ {T S K1 K2 : Type 0} (keys : Keys T K1 K2 S) where
 
 -- a query that is a key itself
 module _
-    {T S K1 K2 K : Type 0} (side : Side T S K1 K2 K) (s : State T S) (key : K) (itself : side.equal key key ≡ true)
+    {T S K1 K2 K : Type 0} (key_index : KeyIndex T S K1 K2 K) (s : State T S) (key : K) (itself : key_index.equal key key ≡ true)
   where
     pub RemovesBy-query :
         (removed : Option (ℕ × T)) (new : State T S)
-        → RemovesFound (LooksUpBy side s (side.equal key)) s removed new
-        → RemovesBy side s key removed new
+        → RemovesFound (LooksUpBy key_index s (key_index.equal key)) s removed new
+        → RemovesBy key_index s key removed new
     RemovesBy-query None new (looked, same) = record { removes = (looked.as_key key itself, same); as_scan = looked.as_scan }
     RemovesBy-query (Some (ix, item)) new (looked, removes) = record { removes = (looked.as_key key itself, removes); as_scan = looked.as_scan }

@@ -35,37 +35,37 @@ use Rattle.iddqd_by_order.proofs.OrderedHoldsLemmas as order_holds
 use Rattle.iddqd_by_order.proofs.OrderedPlaceLemmas as order_place
 use Rattle.iddqd_keys.proofs.KeyWalkLemmas.{IsInPlace-alike}
 use Rattle.iddqd_keys.proofs.ScanLemmas.{rebound_cases, live_rebound}
-use Rattle.iddqd_keys.specs.Side.{ChangesAt}
+use Rattle.iddqd_keys.specs.KeyIndex.{ChangesAt}
 use Rattle.iddqd_driver.specs.Keys.{Keys, first_hashing}
 use Rattle.iddqd_driver.specs.State.{State, IsPaired}
-use Rattle.iddqd_driver.specs.Sides.{hash_in, first_side, second_side, LooksUp, Keeps}
-use Rattle.iddqd_driver.specs.Replacement.{TellsOther, IsForMemory, Becomes, HasNewSecondKey, Replaces, planned, MovesInPlace, Reorders}
+use Rattle.iddqd_driver.specs.KeyIndexes.{hash_in, first_key_index, second_key_index, LooksUp, Keeps}
+use Rattle.iddqd_driver.specs.Replacement.{ReportsOtherIndex, IsReplaceOutOfMemory, Becomes, HasNewSecondKey, Replaces, planned, MovesInPlace, Reorders}
 use Rattle.iddqd_driver.specs.declared.keyed_items.replaces.ReplaceRefusal.{ReplaceRefusal}
 use Rattle.iddqd_driver.specs.declared.keyed_items.replaces.ReplaceRefusal.TheVariants.{Memory}
 use Rattle.iddqd_driver.proofs.KeyLemmas.{AreLawful}
 use Rattle.iddqd_driver.proofs.KeepsLemmas.{Holds-order, Keeps-same}
 
--- ---- what is told of other indexes
+-- ---- what is reported of other indexes
 
--- what is told of an answer is told of what a look-up may answer
-pub TellsOther-found :
-    (finds : Option ℕ → Type 0) (found : Option ℕ) (ix : ℕ) (told : Option ℕ)
+-- what is reported of an answer is reported of what a look-up may answer
+pub ReportsOtherIndex-found :
+    (finds : Option ℕ → Type 0) (found : Option ℕ) (ix : ℕ) (reported : Option ℕ)
     → finds found
-    → TellsOther (λ answer. found ≡ answer) ix told
-    → TellsOther finds ix told
-TellsOther-found finds found ix None is (inl none) = inl (subst finds none is)
-TellsOther-found finds found ix None is (inr itself) = inr (subst finds itself is)
-TellsOther-found finds found ix (Some at) is tells = (subst finds tells.0 is, tells.1)
+    → ReportsOtherIndex (λ answer. found ≡ answer) ix reported
+    → ReportsOtherIndex finds ix reported
+ReportsOtherIndex-found finds found ix None is (inl none) = inl (subst finds none is)
+ReportsOtherIndex-found finds found ix None is (inr itself) = inr (subst finds itself is)
+ReportsOtherIndex-found finds found ix (Some at) is reports = (subst finds reports.0 is, reports.1)
 
 -- what was done was not refused memory
 pub not_for_memory :
     {T : Type 0} (r : Result T (ReplaceRefusal T))
     → IsOk r
-    → IfErr r (λ refusal. IsForMemory refusal → ⊥)
+    → IfErr r (λ refusal. IsReplaceOutOfMemory refusal → ⊥)
 not_for_memory (Ok was) ok = tt
 not_for_memory (Err refusal) ok = absurd (false≢true ok)
 
--- where no other index is told, an answer of a scan leaves no other one
+-- where no other index is reported, an answer of a scan leaves no other one
 pub no_other-scan :
     {T : Type 0} (s : Store T) (test : T → Bool) (ix : ℕ) (r : Option ℕ)
     → (r ≡ None) ⊎ (r ≡ Some ix)
@@ -145,8 +145,8 @@ module _ {T : Type 0} (s : Store T) (ix : ℕ) (item was : T) (live : get s ix �
 
         pub Keeps-refiled :
             hashed.IsLawful hashing
-            → (hashed.IsExact key_of hashing s m → (j : ℕ) → IsHit s (passes_by key_of (hashing.equal (key_of item))) j →
-            j ≡ ix)
+            → (hashed.IsInSync key_of hashing s m
+            → (j : ℕ) → IsHit s (passes_by key_of (hashing.equal (key_of item))) j → j ≡ ix)
             → hashed.Keeps key_of hashing s m after there
         Keeps-refiled lawful alone = record {
           placed = IsInPlace-refiled;
@@ -289,7 +289,7 @@ module _
   filed_anew :
       (at : Option ℕ)
       → (at ≡ None) ⊎ (at ≡ Some ix)
-      → (first_side keys).Finds s (keys.first item) at
+      → (first_key_index keys).Finds s (keys.first item) at
       → moved s.filed ix (planned hash at) ≡ finite.insert s.filed ix hash
   filed_anew None own misses = moved-insert s.store ix item was live s.filed hash
   filed_anew (Some at) own found =
@@ -298,7 +298,7 @@ module _
   first_keeps :
       (at : Option ℕ)
       → (at ≡ None) ⊎ (at ≡ Some ix)
-      → LooksUp (first_side keys) s (keys.first item) at
+      → LooksUp (first_key_index keys) s (keys.first item) at
       → hashed.Keeps keys.first (first_hashing keys s.hasher) s.store s.filed new_store (finite.insert s.filed ix hash)
   first_keeps at own looked =
       Keeps-refiled s.store ix item was live s.filed hash keys.first (first_hashing keys s.hasher) refl (lawful.first s.hasher)
@@ -325,7 +325,7 @@ module _
     second_keeps :
         (at : Option ℕ)
         → (at ≡ None) ⊎ (at ≡ Some ix)
-        → LooksUp (second_side keys) s (keys.second item) at
+        → LooksUp (second_key_index keys) s (keys.second item) at
         → Placed at
         → ordered.Keeps keys.second keys.compare_second s.store s.order new_store order
     second_keeps None own looked moves = record {
@@ -343,11 +343,11 @@ module _
         subst (ordered.Keeps keys.second keys.compare_second s.store s.order new_store) (sym stays)
         (order_place.Keeps-rebound keys.second keys.compare_second lawful.second s.store s.order ix item was live kept)
 
-    -- both look-ups missed or hit the index, and each table was told so
+    -- both look-ups missed or hit the index, and each table was updated so
     module _
         (filed : FinMap nat_cmp ℕ) (at1 at2 : Option ℕ) (own1 : (at1 ≡ None) ⊎ (at1 ≡ Some ix))
-        (own2 : (at2 ≡ None) ⊎ (at2 ≡ Some ix)) (first : LooksUp (first_side keys) s (keys.first item) at1)
-        (second : LooksUp (second_side keys) s (keys.second item) at2)
+        (own2 : (at2 ≡ None) ⊎ (at2 ≡ Some ix)) (first : LooksUp (first_key_index keys) s (keys.first item) at1)
+        (second : LooksUp (second_key_index keys) s (keys.second item) at2)
         (is_filed : filed ≡ moved s.filed ix (planned hash at1)) (placed : Placed at2) where
       abbrev new : State T S
       new = record s { store = new_store; filed = filed; order = order }
@@ -377,8 +377,8 @@ module _
 module _
     {T S K1 K2 : Type 0} (keys : Keys T K1 K2 S) (s : State T S) (paired : IsPaired s) (lawful : AreLawful keys)
     (ix : ℕ) (item : T) (at1 at2 : Option ℕ) (own1 : (at1 ≡ None) ⊎ (at1 ≡ Some ix))
-    (own2 : (at2 ≡ None) ⊎ (at2 ≡ Some ix)) (first : LooksUp (first_side keys) s (keys.first item) at1)
-    (second : LooksUp (second_side keys) s (keys.second item) at2) (live : IsLive s.store ix) (store : Store T)
+    (own2 : (at2 ≡ None) ⊎ (at2 ≡ Some ix)) (first : LooksUp (first_key_index keys) s (keys.first item) at1)
+    (second : LooksUp (second_key_index keys) s (keys.second item) at2) (live : IsLive s.store ix) (store : Store T)
     (filed : FinMap nat_cmp ℕ) (order : List ℕ) where
   abbrev is : State T S
   is = record s { store = store; filed = filed; order = order }
@@ -408,7 +408,7 @@ module _
   same items hashes indexes = rw (items, hashes, indexes) refl
 
   new_key : at2 ≡ None → HasNewSecondKey keys s item
-  new_key none = subst ((second_side keys).Finds s (keys.second item)) none second.found
+  new_key none = subst ((second_key_index keys).Finds s (keys.second item)) none second.found
 
   pub Replaces-rebound :
       (r : Result T (ReplaceRefusal T)) → IfOk r (λ was. get s.store ix ≡ Some was)
@@ -416,16 +416,16 @@ module _
       → OnErr r (store ≡ s.store) → OnErr r (filed ≡ s.filed) → OnErr r (order ≡ s.order)
       → Replaces keys s ix item r is
   Replaces-rebound (Ok was) found stored refiled reordered refused items hashes indexes = record {
-    first = λ _. TellsOther-found (LooksUp (first_side keys) s (keys.first item)) at1 ix None first own1;
-    second = λ _. TellsOther-found (LooksUp (second_side keys) s (keys.second item)) at2 ix None second own2;
+    first = λ _. ReportsOtherIndex-found (LooksUp (first_key_index keys) s (keys.first item)) at1 ix None first own1;
+    second = λ _. ReportsOtherIndex-found (LooksUp (second_key_index keys) s (keys.second item)) at2 ix None second own2;
     replaced = (became was found stored refiled reordered).0;
     refused = tt;
     unchanged = tt;
   }
   Replaces-rebound (Err refusal) found stored refiled reordered refused items hashes indexes =
       subst (λ refusal. Replaces keys s ix item (Err refusal) is) (sym refused.0) (record {
-        first = λ _. TellsOther-found (LooksUp (first_side keys) s (keys.first item)) at1 ix None first own1;
-        second = λ _. TellsOther-found (LooksUp (second_side keys) s (keys.second item)) at2 ix None second own2;
+        first = λ _. ReportsOtherIndex-found (LooksUp (first_key_index keys) s (keys.first item)) at1 ix None first own1;
+        second = λ _. ReportsOtherIndex-found (LooksUp (second_key_index keys) s (keys.second item)) at2 ix None second own2;
         replaced = tt;
         refused = (refl, live, new_key refused.1);
         unchanged = same items hashes indexes;

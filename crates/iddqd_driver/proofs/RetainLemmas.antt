@@ -17,7 +17,7 @@ use Rattle.iddqd_by_hash.specs.Retain.{RetainsTo, refused_of}
 use Rattle.iddqd_by_hash.proofs.RetainLemmas.{AreLiveInTurn, AreLiveInTurn-refused, removed_all-limit, was_there}
 use Rattle.iddqd_driver.specs.Keys.{Keys}
 use Rattle.iddqd_driver.specs.State.{State, unbound, IsPaired}
-use Rattle.iddqd_driver.specs.Sides.{Keeps}
+use Rattle.iddqd_driver.specs.KeyIndexes.{Keeps}
 use Rattle.iddqd_driver.specs.Memory.{SizedState, capacity, room}
 use Rattle.iddqd_driver.specs.Retain.{unbound_all, Retains}
 use Rattle.iddqd_driver.proofs.KeyLemmas.{AreLawful}

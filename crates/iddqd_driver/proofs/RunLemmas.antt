@@ -5,9 +5,9 @@ use Rattle.std.proofs.lemmas.List.Elements.{All-cons, All-nil, All-head, All-tai
 use Rattle.iddqd.specs.Store.{Store, live_count}
 use Rattle.iddqd_driver.specs.Keys.{Keys}
 use Rattle.iddqd_driver.specs.State.{State, IsPaired, IsEmpty}
-use Rattle.iddqd_driver.specs.Sides.{IsExact, InOrder, Changes, AsScan, first_side, second_side}
+use Rattle.iddqd_driver.specs.KeyIndexes.{IsInSync, InOrder, ChangesKey, AsScan, first_key_index, second_key_index}
 use Rattle.iddqd_driver.specs.Machine.{Answers, Step}
-use Rattle.iddqd_driver.specs.Run.{Run, IsStepChain, No_step, Next_step, IsQuietAfter, IsExactFrom, IsExactWhereQuiet, IsSilentChange, AnswersAsScan}
+use Rattle.iddqd_driver.specs.Run.{Run, IsStepChain, No_step, Next_step, IsQuietAfter, IsExactFrom, IsInSyncWhereQuiet, IsSilentChange, AnswersAsScan}
 use Rattle.iddqd_driver.specs.Memory.{Memory, SizedState, IsNoLower, TakesForOne, StepsInMemory, RefusesMemory, IsServedBelow, RunsInMemory, capacity, room}
 use Rattle.iddqd_driver.specs.declared.command.Command.{Command}
 use Rattle.iddqd_driver.specs.declared.command.Command.TheVariants.{Insert, Find1, Find2, Remove, Remove1, Remove2, Overwrite, Compact, Clear, Walk}
@@ -58,7 +58,7 @@ module _ {T S K1 K2 : Type 0} (keys : Keys T K1 K2 S) where
     pub exact_from_start :
         {old new : State T S} {commands : List (Command T K1 K2)} {replies : List (Reply T)}
         {moments : List (State T S)} → IsStepChain keys old commands replies moments new → IsPaired old
-        → IsExactWhereQuiet Changed Holds Exact old commands replies moments
+        → IsInSyncWhereQuiet Changed Holds Exact old commands replies moments
     exact_from_start {old = old} chain paired =
         exact_along _ chain (λ now. elim now [ inl none ↦ bare old paired none | inr holds ↦ holds ])
 
@@ -66,8 +66,8 @@ module _ {T S K1 K2 : Type 0} (keys : Keys T K1 K2 S) where
       {old new : State T S} {commands : List (Command T K1 K2)} {replies : List (Reply T)} {moments : List (State T S)}
       → IsStepChain keys old commands replies moments new → IsPaired old → Run keys old commands replies new
   Run-from_chain {moments = moments} chain paired =
-      let first = first_side keys in
-      let second = second_side keys in
+      let first = first_key_index keys in
+      let second = second_key_index keys in
       record {
         moments = moments;
         steps = chain;
@@ -83,12 +83,12 @@ module _ {T S K1 K2 : Type 0} (keys : Keys T K1 K2 S) where
               },
             ))
             chain paired;
-        quiet_first_keys = exact_from_start (Changes first) (IsExact first) (AsScan first) (FirstKeysInOrder-bare keys)
+        quiet_first_keys = exact_from_start (ChangesKey first) (IsInSync first) (AsScan first) (FirstKeysInOrder-bare keys)
             (λ old new command reply step o.
             (step.first_keys.as_scan o, λ none. (step.first_keys.keeps none).exact o))
             chain paired;
         quiet_second_keys =
-            exact_from_start (Changes second) (IsExact second) (AsScan second) (SecondKeysInOrder-bare keys)
+            exact_from_start (ChangesKey second) (IsInSync second) (AsScan second) (SecondKeysInOrder-bare keys)
             (λ old new command reply step o.
             (step.second_keys.as_scan o, λ none. (step.second_keys.keeps none).exact o))
             chain paired;
@@ -129,8 +129,10 @@ module _ {T S K1 K2 : Type 0} (keys : Keys T K1 K2 S) where
 
   IsServedBelow-push :
       (held : ℕ) {old mid : State T S} {commands : List (Command T K1 K2)} {replies : List (Reply T)}
-      {moments : List (State T S)} (reply : Reply T) (new : State T S) → IsStepChain keys old commands replies moments mid
-      → IsServedBelow held old replies moments → (live_count mid.store < held → RefusesMemory reply → ⊥)
+      {moments : List (State T S)} (reply : Reply T) (new : State T S)
+      → IsStepChain keys old commands replies moments mid
+      → IsServedBelow held old replies moments
+      → (live_count mid.store < held → RefusesMemory reply → ⊥)
       → IsServedBelow held old (replies ++ reply ∷ []) (moments ++ new ∷ [])
   IsServedBelow-push held reply new No_step served last = (last, tt)
   IsServedBelow-push held reply new (Next_step step rest) served last =

@@ -3,7 +3,7 @@ use Rattle.std.proofs.Common.{◌≡◌, ◌≤◌, ℕ, Ok, Err, arith}
 use Rattle.iddqd.specs.Store.{live_count}
 use Rattle.iddqd_driver.specs.Keys.{Keys}
 use Rattle.iddqd_driver.specs.State.{State}
-use Rattle.iddqd_driver.specs.Sides.{first_side, second_side, IsExact, AsScan, Keeps}
+use Rattle.iddqd_driver.specs.KeyIndexes.{first_key_index, second_key_index, IsInSync, AsScan, Keeps}
 use Rattle.iddqd_driver.specs.Machine.{Answers, Step}
 use Rattle.iddqd_driver.specs.declared.command.Command.{Command}
 use Rattle.iddqd_driver.specs.Memory.{SizedState, InsertsInMemory, TakesForOne, StepsInMemory, RefusesMemory, room}
@@ -16,8 +16,8 @@ use Rattle.iddqd_driver.proofs.MemoryLemmas.{IsNoLower-same}
 -- a step that keeps what a call keeps
 pub Step-keeping : {T S K1 K2 : Type 0} (keys : Keys T K1 K2 S) (old new : State T S) (command : Command T K1 K2)
     (reply : Reply T) → Keeps keys old new → Answers keys old command reply new
-    → (IsExact (first_side keys) old → AsScan (first_side keys) old.store command reply)
-    → (IsExact (second_side keys) old → AsScan (second_side keys) old.store command reply)
+    → (IsInSync (first_key_index keys) old → AsScan (first_key_index keys) old.store command reply)
+    → (IsInSync (second_key_index keys) old → AsScan (second_key_index keys) old.store command reply)
     → Step keys old command reply new
 Step-keeping keys old new command reply keeps answers first second = record {
   answers = answers;
@@ -55,7 +55,8 @@ module _ {T S K1 K2 : Type 0} (old new : SizedState T S) where
   }
 
   pub StepsInMemory-refused :
-      (item : T) (refusal : InsertRefusal T) → InsertsInMemory {T = T} (1 ≤ room old) old.memory (Err refusal) new.memory
+      (item : T) (refusal : InsertRefusal T)
+      → InsertsInMemory {T = T} (1 ≤ room old) old.memory (Err refusal) new.memory
       → TakesForOne old.state.store.limit (live_count old.state.store) old.memory new.memory
       → StepsInMemory {K1 = K1} {K2 = K2} old (Insert item) (Refused refusal) new
   StepsInMemory-refused item refusal did few = record {

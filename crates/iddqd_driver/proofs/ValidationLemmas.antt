@@ -27,7 +27,7 @@ use Rattle.iddqd_keys.specs.Scan.{IsHit, AnswersScan}
 use Rattle.iddqd_by_order.specs.Ordered as ordered
 use Rattle.iddqd_by_order.proofs.OrderedCountLemmas.{AreAsExpected-listed}
 use Rattle.iddqd_driver.specs.State.{State, IsPaired}
-use Rattle.iddqd_driver.specs.Validation.{named}
+use Rattle.iddqd_driver.specs.Validation.{with_table_name}
 use Rattle.iddqd_driver.proofs.KeepsLemmas.{Holds-order}
 
 -- A walk over the live items has these left, and the others pass: each that is left is live, and each live one is left
@@ -138,14 +138,14 @@ module _ {T S : Type 0} (s : State T S) (paired : IsPaired s) where
       AreAsExpected-listed s.store s.order (Holds-order s paired) paired.valid mode allowed
 
 -- a table that is sound is refused for want of memory alone
-pub IsMemory-named :
+pub IsMemory-with_table_name :
     (sound : Type 0) (name : Bor (List ℕ)) (answer : Result (Unit {0}) (ValidateRefusal (List ℕ)))
     → sound
     → Validates sound answer
-    → IfErr (named name answer) IsMemory
-IsMemory-named sound name (Ok passed) holds validates = tt
-IsMemory-named sound name (Err (Invalid error)) holds refuted = absurd (refuted holds)
-IsMemory-named sound name (Err (Memory error)) holds validates = tt
+    → IfErr (with_table_name name answer) IsMemory
+IsMemory-with_table_name sound name (Ok passed) holds validates = tt
+IsMemory-with_table_name sound name (Err (Invalid error)) holds refuted = absurd (refuted holds)
+IsMemory-with_table_name sound name (Err (Memory error)) holds validates = tt
 
 -- a refusal for want of memory will do
 pub Validates-refused :

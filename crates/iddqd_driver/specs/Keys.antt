@@ -1,4 +1,4 @@
--- The keys that items lend, and how those are compared and hashed.
+-- The keys that items contain, and how those are compared and hashed.
 use Rattle.std.specs.Prelude.{◌≡◌, Bool, ℕ, List}
 use Rattle.std.specs.Ordering.{eq_by_cmp}
 use Rattle.std.specs.declared.cmp.Ordering.{Ordering}

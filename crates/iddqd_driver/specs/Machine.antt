@@ -8,7 +8,7 @@ use Rattle.iddqd_keys.specs.Scan.{AnswersScan}
 use Rattle.iddqd_by_order.specs.Ordered.{Adds}
 use Rattle.iddqd_driver.specs.Keys.{Keys}
 use Rattle.iddqd_driver.specs.State.{State, cleared_state, unbound, Compacts, IsPaired}
-use Rattle.iddqd_driver.specs.Sides.{Side, has, IsExact, KeepsSide, Changes, AsScan, finds_told, hash_in, first_side, second_side}
+use Rattle.iddqd_driver.specs.KeyIndexes.{KeyIndex, has, IsInSync, KeepsKeyIndex, ChangesKey, AsScan, finds_reported, hash_in, first_key_index, second_key_index}
 use Rattle.iddqd_driver.specs.declared.command.Command.{Command}
 use Rattle.iddqd_driver.specs.declared.command.Command.TheVariants.{Insert, Find1, Find2, Remove, Remove1, Remove2, Overwrite, Compact, Clear, Walk}
 use Rattle.iddqd_driver.specs.declared.command.Reply.{Reply}
@@ -16,8 +16,8 @@ use Rattle.iddqd_driver.specs.declared.command.Reply.TheVariants.{Inserted, Refu
 use Rattle.iddqd_driver.specs.declared.keyed_items.InsertRefusal.{InsertRefusal}
 use Rattle.iddqd_driver.specs.declared.keyed_items.InsertRefusal.TheVariants.{Duplicate, Full, Memory}
 
--- The item comes back: as a duplicate where one of its look-ups hit, or else since the store is full or memory was
--- refused.
+-- The item comes back: as a duplicate where one of its look-ups hit, or else since the store is full or memory ran
+-- out.
 abbrev pub Refuses : {T : Type 0} → Store T → T → InsertRefusal T → Type 0
 Refuses s item (Duplicate back first second) = (back ≡ item) × (IsSome first ⊎ IsSome second)
 Refuses s item (Full back) = (back ≡ item) × IsFull s
@@ -34,13 +34,13 @@ module _ {T S : Type 0} where
   RemovesFound finds old (Some (ix, item)) new = finds (Some ix) × Removes old ix (Some item) new
   RemovesFound finds old None new = finds None × (new ≡ old)
 
-  -- a removal by a key of a side: what it may answer and leave, and that it finds what a scan does where the side is
-  -- exact
+  -- a removal by a key of a key index: what it may answer and leave, and that it finds what a scan does where the key
+  -- index is in sync
   pub record RemovesBy
-      {K1 K2 K : Type 0} (side : Side T S K1 K2 K) (old : State T S) (key : K) (removed : Option (ℕ × T))
+      {K1 K2 K : Type 0} (key_index : KeyIndex T S K1 K2 K) (old : State T S) (key : K) (removed : Option (ℕ × T))
       (new : State T S) : Type 0 where
-    pub removes : RemovesFound (side.Finds old key) old removed new
-    pub as_scan : IsExact side old → AnswersScan old.store (has side key) (option_map (λ r. r.0) removed)
+    pub removes : RemovesFound (key_index.Finds old key) old removed new
+    pub as_scan : IsInSync key_index old → AnswersScan old.store (has key_index key) (option_map (λ r. r.0) removed)
 
   -- What an overwrite may answer and leave: the item that a live index had is given back, and neither table is touched;
   -- of an index that isn't live the given item comes back.
@@ -52,8 +52,8 @@ module _ {T S : Type 0} where
 module _ {T S K1 K2 : Type 0} (keys : Keys T K1 K2 S) where
   -- the item was stored under the next index, which was filed under the hash of the item's first key, and this is the
   -- order then
-  abbrev pub bound : State T S → T → List ℕ → State T S
-  bound s item order =
+  abbrev pub inserted_state : State T S → T → List ℕ → State T S
+  inserted_state s item order =
       record s {
         store = inserted s.store item;
         filed = finite.insert s.filed (next_index s.store) (hash_in keys s (keys.first item));
@@ -66,37 +66,37 @@ module _ {T S K1 K2 : Type 0} (keys : Keys T K1 K2 S) where
     pub not_full : IsFull old.store → ⊥
     pub index : ix ≡ next_index old.store
     pub adds : Adds old.order (next_index old.store) new.order
-    pub state : new ≡ bound old item new.order
+    pub state : new ≡ inserted_state old item new.order
 
-  -- What an insert may answer and leave: what is told of its look-ups is what they may answer; the item is stored, or
-  -- it comes back and nothing changes.
+  -- What an insert may answer and leave: what is reported of its look-ups is what they may answer; the item is stored,
+  -- or it comes back and nothing changes.
   pub record Inserts (old : State T S) (item : T) (result : Result ℕ (InsertRefusal T)) (new : State T S)
       : Type 0 where
-    pub first : (first_side keys).Finds old (keys.first item) (finds_told result).0
-    pub second : (second_side keys).Finds old (keys.second item) (finds_told result).1
+    pub first : (first_key_index keys).Finds old (keys.first item) (finds_reported result).0
+    pub second : (second_key_index keys).Finds old (keys.second item) (finds_reported result).1
     pub stored : IfOk result (λ ix. StoresAt old item ix new)
     pub refused : IfErr result (Refuses old.store item)
     pub unchanged : OnErr result (new ≡ old)
 
-  -- what an insert tells of each look-up is what a scan answers, where that side is exact
-  pub record TellsAsScan (old : State T S) (item : T) (result : Result ℕ (InsertRefusal T)) : Type 0 where
+  -- what an insert reports of each look-up is what a scan answers, where that key index is in sync
+  pub record ReportsAsScan (old : State T S) (item : T) (result : Result ℕ (InsertRefusal T)) : Type 0 where
     pub first :
-        IsExact (first_side keys) old
-        → AnswersScan old.store (has (first_side keys) (keys.first item)) (finds_told result).0
+        IsInSync (first_key_index keys) old
+        → AnswersScan old.store (has (first_key_index keys) (keys.first item)) (finds_reported result).0
     pub second :
-        IsExact (second_side keys) old
-        → AnswersScan old.store (has (second_side keys) (keys.second item)) (finds_told result).1
+        IsInSync (second_key_index keys) old
+        → AnswersScan old.store (has (second_key_index keys) (keys.second item)) (finds_reported result).1
 
   -- what a command may answer and leave
   abbrev pub Answers : State T S → Command T K1 K2 → Reply T → State T S → Type 0
   Answers old (Insert item) (Inserted ix) new = Inserts old item (Ok ix) new
   Answers old (Insert item) (Refused refusal) new = Inserts old item (Err refusal) new
-  Answers old (Find1 key) (Found found) new = (first_side keys).Finds old key found × (new ≡ old)
-  Answers old (Find2 key) (Found found) new = (second_side keys).Finds old key found × (new ≡ old)
+  Answers old (Find1 key) (Found found) new = (first_key_index keys).Finds old key found × (new ≡ old)
+  Answers old (Find2 key) (Found found) new = (second_key_index keys).Finds old key found × (new ≡ old)
   Answers old (Remove ix) (Removed (Some (at, item))) new = (at ≡ ix) × Removes old ix (Some item) new
   Answers old (Remove ix) (Removed None) new = Removes old ix None new
-  Answers old (Remove1 key) (Removed removed) new = RemovesFound ((first_side keys).Finds old key) old removed new
-  Answers old (Remove2 key) (Removed removed) new = RemovesFound ((second_side keys).Finds old key) old removed new
+  Answers old (Remove1 key) (Removed removed) new = RemovesFound ((first_key_index keys).Finds old key) old removed new
+  Answers old (Remove2 key) (Removed removed) new = RemovesFound ((second_key_index keys).Finds old key) old removed new
   Answers old (Overwrite ix item) (Overwritten result) new = Overwrites old ix item result new
   Answers old Compact (Compacted remap) new = IsRemapOf old.store remap × Compacts old new
   Answers old Compact NoMemory new = (old.store.free ≢ []) × (new ≡ old)
@@ -105,16 +105,16 @@ module _ {T S K1 K2 : Type 0} (keys : Keys T K1 K2 S) where
   Answers old Walk NoMemory new = (old.order ≢ []) × (new ≡ old)
   Answers old command reply new = ⊥
 
-  -- one step on a side: what it keeps where it changes no key, and that an exact side answers as a scan
+  -- one step on a key index: what it keeps where it changes no key, and that a key index in sync answers as a scan
   pub record StepsOn
-      {K : Type 0} (side : Side T S K1 K2 K) (old : State T S) (command : Command T K1 K2) (reply : Reply T)
+      {K : Type 0} (key_index : KeyIndex T S K1 K2 K) (old : State T S) (command : Command T K1 K2) (reply : Reply T)
       (new : State T S) : Type 0 where
-    pub keeps : (Changes side old command → ⊥) → KeepsSide side old new
-    pub as_scan : IsExact side old → AsScan side old.store command reply
+    pub keeps : (ChangesKey key_index old command → ⊥) → KeepsKeyIndex key_index old new
+    pub as_scan : IsInSync key_index old → AsScan key_index old.store command reply
 
-  -- one step: what it answers and leaves, and each side
+  -- one step: what it answers and leaves, and each key index
   pub record Step (old : State T S) (command : Command T K1 K2) (reply : Reply T) (new : State T S) : Type 0 where
     pub answers : Answers old command reply new
     pub paired : IsPaired old × IsPaired new
-    pub first_keys : StepsOn (first_side keys) old command reply new
-    pub second_keys : StepsOn (second_side keys) old command reply new
+    pub first_keys : StepsOn (first_key_index keys) old command reply new
+    pub second_keys : StepsOn (second_key_index keys) old command reply new

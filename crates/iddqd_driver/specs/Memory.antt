@@ -77,25 +77,26 @@ abbrev pub IsInsert : {T K1 K2 : Type 0} → Command T K1 K2 → Type 0
 IsInsert (Insert item) = ⊤
 IsInsert command = ⊥
 
--- an item was refused for want of memory
-abbrev pub IsForMemory : {T : Type 0} → InsertRefusal T → Type 0
-IsForMemory (OutOfMemory item) = ⊤
-IsForMemory refusal = ⊥
+-- an item was refused since memory ran out
+abbrev pub IsOutOfMemory : {T : Type 0} → InsertRefusal T → Type 0
+IsOutOfMemory (OutOfMemory item) = ⊤
+IsOutOfMemory refusal = ⊥
 
 -- so was the item of a command
 abbrev pub RefusesMemory : {T : Type 0} → Reply T → Type 0
-RefusesMemory (Refused refusal) = IsForMemory refusal
+RefusesMemory (Refused refusal) = IsOutOfMemory refusal
 RefusesMemory reply = ⊥
 
 -- What an insert leaves of the memory: no part can hold less than before, and the ordered table as much; nothing is
 -- taken where the item is refused for another reason than memory; and with room none is taken, and none refused.
-pub record InsertsInMemory {T : Type 0} (has_room : Type 0) (old : Memory) (result : Result ℕ (InsertRefusal T)) (new : Memory)
+pub record InsertsInMemory
+    {T : Type 0} (has_room : Type 0) (old : Memory) (result : Result ℕ (InsertRefusal T)) (new : Memory)
     : Type 0 where
   pub no_lower : IsNoLower old new
   pub same_ordered : new.ordered ≡ old.ordered
-  pub refused_early : IfErr result (λ refusal. (IsForMemory refusal → ⊥) → new ≡ old)
+  pub refused_early : IfErr result (λ refusal. (IsOutOfMemory refusal → ⊥) → new ≡ old)
   pub had_room : has_room → new ≡ old
-  pub not_refused : has_room → IfErr result (λ refusal. IsForMemory refusal → ⊥)
+  pub not_refused : has_room → IfErr result (λ refusal. IsOutOfMemory refusal → ⊥)
 
 -- What an insert beside so many items takes at most, whatever it answers: slots for twice as many, at least for four,
 -- and none past the limit; and no more cells than one more index needs.
@@ -144,9 +145,9 @@ module _ {T S : Type 0} where
     pub reserved : OnOk result (reservable additional old ≤ room new)
     pub had_room : reservable additional old ≤ room old → IsOk result × (new ≡ old)
     pub few_slots :
-        new.memory.slots
-        ≤ max old.memory.slots
-        (max (live_count old.state.store + reservable additional old) (min old.state.store.limit (2 * old.memory.slots)))
+        new.memory.slots ≤ max old.memory.slots
+        (max (live_count old.state.store + reservable additional old)
+        (min old.state.store.limit (2 * old.memory.slots)))
     pub few_cells :
         new.memory.cells ≤ max old.memory.cells (most_cells (live_count old.state.store + reservable additional old))
     pub few_blocks :
@@ -166,7 +167,7 @@ module _ {T S : Type 0} where
     pub never_more : (new.memory.slots ≤ old.memory.slots) × (new.memory.cells ≤ old.memory.cells)
 
   -- One step and its memory: no part can hold less than before; with room for an item none is taken, and no item is
-  -- refused for want of it; no command but an insert takes any, and an insert no more than one more item needs.
+  -- refused for lack of it; no command but an insert takes any, and an insert no more than one more item needs.
   pub record StepsInMemory
       {K1 K2 : Type 0} (old : SizedState T S) (command : Command T K1 K2) (reply : Reply T) (new : SizedState T S)
       : Type 0 where
@@ -176,14 +177,14 @@ module _ {T S : Type 0} where
     pub others : (IsInsert command → ⊥) → new.memory ≡ old.memory
     pub few : TakesForOne old.state.store.limit (live_count old.state.store) old.memory new.memory
 
-  -- at each moment with fewer items than so many, no item is refused for want of memory
+  -- at each moment with fewer items than so many, no item is refused for lack of memory
   abbrev pub IsServedBelow : ℕ → State T S → List (Reply T) → List (State T S) → Type 0
   IsServedBelow held moment (reply ∷ replies) (next ∷ moments) =
       (live_count moment.store < held → RefusesMemory reply → ⊥) × IsServedBelow held next replies moments
   IsServedBelow held moment replies moments = ⊤
 
 -- A run and its memory: no part can hold less than at the start; at each moment with fewer items than could be held at
--- the start, no item is refused for want of memory; and where there never are more than so many items, no more is taken
+-- the start, no item is refused for lack of memory; and where there never are more than so many items, no more is taken
 -- than an insert beside these may take.
 pub record RunsInMemory
     {T S K1 K2 : Type 0} (keys : Keys T K1 K2 S) (old : SizedState T S) (commands : List (Command T K1 K2))

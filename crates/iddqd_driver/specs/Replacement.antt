@@ -1,4 +1,4 @@
--- What a replacement that is told to both tables may answer and leave.
+-- What a replacement that updates both tables may answer and leave.
 use Rattle.std.specs.Prelude.{◌≡◌, ◌≢◌, ◌⊎◌, ⊤, ℕ, List, Option, Some, None, IsSome, Result, Err, IfOk, IfErr, OnErr}
 use Rattle.std.specs.FinMap as finite
 use Rattle.std.specs.declared.cmp.Ordering.{Ordering}
@@ -10,25 +10,25 @@ use Rattle.iddqd_by_hash.specs.declared.hashed_move.Move.{Move}
 use Rattle.iddqd_by_hash.specs.declared.hashed_move.Move.TheVariants.{Stays, To}
 use Rattle.iddqd_driver.specs.Keys.{Keys}
 use Rattle.iddqd_driver.specs.State.{State}
-use Rattle.iddqd_driver.specs.Sides.{hash_in, first_side, second_side, LooksUp}
+use Rattle.iddqd_driver.specs.KeyIndexes.{hash_in, first_key_index, second_key_index, LooksUp}
 use Rattle.iddqd_driver.specs.declared.keyed_items.replaces.ReplaceRefusal.{ReplaceRefusal}
 use Rattle.iddqd_driver.specs.declared.keyed_items.replaces.ReplaceRefusal.TheVariants.{Missing, Duplicate, Memory}
 
--- what is told of the look-ups of the keys: of a duplicate the other indexes that they hit, else none
-abbrev pub others_told : {T : Type 0} → Result T (ReplaceRefusal T) → Option ℕ × Option ℕ
-others_told (Err (Duplicate back first second)) = (first, second)
-others_told result = (None, None)
+-- what is reported of the look-ups of the keys: of a duplicate the other indexes that they hit, else none
+abbrev pub others_reported : {T : Type 0} → Result T (ReplaceRefusal T) → Option ℕ × Option ℕ
+others_reported (Err (Duplicate back first second)) = (first, second)
+others_reported result = (None, None)
 
--- an item didn't become another one for want of memory
-abbrev pub IsForMemory : {T : Type 0} → ReplaceRefusal T → Type 0
-IsForMemory (Memory back) = ⊤
-IsForMemory refusal = ⊥
+-- an item didn't become another one since memory ran out
+abbrev pub IsReplaceOutOfMemory : {T : Type 0} → ReplaceRefusal T → Type 0
+IsReplaceOutOfMemory (Memory back) = ⊤
+IsReplaceOutOfMemory refusal = ⊥
 
--- What is told of a look-up of a key that an index is to have: another index that it hit, or none, where it missed or
--- hit this one. `finds` says what the look-up may answer.
-abbrev pub TellsOther : (Option ℕ → Type 0) → ℕ → Option ℕ → Type 0
-TellsOther finds ix (Some at) = finds (Some at) × (at ≢ ix)
-TellsOther finds ix None = finds None ⊎ finds (Some ix)
+-- What is reported of a look-up of a key that an index is to have: another index that it hit, or none, if it missed
+-- or hit this one. `finds` says what the look-up may answer.
+abbrev pub ReportsOtherIndex : (Option ℕ → Type 0) → ℕ → Option ℕ → Type 0
+ReportsOtherIndex finds ix (Some at) = finds (Some at) × (at ≢ ix)
+ReportsOtherIndex finds ix None = finds None ⊎ finds (Some ix)
 
 module _ {T S K1 K2 : Type 0} (keys : Keys T K1 K2 S) where
   -- the index has this item, is filed under the hash of its first key, and this is the order then
@@ -49,45 +49,46 @@ module _ {T S K1 K2 : Type 0} (keys : Keys T K1 K2 S) where
 
   -- the look-up of the item's second key missed, so that an index which is to have it has to move in the ordered table
   abbrev pub HasNewSecondKey : State T S → T → Type 0
-  HasNewSecondKey old item = (second_side keys).Finds old (keys.second item) None
+  HasNewSecondKey old item = (second_key_index keys).Finds old (keys.second item) None
 
   -- The item comes back: the index isn't live, or another one has one of the keys, or the index has to move in the
-  -- ordered table and memory was refused.
+  -- ordered table and memory ran out.
   abbrev pub RefusesReplacing : State T S → ℕ → T → ReplaceRefusal T → Type 0
   RefusesReplacing old ix item (Missing back) = (back ≡ item) × (get old.store ix ≡ None)
   RefusesReplacing old ix item (Duplicate back first second) =
       (back ≡ item) × IsLive old.store ix × (IsSome first ⊎ IsSome second)
   RefusesReplacing old ix item (Memory back) = (back ≡ item) × IsLive old.store ix × HasNewSecondKey old item
 
-  -- What a replacement may answer and leave: of a live index, what is told of other ones is what the look-ups of the
-  -- keys may answer; the item stands there, or it comes back and nothing changes.
+  -- What a replacement may answer and leave: of a live index, what is reported of other ones is what the look-ups of
+  -- the keys may answer; the item stands there, or it comes back and nothing changes.
   pub record Replaces (old : State T S) (ix : ℕ) (item : T) (result : Result T (ReplaceRefusal T)) (new : State T S)
       : Type 0 where
     pub first :
         IsLive old.store ix
-        → TellsOther (LooksUp (first_side keys) old (keys.first item)) ix (others_told result).0
+        → ReportsOtherIndex (LooksUp (first_key_index keys) old (keys.first item)) ix (others_reported result).0
     pub second :
         IsLive old.store ix
-        → TellsOther (LooksUp (second_side keys) old (keys.second item)) ix (others_told result).1
+        → ReportsOtherIndex (LooksUp (second_key_index keys) old (keys.second item)) ix (others_reported result).1
     pub replaced : IfOk result (λ was. Becomes old ix item was new)
     pub refused : IfErr result (RefusesReplacing old ix item)
     pub unchanged : OnErr result (new ≡ old)
 
 -- ---- what becomes of each table
 
--- by what the look-up of the new first key answered: the index stays, or is filed under the key's hash
+-- what becomes of an index in the hash table, by what the look-up of its new first key answered: it stays, or is filed
+-- under that key's hash
 abbrev pub planned : ℕ → Option ℕ → Move
 planned hash (Some at) = Stays
 planned hash None = To hash
 
 module _ {T K : Type 0} (key_of : T → K) (compare : K → K → Ordering) where
-  -- a live index was taken out of the list and put in again for an item that it is to have: at some place, in place
-  -- where the list was in place
+  -- a live index was removed from the list and inserted again for its new item: at some place, and if the list was
+  -- sorted by the keys, where it is sorted again
   pub record MovesInPlace (s : Store T) (ix : ℕ) (item : T) (old new : List ℕ) : Type 0 where
     pub adds : Adds (without old ix) ix new
     pub placed : IsInPlace key_of compare s old → IsInPlace key_of compare (rebound s ix item) new
 
-  -- by what the look-up of the new second key answered: the index stays, or moves
+  -- what becomes of it in the ordered table, by what the look-up of its new second key answered: it stays, or moves
   abbrev pub Reorders : Store T → ℕ → T → Option ℕ → List ℕ → List ℕ → Type 0
   Reorders s ix item (Some at) old new = new ≡ old
   Reorders s ix item None old new = MovesInPlace s ix item old new

@@ -10,7 +10,7 @@ unbound_all s (ix ∷ rest) = unbound_all (unbound s ix) rest
 
 -- `ask p x b q` says that x, asked in the state p, may be answered b and leave the state q
 module _ {F T S : Type 0} (ask : F → T → Bool → F → Type 0) where
-  -- f was asked about each item once, by rising index, and isn't handed back. Those that were answered true are left
+  -- f was asked about each item once, by rising index, and isn't returned. Those that were answered true are left
   -- under their indexes; of the others the store and both tables are as the removal of each leaves them.
   pub record Retains (f : F) (old new : State T S) : Type 0 where
     pub last : F

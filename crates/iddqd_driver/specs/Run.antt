@@ -3,20 +3,20 @@ use Rattle.std.specs.Prelude.{List, [], ◌∷◌, ◌⊎◌, All}
 use Rattle.iddqd.specs.Store.{Store}
 use Rattle.iddqd_driver.specs.Keys.{Keys}
 use Rattle.iddqd_driver.specs.State.{State, IsPaired, IsEmpty}
-use Rattle.iddqd_driver.specs.Sides.{Side, IsExact, InOrder, Changes, AsScan, first_side, second_side}
+use Rattle.iddqd_driver.specs.KeyIndexes.{KeyIndex, IsInSync, InOrder, ChangesKey, AsScan, first_key_index, second_key_index}
 use Rattle.iddqd_driver.specs.Machine.{Step}
 use Rattle.iddqd_driver.specs.declared.command.Command.{Command}
 use Rattle.iddqd_driver.specs.declared.command.Reply.{Reply}
 
--- `Changes` says which commands end quiet moments, `Holds` what is then to hold, and `Exact` what an answer is then.
+-- `ChangesKey` says which commands end quiet moments, `Holds` what is then to hold, and `Exact` what an answer is then.
 module _
-    {T S K1 K2 : Type 0} (Changes : State T S → Command T K1 K2 → Type 0) (Holds : State T S → Type 0)
+    {T S K1 K2 : Type 0} (ChangesKey : State T S → Command T K1 K2 → Type 0) (Holds : State T S → Type 0)
     (Exact : Store T → Command T K1 K2 → Reply T → Type 0) where
   -- a later moment is quiet where nothing is live, or where the one before is and no change stands between
   abbrev pub IsQuietAfter : Type 0 → State T S → Command T K1 K2 → State T S → Type 0
-  IsQuietAfter was_quiet old command new = IsEmpty new ⊎ (was_quiet × (Changes old command → ⊥))
+  IsQuietAfter was_quiet old command new = IsEmpty new ⊎ (was_quiet × (ChangesKey old command → ⊥))
 
-  -- at each quiet moment it holds, and what is answered there is exact; `is_quiet` says whether the first is
+  -- at each quiet moment it holds, and what is answered there is a scan's answer; `is_quiet` says whether the first is
   abbrev pub IsExactFrom :
       Type 0 → State T S → List (Command T K1 K2) → List (Reply T) → List (State T S) → Type 0
   IsExactFrom is_quiet moment (command ∷ commands) (reply ∷ replies) (next ∷ moments) =
@@ -25,24 +25,28 @@ module _
   IsExactFrom is_quiet moment commands replies moments = is_quiet → Holds moment
 
   -- the first moment of a run is quiet where nothing is live, or where it holds
-  abbrev pub IsExactWhereQuiet :
+  abbrev pub IsInSyncWhereQuiet :
       State T S → List (Command T K1 K2) → List (Reply T) → List (State T S) → Type 0
-  IsExactWhereQuiet first = IsExactFrom (IsEmpty first ⊎ Holds first) first
+  IsInSyncWhereQuiet first = IsExactFrom (IsEmpty first ⊎ Holds first) first
 
--- each side of the keys is watched by itself
-abbrev pub IsSideExactWhereQuiet :
-    {T S K1 K2 K : Type 0} → Side T S K1 K2 K → State T S → List (Command T K1 K2) → List (Reply T)
+-- the same for one key index alone: only changes of its own key end a quiet time
+abbrev pub IsKeyIndexInSyncWhereQuiet :
+    {T S K1 K2 K : Type 0} → KeyIndex T S K1 K2 K → State T S → List (Command T K1 K2) → List (Reply T)
     → List (State T S) → Type 0
-IsSideExactWhereQuiet side = IsExactWhereQuiet (Changes side) (IsExact side) (AsScan side)
+IsKeyIndexInSyncWhereQuiet key_index = IsInSyncWhereQuiet (ChangesKey key_index) (IsInSync key_index) (AsScan key_index)
 
 module _ {T S K1 K2 : Type 0} (keys : Keys T K1 K2 S) where
   -- the command gives a live index an item with another first or another second key
   abbrev pub IsSilentChange : State T S → Command T K1 K2 → Type 0
-  IsSilentChange old command = Changes (first_side keys) old command ⊎ Changes (second_side keys) old command
+  IsSilentChange old command =
+      ChangesKey (first_key_index keys) old command
+      ⊎ ChangesKey (second_key_index keys) old command
 
-  -- the answer is that of a scan of the live items, of either side
+  -- for either key index the answer is that of a scan of the live items
   abbrev pub AnswersAsScan : Store T → Command T K1 K2 → Reply T → Type 0
-  AnswersAsScan s command reply = AsScan (first_side keys) s command reply × AsScan (second_side keys) s command reply
+  AnswersAsScan s command reply =
+      AsScan (first_key_index keys) s command reply
+      × AsScan (second_key_index keys) s command reply
 
   -- from one state through these later moments to the last: a step to each moment, and a reply to each command
   pub data IsStepChain :
@@ -57,13 +61,13 @@ module _ {T S K1 K2 : Type 0} (keys : Keys T K1 K2 S) where
   -- A run over a list of commands. Its steps say of every moment that hits have the key asked for, that a live index is
   -- removed whatever its keys are now, that compaction renames by rank, and that an overwrite leaves both tables.
   -- Both tables have each live index once and no other at every moment. From a moment without live indexes on (or from
-  -- the first, where all is in order) until a key is changed silently, all is in order and every answer is that of a
-  -- scan; and each side of the keys is so until a key of that side is changed, whatever becomes of the other.
+  -- the first, if all is in order) until a key is changed silently, all is in order and every answer is that of a scan.
+  -- The same holds for each key index alone until a key of that key index is changed, whatever happens to the other.
   pub record Run (old : State T S) (commands : List (Command T K1 K2)) (replies : List (Reply T)) (new : State T S)
       : Type 0 where
     pub moments : List (State T S)
     pub steps : IsStepChain old commands replies moments new
     pub paired : All IsPaired (old ∷ moments)
-    pub quiet : IsExactWhereQuiet IsSilentChange (InOrder keys) AnswersAsScan old commands replies moments
-    pub quiet_first_keys : IsSideExactWhereQuiet (first_side keys) old commands replies moments
-    pub quiet_second_keys : IsSideExactWhereQuiet (second_side keys) old commands replies moments
+    pub quiet : IsInSyncWhereQuiet IsSilentChange (InOrder keys) AnswersAsScan old commands replies moments
+    pub quiet_first_keys : IsKeyIndexInSyncWhereQuiet (first_key_index keys) old commands replies moments
+    pub quiet_second_keys : IsKeyIndexInSyncWhereQuiet (second_key_index keys) old commands replies moments

@@ -10,7 +10,7 @@ use Rattle.iddqd.specs.Compaction.{compacted, rank}
 use Rattle.iddqd_hash.specs.HashTable.{Table}
 use Rattle.iddqd_hash.specs.MapHashTable.{filed, Renames}
 use Rattle.iddqd_order.specs.MapBTreeTable.{Order, order_of, without}
-use Rattle.iddqd_keys.specs.Side.{HasExactly}
+use Rattle.iddqd_keys.specs.KeyIndex.{HasExactly}
 use Rattle.iddqd_by_hash.specs.Hashed.{Holds}
 
 -- The hash under which each index is filed, and the indexes in the ordered table's order, beside the store. No step

@@ -12,14 +12,14 @@ use Rattle.iddqd.specs.declared.internal.ValidationError.TheVariants.{Table}
 use Rattle.iddqd.specs.Store.{Store}
 use Rattle.iddqd_keys.specs.Scan.{IsLive}
 
--- what a table was answered, told with its name
-abbrev pub named :
+-- what a table was answered, reported with its name
+abbrev pub with_table_name :
     Bor (List ℕ)
     → Result (Unit {0}) (ValidateRefusal (List ℕ))
     → Result (Unit {0}) (ValidateRefusal ValidationError)
-named name (Ok passed) = Ok passed
-named name (Err (Invalid error)) = Err (Invalid (Table name error))
-named name (Err (Memory error)) = Err (Memory error)
+with_table_name name (Ok passed) = Ok passed
+with_table_name name (Err (Invalid error)) = Err (Invalid (Table name error))
+with_table_name name (Err (Memory error)) = Err (Memory error)
 
 -- both tables have each live index
 abbrev pub AreStored : {T : Type 0} → Store T → FinMap nat_cmp ℕ → List ℕ → Type 0

@@ -9,7 +9,7 @@ use iddqd::item_index::ItemIndex;
 /// A command to keyed items.
 #[derive(Drop)]
 pub enum Command<T: KeyedItem> {
-    /// Take an item, where neither of its keys is found.
+    /// Insert an item, if neither of its keys is found.
     Insert(T),
     /// Find the item with this first key.
     Find1(T::Key1),
@@ -21,13 +21,13 @@ pub enum Command<T: KeyedItem> {
     Remove1(T::Key1),
     /// Remove the item with this second key.
     Remove2(T::Key2),
-    /// Give a live index another item, whatever the keys of both. Neither table is told.
+    /// Give a live index another item, whatever the keys of both. Neither table is updated.
     Overwrite(ItemIndex, T),
     /// Move every item down to its rank, so that no slot is vacant.
     Compact,
     /// Forget all items and all slots.
     Clear,
-    /// Tell all indexes, in the order of the ordered table.
+    /// List all indexes, in the order of the ordered table.
     Walk,
 }
 
@@ -36,7 +36,7 @@ pub enum Command<T: KeyedItem> {
 pub enum Reply<T> {
     /// To `Insert`: the index of the item.
     Inserted(ItemIndex),
-    /// To `Insert`: the item was not taken.
+    /// To `Insert`: the item was refused.
     Refused(InsertRefusal<T>),
     /// To a find.
     Found(Option<ItemIndex>),
@@ -50,6 +50,6 @@ pub enum Reply<T> {
     Cleared,
     /// To `Walk`: all indexes.
     Walked(Vec<ItemIndex>),
-    /// To `Compact` or `Walk`, where memory for the answer was refused.
+    /// To `Compact` or `Walk`: memory for the answer ran out.
     NoMemory,
 }

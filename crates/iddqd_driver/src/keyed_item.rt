@@ -1,6 +1,6 @@
-//! What an item lends as its two keys.
+//! The two keys that an item contains.
 //!
-//! Each key is named by a type without values, by which a table goes by it. Users implement
+//! A type without values names each key, so that a table can say which key it goes by. Users implement
 //! [`KeyedItem`] alone.
 ghost use Rattle.std.specs.Prelude.{◌≡◌};
 

@@ -8,8 +8,8 @@
 //! its index out of both tables.
 //!
 //! A removal searches both tables, by the keys that the item has now, and walks only where that misses.
-//! An insert is one search of the ordered table, which tells a duplicate, or else the place. Each call
-//! that obeys a command says that its states are paired, though the type does, so that `step` and `run`
+//! An insert searches the ordered table once, which finds a duplicate, or else the place. Each call that
+//! obeys a command has a clause that both states are paired, though the type says so too: `step` and `run`
 //! are proved from the calls' clauses alone.
 ghost use Rattle.std.specs.Prelude.{◌≡◌, ◌↔◌, ◌≤◌, ◌+◌, ◌*◌, min, max, [], None, IsTrue, IsSome, OnSome, IsOk, IfOk, OnOk, IfErr, OnErr, option_copied};
 ghost use Rattle.std.specs.FinMap as finite;
@@ -20,11 +20,11 @@ ghost use Rattle.iddqd_hash.specs.Sizes.{most_cells};
 ghost use Rattle.iddqd_order.specs.{indexes_left, order_of, without};
 ghost use Rattle.iddqd_order.specs.MapBTreeTable.{capacity as ordered_capacity};
 ghost use Rattle.iddqd_keys.specs.Scan.{IsLive};
-ghost use Rattle.iddqd_by_order.specs.Ordered as ordered_side;
+ghost use Rattle.iddqd_by_order.specs.Ordered as by_order;
 ghost use Rattle.iddqd_driver.specs.Keys.{keys_of};
 ghost use Rattle.iddqd_driver.specs.State.{empty_state, empty_state_within, cleared_state, Compacts, IsPaired};
-ghost use Rattle.iddqd_driver.specs.Sides.{first_side, second_side, finds_told, hash_in, LooksUp, IsExact, Keeps, KeepsUnlessChanged};
-ghost use Rattle.iddqd_driver.specs.Machine.{Refuses, Inserts, TellsAsScan, Removes, RemovesBy, Overwrites, Step};
+ghost use Rattle.iddqd_driver.specs.KeyIndexes.{first_key_index, second_key_index, finds_reported, hash_in, LooksUp, IsInSync, Keeps, KeepsUnlessChanged};
+ghost use Rattle.iddqd_driver.specs.Machine.{Refuses, Inserts, ReportsAsScan, Removes, RemovesBy, Overwrites, Step};
 ghost use Rattle.iddqd_driver.specs.Run.{Run};
 ghost use Rattle.iddqd_driver.specs.Memory.{no_memory, capacity, room, memory_of, HasRoomInParts, InsertsInMemory, TakesForOne, StepsInMemory, RunsInMemory};
 
@@ -58,7 +58,7 @@ use std::hash::BuildHasher;
 use std::marker::Model;
 pub use walks::ValuesByKey2;
 
-/// Items that lend two keys each.
+/// Items that contain two keys each.
 ///
 /// An insert refuses an item one of whose keys a look-up finds. While no key is changed silently, by
 /// `overwrite`, that is each item one of whose keys is there.
@@ -97,7 +97,7 @@ pub enum InsertRefusal<T> {
     },
     /// Neither of its keys was found, and there are as many items as the limit allows.
     Full(T),
-    /// Neither of its keys was found, there is place for it, and memory was refused.
+    /// Neither of its keys was found, it is not full, and memory ran out.
     Memory(T),
 }
 
@@ -124,7 +124,7 @@ impl<T: fmt::Debug + Drop> Error for InsertRefusal<T> {}
 pub trait Keyed {
     ghost use Rattle.iddqd_driver.specs.Keys.{Keys};
 
-    /// An item, which lends its keys.
+    /// An item, which contains its keys.
     type Item: KeyedItem;
 
     /// What hashes first keys.
@@ -194,7 +194,7 @@ impl<T: KeyedItem, S: BuildHasher> KeyedItems<T, S> {
     /// alone.
     pub fn find1(&self, key: &T::Key1) -> Option<ItemIndex>
         ensures paired { IsPaired self.now.state }
-        ensures found { LooksUp (first_side ⟦<Self as Keyed>⟧.keys) self.now.state key.now result }
+        ensures found { LooksUp (first_key_index ⟦<Self as Keyed>⟧.keys) self.now.state key.now result }
     {
         self.hash_and_find(key).1
     }
@@ -204,18 +204,18 @@ impl<T: KeyedItem, S: BuildHasher> KeyedItems<T, S> {
     #[tactic(auto, using(crate::proofs::KeepsLemmas::order_held))]
     pub fn find2(&self, key: &T::Key2) -> Option<ItemIndex>
         ensures paired { IsPaired self.now.state }
-        ensures found { LooksUp (second_side ⟦<Self as Keyed>⟧.keys) self.now.state key.now result }
+        ensures found { LooksUp (second_key_index ⟦<Self as Keyed>⟧.keys) self.now.state key.now result }
     {
         ordered::find::<T, Second, ByKey<T::Key2>>(&self.order, &self.items, &ByKey(key))
     }
 
-    /// Takes an item, where neither of its keys is found.
+    /// Inserts an item, if neither of its keys is found.
     ///
-    /// A duplicate is told even where the store is full or no memory is left, and a full store even
-    /// where no memory is left. A refusal hands the item back and changes nothing.
+    /// A duplicate is reported even if the store is full or no memory is left, and a full store even if
+    /// no memory is left. A refusal returns the item and changes nothing.
     pub fn insert(&mut self, item: T) -> Result<ItemIndex, InsertRefusal<T>>
         ensures inserts { Inserts ⟦<Self as Keyed>⟧.keys self.old.state item result self.new.state }
-        ensures tells { TellsAsScan ⟦<Self as Keyed>⟧.keys self.old.state item result }
+        ensures tells { ReportsAsScan ⟦<Self as Keyed>⟧.keys self.old.state item result }
         ensures keeps { Keeps ⟦<Self as Keyed>⟧.keys self.old.state self.new.state }
         ensures memory { InsertsInMemory (1 ≤ room self.old) self.old.memory result self.new.memory }
         ensures few { let store = self.old.state.store in
@@ -224,7 +224,7 @@ impl<T: KeyedItem, S: BuildHasher> KeyedItems<T, S> {
     {
         let (hash, first) = self.hash_and_find(item.key1());
         let (items, filed, order) = (&mut self.items, &mut self.filed, &mut self.order);
-        enter(items, filed, order, item, hash, first)
+        insert_item(items, filed, order, item, hash, first)
     }
 
     /// Removes the item at an index, if it is live, whatever its keys are now. It takes no memory.
@@ -244,7 +244,8 @@ impl<T: KeyedItem, S: BuildHasher> KeyedItems<T, S> {
 
     /// Removes the item with this first key. It takes no memory.
     pub fn remove1(&mut self, key: &T::Key1) -> Option<(ItemIndex, T)>
-        ensures removes { RemovesBy (first_side ⟦<Self as Keyed>⟧.keys) self.old.state key.now result self.new.state }
+        ensures removes { RemovesBy (first_key_index ⟦<Self as Keyed>⟧.keys) self.old.state key.now result
+            self.new.state }
         ensures keeps { Keeps ⟦<Self as Keyed>⟧.keys self.old.state self.new.state }
         ensures memory { self.new.memory ≡ self.old.memory }
     {
@@ -253,17 +254,18 @@ impl<T: KeyedItem, S: BuildHasher> KeyedItems<T, S> {
 
     /// Removes the item with this second key. It takes no memory.
     pub fn remove2(&mut self, key: &T::Key2) -> Option<(ItemIndex, T)>
-        ensures removes { RemovesBy (second_side ⟦<Self as Keyed>⟧.keys) self.old.state key.now result self.new.state }
+        ensures removes { RemovesBy (second_key_index ⟦<Self as Keyed>⟧.keys) self.old.state key.now result
+            self.new.state }
         ensures keeps { Keeps ⟦<Self as Keyed>⟧.keys self.old.state self.new.state }
         ensures memory { self.new.memory ≡ self.old.memory }
     {
         self.remove2_by(key)
     }
 
-    /// Gives a live index another item, and hands back the one that it had; of an index that isn't
-    /// live the given item comes back.
+    /// Gives a live index another item, and returns the one that it had. If the index isn't live, it
+    /// returns the given item.
     ///
-    /// Neither table is told, whatever the keys of both items: the index stays filed under the hash
+    /// Neither table is updated, whatever the keys of both items: the index stays filed under the hash
     /// that it has and in its place in the order. Look-ups may then miss the new keys, but never hit a
     /// wrong one, and the index can still be removed. It takes no memory.
     pub fn overwrite(&mut self, ix: ItemIndex, item: T) -> Result<T, T>
@@ -277,11 +279,11 @@ impl<T: KeyedItem, S: BuildHasher> KeyedItems<T, S> {
         Ok(self.items.replace(ix, item))
     }
 
-    /// Moves every item down to its rank, so that no slot is vacant, and tells the new names.
+    /// Moves every item down to its rank, so that no slot is vacant, and returns the new names.
     ///
-    /// Both tables keep their order and hashes, and no key is hashed or compared. Where no slot is
-    /// vacant it is `Identity` and takes no memory. Else it takes the memory of one index a slot,
-    /// before an item moves; where that is refused nothing changes.
+    /// Both tables keep their order and hashes, and no key is hashed or compared. If no slot is vacant,
+    /// it returns `Identity` and takes no memory. Otherwise it takes memory for one index a slot, before
+    /// an item moves; if memory runs out, nothing changes.
     pub fn compact(&mut self) -> Result<IndexRemap, AllocError>
         ensures compacts { IfOk result
             (λ remap. IsRemapOf self.old.state.store remap × Compacts self.old.state self.new.state) }
@@ -343,8 +345,8 @@ impl<T: KeyedItem, S: BuildHasher> KeyedItems<T, S> {
 
     /// Obeys commands in turn, one reply each.
     ///
-    /// The memory of all replies is taken first. Where it is refused, or no vector can hold so many,
-    /// nothing is done and the commands come back; with no command that never happens.
+    /// The memory for all replies is taken first. If it runs out, or no vector can hold so many, nothing
+    /// is done and the commands come back; with no command that never happens.
     pub fn run(&mut self, commands: Vec<Command<T>>) -> Result<Vec<Reply<T>>, Vec<Command<T>>>
         ensures run { let keys = ⟦<Self as Keyed>⟧.keys in
             IfOk result (λ replies. Run keys self.old.state commands.items replies.items self.new.state) }
@@ -369,7 +371,7 @@ impl<T: KeyedItem, S: BuildHasher> KeyedItems<T, S> {
     fn hash_and_find(&self, key: &T::Key1) -> (MapHash, Option<ItemIndex>)
         ensures paired { IsPaired self.now.state }
         ensures hash { result.0 ≡ hash_in ⟦<Self as Keyed>⟧.keys self.now.state key.now }
-        ensures found { LooksUp (first_side ⟦<Self as Keyed>⟧.keys) self.now.state key.now result.1 }
+        ensures found { LooksUp (first_key_index ⟦<Self as Keyed>⟧.keys) self.now.state key.now result.1 }
     {
         let hash = self.filed.compute_hash(&self.state, key);
         let query = ByKey(key);
@@ -380,10 +382,10 @@ impl<T: KeyedItem, S: BuildHasher> KeyedItems<T, S> {
     }
 }
 
-// Takes a live index out of the ordered table, and its item out of the store.
+// Removes a live index from the ordered table, and its item from the store.
 fn remove_item<T: KeyedItem>(order: &mut MapBTreeTable, items: &mut ItemSet<T>, ix: ItemIndex) -> T
     requires live { IsLive items.old.store ix }
-    requires stored { ordered_side.AreLive items.old.store (order_of order.old) }
+    requires stored { by_order.AreLive items.old.store (order_of order.old) }
     ensures item { get items.old.store ix ≡ Some result }
     ensures removed { items.new.store ≡ removed items.old.store ix }
     ensures taken { order_of order.new ≡ without (order_of order.old) ix }
@@ -394,7 +396,7 @@ fn remove_item<T: KeyedItem>(order: &mut MapBTreeTable, items: &mut ItemSet<T>, 
     take_item(items, ix)
 }
 
-// Takes the item at a live index out of the store.
+// Removes the item at a live index from the store.
 fn take_item<T>(items: &mut ItemSet<T>, ix: ItemIndex) -> T
     requires { IsLive items.old.store ix }
     ensures item { get items.old.store ix ≡ Some result }
@@ -407,10 +409,10 @@ fn take_item<T>(items: &mut ItemSet<T>, ix: ItemIndex) -> T
     }
 }
 
-// Stores an item, whose first key's look-up is done, where neither of its keys is found, and enters
-// its index in both tables; or hands it back. One search of the ordered table tells a duplicate, or
-// else the place. All memory is taken before anything is written.
-fn enter<T: KeyedItem>(
+// Stores an item, whose first key's look-up is done, if neither of its keys is found, and inserts its
+// index into both tables; or returns it. One search of the ordered table finds a duplicate, or else the
+// place. All memory is taken before anything is written.
+fn insert_item<T: KeyedItem>(
     items: &mut ItemSet<T>,
     table: &mut MapHashTable,
     order: &mut MapBTreeTable,
@@ -420,16 +422,16 @@ fn enter<T: KeyedItem>(
 ) -> Result<ItemIndex, InsertRefusal<T>>
     requires valid { IsValid items.old.store }
     requires unfiled { finite.get (filed table.old) (next_index items.old.store) ≡ None }
-    requires ordered { ordered_side.Holds items.old.store (order_of order.old) }
-    ensures first { (finds_told result).0 ≡ first }
-    ensures second { let looks_up = ordered_side.LooksUp T.KeyedItem.second_key T.Key2.cmp items.old.store in
-        looks_up (order_of order.old) (T.Key2.cmp (T.KeyedItem.second_key item)) (finds_told result).1 }
+    requires ordered { by_order.Holds items.old.store (order_of order.old) }
+    ensures first { (finds_reported result).0 ≡ first }
+    ensures second { let looks_up = by_order.LooksUp T.KeyedItem.second_key T.Key2.cmp items.old.store in
+        looks_up (order_of order.old) (T.Key2.cmp (T.KeyedItem.second_key item)) (finds_reported result).1 }
     ensures not_full { IsOk result → IsFull items.old.store → ⊥ }
     ensures index { IfOk result (λ ix. ix ≡ next_index items.old.store) }
     ensures stored { OnOk result (items.new.store ≡ inserted items.old.store item) }
     ensures filed { OnOk result (filed table.new
         ≡ finite.insert (filed table.old) (next_index items.old.store) hash) }
-    ensures placed { let adds = ordered_side.AddsInPlace T.KeyedItem.second_key T.Key2.cmp items.old.store item in
+    ensures placed { let adds = by_order.AddsInPlace T.KeyedItem.second_key T.Key2.cmp items.old.store item in
         OnOk result (adds (order_of order.old) (order_of order.new)) }
     ensures refused { IfErr result (Refuses items.old.store item) }
     ensures items_stay { OnErr result (items.new.store ≡ items.old.store) }

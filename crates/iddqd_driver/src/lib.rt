@@ -1,6 +1,6 @@
 //! Items with two unique keys each, and commands over them.
 //!
-//! [`keyed_items::KeyedItems`] keeps items that lend their two keys, and obeys one command at a time
+//! [`keyed_items::KeyedItems`] keeps items that contain their two keys, and obeys one command at a time
 //! or a list of them.
 #![tactic(auto)]
 

@@ -29,15 +29,15 @@ by_keys Less s is = inl refl
 by_keys Equal s is = inr refl
 by_keys Greater s is = cc
 
-not_greater : (r : Ordering) → (r ≡ Greater → ⊥) → not (is_gt r) ≡ true
-not_greater Less other = refl
-not_greater Equal other = refl
-not_greater Greater other = absurd (other refl)
+not_greater : (r s : Ordering) → (s ≡ Greater → r ≡ Greater) → not (is_gt r) ≡ true → not (is_gt s) ≡ true
+not_greater r Less up is = refl
+not_greater r Equal up is = refl
+not_greater r Greater up is = let never = rw (up refl) at is in cc
 
-not_less : (r : Ordering) → (r ≡ Less → ⊥) → not (is_lt r) ≡ true
-not_less Less other = absurd (other refl)
-not_less Equal other = refl
-not_less Greater other = refl
+not_less : (r s : Ordering) → (s ≡ Less → r ≡ Less) → not (is_lt r) ≡ true → not (is_lt s) ≡ true
+not_less r Less down is = let never = rw (down refl) at is in cc
+not_less r Equal down is = refl
+not_less r Greater down is = refl
 
 less_is : (r : Ordering) → is_lt r ≡ true → r ≡ Less
 less_is Less is = refl
@@ -65,15 +65,15 @@ module _ {Q K : Type 0} (compare : K → K → Ordering) (cmp : Q → K → Orde
       | inr same ↦ (lawful q).equal_keys a b same ∙ greater
     ]
 
-    pub is_from-behind : (lower : Bound Q) → is_from (bound_map cmp lower) a ≡ true → is_from (bound_map cmp lower) b ≡ true
-    is_from-behind (Included q) is =
-        not_greater (cmp q b) (λ greater. (let same : not (is_gt (cmp q a)) ≡ false = ap (λ r. not (is_gt r)) (greater_at q greater) in cc))
+    pub is_from-behind :
+        (lower : Bound Q) → is_from (bound_map cmp lower) a ≡ true → is_from (bound_map cmp lower) b ≡ true
+    is_from-behind (Included q) is = not_greater (cmp q a) (cmp q b) (greater_at q) is
     is_from-behind (Excluded q) is = ap is_lt (less_at q (less_is (cmp q a) is))
     is_from-behind Unbounded is = refl
 
-    pub is_up_to-before : (upper : Bound Q) → is_up_to (bound_map cmp upper) b ≡ true → is_up_to (bound_map cmp upper) a ≡ true
-    is_up_to-before (Included q) is =
-        not_less (cmp q a) (λ less. (let same : not (is_lt (cmp q b)) ≡ false = ap (λ r. not (is_lt r)) (less_at q less) in cc))
+    pub is_up_to-before :
+        (upper : Bound Q) → is_up_to (bound_map cmp upper) b ≡ true → is_up_to (bound_map cmp upper) a ≡ true
+    is_up_to-before (Included q) is = not_less (cmp q b) (cmp q a) (less_at q) is
     is_up_to-before (Excluded q) is = ap is_gt (greater_at q (greater_is (cmp q b) is))
     is_up_to-before Unbounded is = refl
 

@@ -4,7 +4,7 @@ use Rattle.std.specs.List.{Contains}
 use Rattle.iddqd.specs.Store.{Store, IsValid, get, removed}
 use Rattle.iddqd.proofs.LiveLemmas.{item_at, get-removed_other}
 use Rattle.iddqd.proofs.StoreLemmas.{contains_head, contains_tail, IsValid-removed}
-use Rattle.iddqd_keys.specs.Removals.{IsRising, removed_all}
+use Rattle.iddqd_keys.specs.Removals.{IsIncreasing, removed_all}
 use Rattle.iddqd_keys.specs.Scan.{IsLive}
 
 module _ {T : Type 0} where
@@ -15,7 +15,7 @@ module _ {T : Type 0} where
 
   pub AreLiveInTurn-rising :
       (s : Store T) (indexes : List ℕ)
-      → IsRising indexes
+      → IsIncreasing indexes
       → ((ix : ℕ) → Contains indexes ix → IsLive s ix)
       → AreLiveInTurn s indexes
   AreLiveInTurn-rising s [] rising live = tt

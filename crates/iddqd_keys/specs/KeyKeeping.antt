@@ -9,8 +9,8 @@ abbrev pub pair_keys : {T K1 K2 : Type 0} → (T → K1) → (T → K2) → T �
 pair_keys first second item = (first item, second item)
 
 module _ {F T R : Type 0} (g : Once F (MutBor T × Unit {0}) (R × (MutBor T × Unit {0}))) (f : F) where
-  -- f may be called at a `&mut` to an item of which `IsThere` holds, and leaves an item with the same key; or keys, where
-  -- `key` gives a tuple of several
+  -- f may be called at a `&mut` to an item of which `IsThere` holds, and leaves an item with the same key; or keys,
+  -- where `key` gives a tuple of several
   abbrev pub KeepsKey : {K : Type 0} → (T → K) → (T → Type 0) → Type 0
   KeepsKey key IsThere =
       (item : MutBor T)

@@ -10,13 +10,17 @@ use Rattle.iddqd.specs.Store.{Store, get}
 use Rattle.iddqd_keys.specs.Scan.{IsHit, HasNoHit, passes_by}
 
 module _ {T : Type 0} where
-  -- an index that has an item, with it
+  -- an index with its item, if it has one
   abbrev pub pair_at : Store T → ℕ → Option (ℕ × T)
   pair_at s ix = option_map (λ item. (ix, item)) (get s ix)
 
-  -- those of these indexes that have an item, each with it, in their order
+  -- those of these indexes that have an item, each with its item, in their order
   abbrev pub pairs_at : Store T → List ℕ → List (ℕ × T)
   pairs_at s indexes = filter_map (pair_at s) indexes
+
+  -- the items at these indexes, in their order
+  abbrev pub items_at : Store T → List ℕ → List T
+  items_at s indexes = filter_map (get s) indexes
 
 module _ {T K : Type 0} (key_of : T → K) where
   -- the key of the item at an index, if it is live
@@ -36,12 +40,12 @@ module _ {T K : Type 0} (key_of : T → K) where
     abbrev pub ComesBefore : Store T → ℕ → ℕ → Type 0
     ComesBefore s i j = by_key_then_index s i j ≡ Less
 
-    -- its item passes, and it comes before all others whose items do: none where none passes
+    -- The index whose item passes that comes before all others whose items do, or none where none passes.
     abbrev pub IsFirstHit : Store T → (T → Bool) → Option ℕ → Type 0
     IsFirstHit s test None = HasNoHit s test
     IsFirstHit s test (Some ix) = IsHit s test ix × ((j : ℕ) → IsHit s test j → j ≢ ix → ComesBefore s ix j)
 
-    -- its item passes, and it is the first of those behind an index whose items do: none where none is behind it
+    -- The first index behind this one whose item passes, or none where none is behind it.
     abbrev pub IsNextHit : Store T → (T → Bool) → ℕ → Option ℕ → Type 0
     IsNextHit s test after None = (j : ℕ) → IsHit s test j → ComesBefore s after j → ⊥
     IsNextHit s test after (Some ix) =

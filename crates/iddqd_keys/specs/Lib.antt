@@ -1,5 +1,5 @@
 pub mod Scan
-pub mod Side
+pub mod KeyIndex
 pub mod KeyKeeping
 pub mod OrderedQuery
 pub mod KeyWalk

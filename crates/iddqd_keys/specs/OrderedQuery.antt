@@ -1,4 +1,4 @@
--- What a query keeps that has a place in the order of the keys.
+-- The law of a query that has a place in the order of the keys.
 use Rattle.std.specs.Prelude.{◌≡◌, ◌&&◌, Bool, true, not}
 use Rattle.std.proofs.Common.{◌∙◌, ap, refl, sym}
 use Rattle.std.specs.Cmp.{IsTotalOrder}
@@ -10,20 +10,20 @@ use Rattle.std.specs.declared.ops.Bound.TheVariants.{Included, Excluded, Unbound
 use Rattle.std.proofs.lemmas.Cmp.{alike_right}
 use Rattle.iddqd.specs.MapHashLaws.{greater_before_in}
 
--- a query that compares so with keys compares Equal with this one
+-- whether a query that compares so with keys is Equal at this one
 abbrev pub is_equal : {K : Type 0} → (K → Ordering) → K → Bool
 is_equal comparing key = is_eq (comparing key)
 
 module _ {K : Type 0} (compare : K → K → Ordering) where
-  -- A query that compares so with keys goes along their order, and stands for one key: along keys in order its answers
-  -- are first Greater, then Equal, then Less, and keys at which it is Equal are equal.
+  -- A query that compares so with keys fits their order, and stands for one key: along keys in order its answers are
+  -- first Greater, then Equal, then Less, and keys at which it is Equal are equal.
   pub record IsQuery (comparing : K → Ordering) : Type 0 where
     pub less_after : (a b : K) → compare a b ≡ Less → comparing a ≡ Less → comparing b ≡ Less
     pub greater_before : (a b : K) → compare a b ≡ Less → comparing b ≡ Greater → comparing a ≡ Greater
     pub equal_keys : (a b : K) → compare a b ≡ Equal → comparing a ≡ comparing b
     pub one_key : (a b : K) → comparing a ≡ Equal → comparing b ≡ Equal → compare a b ≡ Equal
 
-  -- a key does
+  -- a key is a lawful query
   pub IsQuery-key : IsTotalOrder compare → (key : K) → IsQuery (compare key)
   IsQuery-key o key = record {
     less_after = λ a b before less. o.trans key a b less before;
@@ -53,7 +53,7 @@ module _ {K : Type 0} (compare : K → K → Ordering) where
     pub compares_as_key : comparing a ≡ compare k a
     compares_as_key = by_order (compare k a) refl
 
--- what keeps this of parts by which keys go keeps it of the keys
+-- a lawful query for parts that decide the order of the keys is one for the keys
 pub IsQuery-on :
     {A K : Type 0} (part : A → K) (compare : K → K → Ordering) (comparing : K → Ordering) → IsQuery compare comparing
     → IsQuery (λ a b. compare (part a) (part b)) (λ a. comparing (part a))

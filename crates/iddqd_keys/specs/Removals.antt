@@ -1,14 +1,14 @@
--- Several items that are removed from a store one after the other, and the places that they are handed back in.
+-- Several items that are removed from a store one after the other, and the list in which they are returned.
 use Rattle.std.specs.Prelude.{◌<◌, ℕ, zero, suc, List, [], ◌∷◌, Option, None}
 use Rattle.std.specs.List.{Contains}
 use Rattle.iddqd.specs.Store.{Store, removed}
 
 -- each member is less than all behind it
-abbrev pub IsRising : List ℕ → Type 0
-IsRising [] = Unit {0}
-IsRising (x ∷ rest) = ((y : ℕ) → Contains rest y → x < y) × IsRising rest
+abbrev pub IsIncreasing : List ℕ → Type 0
+IsIncreasing [] = Unit {0}
+IsIncreasing (x ∷ rest) = ((y : ℕ) → Contains rest y → x < y) × IsIncreasing rest
 
--- so many: what the list has, and then none
+-- a list of this length: what the given list has, and then none
 abbrev pub padded : {T : Type 0} → ℕ → List (Option T) → List (Option T)
 padded zero items = []
 padded (suc n) [] = None ∷ padded n []

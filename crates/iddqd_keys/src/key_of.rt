@@ -22,8 +22,7 @@ pub trait KeyOf<T> {
 
 /// The query that is a key itself.
 ///
-/// Queries of sides are [`Equivalent`] to keys, not to references to keys, so that no lifetime stands
-/// in a bound on them.
+/// It is [`Equivalent`] to keys, not to references to keys, so that no lifetime stands in a bound on it.
 #[derive(Clone, Copy, Debug, PartialEq, Eq)]
 pub struct ByKey<'a, K>(pub &'a K);
 

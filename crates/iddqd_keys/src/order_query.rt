@@ -1,8 +1,8 @@
 //! Queries by which a key is looked up in the order of the keys.
 //!
-//! A table in order finds a query only where its answers go along the order, and a query
-//! may be Equal only at keys that are equal to each other. Both are laws of the trait, and so a look-up by
-//! any query answers as a scan would.
+//! An ordered table finds what a query stands for only if its answers fit the order: along the keys they are
+//! first Greater, then Equal, then Less. And a query may be Equal only at keys that are equal to each other.
+//! Both are laws of the trait, and so a look-up by any query answers as a scan would.
 ghost use Rattle.std.specs.Prelude.{◌≡◌};
 ghost use Rattle.std.specs.Cmp.{Equal-is};
 ghost use Rattle.std.specs.Cmp.Lexicographic.{slice_cmp, lists_total, nat_list_cmp_total};
@@ -27,7 +27,7 @@ pub trait OrdQuery<K: Ord>: Copy {
     fn compare(&self, key: &K) -> Ordering
         ensures { result ≡ compare self.now key.now };
 
-    // It goes along the order of the keys, and is Equal at equal keys alone.
+    // Its answers fit the order of the keys, and it is Equal at equal keys alone.
     ghost lawful: { (q : Self) → IsQuery K.cmp (compare q) };
 }
 
@@ -63,7 +63,7 @@ impl<T: Ord, A: Allocator> OrdQuery<Vec<T, A>> for &[T] {
     }
 }
 
-/// A query as what tables in order are asked by.
+/// A query in the form in which an ordered table is searched.
 #[derive(Clone, Copy)]
 pub struct Ranked<Q>(pub Q);
 

@@ -1,8 +1,7 @@
 //! Queries by which a key is looked up under its hash.
 //!
-//! A table finds a query only under the hash that the key was filed under, so a query has to hash as
-//! the keys do that it stands for. That is a law of the trait, and so a look-up by any query answers
-//! as a scan would.
+//! A table files each key under its hash, so a query must hash like every key that it stands for. That is
+//! a law of the trait, and so a look-up by any query answers as a scan would.
 ghost use Rattle.std.specs.Prelude.{◌≡◌, Bool, IsTrue};
 ghost use Rattle.std.proofs.Common.{ap};
 ghost use Rattle.std.specs.Cmp.Lexicographic.{bytes_decides, lists_equiv, nat_list_eq_equiv, pointwise};
@@ -27,10 +26,10 @@ pub trait HashQuery<K: Eq + Hash>: Copy + Hash {
     fn stands_for(&self, key: &K) -> bool
         ensures { result ≡ stands_for self.now key.now };
 
-    // It is hashed as a key that it stands for.
+    // It hashes like each key that it stands for.
     ghost same_hash: { (q : Self) (key : K) → IsTrue (stands_for q key) → Self.hash_input q ≡ K.hash_input key };
 
-    // Beside a key that it stands for it stands for those that are equal to it, and for no other.
+    // All keys that it stands for are equal to each other, and it stands for each key that is equal to one of them.
     ghost same_key: { (q : Self) (x y : K) → IsTrue (stands_for q x) → stands_for q y ≡ K.eq x y };
 }
 
@@ -71,7 +70,7 @@ impl<T: Eq + Hash, A: Allocator> HashQuery<Vec<T, A>> for &[T] {
     }
 }
 
-/// A query as what tables are asked by.
+/// A query in the form in which a hash table is searched.
 #[derive(Clone, Copy)]
 pub struct Asked<Q>(pub Q);
 

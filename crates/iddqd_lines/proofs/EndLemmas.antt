@@ -11,7 +11,7 @@ use Rattle.iddqd_lines.specs.Line.{line_feed, is_line_feed, lines_of, whole_line
 use Rattle.iddqd_lines.specs.Split.{HasNo}
 use Rattle.iddqd_lines.specs.Replies.{Sends}
 use Rattle.iddqd_driver.specs.Keys.{IsDefaultHasher}
-use Rattle.iddqd_lines.specs.Program.{Line, Serves, Begins, default_hash, ServesUntil, ServesAll, most_reads, FailsAt}
+use Rattle.iddqd_lines.specs.Program.{Line, Serves, AnswersInPart, default_hash_u32, ServesUntil, ServesAll, most_reads, FailsAt}
 use Rattle.iddqd_lines.specs.Serve.{Moment, moment, ended, IsKept, Obeys, Feeds}
 use Rattle.iddqd_lines.specs.declared.record.Record.{Record}
 use Rattle.iddqd_lines.specs.declared.serve.ServeFault.{ServeFault}
@@ -98,7 +98,7 @@ module _ {S : Type 0} (hash : S → ℕ → ℕ) where
     pub mid : State Record S
     pub serves : Serves hash old done whole mid
     pub part : List ℕ
-    pub begins : Begins hash mid next part
+    pub begins : AnswersInPart hash mid next part
     pub bytes_are : bytes ≡ whole ++ part
 
   -- a line before
@@ -165,7 +165,7 @@ module _
     -- all lines are answered, and nothing waits
     end_of_input :
         (input : List ℕ) (left : Option (List ℕ)) (new : Moment (BuildHasherDefault FoldHasher) O)
-        → Obeys default_hash g start (lines_of input) (Ok tt) new
+        → Obeys default_hash_u32 g start (lines_of input) (Ok tt) new
         → new.waits ≡ []
         → ServesUntil (Ok tt) input left (g.written output) (g.written new.output)
     end_of_input input left new o none =
@@ -186,7 +186,7 @@ module _
         (input : List ℕ) (left : Option (List ℕ)) (seen : List ℕ) (new : Moment (BuildHasherDefault FoldHasher) O)
         (kept : Option (List ℕ))
         → Consumes (Some input) left seen
-        → Feeds default_hash g start [] seen (Ok tt) new kept
+        → Feeds default_hash_u32 g start [] seen (Ok tt) new kept
         → new.waits ≡ []
         → ServesUntil (Err Read) input left (g.written output) (g.written new.output)
     failed_read input left seen new kept taken f none =
@@ -209,12 +209,12 @@ module _
     failed_write :
         (e : Unit {0}) (input : List ℕ) (left : Option (List ℕ)) (lines more : List (List ℕ))
         (new : Moment (BuildHasherDefault FoldHasher) O)
-        → Obeys default_hash g start lines (Err e) new
+        → Obeys default_hash_u32 g start lines (Err e) new
         → lines_of input ≡ lines ++ more
         → ServesUntil (Err Write) input left (g.written output) (g.written new.output)
     failed_write e input left lines more new o are =
         let s = o.sends in
-        let b = Serves-begins default_hash (empty_state hasher) new.items lines s.out s.others (subst (λ l. Serves default_hash (empty_state hasher) lines l new.items) s.parts o.serves) s.lost in
+        let b = Serves-begins default_hash_u32 (empty_state hasher) new.items lines s.out s.others (subst (λ l. Serves default_hash_u32 (empty_state hasher) lines l new.items) s.parts o.serves) s.lost in
         record {
           hasher = hasher;
           is_default = is_default;
@@ -232,7 +232,7 @@ module _
         (e : Unit {0}) (input : List ℕ) (left : Option (List ℕ)) (seen : List ℕ)
         (new : Moment (BuildHasherDefault FoldHasher) O) (kept : Option (List ℕ))
         → Consumes (Some input) left seen
-        → Feeds default_hash g start [] seen (Err e) new kept
+        → Feeds default_hash_u32 g start [] seen (Err e) new kept
         → ServesUntil (Err Write) input left (g.written output) (g.written new.output)
     failed_feed e input left seen new kept taken f =
         let r = Consumes-rest input left seen taken in
@@ -243,24 +243,24 @@ module _
     all_lines :
         (input : List ℕ) (left after : Option (List ℕ)) (count : ℕ) (now new : Moment (BuildHasherDefault FoldHasher) O)
         (kept : Option (List ℕ)) (r : Result (Unit {0}) (Unit {0}))
-        → Reads default_hash g start input left count now kept
+        → Reads default_hash_u32 g start input left count now kept
         → Consumes left after []
         → IsAtEnd after
-        → ((line : List ℕ) → IsKept kept line → Obeys default_hash g now (lines_of line) r new)
-        → Obeys default_hash g start (lines_of input) r new
+        → ((line : List ℕ) → IsKept kept line → Obeys default_hash_u32 g now (lines_of line) r new)
+        → Obeys default_hash_u32 g start (lines_of input) r new
     all_lines input left after count now new kept r reads taken at_end finishes =
         let f = reads.feeds in
         let all : input ≡ ended f.done ++ f.left = Consumes-all input after (reads.seen ++ []) (Consumes-trans (Some input) left after reads.seen [] reads.taken taken) at_end ∙ append-nil reads.seen ∙ f.bytes_are in
         let lines : lines_of input ≡ f.done ++ lines_of f.left = ap lines_of all ∙ lines_of-ended f.done f.left f.each_one_line in
-        subst (λ ls. Obeys default_hash g start ls r new) (sym lines) (Obeys-append default_hash g start now new f.done (lines_of f.left) r f.obeys (finishes f.left f.keeps))
+        subst (λ ls. Obeys default_hash_u32 g start ls r new) (sym lines) (Obeys-append default_hash_u32 g start now new f.done (lines_of f.left) r f.obeys (finishes f.left f.keeps))
 
     pub ends :
         (told left after : Option (List ℕ)) (count : ℕ) (now new : Moment (BuildHasherDefault FoldHasher) O)
         (kept : Option (List ℕ))
-        → IfSome told (λ bytes. Reads default_hash g start bytes left count now kept)
+        → IfSome told (λ bytes. Reads default_hash_u32 g start bytes left count now kept)
         → Consumes left after []
         → IsAtEnd after
-        → ((line : List ℕ) → IsKept kept line → Obeys default_hash g now (lines_of line) (Ok tt) new)
+        → ((line : List ℕ) → IsKept kept line → Obeys default_hash_u32 g now (lines_of line) (Ok tt) new)
         → new.waits ≡ []
         → IfSome told (λ bytes. ServesUntil (Ok tt) bytes after (g.written output) (g.written new.output))
     ends None left after count now new kept reads taken at_end finishes none = tt
@@ -270,10 +270,10 @@ module _
     pub ends_at_finish :
         (e : Unit {0}) (told left after : Option (List ℕ)) (count : ℕ)
         (now new : Moment (BuildHasherDefault FoldHasher) O) (kept : Option (List ℕ))
-        → IfSome told (λ bytes. Reads default_hash g start bytes left count now kept)
+        → IfSome told (λ bytes. Reads default_hash_u32 g start bytes left count now kept)
         → Consumes left after []
         → IsAtEnd after
-        → ((line : List ℕ) → IsKept kept line → Obeys default_hash g now (lines_of line) (Err e) new)
+        → ((line : List ℕ) → IsKept kept line → Obeys default_hash_u32 g now (lines_of line) (Err e) new)
         → IfSome told (λ bytes. ServesUntil (Err Write) bytes after (g.written output) (g.written new.output))
     ends_at_finish e None left after count now new kept reads taken at_end finishes = tt
     ends_at_finish e (Some input) left after count now new kept reads taken at_end finishes =
@@ -282,7 +282,7 @@ module _
     pub ends_at_read :
         (told left after : Option (List ℕ)) (count : ℕ) (now : Moment (BuildHasherDefault FoldHasher) O)
         (kept : Option (List ℕ))
-        → IfSome told (λ bytes. Reads default_hash g start bytes left count now kept)
+        → IfSome told (λ bytes. Reads default_hash_u32 g start bytes left count now kept)
         → Keeps left after
         → now.waits ≡ []
         → IfSome told (λ bytes. ServesUntil (Err Read) bytes after (g.written output) (g.written now.output))
@@ -293,25 +293,25 @@ module _
     pub ends_at_flush :
         (e : Unit {0}) (told left : Option (List ℕ)) (count : ℕ) (now : Moment (BuildHasherDefault FoldHasher) O)
         (kept : Option (List ℕ)) (last : O) (waits : List ℕ)
-        → IfSome told (λ bytes. Reads default_hash g start bytes left count now kept)
+        → IfSome told (λ bytes. Reads default_hash_u32 g start bytes left count now kept)
         → Sends {E = Unit {0}} g now.output now.waits [] (Err e) last waits
         → IfSome told (λ bytes. ServesUntil (Err Write) bytes left (g.written output) (g.written last))
     ends_at_flush e None left count now kept last waits reads flushed = tt
     ends_at_flush e (Some input) left count now kept last waits reads flushed =
-        failed_feed e input left reads.seen (moment now.items last waits) kept reads.taken (Feeds-flush default_hash g start now [] reads.seen kept last waits (Err e) reads.feeds flushed)
+        failed_feed e input left reads.seen (moment now.items last waits) kept reads.taken (Feeds-flush default_hash_u32 g start now [] reads.seen kept last waits (Err e) reads.feeds flushed)
 
     pub ends_at_feed :
         (e : Unit {0}) (told left after : Option (List ℕ)) (count : ℕ)
         (now new : Moment (BuildHasherDefault FoldHasher) O) (kept last : Option (List ℕ)) (bytes : List ℕ)
-        → IfSome told (λ all. Reads default_hash g start all left count now kept)
+        → IfSome told (λ all. Reads default_hash_u32 g start all left count now kept)
         → Consumes left after bytes
-        → ((line : List ℕ) → IsKept kept line → Feeds default_hash g now line bytes (Err e) new last)
+        → ((line : List ℕ) → IsKept kept line → Feeds default_hash_u32 g now line bytes (Err e) new last)
         → IfSome told (λ all. ServesUntil (Err Write) all after (g.written output) (g.written new.output))
     ends_at_feed e None left after count now new kept last bytes reads taken fed = tt
     ends_at_feed e (Some input) left after count now new kept last bytes reads taken fed =
         let f = reads.feeds in
         failed_feed e input after (reads.seen ++ bytes) new last (Consumes-trans (Some input) left after reads.seen bytes reads.taken taken)
-        (Feeds-append default_hash g start now new [] reads.seen bytes kept last (Err e) f (fed f.left f.keeps))
+        (Feeds-append default_hash_u32 g start now new [] reads.seen bytes kept last (Err e) f (fed f.left f.keeps))
 
 -- so many reads that the bytes are too many
 pub fails_late :
@@ -338,7 +338,7 @@ ServesAll-from_end input left before after s =
       is_default = s.is_default;
       bytes = s.bytes;
       last = s.last;
-      serves = subst (λ ls. Serves default_hash (empty_state s.hasher) ls s.bytes s.last) s.ends.0 s.serves;
+      serves = subst (λ ls. Serves default_hash_u32 (empty_state s.hasher) ls s.bytes s.last) s.ends.0 s.serves;
       written = subst (Appends before after) (ap (λ p. s.bytes ++ p) s.ends.1 ∙ append-nil s.bytes) s.written;
     }
 

@@ -16,7 +16,7 @@ use Rattle.iddqd.specs.Validation.{not_compact_text}
 use Rattle.iddqd_lines.specs.Line.{max_line, number_of, numbers_of, command_for, request_of}
 use Rattle.iddqd_lines.specs.declared.record.Record.{Record}
 use Rattle.iddqd_driver.specs.declared.command.Command.{Command}
-use Rattle.iddqd_lines.specs.Serve.{kept_of}
+use Rattle.iddqd_lines.specs.Serve.{kept_line}
 
 -- three tests and what they choose
 chosen : (a b c : Bool) (x : Option ℕ) → a ≡ true → b ≡ true → c ≡ true → cond ((a && b) && c) x None ≡ x
@@ -114,14 +114,10 @@ pub other_numbers :
     → None ≡ command_for verb numbers
 other_numbers verb (a ∷ b ∷ []) other = refl
 other_numbers verb (a ∷ b ∷ c ∷ d ∷ e ∷ numbers) other = refl
-other_numbers verb [] (inl two) = absurd (cc)
-other_numbers verb [] (inr more) = absurd (omega arith)
-other_numbers verb (a ∷ []) (inl two) = absurd (omega arith)
-other_numbers verb (a ∷ []) (inr more) = absurd (omega arith)
-other_numbers verb (a ∷ b ∷ c ∷ []) (inl two) = absurd (omega arith)
-other_numbers verb (a ∷ b ∷ c ∷ []) (inr more) = absurd (omega arith)
-other_numbers verb (a ∷ b ∷ c ∷ d ∷ []) (inl two) = absurd (omega arith)
-other_numbers verb (a ∷ b ∷ c ∷ d ∷ []) (inr more) = absurd (omega arith)
+other_numbers verb [] other = absurd (grind (arith, other))
+other_numbers verb (a ∷ []) other = absurd (grind (arith, other))
+other_numbers verb (a ∷ b ∷ c ∷ []) other = absurd (grind (arith, other))
+other_numbers verb (a ∷ b ∷ c ∷ d ∷ []) other = absurd (grind (arith, other))
 
 -- so no command has more words
 pub reads-past_four :
@@ -132,7 +128,8 @@ reads-past_four verb numbers word rest four = by (number_of word) (numbers_of re
   where
     by :
         (n : Option ℕ) (o : Option (List ℕ))
-        → option_and_then (λ ns. command_for verb (numbers ++ ns)) (option_and_then (λ n. option_map (λ ns. n ∷ ns) o) n)
+        → option_and_then (λ ns. command_for verb (numbers ++ ns))
+        (option_and_then (λ n. option_map (λ ns. n ∷ ns) o) n)
         ≡ None
     by None o = refl
     by (Some n) None = refl
@@ -157,7 +154,7 @@ long_line line over =
     rw (other, over) refl
 
 -- a request goes by what is kept of its line
-pub request_of-kept : (line : List ℕ) → option_and_then request_of (kept_of line) ≡ request_of line
+pub request_of-kept : (line : List ℕ) → option_and_then request_of (kept_line line) ≡ request_of line
 request_of-kept line = by_length (nat_le (length line) max_line) refl
   where
     by_length :

@@ -6,29 +6,29 @@ use Rattle.std.proofs.lemmas.List.Elements.{All-append, All-nil, All-cons}
 use Rattle.std.proofs.lemmas.List.Splits.{slice_split_none}
 use Rattle.iddqd_driver.specs.State.{State, empty_state}
 use Rattle.iddqd_lines.specs.Line.{line_feed, is_line_feed, lines_of, without_empty_last, request_of}
-use Rattle.iddqd_lines.specs.Split.{HasNo, IsCut}
+use Rattle.iddqd_lines.specs.Split.{HasNo, IsSplitAt}
 use Rattle.iddqd_lines.specs.Replies.{Sends}
 use Rattle.iddqd_lines.specs.Program.{AnswersRequest, Line, Serves}
-use Rattle.iddqd_lines.specs.Serve.{Moment, moment, ended, kept_of, IsKept, Tells, Obeys, Feeds}
+use Rattle.iddqd_lines.specs.Serve.{Moment, moment, ended, kept_line, IsKept, RepliesTo, Obeys, Feeds}
 use Rattle.iddqd_driver.specs.declared.command.Command.{Command}
 use Rattle.iddqd_lines.specs.declared.line.Request.{Request}
 use Rattle.iddqd_lines.specs.declared.record.Record.{Record}
 use Rattle.iddqd_lines.specs.declared.sink.Sink as sink
 use Rattle.iddqd_lines.proofs.ByteLemmas.{Sends-put, Sends-then, Sends-last, Consumes-trans}
 use Rattle.iddqd_lines.proofs.LineLemmas.{request_of-kept}
-use Rattle.iddqd_lines.proofs.LineBufferLemmas.{kept_of-append, kept_of-some}
+use Rattle.iddqd_lines.proofs.LineBufferLemmas.{kept_line-append, kept_line-some}
 
 -- the request that a line is which had begun and goes on
 pub request_of-more :
     (kept : Option (List ℕ)) (line more : List ℕ)
-    → kept ≡ kept_of line
-    → option_and_then request_of (option_and_then (λ begun. kept_of (begun ++ more)) kept) ≡ request_of (line ++ more)
-request_of-more kept line more is = rw (is, kept_of-append line more) (request_of-kept (line ++ more))
+    → kept ≡ kept_line line
+    → option_and_then request_of (option_and_then (λ begun. kept_line (begun ++ more)) kept) ≡ request_of (line ++ more)
+request_of-more kept line more is = rw (is, kept_line-append line more) (request_of-kept (line ++ more))
 
 -- that of a line which has begun
 pub request_of-begun :
     (kept : Option (List ℕ)) (line : List ℕ)
-    → kept ≡ kept_of line
+    → kept ≡ kept_line line
     → option_and_then request_of kept ≡ request_of line
 request_of-begun kept line is = rw is (request_of-kept line)
 
@@ -90,7 +90,7 @@ module _ {S O : Type 0} (hash : S → ℕ → ℕ) (g : sink.Ghosts O) where
   pub Obeys-request :
       (old new : Moment S O) (line : List ℕ) (request : Request (Command Record ℕ ℕ)) (r : Result (Unit {0}) (Unit {0}))
       → Some request ≡ request_of line
-      → Tells hash g old request r new
+      → RepliesTo hash g old request r new
       → Obeys hash g old (line ∷ []) r new
   Obeys-request old new line request r is tells =
       Obeys-line old new line tells.out r (Line-request hash old.items new.items line tells.out request is tells.answers) tells.sends
@@ -141,7 +141,7 @@ module _ {S O : Type 0} (hash : S → ℕ → ℕ) (g : sink.Ghosts O) where
       → IsKept kept line
       → Obeys hash g old (lines_of line) r (moment old.items output waits)
   Obeys-unbegun old output waits r kept line none flushed keeps =
-      let no_line : line ≡ [] = kept_of-some line [] (sym keeps.bytes ∙ none) in
+      let no_line : line ≡ [] = kept_line-some line [] (sym keeps.bytes ∙ none) in
       subst (λ l. Obeys hash g old (lines_of l) r (moment old.items output waits)) (sym no_line) (Obeys-flush old old [] output waits r (Obeys-none old) flushed)
 
   -- and where one has, it is the line
@@ -227,7 +227,7 @@ module _ {S O : Type 0} (hash : S → ℕ → ℕ) (g : sink.Ghosts O) where
       (old : Moment S O) (partial bytes : List ℕ) (kept : Option (List ℕ))
       → HasNo line_feed partial
       → HasNo line_feed bytes
-      → kept ≡ kept_of (partial ++ bytes)
+      → kept ≡ kept_line (partial ++ bytes)
       → Feeds hash g old partial bytes (Ok tt) old kept
   Feeds-begin old partial bytes kept one_line more is =
       record {
@@ -244,8 +244,8 @@ module _ {S O : Type 0} (hash : S → ℕ → ℕ) (g : sink.Ghosts O) where
       (old next new : Moment S O) (partial seen : List ℕ) (kept last : Option (List ℕ)) (rest end after behind : List ℕ)
       (r : Result (Unit {0}) (Unit {0}))
       → Feeds hash g old partial seen (Ok tt) next kept
-      → IsCut line_feed rest end after
-      → ((line : List ℕ) → kept ≡ kept_of line → Obeys hash g next ((line ++ end) ∷ []) r new)
+      → IsSplitAt line_feed rest end after
+      → ((line : List ℕ) → kept ≡ kept_line line → Obeys hash g next ((line ++ end) ∷ []) r new)
       → OnOk r (IsKept last behind)
       → Feeds hash g old partial (seen ++ (end ++ line_feed ∷ behind)) r new last
   Feeds-line old next new partial seen kept last rest end after behind r f cut obeys forgets =
@@ -257,11 +257,11 @@ module _ {S O : Type 0} (hash : S → ℕ → ℕ) (g : sink.Ghosts O) where
       (old next : Moment S O) (partial seen : List ℕ) (kept last : Option (List ℕ)) (rest : List ℕ)
       → Feeds hash g old partial seen (Ok tt) next kept
       → HasNo line_feed rest
-      → last ≡ option_and_then (λ begun. kept_of (begun ++ rest)) kept
+      → last ≡ option_and_then (λ begun. kept_line (begun ++ rest)) kept
       → Feeds hash g old partial (seen ++ rest) (Ok tt) next last
   Feeds-rest old next partial seen kept last rest f none is =
       let keeps = f.keeps in
-      Feeds-append old next next partial seen rest kept last (Ok tt) f (Feeds-begin next f.left rest last keeps.one_line none (is ∙ ap (λ k. option_and_then (λ begun. kept_of (begun ++ rest)) k) keeps.bytes ∙ kept_of-append f.left rest))
+      Feeds-append old next next partial seen rest kept last (Ok tt) f (Feeds-begin next f.left rest last keeps.one_line none (is ∙ ap (λ k. option_and_then (λ begun. kept_line (begun ++ rest)) k) keeps.bytes ∙ kept_line-append f.left rest))
 
 -- what holds where all went well, where it didn't
 pub on_failed : (P : Type 0) (r : Result (Unit {0}) (Unit {0})) → IsErr r → OnOk r P

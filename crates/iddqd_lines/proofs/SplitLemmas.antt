@@ -7,13 +7,13 @@ use Rattle.std.proofs.lemmas.Bool.Decides.{nat_tests}
 use Rattle.std.proofs.lemmas.List.{take-append-drop, get_or-take, length-take-le}
 use Rattle.std.proofs.lemmas.List.Quantifiers.{position-Some}
 use Rattle.std.proofs.lemmas.List.Sums.{fails_before_first}
-use Rattle.iddqd_lines.specs.Split.{HasNo, IsCut}
+use Rattle.iddqd_lines.specs.Split.{HasNo, IsSplitAt}
 
 -- a cut at the first place
 pub cut_at_first :
     (byte : ℕ) (bytes : List ℕ) (at : ℕ)
     → position (λ b. b == byte) bytes ≡ Some at
-    → IsCut byte bytes (take at bytes) (take (length bytes - (at + 1)) (drop (at + 1) bytes))
+    → IsSplitAt byte bytes (take at bytes) (take (length bytes - (at + 1)) (drop (at + 1) bytes))
 cut_at_first byte bytes at found =
     let p = position-Some (λ b. b == byte) bytes at in
     let within : at < length bytes = (p 0 found).0 in

@@ -136,9 +136,9 @@ abbrev pub request_of : List ℕ → Option (Request (Command Record ℕ ℕ))
 request_of line = if bytes_eq line (codes "validate") then Some Validate else option_map Run (command_of line)
 
 -- the index that an overwrite names
-abbrev pub index_of : Command Record ℕ ℕ → Option ℕ
-index_of (Overwrite ix item) = Some ix
-index_of command = None
+abbrev pub overwritten_index : Command Record ℕ ℕ → Option ℕ
+overwritten_index (Overwrite ix item) = Some ix
+overwritten_index command = None
 
 -- an index and its record
 abbrev pub record_text : ℕ → Record → List ℕ

@@ -15,7 +15,7 @@ use Rattle.iddqd.specs.Validation.{not_compact_text}
 use Rattle.iddqd_driver.specs.Keys.{Keys, IsDefaultHasher}
 use Rattle.iddqd_driver.specs.State.{State, empty_state}
 use Rattle.iddqd_driver.specs.Machine.{Step}
-use Rattle.iddqd_lines.specs.Line.{line_feed, lines_of, whole_lines_of, request_of, index_of, text_of}
+use Rattle.iddqd_lines.specs.Line.{line_feed, lines_of, whole_lines_of, request_of, overwritten_index, text_of}
 use Rattle.iddqd_lines.specs.declared.line.Request.{Request}
 use Rattle.iddqd_lines.specs.declared.line.Request.TheVariants.{Run, Validate}
 use Rattle.iddqd_lines.specs.declared.record.Record.{Record}
@@ -43,32 +43,32 @@ IsCheckText vacant out =
     ⊎ (out ≡ codes "no memory")
 
 module _ {S : Type 0} (hash : S → ℕ → ℕ) where
-  -- a line that is a command takes a step, and its out is the reply in words, over the store as the step left it
+  -- a line that is a command takes a step, and its reply in words is this text, over the store as the step left it
   pub record AnswersCommand (old : State Record S) (out : List ℕ) (new : State Record S) (command : Command Record ℕ ℕ)
       : Type 0 where
     pub reply : Reply Record
     pub step : Step (record_keys hash) old command reply new
-    pub text : out ≡ text_of new.store (index_of command) reply
+    pub text : out ≡ text_of new.store (overwritten_index command) reply
 
-  -- a line that asks for a check is answered how that went, and changes nothing
+  -- a line that asks for a check is answered by its outcome, and changes nothing
   abbrev pub AnswersRequest : State Record S → List ℕ → State Record S → Request (Command Record ℕ ℕ) → Type 0
   AnswersRequest old out new (Run command) = AnswersCommand old out new command
   AnswersRequest old out new Validate = IsCheckText (length old.store.free) out × (new ≡ old)
 
-  -- from old, the line may be answered by this out, and leave new
+  -- the state `old` allows this text as the reply to the line, and the line leaves `new`
   abbrev pub Line : State Record S → List ℕ → List ℕ → State Record S → Type 0
   Line old line out new =
       MatchOption (request_of line) ((out ≡ codes "bad line") × (new ≡ old)) (AnswersRequest old out new)
 
-  -- from old, the lines may be answered by these bytes in turn, each out with a line feed, and leave new
+  -- the state `old` allows these bytes as the replies to the lines in turn, each with a line feed, and they leave `new`
   abbrev pub Serves : State Record S → List (List ℕ) → List ℕ → State Record S → Type 0
   Serves old [] bytes new = (bytes ≡ []) × (new ≡ old)
   Serves old (line ∷ lines) bytes new =
       (out : List ℕ) × (next : State Record S) × (rest : List ℕ)
       × Line old line out next × (bytes ≡ out ++ line_feed ∷ rest) × Serves next lines rest new
 
-  -- from old, the line may be answered by an out of which, with its line feed, this part is a beginning, and not all
-  pub record Begins (old : State Record S) (line part : List ℕ) : Type 0 where
+  -- the state `old` allows a reply to the line of which, with its line feed, this part is a proper prefix
+  pub record AnswersInPart (old : State Record S) (line part : List ℕ) : Type 0 where
     pub out : List ℕ
     pub new : State Record S
     pub answers : Line old line out new
@@ -76,27 +76,28 @@ module _ {S : Type 0} (hash : S → ℕ → ℕ) where
     pub parts : out ++ line_feed ∷ [] ≡ part ++ rest
     pub broken : 0 < length rest
 
-  -- At this end, these lines of an input are answered in whole, and this part of the answer to the next one, from the
-  -- state that they leave. At the end of the input the lines are all; at a failed read, those that ended in the bytes
-  -- that were taken off the input; at a failed write, some first ones.
+  -- Which lines have a whole reply, and which part of the reply to the next line is written, from the state that those
+  -- lines leave. At the end of the input all lines; at a failed read those that ended in the bytes that were read; at a
+  -- failed write some first ones, and a proper prefix of the next reply.
   abbrev pub EndsAt
       : Result (Unit {0}) ServeFault → List ℕ → Option (List ℕ) → List (List ℕ) → State Record S → List ℕ → Type 0
   EndsAt (Ok u) input left lines state part = (lines ≡ lines_of input) × (part ≡ [])
   EndsAt (Err Read) input left lines state part =
       (seen : List ℕ) × Consumes (Some input) left seen × (lines ≡ whole_lines_of seen) × (part ≡ [])
   EndsAt (Err Write) input left lines state part =
-      (next : List ℕ) × (later : List (List ℕ)) × (lines_of input ≡ lines ++ next ∷ later) × Begins state next part
+      (next : List ℕ) × (later : List (List ℕ))
+      × (lines_of input ≡ lines ++ next ∷ later) × AnswersInPart state next part
 
 -- how a build hasher hashes a number of 32 bits
 abbrev pub hash_u32 : {S H : Type 0} → builder.Ghosts S H → hasher.Ghosts H → S → ℕ → ℕ
 hash_u32 b h state key = hash_one b h state (fed.u32 key)
 
 -- how a default build hasher hashes a number of 32 bits
-abbrev pub default_hash : BuildHasherDefault FoldHasher → ℕ → ℕ
-default_hash state key = folding.finish (fold folding.write (initial_hasher state) (fed.u32 key))
+abbrev pub default_hash_u32 : BuildHasherDefault FoldHasher → ℕ → ℕ
+default_hash_u32 state key = folding.finish (fold folding.write (initial_hasher state) (fed.u32 key))
 
--- Where `serve` ends so, the bytes that were written since `before` are outs of lines of the input, from the empty
--- state on, and then a part of the next line's: of which lines, and what part, the end tells.
+-- If `serve` ends so, the bytes that were written since `before` are the replies to lines of the input, from the empty
+-- state on, and then a part of the next reply. `ends` says which lines, and which part.
 pub record ServesUntil (end : Result (Unit {0}) ServeFault) (input : List ℕ) (left before after : Option (List ℕ))
     : Type 0 where
   pub hasher : BuildHasherDefault FoldHasher
@@ -104,27 +105,27 @@ pub record ServesUntil (end : Result (Unit {0}) ServeFault) (input : List ℕ) (
   pub lines : List (List ℕ)
   pub bytes : List ℕ
   pub last : State Record (BuildHasherDefault FoldHasher)
-  pub serves : Serves default_hash (empty_state hasher) lines bytes last
+  pub serves : Serves default_hash_u32 (empty_state hasher) lines bytes last
   pub part : List ℕ
   pub written : Appends before after (bytes ++ part)
-  pub ends : EndsAt default_hash end input left lines last part
+  pub ends : EndsAt default_hash_u32 end input left lines last part
 
--- At the end of the input this is: the bytes that were written since `before` are outs of all lines of the input, from
--- the empty state on.
+-- What that means at the end of the input: the bytes that were written since `before` are the replies to all lines of
+-- the input, from the empty state on.
 pub record ServesAll (input : List ℕ) (before after : Option (List ℕ)) : Type 0 where
   pub hasher : BuildHasherDefault FoldHasher
   pub is_default : IsDefaultHasher hasher
   pub bytes : List ℕ
   pub last : State Record (BuildHasherDefault FoldHasher)
-  pub serves : Serves default_hash (empty_state hasher) (lines_of input) bytes last
+  pub serves : Serves default_hash_u32 (empty_state hasher) (lines_of input) bytes last
   pub written : Appends before after bytes
 
 -- the most reads of one input
 abbrev pub most_reads : ℕ
 most_reads = 18446744073709551615
 
--- At the end of the input neither side has failed. At a fault that side alone has, but that a source of as many bytes
--- as the most reads, or more, need not have failed.
+-- At the end of the input neither the source nor the sink has failed. At a fault only the one that it names has; a
+-- source of as many bytes as there are reads at most, or more, need not have failed.
 abbrev pub FailsAt : Result (Unit {0}) ServeFault → Option (List ℕ) → Bool → Bool → Type 0
 FailsAt (Ok u) left reading writing = (reading ≡ false) × (writing ≡ false)
 FailsAt (Err Read) left reading writing =

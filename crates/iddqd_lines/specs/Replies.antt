@@ -6,8 +6,8 @@ use Rattle.iddqd_lines.specs.Line.{space, name_or_dash}
 use Rattle.iddqd_lines.specs.Stream.{FailsOnErr}
 use Rattle.iddqd_lines.specs.declared.sink.Sink as sink
 
--- A text was put behind the bytes that waited. A beginning of both was written. The others wait where all went well,
--- and there are some where a write failed.
+-- A text was appended to the bytes that waited, and a prefix of all of them was written. The others wait if no write
+-- failed; if one did, there are some.
 module _ {O E : Type 0} (g : sink.Ghosts O) where
   pub record Sends (old : O) (waited text : List ℕ) (result : Result (Unit {0}) E) (new : O) (waits : List ℕ)
       : Type 0 where
@@ -27,7 +27,7 @@ spaced ix = space ∷ decimal ix
 abbrev pub spaced_name : ℕ → List ℕ
 spaced_name name = space ∷ name_or_dash name
 
--- a text of so many bytes at most was put behind the bytes that waited
+-- a text of so many bytes at most was appended to the bytes that waited
 pub record Puts (most : ℕ) (waited text waits : List ℕ) : Type 0 where
   pub appends : waits ≡ waited ++ text
   pub grows : length waits ≤ length waited + most

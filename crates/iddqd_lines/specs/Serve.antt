@@ -15,13 +15,13 @@ abbrev pub ended : List (List ℕ) → List ℕ
 ended [] = []
 ended (line ∷ lines) = line ++ line_feed ∷ ended lines
 
--- what is kept of a line: all of it, or none where it has more bytes than a request may have
-abbrev pub kept_of : List ℕ → Option (List ℕ)
-kept_of line = if nat_le (length line) max_line then Some line else None
+-- what is kept of a line that goes on in the next block: all of it, or none if it is longer than a request may be
+abbrev pub kept_line : List ℕ → Option (List ℕ)
+kept_line line = if nat_le (length line) max_line then Some line else None
 
 -- this is kept of a line that has begun
 pub record IsKept (kept : Option (List ℕ)) (partial : List ℕ) : Type 0 where
-  pub bytes : kept ≡ kept_of partial
+  pub bytes : kept ≡ kept_line partial
   pub one_line : HasNo line_feed partial
 
 -- the items, the sink, and the bytes that wait to be written
@@ -33,25 +33,26 @@ pub record Moment (S O : Type 0) : Type 0 where
 abbrev pub moment : {S O : Type 0} → State Record S → O → List ℕ → Moment S O
 moment items output waits = record { items = items; output = output; waits = waits }
 
--- a write may have failed, and all went well else
+-- what a call does from the moment `old`; an error result means that a write failed
 module _ {S O : Type 0} (hash : S → ℕ → ℕ) (g : sink.Ghosts O) (old : Moment S O) where
-  -- this request is answered, and its out is sent with a line feed
-  pub record Tells
+  -- this request is answered, and its reply is sent with a line feed
+  pub record RepliesTo
       (request : Request (Command Record ℕ ℕ)) (result : Result (Unit {0}) (Unit {0})) (new : Moment S O)
       : Type 0 where
     pub out : List ℕ
     pub answers : AnswersRequest hash old.items out new.items request
     pub sends : Sends g old.output old.waits (out ++ line_feed ∷ []) result new.output new.waits
 
-  -- these lines are answered, and their outs are sent, each with a line feed
+  -- these lines are answered, and their replies are sent, each with a line feed
   pub record Obeys (lines : List (List ℕ)) (result : Result (Unit {0}) (Unit {0})) (new : Moment S O) : Type 0 where
     pub out : List ℕ
     pub serves : Serves hash old.items lines out new.items
     pub sends : Sends g old.output old.waits out result new.output new.waits
 
-  -- A line had begun. These further bytes end some lines, which are answered, and begin another, which is kept where
-  -- all went well.
-  pub record Feeds (partial bytes : List ℕ) (result : Result (Unit {0}) (Unit {0})) (new : Moment S O) (kept : Option (List ℕ))
+  -- these bytes end the line that had begun and others, which are answered, and what they begin is kept if no write
+  -- failed
+  pub record Feeds
+      (partial bytes : List ℕ) (result : Result (Unit {0}) (Unit {0})) (new : Moment S O) (kept : Option (List ℕ))
       : Type 0 where
     pub done : List (List ℕ)
     pub left : List ℕ

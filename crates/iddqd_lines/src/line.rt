@@ -2,7 +2,7 @@
 ghost use Rattle.std.specs.Prelude.{◌≡◌, ◌∷◌, []};
 ghost use Rattle.std.specs.List.{slice_split};
 ghost use Rattle.iddqd_lines.specs.Line.{is_space, words_in, number_of, command_for, command_of};
-ghost use Rattle.iddqd_lines.specs.Line.{record_of, record_commands, index_commands, named, request_of, index_of};
+ghost use Rattle.iddqd_lines.specs.Line.{record_of, record_commands, index_commands, named, request_of, overwritten_index};
 
 use crate::record::Record;
 use crate::split::split_at_first;
@@ -64,7 +64,7 @@ fn command_in(line: &[u8]) -> Option<Command<Record>>
 
 /// The index that an overwrite names.
 pub(crate) fn named_index(command: &Command<Record>) -> Option<ItemIndex>
-    ensures { result ≡ index_of command.now }
+    ensures { result ≡ overwritten_index command.now }
 {
     match command {
         Command::Overwrite(ix, _) => Some(*ix),

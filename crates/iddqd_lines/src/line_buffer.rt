@@ -1,7 +1,7 @@
-//! The line that has begun.
+//! The line that goes on in the next block.
 ghost use Rattle.std.specs.Prelude.{◌≡◌, ◌↔◌, ◌++◌, [], Some, None, IsTrue, MatchOption};
 ghost use Rattle.std.specs.Option.{option_and_then};
-ghost use Rattle.iddqd_lines.specs.Serve.{kept_of};
+ghost use Rattle.iddqd_lines.specs.Serve.{kept_line};
 
 use crate::line::MAX_LINE;
 use std::marker::Model;
@@ -65,9 +65,9 @@ impl LineBuffer {
         self.has_more = false;
     }
 
-    /// Goes on with these bytes.
+    /// Appends these bytes to the line.
     pub(crate) fn extend(&mut self, bytes: &[u8])
-        ensures { self.new ≡ option_and_then (λ line. kept_of (line ++ bytes.now)) self.old }
+        ensures { self.new ≡ option_and_then (λ line. kept_line (line ++ bytes.now)) self.old }
     {
         let kept = bytes.len().min(MAX_LINE - self.len);
         let end = self.len + kept;

@@ -22,7 +22,7 @@ use std::marker::Model;
 /// How many bytes of replies wait at most.
 const BLOCK: usize = 8192;
 
-/// The most bytes that are put between two looks for room: a reply's line without its list, or one
+/// The most bytes that are put between two checks for room: a reply's line without its list, or one
 /// index of a list, with the line feed.
 pub(crate) const MAX_REPLY: usize = 64;
 
@@ -47,7 +47,7 @@ impl Model for Replies {
     ghost invariant = { λ r. r.len ≤ BLOCK };
 }
 
-/// Writes all bytes, or a beginning of them where the sink fails.
+/// Writes all bytes, or a prefix of them if the sink fails.
 pub(crate) fn write_all<O: Sink>(output: &mut O, bytes: &[u8]) -> Result<(), ()>
     ensures { Sends O.Sink output.old [] bytes.now result output.new [] }
 {
@@ -79,7 +79,7 @@ impl Replies {
         Ok(())
     }
 
-    // Makes room for one more reply, by writing those that wait where there is none.
+    // Makes room for one more reply: if there is none, it writes those that wait.
     fn make_room<O: Sink>(&mut self, output: &mut O) -> Result<(), ()>
         ensures room { OnOk result (length self.new + MAX_REPLY ≤ BLOCK) }
         ensures sends { Sends O.Sink output.old self.old [] result output.new self.new }
@@ -153,7 +153,7 @@ impl Replies {
         }
     }
 
-    // What became of the indexes.
+    // The new names of the indexes.
     fn put_remap<O: Sink>(&mut self, remap: &IndexRemap, output: &mut O) -> Result<(), ()>
         requires { length self.old + MAX_REPLY ≤ BLOCK }
         ensures room { OnOk result (length self.new < BLOCK) }
@@ -242,7 +242,7 @@ impl Replies {
         }
     }
 
-    // Why an item wasn't taken.
+    // Why an item was refused.
     fn put_refusal(&mut self, refusal: &InsertRefusal<Record>)
         requires { length self.old + MAX_REPLY ≤ BLOCK }
         ensures { Puts MAX_TEXT self.old (refusal_text refusal.now) self.new }

@@ -13,7 +13,7 @@ ghost use Rattle.iddqd_driver.specs.State.{empty_state};
 ghost use Rattle.iddqd_lines.specs.Line.{lines_of, request_of};
 ghost use Rattle.iddqd_lines.specs.Program.{hash_u32, ServesUntil, FailsAt};
 ghost use Rattle.iddqd_driver.specs.Keys.{IsDefaultHasher};
-ghost use Rattle.iddqd_lines.specs.Serve.{moment, kept_of, IsKept, Obeys, Feeds, Tells};
+ghost use Rattle.iddqd_lines.specs.Serve.{moment, kept_line, IsKept, Obeys, Feeds, RepliesTo};
 ghost use Rattle.iddqd_lines.specs.declared.line.Request.TheVariants.{Run, Validate};
 ghost use Rattle.iddqd_lines.specs.Stream.{FailsOnErr};
 
@@ -38,10 +38,10 @@ const BLOCK: usize = 8192;
 /// Why `serve` stopped before the end of its input.
 #[derive(Clone, Copy, Debug, PartialEq, Eq)]
 pub enum ServeFault {
-    /// The source failed. The replies to all whole lines before were written, and a line that had begun
-    /// wasn't obeyed.
+    /// The source failed. The replies to all whole lines before that were written, and a line that had
+    /// begun wasn't obeyed.
     Read,
-    /// The sink failed. A beginning of the replies to the lines that were obeyed was written.
+    /// The sink failed. A prefix of the replies to the lines that were obeyed was written.
     Write,
 }
 
@@ -63,17 +63,17 @@ impl fmt::Display for ServeFault {
 ///
 /// It keeps records of three numbers, the first two of which are the keys, and knows these lines:
 ///
-/// - `insert 1 10 100` takes a record: `inserted 0`, `duplicate 0 -`, `full` or `no memory`.
+/// - `insert 1 10 100` inserts a record: `inserted 0`, `duplicate 0 -`, `full` or `no memory`.
 /// - `get1 1` and `get2 10` find a record by its first and by its second key: `0 1 10 100` or `none`.
 /// - `remove 0`, `remove1 1` and `remove2 10` remove the record at an index, with a first key and with
 ///   a second key, and are answered as a find.
-/// - `overwrite 0 5 10 1` gives the index another record, whatever the keys, and tells neither table: the
-///   index and the old record, as `0 1 10 100`, or `none`. Where it changes a key, look-ups by keys of
-///   that kind may miss records from then on, others too, and an insert may take a key that is there,
-///   until no record is left; what a look-up finds still has the key. `walk` leaves the index in its place.
+/// - `overwrite 0 5 10 1` replaces the record at the index, whatever the keys, and updates neither table: the
+///   index and the old record, as `0 1 10 100`, or `none`. If it changes a first key, look-ups by first keys may
+///   miss any record from then on, and an insert may accept a first key that is there, until no record is left;
+///   what a look-up finds still has the key. The same holds for second keys. `walk` lists the index where it was.
 /// - `clear` forgets all records: `cleared`.
-/// - `walk` tells the indexes in the order of the second keys: `1 0 2`, `empty` or `no memory`.
-/// - `compact` moves the records, in the order of their indexes, to the indexes from 0 on, and tells the new
+/// - `walk` lists the indexes in the order of the second keys: `1 0 2`, `empty` or `no memory`.
+/// - `compact` moves the records, in the order of their indexes, to the indexes from 0 on, and lists the new
 ///   name of each old one: `identity`, `permuted 0 - 1` with a dash where there was none, or `no memory`.
 /// - `validate` checks that the indexes of the records are those from 0 on, and in both tables: `ok`, `ItemSet is not
 ///   compact: 1 vacant slots`, or `no memory`. It goes over both tables once for each record.
@@ -88,11 +88,11 @@ pub fn serve<I: Source, O: Sink>(
     requires reads { I.has_failed input.old ≡ false }
     requires writes { O.has_failed output.old ≡ false }
 
-    // Where source and sink tell their bytes, each line has its reply, up to the end or the fault.
+    // If the bytes of source and sink are known, each line has its reply, up to the end or the fault.
     ensures serves { IfSome (I.left input.old)
         (λ bytes. ServesUntil result bytes (I.left input.new) (O.written output.old) (O.written output.new)) }
 
-    // Neither has failed where all went well, and a fault comes only from the side that has.
+    // At the end of the input neither has failed, and a fault comes only from the one that has.
     ensures faults { FailsAt result (I.left input.old) (I.has_failed input.new) (O.has_failed output.new) }
 {
     let mut items = KeyedItems::with_default_hasher(alloc);
@@ -109,7 +109,7 @@ pub fn serve<I: Source, O: Sink>(
     )
 }
 
-// Does so with what is lent: what a body owns makes each of its steps dear to check.
+// Works on borrowed values: a function that owns them is expensive to check.
 fn serve_blocks<I: Source, O: Sink>(
     items: &mut KeyedItems<Record, DefaultHashBuilder>,
     partial: &mut LineBuffer,
@@ -153,7 +153,7 @@ fn serve_blocks<I: Source, O: Sink>(
     }
 }
 
-// Obeys the lines that these bytes end, and keeps what they begin. Of a failed write `()` tells.
+// Obeys the lines that these bytes end, and keeps what they begin. The error `()` is a failed write.
 fn feed<S: BuildHasher, O: Sink>(
     items: &mut KeyedItems<Record, S>,
     partial: &mut LineBuffer,
@@ -187,7 +187,7 @@ fn end_line<S: BuildHasher, O: Sink>(
     ensures obeys { let hash = hash_u32 S.BuildHasher S.Hasher.Hasher in
         let old = moment items.old.state output.old replies.old in
         let new = moment items.new.state output.new replies.new in
-        (line : List ℕ) → partial.old ≡ kept_of line → Obeys hash O.Sink old ((line ++ end.now) ∷ []) result new }
+        (line : List ℕ) → partial.old ≡ kept_line line → Obeys hash O.Sink old ((line ++ end.now) ∷ []) result new }
     ensures forgets { OnOk result (partial.new ≡ Some []) }
     ensures failed { FailsOnErr (O.has_failed output.old) result (O.has_failed output.new) }
 {
@@ -200,7 +200,7 @@ fn end_line<S: BuildHasher, O: Sink>(
     Ok(())
 }
 
-// At the end of the input: obeys the line that has begun, where one has, and writes all replies.
+// At the end of the input: obeys the line that has begun, if one has, and writes all replies.
 fn finish<S: BuildHasher, O: Sink>(
     items: &mut KeyedItems<Record, S>,
     last: &LineBuffer,
@@ -228,7 +228,7 @@ fn request_in(partial: &LineBuffer) -> Option<Request<Command<Record>>>
     parse(partial.whole()?)
 }
 
-// Answers a line that is this request. One that is no request is a bad line.
+// Answers a line that is this request. A line that is no request is a bad line.
 fn obey<S: BuildHasher, O: Sink>(
     items: &mut KeyedItems<Record, S>,
     request: Option<Request<Command<Record>>>,
@@ -259,14 +259,14 @@ fn run<S: BuildHasher, O: Sink>(
 ) -> Result<(), ()>
     ensures { let old = moment items.old.state output.old replies.old in
         let new = moment items.new.state output.new replies.new in
-        Tells (hash_u32 S.BuildHasher S.Hasher.Hasher) O.Sink old (Run command) result new }
+        RepliesTo (hash_u32 S.BuildHasher S.Hasher.Hasher) O.Sink old (Run command) result new }
 {
     let named = named_index(&command);
     let reply = items.step(command);
     replies.put_reply(items, named, &reply, output)
 }
 
-// Answers how a check went. Store and tables are always sound, so nothing can be wrong but vacant slots.
+// Answers with the outcome of a check. Store and tables are always sound, so only vacant slots can be wrong.
 fn check<S: BuildHasher, O: Sink>(
     items: &KeyedItems<Record, S>,
     replies: &mut Replies,
@@ -274,7 +274,7 @@ fn check<S: BuildHasher, O: Sink>(
 ) -> Result<(), ()>
     ensures { let old = moment items.now.state output.old replies.old in
         let new = moment items.now.state output.new replies.new in
-        Tells (hash_u32 S.BuildHasher S.Hasher.Hasher) O.Sink old Validate result new }
+        RepliesTo (hash_u32 S.BuildHasher S.Hasher.Hasher) O.Sink old Validate result new }
 {
     match items.validate(ValidateCompact::Compact, ValidateChaos::Yes) {
         Ok(()) => replies.put_line(b"ok", output),

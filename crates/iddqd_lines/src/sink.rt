@@ -8,12 +8,12 @@ use std::io::Write;
 
 /// Takes bytes, until it has failed.
 pub trait Sink {
-    // The bytes that were written, where they are told.
+    // The bytes that were written, if they are known.
     ghost written: { Self → Option (List ℕ) };
 
     ghost has_failed: { Self → Bool };
 
-    /// Appends a beginning of the bytes, of at least one byte where there is one, and tells its length.
+    /// Appends a prefix of the bytes, of at least one byte where there is one, and returns its length.
     ///
     /// An error appends none, and the sink has failed from then on.
     fn write(&mut self, bytes: &[u8]) -> Result<usize, ()>

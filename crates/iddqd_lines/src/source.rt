@@ -8,12 +8,12 @@ use std::io::Read;
 
 /// Gives bytes, until it has failed.
 pub trait Source {
-    // The bytes that are left, where they are told.
+    // The bytes that are left, if they are known.
     ghost left: { Self → Option (List ℕ) };
 
     ghost has_failed: { Self → Bool };
 
-    /// Takes bytes off the front, and tells how many. No byte into a buffer that isn't empty is the end.
+    /// Takes bytes off the front, and returns how many. No byte into a buffer that isn't empty is the end.
     ///
     /// An error takes none, and the source has failed from then on.
     fn read(&mut self, buf: &mut [u8]) -> Result<usize, ()>

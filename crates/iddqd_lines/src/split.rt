@@ -1,6 +1,6 @@
-//! Cutting a run of bytes at the first of some byte.
+//! Bytes split at the first occurrence of a byte.
 ghost use Rattle.std.specs.Prelude.{◌≡◌, ◌==◌, MatchOption, position};
-ghost use Rattle.iddqd_lines.specs.Split.{HasNo, IsCut};
+ghost use Rattle.iddqd_lines.specs.Split.{HasNo, IsSplitAt};
 
 // Where the byte stands first.
 fn find_byte(bytes: &[u8], byte: u8) -> Option<usize>
@@ -11,7 +11,7 @@ fn find_byte(bytes: &[u8], byte: u8) -> Option<usize>
 
 /// What stands before the first such byte, and what stands after it.
 pub(crate) fn split_at_first(bytes: &[u8], byte: u8) -> Option<(&[u8], &[u8])>
-    ensures { MatchOption result (HasNo byte bytes.now) (λ parts. IsCut byte bytes.now parts.0.now parts.1.now) }
+    ensures { MatchOption result (HasNo byte bytes.now) (λ parts. IsSplitAt byte bytes.now parts.0.now parts.1.now) }
 {
     match find_byte(bytes, byte) {
         Some(at) => Some((&bytes[..at], &bytes[at + 1..])),

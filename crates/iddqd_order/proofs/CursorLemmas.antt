@@ -1,5 +1,5 @@
 -- A gap of a tree and the gaps beside it, one level at a time, and what a walk has left between two gaps.
-use Rattle.iddqd_order.proofs.Names.{◌≡◌, ◌≢◌, ◌∙◌, ℕ, zero, suc, ◌+◌, ◌-◌, ◌<◌, ◌≤◌, List, [], ◌∷◌, ◌++◌, End, Front, Back, opposite, Option, Some, None, IfSome, length, take, drop, get_or, length-set, set-get_or, slice_index, slice_set, refl, sym, ap, subst, arith, sub-one, append-nil, drop_all, length-append, length-drop, length-map, length-take-le, slice_get-get_or, cases_lt, inl, inr, Compares, Ordering, Less, Equal, Greater, Node, row, children, child, before, flat, IsFormed, Goes, place, in_order, IsTree, place_in, AreBeside, AtEdge, Over, IsAt, IsBehind, IsGap, IsLow, Steps, between, edge_of, leaf, low, to_gap, CAPACITY, LEVELS, InGap}
+use Rattle.iddqd_order.proofs.Names.{◌≡◌, ◌≢◌, ◌∙◌, ℕ, zero, suc, ◌+◌, ◌-◌, ◌<◌, ◌≤◌, List, [], ◌∷◌, ◌++◌, End, Front, Back, opposite, Option, Some, None, IfSome, length, take, drop, get_or, length-set, set-get_or, slice_index, slice_set, refl, sym, ap, subst, arith, sub-one, append-nil, drop_all, length-append, length-drop, length-map, length-take-le, slice_get-get_or, cases_lt, inl, inr, Compares, Ordering, Less, Equal, Greater, Node, row, children, child, before, flat, IsFormed, ReachesGap, place, in_order, IsTree, place_in, AreBeside, AtEdge, Over, IsAt, IsBehind, IsGap, IsLow, Steps, between, edge_of, leaf, low, to_gap, CAPACITY, LEVELS, InGap}
 use Rattle.std.proofs.Common.{get_or-drop}
 use Rattle.std.proofs.Math.Seq.{drop-cons, take-suc}
 use Rattle.std.proofs.lemmas.Option.{slice_get_past}
@@ -15,9 +15,9 @@ pub record Below (h i : ℕ) (n k : Node) (p : List ℕ) : Type 0 where
   pub here : i < length (children n)
   pub is : k ≡ child n i
   pub formed : IsFormed (h - 1) k
-  pub goes : Goes (h - 1) k p
+  pub goes : ReachesGap (h - 1) k p
 
-pub goes-here : (h i : ℕ) (n : Node) (p : List ℕ) → h ≢ 0 → i ≡ slice_index p h → Goes h n p → i < length (children n)
+pub goes-here : (h i : ℕ) (n : Node) (p : List ℕ) → h ≢ 0 → i ≡ slice_index p h → ReachesGap h n p → i < length (children n)
 goes-here h i n p ne e g = rw e (goes-inner h n p ne g).here
 
 pub goes-in :
@@ -25,7 +25,7 @@ pub goes-in :
     → h ≢ 0
     → i ≡ slice_index p h
     → IsFormed h n
-    → Goes h n p
+    → ReachesGap h n p
     → k ≡ get_or (children n) i k
     → Below h i n k p
 goes-in h i n k p ne e f g is_k =
@@ -39,8 +39,8 @@ pub goes-at :
     → h ≢ 0
     → slice_index p h ≡ i
     → i < length (children n)
-    → Goes (h - 1) (child n i) p
-    → Goes h n p
+    → ReachesGap (h - 1) (child n i) p
+    → ReachesGap h n p
 goes-at h i n p ne e here on = below-holds 0 h n p ne (rw e here) (rw e on)
 
 pub place-at :
@@ -301,13 +301,13 @@ ended-here towards h i n k p ne f b ei beside last = edge-inner towards h i n p 
 
 -- another gap of the same leaf
 pub record Moved (h : ℕ) (n : Node) (p q : List ℕ) : Type 0 where
-  pub goes : Goes h n q
+  pub goes : ReachesGap h n q
   pub same_leaf : leaf h n q ≡ leaf h n p
   pub place_is : place h n q + slice_index p 0 ≡ place h n p + slice_index q 0
 
 pub moved :
     (h : ℕ) (n : Node) (p q : List ℕ)
-    → Goes h n p
+    → ReachesGap h n p
     → slice_index q 0 ≤ length (leaf h n p)
     → ((m : ℕ) → 0 < m → slice_index q m ≡ slice_index p m)
     → Moved h n p q
@@ -335,14 +335,14 @@ moved (suc h) n p q g le same =
     }
 
 -- a leaf, of which at most eleven indexes are at their places in the whole list
-pub leaf-few : (h : ℕ) (n : Node) (p : List ℕ) → IsFormed h n → Goes h n p → length (leaf h n p) ≤ CAPACITY
+pub leaf-few : (h : ℕ) (n : Node) (p : List ℕ) → IsFormed h n → ReachesGap h n p → length (leaf h n p) ≤ CAPACITY
 leaf-few zero n p f g = rw (leaf-zero 0 n p refl) (formed-within 0 n f)
 leaf-few (suc h) n p f g =
     let at = goes-inner (suc h) n p (λ e. absurd (omega arith)) g in
     let below = child-formed (suc h) n (slice_index p (suc h)) (λ e. absurd (omega arith)) f at.here in
     rw (leaf-at (suc h) _ n p (λ e. absurd (omega arith)) refl, sub-one) (leaf-few h _ p (rw sub-one at below) (rw sub-one at at.on))
 
-pub goes-within : (h : ℕ) (n : Node) (p : List ℕ) → Goes h n p → slice_index p 0 ≤ length (leaf h n p)
+pub goes-within : (h : ℕ) (n : Node) (p : List ℕ) → ReachesGap h n p → slice_index p 0 ≤ length (leaf h n p)
 goes-within zero n p g = rw (leaf-zero 0 n p refl) (goes-leaf 0 n p refl g)
 goes-within (suc h) n p g =
     let at = goes-inner (suc h) n p (λ e. absurd (omega arith)) g in
@@ -351,7 +351,7 @@ goes-within (suc h) n p g =
 pub leaf-read :
     (h : ℕ) (n : Node) (p : List ℕ)
     → IsFormed h n
-    → Goes h n p
+    → ReachesGap h n p
     → slice_index p 0 < length (leaf h n p)
     → IsBehind (flat h n) (place h n p) (slice_index (leaf h n p) (slice_index p 0))
 leaf-read zero n p f g lt = rw (leaf-zero 0 n p refl, flat-leaf 0 n refl, place-leaf 0 n p refl) (rw (leaf-zero 0 n p refl) at lt, refl)
@@ -368,7 +368,7 @@ pub IsAt-whole :
     (t : Option Node) (h : ℕ) (n : Node) (p row : List ℕ) (at : ℕ)
     → t ≡ Some n
     → length p ≡ LEVELS
-    → Goes h n p
+    → ReachesGap h n p
     → row ≡ leaf h n p
     → at ≡ slice_index p 0
     → (to_gap p at ≡ p) × IsAt t h p row at
@@ -445,7 +445,7 @@ pub IsGap-few :
     → IsGap t h p at
     → at ≤ CAPACITY
 IsGap-few t h n p at e tree g =
-    let goes : Goes h n (to_gap p at) = rw e at g.goes in
+    let goes : ReachesGap h n (to_gap p at) = rw e at g.goes in
     let formed : IsTree (Some n) h = subst (λ t. IsTree t h) e tree in
     let here : slice_index (to_gap p at) 0 ≡ at = path-here p (to_gap p at) 0 at g.whole (omega arith) refl in
     let within = goes-within h n (to_gap p at) goes in let few = leaf-few h n (to_gap p at) formed.0 goes in
@@ -486,7 +486,7 @@ low-step :
     (h : ℕ) (n : Node) (p q : List ℕ)
     → 0 < h
     → IsFormed h n
-    → Goes h n p
+    → ReachesGap h n p
     → length (leaf h n p) ≤ slice_index p 0
     → slice_index q 0 ≡ 0
     → slice_index q 1 ≡ slice_index p 1 + 1
@@ -620,8 +620,8 @@ left-length count i j xs e le = length-take-le count (drop i xs) (omega (arith, 
 pub gaps-less :
     (h : ℕ) (n : Node) (p q : List ℕ)
     → IsFormed h n
-    → Goes h n p
-    → Goes h n q
+    → ReachesGap h n p
+    → ReachesGap h n q
     → slice_index p h < slice_index q h
     → place h n p < place h n q
 gaps-less zero n p q f gp gq lt = rw (place-leaf 0 n p refl, place-leaf 0 n q refl) lt
@@ -647,8 +647,8 @@ gaps-less (suc h) n p q f gp gq lt =
 pub gaps-part :
     (r : Ordering) (h : ℕ) (n : Node) (p q : List ℕ)
     → IsFormed h n
-    → Goes h n p
-    → Goes h n q
+    → ReachesGap h n p
+    → ReachesGap h n q
     → Compares r (slice_index p h) (slice_index q h)
     → (r ≡ Equal → h ≡ 0)
     → Compares r (place h n p) (place h n q)
@@ -672,8 +672,8 @@ gaps-below Greater h i n p q ne ep eq told = omega (arith, place-at h i n p ne e
 pub gaps-same :
     (h : ℕ) (n : Node) (p q : List ℕ)
     → IsFormed h n
-    → Goes h n p
-    → Goes h n q
+    → ReachesGap h n p
+    → ReachesGap h n q
     → place h n p ≡ place h n q
     → slice_index p 0 ≡ slice_index q 0
 gaps-same zero n p q f gp gq same = sym (place-leaf 0 n p refl) ∙ same ∙ place-leaf 0 n q refl

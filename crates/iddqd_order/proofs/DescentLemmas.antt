@@ -1,5 +1,5 @@
 -- A walk down a tree: what the search of a row says of the search of the tree.
-use Rattle.iddqd_order.proofs.Names.{◌*◌, HoldsIndex, get_or_default, append-nil, cases_lt, get_or_at, get_or_append_left, sub-one, ◌≡◌, ◌≢◌, ◌∙◌, ℕ, zero, suc, ◌+◌, ◌-◌, ◌<◌, ◌≤◌, List, [], ◌∷◌, ◌++◌, length, get_or, drop, slice_index, Contains, refl, sym, ap, subst, arith, inl, inr, Option, Some, None, Result, Ok, Err, IfOk, length-append, append_assoc, sub-one, add-one, cases_lt, true≢false, get_or-append-add, length-map, Contains-append_cases, Ordering, Greater, Mut, Asking, Node, row, children, child, weave, before, after, flat, IsFormed, spot, FullBelow, IsFullBelow, Askable, CanSearch, with_ties, IsRising, IsPlace, SearchesWithin, Searches, Finds, end_at, level_of, IfErr-weaker, index_at, Descends, FindsIn, CAPACITY, row_asks, InGap}
+use Rattle.iddqd_order.proofs.Names.{◌*◌, LeadsToIndex, get_or_default, append-nil, cases_lt, get_or_at, get_or_append_left, sub-one, ◌≡◌, ◌≢◌, ◌∙◌, ℕ, zero, suc, ◌+◌, ◌-◌, ◌<◌, ◌≤◌, List, [], ◌∷◌, ◌++◌, length, get_or, drop, slice_index, Contains, refl, sym, ap, subst, arith, inl, inr, Option, Some, None, Result, Ok, Err, IfOk, length-append, append_assoc, sub-one, add-one, cases_lt, true≢false, get_or-append-add, length-map, Contains-append_cases, Ordering, Greater, Mut, Asking, Node, row, children, child, weave, before, after, flat, IsFormed, spot, FullBelow, IsFullBelow, Askable, CanSearch, with_ties, IsRising, IsPlace, SearchesWithin, Searches, Finds, end_at, level_of, IfErr-weaker, index_at, Descends, FindsIn, CAPACITY, row_asks, InGap}
 use Rattle.iddqd.proofs.StoreLemmas.{contains_cases}
 use Rattle.iddqd_order.proofs.AskLemmas.{asks_none, asks_wider, CanAsk-fewer, CanAsk-later, Steady-fewer}
 pub use Rattle.iddqd_order.proofs.NodeLemmas.{lists-one_more, lists-at, child-within, child-formed, path-here, path-above, holds-here, below-holds}
@@ -416,7 +416,7 @@ pub holds_index-here :
     → IsFormed l n
     → slice_index p l < length (row n)
     → slice_index (row n) (slice_index p l) ≡ ix
-    → HoldsIndex l l n p ix
+    → LeadsToIndex l l n p ix
 holds_index-here l n p ix f lt is = (holds-here l n p lt, spot-row l n p f lt ∙ is)
 
 -- and that in a child
@@ -427,12 +427,12 @@ pub holds_index-below :
     → slice_index p l ≡ i
     → i < length (children n)
     → g ≡ get_or (children n) i g
-    → HoldsIndex m (l - 1) g p ix
-    → HoldsIndex m l n p ix
+    → LeadsToIndex m (l - 1) g p ix
+    → LeadsToIndex m l n p ix
 holds_index-below m l i n g p ix ne f at lt is_g held =
     let here : slice_index p l < length (children n) = rw at lt in
     let same : g ≡ child n (slice_index p l) = child_is n i g lt is_g ∙ ap (child n) (sym at) in
-    let w : HoldsIndex m (l - 1) (child n (slice_index p l)) p ix = subst (λ z. HoldsIndex m (l - 1) z p ix) same held in
+    let w : LeadsToIndex m (l - 1) (child n (slice_index p l)) p ix = subst (λ z. LeadsToIndex m (l - 1) z p ix) same held in
     let le = holds-level m (l - 1) (child n (slice_index p l)) p w.0 in
     let on = spot-below m l n p ne (λ e. absurd (omega arith)) in (
       below-holds m l n p ne here w.0,

@@ -1,5 +1,5 @@
 -- What an insert leaves of a node.
-use Rattle.iddqd_order.proofs.Names.{IsChild, IsPut, ◌≡◌, ◌≢◌, ℕ, zero, suc, ◌+◌, ◌-◌, ◌<◌, ◌≤◌, List, [], ◌∷◌, ◌++◌, length, set, get_or, slice_index, refl, ap, sym, ◌∙◌, arith, inl, inr, All, cases_lt, insert, length-append, length-set, length-map, length-insert, get_or_default, map-set, map-append, All-set, Node, row, children, child, room, weave, before, flat, IsInner, IsFormed, Goes, place, IsFullBelow, IsCut, CAPACITY, LEAST, CHILDREN, InGap}
+use Rattle.iddqd_order.proofs.Names.{IsChild, IsPut, ◌≡◌, ◌≢◌, ℕ, zero, suc, ◌+◌, ◌-◌, ◌<◌, ◌≤◌, List, [], ◌∷◌, ◌++◌, length, set, get_or, slice_index, refl, ap, sym, ◌∙◌, arith, inl, inr, All, cases_lt, insert, length-append, length-set, length-map, length-insert, get_or_default, map-set, map-append, All-set, Node, row, children, child, child_room, weave, before, flat, IsInner, IsFormed, ReachesGap, place, IsFullBelow, IsCut, CAPACITY, LEAST, CHILDREN, InGap}
 use Rattle.std.proofs.lemmas.List.Sums.{sum_by-set, sum_by-insert, sum_by-append}
 use Rattle.iddqd_order.specs.Node.{inners}
 use Rattle.iddqd_order.specs.Removal.{inners_of}
@@ -11,7 +11,7 @@ use Rattle.iddqd_order.proofs.NodeLemmas.{AreChildren, GoesDown, goes-below, lis
 pub record IsTaken (h : ℕ) (old : Node) (p : List ℕ) (i : ℕ) (g : Node) : Type 0 where
   pub inner : h ≢ 0
   pub formed : IsFormed h old
-  pub goes : Goes h old p
+  pub goes : ReachesGap h old p
   pub at : i ≡ slice_index p h
   pub is : g ≡ get_or (children old) i g
 
@@ -19,7 +19,7 @@ pub is_taken :
     (h : ℕ) (old : Node) (p : List ℕ) (i : ℕ) (g : Node)
     → h ≢ 0
     → IsFormed h old
-    → Goes h old p
+    → ReachesGap h old p
     → i ≡ slice_index p h
     → g ≡ get_or (children old) i g
     → IsTaken h old p i g
@@ -33,7 +33,7 @@ pub record Taken (h : ℕ) (old : Node) (p : List ℕ) (i : ℕ) (g : Node) : Ty
   pub below : AreChildren (h - 1) (children old)
   pub least : LEAST ≤ length (row g)
   pub formed : IsFormed (h - 1) g
-  pub goes : Goes (h - 1) g p
+  pub goes : ReachesGap (h - 1) g p
   pub list : get_or (lists (h - 1) (children old)) i [] ≡ flat (h - 1) g
   pub within : place (h - 1) g p ≤ length (get_or (lists (h - 1) (children old)) i [])
   pub place_is : place h old p ≡ length (before i (row old) (lists (h - 1) (children old))) + place (h - 1) g p
@@ -82,7 +82,7 @@ pub put_below :
     → IsPut (h - 1) g k p x more
     → row new ≡ row old
     → children new ≡ set (children old) i k
-    → CHILDREN ≤ room new
+    → CHILDREN ≤ child_room new
     → IsPut h old new p x more
 put_below h old new p x i g k t d er ek rm =
     let b = taken h old p i g t in
@@ -111,7 +111,7 @@ pub put_here :
     → length (row old) < CAPACITY
     → row new ≡ insert (row old) i m
     → children new ≡ insert (set (children old) i k) (i + 1) u
-    → CHILDREN ≤ room new
+    → CHILDREN ≤ child_room new
     → IsPut h old new p x (h - 1)
 put_here h old new p x i g k m u t d lt er ek rm =
     let b = taken h old p i g t in
@@ -153,8 +153,8 @@ pub cut_here :
     → IsCut (row old) i m (row new) m2 (row up)
     → children new ++ children up ≡ insert (set (children old) i k) (i + 1) u
     → length (children new) ≡ length (row new) + 1
-    → CHILDREN ≤ room new
-    → CHILDREN ≤ room up
+    → CHILDREN ≤ child_room new
+    → CHILDREN ≤ child_room up
     → Cut h old new m2 up p x
 cut_here h old new m2 up p x i g k m u t d c ek lk rm ru =
     let b = taken h old p i g t in
@@ -186,7 +186,7 @@ cut_here h old new m2 up p x i g k m u t d c ek lk rm ru =
     }
 
 -- the place of a path in a leaf
-pub leaf_place : (h : ℕ) (n : Node) (p : List ℕ) → h ≡ 0 → Goes h n p → slice_index p h ≤ length (row n)
+pub leaf_place : (h : ℕ) (n : Node) (p : List ℕ) → h ≡ 0 → ReachesGap h n p → slice_index p h ≤ length (row n)
 leaf_place h n p e g = rw e (goes-leaf h n p e g)
 
 -- at a leaf with room
@@ -194,7 +194,7 @@ pub put_leaf :
     (h : ℕ) (old new : Node) (p : List ℕ) (i x : ℕ)
     → h ≡ 0
     → IsFormed h old
-    → Goes h old p
+    → ReachesGap h old p
     → i ≡ slice_index p h
     → length (row old) < CAPACITY
     → row new ≡ insert (row old) i x
@@ -216,7 +216,7 @@ pub cut_leaf :
     (h : ℕ) (old new : Node) (m : ℕ) (up : Node) (p : List ℕ) (i x : ℕ)
     → h ≡ 0
     → IsFormed h old
-    → Goes h old p
+    → ReachesGap h old p
     → i ≡ slice_index p h
     → IsCut (row old) i x (row new) m (row up)
     → children new ≡ children old

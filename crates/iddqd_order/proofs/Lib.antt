@@ -26,6 +26,6 @@ mod RoomLemmas
 mod SearchLemmas
 pub mod TableLemmas
 pub mod TreeLemmas
-mod WayLemmas
+mod SpotCursorLemmas
 pub mod WeaveLemmas
 mod WeaveRemovalLemmas

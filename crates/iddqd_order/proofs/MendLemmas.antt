@@ -1,5 +1,5 @@
 -- What mending leaves of nodes.
-use Rattle.iddqd_order.proofs.Names.{◌≡◌, ◌∙◌, ℕ, zero, suc, ◌+◌, ◌-◌, ◌<◌, ◌≤◌, List, [], ◌∷◌, ◌++◌, length, take, drop, set, get_or, map, remove, Option, Some, None, option_to_list, IsSome, ◌↔◌, append_assoc, subst, refl, ap, sym, arith, add-one, sub-one, length-append, length-drop, length-take, length-take-le, length-map, get_or-remove_below, get_or_default, set_comm, All, All-append, All-cons, All-nil, inl, inr, cases_eq, map-append, nil_from_length, Node, row, children, room, weave, flat, IsFormed, IsChild, MayLackOne, IsMended, CAPACITY, LEAST}
+use Rattle.iddqd_order.proofs.Names.{◌≡◌, ◌∙◌, ℕ, zero, suc, ◌+◌, ◌-◌, ◌<◌, ◌≤◌, List, [], ◌∷◌, ◌++◌, length, take, drop, set, get_or, map, remove, Option, Some, None, option_to_list, IsSome, ◌↔◌, append_assoc, subst, refl, ap, sym, arith, add-one, sub-one, length-append, length-drop, length-take, length-take-le, length-map, get_or-remove_below, get_or_default, set_comm, All, All-append, All-cons, All-nil, inl, inr, cases_eq, map-append, nil_from_length, Node, row, children, child_room, weave, flat, IsFormed, IsChild, MayLackOne, IsMended, CAPACITY, LEAST}
 use Rattle.std.proofs.Common.{get_or-take, get_or-drop, take-suc, take-suc-set, drop-set-lt, length-set}
 use Rattle.std.proofs.lemmas.List.{set_split, set_at}
 use Rattle.iddqd_order.proofs.WeaveLemmas.{All-front, All-back, rest, weave-more}
@@ -26,7 +26,7 @@ arity-fits (suc h) a b few = omega arith
 pub record IsSized (h : ℕ) (n : Node) : Type 0 where
   pub within : length (row n) ≤ CAPACITY
   pub count : length (children n) ≡ arity h (length (row n))
-  pub has_room : arity h CAPACITY ≤ room n
+  pub has_room : arity h CAPACITY ≤ child_room n
 
 pub formed-sized : (h : ℕ) (n : Node) → IsFormed h n → IsSized h n × All (IsChild (h - 1)) (children n)
 unfolding IsFormed
@@ -230,8 +230,8 @@ pub moved-right :
     → x ≡ get_or xs i 0
     → IsPassed l x r new_l last new_r moved
     → IsSome moved ↔ (0 < length (children l))
-    → room new_l ≡ room l
-    → room r ≤ room new_r
+    → child_room new_l ≡ child_room l
+    → child_room r ≤ child_room new_r
     → IsMended h xs ks (set xs i last) (set (set ks i new_l) (i + 1) new_r)
 moved-right h i xs ks l r new_l new_r x last moved n more few ex p some same_room room_more =
     let a = (formed-sized h l n.left_is.1).0 in let b = (formed-sized h r n.right_is.1).0 in
@@ -250,8 +250,8 @@ pub moved-left :
     → x ≡ get_or xs i 0
     → IsPassed new_l first new_r l x r moved
     → IsSome moved ↔ (0 < length (children r))
-    → room new_r ≡ room r
-    → room l ≤ room new_l
+    → child_room new_r ≡ child_room r
+    → child_room l ≤ child_room new_l
     → IsMended h xs ks (set xs i first) (set (set ks (i + 1) new_r) i new_l)
 moved-left h i xs ks l r new_l new_r x first moved n more few ex p some same_room room_more =
     let a = (formed-sized h l n.left_is.1).0 in let b = (formed-sized h r n.right_is.1).0 in
@@ -268,7 +268,7 @@ pub room-for-one :
     → IsFormed h to
     → length (row to) < LEAST
     → IsSome moved ↔ (0 < length (children from))
-    → length (option_to_list moved) + length (children to) ≤ room to
+    → length (option_to_list moved) + length (children to) ≤ child_room to
 room-for-one h from to moved ff ft few some =
     let a = (formed-sized h from ff).0 in let b = (formed-sized h to ft).0 in
     omega (arith, moved-one h (length (row from)) moved (rw a.count at some), b.count, b.has_room, arity-fits h 0 (length (row to)) (omega arith))
@@ -277,7 +277,7 @@ room-for-one h from to moved ff ft few some =
 pub record JoinFits (h i : ℕ) (xs : List ℕ) (ks : List Node) (l r : Node) : Type 0 where
   pub pair : AreNeighbours h i xs ks l r
   pub fits : length (row l) + length (row r) < CAPACITY
-  pub room_is : length (children l) + length (children r) ≤ room l
+  pub room_is : length (children l) + length (children r) ≤ child_room l
 
 pub join-fits :
     (h j i : ℕ) (xs : List ℕ) (ks : List Node) (l r : Node)
@@ -305,7 +305,7 @@ pub merged :
     → x ≡ get_or xs i 0
     → row one ≡ row l ++ x ∷ row r
     → children one ≡ children l ++ children r
-    → room l ≤ room one
+    → child_room l ≤ child_room one
     → IsMended h xs ks (remove xs i) (set (remove ks (i + 1)) i one)
 merged h i xs ks l r one x j ex rows below more =
     let n = j.pair in let fits = j.fits in let o = n.one_more in let at = n.here in let four = n.left_is.0 in

@@ -94,22 +94,22 @@ module _ {F R : Type 0} (g : Mut F (ℕ × Unit {0}) R) (xs : List ℕ) (ix : �
   narrower : (j : ℕ) → among j → others j
   narrower j h = (contains-without xs ix j h.0 h.1, h.1)
 
-  pub can-enter : (a : Asking F) → CanSearch g xs (Some ix) a → CanSearch g (without xs ix) (Some ix) a
-  can-enter a can = CanAsk-fewer g others among wider can
+  pub can-insert : (a : Asking F) → CanSearch g xs (Some ix) a → CanSearch g (without xs ix) (Some ix) a
+  can-insert a can = CanAsk-fewer g others among wider can
 
-  pub can-enter_then :
+  pub can-insert_then :
       (a b : Asking F)
       → SearchAsks g xs (Some ix) a b
       → CanSearch g xs (Some ix) a
       → CanSearch g (without xs ix) (Some ix) b
-  can-enter_then a b asked can = CanAsk-fewer g others among wider (CanAsk-later g among asked.after can)
+  can-insert_then a b asked can = CanAsk-fewer g others among wider (CanAsk-later g among asked.after can)
 
   pub asked-both :
       {a b c : Asking F}
       → SearchAsks g xs (Some ix) a b
       → SearchAsks g (without xs ix) (Some ix) b c
       → AsksWithin g among (2 * bound (length xs)) a c
-  asked-both left entered = let less = fewer xs ix in asks_more g among (omega arith) (asks_then g among left (asks_wider g others among wider entered))
+  asked-both left inserted = let less = fewer xs ix in asks_more g among (omega arith) (asks_then g among left (asks_wider g others among wider inserted))
 
   pub puts-then :
       {read : R → Ordering} {a b : Asking F} {ys : List ℕ}

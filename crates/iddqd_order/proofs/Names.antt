@@ -11,13 +11,13 @@ pub use Rattle.iddqd_order.specs.Digits.{bound, digits_within, row_asks}
 unfoldable pub use Rattle.iddqd_order.specs.Digits.{digits}
 pub use Rattle.iddqd_order.specs.KeyOrder.{ComparesKeys, IsInKeyOrder, key_then_index}
 pub use Rattle.iddqd_order.specs.MapBTreeTable.{IsIndexList, sentinel, without, Order}
-pub use Rattle.iddqd_order.specs.Node.{AtIndex, FullBelow, InGap, Stop, IsInner, IsLeaf, after, before, child, children, room, row, weave, Fits, Goes, Holds, HoldsIndex, IsPut, place, Reaches}
+pub use Rattle.iddqd_order.specs.Node.{AtIndex, FullBelow, InGap, Stop, IsInner, IsLeaf, after, before, child, children, child_room, row, weave, IsPlaceIn, ReachesGap, ReachesIndex, LeadsToIndex, IsPut, place, Reaches}
 unfoldable pub use Rattle.iddqd_order.specs.Node.{IsFormed, IsFullBelow, flat, spot, Passes}
 pub use Rattle.iddqd_order.specs.Removal.{IsChild, IsEmptied, IsMended, MayLackOne}
 pub use Rattle.iddqd_order.specs.Row.{IsCut}
 pub use Rattle.iddqd_order.specs.Search.{Askable, CanSearch, Finds, IsPlace, IsRising, IsSteadyRising, Searches, SearchesWithin, with_ties}
-pub use Rattle.iddqd_order.specs.Tree.{GoesIn, HoldsIn, IsTree, in_order, inners_in, place_in, spot_in, FullIn, IsTable, ReachesIn, blocks_for}
-pub use Rattle.iddqd_order.specs.Ways.{IsWay, SamePlaces, StepsOn}
+pub use Rattle.iddqd_order.specs.Tree.{ReachesGapIn, ReachesIndexIn, IsTree, in_order, inners_in, place_in, spot_in, FullIn, IsTable, ReachesIn, blocks_for}
+pub use Rattle.iddqd_order.specs.SpotCursor.{IsSpotCursor, SamePlaces, StepsToNext}
 pub use Rattle.iddqd_order.specs.declared.btree_table.asking.Asking.{Asking}
 pub use Rattle.iddqd_order.specs.declared.btree_table.node.Node.{Node}
 pub use Rattle.iddqd_order.specs.declared.btree_table.gap.Gap.{Gap}
@@ -28,7 +28,7 @@ pub use Rattle.iddqd_order.specs.declared.btree_table.reserve.TheConstants.{FREE
 pub use Rattle.iddqd_order.specs.declared.btree_table.row.TheConstants.{CAPACITY, LEAST}
 pub use Rattle.iddqd_order.specs.declared.btree_table.node.Node.TheOpen.{Node-F}
 pub use Rattle.iddqd_order.specs.declared.btree_table.node.Node.TheViews.{out-Node, out-roll-Node, roll-Node, roll-out-Node}
-pub use Rattle.iddqd_order.specs.declared.btree_table.ways.Way.{Way}
+pub use Rattle.iddqd_order.specs.declared.btree_table.spot_cursor.SpotCursor.{SpotCursor}
 pub use Rattle.std.proofs.Common.{All, Bool, Contains, Err, IfOk, IfSome, IsNone, IsSome, IsTrue, List, None, Ok, Option, Ordering, Result, Some, Vec, [], add-one, ap, append_assoc, arith, below_more, drop, eq-eqb, eqb, eqb-true, false, filter, get_or, get_or-set_other, get_or-set_same, if◌then◌else◌, inl, inr, insert, is_ok, is_some, length, length-append, length-drop, length-set, map, min, nat_eq, ne_eqb, not, option_to_list, refl, remove, rules, set, slice_index, slice_set, sub-one, subst, suc, sym, take, true, vec_capacity, vec_len, zero, zero-add, ℕ, ◌*◌, ◌++◌, ◌+◌, ◌-◌, ◌/◌, ◌<◌, ◌==◌, ◌^◌, ◌↔◌, ◌∙◌, ◌∷◌, ◌≡◌, ◌≢◌, ◌≤◌, ◌⊎◌, IsPermutation, is_err, nat_lt}
 pub use Rattle.std.proofs.Math.Nat.{mul-le-mul_right, one-le-pow, pow-le-pow_right, pow-suc}
 pub use Rattle.std.proofs.lemmas.Bool.{cases_eq, cases_lt, eqb-false, true≢false, cond_both, not-true}

@@ -1,5 +1,5 @@
 -- One level of a tree at a time, and of a path down it.
-use Rattle.iddqd_order.proofs.Names.{true, false, ◌∙◌, sym, slice_set, get_or-set_same, get_or-set_other, nat_eq, eq-eqb, ne_eqb, cases_eq, inl, inr, Fits, Passes, Reaches, Holds, spot, ◌≡◌, ℕ, zero, suc, ◌+◌, ◌-◌, ◌<◌, ◌≤◌, ◌≢◌, List, [], ◌∷◌, length, get_or, map, slice_index, refl, ap, arith, sub-one, All, vec_capacity, insert, length-map, get_or-map, All-permutation, IsPermutation-insert, All-cons, Node, Node-F, roll-Node, out-roll-Node, row, children, child, room, weave, before, flat, IsInner, IsLeaf, IsFormed, Goes, place, FullBelow, IsFullBelow, CAPACITY, LEAST, CHILDREN, LEVELS, Stop, AtIndex, InGap}
+use Rattle.iddqd_order.proofs.Names.{true, false, ◌∙◌, sym, slice_set, get_or-set_same, get_or-set_other, nat_eq, eq-eqb, ne_eqb, cases_eq, inl, inr, IsPlaceIn, Passes, Reaches, ReachesIndex, spot, ◌≡◌, ℕ, zero, suc, ◌+◌, ◌-◌, ◌<◌, ◌≤◌, ◌≢◌, List, [], ◌∷◌, length, get_or, map, slice_index, refl, ap, arith, sub-one, All, vec_capacity, insert, length-map, get_or-map, All-permutation, IsPermutation-insert, All-cons, Node, Node-F, roll-Node, out-roll-Node, row, children, child, child_room, weave, before, flat, IsInner, IsLeaf, IsFormed, ReachesGap, place, FullBelow, IsFullBelow, CAPACITY, LEAST, CHILDREN, LEVELS, Stop, AtIndex, InGap}
 use Rattle.iddqd_order.proofs.WeaveLemmas.{within, index_place}
 use Rattle.iddqd_order.proofs.WeaveRemovalLemmas.{weave-within, weave-within_at}
 
@@ -108,10 +108,10 @@ row-roll r = ap (λ z. z.row) (out-roll-Node r)
 pub children-roll : (r : Node-F Node) → children (roll-Node r) ≡ r.children.items
 children-roll r = ap (λ z. z.children.items) (out-roll-Node r)
 
-pub room-roll : (r : Node-F Node) → room (roll-Node r) ≡ vec_capacity r.children
+pub room-roll : (r : Node-F Node) → child_room (roll-Node r) ≡ vec_capacity r.children
 room-roll r = ap (λ z. vec_capacity z.children) (out-roll-Node r)
 
-pub room-from : (r : Node-F Node) → CHILDREN ≤ vec_capacity r.children → CHILDREN ≤ room (roll-Node r)
+pub room-from : (r : Node-F Node) → CHILDREN ≤ vec_capacity r.children → CHILDREN ≤ child_room (roll-Node r)
 room-from r h = rw room-roll h
 
 -- what a write to a path leaves
@@ -131,7 +131,7 @@ module _ {stop : Stop} where
       (l h : ℕ) (n : Node) (p : List ℕ)
       → h ≡ 0
       → Reaches stop l h n p
-      → Fits stop (slice_index p 0) (length (row n))
+      → IsPlaceIn stop (slice_index p 0) (length (row n))
   unfolding Passes
   holds-leaf l h n p e w = (rw e at w.passes).1
 
@@ -140,7 +140,7 @@ module _ {stop : Stop} where
       → h ≢ 0
       → h ≡ l
       → Reaches stop l h n p
-      → Fits stop (slice_index p h) (length (row n))
+      → IsPlaceIn stop (slice_index p h) (length (row n))
   unfolding Passes
   holds-at l zero n p ne e w = absurd (ne refl)
   holds-at l (suc h) n p ne e w = w.passes.1 (sym e)
@@ -175,13 +175,13 @@ module _ {stop : Stop} where
 -- and one that ends at the node itself
 pub reaches-here :
     (stop : Stop) (l : ℕ) (n : Node) (p : List ℕ)
-    → Fits stop (slice_index p l) (length (row n))
+    → IsPlaceIn stop (slice_index p l) (length (row n))
     → Reaches stop l l n p
 unfolding Passes
 reaches-here stop zero n p fits = record { passes = (omega arith, fits) }
 reaches-here stop (suc h) n p fits = record { passes = (omega arith, λ _. fits, λ le. absurd (omega arith)) }
 
-pub holds-here : (l : ℕ) (n : Node) (p : List ℕ) → slice_index p l < length (row n) → Holds l l n p
+pub holds-here : (l : ℕ) (n : Node) (p : List ℕ) → slice_index p l < length (row n) → ReachesIndex l l n p
 holds-here l n p lt = reaches-here AtIndex l n p lt
 
 pub spot-leaf : (l h : ℕ) (n : Node) (p : List ℕ) → h ≡ 0 → spot l h n p ≡ slice_index p 0
@@ -209,33 +209,33 @@ spot-below l zero n p ne e = absurd (ne refl)
 spot-below l (suc h) n p ne e = let t : nat_eq l (suc h) ≡ false = ne_eqb l (suc h) (λ z. e (sym z)) in rw (t, sub-one)
 
 -- a place of a row, and one of a list between its indexes, is one of the whole list
-Fits-le : (stop : Stop) (i count : ℕ) → Fits stop i count → i ≤ count
-Fits-le AtIndex i count lt = omega arith
-Fits-le InGap i count le = le
+IsPlaceIn-le : (stop : Stop) (i count : ℕ) → IsPlaceIn stop i count → i ≤ count
+IsPlaceIn-le AtIndex i count lt = omega arith
+IsPlaceIn-le InGap i count le = le
 
-Fits-row :
+IsPlaceIn-row :
     (stop : Stop) (i : ℕ) (xs : List ℕ) (ks : List (List ℕ))
     → length ks ≡ length xs + 1
-    → Fits stop i (length xs)
-    → Fits stop (index_place i xs ks) (length (weave xs ks))
-Fits-row AtIndex i xs ks one lt = weave-within_at i xs ks [] lt one
-Fits-row InGap i xs ks one le = within i xs ks [] (length (get_or ks i [])) (omega arith) one (omega arith)
+    → IsPlaceIn stop i (length xs)
+    → IsPlaceIn stop (index_place i xs ks) (length (weave xs ks))
+IsPlaceIn-row AtIndex i xs ks one lt = weave-within_at i xs ks [] lt one
+IsPlaceIn-row InGap i xs ks one le = within i xs ks [] (length (get_or ks i [])) (omega arith) one (omega arith)
 
-Fits-list :
+IsPlaceIn-list :
     (stop : Stop) (i : ℕ) (xs : List ℕ) (ks : List (List ℕ)) (q : ℕ)
     → length ks ≡ length xs + 1
     → i < length ks
-    → Fits stop q (length (get_or ks i []))
-    → Fits stop (length (before i xs ks) + q) (length (weave xs ks))
-Fits-list AtIndex i xs ks q one lt low = weave-within i xs ks [] q lt one low
-Fits-list InGap i xs ks q one lt low = within i xs ks [] q lt one low
+    → IsPlaceIn stop q (length (get_or ks i []))
+    → IsPlaceIn stop (length (before i xs ks) + q) (length (weave xs ks))
+IsPlaceIn-list AtIndex i xs ks q one lt low = weave-within i xs ks [] q lt one low
+IsPlaceIn-list InGap i xs ks q one lt low = within i xs ks [] q lt one low
 
 -- an index or gap to which a path goes is a place in the list
 pub spot-within :
     {stop : Stop} (l h : ℕ) (n : Node) (p : List ℕ)
     → IsFormed h n
     → Reaches stop l h n p
-    → Fits stop (spot l h n p) (length (flat h n))
+    → IsPlaceIn stop (spot l h n p) (length (flat h n))
 unfolding Passes spot flat IsFormed
 spot-within l zero n p f w = w.passes.1
 spot-within {stop = stop} l (suc h) n p f w =
@@ -246,14 +246,14 @@ spot-within {stop = stop} l (suc h) n p f w =
     elim (cases_eq l (suc h)) [
       | inl e ↦
           (let t : nat_eq l (suc h) ≡ true = eq-eqb l (suc h) e in
-          let le = Fits-le stop i (length (row n)) (w.passes.1 e) in
-          rw t (rw (lists-at h n i (omega arith)) at (Fits-row stop i (row n) ks (omega arith) (w.passes.1 e))))
+          let le = IsPlaceIn-le stop i (length (row n)) (w.passes.1 e) in
+          rw t (rw (lists-at h n i (omega arith)) at (IsPlaceIn-row stop i (row n) ks (omega arith) (w.passes.1 e))))
       | inr e ↦
           (let t : nat_eq l (suc h) ≡ false = ne_eqb l (suc h) e in
           let le = w.passes.0 in
           let down = w.passes.2 (omega arith) in
           let below = spot-within {stop = stop} l h (child n i) p (f.1 i n down.0).1 (record { passes = down.1 }) in
-          rw t (Fits-list stop i (row n) ks (spot l h (child n i) p) (omega arith) (omega arith) (rw (lists-at h n i down.0) below)))
+          rw t (IsPlaceIn-list stop i (row n) ks (spot l h (child n i) p) (omega arith) (omega arith) (rw (lists-at h n i down.0) below)))
     ]
 
 -- a path goes on into the i-th child
@@ -263,7 +263,7 @@ pub record GoesDown (stop : Stop) (h l i : ℕ) (n : Node) (p : List ℕ) : Type
   pub five : LEAST ≤ length (row (child n i))
   pub formed : IsFormed (h - 1) (child n i)
   pub holds : Reaches stop l (h - 1) (child n i) p
-  pub within : Fits stop (spot l (h - 1) (child n i) p) (length (flat (h - 1) (child n i)))
+  pub within : IsPlaceIn stop (spot l (h - 1) (child n i) p) (length (flat (h - 1) (child n i)))
   pub place : spot l h n p ≡ length (before i (row n) (lists (h - 1) (children n))) + spot l (h - 1) (child n i) p
 
 abbrev pub GoesBelow : ℕ → ℕ → ℕ → Node → List ℕ → Type 0
@@ -294,10 +294,10 @@ goes-below {stop = stop} h l i n p lt ei f w =
     }
 
 -- the same of a gap
-pub goes-leaf : (h : ℕ) (n : Node) (p : List ℕ) → h ≡ 0 → Goes h n p → slice_index p 0 ≤ length (row n)
+pub goes-leaf : (h : ℕ) (n : Node) (p : List ℕ) → h ≡ 0 → ReachesGap h n p → slice_index p 0 ≤ length (row n)
 goes-leaf h n p e g = holds-leaf 0 h n p e g
 
-pub goes-inner : (h : ℕ) (n : Node) (p : List ℕ) → h ≢ 0 → Goes h n p → HoldsBelow InGap 0 h n p
+pub goes-inner : (h : ℕ) (n : Node) (p : List ℕ) → h ≢ 0 → ReachesGap h n p → HoldsBelow InGap 0 h n p
 goes-inner h n p ne g = holds-below 0 h n p ne ne g
 
 pub place-leaf : (h : ℕ) (n : Node) (p : List ℕ) → h ≡ 0 → place h n p ≡ slice_index p 0
@@ -310,5 +310,5 @@ pub place-inner :
     (child n (slice_index p h)) p
 place-inner h n p ne = spot-below 0 h n p ne ne
 
-pub place-within : (h : ℕ) (n : Node) (p : List ℕ) → IsFormed h n → Goes h n p → place h n p ≤ length (flat h n)
+pub place-within : (h : ℕ) (n : Node) (p : List ℕ) → IsFormed h n → ReachesGap h n p → place h n p ≤ length (flat h n)
 place-within h n p f g = spot-within 0 h n p f g

@@ -1,5 +1,5 @@
 -- New names for the indexes of a node and of all below it; a copy has the same names.
-use Rattle.iddqd_order.proofs.Names.{◌≡◌, ◌≢◌, ℕ, ◌+◌, ◌-◌, ◌<◌, ◌≤◌, List, [], ◌∷◌, ◌++◌, length, get_or, map, refl, ap, sym, ◌∙◌, subst, arith, All, length-map, get_or-map, map-append, same_lists, All-nil, All-cons, All-head, All-tail, Node, IsCopy, row, children, room, weave, flat, IsFormed, before, after, CAPACITY}
+use Rattle.iddqd_order.proofs.Names.{◌≡◌, ◌≢◌, ℕ, ◌+◌, ◌-◌, ◌<◌, ◌≤◌, List, [], ◌∷◌, ◌++◌, length, get_or, map, refl, ap, sym, ◌∙◌, subst, arith, All, length-map, get_or-map, map-append, same_lists, All-nil, All-cons, All-head, All-tail, Node, IsCopy, row, children, child_room, weave, flat, IsFormed, before, after, CAPACITY}
 use Rattle.std.proofs.lemmas.List.{map-id}
 use Rattle.iddqd_order.proofs.WeaveLemmas.{All-front, All-back, apart}
 use Rattle.iddqd_order.proofs.NodeLemmas.{lists, lists-one_more, formed-inner, flat-inner}
@@ -48,7 +48,7 @@ pub renamed :
     (f : ℕ → ℕ) (h : ℕ) (old new : Node)
     → IsFormed h old
     → row new ≡ map f (row old)
-    → arity h CAPACITY ≤ room new
+    → arity h CAPACITY ≤ child_room new
     → length (children new) ≡ length (children old)
     → ((j : ℕ) (d : Node) → j < length (children old) → IsRenamed f (h - 1) (get_or (children old) j d)
     (get_or (children new) j d))
@@ -76,7 +76,7 @@ pub copied :
     (h : ℕ) (n m : Node)
     → IsFormed h n
     → row m ≡ row n
-    → arity h CAPACITY ≤ room m
+    → arity h CAPACITY ≤ child_room m
     → length (children m) ≡ length (children n)
     → ((j : ℕ) (d : Node) → j < length (children n) → IsCopy (h - 1) (get_or (children n) j d)
     (get_or (children m) j d))
@@ -89,7 +89,7 @@ copied h n m fn er has_room count each =
 -- the first i children have new names, and so has the row
 pub record AreRenamed (f : ℕ → ℕ) (h i : ℕ) (old now : Node) : Type 0 where
   pub row_is : row now ≡ map f (row old)
-  pub room_is : room now ≡ room old
+  pub room_is : child_room now ≡ child_room old
   pub length_is : length (children now) ≡ length (children old)
   pub done :
       (j : ℕ) (d : Node)

@@ -1,5 +1,5 @@
 -- What a removal below a node leaves of the node.
-use Rattle.iddqd_order.proofs.Names.{get_or_default, ◌≡◌, ◌≢◌, ℕ, zero, suc, ◌+◌, ◌-◌, ◌<◌, ◌≤◌, List, [], ◌∷◌, ◌++◌, length, take, drop, set, get_or, remove, slice_index, refl, ap, sym, ◌∙◌, subst, arith, sub-one, length-set, get_or-set_same, get_or-set_other, All, vec_capacity, Option, Some, None, map, length-map, map-set, length_push, nil_from_length, append-nil, take_more, take_all, drop_all, length-remove, Node, Node-F, roll-Node, row, children, child, room, weave, before, flat, IsInner, IsFormed, Holds, spot, IsChild, MayLackOne, IsMended, IsEmptied, in_order, IsTree, LEAST, CHILDREN}
+use Rattle.iddqd_order.proofs.Names.{get_or_default, ◌≡◌, ◌≢◌, ℕ, zero, suc, ◌+◌, ◌-◌, ◌<◌, ◌≤◌, List, [], ◌∷◌, ◌++◌, length, take, drop, set, get_or, remove, slice_index, refl, ap, sym, ◌∙◌, subst, arith, sub-one, length-set, get_or-set_same, get_or-set_other, All, vec_capacity, Option, Some, None, map, length-map, map-set, length_push, nil_from_length, append-nil, take_more, take_all, drop_all, length-remove, Node, Node-F, roll-Node, row, children, child, child_room, weave, before, flat, IsInner, IsFormed, ReachesIndex, spot, IsChild, MayLackOne, IsMended, IsEmptied, in_order, IsTree, LEAST, CHILDREN}
 use Rattle.iddqd_order.specs.Tree.{inners_in}
 use Rattle.std.specs.List.{sum_by}
 unfoldable use Rattle.iddqd_order.specs.Node.{inners}
@@ -20,7 +20,7 @@ pub ends-inner :
     → h ≡ l
     → i ≡ slice_index p h
     → IsFormed h n
-    → Holds l h n p
+    → ReachesIndex l h n p
     → EndsInner h l i n p
 ends-inner h l i n p ne e ei f w =
     let at : i < length (row n) = rw ei (holds-at l h n p ne e w) in
@@ -100,7 +100,7 @@ pub took-below :
     → i ≡ slice_index p h
     → IsFormed h old
     → 1 ≤ length (row old)
-    → Holds l h old p
+    → ReachesIndex l h old p
     → g ≡ get_or (children old) i g
     → flat (h - 1) k ≡ remove (flat (h - 1) g) (spot l (h - 1) g p)
     → IsFormed (h - 1) k
@@ -119,7 +119,7 @@ pub took-here :
     → i ≡ slice_index p h
     → IsFormed h old
     → 1 ≤ length (row old)
-    → Holds l h old p
+    → ReachesIndex l h old p
     → g ≡ get_or (children old) i g
     → flat (h - 1) g ≡ flat (h - 1) k ++ last ∷ []
     → IsFormed (h - 1) k
@@ -178,7 +178,7 @@ pub remade :
     → IsMended (h - 1) xs ks new_xs new_ks
     → row new ≡ new_xs
     → children new ≡ new_ks
-    → room old ≤ room new
+    → child_room old ≤ child_room new
     → IsRemade h old new left
 remade h i old new xs new_xs ks new_ks left t m er ek rm =
     let hr = t.inner.has_room in let sm = t.same in let fw = m.fewer in let wi = m.within in
@@ -192,14 +192,14 @@ remade h i old new xs new_xs ks new_ks left t m er ek rm =
 -- the node when an index was taken from its i-th child, before it is mended
 pub record TookNow (h i : ℕ) (old now : Node) (left : List ℕ) : Type 0 where
   pub took : TookBelow h i old (row now) (children now) left
-  pub room_is : room now ≡ room old
+  pub room_is : child_room now ≡ child_room old
 
 pub took-now :
     (h i : ℕ) (old now : Node) (xs : List ℕ) (ks : List Node) (left : List ℕ)
     → TookBelow h i old xs ks left
     → row now ≡ xs
     → children now ≡ ks
-    → room now ≡ room old
+    → child_room now ≡ child_room old
     → TookNow h i old now left
 took-now h i old now xs ks left t er ek rm = record { took = rw (er, ek) t; room_is = rm }
 
@@ -209,7 +209,7 @@ pub remade-leaf :
     → h ≡ 0
     → i ≡ slice_index p h
     → IsFormed h old
-    → Holds l h old p
+    → ReachesIndex l h old p
     → row new ≡ remove (row old) i
     → children new ≡ children old
     → IsRemade h old new (remove (flat h old) (spot l h old p))
@@ -265,7 +265,7 @@ last-of-leaf h count old new last e ec f some erc elc ek =
 -- the child to which a path goes
 pub record ChildAt (l h : ℕ) (n g : Node) (p : List ℕ) : Type 0 where
   pub formed : IsChild (h - 1) g
-  pub holds : Holds l (h - 1) g p
+  pub holds : ReachesIndex l (h - 1) g p
 
 pub child-below :
     (l h i : ℕ) (n g : Node) (p : List ℕ)
@@ -273,7 +273,7 @@ pub child-below :
     → h ≢ l
     → i ≡ slice_index p h
     → IsFormed h n
-    → Holds l h n p
+    → ReachesIndex l h n p
     → g ≡ get_or (children n) i g
     → ChildAt l h n g p
 child-below l h i n g p ne e ei f w is_g =
@@ -294,7 +294,7 @@ child-before h i n g ne le f is_g =
     (here, rw (is_g ∙ get_or_default (children n) i g n here) ((formed-inner h n ne f).below i n here))
 
 -- a node just made has the room of the one before
-pub room-kept : (n : Node) (r : Node-F Node) → vec_capacity r.children ≡ room n → room n ≤ room (roll-Node r)
+pub room-kept : (n : Node) (r : Node-F Node) → vec_capacity r.children ≡ child_room n → child_room n ≤ child_room (roll-Node r)
 room-kept n r e = let s = room-roll r in omega arith
 
 -- a root without indexes or children
@@ -313,7 +313,7 @@ bare (suc h) (Some m) n s e none =
 -- the only child of a root without indexes is a tree of one level less, and holds the same
 pub record IsLowered (h : ℕ) (r : Option Node) (n : Node) (left : List Node) (k : Node) : Type 0 where
   pub alone : left ≡ []
-  pub has_room : CHILDREN ≤ room n
+  pub has_room : CHILDREN ≤ child_room n
   pub inners : inners_in r h ≡ inners (h - 1) k + 1
   pub tree : IsTree (Some k) (h - 1)
   pub items : flat (h - 1) k ≡ in_order r h
@@ -341,7 +341,7 @@ lowered (suc h) (Some m) n left k s e is =
     let five = c.0 in let high = e.2 in
     record {
       alone = alone;
-      has_room = subst (λ z. CHILDREN ≤ room z) same e.0.0.has_room;
+      has_room = subst (λ z. CHILDREN ≤ child_room z) same e.0.0.has_room;
       inners = rw sub-one (omega (arith, ap (sum_by (λ k. inners h k)) one));
       tree = rw sub-one (c.1, omega arith, omega arith);
       items = rw sub-one (sym (ap (λ z. weave z (map (λ k. flat h k) (children m))) e.1 ∙ ap (λ z. weave [] (map (λ k. flat h k) z)) one));

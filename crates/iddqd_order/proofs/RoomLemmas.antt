@@ -6,9 +6,9 @@ use Rattle.std.proofs.lemmas.List.{length-append}
 use Rattle.std.proofs.lemmas.List.Elements.{All-head, All-tail}
 use Rattle.std.proofs.lemmas.List.Sums.{sum_by-cons}
 use Rattle.iddqd_order.specs.declared.btree_table.node.Node.{Node}
-use Rattle.iddqd_order.specs.Node.{row, children, child, weave, flat, inners, IsFormed, Passes, Goes, IsFullBelow}
+use Rattle.iddqd_order.specs.Node.{row, children, child, weave, flat, inners, IsFormed, Passes, ReachesGap, IsFullBelow}
 use Rattle.iddqd_order.specs.MapBTreeTable.{Order, order_of, capacity, spare_blocks, move_blocks}
-use Rattle.iddqd_order.specs.Tree.{in_order, inners_in, IsTree, GoesIn, FullIn, blocks_for}
+use Rattle.iddqd_order.specs.Tree.{in_order, inners_in, IsTree, ReachesGapIn, FullIn, blocks_for}
 use Rattle.iddqd_order.proofs.InnerLemmas.{wide, inners-below, inners-root}
 use Rattle.iddqd_order.proofs.InsertLemmas.{all_full}
 use Rattle.iddqd_order.proofs.TableLemmas.{few_blocks}
@@ -37,7 +37,7 @@ wide-more f g (x ∷ xs) (n ∷ ns) (suc i) more d e a lt le =
 widened :
     (h k : ℕ) (n : Node) (p : List ℕ)
     → IsFormed (suc h) n
-    → Goes (suc h) n p
+    → ReachesGap (suc h) n p
     → 1 ≤ k
     → 30 * (inners h (child n (slice_index p (suc h))) + k) ≤ length (flat h (child n (slice_index p (suc h)))) + 20
     → 30 * (inners (suc h) n + k) + 6 * length (row n) ≤ length (flat (suc h) n) + 50
@@ -52,7 +52,7 @@ path-full :
     (h k : ℕ) (n : Node) (p : List ℕ)
     → IsFormed h n
     → LEAST ≤ length (row n)
-    → Goes h n p
+    → ReachesGap h n p
     → 1 ≤ k
     → k ≤ h + 1
     → IsFullBelow k h n p
@@ -61,7 +61,7 @@ unfolding inners flat IsFormed Passes IsFullBelow
 path-full zero k n p f five g some le full = let eleven = full.0 (omega arith) in omega arith
 path-full (suc h) k n p f five g some le full =
     let down = g.passes.2 (omega arith) in
-    let on : Goes h (child n (slice_index p (suc h))) p = record { passes = down.1 } in
+    let on : ReachesGap h (child n (slice_index p (suc h))) p = record { passes = down.1 } in
     let below = f.1 (slice_index p (suc h)) n down.0 in
     elim (cases_lt (h + 1) k) [
       | inl lt ↦
@@ -85,7 +85,7 @@ root-full :
     (h k : ℕ) (n : Node) (p : List ℕ)
     → IsFormed h n
     → 1 ≤ length (row n)
-    → Goes h n p
+    → ReachesGap h n p
     → k ≤ h + 1
     → IsFullBelow k h n p
     → 30 * (inners h n + blocks_for h k) ≤ length (flat h n) + 20
@@ -106,7 +106,7 @@ root-full (suc h) (suc k) n p f one g le full =
 pub none-fresh :
     (r : Option Node) (h blocks k : ℕ) (p : List ℕ)
     → IsTree r h
-    → GoesIn r h p
+    → ReachesGapIn r h p
     → FullIn k r h p
     → k ≤ h + 1
     → length (in_order r h) < INDEXES_OF_A_BLOCK * blocks + FREE_INDEXES
@@ -128,7 +128,7 @@ move-few t low = elim (cases_lt (capacity t) (length (order_of t))) [ inl lt ↦
 pub enough-blocks :
     (t : Order) (k blocks : ℕ) (p : List ℕ)
     → IsTree t.root t.height
-    → GoesIn t.root t.height p
+    → ReachesGapIn t.root t.height p
     → FullIn k t.root t.height p
     → k ≤ t.height + 1
     → (capacity t ≤ length (order_of t) → t.height < blocks)

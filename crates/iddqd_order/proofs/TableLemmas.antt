@@ -1,5 +1,5 @@
 -- What a table's calls leave of its parts.
-use Rattle.iddqd_order.proofs.Names.{Ok, ◌≡◌, ◌≢◌, ℕ, ◌+◌, ◌-◌, ◌*◌, ◌<◌, ◌≤◌, List, [], length, get_or, map, slice_index, refl, ap, sym, ◌∙◌, arith, Option, Some, None, Err, Bool, true, false, nat_lt, if◌then◌else◌, All, Contains, not, ◌==◌, Ordering, insert, remove, length-insert, length-remove, length-map, All-nil, All-weaker, All-filter, All-map, Contains-get_or, cases_lt, inl, inr, CanRemap, remapped, IndexRemap, Mut, Asking, Node, Descends, EndsIn, in_order, inners_in, IsTree, IsTable, GoesIn, place_in, HoldsIn, spot_in, blocks_for, order_of, IsIndexList, without, sentinel, Askable, Searches, MOST_INDEXES, row_asks, Gap, Spot, AtIndex, InGap}
+use Rattle.iddqd_order.proofs.Names.{Ok, ◌≡◌, ◌≢◌, ℕ, ◌+◌, ◌-◌, ◌*◌, ◌<◌, ◌≤◌, List, [], length, get_or, map, slice_index, refl, ap, sym, ◌∙◌, arith, Option, Some, None, Err, Bool, true, false, nat_lt, if◌then◌else◌, All, Contains, not, ◌==◌, Ordering, insert, remove, length-insert, length-remove, length-map, All-nil, All-weaker, All-filter, All-map, Contains-get_or, cases_lt, inl, inr, CanRemap, remapped, IndexRemap, Mut, Asking, Node, Descends, EndsIn, in_order, inners_in, IsTree, IsTable, ReachesGapIn, place_in, ReachesIndexIn, spot_in, blocks_for, order_of, IsIndexList, without, sentinel, Askable, Searches, MOST_INDEXES, row_asks, Gap, Spot, AtIndex, InGap}
 use Rattle.iddqd_order.proofs.AskLemmas.{asks_more, asks_none}
 use Rattle.iddqd_order.proofs.NodeLemmas.{All-insert}
 use Rattle.iddqd_order.proofs.IndexListLemmas.{IsIndexList-nil, IsDistinct-insert, IsDistinct-filter, remove-distinct}
@@ -89,7 +89,7 @@ module _ {F R : Type 0} (g : Mut F (ℕ × Unit {0}) R) (read : R → Ordering) 
 pub IsTable-put :
     {q o : ℕ} (r : Option Node) (h n : ℕ) (p : List ℕ) (ix : ℕ) (s : Option Node) (k : ℕ)
     → IsTable r h n q
-    → GoesIn r h p
+    → ReachesGapIn r h p
     → (Contains (in_order r h) ix → ⊥)
     → ix < sentinel
     → IsTree s k
@@ -118,7 +118,7 @@ pub record Shorter (r : Option Node) (h n : ℕ) (ix : ℕ) (s : Option Node) (k
 pub shorter :
     {q o : ℕ} (r : Option Node) (h n : ℕ) (l : ℕ) (p : List ℕ) (ix : ℕ) (s : Option Node) (k : ℕ)
     → IsTable r h n q
-    → HoldsIn l r h p
+    → ReachesIndexIn l r h p
     → slice_index (in_order r h) (spot_in l r h p) ≡ ix
     → IsTree s k
     → in_order s k ≡ remove (in_order r h) (spot_in l r h p)

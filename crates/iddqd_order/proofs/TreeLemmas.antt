@@ -1,5 +1,5 @@
 -- What an insert leaves of a tree.
-use Rattle.iddqd_order.proofs.Names.{GoesIn, place_in, Fits, ReachesIn, spot_in, ◌≡◌, ℕ, ◌+◌, ◌-◌, ◌<◌, ◌≤◌, ◌≢◌, List, [], ◌∷◌, length, refl, ap, ◌∙◌, arith, Option, Some, None, insert, length-insert, All-cons, All-nil, Node, row, children, room, flat, IsFormed, Goes, place, in_order, IsTree, IsChild, CHILDREN, LEVELS, MOST_INDEXES, Stop, InGap}
+use Rattle.iddqd_order.proofs.Names.{ReachesGapIn, place_in, IsPlaceIn, ReachesIn, spot_in, ◌≡◌, ℕ, ◌+◌, ◌-◌, ◌<◌, ◌≤◌, ◌≢◌, List, [], ◌∷◌, length, refl, ap, ◌∙◌, arith, Option, Some, None, insert, length-insert, All-cons, All-nil, Node, row, children, child_room, flat, IsFormed, ReachesGap, place, in_order, IsTree, IsChild, CHILDREN, LEVELS, MOST_INDEXES, Stop, InGap}
 use Rattle.iddqd_order.proofs.NodeLemmas.{AreChildren, leaf-formed, flat-leaf, inner-formed, flat-inner, place-within, spot-within}
 use Rattle.iddqd_order.proofs.InsertLemmas.{Cut}
 use Rattle.iddqd_order.proofs.ReckoningLemmas.{twelve_levels}
@@ -29,11 +29,11 @@ first_root n x er ek =
 pub new_root :
     (h : ℕ) (old lower new : Node) (m : ℕ) (upper : Node) (p : List ℕ) (x : ℕ)
     → IsFormed h old
-    → Goes h old p
+    → ReachesGap h old p
     → Cut h old lower m upper p x
     → row new ≡ m ∷ []
     → children new ≡ lower ∷ upper ∷ []
-    → CHILDREN ≤ room new
+    → CHILDREN ≤ child_room new
     → length (flat h old) ≤ MOST_INDEXES
     → IsRoot (h + 1) new (insert (flat h old) (place h old p) x)
 new_root h old lower new m upper p x f g c er ek rm small =
@@ -72,13 +72,13 @@ pub spot_in-within :
     (stop : Stop) (l : ℕ) (r : Option Node) (h : ℕ) (p : List ℕ)
     → IsTree r h
     → ReachesIn stop l r h p
-    → Fits stop (spot_in l r h p) (length (in_order r h))
+    → IsPlaceIn stop (spot_in l r h p) (length (in_order r h))
 spot_in-within stop l None h p t w = w
 spot_in-within stop l (Some n) h p t w = spot-within l h n p t.0 w
 
 pub place_in-within :
     (r : Option Node) (h : ℕ) (p : List ℕ)
     → IsTree r h
-    → GoesIn r h p
+    → ReachesGapIn r h p
     → place_in r h p ≤ length (in_order r h)
 place_in-within r h p t g = spot_in-within InGap 0 r h p t g

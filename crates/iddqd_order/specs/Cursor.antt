@@ -7,8 +7,8 @@ use Rattle.iddqd_order.specs.declared.btree_table.cursor.Cursor.{Cursor}
 use Rattle.iddqd_order.specs.declared.btree_table.cursor.End.{End}
 use Rattle.iddqd_order.specs.declared.btree_table.cursor.End.TheVariants.{Front, Back}
 use Rattle.iddqd_order.specs.declared.btree_table.node.Node.{Node}
-use Rattle.iddqd_order.specs.Node.{row, child, flat, Goes, place}
-use Rattle.iddqd_order.specs.Tree.{GoesIn, place_in}
+use Rattle.iddqd_order.specs.Node.{row, child, flat, ReachesGap, place}
+use Rattle.iddqd_order.specs.Tree.{ReachesGapIn, place_in}
 use Rattle.iddqd_order.specs.declared.btree_table.path.TheConstants.{LEVELS}
 
 -- how two gaps stand to each other
@@ -53,13 +53,13 @@ low (suc (suc h)) n p = low (suc h) (child n (slice_index p (suc (suc h)))) p
 
 -- the path p goes to the gap at an end of n, in the leaf xs
 pub record AtEdge (end : End) (h : ℕ) (n : Node) (xs p : List ℕ) : Type 0 where
-  pub goes : Goes h n p
+  pub goes : ReachesGap h n p
   pub place_is : place h n p ≡ edge_of end (length (flat h n))
   pub leaf_is : xs ≡ leaf h n p
 
 -- from the gap to which p goes, q goes over the index ix to a gap of the leaf xs
 pub record Over (towards : End) (h : ℕ) (n : Node) (p : List ℕ) (ix : ℕ) (xs q : List ℕ) : Type 0 where
-  pub goes : Goes h n q
+  pub goes : ReachesGap h n q
   pub steps : Steps towards (flat h n) (place h n p) (Some ix) (place h n q)
   pub leaf_is : xs ≡ leaf h n q
 
@@ -80,7 +80,7 @@ to_gap path at = slice_set path 0 at
 -- the path goes to a leaf, which has a gap at the place
 pub record IsGap (t : Option Node) (h : ℕ) (path : List ℕ) (at : ℕ) : Type 0 where
   pub whole : length path ≡ LEVELS
-  pub goes : GoesIn t h (to_gap path at)
+  pub goes : ReachesGapIn t h (to_gap path at)
 
 -- and the leaf is `row`
 pub record IsAt (t : Option Node) (h : ℕ) (path row : List ℕ) (at : ℕ) : Type 0 where

@@ -49,7 +49,7 @@ IfVacant (Vacant e) P = P e
 -- an entry among the indexes xs, by answers that are so read: it has a stored index, which steady answers
 -- make Equal, or else a place, which is the one where Greater ends, if the answers rise: then none is Equal
 module _ {F R : Type 0} (g : Mut F (ℕ × Unit {0}) R) (read : R → Ordering) (xs : List ℕ) where
-  pub record Enters (old : Asking F) (e : Entry) (new : Asking F) : Type 0 where
+  pub record FindsEntry (old : Asking F) (e : Entry) (new : Asking F) : Type 0 where
     pub asked : SearchAsks g xs None old new
     pub stored : IfOccupied e (λ o. Contains xs (entry_index o))
     pub hit : (answer : ℕ → Ordering) → IsSteady g xs None read answer old →

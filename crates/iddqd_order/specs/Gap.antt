@@ -1,18 +1,18 @@
--- What a contract sees of a place in a `MapBTreeTable` that isn't lent.
+-- What a contract sees of a place in a `MapBTreeTable` that isn't borrowed.
 use Rattle.std.specs.Prelude.{◌≡◌, ◌≢◌, ◌+◌, ◌≤◌, ℕ, All, Contains, Some, None, Result, Ok, Err, length}
 use Rattle.std.specs.Fn.{Mut}
 use Rattle.std.specs.declared.cmp.Ordering.{Ordering}
 use Rattle.std.specs.declared.cmp.Ordering.TheVariants.{Equal}
 use Rattle.iddqd_order.specs.MapBTreeTable.{Order, order_of, fresh_for}
 use Rattle.iddqd_order.specs.Search.{SearchAsks, IsSteady, IsSteadyRising, IsPlace, with_ties}
-use Rattle.iddqd_order.specs.Tree.{IsTree, GoesIn, FullIn, place_in}
+use Rattle.iddqd_order.specs.Tree.{IsTree, ReachesGapIn, FullIn, place_in}
 use Rattle.iddqd_order.specs.declared.btree_table.asking.Asking.{Asking}
 use Rattle.iddqd_order.specs.declared.btree_table.gap.Gap.{Gap}
 
 -- it is a place of this table
 pub record Fits (t : Order) (gap : Gap) : Type 0 where
   pub tree : IsTree t.root t.height
-  pub goes : GoesIn t.root t.height gap.path
+  pub goes : ReachesGapIn t.root t.height gap.path
   pub full : FullIn gap.full t.root t.height gap.path
   pub levels : gap.full ≤ t.height + 1
 
@@ -31,7 +31,7 @@ module _ {F R : Type 0} (g : Mut F (ℕ × Unit {0}) R) (read : R → Ordering) 
     pub stored : Contains (order_of t) ix
     pub hit : (answer : ℕ → Ordering) → IsSteady g (order_of t) None read answer old → answer ix ≡ Equal
 
-  pub record FindsPlace (old : Asking F) (gap : Gap) : Type 0 where
+  pub record FindsFreePlace (old : Asking F) (gap : Gap) : Type 0 where
     pub fits : Fits t gap
     pub within : gap_place t gap ≤ length (order_of t)
     pub place : (answer : ℕ → Ordering) → IsSteadyRising g (order_of t) None read answer old →
@@ -41,7 +41,7 @@ module _ {F R : Type 0} (g : Mut F (ℕ × Unit {0}) R) (read : R → Ordering) 
 
   abbrev pub FindsGap : Asking F → Result Gap ℕ → Asking F → Type 0
   FindsGap old (Err ix) new = SearchAsks g (order_of t) None old new × FindsStored old ix
-  FindsGap old (Ok gap) new = SearchAsks g (order_of t) None old new × FindsPlace old gap
+  FindsGap old (Ok gap) new = SearchAsks g (order_of t) None old new × FindsFreePlace old gap
 
   -- a search for the place of an index that isn't stored, which stands among equal ones by its number
   pub record FindsOwnGap (ix : ℕ) (old : Asking F) (gap : Gap) (new : Asking F) : Type 0 where

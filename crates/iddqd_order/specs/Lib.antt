@@ -23,7 +23,7 @@ pub mod Search
 pub mod Sizes
 pub mod State
 pub mod Tree
-pub mod Ways
+pub mod SpotCursor
 -- what a caller's clauses cite, from one place: of the crate below, and of this one
 pub use Rattle.iddqd.specs.Compaction
 pub use Rattle.iddqd.specs.Compaction.{remapped, CanRemap}
@@ -35,4 +35,4 @@ pub use Rattle.iddqd_order.specs.IntoIter.{indexes_to_come}
 pub use Rattle.iddqd_order.specs.Cursor.{part}
 pub use Rattle.iddqd_order.specs.Range.{indexes_ahead, IsBoundAt, IsPart, WalksFrom, WalksBetween, WalksBetweenBy}
 pub use Rattle.iddqd_order.specs.PreparedBTreeMove.{PreparesMove, PutsIn}
-pub use Rattle.iddqd_order.specs.Entry.{entry_table, entry_index, vacant_table, vacant_place, Enters}
+pub use Rattle.iddqd_order.specs.Entry.{entry_table, entry_index, vacant_table, vacant_place, FindsEntry}

@@ -7,7 +7,7 @@ use native.Mathlib.Nat.{ℕ_set}
 use Rattle.iddqd_order.specs.declared.btree_table.node.Node.{Node}
 use Rattle.iddqd_order.specs.declared.btree_table.path.Spot.{Spot}
 use Rattle.iddqd_order.specs.Node.{AtIndex}
-use Rattle.iddqd_order.specs.Tree.{in_order, inners_in, blocks_for, HoldsIn, spot_in, ReachesIn-prop}
+use Rattle.iddqd_order.specs.Tree.{in_order, inners_in, blocks_for, ReachesIndexIn, spot_in, ReachesIn-prop}
 pub use Rattle.iddqd.specs.Compaction.{sentinel}
 use Rattle.iddqd_order.specs.declared.btree_table.reserve.TheConstants.{INDEXES_OF_A_BLOCK, FREE_INDEXES}
 
@@ -73,7 +73,7 @@ move_blocks t = if nat_lt (capacity t) (length (order_of t)) then t.height + 1 e
 
 -- a stored index stands at the spot, at this place of the list
 abbrev pub IsSpot : Order → Spot → Type 0
-IsSpot t spot = HoldsIn spot.level t.root t.height spot.path
+IsSpot t spot = ReachesIndexIn spot.level t.root t.height spot.path
 
 abbrev pub spot_place : Order → Spot → ℕ
 spot_place t spot = spot_in spot.level t.root t.height spot.path

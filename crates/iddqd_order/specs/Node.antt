@@ -17,8 +17,8 @@ abbrev pub children : Node → List Node
 children n = (out-Node n).children.items
 
 -- how many children its block has room for
-abbrev pub room : Node → ℕ
-room n = vec_capacity (out-Node n).children
+abbrev pub child_room : Node → ℕ
+child_room n = vec_capacity (out-Node n).children
 
 -- the i-th child
 abbrev pub child : Node → ℕ → Node
@@ -65,7 +65,7 @@ pub record IsLeaf (n : Node) : Type 0 where
 pub record IsInner (n : Node) : Type 0 where
   pub within : length (row n) ≤ CAPACITY
   pub one_more : length (children n) ≡ length (row n) + 1
-  pub has_room : CHILDREN ≤ room n
+  pub has_room : CHILDREN ≤ child_room n
 
 -- all leaves are equally deep, and each node below the root has five indexes or more
 unfoldable pub IsFormed : ℕ → Node → Type 0
@@ -78,14 +78,14 @@ pub data Stop : Type 0 where
   InGap : Stop
 
 -- a place of one of so many indexes, or else of one of their gaps, of which there is one more
-abbrev pub Fits : Stop → ℕ → ℕ → Type 0
-Fits AtIndex i count = i < count
-Fits InGap i count = i ≤ count
+abbrev pub IsPlaceIn : Stop → ℕ → ℕ → Type 0
+IsPlaceIn AtIndex i count = i < count
+IsPlaceIn InGap i count = i ≤ count
 
 -- a path p has at each level above l the place of the child taken there, and at level l a place in the row
 unfoldable pub Passes : Stop → ℕ → ℕ → Node → List ℕ → Type 0
-Passes stop l zero n p = (l ≤ 0) × Fits stop (slice_index p 0) (length (row n))
-Passes stop l (suc h) n p = (l ≤ suc h) × (l ≡ suc h → Fits stop (slice_index p (suc h)) (length (row n)))
+Passes stop l zero n p = (l ≤ 0) × IsPlaceIn stop (slice_index p 0) (length (row n))
+Passes stop l (suc h) n p = (l ≤ suc h) × (l ≡ suc h → IsPlaceIn stop (slice_index p (suc h)) (length (row n)))
     × (l ≤ h → (slice_index p (suc h) < length (children n)) × Passes stop l h (child n (slice_index p (suc h))) p)
 
 -- a path goes down to level l, and there to an index, or else to a gap
@@ -101,16 +101,16 @@ spot l (suc h) n p = length (before (slice_index p (suc h)) (row n) (map (λ k. 
     else spot l h (child n (slice_index p (suc h))) p)
 
 -- a path goes down to level l, and there to an index
-abbrev pub Holds : ℕ → ℕ → Node → List ℕ → Type 0
-Holds l h n p = Reaches AtIndex l h n p
+abbrev pub ReachesIndex : ℕ → ℕ → Node → List ℕ → Type 0
+ReachesIndex l h n p = Reaches AtIndex l h n p
 
 -- and this index is ix
-abbrev pub HoldsIndex : ℕ → ℕ → Node → List ℕ → ℕ → Type 0
-HoldsIndex l h n p ix = Holds l h n p × (slice_index (flat h n) (spot l h n p) ≡ ix)
+abbrev pub LeadsToIndex : ℕ → ℕ → Node → List ℕ → ℕ → Type 0
+LeadsToIndex l h n p ix = ReachesIndex l h n p × (slice_index (flat h n) (spot l h n p) ≡ ix)
 
 -- a path goes to a gap, which is one of a leaf; the place of this gap in the whole list
-abbrev pub Goes : ℕ → Node → List ℕ → Type 0
-Goes h n p = Reaches InGap 0 h n p
+abbrev pub ReachesGap : ℕ → Node → List ℕ → Type 0
+ReachesGap h n p = Reaches InGap 0 h n p
 
 abbrev pub place : ℕ → Node → List ℕ → ℕ
 place h n p = spot 0 h n p

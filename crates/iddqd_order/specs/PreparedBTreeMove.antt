@@ -27,7 +27,7 @@ index_of p = p.ix
 unfoldable pub blocks_of : PreparedMove → ℕ
 blocks_of p = p.blocks
 
--- where memory was refused, the table is as it was
+-- if memory ran out, the table is as it was
 abbrev pub rests_if_refused : {E : Type 0} → MutBor Order → Result PreparedMove E → Fml
 rests_if_refused t r = RestsIfErr the_row t (λ p. p.table.ghost_name) r (λ n. n ≡ t.now)
 

@@ -5,7 +5,7 @@ use Rattle.std.specs.Coded.{×_prop, →_prop, le_prop}
 use native.Mathlib.Nat.{ℕ_set}
 use Rattle.iddqd.specs.Compaction.{sentinel}
 use Rattle.iddqd_order.specs.declared.btree_table.node.Node.{Node}
-use Rattle.iddqd_order.specs.Node.{row, child, flat, inners, IsFormed, Stop, AtIndex, InGap, Fits, Passes, Reaches, spot, FullBelow, IsFullBelow}
+use Rattle.iddqd_order.specs.Node.{row, child, flat, inners, IsFormed, Stop, AtIndex, InGap, IsPlaceIn, Passes, Reaches, spot, FullBelow, IsFullBelow}
 use Rattle.iddqd_order.specs.declared.btree_table.path.TheConstants.{LEVELS}
 
 -- its indexes, in order
@@ -25,7 +25,7 @@ IsTree (Some n) h = IsFormed h n × (1 ≤ length (row n)) × (h < LEVELS)
 
 -- a path goes down to level l, and there to an index, or else to a gap; where there is nothing, to the only gap
 abbrev pub ReachesIn : Stop → ℕ → Option Node → ℕ → List ℕ → Type 0
-ReachesIn stop l None h p = Fits stop 0 0
+ReachesIn stop l None h p = IsPlaceIn stop 0 0
 ReachesIn stop l (Some n) h p = Reaches stop l h n p
 
 -- the place of that index or gap
@@ -34,12 +34,12 @@ spot_in l None h p = 0
 spot_in l (Some n) h p = spot l h n p
 
 -- a path goes down to level l, and there to an index
-abbrev pub HoldsIn : ℕ → Option Node → ℕ → List ℕ → Type 0
-HoldsIn l r h p = ReachesIn AtIndex l r h p
+abbrev pub ReachesIndexIn : ℕ → Option Node → ℕ → List ℕ → Type 0
+ReachesIndexIn l r h p = ReachesIn AtIndex l r h p
 
 -- a path goes to a gap; the place of this gap
-abbrev pub GoesIn : Option Node → ℕ → List ℕ → Type 0
-GoesIn r h p = ReachesIn InGap 0 r h p
+abbrev pub ReachesGapIn : Option Node → ℕ → List ℕ → Type 0
+ReachesGapIn r h p = ReachesIn InGap 0 r h p
 
 abbrev pub place_in : Option Node → ℕ → List ℕ → ℕ
 place_in r h p = spot_in 0 r h p
@@ -74,19 +74,19 @@ pub FullIn-prop : (k : ℕ) (r : Option Node) (h : ℕ) (p : List ℕ) → IsPro
 FullIn-prop k None h p = ℕ_set _ _
 FullIn-prop k (Some n) h p = IsFullBelow-prop k h n p
 
-Fits-prop : (stop : Stop) (i count : ℕ) → IsProp (Fits stop i count)
-Fits-prop AtIndex i count = le_prop
-Fits-prop InGap i count = le_prop
+IsPlaceIn-prop : (stop : Stop) (i count : ℕ) → IsProp (IsPlaceIn stop i count)
+IsPlaceIn-prop AtIndex i count = le_prop
+IsPlaceIn-prop InGap i count = le_prop
 
 Passes-prop : (stop : Stop) (l h : ℕ) (n : Node) (p : List ℕ) → IsProp (Passes stop l h n p)
 unfolding Passes
-Passes-prop stop l zero n p u v = ×_prop le_prop (Fits-prop stop (slice_index p 0) (length (row n))) u v
+Passes-prop stop l zero n p u v = ×_prop le_prop (IsPlaceIn-prop stop (slice_index p 0) (length (row n))) u v
 Passes-prop stop l (suc h) n p u v = λ i. (
   le_prop u.0 v.0 i,
-  →_prop (Fits-prop stop (slice_index p (suc h)) (length (row n))) u.1 v.1 i,
+  →_prop (IsPlaceIn-prop stop (slice_index p (suc h)) (length (row n))) u.1 v.1 i,
   →_prop (×_prop le_prop (Passes-prop stop l h (child n (slice_index p (suc h))) p)) u.2 v.2 i,
 )
 
 pub ReachesIn-prop : (stop : Stop) (l : ℕ) (r : Option Node) (h : ℕ) (p : List ℕ) → IsProp (ReachesIn stop l r h p)
-ReachesIn-prop stop l None h p u v = Fits-prop stop 0 0 u v
+ReachesIn-prop stop l None h p u v = IsPlaceIn-prop stop 0 0 u v
 ReachesIn-prop stop l (Some n) h p u v = λ i. record { passes = Passes-prop stop l h n p u.passes v.passes i }

@@ -3,7 +3,7 @@ use Rattle.std.proofs.Common.{◌≡◌, ◌≢◌, ◌⊎◌, inl, inr, ◌↔�
 use Rattle.std.specs.List.{Contains}
 use Rattle.iddqd.proofs.StoreLemmas.{contains_head, contains_tail, contains_cases, contains_none}
 use Rattle.iddqd_tri.specs.Clashes.{IsBefore, IsOneOf, IsOneOfTwo, AreInOrder}
-use Rattle.iddqd_keys.specs.Removals.{IsRising}
+use Rattle.iddqd_keys.specs.Removals.{IsIncreasing}
 
 -- two steps and a third put three in order
 module _
@@ -127,10 +127,10 @@ less_of_one x y z less here = elim (contains_cases y z [] here) [
   | inr none ↦ absurd (contains_none z none)
 ]
 
-pub IsRising-listed : (a b c : Option ℕ) → AreInOrder a b c → IsRising (listed a b c)
-IsRising-listed a b c o = by_view (view a b c o)
+pub IsIncreasing-listed : (a b c : Option ℕ) → AreInOrder a b c → IsIncreasing (listed a b c)
+IsIncreasing-listed a b c o = by_view (view a b c o)
   where
-    by_view : {a b c : Option ℕ} → View a b c → IsRising (listed a b c)
+    by_view : {a b c : Option ℕ} → View a b c → IsIncreasing (listed a b c)
     by_view none_there = tt
     by_view one_there = (λ y here. absurd (contains_none y here), tt)
     by_view (two_there {x} {y} less) = (λ z here. less_of_one x y z less here, (λ z here. absurd (contains_none z here), tt))

@@ -10,13 +10,13 @@ use Rattle.iddqd.specs.ItemSet.{SizedStore}
 use Rattle.iddqd.proofs.LiveLemmas.{live_at}
 use Rattle.iddqd.proofs.StoreLemmas.{contains_head, contains_none}
 use Rattle.iddqd_keys.specs.Scan.{IsLive, IsHit, passes_by}
-use Rattle.iddqd_by_hash.specs.Hashed.{IsLawful, IsExact, Finds, LooksUp}
+use Rattle.iddqd_by_hash.specs.Hashed.{IsLawful, IsInSync, Finds, LooksUp}
 use Rattle.iddqd_by_hash.proofs.FindLemmas.{StandsForOne-key}
 use Rattle.iddqd_keys.proofs.ScanLemmas.{scan_hits}
 use Rattle.iddqd_tri.specs.Clashes.{IsOneOf, AreInOrder}
 use Rattle.iddqd_tri.specs.TriKeys.{ItemKey, TriKeys, hashing_in, shares, hashes_in}
 use Rattle.iddqd_keys.specs.Removals.{removed_all}
-use Rattle.iddqd_tri.specs.TriState.{Maps, TriState, unbound_all, bound, maps_without, maps_without_all, maps_with, IsTriState, ClashesAt, HasNoClash, AreClashes}
+use Rattle.iddqd_tri.specs.TriState.{Maps, TriState, unbound_all, inserted_state, maps_without, maps_without_all, maps_with, IsTriState, ClashesAt, HasNoClash, AreClashes}
 use Rattle.iddqd_tri.specs.TriTables.{maps_of, tri_state_of}
 use Rattle.iddqd_keys.specs.Removals.{padded}
 use Rattle.iddqd_tri.specs.TriCalls.{FindsOne, RefusesItem, Overwriting, HasNoPlace}
@@ -24,13 +24,13 @@ use Rattle.iddqd_tri.specs.declared.tri_tables.TriTables.{TriTables}
 use Rattle.iddqd_tri.specs.declared.tri_refusal.TriRefusal.{TriRefusal}
 use Rattle.iddqd_tri.specs.declared.tri_refusal.TriRefusal.TheVariants.{Full, Memory}
 use Rattle.iddqd_keys.proofs.RemovalLemmas.{AreLiveInTurn, AreLiveInTurn-rising}
-use Rattle.iddqd_tri.proofs.ClashLemmas.{listed, Contains-listed, IsRising-listed, at_most_three}
-use Rattle.iddqd_tri.proofs.TriLemmas.{AreLawful, IsTriState-unbound, IsTriState-unbound_all, IsTriState-bound, HasNoClash-removed}
+use Rattle.iddqd_tri.proofs.ClashLemmas.{listed, Contains-listed, IsIncreasing-listed, at_most_three}
+use Rattle.iddqd_tri.proofs.TriLemmas.{AreLawful, IsTriState-unbound, IsTriState-unbound_all, IsTriState-inserted_state, HasNoClash-removed}
 
 -- look-ups in a table that is exact
 module _
     {T K S : Type 0} (key : ItemKey T K S) (s : TriState T S) (m : FinMap nat_cmp ℕ)
-    (exact : IsExact key.key_of (hashing_in key s.hasher) s.store m)
+    (exact : IsInSync key.key_of (hashing_in key s.hasher) s.store m)
   where
     pub FindsOne-exact :
         (hash : ℕ) (test : K → Bool) (r : Option ℕ)
@@ -90,7 +90,7 @@ module _ {T K1 K2 K3 S : Type 0} (keys : TriKeys T K1 K2 K3 S) where
       → AreClashes keys s item (listed a b c)
   AreClashes-listed s item a b c ordered each = record {
     each = λ ix. (λ here. (each ix).0 ((Contains-listed ix a b c).0 here), λ clash. (Contains-listed ix a b c).1 ((each ix).1 clash));
-    rising = IsRising-listed a b c ordered;
+    rising = IsIncreasing-listed a b c ordered;
     at_most_three = at_most_three a b c ordered;
   }
 
@@ -125,9 +125,9 @@ module _ {T K1 K2 K3 S : Type 0} (keys : TriKeys T K1 K2 K3 S) where
 
       pub IsTriState-overwritten :
           (IsFull (removed_all s.store clashes) → ⊥)
-          → IsTriState keys (bound keys (unbound_all s clashes) item)
+          → IsTriState keys (inserted_state keys (unbound_all s clashes) item)
       IsTriState-overwritten not_full =
-          IsTriState-bound keys (unbound_all s clashes) item lawful not_full (HasNoClash-removed keys s.store item clashes live are) (IsTriState-unbound_all keys s clashes live o)
+          IsTriState-inserted_state keys (unbound_all s clashes) item lawful not_full (HasNoClash-removed keys s.store item clashes live are) (IsTriState-unbound_all keys s clashes live o)
 
       pub overwritten :
           (r : Result (ℕ × List (Option T)) (TriRefusal T)) (store : Store T) (maps : Maps)
@@ -143,20 +143,20 @@ module _ {T K1 K2 K3 S : Type 0} (keys : TriKeys T K1 K2 K3 S) where
           → OnErr r (maps ≡ s.maps)
           → IsTriState keys (record s { store = store; maps = maps }) × Overwriting keys s item r
           (record s { store = store; maps = maps })
-      overwritten (Ok (ix, back)) store maps not_full place index values stored entered refused items_stay maps_stay = (
-        rw (stored, entered) (IsTriState-overwritten not_full),
+      overwritten (Ok (ix, back)) store maps not_full place index values stored added refused items_stay maps_stay = (
+        rw (stored, added) (IsTriState-overwritten not_full),
         record {
           clashes = clashes;
           are_clashes = are;
           place = place;
           items = values;
           index = index;
-          state = rw (stored, entered) refl;
+          state = rw (stored, added) refl;
         },
       )
-      overwritten (Err (Full back)) store maps not_full place index values stored entered refused items_stay maps_stay =
+      overwritten (Err (Full back)) store maps not_full place index values stored added refused items_stay maps_stay =
           (rw (items_stay, maps_stay) o, (refused.0, refused.1, refused.2, rw (items_stay, maps_stay) refl))
-      overwritten (Err (Memory back)) store maps not_full place index values stored entered refused items_stay maps_stay =
+      overwritten (Err (Memory back)) store maps not_full place index values stored added refused items_stay maps_stay =
           (rw (items_stay, maps_stay) o, (refused.0, refused.1, rw (items_stay, maps_stay) refl))
 
     -- an insert where nothing clashes
@@ -175,8 +175,8 @@ module _ {T K1 K2 K3 S : Type 0} (keys : TriKeys T K1 K2 K3 S) where
         → OnErr r (maps ≡ s.maps)
         → IsTriState keys (record s { store = store; maps = maps }) × Overwriting keys s item r
         (record s { store = store; maps = maps })
-    inserted_apart clashes is_empty are r store maps not_full index values stored entered refused items_stay maps_stay =
-        overwritten [] none r store maps (ok_full r not_full) (ok_place r not_full) index values stored entered (refuses r refused) items_stay maps_stay
+    inserted_apart clashes is_empty are r store maps not_full index values stored added refused items_stay maps_stay =
+        overwritten [] none r store maps (ok_full r not_full) (ok_place r not_full) index values stored added (refuses r refused) items_stay maps_stay
       where
         none : AreClashes keys s.store item []
         none = subst (λ cs. AreClashes keys s.store item cs) is_empty are
@@ -219,8 +219,8 @@ module _ {T K1 K2 K3 S : Type 0} (keys : TriKeys T K1 K2 K3 S) where
         (hashes_in keys s.hasher item)
         → IsTriState keys (record s { store = store; maps = maps }) × Overwriting keys s item (Ok r)
         (record s { store = store; maps = maps })
-    inserted_over clashes x rest some are r store maps index values stored entered =
-        overwritten clashes are (Ok r) store maps not_full place index values stored entered tt tt tt
+    inserted_over clashes x rest some are r store maps index values stored added =
+        overwritten clashes are (Ok r) store maps not_full place index values stored added tt tt tt
       where
         not_full : IsFull (removed_all s.store clashes) → ⊥
         not_full = rw some (not_full_after s.store x rest)

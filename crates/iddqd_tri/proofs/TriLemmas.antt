@@ -10,11 +10,11 @@ use Rattle.iddqd_keys.specs.Scan.{IsHit}
 use Rattle.iddqd_by_hash.specs.Hashed.{IsLawful}
 use Rattle.iddqd_by_hash.proofs.FindLemmas.{IsLawful-from_bounds}
 use Rattle.iddqd_by_hash.proofs.HoldsLemmas.{next_unfiled, Holds-empty, Holds-removed, Holds-inserted}
-use Rattle.iddqd_by_hash.proofs.PlaceLemmas.{IsExact-empty, IsExact-inserted, Keeps-removed}
+use Rattle.iddqd_by_hash.proofs.PlaceLemmas.{IsInSync-empty, IsInSync-inserted, Keeps-removed}
 use Rattle.iddqd_keys.proofs.ScanLemmas.{live_before}
 use Rattle.iddqd_tri.specs.TriKeys.{Three, TriKeys, hashing_in, hashes_in, tri_keys_of}
 use Rattle.iddqd_keys.specs.Removals.{removed_all}
-use Rattle.iddqd_tri.specs.TriState.{Maps, TriState, empty_tri_state, unbound, unbound_all, bound, maps_without, maps_with, HoldLive, IsTriState, HasNoClash, AreClashes}
+use Rattle.iddqd_tri.specs.TriState.{Maps, TriState, empty_tri_state, unbound, unbound_all, inserted_state, maps_without, maps_with, HoldLive, IsTriState, HasNoClash, AreClashes}
 use Rattle.iddqd_tri.specs.TriTables.{AreUnfiled}
 use Rattle.iddqd_tri.specs.declared.tri_item.TriItem.{Ghosts}
 use Rattle.iddqd_keys.proofs.RemovalLemmas.{AreLiveInTurn}
@@ -93,9 +93,9 @@ module _ {T K1 K2 K3 S : Type 0} (keys : TriKeys T K1 K2 K3 S) where
   IsTriState-empty limit hasher within = record {
     valid = IsValid-empty limit within;
     held = record { first = Holds-empty T limit; second = Holds-empty T limit; third = Holds-empty T limit };
-    first = IsExact-empty _ (hashing_in keys.first hasher) limit;
-    second = IsExact-empty _ (hashing_in keys.second hasher) limit;
-    third = IsExact-empty _ (hashing_in keys.third hasher) limit;
+    first = IsInSync-empty _ (hashing_in keys.first hasher) limit;
+    second = IsInSync-empty _ (hashing_in keys.second hasher) limit;
+    third = IsInSync-empty _ (hashing_in keys.third hasher) limit;
   }
 
   pub IsTriState-unbound :
@@ -120,19 +120,19 @@ module _ {T K1 K2 K3 S : Type 0} (keys : TriKeys T K1 K2 K3 S) where
   IsTriState-unbound_all s (ix ∷ rest) live o =
       IsTriState-unbound_all (unbound s ix) rest live.1 (IsTriState-unbound s ix live.0.0 live.0.1 o)
 
-  pub IsTriState-bound :
+  pub IsTriState-inserted_state :
       (s : TriState T S) (item : T)
       → AreLawful keys s.hasher
       → (IsFull s.store → ⊥)
       → HasNoClash keys s.store item
       → IsTriState keys s
-      → IsTriState keys (bound keys s item)
-  IsTriState-bound s item lawful not_full none o = record {
+      → IsTriState keys (inserted_state keys s item)
+  IsTriState-inserted_state s item lawful not_full none o = record {
     valid = IsValid-inserted s.store item o.valid not_full;
     held = HoldLive-inserted s.store s.maps item (hashes_in keys s.hasher item) o.valid o.held;
-    first = IsExact-inserted _ (hashing_in keys.first s.hasher) s.store s.maps.first item o.valid lawful.first (λ ix hit. none ix (inl hit)) o.first;
-    second = IsExact-inserted _ (hashing_in keys.second s.hasher) s.store s.maps.second item o.valid lawful.second (λ ix hit. none ix (inr (inl hit))) o.second;
-    third = IsExact-inserted _ (hashing_in keys.third s.hasher) s.store s.maps.third item o.valid lawful.third (λ ix hit. none ix (inr (inr hit))) o.third;
+    first = IsInSync-inserted _ (hashing_in keys.first s.hasher) s.store s.maps.first item o.valid lawful.first (λ ix hit. none ix (inl hit)) o.first;
+    second = IsInSync-inserted _ (hashing_in keys.second s.hasher) s.store s.maps.second item o.valid lawful.second (λ ix hit. none ix (inr (inl hit))) o.second;
+    third = IsInSync-inserted _ (hashing_in keys.third s.hasher) s.store s.maps.third item o.valid lawful.third (λ ix hit. none ix (inr (inr hit))) o.third;
   }
 
   -- once all clashes are removed there is none

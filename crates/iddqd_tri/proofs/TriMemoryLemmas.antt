@@ -29,28 +29,21 @@ len_taken m ix here =
     let some : finite.len m ≡ 0 → ⊥ = λ none. absurd (let never = rw (finite.empty_of_len m none, finite.get-empty) at here in cc) in
     omega (arith, fewer, some)
 
-len_entered :
+len_filed :
     (m : FinMap nat_cmp ℕ) (ix hash : ℕ)
     → finite.get m ix ≡ None
     → finite.len (finite.insert m ix hash) ≡ finite.len m + 1
-len_entered m ix hash none =
+len_filed m ix hash none =
     finite.len-insert nat_cmp_total m ix hash ∙ ap (λ b. cond b (finite.len m) (finite.len m + 1)) (ap is_some none)
 
 same_numbers : (a b : TableMemory) → a.capacity ≡ b.capacity → a.cells ≡ b.cells → a ≡ b
-same_numbers a b capacity cells =
-    let stage : a ≡ record { capacity = b.capacity; cells = a.cells } = ap (λ n. record { capacity = n; cells = a.cells }) capacity in
-    stage ∙ ap (λ n. record { capacity = b.capacity; cells = n }) cells
+same_numbers a b capacity cells = λ i. record { capacity = capacity i; cells = cells i }
 
 pub same_three : (a b : Three TableMemory) → a.first ≡ b.first → a.second ≡ b.second → a.third ≡ b.third → a ≡ b
-same_three a b one two three =
-    let stage : a ≡ record { first = b.first; second = a.second; third = a.third } = ap (λ t. record { first = t; second = a.second; third = a.third }) one in
-    let next : record { first = b.first; second = a.second; third = a.third } ≡ record { first = b.first; second = b.second; third = a.third } = ap (λ t. record { first = b.first; second = t; third = a.third }) two in
-    stage ∙ next ∙ ap (λ t. record { first = b.first; second = b.second; third = t }) three
+same_three a b one two three = λ i. record { first = one i; second = two i; third = three i }
 
 pub same_memory : (a b : TriMemory) → a.slots ≡ b.slots → a.tables ≡ b.tables → a ≡ b
-same_memory a b slots tables =
-    let stage : a ≡ record { slots = b.slots; tables = a.tables } = ap (λ n. record { slots = n; tables = a.tables }) slots in
-    stage ∙ ap (λ t. record { slots = b.slots; tables = t }) tables
+same_memory a b slots tables = λ i. record { slots = slots i; tables = tables i }
 
 -- a table without memory
 pub table_none :
@@ -73,14 +66,14 @@ module _ (old new : Table ℕ) where
   table_taken ix here taken kept more =
       same_numbers (table_memory new) (table_memory old) (omega (arith, ap finite.len taken, len_taken (filed old) ix here, more)) kept.same_memory
 
-  pub table_entered :
+  pub table_filed :
       (ix hash : ℕ)
       → finite.get (filed old) ix ≡ None
       → filed new ≡ finite.insert (filed old) ix hash
       → UsesRoom old new
       → table_memory new ≡ table_memory old
-  table_entered ix hash none entered used =
-      same_numbers (table_memory new) (table_memory old) (omega (arith, ap finite.len entered, len_entered (filed old) ix hash none, used.one_less)) used.same_memory
+  table_filed ix hash none added used =
+      same_numbers (table_memory new) (table_memory old) (omega (arith, ap finite.len added, len_filed (filed old) ix hash none, used.one_less)) used.same_memory
 
   module _ {A E : Type 0} (n : ℕ) (result : Result A E) (same : filed new ≡ filed old) where
     pub TableGrows-reserved :
@@ -215,9 +208,7 @@ pub set_room-held :
 set_room-held items valid fits = omega (arith, valid.counted, valid.small)
 
 same_sized : {T S : Type 0} (a b : SizedTri T S) → a.state ≡ b.state → a.memory ≡ b.memory → a ≡ b
-same_sized a b state memory =
-    let stage : a ≡ record { state = b.state; memory = a.memory } = ap (λ s. record { state = s; memory = a.memory }) state in
-    stage ∙ ap (λ m. record { state = b.state; memory = m }) memory
+same_sized a b state memory = λ i. record { state = state i; memory = memory i }
 
 module _
     {T S : Type 0} (hasher : S) (items left : SizedStore T) (tables after : TriTables)
@@ -227,7 +218,16 @@ module _
     same_state : tri_state_of hasher left.store after ≡ tri_state_of hasher items.store tables
     same_state = rw (same, same_maps) refl
 
-    pub ReservesItems-made : {A E : Type 0} (valid : IsValid items.store) (additional : ℕ) (result : Result A E) → let s = tri_state_of hasher items.store tables in let more = min additional (items.store.limit - live_count items.store) in SlotsGrow items.store.limit (reaching s additional) items.capacity left.capacity → reaching s additional ≤ left.capacity → TablesGrow more tables after → OnOk result (HaveRoom more after) → (HaveRoom more tables → IsOk result) → ReservesItems additional (sized_tri_of hasher items tables) result (sized_tri_of hasher left after)
+    pub ReservesItems-made :
+        {A E : Type 0} (valid : IsValid items.store) (additional : ℕ) (result : Result A E)
+        → let wanted = reaching (tri_state_of hasher items.store tables) additional in
+        let more = min additional (items.store.limit - live_count items.store) in
+        SlotsGrow items.store.limit wanted items.capacity left.capacity
+        → wanted ≤ left.capacity
+        → TablesGrow more tables after
+        → OnOk result (HaveRoom more after)
+        → (HaveRoom more tables → IsOk result)
+        → ReservesItems additional (sized_tri_of hasher items tables) result (sized_tri_of hasher left after)
     ReservesItems-made valid additional result slots enough grow roomy had =
         let more = min additional (items.store.limit - live_count items.store) in
         let grows = Grows-parts items tables held items.store.limit more left after slots grow in

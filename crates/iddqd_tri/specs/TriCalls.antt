@@ -5,11 +5,11 @@ use Rattle.iddqd_keys.specs.Removals.{padded}
 use Rattle.iddqd_keys.specs.Scan.{IsHit, AnswersScan, passes_by}
 use Rattle.iddqd_by_hash.specs.Hashed.{StandsForOne}
 use Rattle.iddqd_tri.specs.TriKeys.{ItemKey, TriKeys, hashing_in}
-use Rattle.iddqd_tri.specs.TriState.{TriState, unbound, unbound_all, bound, HasNoClash, AreClashes}
+use Rattle.iddqd_tri.specs.TriState.{TriState, unbound, unbound_all, inserted_state, HasNoClash, AreClashes}
 use Rattle.iddqd_tri.specs.declared.tri_refusal.TriRefusal.{TriRefusal}
 use Rattle.iddqd_tri.specs.declared.tri_refusal.TriRefusal.TheVariants.{Full, Memory}
 
--- The item comes back: the store is full, or else memory was refused.
+-- The item comes back: the store is full, or else memory ran out.
 abbrev pub HasNoPlace : {T : Type 0} → Store T → T → TriRefusal T → Type 0
 HasNoPlace s item (Full back) = (back ≡ item) × IsFull s
 HasNoPlace s item (Memory back) = (back ≡ item) × (IsFull s → ⊥)
@@ -42,10 +42,10 @@ module _ {T K1 K2 K3 S : Type 0} (keys : TriKeys T K1 K2 K3 S) where
     pub place : HasNoClash keys old.store item → IsFull old.store → ⊥
     pub items : given_back ≡ padded 3 (map (get old.store) clashes)
     pub index : ix ≡ next_index (unbound_all old clashes).store
-    pub state : new ≡ bound keys (unbound_all old clashes) item
+    pub state : new ≡ inserted_state keys (unbound_all old clashes) item
 
-  -- An insert that was refused hands the item back and changes nothing: full where nothing clashes and the store is
-  -- full, and else for want of memory.
+  -- An insert that was refused returns the item and changes nothing: it is full where nothing clashes and the store is
+  -- full, and otherwise memory ran out.
   abbrev pub RefusesItem : TriState T S → T → TriRefusal T → TriState T S → Type 0
   RefusesItem old item (Full back) new =
       (back ≡ item) × HasNoClash keys old.store item × IsFull old.store × (new ≡ old)

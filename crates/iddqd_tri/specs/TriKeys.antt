@@ -1,4 +1,4 @@
--- The three keys that items lend, and how those are compared and hashed.
+-- The three keys that items contain, and how those are compared and hashed.
 use Rattle.std.specs.Prelude.{ℕ, Bool, List}
 use Rattle.std.specs.declared.hash.Hasher as hasher
 use Rattle.std.specs.declared.hash.BuildHasher as builder

@@ -122,7 +122,8 @@ module _ {T S : Type 0} where
 
   -- Memory is there for so many more, or for as many as there can be, and no more was taken than these need. Where it
   -- was there before nothing changed. A refusal gives back no part's memory and leaves the items.
-  pub record ReservesItems {A E : Type 0} (additional : ℕ) (old : SizedTri T S) (result : Result A E) (new : SizedTri T S)
+  pub record ReservesItems
+      {A E : Type 0} (additional : ℕ) (old : SizedTri T S) (result : Result A E) (new : SizedTri T S)
       : Type 0 where
     pub state : new.state ≡ old.state
     pub reserved : OnOk result (reaching old.state additional ≤ capacity new)

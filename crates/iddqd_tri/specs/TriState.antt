@@ -6,9 +6,9 @@ use Rattle.std.specs.FinMap as finite
 use Rattle.std.specs.FinMap.{FinMap}
 use Rattle.std.specs.Coded.{Coded, code_by, coded×, coded_ℕ}
 use Rattle.iddqd.specs.Store.{Store, store_code, IsValid, empty_within, next_index, inserted, removed}
-use Rattle.iddqd_keys.specs.Removals.{IsRising, removed_all}
+use Rattle.iddqd_keys.specs.Removals.{IsIncreasing, removed_all}
 use Rattle.iddqd_keys.specs.Scan.{IsHit}
-use Rattle.iddqd_by_hash.specs.Hashed.{Holds, IsExact}
+use Rattle.iddqd_by_hash.specs.Hashed.{Holds, IsInSync}
 use Rattle.iddqd_tri.specs.TriKeys.{Three, TriKeys, hashing_in, shares, hashes_in}
 
 -- for each key the map from index to hash
@@ -86,9 +86,9 @@ module _ {T S : Type 0} where
       record s { store = removed_all s.store indexes; maps = maps_without_all s.maps indexes }
 
 module _ {T K1 K2 K3 S : Type 0} (keys : TriKeys T K1 K2 K3 S) where
-  -- the item was stored under the next index, and that index was entered under the hash of each key
-  abbrev pub bound : TriState T S → T → TriState T S
-  bound s item =
+  -- the item was stored under the next index, and that index was filed under the hash of each key
+  abbrev pub inserted_state : TriState T S → T → TriState T S
+  inserted_state s item =
       record s {
         store = inserted s.store item;
         maps = maps_with s.maps (next_index s.store) (hashes_in keys s.hasher item);
@@ -99,9 +99,9 @@ module _ {T K1 K2 K3 S : Type 0} (keys : TriKeys T K1 K2 K3 S) where
   pub record IsTriState (s : TriState T S) : Type 0 where
     pub valid : IsValid s.store
     pub held : HoldLive s.store s.maps
-    pub first : IsExact keys.first.key_of (hashing_in keys.first s.hasher) s.store s.maps.first
-    pub second : IsExact keys.second.key_of (hashing_in keys.second s.hasher) s.store s.maps.second
-    pub third : IsExact keys.third.key_of (hashing_in keys.third s.hasher) s.store s.maps.third
+    pub first : IsInSync keys.first.key_of (hashing_in keys.first s.hasher) s.store s.maps.first
+    pub second : IsInSync keys.second.key_of (hashing_in keys.second s.hasher) s.store s.maps.second
+    pub third : IsInSync keys.third.key_of (hashing_in keys.third s.hasher) s.store s.maps.third
 
   -- the index is live, and its item shares its first, its second or its third key with this item
   abbrev pub ClashesAt : Store T → T → ℕ → Type 0
@@ -115,5 +115,5 @@ module _ {T K1 K2 K3 S : Type 0} (keys : TriKeys T K1 K2 K3 S) where
   -- these are exactly the live indexes whose items share a key with this one, by rising index
   pub record AreClashes (s : Store T) (item : T) (indexes : List ℕ) : Type 0 where
     pub each : (ix : ℕ) → Contains indexes ix ↔ ClashesAt s item ix
-    pub rising : IsRising indexes
+    pub rising : IsIncreasing indexes
     pub at_most_three : length indexes ≤ 3

@@ -19,8 +19,8 @@ maps_of t = record { first = filed t.first; second = filed t.second; third = fil
 abbrev pub tri_state_of : {T S : Type 0} → S → Store T → TriTables → TriState T S
 tri_state_of hasher store tables = record { hasher = hasher; store = store; maps = maps_of tables }
 
-abbrev pub hashes_of : TriHashes → Three ℕ
-hashes_of h = record { first = h.first; second = h.second; third = h.third }
+abbrev pub three_hashes : TriHashes → Three ℕ
+three_hashes h = record { first = h.first; second = h.second; third = h.third }
 
 -- the memory of a table: it can hold as many indexes as it has, and as it has room for
 abbrev pub table_memory : Table ℕ → TableMemory

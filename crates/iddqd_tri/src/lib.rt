@@ -1,6 +1,6 @@
 //! Items with three unique keys each.
 //!
-//! [`tri_items::TriItems`] keeps items that lend their three keys: a store, and a hash table for each key.
+//! [`tri_items::TriItems`] keeps items that contain their three keys: a store, and a hash table for each key.
 #![tactic(auto)]
 
 mod clashes;

@@ -1,4 +1,4 @@
-//! What an item lends as its three keys.
+//! The three keys that an item contains.
 //!
 //! Each key is named by a type without values, so that what a table means for one key of an item is
 //! said once, of any key: users implement [`TriItem`] alone.

@@ -8,7 +8,7 @@
 //! An item that shares keys with others takes their place, and this needs no memory: each of the others leaves a
 //! slot and a place in each table. Where no other shares a key, all memory is taken before anything is written.
 //!
-//! What a clause sees is the state and beside it the memory, so a call that takes none and gives none back is one
+//! A clause sees the state and beside it the memory, so a call that leaves the memory as it was says so in one
 //! equation.
 ghost use Rattle.std.specs.Prelude.{◌≡◌, ◌↔◌, ◌+◌, ◌≤◌, ℕ, min, max, IsTrue, IsOk, IfOk, Err, option_copied};
 ghost use Rattle.iddqd.specs.{get, hash_one, slot_count, live_count};
@@ -19,13 +19,13 @@ ghost use Rattle.iddqd_tri.specs.Clashes.{AreInOrder, IsOneOf};
 ghost use Rattle.iddqd_tri.specs.TriKeys.{TriKeys, tri_keys_of, hashes_in};
 ghost use Rattle.iddqd_tri.specs.TriState.{empty_tri_state, IsTriState, ClashesAt};
 ghost use Rattle.iddqd_tri.specs.TriMemory.{no_memory, capacity, room, Grows, Shrinks, ReservesItems, NeedsMemory};
-ghost use Rattle.iddqd_tri.specs.TriTables.{hashes_of};
+ghost use Rattle.iddqd_tri.specs.TriTables.{three_hashes};
 ghost use Rattle.iddqd_tri.specs.TriCalls.{FindsKey, FindsOne, RemovesItem, Overwriting};
 
 use crate::clashes::Clashes;
 use crate::tri_item::{First, Second, Third, TriItem};
 use crate::tri_refusal::TriRefusal;
-use crate::tri_steps::{insert_apart, replace_clashes, reserve_slots, take_item};
+use crate::tri_steps::{insert_apart, remove_item, replace_clashes, reserve_slots};
 use crate::tri_tables::{TriHashes, TriTables};
 use iddqd::item_index::ItemIndex;
 use iddqd::item_set::ItemSet;
@@ -37,7 +37,7 @@ use std::alloc::{AllocError, Global};
 use std::hash::{BuildHasher, Hash};
 use std::marker::Model;
 
-/// Items that lend three keys each, no two of which share one.
+/// Items that contain three keys each, no two of which share one.
 #[derive(Drop)]
 pub struct TriItems<T: TriItem, S: BuildHasher> {
     items: ItemSet<T>,
@@ -69,7 +69,7 @@ impl<T: TriItem, S: BuildHasher> Model for TriItems<T, S> {
 pub trait TriKeyed {
     ghost use Rattle.iddqd_tri.specs.TriKeys.{TriKeys};
 
-    /// An item, which lends its keys.
+    /// An item, which contains its keys.
     type Item: TriItem;
 
     /// What hashes keys.
@@ -186,15 +186,15 @@ impl<T: TriItem, S: BuildHasher> TriItems<T, S> {
         ensures state_before { IsTriState ⟦<Self as TriKeyed>⟧.keys self.old.state }
         ensures state_after { IsTriState ⟦<Self as TriKeyed>⟧.keys self.new.state }
     {
-        take_item(&mut self.items, &mut self.tables, &self.state, ix)
+        remove_item(&mut self.items, &mut self.tables, &self.state, ix)
     }
 
-    /// Takes an item, and removes those that share a key with it, at most three, which it hands back
-    /// by rising index from the first place on.
+    /// Inserts an item, and removes those that share a key with it, at most three, which it returns by
+    /// rising index from the first place on.
     ///
-    /// Where it removes one it takes no memory, and nothing is refused. Where it removes none, the store may be full,
-    /// or else memory is refused where there is no room. A refusal hands the item back and leaves the others, and
-    /// gives back no memory that was there. The item's keys are hashed once each, and so are those of the removed ones.
+    /// If it removes one, it takes no memory and refuses nothing. If it removes none, the store may be full, or
+    /// memory may run out where there is no room. A refusal returns the item, leaves the others, and gives back no
+    /// memory that was there. The item's keys are hashed once each, and so are those of the removed ones.
     pub fn insert_overwrite(
         &mut self,
         item: T,
@@ -234,7 +234,7 @@ impl<T: TriItem, S: BuildHasher> TriItems<T, S> {
 impl<T: TriItem, S: BuildHasher> TriItems<T, S> {
     /// No items, and memory for so many, or for as many as there are indexes but `SENTINEL`. With 0 it takes none.
     ///
-    /// An `AllocError` means that memory was refused.
+    /// An `AllocError` means that memory ran out.
     pub fn with_capacity(
         alloc: Global,
         state: S,
@@ -290,7 +290,7 @@ impl<T: TriItem, S: BuildHasher> TriItems<T, S> {
 
     /// Gives back the memory that the slots and the tables don't need. Vacant slots stay.
     ///
-    /// Where smaller memory is refused the items stay, and the other parts give theirs back still.
+    /// If a part can't get smaller memory, the items stay, and the other parts still give theirs back.
     pub fn shrink_to_fit(&mut self) -> Result<(), AllocError>
         ensures state { self.new.state ≡ self.old.state }
         ensures memory { let s = self.old.state.store in
@@ -301,7 +301,7 @@ impl<T: TriItem, S: BuildHasher> TriItems<T, S> {
 
     /// Gives back the memory that so many items don't need, or those that there are where these are more.
     ///
-    /// Where smaller memory is refused the items stay, and the other parts give theirs back still.
+    /// If a part can't get smaller memory, the items stay, and the other parts still give theirs back.
     pub fn shrink_to(&mut self, least: usize) -> Result<(), AllocError>
         ensures state { self.new.state ≡ self.old.state }
         ensures memory { let s = self.old.state.store in
@@ -316,7 +316,7 @@ impl<T: TriItem, S: BuildHasher> TriItems<T, S> {
 impl<T: TriItem, S: BuildHasher> TriItems<T, S> {
     // The indexes whose items share a key with this one, by its hashes, which were computed before.
     fn clashes(&self, item: &T, hashes: &TriHashes) -> Clashes
-        requires { hashes_of hashes.now ≡ hashes_in ⟦<Self as TriKeyed>⟧.keys self.now.state.hasher item.now }
+        requires { three_hashes hashes.now ≡ hashes_in ⟦<Self as TriKeyed>⟧.keys self.now.state.hasher item.now }
         ensures ordered { AreInOrder result.first result.second result.third }
         ensures clashes { (ix : ℕ) → IsOneOf result.first result.second result.third ix
             ↔ ClashesAt ⟦<Self as TriKeyed>⟧.keys self.now.state.store item.now ix }

@@ -7,7 +7,7 @@ use std::fmt;
 pub enum TriRefusal<T> {
     /// None of its keys was found, and there are as many items as the limit allows.
     Full(T),
-    /// There is place for it, or an item to make place, and memory was refused.
+    /// The store is not full, or another item makes place, and memory ran out.
     Memory(T),
 }
 

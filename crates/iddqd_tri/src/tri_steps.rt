@@ -1,8 +1,8 @@
 //! The steps that the store and the three tables of items with three keys take together.
 //!
-//! They are lent apart, since a step has to say which room each of them has left. Without a clash the store's
-//! handle is held while the tables take memory. With one the first removal makes the room in the store and in
-//! each table, so no memory is taken and nothing can be refused.
+//! A step borrows the store and the tables apart, since its contract says how much room each of them has left. Without
+//! a clash the store's handle is held while the tables take memory. With one the first removal makes the room in the
+//! store and in each table, so no memory is taken and nothing can be refused.
 ghost use Rattle.std.specs.Prelude.{◌≡◌, ◌≤◌, ◌+◌, ℕ, [], ◌∷◌, map, Some, None, IsSome, IsOk, IfOk, OnOk, IfErr, OnErr, OnSome, IfSome, IfNone};
 ghost use Rattle.std.specs.Option.{option_and_then};
 ghost use Rattle.iddqd.specs.{get, room, live_count, next_index, inserted, removed, IsFull, IsValid};
@@ -11,7 +11,7 @@ ghost use Rattle.iddqd_tri.specs.Clashes.{AreInOrder, IsOneOf, clashing};
 ghost use Rattle.iddqd_keys.specs.Removals.{removed_all};
 ghost use Rattle.iddqd_tri.specs.TriState.{maps_without, maps_with, maps_without_all, HoldLive};
 ghost use Rattle.iddqd_tri.specs.TriMemory.{SlotsGrow};
-ghost use Rattle.iddqd_tri.specs.TriTables.{maps_of, hashes_of, memory_of, tables_memory, HaveRoom, TablesGrow, maps_without_one, removed_one};
+ghost use Rattle.iddqd_tri.specs.TriTables.{maps_of, three_hashes, memory_of, tables_memory, HaveRoom, TablesGrow, maps_without_one, removed_one};
 ghost use Rattle.iddqd_keys.specs.Removals.{padded};
 ghost use Rattle.iddqd_tri.specs.TriCalls.{HasNoPlace};
 
@@ -24,9 +24,9 @@ use iddqd::item_set::{GrowError, ItemSet};
 use std::alloc::AllocError;
 use std::hash::BuildHasher;
 
-/// Takes the item at an index out of the store, and the index out of each table, if it is live. It
-/// takes no memory.
-pub(crate) fn take_item<T: TriItem, S: BuildHasher>(
+/// Removes the item at an index from the store, and the index from each table, if it is live. It takes
+/// no memory.
+pub(crate) fn remove_item<T: TriItem, S: BuildHasher>(
     items: &mut ItemSet<T>,
     tables: &mut TriTables,
     state: &S,
@@ -44,12 +44,12 @@ pub(crate) fn take_item<T: TriItem, S: BuildHasher>(
 {
     let item = items.get(ix)?;
     let hashes = TriHashes::of(state, item);
-    tables.take(hashes, ix);
+    tables.remove(hashes, ix);
     items.remove(ix)
 }
 
-// Takes the item at an index that clashes out of the store and the tables, if there is one.
-fn take_clash<T: TriItem, S: BuildHasher>(
+// Removes the item at an index that clashes from the store and the tables, if there is one.
+fn remove_clash<T: TriItem, S: BuildHasher>(
     items: &mut ItemSet<T>,
     tables: &mut TriTables,
     state: &S,
@@ -67,13 +67,13 @@ fn take_clash<T: TriItem, S: BuildHasher>(
     ensures tables_room { IsSome ix → HaveRoom 1 tables.new }
     ensures tables_room_stays { HaveRoom 1 tables.old → HaveRoom 1 tables.new }
 {
-    take_item(items, tables, state, ix?)
+    remove_item(items, tables, state, ix?)
 }
 
-// Takes the items at these indexes out of the store and the tables, in this order. They come back as a
+// Removes the items at these indexes from the store and the tables, in this order. They come back as a
 // tuple: a caller of a function that returns an array of a generic type has to prove that the array
 // fits into memory, in one goal with all that the function requires, which is expensive to check.
-fn take_clashes<T: TriItem, S: BuildHasher>(
+fn remove_clashes<T: TriItem, S: BuildHasher>(
     items: &mut ItemSet<T>,
     tables: &mut TriTables,
     state: &S,
@@ -90,9 +90,9 @@ fn take_clashes<T: TriItem, S: BuildHasher>(
     ensures room { IsSome clashes.first → 1 ≤ room items.new }
     ensures tables_room { IsSome clashes.first → HaveRoom 1 tables.new }
 {
-    let first = take_clash(items, tables, state, clashes.first);
-    let second = take_clash(items, tables, state, clashes.second);
-    let third = take_clash(items, tables, state, clashes.third);
+    let first = remove_clash(items, tables, state, clashes.first);
+    let second = remove_clash(items, tables, state, clashes.second);
+    let third = remove_clash(items, tables, state, clashes.third);
     (first, second, third)
 }
 
@@ -108,7 +108,7 @@ fn store_in_room<T>(items: &mut ItemSet<T>, item: T) -> ItemIndex
     }
 }
 
-/// Takes memory for so many slots, where there aren't as many.
+/// Takes memory for so many slots, unless there are as many.
 pub(crate) fn reserve_slots<T>(items: &mut ItemSet<T>, wanted: usize) -> Result<(), AllocError>
     requires { wanted ≤ items.old.store.limit }
     ensures contents { items.new.store ≡ items.old.store }
@@ -122,8 +122,8 @@ pub(crate) fn reserve_slots<T>(items: &mut ItemSet<T>, wanted: usize) -> Result<
     items.reserve(wanted - items.slot_count())
 }
 
-/// Stores an item that clashes with none, and enters its index under the hashes. All memory is taken
-/// before anything is written.
+/// Stores an item that clashes with none, and files its index under the hashes. All memory is taken before
+/// anything is written.
 pub(crate) fn insert_apart<T: TriItem>(
     items: &mut ItemSet<T>,
     tables: &mut TriTables,
@@ -136,8 +136,8 @@ pub(crate) fn insert_apart<T: TriItem>(
     ensures index { IfOk result (λ r. r.0 ≡ next_index items.old.store) }
     ensures values { IfOk result (λ r. r.1 ≡ padded 3 []) }
     ensures stored { OnOk result (items.new.store ≡ inserted items.old.store item) }
-    ensures entered { OnOk result (maps_of tables.new
-        ≡ maps_with (maps_of tables.old) (next_index items.old.store) (hashes_of hashes)) }
+    ensures added { OnOk result (maps_of tables.new
+        ≡ maps_with (maps_of tables.old) (next_index items.old.store) (three_hashes hashes)) }
     ensures refused { IfErr result (HasNoPlace items.old.store item) }
     ensures items_stay { OnErr result (items.new.store ≡ items.old.store) }
     ensures tables_stay { OnErr result (maps_of tables.new ≡ maps_of tables.old) }
@@ -156,12 +156,12 @@ pub(crate) fn insert_apart<T: TriItem>(
         return Err(TriRefusal::Memory(item));
     }
     let ix = handle.insert(item);
-    tables.enter(hashes, ix);
+    tables.insert(hashes, ix);
     Ok((ix, [None, None, None]))
 }
 
-/// Takes the items that clash with an item, stores it and enters its index under the hashes. It takes no memory.
-/// The items that clash come back as `take_clashes` gives them.
+/// Removes the items that clash with an item, stores it and files its index under the hashes. It takes no memory.
+/// The items that clash come back as `remove_clashes` returns them.
 pub(crate) fn replace_clashes<T: TriItem, S: BuildHasher>(
     items: &mut ItemSet<T>,
     tables: &mut TriTables,
@@ -179,13 +179,13 @@ pub(crate) fn replace_clashes<T: TriItem, S: BuildHasher>(
     ensures values { let values = padded 3 (map (get items.old.store) (clashing clashes)) in
         result.1.0 ∷ (result.1.1 ∷ (result.1.2 ∷ [])) ≡ values }
     ensures stored { items.new.store ≡ inserted (removed_all items.old.store (clashing clashes)) item }
-    ensures entered { let left = removed_all items.old.store (clashing clashes) in
+    ensures added { let left = removed_all items.old.store (clashing clashes) in
         maps_of tables.new
-        ≡ maps_with (maps_without_all (maps_of tables.old) (clashing clashes)) (next_index left) (hashes_of hashes) }
+        ≡ maps_with (maps_without_all (maps_of tables.old) (clashing clashes)) (next_index left) (three_hashes hashes) }
     ensures memory { memory_of items.new tables.new ≡ memory_of items.old tables.old }
 {
-    let removed = take_clashes(items, tables, state, clashes);
+    let removed = remove_clashes(items, tables, state, clashes);
     let ix = store_in_room(items, item);
-    tables.enter(hashes, ix);
+    tables.insert(hashes, ix);
     (ix, removed)
 }

@@ -1,9 +1,9 @@
-//! The three tables of items with three keys: each step is one of each table.
+//! The three tables of items with three keys: each step does the same in all three.
 ghost use Rattle.std.specs.Prelude.{◌≡◌, ◌≤◌, OnOk, OnErr, IsOk};
 ghost use Rattle.iddqd_tri.specs.TriKeys.{tri_keys_of, hashes_in};
 ghost use Rattle.iddqd_tri.specs.TriState.{no_maps, maps_without, maps_with};
 ghost use Rattle.iddqd_tri.specs.TriMemory.{no_memory, least_capacity};
-ghost use Rattle.iddqd_tri.specs.TriTables.{maps_of, hashes_of, tables_memory, HaveRoom, AreFiled, AreUnfiled, HaveLen, TablesGrow, TablesShrink, SomeHasMore};
+ghost use Rattle.iddqd_tri.specs.TriTables.{maps_of, three_hashes, tables_memory, HaveRoom, AreFiled, AreUnfiled, HaveLen, TablesGrow, TablesShrink, SomeHasMore};
 
 use crate::tri_item::{First, Second, Third, TriItem};
 use iddqd::item_index::ItemIndex;
@@ -34,7 +34,7 @@ impl TriHashes {
     pub(crate) fn of<T: TriItem, S: BuildHasher>(state: &S, item: &T) -> TriHashes
         ensures { let keys = tri_keys_of T.TriItem T.Key1.eq T.Key1.hash_input T.Key2.eq T.Key2.hash_input
             T.Key3.eq T.Key3.hash_input S.BuildHasher S.Hasher.Hasher in
-            hashes_of result ≡ hashes_in keys state.now item.now }
+            three_hashes result ≡ hashes_in keys state.now item.now }
     {
         TriHashes {
             first: hashed::hash_of::<T, First, S>(state, item),
@@ -77,8 +77,8 @@ impl TriTables {
         self.third.try_reserve(additional)
     }
 
-    /// Gives back the memory that so many indexes don't need, or those that there are. A table that is refused smaller
-    /// memory doesn't keep the others from giving back theirs.
+    /// Gives back the memory that so many indexes don't need, or those that there are. If one table can't get
+    /// smaller memory, the others still give back theirs.
     pub(crate) fn shrink_to(&mut self, least: usize) -> Result<(), AllocError>
         ensures contents { maps_of self.new ≡ maps_of self.old }
         ensures memory { TablesShrink least self.old result self.new }
@@ -93,11 +93,11 @@ impl TriTables {
         third
     }
 
-    /// Enters an index under a hash in each table. It takes no memory.
-    pub(crate) fn enter(&mut self, hashes: TriHashes, ix: ItemIndex)
+    /// Files an index under a hash in each table. It takes no memory.
+    pub(crate) fn insert(&mut self, hashes: TriHashes, ix: ItemIndex)
         requires room { HaveRoom 1 self.old }
         requires new { AreUnfiled (maps_of self.old) ix }
-        ensures entered { maps_of self.new ≡ maps_with (maps_of self.old) ix (hashes_of hashes) }
+        ensures added { maps_of self.new ≡ maps_with (maps_of self.old) ix (three_hashes hashes) }
         ensures memory { tables_memory self.new ≡ tables_memory self.old }
     {
         self.first.insert_prehashed_unchecked(hashes.first, ix);
@@ -105,9 +105,9 @@ impl TriTables {
         self.third.insert_prehashed_unchecked(hashes.third, ix);
     }
 
-    /// Takes an index out of each table, by a look-up under its hash, or else by a walk. It takes no
+    /// Removes an index from each table, by a look-up under its hash, or else by a walk. It takes no
     /// memory.
-    pub(crate) fn take(&mut self, hashes: TriHashes, ix: ItemIndex)
+    pub(crate) fn remove(&mut self, hashes: TriHashes, ix: ItemIndex)
         requires { AreFiled (maps_of self.old) ix }
         ensures taken { maps_of self.new ≡ maps_without (maps_of self.old) ix }
         ensures memory { tables_memory self.new ≡ tables_memory self.old }

@@ -1,8 +1,8 @@
 //! Memory that is taken ahead and given back.
 //!
 //! The capacity is how many items there can be without asking for memory: the least of what the store and both tables
-//! can hold. A removal leaves the room that it makes, so below the capacity no insert is refused memory, whatever was
-//! inserted and removed before. No call changes it but an insert without room, and those here.
+//! can hold. A removal leaves the room that it makes, so below the capacity no insert runs out of memory, whatever was
+//! inserted and removed before. Only an insert without room and the calls here change the capacity.
 ghost use Rattle.std.specs.Prelude.{◌≡◌, ◌≤◌, ◌*◌, min, max, IsOk, IfOk, OnOk};
 ghost use Rattle.iddqd.specs.{slot_limit};
 ghost use Rattle.iddqd_driver.specs.State.{empty_state};
@@ -61,7 +61,7 @@ impl<T: KeyedItem, S: BuildHasher> KeyedItems<T, S> {
 
     /// Takes memory so that `additional` inserts need none, or as many as the limit leaves.
     ///
-    /// Where there is that room already, nothing changes. `AllocError` means that memory was refused, or that no vector
+    /// Where there is that room already, nothing changes. `AllocError` means that memory ran out, or that no vector
     /// can hold so many; the items stay, and no part can hold less than before.
     pub fn reserve(&mut self, additional: usize) -> Result<(), AllocError>
         ensures { ReservesInMemory additional self.old result self.new }
@@ -85,7 +85,7 @@ impl<T: KeyedItem, S: BuildHasher> KeyedItems<T, S> {
 
     /// Gives back the memory that the items don't need. Vacant slots stay, and so does their memory.
     ///
-    /// `AllocError` means that smaller memory was refused to the store or to the hash table; the items stay.
+    /// `AllocError` means that the store or the hash table could not get smaller memory; the items stay.
     pub fn shrink_to_fit(&mut self) -> Result<(), AllocError>
         ensures { ShrinksInMemory 0 self.old result self.new }
     {
@@ -95,7 +95,7 @@ impl<T: KeyedItem, S: BuildHasher> KeyedItems<T, S> {
     /// Gives back the memory that so many items don't need, or those that there are where these are more. Vacant slots
     /// stay, and so does their memory.
     ///
-    /// `AllocError` means that smaller memory was refused to the store or to the hash table; the items stay.
+    /// `AllocError` means that the store or the hash table could not get smaller memory; the items stay.
     pub fn shrink_to(&mut self, least: usize) -> Result<(), AllocError>
         ensures { ShrinksInMemory least self.old result self.new }
     {
@@ -105,7 +105,7 @@ impl<T: KeyedItem, S: BuildHasher> KeyedItems<T, S> {
     }
 }
 
-// Takes memory for so many slots, where there aren't as many.
+// Takes memory for so many slots, unless there are as many.
 fn reserve_slots<T>(items: &mut ItemSet<T>, wanted: usize) -> Result<(), AllocError>
     requires { wanted ≤ items.old.store.limit }
     ensures store { items.new.store ≡ items.old.store }

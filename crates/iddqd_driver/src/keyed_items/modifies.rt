@@ -3,7 +3,7 @@ ghost use Rattle.std.specs.Borrow.{MutBor};
 ghost use Rattle.std.specs.Prelude.{◌≡◌, Some};
 ghost use Rattle.iddqd.specs.{get};
 ghost use Rattle.iddqd_keys.specs.KeyKeeping.{KeepsKey, pair_keys};
-ghost use Rattle.iddqd_driver.specs.Sides.{first_side, second_side, LooksUp, Keeps};
+ghost use Rattle.iddqd_driver.specs.KeyIndexes.{first_key_index, second_key_index, LooksUp, Keeps};
 ghost use Rattle.iddqd_driver.specs.Queries.{GivesFound};
 ghost use Rattle.iddqd_driver.specs.Modify.{ModifiesAt, ModifiesFound};
 
@@ -32,9 +32,9 @@ impl<T: KeyedItem, S: BuildHasher> KeyedItems<T, S> {
     /// none, and doesn't call it, where the look-up misses. Else as `modify_at`.
     pub fn modify1<R, F: FnOnce(&mut T) -> R>(&mut self, key: &T::Key1, f: F) -> Option<R>
         requires { let keys = pair_keys T.first_key T.second_key in
-            let finds = LooksUp (first_side ⟦<Self as Keyed>⟧.keys) self.old.state key.now in
+            let finds = LooksUp (first_key_index ⟦<Self as Keyed>⟧.keys) self.old.state key.now in
             KeepsKey F.FnOnce f keys (λ item. GivesFound self.old.state.store finds (Some item)) }
-        ensures modifies { let finds = LooksUp (first_side ⟦<Self as Keyed>⟧.keys) self.old.state key.now in
+        ensures modifies { let finds = LooksUp (first_key_index ⟦<Self as Keyed>⟧.keys) self.old.state key.now in
             ModifiesFound F.FnOnce f finds self.old.state result self.new.state }
         ensures keeps { Keeps ⟦<Self as Keyed>⟧.keys self.old.state self.new.state }
         ensures memory { self.new.memory ≡ self.old.memory }
@@ -46,9 +46,9 @@ impl<T: KeyedItem, S: BuildHasher> KeyedItems<T, S> {
     /// none, and doesn't call it, where the look-up misses. Else as `modify_at`.
     pub fn modify2<R, F: FnOnce(&mut T) -> R>(&mut self, key: &T::Key2, f: F) -> Option<R>
         requires { let keys = pair_keys T.first_key T.second_key in
-            let finds = LooksUp (second_side ⟦<Self as Keyed>⟧.keys) self.old.state key.now in
+            let finds = LooksUp (second_key_index ⟦<Self as Keyed>⟧.keys) self.old.state key.now in
             KeepsKey F.FnOnce f keys (λ item. GivesFound self.old.state.store finds (Some item)) }
-        ensures modifies { let finds = LooksUp (second_side ⟦<Self as Keyed>⟧.keys) self.old.state key.now in
+        ensures modifies { let finds = LooksUp (second_key_index ⟦<Self as Keyed>⟧.keys) self.old.state key.now in
             ModifiesFound F.FnOnce f finds self.old.state result self.new.state }
         ensures keeps { Keeps ⟦<Self as Keyed>⟧.keys self.old.state self.new.state }
         ensures memory { self.new.memory ≡ self.old.memory }

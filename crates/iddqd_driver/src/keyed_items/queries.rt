@@ -1,10 +1,10 @@
 //! Look-ups that give the item, and look-ups and removals by a query of another form than the key.
 //!
-//! A query stands for a key: a `&str` for a `String`, say, so that none is copied for a look-up. In every state it is
-//! answered as each key is for which it stands, so its clauses speak of that key's side alone.
+//! A query stands for a key: a `&str` for a `String`, say, so that no key is copied for a look-up. In every state a
+//! look-up by it answers as one by each key for which it stands.
 ghost use Rattle.std.specs.Prelude.{◌≡◌, option_copied};
 ghost use Rattle.iddqd_by_order.specs.Ordered.{is_equal};
-ghost use Rattle.iddqd_driver.specs.Sides.{first_side, second_side, Keeps, LooksUp};
+ghost use Rattle.iddqd_driver.specs.KeyIndexes.{first_key_index, second_key_index, Keeps, LooksUp};
 ghost use Rattle.iddqd_driver.specs.Machine.{RemovesFound};
 ghost use Rattle.iddqd_driver.specs.Queries.{GivesFound, LooksUpBy};
 
@@ -21,7 +21,7 @@ use std::hash::BuildHasher;
 impl<T: KeyedItem, S: BuildHasher> KeyedItems<T, S> {
     /// The item with this first key, found as `find1` finds its index.
     pub fn get1(&self, key: &T::Key1) -> Option<&T>
-        ensures { let finds = LooksUp (first_side ⟦<Self as Keyed>⟧.keys) self.now.state key.now in
+        ensures { let finds = LooksUp (first_key_index ⟦<Self as Keyed>⟧.keys) self.now.state key.now in
             GivesFound self.now.state.store finds (option_copied result) }
     {
         self.items.get(self.find1(key)?)
@@ -29,7 +29,7 @@ impl<T: KeyedItem, S: BuildHasher> KeyedItems<T, S> {
 
     /// The item with this second key, found as `find2` finds its index.
     pub fn get2(&self, key: &T::Key2) -> Option<&T>
-        ensures { let finds = LooksUp (second_side ⟦<Self as Keyed>⟧.keys) self.now.state key.now in
+        ensures { let finds = LooksUp (second_key_index ⟦<Self as Keyed>⟧.keys) self.now.state key.now in
             GivesFound self.now.state.store finds (option_copied result) }
     {
         self.items.get(self.find2(key)?)
@@ -38,7 +38,7 @@ impl<T: KeyedItem, S: BuildHasher> KeyedItems<T, S> {
     /// The index of the item with the first key for which the query stands. It compares the query with the keys of the
     /// same hash alone.
     pub fn find1_by<Q: HashQuery<T::Key1>>(&self, query: Q) -> Option<ItemIndex>
-        ensures { LooksUpBy (first_side ⟦<Self as Keyed>⟧.keys) self.now.state (Q.stands_for query) result }
+        ensures { LooksUpBy (first_key_index ⟦<Self as Keyed>⟧.keys) self.now.state (Q.stands_for query) result }
     {
         let hash = query_hash(&self.state, query);
         hashed::find::<T, First, Asked<Q>>(&self.filed, &self.items, hash, &Asked(query))
@@ -47,14 +47,15 @@ impl<T: KeyedItem, S: BuildHasher> KeyedItems<T, S> {
     /// The index of the item with the second key for which the query stands. It makes as many comparisons as `find2`.
     #[tactic(auto, using(crate::proofs::KeepsLemmas::order_held))]
     pub fn find2_by<Q: OrdQuery<T::Key2>>(&self, query: Q) -> Option<ItemIndex>
-        ensures { LooksUpBy (second_side ⟦<Self as Keyed>⟧.keys) self.now.state (is_equal (Q.compare query)) result }
+        ensures { LooksUpBy (second_key_index ⟦<Self as Keyed>⟧.keys) self.now.state
+            (is_equal (Q.compare query)) result }
     {
         ordered::find::<T, Second, Ranked<Q>>(&self.order, &self.items, &Ranked(query))
     }
 
     /// The item with the first key for which the query stands, found as `find1_by` finds its index.
     pub fn get1_by<Q: HashQuery<T::Key1>>(&self, query: Q) -> Option<&T>
-        ensures { let finds = LooksUpBy (first_side ⟦<Self as Keyed>⟧.keys) self.now.state (Q.stands_for query) in
+        ensures { let finds = LooksUpBy (first_key_index ⟦<Self as Keyed>⟧.keys) self.now.state (Q.stands_for query) in
             GivesFound self.now.state.store finds (option_copied result) }
     {
         self.items.get(self.find1_by(query)?)
@@ -62,7 +63,7 @@ impl<T: KeyedItem, S: BuildHasher> KeyedItems<T, S> {
 
     /// The item with the second key for which the query stands, found as `find2_by` finds its index.
     pub fn get2_by<Q: OrdQuery<T::Key2>>(&self, query: Q) -> Option<&T>
-        ensures { let finds = LooksUpBy (second_side ⟦<Self as Keyed>⟧.keys) self.now.state
+        ensures { let finds = LooksUpBy (second_key_index ⟦<Self as Keyed>⟧.keys) self.now.state
             (is_equal (Q.compare query)) in
             GivesFound self.now.state.store finds (option_copied result) }
     {
@@ -71,7 +72,7 @@ impl<T: KeyedItem, S: BuildHasher> KeyedItems<T, S> {
 
     /// Removes the item with the first key for which the query stands. It takes no memory.
     pub fn remove1_by<Q: HashQuery<T::Key1>>(&mut self, query: Q) -> Option<(ItemIndex, T)>
-        ensures removes { let finds = LooksUpBy (first_side ⟦<Self as Keyed>⟧.keys) self.old.state
+        ensures removes { let finds = LooksUpBy (first_key_index ⟦<Self as Keyed>⟧.keys) self.old.state
             (Q.stands_for query) in
             RemovesFound finds self.old.state result self.new.state }
         ensures keeps { Keeps ⟦<Self as Keyed>⟧.keys self.old.state self.new.state }
@@ -86,7 +87,7 @@ impl<T: KeyedItem, S: BuildHasher> KeyedItems<T, S> {
     /// Removes the item with the second key for which the query stands. It takes no memory.
     #[tactic(auto, using(crate::proofs::KeepsLemmas::order_held))]
     pub fn remove2_by<Q: OrdQuery<T::Key2>>(&mut self, query: Q) -> Option<(ItemIndex, T)>
-        ensures removes { let finds = LooksUpBy (second_side ⟦<Self as Keyed>⟧.keys) self.old.state
+        ensures removes { let finds = LooksUpBy (second_key_index ⟦<Self as Keyed>⟧.keys) self.old.state
             (is_equal (Q.compare query)) in
             RemovesFound finds self.old.state result self.new.state }
         ensures keeps { Keeps ⟦<Self as Keyed>⟧.keys self.old.state self.new.state }

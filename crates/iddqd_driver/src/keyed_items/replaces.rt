@@ -1,9 +1,8 @@
-//! An item becomes another one, which may have other keys, and both tables are told.
+//! An item becomes another one, which may have other keys, and both tables are updated.
 //!
-//! Each new key is looked up once. Where that hits the index itself its table stays as it is; where it misses, the
-//! index is taken out of the table, wherever it stands there, and goes where the new key belongs. So the call works
-//! after silent changes too. The ordered table takes its memory while the old item still stands everywhere; the hash
-//! table needs none.
+//! Each new key is looked up once. If that hits the index itself, its table stays as it is. If it misses, the index is
+//! removed from the table, wherever it stands there, and inserted where the new key belongs. So the call works after
+//! silent changes too. The ordered table takes its memory before anything changes; the hash table needs none.
 ghost use Rattle.std.specs.Prelude.{◌≡◌, ◌≤◌, length, Some, IsSome, IsOk, IfOk, OnOk, IfErr, OnErr};
 ghost use Rattle.std.specs.FinMap as finite;
 ghost use Rattle.iddqd.specs.{get, live_count, rebound};
@@ -12,11 +11,11 @@ ghost use Rattle.iddqd_hash.specs.HashTable.{KeepsMemory};
 ghost use Rattle.iddqd_order.specs.{order_of};
 ghost use Rattle.iddqd_order.specs.MapBTreeTable.{capacity as ordered_capacity};
 ghost use Rattle.iddqd_keys.specs.Scan.{IsLive, IsKeyAt};
-ghost use Rattle.iddqd_by_order.specs.Ordered as ordered_side;
+ghost use Rattle.iddqd_by_order.specs.Ordered as by_order;
 ghost use Rattle.iddqd_by_hash.specs.HashedMove.{moved};
-ghost use Rattle.iddqd_driver.specs.Sides.{Keeps};
+ghost use Rattle.iddqd_driver.specs.KeyIndexes.{Keeps};
 ghost use Rattle.iddqd_driver.specs.Memory.{memory_of};
-ghost use Rattle.iddqd_driver.specs.Replacement.{TellsOther, Replaces, IsForMemory, planned, MovesInPlace, Reorders};
+ghost use Rattle.iddqd_driver.specs.Replacement.{ReportsOtherIndex, Replaces, IsReplaceOutOfMemory, planned, MovesInPlace, Reorders};
 
 use super::{Keyed, KeyedItems};
 use crate::keyed_item::{First, KeyedItem};
@@ -43,8 +42,7 @@ pub enum ReplaceRefusal<T> {
         first: Option<ItemIndex>,
         second: Option<ItemIndex>,
     },
-    /// No other item has one of the keys, the second one is new to the index, and memory was refused to the ordered
-    /// table.
+    /// No other item has one of the keys, the second one is new to the index, and the ordered table ran out of memory.
     Memory(T),
 }
 
@@ -68,21 +66,21 @@ impl<T> fmt::Display for ReplaceRefusal<T> {
 impl<T: fmt::Debug + Drop> Error for ReplaceRefusal<T> {}
 
 impl<T: KeyedItem, S: BuildHasher> KeyedItems<T, S> {
-    /// Puts an item in the place of the one at a live index, which is handed back, and tells both tables.
+    /// Puts an item in the place of the one at a live index, which it returns, and updates both tables.
     ///
-    /// The index stays, and each table is in order then where it was before. The item may have other keys, but none
-    /// that another item has. A refusal hands it back and changes nothing.
+    /// The index stays, and each table that was in order is in order afterwards. The item may have other keys, but none
+    /// that another item has. A refusal returns it and changes nothing.
     ///
     /// The hash table needs no memory for a new key: the removal of the old entry leaves the room. Nor does the ordered
-    /// table while it holds no more indexes than its capacity; past that a new second key may be refused memory.
+    /// table while it holds no more indexes than its capacity; past that it may run out of memory for a new second key.
     ///
-    /// `overwrite` tells neither table, and takes any item.
+    /// `overwrite` updates neither table, and takes any item.
     pub fn replace(&mut self, ix: ItemIndex, item: T) -> Result<T, ReplaceRefusal<T>>
         ensures replaces { Replaces ⟦<Self as Keyed>⟧.keys self.old.state ix item result self.new.state }
         ensures keeps { Keeps ⟦<Self as Keyed>⟧.keys self.old.state self.new.state }
         ensures memory { self.new.memory ≡ self.old.memory }
         ensures not_refused { live_count self.old.state.store ≤ self.old.memory.ordered
-            → IfErr result (λ refusal. IsForMemory refusal → ⊥) }
+            → IfErr result (λ refusal. IsReplaceOutOfMemory refusal → ⊥) }
     {
         if self.items.get(ix).is_none() {
             return Err(ReplaceRefusal::Missing(item));
@@ -120,7 +118,7 @@ struct Found {
 
 // What a look-up hit, where that is another index.
 fn other_than(ix: ItemIndex, found: &Option<ItemIndex>) -> Option<ItemIndex>
-    ensures { TellsOther (λ answer. found.now ≡ answer) ix result }
+    ensures { ReportsOtherIndex (λ answer. found.now ≡ answer) ix result }
 {
     match found {
         Some(at) if *at != ix => Some(*at),
@@ -128,7 +126,7 @@ fn other_than(ix: ItemIndex, found: &Option<ItemIndex>) -> Option<ItemIndex>
     }
 }
 
-// Puts an item in the place of the one at a live index, and tells both tables: in a table where the look-up of the
+// Puts an item in the place of the one at a live index, and updates both tables: in a table where the look-up of the
 // item's key hit the index it stays, else it moves. All memory is taken before anything is written.
 fn rebind<T: KeyedItem, S: BuildHasher>(
     items: &mut ItemSet<T>,
@@ -141,7 +139,7 @@ fn rebind<T: KeyedItem, S: BuildHasher>(
 ) -> Result<T, ReplaceRefusal<T>>
     requires live { IsLive items.old.store ix }
     requires filed { IsSome (finite.get (filed table.old) ix) }
-    requires ordered { ordered_side.Holds items.old.store (order_of order.old) }
+    requires ordered { by_order.Holds items.old.store (order_of order.old) }
     ensures was { IfOk result (λ was. get items.old.store ix ≡ Some was) }
     ensures stored { OnOk result (items.new.store ≡ rebound items.old.store ix item) }
     ensures filed { OnOk result (filed table.new ≡ moved (filed table.old) ix (planned found.hash found.at1)) }
@@ -192,7 +190,7 @@ fn refile<T: KeyedItem, S: BuildHasher>(
 }
 
 // Leaves a live index in its place, where the look-up of its new second key hit it, or else moves it to where that key
-// leads. Where memory is refused nothing changes.
+// leads. If memory runs out, nothing changes.
 fn reorder<T: KeyedItem>(
     order: &mut MapBTreeTable,
     items: &ItemSet<T>,
@@ -201,7 +199,7 @@ fn reorder<T: KeyedItem>(
     item: &T,
 ) -> Result<(), AllocError>
     requires live { IsLive items.now.store ix }
-    requires ordered { ordered_side.Holds items.now.store (order_of order.old) }
+    requires ordered { by_order.Holds items.now.store (order_of order.old) }
     ensures placed { let reorders = Reorders T.KeyedItem.second_key T.Key2.cmp items.now.store ix item.now found in
         OnOk result (reorders (order_of order.old) (order_of order.new)) }
     ensures refused { OnErr result (found ≡ None) }
@@ -215,8 +213,8 @@ fn reorder<T: KeyedItem>(
     }
 }
 
-// Takes a live index out of the ordered table, wherever it stands, and puts it where the second key of the item leads
-// that it is to have. All memory is taken first.
+// Removes a live index from the ordered table, wherever it stands, and inserts it where the second key of its new item
+// belongs. All memory is taken first.
 fn move_in_order<T: KeyedItem>(
     order: &mut MapBTreeTable,
     items: &ItemSet<T>,
@@ -224,7 +222,7 @@ fn move_in_order<T: KeyedItem>(
     item: &T,
 ) -> Result<(), AllocError>
     requires live { IsLive items.now.store ix }
-    requires ordered { ordered_side.Holds items.now.store (order_of order.old) }
+    requires ordered { by_order.Holds items.now.store (order_of order.old) }
     ensures moved { let moves = MovesInPlace T.KeyedItem.second_key T.Key2.cmp items.now.store ix item.now in
         OnOk result (moves (order_of order.old) (order_of order.new)) }
     ensures stays { OnErr result (order_of order.new ≡ order_of order.old) }

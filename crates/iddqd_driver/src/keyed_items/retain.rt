@@ -1,7 +1,7 @@
 //! The items that a closure keeps.
 //!
-//! The store is gone over first: an item at which the closure answers false leaves it at once. Then one pass over each
-//! table removes the indexes that have no item. So an index leaves both tables whatever its item's keys were, no key is
+//! First a pass over the store removes each item at which the closure answers false. Then one pass over each table
+//! removes the indexes that have no item. So an index leaves both tables whatever its item's keys were, no key is
 //! hashed or compared, and the cost is a few steps a slot.
 ghost use Rattle.std.specs.Prelude.{◌≡◌, ◌≤◌, ◌+◌, ℕ, None, filter, is_some, cond};
 ghost use Rattle.std.specs.FinMap as finite;
@@ -13,7 +13,7 @@ ghost use Rattle.iddqd_hash.specs.Asks.{CanAsk};
 ghost use Rattle.iddqd_hash.specs.HashTable.{KeepsMemory};
 ghost use Rattle.iddqd_order.specs.MapBTreeTable.{order_of, capacity as ordered_capacity};
 ghost use Rattle.iddqd_by_hash.specs.Retain.{MayAsk, RetainsTo};
-ghost use Rattle.iddqd_driver.specs.Sides.{Keeps};
+ghost use Rattle.iddqd_driver.specs.KeyIndexes.{Keeps};
 ghost use Rattle.iddqd_driver.specs.Memory.{capacity, room};
 ghost use Rattle.iddqd_driver.specs.Retain.{Retains};
 
@@ -65,7 +65,7 @@ fn remove_refused<T: Drop, F: FnMut(&T) -> bool>(items: &mut ItemSet<T>, f: &mut
     }
 }
 
-// Takes the indexes that have no item out of the hash table. It takes no memory.
+// Removes the indexes that have no item from the hash table. It takes no memory.
 fn forget_filed<T>(items: &ItemSet<T>, table: &mut MapHashTable)
     ensures filed { (ix : ℕ) → finite.get (filed table.new) ix
         ≡ cond (is_some (get items.now.store ix)) (finite.get (filed table.old) ix) None }
@@ -74,7 +74,7 @@ fn forget_filed<T>(items: &ItemSet<T>, table: &mut MapHashTable)
     table.retain(|ix| items.get(ix).is_some());
 }
 
-// Takes the indexes that have no item out of the ordered table. It takes no memory.
+// Removes the indexes that have no item from the ordered table. It takes no memory.
 fn forget_ordered<T>(items: &ItemSet<T>, table: &mut MapBTreeTable)
     ensures order { order_of table.new ≡ filter (λ ix. is_some (get items.now.store ix)) (order_of table.old) }
     ensures memory { ordered_capacity table.new ≡ ordered_capacity table.old }

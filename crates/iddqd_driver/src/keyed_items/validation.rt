@@ -1,14 +1,14 @@
 //! The check of store and tables, and that each item is found.
 //!
-//! Every value keeps store and tables sound and paired, so but for want of memory a check by walks fails where the mode
-//! alone is missed. Each part is checked all the same, on what it holds itself, for those who change this crate.
+//! Every value keeps store and tables sound and paired. So a check by walks fails for two reasons only: memory ran out,
+//! or the mode was `Compact` and a slot is vacant. Each part is checked all the same, for those who change this crate.
 ghost use Rattle.std.specs.Prelude.{◌≡◌, length, IsOk, IfErr, MatchResult};
 ghost use Rattle.iddqd.specs.Validation.{Allows, IsMemory, Tells, Validates, not_compact_text};
 ghost use Rattle.iddqd_hash.specs.{filed};
 ghost use Rattle.iddqd_order.specs.{order_of};
 ghost use Rattle.iddqd_driver.specs.State.{IsPaired};
-ghost use Rattle.iddqd_driver.specs.Sides.{first_side, InOrder};
-ghost use Rattle.iddqd_driver.specs.Validation.{AreStored, named};
+ghost use Rattle.iddqd_driver.specs.KeyIndexes.{first_key_index, InOrder};
+ghost use Rattle.iddqd_driver.specs.Validation.{AreStored, with_table_name};
 
 use super::{Keyed, KeyedItems};
 use crate::keyed_item::KeyedItem;
@@ -26,7 +26,7 @@ impl<T: KeyedItem, S: BuildHasher> KeyedItems<T, S> {
     ///
     /// With `ValidateChaos::Yes` each index is sought by a walk over both tables, which always finds it. With `No` it
     /// is sought by the keys that its item has now, which may miss where a key was changed by `overwrite`. The first
-    /// check that fails is told: of the store, of each table, of each item by rising index.
+    /// check that fails is reported: of the store, of each table, of each item by rising index.
     ///
     /// Memory is taken for sorted copies of the indexes and for the words of a refusal. With `Yes` the cost grows as
     /// the square of the number of items, with `No` as sorting does.
@@ -42,7 +42,8 @@ impl<T: KeyedItem, S: BuildHasher> KeyedItems<T, S> {
         ensures not_compact { (Allows compactness (length self.now.state.store.free) → ⊥)
             → IfErr result (Tells (not_compact_text (length self.now.state.store.free))) }
 
-        // By walks, and where the keys are in order, it is Ok exactly there, memory aside.
+        // By walks, and where the keys are in order, it is Ok if and only if the mode allows the vacant slots, unless
+        // memory runs out.
         ensures by_walks { chaos ≡ ValidateChaos.Yes
             → Validates (Allows compactness (length self.now.state.store.free)) result }
         ensures in_order { InOrder ⟦<Self as Keyed>⟧.keys self.now.state
@@ -50,7 +51,7 @@ impl<T: KeyedItem, S: BuildHasher> KeyedItems<T, S> {
 
         // By keys it is Ok only where each index is filed under the hash of its first key.
         ensures by_keys { chaos ≡ ValidateChaos.No → IsOk result
-            → (first_side ⟦<Self as Keyed>⟧.keys).IsInPlace self.now.state }
+            → (first_key_index ⟦<Self as Keyed>⟧.keys).IsInPlace self.now.state }
     {
         self.items.validate(compactness)?;
         let len = self.items.len();
@@ -66,7 +67,7 @@ impl<T: KeyedItem, S: BuildHasher> KeyedItems<T, S> {
 
     // Whether each item is found by the keys that it has now.
     fn check_found(&self) -> Result<(), ValidateRefusal<ValidationError>>
-        ensures by_keys { IsOk result → (first_side ⟦<Self as Keyed>⟧.keys).IsInPlace self.now.state }
+        ensures by_keys { IsOk result → (first_key_index ⟦<Self as Keyed>⟧.keys).IsInPlace self.now.state }
         ensures in_order { InOrder ⟦<Self as Keyed>⟧.keys self.now.state → IfErr result IsMemory }
     {
         for (ix, item) in self.items.iter() {
@@ -109,12 +110,12 @@ fn check_stored<T>(
     Ok(())
 }
 
-// What a table was answered, told with its name.
+// What a table was answered, reported with its name.
 fn of_table(
     name: &'static str,
     answer: Result<(), ValidateRefusal<TableValidationError>>,
 ) -> Result<(), ValidateRefusal<ValidationError>>
-    ensures { result ≡ named name.entry answer }
+    ensures { result ≡ with_table_name name.entry answer }
 {
     match answer {
         Ok(()) => Ok(()),
@@ -125,10 +126,10 @@ fn of_table(
     }
 }
 
-// The error with this text, or else its want of memory.
+// The error with this text, or else that memory ran out.
 fn refusal(text: Result<String, AllocError>) -> ValidateRefusal<ValidationError>
     ensures { MatchResult text
-        (λ told. result ≡ ValidateRefusal.Invalid (ValidationError.General told))
+        (λ text. result ≡ ValidateRefusal.Invalid (ValidationError.General text))
         (λ error. result ≡ ValidateRefusal.Memory error) }
 {
     match text {

@@ -8,7 +8,7 @@ ghost use Rattle.iddqd.specs.LiveItems.{IsWalkOf};
 ghost use Rattle.iddqd_order.specs.{indexes_left};
 ghost use Rattle.iddqd_keys.specs.OrderedQuery.{is_between};
 ghost use Rattle.iddqd_driver.specs.State.{IsPaired};
-ghost use Rattle.iddqd_driver.specs.Sides.{second_side, IsExact};
+ghost use Rattle.iddqd_driver.specs.KeyIndexes.{second_key_index, IsInSync};
 ghost use Rattle.iddqd_driver.specs.Walks.{items_at, RangesWithin};
 
 use super::{Keyed, KeyedItems, Range};
@@ -40,8 +40,8 @@ impl<T: KeyedItem, S: BuildHasher> KeyedItems<T, S> {
     pub fn walk(&self) -> btree_table::Iter<'_>
         ensures order { indexes_left result ≡ self.now.state.order }
         ensures paired { IsPaired self.now.state }
-        ensures as_scan { let side = second_side ⟦<Self as Keyed>⟧.keys in
-            IsExact side self.now.state → side.Lists self.now.state.store (indexes_left result) }
+        ensures as_scan { let key_index = second_key_index ⟦<Self as Keyed>⟧.keys in
+            IsInSync key_index self.now.state → key_index.Lists self.now.state.store (indexes_left result) }
     {
         self.order.iter()
     }
@@ -50,8 +50,8 @@ impl<T: KeyedItem, S: BuildHasher> KeyedItems<T, S> {
     pub fn values_by_key2(&self) -> ValuesByKey2<'_, T>
         ensures items { result ≡ items_at self.now.state.store self.now.state.order }
         ensures len { length result ≡ live_count self.now.state.store }
-        ensures as_scan { let side = second_side ⟦<Self as Keyed>⟧.keys in
-            IsExact side self.now.state → side.Lists self.now.state.store self.now.state.order }
+        ensures as_scan { let key_index = second_key_index ⟦<Self as Keyed>⟧.keys in
+            IsInSync key_index self.now.state → key_index.Lists self.now.state.store self.now.state.order }
     {
         ValuesByKey2 {
             items: &self.items,

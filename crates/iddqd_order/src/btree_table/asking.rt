@@ -1,4 +1,4 @@
-//! A closure that can be called in one way only, and a count of its calls.
+//! A closure that is called through `ask` alone, and a count of its calls.
 ghost use Rattle.std.specs.Prelude.{◌≡◌, ℕ, ◌+◌};
 ghost use Rattle.std.specs.Borrow.{ftrue};
 

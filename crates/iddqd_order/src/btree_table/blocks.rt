@@ -34,7 +34,7 @@ impl HoldsBlocks for Blocks {
 
 impl Blocks {
     // No block.
-    pub fn none(alloc: Global) -> Blocks
+    pub(super) fn none(alloc: Global) -> Blocks
         ensures { result ≡ 0 }
     {
         Blocks {
@@ -42,8 +42,8 @@ impl Blocks {
         }
     }
 
-    // So many blocks, and no memory where none is wanted. Refused, it lets go of those that it took.
-    pub fn new(count: usize, alloc: Global) -> Result<Blocks, AllocError>
+    // So many blocks, and no memory where none is wanted. If memory runs out, it drops those that it took.
+    pub(super) fn new(count: usize, alloc: Global) -> Result<Blocks, AllocError>
         ensures count { IfOk result (λ blocks. blocks ≡ count) }
         ensures none { count ≡ 0 → IsOk result }
     {
@@ -66,7 +66,7 @@ impl Blocks {
     }
 
     // One of them.
-    pub fn take(&mut self) -> Vec<Node>
+    pub(super) fn take(&mut self) -> Vec<Node>
         requires { 0 < self.old }
         ensures spare { IsSpare result }
         ensures left { self.new + 1 ≡ self.old }

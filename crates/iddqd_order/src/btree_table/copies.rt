@@ -7,8 +7,8 @@ ghost use Rattle.iddqd_order.specs.Tree.{IsTree};
 use crate::btree_table::node::{CHILDREN, Node};
 use std::alloc::{AllocError, Global};
 
-// Copies a tree, node by node. Refused, it lets go of all.
-pub fn copy_of(
+// Copies a tree, node by node. If memory runs out, it drops all.
+pub(super) fn copy_of(
     root: &Option<Node>,
     height: usize,
     alloc: Global,

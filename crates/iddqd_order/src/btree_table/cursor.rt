@@ -6,8 +6,8 @@
 ghost use Rattle.std.specs.Prelude.{◌≡◌, ℕ, ◌<◌, ◌≤◌, length, slice_index, IfSome, IsNone};
 ghost use Rattle.iddqd_order.specs.Cursor.{AreBeside, AtEdge, Compares, Over, Steps, IsGap, Stands, edge_of, gap_of, leaf, low, opposite, to_gap};
 ghost use Rattle.iddqd_order.specs.declared.btree_table.node.Node.{Node as NodeOf};
-ghost use Rattle.iddqd_order.specs.Node.{flat, Goes, IsFormed, place};
-ghost use Rattle.iddqd_order.specs.Tree.{IsTree, GoesIn, in_order, place_in};
+ghost use Rattle.iddqd_order.specs.Node.{flat, ReachesGap, IsFormed, place};
+ghost use Rattle.iddqd_order.specs.Tree.{IsTree, ReachesGapIn, in_order, place_in};
 
 use crate::btree_table::node::Node;
 use crate::btree_table::path::{LEVELS, Path};
@@ -17,7 +17,7 @@ use std::cmp::Ordering;
 
 // An end of the list of all indexes, to which a walk goes.
 #[derive(Clone, Copy)]
-pub enum End {
+pub(super) enum End {
     Front,
     Back,
 }
@@ -33,20 +33,20 @@ impl End {
     }
 }
 
-// A leaf and a place in it, with the way from the root to the leaf. The path's own place in the leaf is
-// another one.
+// A leaf and a place in it, with the path from the root to the leaf. The place counts, not the path's own
+// at level 0, so that a step writes one number.
 #[derive(Clone, Copy)]
-pub struct Cursor<'a> {
-    pub path: Path,
-    pub row: &'a [ItemIndex],
-    pub at: usize,
+pub(super) struct Cursor<'a> {
+    pub(super) path: Path,
+    pub(super) row: &'a [ItemIndex],
+    pub(super) at: usize,
     // The node above the leaf, if it is known.
-    pub low: Option<&'a Node>,
+    pub(super) low: Option<&'a Node>,
 }
 
 impl<'a> Cursor<'a> {
     // The gap at an end of a tree.
-    pub fn at_end(root: &'a Option<Node>, height: usize, end: End) -> Cursor<'a>
+    pub(super) fn at_end(root: &'a Option<Node>, height: usize, end: End) -> Cursor<'a>
         requires { IsTree root.now height }
         ensures stands { Stands root.now height result }
         ensures gap { gap_of root.now height result ≡ edge_of end (length (in_order root.now height)) }
@@ -72,9 +72,9 @@ impl<'a> Cursor<'a> {
     }
 
     // The gap to which a path goes.
-    pub fn new(root: &'a Option<Node>, height: usize, path: &Path) -> Cursor<'a>
+    pub(super) fn new(root: &'a Option<Node>, height: usize, path: &Path) -> Cursor<'a>
         requires tree { IsTree root.now height }
-        requires goes { GoesIn root.now height path.now }
+        requires goes { ReachesGapIn root.now height path.now }
         ensures stands { Stands root.now height result }
         ensures gap { gap_of root.now height result ≡ place_in root.now height path.now }
     {
@@ -90,7 +90,7 @@ impl<'a> Cursor<'a> {
     }
 
     // The next index.
-    pub fn next(&mut self, root: &'a Option<Node>, height: usize) -> Option<ItemIndex>
+    pub(super) fn next(&mut self, root: &'a Option<Node>, height: usize) -> Option<ItemIndex>
         requires tree { IsTree root.now height }
         requires stands { Stands root.now height self.old }
         ensures stands { Stands root.now height self.new }
@@ -107,7 +107,7 @@ impl<'a> Cursor<'a> {
     }
 
     // The index before.
-    pub fn next_back(&mut self, root: &'a Option<Node>, height: usize) -> Option<ItemIndex>
+    pub(super) fn next_back(&mut self, root: &'a Option<Node>, height: usize) -> Option<ItemIndex>
         requires tree { IsTree root.now height }
         requires stands { Stands root.now height self.old }
         ensures stands { Stands root.now height self.new }
@@ -118,7 +118,7 @@ impl<'a> Cursor<'a> {
             self.at -= 1;
             return Some(self.row[self.at]);
         }
-        self.leave(root, height, End::Front)
+        self.leave_leaf(root, height, End::Front)
     }
 
     // The index behind the leaf.
@@ -141,11 +141,11 @@ impl<'a> Cursor<'a> {
                 return Some(low.row.get(place));
             }
         }
-        self.leave(root, height, End::Back)
+        self.leave_leaf(root, height, End::Back)
     }
 
-    // The index that stands next to the leaf towards an end, by a way down from the root.
-    pub fn leave(
+    // The index that stands next to the leaf towards an end, by a walk down from the root.
+    pub(super) fn leave_leaf(
         &mut self,
         root: &'a Option<Node>,
         height: usize,
@@ -179,7 +179,7 @@ impl<'a> Cursor<'a> {
     }
 
     // The path to the gap.
-    pub fn gap(&self) -> Path
+    pub(super) fn gap(&self) -> Path
         requires { self.now.at ≤ CAPACITY }
         ensures { result ≡ to_gap self.now.path self.now.at }
     {
@@ -189,7 +189,7 @@ impl<'a> Cursor<'a> {
     }
 
     // How the gap stands to that of another cursor.
-    pub fn compare(&self, other: &Cursor<'_>, root: &Option<Node>, height: usize) -> Ordering
+    pub(super) fn compare(&self, other: &Cursor<'_>, root: &Option<Node>, height: usize) -> Ordering
         requires tree { IsTree root.now height }
         requires stands { Stands root.now height self.now }
         requires other_stands { Stands root.now height other.now }
@@ -204,9 +204,9 @@ impl<'a> Cursor<'a> {
 
 impl Path {
     // How the gap to which the path goes stands to that of another path, from a level down.
-    pub fn compare(&self, other: &Path, level: usize) -> Ordering
+    pub(super) fn compare(&self, other: &Path, level: usize) -> Ordering
         requires { level < LEVELS }
-        ensures { (n : NodeOf) → IsFormed level n → Goes level n self.now → Goes level n other.now →
+        ensures { (n : NodeOf) → IsFormed level n → ReachesGap level n self.now → ReachesGap level n other.now →
             Compares result (place level n self.now) (place level n other.now) }
     {
         let here = self.get(level).cmp(&other.get(level));
@@ -261,7 +261,7 @@ impl Node {
     fn leaf(&self, level: usize, path: &Path) -> &[ItemIndex]
         requires formed { IsFormed level self.now }
         requires levels { level < LEVELS }
-        requires goes { Goes level self.now path.now }
+        requires goes { ReachesGap level self.now path.now }
         ensures { result.now ≡ leaf level self.now path.now }
     {
         if level == 0 {
@@ -274,7 +274,7 @@ impl Node {
     fn low(&self, level: usize, path: &Path) -> Option<&Node>
         requires formed { IsFormed level self.now }
         requires levels { level < LEVELS }
-        requires goes { Goes level self.now path.now }
+        requires goes { ReachesGap level self.now path.now }
         ensures { IfSome result (λ k. (0 < level) × (k.now ≡ low level self.now path.now)) }
     {
         if level == 0 {
@@ -288,7 +288,7 @@ impl Node {
 
     // The index next to the gap to which a path goes, towards an end. The path then goes to the gap beyond that
     // index, whose leaf is answered too.
-    pub fn step_over(
+    pub(super) fn step_over(
         &self,
         level: usize,
         path: &mut Path,
@@ -297,7 +297,7 @@ impl Node {
         requires formed { IsFormed level self.now }
         requires levels { level < LEVELS }
         requires path { length path.old ≡ LEVELS }
-        requires goes { Goes level self.now path.old }
+        requires goes { ReachesGap level self.now path.old }
         ensures ended { IsNone result → place level self.now path.old ≡ edge_of towards (length (flat level self.now)) }
         ensures unchanged { IsNone result → path.new ≡ path.old }
         ensures over { IfSome result (λ r. Over towards level self.now path.old r.0 r.1.now path.new) }

@@ -6,7 +6,7 @@ ghost use Rattle.std.specs.Prelude.{◌≡◌, ℕ, ◌+◌, ◌*◌, ◌<◌, �
 ghost use Rattle.iddqd_order.specs.Descent.{Descends, FindsIn};
 ghost use Rattle.iddqd_order.specs.Digits.{row_asks};
 ghost use Rattle.iddqd_order.specs.MapBTreeTable.{StandsAt};
-ghost use Rattle.iddqd_order.specs.Node.{flat, IsFormed, HoldsIndex};
+ghost use Rattle.iddqd_order.specs.Node.{flat, IsFormed, LeadsToIndex};
 ghost use Rattle.iddqd_order.specs.Search.{CanSearch, SearchesWithin};
 
 use crate::btree_table::asking::Asking;
@@ -19,7 +19,7 @@ use iddqd::item_index::ItemIndex;
 
 impl Node {
     // The index at which a search ends, if it ends at one.
-    pub fn find<R, F: FnMut(ItemIndex) -> R, H: Reads<R>>(
+    pub(super) fn find<R, F: FnMut(ItemIndex) -> R, H: Reads<R>>(
         &self,
         height: usize,
         asking: &mut Asking<F>,
@@ -46,10 +46,10 @@ impl Node {
         }
     }
 
-    // Writes the way of a search to a path of first places. It answers the level at which the search
-    // ends, or, where it ends in a leaf, how many nodes at the lower end of the way are full. As long as
-    // the way is the leftmost, rows are split at the left.
-    pub fn descend<R, F: FnMut(ItemIndex) -> R, H: Reads<R>>(
+    // Writes where a search goes to a path of first places. It answers the level at which the search
+    // ends, or, where it ends in a leaf, how many nodes at the lower end of the path are full. As long as
+    // the path is the leftmost, rows are split at the left.
+    pub(super) fn descend<R, F: FnMut(ItemIndex) -> R, H: Reads<R>>(
         &self,
         height: usize,
         asking: &mut Asking<F>,
@@ -90,13 +90,13 @@ impl Node {
         }
     }
 
-    // Finds an index wherever it is stored, by a walk that asks nothing: its level, with the way to it
-    // in the path.
-    pub fn locate(&self, height: usize, ix: ItemIndex, path: &mut Path) -> Option<usize>
+    // Finds an index wherever it is stored, by a walk that asks nothing: its level, with the path to
+    // it.
+    pub(super) fn locate(&self, height: usize, ix: ItemIndex, path: &mut Path) -> Option<usize>
         requires formed { IsFormed height self.now }
         requires levels { height < LEVELS }
         requires path { length path.old ≡ LEVELS }
-        ensures there { IfSome result (λ l. HoldsIndex l height self.now path.new ix) }
+        ensures there { IfSome result (λ l. LeadsToIndex l height self.now path.new ix) }
         ensures missing { IsNone result → Contains (flat height self.now) ix → ⊥ }
         ensures path { length path.new ≡ LEVELS }
         ensures above { (l : ℕ) → height < l → slice_index path.new l ≡ slice_index path.old l }
@@ -118,8 +118,8 @@ impl Node {
     }
 }
 
-// How many nodes at the lower end of a way are full, where a row is that of its node at the level, and so
-// many of them were known above.
+// How many nodes at the lower end of a path are full, as far down as the node at the level, whose row this is.
+// Above it so many were.
 #[inline(always)]
 fn full_from(row: &Row, level: usize, full: usize) -> usize
     requires { level < full }
@@ -131,7 +131,7 @@ fn full_from(row: &Row, level: usize, full: usize) -> usize
     if row.len() < CAPACITY { level } else { full }
 }
 
-// Four asks tell so many places apart, and a row has no more.
+// Four asks distinguish so many places, and a row has no more.
 const ROW_PLACES: usize = 15;
 
 // The place in a row of what is sought, or where it would go. At the left edge of the tree it asks as often

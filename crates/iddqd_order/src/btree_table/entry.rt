@@ -1,12 +1,12 @@
 //! The place of what is sought by answers alone: an index that stands there, or none.
 //!
-//! An entry keeps the way that its search went, so a removal, or an insert at the place, asks nothing.
+//! An entry keeps the path of its search, so a removal, or an insert at the place, asks nothing.
 //! Equal answers are a hit, so no order of two indexes is needed to find a vacant place.
 ghost use Rattle.std.specs.Prelude.{◌≡◌, ◌≢◌, ◌+◌, ◌<◌, ◌≤◌, None, IsOk, IfOk, Contains, length};
 ghost use Rattle.iddqd_order.specs.MapBTreeTable.{order_of, capacity, without, sentinel};
 ghost use Rattle.iddqd_order.specs.Node.{AtIndex, InGap};
 ghost use Rattle.iddqd_order.specs.Search.{CanSearch};
-ghost use Rattle.iddqd_order.specs.Tree.{GoesIn, FullIn, HoldsIn, ReachesIn-prop, FullIn-prop};
+ghost use Rattle.iddqd_order.specs.Tree.{ReachesGapIn, FullIn, ReachesIndexIn, ReachesIn-prop, FullIn-prop};
 
 use crate::btree_table::asking::Asking;
 use crate::btree_table::gap::Gap;
@@ -19,7 +19,7 @@ use iddqd::map_hash::Comparable;
 use std::alloc::AllocError;
 use std::cmp::Ordering;
 
-/// Where what is sought stands, or could stand. Let go, it leaves the table as it was.
+/// Where what is sought stands, or could stand. Dropped, it leaves the table as it was.
 #[derive(Drop)]
 pub enum Entry<'a> {
     /// It stands there.
@@ -28,26 +28,26 @@ pub enum Entry<'a> {
     Vacant(VacantEntry<'a>),
 }
 
-/// An index that stands in a table. Let go, it leaves the table as it was.
+/// An index that stands in a table. Dropped, it leaves the table as it was.
 #[derive(Drop)]
 pub struct OccupiedEntry<'a> {
     table: &'a mut MapBTreeTable,
     spot: Spot,
-    ghost holds: { HoldsIn spot.level table.now.root table.now.height spot.path } by { ReachesIn-prop AtIndex spot.level table.now.root table.now.height spot.path },
+    ghost holds: { ReachesIndexIn spot.level table.now.root table.now.height spot.path } by { ReachesIn-prop AtIndex spot.level table.now.root table.now.height spot.path },
 }
 
-/// A place for an index among those of a table. Let go, it leaves the table as it was.
+/// A place for an index among those of a table. Dropped, it leaves the table as it was.
 #[derive(Drop)]
 pub struct VacantEntry<'a> {
     pub(super) table: &'a mut MapBTreeTable,
     pub(super) gap: Gap,
-    ghost goes: { GoesIn table.now.root table.now.height gap.path } by { ReachesIn-prop InGap 0 table.now.root table.now.height gap.path },
+    ghost goes: { ReachesGapIn table.now.root table.now.height gap.path } by { ReachesIn-prop InGap 0 table.now.root table.now.height gap.path },
     ghost full_nodes: { FullIn gap.full table.now.root table.now.height gap.path } by { FullIn-prop gap.full table.now.root table.now.height gap.path },
     ghost levels: { gap.full ≤ table.now.height + 1 },
 }
 
 impl MapBTreeTable {
-    ghost use Rattle.iddqd_order.specs.Entry.{entry_table, Enters};
+    ghost use Rattle.iddqd_order.specs.Entry.{entry_table, FindsEntry};
 
     /// The entry of a stored index at which the asking answers Equal, else that of the place where
     /// what is sought could stand. Less says that it stands before the stored index.
@@ -58,9 +58,9 @@ impl MapBTreeTable {
         requires { CanSearch F.FnMut (order_of self.old) None asking.old }
         ensures same_reference { (entry_table result).ghost_name ≡ self.entry.ghost_name }
         ensures table { (entry_table result).now ≡ self.old }
-        ensures entered { Enters F.FnMut (λ r. r) (order_of self.old) asking.old result asking.new }
+        ensures made { FindsEntry F.FnMut (λ r. r) (order_of self.old) asking.old result asking.new }
     {
-        self.enter(asking, &AsOrdering)
+        self.make_entry(asking, &AsOrdering)
     }
 
     /// The entry of a stored index at which the query compares Equal with the key that the asking
@@ -76,13 +76,13 @@ impl MapBTreeTable {
         requires { CanSearch F.FnMut (order_of self.old) None asking.old }
         ensures same_reference { (entry_table result).ghost_name ≡ self.entry.ghost_name }
         ensures table { (entry_table result).now ≡ self.old }
-        ensures entered { Enters F.FnMut (Q.compare query.now) (order_of self.old) asking.old result asking.new }
+        ensures made { FindsEntry F.FnMut (Q.compare query.now) (order_of self.old) asking.old result asking.new }
     {
-        self.enter(asking, &ByQuery(query))
+        self.make_entry(asking, &ByQuery(query))
     }
 
     // The entry, by any reading of the answers.
-    fn enter<R, F: FnMut(ItemIndex) -> R, H: Reads<R>>(
+    fn make_entry<R, F: FnMut(ItemIndex) -> R, H: Reads<R>>(
         &mut self,
         asking: &mut Asking<F>,
         how: &H,
@@ -90,7 +90,7 @@ impl MapBTreeTable {
         requires { CanSearch F.FnMut (order_of self.old) None asking.old }
         ensures same_reference { (entry_table result).ghost_name ≡ self.entry.ghost_name }
         ensures table { (entry_table result).now ≡ self.old }
-        ensures entered { Enters F.FnMut (H.reading how.now) (order_of self.old) asking.old result asking.new }
+        ensures made { FindsEntry F.FnMut (H.reading how.now) (order_of self.old) asking.old result asking.new }
     {
         match self.descend(asking, how, &None) {
             Ok(spot) => Entry::Occupied(OccupiedEntry { table: self, spot }),
@@ -110,7 +110,7 @@ impl<'a> OccupiedEntry<'a> {
         self.table.index_at(&self.spot)
     }
 
-    /// Removes the index, and hands it back. It asks nothing and takes no memory. The others keep
+    /// Removes the index, and returns it. It asks nothing and takes no memory. The others keep
     /// their order.
     #[tactic(auto, unfolding(crate::specs::Entry::entry_index, crate::specs::MapBTreeTable::order_of, crate::specs::MapBTreeTable::capacity))]
     pub fn remove(self) -> ItemIndex
@@ -133,9 +133,8 @@ impl<'a> VacantEntry<'a> {
 
     /// Takes the memory of an insert of `ix` at the place. It asks nothing.
     ///
-    /// It answers `AllocError` where memory was refused; the contents then stay. Below the capacity it takes
-    /// no memory, and is never refused. Where the index doesn't belong at the place, later searches may walk
-    /// past it.
+    /// It answers `AllocError` if memory runs out; the contents then stay. Below the capacity it takes no
+    /// memory, and never fails. Where the index doesn't belong at the place, later searches may miss it.
     #[tactic(auto, unfolding(crate::specs::MapBTreeTable::order_of))]
     pub fn prepare(self, ix: ItemIndex) -> Result<PreparedBTreeInsert<'a>, AllocError>
         requires assigned { ix ≢ sentinel }

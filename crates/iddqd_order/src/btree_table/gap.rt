@@ -1,4 +1,4 @@
-//! A place for an index in a table that isn't lent: a search finds it, and an insert comes later.
+//! A place for an index in a table, which it doesn't borrow: a search finds it, and an insert comes later.
 //!
 //! It fits the table that it was found in until the tree of that changes. An insert at it asks nothing, and takes no
 //! memory but the blocks that it is given, of which it needs none below the capacity.
@@ -99,12 +99,12 @@ impl MapBTreeTable {
         self.insert_at(gap, ix, blocks);
     }
 
-    /// Takes a stored index out and puts it where its new key belongs. The others keep their order. Equal keys are
+    /// Removes a stored index and inserts it where its new key belongs. The others keep their order. Equal keys are
     /// ordered by the indexes.
     ///
     /// The asking answers the keys of the others, and isn't asked about the index itself. It is asked at most
-    /// `4 + 2 * digits(len)` times for each key. Where the old key leads past the index, a walk that asks nothing finds
-    /// it.
+    /// `4 + 2 * digits(len)` times for each key. If the old key doesn't lead to the index, a walk that asks nothing
+    /// finds it.
     pub fn move_index<K: Ord + Drop, F: FnMut(ItemIndex) -> K>(
         &mut self,
         ix: ItemIndex,
@@ -122,8 +122,7 @@ impl MapBTreeTable {
             (order_of self.new) }
         ensures memory { capacity self.new ≡ capacity self.old }
     {
-        self.stores_no_sentinel();
-        self.leave(ix, asking, &ByKey(old_key));
-        self.enter_anew(ix, asking, &ByKey(new_key), blocks);
+        self.remove_by_search(ix, asking, &ByKey(old_key));
+        self.insert_again(ix, asking, &ByKey(new_key), blocks);
     }
 }

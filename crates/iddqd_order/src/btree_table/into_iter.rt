@@ -14,7 +14,7 @@ use std::fmt::{self, Debug, Formatter, Write};
 use std::iter::{DoubleEndedIterator, ExactSizeIterator, FusedIterator};
 use std::marker::Model;
 
-// A cursor with a copy of its leaf. The path's own place in the leaf is another one.
+// A cursor with a copy of its leaf. The place counts, not the path's own at level 0.
 #[derive(Drop)]
 struct OwnedCursor {
     path: Path,
@@ -52,7 +52,7 @@ impl OwnedCursor {
             self.at += 1;
             return Some(ix);
         }
-        self.leave(root, height, End::Back)
+        self.leave_leaf(root, height, End::Back)
     }
 
     // The index before.
@@ -68,11 +68,11 @@ impl OwnedCursor {
             self.at -= 1;
             return Some(self.row.get(self.at));
         }
-        self.leave(root, height, End::Front)
+        self.leave_leaf(root, height, End::Front)
     }
 
     // The index that stands next to the leaf towards an end.
-    fn leave(&mut self, root: &Option<Node>, height: usize, towards: End) -> Option<ItemIndex>
+    fn leave_leaf(&mut self, root: &Option<Node>, height: usize, towards: End) -> Option<ItemIndex>
         requires tree { IsTree root.now height }
         requires at { IsAt root.now height self.old.path self.old.row self.old.at }
         ensures at { IsAt root.now height self.new.path self.new.row self.new.at }
@@ -86,7 +86,7 @@ impl OwnedCursor {
             at: self.at,
             low: None,
         };
-        let Some(ix) = cursor.leave(root, height, towards) else {
+        let Some(ix) = cursor.leave_leaf(root, height, towards) else {
             return None;
         };
         self.path = cursor.path;

@@ -14,7 +14,7 @@ use std::alloc::{AllocError, Global};
 impl MapBTreeTable {
     /// An empty table that holds so many indexes without asking for memory. For up to ten it takes none.
     ///
-    /// `AllocError` means that memory was refused, or that there can't be so many indexes.
+    /// `AllocError` means that memory ran out, or that there can't be so many indexes.
     pub fn with_capacity(alloc: Global, capacity: usize) -> Result<MapBTreeTable, AllocError>
         ensures { TakesRoom capacity result }
     {
@@ -47,7 +47,7 @@ impl MapBTreeTable {
 
     /// Makes room for `additional` more indexes: the capacity is raised to that of the blocks which all of them need.
     ///
-    /// `AllocError` means that memory was refused, or that there can't be so many indexes; the table then stays as it
+    /// `AllocError` means that memory ran out, or that there can't be so many indexes; the table then stays as it
     /// was. It stays so too, and takes no memory, where there is room for so many.
     pub fn try_reserve(&mut self, additional: usize) -> Result<(), AllocError>
         ensures { Reserves additional self.old result self.new }

@@ -1,7 +1,7 @@
 //! A node of the tree, and the insert into one.
 ghost use Rattle.std.specs.Prelude.{◌≡◌, ℕ, ◌+◌, ◌-◌, ◌<◌, ◌≤◌, List, [], ◌∷◌, ◌++◌, length, take, drop, slice_index, vec_len, vec_capacity};
 ghost use Rattle.std.specs.List.{insert};
-ghost use Rattle.iddqd_order.specs.Node.{row, flat, inners, IsFormed, Goes, place, IsFullBelow, IsPut, IsSpare};
+ghost use Rattle.iddqd_order.specs.Node.{row, flat, inners, IsFormed, ReachesGap, place, IsFullBelow, IsPut, IsSpare};
 ghost use Rattle.iddqd_order.specs.Reserve.{spare};
 ghost use Rattle.iddqd_order.specs.Row.{IsCut};
 
@@ -13,13 +13,13 @@ use iddqd::item_index::ItemIndex;
 use std::alloc::Global;
 
 /// The most children of a node. A block has room for so many.
-pub const CHILDREN: usize = CAPACITY + 1;
+pub(super) const CHILDREN: usize = CAPACITY + 1;
 
 // A node and all below it. The children lie in one block; a leaf has none.
 #[derive(Drop)]
-pub struct Node {
-    pub row: Row,
-    pub children: Vec<Node>,
+pub(super) struct Node {
+    pub(super) row: Row,
+    pub(super) children: Vec<Node>,
 }
 
 // Moves the nodes from `at` on to an empty block.
@@ -104,10 +104,10 @@ fn cut_inner(
 
 impl Node {
     // Puts an index where the path goes, in a leaf that isn't full.
-    pub fn put_in_leaf(&mut self, height: usize, path: &Path, ix: ItemIndex)
+    pub(super) fn put_in_leaf(&mut self, height: usize, path: &Path, ix: ItemIndex)
         requires low { height < LEVELS }
         requires formed { IsFormed height self.old }
-        requires goes { Goes height self.old path.now }
+        requires goes { ReachesGap height self.old path.now }
         requires room { IsFullBelow 0 height self.old path.now }
         ensures { IsPut height self.old self.new path.now ix 0 }
     {
@@ -122,7 +122,7 @@ impl Node {
     // Puts an index where the path goes: the nodes below level `full` are full and are cut in two,
     // and the one at that level takes what they give up. It takes no memory but the blocks, those of the
     // reserve first.
-    pub fn put_above(
+    pub(super) fn put_above(
         &mut self,
         height: usize,
         full: usize,
@@ -136,7 +136,7 @@ impl Node {
         requires some { 0 < full }
         requires not_all { full ≤ height }
         requires formed { IsFormed height self.old }
-        requires goes { Goes height self.old path.now }
+        requires goes { ReachesGap height self.old path.now }
         requires full { IsFullBelow full height self.old path.now }
         requires enough { full ≤ (spare reserve.old + fresh.old) + 1 }
         requires fits { reserve.old.inners + full ≤ MOST_INDEXES + 1 }
@@ -156,7 +156,7 @@ impl Node {
     // Puts an index where the path goes, through full nodes alone, and cuts each of them in two: the
     // index and the node that come after this one are answered. It takes no memory but the blocks, those of
     // the reserve first.
-    pub fn cut(
+    pub(super) fn cut(
         &mut self,
         height: usize,
         path: &Path,
@@ -167,7 +167,7 @@ impl Node {
     ) -> (ItemIndex, Node)
         requires low { height < LEVELS }
         requires formed { IsFormed height self.old }
-        requires goes { Goes height self.old path.now }
+        requires goes { ReachesGap height self.old path.now }
         requires full { IsFullBelow (height + 1) height self.old path.now }
         requires enough { height ≤ spare reserve.old + fresh.old }
         requires fits { reserve.old.inners + height ≤ MOST_INDEXES + 1 }

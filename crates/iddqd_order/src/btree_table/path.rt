@@ -1,23 +1,23 @@
-//! A way down the tree.
+//! A path down the tree.
 ghost use Rattle.std.specs.Prelude.{◌≡◌, ℕ, ◌<◌, ◌≤◌, List, IsTrue, length, slice_index, slice_set};
 
 use crate::btree_table::row::CAPACITY;
 use std::marker::Model;
 
 /// The most levels of a tree.
-pub const LEVELS: usize = 12;
+pub(super) const LEVELS: usize = 12;
 
 // The level at which a stored index stands, and a path that goes to it there.
 #[derive(Clone, Copy)]
-pub struct Spot {
-    pub path: Path,
-    pub level: usize,
+pub(super) struct Spot {
+    pub(super) path: Path,
+    pub(super) level: usize,
 }
 
 // A place for each level: at level 0 a place in the leaf, and at a level above the leaves the place
 // of the child that is taken there.
 #[derive(Clone, Copy)]
-pub struct Path {
+pub(super) struct Path {
     places: [u8; LEVELS],
 }
 
@@ -30,14 +30,14 @@ impl Model for Path {
 }
 
 impl Path {
-    pub fn new() -> Path
+    pub(super) fn new() -> Path
         ensures { length result ≡ LEVELS }
     {
         Path::first()
     }
 
     // The path of first places.
-    pub fn first() -> Path
+    pub(super) fn first() -> Path
         ensures length { length result ≡ LEVELS }
         ensures places { (l : ℕ) → slice_index result l ≡ 0 }
     {
@@ -47,7 +47,7 @@ impl Path {
     }
 
     // The place in the leaf.
-    pub fn leaf_place(&self) -> usize
+    pub(super) fn leaf_place(&self) -> usize
         ensures place { result ≡ slice_index self.now 0 }
         ensures length { length self.now ≡ LEVELS }
     {
@@ -55,7 +55,7 @@ impl Path {
         places[0] as usize
     }
 
-    pub fn get(&self, level: usize) -> usize
+    pub(super) fn get(&self, level: usize) -> usize
         requires { level < LEVELS }
         ensures { result ≡ slice_index self.now level }
     {
@@ -63,7 +63,7 @@ impl Path {
         places[level] as usize
     }
 
-    pub fn set(&mut self, level: usize, place: usize)
+    pub(super) fn set(&mut self, level: usize, place: usize)
         requires level { level < LEVELS }
         requires place { place ≤ CAPACITY }
         ensures place { self.new ≡ slice_set self.old level place }
@@ -74,7 +74,7 @@ impl Path {
 
     // Sets the place at a level, where the path hasn't got it. A path that is read soon after a write
     // waits for it.
-    pub fn keep_or_set(&mut self, has_it: bool, level: usize, place: usize)
+    pub(super) fn keep_or_set(&mut self, has_it: bool, level: usize, place: usize)
         requires path { length self.old ≡ LEVELS }
         requires level { level < LEVELS }
         requires place { place ≤ CAPACITY }
@@ -88,7 +88,7 @@ impl Path {
     }
 
     // Sets the place at a level, and the first place at each level below.
-    pub fn turn(&mut self, level: usize, place: usize)
+    pub(super) fn turn(&mut self, level: usize, place: usize)
         requires path { length self.old ≡ LEVELS }
         requires level { level < LEVELS }
         requires place { place ≤ CAPACITY }

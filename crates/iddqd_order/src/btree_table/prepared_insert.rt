@@ -1,21 +1,21 @@
 //! An insert whose place is found and whose memory is taken.
 //!
-//! It walks down first, since only the walk's end tells how many blocks are wanted: one for each inner
-//! node that will be cut, and one for a new root. It takes those that the table has not spare beside its
-//! tree; the spare ones stay there until the insert. A refusal gives all back, and so does an insert that is
-//! let go. The blocks are of a type parameter, since a check follows no loan in a struct that owns memory by
-//! itself.
+//! It walks down first, since only then it is known how many blocks the insert takes: one for each inner
+//! node that will be cut, and one for a new root. It allocates those that the table has not spare beside its
+//! tree; the spare ones stay there until the insert. If memory runs out, or the insert is dropped, all are
+//! given back. The type of the blocks is a parameter, since a check follows no borrow in a struct that owns
+//! memory by itself.
 ghost use Rattle.std.specs.Prelude.{◌≡◌, ◌≢◌, insert, Contains};
 ghost use Rattle.iddqd_order.specs.MapBTreeTable.{order_of, capacity, fresh_for, sentinel};
 ghost use Rattle.iddqd_order.specs.Node.{InGap};
-ghost use Rattle.iddqd_order.specs.Tree.{GoesIn, FullIn, ReachesIn-prop, FullIn-prop};
+ghost use Rattle.iddqd_order.specs.Tree.{ReachesGapIn, FullIn, ReachesIn-prop, FullIn-prop};
 
 use crate::btree_table::blocks::{Blocks, HoldsBlocks};
 use crate::btree_table::gap::Gap;
 use crate::btree_table::table::MapBTreeTable;
 use iddqd::item_index::ItemIndex;
 
-/// An insert that cannot fail and takes no memory. Let go, it leaves the table as it was, and gives
+/// An insert that cannot fail and takes no memory. Dropped, it leaves the table as it was, and gives
 /// back its memory.
 #[must_use]
 pub struct PreparedBTreeInsert<'a, B: HoldsBlocks = Blocks> {
@@ -23,7 +23,7 @@ pub struct PreparedBTreeInsert<'a, B: HoldsBlocks = Blocks> {
     pub(super) gap: Gap,
     pub(super) ix: ItemIndex,
     pub(super) blocks: B,
-    ghost goes: { GoesIn table.now.root table.now.height gap.path } by { ReachesIn-prop InGap 0 table.now.root table.now.height gap.path },
+    ghost goes: { ReachesGapIn table.now.root table.now.height gap.path } by { ReachesIn-prop InGap 0 table.now.root table.now.height gap.path },
     ghost full_nodes: { FullIn gap.full table.now.root table.now.height gap.path } by { FullIn-prop gap.full table.now.root table.now.height gap.path },
     ghost as_many: { B.count blocks ≡ fresh_for table.now gap.full },
     ghost absent: { Contains (order_of table.now) ix → ⊥ },
@@ -33,7 +33,7 @@ pub struct PreparedBTreeInsert<'a, B: HoldsBlocks = Blocks> {
 impl<'a> PreparedBTreeInsert<'a> {
     ghost use Rattle.iddqd_order.specs.PreparedBTreeInsert.{table_of, place_of, index_of};
 
-    /// Adds the index at its place, and hands the table back. The others keep their order.
+    /// Adds the index at its place, and returns the table. The others keep their order.
     #[tactic(auto, unfolding(crate::specs::PreparedBTreeInsert::place_of, crate::specs::PreparedBTreeInsert::index_of, crate::specs::MapBTreeTable::capacity))]
     pub fn insert(self) -> &'a mut MapBTreeTable
         ensures same_reference { result.ghost_name ≡ (table_of self.entry).ghost_name }

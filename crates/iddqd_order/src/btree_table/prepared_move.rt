@@ -7,7 +7,7 @@
 ghost use Rattle.std.specs.Prelude.{true, ◌≡◌, ◌≢◌, ◌*◌, ◌<◌, ◌≤◌, Some, IsOk, IfOk, Contains, length};
 ghost use Rattle.iddqd_order.specs.Asks.{AsksWithin};
 ghost use Rattle.iddqd_order.specs.Digits.{bound};
-ghost use Rattle.iddqd_order.specs.MapBTreeTable.{order_of, capacity, spare_blocks, move_blocks, sentinel, without};
+ghost use Rattle.iddqd_order.specs.MapBTreeTable.{order_of, capacity, spare_blocks, move_blocks, sentinel, without, IsIndexList};
 ghost use Rattle.iddqd_order.specs.Search.{Askable, CanSearch, SearchAsks};
 
 use crate::btree_table::asking::Asking;
@@ -18,7 +18,7 @@ use iddqd::item_index::ItemIndex;
 use std::alloc::AllocError;
 use std::cmp::Ordering;
 
-/// A move that cannot fail and takes no memory. Let go, it leaves the table as it was, and gives back its
+/// A move that cannot fail and takes no memory. Dropped, it leaves the table as it was, and gives back its
 /// memory.
 #[must_use]
 pub struct PreparedBTreeMove<'a, B: HoldsBlocks = Blocks> {
@@ -38,8 +38,8 @@ impl MapBTreeTable {
 
     /// Takes the memory of a move of a stored index to any place. It asks nothing.
     ///
-    /// It answers `AllocError` where memory was refused; the contents then stay. Up to the capacity it takes no
-    /// memory, and is never refused.
+    /// It answers `AllocError` if memory runs out; the contents then stay. Up to the capacity it takes no
+    /// memory, and never fails.
     pub fn prepare_move(&mut self, ix: ItemIndex) -> Result<PreparedBTreeMove<'_>, AllocError>
         requires { Contains (order_of self.old) ix }
         ensures* unchanged { sem 𝓛 (rests_if_refused self.entry result) }
@@ -50,7 +50,6 @@ impl MapBTreeTable {
         ensures no_blocks { length (order_of self.old) ≤ capacity self.old →
             IfOk result (λ p. prepared_move.blocks_of p ≡ 0) }
     {
-        self.stores_no_sentinel();
         let blocks = match self.take_move_blocks() {
             Ok(blocks) => blocks,
             Err(AllocError) => return Err(AllocError),
@@ -62,15 +61,16 @@ impl MapBTreeTable {
         })
     }
 
-    // Takes an index out: where the search misses it, by a walk.
-    pub(super) fn leave<R, F: FnMut(ItemIndex) -> R, H: Reads<R>>(
+    // Removes an index: where the search misses it, by a walk.
+    pub(super) fn remove_by_search<R, F: FnMut(ItemIndex) -> R, H: Reads<R>>(
         &mut self,
         ix: ItemIndex,
         asking: &mut Asking<F>,
         how: &H,
     )
         requires { CanSearch F.FnMut (order_of self.old) (Some ix) asking.old }
-        ensures left { order_of self.new ≡ without (order_of self.old) ix }
+        ensures indexes { IsIndexList (order_of self.old) }
+        ensures removed { order_of self.new ≡ without (order_of self.old) ix }
         ensures lower { self.new.height ≤ self.old.height }
         ensures reserved { self.new.reserved ≡ self.old.reserved }
         ensures asked { SearchAsks F.FnMut (order_of self.old) (Some ix) asking.old asking.new }
@@ -81,8 +81,8 @@ impl MapBTreeTable {
         }
     }
 
-    // Puts an index that was taken out where a search ends.
-    pub(super) fn enter_anew<R, F: FnMut(ItemIndex) -> R, H: Reads<R>>(
+    // Inserts an index that was removed where a search ends.
+    pub(super) fn insert_again<R, F: FnMut(ItemIndex) -> R, H: Reads<R>>(
         &mut self,
         ix: ItemIndex,
         asking: &mut Asking<F>,
@@ -94,7 +94,7 @@ impl MapBTreeTable {
         requires can_ask { CanSearch F.FnMut (order_of self.old) (Some ix) asking.old }
         requires enough { capacity self.old ≤ length (order_of self.old) → self.old.height < blocks }
         ensures asked { SearchAsks F.FnMut (order_of self.old) (Some ix) asking.old asking.new }
-        ensures entered { PutsIn F.FnMut (H.reading how.now) (order_of self.old) ix asking.old (order_of self.new) }
+        ensures inserted { PutsIn F.FnMut (H.reading how.now) (order_of self.old) ix asking.old (order_of self.new) }
         ensures reserved { self.new.reserved ≡ self.old.reserved }
     {
         let gap = self.find_gap(ix, asking, how);
@@ -105,11 +105,11 @@ impl MapBTreeTable {
 impl<'a> PreparedBTreeMove<'a> {
     ghost use Rattle.iddqd_order.specs.PreparedBTreeMove.{table_of, index_of, PutsIn};
 
-    /// Takes the index out, puts it where `entering` leads, and hands the table back. The others keep
+    /// Removes the index, inserts it where `entering` leads, and returns the table. The others keep
     /// their order. Equal answers are ordered by the indexes.
     ///
     /// `leaving` leads to the old place, and `entering` to the new one among the others. Neither is asked
-    /// about the index itself, each at most `4 + 2 * digits(len)` times. Where `leaving` leads past the
+    /// about the index itself, each at most `4 + 2 * digits(len)` times. If `leaving` doesn't lead to the
     /// index, a walk that asks nothing finds it.
     #[tactic(auto, unfolding(crate::specs::PreparedBTreeMove::index_of, crate::specs::MapBTreeTable::capacity))]
     pub fn commit_by<F: FnMut(ItemIndex) -> Ordering, G: FnMut(ItemIndex) -> Ordering>(
@@ -120,26 +120,26 @@ impl<'a> PreparedBTreeMove<'a> {
         requires leaving { CanSearch F.FnMut (order_of (table_of self).now) (Some (index_of self)) leaving.old }
         requires entering { CanSearch G.FnMut (order_of (table_of self).now) (Some (index_of self)) entering.old }
         ensures same_reference { result.ghost_name ≡ (table_of self.entry).ghost_name }
-        ensures left { SearchAsks F.FnMut (order_of (table_of self.entry).now) (Some (index_of self.entry))
+        ensures leaving_asked { SearchAsks F.FnMut (order_of (table_of self.entry).now) (Some (index_of self.entry))
             leaving.old leaving.new }
-        ensures entered { SearchAsks G.FnMut (without (order_of (table_of self.entry).now) (index_of self.entry))
+        ensures entering_asked { SearchAsks G.FnMut (without (order_of (table_of self.entry).now) (index_of self.entry))
             (Some (index_of self.entry)) entering.old entering.new }
         ensures moved { PutsIn G.FnMut (λ r. r) (without (order_of (table_of self.entry).now) (index_of self.entry))
             (index_of self.entry) entering.old (order_of result.now) }
         ensures memory { capacity result.now ≡ capacity (table_of self.entry).now }
     {
         let PreparedBTreeMove { table, ix, blocks } = self;
-        table.leave(ix, leaving, &AsOrdering);
-        table.enter_anew(ix, entering, &AsOrdering, blocks);
+        table.remove_by_search(ix, leaving, &AsOrdering);
+        table.insert_again(ix, entering, &AsOrdering, blocks);
         table
     }
 
-    /// Takes the index out, puts it where its new key belongs, and hands the table back. The others keep
+    /// Removes the index, inserts it where its new key belongs, and returns the table. The others keep
     /// their order. Equal keys are ordered by the indexes.
     ///
     /// The asking answers the keys of the others, and isn't asked about the index itself. It is asked at
-    /// most `4 + 2 * digits(len)` times for each key. Where the old key leads past the index, a walk that
-    /// asks nothing finds it.
+    /// most `4 + 2 * digits(len)` times for each key. If the old key doesn't lead to the index, a walk
+    /// that asks nothing finds it.
     #[tactic(auto, unfolding(crate::specs::PreparedBTreeMove::index_of, crate::specs::MapBTreeTable::capacity))]
     pub fn commit<K: Ord + Drop, F: FnMut(ItemIndex) -> K>(
         self,
@@ -157,8 +157,8 @@ impl<'a> PreparedBTreeMove<'a> {
         ensures memory { capacity result.now ≡ capacity (table_of self.entry).now }
     {
         let PreparedBTreeMove { table, ix, blocks } = self;
-        table.leave(ix, asking, &ByKey(old_key));
-        table.enter_anew(ix, asking, &ByKey(new_key), blocks);
+        table.remove_by_search(ix, asking, &ByKey(old_key));
+        table.insert_again(ix, asking, &ByKey(new_key), blocks);
         table
     }
 }

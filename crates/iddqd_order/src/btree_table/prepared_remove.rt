@@ -1,7 +1,7 @@
 //! A removal whose place is found, or missing.
 //!
-//! What it leaves is said by a filter of the list and not by a place, so a tree meets it word for
-//! word.
+//! Its contract says what it leaves by a filter of the list, not by a place, so it is the same for a tree
+//! and for a sorted list.
 ghost use Rattle.std.specs.Prelude.{◌≡◌, ◌≤◌, IsTrue, false};
 ghost use Rattle.iddqd_order.specs.MapBTreeTable.{order_of, capacity, without, LeadsTo, LeadsTo-prop};
 
@@ -9,7 +9,7 @@ use crate::btree_table::path::Spot;
 use crate::btree_table::table::MapBTreeTable;
 use iddqd::item_index::ItemIndex;
 
-/// A removal that takes no memory. Let go, it leaves the table as it was.
+/// A removal that takes no memory. Dropped, it leaves the table as it was.
 #[must_use]
 #[derive(Drop)]
 pub struct PreparedBTreeRemove<'a> {

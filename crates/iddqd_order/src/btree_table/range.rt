@@ -17,7 +17,7 @@ ghost use Rattle.iddqd_order.specs.Cursor.{edge_of};
 ghost use Rattle.iddqd_order.specs.MapBTreeTable.{order_of};
 ghost use Rattle.iddqd_order.specs.Range.{Begins, Ends, IsBoundBy, IsPart, WalksBetween, WalksBetweenBy, WalksFrom};
 ghost use Rattle.iddqd_order.specs.Search.{CanSearch, SearchAsks};
-ghost use Rattle.iddqd_order.specs.Tree.{GoesIn, place_in};
+ghost use Rattle.iddqd_order.specs.Tree.{ReachesGapIn, place_in};
 
 use crate::btree_table::asking::Asking;
 use crate::btree_table::cursor::{Cursor, End};
@@ -64,13 +64,13 @@ impl<'a> Range<'a> {
     ghost use Rattle.std.specs.Prelude.{◌↔◌, [], IsTrue, drop};
     ghost use Rattle.iddqd_order.specs.Cursor.{part};
     ghost use Rattle.iddqd_order.specs.Range.{indexes_ahead};
-    ghost use Rattle.iddqd_order.specs.Tree.{IsTree, GoesIn, in_order, place_in};
+    ghost use Rattle.iddqd_order.specs.Tree.{IsTree, ReachesGapIn, in_order, place_in};
 
     // The indexes of a tree from one gap on up to another one, and none where that stands before.
     fn new(root: &'a Option<Node>, height: usize, front: &Path, back: &Path) -> Range<'a>
         requires tree { IsTree root.now height }
-        requires front { GoesIn root.now height front.now }
-        requires back { GoesIn root.now height back.now }
+        requires front { ReachesGapIn root.now height front.now }
+        requires back { ReachesGapIn root.now height back.now }
         ensures { indexes_ahead result
             ≡ part (place_in root.now height front.now) (place_in root.now height back.now) (in_order root.now height) }
     {
@@ -89,7 +89,7 @@ impl<'a> Range<'a> {
     // The indexes of a tree from a gap on.
     fn from(root: &'a Option<Node>, height: usize, front: &Path) -> Range<'a>
         requires tree { IsTree root.now height }
-        requires goes { GoesIn root.now height front.now }
+        requires goes { ReachesGapIn root.now height front.now }
         ensures { indexes_ahead result ≡ drop (place_in root.now height front.now) (in_order root.now height) }
     {
         Range {
@@ -100,7 +100,7 @@ impl<'a> Range<'a> {
         }
     }
 
-    // Whether none is left. Most often the places in the leaves tell.
+    // Whether none is left. Most often the places in the leaves differ, which is enough to know.
     fn has_ended(&self) -> bool
         ensures { IsTrue result ↔ (indexes_ahead self.now ≡ []) }
     {
@@ -264,14 +264,14 @@ impl MapBTreeTable {
         Range::from(root, height, &front)
     }
 
-    // The way to the gap where a lower bound begins.
+    // The path to the gap where a lower bound begins.
     fn find_lower<K: Ord + Drop, Q: Comparable<K>, F: FnMut(ItemIndex) -> K>(
         &self,
         lower: Bound<&Q>,
         asking: &mut Asking<F>,
     ) -> Path
         requires { CanSearch F.FnMut (order_of self.now) None asking.old }
-        ensures goes { GoesIn self.now.root self.now.height result }
+        ensures goes { ReachesGapIn self.now.root self.now.height result }
         ensures asked { SearchAsks F.FnMut (order_of self.now) None asking.old asking.new }
         ensures begins { Begins F.FnMut (order_of self.now) (bound_map (λ q. Q.compare q.now) lower.entry) asking.old
             (place_in self.now.root self.now.height result) }
@@ -283,14 +283,14 @@ impl MapBTreeTable {
         }
     }
 
-    // The way to the gap where an upper bound ends.
+    // The path to the gap where an upper bound ends.
     fn find_upper<K: Ord + Drop, Q: Comparable<K>, F: FnMut(ItemIndex) -> K>(
         &self,
         upper: Bound<&Q>,
         asking: &mut Asking<F>,
     ) -> Path
         requires { CanSearch F.FnMut (order_of self.now) None asking.old }
-        ensures goes { GoesIn self.now.root self.now.height result }
+        ensures goes { ReachesGapIn self.now.root self.now.height result }
         ensures asked { SearchAsks F.FnMut (order_of self.now) None asking.old asking.new }
         ensures ends { Ends F.FnMut (order_of self.now) (bound_map (λ q. Q.compare q.now) upper.entry) asking.old
             (place_in self.now.root self.now.height result) }
@@ -302,7 +302,7 @@ impl MapBTreeTable {
         }
     }
 
-    // The way to the gap where what is sought would stand, where Equal counts as another answer.
+    // The path to the gap where what is sought would stand, where Equal counts as another answer.
     fn find_bound<R, F: FnMut(ItemIndex) -> R, H: Reads<R>>(
         &self,
         asking: &mut Asking<F>,
@@ -311,7 +311,7 @@ impl MapBTreeTable {
     ) -> Path
         requires can_search { CanSearch F.FnMut (order_of self.now) None asking.old }
         requires unequal { at_equal ≢ Equal }
-        ensures goes { GoesIn self.now.root self.now.height result }
+        ensures goes { ReachesGapIn self.now.root self.now.height result }
         ensures asked { SearchAsks F.FnMut (order_of self.now) None asking.old asking.new }
         ensures bound { IsBoundBy F.FnMut (H.reading how.now) at_equal (order_of self.now) asking.old
             (place_in self.now.root self.now.height result) }
@@ -323,9 +323,9 @@ impl MapBTreeTable {
         }
     }
 
-    // The way to the gap at an end.
+    // The path to the gap at an end.
     fn end_path(&self, end: End) -> Path
-        ensures goes { GoesIn self.now.root self.now.height result }
+        ensures goes { ReachesGapIn self.now.root self.now.height result }
         ensures gap { place_in self.now.root self.now.height result ≡ edge_of end (length (order_of self.now)) }
     {
         let (root, height) = self.tree();
@@ -334,8 +334,8 @@ impl MapBTreeTable {
 
     // The indexes from one gap on up to another one, and none where that stands before.
     fn walk_between(&self, front: &Path, back: &Path) -> Range<'_>
-        requires front { GoesIn self.now.root self.now.height front.now }
-        requires back { GoesIn self.now.root self.now.height back.now }
+        requires front { ReachesGapIn self.now.root self.now.height front.now }
+        requires back { ReachesGapIn self.now.root self.now.height back.now }
         ensures { IsPart (order_of self.now) (place_in self.now.root self.now.height front.now)
             (place_in self.now.root self.now.height back.now) result }
     {

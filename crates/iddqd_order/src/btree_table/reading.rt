@@ -7,7 +7,7 @@ use iddqd::map_hash::Comparable;
 use std::cmp::Ordering;
 
 // Reads an answer about a stored index: Less where what is sought stands before it.
-pub trait Reads<R> {
+pub(super) trait Reads<R> {
     ghost reading: { Self → R → Ordering };
 
     fn read(&self, answer: R) -> Ordering
@@ -16,7 +16,7 @@ pub trait Reads<R> {
 
 // The answer is the ordering itself.
 #[derive(Clone, Copy)]
-pub struct AsOrdering;
+pub(super) struct AsOrdering;
 
 impl Reads<Ordering> for AsOrdering {
     ghost reading = { λ _ r. r };
@@ -28,7 +28,7 @@ impl Reads<Ordering> for AsOrdering {
 
 // The answer is a key, which the query is compared with.
 #[derive(Drop)]
-pub struct ByQuery<'a, Q>(pub &'a Q);
+pub(super) struct ByQuery<'a, Q>(pub(super) &'a Q);
 
 impl<'a, K: Ord + Drop, Q: Comparable<K>> Reads<K> for ByQuery<'a, Q> {
     ghost reading = { λ by k. Q.compare by.0.now k };
@@ -40,7 +40,7 @@ impl<'a, K: Ord + Drop, Q: Comparable<K>> Reads<K> for ByQuery<'a, Q> {
 
 // The answer is a key, which this key is compared with.
 #[derive(Drop)]
-pub struct ByKey<'a, K>(pub &'a K);
+pub(super) struct ByKey<'a, K>(pub(super) &'a K);
 
 impl<'a, K: Ord + Drop> Reads<K> for ByKey<'a, K> {
     ghost reading = { λ by k. K.cmp by.0.now k };
@@ -52,9 +52,9 @@ impl<'a, K: Ord + Drop> Reads<K> for ByKey<'a, K> {
 
 // The answer is read so, but Equal counts as another one.
 #[derive(Drop)]
-pub struct Unequal<'a, H> {
-    pub how: &'a H,
-    pub at_equal: Ordering,
+pub(super) struct Unequal<'a, H> {
+    pub(super) how: &'a H,
+    pub(super) at_equal: Ordering,
 }
 
 impl<'a, R, H: Reads<R>> Reads<R> for Unequal<'a, H> {

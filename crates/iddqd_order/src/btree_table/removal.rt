@@ -1,15 +1,14 @@
 //! Removal from a node, which takes no memory.
 //!
-//! It mends on the way back: a child left with four takes an index from a neighbour, or becomes one with
-//! it. A walk before it, for a leaf that keeps five, saved a hundredth of a random removal.
+//! It repairs nodes on its return: a child left with four indexes takes one from a neighbour, or is merged with it. A walk before it, for a leaf that keeps five, saved a hundredth of a random removal.
 //!
 //! Where two inner nodes become one, the block of the second goes to the reserve.
 ghost use Rattle.std.specs.Prelude.{◌≡◌, ◌↔◌, ℕ, ◌+◌, ◌<◌, ◌≤◌, [], ◌∷◌, ◌++◌, length, slice_index_or, option_to_list, vec_capacity, IsSome, min};
 ghost use Rattle.std.specs.List.{remove};
 ghost use Rattle.iddqd_order.specs.declared.btree_table.node.Node.{Node};
-ghost use Rattle.iddqd_order.specs.Node.{row, children, room, row as row_of, flat, inners, IsFormed, Holds, spot};
+ghost use Rattle.iddqd_order.specs.Node.{row, children, child_room, row as row_of, flat, inners, IsFormed, ReachesIndex, spot};
 ghost use Rattle.iddqd_order.specs.Removal.{MayLackOne, IsMended, IsEmptied, inners_of, Recounts};
-ghost use Rattle.iddqd_order.specs.Tree.{in_order, inners_in, IsTree, HoldsIn, spot_in};
+ghost use Rattle.iddqd_order.specs.Tree.{in_order, inners_in, IsTree, ReachesIndexIn, spot_in};
 
 use crate::btree_table::node::{CHILDREN, Node};
 use crate::btree_table::path::{LEVELS, Path};
@@ -17,9 +16,8 @@ use crate::btree_table::reserve::Reserve;
 use crate::btree_table::row::{CAPACITY, LEAST, Row};
 use iddqd::item_index::ItemIndex;
 
-// Takes out the index to which the path goes at the level, and answers the new height. It takes no
-// memory.
-pub fn take_out(
+// Removes the index to which the path goes at the level, and answers the new height. It takes no memory.
+pub(super) fn remove_in(
     root: &mut Option<Node>,
     height: usize,
     path: &Path,
@@ -27,7 +25,7 @@ pub fn take_out(
     reserve: &mut Reserve,
 ) -> usize
     requires tree { IsTree root.old height }
-    requires holds { HoldsIn level root.old height path.now }
+    requires holds { ReachesIndexIn level root.old height path.now }
     requires inners { reserve.old.inners ≡ inners_in root.old height }
     ensures inners { reserve.new.inners ≡ inners_in root.new result }
     ensures reserved { reserve.new.reserved ≡ reserve.old.reserved }
@@ -45,9 +43,9 @@ pub fn take_out(
     lower(root, height, reserve)
 }
 
-// Lets go of a root without indexes. Its only child, if there is one, is the new root, and its block goes to
+// Drops a root without indexes. Its only child, if there is one, is the new root, and its block goes to
 // the reserve.
-pub fn lower(root: &mut Option<Node>, height: usize, reserve: &mut Reserve) -> usize
+pub(super) fn lower(root: &mut Option<Node>, height: usize, reserve: &mut Reserve) -> usize
     requires emptied { IsEmptied root.old height }
     requires inners { reserve.old.inners ≡ inners_in root.old height }
     ensures inners { reserve.new.inners ≡ inners_in root.new result }
@@ -68,13 +66,13 @@ pub fn lower(root: &mut Option<Node>, height: usize, reserve: &mut Reserve) -> u
 }
 
 impl Node {
-    // Takes out the index to which the path goes at the level. The node may be left with one index
+    // Removes the index to which the path goes at the level. The node may be left with one index
     // less.
-    pub fn remove(&mut self, height: usize, path: &Path, level: usize, reserve: &mut Reserve)
+    pub(super) fn remove(&mut self, height: usize, path: &Path, level: usize, reserve: &mut Reserve)
         requires low { height < LEVELS }
         requires some { 1 ≤ length (row self.old) }
         requires formed { IsFormed height self.old }
-        requires holds { Holds level height self.old path.now }
+        requires holds { ReachesIndex level height self.old path.now }
         requires counted { inners height self.old ≤ reserve.old.inners }
         ensures counted { Recounts reserve.old reserve.new (inners height self.old) (inners height self.new) }
         ensures items { flat height self.new ≡ remove (flat height self.old) (spot level height self.old path.now) }
@@ -95,8 +93,8 @@ impl Node {
         mend(&mut self.row, &mut self.children, i, reserve);
     }
 
-    // Takes out the last index of all. The node may be left with one index less.
-    pub fn remove_last(&mut self, height: usize, reserve: &mut Reserve) -> ItemIndex
+    // Removes the last index of all. The node may be left with one index less.
+    pub(super) fn remove_last(&mut self, height: usize, reserve: &mut Reserve) -> ItemIndex
         requires some { 1 ≤ length (row self.old) }
         requires formed { IsFormed height self.old }
         requires counted { inners height self.old ≤ reserve.old.inners }
@@ -120,7 +118,7 @@ impl Node {
         ensures row { row self.old ≡ row self.new ++ result.0 ∷ [] }
         ensures children { children self.old ≡ children self.new ++ option_to_list result.1 }
         ensures child { IsSome result.1 ↔ (0 < length (children self.old)) }
-        ensures room { room self.new ≡ room self.old }
+        ensures room { child_room self.new ≡ child_room self.old }
     {
         let last = self.row.len() - 1;
         let ix = self.row.remove(last);
@@ -133,7 +131,7 @@ impl Node {
         ensures row { row self.old ≡ result.0 ∷ row self.new }
         ensures children { children self.old ≡ option_to_list result.1 ++ children self.new }
         ensures child { IsSome result.1 ↔ (0 < length (children self.old)) }
-        ensures room { room self.new ≡ room self.old }
+        ensures room { child_room self.new ≡ child_room self.old }
     {
         let ix = self.row.remove(0);
         if self.children.is_empty() {
@@ -145,10 +143,10 @@ impl Node {
     // Puts an index, and a child if there is one, before the others.
     fn put_first(&mut self, ix: ItemIndex, child: Option<Node>)
         requires fits { length (row self.old) < CAPACITY }
-        requires room { length (option_to_list child) + length (children self.old) ≤ room self.old }
+        requires room { length (option_to_list child) + length (children self.old) ≤ child_room self.old }
         ensures row { row self.new ≡ ix ∷ row self.old }
         ensures children { children self.new ≡ option_to_list child ++ children self.old }
-        ensures room { room self.old ≤ room self.new }
+        ensures room { child_room self.old ≤ child_room self.new }
     {
         self.row.insert(0, ix);
         if let Some(child) = child {
@@ -159,10 +157,10 @@ impl Node {
     // Puts an index, and a child if there is one, after the others.
     fn put_last(&mut self, ix: ItemIndex, child: Option<Node>)
         requires fits { length (row self.old) < CAPACITY }
-        requires room { length (option_to_list child) + length (children self.old) ≤ room self.old }
+        requires room { length (option_to_list child) + length (children self.old) ≤ child_room self.old }
         ensures row { row self.new ≡ row self.old ++ ix ∷ [] }
         ensures children { children self.new ≡ children self.old ++ option_to_list child }
-        ensures room { room self.old ≤ room self.new }
+        ensures room { child_room self.old ≤ child_room self.new }
     {
         self.row.push(ix);
         if let Some(child) = child {
@@ -174,12 +172,12 @@ impl Node {
     // goes to the reserve.
     fn join(&mut self, middle: ItemIndex, other: Node, reserve: &mut Reserve)
         requires fits { length (row self.old) + length (row other) < CAPACITY }
-        requires room { length (children self.old) + length (children other) ≤ room self.old }
-        requires block { 0 < length (children other) → CHILDREN ≤ room other }
+        requires room { length (children self.old) + length (children other) ≤ child_room self.old }
+        requires block { 0 < length (children other) → CHILDREN ≤ child_room other }
         requires some { 1 ≤ reserve.old.inners }
         ensures row { row self.new ≡ row self.old ++ middle ∷ row other }
         ensures children { children self.new ≡ children self.old ++ children other }
-        ensures room { room self.old ≤ room self.new }
+        ensures room { child_room self.old ≤ child_room self.new }
         ensures given { reserve.new.inners + min 1 (length (children other)) ≡ reserve.old.inners }
         ensures reserved { reserve.new.reserved ≡ reserve.old.reserved }
     {

@@ -9,7 +9,7 @@ use crate::btree_table::row::Row;
 use iddqd::index_remap::IndexRemap;
 
 // Gives each index its new name in its place. It takes no memory.
-pub fn rename_in(root: &mut Option<Node>, height: usize, remap: &IndexRemap)
+pub(super) fn rename_in(root: &mut Option<Node>, height: usize, remap: &IndexRemap)
     requires tree { IsTree root.old height }
     requires can_remap { All (CanRemap remap.now) (in_order root.old height) }
     ensures tree { IsTree root.new height }

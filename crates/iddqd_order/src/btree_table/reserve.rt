@@ -16,16 +16,16 @@ use std::marker::Model;
 
 // An inner node below the root has six children or more, of five indexes each at least. So each one more comes with
 // thirty indexes more.
-pub const INDEXES_OF_A_BLOCK: usize = 30;
+pub(super) const INDEXES_OF_A_BLOCK: usize = 30;
 
 // So many indexes need no inner node: the root alone holds them.
-pub const FREE_INDEXES: usize = 10;
+pub(super) const FREE_INDEXES: usize = 10;
 
 // There are no more indexes than those below `SENTINEL`.
-pub const MOST_INDEXES: usize = 4294967295;
+pub(super) const MOST_INDEXES: usize = 4294967295;
 
 /// How many blocks so many indexes need at most.
-pub fn needed_blocks(indexes: usize) -> usize
+pub(super) fn needed_blocks(indexes: usize) -> usize
     requires { indexes ≤ capacity_of most_blocks }
     ensures value { result ≡ needed_blocks indexes }
     ensures few { result ≤ most_blocks }
@@ -33,7 +33,7 @@ pub fn needed_blocks(indexes: usize) -> usize
     (indexes + (INDEXES_OF_A_BLOCK - FREE_INDEXES - 1)) / INDEXES_OF_A_BLOCK
 }
 
-// Adds so many empty blocks, for which there is room. Refused, it lets go of those that it took.
+// Adds so many empty blocks, for which there is room. If memory runs out, it drops those that it took.
 fn add_blocks(blocks: &mut Vec<Vec<Node>>, count: usize, alloc: Global) -> Result<(), AllocError>
     requires room { vec_len blocks.old + count ≤ vec_capacity blocks.old }
     requires empty { All IsSpare blocks.old.items }
@@ -58,7 +58,7 @@ fn add_blocks(blocks: &mut Vec<Vec<Node>>, count: usize, alloc: Global) -> Resul
 
 /// Empty blocks, each with room for the children of one node, and the count of those in the tree.
 #[derive(Drop)]
-pub struct Reserve {
+pub(super) struct Reserve {
     blocks: Vec<Vec<Node>>,
     // How many inner nodes the tree has.
     inners: usize,
@@ -82,7 +82,7 @@ impl Model for Reserve {
 
 impl Reserve {
     /// No block and no inner node. It takes no memory.
-    pub fn new(alloc: Global) -> Reserve
+    pub(super) fn new(alloc: Global) -> Reserve
         ensures { result ≡ record { inners = 0; reserved = 0 } }
     {
         Reserve {
@@ -93,7 +93,7 @@ impl Reserve {
     }
 
     /// The reserve beside a copy of the tree: no block. It takes no memory.
-    pub fn for_copy(&self, alloc: Global) -> Reserve
+    pub(super) fn for_copy(&self, alloc: Global) -> Reserve
         ensures { result ≡ record { inners = self.now.inners; reserved = 0 } }
     {
         Reserve {
@@ -104,7 +104,7 @@ impl Reserve {
     }
 
     /// How many blocks are reserved.
-    pub fn reserved(&self) -> usize
+    pub(super) fn reserved(&self) -> usize
         ensures value { result ≡ self.now.reserved }
         ensures few { result ≤ most_blocks }
     {
@@ -112,14 +112,14 @@ impl Reserve {
     }
 
     /// How many empty blocks there are.
-    pub fn spare(&self) -> usize
+    pub(super) fn spare(&self) -> usize
         ensures { result ≡ spare self.now }
     {
         self.blocks.len()
     }
 
     /// A block for one more inner node: one of these, or else one of the fresh ones.
-    pub fn take(&mut self, fresh: &mut Blocks) -> Vec<Node>
+    pub(super) fn take(&mut self, fresh: &mut Blocks) -> Vec<Node>
         requires some { 0 < spare self.old + fresh.old }
         requires fits { self.old.inners ≤ MOST_INDEXES }
         ensures block { IsSpare result }
@@ -135,8 +135,8 @@ impl Reserve {
         }
     }
 
-    /// Takes back the block of an inner node that is no more, and lets go of it where enough are left.
-    pub fn give(&mut self, block: Vec<Node>)
+    /// Takes back the block of an inner node that is no more, and drops it where enough are left.
+    pub(super) fn give(&mut self, block: Vec<Node>)
         requires block { IsSpare block }
         requires some { 1 ≤ self.old.inners }
         ensures one_less { self.new.inners + 1 ≡ self.old.inners }
@@ -149,7 +149,7 @@ impl Reserve {
     }
 
     /// How many indexes so many blocks always suffice for.
-    pub fn capacity(&self) -> usize
+    pub(super) fn capacity(&self) -> usize
         ensures value { result ≡ capacity_of self.now.reserved }
         ensures few { result ≤ capacity_of most_blocks }
     {
@@ -157,8 +157,8 @@ impl Reserve {
     }
 
     /// Reserves so many blocks, or as many as are reserved where these are more: it takes those that tree and list
-    /// lack, and places for all. Refused, it gives back all that it took.
-    pub fn raise(&mut self, reserved: usize, alloc: Global) -> Result<(), AllocError>
+    /// lack, and places for all. If memory runs out, it gives back all that it took.
+    pub(super) fn raise(&mut self, reserved: usize, alloc: Global) -> Result<(), AllocError>
         requires few { reserved ≤ most_blocks }
         ensures inners { self.new.inners ≡ self.old.inners }
         ensures raised { OnOk result (self.new.reserved ≡ max self.old.reserved reserved) }
@@ -176,7 +176,7 @@ impl Reserve {
     }
 
     /// Reserves no more than so many blocks: it gives back those beyond, and the memory of their places.
-    pub fn lower(&mut self, reserved: usize)
+    pub(super) fn lower(&mut self, reserved: usize)
         ensures inners { self.new.inners ≡ self.old.inners }
         ensures lowered { self.new.reserved ≡ min self.old.reserved reserved }
     {

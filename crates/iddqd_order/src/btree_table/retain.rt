@@ -16,12 +16,12 @@ use crate::btree_table::node::Node;
 use crate::btree_table::path::LEVELS;
 use crate::btree_table::removal::lower;
 use crate::btree_table::reserve::Reserve;
-use crate::btree_table::ways::Way;
+use crate::btree_table::spot_cursor::SpotCursor;
 use iddqd::item_index::ItemIndex;
 
 // Keeps the indexes at which `f` answers true, in their order, and answers the new height and how
 // many they are. It takes no memory.
-pub fn retain_in<F: FnMut(ItemIndex) -> bool>(
+pub(super) fn retain_in<F: FnMut(ItemIndex) -> bool>(
     root: &mut Option<Node>,
     height: usize,
     len: usize,
@@ -65,8 +65,8 @@ fn gather<F: FnMut(ItemIndex) -> bool>(
     ensures within { result ≤ len }
     ensures kept { RetainsTo F.FnMut f.old (flat height root.old) (take result (flat height root.new)) f.new }
 {
-    let mut from = Way::first();
-    let mut to = Way::first();
+    let mut from = SpotCursor::first();
+    let mut to = SpotCursor::first();
     while from.place < len {
         let ix = from.step(root, height);
         if f(ix) {

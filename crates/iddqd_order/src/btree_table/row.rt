@@ -8,14 +8,14 @@ use iddqd::item_index::ItemIndex;
 use std::marker::Model;
 
 /// The most indexes of a row.
-pub const CAPACITY: usize = 11;
+pub(super) const CAPACITY: usize = 11;
 
 // The least indexes of a row, but in the root.
-pub const LEAST: usize = 5;
+pub(super) const LEAST: usize = 5;
 
 // A list of at most eleven indexes.
 #[derive(Drop)]
-pub struct Row {
+pub(super) struct Row {
     items: [ItemIndex; CAPACITY],
     len: u8,
 }
@@ -29,7 +29,7 @@ impl Model for Row {
 }
 
 impl Row {
-    pub fn new() -> Row
+    pub(super) fn new() -> Row
         ensures { result ≡ [] }
     {
         Row {
@@ -38,7 +38,7 @@ impl Row {
         }
     }
 
-    pub fn of(from: &[ItemIndex]) -> Row
+    pub(super) fn of(from: &[ItemIndex]) -> Row
         requires { length from.now ≤ CAPACITY }
         ensures { result ≡ from.now }
     {
@@ -48,20 +48,20 @@ impl Row {
         Row { items, len: count }
     }
 
-    pub fn len(&self) -> usize
+    pub(super) fn len(&self) -> usize
         ensures length { result ≡ length self.now }
         ensures within { result ≤ CAPACITY }
     {
         self.len as usize
     }
 
-    pub fn as_slice(&self) -> &[ItemIndex]
+    pub(super) fn as_slice(&self) -> &[ItemIndex]
         ensures { result.now ≡ self.now }
     {
         &self.items[..self.len as usize]
     }
 
-    pub fn slice_from(&self, at: usize) -> &[ItemIndex]
+    pub(super) fn slice_from(&self, at: usize) -> &[ItemIndex]
         requires { at ≤ length self.now }
         ensures { result.now ≡ drop at self.now }
     {
@@ -69,7 +69,7 @@ impl Row {
         &items[at..]
     }
 
-    pub fn get(&self, at: usize) -> ItemIndex
+    pub(super) fn get(&self, at: usize) -> ItemIndex
         requires { at < length self.now }
         ensures { result ≡ slice_index self.now at }
     {
@@ -77,7 +77,7 @@ impl Row {
         items[at]
     }
 
-    pub fn set(&mut self, at: usize, ix: ItemIndex)
+    pub(super) fn set(&mut self, at: usize, ix: ItemIndex)
         requires { at < length self.old }
         ensures { self.new ≡ slice_set self.old at ix }
     {
@@ -85,7 +85,7 @@ impl Row {
         items[at] = ix;
     }
 
-    pub fn copy(&self) -> Row
+    pub(super) fn copy(&self) -> Row
         ensures { result ≡ self.now }
     {
         Row {
@@ -94,7 +94,7 @@ impl Row {
         }
     }
 
-    pub fn insert(&mut self, at: usize, ix: ItemIndex)
+    pub(super) fn insert(&mut self, at: usize, ix: ItemIndex)
         requires in_bounds { at ≤ length self.old }
         requires room { length self.old < CAPACITY }
         ensures { self.new ≡ insert self.old at ix }
@@ -105,14 +105,14 @@ impl Row {
         self.len += 1;
     }
 
-    pub fn push(&mut self, ix: ItemIndex)
+    pub(super) fn push(&mut self, ix: ItemIndex)
         requires { length self.old < CAPACITY }
         ensures { self.new ≡ self.old ++ ix ∷ [] }
     {
         self.insert(self.len(), ix);
     }
 
-    pub fn remove(&mut self, at: usize) -> ItemIndex
+    pub(super) fn remove(&mut self, at: usize) -> ItemIndex
         requires { at < length self.old }
         ensures value { result ≡ slice_index self.old at }
         ensures items { self.new ≡ remove self.old at }
@@ -125,7 +125,7 @@ impl Row {
     }
 
     // Moves the indexes from `at` on to a new row.
-    pub fn split_off(&mut self, at: usize) -> Row
+    pub(super) fn split_off(&mut self, at: usize) -> Row
         requires { at ≤ length self.old }
         ensures head { self.new ≡ take at self.old }
         ensures tail { result ≡ drop at self.old }
@@ -138,7 +138,7 @@ impl Row {
         Row { items, len: count }
     }
 
-    pub fn append(&mut self, other: &Row)
+    pub(super) fn append(&mut self, other: &Row)
         requires { length self.old + length other.now ≤ CAPACITY }
         ensures { self.new ≡ self.old ++ other.now }
     {
@@ -151,7 +151,7 @@ impl Row {
 
     // Puts an index into a full row and cuts it in two: the index in the middle and the upper part
     // are answered.
-    pub fn cut(&mut self, at: usize, ix: ItemIndex) -> (ItemIndex, Row)
+    pub(super) fn cut(&mut self, at: usize, ix: ItemIndex) -> (ItemIndex, Row)
         requires full { length self.old ≡ CAPACITY }
         requires in_bounds { at ≤ length self.old }
         ensures { IsCut self.old at ix self.new result.0 result.1 }

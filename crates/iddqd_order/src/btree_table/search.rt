@@ -71,7 +71,7 @@ fn count_before(split: Split, count: usize, reach: usize) -> usize
     }
 }
 
-// The place of what is sought, or where it would go. It asks as often as tells `reach` places apart.
+// The place of what is sought, or where it would go. It asks as often as it takes to distinguish `reach` places.
 // Split at the left, it reaches the first places the sooner, the fewer there are.
 #[inline(always)]
 pub(super) fn search<R, F: FnMut(ItemIndex) -> R, H: Reads<R>>(

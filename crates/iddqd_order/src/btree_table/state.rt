@@ -7,19 +7,19 @@ use iddqd::hash_builder::DefaultHashBuilder;
 
 // The default build hasher, which is the same in every table.
 #[derive(Clone, Copy)]
-pub struct State {
+pub(super) struct State {
     builder: DefaultHashBuilder,
     ghost fixed: { initial_hasher builder ≡ initial },
 }
 
 impl State {
-    pub fn new() -> State {
+    pub(super) fn new() -> State {
         State {
             builder: DefaultHashBuilder::default(),
         }
     }
 
-    pub fn builder(&self) -> &DefaultHashBuilder
+    pub(super) fn builder(&self) -> &DefaultHashBuilder
         ensures { initial_hasher result.now ≡ initial }
     {
         &self.builder

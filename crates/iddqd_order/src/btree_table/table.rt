@@ -5,7 +5,7 @@ ghost use Rattle.iddqd.specs.Compaction.{CanRemap, remapped};
 ghost use Rattle.iddqd_order.specs.Descent.{EndsIn};
 ghost use Rattle.iddqd_order.specs.Gap.{FindsOwnGap, gap_place};
 ghost use Rattle.iddqd_order.specs.MapBTreeTable.{order_of, capacity, spare_blocks, fresh_for, move_blocks, without, sentinel, IsIndexList, IsSpot, LeadsTo, spot_place};
-ghost use Rattle.iddqd_order.specs.Tree.{IsTree, GoesIn, place_in, FullIn, HoldsIn, spot_in, blocks_for};
+ghost use Rattle.iddqd_order.specs.Tree.{IsTree, ReachesGapIn, place_in, FullIn, ReachesIndexIn, spot_in, blocks_for};
 ghost use Rattle.iddqd_order.specs.declared.btree_table.reserve.TheConstants.{FREE_INDEXES};
 ghost use Rattle.iddqd_order.specs.Search.{CanSearch, SearchAsks, IsSteadyRising, IsPlace, Finds, with_ties};
 
@@ -22,7 +22,7 @@ use crate::btree_table::path::{LEVELS, Path, Spot};
 use crate::btree_table::prepared_insert::PreparedBTreeInsert;
 use crate::btree_table::prepared_remove::PreparedBTreeRemove;
 use crate::btree_table::reading::{AsOrdering, ByKey, ByQuery, Reads};
-use crate::btree_table::removal::take_out;
+use crate::btree_table::removal::remove_in;
 use crate::btree_table::renaming::rename_in;
 use crate::btree_table::reserve::{MOST_INDEXES, Reserve};
 use crate::btree_table::retain::retain_in;
@@ -42,10 +42,10 @@ use std::marker::Model;
 ///
 /// A contract sees the list by `order_of`. The closures that order it may answer anything: each
 /// call keeps the list distinct, changes no index but its own, and asks about stored indexes alone,
-/// at most 4 plus twice the number of binary digits of the length. No call but the three prepares of
-/// an insert, that of a move, `with_capacity`, the two that reserve, `clone` and `validate` can be refused
-/// memory. The capacity is how many indexes it holds without any: `new` makes it ten, and no call changes
-/// it but those that reserve and those that shrink.
+/// at most 4 plus twice the number of binary digits of the length. Only the three prepares of an insert,
+/// that of a move, `with_capacity`, the two that reserve, `clone` and `validate` take memory. The capacity
+/// is how many indexes it holds without any: `new` makes it ten, and only the calls that reserve or shrink
+/// change it.
 #[derive(Drop)]
 pub struct MapBTreeTable {
     root: Option<Node>,
@@ -266,8 +266,8 @@ impl MapBTreeTable {
     /// Takes the memory of an insert and finds its place by the answers. Equal ones are ordered by
     /// the indexes.
     ///
-    /// It asks at most `4 + 2 * digits(len)` times, and answers `AllocError` where memory was
-    /// refused; the contents then stay. Below the capacity it takes no memory, and is never refused.
+    /// It asks at most `4 + 2 * digits(len)` times, and answers `AllocError` if memory runs out; the
+    /// contents then stay. Below the capacity it takes no memory, and never fails.
     pub fn prepare_insert_by<F: FnMut(ItemIndex) -> Ordering>(
         &mut self,
         ix: ItemIndex,
@@ -291,8 +291,8 @@ impl MapBTreeTable {
     /// Takes the memory of an insert and finds its place by comparing the query with the keys that
     /// the asking answers. Equal ones are ordered by the indexes.
     ///
-    /// It asks at most `4 + 2 * digits(len)` times, and answers `AllocError` where memory was
-    /// refused; the contents then stay. Below the capacity it takes no memory, and is never refused.
+    /// It asks at most `4 + 2 * digits(len)` times, and answers `AllocError` if memory runs out; the
+    /// contents then stay. Below the capacity it takes no memory, and never fails.
     pub fn prepare_insert<K: Ord + Drop, Q: Comparable<K>, F: FnMut(ItemIndex) -> K>(
         &mut self,
         ix: ItemIndex,
@@ -386,6 +386,7 @@ impl MapBTreeTable {
 
     // The memory of a move: none up to the capacity, and else what any insert into a tree of this height can need.
     pub(super) fn take_move_blocks(&self) -> Result<Blocks, AllocError>
+        ensures indexes { IsIndexList (order_of self.now) }
         ensures blocks { IfOk result (λ blocks. blocks ≡ move_blocks self.now) }
         ensures few { move_blocks self.now ≤ LEVELS }
         ensures roomy { length (order_of self.now) ≤ capacity self.now → move_blocks self.now ≡ 0 }
@@ -403,7 +404,7 @@ impl MapBTreeTable {
     pub(super) fn take_blocks(&self, full: usize) -> Result<Blocks, AllocError>
         ensures blocks { IfOk result (λ blocks. blocks ≡ fresh_for self.now full) }
         ensures few { full ≤ self.now.height + 1 → fresh_for self.now full ≤ LEVELS }
-        ensures roomy { (path : List ℕ) → GoesIn self.now.root self.now.height path →
+        ensures roomy { (path : List ℕ) → ReachesGapIn self.now.root self.now.height path →
             FullIn full self.now.root self.now.height path → full ≤ self.now.height + 1 →
             length (order_of self.now) < capacity self.now → fresh_for self.now full ≡ 0 }
         ensures none { fresh_for self.now full ≡ 0 → IsOk result }
@@ -419,8 +420,8 @@ impl MapBTreeTable {
     /// Searches for a stored index by the answers, to remove it. Equal ones are ordered by the
     /// indexes, and the index itself is not asked about.
     ///
-    /// It asks at most `4 + 2 * digits(len)` times, and takes no memory. Where the search walks
-    /// past the index, the removal is missing; `SENTINEL` is missing with no ask.
+    /// It asks at most `4 + 2 * digits(len)` times, and takes no memory. If the search misses
+    /// the index, so does the removal; it misses `SENTINEL` with no ask.
     pub fn prepare_remove_by<F: FnMut(ItemIndex) -> Ordering>(
         &mut self,
         ix: ItemIndex,
@@ -437,8 +438,8 @@ impl MapBTreeTable {
     /// Searches for a stored index by comparing the key with those that the asking answers, to
     /// remove it. Equal ones are ordered by the indexes, and the index itself is not asked about.
     ///
-    /// It asks at most `4 + 2 * digits(len)` times, and takes no memory. Where the search walks
-    /// past the index, the removal is missing; `SENTINEL` is missing with no ask.
+    /// It asks at most `4 + 2 * digits(len)` times, and takes no memory. If the search misses
+    /// the index, so does the removal; it misses `SENTINEL` with no ask.
     pub fn prepare_remove<K: Ord + Drop, F: FnMut(ItemIndex) -> K>(
         &mut self,
         ix: ItemIndex,
@@ -474,7 +475,7 @@ impl MapBTreeTable {
         }
     }
 
-    // Where an index is stored, if the search meets it.
+    // Where an index is stored, if the search finds it.
     pub(super) fn find_spot<R, F: FnMut(ItemIndex) -> R, H: Reads<R>>(
         &self,
         ix: ItemIndex,
@@ -487,25 +488,19 @@ impl MapBTreeTable {
         ensures asked { SearchAsks F.FnMut (order_of self.now) (Some ix) asking.old asking.new }
         ensures missing { ix ≡ sentinel → result ≡ None }
         ensures unasked { ix ≡ sentinel → asking.new ≡ asking.old }
+        ensures indexes { IsIndexList (order_of self.now) }
         ensures rising { (answer : ℕ → Ordering) →
             IsSteadyRising F.FnMut (order_of self.now) (Some ix) (H.reading how.now) answer asking.old →
             Contains (order_of self.now) ix → IsSome result }
     {
-        self.stores_no_sentinel();
-        if ix == ItemIndex::SENTINEL {
+        // Nothing is stored in an empty table, and `SENTINEL` in none.
+        if self.len == 0 || ix == ItemIndex::SENTINEL {
             return None;
         }
         match self.descend(asking, how, &Some(ix)) {
             Ok(spot) => Some(spot),
             Err(_) => None,
         }
-    }
-
-    // A law for proofs, which does nothing when it runs: `SENTINEL` is not stored.
-    pub(super) fn stores_no_sentinel(&self)
-        ensures { Contains (order_of self.now) sentinel → ⊥ }
-    {
-        let _root = &self.root;
     }
 
     /// Removes the index, if it is stored, by a walk along the list. It asks nothing and takes no
@@ -577,7 +572,7 @@ impl MapBTreeTable {
 
     // Adds `ix` in the gap. It takes the spare blocks first.
     pub(super) fn insert_at(&mut self, gap: &Gap, ix: ItemIndex, mut fresh: Blocks)
-        requires goes { GoesIn self.old.root self.old.height gap.now.path }
+        requires goes { ReachesGapIn self.old.root self.old.height gap.now.path }
         requires full { FullIn gap.now.full self.old.root self.old.height gap.now.path }
         requires enough { blocks_for self.old.height gap.now.full ≤ spare_blocks self.old + fresh }
         requires absent { Contains (order_of self.old) ix → ⊥ }
@@ -627,7 +622,7 @@ impl MapBTreeTable {
         ensures lower { self.new.height ≤ self.old.height }
         ensures reserved { self.new.reserved ≡ self.old.reserved }
     {
-        self.height = take_out(
+        self.height = remove_in(
             &mut self.root,
             self.height,
             &spot.path,
@@ -638,7 +633,7 @@ impl MapBTreeTable {
     }
 }
 
-// The copy reserves nothing. Where memory is refused, the nodes copied so far are let go.
+// The copy reserves nothing. If memory runs out, the nodes copied so far are dropped.
 #[tactic(auto, unfolding(crate::specs::MapBTreeTable::order_of, crate::specs::MapBTreeTable::capacity))]
 impl Clone for MapBTreeTable {
     ghost is_clone = { λ table copy. (order_of copy ≡ order_of table) × (capacity copy ≡ FREE_INDEXES) };

@@ -1,9 +1,9 @@
 //! The insert into a tree: a root, or none.
 ghost use Rattle.std.specs.Prelude.{◌≡◌, ◌+◌, ◌<◌, ◌≤◌, [], ◌∷◌, length};
 ghost use Rattle.std.specs.List.{insert};
-ghost use Rattle.iddqd_order.specs.Node.{row, children, room, flat, inners, IsFormed, Goes, place, IsFullBelow, IsSpare};
+ghost use Rattle.iddqd_order.specs.Node.{row, children, child_room, flat, inners, IsFormed, ReachesGap, place, IsFullBelow, IsSpare};
 ghost use Rattle.iddqd_order.specs.Reserve.{spare};
-ghost use Rattle.iddqd_order.specs.Tree.{in_order, inners_in, IsTree, GoesIn, place_in, FullIn, blocks_for};
+ghost use Rattle.iddqd_order.specs.Tree.{in_order, inners_in, IsTree, ReachesGapIn, place_in, FullIn, blocks_for};
 
 use crate::btree_table::blocks::Blocks;
 use crate::btree_table::node::{CHILDREN, Node};
@@ -16,7 +16,7 @@ use std::mem;
 
 // Puts an index where the path goes, through `full` full nodes at its lower end, and answers the new
 // height. It takes no memory but the blocks, those of the reserve first.
-pub fn put_in(
+pub(super) fn put_in(
     root: &mut Option<Node>,
     height: usize,
     path: &Path,
@@ -27,7 +27,7 @@ pub fn put_in(
     alloc: Global,
 ) -> usize
     requires tree { IsTree root.old height }
-    requires goes { GoesIn root.old height path.now }
+    requires goes { ReachesGapIn root.old height path.now }
     requires full { FullIn full root.old height path.now }
     requires fits { length (in_order root.old height) ≤ MOST_INDEXES }
     requires enough { blocks_for height full ≤ spare reserve.old + fresh.old }
@@ -72,7 +72,7 @@ fn put_and_cut(
     requires low { height < LEVELS }
     requires some { 0 < full }
     requires formed { IsFormed height node.old }
-    requires goes { Goes height node.old path.now }
+    requires goes { ReachesGap height node.old path.now }
     requires full { IsFullBelow full height node.old path.now }
     requires root { 1 ≤ length (row node.old) }
     requires fits { length (flat height node.old) ≤ MOST_INDEXES }
@@ -100,7 +100,7 @@ fn grow(node: &mut Node, middle: ItemIndex, upper: Node, block: Vec<Node>)
     requires { IsSpare block }
     ensures root_row { row node.new ≡ middle ∷ [] }
     ensures root_children { children node.new ≡ node.old ∷ upper ∷ [] }
-    ensures has_room { CHILDREN ≤ room node.new }
+    ensures has_room { CHILDREN ≤ child_room node.new }
 {
     let mut row = Row::new();
     row.insert(0, middle);

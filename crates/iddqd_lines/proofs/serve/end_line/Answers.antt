@@ -1,11 +1,11 @@
 use Rattle.std.proofs.Common.{[], ◌++◌, sym, ◌∙◌}
-use Rattle.iddqd_lines.proofs.LineBufferLemmas.{kept_of-some}
+use Rattle.iddqd_lines.proofs.LineBufferLemmas.{kept_line-some}
 use Rattle.iddqd_lines.proofs.ServeLemmas.{Obeys-fails, request_of-more}
 use Rattle.iddqd_lines.proofs.serve.end_line.Goals as goal
 
 pub returns-then-is_empty-clause-obeys : goal.returns-then-is_empty-clause-obeys
 returns-then-is_empty-clause-obeys g c = λ line kept.
-    let none = kept_of-some line [] (sym kept ∙ c.is_empty.ensures.0 c.if-is_empty.true) in
+    let none = kept_line-some line [] (sym kept ∙ c.is_empty.ensures.0 c.if-is_empty.true) in
     rw none (c.obey.ensures.obeys c.args.end.now c.parse.ensures)
 
 pub returns-in_err-obey-clause-obeys : goal.returns-in_err-obey-clause-obeys

@@ -1,6 +1,6 @@
 use Rattle.std.proofs.Common.{◌≡◌, [], false, IfSome}
 use Rattle.iddqd_driver.specs.State.{empty_state}
-use Rattle.iddqd_lines.specs.Program.{default_hash}
+use Rattle.iddqd_lines.specs.Program.{default_hash_u32}
 use Rattle.iddqd_lines.specs.Serve.{moment}
 use Rattle.iddqd_lines.proofs.ServeLemmas.{Reads}
 use Rattle.iddqd_lines.proofs.serve.serve_blocks.Given as goal
@@ -12,7 +12,7 @@ invariant-reads g l = record {
       let old = moment (empty_state l.fn.items.state.hasher) l.fn.output [] in
       let now = moment l.items.state l.output l.replies in
       let left = g.I.Source.left in
-      IfSome (left l.fn.input) (λ bytes. Reads default_hash g.O.Sink old bytes (left l.input) l.counter now l.partial);
+      IfSome (left l.fn.input) (λ bytes. Reads default_hash_u32 g.O.Sink old bytes (left l.input) l.counter now l.partial);
   reading : g.I.Source.has_failed l.input ≡ false;
   writing : g.O.Sink.has_failed l.output ≡ false;
 }

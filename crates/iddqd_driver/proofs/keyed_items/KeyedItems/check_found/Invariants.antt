@@ -1,7 +1,7 @@
 use Rattle.std.proofs.Common.{◌≡◌, Some}
 use Rattle.std.specs.FinMap as finite
 use Rattle.iddqd_driver.specs.Keys.{Keys, keys_of}
-use Rattle.iddqd_driver.specs.Sides.{hash_in}
+use Rattle.iddqd_driver.specs.KeyIndexes.{hash_in}
 use Rattle.iddqd_driver.proofs.ValidationLemmas.{Checked}
 use Rattle.iddqd_driver.proofs.keyed_items.KeyedItems.check_found.Given as goal
 

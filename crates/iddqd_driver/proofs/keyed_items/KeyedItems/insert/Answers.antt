@@ -2,7 +2,7 @@ use Rattle.std.specs.Result.{IfOk, OnErr}
 use Rattle.std.proofs.Common.{◌≡◌, ◌≤◌, ◌+◌, max, subst}
 use Rattle.iddqd_driver.specs.Keys.{Keys, keys_of}
 use Rattle.iddqd_driver.specs.State.{State, state_of}
-use Rattle.iddqd_driver.specs.Sides.{LooksUp, Keeps, first_side, finds_told}
+use Rattle.iddqd_driver.specs.KeyIndexes.{LooksUp, Keeps, first_key_index, finds_reported}
 use Rattle.iddqd_driver.specs.Machine.{StoresAt}
 use Rattle.iddqd_driver.proofs.KeyLemmas.{AreLawful-from_bounds}
 use Rattle.iddqd_driver.proofs.KeepsLemmas.{Holds-order}
@@ -12,56 +12,58 @@ use Rattle.iddqd_driver.specs.Memory.{sized_of}
 use Rattle.iddqd_driver.proofs.MemoryLemmas.{InsertsInMemory-where, HasRoomInParts-from_room, room-inserted, length-filed}
 use Rattle.iddqd_driver.proofs.InsertLemmas.{StoresAt-from_parts, same-from_parts, Keeps-from_stored}
 use Rattle.iddqd_by_hash.proofs.HoldsLemmas.{next_unfiled}
-use Rattle.iddqd_driver.proofs.keyed_items.KeyedItems.insert.Goals.{After-enter}
+use Rattle.iddqd_driver.proofs.keyed_items.KeyedItems.insert.Goals.{After-insert_item}
 use Rattle.iddqd_driver.proofs.keyed_items.KeyedItems.insert.Goals as goal
 
-pub enter-requires-clause-valid : goal.enter-requires-clause-valid
-enter-requires-clause-valid g c = c.self.invariant.valid
+pub insert_item-requires-clause-valid : goal.insert_item-requires-clause-valid
+insert_item-requires-clause-valid g c = c.self.invariant.valid
 
-pub enter-requires-clause-unfiled : goal.enter-requires-clause-unfiled
-enter-requires-clause-unfiled g c = next_unfiled _ _ c.self.invariant.filed c.self.invariant.valid
+pub insert_item-requires-clause-unfiled : goal.insert_item-requires-clause-unfiled
+insert_item-requires-clause-unfiled g c = next_unfiled _ _ c.self.invariant.filed c.self.invariant.valid
 
-pub enter-requires-clause-ordered : goal.enter-requires-clause-ordered
-enter-requires-clause-ordered g c = Holds-order _ c.self.invariant
+pub insert_item-requires-clause-ordered : goal.insert_item-requires-clause-ordered
+insert_item-requires-clause-ordered g c = Holds-order _ c.self.invariant
 
--- the state before and after the item was entered
-abbrev was : (g : _) (c : After-enter g) → State g.row.T.Denot g.row.S.Denot
+-- the state before and after the item was inserted
+abbrev was : (g : _) (c : After-insert_item g) → State g.row.T.Denot g.row.S.Denot
 was g c = state_of c.self.inside.state c.self.inside.items.store c.self.inside.filed c.self.inside.order
 
-abbrev is : (g : _) (c : After-enter g) → State g.row.T.Denot g.row.S.Denot
-is g c = state_of c.self.inside.state c.enter.new.items.store c.enter.new.table c.enter.new.order
+abbrev is : (g : _) (c : After-insert_item g) → State g.row.T.Denot g.row.S.Denot
+is g c = state_of c.self.inside.state c.insert_item.new.items.store c.insert_item.new.table c.insert_item.new.order
 
-abbrev keys : (g : _) (c : After-enter g) → Keys g.row.T.Denot g.row.T-Key1.Denot g.row.T-Key2.Denot g.row.S.Denot
+abbrev keys : (g : _) (c : After-insert_item g) → Keys g.row.T.Denot g.row.T-Key1.Denot g.row.T-Key2.Denot g.row.S.Denot
 keys g c =
     keys_of g.T.KeyedItem g.T.Key1.PartialEq.eq g.T.Key1.Hash.hash_input g.T.Key2.Ord.cmp g.S.BuildHasher
     g.S.Hasher.Hasher
 
-first : (g : _) (c : After-enter g)
-    → LooksUp (first_side (keys g c)) (was g c) (g.T.KeyedItem.first_key c.args.item) (finds_told c.enter.result).0
+first : (g : _) (c : After-insert_item g)
+    → let key = g.T.KeyedItem.first_key c.args.item in
+    LooksUp (first_key_index (keys g c)) (was g c) key (finds_reported c.insert_item.result).0
 first g c =
     let found = rw (← c.self.view_is, c.key1.ensures) at c.hash_and_find-hash.ensures.found in
-    rw c.enter.ensures.first found
+    rw c.insert_item.ensures.first found
 
-stored : (g : _) (c : After-enter g) → IfOk c.enter.result (λ ix. StoresAt (keys g c) (was g c) c.args.item ix (is g c))
+stored : (g : _) (c : After-insert_item g)
+    → IfOk c.insert_item.result (λ ix. StoresAt (keys g c) (was g c) c.args.item ix (is g c))
 stored g c =
-    let out = c.enter.ensures in
+    let out = c.insert_item.ensures in
     let hashed = rw (← c.self.view_is, c.key1.ensures) at c.hash_and_find-hash.ensures.hash in
     let filed = rw hashed at out.filed in
-    StoresAt-from_parts (keys g c) (was g c) c.args.item _ _ _ c.enter.result
+    StoresAt-from_parts (keys g c) (was g c) c.args.item _ _ _ c.insert_item.result
     out.not_full out.index out.stored filed out.placed
 
-unchanged : (g : _) (c : After-enter g) → OnErr c.enter.result (is g c ≡ was g c)
+unchanged : (g : _) (c : After-insert_item g) → OnErr c.insert_item.result (is g c ≡ was g c)
 unchanged g c =
-    let out = c.enter.ensures in
-    same-from_parts (keys g c) (was g c) c.args.item _ _ _ c.enter.result out.items_stay out.hashes_stay out.order_stays
+    let out = c.insert_item.ensures in
+    same-from_parts (keys g c) (was g c) c.args.item _ _ _ c.insert_item.result out.items_stay out.hashes_stay out.order_stays
 
-keeps : (g : _) (c : After-enter g) → Keeps (keys g c) (was g c) (is g c)
+keeps : (g : _) (c : After-insert_item g) → Keeps (keys g c) (was g c) (is g c)
 keeps g c =
-    let out = c.enter.ensures in
+    let out = c.insert_item.ensures in
     Keeps-from_stored _ _ c.args.item _ _ _
     (AreLawful-from_bounds {item = g.T.KeyedItem} g.S.BuildHasher g.S.Hasher.Hasher g.met.T.Key1.PartialEq.laws
     g.met.T.Key1.Hash.respects_eq g.met.T.Key2.Ord.total)
-    c.self.invariant c.enter.result (first g c) out.second (stored g c) out.placed (unchanged g c)
+    c.self.invariant c.insert_item.result (first g c) out.second (stored g c) out.placed (unchanged g c)
 
 pub invariant_of-self : goal.invariant_of-self
 invariant_of-self g c = (keeps g c).paired.1
@@ -69,15 +71,15 @@ invariant_of-self g c = (keeps g c).paired.1
 pub returns-clause-inserts : goal.returns-clause-inserts
 returns-clause-inserts g c = rw (← c.self.view_is) (record {
   first = (first g c).found;
-  second = c.enter.ensures.second.found;
+  second = c.insert_item.ensures.second.found;
   stored = stored g c;
-  refused = c.enter.ensures.refused;
+  refused = c.insert_item.ensures.refused;
   unchanged = unchanged g c;
 })
 
 pub returns-clause-tells : goal.returns-clause-tells
 returns-clause-tells g c =
-    rw (← c.self.view_is) (record { first = (first g c).as_scan; second = c.enter.ensures.second.as_scan })
+    rw (← c.self.view_is) (record { first = (first g c).as_scan; second = c.insert_item.ensures.second.as_scan })
 
 pub returns-clause-keeps : goal.returns-clause-keeps
 returns-clause-keeps g c = rw (← c.self.view_is) (keeps g c)
@@ -87,22 +89,22 @@ returns-clause-memory g c =
     rw (← c.self.view_is)
     (InsertsInMemory-where
     (HasRoomInParts-from_room c.self.inside.state c.self.inside.items c.self.inside.filed c.self.inside.order c.self.invariant)
-    c.enter.ensures.memory)
+    c.insert_item.ensures.memory)
 
 pub returns-clause-few : goal.returns-clause-few
 returns-clause-few g c =
     let same = length-filed (was g c) c.self.invariant in
     rw (← c.self.view_is) (record {
-      slots = c.enter.ensures.few_slots;
-      cells = subst (λ n. cells c.enter.new.table ≤ max (cells c.self.inside.filed) (most_cells (n + 1))) same c.enter.ensures.few_cells;
+      slots = c.insert_item.ensures.few_slots;
+      cells = subst (λ n. cells c.insert_item.new.table ≤ max (cells c.self.inside.filed) (most_cells (n + 1))) same c.insert_item.ensures.few_cells;
     })
 
 pub returns-clause-room : goal.returns-clause-room
 returns-clause-room g c =
     let whole = sized_of c.self.inside.state c.self.inside.items c.self.inside.filed c.self.inside.order in
-    let left = sized_of c.self.inside.state c.enter.new.items c.enter.new.table c.enter.new.order in
+    let left = sized_of c.self.inside.state c.insert_item.new.items c.insert_item.new.table c.insert_item.new.order in
     rw (← c.self.view_is)
-    (room-inserted whole left c.self.invariant (keys g c) c.args.item c.enter.result (stored g c)
+    (room-inserted whole left c.self.invariant (keys g c) c.args.item c.insert_item.result (stored g c)
     (InsertsInMemory-where
     (HasRoomInParts-from_room c.self.inside.state c.self.inside.items c.self.inside.filed c.self.inside.order c.self.invariant)
-    c.enter.ensures.memory))
+    c.insert_item.ensures.memory))

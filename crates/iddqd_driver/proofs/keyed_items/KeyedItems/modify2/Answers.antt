@@ -1,5 +1,5 @@
 use Rattle.iddqd_driver.specs.Keys.{keys_of}
-use Rattle.iddqd_driver.specs.Sides.{second_side, LooksUp}
+use Rattle.iddqd_driver.specs.KeyIndexes.{second_key_index, LooksUp}
 use Rattle.iddqd_driver.proofs.ModifyLemmas.{ModifiesFound-hit}
 use Rattle.iddqd_driver.proofs.keyed_items.KeyedItems.modify2.Goals as goal
 
@@ -12,6 +12,6 @@ modify_live-requires-clause-keeps g c = λ p live. c.requires p (c.in_ok-find2.f
 pub returns-clause-modifies : goal.returns-clause-modifies
 returns-clause-modifies g c =
     let keys = keys_of g.T.KeyedItem g.T.Key1.PartialEq.eq g.T.Key1.Hash.hash_input g.T.Key2.Ord.cmp g.S.BuildHasher g.S.Hasher.Hasher in
-    let finds = LooksUp (second_side keys) c.args.self.now.state c.args.key.now in
+    let finds = LooksUp (second_key_index keys) c.args.self.now.state c.args.key.now in
     let found = c.in_ok-find2.ensures.found in
     ModifiesFound-hit g.F.FnOnce c.args.f finds _ c.args.self.now.state c.in_ok-find2.field-0 c.modify_live.result c.modify_live.new.self.state found found.found c.modify_live.ensures.modifies

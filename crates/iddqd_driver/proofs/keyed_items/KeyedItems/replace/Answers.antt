@@ -3,10 +3,10 @@ use Rattle.std.proofs.lemmas.Grind.{common_steps}
 use Rattle.iddqd_keys.specs.Scan.{IsLive}
 use Rattle.iddqd_driver.specs.Keys.{Keys, keys_of}
 use Rattle.iddqd_driver.specs.State.{State, state_of}
-use Rattle.iddqd_driver.specs.Sides.{LooksUp, Keeps, first_side, second_side}
+use Rattle.iddqd_driver.specs.KeyIndexes.{LooksUp, Keeps, first_key_index, second_key_index}
 use Rattle.iddqd_driver.proofs.KeyLemmas.{AreLawful, AreLawful-from_bounds}
 use Rattle.iddqd_driver.proofs.MemoryLemmas.{length-order}
-use Rattle.iddqd_driver.proofs.ReplacementLemmas.{not_for_memory, TellsOther-found, Replaces-rebound, Keeps-rebound}
+use Rattle.iddqd_driver.proofs.ReplacementLemmas.{not_for_memory, ReportsOtherIndex-found, Replaces-rebound, Keeps-rebound}
 use Rattle.iddqd_driver.proofs.keyed_items.KeyedItems.replace.Goals.{After-rebind, then-is_some-via-then-is_some, then-is_some-via-else-is_some+then-is_some-2}
 use Rattle.iddqd_driver.proofs.keyed_items.KeyedItems.replace.Goals as goal
 
@@ -17,8 +17,8 @@ returns-then-is_some-clause-replaces g c =
     let keys : Keys g.row.T.Denot g.row.T-Key1.Denot g.row.T-Key2.Denot g.row.S.Denot =
     keys_of g.T.KeyedItem g.T.Key1.PartialEq.eq g.T.Key1.Hash.hash_input g.T.Key2.Ord.cmp g.S.BuildHasher g.S.Hasher.Hasher in
     record {
-      first = λ _. TellsOther-found (LooksUp (first_side keys) c.args.self.now.state (keys.first item)) c.hash_and_find-hash.result.1 c.args.ix _ (rw c.key1.ensures at c.hash_and_find-hash.ensures.found) c.other_than-first.ensures;
-      second = λ _. TellsOther-found (LooksUp (second_side keys) c.args.self.now.state (keys.second item)) c.find2-at2.result c.args.ix _ (rw c.key2.ensures at c.find2-at2.ensures.found) c.other_than-second.ensures;
+      first = λ _. ReportsOtherIndex-found (LooksUp (first_key_index keys) c.args.self.now.state (keys.first item)) c.hash_and_find-hash.result.1 c.args.ix _ (rw c.key1.ensures at c.hash_and_find-hash.ensures.found) c.other_than-first.ensures;
+      second = λ _. ReportsOtherIndex-found (LooksUp (second_key_index keys) c.args.self.now.state (keys.second item)) c.find2-at2.result c.args.ix _ (rw c.key2.ensures at c.find2-at2.ensures.found) c.other_than-second.ensures;
       replaced = tt;
       refused = (
         refl,
@@ -66,12 +66,12 @@ own2 g c =
 
 first :
     (g : _) (c : After-rebind g)
-    → LooksUp (first_side (keys g c)) (was g c) (g.T.KeyedItem.first_key c.args.item) c.hash_and_find-hash.result.1
+    → LooksUp (first_key_index (keys g c)) (was g c) (g.T.KeyedItem.first_key c.args.item) c.hash_and_find-hash.result.1
 first g c = rw (← c.self.view_is, c.key1.ensures) at c.hash_and_find-hash.ensures.found
 
 second :
     (g : _) (c : After-rebind g)
-    → LooksUp (second_side (keys g c)) (was g c) (g.T.KeyedItem.second_key c.args.item) c.find2-at2.result
+    → LooksUp (second_key_index (keys g c)) (was g c) (g.T.KeyedItem.second_key c.args.item) c.find2-at2.result
 second g c = rw (← c.self.view_is, c.key2.ensures) at c.find2-at2.ensures.found
 
 keeps : (g : _) (c : After-rebind g) → Keeps (keys g c) (was g c) (is g c)

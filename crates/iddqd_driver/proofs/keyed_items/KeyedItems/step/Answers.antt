@@ -27,8 +27,7 @@ returns-in-Find2-clause-step g c =
 
 pub returns-in-Some-clause-step : goal.returns-in-Some-clause-step
 returns-in-Some-clause-step g c =
-    let out = c.in-Some.ensures in
-    rw c.in-Remove.is (Step-keeping _ _ _ _ _ out.keeps (refl, out.removes) (λ _. tt) (λ _. tt))
+    rw c.in-Remove.is (Step-keeping _ _ _ _ _ c.in-Some.ensures.keeps (refl, c.in-Some.ensures.removes) (λ _. tt) (λ _. tt))
 
 pub returns-in-None-clause-step : goal.returns-in-None-clause-step
 returns-in-None-clause-step g c =
@@ -36,13 +35,11 @@ returns-in-None-clause-step g c =
 
 pub returns-in-Remove1-clause-step : goal.returns-in-Remove1-clause-step
 returns-in-Remove1-clause-step g c =
-    let out = c.remove1.ensures in
-    rw c.in-Remove1.is (Step-keeping _ _ _ _ _ out.keeps out.removes.removes out.removes.as_scan (λ _. tt))
+    rw c.in-Remove1.is (Step-keeping _ _ _ _ _ c.remove1.ensures.keeps c.remove1.ensures.removes.removes c.remove1.ensures.removes.as_scan (λ _. tt))
 
 pub returns-in-Remove2-clause-step : goal.returns-in-Remove2-clause-step
 returns-in-Remove2-clause-step g c =
-    let out = c.remove2.ensures in
-    rw c.in-Remove2.is (Step-keeping _ _ _ _ _ out.keeps out.removes.removes (λ _. tt) out.removes.as_scan)
+    rw c.in-Remove2.is (Step-keeping _ _ _ _ _ c.remove2.ensures.keeps c.remove2.ensures.removes.removes (λ _. tt) c.remove2.ensures.removes.as_scan)
 
 pub returns-in-Overwrite-clause-step : goal.returns-in-Overwrite-clause-step
 returns-in-Overwrite-clause-step g c = rw c.in-Overwrite.is (record {
@@ -54,8 +51,7 @@ returns-in-Overwrite-clause-step g c = rw c.in-Overwrite.is (record {
 
 pub returns-in-Ok-compact-clause-step : goal.returns-in-Ok-compact-clause-step
 returns-in-Ok-compact-clause-step g c =
-    let out = c.in-Ok-compact.ensures in
-    rw c.in-Compact.is (Step-keeping _ _ _ _ _ out.keeps out.compacts (λ _. tt) (λ _. tt))
+    rw c.in-Compact.is (Step-keeping _ _ _ _ _ c.in-Ok-compact.ensures.keeps c.in-Ok-compact.ensures.compacts (λ _. tt) (λ _. tt))
 
 pub returns-in-Err-compact-clause-step : goal.returns-in-Err-compact-clause-step
 returns-in-Err-compact-clause-step g c =

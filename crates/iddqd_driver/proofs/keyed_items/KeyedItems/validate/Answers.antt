@@ -4,7 +4,7 @@ use Rattle.std.proofs.lemmas.Result.{err_from_is_err_and}
 use Rattle.iddqd.specs.Validation.{Allows, AreAsExpected, IsMemory}
 use Rattle.iddqd_hash.specs.MapHashTable.{indexes_of}
 use Rattle.iddqd_driver.specs.State.{state_of}
-use Rattle.iddqd_driver.proofs.ValidationLemmas.{AreAsExpected-filed, AreAsExpected-order, IsMemory-named, Validates-refused}
+use Rattle.iddqd_driver.proofs.ValidationLemmas.{AreAsExpected-filed, AreAsExpected-order, IsMemory-with_table_name, Validates-refused}
 use Rattle.iddqd_driver.proofs.keyed_items.KeyedItems.validate.Goals.{After-from_residual-in_err-of_table, After-from_residual-in_err-of_table-2}
 use Rattle.iddqd_driver.proofs.keyed_items.KeyedItems.validate.Goals as goal
 
@@ -16,7 +16,7 @@ first_memory g c =
     let s = state_of c.self.inside.state c.self.inside.items.store c.self.inside.filed c.self.inside.order in
     let allowed = c.in_ok-validate.ensures.allows.0 refl in
     let expected = subst (λ n. AreAsExpected c.args.compactness n (indexes_of s.filed)) (sym c.len-len.ensures) (AreAsExpected-filed s c.self.invariant c.args.compactness allowed) in
-    let told = IsMemory-named (AreAsExpected c.args.compactness c.len-len.result (indexes_of s.filed)) _ c.validate-2.result expected c.validate-2.ensures in
+    let told = IsMemory-with_table_name (AreAsExpected c.args.compactness c.len-len.result (indexes_of s.filed)) _ c.validate-2.result expected c.validate-2.ensures in
     let memory = subst (λ r. IfErr r IsMemory) (sym c.of_table.ensures ∙ c.in_err-of_table.was) told in
     let p = err_from_is_err_and c.from_residual-in_err-of_table.result c.from_residual-in_err-of_table.ensures.1 in
     rw (p.1, p.2) memory
@@ -37,7 +37,7 @@ second_memory g c =
     let s = state_of c.self.inside.state c.self.inside.items.store c.self.inside.filed c.self.inside.order in
     let allowed = c.in_ok-validate.ensures.allows.0 refl in
     let expected = subst (λ n. AreAsExpected c.args.compactness n s.order) (sym c.len-len.ensures) (AreAsExpected-order s c.self.invariant c.args.compactness allowed) in
-    let told = IsMemory-named (AreAsExpected c.args.compactness c.len-len.result s.order) _ c.validate-3.result expected c.validate-3.ensures in
+    let told = IsMemory-with_table_name (AreAsExpected c.args.compactness c.len-len.result s.order) _ c.validate-3.result expected c.validate-3.ensures in
     let memory = subst (λ r. IfErr r IsMemory) (sym c.of_table-2.ensures ∙ c.in_err-of_table-2.was) told in
     let p = err_from_is_err_and c.from_residual-in_err-of_table-2.result c.from_residual-in_err-of_table-2.ensures.1 in
     rw (p.1, p.2) memory

@@ -7,5 +7,6 @@ invariant-loop-i l = record {
   tree : IsTree l.root l.new_height;
   inners : l.reserve.inners ≡ inners_in l.root l.new_height;
   reserved : l.reserve.reserved ≡ l.fn.reserve.reserved;
-  items : in_order l.root l.new_height ≡ take (length (in_order l.fn.root l.fn.height) - l._i) (in_order l.fn.root l.fn.height);
+  items : in_order l.root l.new_height
+      ≡ take (length (in_order l.fn.root l.fn.height) - l._i) (in_order l.fn.root l.fn.height);
 }

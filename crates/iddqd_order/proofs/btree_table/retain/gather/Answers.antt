@@ -4,7 +4,7 @@ use Rattle.std.proofs.lemmas.Grind.{take-set_at}
 use Rattle.iddqd_order.specs.Asks.{At_once}
 use Rattle.iddqd_order.specs.Node.{flat}
 use Rattle.iddqd_order.proofs.RetainLemmas.{gathers-none, next_held, gathers-next, gathers-all}
-use Rattle.iddqd_order.proofs.WayLemmas.{IsWay-first, IsWay-same}
+use Rattle.iddqd_order.proofs.SpotCursorLemmas.{IsSpotCursor-first, IsSpotCursor-same}
 use Rattle.iddqd_order.proofs.btree_table.retain.gather.Goals as goal
 
 pub loop-from-init : goal.loop-from-init
@@ -15,8 +15,8 @@ loop-from-init g c =
       formed = c.requires.formed;
       some = c.requires.some;
       inners = refl;
-      from = IsWay-first c.args.height c.args.root.now c.first-from.result c.requires.formed c.requires.some c.requires.levels r.path r.places r.level r.place;
-      to = IsWay-first c.args.height c.args.root.now c.first-to.result c.requires.formed c.requires.some c.requires.levels w.path w.places w.level w.place;
+      from = IsSpotCursor-first c.args.height c.args.root.now c.first-from.result c.requires.formed c.requires.some c.requires.levels r.path r.places r.level r.place;
+      to = IsSpotCursor-first c.args.height c.args.root.now c.first-to.result c.requires.formed c.requires.some c.requires.levels w.path w.places w.level w.place;
       gathers = gathers-none g.F.FnMut c.args.f.now (flat c.args.height c.args.root.now) c.first-from.result.place c.first-to.result.place r.place w.place c.requires.can_ask;
     }
 
@@ -33,7 +33,7 @@ loop-from-preserved g c =
       formed = i.formed;
       some = i.some;
       inners = i.inners;
-      from = c.step-ix.ensures.way;
+      from = c.step-ix.ensures.stands;
       to = i.to;
       gathers = gathers-next g.F.FnMut c.step-ix.result c.f.result c.step-ix.new.self.place c.loop-from.to.place (flat c.args.height c.loop-from.root) c.f.new.self i.gathers (omega arith) c.step-ix.ensures.index c.f.ensures c.step-ix.ensures.place
           (rw no (sym (append-nil _))) refl refl (omega arith);
@@ -49,8 +49,8 @@ loop-from-preserved-then-f g c =
       formed = put.formed;
       some = omega arith;
       inners = put.inners ∙ i.inners;
-      from = IsWay-same c.args.height c.loop-from.root c.put.new.root c.step-ix.new.self put.same_places c.step-ix.ensures.way;
-      to = put.way;
+      from = IsSpotCursor-same c.args.height c.loop-from.root c.put.new.root c.step-ix.new.self put.same_places c.step-ix.ensures.stands;
+      to = put.stands;
       gathers = gathers-next g.F.FnMut c.step-ix.result c.f.result c.step-ix.new.self.place c.put.new.self.place (flat c.args.height c.put.new.root) c.f.new.self i.gathers (omega arith) c.step-ix.ensures.index c.f.ensures c.step-ix.ensures.place
           (rw (yes, put.items) (take-set_at old place c.put.new.self.place c.step-ix.result put.place (omega arith))) (rw put.items (drop-set-lt c.step-ix.new.self.place old place c.step-ix.result (omega arith))) put.same_places.long (omega arith);
     }

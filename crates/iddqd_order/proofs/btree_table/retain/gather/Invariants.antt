@@ -1,6 +1,6 @@
 use Rattle.std.proofs.Common.{◌≡◌, ◌-◌, ◌≤◌, length}
 use Rattle.iddqd_order.specs.Node.{row, flat, inners, IsFormed}
-use Rattle.iddqd_order.specs.Ways.{IsWay}
+use Rattle.iddqd_order.specs.SpotCursor.{IsSpotCursor}
 use Rattle.iddqd_order.proofs.RetainLemmas.{Gathers}
 use Rattle.iddqd_order.proofs.btree_table.retain.gather.Given as goal
 
@@ -9,8 +9,8 @@ invariant-loop-from g l = record {
   formed : IsFormed l.height l.root;
   some : 1 ≤ length (row l.root);
   inners : inners l.height l.root ≡ inners l.height l.fn.root;
-  from : IsWay l.height l.root l.from;
-  to : IsWay l.height l.root l.to;
+  from : IsSpotCursor l.height l.root l.from;
+  to : IsSpotCursor l.height l.root l.to;
   gathers : Gathers g.F.FnMut l.fn.f (flat l.height l.fn.root) (flat l.height l.root) l.from.place l.to.place l.f;
 }
 

@@ -7,8 +7,11 @@ invariant-loop-low g l = record {
   ordered : l.low ≤ l.high;
   within : l.high ≤ length l.items;
   reached : l.high - l.low ≤ l.reach;
-  asked : (k : ℕ) × (k + digits l.reach ≤ digits l.fn.reach) × AsksWithin g.F.FnMut (Askable l.items l.tie) k l.fn.asking l.asking;
-  split : (answer : ℕ → Ordering) → IsSteadyRising g.F.FnMut l.items l.tie (g.H.Reads.reading l.how) answer l.fn.asking → AreSplit (with_ties l.tie answer) l.items l.low l.high;
+  asked : (k : ℕ) × (k + digits l.reach ≤ digits l.fn.reach)
+      × AsksWithin g.F.FnMut (Askable l.items l.tie) k l.fn.asking l.asking;
+  split : (answer : ℕ → Ordering)
+      → IsSteadyRising g.F.FnMut l.items l.tie (g.H.Reads.reading l.how) answer l.fn.asking
+      → AreSplit (with_ties l.tie answer) l.items l.low l.high;
 }
 
 abbrev pub decreases-loop-low : goal.decreases-loop-low

@@ -14,13 +14,18 @@ use Rattle.iddqd_tri.proofs.TriLemmas.{AreLawful-from_bounds}
 use Rattle.iddqd_tri.proofs.TriCallLemmas.{ClashesAt-live, AreClashes-listed, HasNoClash-none, inserted_apart, inserted_over}
 use Rattle.iddqd_tri.proofs.TriMemoryLemmas.{Grows-parts, Grows-none, Grows-same, HaveRoom-held, set_room-held}
 use Rattle.iddqd_tri.proofs.tri_items.TriItems.insert_overwrite.Goals.{After-insert_apart, After-replace_clashes-ix}
+use Rattle.iddqd_tri.proofs.tri_items.TriItems.insert_overwrite.Given.{Over}
 use Rattle.iddqd_tri.proofs.tri_items.TriItems.insert_overwrite.Goals as goal
+
+-- the keys of the items
+abbrev keys_in :
+    (g : Over) → TriKeys g.row.T.Denot g.row.T-Key1.Denot g.row.T-Key2.Denot g.row.T-Key3.Denot g.row.S.Denot
+keys_in g = tri_keys_of g.T.TriItem g.T.Key1.PartialEq.eq g.T.Key1.Hash.hash_input g.T.Key2.PartialEq.eq g.T.Key2.Hash.hash_input g.T.Key3.PartialEq.eq g.T.Key3.Hash.hash_input g.S.BuildHasher g.S.Hasher.Hasher
 
 pub replace_clashes-ix-requires-clause-live : goal.replace_clashes-ix-requires-clause-live
 replace_clashes-ix-requires-clause-live g c =
-    let keys : TriKeys _ _ _ _ _ = tri_keys_of g.T.TriItem g.T.Key1.PartialEq.eq g.T.Key1.Hash.hash_input g.T.Key2.PartialEq.eq g.T.Key2.Hash.hash_input g.T.Key3.PartialEq.eq g.T.Key3.Hash.hash_input g.S.BuildHasher g.S.Hasher.Hasher in
     let found = rw (← c.self.view_is) at c.clashes-clashes.ensures.clashes in
-    λ ix here. ClashesAt-live keys c.self.inside.items.store c.args.item ix ((found ix).0 here)
+    λ ix here. ClashesAt-live (keys_in g) c.self.inside.items.store c.args.item ix ((found ix).0 here)
 
 pub replace_clashes-ix-requires-clause-some : goal.replace_clashes-ix-requires-clause-some
 replace_clashes-ix-requires-clause-some g c =
@@ -33,63 +38,60 @@ pair g c =
     (r.0, (r.1.0 ∷ (r.1.1 ∷ (r.1.2 ∷ []))))
 
 -- what the call leaves, and what it answers
-apart : (g : _) (c : After-insert_apart g) → let keys : TriKeys _ _ _ _ _ = tri_keys_of g.T.TriItem g.T.Key1.PartialEq.eq g.T.Key1.Hash.hash_input g.T.Key2.PartialEq.eq g.T.Key2.Hash.hash_input g.T.Key3.PartialEq.eq g.T.Key3.Hash.hash_input g.S.BuildHasher g.S.Hasher.Hasher in let was = tri_state_of c.self.inside.state c.self.inside.items.store c.self.inside.tables in let is = tri_state_of c.self.inside.state c.insert_apart.new.items.store c.insert_apart.new.tables in IsTriState keys is × Overwriting keys was c.args.item c.insert_apart.result is
+apart : (g : _) (c : After-insert_apart g)
+    → let was = tri_state_of c.self.inside.state c.self.inside.items.store c.self.inside.tables in
+    let is = tri_state_of c.self.inside.state c.insert_apart.new.items.store c.insert_apart.new.tables in
+    IsTriState (keys_in g) is × Overwriting (keys_in g) was c.args.item c.insert_apart.result is
 apart g c =
-    let keys : TriKeys _ _ _ _ _ = tri_keys_of g.T.TriItem g.T.Key1.PartialEq.eq g.T.Key1.Hash.hash_input g.T.Key2.PartialEq.eq g.T.Key2.Hash.hash_input g.T.Key3.PartialEq.eq g.T.Key3.Hash.hash_input g.S.BuildHasher g.S.Hasher.Hasher in
     let s = tri_state_of c.self.inside.state c.self.inside.items.store c.self.inside.tables in
     let item = c.args.item in
-    let a = c.clashes-clashes.result.first in
-    let b = c.clashes-clashes.result.second in
-    let d = c.clashes-clashes.result.third in
     let found = rw (← c.self.view_is) at c.clashes-clashes.ensures.clashes in
-    let are = AreClashes-listed keys s.store item a b d c.clashes-clashes.ensures.ordered found in
+    let are = AreClashes-listed (keys_in g) s.store item _ _ _ c.clashes-clashes.ensures.ordered found in
     let lawful = AreLawful-from_bounds g.T.TriItem _ _ _ _ _ _ g.S.BuildHasher g.S.Hasher.Hasher c.self.inside.state g.met.T.Key1.PartialEq.laws g.met.T.Key1.Hash.respects_eq g.met.T.Key2.PartialEq.laws g.met.T.Key2.Hash.respects_eq g.met.T.Key3.PartialEq.laws g.met.T.Key3.Hash.respects_eq in
     let did = c.insert_apart.ensures in
     let r = c.insert_apart.result in
     let store = c.insert_apart.new.items.store in
     let maps = maps_of c.insert_apart.new.tables in
-    let entered = subst (λ h. OnOk r (maps ≡ maps_with s.maps (next_index s.store) h)) c.of-hashes.ensures did.entered in
-    let none = none_listed a b d c.clashes-clashes.ensures.ordered (c.is_empty.ensures.0 c.if-is_empty.true) in
-    inserted_apart keys s item lawful c.self.invariant (clashing c.clashes-clashes.result) none are r store maps did.not_full did.index did.values did.stored entered did.refused did.items_stay did.tables_stay
+    let added = subst (λ h. OnOk r (maps ≡ maps_with s.maps (next_index s.store) h)) c.of-hashes.ensures did.added in
+    let none = none_listed _ _ _ c.clashes-clashes.ensures.ordered (c.is_empty.ensures.0 c.if-is_empty.true) in
+    inserted_apart (keys_in g) s item lawful c.self.invariant (clashing c.clashes-clashes.result) none are r store maps did.not_full did.index did.values did.stored added did.refused did.items_stay did.tables_stay
 
 pub invariant_of-self : goal.invariant_of-self
 invariant_of-self g c = (apart g c).0
 
 pub returns-then-is_empty-clause-overwrites : goal.returns-then-is_empty-clause-overwrites
 returns-then-is_empty-clause-overwrites g c =
-    let keys : TriKeys _ _ _ _ _ = tri_keys_of g.T.TriItem g.T.Key1.PartialEq.eq g.T.Key1.Hash.hash_input g.T.Key2.PartialEq.eq g.T.Key2.Hash.hash_input g.T.Key3.PartialEq.eq g.T.Key3.Hash.hash_input g.S.BuildHasher g.S.Hasher.Hasher in
-    subst (λ t. Overwriting keys t.state c.args.item c.insert_apart.result (tri_state_of c.self.inside.state c.insert_apart.new.items.store c.insert_apart.new.tables)) c.self.view_is (apart g c).1
+    subst (λ t. Overwriting (keys_in g) t.state c.args.item c.insert_apart.result (tri_state_of c.self.inside.state c.insert_apart.new.items.store c.insert_apart.new.tables)) c.self.view_is (apart g c).1
 
 pub returns-then-is_empty-clause-state_after : goal.returns-then-is_empty-clause-state_after
 returns-then-is_empty-clause-state_after g c = (apart g c).0
 
 -- what the call leaves, and what it answers
-over : (g : _) (c : After-replace_clashes-ix g) → let keys : TriKeys _ _ _ _ _ = tri_keys_of g.T.TriItem g.T.Key1.PartialEq.eq g.T.Key1.Hash.hash_input g.T.Key2.PartialEq.eq g.T.Key2.Hash.hash_input g.T.Key3.PartialEq.eq g.T.Key3.Hash.hash_input g.S.BuildHasher g.S.Hasher.Hasher in let was = tri_state_of c.self.inside.state c.self.inside.items.store c.self.inside.tables in let is = tri_state_of c.self.inside.state c.replace_clashes-ix.new.items.store c.replace_clashes-ix.new.tables in IsTriState keys is × Overwriting keys was c.args.item (Ok (pair g c)) is
+over : (g : _) (c : After-replace_clashes-ix g)
+    → let was = tri_state_of c.self.inside.state c.self.inside.items.store c.self.inside.tables in
+    let new = c.replace_clashes-ix.new in
+    let is = tri_state_of c.self.inside.state new.items.store new.tables in
+    IsTriState (keys_in g) is × Overwriting (keys_in g) was c.args.item (Ok (pair g c)) is
 over g c =
-    let keys : TriKeys _ _ _ _ _ = tri_keys_of g.T.TriItem g.T.Key1.PartialEq.eq g.T.Key1.Hash.hash_input g.T.Key2.PartialEq.eq g.T.Key2.Hash.hash_input g.T.Key3.PartialEq.eq g.T.Key3.Hash.hash_input g.S.BuildHasher g.S.Hasher.Hasher in
     let s = tri_state_of c.self.inside.state c.self.inside.items.store c.self.inside.tables in
     let item = c.args.item in
-    let a = c.clashes-clashes.result.first in
-    let b = c.clashes-clashes.result.second in
-    let d = c.clashes-clashes.result.third in
     let found = rw (← c.self.view_is) at c.clashes-clashes.ensures.clashes in
-    let are = AreClashes-listed keys s.store item a b d c.clashes-clashes.ensures.ordered found in
+    let are = AreClashes-listed (keys_in g) s.store item _ _ _ c.clashes-clashes.ensures.ordered found in
     let lawful = AreLawful-from_bounds g.T.TriItem _ _ _ _ _ _ g.S.BuildHasher g.S.Hasher.Hasher c.self.inside.state g.met.T.Key1.PartialEq.laws g.met.T.Key1.Hash.respects_eq g.met.T.Key2.PartialEq.laws g.met.T.Key2.Hash.respects_eq g.met.T.Key3.PartialEq.laws g.met.T.Key3.Hash.respects_eq in
     let did = c.replace_clashes-ix.ensures in
     let maps = maps_of c.replace_clashes-ix.new.tables in
     let clashes = clashing c.clashes-clashes.result in
     let left = removed_all s.store clashes in
-    let entered = subst (λ h. maps ≡ maps_with (maps_without_all s.maps clashes) (next_index left) h) c.of-hashes.ensures did.entered in
-    let (x, rest, some) = some_listed a b d (λ none. let is = c.is_empty.ensures.1 none in let not = c.if-is_empty.false in cc) in
-    inserted_over keys s item lawful c.self.invariant clashes x rest some are (pair g c) c.replace_clashes-ix.new.items.store maps did.index did.values did.stored entered
+    let added = subst (λ h. maps ≡ maps_with (maps_without_all s.maps clashes) (next_index left) h) c.of-hashes.ensures did.added in
+    let (x, rest, some) = some_listed c.clashes-clashes.result.first c.clashes-clashes.result.second c.clashes-clashes.result.third (λ none. let is = c.is_empty.ensures.1 none in let not = c.if-is_empty.false in cc) in
+    inserted_over (keys_in g) s item lawful c.self.invariant clashes x rest some are (pair g c) c.replace_clashes-ix.new.items.store maps did.index did.values did.stored added
 
 pub invariant_of-self-2 : goal.invariant_of-self-2
 invariant_of-self-2 g c = (over g c).0
 
 pub returns-clause-overwrites : goal.returns-clause-overwrites
 returns-clause-overwrites g c =
-    let keys : TriKeys _ _ _ _ _ = tri_keys_of g.T.TriItem g.T.Key1.PartialEq.eq g.T.Key1.Hash.hash_input g.T.Key2.PartialEq.eq g.T.Key2.Hash.hash_input g.T.Key3.PartialEq.eq g.T.Key3.Hash.hash_input g.S.BuildHasher g.S.Hasher.Hasher in
-    subst (λ t. Overwriting keys t.state c.args.item (Ok (pair g c)) (tri_state_of c.self.inside.state c.replace_clashes-ix.new.items.store c.replace_clashes-ix.new.tables)) c.self.view_is (over g c).1
+    subst (λ t. Overwriting (keys_in g) t.state c.args.item (Ok (pair g c)) (tri_state_of c.self.inside.state c.replace_clashes-ix.new.items.store c.replace_clashes-ix.new.tables)) c.self.view_is (over g c).1
 
 pub returns-clause-state_after : goal.returns-clause-state_after
 returns-clause-state_after g c = (over g c).0
@@ -112,21 +114,20 @@ returns-clause-grows g c =
     subst (λ m. Grows s.limit (live_count s + 1) c.args.self.now.memory m) (sym (same g c)) (Grows-same s.limit (live_count s + 1) c.args.self.now.memory)
 
 -- beside others it grows for one item
-grown : (g : _) (c : After-insert_apart g) → let s = c.self.inside.items.store in Grows s.limit (live_count s + 1) (memory_of c.self.inside.items c.self.inside.tables) (memory_of c.insert_apart.new.items c.insert_apart.new.tables)
+grown : (g : _) (c : After-insert_apart g)
+    → let s = c.self.inside.items.store in
+    Grows s.limit (live_count s + 1) (memory_of c.self.inside.items c.self.inside.tables)
+    (memory_of c.insert_apart.new.items c.insert_apart.new.tables)
 grown g c =
     Grows-parts c.self.inside.items c.self.inside.tables c.self.invariant.held c.self.inside.items.store.limit 1 c.insert_apart.new.items c.insert_apart.new.tables c.insert_apart.ensures.slots c.insert_apart.ensures.memory
 
 -- and nothing clashes with the item
-none : (g : _) (c : After-insert_apart g) → let keys : TriKeys _ _ _ _ _ = tri_keys_of g.T.TriItem g.T.Key1.PartialEq.eq g.T.Key1.Hash.hash_input g.T.Key2.PartialEq.eq g.T.Key2.Hash.hash_input g.T.Key3.PartialEq.eq g.T.Key3.Hash.hash_input g.S.BuildHasher g.S.Hasher.Hasher in HasNoClash keys c.self.inside.items.store c.args.item
+none : (g : _) (c : After-insert_apart g) → HasNoClash (keys_in g) c.self.inside.items.store c.args.item
 none g c =
-    let keys : TriKeys _ _ _ _ _ = tri_keys_of g.T.TriItem g.T.Key1.PartialEq.eq g.T.Key1.Hash.hash_input g.T.Key2.PartialEq.eq g.T.Key2.Hash.hash_input g.T.Key3.PartialEq.eq g.T.Key3.Hash.hash_input g.S.BuildHasher g.S.Hasher.Hasher in
     let s = c.self.inside.items.store in
-    let a = c.clashes-clashes.result.first in
-    let b = c.clashes-clashes.result.second in
-    let d = c.clashes-clashes.result.third in
     let found = rw (← c.self.view_is) at c.clashes-clashes.ensures.clashes in
-    let are = AreClashes-listed keys s c.args.item a b d c.clashes-clashes.ensures.ordered found in
-    HasNoClash-none keys s c.args.item (clashing c.clashes-clashes.result) (none_listed a b d c.clashes-clashes.ensures.ordered (c.is_empty.ensures.0 c.if-is_empty.true)) are
+    let are = AreClashes-listed (keys_in g) s c.args.item _ _ _ c.clashes-clashes.ensures.ordered found in
+    HasNoClash-none (keys_in g) s c.args.item (clashing c.clashes-clashes.result) (none_listed _ _ _ c.clashes-clashes.ensures.ordered (c.is_empty.ensures.0 c.if-is_empty.true)) are
 
 pub returns-then-is_empty-clause-over_others : goal.returns-then-is_empty-clause-over_others
 returns-then-is_empty-clause-over_others g c =

@@ -12,7 +12,8 @@ invariant-loop-child l = record {
   room : CHILDREN ≤ vec_capacity l.children;
   formed : All (IsChild (l.height - 1)) l.children.items;
   counted : inners_of (l.height - 1) l.children.items + 1 ≤ l.reserve.inners;
-  given : l.reserve.inners + inners_of (l.height - 1) (children l.fn.self) ≡ l.fn.reserve.inners + inners_of (l.height - 1) l.children.items;
+  given : l.reserve.inners + inners_of (l.height - 1) (children l.fn.self)
+      ≡ l.fn.reserve.inners + inners_of (l.height - 1) l.children.items;
   reserved : l.reserve.reserved ≡ l.fn.reserve.reserved;
 }
 

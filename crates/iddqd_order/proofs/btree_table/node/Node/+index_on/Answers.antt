@@ -1,7 +1,7 @@
 use Rattle.iddqd_order.proofs.Names.{◌≡◌, ◌-◌, slice_index, arith, rules, subst, sym, ◌∙◌, child, flat, spot}
 use Rattle.iddqd_order.proofs.RemovalLemmas.{goes-below}
 use Rattle.iddqd_order.proofs.DescentLemmas.{child_is}
-use Rattle.iddqd_order.proofs.WayLemmas.{ends-here, read-below}
+use Rattle.iddqd_order.proofs.SpotCursorLemmas.{ends-here, read-below}
 use Rattle.iddqd_order.proofs.btree_table.node.Node.+index_on.Goals as goal
 
 pub index-requires : goal.index-requires

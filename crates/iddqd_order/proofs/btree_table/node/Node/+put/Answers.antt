@@ -1,7 +1,7 @@
 use Rattle.iddqd_order.proofs.Names.{◌∙◌, refl, arith, rules, roll-Node}
 use Rattle.iddqd_order.proofs.NodeLemmas.{row-roll, children-roll}
 use Rattle.iddqd_order.proofs.RemovalLemmas.{goes-below, child-below, room-kept}
-use Rattle.iddqd_order.proofs.WayLemmas.{ends-here, put-here, put-below}
+use Rattle.iddqd_order.proofs.SpotCursorLemmas.{ends-here, put-here, put-below}
 use Rattle.iddqd_order.proofs.RecountLemmas.{inners-same, inners-set}
 use Rattle.iddqd_order.proofs.btree_table.node.Node.+put.Goals as goal
 

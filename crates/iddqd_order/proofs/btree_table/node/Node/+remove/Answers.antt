@@ -1,4 +1,4 @@
-use Rattle.iddqd_order.proofs.Names.{rules, ℕ, suc, ◌-◌, remove, slice_index, arith, ap, ◌∙◌, roll-Node, out-roll-Node, row, children, room, flat, spot}
+use Rattle.iddqd_order.proofs.Names.{rules, ℕ, suc, ◌-◌, remove, slice_index, arith, ap, ◌∙◌, roll-Node, out-roll-Node, row, children, child_room, flat, spot}
 use Rattle.iddqd_order.proofs.NodeLemmas.{row-roll, children-roll, room-roll}
 use Rattle.iddqd_order.proofs.RemovalLemmas.{holds-leaf, holds-level, goes-below, ends-inner, child-below, child-before, remade-leaf, TookNow, took-now, took-below, took-here, remade, room-kept}
 use Rattle.iddqd_order.specs.Node.{inners}
@@ -59,11 +59,11 @@ took t c =
           (let d = w.remove_last-last.ensures in
           let k = took-here c.args.level c.args.height c.get-i.result c.args.self.now w.index_mut.result.now w.remove_last-last.new.self c.args.path.now w.remove_last-last.result c.if-height-eq0.false w.if-height-level.true c.get-i.ensures c.requires.formed c.requires.some c.requires.holds (search rules) d.items d.formed d.fewer in
           let set_is = simp out-roll-Node at w.set.ensures in
-          took-now c.args.height c.get-i.result c.args.self.now c.if-height-level.self _ _ _ k (ap row w.self-is ∙ row-roll _ ∙ set_is) (ap children w.self-is ∙ children-roll _ ∙ children-roll _) (ap room w.self-is ∙ room-roll _ ∙ room-roll _))
+          took-now c.args.height c.get-i.result c.args.self.now c.if-height-level.self _ _ _ k (ap row w.self-is ∙ row-roll _ ∙ set_is) (ap children w.self-is ∙ children-roll _ ∙ children-roll _) (ap child_room w.self-is ∙ room-roll _ ∙ room-roll _))
       | else-height-level w ↦
           (let d = w.remove-else-height-level.ensures in
           let k = took-below c.args.level c.args.height c.get-i.result c.args.self.now w.index_mut-else-height-level.result.now w.remove-else-height-level.new.self c.args.path.now c.if-height-eq0.false w.if-height-level.false c.get-i.ensures c.requires.formed c.requires.some c.requires.holds (search rules) d.items d.formed d.fewer in
-          took-now c.args.height c.get-i.result c.args.self.now c.if-height-level.self _ _ _ k (ap row w.self-is ∙ row-roll _) (ap children w.self-is ∙ children-roll _) (ap room w.self-is ∙ room-roll _))
+          took-now c.args.height c.get-i.result c.args.self.now c.if-height-level.self _ _ _ k (ap row w.self-is ∙ row-roll _) (ap children w.self-is ∙ children-roll _) (ap child_room w.self-is ∙ room-roll _))
     ]
 
 below :

@@ -2,7 +2,7 @@ use Rattle.std.proofs.Common.{◌∙◌, ◌+◌, arith, sym, rules}
 use Rattle.std.proofs.lemmas.Grind.{common_steps}
 use Rattle.iddqd_order.proofs.RemovalLemmas.{goes-below}
 use Rattle.iddqd_order.proofs.DescentLemmas.{path-here, child_is}
-use Rattle.iddqd_order.proofs.WayLemmas.{stepped-below, ends-here, steps-leaf, ends-leaf, steps-here, steps-below_any, none-is, steps-out, ends-below}
+use Rattle.iddqd_order.proofs.SpotCursorLemmas.{stepped-below, ends-here, steps-leaf, ends-leaf, steps-here, steps-below_any, none-is, steps-out, ends-below}
 use Rattle.iddqd_order.proofs.btree_table.node.Node.+step.Goals as goal
 
 -- below: the step of the i-th child

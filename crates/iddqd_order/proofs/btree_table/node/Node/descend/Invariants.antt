@@ -8,9 +8,12 @@ invariant-loop-i g l = record {
   path : length l.path ≡ LEVELS;
   can_search : CanSearch g.F.FnMut (flat l.level l.node) l.tie l.asking;
   above : l.level < l.full;
-  rest : (p : _) (end : Result ℕ ℕ) (new : _) → ((m : ℕ) → l.level < m → slice_index p m ≡ slice_index l.path m)
-      → Descends g.F.FnMut (g.H.Reads.reading l.how) l.tie (row_asks * (l.level + 1)) l.full l.level l.node l.asking p end new
-      → Descends g.F.FnMut (g.H.Reads.reading l.how) l.tie (row_asks * (l.fn.height + 1)) (l.fn.height + 1) l.fn.height l.fn.self l.fn.asking p end new;
+  rest : (p : _) (end : Result ℕ ℕ) (new : _)
+      → ((m : ℕ) → l.level < m → slice_index p m ≡ slice_index l.path m)
+      → Descends g.F.FnMut (g.H.Reads.reading l.how) l.tie (row_asks * (l.level + 1))
+      l.full l.level l.node l.asking p end new
+      → Descends g.F.FnMut (g.H.Reads.reading l.how) l.tie (row_asks * (l.fn.height + 1))
+      (l.fn.height + 1) l.fn.height l.fn.self l.fn.asking p end new;
   first : IsTrue l.is_leftmost → (m : ℕ) → m ≤ l.level → slice_index l.path m ≡ 0;
 }
 

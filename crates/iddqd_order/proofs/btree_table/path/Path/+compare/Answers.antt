@@ -1,4 +1,4 @@
-use Rattle.iddqd_order.proofs.Names.{◌≡◌, ◌-◌, false, sym, ap, refl, ◌∙◌, ranked, Ordering, Less, Equal, Greater, slice_index, child, Goes, Compares}
+use Rattle.iddqd_order.proofs.Names.{◌≡◌, ◌-◌, false, sym, ap, refl, ◌∙◌, ranked, Ordering, Less, Equal, Greater, slice_index, child, ReachesGap, Compares}
 use Rattle.std.specs.Ordering.{is_ne}
 use Rattle.iddqd_order.proofs.CursorLemmas.{gaps-part, gaps-below}
 use Rattle.iddqd_order.proofs.NodeLemmas.{child-formed, goes-inner}
@@ -25,5 +25,5 @@ returns t c n f from to =
     let told : Compares c.cmp-here.result (slice_index p level) (slice_index q level) = ranked _ _ c.cmp-here.result (rw (← c.get.ensures, ← c.get-2.ensures) c.cmp-here.ensures) in
     let same : slice_index p level ≡ slice_index q level = rw (alike c.cmp-here.result c.if-is_ne.ensures) at told in
     let below = goes-inner level n p ne from in
-    let on : Goes (level - 1) (child n (slice_index p level)) q = rw (← same) at (goes-inner level n q ne to).on in
+    let on : ReachesGap (level - 1) (child n (slice_index p level)) q = rw (← same) at (goes-inner level n q ne to).on in
     gaps-below c.compare.result level (slice_index p level) n p q ne refl (sym same) (c.compare.ensures (child n (slice_index p level)) (child-formed level n (slice_index p level) ne f below.here) below.on on)

@@ -18,7 +18,7 @@ cut_low :
     (xs : List ℕ) (i x : ℕ)
     → length xs ≡ CAPACITY
     → i < LEAST
-    → IsCut xs i x (insert (remove (take LEAST xs) (LEAST - 1)) i x) (get_or (take LEAST xs) (LEAST - 1) 0) (drop LEAST xs)
+    → let low = take LEAST xs in IsCut xs i x (insert (remove low (LEAST - 1)) i x) (get_or low (LEAST - 1) 0) (drop LEAST xs)
 cut_low xs i x n p = record {
   is = same_lists _ _ (grind (arith, places)) (λ k d h. grind (arith, places));
   low_length = ((λ _. grind (arith, places)), (λ q. absurd (omega arith)));
@@ -31,7 +31,8 @@ cut_high :
     → length xs ≡ CAPACITY
     → LEAST + 1 < i
     → i ≤ CAPACITY
-    → IsCut xs i x (take (LEAST + 1) xs) (get_or (drop (LEAST + 1) xs) 0 0) (insert (remove (drop (LEAST + 1) xs) 0) (i - (LEAST + 2)) x)
+    → let high = drop (LEAST + 1) xs in
+    IsCut xs i x (take (LEAST + 1) xs) (get_or high 0 0) (insert (remove high 0) (i - (LEAST + 2)) x)
 cut_high xs i x n p q = record {
   is = same_lists _ _ (grind (arith, places)) (λ k d h. grind (arith, places));
   low_length = ((λ q. absurd (omega arith)), (λ _. grind (arith, places)));

@@ -2,16 +2,24 @@ use Rattle.std.proofs.Common.{arith}
 use Rattle.std.proofs.lemmas.Grind.{common_steps}
 use Rattle.iddqd_order.proofs.Names.{Some, refl, sym, eqb-true, ◌∙◌, arith, Askable, order_of}
 use Rattle.iddqd_order.proofs.AskLemmas.{asks_more, asks_none}
-use Rattle.iddqd_order.proofs.IndexListLemmas.{Contains-at}
+use Rattle.iddqd_order.proofs.IndexListLemmas.{Contains-at, sentinel-absent}
 use Rattle.iddqd_order.proofs.SearchLemmas.{met_where_stored}
+use Rattle.iddqd_order.proofs.TableLemmas.{index_list}
+use Rattle.iddqd_order.proofs.btree_table.table.MapBTreeTable.find_spot.Goals.{then-self-eq0-via-then-self-eq0, then-self-eq0-via-else-self-eq0+then-eq}
 use Rattle.iddqd_order.proofs.btree_table.table.MapBTreeTable.find_spot.Goals as goal
 
-pub returns-then-eq-clause-asked : goal.returns-then-eq-clause-asked
-returns-then-eq-clause-asked g c = asks_more g.F.FnMut _ (omega arith) (asks_none g.F.FnMut (Askable (order_of c.args.self.now) (Some c.args.ix)) _)
+pub returns-then-self-eq0-clause-asked : goal.returns-then-self-eq0-clause-asked
+returns-then-self-eq0-clause-asked g c = asks_more g.F.FnMut _ (omega arith) (asks_none g.F.FnMut (Askable (order_of c.args.self.now) (Some c.args.ix)) _)
 
-pub returns-then-eq-clause-rising : goal.returns-then-eq-clause-rising
-returns-then-eq-clause-rising g c answer s held =
-    absurd (c.stores_no_sentinel.ensures (rw (eqb-true _ _ (sym c.eq.ensures ∙ c.if-eq.true)) at held))
+pub returns-then-self-eq0-clause-rising : goal.returns-then-self-eq0-clause-rising
+unfolding order_of
+returns-then-self-eq0-clause-rising g c answer s held =
+    let here = rw (← c.self.view_is) at held in
+    let inside = c.self.invariant in
+    elim c.then-self-eq0.branch [
+      | then-self-eq0-via-then-self-eq0 w ↦ (let none = w.if-self-eq0.true in let lt = here.1 in let counted = inside.counted in absurd (omega arith))
+      | then-self-eq0-via-else-self-eq0+then-eq w ↦ absurd (sentinel-absent _ (index_list _ _ _ inside) (rw (eqb-true _ _ (sym w.eq.ensures ∙ w.if-eq.true)) at here))
+    ]
 
 pub returns-in-Ok-clause-there : goal.returns-in-Ok-clause-there
 unfolding order_of

@@ -1,21 +1,21 @@
-use Rattle.iddqd_order.proofs.MoveLemmas.{absent-without, move-left, asked-both, can-enter_then, puts-then, without-fewer}
+use Rattle.iddqd_order.proofs.MoveLemmas.{absent-without, move-left, asked-both, can-insert_then, puts-then, without-fewer}
 use Rattle.iddqd_order.proofs.btree_table.table.MapBTreeTable.move_index.Goals as goal
 
-pub enter_anew-requires-clause-absent : goal.enter_anew-requires-clause-absent
-enter_anew-requires-clause-absent g c = rw c.leave.ensures.left (absent-without _ _)
+pub insert_again-requires-clause-absent : goal.insert_again-requires-clause-absent
+insert_again-requires-clause-absent g c = rw c.remove_by_search.ensures.removed (absent-without _ _)
 
-pub enter_anew-requires-clause-can_ask : goal.enter_anew-requires-clause-can_ask
-enter_anew-requires-clause-can_ask g c =
-    rw c.leave.ensures.left (can-enter_then g.F.FnMut _ _ _ _ c.leave.ensures.asked c.requires.can_search)
+pub insert_again-requires-clause-can_ask : goal.insert_again-requires-clause-can_ask
+insert_again-requires-clause-can_ask g c =
+    rw c.remove_by_search.ensures.removed (can-insert_then g.F.FnMut _ _ _ _ c.remove_by_search.ensures.asked c.requires.can_search)
 
-pub enter_anew-requires-clause-enough : goal.enter_anew-requires-clause-enough
-enter_anew-requires-clause-enough g c full =
-    let left = c.leave.ensures in
+pub insert_again-requires-clause-enough : goal.insert_again-requires-clause-enough
+insert_again-requires-clause-enough g c full =
+    let left = c.remove_by_search.ensures in
     let fewer = without-fewer _ _ c.requires.stored in
-    move-left c.args.self.now _ c.args.ix _ fewer left.left left.lower left.reserved c.requires.enough full
+    move-left c.args.self.now _ c.args.ix _ fewer left.removed left.lower left.reserved c.requires.enough full
 
 pub returns-clause-asked : goal.returns-clause-asked
-returns-clause-asked g c = asked-both g.F.FnMut _ _ c.leave.ensures.asked (rw c.leave.ensures.left at c.enter_anew.ensures.asked)
+returns-clause-asked g c = asked-both g.F.FnMut _ _ c.remove_by_search.ensures.asked (rw c.remove_by_search.ensures.removed at c.insert_again.ensures.asked)
 
 pub returns-clause-moved : goal.returns-clause-moved
-returns-clause-moved g c = puts-then g.F.FnMut _ _ c.leave.ensures.asked (rw c.leave.ensures.left at c.enter_anew.ensures.entered)
+returns-clause-moved g c = puts-then g.F.FnMut _ _ c.remove_by_search.ensures.asked (rw c.remove_by_search.ensures.removed at c.insert_again.ensures.inserted)

@@ -5,17 +5,17 @@ use Rattle.iddqd_order.proofs.btree_table.table.MapBTreeTable.remove_at.Goals as
 pub overflow_sub-self : goal.overflow_sub-self
 unfolding order_of
 overflow_sub-self c =
-    let way = rw (← c.self.view_is) at c.requires in let taken = c.take_out-self-inside.ensures in
+    let way = rw (← c.self.view_is) at c.requires in let taken = c.remove_in-self-inside.ensures in
     (shorter _ _ _ _ _ _ _ _ c.self.invariant way.0 way.1 taken.tree taken.items taken.inners).some
 
 pub invariant_of-self : goal.invariant_of-self
 unfolding order_of
 invariant_of-self c =
-    let way = rw (← c.self.view_is) at c.requires in let taken = c.take_out-self-inside.ensures in
+    let way = rw (← c.self.view_is) at c.requires in let taken = c.remove_in-self-inside.ensures in
     (shorter _ _ _ _ _ _ _ _ c.self.invariant way.0 way.1 taken.tree taken.items taken.inners).table
 
 pub returns-clause-removed : goal.returns-clause-removed
 unfolding order_of
 returns-clause-removed c =
-    let way = rw (← c.self.view_is) at c.requires in let taken = c.take_out-self-inside.ensures in
+    let way = rw (← c.self.view_is) at c.requires in let taken = c.remove_in-self-inside.ensures in
     rw (← c.self.view_is) (shorter _ _ _ _ _ _ _ _ c.self.invariant way.0 way.1 taken.tree taken.items taken.inners).items

@@ -1,9 +1,9 @@
-//! Ways through a tree, to one index after another.
+//! A cursor that stands at an index and goes to one after another.
 //!
-//! A way holds no reference, so the tree may change its indexes between two steps.
+//! It holds no reference, so the tree may change its indexes between two steps.
 ghost use Rattle.std.specs.Prelude.{◌≡◌, ℕ, ◌+◌, ◌<◌, ◌≤◌, length, [], slice_index, slice_set, None};
-ghost use Rattle.iddqd_order.specs.Node.{row, flat, inners, IsFormed, Holds, spot};
-ghost use Rattle.iddqd_order.specs.Ways.{IsWay, StepsOn, SamePlaces};
+ghost use Rattle.iddqd_order.specs.Node.{row, flat, inners, IsFormed, ReachesIndex, spot};
+ghost use Rattle.iddqd_order.specs.SpotCursor.{IsSpotCursor, StepsToNext, SamePlaces};
 
 use crate::btree_table::node::Node;
 use crate::btree_table::path::{LEVELS, Path, Spot};
@@ -11,20 +11,20 @@ use iddqd::item_index::ItemIndex;
 
 // Where an index is stored, and its place among all.
 #[derive(Clone, Copy)]
-pub struct Way {
-    pub spot: Spot,
-    pub place: usize,
+pub(super) struct SpotCursor {
+    pub(super) spot: Spot,
+    pub(super) place: usize,
 }
 
-impl Way {
-    // The way to the first index.
-    pub fn first() -> Way
+impl SpotCursor {
+    // At the first index.
+    pub(super) fn first() -> SpotCursor
         ensures path { length result.spot.path ≡ LEVELS }
         ensures places { (l : ℕ) → slice_index result.spot.path l ≡ 0 }
         ensures level { result.spot.level ≡ 0 }
         ensures place { result.place ≡ 0 }
     {
-        Way {
+        SpotCursor {
             spot: Spot {
                 path: Path::first(),
                 level: 0,
@@ -33,15 +33,15 @@ impl Way {
         }
     }
 
-    // The index to which the way goes. The way then goes to the next one.
-    pub fn step(&mut self, root: &Node, height: usize) -> ItemIndex
+    // The index at which the cursor stands. It then goes to the next one.
+    pub(super) fn step(&mut self, root: &Node, height: usize) -> ItemIndex
         requires formed { IsFormed height root.now }
         requires levels { height < LEVELS }
-        requires way { IsWay height root.now self.old }
+        requires stands { IsSpotCursor height root.now self.old }
         requires more { self.old.place < length (flat height root.now) }
         requires few { length (flat height root.now) ≤ usize.MAX }
         ensures index { result ≡ slice_index (flat height root.now) self.old.place }
-        ensures way { IsWay height root.now self.new }
+        ensures stands { IsSpotCursor height root.now self.new }
         ensures place { self.new.place ≡ self.old.place + 1 }
     {
         let (ix, next) = root.step(height, &mut self.spot.path, self.spot.level);
@@ -50,11 +50,11 @@ impl Way {
         ix
     }
 
-    // Puts an index in the place of that to which the way goes. The way then goes to the next one.
-    pub fn put(&mut self, root: &mut Node, height: usize, ix: ItemIndex)
+    // Puts an index in the place of that at which the cursor stands. It then goes to the next one.
+    pub(super) fn put(&mut self, root: &mut Node, height: usize, ix: ItemIndex)
         requires formed { IsFormed height root.old }
         requires levels { height < LEVELS }
-        requires way { IsWay height root.old self.old }
+        requires stands { IsSpotCursor height root.old self.old }
         requires more { self.old.place < length (flat height root.old) }
         requires few { length (flat height root.old) ≤ usize.MAX }
         ensures items { flat height root.new ≡ slice_set (flat height root.old) self.old.place ix }
@@ -62,7 +62,7 @@ impl Way {
         ensures same_length { length (row root.new) ≡ length (row root.old) }
         ensures inners { inners height root.new ≡ inners height root.old }
         ensures same_places { SamePlaces height root.old root.new }
-        ensures way { IsWay height root.new self.new }
+        ensures stands { IsSpotCursor height root.new self.new }
         ensures place { self.new.place ≡ self.old.place + 1 }
     {
         let here = self.spot;
@@ -74,13 +74,18 @@ impl Way {
 impl Node {
     // The index to which a path goes at a level, and the level of the next one, to which the path is
     // made to go, if there is one below this node.
-    pub fn step(&self, height: usize, path: &mut Path, level: usize) -> (ItemIndex, Option<usize>)
+    pub(super) fn step(
+        &self,
+        height: usize,
+        path: &mut Path,
+        level: usize,
+    ) -> (ItemIndex, Option<usize>)
         requires formed { IsFormed height self.now }
         requires levels { height < LEVELS }
         requires path { length path.old ≡ LEVELS }
-        requires holds { Holds level height self.now path.old }
+        requires holds { ReachesIndex level height self.now path.old }
         ensures index { result.0 ≡ slice_index (flat height self.now) (spot level height self.now path.old) }
-        ensures next { StepsOn height self.now level path.old result.1 path.new }
+        ensures next { StepsToNext height self.now level path.old result.1 path.new }
         ensures path { length path.new ≡ LEVELS }
         ensures above { (l : ℕ) → height < l → slice_index path.new l ≡ slice_index path.old l }
         ensures ended { result.1 ≡ None → path.new ≡ path.old }
@@ -109,10 +114,10 @@ impl Node {
     }
 
     // The index to which a path goes at a level.
-    pub fn index_on(&self, height: usize, path: &Path, level: usize) -> ItemIndex
+    pub(super) fn index_on(&self, height: usize, path: &Path, level: usize) -> ItemIndex
         requires formed { IsFormed height self.now }
         requires levels { height < LEVELS }
-        requires holds { Holds level height self.now path.now }
+        requires holds { ReachesIndex level height self.now path.now }
         ensures { result ≡ slice_index (flat height self.now) (spot level height self.now path.now) }
     {
         let i = path.get(height);
@@ -123,10 +128,10 @@ impl Node {
     }
 
     // Puts an index in the place of that to which a path goes at a level.
-    pub fn put(&mut self, height: usize, path: &Path, level: usize, ix: ItemIndex)
+    pub(super) fn put(&mut self, height: usize, path: &Path, level: usize, ix: ItemIndex)
         requires formed { IsFormed height self.old }
         requires levels { height < LEVELS }
-        requires holds { Holds level height self.old path.now }
+        requires holds { ReachesIndex level height self.old path.now }
         ensures items { flat height self.new
             ≡ slice_set (flat height self.old) (spot level height self.old path.now) ix }
         ensures formed { IsFormed height self.new }

@@ -1,7 +1,7 @@
 use Rattle.std.proofs.Common.{arith}
 use Rattle.std.proofs.lemmas.Grind.{common_steps}
 use Rattle.iddqd_order.proofs.CursorLemmas.{IsAt-whole, IsGap-few, IsLow-from}
-use Rattle.iddqd_order.proofs.btree_table.cursor.Cursor.leave.Goals as goal
+use Rattle.iddqd_order.proofs.btree_table.cursor.Cursor.leave_leaf.Goals as goal
 
 pub gap-path-requires : goal.gap-path-requires
 gap-path-requires c =

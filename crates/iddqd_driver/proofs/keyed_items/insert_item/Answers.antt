@@ -7,7 +7,7 @@ use Rattle.iddqd_order.specs.MapBTreeTable.{order_of}
 use Rattle.iddqd_by_order.proofs.OrderedHoldsLemmas.{next_absent}
 use Rattle.iddqd_by_order.proofs.OrderedPlaceLemmas.{AddsInPlace-prepared}
 use Rattle.iddqd_driver.proofs.MemoryLemmas.{few_slots}
-use Rattle.iddqd_driver.proofs.keyed_items.enter.Goals as goal
+use Rattle.iddqd_driver.proofs.keyed_items.insert_item.Goals as goal
 
 pub prepare-requires-clause-absent : goal.prepare-requires-clause-absent
 prepare-requires-clause-absent g c = λ here.
@@ -16,25 +16,25 @@ prepare-requires-clause-absent g c = λ here.
     (rw (← next, ← c.in-Vacant.ensures.table) here)
 
 pub returns-in-Occupied-clause-second : goal.returns-in-Occupied-clause-second
-returns-in-Occupied-clause-second g c = rw (← c.key2.ensures, c.get.ensures) c.in-Occupied.ensures.entered
+returns-in-Occupied-clause-second g c = rw (← c.key2.ensures, c.get.ensures) c.in-Occupied.ensures.made
 
 pub returns-then-is_some-clause-second : goal.returns-then-is_some-clause-second
-returns-then-is_some-clause-second g c = rw (← c.key2.ensures) c.in-Vacant.ensures.entered.missed
+returns-then-is_some-clause-second g c = rw (← c.key2.ensures) c.in-Vacant.ensures.made.missed
 
 pub returns-in-Err-Full-clause-second : goal.returns-in-Err-Full-clause-second
-returns-in-Err-Full-clause-second g c = rw (← c.key2.ensures) c.in-Vacant.ensures.entered.missed
+returns-in-Err-Full-clause-second g c = rw (← c.key2.ensures) c.in-Vacant.ensures.made.missed
 
 pub returns-in-Err-Memory-clause-second : goal.returns-in-Err-Memory-clause-second
-returns-in-Err-Memory-clause-second g c = rw (← c.key2.ensures) c.in-Vacant.ensures.entered.missed
+returns-in-Err-Memory-clause-second g c = rw (← c.key2.ensures) c.in-Vacant.ensures.made.missed
 
 pub returns-in-Err-clause-second : goal.returns-in-Err-clause-second
-returns-in-Err-clause-second g c = rw (← c.key2.ensures) c.in-Vacant.ensures.entered.missed
+returns-in-Err-clause-second g c = rw (← c.key2.ensures) c.in-Vacant.ensures.made.missed
 
 pub returns-in-Err-prepare-clause-second : goal.returns-in-Err-prepare-clause-second
-returns-in-Err-prepare-clause-second g c = rw (← c.key2.ensures) c.in-Vacant.ensures.entered.missed
+returns-in-Err-prepare-clause-second g c = rw (← c.key2.ensures) c.in-Vacant.ensures.made.missed
 
 pub returns-clause-second : goal.returns-clause-second
-returns-clause-second g c = rw (← c.key2.ensures) c.in-Vacant.ensures.entered.missed
+returns-clause-second g c = rw (← c.key2.ensures) c.in-Vacant.ensures.made.missed
 
 pub returns-clause-filed : goal.returns-clause-filed
 returns-clause-filed g c =
@@ -46,7 +46,7 @@ returns-clause-placed g c =
     AddsInPlace-prepared g.T.KeyedItem.second_key compare g.met.T.Key2.Ord.total c.args.items.now.store c.args.item
     (order_of c.args.order.now) (compare c.key2.result.now) c.requires.valid c.requires.ordered
     (λ k. ap (λ key. compare key k) c.key2.ensures) c.in-Vacant.vacant c.in-Ok-prepare.prepared c.next_index.result _
-    (ap order_of c.in-Vacant.ensures.table) c.in-Vacant.ensures.entered c.in-Ok-prepare.ensures.prepared
+    (ap order_of c.in-Vacant.ensures.table) c.in-Vacant.ensures.made c.in-Ok-prepare.ensures.prepared
     (c.next_index.ensures.index ∙ ap next_index c.in-Ok.ensures.contents) (search (rules, c.insert.ensures))
 
 pub returns-in-Occupied-clause-refused : goal.returns-in-Occupied-clause-refused

@@ -1,5 +1,5 @@
 use Rattle.iddqd_tri.proofs.TriMemoryLemmas.{same_three, table_taken}
-use Rattle.iddqd_tri.proofs.tri_tables.TriTables.take.Goals as goal
+use Rattle.iddqd_tri.proofs.tri_tables.TriTables.remove.Goals as goal
 
 pub returns-clause-memory : goal.returns-clause-memory
 returns-clause-memory c =

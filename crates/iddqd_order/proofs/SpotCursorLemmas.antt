@@ -1,26 +1,26 @@
 -- Ways: what a step along one leaves, and what stays of them where an index is put in the place of another.
-use Rattle.iddqd_order.proofs.Names.{◌≡◌, ◌≢◌, ◌∙◌, ℕ, zero, suc, ◌+◌, ◌-◌, ◌<◌, ◌≤◌, List, [], ◌++◌, length, get_or, set, slice_index, slice_set, refl, sym, ap, subst, arith, Option, Some, None, is_some, true, false, sub-one, length-append, length-set, get_or-set_same, get_or-set_other, inl, inr, cases_eq, length-map, map-set, All-set, Node, Way, row, children, child, room, weave, before, after, flat, IsFormed, Holds, spot, StepsOn, SamePlaces, IsWay, get_or_default, add-one, set-get_or, CAPACITY, LEAST, LEVELS}
+use Rattle.iddqd_order.proofs.Names.{◌≡◌, ◌≢◌, ◌∙◌, ℕ, zero, suc, ◌+◌, ◌-◌, ◌<◌, ◌≤◌, List, [], ◌++◌, length, get_or, set, slice_index, slice_set, refl, sym, ap, subst, arith, Option, Some, None, is_some, true, false, sub-one, length-append, length-set, get_or-set_same, get_or-set_other, inl, inr, cases_eq, length-map, map-set, All-set, Node, SpotCursor, row, children, child, child_room, weave, before, after, flat, IsFormed, ReachesIndex, spot, StepsToNext, SamePlaces, IsSpotCursor, get_or_default, add-one, set-get_or, CAPACITY, LEAST, LEVELS}
 use Rattle.iddqd_order.proofs.NodeLemmas.{lists, AreChildren, formed-within, formed-leaf, leaf-formed, flat-leaf, formed-inner, inner-formed, flat-inner}
 use Rattle.iddqd_order.proofs.RemovalLemmas.{GoesBelow, goes-below, ends-inner, holds-leaf, holds-at, holds-level, holds-below, spot-leaf, spot-at, spot-below}
 use Rattle.iddqd_order.proofs.DescentLemmas.{after-last, before-next, lists-one_more, lists-at, child-formed, child-read, child_is, holds-here, below-holds, spot-row}
 use Rattle.iddqd_order.proofs.WeaveLemmas.{apart, index_place}
 use Rattle.iddqd_order.proofs.WeaveRemovalLemmas.{weave-set_own, weave-set_below}
 
--- the first way goes to the first index
+-- the path of first places goes to the first index
 pub record IsFirst (h : ℕ) (n : Node) (p : List ℕ) : Type 0 where
-  pub holds : Holds 0 h n p
+  pub holds : ReachesIndex 0 h n p
   pub place : spot 0 h n p ≡ 0
 
-pub first-way :
+pub first-place :
     (h : ℕ) (n : Node) (p : List ℕ)
     → IsFormed h n
     → 1 ≤ length (row n)
     → ((m : ℕ) → m ≤ h → slice_index p m ≡ 0)
     → IsFirst h n p
-first-way zero n p f some zeros =
+first-place zero n p f some zeros =
     let z = zeros 0 (omega arith) in
     record { holds = holds-here 0 n p (omega arith); place = spot-leaf 0 0 n p refl ∙ z }
-first-way (suc h) n p f some zeros =
+first-place (suc h) n p f some zeros =
     let ne : suc h ≢ 0 = λ e. absurd (omega arith) in
     let here : slice_index p (suc h) ≡ 0 = zeros (suc h) (omega arith) in
     let fs = formed-inner (suc h) n ne f in
@@ -28,7 +28,7 @@ first-way (suc h) n p f some zeros =
     let lt : 0 < length (children n) = omega arith in
     let five = (fs.below 0 n lt).0 in
     let below : IsFormed h (child n 0) = rw sub-one at (child-formed (suc h) n 0 ne f lt) in
-    let ih = first-way h (child n 0) p below (omega arith) (λ m le. zeros m (omega arith)) in
+    let ih = first-place h (child n 0) p below (omega arith) (λ m le. zeros m (omega arith)) in
     record {
       holds = below-holds 0 (suc h) n p ne (rw here lt) (rw (here, sub-one) ih.holds);
       place =
@@ -42,10 +42,10 @@ pub steps-leaf :
     (h l i : ℕ) (n : Node) (p q : List ℕ)
     → h ≡ 0
     → i ≡ slice_index p h
-    → Holds l h n p
+    → ReachesIndex l h n p
     → i + 1 < length (row n)
     → slice_index q 0 ≡ i + 1
-    → StepsOn h n l p (Some 0) q
+    → StepsToNext h n l p (Some 0) q
 steps-leaf (suc h) l i n p q e ei w lt next = absurd (omega arith)
 steps-leaf zero l i n p q e ei w lt next =
     (holds-here 0 n q (omega arith), spot-leaf 0 0 n q refl ∙ next ∙ ap (λ z. z + 1) ei ∙ ap (λ z. z + 1) (sym (spot-leaf l 0 n p refl)))
@@ -54,9 +54,9 @@ pub ends-leaf :
     (h l i : ℕ) (n : Node) (p q : List ℕ)
     → h ≡ 0
     → i ≡ slice_index p h
-    → Holds l h n p
+    → ReachesIndex l h n p
     → length (row n) ≤ i + 1
-    → StepsOn h n l p None q
+    → StepsToNext h n l p None q
 ends-leaf (suc h) l i n p q e ei w le = absurd (omega arith)
 ends-leaf zero l i n p q e ei w le =
     let lt = holds-leaf l 0 n p refl w in
@@ -69,17 +69,17 @@ pub steps-here :
     → h ≡ l
     → i ≡ slice_index p h
     → IsFormed h n
-    → Holds l h n p
+    → ReachesIndex l h n p
     → slice_index q h ≡ i + 1
     → ((m : ℕ) → m < h → slice_index q m ≡ 0)
-    → StepsOn h n l p (Some 0) q
+    → StepsToNext h n l p (Some 0) q
 steps-here h l i n p q ne e ei f w next zeros =
     let s = ends-inner h l i n p ne e ei f w in
     let at = s.within in
     let one = (formed-inner h n ne f).inner.one_more in
     let lt : i + 1 < length (children n) = omega arith in
     let five = ((formed-inner h n ne f).below (i + 1) n lt).0 in
-    let first = first-way (h - 1) (child n (i + 1)) q (child-formed h n (i + 1) ne f lt) (omega arith) (λ m le. zeros m (omega arith)) in
+    let first = first-place (h - 1) (child n (i + 1)) q (child-formed h n (i + 1) ne f lt) (omega arith) (λ m le. zeros m (omega arith)) in
     let xs : List ℕ = row n in let ks : List (List ℕ) = lists (h - 1) (children n) in
     let is : spot 0 h n q ≡ length (before (i + 1) xs ks) + spot 0 (h - 1) (child n (i + 1)) q =
     spot-below 0 h n q ne ne ∙ ap (λ z. length (before z xs ks) + spot 0 (h - 1) (child n z) q) next in
@@ -92,8 +92,8 @@ pub steps-below :
     (h l i m : ℕ) (n : Node) (p q : List ℕ)
     → GoesBelow h l i n p
     → slice_index q h ≡ i
-    → StepsOn (h - 1) (child n i) l p (Some m) q
-    → StepsOn h n l p (Some m) q
+    → StepsToNext (h - 1) (child n i) l p (Some m) q
+    → StepsToNext h n l p (Some m) q
 steps-below h l i m n p q b here s =
     let le = holds-level m (h - 1) (child n i) q s.0 in
     let was = b.place in
@@ -111,8 +111,8 @@ pub steps-out :
     → q ≡ p
     → i < length (row n)
     → is_some r ≡ false
-    → StepsOn (h - 1) (child n i) l p r q
-    → StepsOn h n l p (Some h) q
+    → StepsToNext (h - 1) (child n i) l p r q
+    → StepsToNext h n l p (Some h) q
 steps-out h l i (Some m) n p q b ei f same lt none s = absurd (cc)
 steps-out h l i None n p q b ei f same lt none s =
     let here : i ≡ slice_index q h = ei ∙ ap (λ z. slice_index z h) (sym same) in
@@ -129,8 +129,8 @@ pub ends-below :
     → IsFormed h n
     → length (row n) ≤ i
     → is_some r ≡ false
-    → StepsOn (h - 1) (child n i) l p r q
-    → StepsOn h n l p None q
+    → StepsToNext (h - 1) (child n i) l p r q
+    → StepsToNext h n l p None q
 ends-below h l i (Some m) n p q b f le none s = absurd (cc)
 ends-below h l i None n p q b f le none s =
     let xs : List ℕ = row n in let ks : List (List ℕ) = lists (h - 1) (children n) in
@@ -149,7 +149,7 @@ pub read-below :
 read-below h l i ix n p b f is = is ∙ sym (ap (slice_index (flat h n)) b.place ∙ child-read h n i (spot l (h - 1) (child n i) p) b.inner f b.here b.within)
 
 -- where a path goes in a node
-pub holds-row : (h l i : ℕ) (n : Node) (p : List ℕ) → h ≡ l → i ≡ slice_index p h → Holds l h n p → i < length (row n)
+pub holds-row : (h l i : ℕ) (n : Node) (p : List ℕ) → h ≡ l → i ≡ slice_index p h → ReachesIndex l h n p → i < length (row n)
 holds-row zero l i n p e ei w = rw ei (holds-leaf l 0 n p refl w)
 holds-row (suc h) l i n p e ei w = rw ei (holds-at l (suc h) n p (λ z. absurd (omega arith)) e w)
 
@@ -165,7 +165,7 @@ pub ends-here :
     → h ≤ l
     → i ≡ slice_index p h
     → IsFormed h n
-    → Holds l h n p
+    → ReachesIndex l h n p
     → EndsHere h l i n p
 ends-here {h = h} {l = l} {i = i} {n = n} {p = p} le ei f w =
     let e : h ≡ l = omega (arith, holds-level l h n p w) in
@@ -183,8 +183,8 @@ pub steps-below_any :
     → GoesBelow h l i n p
     → slice_index q h ≡ i
     → is_some r ≡ true
-    → StepsOn (h - 1) (child n i) l p r q
-    → StepsOn h n l p r q
+    → StepsToNext (h - 1) (child n i) l p r q
+    → StepsToNext h n l p r q
 steps-below_any h l i None n p q b same some s = absurd (cc)
 steps-below_any h l i (Some m) n p q b same some s = steps-below h l i m n p q b same s
 
@@ -192,17 +192,17 @@ steps-below_any h l i (Some m) n p q b same some s = steps-below h l i m n p q b
 pub record SteppedBelow (h l i ix : ℕ) (r : Option ℕ) (n : Node) (p q : List ℕ) : Type 0 where
   pub below : GoesBelow h l i n p
   pub index : ix ≡ slice_index (flat h n) (spot l h n p)
-  pub next : StepsOn (h - 1) (child n i) l p r q
+  pub next : StepsToNext (h - 1) (child n i) l p r q
 
 pub stepped-below :
     {h l i ix : ℕ} {r : Option ℕ} {n k : Node} {p q : List ℕ}
     → l < h
     → i ≡ slice_index p h
     → IsFormed h n
-    → Holds l h n p
+    → ReachesIndex l h n p
     → k ≡ get_or (children n) i k
     → ix ≡ slice_index (flat (h - 1) k) (spot l (h - 1) k p)
-    → StepsOn (h - 1) k l p r q
+    → StepsToNext (h - 1) k l p r q
     → SteppedBelow h l i ix r n p q
 stepped-below {h = h} {l = l} {i = i} {ix = ix} {r = r} {n = n} {k = k} {p = p} {q = q} lt ei f w is index next =
     let b = goes-below h l i n p lt ei f w in
@@ -210,7 +210,7 @@ stepped-below {h = h} {l = l} {i = i} {ix = ix} {r = r} {n = n} {k = k} {p = p} 
     record {
       below = b;
       index = read-below h l i ix n p b f (subst (λ z. ix ≡ slice_index (flat (h - 1) z) (spot l (h - 1) z p)) same index);
-      next = subst (λ z. StepsOn (h - 1) z l p r q) same next;
+      next = subst (λ z. StepsToNext (h - 1) z l p r q) same next;
     }
 
 pub none-is : (r : Option ℕ) → is_some r ≡ false → r ≡ None
@@ -245,7 +245,7 @@ same-places-inner :
     → SamePlaces h n m
 same-places-inner h n m ne fn fm rows long each = record { long = long; at = at }
   where
-    at : (l : ℕ) (p : List ℕ) → Holds l h n p → Holds l h m p × (spot l h m p ≡ spot l h n p)
+    at : (l : ℕ) (p : List ℕ) → ReachesIndex l h n p → ReachesIndex l h m p × (spot l h m p ≡ spot l h n p)
     at l p w =
         let i : ℕ = slice_index p h in
         let one = (formed-inner h n ne fn).inner.one_more in let other = (formed-inner h m ne fm).inner.one_more in
@@ -255,7 +255,7 @@ same-places-inner h n m ne fn fm rows long each = record { long = long; at = at 
         elim (cases_eq h l) [
           | inl e ↦
               (let lt : i < length (row n) = holds-at l h n p ne e w in
-              (subst (λ z. Holds z h m p) e (holds-here h m p (omega arith)), omega (arith, befores (omega arith), (each i (omega arith)).long, spot-at l h m p ne e, spot-at l h n p ne e)))
+              (subst (λ z. ReachesIndex z h m p) e (holds-here h m p (omega arith)), omega (arith, befores (omega arith), (each i (omega arith)).long, spot-at l h m p ne e, spot-at l h n p ne e)))
           | inr below ↦
               (let down = holds-below l h n p ne below w in
               let here = down.here in
@@ -278,7 +278,7 @@ put-inner :
     → i < length (children n)
     → length (row m) ≡ length (row n)
     → children m ≡ set (children n) i k
-    → room n ≤ room m
+    → child_room n ≤ child_room m
     → (LEAST ≤ length (row k)) × IsFormed (h - 1) k
     → SamePlaces (h - 1) (child n i) k
     → weave (row m) (lists (h - 1) (set (children n) i k)) ≡ set (weave (row n) (lists (h - 1) (children n)))
@@ -307,10 +307,10 @@ pub put-here :
     → h ≡ l
     → i ≡ slice_index p h
     → IsFormed h n
-    → Holds l h n p
+    → ReachesIndex l h n p
     → row m ≡ set (row n) i x
     → children m ≡ children n
-    → room n ≤ room m
+    → child_room n ≤ child_room m
     → IsPut h l n m p x
 put-here zero l i x n m p e ei f w er ek more =
     let leaf = formed-leaf 0 n refl f in let within = leaf.within in
@@ -324,7 +324,7 @@ put-here zero l i x n m p e ei f w er ek more =
         long = ap length (flat-leaf 0 m refl) ∙ rows ∙ sym (ap length (flat-leaf 0 n refl));
         at = λ k q v. (
             let low = holds-leaf k 0 n q refl v in let none = holds-level k 0 n q v in let e : 0 ≡ k = omega arith in
-            (subst (λ z. Holds z 0 m q) e (holds-here 0 m q (omega arith)), spot-leaf k 0 m q refl ∙ sym (spot-leaf k 0 n q refl)));
+            (subst (λ z. ReachesIndex z 0 m q) e (holds-here 0 m q (omega arith)), spot-leaf k 0 m q refl ∙ sym (spot-leaf k 0 n q refl)));
       };
     }
 put-here (suc h) l i x n m p e ei f w er ek more =
@@ -341,12 +341,12 @@ pub put-below :
     → l < h
     → i ≡ slice_index p h
     → IsFormed h n
-    → Holds l h n p
+    → ReachesIndex l h n p
     → g ≡ get_or (children n) i g
     → IsPut (h - 1) l g k p x
     → row m ≡ row n
     → children m ≡ set (children n) i k
-    → room n ≤ room m
+    → child_room n ≤ child_room m
     → IsPut h l n m p x
 put-below h l i x n g k m p low ei f w is_g put er ek more =
     let b = goes-below h l i n p low ei f w in
@@ -361,9 +361,9 @@ put-below h l i x n g k m p low ei f w is_g put er ek more =
     ∙ weave-set_below i (row n) ks (flat (h - 1) k) q x (omega (arith, b.here, length-map (children n) (λ k. flat (h - 1) k))) (lists-one_more h n b.inner f) (rw list b.within) (rw list was.items)
     ∙ ap (λ z. set (weave (row n) ks) z x) (sym b.place))
 
--- the way to the first index
-pub IsWay-first :
-    (h : ℕ) (n : Node) (w : Way)
+-- the cursor at the first index
+pub IsSpotCursor-first :
+    (h : ℕ) (n : Node) (w : SpotCursor)
     → IsFormed h n
     → 1 ≤ length (row n)
     → h < LEVELS
@@ -371,19 +371,19 @@ pub IsWay-first :
     → ((l : ℕ) → slice_index w.spot.path l ≡ 0)
     → w.spot.level ≡ 0
     → w.place ≡ 0
-    → IsWay h n w
-IsWay-first h n w f some low path zeros level place =
-    let first = first-way h n w.spot.path f some (λ m le. zeros m) in
+    → IsSpotCursor h n w
+IsSpotCursor-first h n w f some low path zeros level place =
+    let first = first-place h n w.spot.path f some (λ m le. zeros m) in
     record {
       path = path;
       within = omega arith;
-      holds = λ more. subst (λ l. Holds l h n w.spot.path) (sym level) first.holds;
+      holds = λ more. subst (λ l. ReachesIndex l h n w.spot.path) (sym level) first.holds;
       leads = λ more. ap (λ l. spot l h n w.spot.path) level ∙ first.place ∙ sym place;
     }
 
--- a way stays one where the tree changes indexes alone
-pub IsWay-same : (h : ℕ) (n m : Node) (w : Way) → SamePlaces h n m → IsWay h n w → IsWay h m w
-IsWay-same h n m w same is =
+-- a cursor stands where it stood, where the tree changes indexes alone
+pub IsSpotCursor-same : (h : ℕ) (n m : Node) (w : SpotCursor) → SamePlaces h n m → IsSpotCursor h n w → IsSpotCursor h m w
+IsSpotCursor-same h n m w same is =
     let within = is.within in let long = same.long in
     record {
       path = is.path;

@@ -2,11 +2,11 @@ use Rattle.std.proofs.Common.{refl}
 use Rattle.iddqd_order.specs.Entry.{entry_index, vacant_place}
 use Rattle.iddqd_order.proofs.IndexListLemmas.{Contains-at}
 use Rattle.iddqd_order.proofs.SearchLemmas.{none_at_place}
-use Rattle.iddqd_order.proofs.btree_table.table.MapBTreeTable.enter.Goals as goal
+use Rattle.iddqd_order.proofs.btree_table.table.MapBTreeTable.make_entry.Goals as goal
 
-pub returns-in-Ok-clause-entered : goal.returns-in-Ok-clause-entered
+pub returns-in-Ok-clause-made : goal.returns-in-Ok-clause-made
 unfolding entry_index
-returns-in-Ok-clause-entered g c =
+returns-in-Ok-clause-made g c =
     let s = c.in-Ok.ensures.searches in
     record {
       asked = s.asked;
@@ -17,9 +17,9 @@ returns-in-Ok-clause-entered g c =
       miss = λ answer rises. tt;
     }
 
-pub returns-in-Err-clause-entered : goal.returns-in-Err-clause-entered
+pub returns-in-Err-clause-made : goal.returns-in-Err-clause-made
 unfolding vacant_place
-returns-in-Err-clause-entered g c =
+returns-in-Err-clause-made g c =
     let s = c.in-Err.ensures.searches in
     record {
       asked = s.asked;
