@@ -1,4 +1,4 @@
--- For callers of look-ups in a hashed side: what an answer says of the items.
+-- For callers of look-ups in a hash table: what an answer says of the items.
 use Rattle.std.proofs.Common.{◌≡◌, ◌∙◌, ℕ, List, Bool, true, false, IsTrue, Option, Some, None, refl, sym, ap}
 use Rattle.std.specs.Cmp.{IsPartialEquivalence}
 use Rattle.std.specs.Ordering.{nat_cmp}
@@ -10,7 +10,7 @@ use Rattle.iddqd.specs.Store.{Store, get}
 use Rattle.iddqd_hash.specs.MapHashTable.{FindsWhere}
 use Rattle.iddqd_keys.specs.Scan.{IsHit, AnswersScan, passes_by}
 use Rattle.iddqd_keys.proofs.ScanLemmas.{AnswersScan-hit}
-use Rattle.iddqd_by_hash.specs.Hashed.{Hashing, hashing_of, IsLawful, StandsForOne, AsksAt, Finds, IsExact, LooksUp}
+use Rattle.iddqd_by_hash.specs.Hashed.{Hashing, hashing_of, IsLawful, StandsForOne, AsksAt, Finds, IsInSync, LooksUp}
 use Rattle.iddqd_by_hash.specs.HashedGroup.{passes}
 
 -- keys whose bounds keep their laws
@@ -66,11 +66,11 @@ module _ {T K : Type 0} (key_of : T → K) (s : Store T) where
   passes-asked test ix answer asked = rw (passes, asked.live) asked.is
 
   module _ (m : FinMap nat_cmp ℕ) (hash : ℕ) (test : K → Bool) where
-    -- where the side is exact and the query stands for one key, that is a scan
+    -- where the table is in sync and the query stands for one key, that is a scan
     pub AnswersScan-found :
         (hashing : Hashing K) (r : Option ℕ)
         → StandsForOne hashing hash test
-        → IsExact key_of hashing s m
+        → IsInSync key_of hashing s m
         → Finds s m hash (passes_by key_of test) r
         → AnswersScan s (passes_by key_of test) r
     AnswersScan-found hashing None one o misses = λ ix hit.

@@ -2,22 +2,18 @@
 use Rattle.std.proofs.Common.{◌≡◌, ◌∙◌, ◌↔◌, ⊎_elim, ℕ, Bool, true, false, cond, List, [], ◌∷◌, filter, nat_eq, Option, Some, None, IfSome, length, not, ◌≤◌, arith, refl, sym, ap, subst, Contains}
 use Rattle.std.specs.Iterator.{at_most, UpTo}
 use Rattle.std.specs.List.{IsDistinct}
-use Rattle.std.specs.List.Sorted.{IsPermutation}
-use Rattle.std.specs.Ordering.{nat_cmp, eq_by_cmp, is_eq}
+use Rattle.std.specs.Ordering.{nat_cmp}
 use Rattle.std.specs.FinMap.{FinMap}
-use Rattle.std.proofs.lemmas.Cmp.{nat_cmp_total, tied_itself}
 use Rattle.std.proofs.lemmas.List.Filters.{length-filter_both}
 use Rattle.std.proofs.lemmas.List.Kept.{AllPairs-filter}
-use Rattle.std.proofs.lemmas.List.Sorted.{IsPermutation-sym, Contains-permutation}
-use Rattle.std.proofs.lemmas.Map.Keys.{IsDistinct-from_apart, apart_from_distinct, IsDistinct-IsPermutation}
-use Rattle.std.specs.Cmp.{eq_by_cmp_equiv}
+use Rattle.std.proofs.lemmas.Map.Keys.{IsDistinct-from_apart, apart_from_distinct}
 use Rattle.iddqd.specs.Store.{Store}
-use Rattle.iddqd.proofs.StoreLemmas.{contains_head, contains_tail, contains_cases, contains_none, differs}
-use Rattle.iddqd_hash.specs.MapHashTable.{indexes_under}
-use Rattle.iddqd_hash.proofs.FiledLemmas.{distinct_under, filed_from_under, under_from_filed, under_all_filed}
+use Rattle.iddqd.proofs.StoreLemmas.{contains_head, contains_tail, contains_cases, contains_none}
+use Rattle.iddqd_hash.proofs.MemberLemmas.{filed_at}
 use Rattle.iddqd_keys.specs.Scan.{IsLive, passes_by}
 use Rattle.iddqd_by_hash.specs.Hashed.{AreLive, IsHitUnder}
 use Rattle.iddqd_by_hash.specs.HashedGroup.{passes, hits_among, IsGroupOf}
+use Rattle.iddqd_by_hash.specs.Links.{AreUnder}
 use Rattle.iddqd_by_hash.proofs.FindLemmas.{hit_from_passes, passes_from_hit}
 
 -- the members of a list that pass a test
@@ -57,31 +53,23 @@ pub bounds-fewer :
 bounds-fewer None more fewer less bound = tt
 bounds-fewer (Some most) more fewer less bound = (bound.0, omega (arith, less, bound.1))
 
-untied_differ : (a b : ℕ) → eq_by_cmp nat_cmp a b ≡ false → nat_eq a b ≡ false
-untied_differ a b apart =
-    differs a b (λ same. let tied : eq_by_cmp nat_cmp a b ≡ true = subst (λ c. eq_by_cmp nat_cmp a c ≡ true) same (ap is_eq (tied_itself nat_cmp_total a)) in let never : true ≡ false = sym tied ∙ apart in cc)
-
-distinct-kept :
-    (test : ℕ → Bool) (xs : List ℕ)
-    → IsDistinct (eq_by_cmp nat_cmp) xs
-    → IsDistinct nat_eq (filter test xs)
+distinct-kept : (test : ℕ → Bool) (xs : List ℕ) → IsDistinct nat_eq xs → IsDistinct nat_eq (filter test xs)
 distinct-kept test xs apart =
-    IsDistinct-from_apart nat_eq (filter test xs) (AllPairs-filter (λ a b. nat_eq a b ≡ false) test xs (λ i j d less within. untied_differ _ _ (apart_from_distinct (eq_by_cmp nat_cmp) xs i j d apart less within)))
+    IsDistinct-from_apart nat_eq (filter test xs) (AllPairs-filter (λ a b. nat_eq a b ≡ false) test xs (λ i j d less within. apart_from_distinct nat_eq xs i j d apart less within))
 
 -- the indexes under a hash are live where all that are filed are
 pub live_under :
     {T : Type 0} (s : Store T) (m : FinMap nat_cmp ℕ) (hash : ℕ) (xs : List ℕ)
-    → IsPermutation (indexes_under hash m) xs
+    → AreUnder m hash xs
     → AreLive s m
     → (ix : ℕ)
     → Contains xs ix
     → IsLive s ix
-live_under s m hash xs moved live ix here =
-    under_all_filed m hash (IsLive s) live ix (Contains-permutation _ _ ix (IsPermutation-sym _ _ moved) here)
+live_under s m hash xs under live ix here = live ix (filed_at _ hash ((under.each ix).0 here))
 
 module _
     {T K : Type 0} (key_of : T → K) (s : Store T) (m : FinMap nat_cmp ℕ) (hash : ℕ) (test : K → Bool) (xs : List ℕ)
-    (moved : IsPermutation (indexes_under hash m) xs)
+    (under : AreUnder m hash xs)
   where
     each_hit :
         (ix : ℕ)
@@ -91,16 +79,16 @@ module _
           let (there, passed) = was_there (passes s (passes_by key_of test)) xs ix here in
           record {
             hit = hit_from_passes s (passes_by key_of test) ix passed;
-            filed = filed_from_under m hash ix (Contains-permutation _ _ ix (IsPermutation-sym _ _ moved) there);
+            filed = (under.each ix).0 there;
           },
       λ found.
-          kept (passes s (passes_by key_of test)) xs ix (Contains-permutation _ _ ix moved (under_from_filed m hash ix found.filed)) (passes_from_hit s (passes_by key_of test) ix found.hit),
+          kept (passes s (passes_by key_of test)) xs ix ((under.each ix).1 found.filed) (passes_from_hit s (passes_by key_of test) ix found.hit),
     )
 
     pub IsGroupOf-under : IsGroupOf key_of s m hash test (hits_among s (passes_by key_of test) xs)
     IsGroupOf-under =
         record {
-          once = distinct-kept _ xs (IsDistinct-IsPermutation (eq_by_cmp nat_cmp) ((eq_by_cmp_equiv nat_cmp_total).symm) _ _ moved (distinct_under m hash));
+          once = distinct-kept _ xs under.once;
           each = each_hit;
           as_scan = λ hashing hashed placed ix. (
             λ here. ((each_hit ix).0 here).hit,

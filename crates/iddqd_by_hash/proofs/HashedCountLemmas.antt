@@ -38,7 +38,8 @@ below_apart x (e ∷ es) h =
     let parts = both_hold _ _ h in
     (less_differs x e.0 parts.0, below_apart x es parts.1)
 
-sorted_apart : (es : List (ℕ × ℕ)) → Holds (is_sorted nat_cmp es) → IsDistinct nat_eq (map (λ (e : ℕ × ℕ). e.0) es)
+-- the keys of a map differ
+pub sorted_apart : (es : List (ℕ × ℕ)) → Holds (is_sorted nat_cmp es) → IsDistinct nat_eq (map (λ (e : ℕ × ℕ). e.0) es)
 unfolding IsDistinct
 sorted_apart [] h = tt
 sorted_apart (e ∷ es) h =
@@ -46,7 +47,7 @@ sorted_apart (e ∷ es) h =
     IsDistinct-cons nat_eq e.0 (map (λ (e : ℕ × ℕ). e.0) es) (below_apart e.0 es parts.0) (sorted_apart es parts.1)
 
 -- an index is listed exactly where it has a hash
-listed_filed : (m : FinMap nat_cmp ℕ) (ix : ℕ) → Contains (indexes_of m) ix ↔ IsSome (finite.get m ix)
+pub listed_filed : (m : FinMap nat_cmp ℕ) (ix : ℕ) → Contains (indexes_of m) ix ↔ IsSome (finite.get m ix)
 listed_filed m ix =
     let is = ap is_some (finite.get-entries m ix) ∙ is_some-find nat_cmp ix (finite.entries m) in (
       λ here. is ∙ list_any-from_Contains (eq_by_cmp_equiv nat_cmp_total) ix _ here,

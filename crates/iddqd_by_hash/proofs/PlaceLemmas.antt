@@ -1,4 +1,4 @@
--- For callers: each step of a store and of a map keeps a hashed side in place, and exact.
+-- For callers: each step of a store and of a map keeps a hash table in place, and in sync.
 use Rattle.std.proofs.Common.{◌≡◌, ◌∙◌, inl, inr, ℕ, Bool, true, Some, None, refl, sym, ap, subst}
 use Rattle.std.specs.Ordering.{nat_cmp}
 use Rattle.std.specs.FinMap as finite
@@ -10,8 +10,8 @@ use Rattle.iddqd.proofs.CompactionLemmas.{live-compacted}
 use Rattle.iddqd_hash.specs.MapHashTable.{Renames}
 use Rattle.iddqd_hash.proofs.MemberLemmas.{get-insert_at, get-insert_other, get-remove_other}
 use Rattle.iddqd_keys.specs.Scan.{HasNoHit, passes_by}
-use Rattle.iddqd_keys.specs.Side.{ChangesAt}
-use Rattle.iddqd_by_hash.specs.Hashed.{Hashing, IsLawful, Finds, IsInPlace, IsExact, Keeps}
+use Rattle.iddqd_keys.specs.KeyIndex.{ChangesAt}
+use Rattle.iddqd_by_hash.specs.Hashed.{Hashing, IsLawful, Finds, IsInPlace, IsInSync, Keeps}
 use Rattle.iddqd_keys.proofs.ScanLemmas.{live_before, live_cases, rebound_cases, passes_unless, AreApart-bare, AreApart-removed, AreApart-inserted, AreApart-compacted, AreApart-rebound}
 use Rattle.iddqd_by_hash.proofs.FindLemmas.{AnswersScan-found, StandsForOne-key}
 
@@ -24,8 +24,8 @@ module _ {T K : Type 0} (key_of : T → K) (hashing : Hashing K) where
 
   module _ (s : Store T) (m : FinMap nat_cmp ℕ) where
     -- where nothing is live
-    pub IsExact-bare : live_count s ≡ 0 → IsExact key_of hashing s m
-    IsExact-bare none = record {
+    pub IsInSync-bare : live_count s ≡ 0 → IsInSync key_of hashing s m
+    IsInSync-bare none = record {
       placed = λ ix item is. absurd (none_live s ix item none is);
       apart = AreApart-bare _ s none;
     }
@@ -60,14 +60,14 @@ module _ {T K : Type 0} (key_of : T → K) (hashing : Hashing K) where
         ]
 
     -- an item whose key none has
-    pub IsExact-inserted :
+    pub IsInSync-inserted :
         (item : T)
         → IsValid s
         → IsLawful hashing
         → HasNoHit s (has_key_of item)
-        → IsExact key_of hashing s m
-        → IsExact key_of hashing (inserted s item) (finite.insert m (next_index s) (hash_at item))
-    IsExact-inserted item valid lawful none o = record {
+        → IsInSync key_of hashing s m
+        → IsInSync key_of hashing (inserted s item) (finite.insert m (next_index s) (hash_at item))
+    IsInSync-inserted item valid lawful none o = record {
       placed = IsInPlace-inserted item valid o.placed;
       apart = AreApart-inserted _ s item valid (λ x y. lawful.equivalence.symm (key_of x) (key_of y)) none o.apart;
     }
@@ -83,7 +83,7 @@ module _ {T K : Type 0} (key_of : T → K) (hashing : Hashing K) where
       placed = IsInPlace-inserted item valid;
       exact = λ o.
           let one = StandsForOne-key hashing (key_of item) _ lawful refl in
-          IsExact-inserted item valid lawful (AnswersScan-found key_of s m _ _ hashing None one o missed) o;
+          IsInSync-inserted item valid lawful (AnswersScan-found key_of s m _ _ hashing None one o missed) o;
     }
 
     pub IsInPlace-compacted :
@@ -127,10 +127,10 @@ module _ {T K : Type 0} (key_of : T → K) (hashing : Hashing K) where
             };
           }
 
-  pub IsExact-empty : (limit : ℕ) → IsExact key_of hashing (empty_within limit) finite.empty
-  IsExact-empty limit = IsExact-bare (empty_within limit) finite.empty refl
+  pub IsInSync-empty : (limit : ℕ) → IsInSync key_of hashing (empty_within limit) finite.empty
+  IsInSync-empty limit = IsInSync-bare (empty_within limit) finite.empty refl
 
   pub Keeps-cleared : (s : Store T) (m : FinMap nat_cmp ℕ) → Keeps key_of hashing s m (cleared s) finite.empty
   Keeps-cleared s m =
-      let o = IsExact-bare (cleared s) finite.empty refl in
+      let o = IsInSync-bare (cleared s) finite.empty refl in
       record { placed = λ _. o.placed; exact = λ _. o }

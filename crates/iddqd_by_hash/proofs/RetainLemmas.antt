@@ -321,7 +321,10 @@ contains_mapped f (y ∷ xs) x here =
       | inr there ↦ contains_tail (f y) (f x) (map f xs) (contains_mapped f xs x there)
     ]
 
-from_mapped : {X Y : Type 0} (f : X → Y) (xs : List X) (y : Y) → Contains (map f xs) y → (x : X) × Contains xs x × (f x ≡ y)
+from_mapped :
+    {X Y : Type 0} (f : X → Y) (xs : List X) (y : Y)
+    → Contains (map f xs) y
+    → (x : X) × Contains xs x × (f x ≡ y)
 from_mapped f [] y here = absurd (contains_none y here)
 from_mapped f (x ∷ xs) y here =
     elim (contains_cases (f x) y (map f xs) here) [

@@ -9,7 +9,7 @@ use Rattle.std.specs.declared.hash.BuildHasher as builder
 use Rattle.iddqd.specs.MapHash.{hash_one}
 use Rattle.iddqd.specs.Store.{Store, get}
 use Rattle.iddqd_keys.specs.Scan.{IsLive, IsHit, AnswersScan, passes_by}
-use Rattle.iddqd_keys.specs.Side.{HasExactly, IsExactOver, KeepsOver}
+use Rattle.iddqd_keys.specs.KeyIndex.{HasExactly, IsInSyncOver, KeepsOver}
 
 -- when two keys are equal, and the hash of a key
 pub record Hashing (K : Type 0) : Type 0 where
@@ -72,19 +72,19 @@ module _ {T K : Type 0} (key_of : T → K) where
         (ix : ℕ) (item : T) → get s ix ≡ Some item → finite.get hashes ix ≡ Some (hashing.hash_of (key_of item))
 
     -- each live index is in place, and no two items share a key
-    abbrev pub IsExact : Store T → FinMap nat_cmp ℕ → Type 0
-    IsExact s hashes = IsExactOver key_of hashing.equal (IsInPlace s hashes) s
+    abbrev pub IsInSync : Store T → FinMap nat_cmp ℕ → Type 0
+    IsInSync s hashes = IsInSyncOver key_of hashing.equal (IsInPlace s hashes) s
 
     -- what a call keeps that changes no key of a live index
     abbrev pub Keeps : Store T → FinMap nat_cmp ℕ → Store T → FinMap nat_cmp ℕ → Type 0
     Keeps old old_hashes new new_hashes =
         KeepsOver key_of hashing.equal (IsInPlace old old_hashes) old (IsInPlace new new_hashes) new
 
-  -- What a look-up under a hash by a test of keys answers: what it may in any state; and where the side is exact, and
-  -- the query stands for one key, what a scan answers.
+  -- What a look-up under a hash by a test of keys answers: what it may in any state; and where the table is in sync,
+  -- and the query stands for one key, what a scan answers.
   pub record LooksUp (s : Store T) (hashes : FinMap nat_cmp ℕ) (hash : ℕ) (test : K → Bool) (result : Option ℕ)
       : Type 0 where
     pub found : Finds s hashes hash (passes_by key_of test) result
     pub as_scan :
-        (hashing : Hashing K) → StandsForOne hashing hash test → IsExact hashing s hashes
+        (hashing : Hashing K) → StandsForOne hashing hash test → IsInSync hashing s hashes
         → AnswersScan s (passes_by key_of test) result

@@ -1,16 +1,17 @@
 //! The items whose keys a query is equivalent to: a walk over their indexes, where several items may have one key.
+//!
+//! A linked table has the indexes under each hash as one chain. So the walk reads no index under another hash.
 ghost use Rattle.std.specs.Prelude.{◌≡◌, ℕ, Contains, IfSome, IsSome, length};
 ghost use Rattle.std.specs.Iterator.{YieldsFirst, item_count, at_most, UpTo};
 ghost use Rattle.std.specs.Iterator.SizeHint.{IsWithinCount};
-ghost use Rattle.iddqd_hash.specs.{filed};
 ghost use Rattle.iddqd_keys.specs.Scan.{IsLive, passes_by};
 ghost use Rattle.iddqd_by_hash.specs.Hashed.{AreLive};
 ghost use Rattle.iddqd_by_hash.specs.HashedGroup.{FindsFirst, IsGroupOf};
 
+use crate::linked_table::{LinkedIndexes, LinkedTable};
 use iddqd::item_index::ItemIndex;
 use iddqd::item_set::ItemSet;
 use iddqd::map_hash::{Equivalent, MapHash};
-use iddqd_hash::hash_table::{IndexesUnder, MapHashTable};
 use iddqd_keys::key_of::{KeyOf, key_at};
 use std::fmt;
 use std::iter::FusedIterator;
@@ -22,7 +23,7 @@ use std::marker::{Model, PhantomData};
 /// It takes no memory, and reads the keys of indexes under that hash alone, of each once.
 #[derive(Drop)]
 pub struct Group<'a, T, E: KeyOf<T>, Q: Equivalent<E::Key>> {
-    indexes: IndexesUnder<'a>,
+    indexes: LinkedIndexes<'a>,
     items: &'a ItemSet<T>,
     query: Q,
     key: PhantomData<E>,
@@ -44,7 +45,7 @@ impl<'a, T, E: KeyOf<T>, Q: Equivalent<E::Key>> Model for Group<'a, T, E, Q> {
 ///
 /// It reads no key. The walk reads the keys of indexes under that hash alone, of each once.
 pub fn group_of<'a, T, E, Q>(
-    table: &'a MapHashTable,
+    table: &'a LinkedTable,
     items: &'a ItemSet<T>,
     hash: MapHash,
     query: Q,
@@ -52,8 +53,8 @@ pub fn group_of<'a, T, E, Q>(
 where
     E: KeyOf<T>,
     Q: Equivalent<E::Key>,
-    requires { AreLive items.now.store (filed table.now) }
-    ensures { IsGroupOf E.key_of items.now.store (filed table.now) hash (Q.equivalent query) result }
+    requires { AreLive items.now.store table.now.filed }
+    ensures { IsGroupOf E.key_of items.now.store table.now.filed hash (Q.equivalent query) result }
 {
     Group {
         indexes: table.indexes_under(hash),
@@ -94,7 +95,7 @@ impl<'a, T, E: KeyOf<T>, Q: Equivalent<E::Key>> fmt::Debug for Group<'a, T, E, Q
 
 // The first of some indexes whose item's key the query is equivalent to. It leaves those behind it.
 fn next_hit<T, E, Q>(
-    indexes: &mut IndexesUnder<'_>,
+    indexes: &mut LinkedIndexes<'_>,
     items: &ItemSet<T>,
     query: &Q,
 ) -> Option<ItemIndex>

@@ -8,3 +8,4 @@ mod borrowed_key_query;
 pub mod hashed;
 pub mod hashed_group;
 pub mod hashed_move;
+pub mod linked_table;

@@ -93,6 +93,7 @@ module _ {T : Type 0} (is_clone : T → T → Type 0) where
           let was = was_cloned ix y live in
           (was.item, was.live, kept was.item y was.cloned);
       items = λ ix x live. by ix x live (clone_at s.items copy.items ix is.items);
+      as_many = sym (length_all_zip _ s.items copy.items is.items);
     }
       where
         by :

@@ -1,34 +1,71 @@
 -- Each step of a store and of a hash table that files it by a key, which several items may have, keeps it so.
-use Rattle.std.proofs.Common.{◌≡◌, ◌≢◌, ◌∙◌, ◌⊎◌, inl, inr, ◌↔◌, ℕ, Bool, true, false, not, List, Option, Some, None, IsSome, Ok, refl, sym, ap}
+use Rattle.std.proofs.Common.{◌≡◌, ◌≢◌, ◌∙◌, ◌⊎◌, inl, inr, ◌↔◌, ◌<◌, ◌≤◌, ◌+◌, ℕ, Bool, not, List, [], ◌∷◌, length, max, count_by, Option, Some, None, is_some, IsSome, Result, Ok, Err, OnOk, refl, sym, ap, subst, arith}
 use Rattle.std.proofs.lemmas.Bool.{cases_eq}
+use Rattle.std.proofs.lemmas.List.{length-set, length_push}
 use Rattle.std.specs.Ordering.{nat_cmp}
 use Rattle.std.specs.FinMap as finite
 use Rattle.std.specs.FinMap.{FinMap}
-use Rattle.iddqd.specs.Store.{Store, IsValid, empty_within, get, next_index, inserted, removed, rebound}
+use Rattle.iddqd.specs.Store.{Store, IsValid, empty_within, get, live_count, slot_count, first_or, filled, next_index, inserted, removed, rebound}
 use Rattle.iddqd.specs.Compaction.{compacted, rank}
+use Rattle.iddqd.proofs.CompactionLemmas.{slot_count-compacted}
 use Rattle.iddqd.proofs.LiveLemmas.{live_at}
+use Rattle.iddqd.proofs.StoreLemmas.{contains_head}
 use Rattle.iddqd_hash.specs.MapHashTable.{Renames}
 use Rattle.iddqd_hash.proofs.MemberLemmas.{get-insert_at, get-insert_other, get-remove_other}
-use Rattle.iddqd_keys.specs.Scan.{IsLive, HasNoHit, passes_by}
-use Rattle.iddqd_by_hash.specs.Hashed.{Hashing, IsLawful, StandsForOne, IsInPlace, Finds}
+use Rattle.iddqd_keys.specs.Scan.{IsLive, passes_by}
+use Rattle.iddqd_by_hash.specs.Hashed.{Hashing, Holds, IsLawful, StandsForOne, IsInPlace}
 use Rattle.iddqd_by_hash.specs.HashedGroup.{IsGroupOf}
 use Rattle.iddqd_by_hash.specs.HashedMove.{moved}
 use Rattle.iddqd_by_hash.specs.declared.hashed_move.Move.{Move}
 use Rattle.iddqd_by_hash.specs.declared.hashed_move.Move.TheVariants.{Stays, To}
+use Rattle.iddqd_by_hash.specs.LinkedTable.{Linked, KeepsLinks}
+use Rattle.iddqd_by_hash.proofs.HashedCountLemmas.{len-held}
 use Rattle.iddqd_by_hash.proofs.HoldsLemmas.{Holds-empty, Holds-removed, Holds-inserted, Holds-compacted}
-use Rattle.iddqd_by_hash.proofs.PlaceLemmas.{IsExact-empty, IsInPlace-inserted, Keeps-removed, Keeps-compacted}
+use Rattle.iddqd_by_hash.proofs.PlaceLemmas.{IsInSync-empty, IsInPlace-inserted, Keeps-removed, Keeps-compacted}
 use Rattle.iddqd_keys.proofs.ScanLemmas.{rebound_cases, live_rebound}
-use Rattle.iddqd_map.specs.ByHashMulti.{Files, IsMoveFor}
+use Rattle.iddqd_map.specs.ByHashMulti.{Files, FilesWithin, HasSameIndexes, IsMoveFor}
 use Rattle.iddqd_map.specs.ByHashMultiLaws.{Files-rebound_same}
-use Rattle.iddqd_map.specs.Groups.{AreHits, FindsSome}
+use Rattle.iddqd_map.specs.Groups.{AreHits}
 use Rattle.iddqd_map.specs.Hashed.{moves}
 use Rattle.iddqd_map.specs.KeyIndex.{PlansMove}
 use Rattle.iddqd_map.specs.Map.{shares}
 use Rattle.iddqd_map.specs.NoConflict.{never_alike, never_hit}
 
+module _ {T : Type 0} where
+  -- a next index past all slots is the number of items
+  next_counted :
+      (items : List (Option T)) (free : List ℕ) (limit : ℕ)
+      → IsValid (record { items = items; free = free; limit = limit })
+      → length items ≤ first_or free (length items)
+      → first_or free (length items) ≡ count_by is_some items
+  next_counted items [] limit valid past = (let counted = valid.counted in omega (arith, counted))
+  next_counted items (ix ∷ rest) limit valid past =
+      let inside = ((valid.vacant ix).0 (contains_head ix rest)).0 in
+      omega (arith, inside, past)
+
+  -- an insert adds no slot but that of the next index
+  slots_filled :
+      (items : List (Option T)) (free : List ℕ) (item : T)
+      → length (filled free items item) ≤ max (length items) (first_or free (length items) + 1)
+  slots_filled items [] item = (let long = length_push items (Some item) in omega (arith, long))
+  slots_filled items (ix ∷ rest) item = (let long = length-set items ix (Some item) in omega (arith, long))
+
+  -- where there is memory for one index more than there are items, the table has room for one
+  pub room_beside :
+      {A E : Type 0} (r : Result A E) (s : Store T) (x y : Linked)
+      → Holds s x.filed
+      → HasSameIndexes s x y
+      → OnOk r (live_count s + 1 ≤ y.capacity)
+      → OnOk r (finite.len y.filed < y.capacity)
+  room_beside (Ok done) s x y held same roomy =
+      let counted = len-held s x.filed held in
+      let kept = ap finite.len same.filed in
+      omega (arith, counted, kept, roomy)
+  room_beside (Err error) s x y held same roomy = tt
+
 module _ {T K : Type 0} (key_of : T → K) (hashing : Hashing K) where
   pub Files-empty : (limit : ℕ) → Files key_of hashing (empty_within limit) finite.empty
-  Files-empty limit = record { held = Holds-empty T limit; placed = (IsExact-empty key_of hashing limit).placed }
+  Files-empty limit = record { held = Holds-empty T limit; placed = (IsInSync-empty key_of hashing limit).placed }
 
   module _ (s : Store T) (m : FinMap nat_cmp ℕ) (o : Files key_of hashing s m) where
     pub Files-removed :
@@ -54,16 +91,6 @@ module _ {T K : Type 0} (key_of : T → K) (hashing : Hashing K) where
       held = Holds-compacted s m o.held new named;
       placed = (Keeps-compacted key_of hashing s m new named).placed o.placed;
     }
-
-    -- what a look-up finds in any state is some item that passes, and it misses none that it should find
-    pub FindsSome-found :
-        (hash : ℕ) (test : K → Bool) (r : Option ℕ)
-        → StandsForOne hashing hash test
-        → Finds s m hash (passes_by key_of test) r
-        → FindsSome s (passes_by key_of test) r
-    FindsSome-found hash test None one misses = λ ix hit.
-        misses ix (record { hit = hit; filed = o.placed ix hit.0 hit.1 ∙ ap Some (one.hashed (key_of hit.0) hit.2) })
-    FindsSome-found hash test (Some ix) one found = found.hit
 
     -- the indexes of a group under the hash of its key are exactly the hits
     pub AreHits-group :
@@ -110,6 +137,88 @@ module _ {T K : Type 0} (key_of : T → K) (hashing : Hashing K) where
           let one : y ≡ was = (let e : Some y ≡ Some was = sym is ∙ live in cc) in
           Files-rebound_same key_of hashing s m lawful o ix item was live (rw one at alike)
       Files-rebound lawful (To hash) planned = Files-moved hash planned.1
+
+  -- the same of a table whose links reach over all slots
+  pub FilesWithin-empty :
+      (limit : ℕ) (x : Linked)
+      → x.filed ≡ finite.empty
+      → FilesWithin key_of hashing (empty_within limit) x
+  FilesWithin-empty limit x none = record {
+    files = subst (Files key_of hashing (empty_within limit)) (sym none) (Files-empty limit);
+    linked = omega arith;
+  }
+
+  module _ (s : Store T) (x : Linked) (o : FilesWithin key_of hashing s x) where
+    -- a new index is below the number of slots that have a link, or is the number of indexes
+    pub next_in_turn : IsValid s → x.slots ≤ next_index s → next_index s ≡ finite.len x.filed
+    next_in_turn valid past =
+        let within = o.linked in
+        let beyond : slot_count s ≤ next_index s = omega (arith, within, past) in
+        next_counted s.items s.free s.limit valid beyond ∙ sym (len-held s x.filed o.files.held)
+
+    module _ (y : Linked) where
+      pub FilesWithin-removed :
+          (ix : ℕ) (item : T)
+          → get s ix ≡ Some item
+          → y.filed ≡ finite.remove x.filed ix
+          → KeepsLinks x y
+          → FilesWithin key_of hashing (removed s ix) y
+      FilesWithin-removed ix item live same kept = record {
+        files =
+            subst (Files key_of hashing (removed s ix)) (sym same) (Files-removed s x.filed o.files ix item live);
+        linked =
+            (let long = length-set s.items ix None in
+            let stays = kept.slots_stay in
+            let within = o.linked in
+            omega (arith, long, stays, within));
+      }
+
+      pub FilesWithin-inserted :
+          (item : T)
+          → IsValid s
+          → y.filed ≡ finite.insert x.filed (next_index s) (hashing.hash_of (key_of item))
+          → y.slots ≡ max x.slots (next_index s + 1)
+          → FilesWithin key_of hashing (inserted s item) y
+      FilesWithin-inserted item valid same more = record {
+        files =
+            subst (Files key_of hashing (inserted s item)) (sym same) (Files-inserted s x.filed o.files item valid);
+        linked = (let long = slots_filled s.items s.free item in let within = o.linked in omega (arith, long, more, within));
+      }
+
+      pub FilesWithin-compacted :
+          IsValid s
+          → Renames (rank s) x.filed y.filed
+          → KeepsLinks x y
+          → FilesWithin key_of hashing (compacted s) y
+      FilesWithin-compacted valid named kept = record {
+        files = Files-compacted s x.filed o.files y.filed named;
+        linked =
+            (let long = slot_count-compacted s in
+            let counted = valid.counted in
+            let stays = kept.slots_stay in
+            let within = o.linked in
+            omega (arith, long, counted, stays, within));
+      }
+
+      pub FilesWithin-rebound :
+          (ix : ℕ) (item was : T)
+          → get s ix ≡ Some was
+          → IsLawful hashing
+          → (plan : Move)
+          → IsMoveFor key_of hashing s ix item plan
+          → y.filed ≡ moved x.filed ix plan
+          → KeepsLinks x y
+          → FilesWithin key_of hashing (rebound s ix item) y
+      FilesWithin-rebound ix item was live lawful plan planned same kept = record {
+        files =
+            subst (Files key_of hashing (rebound s ix item)) (sym same)
+            (Files-rebound s x.filed o.files ix item was live lawful plan planned);
+        linked =
+            (let long = length-set s.items ix (Some item) in
+            let stays = kept.slots_stay in
+            let within = o.linked in
+            omega (arith, long, stays, within));
+      }
 
   -- the plan of a move, where no item conflicts
   pub PlansMove-free :

@@ -19,7 +19,7 @@ use Rattle.iddqd_map.specs.Indexing.{Indexes, shares_key, Plans}
 use Rattle.iddqd_by_hash.specs.declared.hashed_move.Move.{Move}
 use Rattle.iddqd_by_hash.specs.declared.hashed_move.Move.TheVariants.{Stays, To}
 use Rattle.iddqd_by_hash.proofs.HoldsLemmas.{Holds-empty, Holds-cleared, Holds-removed, Holds-inserted, Holds-compacted, Holds-rebound}
-use Rattle.iddqd_by_hash.proofs.PlaceLemmas.{IsExact-empty, IsExact-inserted, Keeps-cleared, Keeps-removed, Keeps-compacted, Keeps-rebound}
+use Rattle.iddqd_by_hash.proofs.PlaceLemmas.{IsInSync-empty, IsInSync-inserted, Keeps-cleared, Keeps-removed, Keeps-compacted, Keeps-rebound}
 use Rattle.iddqd_keys.proofs.ScanLemmas.{rebound_cases}
 use Rattle.iddqd_map.proofs.FilesLemmas.{Files-moved}
 
@@ -37,7 +37,7 @@ StandsForOne-query equal hash_input b h state input test same_hash same_key = re
 
 module _ {T K : Type 0} (key_of : T → K) (hashing : Hashing K) where
   pub Indexes-empty : (limit : ℕ) → Indexes key_of hashing (empty_within limit) finite.empty
-  Indexes-empty limit = record { held = Holds-empty T limit; exact = IsExact-empty key_of hashing limit }
+  Indexes-empty limit = record { held = Holds-empty T limit; exact = IsInSync-empty key_of hashing limit }
 
   module _ (s : Store T) (m : FinMap nat_cmp ℕ) (o : Indexes key_of hashing s m) where
     pub Indexes-cleared : Indexes key_of hashing (cleared s) finite.empty
@@ -60,7 +60,7 @@ module _ {T K : Type 0} (key_of : T → K) (hashing : Hashing K) where
         → Indexes key_of hashing (inserted s item) (finite.insert m (next_index s) (hashing.hash_of (key_of item)))
     Indexes-inserted item valid lawful none = record {
       held = Holds-inserted s m o.held item (hashing.hash_of (key_of item)) valid;
-      exact = IsExact-inserted key_of hashing s m item valid lawful none o.exact;
+      exact = IsInSync-inserted key_of hashing s m item valid lawful none o.exact;
     }
 
     pub Indexes-compacted : (new : FinMap nat_cmp ℕ) → Renames (rank s) m new → Indexes key_of hashing (compacted s) new

@@ -14,7 +14,7 @@ use Rattle.iddqd_map.specs.Map.{MapState, MapMemory}
 use Rattle.iddqd_map.specs.Memory.{MakesRoom}
 use Rattle.iddqd_map.specs.Calls.{InsertsAt, OverwritesAt}
 use Rattle.iddqd_map.specs.KeyIndex.{IsNextReported}
-use Rattle.iddqd_keys.specs.Removals.{IsRising, padded, removed_all}
+use Rattle.iddqd_keys.specs.Removals.{IsIncreasing, padded, removed_all}
 use Rattle.iddqd_map.specs.Overwrite.{TakesAll}
 
 -- a rising list has no more members than a list that has them all
@@ -56,7 +56,7 @@ module _ where
         | inr behind ↦ contains_tail y z (without x rest) (ih behind)
       ]
 
-  pub rising_fits : (xs ys : List ℕ) → IsRising xs → ((x : ℕ) → Contains xs x → Contains ys x) → length xs ≤ length ys
+  pub rising_fits : (xs ys : List ℕ) → IsIncreasing xs → ((x : ℕ) → Contains xs x → Contains ys x) → length xs ≤ length ys
   rising_fits [] ys rising among = omega arith
   rising_fits (x ∷ rest) ys rising among =
       let fits = rising_fits rest (without x ys) rising.1 (λ z here.
@@ -84,14 +84,14 @@ push_adds : (l : List ℕ) (j : ℕ) → Contains (l ++ j ∷ []) j
 push_adds [] j = contains_head j []
 push_adds (x ∷ rest) j = contains_tail x j (rest ++ j ∷ []) (push_adds rest j)
 
-IsRising-push : (l : List ℕ) (j : ℕ) → IsRising l → ((ix : ℕ) → Contains l ix → ix < j) → IsRising (l ++ j ∷ [])
-IsRising-push [] j rising below = (λ y here. absurd (contains_none y here), tt)
-IsRising-push (x ∷ rest) j rising below = (
+IsIncreasing-push : (l : List ℕ) (j : ℕ) → IsIncreasing l → ((ix : ℕ) → Contains l ix → ix < j) → IsIncreasing (l ++ j ∷ [])
+IsIncreasing-push [] j rising below = (λ y here. absurd (contains_none y here), tt)
+IsIncreasing-push (x ∷ rest) j rising below = (
   λ y here. elim (contains_push rest j y here) [
     | inl inside ↦ rising.0 y inside
     | inr same ↦ subst (λ w. x < w) same (below x (contains_head x rest))
   ],
-  IsRising-push rest j rising.1 (λ ix here. below ix (contains_tail x ix rest here)),
+  IsIncreasing-push rest j rising.1 (λ ix here. below ix (contains_tail x ix rest here)),
 )
 
 -- places, of which the first so many have something
@@ -133,7 +133,7 @@ module _ {T : Type 0} where
   -- once all that hit are removed none does
   pub HasNoHit-removed_all :
       (s : Store T) (indexes : List ℕ) (test : T → Bool)
-      → IsRising indexes
+      → IsIncreasing indexes
       → ((ix : ℕ) → Contains indexes ix ↔ IsHit s test ix)
       → HasNoHit (removed_all s indexes) test
   HasNoHit-removed_all s indexes test rising each ix hit =
@@ -165,7 +165,7 @@ pub record Taking {T : Type 0} (reported : ℕ → Type 0) (places : ℕ) (old :
     : Type 0 where
   pub done : List ℕ
   pub counted : length done ≡ count
-  pub rising : IsRising done
+  pub rising : IsIncreasing done
   pub were_reported : (ix : ℕ) → Contains done ix → reported ix
   pub ahead : (ix : ℕ) → reported ix → Contains done ix ⊎ IsAhead next ix
   pub next_reported : (j : ℕ) → next ≡ Some j → reported j × ((ix : ℕ) → Contains done ix → ix < j)
@@ -223,7 +223,7 @@ module _ {T : Type 0} (reported : ℕ → Type 0) (places : ℕ) (old : Store T)
       → (l : List ℕ) × (length l ≤ k) × ((ix : ℕ) → reported ix → Contains l ix)
       → count < k
   next_fits back left j count k t (l, few, all) =
-      let fits = rising_fits (t.done ++ j ∷ []) l (IsRising-push t.done j t.rising (t.next_reported j refl).1) (λ ix here.
+      let fits = rising_fits (t.done ++ j ∷ []) l (IsIncreasing-push t.done j t.rising (t.next_reported j refl).1) (λ ix here.
       elim (contains_push t.done j ix here) [
         | inl inside ↦ all ix (t.were_reported ix inside)
         | inr same ↦ all ix (subst reported same (t.next_reported j refl).0)
@@ -283,7 +283,7 @@ module _ {T : Type 0} (reported : ℕ → Type 0) (places : ℕ) (old : Store T)
       record {
         done = t.done ++ j ∷ [];
         counted = let e = length_push t.done j in omega (arith, e, t.counted);
-        rising = IsRising-push t.done j t.rising below;
+        rising = IsIncreasing-push t.done j t.rising below;
         were_reported = λ ix here. elim (contains_push t.done j ix here) [
           | inl inside ↦ t.were_reported ix inside
           | inr is ↦ subst reported is (t.next_reported j refl).0

@@ -1,12 +1,13 @@
 -- What is left where the one item that passes a test was taken out.
-use Rattle.std.proofs.Common.{◌≡◌, ℕ, Bool, Option, Some, None, refl, ap, sym, subst}
+use Rattle.std.proofs.Common.{◌≡◌, ◌≤◌, ◌∙◌, ℕ, Bool, length, Option, Some, None, refl, ap, arith, sym, subst}
+use Rattle.std.proofs.lemmas.List.{length-set}
 use Rattle.std.specs.Option.{OnSome}
 use Rattle.iddqd.specs.Store.{Store, IsValid, get, removed}
 use Rattle.iddqd.specs.ItemSet.{SizedStore}
 use Rattle.iddqd_keys.specs.Scan.{HasNoHit, AnswersScan}
 use Rattle.iddqd_keys.proofs.ScanLemmas.{HasNoHit-hit_removed}
 use Rattle.iddqd_map.specs.KeyIndex.{IsIndexed}
-use Rattle.iddqd_map.specs.Map.{MapState, Removes, map_with}
+use Rattle.iddqd_map.specs.Map.{MapState, MapMemory, Removes, map_with, room}
 use Rattle.iddqd_map.proofs.MapLemmas.{IsIndexed-removed, set_left}
 use Rattle.iddqd_map.proofs.FoundLemmas.{hit_live}
 
@@ -60,3 +61,22 @@ pub Removes-gone :
 Removes-gone old new test None removes = subst (λ m. HasNoHit m.store test) (sym removes.1) removes.0
 Removes-gone old new test (Some item) removes =
     subst (λ s. HasNoHit s test) (sym removes.left) (HasNoHit-hit_removed old.store test removes.ix removes.hit.only)
+
+-- and no room is lost
+pub room-removes :
+    {T : Type 0} (old new : MapState T) (test : T → Bool) (taken : Option T)
+    → IsValid old.store
+    → IsValid new.store
+    → Removes old test taken new
+    → room old ≤ room new
+room-removes old new test None valid after removes = (let same = ap room removes.1 in omega (arith, same))
+room-removes old new test (Some item) valid after removes =
+    let left = removes.left in
+    let free = ap (λ (s : Store _). length s.free) left in
+    let slots = ap (λ (s : Store _). length s.items) left ∙ length-set old.store.items removes.ix None in
+    let limit = ap (λ (s : Store _). s.limit) left in
+    let held = ap (λ (m : MapMemory). m.slots) removes.memory in
+    let holds = ap (λ (m : MapMemory). m.capacity) removes.memory in
+    let before = valid.counted in
+    let counted = after.counted in
+    omega (arith, free, slots, limit, held, holds, before, counted)

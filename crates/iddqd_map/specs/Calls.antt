@@ -8,7 +8,7 @@ use Rattle.iddqd.specs.Compaction.{compacted}
 use Rattle.iddqd_keys.specs.Scan.{IsLive, IsHit, HasNoHit, AnswersScan}
 use Rattle.iddqd_map.specs.Map.{MapState, FindsItem, room}
 use Rattle.iddqd_map.specs.Memory.{MakesRoom}
-use Rattle.iddqd_keys.specs.Removals.{IsRising, padded, removed_all}
+use Rattle.iddqd_keys.specs.Removals.{IsIncreasing, padded, removed_all}
 use Rattle.iddqd_map.specs.Several.{HasNoOther}
 use Rattle.iddqd_map.specs.declared.refusal.InsertRefusal.{InsertRefusal}
 use Rattle.iddqd_map.specs.declared.refusal.InsertRefusal.TheVariants.{Duplicate, Full, Memory}
@@ -65,7 +65,7 @@ module _ {T : Type 0} (alike : T → T → Bool) (most : ℕ → ℕ) where
   -- these are exactly the live indexes whose items share a key with this one, by rising index
   pub record AreConflicts (s : Store T) (item : T) (indexes : List ℕ) : Type 0 where
     pub each : (ix : ℕ) → Contains indexes ix ↔ IsHit s (alike item) ix
-    pub rising : IsRising indexes
+    pub rising : IsIncreasing indexes
 
   -- The items that share a key were removed by rising index, and come back in this order from the first place on. The
   -- new item is stored at the index that is the next one then. Where one was removed, no memory was taken.

@@ -4,7 +4,7 @@ use Rattle.std.specs.Ordering.{nat_cmp}
 use Rattle.std.specs.FinMap.{FinMap}
 use Rattle.iddqd.specs.Store.{Store}
 use Rattle.iddqd_keys.specs.Scan.{IsHit, HasNoHit, AnswersScan, passes_by}
-use Rattle.iddqd_by_hash.specs.Hashed.{Hashing, Holds, IsExact}
+use Rattle.iddqd_by_hash.specs.Hashed.{Hashing, Holds, IsInSync}
 use Rattle.iddqd_by_hash.specs.declared.hashed_move.Move.{Move}
 use Rattle.iddqd_by_hash.specs.declared.hashed_move.Move.TheVariants.{Stays, To}
 
@@ -17,7 +17,7 @@ module _ {T K : Type 0} (key_of : T → K) (hashing : Hashing K) where
   -- a key.
   pub record Indexes (s : Store T) (m : FinMap nat_cmp ℕ) : Type 0 where
     pub held : Holds s m
-    pub exact : IsExact key_of hashing s m
+    pub exact : IsInSync key_of hashing s m
 
   -- What has to become of a live index that is given this item: it stays where the key stays, and else, where no item
   -- has the key, it is filed under the key's hash.

@@ -1,6 +1,6 @@
 -- What the calls of a key index leave, however many keys it goes by.
 use Rattle.std.specs.Prelude.{◌≡◌, ◌<◌, ℕ, Bool, true, not, Option, Some, None, Result, Ok, Err}
-use Rattle.iddqd.specs.Store.{Store, IsValid, IsFull, empty_within, get, next_index, inserted, removed}
+use Rattle.iddqd.specs.Store.{Store, IsValid, IsFull, empty_within, get, slot_count, next_index, inserted, removed}
 use Rattle.iddqd.specs.Compaction.{compacted, IsRemapOf}
 use Rattle.iddqd.specs.declared.index_remap.IndexRemap.{IndexRemap}
 use Rattle.iddqd_keys.specs.Scan.{HasNoHit}
@@ -67,10 +67,11 @@ module _ {T : Type 0} where
       is_move plan × HasNoOther s alike ix × ((was : T) → get s ix ≡ Some was → moves plan ≡ not (same was))
   PlansMove alike same is_move moves taken s ix (Err at) = taken at
 
-  -- the stores have the same live indexes, and their items at each share all keys
+  -- the stores have the same live indexes among as many slots, and their items at each share all keys
   pub record HaveSameKeys (same : T → T → Bool) (s t : Store T) : Type 0 where
     pub slots : (ix : ℕ) (y : T) → get t ix ≡ Some y → (x : T) × (get s ix ≡ Some x) × (same x y ≡ true)
     pub items : (ix : ℕ) (x : T) → get s ix ≡ Some x → (y : T) × (get t ix ≡ Some y) × (same x y ≡ true)
+    pub as_many : slot_count t ≡ slot_count s
 
 -- the first index that was reported past one, or the first of all where there is none such: none where there is no more
 abbrev pub IsPast : Option ℕ → ℕ → Type 0

@@ -26,8 +26,10 @@ module _ {T : Type 0} (most : ℕ → ℕ) where
         (min old.store.limit (max (live_count old.store + additional) (2 * old.memory.slots)))
     pub few_cells : new.memory.cells ≤ old.memory.cells + most (live_count old.store + insertable old additional)
 
-  -- What is given back of what so many items don't need, beside the slots and the items that there are. A refusal means
-  -- that there is more than is needed, and never comes where nothing is needed. The items stay.
+-- What is given back of what so many items don't need, beside the slots and the items that there are: the tables keep at
+-- most `kept` of them. A refusal means that there is more than is needed, and never comes where nothing is needed. The
+-- items stay.
+module _ {T : Type 0} (kept : ℕ → ℕ → ℕ) where
   pub record ShrinksItems {A E : Type 0} (least : ℕ) (old : MapState T) (result : Result A E) (new : MapState T)
       : Type 0 where
     pub store : new.store ≡ old.store
@@ -36,7 +38,8 @@ module _ {T : Type 0} (most : ℕ → ℕ) where
     pub slots_stay : min old.memory.slots (max least (slot_count old.store)) ≤ new.memory.slots
     pub capacity_stays : min old.memory.capacity (max least (live_count old.store)) ≤ new.memory.capacity
     pub slots_shrunk : OnOk result (new.memory.slots ≤ max least (slot_count old.store))
-    pub cells_shrunk : OnOk result (new.memory.cells ≤ most (max least (live_count old.store)))
+    pub cells_shrunk :
+        OnOk result (new.memory.cells ≤ kept (max least (slot_count old.store)) (max least (live_count old.store)))
     pub refused : OnErr result ((max least (slot_count old.store) < new.memory.slots)
         ⊎ (max least (live_count old.store) < new.memory.cells))
     pub succeeds : max least (slot_count old.store) ≡ 0 → IsOk result

@@ -2,7 +2,7 @@
 use Rattle.std.specs.Prelude.{◌≡◌, ◌↔◌, ◌≤◌, ℕ, List, length, map, Option}
 use Rattle.std.specs.List.{Contains}
 use Rattle.iddqd.specs.Store.{Store, get}
-use Rattle.iddqd_keys.specs.Removals.{IsRising, padded, removed_all}
+use Rattle.iddqd_keys.specs.Removals.{IsIncreasing, padded, removed_all}
 
 -- the items at the indexes that were reported, so many at most, were removed by rising index, and are in the places
 pub record TakesAll
@@ -10,7 +10,7 @@ pub record TakesAll
     : Type 0 where
   pub indexes : List ℕ
   pub each : (ix : ℕ) → Contains indexes ix ↔ reported ix
-  pub rising : IsRising indexes
+  pub rising : IsIncreasing indexes
   pub at_most : length indexes ≤ places
   pub items : back ≡ padded places (map (get old) indexes)
   pub left : new ≡ removed_all old indexes

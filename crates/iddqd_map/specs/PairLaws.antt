@@ -11,6 +11,10 @@ use Rattle.iddqd_map.specs.KeyIndex.{HaveSameKeys, IsNextReported}
 use Rattle.iddqd_map.specs.PairConflict.{Reports, ReportBoth, IsReportedBy, IsEither, lesser_of}
 use Rattle.iddqd_map.specs.Several.{either_key, both_keys, HasNoOther}
 
+-- two parts that are nothing are nothing together
+pub sum_none : {a b : ℕ} → a ≡ 0 → b ≡ 0 → a + b ≡ 0
+sum_none none none_too = omega (arith, none, none_too)
+
 either_true : (a b : Bool) → (a || b) ≡ true → (a ≡ true) ⊎ (b ≡ true)
 either_true true b is = inl refl
 either_true false b is = inr is
@@ -86,6 +90,7 @@ module _ {T : Type 0} (first second : T → T → Bool) where
     items = λ ix x live.
         let (y, is, alike) = same.items ix x live in
         (y, is, (both_true (first x y) (second x y) alike).0);
+    as_many = same.as_many;
   }
 
   pub HaveSameKeys-second : (s t : Store T) → HaveSameKeys (both_keys first second) s t → HaveSameKeys second s t
@@ -96,6 +101,7 @@ module _ {T : Type 0} (first second : T → T → Bool) where
     items = λ ix x live.
         let (y, is, alike) = same.items ix x live in
         (y, is, (both_true (first x y) (second x y) alike).1);
+    as_many = same.as_many;
   }
 
   -- and where sharing all of one's keys is sharing one of them, so it is of both

@@ -83,9 +83,11 @@ where
 
     ghost most = { most_cells };
 
+    ghost kept = { λ slots count. most_cells count };
+
     ghost may_lack = { false };
 
-    ghost same = { λ x y. filed y.table ≡ filed x.table };
+    ghost same = { λ s x y. filed y.table ≡ filed x.table };
 
     ghost key_count = { 1 };
 
@@ -95,7 +97,9 @@ where
 
     ghost reports = { λ at ix. ix ≡ at };
 
-    ghost same_as_itself = { λ x. refl };
+    ghost kept_none = { refl };
+
+    ghost same_as_itself = { λ s x. refl };
 
     ghost same_indexes = { λ x y state s same is. Indexes-kept E.key_of (hashing_of K.eq K.hash_input S.BuildHasher
         S.Hasher.Hasher state) s (filed x.table) (filed y.table) same is };

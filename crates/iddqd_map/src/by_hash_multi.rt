@@ -1,21 +1,20 @@
-//! A key index by a key that several items may have: each index stands in a hash table, under the hash of its item's
-//! key.
+//! A key index by a key that several items may have: each index is filed under the hash of its item's key.
 //!
-//! It refuses no item for its key, so an insert searches for nothing. A removal searches for the index itself, under the
-//! hash of its item's key.
+//! It refuses no item for its key, so an insert compares no keys. A removal computes no hash, since the table keeps that
+//! of each index.
 //!
 //! Invariants, of a table that indexes a store under the state of a hasher:
 //!
 //! 1. it has exactly the live indexes;
-//! 2. each of them stands under the hash that its item's key has under this state.
+//! 2. each of them is filed under the hash that its item's key has under this state;
+//! 3. each slot of the store has a link, so the index of a vacant slot is inserted without memory for it.
 //!
 //! So a look-up, which hashes once, finds an item with the key if and only if there is one. Keys are not copied: the table
 //! has hashes and indexes alone.
 //!
-//! An insert and a removal cost a step for each item of the group, and a look-up of another key may have to step over
-//! these. So it is for groups of a few items, about ten at most.
+//! One index of each hash stands in a hash table, and the others under that hash are linked behind it. So an insert and a
+//! removal cost the same however many items have the key, and the links take 16 bytes for each slot.
 ghost use Rattle.std.specs.Prelude.{◌≡◌, ◌↔◌, false};
-ghost use Rattle.iddqd_hash.specs.{filed};
 ghost use Rattle.iddqd_by_hash.specs.Hashed.{hashing_of};
 ghost use Rattle.iddqd_map.specs.Groups.{AreHits, CountsHits};
 ghost use Rattle.iddqd_keys.specs.Scan.{HasNoHit, passes_by};
@@ -23,8 +22,8 @@ ghost use Rattle.iddqd_keys.specs.Scan.{HasNoHit, passes_by};
 use crate::grouped_at::GroupedAt;
 use crate::hashed_plan::move_of;
 use crate::hashed_query::{count_by, find_any, group_by};
-use crate::hashed_steps;
 use crate::key_index::{Checks, Here, Inserts, KeyIndex, Moves, Removes, Sizes};
+use crate::linked_steps;
 pub use crate::no_conflict::NoConflict;
 use iddqd::index_remap::IndexRemap;
 use iddqd::internal::{ValidateCompact, ValidateRefusal, ValidationError};
@@ -34,22 +33,22 @@ use iddqd::map_hash::MapHash;
 use iddqd_by_hash::hashed::hash_of;
 pub use iddqd_by_hash::hashed_group::Group;
 use iddqd_by_hash::hashed_move::Move;
-use iddqd_hash::hash_table::MapHashTable;
+use iddqd_by_hash::linked_table::LinkedTable;
 use iddqd_keys::key_of::KeyOf;
 use iddqd_keys::query::{Asked, HashQuery};
 use std::alloc::{AllocError, Global};
 use std::hash::{BuildHasher, Hash};
 use std::marker::PhantomData;
 
-/// A hash table by the key that `E` names, which several items may have.
+/// A table of hashes by the key that `E` names, which several items may have.
 ///
 /// A look-up hashes the query once, and compares it with keys of the same hash alone. Only `with_capacity`, `reserve`,
 /// `make_room`, `shrink_to`, `copied` and `validate`, which sorts a copy of the indexes, take memory, and only they can run
-/// out of it. Taking an index out costs a step for each index that stands under the same hash.
+/// out of it. An insert and a removal cost the same however many indexes stand under the same hash.
 #[derive(Drop)]
 pub struct ByHashMulti<E, K> {
-    // Each live index, under the hash of its item's key.
-    table: MapHashTable,
+    // Each live index, under the hash of its item's key. Each slot has a link.
+    table: LinkedTable,
     of: PhantomData<E>,
     by: PhantomData<K>,
 }
@@ -113,10 +112,9 @@ where
     S: BuildHasher,
 {
     ghost use Rattle.std.proofs.Common.{refl};
-    ghost use Rattle.iddqd_hash.specs.HashTable.{capacity, memory};
-    ghost use Rattle.iddqd_hash.specs.Sizes.{most_cells};
-    ghost use Rattle.iddqd_map.specs.ByHashMulti.{Files};
-    ghost use Rattle.iddqd_map.specs.ByHashMultiLaws.{Files-kept, Files-key_kept, Files-keys_shared};
+    ghost use Rattle.iddqd_by_hash.specs.LinkedTable.{most_linked, kept_linked};
+    ghost use Rattle.iddqd_map.specs.ByHashMulti.{FilesWithin, HasSameIndexes};
+    ghost use Rattle.iddqd_map.specs.ByHashMultiLaws.{FilesWithin-kept, FilesWithin-key_kept, FilesWithin-keys_shared};
     ghost use Rattle.iddqd_map.specs.HashLaws.{shares_laws};
     ghost use Rattle.iddqd_map.specs.Map.{shares};
     ghost use Rattle.iddqd_map.specs.NoConflict.{never_alike, never_apart, none_named};
@@ -133,18 +131,20 @@ where
 
     ghost same_keys = { shares E.key_of K.eq };
 
-    ghost indexes = { λ x state s. Files E.key_of (hashing_of K.eq K.hash_input S.BuildHasher
-        S.Hasher.Hasher state) s (filed x.table) };
+    ghost indexes = { λ x state s. FilesWithin E.key_of (hashing_of K.eq K.hash_input S.BuildHasher
+        S.Hasher.Hasher state) s x.table };
 
-    ghost capacity = { λ x. capacity x.table };
+    ghost capacity = { λ x. x.table.capacity };
 
-    ghost cells = { λ x. memory x.table };
+    ghost cells = { λ x. x.table.memory };
 
-    ghost most = { most_cells };
+    ghost most = { most_linked };
+
+    ghost kept = { kept_linked };
 
     ghost may_lack = { false };
 
-    ghost same = { λ x y. filed y.table ≡ filed x.table };
+    ghost same = { λ s x y. HasSameIndexes s x.table y.table };
 
     ghost key_count = { 0 };
 
@@ -154,18 +154,20 @@ where
 
     ghost reports = { λ at ix. ⊥ };
 
-    ghost same_as_itself = { λ x. refl };
+    ghost kept_none = { refl };
 
-    ghost same_indexes = { λ x y state s same is. Files-kept E.key_of (hashing_of K.eq K.hash_input S.BuildHasher
-        S.Hasher.Hasher state) s (filed x.table) (filed y.table) same is };
+    ghost same_as_itself = { λ s x. record { filed = refl; linked = λ within. within } };
+
+    ghost same_indexes = { λ x y state s same is. FilesWithin-kept E.key_of (hashing_of K.eq K.hash_input S.BuildHasher
+        S.Hasher.Hasher state) s x.table y.table same is };
 
     ghost apart = { λ x state s is. never_apart s };
 
-    ghost modified = { λ x state s ix was item is. Files-key_kept E.key_of K.eq K.hash_input S.BuildHasher
-        S.Hasher.Hasher K.Eq.laws K.respects_eq state s (filed x.table) is ix was item };
+    ghost modified = { λ x state s ix was item is. FilesWithin-key_kept E.key_of K.eq K.hash_input
+        S.BuildHasher S.Hasher.Hasher K.Eq.laws K.respects_eq state s x.table is ix was item };
 
-    ghost same_items = { λ x state s t have is. Files-keys_shared E.key_of K.eq K.hash_input S.BuildHasher
-        S.Hasher.Hasher K.Eq.laws K.respects_eq state s (filed x.table) is t have };
+    ghost same_items = { λ x state s t have is. FilesWithin-keys_shared E.key_of K.eq K.hash_input
+        S.BuildHasher S.Hasher.Hasher K.Eq.laws K.respects_eq state s x.table is t have };
 
     ghost equivalence = { shares_laws E.key_of K.eq K.Eq.laws };
 
@@ -190,7 +192,7 @@ where
 
     fn new(alloc: Global) -> ByHashMulti<E, K> {
         ByHashMulti {
-            table: hashed_steps::new(alloc),
+            table: LinkedTable::new(alloc),
             of: PhantomData,
             by: PhantomData,
         }
@@ -198,7 +200,7 @@ where
 
     fn with_capacity(alloc: Global, wanted: usize) -> Result<ByHashMulti<E, K>, AllocError> {
         Ok(ByHashMulti {
-            table: MapHashTable::with_capacity(alloc, wanted)?,
+            table: LinkedTable::with_capacity(alloc, wanted)?,
             of: PhantomData,
             by: PhantomData,
         })
@@ -210,11 +212,11 @@ where
         state: &S,
         additional: usize,
     ) -> Result<(), AllocError> {
-        hashed_steps::reserve(&mut self.table, items, additional)
+        linked_steps::reserve(&mut self.table, items, additional)
     }
 
     fn shrink_to(&mut self, items: &ItemSet<T>, state: &S, least: usize) -> Result<(), AllocError> {
-        hashed_steps::shrink_to(&mut self.table, items, least)
+        linked_steps::shrink_to(&mut self.table, items, least)
     }
 }
 
@@ -224,8 +226,8 @@ where
     K: Eq + Hash + Drop,
     S: BuildHasher,
 {
-    ghost use Rattle.std.specs.Prelude.{◌≤◌};
-    ghost use Rattle.iddqd_hash.specs.HashTable.{room};
+    ghost use Rattle.std.specs.Prelude.{◌<◌};
+    ghost use Rattle.std.specs.FinMap as finite;
 
     type Known = MapHash;
 
@@ -240,7 +242,7 @@ where
 
     ghost is_planned = { λ x state s item plan. Unit {0} };
 
-    ghost has_room_for = { λ x plan. 1 ≤ room x.table };
+    ghost has_room_for = { λ x plan. finite.len x.table.filed < x.table.capacity };
 
     ghost is_ready_after = { λ x. Unit {0} };
 
@@ -263,11 +265,11 @@ where
     fn plan(&self, items: &ItemSet<T>, state: &S, spot: (), ix: ItemIndex, item: &T) {}
 
     fn make_room(&mut self, items: &ItemSet<T>, state: &S, plan: &()) -> Result<(), AllocError> {
-        hashed_steps::make_room(&mut self.table, items)
+        linked_steps::reserve(&mut self.table, items, 1)
     }
 
     fn insert(&mut self, known: MapHash, plan: &(), ix: ItemIndex) {
-        self.table.insert_prehashed_unchecked(known, ix);
+        self.table.insert(known, ix);
     }
 
     fn next_reported(conflict: &NoConflict, before: Option<ItemIndex>) -> Option<ItemIndex> {
@@ -281,7 +283,7 @@ where
     }
 
     fn give_way(&mut self, items: &ItemSet<T>, state: &S, ix: ItemIndex) {
-        hashed_steps::take_out::<T, E, S>(&mut self.table, items, state, ix);
+        self.table.remove(ix);
     }
 }
 
@@ -292,7 +294,7 @@ where
     S: BuildHasher,
 {
     fn remove(&mut self, items: &ItemSet<T>, state: &S, ix: ItemIndex) {
-        hashed_steps::take_out::<T, E, S>(&mut self.table, items, state, ix);
+        self.table.remove(ix);
     }
 
     fn clear(&mut self) {
@@ -300,7 +302,7 @@ where
     }
 
     fn remap(&mut self, remap: &IndexRemap) {
-        hashed_steps::remap::<T>(&mut self.table, remap);
+        linked_steps::remap::<T>(&mut self.table, remap);
     }
 }
 
@@ -345,7 +347,7 @@ where
         ix: ItemIndex,
         item: &T,
     ) {
-        hashed_steps::commit_move::<T, E, S>(&mut self.table, items, state, None, plan, ix);
+        linked_steps::commit_move(&mut self.table, items, plan, ix);
     }
 }
 
@@ -373,7 +375,7 @@ where
         state: &S,
         compactness: ValidateCompact,
     ) -> Result<(), ValidateRefusal<ValidationError>> {
-        hashed_steps::validate(&self.table, items, compactness)
+        linked_steps::validate(&self.table, items, compactness)
     }
 }
 

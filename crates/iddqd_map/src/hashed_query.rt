@@ -1,4 +1,4 @@
-//! Look-ups in a hash table that indexes a store, by any query.
+//! Look-ups in a table of hashes that indexes a store, by any query.
 //!
 //! Where each live index is filed under the hash of its item's key as it is now, and no two items share a key, a
 //! look-up answers as a scan does. Where several items may share a key, it finds one of them.
@@ -18,6 +18,7 @@ use iddqd::item_set::ItemSet;
 use iddqd::map_hash::MapHash;
 use iddqd_by_hash::hashed::{self, query_hash};
 use iddqd_by_hash::hashed_group::{Group, group_of};
+use iddqd_by_hash::linked_table::LinkedTable;
 use iddqd_hash::hash_table::MapHashTable;
 use iddqd_keys::key_of::KeyOf;
 use iddqd_keys::query::{Asked, HashQuery};
@@ -92,7 +93,7 @@ where
 
 /// The index of some item that has the key for which the query stands, where several items may have it.
 pub fn find_any<T, E, S, Q>(
-    table: &MapHashTable,
+    table: &LinkedTable,
     items: &ItemSet<T>,
     state: &S,
     query: Q,
@@ -103,18 +104,18 @@ where
     S: BuildHasher,
     Q: HashQuery<E::Key>,
     requires { let hashing = hashing_of E.Key.eq E.Key.hash_input S.BuildHasher S.Hasher.Hasher state.now in
-        Files E.key_of hashing items.now.store (filed table.now) }
+        Files E.key_of hashing items.now.store table.now.filed }
     ensures { FindsSome items.now.store (passes_by E.key_of (Q.stands_for query)) result }
 {
-    let hash = query_hash(state, query);
-    hashed::find::<T, E, Asked<Q>>(table, items, hash, &Asked(query))
+    let mut group = group_by::<T, E, S, Q>(table, items, state, query);
+    group.next()
 }
 
 /// The indexes whose items have the key for which the query stands, each once, in no order that a caller can rely on.
 ///
 /// It compares the query with keys of the same hash alone, with none twice, and takes no memory.
 pub fn group_by<'t, T, E, S, Q>(
-    table: &'t MapHashTable,
+    table: &'t LinkedTable,
     items: &'t ItemSet<T>,
     state: &S,
     query: Q,
@@ -125,7 +126,7 @@ where
     S: BuildHasher,
     Q: HashQuery<E::Key>,
     requires { let hashing = hashing_of E.Key.eq E.Key.hash_input S.BuildHasher S.Hasher.Hasher state.now in
-        Files E.key_of hashing items.now.store (filed table.now) }
+        Files E.key_of hashing items.now.store table.now.filed }
     ensures { AreHits items.now.store (passes_by E.key_of (Q.stands_for query)) result }
 {
     let hash = query_hash(state, query);
@@ -133,14 +134,14 @@ where
 }
 
 /// How many items have the key for which the query stands. It goes over all of them.
-pub fn count_by<T, E, S, Q>(table: &MapHashTable, items: &ItemSet<T>, state: &S, query: Q) -> usize
+pub fn count_by<T, E, S, Q>(table: &LinkedTable, items: &ItemSet<T>, state: &S, query: Q) -> usize
 where
     E: KeyOf<T>,
     E::Key: Eq + Hash,
     S: BuildHasher,
     Q: HashQuery<E::Key>,
     requires { let hashing = hashing_of E.Key.eq E.Key.hash_input S.BuildHasher S.Hasher.Hasher state.now in
-        Files E.key_of hashing items.now.store (filed table.now) }
+        Files E.key_of hashing items.now.store table.now.filed }
     ensures { CountsHits items.now.store (passes_by E.key_of (Q.stands_for query)) result }
 {
     let group = group_by::<T, E, S, Q>(table, items, state, query);

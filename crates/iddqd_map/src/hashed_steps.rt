@@ -1,4 +1,4 @@
-//! The steps that key indexes by the hash of a key share, whether several items may have one key or not.
+//! The steps of a key index by the hash of a key that no two items share.
 //!
 //! Each works on a hash table that has exactly the live indexes. An index stands under the hash of its item's key, so
 //! that hash is computed where the index leaves the table, unless a look-up has computed it before.

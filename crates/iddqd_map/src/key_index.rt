@@ -8,7 +8,7 @@
 //! `plan_move`, `ready_move`, then `commit_move`. The plans in between are plain data: they lend nothing, and own no
 //! memory.
 ghost use Rattle.std.specs.Prelude.{◌≡◌, ◌≢◌, ◌≤◌, ◌+◌, ◌<◌, true, false, min, max, length, IsOk, IfOk, OnOk, OnErr};
-ghost use Rattle.iddqd.specs.{next_index, removed, rebound, sentinel, live_count, IsValid, Allows, Validates};
+ghost use Rattle.iddqd.specs.{next_index, removed, rebound, sentinel, live_count, slot_count, IsValid, Allows, Validates};
 ghost use Rattle.std.specs.Range.Bound.{bound_map};
 ghost use Rattle.iddqd_keys.specs.OrderedQuery.{is_between};
 ghost use Rattle.iddqd_keys.specs.KeyWalk.{IsFirstHit};
@@ -66,11 +66,14 @@ pub trait KeyIndex<T, S>: Sized + Drop {
     // The most cells that it takes for so many indexes.
     ghost most: { ℕ → ℕ };
 
+    // The most cells that a shrink leaves, over so many slots, for so many indexes.
+    ghost kept: { ℕ → ℕ → ℕ };
+
     // An insert that follows a removal may need memory, if there are more indexes than the capacity.
     ghost may_lack: { Bool };
 
-    // The two have the same indexes at the same keys; their memory may differ.
-    ghost same: { Self → Self → Type 0 };
+    // Over a store the two have the same indexes at the same keys; their memory may differ.
+    ghost same: { Store T → Self → Self → Type 0 };
 
     // How many items an item can be alike to: no more than there are keys.
     ghost key_count: { ℕ };
@@ -86,10 +89,14 @@ pub trait KeyIndex<T, S>: Sized + Drop {
     /// Nothing that a look-up computed.
     fn unasked() -> Self::Asked;
 
-    // `same` is reflexive, and key indexes that are the same index the same stores.
-    ghost same_as_itself: { (x : Self) → same x x };
+    // Where there are no slots and no indexes, a shrink leaves nothing.
+    ghost kept_none: { kept 0 0 ≡ 0 };
 
-    ghost same_indexes: { (x y : Self) (state : S) (s : Store T) → same x y → indexes x state s → indexes y state s };
+    // `same` is reflexive, and of key indexes that are the same over a store both index it or none does.
+    ghost same_as_itself: { (s : Store T) (x : Self) → same s x x };
+
+    ghost same_indexes: { (x y : Self) (state : S) (s : Store T) → same s x y → indexes x state s
+        → indexes y state s };
 
     // No two items are alike.
     ghost apart: { (x : Self) (state : S) (s : Store T) → indexes x state s → AreApart alike s };
@@ -143,25 +150,27 @@ pub trait Sizes<T, S>: KeyIndex<T, S> {
         additional: usize,
     ) -> Result<(), AllocError>
         requires indexed { Self.indexes self.old state.now items.now.store }
-        ensures contents { Self.same self.old self.new }
+        ensures contents { Self.same items.now.store self.old self.new }
         ensures reserved { OnOk result (live_count items.now.store + additional ≤ Self.capacity self.new) }
         ensures had_room { live_count items.now.store + additional ≤ Self.capacity self.old
             → IsOk result × (self.new ≡ self.old) }
         ensures capacity_stays { Self.capacity self.old ≤ Self.capacity self.new }
         ensures few { Self.cells self.new ≤ Self.cells self.old + Self.most (live_count items.now.store + additional) };
 
-    /// Gives back what so many indexes don't need, beside those that there are.
+    /// Gives back what so many indexes don't need, beside the slots and the indexes that there are.
     ///
     /// The memory may have to move to a smaller block, which may be refused.
     fn shrink_to(&mut self, items: &ItemSet<T>, state: &S, least: usize) -> Result<(), AllocError>
         requires indexed { Self.indexes self.old state.now items.now.store }
-        ensures contents { Self.same self.old self.new }
+        ensures contents { Self.same items.now.store self.old self.new }
         ensures never_more { Self.cells self.new ≤ Self.cells self.old }
         ensures capacity_stays { min (Self.capacity self.old) (max least (live_count items.now.store))
             ≤ Self.capacity self.new }
-        ensures shrunk { OnOk result (Self.cells self.new ≤ Self.most (max least (live_count items.now.store))) }
+        ensures shrunk { OnOk result (Self.cells self.new
+            ≤ Self.kept (max least (slot_count items.now.store)) (max least (live_count items.now.store))) }
         ensures refused { OnErr result (max least (live_count items.now.store) < Self.cells self.new) }
-        ensures succeeds { max least (live_count items.now.store) ≡ 0 → IsOk result };
+        ensures succeeds { Self.kept (max least (slot_count items.now.store)) (max least (live_count items.now.store)) ≡ 0
+            → IsOk result };
 }
 
 /// A key index that takes another item.
@@ -231,7 +240,7 @@ pub trait Inserts<T, S>: KeyIndex<T, S> {
         plan: &Self::Plan,
     ) -> Result<(), AllocError>
         requires indexed { Self.indexes self.old state.now items.now.store }
-        ensures contents { Self.same self.old self.new }
+        ensures contents { Self.same items.now.store self.old self.new }
         ensures ready { OnOk result (has_room_for self.new plan.now) }
         ensures had_room { live_count items.now.store < Self.capacity self.old → IsOk result × (self.new ≡ self.old) }
         ensures capacity_stays { Self.capacity self.old ≤ Self.capacity self.new }
@@ -263,7 +272,7 @@ pub trait Inserts<T, S>: KeyIndex<T, S> {
     /// Makes ready for an insert that comes after a removal. Below the capacity it takes no memory.
     fn ready_after(&mut self, items: &ItemSet<T>, state: &S) -> Result<(), AllocError>
         requires indexed { Self.indexes self.old state.now items.now.store }
-        ensures contents { Self.same self.old self.new }
+        ensures contents { Self.same items.now.store self.old self.new }
         ensures ready { OnOk result (is_ready_after self.new) }
         ensures may_lack { OnErr result (Self.may_lack ≡ true) }
         ensures past { OnErr result (Self.capacity self.old < live_count items.now.store) }
@@ -280,7 +289,7 @@ pub trait Inserts<T, S>: KeyIndex<T, S> {
         ensures ready { is_ready_after self.old → is_ready_after self.new }
         ensures roomy { (plan : Self.Plan) → is_ready_after self.old → has_room_for self.new plan };
 
-    ghost same_plans: { (x y : Self) (state : S) (s : Store T) (item : T) (plan : Self.Plan) → Self.same x y
+    ghost same_plans: { (x y : Self) (state : S) (s : Store T) (item : T) (plan : Self.Plan) → Self.same s x y
         → is_planned x state s item plan → is_planned y state s item plan };
 }
 
@@ -348,7 +357,7 @@ pub trait Moves<T, S>: KeyIndex<T, S> {
         plan: &Self::Move,
     ) -> Result<(), AllocError>
         requires indexed { Self.indexes self.old state.now items.now.store }
-        ensures contents { Self.same self.old self.new }
+        ensures contents { Self.same items.now.store self.old self.new }
         ensures ready { OnOk result (is_ready self.new plan.now) }
         ensures moves { OnErr result (moves plan.now ≡ true) }
         ensures may_lack { OnErr result (Self.may_lack ≡ true) }

@@ -15,6 +15,7 @@ mod hashed_query;
 mod hashed_steps;
 pub mod id_hash_map;
 pub mod key_index;
+mod linked_steps;
 pub mod map;
 pub mod next_at;
 pub mod no_conflict;

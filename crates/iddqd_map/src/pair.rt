@@ -44,7 +44,7 @@ where
     ghost use Rattle.iddqd_map.specs.PairConflict.{ReportBoth, ReportBothOther, IsEither, IsReportedBy};
     ghost use Rattle.std.proofs.Common.{ap};
     ghost use Rattle.std.proofs.lemmas.Cmp.{and_equiv};
-    ghost use Rattle.iddqd_map.specs.PairLaws.{AreApart-either, HaveSameKeys-first, HaveSameKeys-second, alike_both, reported_by_one, reported_both, reported_some, few_by_one, few_both};
+    ghost use Rattle.iddqd_map.specs.PairLaws.{AreApart-either, HaveSameKeys-first, HaveSameKeys-second, alike_both, reported_by_one, reported_both, reported_some, few_by_one, few_both, sum_none};
 
     type Conflict = C;
 
@@ -66,9 +66,11 @@ where
 
     ghost most = { λ n. A.most n + B.most n };
 
+    ghost kept = { λ slots count. A.kept slots count + B.kept slots count };
+
     ghost may_lack = { A.may_lack || B.may_lack };
 
-    ghost same = { λ x y. A.same x.first y.first × B.same x.second y.second };
+    ghost same = { λ s x y. A.same s x.first y.first × B.same s x.second y.second };
 
     ghost key_count = { A.key_count + B.key_count };
 
@@ -80,7 +82,9 @@ where
 
     ghost reports = { λ at. IsEither (IsReportedBy A.reports (C.first at)) (IsReportedBy B.reports (C.second at)) };
 
-    ghost same_as_itself = { λ x. (A.same_as_itself x.first, B.same_as_itself x.second) };
+    ghost kept_none = { sum_none A.kept_none B.kept_none };
+
+    ghost same_as_itself = { λ s x. (A.same_as_itself s x.first, B.same_as_itself s x.second) };
 
     ghost same_indexes = { λ x y state s same is. (
       A.same_indexes x.first y.first state s same.0 is.0,

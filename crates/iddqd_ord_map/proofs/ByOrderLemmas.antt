@@ -12,7 +12,7 @@ use Rattle.iddqd_order.specs.declared.btree_table.gap.Gap.{Gap}
 use Rattle.iddqd_by_order.specs.Ordered.{Takes}
 use Rattle.iddqd_keys.specs.OrderedQuery.{IsQuery-key}
 use Rattle.iddqd_keys.specs.Scan.{AnswersScan}
-use Rattle.iddqd_keys.specs.Side.{IsApart}
+use Rattle.iddqd_keys.specs.KeyIndex.{IsApart}
 use Rattle.iddqd_by_order.proofs.OrderedFindLemmas.{answer, LooksUp-stored, IsVacantAt-placed}
 use Rattle.iddqd_map.specs.KeyIndex.{PlansMove, TakesFound}
 use Rattle.iddqd_map.specs.Map.{shares}

@@ -8,12 +8,12 @@ use Rattle.iddqd_keys.specs.Scan.{HasNoHit}
 use Rattle.iddqd_by_order.specs.Ordered.{AddsInPlace}
 use Rattle.iddqd_ord_map.specs.OrderedIndexing.{Sorts, has_key}
 use Rattle.iddqd_by_order.proofs.OrderedHoldsLemmas.{Holds-empty, Holds-cleared, Holds-removed, Holds-inserted, Holds-compacted}
-use Rattle.iddqd_by_order.proofs.OrderedPlaceLemmas.{IsExact-empty, Keeps-cleared, Keeps-removed, Keeps-compacted}
+use Rattle.iddqd_by_order.proofs.OrderedPlaceLemmas.{IsInSync-empty, Keeps-cleared, Keeps-removed, Keeps-compacted}
 use Rattle.iddqd_keys.proofs.ScanLemmas.{AreApart-inserted}
 
 module _ {T K : Type 0} (key_of : T → K) (compare : K → K → Ordering) where
   pub Sorts-empty : (limit : ℕ) → Sorts key_of compare (empty_within limit) []
-  Sorts-empty limit = record { held = Holds-empty T limit; exact = IsExact-empty key_of compare limit }
+  Sorts-empty limit = record { held = Holds-empty T limit; exact = IsInSync-empty key_of compare limit }
 
   module _ (s : Store T) (order : List ℕ) (o : Sorts key_of compare s order) where
     pub Sorts-cleared : Sorts key_of compare (cleared s) []

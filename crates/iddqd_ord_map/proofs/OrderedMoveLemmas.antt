@@ -23,7 +23,7 @@ use Rattle.iddqd_order.proofs.KeyOrderLemmas.{key_then_index-total, with_ties-ke
 use Rattle.iddqd_order.proofs.MemberLemmas.{contains-inserted_at, contains-inserted_other, contains-inserted_cases, contains-without, contains-from_without}
 use Rattle.iddqd_keys.specs.Scan.{IsLive, IsHit, HasNoHit, AreApart}
 use Rattle.iddqd_by_order.specs.Ordered.{IsInPlace, IsSortedScan, compared, key_at}
-use Rattle.iddqd_keys.specs.Side.{IsApart}
+use Rattle.iddqd_keys.specs.KeyIndex.{IsApart}
 use Rattle.iddqd_ord_map.specs.ByOrderMulti.{item_answer}
 use Rattle.iddqd_ord_map.specs.OrderedIndexing.{has_key}
 use Rattle.iddqd_by_order.proofs.OrderedHoldsLemmas.{Holds-inserted}

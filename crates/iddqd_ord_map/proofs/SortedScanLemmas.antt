@@ -7,14 +7,14 @@ use Rattle.iddqd.specs.Compaction.{compacted, rank}
 use Rattle.iddqd_order.specs.MapBTreeTable.{without}
 use Rattle.iddqd_by_order.specs.Ordered.{IsSortedScan}
 use Rattle.iddqd_by_order.proofs.OrderedHoldsLemmas.{Holds-empty, Holds-removed, Holds-compacted}
-use Rattle.iddqd_by_order.proofs.OrderedPlaceLemmas.{IsExact-empty, Keeps-removed, Keeps-compacted}
+use Rattle.iddqd_by_order.proofs.OrderedPlaceLemmas.{IsInSync-empty, Keeps-removed, Keeps-compacted}
 use Rattle.iddqd_ord_map.specs.ByOrder.{FindsGreatest, FindsLeast}
 use Rattle.iddqd_ord_map.proofs.EndLemmas.{nothing_first, nothing_last}
 use Rattle.iddqd_ord_map.proofs.OrderedEndLemmas.{HasGreatestKey-last, HasLeastKey-first}
 
 module _ {T K : Type 0} (key_of : T → K) (compare : K → K → Ordering) where
   pub IsSortedScan-empty : (limit : ℕ) → IsSortedScan key_of compare (empty_within limit) []
-  IsSortedScan-empty limit = record { holds = Holds-empty T limit; placed = (IsExact-empty key_of compare limit).placed }
+  IsSortedScan-empty limit = record { holds = Holds-empty T limit; placed = (IsInSync-empty key_of compare limit).placed }
 
   module _ (s : Store T) (order : List ℕ) (o : IsSortedScan key_of compare s order) (total : IsTotalOrder compare) where
     pub IsSortedScan-removed :

@@ -14,7 +14,7 @@ use Rattle.iddqd.proofs.LiveLemmas.{item_at, live_at}
 use Rattle.iddqd.proofs.StoreLemmas.{contains_head, contains_tail, contains_cases, contains_none}
 use Rattle.iddqd_order.specs.KeyOrder.{key_then_index}
 use Rattle.iddqd_keys.specs.Scan.{IsLive}
-use Rattle.iddqd_keys.specs.Side.{IsApart}
+use Rattle.iddqd_keys.specs.KeyIndex.{IsApart}
 use Rattle.iddqd_by_order.specs.Ordered.{AreLive, key_at}
 use Rattle.iddqd_by_order.specs.OrderedWalk.{SortsWithin}
 use Rattle.iddqd_ord_map.specs.OrderedIndexing.{Sorts}

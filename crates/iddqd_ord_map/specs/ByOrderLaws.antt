@@ -10,7 +10,7 @@ use Rattle.iddqd_order.specs.declared.btree_table.gap.Gap.{Gap}
 use Rattle.iddqd_order.proofs.GapLemmas.{order-same, place-same, Fits-same}
 use Rattle.iddqd_by_order.specs.Ordered.{IsSortedScan}
 use Rattle.iddqd_keys.specs.Scan.{AnswersScan, AreApart, IsHit}
-use Rattle.iddqd_keys.specs.Side.{IsApart}
+use Rattle.iddqd_keys.specs.KeyIndex.{IsApart}
 use Rattle.iddqd_by_order.proofs.OrderedHoldsLemmas.{Holds-rebound}
 use Rattle.iddqd_by_order.proofs.OrderedPlaceLemmas.{Keeps-rebound}
 use Rattle.iddqd_map.specs.KeyIndex.{HaveSameKeys}

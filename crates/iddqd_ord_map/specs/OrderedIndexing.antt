@@ -4,7 +4,7 @@ use Rattle.std.specs.Ordering.{eq_by_cmp}
 use Rattle.std.specs.declared.cmp.Ordering.{Ordering}
 use Rattle.iddqd.specs.Store.{Store}
 use Rattle.iddqd_keys.specs.Scan.{IsHit, HasNoHit, AnswersScan, passes_by}
-use Rattle.iddqd_by_order.specs.Ordered.{Holds, IsExact}
+use Rattle.iddqd_by_order.specs.Ordered.{Holds, IsInSync}
 use Rattle.iddqd_ord_map.specs.declared.ordered_move.Move.{Move}
 use Rattle.iddqd_ord_map.specs.declared.ordered_move.Move.TheVariants.{Stays, Moves}
 
@@ -17,7 +17,7 @@ module _ {T K : Type 0} (key_of : T → K) (compare : K → K → Ordering) wher
   -- items share a key.
   pub record Sorts (s : Store T) (order : List ℕ) : Type 0 where
     pub held : Holds s order
-    pub exact : IsExact key_of compare s order
+    pub exact : IsInSync key_of compare s order
 
   -- What has to become of a live index that is given this item: it stays where the key stays, and else, where no item
   -- has the key, it moves; or the index of another item that has the key.

@@ -11,7 +11,7 @@ use Rattle.iddqd_order.specs.MapBTreeTable.{Order, HasSameTree, order_of}
 use Rattle.iddqd_order.proofs.GapLemmas.{order-same}
 use Rattle.iddqd_by_order.specs.Ordered.{Holds, IsSortedScan, key_at}
 use Rattle.iddqd_keys.specs.Scan.{IsHit, IsLive}
-use Rattle.iddqd_keys.specs.Side.{ChangesAt}
+use Rattle.iddqd_keys.specs.KeyIndex.{ChangesAt}
 use Rattle.iddqd_by_order.proofs.OrderedHoldsLemmas.{Holds-rebound}
 use Rattle.iddqd_by_order.proofs.OrderedPlaceLemmas.{Keeps-rebound}
 use Rattle.iddqd_keys.proofs.KeyWalkLemmas.{IsInPlace-tied}

@@ -171,9 +171,11 @@ where
 
     ghost most = { most_cells };
 
+    ghost kept = { λ slots count. most_cells count };
+
     ghost may_lack = { true };
 
-    ghost same = { λ x y. HasSameTree x.table y.table };
+    ghost same = { λ s x y. HasSameTree x.table y.table };
 
     ghost key_count = { 1 };
 
@@ -183,7 +185,9 @@ where
 
     ghost reports = { λ at ix. ix ≡ at };
 
-    ghost same_as_itself = { λ x. record { root = refl; height = refl } };
+    ghost kept_none = { refl };
+
+    ghost same_as_itself = { λ s x. record { root = refl; height = refl } };
 
     ghost same_indexes = { λ x y state s same is. Sorts-same_tree E.key_of E.Key.cmp s x.table y.table same is };
 

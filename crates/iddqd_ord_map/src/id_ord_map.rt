@@ -254,14 +254,14 @@ impl<T: IdOrdItem> IdOrdMap<T> {
 
     /// Gives back the memory that the slots and the table don't need. Where smaller memory is refused the items stay.
     pub fn shrink_to_fit(&mut self) -> Result<(), AllocError>
-        ensures { ShrinksItems most_cells 0 self.old result self.new }
+        ensures { ShrinksItems (λ slots count. most_cells count) 0 self.old result self.new }
     {
         self.map.shrink_to_fit()
     }
 
     /// Gives back the memory that so many items don't need, beside the slots and the items that there are.
     pub fn shrink_to(&mut self, least: usize) -> Result<(), AllocError>
-        ensures { ShrinksItems most_cells least self.old result self.new }
+        ensures { ShrinksItems (λ slots count. most_cells count) least self.old result self.new }
     {
         self.map.shrink_to(least)
     }

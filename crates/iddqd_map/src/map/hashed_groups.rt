@@ -47,8 +47,7 @@ impl<T, X: KeyIndex<T, S>, S> Map<T, X, S> {
     /// Removes the items that have the key for which the query stands, and returns how many they were.
     ///
     /// The closure is handed each of them once, in no particular order. No memory is taken. It costs, for each item, a
-    /// look-up of that key, and a removal from each key index. Each removal from the hash table costs a step for each
-    /// item of the group, so a group of n items costs n * n steps.
+    /// look-up of that key, and a removal from each key index.
     pub fn remove_hashed_group_by<P, Q, F: FnMut(T)>(&mut self, query: Q, mut f: F) -> usize
     where
         X: GroupedAt<P, T, S> + Removes<T, S>,

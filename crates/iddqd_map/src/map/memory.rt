@@ -86,7 +86,7 @@ impl<T, X: Sizes<T, S>, S> Map<T, X, S> {
 
     /// Gives back the memory that the slots and the tables don't need. Where smaller memory is refused the items stay.
     pub fn shrink_to_fit(&mut self) -> Result<(), AllocError>
-        ensures shrinks { ShrinksItems X.most 0 self.old result self.new }
+        ensures shrinks { ShrinksItems X.kept 0 self.old result self.new }
         ensures fits { OnOk result (room self.new ≤ length self.old.store.free) }
     {
         self.shrink_to(0)
@@ -94,7 +94,7 @@ impl<T, X: Sizes<T, S>, S> Map<T, X, S> {
 
     /// Gives back the memory that so many items don't need, beside the slots and the items that there are.
     pub fn shrink_to(&mut self, least: usize) -> Result<(), AllocError>
-        ensures shrinks { ShrinksItems X.most least self.old result self.new }
+        ensures shrinks { ShrinksItems X.kept least self.old result self.new }
         ensures fits { OnOk result
             (room self.new ≤ max (least - live_count self.old.store) (length self.old.store.free)) }
     {

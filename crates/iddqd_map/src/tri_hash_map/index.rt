@@ -69,9 +69,11 @@ impl<T: TriHashItem, S: BuildHasher> KeyIndex<T, S> for TriIndex<T> {
 
     ghost most = { λ n. most_cells n + (most_cells n + most_cells n) };
 
+    ghost kept = { λ slots count. most_cells count + (most_cells count + most_cells count) };
+
     ghost may_lack = { false };
 
-    ghost same = { λ x y. ⟦<Tables<T> as KeyIndex<T, S>>⟧.same x.tables y.tables };
+    ghost same = { λ s x y. ⟦<Tables<T> as KeyIndex<T, S>>⟧.same s x.tables y.tables };
 
     ghost key_count = { 3 };
 
@@ -87,7 +89,9 @@ impl<T: TriHashItem, S: BuildHasher> KeyIndex<T, S> for TriIndex<T> {
         <Tables<T> as KeyIndex<T, S>>::unasked()
     }
 
-    ghost same_as_itself = { λ x. (refl, (refl, refl)) };
+    ghost kept_none = { refl };
+
+    ghost same_as_itself = { λ s x. (refl, (refl, refl)) };
 
     ghost same_indexes = { λ x y state s same is. (
       Indexes-kept T.first_key (hashing_of T.Key1.eq T.Key1.hash_input S.BuildHasher S.Hasher.Hasher state) s

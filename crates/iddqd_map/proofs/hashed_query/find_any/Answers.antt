@@ -1,13 +1,8 @@
-use Rattle.iddqd_hash.specs.MapHashTable.{filed}
-use Rattle.iddqd_by_hash.specs.Hashed.{Hashing, hashing_of}
-use Rattle.iddqd_map.proofs.FilesLemmas.{FindsSome-found}
-use Rattle.iddqd_map.proofs.IndexingLemmas.{StandsForOne-query}
+use Rattle.iddqd_keys.specs.Scan.{passes_by}
+use Rattle.iddqd_map.proofs.GroupLemmas.{FindsSome-first}
 use Rattle.iddqd_map.proofs.hashed_query.find_any.Goals as goal
 
 pub returns : goal.returns
 returns g c =
-    let state = c.args.state.now in
-    let hashing : Hashing _ = hashing_of g.E.Key.PartialEq.eq g.E.Key.Hash.hash_input g.S.BuildHasher g.S.Hasher.Hasher state in
-    let query = c.args.query in
-    let one = StandsForOne-query g.E.Key.PartialEq.eq g.E.Key.Hash.hash_input g.S.BuildHasher g.S.Hasher.Hasher state (g.Q.Hash.hash_input query) (g.Q.HashQuery.stands_for query) (g.met.Q.HashQuery.same_hash query) (g.met.Q.HashQuery.same_key query) in
-    FindsSome-found g.E.KeyOf.key_of hashing c.args.items.now.store (filed c.args.table.now) c.requires c.query_hash-hash.result (g.Q.HashQuery.stands_for query) c.find.result (rw c.query_hash-hash.ensures one) c.find.ensures.found
+    FindsSome-first (passes_by g.E.KeyOf.key_of (g.Q.HashQuery.stands_for c.args.query)) c.args.items.now.store c.group_by-group.result c.next.result c.next.new.self
+    c.group_by-group.ensures c.next.ensures.steps

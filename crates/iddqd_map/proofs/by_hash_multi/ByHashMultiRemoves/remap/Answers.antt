@@ -1,12 +1,12 @@
-use Rattle.iddqd_hash.specs.MapHashTable.{filed}
-use Rattle.iddqd_map.proofs.FilesLemmas.{Files-compacted}
+use Rattle.iddqd_map.proofs.FilesLemmas.{FilesWithin-compacted}
 use Rattle.iddqd_map.proofs.by_hash_multi.ByHashMultiRemoves.remap.Goals as goal
 
 pub remap-requires : goal.remap-requires
 remap-requires g c =
     let (state, (s, is, valid, named)) = c.requires.names in
-    (s, is.held, valid, named)
+    (s, is.files.held, valid, named)
 
 pub returns-clause-indexed : goal.returns-clause-indexed
 returns-clause-indexed g c = λ state s is valid named.
-    Files-compacted _ _ s (filed c.args.self.now.table) is (filed c.remap.new.table) (c.remap.ensures.renamed s is.held valid named)
+    FilesWithin-compacted _ _ s c.args.self.now.table is c.remap.new.table valid
+    (c.remap.ensures.renamed s is.files.held valid named) c.remap.ensures.memory

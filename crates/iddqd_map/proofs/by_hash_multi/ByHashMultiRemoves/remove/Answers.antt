@@ -1,10 +1,12 @@
 use Rattle.iddqd.proofs.LiveLemmas.{item_at}
-use Rattle.iddqd_hash.specs.MapHashTable.{filed}
-use Rattle.iddqd_map.proofs.FilesLemmas.{Files-removed}
+use Rattle.iddqd_map.proofs.FilesLemmas.{FilesWithin-removed}
 use Rattle.iddqd_map.proofs.by_hash_multi.ByHashMultiRemoves.remove.Goals as goal
+
+pub remove-requires : goal.remove-requires
+remove-requires g c = (c.requires.indexed.files.held c.args.ix).1 c.requires.live
 
 pub returns-clause-indexed : goal.returns-clause-indexed
 returns-clause-indexed g c =
     let s = c.args.items.now.store in
     let (item, live) = item_at s c.args.ix c.requires.live in
-    rw c.take_out.ensures.taken (Files-removed _ _ s (filed c.args.self.now.table) c.requires.indexed c.args.ix item live)
+    FilesWithin-removed _ _ s c.args.self.now.table c.requires.indexed c.remove.new.self c.args.ix item live c.remove.ensures.removed c.remove.ensures.memory

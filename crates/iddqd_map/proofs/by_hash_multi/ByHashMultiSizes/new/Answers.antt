@@ -1,5 +1,8 @@
-use Rattle.iddqd_map.proofs.FilesLemmas.{Files-empty}
+use Rattle.std.proofs.Common.{ap}
+use Rattle.iddqd_by_hash.specs.LinkedTable.{Linked}
+use Rattle.iddqd_map.proofs.FilesLemmas.{FilesWithin-empty}
 use Rattle.iddqd_map.proofs.by_hash_multi.ByHashMultiSizes.new.Goals as goal
 
 pub returns-clause-none : goal.returns-clause-none
-returns-clause-none g c = λ state limit. rw c.new.ensures.empty (Files-empty _ _ limit)
+returns-clause-none g c = λ state limit.
+    FilesWithin-empty _ _ limit c.new.result (ap (λ (t : Linked). t.filed) c.new.ensures)

@@ -1,4 +1,4 @@
-use Rattle.iddqd_map.proofs.TakeLemmas.{IsIndexed-taken, Removes-gone, Removes-hit, Removes-none}
+use Rattle.iddqd_map.proofs.TakeLemmas.{IsIndexed-taken, Removes-gone, Removes-hit, Removes-none, room-removes}
 use Rattle.iddqd_map.proofs.map.Map.remove_query.Goals as goal
 
 pub returns-in_err-ix-clause-removes : goal.returns-in_err-ix-clause-removes
@@ -35,3 +35,10 @@ pub returns-clause-gone : goal.returns-clause-gone
 returns-clause-gone g c =
     let test = g.X.TakesQuery.stands_for c.args.query in
     Removes-gone _ _ test c.remove.result (returns-clause-removes g c)
+
+pub returns-clause-room : goal.returns-clause-room
+returns-clause-room g c =
+    let test = g.X.TakesQuery.stands_for c.args.query in
+    let valid = c.self.invariant.valid in
+    room-removes _ _ test c.remove.result (rw (← c.self.view_is) valid) (invariant_of-self-2 g c).valid
+    (returns-clause-removes g c)

@@ -1,0 +1,62 @@
+//! Indexes leave a linked table. That takes no memory.
+ghost use Rattle.std.specs.Prelude.{◌≡◌, ◌<◌, ◌≤◌, ◌+◌, IsSome, Some, None, vec_len, vec_capacity};
+ghost use Rattle.std.specs.FinMap as finite;
+ghost use Rattle.iddqd_hash.specs.{filed};
+ghost use Rattle.iddqd_hash.specs.HashTable.{capacity, memory};
+ghost use Rattle.iddqd_by_hash.specs.LinkedTable.{AreLinked, KeepsLinks};
+ghost use Rattle.iddqd_by_hash.specs.Links.{filed_by, heads_after};
+
+use super::LinkedTable;
+use super::links::{Link, follow, lead, take};
+use crate::hashed::take_index;
+use iddqd::item_index::ItemIndex;
+use iddqd::map_hash::MapHash;
+use iddqd_hash::hash_table::MapHashTable;
+
+impl LinkedTable {
+    /// Removes an index. It computes no hash, takes no memory, and costs the same however many indexes share the hash.
+    pub fn remove(&mut self, ix: ItemIndex)
+        requires { IsSome (finite.get self.old.filed ix) }
+        ensures removed { self.new.filed ≡ finite.remove self.old.filed ix }
+        ensures memory { KeepsLinks self.old self.new }
+        ensures one_less { finite.len self.new.filed + 1 ≡ finite.len self.old.filed }
+        ensures inside { ix < self.new.slots }
+        ensures holds_all { finite.len self.old.filed ≤ self.old.capacity }
+    {
+        unlink(&mut self.heads, &mut self.links, ix);
+        self.len -= 1;
+    }
+}
+
+// Takes an index out of the chain that it is in.
+fn unlink(heads: &mut MapHashTable, links: &mut Vec<Link>, ix: ItemIndex)
+    requires linked { AreLinked (filed heads.old) links.old.items }
+    requires present { IsSome (finite.get (filed_by links.old.items) ix) }
+    ensures linked { AreLinked (filed heads.new) links.new.items }
+    ensures filed { filed_by links.new.items ≡ finite.remove (filed_by links.old.items) ix }
+    ensures heads_capacity { capacity heads.new ≡ capacity heads.old }
+    ensures heads_memory { memory heads.new ≡ memory heads.old }
+    ensures len { vec_len links.new ≡ vec_len links.old }
+    ensures capacity { vec_capacity links.new ≡ vec_capacity links.old }
+{
+    let link = take(links, ix);
+    lead(links, link.prev, link.next);
+    follow(links, link.next, link.prev);
+    if link.prev == ItemIndex::SENTINEL {
+        replace_head(heads, MapHash::new(link.hash), ix, link.next);
+    }
+}
+
+// Puts the index that follows a head in its place, or nothing where none does.
+fn replace_head(heads: &mut MapHashTable, hash: MapHash, head: ItemIndex, next: ItemIndex)
+    requires head { finite.get (filed heads.old) head ≡ Some hash }
+    requires new { finite.get (filed heads.old) next ≡ None }
+    ensures heads { filed heads.new ≡ heads_after (filed heads.old) head hash next }
+    ensures capacity { capacity heads.new ≡ capacity heads.old }
+    ensures memory { memory heads.new ≡ memory heads.old }
+{
+    take_index(heads, hash, head);
+    if next != ItemIndex::SENTINEL {
+        heads.insert_prehashed_unchecked(hash, next);
+    }
+}

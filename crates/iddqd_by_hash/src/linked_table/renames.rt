@@ -1,0 +1,69 @@
+//! Indexes of a linked table get new names. That takes no memory.
+ghost use Rattle.std.specs.Prelude.{◌≡◌, ◌≢◌, ◌≤◌, ◌<◌, ℕ, IsSome, vec_len, vec_capacity};
+ghost use Rattle.std.specs.FinMap as finite;
+ghost use Rattle.iddqd.specs.Compaction.{CanRemap, remapped};
+ghost use Rattle.iddqd.specs.Store.{sentinel};
+ghost use Rattle.iddqd_hash.specs.MapHashTable.{Renames};
+ghost use Rattle.iddqd_by_hash.specs.LinkedTable.{KeepsLinks};
+ghost use Rattle.iddqd_by_hash.specs.Links.{filed_by, next_of, prev_of, renamed, AreNeighbours, RenamesLinks};
+
+use super::LinkedTable;
+use super::links::{Link, has_link, put, take};
+use iddqd::index_remap::IndexRemap;
+use iddqd::item_index::ItemIndex;
+
+impl LinkedTable {
+    /// Gives each index its new name, under the hash that it has. It takes no memory, and costs a step a slot; nothing
+    /// where every index keeps its name.
+    pub fn remap_indexes(&mut self, remap: &IndexRemap)
+        requires can_remap { (ix : ℕ) → IsSome (finite.get self.old.filed ix) → CanRemap remap.now ix }
+        requires distinct { (i j : ℕ) → IsSome (finite.get self.old.filed i) → IsSome (finite.get self.old.filed j)
+            → remapped remap.now i ≡ remapped remap.now j → i ≡ j }
+        requires falling { (ix : ℕ) → IsSome (finite.get self.old.filed ix) → remapped remap.now ix ≤ ix }
+        ensures renamed { Renames (remapped remap.now) self.old.filed self.new.filed }
+        ensures memory { KeepsLinks self.old self.new }
+    {
+        if remap.is_identity() {
+            return;
+        }
+        self.heads.remap_indexes(remap);
+        rename_links(&mut self.links, remap);
+    }
+}
+
+// Moves each link to the new name of its index, and renames the neighbours in it.
+fn rename_links(links: &mut Vec<Link>, remap: &IndexRemap)
+    requires small { vec_len links.old ≤ sentinel }
+    requires neighbours { AreNeighbours (filed_by links.old.items) (next_of links.old.items) (prev_of links.old.items) }
+    requires can_remap { (ix : ℕ) → IsSome (finite.get (filed_by links.old.items) ix) → CanRemap remap.now ix }
+    requires distinct { (i j : ℕ) → IsSome (finite.get (filed_by links.old.items) i)
+        → IsSome (finite.get (filed_by links.old.items) j) → remapped remap.now i ≡ remapped remap.now j → i ≡ j }
+    requires falling { (ix : ℕ) → IsSome (finite.get (filed_by links.old.items) ix) → remapped remap.now ix ≤ ix }
+    ensures renamed { RenamesLinks (remapped remap.now) links.old.items links.new.items }
+    ensures len { vec_len links.new ≡ vec_len links.old }
+    ensures capacity { vec_capacity links.new ≡ vec_capacity links.old }
+{
+    'renaming: for place in 0..links.len() {
+        let ix = ItemIndex::new(place as u32);
+        if has_link(links, ix) {
+            let link = take(links, ix);
+            let renamed = Link {
+                hash: link.hash,
+                next: new_name(remap, link.next),
+                prev: new_name(remap, link.prev),
+            };
+            put(links, remap.remap(ix), renamed);
+        }
+    }
+}
+
+// The new name of a neighbour, or `SENTINEL` where there is none.
+fn new_name(remap: &IndexRemap, ix: ItemIndex) -> ItemIndex
+    requires { ix ≢ sentinel → CanRemap remap.now ix }
+    ensures { result ≡ renamed (remapped remap.now) ix }
+{
+    if ix == ItemIndex::SENTINEL {
+        return ix;
+    }
+    remap.remap(ix)
+}

@@ -1,0 +1,75 @@
+//! Memory that a linked table takes ahead, and gives back.
+ghost use Rattle.std.specs.Prelude.{◌≡◌, ◌+◌, ◌≤◌, ◌<◌, ℕ, min, max, IsOk, IfOk, OnOk, OnErr, IsSome};
+ghost use Rattle.std.specs.FinMap as finite;
+ghost use Rattle.iddqd_by_hash.specs.LinkedTable.{most_linked, kept_linked};
+
+use super::LinkedTable;
+use iddqd_hash::hash_table::MapHashTable;
+use std::alloc::{AllocError, Global};
+
+impl LinkedTable {
+    /// An empty table that can hold so many indexes. With 0 it takes no memory.
+    pub fn with_capacity(alloc: Global, wanted: usize) -> Result<LinkedTable, AllocError>
+        ensures empty { IfOk result (λ t. t.filed ≡ finite.empty) }
+        ensures slots { IfOk result (λ t. t.slots ≡ 0) }
+        ensures capacity { IfOk result (λ t. wanted ≤ t.capacity) }
+        ensures few { IfOk result (λ t. t.memory ≤ most_linked wanted) }
+        ensures succeeds { wanted ≡ 0 → IsOk result }
+    {
+        Ok(LinkedTable {
+            heads: MapHashTable::with_capacity(alloc, wanted)?,
+            links: Vec::with_capacity(alloc, wanted)?,
+            len: 0,
+        })
+    }
+
+    /// Makes room for so many indexes more. Where there is room it takes no memory.
+    ///
+    /// For links it takes memory for twice as many as it had, where that is more. Where memory is refused, or no vector
+    /// can hold so many, the indexes stay.
+    pub fn try_reserve(&mut self, additional: usize) -> Result<(), AllocError>
+        ensures contents { self.new.filed ≡ self.old.filed }
+        ensures slots { self.new.slots ≡ self.old.slots }
+        ensures reserved { OnOk result (finite.len self.old.filed + additional ≤ self.new.capacity) }
+        ensures had_room { finite.len self.old.filed + additional ≤ self.old.capacity
+            → IsOk result × (self.new ≡ self.old) }
+        ensures capacity_stays { self.old.capacity ≤ self.new.capacity }
+        ensures few { self.new.memory ≤ self.old.memory + most_linked (finite.len self.old.filed + additional) }
+    {
+        let needed = self.len.checked_add(additional).ok_or(AllocError)?;
+        if needed <= self.capacity() {
+            return Ok(());
+        }
+        self.heads.try_reserve(needed - self.heads.len())?;
+        prove!(needed <= self.heads.capacity());
+        if self.links.capacity() < needed {
+            let wanted = self.links.capacity().saturating_mul(2).max(needed);
+            self.links.reserve_exact(wanted - self.links.len())?;
+        }
+        Ok(())
+    }
+
+    /// Gives back the memory that neither so many slots, nor the indexes or so many of them need.
+    ///
+    /// The memory may have to move to a smaller block, which may be refused.
+    pub fn shrink_to(&mut self, slots: usize, least: usize) -> Result<(), AllocError>
+        requires { (ix : ℕ) → IsSome (finite.get self.old.filed ix) → ix < slots }
+        ensures contents { self.new.filed ≡ self.old.filed }
+        ensures slots { self.new.slots ≡ min slots self.old.slots }
+        ensures never_more { self.new.memory ≤ self.old.memory }
+        ensures capacity_stays { min self.old.capacity (max least (finite.len self.old.filed)) ≤ self.new.capacity }
+        ensures shrunk { OnOk result (self.new.memory
+            ≤ kept_linked (max least slots) (max least (finite.len self.old.filed))) }
+        ensures refused { OnErr result (max least (finite.len self.old.filed) < self.new.memory) }
+        ensures succeeds { kept_linked (max least slots) (max least (finite.len self.old.filed)) ≡ 0 → IsOk result }
+    {
+        self.links.truncate(slots);
+        let wanted = least.max(self.links.len());
+        self.links.shrink_to(wanted);
+        self.heads.shrink_to(least.max(self.len))?;
+        if wanted < self.links.capacity() {
+            return Err(AllocError);
+        }
+        Ok(())
+    }
+}

@@ -1,0 +1,24 @@
+use Rattle.std.proofs.Common.{◌≤◌, sym, subst}
+use Rattle.iddqd.proofs.CompactionLemmas.{rank-le}
+use Rattle.iddqd.proofs.LiveLemmas.{renames}
+use Rattle.iddqd_by_hash.proofs.HoldsLemmas.{Renames-by_rank, CanRemap-held, one_name-held}
+use Rattle.iddqd_map.proofs.linked_steps.remap.Goals as goal
+
+pub remap_indexes-requires-clause-can_remap : goal.remap_indexes-requires-clause-can_remap
+remap_indexes-requires-clause-can_remap g c =
+    let (s, is, valid, named) = c.requires in
+    CanRemap-held s c.args.table.now.filed is c.args.remap.now valid named
+
+pub remap_indexes-requires-clause-distinct : goal.remap_indexes-requires-clause-distinct
+remap_indexes-requires-clause-distinct g c =
+    let (s, is, valid, named) = c.requires in
+    one_name-held s c.args.table.now.filed is c.args.remap.now valid named
+
+pub remap_indexes-requires-clause-falling : goal.remap_indexes-requires-clause-falling
+remap_indexes-requires-clause-falling g c = λ ix filed.
+    let (s, is, valid, named) = c.requires in
+    subst (λ n. n ≤ ix) (sym (renames s c.args.remap.now valid named ix ((is ix).0 filed)).1) (rank-le s ix)
+
+pub returns-clause-renamed : goal.returns-clause-renamed
+returns-clause-renamed g c = λ s is valid named.
+    Renames-by_rank s c.args.table.now.filed is c.args.remap.now valid named c.remap_indexes.new.self.filed c.remap_indexes.ensures.renamed
