@@ -6,27 +6,15 @@ use Rattle.std.proofs.lemmas.Bool.Decides.{nat_tests}
 use Rattle.iddqd_keyed.specs.Store.{Store}
 use Rattle.iddqd_keyed.specs.Scan.{HasNoHit}
 use Rattle.uses.specs.declared.calendar.Appointment.{Appointment}
-use Rattle.uses.specs.Calendar.{IsBooked, IsTaken}
+use Rattle.uses.specs.Calendar.{IsBooked, HasNone, IsTaken}
 
 module _ (s : Store Appointment) where
   -- where no appointment passes the test of a number, none has it
-  no_number :
-      (number : ℕ)
-      → HasNoHit s (λ a. number == a.number)
-      → (a : Appointment)
-      → IsBooked s a
-      → a.number ≡ number
-      → ⊥
+  pub no_number : (number : ℕ) → HasNoHit s (λ a. number == a.number) → HasNone s (λ a. a.number ≡ number)
   no_number number misses a booked is = misses booked.0 (a, booked.1, grind (arith, nat_tests, is))
 
   -- where none passes that of a start, none starts then
-  no_start :
-      (start : ℕ)
-      → HasNoHit s (λ a. eq_by_cmp nat_cmp start a.start)
-      → (a : Appointment)
-      → IsBooked s a
-      → a.start ≡ start
-      → ⊥
+  pub no_start : (start : ℕ) → HasNoHit s (λ a. eq_by_cmp nat_cmp start a.start) → HasNone s (λ a. a.start ≡ start)
   no_start start misses a booked is =
       let same : (start == a.start) ≡ true = grind (arith, nat_tests, is) in
       misses booked.0 (a, booked.1, unsigned_tied start a.start ∙ same)

@@ -1,3 +1,6 @@
 pub mod RegistryLemmas
 pub mod CalendarLemmas
+pub mod DropLemmas
+pub mod ConflictLemmas
 pub mod LedgerLemmas
+pub mod DiaryLemmas

@@ -6,7 +6,7 @@
 ghost use Rattle.std.specs.Prelude.{◌≡◌, ◌≢◌, ◌↔◌, Some, Err, OnOk, OnErr};
 ghost use Rattle.std.proofs.Props.{props};
 ghost use Rattle.iddqd_keyed.specs.Store.{inserted};
-ghost use Rattle.iddqd_keyed.specs.{IsExact, first_side, second_side, items_at};
+ghost use Rattle.iddqd_keyed.specs.{IsInSync, first_key_index, second_key_index, items_at};
 ghost use Rattle.uses.specs.Calendar.{IsBooked, IsTaken};
 ghost use Rattle.uses.specs.declared.calendar.Appointment.{Appointment};
 ghost use Rattle.uses.specs.declared.calendar.BookingError.TheVariants.{Taken};
@@ -48,8 +48,8 @@ type Appointments = KeyedItems<Appointment, DefaultHashBuilder>;
 #[derive(Drop)]
 pub struct Calendar {
     pub booked: Appointments,
-    ghost by_number: { IsExact (first_side ⟦<Appointments as Keyed>⟧.keys) booked.state },
-    ghost by_start: { IsExact (second_side ⟦<Appointments as Keyed>⟧.keys) booked.state } by { Prim.hlevel props },
+    ghost by_number: { IsInSync (first_key_index ⟦<Appointments as Keyed>⟧.keys) booked.state },
+    ghost by_start: { IsInSync (second_key_index ⟦<Appointments as Keyed>⟧.keys) booked.state } by { Prim.hlevel props },
 }
 
 /// Why an appointment wasn't booked.
@@ -124,8 +124,8 @@ impl Calendar {
     /// The appointments in the order of their starts.
     pub fn agenda(&self) -> ValuesByKey2<'_, Appointment>
         ensures items { result ≡ items_at self.now.booked.state.store self.now.booked.state.order }
-        ensures sorted { let side = second_side ⟦<Appointments as Keyed>⟧.keys in
-            side.Lists self.now.booked.state.store self.now.booked.state.order }
+        ensures sorted { let key_index = second_key_index ⟦<Appointments as Keyed>⟧.keys in
+            key_index.Lists self.now.booked.state.store self.now.booked.state.order }
     {
         self.booked.values_by_key2()
     }

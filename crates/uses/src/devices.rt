@@ -2,11 +2,11 @@
 //!
 //! A type without values names each key, and pairs of key indexes put the four together. The place of a key in them is
 //! the type that a look-up names.
-ghost use Rattle.std.specs.Prelude.{◌≡◌, ◌==◌, ℕ, false, ◌↔◌, option_copied, IfOk, OnOk, OnErr};
-ghost use Rattle.iddqd_maps.specs.Map.{FindsItem};
+ghost use Rattle.std.specs.Prelude.{◌≡◌, ◌==◌, ℕ, false, ◌↔◌, option_copied, IfOk, IfErr, OnOk, OnErr, MatchOption};
+ghost use Rattle.iddqd_maps.specs.Map.{FindsItem, Removes};
 ghost use Rattle.iddqd_maps.specs.Scan.{AnswersScan, HasNoHit};
 ghost use Rattle.iddqd_maps.specs.Store.{inserted};
-ghost use Rattle.uses.specs.Devices.{is_named, share_key};
+ghost use Rattle.uses.specs.Devices.{has_address, has_serial, is_named, share_key, Exchanges, IsWhyNot, SetsPorts, TakesOver};
 ghost use Rattle.uses.specs.declared.devices.Device.{Device};
 
 use iddqd_maps::by_hash::ByHash;
@@ -149,8 +149,12 @@ pub fn named<'a>(devices: &'a Devices, name: &str) -> Option<&'a Device>
     devices.get_by::<ByName, _>(name)
 }
 
-/// Notes how many ports the device at this address has, if there is one. It keeps its keys, and no table is touched.
-pub fn set_ports(devices: &mut Devices, address: u32, ports: u32) -> Option<()> {
+/// Notes how many ports the device at this address has; none exactly where there is no such device. It keeps its keys,
+/// and no table is touched.
+pub fn set_ports(devices: &mut Devices, address: u32, ports: u32) -> Option<()>
+    ensures { MatchOption result (HasNoHit devices.old.store (has_address address) × (devices.new ≡ devices.old))
+        (λ _. SetsPorts (has_address address) ports devices.old devices.new) }
+{
     devices.modify_by::<ByAddress, _, _, _>(&address, |device| device.ports = ports)
 }
 
@@ -161,7 +165,9 @@ pub fn exchange(
     serial: u64,
     device: Device,
 ) -> Result<Device, ReplaceRefusal<Device, TakenKeys>>
-    ensures { OnErr result (devices.new.store ≡ devices.old.store) }
+    ensures exchanged { IfOk result (λ was. Exchanges (has_serial serial) device devices.old was devices.new) }
+    ensures refused { IfErr result (IsWhyNot devices.old (has_serial serial) device) }
+    ensures unchanged { OnErr result (devices.new ≡ devices.old) }
 {
     devices.replace_by::<BySerial, _>(&serial, device)
 }
@@ -171,16 +177,17 @@ pub fn take_over(
     devices: &mut Devices,
     device: Device,
 ) -> Result<(ItemIndex, [Option<Device>; 4]), OverwriteRefusal<Device>>
-    ensures { OnErr result (devices.new.store ≡ devices.old.store) }
+    ensures taken { IfOk result (λ taken. TakesOver device devices.old taken.0 taken.1 devices.new) }
+    ensures refused { OnErr result (devices.new.store ≡ devices.old.store) }
 {
     let mut places = [None, None, None, None];
     let ix = devices.overwrite_into(device, &mut places)?;
     Ok((ix, places))
 }
 
-/// Takes the device of this name out.
+/// Takes the device of this name out. All others stay. It takes no memory.
 pub fn remove(devices: &mut Devices, name: &str) -> Option<Device>
-    ensures { FindsItem devices.old.store (is_named name.now) result }
+    ensures { Removes devices.old (is_named name.now) result devices.new }
 {
     devices.remove_by::<ByName, _>(name)
 }

@@ -1,14 +1,17 @@
 //! A diary of appointments: the calls of keyed items that `calendar` and `guests` don't make, and what each promises.
-ghost use Rattle.std.specs.Prelude.{◌≡◌, ◌↔◌, ◌≤◌, ◌+◌, ℕ, IsTrue, Some, IfSome, IfOk, OnOk, min};
+ghost use Rattle.std.specs.Prelude.{◌≡◌, ◌↔◌, ◌≤◌, ◌+◌, ℕ, IsTrue, Some, None, IfSome, IfOk, OnOk, MatchOption, filter, min, nat_le};
 ghost use Rattle.std.specs.Ordering.{nat_cmp, eq_by_cmp};
 ghost use Rattle.iddqd_maps.specs.LiveItems.{live_pairs};
 ghost use Rattle.iddqd_keyed.specs.Scan.{IsHit};
 ghost use Rattle.iddqd_keyed.specs.Store.{get, live_count, rebound};
 ghost use Rattle.iddqd_keyed.specs.{capacity, empty_state, empty_state_within, no_memory, room, reservable};
+ghost use Rattle.iddqd_keyed.specs.{IsInSync, first_key_index, second_key_index};
+ghost use Rattle.uses.specs.Calendar.{IsBooked, HasNone};
+ghost use Rattle.uses.specs.Diary.{Cancels, Extends};
 ghost use Rattle.uses.specs.declared.calendar.Appointment.{Appointment};
 
 use crate::calendar::Appointment;
-use iddqd_keyed::keyed_items::{InsertRefusal, KeyedItems};
+use iddqd_keyed::keyed_items::{InsertRefusal, Keyed, KeyedItems};
 use iddqd_maps::hash_builder::DefaultHashBuilder;
 use iddqd_maps::item_index::ItemIndex;
 use iddqd_maps::item_set::Iter;
@@ -44,39 +47,52 @@ pub fn page(diary: &Diary, start: u32) -> Option<ItemIndex>
     diary.find2_by(&start)
 }
 
-/// An appointment that starts then.
+/// An appointment that starts then. While the table of starts is in order, it is none only where no appointment does.
 pub fn starting(diary: &Diary, start: u32) -> Option<Appointment>
-    ensures { IfSome result (λ a. (ix : ℕ) × (get diary.now.state.store ix ≡ Some a)) }
+    ensures found { IfSome result (λ a. IsBooked diary.now.state.store a × (a.start ≡ start)) }
+    ensures missed { IsInSync (second_key_index ⟦<Diary as Keyed>⟧.keys) diary.now.state →
+        result ≡ None → HasNone diary.now.state.store (λ a. a.start ≡ start) }
 {
     diary.get2_by(&start).copied()
 }
 
-/// Takes an appointment out that starts then.
+/// Removes an appointment that starts then, and returns it with its index. All others stay. While the table of starts
+/// is in order, it is none only where no appointment starts then.
 pub fn cancel(diary: &mut Diary, start: u32) -> Option<(ItemIndex, Appointment)>
-    ensures { IfSome result (λ taken. get diary.old.state.store taken.0 ≡ Some taken.1) }
+    ensures cancelled { MatchOption result (diary.new.state ≡ diary.old.state)
+        (λ taken. Cancels start diary.old.state taken diary.new.state) }
+    ensures missed { IsInSync (second_key_index ⟦<Diary as Keyed>⟧.keys) diary.old.state →
+        result ≡ None → HasNone diary.old.state.store (λ a. a.start ≡ start) }
+    ensures memory { diary.new.memory ≡ diary.old.memory }
 {
     diary.remove2_by(&start)
 }
 
-/// Lets the appointment with this number take so long, if there is one.
+/// Lets the appointment with this number take so long, if it is found. While the table of numbers is in order, it is
+/// none only where no appointment has the number.
 pub fn extend(diary: &mut Diary, number: u32, minutes: u32) -> Option<()>
-    ensures { IfSome result (λ _. (ix : ℕ) × (was : Appointment) × (get diary.old.state.store ix ≡ Some was)
-        × (diary.new.state.store ≡ rebound diary.old.state.store ix (record was { minutes = minutes }))) }
+    ensures extended { MatchOption result (diary.new.state ≡ diary.old.state)
+        (λ _. Extends (λ a. a.number ≡ number) minutes diary.old.state diary.new.state) }
+    ensures missed { IsInSync (first_key_index ⟦<Diary as Keyed>⟧.keys) diary.old.state →
+        result ≡ None → HasNone diary.old.state.store (λ a. a.number ≡ number) }
 {
     diary.modify1(&number, |appointment| appointment.minutes = minutes)
 }
 
 /// The same of the one that starts then.
 pub fn extend_starting(diary: &mut Diary, start: u32, minutes: u32) -> Option<()>
-    ensures { IfSome result (λ _. (ix : ℕ) × (was : Appointment) × (get diary.old.state.store ix ≡ Some was)
-        × (diary.new.state.store ≡ rebound diary.old.state.store ix (record was { minutes = minutes }))) }
+    ensures extended { MatchOption result (diary.new.state ≡ diary.old.state)
+        (λ _. Extends (λ a. a.start ≡ start) minutes diary.old.state diary.new.state) }
+    ensures missed { IsInSync (second_key_index ⟦<Diary as Keyed>⟧.keys) diary.old.state →
+        result ≡ None → HasNone diary.old.state.store (λ a. a.start ≡ start) }
 {
     diary.modify2(&start, |appointment| appointment.minutes = minutes)
 }
 
-/// The same of the one at an index.
+/// The same of the one at an index; none exactly where there is none.
 pub fn extend_at(diary: &mut Diary, ix: ItemIndex, minutes: u32) -> Option<()>
-    ensures { IfSome result (λ _. (was : Appointment) × (get diary.old.state.store ix ≡ Some was)
+    ensures { MatchOption result ((get diary.old.state.store ix ≡ None) × (diary.new.state ≡ diary.old.state))
+        (λ _. (was : Appointment) × (get diary.old.state.store ix ≡ Some was)
         × (diary.new.state.store ≡ rebound diary.old.state.store ix (record was { minutes = minutes }))) }
 {
     diary.modify_at(ix, |appointment| appointment.minutes = minutes)
@@ -117,7 +133,9 @@ pub fn within(alloc: Global, limit: u32) -> Diary
 }
 
 /// Removes the appointments that start before then, and returns how many they were. It takes no memory.
-pub fn close_before(diary: &mut Diary, start: u32) -> usize
+pub fn cancel_before(diary: &mut Diary, start: u32) -> usize
+    ensures stay { live_pairs diary.new.state.store
+        ≡ filter (λ pair. nat_le start pair.1.start) (live_pairs diary.old.state.store) }
     ensures count { result + live_count diary.new.state.store ≡ live_count diary.old.state.store }
     ensures memory { diary.new.memory ≡ diary.old.memory }
 {

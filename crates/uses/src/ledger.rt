@@ -1,27 +1,38 @@
-//! Orders by their numbers, and in the order of their days, of which many orders may share one.
-ghost use Rattle.std.specs.Prelude.{◌≡◌, ◌≢◌, ◌==◌, ◌≤◌, ◌<◌, ◌+◌, ◌↔◌, ℕ, Some, None, Contains, OnOk, OnErr};
+//! Orders by their numbers, by their customers, and in the order of their days. Many orders may have one customer, and
+//! many may be due on one day.
+ghost use Rattle.std.specs.Prelude.{◌≡◌, ◌==◌, ◌≤◌, ◌<◌, ◌+◌, ◌↔◌, false, IfOk, IfErr, OnOk, OnErr};
+ghost use Rattle.std.specs.List.Sorted.{IsStrictlySortedBy};
+ghost use Rattle.std.specs.Ordering.{nat_cmp};
+ghost use Rattle.iddqd_maps.specs.Groups.{AreHits, CountsHits, FindsSome};
 ghost use Rattle.iddqd_maps.specs.Map.{FindsItem};
 ghost use Rattle.iddqd_maps.specs.Range.{indexes_ahead};
-ghost use Rattle.iddqd_maps.specs.Store.{get, inserted, live_count};
+ghost use Rattle.iddqd_maps.specs.Scan.{HasNoHit};
+ghost use Rattle.iddqd_maps.specs.Store.{inserted, live_count, next_index};
+ghost use Rattle.uses.specs.Drops.{Drops};
+ghost use Rattle.uses.specs.Ledger.{IsWhyRefused};
 ghost use Rattle.uses.specs.declared.ledger.Order.{Order};
 
 use iddqd_maps::btree_table::Range;
 use iddqd_maps::by_hash::ByHash;
-use iddqd_maps::by_order_multi::{ByOrderMulti, NoConflict};
+use iddqd_maps::by_hash_multi::{ByHashMulti, Group};
+use iddqd_maps::by_order_multi::ByOrderMulti;
 use iddqd_maps::item_index::ItemIndex;
 use iddqd_maps::key_index::{Here, Left, Right};
 use iddqd_maps::key_of::KeyOf;
 use iddqd_maps::map::{Map, Parts};
+use iddqd_maps::no_conflict::NoConflict;
 use iddqd_maps::pair::Pair;
 use iddqd_maps::pair_conflict::PairConflict;
+use iddqd_maps::query::Asked;
 use iddqd_maps::refusal::InsertRefusal;
 use std::alloc::{AllocError, Global};
 use std::ops::Bound;
 
-/// An order. No two have the same number; many may be due on one day.
+/// An order. No two have the same number; many may have one customer, and many may be due on one day.
 #[derive(Clone, Copy, Debug)]
 pub struct Order {
     pub number: u64,
+    pub customer: u32,
     pub day: u32,
     pub amount: u64,
 }
@@ -39,6 +50,19 @@ impl KeyOf<Order> for Number {
     }
 }
 
+/// Names the customer.
+pub enum Customer {}
+
+impl KeyOf<Order> for Customer {
+    type Key = u32;
+
+    ghost key_of = { λ order. order.customer };
+
+    fn key(order: &Order) -> &u32 {
+        &order.customer
+    }
+}
+
 /// Names the day.
 pub enum Day {}
 
@@ -52,20 +76,31 @@ impl KeyOf<Order> for Day {
     }
 }
 
-/// The order that has the number of a refused one. A day never conflicts.
-pub type Taken = PairConflict<ItemIndex, NoConflict>;
+/// The order that has the number of a refused one. A customer or a day never conflicts.
+pub type Taken = PairConflict<ItemIndex, PairConflict<NoConflict, NoConflict>>;
+
+type Shared = Pair<
+    ByHashMulti<Customer, u32>,
+    ByOrderMulti<Day>,
+    PairConflict<NoConflict, NoConflict>,
+>;
 
 type ByNumber = Left<Here>;
 
-type ByDay = Right<Here>;
+type ByCustomer = Right<Left<Here>>;
 
-/// Orders by their numbers, and in the order of their days.
-pub type Ledger = Map<Order, Pair<ByHash<Number, u64>, ByOrderMulti<Day>, Taken>>;
+type ByDay = Right<Right<Here>>;
+
+/// Orders by their numbers, by their customers, and in the order of their days.
+pub type Ledger = Map<Order, Pair<ByHash<Number, u64>, Shared, Taken>>;
 
 /// Adds an order, unless another one has its number.
 pub fn add(ledger: &mut Ledger, order: Order) -> Result<ItemIndex, InsertRefusal<Order, Taken>>
+    ensures index { IfOk result (λ ix. ix ≡ next_index ledger.old.store) }
+    ensures unlike { OnOk result (HasNoHit ledger.old.store (λ other. order.number == other.number)) }
     ensures stored { OnOk result (ledger.new.store ≡ inserted ledger.old.store order) }
-    ensures refused { OnErr result (ledger.new.store ≡ ledger.old.store) }
+    ensures refused { IfErr result (IsWhyRefused ledger.old order) }
+    ensures unchanged { OnErr result (ledger.new.store ≡ ledger.old.store) }
 {
     ledger.insert_unique(order)
 }
@@ -77,52 +112,114 @@ pub fn with_number(ledger: &Ledger, number: u64) -> Option<Order>
     ledger.get_by::<ByNumber, _>(&number).copied()
 }
 
-/// The indexes of the orders of a day, from the least on.
-pub fn orders_of_day(ledger: &Ledger, day: u32) -> Range<'_>
-    ensures { (ix : ℕ) → Contains (indexes_ahead result) ix
-        ↔ ((order : Order) × (get ledger.now.store ix ≡ Some order) × (order.day ≡ day)) }
+/// The indexes of the orders of a customer, each once, in no particular order.
+pub fn orders_of<'a>(
+    ledger: &'a Ledger,
+    customer: &'a u32,
+) -> Group<'a, Order, Customer, Asked<&'a u32>>
+    ensures { AreHits ledger.now.store (λ order. customer.now == order.customer) result }
 {
     let Parts {
         items,
         indexes,
         state,
     } = ledger.parts();
-    indexes.second.group(items, state, &day)
+    indexes.second.first.group(items, state, customer)
 }
 
-/// What the orders of a day come to, or the greatest number where that is more.
-pub fn amount_of_day(ledger: &Ledger, day: u32) -> u64 {
-    let mut amount = 0u64;
-    for ix in orders_of_day(ledger, day) {
-        if let Some(order) = ledger.get_at(ix) {
-            amount = amount.saturating_add(order.amount);
-        }
-    }
-    amount
+/// How many orders a customer has.
+pub fn count_of(ledger: &Ledger, customer: u32) -> usize
+    ensures { CountsHits ledger.now.store (λ order. customer == order.customer) result }
+{
+    let Parts {
+        items,
+        indexes,
+        state,
+    } = ledger.parts();
+    indexes.second.first.count_of(items, state, &customer)
+}
+
+/// The index of some order of a customer: none exactly where the customer has none.
+pub fn any_order_of(ledger: &Ledger, customer: u32) -> Option<ItemIndex>
+    ensures { FindsSome ledger.now.store (λ order. customer == order.customer) result }
+{
+    ledger.find_any_by::<ByCustomer, _>(&customer)
+}
+
+/// Whether a customer has an order.
+pub fn has_order(ledger: &Ledger, customer: u32) -> bool
+    ensures { (result ≡ false) ↔ HasNoHit ledger.now.store (λ order. customer == order.customer) }
+{
+    ledger.contains_any_by::<ByCustomer, _>(&customer)
+}
+
+/// Removes the orders of a customer, and returns how many they were. It takes no memory.
+pub fn forget(ledger: &mut Ledger, customer: u32) -> usize
+    ensures dropped { Drops (λ order. order.customer ≡ customer) ledger.old.store ledger.new.store }
+    ensures count { result + live_count ledger.new.store ≡ live_count ledger.old.store }
+    ensures memory { ledger.new.memory ≡ ledger.old.memory }
+{
+    ledger.remove_hashed_group_by::<ByCustomer, _, _>(&customer, |_order| ())
+}
+
+/// The indexes of the orders of a day, each once, the least first.
+pub fn orders_of_day(ledger: &Ledger, day: u32) -> Range<'_>
+    ensures hits { AreHits ledger.now.store (λ order. day == order.day) (indexes_ahead result) }
+    ensures rising { IsStrictlySortedBy nat_cmp (indexes_ahead result) }
+{
+    let Parts {
+        items,
+        indexes,
+        state,
+    } = ledger.parts();
+    indexes.second.second.group(items, state, &day)
+}
+
+/// How many orders are due on a day.
+pub fn count_of_day(ledger: &Ledger, day: u32) -> usize
+    ensures { CountsHits ledger.now.store (λ order. day == order.day) result }
+{
+    let Parts {
+        items,
+        indexes,
+        state,
+    } = ledger.parts();
+    indexes.second.second.count_of(items, state, &day)
 }
 
 /// Removes the orders of earlier days, and returns how many they were. It takes no memory.
 pub fn close_before(ledger: &mut Ledger, day: u32) -> usize
-    ensures closed { (ix : ℕ) (order : Order) → get ledger.old.store ix ≡ Some order → order.day < day →
-        get ledger.new.store ix ≡ None }
-    ensures others_stay { (ix : ℕ) (order : Order) → get ledger.old.store ix ≡ Some order → day ≤ order.day →
-        get ledger.new.store ix ≡ Some order }
-    ensures no_new { (ix : ℕ) → get ledger.old.store ix ≡ None → get ledger.new.store ix ≡ None }
+    ensures dropped { Drops (λ order. order.day < day) ledger.old.store ledger.new.store }
     ensures count { result + live_count ledger.new.store ≡ live_count ledger.old.store }
+    ensures memory { ledger.new.memory ≡ ledger.old.memory }
 {
     ledger.remove_range_by::<ByDay, _, _>(Bound::Unbounded, Bound::Excluded(&day), |_order| ())
 }
 
-/// Removes those orders of a day that come to less than so much, and returns how many they were.
+/// Removes the orders of a day, and returns how many they were. It takes no memory.
+pub fn close_day(ledger: &mut Ledger, day: u32) -> usize
+    ensures dropped { Drops (λ order. order.day ≡ day) ledger.old.store ledger.new.store }
+    ensures count { result + live_count ledger.new.store ≡ live_count ledger.old.store }
+    ensures memory { ledger.new.memory ≡ ledger.old.memory }
+{
+    ledger.remove_group_by::<ByDay, _, _>(&day, |_order| ())
+}
+
+/// Removes those orders of a day that come to less than so much, and returns how many they were. It takes no memory.
 pub fn drop_small(ledger: &mut Ledger, day: u32, least: u64) -> usize
+    ensures dropped { Drops (λ order. (order.day ≡ day) × (order.amount < least))
+        ledger.old.store ledger.new.store }
     ensures count { result + live_count ledger.new.store ≡ live_count ledger.old.store }
     ensures memory { ledger.new.memory ≡ ledger.old.memory }
 {
     ledger.retain_group_by::<ByDay, _, _>(&day, |order| order.amount >= least)
 }
 
-/// The same of the orders up to a day.
+/// Removes those orders up to a day that come to less than so much, and returns how many they were. It takes no
+/// memory.
 pub fn drop_small_until(ledger: &mut Ledger, day: u32, least: u64) -> usize
+    ensures dropped { Drops (λ order. (order.day ≤ day) × (order.amount < least))
+        ledger.old.store ledger.new.store }
     ensures count { result + live_count ledger.new.store ≡ live_count ledger.old.store }
     ensures memory { ledger.new.memory ≡ ledger.old.memory }
 {
@@ -131,26 +228,13 @@ pub fn drop_small_until(ledger: &mut Ledger, day: u32, least: u64) -> usize
     })
 }
 
-/// Removes the orders of a day, and returns what they come to, or the greatest number where that is more.
-pub fn close_day(ledger: &mut Ledger, day: u32) -> u64
-    ensures closed { (ix : ℕ) (order : Order) → get ledger.old.store ix ≡ Some order → order.day ≡ day →
-        get ledger.new.store ix ≡ None }
-    ensures others_stay { (ix : ℕ) (order : Order) → get ledger.old.store ix ≡ Some order → order.day ≢ day →
-        get ledger.new.store ix ≡ Some order }
-{
-    let mut amount = 0u64;
-    ledger.remove_group_by::<ByDay, _, _>(&day, |order| {
-        amount = amount.saturating_add(order.amount);
-    });
-    amount
-}
-
-fn added(ledger: &mut Ledger, number: u64, day: u32) -> bool {
+fn added(ledger: &mut Ledger, number: u64, customer: u32, day: u32) -> bool {
     let amount = 10 * (number % 10);
     add(
         ledger,
         Order {
             number,
+            customer,
             day,
             amount,
         },
@@ -158,24 +242,31 @@ fn added(ledger: &mut Ledger, number: u64, day: u32) -> bool {
     .is_ok()
 }
 
+fn added_all(ledger: &mut Ledger) -> (bool, bool, bool, bool, bool, bool) {
+    (
+        added(ledger, 1, 7, 20),
+        added(ledger, 2, 7, 10),
+        added(ledger, 3, 8, 20),
+        added(ledger, 3, 9, 30),
+        added(ledger, 4, 7, 30),
+        added(ledger, 5, 8, 30),
+    )
+}
+
 fn script(alloc: Global, ledger: &mut Ledger) -> Result<String, AllocError> {
-    let entered = (
-        added(ledger, 1, 20),
-        added(ledger, 2, 10),
-        added(ledger, 3, 20),
-        added(ledger, 3, 30),
-        added(ledger, 4, 30),
-        added(ledger, 5, 10),
-    );
-    let of_day = amount_of_day(ledger, 20);
+    let added = added_all(ledger);
+    let counts = (count_of(ledger, 7), count_of_day(ledger, 20));
+    let first = orders_of_day(ledger, 20).next();
     let early = close_before(ledger, 20);
     let left = (
         with_number(ledger, 2).is_some(),
         with_number(ledger, 1).is_some(),
+        orders_of(ledger, &8).next().is_some(),
     );
-    let closed = (close_day(ledger, 20), close_day(ledger, 10));
+    let small = (drop_small(ledger, 20, 20), drop_small_until(ledger, 20, 40));
+    let gone = (forget(ledger, 7), close_day(ledger, 30));
     format!(in alloc;
-        "ledger: {entered:?}, {of_day}, {early}, {left:?}, {closed:?}, {}",
+        "ledger: {added:?}, {counts:?}, {first:?}, {early}, {left:?}, {small:?}, {gone:?}, {}",
         ledger.len()
     )
 }

@@ -4,7 +4,6 @@
 mod badges;
 mod board;
 mod calendar;
-mod customers;
 mod depot;
 mod devices;
 mod diary;

@@ -1,7 +1,10 @@
 //! A mix of hashes and an order: sessions by their ids and tokens, and in the order in which they end.
-ghost use Rattle.std.specs.Prelude.{◌≡◌, ◌==◌, ◌≤◌, ◌+◌, ℕ, Some, MatchOption, IfOk, OnOk, OnErr};
-ghost use Rattle.iddqd_maps.specs.Map.{FindsItem};
+ghost use Rattle.std.specs.Prelude.{◌≡◌, ◌==◌, ◌≤◌, ◌+◌, ℕ, Some, MatchOption, IfOk, OnOk, OnErr, filter, nat_lt};
+ghost use Rattle.iddqd_maps.specs.LiveItems.{live_pairs};
+ghost use Rattle.iddqd_maps.specs.Map.{FindsItem, Removes};
+ghost use Rattle.iddqd_maps.specs.Scan.{HasNoHit, IsHit};
 ghost use Rattle.iddqd_maps.specs.Store.{get, inserted, live_count};
+ghost use Rattle.uses.specs.Sessions.{has_id, Extends};
 ghost use Rattle.uses.specs.declared.sessions.Session.{Session};
 
 use iddqd_maps::by_hash::ByHash;
@@ -100,14 +103,18 @@ pub fn with_token(sessions: &Sessions, token: u64) -> Option<Session>
     sessions.get_by::<ByToken, _>(&token).copied()
 }
 
-/// Lets the session with this id end later, and returns what it was; none exactly where there is no such session.
+/// Lets the session with this id end at another tick, and returns what it was; none exactly where there is no such
+/// session. It is refused where another session ends at that tick, or memory ran out.
 pub fn extend(
     sessions: &mut Sessions,
     id: u64,
     ends: u64,
 ) -> Result<Option<Session>, ReplaceRefusal<Session, Taken>>
-    ensures was { IfOk result (FindsItem sessions.old.store (λ session. id == session.id)) }
-    ensures refused { OnErr result (sessions.new.store ≡ sessions.old.store) }
+    ensures extended { IfOk result (λ found. MatchOption found
+        (HasNoHit sessions.old.store (has_id id) × (sessions.new ≡ sessions.old))
+        (λ was. Extends id ends sessions.old was sessions.new)) }
+    ensures refused { OnErr result ((ix : ℕ) × IsHit sessions.old.store (has_id id) ix) }
+    ensures unchanged { OnErr result (sessions.new ≡ sessions.old) }
 {
     sessions.change_by::<ById, _, _>(&id, |session| Session { ends, ..*session })
 }
@@ -134,16 +141,19 @@ pub fn next_to_end(sessions: &Sessions) -> Option<Session>
     sessions.get_at(first_to_end(sessions)?).copied()
 }
 
-/// Closes the session with this id.
+/// Closes the session with this id, and returns it. All others stay. It takes no memory.
 pub fn close(sessions: &mut Sessions, id: u64) -> Option<Session>
-    ensures { FindsItem sessions.old.store (λ session. id == session.id) result }
+    ensures { Removes sessions.old (λ session. id == session.id) result sessions.new }
 {
     sessions.remove_by::<ById, _>(&id)
 }
 
-/// Removes the sessions that have ended, and returns how many they were.
+/// Removes the sessions that have ended, and returns how many they were. It takes no memory.
 pub fn expire(sessions: &mut Sessions, now: u64) -> usize
-    ensures { result + live_count sessions.new.store ≡ live_count sessions.old.store }
+    ensures stay { live_pairs sessions.new.store
+        ≡ filter (λ pair. nat_lt now pair.1.ends) (live_pairs sessions.old.store) }
+    ensures count { result + live_count sessions.new.store ≡ live_count sessions.old.store }
+    ensures memory { sessions.new.memory ≡ sessions.old.memory }
 {
     sessions.retain(|session| session.ends > now)
 }

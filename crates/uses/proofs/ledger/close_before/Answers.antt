@@ -1,11 +1,14 @@
-use Rattle.uses.proofs.LedgerLemmas.{earlier_closed, others_stay, none_new}
+use Rattle.std.proofs.Common.{◌<◌}
+use Rattle.std.specs.Ordering.{nat_cmp, is_gt}
+use Rattle.uses.specs.declared.ledger.Order.{Order}
+use Rattle.uses.proofs.DropLemmas.{Drops-left}
+use Rattle.uses.proofs.LedgerLemmas.{is_earlier}
 use Rattle.uses.proofs.ledger.close_before.Goals as goal
 
-pub returns-clause-closed : goal.returns-clause-closed
-returns-clause-closed c = earlier_closed c.args.ledger.now.store _ c.args.day c.remove_range_by.ensures.left
-
-pub returns-clause-others_stay : goal.returns-clause-others_stay
-returns-clause-others_stay c = others_stay c.args.ledger.now.store _ c.args.day c.remove_range_by.ensures.left
-
-pub returns-clause-no_new : goal.returns-clause-no_new
-returns-clause-no_new c = none_new c.args.ledger.now.store _ c.args.day c.remove_range_by.ensures.left
+pub returns-clause-dropped : goal.returns-clause-dropped
+returns-clause-dropped c =
+    Drops-left c.args.ledger.now.store c.remove_range_by.new.self.store
+    (λ (order : Order). is_gt (nat_cmp c.args.day order.day))
+    (λ (order : Order). order.day < c.args.day)
+    (λ (order : Order). is_earlier c.args.day order.day)
+    c.remove_range_by.ensures.left

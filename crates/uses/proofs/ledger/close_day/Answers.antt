@@ -1,9 +1,14 @@
-use Rattle.uses.proofs.LedgerLemmas.{is_of_day, other_days_stay}
+use Rattle.std.proofs.Common.{◌≡◌}
+use Rattle.std.specs.Ordering.{nat_cmp, is_eq}
+use Rattle.uses.specs.declared.ledger.Order.{Order}
+use Rattle.uses.proofs.DropLemmas.{Drops-left}
+use Rattle.uses.proofs.LedgerLemmas.{is_same_day}
 use Rattle.uses.proofs.ledger.close_day.Goals as goal
 
-pub returns-clause-closed : goal.returns-clause-closed
-returns-clause-closed c = λ ix order live same.
-    c.remove_group_by.ensures.left.gone ix ((is_of_day c.args.ledger.now.store c.args.day ix).1 (order, live, same))
-
-pub returns-clause-others_stay : goal.returns-clause-others_stay
-returns-clause-others_stay c = other_days_stay c.args.ledger.now.store _ c.args.day c.remove_group_by.ensures.left
+pub returns-clause-dropped : goal.returns-clause-dropped
+returns-clause-dropped c =
+    Drops-left c.args.ledger.now.store c.remove_group_by.new.self.store
+    (λ (order : Order). is_eq (nat_cmp c.args.day order.day))
+    (λ (order : Order). order.day ≡ c.args.day)
+    (λ (order : Order). is_same_day c.args.day order.day)
+    c.remove_group_by.ensures.left

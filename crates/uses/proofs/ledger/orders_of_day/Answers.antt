@@ -1,8 +1,13 @@
-use Rattle.uses.proofs.LedgerLemmas.{is_of_day}
+use Rattle.uses.specs.declared.ledger.Order.{Order}
+use Rattle.uses.proofs.LedgerLemmas.{sorted_hits, sorted_rise}
 use Rattle.uses.proofs.ledger.orders_of_day.Goals as goal
 
-pub returns : goal.returns
-returns c ix =
-    let each = (rw c.parts.ensures.items at c.group.ensures).each ix in
-    let of_day = is_of_day c.args.ledger.now.store c.args.day ix in
-    (λ here. of_day.0 (each.0 here), λ is. each.1 (of_day.1 is))
+pub returns-clause-hits : goal.returns-clause-hits
+returns-clause-hits c =
+    sorted_hits (λ (order : Order). order.day) c.args.ledger.now.store c.args.day _
+    (rw c.parts.ensures.items at c.group.ensures)
+
+pub returns-clause-rising : goal.returns-clause-rising
+returns-clause-rising c =
+    sorted_rise (λ (order : Order). order.day) c.args.ledger.now.store c.args.day _
+    (rw c.parts.ensures.items at c.group.ensures)

@@ -1,0 +1,31 @@
+use Rattle.std.proofs.Common.{◌≡◌, ◌==◌, refl}
+use Rattle.std.specs.Prelude.{Ok, Err, IfErr, OnOk}
+use Rattle.iddqd_maps.specs.Scan.{HasNoHit}
+use Rattle.iddqd_maps.specs.declared.refusal.InsertRefusal.TheVariants.{Duplicate, Full, Memory}
+use Rattle.uses.specs.Ledger.{IsWhyRefused}
+use Rattle.uses.specs.declared.ledger.Order.{Order}
+use Rattle.uses.proofs.ConflictLemmas.{reported_hit, first_alone, not_first}
+use Rattle.uses.proofs.ledger.add.Goals as goal
+
+pub returns-clause-unlike : goal.returns-clause-unlike
+returns-clause-unlike c =
+    elim c.insert_unique.result as (λ r. c.insert_unique.result ≡ r
+    → OnOk r (HasNoHit c.args.ledger.now.store (λ (other : Order). c.args.order.number == other.number))) [
+      | Ok ix ↦ λ is. not_first c.args.ledger.now.store (λ (other : Order). c.args.order.number == other.number) (rw is at c.insert_unique.ensures.inserts).no_conflict
+      | Err refusal ↦ λ is. tt
+    ] refl
+
+pub returns-clause-refused : goal.returns-clause-refused
+returns-clause-refused c =
+    elim c.insert_unique.result as (λ r. c.insert_unique.result ≡ r → IfErr r (IsWhyRefused c.args.ledger.now c.args.order)) [
+      | Ok ix ↦ λ is. tt
+      | Err (Duplicate back at) ↦ λ is.
+          let refused = rw is at c.insert_unique.ensures.inserts in
+          let (ix, hit) = reported_hit _ _ _ _ _ _
+          (λ one scan. (one, (scan one).1 refl))
+          (λ other reports. reported_hit _ _ _ _ _ _ (λ at none. absurd none) (λ at none. absurd none) _ _ reports)
+          _ _ refused.1 in
+          (refused.0, (ix, first_alone c.args.ledger.now.store (λ (other : Order). c.args.order.number == other.number) ix hit))
+      | Err (Full back) ↦ λ is. let refused = rw is at c.insert_unique.ensures.inserts in (refused.given_back, refused.full)
+      | Err (Memory back) ↦ λ is. let refused = rw is at c.insert_unique.ensures.inserts in (refused.given_back, refused.no_room)
+    ] refl
