@@ -1,4 +1,4 @@
--- The steps of a loop that asks of each pair and swaps out those refused.
+-- For callers: the steps of a loop that asks of each pair and swaps out those refused.
 use Rattle.std.proofs.Common.{◌≡◌, ℕ, ◌+◌, ◌<◌, ◌≤◌, Bool, true, false, cond, List, [], ◌∷◌, ◌++◌, map, filter, length, take, get_or, swap_remove, refl, sym, ap, subst, ◌∙◌, arith, Contains}
 use Rattle.std.specs.List.{FoldsTo}
 use Rattle.std.specs.List.Sorted.{IsPermutation}

@@ -10,7 +10,7 @@
 //!
 //! An insert hashes its key once: it looks up under the hash that it files the index under.
 //! `remove_by_index` is a `retain` over all, in the place of a walk of its own. A clone copies cells as
-//! memory, since an index is `Copy`.
+//! memory, since an [`IndexCell`] is `Copy`.
 ghost use Rattle.std.specs.Prelude.{◌≡◌, ◌+◌, ◌≤◌, ℕ, max, Contains, Some, None, IsTrue, IsSome, IfOk, OnErr};
 ghost use Rattle.std.specs.FinMap as finite;
 ghost use Rattle.iddqd.specs.Compaction.{CanRemap, remapped};
@@ -27,7 +27,7 @@ mod indexes_under;
 mod sizes;
 mod validation;
 
-use crate::open_table::OpenHashTable;
+use crate::open_table::{IndexCell, OpenHashTable};
 use crate::table_entry::PairCells;
 pub use entry::{Entry, VacantEntry};
 use iddqd::index_remap::IndexRemap;
@@ -54,7 +54,7 @@ pub struct HashedIndex {
 /// no memory, and as the number of cells that its memory holds.
 #[derive(Debug, Drop)]
 pub struct MapHashTable {
-    table: OpenHashTable<ItemIndex>,
+    table: OpenHashTable<ItemIndex, IndexCell>,
 }
 
 impl Model for MapHashTable {
@@ -91,7 +91,7 @@ impl MapHashTable {
         ensures memory { HasNoMemory result }
     {
         MapHashTable {
-            table: OpenHashTable::new(alloc),
+            table: OpenHashTable::of_cells(alloc),
         }
     }
 
@@ -164,6 +164,7 @@ impl MapHashTable {
     ///
     /// `lookup` is called on indexes under that hash alone, on none twice, and no more after an
     /// equivalent key. It misses only after each of them was asked.
+    #[inline(always)]
     pub fn find_index_prehashed<Q: Equivalent<K>, K: Drop, F: Fn(ItemIndex) -> K>(
         &self,
         hash: MapHash,
