@@ -1,9 +1,9 @@
 -- A walk down a tree: what the search of a row says of the search of the tree.
-use Rattle.iddqd_order.proofs.Names.{◌*◌, LeadsToIndex, get_or_default, append-nil, cases_lt, get_or_at, get_or_append_left, sub-one, ◌≡◌, ◌≢◌, ◌∙◌, ℕ, zero, suc, ◌+◌, ◌-◌, ◌<◌, ◌≤◌, List, [], ◌∷◌, ◌++◌, length, get_or, drop, slice_index, Contains, refl, sym, ap, subst, arith, inl, inr, Option, Some, None, Result, Ok, Err, IfOk, length-append, append_assoc, sub-one, add-one, cases_lt, true≢false, get_or-append-add, length-map, Contains-append_cases, Ordering, Greater, Mut, Asking, Node, row, children, child, weave, before, after, flat, IsFormed, spot, FullBelow, IsFullBelow, Askable, CanSearch, with_ties, IsRising, IsPlace, SearchesWithin, Searches, Finds, end_at, level_of, IfErr-weaker, index_at, Descends, FindsIn, CAPACITY, row_asks, InGap}
+use Rattle.iddqd_order.proofs.Names.{◌*◌, LeadsToIndex, get_or_default, append-nil, cases_lt, get_or_at, get_or_append_left, sub-one, ◌≡◌, ◌≢◌, ◌∙◌, ℕ, zero, suc, ◌+◌, ◌-◌, ◌<◌, ◌≤◌, List, [], ◌∷◌, ◌++◌, length, get_or, drop, slice_index, Contains, refl, sym, ap, subst, arith, inl, inr, Option, Some, None, Result, Ok, Err, IfOk, length-append, append_assoc, sub-one, add-one, cases_lt, true≢false, get_or-append-add, length-map, Contains-append_cases, Ordering, Greater, Mut, Asking, Node, row, children, child, weave, before, after, flat, IsFormed, place_at_level, FullBelow, IsFullBelow, Askable, CanSearch, with_ties, IsRising, IsPlace, SearchesWithin, Searches, Finds, end_at, level_of, IfErr-weaker, index_at, Descends, FindsIn, CAPACITY, row_asks, InGap}
 use Rattle.iddqd.proofs.StoreLemmas.{contains_cases}
 use Rattle.iddqd_order.proofs.AskLemmas.{asks_none, asks_wider, CanAsk-fewer, CanAsk-later, Steady-fewer}
 pub use Rattle.iddqd_order.proofs.NodeLemmas.{lists-one_more, lists-at, child-within, child-formed, path-here, path-above, holds-here, below-holds}
-use Rattle.iddqd_order.proofs.NodeLemmas.{lists, flat-leaf, flat-inner, reaches-here, holds-level, spot-leaf, spot-at, spot-below, spot-within}
+use Rattle.iddqd_order.proofs.NodeLemmas.{lists, flat-leaf, flat-inner, reaches-here, holds-level, place_at_level-leaf, place_at_level-at, place_at_level-below, place_at_level-within}
 use Rattle.iddqd_order.proofs.PartLemmas.{Embeds, Askable-whole, IsRising-part, shifted, SearchesWithin-more, Searches-hit, LeadsTo, Searches-part}
 use Rattle.iddqd_order.proofs.IndexListLemmas.{Contains-at}
 use Rattle.iddqd_order.proofs.SearchLemmas.{AreSplit, split-init, split-less, split-greater, none_at_place}
@@ -128,15 +128,15 @@ row-part zero n f = record { within = λ i lt. lt; at = λ i lt. refl; rises = �
 row-part (suc h) n f = row-woven (row n) (lists h (children n)) (rw sub-one at (lists-one_more (suc h) n (λ e. absurd (omega arith)) f))
 
 -- where a path goes that ends at the node
-spot-here :
+place_at_level-here :
     (l : ℕ) (n : Node) (p : List ℕ)
     → IsFormed l n
     → slice_index p l ≤ length (row n)
-    → spot l l n p ≡ row_place l n (slice_index p l)
-spot-here zero n p f le = spot-leaf zero zero n p refl
-spot-here (suc h) n p f le =
+    → place_at_level l l n p ≡ row_place l n (slice_index p l)
+place_at_level-here zero n p f le = place_at_level-leaf zero zero n p refl
+place_at_level-here (suc h) n p f le =
     let ne : suc h ≢ 0 = λ e. absurd (omega arith) in
-    rw (spot-at (suc h) (suc h) n p ne refl, sub-one, lists-at h n (slice_index p (suc h)) (child-within (suc h) n (slice_index p (suc h)) ne f le)) refl
+    rw (place_at_level-at (suc h) (suc h) n p ne refl, sub-one, lists-at h n (slice_index p (suc h)) (child-within (suc h) n (slice_index p (suc h)) ne f le)) refl
 
 -- the list of the i-th child stands in the whole
 child-part :
@@ -148,7 +148,7 @@ child-part :
 child-part l n i ne f lt =
     rw (flat-inner l n ne, ← lists-at (l - 1) n i lt) (list-woven (row n) (lists (l - 1) (children n)) (lists-one_more l n ne f) i (omega (arith, length-map (children n) (λ k. flat (l - 1) k))))
 
-full-at :
+pub full-at :
     (k l : ℕ) (n : Node) (p : List ℕ)
     → FullBelow k l n
     → (l ≢ 0 → IsFullBelow k (l - 1) (child n (slice_index p l)) p)
@@ -185,22 +185,42 @@ pub child-read :
     (length (before i (row n) (lists (l - 1) (children n))) + j) ≡ slice_index (flat (l - 1) (child n i)) j
 child-read l n i j ne f lt within = (child-part l n i ne f lt).at j within
 
-module _ {F R : Type 0} (g : Mut F (ℕ × Unit {0}) R) (read : R → Ordering) (tie : Option ℕ) where
+-- the first index of the first child is the first of all
+pub behind-first :
+    (l ix : ℕ) (n : Node)
+    → l ≢ 0
+    → IsFormed l n
+    → 0 < length (children n)
+    → (0 < length (flat (l - 1) (child n 0))) × (ix ≡ slice_index (flat (l - 1) (child n 0)) 0)
+    → (0 < length (flat l n)) × (ix ≡ slice_index (flat l n) 0)
+behind-first l ix n ne f lt is =
+    let part = child-part l n 0 ne f lt in
+    (part.within 0 is.0, is.1 ∙ sym (child-read l n 0 0 ne f lt is.0))
+
+pub behind-row :
+    (l ix : ℕ) (n : Node)
+    → l ≡ 0
+    → 0 < length (row n)
+    → ix ≡ slice_index (row n) 0
+    → (0 < length (flat l n)) × (ix ≡ slice_index (flat l n) 0)
+behind-row l ix n e some is = rw (flat-leaf l n e) (some, is)
+
+module _ {F R : Type 0} (g : Mut F (ℕ × Unit {0}) R) (read : R → Ordering) (sought : Option ℕ) where
   -- the row may be asked where the tree may be
   pub can_ask_row :
       (l : ℕ) (n : Node) (a : Asking F)
       → IsFormed l n
-      → CanSearch g (flat l n) tie a
-      → CanSearch g (row n) tie a
-  can_ask_row l n a f c = CanAsk-fewer g (Askable (row n) tie) (Askable (flat l n) tie) (Askable-whole (row-part l n f) tie) c
+      → CanSearch g (flat l n) sought a
+      → CanSearch g (row n) sought a
+  can_ask_row l n a f c = CanAsk-fewer g (Askable (row n) sought) (Askable (flat l n) sought) (Askable-whole (row-part l n f) sought) c
 
   -- a miss in the row leads to the child at that place
   leads-below :
       {k : ℕ} (l : ℕ) (n : Node) (i : ℕ) (a b : Asking F)
       → l ≢ 0
       → IsFormed l n
-      → SearchesWithin g read (row n) k tie a (Err i) b
-      → LeadsTo g read tie k (length (before i (row n) (lists (l - 1) (children n)))) (flat (l - 1) (child n i))
+      → SearchesWithin g read (row n) k sought a (Err i) b
+      → LeadsTo g read sought k (length (before i (row n) (lists (l - 1) (children n)))) (flat (l - 1) (child n i))
       (flat l n) a b
   leads-below l n i a b ne f s =
       let xs : List ℕ = row n in let ks : List (List ℕ) = lists (l - 1) (children n) in
@@ -211,10 +231,10 @@ module _ {F R : Type 0} (g : Mut F (ℕ × Unit {0}) R) (read : R → Ordering) 
       record {
         part = child-part l n i ne f lt;
         within = rw (flat-inner l n ne, ← lists-at (l - 1) n i lt) (within i xs ks [] (length (get_or ks i [])) (omega arith) one (omega arith));
-        asked = asks_wider g (Askable xs tie) (Askable (flat l n) tie) (Askable-whole m tie) s.asked;
+        asked = asks_wider g (Askable xs sought) (Askable (flat l n) sought) (Askable-whole m sought) s.asked;
         split = λ answer rises.
-            let placed = s.place answer (record { steady = Steady-fewer g (Askable xs tie) (Askable (flat l n) tie) (Askable-whole m tie) rises.steady; rising = IsRising-part m (with_ties tie answer) rises.rising }) in
-            rw (flat-inner l n ne, ← lists-at (l - 1) n i lt) (split-woven xs ks one (with_ties tie answer) i (rw (flat-inner l n ne) at rises.rising) placed);
+            let placed = s.place answer (record { steady = Steady-fewer g (Askable xs sought) (Askable (flat l n) sought) (Askable-whole m sought) rises.steady; rising = IsRising-part m (with_ties sought answer) rises.rising }) in
+            rw (flat-inner l n ne, ← lists-at (l - 1) n i lt) (split-woven xs ks one (with_ties sought answer) i (rw (flat-inner l n ne) at rises.rising) placed);
       }
 
   -- which may be asked then
@@ -222,21 +242,21 @@ module _ {F R : Type 0} (g : Mut F (ℕ × Unit {0}) R) (read : R → Ordering) 
       {k : ℕ} (l : ℕ) (n : Node) (i : ℕ) (a b : Asking F)
       → l ≢ 0
       → IsFormed l n
-      → SearchesWithin g read (row n) k tie a (Err i) b
-      → CanSearch g (flat l n) tie a
-      → CanSearch g (flat (l - 1) (child n i)) tie b
+      → SearchesWithin g read (row n) k sought a (Err i) b
+      → CanSearch g (flat l n) sought a
+      → CanSearch g (flat (l - 1) (child n i)) sought b
   can_ask_below l n i a b ne f s c =
       let leads = leads-below l n i a b ne f s in
-      CanAsk-fewer g (Askable (flat (l - 1) (child n i)) tie) (Askable (flat l n) tie) (Askable-whole leads.part tie) (CanAsk-later g (Askable (flat l n) tie) leads.asked.after c)
+      CanAsk-fewer g (Askable (flat (l - 1) (child n i)) sought) (Askable (flat l n) sought) (Askable-whole leads.part sought) (CanAsk-later g (Askable (flat l n) sought) leads.asked.after c)
 
   -- a hit in the row is one in the tree
   Searches-row :
       (limit l : ℕ) (n : Node) (i : ℕ) (a b : Asking F)
       → row_asks ≤ limit
       → IsFormed l n
-      → SearchesWithin g read (row n) row_asks tie a (Ok i) b
-      → SearchesWithin g read (flat l n) limit tie a (Ok (row_place l n i)) b
-  Searches-row limit l n i a b le f s = SearchesWithin-more g read tie (omega arith) (Searches-hit g read tie (row-part l n f) (asks_none g (Askable (flat l n) tie) a) i s)
+      → SearchesWithin g read (row n) row_asks sought a (Ok i) b
+      → SearchesWithin g read (flat l n) limit sought a (Ok (row_place l n i)) b
+  Searches-row limit l n i a b le f s = SearchesWithin-more g read sought (omega arith) (Searches-hit g read sought (row-part l n f) (asks_none g (Askable (flat l n) sought) a) i s)
 
   shifted-end : (end : Result ℕ ℕ) (b i : ℕ) → shifted b (end_at end i) ≡ end_at end (b + i)
   shifted-end (Ok l) b i = refl
@@ -247,12 +267,12 @@ module _ {F R : Type 0} (g : Mut F (ℕ × Unit {0}) R) (read : R → Ordering) 
       (limit full l : ℕ) (n : Node) (p : List ℕ) (a b : Asking F)
       → row_asks ≤ limit
       → IsFormed l n
-      → SearchesWithin g read (row n) row_asks tie a (Ok (slice_index p l)) b
-      → Descends g read tie limit full l n a p (Ok l) b
+      → SearchesWithin g read (row n) row_asks sought a (Ok (slice_index p l)) b
+      → Descends g read sought limit full l n a p (Ok l) b
   Descends-hit limit full l n p a b le f s =
       let lt = s.found in
       record {
-        searches = rw (spot-here l n p f (omega arith)) (Searches-row limit l n (slice_index p l) a b le f s);
+        searches = rw (place_at_level-here l n p f (omega arith)) (Searches-row limit l n (slice_index p l) a b le f s);
         reaches = holds-here l n p lt;
         lower_end = tt;
       }
@@ -263,14 +283,14 @@ module _ {F R : Type 0} (g : Mut F (ℕ × Unit {0}) R) (read : R → Ordering) 
       → row_asks ≤ limit
       → l ≡ 0
       → IsFormed l n
-      → SearchesWithin g read (row n) row_asks tie a (Err (slice_index p l)) b
+      → SearchesWithin g read (row n) row_asks sought a (Err (slice_index p l)) b
       → Counts n full l full_below
-      → Descends g read tie limit full l n a p (Err full_below) b
+      → Descends g read sought limit full l n a p (Err full_below) b
   Descends-leaf limit full full_below (suc h) n p a b le e f s c = absurd (omega arith)
   Descends-leaf limit full full_below zero n p a b le e f s c =
       let here = counts_here n full 0 full_below full_below c (λ _. refl) in
       record {
-        searches = rw (flat-leaf zero n refl, spot-leaf zero zero n p refl) (SearchesWithin-more g read tie le s);
+        searches = rw (flat-leaf zero n refl, place_at_level-leaf zero zero n p refl) (SearchesWithin-more g read sought le s);
         reaches = reaches-here InGap zero n p s.missed;
         lower_end = (full-at full_below zero n p here.0 (λ ne. absurd (ne refl)), here.1);
       }
@@ -281,17 +301,17 @@ module _ {F R : Type 0} (g : Mut F (ℕ × Unit {0}) R) (read : R → Ordering) 
       → row_asks + m ≤ limit
       → l ≢ 0
       → IsFormed l n
-      → SearchesWithin g read (row n) row_asks tie a (Err (slice_index p l)) b
+      → SearchesWithin g read (row n) row_asks sought a (Err (slice_index p l)) b
       → Counts n full l full_below
-      → Descends g read tie m full_below (l - 1) (child n (slice_index p l)) b p end c
-      → Descends g read tie limit full l n a p end c
+      → Descends g read sought m full_below (l - 1) (child n (slice_index p l)) b p end c
+      → Descends g read sought limit full l n a p end c
   Descends-below limit full full_below l n p end a b c le ne f s counts d =
       let i : ℕ = slice_index p l in
       let low = holds-level (level_of end) (l - 1) (child n i) p d.reaches in
-      let on : spot (level_of end) l n p ≡ length (before i (row n) (lists (l - 1) (children n))) + spot (level_of end) (l - 1) (child n i) p =
-      spot-below (level_of end) l n p ne (λ e. absurd (omega arith)) in
+      let on : place_at_level (level_of end) l n p ≡ length (before i (row n) (lists (l - 1) (children n))) + place_at_level (level_of end) (l - 1) (child n i) p =
+      place_at_level-below (level_of end) l n p ne (λ e. absurd (omega arith)) in
       record {
-        searches = rw (on, ← shifted-end end) (SearchesWithin-more g read tie le (Searches-part g read tie (leads-below l n i a b ne f s) (end_at end (spot (level_of end) (l - 1) (child n i) p)) d.searches));
+        searches = rw (on, ← shifted-end end) (SearchesWithin-more g read sought le (Searches-part g read sought (leads-below l n i a b ne f s) (end_at end (place_at_level (level_of end) (l - 1) (child n i) p)) d.searches));
         reaches = below-holds (level_of end) l n p ne (child-within l n i ne f s.missed) d.reaches;
         lower_end = IfErr-weaker end _ _ (λ k q. let here = counts_here n full l full_below k counts (λ up. q.1 (omega arith)) in (full-at k l n p here.0 (λ _. q.0), here.1)) d.lower_end;
       }
@@ -300,9 +320,9 @@ module _ {F R : Type 0} (g : Mut F (ℕ × Unit {0}) R) (read : R → Ordering) 
   pub FindsIn-hit :
       (l : ℕ) (n : Node) (i ix : ℕ) (a b : Asking F)
       → IsFormed l n
-      → SearchesWithin g read (row n) row_asks tie a (Ok i) b
+      → SearchesWithin g read (row n) row_asks sought a (Ok i) b
       → ix ≡ slice_index (row n) i
-      → FindsIn g read tie l n a (Some ix) b
+      → FindsIn g read sought l n a (Some ix) b
   FindsIn-hit l n i ix a b f s e = record {
     end = Ok (row_place l n i);
     searches = Searches-row (row_asks * (l + 1)) l n i a b (omega arith) f s;
@@ -314,9 +334,9 @@ module _ {F R : Type 0} (g : Mut F (ℕ × Unit {0}) R) (read : R → Ordering) 
       (l : ℕ) (n : Node) (i : ℕ) (a b : Asking F)
       → l ≡ 0
       → IsFormed l n
-      → SearchesWithin g read (row n) row_asks tie a (Err i) b
-      → FindsIn g read tie l n a None b
-  FindsIn-leaf l n i a b e f s = record { end = Err i; searches = rw (flat-leaf l n e) (SearchesWithin-more g read tie (omega arith) s); index = refl }
+      → SearchesWithin g read (row n) row_asks sought a (Err i) b
+      → FindsIn g read sought l n a None b
+  FindsIn-leaf l n i a b e f s = record { end = Err i; searches = rw (flat-leaf l n e) (SearchesWithin-more g read sought (omega arith) s); index = refl }
 
   read-below :
       (l : ℕ) (n : Node) (i : ℕ) (end : Result ℕ ℕ)
@@ -334,14 +354,14 @@ module _ {F R : Type 0} (g : Mut F (ℕ × Unit {0}) R) (read : R → Ordering) 
       (l : ℕ) (n : Node) (i : ℕ) (found : Option ℕ) (a b c : Asking F)
       → l ≢ 0
       → IsFormed l n
-      → SearchesWithin g read (row n) row_asks tie a (Err i) b
-      → FindsIn g read tie (l - 1) (child n i) b found c
-      → FindsIn g read tie l n a found c
+      → SearchesWithin g read (row n) row_asks sought a (Err i) b
+      → FindsIn g read sought (l - 1) (child n i) b found c
+      → FindsIn g read sought l n a found c
   FindsIn-below l n i found a b c ne f s t =
       let lt : i < length (children n) = child-within l n i ne f s.missed in
       record {
         end = shifted (length (before i (row n) (lists (l - 1) (children n)))) t.end;
-        searches = SearchesWithin-more g read tie (omega arith) (Searches-part g read tie (leads-below l n i a b ne f s) t.end t.searches);
+        searches = SearchesWithin-more g read sought (omega arith) (Searches-part g read sought (leads-below l n i a b ne f s) t.end t.searches);
         index = t.index ∙ read-below l n i t.end ne f lt t.searches.found;
       }
 
@@ -404,12 +424,12 @@ absent_inner l n x ne f none below =
     (λ k lt h. below k (omega arith) (subst (λ zs. Contains zs x) (lists-at (l - 1) n k (omega arith)) h)))
 
 -- the index to which a path goes in the node itself
-pub spot-row :
+pub place_at_level-row :
     (l : ℕ) (n : Node) (p : List ℕ)
     → IsFormed l n
     → slice_index p l < length (row n)
-    → slice_index (flat l n) (spot l l n p) ≡ slice_index (row n) (slice_index p l)
-spot-row l n p f lt = ap (λ i. slice_index (flat l n) i) (spot-here l n p f (omega arith)) ∙ (row-part l n f).at (slice_index p l) lt
+    → slice_index (flat l n) (place_at_level l l n p) ≡ slice_index (row n) (slice_index p l)
+place_at_level-row l n p f lt = ap (λ i. slice_index (flat l n) i) (place_at_level-here l n p f (omega arith)) ∙ (row-part l n f).at (slice_index p l) lt
 
 pub holds_index-here :
     (l : ℕ) (n : Node) (p : List ℕ) (ix : ℕ)
@@ -417,7 +437,7 @@ pub holds_index-here :
     → slice_index p l < length (row n)
     → slice_index (row n) (slice_index p l) ≡ ix
     → LeadsToIndex l l n p ix
-holds_index-here l n p ix f lt is = (holds-here l n p lt, spot-row l n p f lt ∙ is)
+holds_index-here l n p ix f lt is = (holds-here l n p lt, place_at_level-row l n p f lt ∙ is)
 
 -- and that in a child
 pub holds_index-below :
@@ -434,7 +454,7 @@ holds_index-below m l i n g p ix ne f at lt is_g held =
     let same : g ≡ child n (slice_index p l) = child_is n i g lt is_g ∙ ap (child n) (sym at) in
     let w : LeadsToIndex m (l - 1) (child n (slice_index p l)) p ix = subst (λ z. LeadsToIndex m (l - 1) z p ix) same held in
     let le = holds-level m (l - 1) (child n (slice_index p l)) p w.0 in
-    let on = spot-below m l n p ne (λ e. absurd (omega arith)) in (
+    let on = place_at_level-below m l n p ne (λ e. absurd (omega arith)) in (
       below-holds m l n p ne here w.0,
-      ap (λ s. slice_index (flat l n) s) on ∙ child-read l n (slice_index p l) _ ne f here (spot-within m (l - 1) (child n (slice_index p l)) p (child-formed l n (slice_index p l) ne f here) w.0) ∙ w.1,
+      ap (λ s. slice_index (flat l n) s) on ∙ child-read l n (slice_index p l) _ ne f here (place_at_level-within m (l - 1) (child n (slice_index p l)) p (child-formed l n (slice_index p l) ne f here) w.0) ∙ w.1,
     )

@@ -1,5 +1,5 @@
 -- What an insert leaves of a node.
-use Rattle.iddqd_order.proofs.Names.{IsChild, IsPut, ◌≡◌, ◌≢◌, ℕ, zero, suc, ◌+◌, ◌-◌, ◌<◌, ◌≤◌, List, [], ◌∷◌, ◌++◌, length, set, get_or, slice_index, refl, ap, sym, ◌∙◌, arith, inl, inr, All, cases_lt, insert, length-append, length-set, length-map, length-insert, get_or_default, map-set, map-append, All-set, Node, row, children, child, child_room, weave, before, flat, IsInner, IsFormed, ReachesGap, place, IsFullBelow, IsCut, CAPACITY, LEAST, CHILDREN, InGap}
+use Rattle.iddqd_order.proofs.Names.{IsChild, IsPut, ◌≡◌, ◌≢◌, ℕ, zero, suc, ◌+◌, ◌-◌, ◌<◌, ◌≤◌, List, [], ◌∷◌, ◌++◌, length, set, get_or, slice_index, refl, ap, sym, ◌∙◌, arith, inl, inr, All, cases_lt, insert, length-append, length-set, length-map, length-insert, get_or_default, map-set, map-append, All-set, Node, row, children, child, child_room, weave, before, flat, IsInner, IsFormed, ReachesGap, place, IsFullBelow, IsSplit, CAPACITY, LEAST, CHILDREN, InGap}
 use Rattle.std.proofs.lemmas.List.Sums.{sum_by-set, sum_by-insert, sum_by-append}
 use Rattle.iddqd_order.specs.Node.{inners}
 use Rattle.iddqd_order.specs.Removal.{inners_of}
@@ -58,8 +58,8 @@ taken h old p i g t =
       place_is = b.place;
     })
 
--- an index was put in, and the node is cut in two about the index m
-pub record Cut (h : ℕ) (old new : Node) (m : ℕ) (up : Node) (p : List ℕ) (x : ℕ) : Type 0 where
+-- an index was put in, and the node is split about the index m
+pub record Split (h : ℕ) (old new : Node) (m : ℕ) (up : Node) (p : List ℕ) (x : ℕ) : Type 0 where
   pub items : flat h new ++ m ∷ flat h up ≡ insert (flat h old) (place h old p) x
   pub low : (LEAST ≤ length (row new)) × IsFormed h new
   pub high : (LEAST ≤ length (row up)) × IsFormed h up
@@ -103,11 +103,11 @@ put_below h old new p x i g k t d er ek rm =
       inner = let e = d.inner in omega (arith, inners-inner h new t.inner, inners-inner h old t.inner, ap (inners_of (h - 1)) ek, inners_set h old p i g k t);
     }
 
--- the child was cut in two, and the node had room for the upper part
+-- the child was split, and the node had room for the upper part
 pub put_here :
     (h : ℕ) (old new : Node) (p : List ℕ) (x : ℕ) (i : ℕ) (g k : Node) (m : ℕ) (u : Node)
     → IsTaken h old p i g
-    → Cut (h - 1) g k m u p x
+    → Split (h - 1) g k m u p x
     → length (row old) < CAPACITY
     → row new ≡ insert (row old) i m
     → children new ≡ insert (set (children old) i k) (i + 1) u
@@ -133,30 +133,30 @@ put_here h old new p x i g k m u t d lt er ek rm =
       inner = let e = d.inner in omega (arith, inners-inner h new t.inner, inners-inner h old t.inner, ap (inners_of (h - 1)) ek, sum_by-insert (λ k. inners (h - 1) k) (set (children old) i k) (i + 1) u, inners_set h old p i g k t);
     }
 
--- both parts of a row that was cut have five indexes or six
-cut_sizes :
+-- both parts of a row that was split have five indexes or six
+split_sizes :
     {xs : List ℕ} {i x : ℕ} {low : List ℕ} {m : ℕ} {high : List ℕ}
-    → IsCut xs i x low m high
+    → IsSplit xs i x low m high
     → (LEAST ≤ length low) × (length low ≤ LEAST + 1) × (LEAST ≤ length high) × (length high ≤ LEAST + 1)
-cut_sizes {i = i} c =
+split_sizes {i = i} c =
     let sum = c.high_length in
     elim (cases_lt LEAST i) [
       | inl q ↦ let e = c.low_length.1 q in (omega arith, omega arith, omega arith, omega arith)
       | inr q ↦ let e = c.low_length.0 q in (omega arith, omega arith, omega arith, omega arith)
     ]
 
--- the child was cut in two, and so is the node, which was full
-pub cut_here :
+-- the child was split, and so is the node, which was full
+pub split_here :
     (h : ℕ) (old new : Node) (m2 : ℕ) (up : Node) (p : List ℕ) (x : ℕ) (i : ℕ) (g k : Node) (m : ℕ) (u : Node)
     → IsTaken h old p i g
-    → Cut (h - 1) g k m u p x
-    → IsCut (row old) i m (row new) m2 (row up)
+    → Split (h - 1) g k m u p x
+    → IsSplit (row old) i m (row new) m2 (row up)
     → children new ++ children up ≡ insert (set (children old) i k) (i + 1) u
     → length (children new) ≡ length (row new) + 1
     → CHILDREN ≤ child_room new
     → CHILDREN ≤ child_room up
-    → Cut h old new m2 up p x
-cut_here h old new m2 up p x i g k m u t d c ek lk rm ru =
+    → Split h old new m2 up p x
+split_here h old new m2 up p x i g k m u t d c ek lk rm ru =
     let b = taken h old p i g t in
     let f : Node → List ℕ = λ k. flat (h - 1) k in
     let ls : List (List ℕ) = lists (h - 1) (children old) in
@@ -171,7 +171,7 @@ cut_here h old new m2 up p x i g k m u t d c ek lk rm ru =
     weave-append (row new) m2 (row up) (lists (h - 1) (children new)) (lists (h - 1) (children up)) (omega arith) in
     let e4 : weave (row new ++ m2 ∷ row up) (lists (h - 1) (children new) ++ lists (h - 1) (children up)) ≡ weave (insert (row old) i m) (insert (set ls i (f k)) (i + 1) (f u)) =
     ap (λ z. weave z (lists (h - 1) (children new) ++ lists (h - 1) (children up))) c.is ∙ ap (λ z. weave (insert (row old) i m) z) e1 in
-    let sizes = cut_sizes c in
+    let sizes = split_sizes c in
     let same = length-set (children old) i k in
     let la = length-append (children new) (children up) in
     let ln : length (children new ++ children up) ≡ length (children old) + 1 = ap length ek ∙ length-insert (set (children old) i k) (i + 1) u (omega arith) ∙ ap (λ z. z + 1) same in
@@ -212,19 +212,19 @@ put_leaf h old new p i x e f g at lt er ek =
     }
 
 -- at a full leaf
-pub cut_leaf :
+pub split_leaf :
     (h : ℕ) (old new : Node) (m : ℕ) (up : Node) (p : List ℕ) (i x : ℕ)
     → h ≡ 0
     → IsFormed h old
     → ReachesGap h old p
     → i ≡ slice_index p h
-    → IsCut (row old) i x (row new) m (row up)
+    → IsSplit (row old) i x (row new) m (row up)
     → children new ≡ children old
     → children up ≡ []
-    → Cut h old new m up p x
-cut_leaf h old new m up p i x e f g at c ek eu =
+    → Split h old new m up p x
+split_leaf h old new m up p i x e f g at c ek eu =
     let l = formed-leaf h old e f in
-    let sizes = cut_sizes c in
+    let sizes = split_sizes c in
     record {
       items = rw (flat-leaf h new e, flat-leaf h up e, flat-leaf h old e, place-leaf h old p e) (c.is ∙ ap (λ z. insert (row old) z x) (at ∙ ap (slice_index p) e));
       low = (sizes.0, leaf-formed h new e (record { within = omega arith; childless = ek ∙ l.childless }));

@@ -64,13 +64,17 @@ module _ {K : Type 0} {cmp : K → K → Ordering} (o : IsTotalOrder cmp) (key :
       (λ e. sym (ap (key_then_index cmp key ix) (eqb-true j ix e) ∙ tied_itself key_then_index-total ix))
       (λ e. ap (λ r. ordering_then r (nat_cmp ix j)) (compares k 0 lt))
 
-  -- Answers that compare the key of ix, for an insert or a removal of ix. A query compares as a key that it is equivalent to.
+  -- Answers that compare the key of ix, for an insert or a removal of ix. A query compares as a key that it is
+  -- equivalent to.
   module _ (ix : ℕ) (answer : ℕ → Ordering) (xs : List ℕ)
       (sorted : IsInKeyOrder cmp key xs) (compares : ComparesKeys (cmp (key ix)) key answer xs) where
     pub IsRising-own : IsRising (with_ties (Some ix) answer) xs
     IsRising-own = IsRising-from_sorted key_then_index-total xs sorted ix _ (with_ties-key ix answer xs compares)
 
-    pub IsInKeyOrder-insert : (place : ℕ) → IsPlace (with_ties (Some ix) answer) xs place → IsInKeyOrder cmp key (insert xs place ix)
+    pub IsInKeyOrder-insert :
+        (place : ℕ)
+        → IsPlace (with_ties (Some ix) answer) xs place
+        → IsInKeyOrder cmp key (insert xs place ix)
     IsInKeyOrder-insert = IsStrictlySortedBy-insert key_then_index-total xs sorted ix _ (with_ties-key ix answer xs compares)
 
   -- what agrees with the order of the keys

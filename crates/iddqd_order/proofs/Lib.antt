@@ -4,6 +4,7 @@ mod CountSteps
 mod CursorLemmas
 mod DescentLemmas
 mod DigitLemmas
+mod FrontLemmas
 pub mod GapLemmas
 pub mod IndexListLemmas
 mod InnerLemmas

@@ -1,4 +1,4 @@
--- An index that is taken out of a list and put in again: what may be asked in between, and what was.
+-- For callers: an index that is taken out of a list and put in again: what may be asked in between, and what was.
 use Rattle.iddqd_order.proofs.Names.{◌≡◌, ◌*◌, ◌<◌, ◌≤◌, ◌==◌, ℕ, Bool, true, false, not, List, [], ◌∷◌, length, refl, sym, ap, ◌∙◌, arith, cases_eq, inl, inr, nat_tests, IsTrue, is_some, ◌↔◌, Option, Some, Contains, Ordering, Mut, Asking, AsksWithin, Askable, CanSearch, bound, without, order_of, Order}
 use Rattle.std.proofs.lemmas.List.Filters.{length-filter_both}
 use Rattle.iddqd_order.specs.PreparedBTreeMove.{PutsIn}

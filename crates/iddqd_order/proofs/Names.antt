@@ -12,11 +12,11 @@ unfoldable pub use Rattle.iddqd_order.specs.Digits.{digits}
 pub use Rattle.iddqd_order.specs.KeyOrder.{ComparesKeys, IsInKeyOrder, key_then_index}
 pub use Rattle.iddqd_order.specs.MapBTreeTable.{IsIndexList, sentinel, without, Order}
 pub use Rattle.iddqd_order.specs.Node.{AtIndex, FullBelow, InGap, Stop, IsInner, IsLeaf, after, before, child, children, child_room, row, weave, IsPlaceIn, ReachesGap, ReachesIndex, LeadsToIndex, IsPut, place, Reaches}
-unfoldable pub use Rattle.iddqd_order.specs.Node.{IsFormed, IsFullBelow, flat, spot, Passes}
+unfoldable pub use Rattle.iddqd_order.specs.Node.{IsFormed, IsFullBelow, flat, place_at_level, Passes}
 pub use Rattle.iddqd_order.specs.Removal.{IsChild, IsEmptied, IsMended, MayLackOne}
-pub use Rattle.iddqd_order.specs.Row.{IsCut}
+pub use Rattle.iddqd_order.specs.Row.{IsSplit}
 pub use Rattle.iddqd_order.specs.Search.{Askable, CanSearch, Finds, IsPlace, IsRising, IsSteadyRising, Searches, SearchesWithin, with_ties}
-pub use Rattle.iddqd_order.specs.Tree.{ReachesGapIn, ReachesIndexIn, IsTree, in_order, inners_in, place_in, spot_in, FullIn, IsTable, ReachesIn, blocks_for}
+pub use Rattle.iddqd_order.specs.Tree.{ReachesGapIn, ReachesIndexIn, IsTree, in_order, inners_in, place_in, place_at_level_in, FullIn, IsTable, ReachesIn, blocks_for}
 pub use Rattle.iddqd_order.specs.SpotCursor.{IsSpotCursor, SamePlaces, StepsToNext}
 pub use Rattle.iddqd_order.specs.declared.btree_table.asking.Asking.{Asking}
 pub use Rattle.iddqd_order.specs.declared.btree_table.node.Node.{Node}
@@ -52,8 +52,8 @@ pub use Rattle.std.specs.Vec.{with_item}
 pub use Rattle.std.specs.declared.cmp.Ordering.TheVariants.{Equal, Greater, Less}
 pub use Rattle.iddqd_order.specs.declared.btree_table.cursor.End.{End}
 pub use Rattle.iddqd_order.specs.declared.btree_table.cursor.End.TheVariants.{Back, Front}
-pub use Rattle.iddqd_order.specs.Cursor.{AreBeside, AtEdge, Compares, IsAt, IsBehind, IsGap, IsLow, Over, Stands, Steps, between, part, edge_of, gap_of, leaf_in, opposite, to_gap}
-unfoldable pub use Rattle.iddqd_order.specs.Cursor.{leaf, low}
+pub use Rattle.iddqd_order.specs.Cursor.{AreBeside, AtEdge, Compares, IsAt, IsBehind, IsGap, IsLeafParent, Over, Stands, Steps, between, part, edge_of, gap_of, leaf_in, opposite, to_gap}
+unfoldable pub use Rattle.iddqd_order.specs.Cursor.{leaf, leaf_parent}
 unfoldable pub use Rattle.iddqd_order.specs.MapBTreeTable.{order_of}
 pub use Rattle.std.proofs.Math.Seq.{drop-append_seam, take-append_seam}
 pub use Rattle.std.proofs.lemmas.List.Sorted.{All-permutation, Contains-permutation, IsPermutation-filter_both, IsPermutation-insert, IsPermutation-sym}

@@ -1,5 +1,5 @@
 -- One level of a tree at a time, and of a path down it.
-use Rattle.iddqd_order.proofs.Names.{true, false, ◌∙◌, sym, slice_set, get_or-set_same, get_or-set_other, nat_eq, eq-eqb, ne_eqb, cases_eq, inl, inr, IsPlaceIn, Passes, Reaches, ReachesIndex, spot, ◌≡◌, ℕ, zero, suc, ◌+◌, ◌-◌, ◌<◌, ◌≤◌, ◌≢◌, List, [], ◌∷◌, length, get_or, map, slice_index, refl, ap, arith, sub-one, All, vec_capacity, insert, length-map, get_or-map, All-permutation, IsPermutation-insert, All-cons, Node, Node-F, roll-Node, out-roll-Node, row, children, child, child_room, weave, before, flat, IsInner, IsLeaf, IsFormed, ReachesGap, place, FullBelow, IsFullBelow, CAPACITY, LEAST, CHILDREN, LEVELS, Stop, AtIndex, InGap}
+use Rattle.iddqd_order.proofs.Names.{true, false, ◌∙◌, sym, slice_set, get_or-set_same, get_or-set_other, nat_eq, eq-eqb, ne_eqb, cases_eq, inl, inr, IsPlaceIn, Passes, Reaches, ReachesIndex, place_at_level, ◌≡◌, ℕ, zero, suc, ◌+◌, ◌-◌, ◌<◌, ◌≤◌, ◌≢◌, List, [], ◌∷◌, length, get_or, map, slice_index, refl, ap, arith, sub-one, All, vec_capacity, insert, length-map, get_or-map, All-permutation, IsPermutation-insert, All-cons, Node, Node-F, roll-Node, out-roll-Node, row, children, child, child_room, weave, before, flat, IsInner, IsLeaf, IsFormed, ReachesGap, place, FullBelow, IsFullBelow, CAPACITY, LEAST, CHILDREN, LEVELS, Stop, AtIndex, InGap}
 use Rattle.iddqd_order.proofs.WeaveLemmas.{within, index_place}
 use Rattle.iddqd_order.proofs.WeaveRemovalLemmas.{weave-within, weave-within_at}
 
@@ -74,6 +74,14 @@ pub child-formed :
     → i < length (children n)
     → IsFormed (h - 1) (child n i)
 child-formed h n i ne f lt = ((formed-inner h n ne f).below i n lt).1
+
+pub child-least :
+    (h : ℕ) (n : Node) (i : ℕ)
+    → h ≢ 0
+    → IsFormed h n
+    → i < length (children n)
+    → LEAST ≤ length (row (child n i))
+child-least h n i ne f lt = ((formed-inner h n ne f).below i n lt).0
 
 pub full-on :
     (k h : ℕ) (n : Node) (p : List ℕ)
@@ -184,29 +192,31 @@ reaches-here stop (suc h) n p fits = record { passes = (omega arith, λ _. fits,
 pub holds-here : (l : ℕ) (n : Node) (p : List ℕ) → slice_index p l < length (row n) → ReachesIndex l l n p
 holds-here l n p lt = reaches-here AtIndex l n p lt
 
-pub spot-leaf : (l h : ℕ) (n : Node) (p : List ℕ) → h ≡ 0 → spot l h n p ≡ slice_index p 0
-unfolding spot
-spot-leaf l h n p e = rw e
+pub place_at_level-leaf : (l h : ℕ) (n : Node) (p : List ℕ) → h ≡ 0 → place_at_level l h n p ≡ slice_index p 0
+unfolding place_at_level
+place_at_level-leaf l h n p e = rw e
 
-pub spot-at :
+pub place_at_level-at :
     (l h : ℕ) (n : Node) (p : List ℕ)
     → h ≢ 0
     → h ≡ l
-    → spot l h n p ≡ length (before (slice_index p h) (row n) (lists (h - 1) (children n))) + length
-    (flat (h - 1) (child n (slice_index p h)))
-unfolding spot
-spot-at l zero n p ne e = absurd (ne refl)
-spot-at l (suc h) n p ne e = let t : nat_eq l (suc h) ≡ true = eq-eqb l (suc h) (sym e) in rw (t, sub-one)
+    → place_at_level l h n p
+    ≡ length (before (slice_index p h) (row n) (lists (h - 1) (children n)))
+    + length (flat (h - 1) (child n (slice_index p h)))
+unfolding place_at_level
+place_at_level-at l zero n p ne e = absurd (ne refl)
+place_at_level-at l (suc h) n p ne e = let t : nat_eq l (suc h) ≡ true = eq-eqb l (suc h) (sym e) in rw (t, sub-one)
 
-pub spot-below :
+pub place_at_level-below :
     (l h : ℕ) (n : Node) (p : List ℕ)
     → h ≢ 0
     → h ≢ l
-    → spot l h n p ≡ length (before (slice_index p h) (row n) (lists (h - 1) (children n))) + spot l (h - 1)
-    (child n (slice_index p h)) p
-unfolding spot
-spot-below l zero n p ne e = absurd (ne refl)
-spot-below l (suc h) n p ne e = let t : nat_eq l (suc h) ≡ false = ne_eqb l (suc h) (λ z. e (sym z)) in rw (t, sub-one)
+    → place_at_level l h n p
+    ≡ length (before (slice_index p h) (row n) (lists (h - 1) (children n)))
+    + place_at_level l (h - 1) (child n (slice_index p h)) p
+unfolding place_at_level
+place_at_level-below l zero n p ne e = absurd (ne refl)
+place_at_level-below l (suc h) n p ne e = let t : nat_eq l (suc h) ≡ false = ne_eqb l (suc h) (λ z. e (sym z)) in rw (t, sub-one)
 
 -- a place of a row, and one of a list between its indexes, is one of the whole list
 IsPlaceIn-le : (stop : Stop) (i count : ℕ) → IsPlaceIn stop i count → i ≤ count
@@ -231,14 +241,14 @@ IsPlaceIn-list AtIndex i xs ks q one lt low = weave-within i xs ks [] q lt one l
 IsPlaceIn-list InGap i xs ks q one lt low = within i xs ks [] q lt one low
 
 -- an index or gap to which a path goes is a place in the list
-pub spot-within :
+pub place_at_level-within :
     {stop : Stop} (l h : ℕ) (n : Node) (p : List ℕ)
     → IsFormed h n
     → Reaches stop l h n p
-    → IsPlaceIn stop (spot l h n p) (length (flat h n))
-unfolding Passes spot flat IsFormed
-spot-within l zero n p f w = w.passes.1
-spot-within {stop = stop} l (suc h) n p f w =
+    → IsPlaceIn stop (place_at_level l h n p) (length (flat h n))
+unfolding Passes place_at_level flat IsFormed
+place_at_level-within l zero n p f w = w.passes.1
+place_at_level-within {stop = stop} l (suc h) n p f w =
     let i : ℕ = slice_index p (suc h) in
     let ks : List (List ℕ) = lists h (children n) in
     let len = length-map (children n) (λ k. flat h k) in
@@ -252,8 +262,8 @@ spot-within {stop = stop} l (suc h) n p f w =
           (let t : nat_eq l (suc h) ≡ false = ne_eqb l (suc h) e in
           let le = w.passes.0 in
           let down = w.passes.2 (omega arith) in
-          let below = spot-within {stop = stop} l h (child n i) p (f.1 i n down.0).1 (record { passes = down.1 }) in
-          rw t (IsPlaceIn-list stop i (row n) ks (spot l h (child n i) p) (omega arith) (omega arith) (rw (lists-at h n i down.0) below)))
+          let below = place_at_level-within {stop = stop} l h (child n i) p (f.1 i n down.0).1 (record { passes = down.1 }) in
+          rw t (IsPlaceIn-list stop i (row n) ks (place_at_level l h (child n i) p) (omega arith) (omega arith) (rw (lists-at h n i down.0) below)))
     ]
 
 -- a path goes on into the i-th child
@@ -263,8 +273,9 @@ pub record GoesDown (stop : Stop) (h l i : ℕ) (n : Node) (p : List ℕ) : Type
   pub five : LEAST ≤ length (row (child n i))
   pub formed : IsFormed (h - 1) (child n i)
   pub holds : Reaches stop l (h - 1) (child n i) p
-  pub within : IsPlaceIn stop (spot l (h - 1) (child n i) p) (length (flat (h - 1) (child n i)))
-  pub place : spot l h n p ≡ length (before i (row n) (lists (h - 1) (children n))) + spot l (h - 1) (child n i) p
+  pub within : IsPlaceIn stop (place_at_level l (h - 1) (child n i) p) (length (flat (h - 1) (child n i)))
+  pub place : place_at_level l h n p
+      ≡ length (before i (row n) (lists (h - 1) (children n))) + place_at_level l (h - 1) (child n i) p
 
 abbrev pub GoesBelow : ℕ → ℕ → ℕ → Node → List ℕ → Type 0
 GoesBelow h l i n p = GoesDown AtIndex h l i n p
@@ -289,8 +300,8 @@ goes-below {stop = stop} h l i n p lt ei f w =
       five = below.0;
       formed = below.1;
       holds = on;
-      within = spot-within l (h - 1) (child n i) p below.1 on;
-      place = rw ei (spot-below l h n p ne other);
+      within = place_at_level-within l (h - 1) (child n i) p below.1 on;
+      place = rw ei (place_at_level-below l h n p ne other);
     }
 
 -- the same of a gap
@@ -301,14 +312,14 @@ pub goes-inner : (h : ℕ) (n : Node) (p : List ℕ) → h ≢ 0 → ReachesGap 
 goes-inner h n p ne g = holds-below 0 h n p ne ne g
 
 pub place-leaf : (h : ℕ) (n : Node) (p : List ℕ) → h ≡ 0 → place h n p ≡ slice_index p 0
-place-leaf h n p e = spot-leaf 0 h n p e
+place-leaf h n p e = place_at_level-leaf 0 h n p e
 
 pub place-inner :
     (h : ℕ) (n : Node) (p : List ℕ)
     → h ≢ 0
     → place h n p ≡ length (before (slice_index p h) (row n) (lists (h - 1) (children n))) + place (h - 1)
     (child n (slice_index p h)) p
-place-inner h n p ne = spot-below 0 h n p ne ne
+place-inner h n p ne = place_at_level-below 0 h n p ne ne
 
 pub place-within : (h : ℕ) (n : Node) (p : List ℕ) → IsFormed h n → ReachesGap h n p → place h n p ≤ length (flat h n)
-place-within h n p f g = spot-within 0 h n p f g
+place-within h n p f g = place_at_level-within 0 h n p f g

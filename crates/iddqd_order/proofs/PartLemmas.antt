@@ -13,7 +13,7 @@ module _ {xs ws : List ℕ} {e : ℕ → ℕ} (m : Embeds xs ws e) where
   pub held : (ix : ℕ) → Contains xs ix → Contains ws ix
   held ix h = (e h.0, m.within h.0 h.1, get_or_default ws (e h.0) ix 0 (m.within h.0 h.1) ∙ m.at h.0 h.1 ∙ get_or_default xs h.0 0 ix h.1 ∙ h.2)
 
-  pub Askable-whole : (tie : Option ℕ) (ix : ℕ) → Askable xs tie ix → Askable ws tie ix
+  pub Askable-whole : (sought : Option ℕ) (ix : ℕ) → Askable xs sought ix → Askable ws sought ix
   Askable-whole None ix h = held ix h
   Askable-whole (Some sought) ix h = (held ix h.0, h.1)
 
@@ -51,14 +51,14 @@ abbrev pub shifted : ℕ → Result ℕ ℕ → Result ℕ ℕ
 shifted n (Ok i) = Ok (n + i)
 shifted n (Err i) = Err (n + i)
 
-module _ {F R : Type 0} (g : Mut F (ℕ × Unit {0}) R) (read : R → Ordering) (tie : Option ℕ) where
+module _ {F R : Type 0} (g : Mut F (ℕ × Unit {0}) R) (read : R → Ordering) (sought : Option ℕ) where
   pub SearchesWithin-more :
       {xs : List ℕ} {k l : ℕ} {old new : Asking F} {end : Result ℕ ℕ}
       → k ≤ l
-      → SearchesWithin g read xs k tie old end new
-      → SearchesWithin g read xs l tie old end new
+      → SearchesWithin g read xs k sought old end new
+      → SearchesWithin g read xs l sought old end new
   SearchesWithin-more {xs = xs} le s = record {
-    asked = asks_more g (Askable xs tie) le s.asked;
+    asked = asks_more g (Askable xs sought) le s.asked;
     found = s.found;
     missed = s.missed;
     itself = s.itself;
@@ -69,32 +69,32 @@ module _ {F R : Type 0} (g : Mut F (ℕ × Unit {0}) R) (read : R → Ordering) 
 
   module _
       {xs ws : List ℕ} {e : ℕ → ℕ} (m : Embeds xs ws e) {n : ℕ} {old mid : Asking F}
-      (led : AsksWithin g (Askable ws tie) n old mid)
+      (led : AsksWithin g (Askable ws sought) n old mid)
     where
       -- asks in a part, after asks that led there, are asks in the whole
       asked-part :
           {k : ℕ} {new : Asking F}
-          → AsksWithin g (Askable xs tie) k mid new
-          → AsksWithin g (Askable ws tie) (n + k) old new
-      asked-part p = asks_then g (Askable ws tie) led (asks_wider g (Askable xs tie) (Askable ws tie) (Askable-whole m tie) p)
+          → AsksWithin g (Askable xs sought) k mid new
+          → AsksWithin g (Askable ws sought) (n + k) old new
+      asked-part p = asks_then g (Askable ws sought) led (asks_wider g (Askable xs sought) (Askable ws sought) (Askable-whole m sought) p)
 
       steady-part :
           (answer : ℕ → Ordering)
-          → Steady g (Askable ws tie) read answer (closure_of old)
-          → Steady g (Askable xs tie) read answer (closure_of mid)
-      steady-part answer s = Steady-fewer g (Askable xs tie) (Askable ws tie) (Askable-whole m tie) (Steady-later g (Askable ws tie) led.after s)
+          → Steady g (Askable ws sought) read answer (closure_of old)
+          → Steady g (Askable xs sought) read answer (closure_of mid)
+      steady-part answer s = Steady-fewer g (Askable xs sought) (Askable ws sought) (Askable-whole m sought) (Steady-later g (Askable ws sought) led.after s)
 
       -- a hit in the part is one in the whole
       pub Searches-hit :
           {k : ℕ} {new : Asking F} (i : ℕ)
-          → SearchesWithin g read xs k tie mid (Ok i) new
-          → SearchesWithin g read ws (n + k) tie old (Ok (e i)) new
+          → SearchesWithin g read xs k sought mid (Ok i) new
+          → SearchesWithin g read ws (n + k) sought old (Ok (e i)) new
       Searches-hit i s = record {
         asked = asked-part s.asked;
         found = m.within i s.found;
         missed = tt;
         itself = λ ix same. m.at i s.found ∙ s.itself ix same;
-        hit = λ answer steady. ap (with_ties tie answer) (m.at i s.found) ∙ s.hit answer (steady-part answer steady);
+        hit = λ answer steady. ap (with_ties sought answer) (m.at i s.found) ∙ s.hit answer (steady-part answer steady);
         place = λ answer rises. tt;
         unequal = s.unequal;
       }
@@ -103,19 +103,19 @@ module _ {F R : Type 0} (g : Mut F (ℕ × Unit {0}) R) (read : R → Ordering) 
   pub record LeadsTo (limit low : ℕ) (c ws : List ℕ) (old mid : Asking F) : Type 0 where
     pub part : Embeds c ws (λ j. low + j)
     pub within : low + length c ≤ length ws
-    pub asked : AsksWithin g (Askable ws tie) limit old mid
+    pub asked : AsksWithin g (Askable ws sought) limit old mid
     pub split :
         (answer : ℕ → Ordering)
-        → IsSteadyRising g ws tie read answer old
-        → AreSplit (with_ties tie answer) ws low (low + length c)
+        → IsSteadyRising g ws sought read answer old
+        → AreSplit (with_ties sought answer) ws low (low + length c)
 
   -- then the search in the part is one in the whole
   pub Searches-part :
       {limit low k : ℕ} {c ws : List ℕ} {old mid new : Asking F}
       → LeadsTo limit low c ws old mid
       → (end : Result ℕ ℕ)
-      → SearchesWithin g read c k tie mid end new
-      → SearchesWithin g read ws (limit + k) tie old (shifted low end) new
+      → SearchesWithin g read c k sought mid end new
+      → SearchesWithin g read ws (limit + k) sought old (shifted low end) new
   Searches-part leads (Ok i) s = Searches-hit leads.part leads.asked i s
   Searches-part leads (Err i) s =
       let le = s.missed in
@@ -127,7 +127,7 @@ module _ {F R : Type 0} (g : Mut F (ℕ × Unit {0}) R) (read : R → Ordering) 
         itself = tt;
         hit = λ answer steady. tt;
         place = λ answer rises.
-            IsPlace-part leads.part (with_ties tie answer) i leads.within (leads.split answer rises)
-            (s.place answer (record { steady = steady-part leads.part leads.asked answer rises.steady; rising = IsRising-part leads.part (with_ties tie answer) rises.rising }));
+            IsPlace-part leads.part (with_ties sought answer) i leads.within (leads.split answer rises)
+            (s.place answer (record { steady = steady-part leads.part leads.asked answer rises.steady; rising = IsRising-part leads.part (with_ties sought answer) rises.rising }));
         unequal = λ none never. refl;
       }

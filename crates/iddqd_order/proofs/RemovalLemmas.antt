@@ -1,9 +1,9 @@
 -- What a removal below a node leaves of the node.
-use Rattle.iddqd_order.proofs.Names.{get_or_default, ◌≡◌, ◌≢◌, ℕ, zero, suc, ◌+◌, ◌-◌, ◌<◌, ◌≤◌, List, [], ◌∷◌, ◌++◌, length, take, drop, set, get_or, remove, slice_index, refl, ap, sym, ◌∙◌, subst, arith, sub-one, length-set, get_or-set_same, get_or-set_other, All, vec_capacity, Option, Some, None, map, length-map, map-set, length_push, nil_from_length, append-nil, take_more, take_all, drop_all, length-remove, Node, Node-F, roll-Node, row, children, child, child_room, weave, before, flat, IsInner, IsFormed, ReachesIndex, spot, IsChild, MayLackOne, IsMended, IsEmptied, in_order, IsTree, LEAST, CHILDREN}
+use Rattle.iddqd_order.proofs.Names.{get_or_default, ◌≡◌, ◌≢◌, ℕ, zero, suc, ◌+◌, ◌-◌, ◌<◌, ◌≤◌, List, [], ◌∷◌, ◌++◌, length, take, drop, set, get_or, remove, slice_index, refl, ap, sym, ◌∙◌, subst, arith, sub-one, length-set, get_or-set_same, get_or-set_other, All, vec_capacity, Option, Some, None, map, length-map, map-set, length_push, nil_from_length, append-nil, take_more, take_all, drop_all, length-remove, Node, Node-F, roll-Node, row, children, child, child_room, weave, before, flat, IsInner, IsFormed, ReachesIndex, place_at_level, IsChild, MayLackOne, IsMended, IsEmptied, in_order, IsTree, LEAST, CHILDREN}
 use Rattle.iddqd_order.specs.Tree.{inners_in}
 use Rattle.std.specs.List.{sum_by}
 unfoldable use Rattle.iddqd_order.specs.Node.{inners}
-pub use Rattle.iddqd_order.proofs.NodeLemmas.{GoesBelow, goes-below, holds-leaf, holds-at, holds-level, holds-below, spot-leaf, spot-at, spot-below, spot-within}
+pub use Rattle.iddqd_order.proofs.NodeLemmas.{GoesBelow, goes-below, holds-leaf, holds-at, holds-level, holds-below, place_at_level-leaf, place_at_level-at, place_at_level-below, place_at_level-within}
 use Rattle.iddqd_order.proofs.NodeLemmas.{lists, lists-one_more, lists-at, child-within, formed-leaf, leaf-formed, flat-leaf, formed-inner, inner-formed, flat-inner, room-roll}
 use Rattle.iddqd_order.proofs.WeaveLemmas.{index_place}
 use Rattle.iddqd_order.proofs.WeaveRemovalLemmas.{weave-taken, weave-replaced, weave-last}
@@ -12,7 +12,7 @@ use Rattle.iddqd_order.proofs.WeaveRemovalLemmas.{weave-taken, weave-replaced, w
 pub record EndsInner (h l i : ℕ) (n : Node) (p : List ℕ) : Type 0 where
   pub within : i < length (row n)
   pub here : i < length (children n)
-  pub place : spot l h n p ≡ index_place i (row n) (lists (h - 1) (children n))
+  pub place : place_at_level l h n p ≡ index_place i (row n) (lists (h - 1) (children n))
 
 pub ends-inner :
     (h l i : ℕ) (n : Node) (p : List ℕ)
@@ -30,7 +30,7 @@ ends-inner h l i n p ne e ei f w =
     record {
       within = at;
       here = here;
-      place = spot-at l h n p ne e ∙ ap (λ z. b z + length (flat (h - 1) (child n z))) (sym ei) ∙ ap (λ z. b i + length z) (sym (lists-at (h - 1) n i here));
+      place = place_at_level-at l h n p ne e ∙ ap (λ z. b z + length (flat (h - 1) (child n z))) (sym ei) ∙ ap (λ z. b i + length z) (sym (lists-at (h - 1) n i here));
     }
 
 -- a node's indexes and children after an index was taken from the i-th child: they hold `left`
@@ -79,18 +79,18 @@ woven-taken :
     (l h i : ℕ) (old k : Node) (p : List ℕ)
     → IsFormed h old
     → GoesBelow h l i old p
-    → flat (h - 1) k ≡ remove (flat (h - 1) (child old i)) (spot l (h - 1) (child old i) p)
-    → weave (row old) (lists (h - 1) (set (children old) i k)) ≡ remove (flat h old) (spot l h old p)
+    → flat (h - 1) k ≡ remove (flat (h - 1) (child old i)) (place_at_level l (h - 1) (child old i) p)
+    → weave (row old) (lists (h - 1) (set (children old) i k)) ≡ remove (flat h old) (place_at_level l h old p)
 woven-taken l h i old k p f b items =
     let ks : List (List ℕ) = lists (h - 1) (children old) in
-    let q : ℕ = spot l (h - 1) (child old i) p in
+    let q : ℕ = place_at_level l (h - 1) (child old i) p in
     let here = b.here in
     let at = lists-at (h - 1) old i here in
     let lt : q < length (get_or ks i []) = rw at b.within in
     let is : flat (h - 1) k ≡ remove (get_or ks i []) q = rw at items in
     ap (λ z. weave (row old) z) (map-set (λ k. flat (h - 1) k) (children old) i k)
     ∙ weave-taken i (row old) ks [] (flat (h - 1) k) q (omega (arith, length-map (children old) (λ k. flat (h - 1) k))) (lists-one_more h old b.inner f) lt is
-    ∙ ap (λ z. remove (weave (row old) ks) z) (sym b.place) ∙ ap (λ z. remove z (spot l h old p)) (sym (flat-inner h old b.inner))
+    ∙ ap (λ z. remove (weave (row old) ks) z) (sym b.place) ∙ ap (λ z. remove z (place_at_level l h old p)) (sym (flat-inner h old b.inner))
 
 -- the path goes on into the i-th child
 pub took-below :
@@ -102,14 +102,14 @@ pub took-below :
     → 1 ≤ length (row old)
     → ReachesIndex l h old p
     → g ≡ get_or (children old) i g
-    → flat (h - 1) k ≡ remove (flat (h - 1) g) (spot l (h - 1) g p)
+    → flat (h - 1) k ≡ remove (flat (h - 1) g) (place_at_level l (h - 1) g p)
     → IsFormed (h - 1) k
     → length (row g) ≤ length (row k) + 1
-    → TookBelow h i old (row old) (set (children old) i k) (remove (flat h old) (spot l h old p))
+    → TookBelow h i old (row old) (set (children old) i k) (remove (flat h old) (place_at_level l h old p))
 took-below l h i old g k p ne e ei f some w is_g items fk few =
     let b = goes-below h l i old p (omega (arith, holds-level l h old p w)) ei f w in
     let same : g ≡ child old i = is_g ∙ get_or_default (children old) i g old b.here in
-    took h i old g k (row old) _ ne f some b.here same refl fk few (woven-taken l h i old k p f b (items ∙ ap (λ z. remove (flat (h - 1) z) (spot l (h - 1) z p)) same))
+    took h i old g k (row old) _ ne f some b.here same refl fk few (woven-taken l h i old k p f b (items ∙ ap (λ z. remove (flat (h - 1) z) (place_at_level l (h - 1) z p)) same))
 
 -- the path ends at this node, and the last index below its i-th child is put in the place of the i-th index
 pub took-here :
@@ -124,7 +124,7 @@ pub took-here :
     → flat (h - 1) g ≡ flat (h - 1) k ++ last ∷ []
     → IsFormed (h - 1) k
     → length (row g) ≤ length (row k) + 1
-    → TookBelow h i old (set (row old) i last) (set (children old) i k) (remove (flat h old) (spot l h old p))
+    → TookBelow h i old (set (row old) i last) (set (children old) i k) (remove (flat h old) (place_at_level l h old p))
 took-here l h i old g k p last ne e ei f some w is_g items fk few =
     let s = ends-inner h l i old p ne e ei f w in
     let same : g ≡ child old i = is_g ∙ get_or_default (children old) i g old s.here in
@@ -133,7 +133,7 @@ took-here l h i old g k p last ne e ei f some w is_g items fk few =
     took h i old g k (set (row old) i last) _ ne f some s.here same (length-set (row old) i last) fk few
     (ap (λ z. weave (set (row old) i last) z) (map-set (λ k. flat (h - 1) k) (children old) i k)
     ∙ weave-replaced i (row old) ks [] (flat (h - 1) k) last s.within (lists-one_more h old ne f) is
-    ∙ ap (λ z. remove (weave (row old) ks) z) (sym s.place) ∙ ap (λ z. remove z (spot l h old p)) (sym (flat-inner h old ne)))
+    ∙ ap (λ z. remove (weave (row old) ks) z) (sym s.place) ∙ ap (λ z. remove z (place_at_level l h old p)) (sym (flat-inner h old ne)))
 
 -- the last index of the last child was taken
 pub record TookLast (h count : ℕ) (old : Node) (ks : List Node) (last : ℕ) : Type 0 where
@@ -212,7 +212,7 @@ pub remade-leaf :
     → ReachesIndex l h old p
     → row new ≡ remove (row old) i
     → children new ≡ children old
-    → IsRemade h old new (remove (flat h old) (spot l h old p))
+    → IsRemade h old new (remove (flat h old) (place_at_level l h old p))
 remade-leaf l h i old new p e ei f w eri ek =
     let lf = formed-leaf h old e f in
     let wi = lf.within in
@@ -220,7 +220,7 @@ remade-leaf l h i old new p e ei f w eri ek =
     let er : row new ≡ remove (row old) (slice_index p 0) = eri ∙ ap (λ z. remove (row old) z) (ei ∙ ap (λ z. slice_index p z) e) in
     let n : length (row new) + 1 ≡ length (row old) = ap (λ z. length z + 1) er ∙ length-remove (row old) (slice_index p 0) lt in
     record {
-      items = rw (flat-leaf h new e, flat-leaf h old e, spot-leaf l h old p e) er;
+      items = rw (flat-leaf h new e, flat-leaf h old e, place_at_level-leaf l h old p e) er;
       formed = leaf-formed h new e (record { within = omega arith; childless = ek ∙ lf.childless });
       fewer = omega arith;
     }
@@ -294,7 +294,10 @@ child-before h i n g ne le f is_g =
     (here, rw (is_g ∙ get_or_default (children n) i g n here) ((formed-inner h n ne f).below i n here))
 
 -- a node just made has the room of the one before
-pub room-kept : (n : Node) (r : Node-F Node) → vec_capacity r.children ≡ child_room n → child_room n ≤ child_room (roll-Node r)
+pub room-kept :
+    (n : Node) (r : Node-F Node)
+    → vec_capacity r.children ≡ child_room n
+    → child_room n ≤ child_room (roll-Node r)
 room-kept n r e = let s = room-roll r in omega arith
 
 -- a root without indexes or children

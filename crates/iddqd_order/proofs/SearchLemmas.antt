@@ -1,7 +1,11 @@
 -- A search by halves through answers that rise.
 use Rattle.iddqd_order.proofs.Names.{◌≡◌, ◌≢◌, ◌∙◌, ℕ, ◌+◌, ◌<◌, ◌≤◌, List, Option, Some, None, length, get_or, Contains, refl, sym, ap, subst, All, arith, below_more, inl, inr, Result, Ok, Err, is_ok, true, nat_tests, get_or_default, cases_lt, Ordering, Less, Equal, Greater, Mut, Asking, Askable, with_ties, IsRising, IsPlace, IsSteadyRising, Searches}
 
-pub Askable-other : (xs : List ℕ) (tie : Option ℕ) (at : ℕ) → tie ≢ Some at → Contains xs at → Askable xs tie at
+pub Askable-other :
+    (xs : List ℕ) (sought : Option ℕ) (at : ℕ)
+    → sought ≢ Some at
+    → Contains xs at
+    → Askable xs sought at
 Askable-other xs None at n h = h
 Askable-other xs (Some ix) at n h = (h, λ e. n (ap Some (sym e)))
 

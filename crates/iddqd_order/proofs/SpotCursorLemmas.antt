@@ -1,15 +1,15 @@
 -- Ways: what a step along one leaves, and what stays of them where an index is put in the place of another.
-use Rattle.iddqd_order.proofs.Names.{◌≡◌, ◌≢◌, ◌∙◌, ℕ, zero, suc, ◌+◌, ◌-◌, ◌<◌, ◌≤◌, List, [], ◌++◌, length, get_or, set, slice_index, slice_set, refl, sym, ap, subst, arith, Option, Some, None, is_some, true, false, sub-one, length-append, length-set, get_or-set_same, get_or-set_other, inl, inr, cases_eq, length-map, map-set, All-set, Node, SpotCursor, row, children, child, child_room, weave, before, after, flat, IsFormed, ReachesIndex, spot, StepsToNext, SamePlaces, IsSpotCursor, get_or_default, add-one, set-get_or, CAPACITY, LEAST, LEVELS}
+use Rattle.iddqd_order.proofs.Names.{◌≡◌, ◌≢◌, ◌∙◌, ℕ, zero, suc, ◌+◌, ◌-◌, ◌<◌, ◌≤◌, List, [], ◌++◌, length, get_or, set, slice_index, slice_set, refl, sym, ap, subst, arith, Option, Some, None, is_some, true, false, sub-one, length-append, length-set, get_or-set_same, get_or-set_other, inl, inr, cases_eq, length-map, map-set, All-set, Node, SpotCursor, row, children, child, child_room, weave, before, after, flat, IsFormed, ReachesIndex, place_at_level, StepsToNext, SamePlaces, IsSpotCursor, get_or_default, add-one, set-get_or, CAPACITY, LEAST, LEVELS}
 use Rattle.iddqd_order.proofs.NodeLemmas.{lists, AreChildren, formed-within, formed-leaf, leaf-formed, flat-leaf, formed-inner, inner-formed, flat-inner}
-use Rattle.iddqd_order.proofs.RemovalLemmas.{GoesBelow, goes-below, ends-inner, holds-leaf, holds-at, holds-level, holds-below, spot-leaf, spot-at, spot-below}
-use Rattle.iddqd_order.proofs.DescentLemmas.{after-last, before-next, lists-one_more, lists-at, child-formed, child-read, child_is, holds-here, below-holds, spot-row}
+use Rattle.iddqd_order.proofs.RemovalLemmas.{GoesBelow, goes-below, ends-inner, holds-leaf, holds-at, holds-level, holds-below, place_at_level-leaf, place_at_level-at, place_at_level-below}
+use Rattle.iddqd_order.proofs.DescentLemmas.{after-last, before-next, lists-one_more, lists-at, child-formed, child-read, child_is, holds-here, below-holds, place_at_level-row}
 use Rattle.iddqd_order.proofs.WeaveLemmas.{apart, index_place}
 use Rattle.iddqd_order.proofs.WeaveRemovalLemmas.{weave-set_own, weave-set_below}
 
 -- the path of first places goes to the first index
 pub record IsFirst (h : ℕ) (n : Node) (p : List ℕ) : Type 0 where
   pub holds : ReachesIndex 0 h n p
-  pub place : spot 0 h n p ≡ 0
+  pub place : place_at_level 0 h n p ≡ 0
 
 pub first-place :
     (h : ℕ) (n : Node) (p : List ℕ)
@@ -19,7 +19,7 @@ pub first-place :
     → IsFirst h n p
 first-place zero n p f some zeros =
     let z = zeros 0 (omega arith) in
-    record { holds = holds-here 0 n p (omega arith); place = spot-leaf 0 0 n p refl ∙ z }
+    record { holds = holds-here 0 n p (omega arith); place = place_at_level-leaf 0 0 n p refl ∙ z }
 first-place (suc h) n p f some zeros =
     let ne : suc h ≢ 0 = λ e. absurd (omega arith) in
     let here : slice_index p (suc h) ≡ 0 = zeros (suc h) (omega arith) in
@@ -32,7 +32,7 @@ first-place (suc h) n p f some zeros =
     record {
       holds = below-holds 0 (suc h) n p ne (rw here lt) (rw (here, sub-one) ih.holds);
       place =
-          let below : spot 0 (suc h) n p ≡ 0 + spot 0 h (child n 0) p = rw (here, sub-one) at (spot-below 0 (suc h) n p ne (λ e. absurd (omega arith))) in
+          let below : place_at_level 0 (suc h) n p ≡ 0 + place_at_level 0 h (child n 0) p = rw (here, sub-one) at (place_at_level-below 0 (suc h) n p ne (λ e. absurd (omega arith))) in
           let none = ih.place in
           omega arith;
     }
@@ -48,7 +48,7 @@ pub steps-leaf :
     → StepsToNext h n l p (Some 0) q
 steps-leaf (suc h) l i n p q e ei w lt next = absurd (omega arith)
 steps-leaf zero l i n p q e ei w lt next =
-    (holds-here 0 n q (omega arith), spot-leaf 0 0 n q refl ∙ next ∙ ap (λ z. z + 1) ei ∙ ap (λ z. z + 1) (sym (spot-leaf l 0 n p refl)))
+    (holds-here 0 n q (omega arith), place_at_level-leaf 0 0 n q refl ∙ next ∙ ap (λ z. z + 1) ei ∙ ap (λ z. z + 1) (sym (place_at_level-leaf l 0 n p refl)))
 
 pub ends-leaf :
     (h l i : ℕ) (n : Node) (p q : List ℕ)
@@ -60,7 +60,7 @@ pub ends-leaf :
 ends-leaf (suc h) l i n p q e ei w le = absurd (omega arith)
 ends-leaf zero l i n p q e ei w le =
     let lt = holds-leaf l 0 n p refl w in
-    rw (flat-leaf zero n refl, spot-leaf l 0 n p refl) (omega arith)
+    rw (flat-leaf zero n refl, place_at_level-leaf l 0 n p refl) (omega arith)
 
 -- from an index of an inner node to the first one below the next child
 pub steps-here :
@@ -81,8 +81,8 @@ steps-here h l i n p q ne e ei f w next zeros =
     let five = ((formed-inner h n ne f).below (i + 1) n lt).0 in
     let first = first-place (h - 1) (child n (i + 1)) q (child-formed h n (i + 1) ne f lt) (omega arith) (λ m le. zeros m (omega arith)) in
     let xs : List ℕ = row n in let ks : List (List ℕ) = lists (h - 1) (children n) in
-    let is : spot 0 h n q ≡ length (before (i + 1) xs ks) + spot 0 (h - 1) (child n (i + 1)) q =
-    spot-below 0 h n q ne ne ∙ ap (λ z. length (before z xs ks) + spot 0 (h - 1) (child n z) q) next in
+    let is : place_at_level 0 h n q ≡ length (before (i + 1) xs ks) + place_at_level 0 (h - 1) (child n (i + 1)) q =
+    place_at_level-below 0 h n q ne ne ∙ ap (λ z. length (before z xs ks) + place_at_level 0 (h - 1) (child n z) q) next in
     let len : length (before (i + 1) xs ks) ≡ index_place i xs ks + 1 = before-next i xs ks at (lists-one_more h n ne f) in
     let was = s.place in let none = first.place in
     (below-holds 0 h n q ne (rw next lt) (rw next first.holds), omega arith)
@@ -97,8 +97,8 @@ pub steps-below :
 steps-below h l i m n p q b here s =
     let le = holds-level m (h - 1) (child n i) q s.0 in
     let was = b.place in
-    let is : spot m h n q ≡ length (before i (row n) (lists (h - 1) (children n))) + spot m (h - 1) (child n i) q =
-    spot-below m h n q b.inner (λ z. absurd (omega arith)) ∙ ap (λ z. length (before z (row n) (lists (h - 1) (children n))) + spot m (h - 1) (child n z) q) here in
+    let is : place_at_level m h n q ≡ length (before i (row n) (lists (h - 1) (children n))) + place_at_level m (h - 1) (child n i) q =
+    place_at_level-below m h n q b.inner (λ z. absurd (omega arith)) ∙ ap (λ z. length (before z (row n) (lists (h - 1) (children n))) + place_at_level m (h - 1) (child n z) q) here in
     let next = s.1 in
     (below-holds m h n q b.inner (rw here b.here) (rw here s.0), omega arith)
 
@@ -144,12 +144,17 @@ pub read-below :
     (h l i ix : ℕ) (n : Node) (p : List ℕ)
     → GoesBelow h l i n p
     → IsFormed h n
-    → ix ≡ slice_index (flat (h - 1) (child n i)) (spot l (h - 1) (child n i) p)
-    → ix ≡ slice_index (flat h n) (spot l h n p)
-read-below h l i ix n p b f is = is ∙ sym (ap (slice_index (flat h n)) b.place ∙ child-read h n i (spot l (h - 1) (child n i) p) b.inner f b.here b.within)
+    → ix ≡ slice_index (flat (h - 1) (child n i)) (place_at_level l (h - 1) (child n i) p)
+    → ix ≡ slice_index (flat h n) (place_at_level l h n p)
+read-below h l i ix n p b f is = is ∙ sym (ap (slice_index (flat h n)) b.place ∙ child-read h n i (place_at_level l (h - 1) (child n i) p) b.inner f b.here b.within)
 
 -- where a path goes in a node
-pub holds-row : (h l i : ℕ) (n : Node) (p : List ℕ) → h ≡ l → i ≡ slice_index p h → ReachesIndex l h n p → i < length (row n)
+pub holds-row :
+    (h l i : ℕ) (n : Node) (p : List ℕ)
+    → h ≡ l
+    → i ≡ slice_index p h
+    → ReachesIndex l h n p
+    → i < length (row n)
 holds-row zero l i n p e ei w = rw ei (holds-leaf l 0 n p refl w)
 holds-row (suc h) l i n p e ei w = rw ei (holds-at l (suc h) n p (λ z. absurd (omega arith)) e w)
 
@@ -158,7 +163,7 @@ pub record EndsHere (h l i : ℕ) (n : Node) (p : List ℕ) : Type 0 where
   pub level : h ≡ l
   pub within : i < length (row n)
   pub low : i < CAPACITY
-  pub spot_is : slice_index (flat h n) (spot l h n p) ≡ slice_index (row n) i
+  pub spot_is : slice_index (flat h n) (place_at_level l h n p) ≡ slice_index (row n) i
 
 pub ends-here :
     {h l i : ℕ} {n : Node} {p : List ℕ}
@@ -174,7 +179,7 @@ ends-here {h = h} {l = l} {i = i} {n = n} {p = p} le ei f w =
       level = e;
       within = lt;
       low = omega (arith, lt, formed-within h n f);
-      spot_is = ap (λ z. slice_index (flat h n) (spot z h n p)) (sym e) ∙ spot-row h n p f (rw (sym ei) lt) ∙ ap (slice_index (row n)) (sym ei);
+      spot_is = ap (λ z. slice_index (flat h n) (place_at_level z h n p)) (sym e) ∙ place_at_level-row h n p f (rw (sym ei) lt) ∙ ap (slice_index (row n)) (sym ei);
     }
 
 -- what a step below the i-th child answers, if anything
@@ -191,7 +196,7 @@ steps-below_any h l i (Some m) n p q b same some s = steps-below h l i m n p q b
 -- what a step below the i-th child leaves
 pub record SteppedBelow (h l i ix : ℕ) (r : Option ℕ) (n : Node) (p q : List ℕ) : Type 0 where
   pub below : GoesBelow h l i n p
-  pub index : ix ≡ slice_index (flat h n) (spot l h n p)
+  pub index : ix ≡ slice_index (flat h n) (place_at_level l h n p)
   pub next : StepsToNext (h - 1) (child n i) l p r q
 
 pub stepped-below :
@@ -201,7 +206,7 @@ pub stepped-below :
     → IsFormed h n
     → ReachesIndex l h n p
     → k ≡ get_or (children n) i k
-    → ix ≡ slice_index (flat (h - 1) k) (spot l (h - 1) k p)
+    → ix ≡ slice_index (flat (h - 1) k) (place_at_level l (h - 1) k p)
     → StepsToNext (h - 1) k l p r q
     → SteppedBelow h l i ix r n p q
 stepped-below {h = h} {l = l} {i = i} {ix = ix} {r = r} {n = n} {k = k} {p = p} {q = q} lt ei f w is index next =
@@ -209,7 +214,7 @@ stepped-below {h = h} {l = l} {i = i} {ix = ix} {r = r} {n = n} {k = k} {p = p} 
     let same : k ≡ child n i = child_is n i k b.here is in
     record {
       below = b;
-      index = read-below h l i ix n p b f (subst (λ z. ix ≡ slice_index (flat (h - 1) z) (spot l (h - 1) z p)) same index);
+      index = read-below h l i ix n p b f (subst (λ z. ix ≡ slice_index (flat (h - 1) z) (place_at_level l (h - 1) z p)) same index);
       next = subst (λ z. StepsToNext (h - 1) z l p r q) same next;
     }
 
@@ -245,7 +250,7 @@ same-places-inner :
     → SamePlaces h n m
 same-places-inner h n m ne fn fm rows long each = record { long = long; at = at }
   where
-    at : (l : ℕ) (p : List ℕ) → ReachesIndex l h n p → ReachesIndex l h m p × (spot l h m p ≡ spot l h n p)
+    at : (l : ℕ) (p : List ℕ) → ReachesIndex l h n p → ReachesIndex l h m p × (place_at_level l h m p ≡ place_at_level l h n p)
     at l p w =
         let i : ℕ = slice_index p h in
         let one = (formed-inner h n ne fn).inner.one_more in let other = (formed-inner h m ne fm).inner.one_more in
@@ -255,17 +260,17 @@ same-places-inner h n m ne fn fm rows long each = record { long = long; at = at 
         elim (cases_eq h l) [
           | inl e ↦
               (let lt : i < length (row n) = holds-at l h n p ne e w in
-              (subst (λ z. ReachesIndex z h m p) e (holds-here h m p (omega arith)), omega (arith, befores (omega arith), (each i (omega arith)).long, spot-at l h m p ne e, spot-at l h n p ne e)))
+              (subst (λ z. ReachesIndex z h m p) e (holds-here h m p (omega arith)), omega (arith, befores (omega arith), (each i (omega arith)).long, place_at_level-at l h m p ne e, place_at_level-at l h n p ne e)))
           | inr below ↦
               (let down = holds-below l h n p ne below w in
               let here = down.here in
               let on = (each i here).at l p down.on in
-              (below-holds l h m p ne (omega arith) on.0, omega (arith, befores (omega arith), on.1, spot-below l h m p ne below, spot-below l h n p ne below)))
+              (below-holds l h m p ne (omega arith) on.0, omega (arith, befores (omega arith), on.1, place_at_level-below l h m p ne below, place_at_level-below l h n p ne below)))
         ]
 
 -- what an index that is put in the place of another leaves of a node
 pub record IsPut (h l : ℕ) (n m : Node) (p : List ℕ) (x : ℕ) : Type 0 where
-  pub items : flat h m ≡ slice_set (flat h n) (spot l h n p) x
+  pub items : flat h m ≡ slice_set (flat h n) (place_at_level l h n p) x
   pub formed : IsFormed h m
   pub same_length : length (row m) ≡ length (row n)
   pub same_places : SamePlaces h n m
@@ -282,7 +287,7 @@ put-inner :
     → (LEAST ≤ length (row k)) × IsFormed (h - 1) k
     → SamePlaces (h - 1) (child n i) k
     → weave (row m) (lists (h - 1) (set (children n) i k)) ≡ set (weave (row n) (lists (h - 1) (children n)))
-    (spot l h n p) x
+    (place_at_level l h n p) x
     → IsPut h l n m p x
 put-inner h l i x n k m p ne f here rows ek more child_is same woven =
     let fs = formed-inner h n ne f in
@@ -290,13 +295,13 @@ put-inner h l i x n k m p ne f here rows ek more child_is same woven =
     let count = ap length ek ∙ length-set (children n) i k in
     let formed : IsFormed h m = inner-formed h m ne (record { within = omega arith; one_more = omega arith; has_room = omega arith })
     (subst (AreChildren (h - 1)) (sym ek) (All-set (λ z. (LEAST ≤ length (row z)) × IsFormed (h - 1) z) (children n) i k child_is fs.below)) in
-    let items : flat h m ≡ set (flat h n) (spot l h n p) x =
-    flat-inner h m ne ∙ ap (λ z. weave (row m) (lists (h - 1) z)) ek ∙ woven ∙ ap (λ z. set z (spot l h n p) x) (sym (flat-inner h n ne)) in
+    let items : flat h m ≡ set (flat h n) (place_at_level l h n p) x =
+    flat-inner h m ne ∙ ap (λ z. weave (row m) (lists (h - 1) z)) ek ∙ woven ∙ ap (λ z. set z (place_at_level l h n p) x) (sym (flat-inner h n ne)) in
     record {
       items = items;
       formed = formed;
       same_length = rows;
-      same_places = same-places-inner h n m ne f formed rows (ap length items ∙ length-set (flat h n) (spot l h n p) x) (λ j lt. elim (cases_eq j i) [
+      same_places = same-places-inner h n m ne f formed rows (ap length items ∙ length-set (flat h n) (place_at_level l h n p) x) (λ j lt. elim (cases_eq j i) [
         | inl e ↦ subst (λ z. SamePlaces (h - 1) (child n z) (child m z)) (sym e) (subst (SamePlaces (h - 1) (child n i)) (sym (ap (λ z. get_or z i m) ek ∙ get_or-set_same (children n) i k m here)) same)
         | inr away ↦ subst (SamePlaces (h - 1) (child n j)) (sym (ap (λ z. get_or z j m) ek ∙ get_or-set_other (children n) i j k m away ∙ get_or_default (children n) j m n lt)) (SamePlaces-itself (h - 1) (child n j))
       ]);
@@ -317,14 +322,14 @@ put-here zero l i x n m p e ei f w er ek more =
     let rows : length (row m) ≡ length (row n) = ap length er ∙ length-set (row n) i x in
     let lt = holds-leaf l 0 n p refl w in
     record {
-      items = flat-leaf 0 m refl ∙ er ∙ sym (λ j. set (flat-leaf 0 n refl j) ((spot-leaf l 0 n p refl ∙ sym ei) j) x);
+      items = flat-leaf 0 m refl ∙ er ∙ sym (λ j. set (flat-leaf 0 n refl j) ((place_at_level-leaf l 0 n p refl ∙ sym ei) j) x);
       formed = leaf-formed 0 m refl (record { within = omega arith; childless = ek ∙ leaf.childless });
       same_length = rows;
       same_places = record {
         long = ap length (flat-leaf 0 m refl) ∙ rows ∙ sym (ap length (flat-leaf 0 n refl));
         at = λ k q v. (
             let low = holds-leaf k 0 n q refl v in let none = holds-level k 0 n q v in let e : 0 ≡ k = omega arith in
-            (subst (λ z. ReachesIndex z 0 m q) e (holds-here 0 m q (omega arith)), spot-leaf k 0 m q refl ∙ sym (spot-leaf k 0 n q refl)));
+            (subst (λ z. ReachesIndex z 0 m q) e (holds-here 0 m q (omega arith)), place_at_level-leaf k 0 m q refl ∙ sym (place_at_level-leaf k 0 n q refl)));
       };
     }
 put-here (suc h) l i x n m p e ei f w er ek more =
@@ -355,7 +360,7 @@ put-below h l i x n g k m p low ei f w is_g put er ek more =
     let row_len = was.same_length in
     let ks : List (List ℕ) = lists (h - 1) (children n) in
     let list = lists-at (h - 1) n i b.here in
-    let q : ℕ = spot l (h - 1) (child n i) p in
+    let q : ℕ = place_at_level l (h - 1) (child n i) p in
     put-inner h l i x n k m p b.inner f b.here (ap length er) ek more (omega arith, was.formed) was.same_places
     ((λ j. weave (er j) (map-set (λ k. flat (h - 1) k) (children n) i k j))
     ∙ weave-set_below i (row n) ks (flat (h - 1) k) q x (omega (arith, b.here, length-map (children n) (λ k. flat (h - 1) k))) (lists-one_more h n b.inner f) (rw list b.within) (rw list was.items)
@@ -378,11 +383,15 @@ IsSpotCursor-first h n w f some low path zeros level place =
       path = path;
       within = omega arith;
       holds = λ more. subst (λ l. ReachesIndex l h n w.spot.path) (sym level) first.holds;
-      leads = λ more. ap (λ l. spot l h n w.spot.path) level ∙ first.place ∙ sym place;
+      leads = λ more. ap (λ l. place_at_level l h n w.spot.path) level ∙ first.place ∙ sym place;
     }
 
 -- a cursor stands where it stood, where the tree changes indexes alone
-pub IsSpotCursor-same : (h : ℕ) (n m : Node) (w : SpotCursor) → SamePlaces h n m → IsSpotCursor h n w → IsSpotCursor h m w
+pub IsSpotCursor-same :
+    (h : ℕ) (n m : Node) (w : SpotCursor)
+    → SamePlaces h n m
+    → IsSpotCursor h n w
+    → IsSpotCursor h m w
 IsSpotCursor-same h n m w same is =
     let within = is.within in let long = same.long in
     record {

@@ -1,12 +1,12 @@
 -- What a table's calls leave of its parts.
-use Rattle.iddqd_order.proofs.Names.{Ok, ◌≡◌, ◌≢◌, ℕ, ◌+◌, ◌-◌, ◌*◌, ◌<◌, ◌≤◌, List, [], length, get_or, map, slice_index, refl, ap, sym, ◌∙◌, arith, Option, Some, None, Err, Bool, true, false, nat_lt, if◌then◌else◌, All, Contains, not, ◌==◌, Ordering, insert, remove, length-insert, length-remove, length-map, All-nil, All-weaker, All-filter, All-map, Contains-get_or, cases_lt, inl, inr, CanRemap, remapped, IndexRemap, Mut, Asking, Node, Descends, EndsIn, in_order, inners_in, IsTree, IsTable, ReachesGapIn, place_in, ReachesIndexIn, spot_in, blocks_for, order_of, IsIndexList, without, sentinel, Askable, Searches, MOST_INDEXES, row_asks, Gap, Spot, AtIndex, InGap}
+use Rattle.iddqd_order.proofs.Names.{Ok, ◌≡◌, ◌≢◌, ℕ, ◌+◌, ◌-◌, ◌*◌, ◌<◌, ◌≤◌, List, [], length, get_or, map, slice_index, refl, ap, sym, ◌∙◌, arith, Option, Some, None, Err, Bool, true, false, nat_lt, if◌then◌else◌, All, Contains, not, ◌==◌, Ordering, insert, remove, length-insert, length-remove, length-map, All-nil, All-weaker, All-filter, All-map, Contains-get_or, cases_lt, inl, inr, CanRemap, remapped, IndexRemap, Mut, Asking, Node, Descends, EndsIn, in_order, inners_in, IsTree, IsTable, ReachesGapIn, place_in, ReachesIndexIn, place_at_level_in, blocks_for, order_of, IsIndexList, without, sentinel, Askable, Searches, MOST_INDEXES, row_asks, Gap, Spot, AtIndex, InGap}
 use Rattle.iddqd_order.proofs.AskLemmas.{asks_more, asks_none}
 use Rattle.iddqd_order.proofs.NodeLemmas.{All-insert}
 use Rattle.iddqd_order.proofs.IndexListLemmas.{IsIndexList-nil, IsDistinct-insert, IsDistinct-filter, remove-distinct}
 use Rattle.iddqd_order.proofs.PartLemmas.{SearchesWithin-more}
 use Rattle.iddqd_order.proofs.ReckoningLemmas.{reckoning, few_indexes}
 use Rattle.iddqd_order.proofs.RenameLemmas.{IsIndexList-remapped}
-use Rattle.iddqd_order.proofs.TreeLemmas.{spot_in-within}
+use Rattle.iddqd_order.proofs.TreeLemmas.{place_at_level_in-within}
 
 -- no index at all
 pub IsTable-none : IsTable None 0 0 0
@@ -98,7 +98,7 @@ pub IsTable-put :
     → IsTable s k (n + 1) o
 IsTable-put r h n p ix s k t goes absent small tree items inner =
     let xs : List ℕ = in_order r h in
-    let more = length-insert xs (place_in r h p) ix (spot_in-within InGap 0 r h p t.tree goes) in
+    let more = length-insert xs (place_in r h p) ix (place_at_level_in-within InGap 0 r h p t.tree goes) in
     let counted = t.counted in
     let len = ap length items in
     record {
@@ -119,15 +119,15 @@ pub shorter :
     {q o : ℕ} (r : Option Node) (h n : ℕ) (l : ℕ) (p : List ℕ) (ix : ℕ) (s : Option Node) (k : ℕ)
     → IsTable r h n q
     → ReachesIndexIn l r h p
-    → slice_index (in_order r h) (spot_in l r h p) ≡ ix
+    → slice_index (in_order r h) (place_at_level_in l r h p) ≡ ix
     → IsTree s k
-    → in_order s k ≡ remove (in_order r h) (spot_in l r h p)
+    → in_order s k ≡ remove (in_order r h) (place_at_level_in l r h p)
     → o ≡ inners_in s k
     → Shorter r h n ix s k o
 shorter r h n l p ix s k t held there tree items inner =
     let xs : List ℕ = in_order r h in
-    let at : ℕ = spot_in l r h p in
-    let within : at < length xs = spot_in-within AtIndex l r h p t.tree held in
+    let at : ℕ = place_at_level_in l r h p in
+    let within : at < length xs = place_at_level_in-within AtIndex l r h p t.tree held in
     let same : in_order s k ≡ without xs ix = items ∙ remove-distinct xs at t.distinct within ∙ ap (without xs) there in
     let fewer : length (remove xs at) + 1 ≡ length xs = length-remove xs at within in
     let counted = t.counted in

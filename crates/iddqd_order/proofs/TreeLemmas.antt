@@ -1,7 +1,7 @@
 -- What an insert leaves of a tree.
-use Rattle.iddqd_order.proofs.Names.{ReachesGapIn, place_in, IsPlaceIn, ReachesIn, spot_in, ◌≡◌, ℕ, ◌+◌, ◌-◌, ◌<◌, ◌≤◌, ◌≢◌, List, [], ◌∷◌, length, refl, ap, ◌∙◌, arith, Option, Some, None, insert, length-insert, All-cons, All-nil, Node, row, children, child_room, flat, IsFormed, ReachesGap, place, in_order, IsTree, IsChild, CHILDREN, LEVELS, MOST_INDEXES, Stop, InGap}
-use Rattle.iddqd_order.proofs.NodeLemmas.{AreChildren, leaf-formed, flat-leaf, inner-formed, flat-inner, place-within, spot-within}
-use Rattle.iddqd_order.proofs.InsertLemmas.{Cut}
+use Rattle.iddqd_order.proofs.Names.{ReachesGapIn, place_in, IsPlaceIn, ReachesIn, place_at_level_in, ◌≡◌, ℕ, ◌+◌, ◌-◌, ◌<◌, ◌≤◌, ◌≢◌, List, [], ◌∷◌, length, refl, ap, ◌∙◌, arith, Option, Some, None, insert, length-insert, All-cons, All-nil, Node, row, children, child_room, flat, IsFormed, ReachesGap, place, in_order, IsTree, IsChild, CHILDREN, LEVELS, MOST_INDEXES, Stop, InGap}
+use Rattle.iddqd_order.proofs.NodeLemmas.{AreChildren, leaf-formed, flat-leaf, inner-formed, flat-inner, place-within, place_at_level-within}
+use Rattle.iddqd_order.proofs.InsertLemmas.{Split}
 use Rattle.iddqd_order.proofs.ReckoningLemmas.{twelve_levels}
 use Rattle.std.proofs.lemmas.List.Sums.{sum_by-cons}
 use Rattle.iddqd_order.specs.Node.{inners}
@@ -25,12 +25,12 @@ first_root n x er ek =
       items = flat-leaf 0 n refl ∙ er;
     }
 
--- a new root above the two parts of a root that was cut
+-- a new root above the two parts of a root that was split
 pub new_root :
     (h : ℕ) (old lower new : Node) (m : ℕ) (upper : Node) (p : List ℕ) (x : ℕ)
     → IsFormed h old
     → ReachesGap h old p
-    → Cut h old lower m upper p x
+    → Split h old lower m upper p x
     → row new ≡ m ∷ []
     → children new ≡ lower ∷ upper ∷ []
     → CHILDREN ≤ child_room new
@@ -51,7 +51,7 @@ new_root h old lower new m upper p x f g c er ek rm small =
 -- it takes a block for each level, and one for the new root
 pub new_root-inners :
     (h : ℕ) (old lower new : Node) (m : ℕ) (upper : Node) (p : List ℕ) (x : ℕ)
-    → Cut h old lower m upper p x
+    → Split h old lower m upper p x
     → children new ≡ lower ∷ upper ∷ []
     → inners (h + 1) new ≡ inners h old + h + 1
 new_root-inners h old lower new m upper p x c ek =
@@ -68,17 +68,17 @@ IsTree-low None h t = omega arith
 IsTree-low (Some n) h t = t.2
 
 -- a path leads to a place in the list
-pub spot_in-within :
+pub place_at_level_in-within :
     (stop : Stop) (l : ℕ) (r : Option Node) (h : ℕ) (p : List ℕ)
     → IsTree r h
     → ReachesIn stop l r h p
-    → IsPlaceIn stop (spot_in l r h p) (length (in_order r h))
-spot_in-within stop l None h p t w = w
-spot_in-within stop l (Some n) h p t w = spot-within l h n p t.0 w
+    → IsPlaceIn stop (place_at_level_in l r h p) (length (in_order r h))
+place_at_level_in-within stop l None h p t w = w
+place_at_level_in-within stop l (Some n) h p t w = place_at_level-within l h n p t.0 w
 
 pub place_in-within :
     (r : Option Node) (h : ℕ) (p : List ℕ)
     → IsTree r h
     → ReachesGapIn r h p
     → place_in r h p ≤ length (in_order r h)
-place_in-within r h p t g = spot_in-within InGap 0 r h p t g
+place_in-within r h p t g = place_at_level_in-within InGap 0 r h p t g

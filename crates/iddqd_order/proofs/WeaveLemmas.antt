@@ -76,7 +76,7 @@ pub edited :
     → weave xs (set ks i k) ≡ insert (weave xs ks) (length (before i xs ks) + q) x
 edited i xs ks d k q x p e w is = weave-edit (λ z j. insert z j x) i xs ks d k q p e is (λ b ys n j. insert-append_right b ys n j x) (λ a. insert-append_left (get_or ks i d) a q x w)
 
--- a child cut in two about an index
+-- a child that is split about an index
 halved :
     (i : ℕ) (xs : List ℕ) (ks : List (List ℕ)) (l : List ℕ) (m : ℕ) (u : List ℕ)
     → i < length ks

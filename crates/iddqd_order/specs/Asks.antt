@@ -1,4 +1,4 @@
--- What the asks of an `Asking` leave, and how they are answered.
+-- The asks of an `Asking`: the states that they lead to, and their answers.
 use Rattle.std.specs.Prelude.{◌≡◌, ℕ, suc, ◌+◌, ◌≤◌}
 use Rattle.std.specs.declared.cmp.Ordering.{Ordering}
 use Rattle.std.specs.Fn.{Called, Mut}
@@ -17,12 +17,13 @@ module _ {F R : Type 0} (g : Mut F (ℕ × Unit {0}) R) (P : ℕ → Type 0) whe
   pub record CanAsk (f : F) : Type 0 where
     pub at : (n : ℕ) (f' : F) → After n f f' → (ix : ℕ) → P ix → g.pre f' (ix, tt)
 
-  -- as they are read, the answers are one function of the index, in every state that the closure's own asks leave
+  -- the answers, as `read` turns them into `Ordering`s, are one function of the index, in every state that the
+  -- closure's own asks leave
   pub record Steady (read : R → Ordering) (answer : ℕ → Ordering) (f : F) : Type 0 where
     pub at : (n : ℕ) (f' : F) → After n f f' → (ix : ℕ) → P ix →
         (r : R) (f'' : F) → Called g f' (ix, tt) r f'' → read r ≡ answer ix
 
-  -- some number of asks within the limit lead from the old asking to the new one, and all of them are counted
+  -- at most `limit` asks lead from the old asking to the new one, and each of them is counted
   pub record AsksWithin (limit : ℕ) (old new : Asking F) : Type 0 where
     pub asks : ℕ
     pub within : asks ≤ limit

@@ -11,11 +11,11 @@ use Rattle.iddqd_order.specs.Node.{row, child, flat, ReachesGap, place}
 use Rattle.iddqd_order.specs.Tree.{ReachesGapIn, place_in}
 use Rattle.iddqd_order.specs.declared.btree_table.path.TheConstants.{LEVELS}
 
--- how two gaps stand to each other
+-- r is how gap i compares with gap j
 abbrev pub Compares : Ordering → ℕ → ℕ → Type 0
 Compares r i j = MatchOrdering r (i < j) (i ≡ j) (j < i)
 
--- the index stands behind the i-th gap
+-- ix is the index right behind gap i
 abbrev pub IsBehind : List ℕ → ℕ → ℕ → Type 0
 IsBehind xs i ix = (i < length xs) × (ix ≡ slice_index xs i)
 
@@ -23,18 +23,20 @@ abbrev pub opposite : End → End
 opposite Front = Back
 opposite Back = Front
 
--- the gap at an end of so many indexes
+-- the gap at an end of `count` indexes
 abbrev pub edge_of : End → ℕ → ℕ
 edge_of Front count = 0
 edge_of Back count = count
 
--- a step from the i-th gap towards an end goes over an index to the j-th, or stays where there is none
+-- A step towards an end goes from gap i over one index to gap j. If gap i is at that end, there is no index, and j is
+-- i.
 abbrev pub Steps : End → List ℕ → ℕ → Option ℕ → ℕ → Type 0
 Steps towards xs i None j = (i ≡ edge_of towards (length xs)) × (j ≡ i)
 Steps Front xs i (Some ix) j = IsBehind xs j ix × (i ≡ j + 1)
 Steps Back xs i (Some ix) j = IsBehind xs i ix × (j ≡ i + 1)
 
--- of so many indexes in a row, the place of the one next to a gap and the gap beyond it, if there is one
+-- in a row of `count` indexes, the place of the index next to the gap `place` towards an end, and the gap beyond that
+-- index; none if the gap is at that end
 abbrev pub AreBeside : End → ℕ → ℕ → Option (ℕ × ℕ) → Type 0
 AreBeside towards count place None = place ≡ edge_of towards count
 AreBeside Front count place (Some r) = (r.0 < count) × (place ≡ r.0 + 1) × (r.1 ≡ r.0)
@@ -45,11 +47,11 @@ unfoldable pub leaf : ℕ → Node → List ℕ → List ℕ
 leaf zero n p = row n
 leaf (suc h) n p = leaf h (child n (slice_index p (suc h))) p
 
--- the node right above it
-unfoldable pub low : ℕ → Node → List ℕ → Node
-low zero n p = n
-low (suc zero) n p = n
-low (suc (suc h)) n p = low (suc h) (child n (slice_index p (suc (suc h)))) p
+-- the parent of the leaf to which a path goes, or n itself if n is that leaf
+unfoldable pub leaf_parent : ℕ → Node → List ℕ → Node
+leaf_parent zero n p = n
+leaf_parent (suc zero) n p = n
+leaf_parent (suc (suc h)) n p = leaf_parent (suc h) (child n (slice_index p (suc (suc h)))) p
 
 -- the path p goes to the gap at an end of n, in the leaf xs
 pub record AtEdge (end : End) (h : ℕ) (n : Node) (xs p : List ℕ) : Type 0 where
@@ -57,50 +59,51 @@ pub record AtEdge (end : End) (h : ℕ) (n : Node) (xs p : List ℕ) : Type 0 wh
   pub place_is : place h n p ≡ edge_of end (length (flat h n))
   pub leaf_is : xs ≡ leaf h n p
 
--- from the gap to which p goes, q goes over the index ix to a gap of the leaf xs
+-- ix is the index next to p's gap, towards an end; q goes to the gap beyond ix, and xs is q's leaf
 pub record Over (towards : End) (h : ℕ) (n : Node) (p : List ℕ) (ix : ℕ) (xs q : List ℕ) : Type 0 where
   pub goes : ReachesGap h n q
   pub steps : Steps towards (flat h n) (place h n p) (Some ix) (place h n q)
   pub leaf_is : xs ≡ leaf h n q
 
--- the same in a tree, or in none
+-- the leaf to which a path goes in a tree; no index if the tree is empty
 abbrev pub leaf_in : Option Node → ℕ → List ℕ → List ℕ
 leaf_in None h p = []
 leaf_in (Some n) h p = leaf h n p
 
-abbrev pub IsLow : Option Node → ℕ → List ℕ → Option (Bor Node) → Type 0
-IsLow t h p None = ⊤
-IsLow None h p (Some k) = ⊥
-IsLow (Some n) h p (Some k) = (0 < h) × (k.now ≡ low h n p)
+-- the node, if one is given, is the parent of the leaf to which the path goes
+abbrev pub IsLeafParent : Option Node → ℕ → List ℕ → Option (Bor Node) → Type 0
+IsLeafParent t h p None = ⊤
+IsLeafParent None h p (Some k) = ⊥
+IsLeafParent (Some n) h p (Some k) = (0 < h) × (k.now ≡ leaf_parent h n p)
 
--- the path to the gap at a place of a leaf, to which a path goes
+-- the path with `at` as its place in the leaf
 abbrev pub to_gap : List ℕ → ℕ → List ℕ
 to_gap path at = slice_set path 0 at
 
--- the path goes to a leaf, which has a gap at the place
+-- the path goes to a leaf that has a gap at the place `at`
 pub record IsGap (t : Option Node) (h : ℕ) (path : List ℕ) (at : ℕ) : Type 0 where
   pub whole : length path ≡ LEVELS
   pub goes : ReachesGapIn t h (to_gap path at)
 
--- and the leaf is `row`
+-- the path goes to the leaf `row`, which has a gap at the place `at`
 pub record IsAt (t : Option Node) (h : ℕ) (path row : List ℕ) (at : ℕ) : Type 0 where
   pub gap : IsGap t h path at
   pub leaf : row ≡ leaf_in t h (to_gap path at)
   pub within : at ≤ length row
 
--- the same of a cursor
+-- the cursor stands in a gap of the tree
 pub record Stands (t : Option Node) (h : ℕ) (c : Cursor) : Type 0 where
   pub at : IsAt t h c.path c.row.now c.at
-  pub low : IsLow t h c.path c.low
+  pub leaf_parent : IsLeafParent t h c.path c.leaf_parent
 
--- the number of its gap
+-- how many indexes stand before the cursor's gap
 abbrev pub gap_of : Option Node → ℕ → Cursor → ℕ
 gap_of t h c = place_in t h (to_gap c.path c.at)
 
--- so many indexes from the i-th gap on
+-- the next `count` indexes behind gap i
 abbrev pub between : ℕ → ℕ → List ℕ → List ℕ
 between count i xs = take count (drop i xs)
 
--- the indexes from one gap on up to another one, and none where that stands before
+-- the indexes between two gaps; none if the second comes first
 abbrev pub part : ℕ → ℕ → List ℕ → List ℕ
 part from to xs = between (to - from) from xs

@@ -1,4 +1,4 @@
--- What a walk down a tree ends in.
+-- Where a walk down a tree ends.
 use Rattle.std.specs.Prelude.{◌≡◌, ℕ, ◌+◌, ◌*◌, ◌<◌, List, Option, Some, None, Result, Ok, Err, IfOk, IfErr, slice_index}
 use Rattle.std.specs.declared.cmp.Ordering.{Ordering}
 use Rattle.std.specs.Fn.{Mut}
@@ -8,25 +8,26 @@ use Rattle.iddqd_order.specs.declared.btree_table.node.Node.{Node}
 use Rattle.iddqd_order.specs.declared.btree_table.path.Spot.{Spot}
 use Rattle.iddqd_order.specs.Gap.{Fits, gap_place}
 use Rattle.iddqd_order.specs.MapBTreeTable.{Order, order_of, IsSpot, spot_place}
-use Rattle.iddqd_order.specs.Node.{flat, Stop, AtIndex, InGap, Reaches, spot, IsFullBelow}
+use Rattle.iddqd_order.specs.Node.{flat, Stop, AtIndex, InGap, Reaches, place_at_level, IsFullBelow}
 use Rattle.iddqd_order.specs.Search.{SearchesWithin, Searches}
 use Rattle.iddqd_order.specs.Digits.{row_asks}
 
--- the level at which a walk ends: that of an index, or else the leaves
+-- the level at which a walk ends: that of the index, or else 0, that of the leaves
 abbrev pub level_of : Result ℕ ℕ → ℕ
 level_of (Ok l) = l
 level_of (Err k) = 0
 
+-- whether a walk ends at an index or in a gap
 abbrev pub stop_of : Result ℕ ℕ → Stop
 stop_of (Ok l) = AtIndex
 stop_of (Err k) = InGap
 
--- it ends at an index, or else at a gap, with this place in the whole list
+-- the same end, given by the place i of its index or gap in the whole list
 abbrev pub end_at : Result ℕ ℕ → ℕ → Result ℕ ℕ
 end_at (Ok l) i = Ok i
 end_at (Err k) i = Err i
 
--- where a search of a table ends, by its place in the whole list
+-- the end of a search of a table, given by the place of its index or gap in the whole list
 abbrev pub end_in : Order → Result Spot Gap → Result ℕ ℕ
 end_in t (Ok spot) = Ok (spot_place t spot)
 end_in t (Err gap) = Err (gap_place t gap)
@@ -36,17 +37,20 @@ abbrev pub index_at : List ℕ → Result ℕ ℕ → Option ℕ
 index_at xs (Ok i) = Some (slice_index xs i)
 index_at xs (Err i) = None
 
--- a walk down n, a tree with h levels above the leaves, or down that of a table t, by answers that are so read
+-- A walk down the tree n, which has h levels above its leaves, or down the tree of a table t. `read` turns an answer
+-- into an `Ordering`.
 module _ {F R : Type 0} (g : Mut F (ℕ × Unit {0}) R) (read : R → Ordering) (sought : Option ℕ) where
-  -- the walk asks at most `limit` times, writes the path p and ends at a level, or else in a leaf, with
-  -- the number of full nodes at the lower end: more than h levels stand for `full`
+  -- The walk asks at most `limit` times and writes the path p. It ends at an index, with its level; or else in a gap
+  -- of a leaf, with the number of full nodes at the lower end of the path. If all h + 1 nodes on the path are full,
+  -- that number is `full`: h + 1 for a whole tree, and more for a part of one if the nodes above it are full too.
   pub record Descends (limit full h : ℕ) (n : Node) (old : Asking F) (p : List ℕ) (end : Result ℕ ℕ) (new : Asking F)
       : Type 0 where
-    pub searches : SearchesWithin g read (flat h n) limit sought old (end_at end (spot (level_of end) h n p)) new
+    pub searches : SearchesWithin g read (flat h n) limit sought old
+        (end_at end (place_at_level (level_of end) h n p)) new
     pub reaches : Reaches (stop_of end) (level_of end) h n p
     pub lower_end : IfErr end (λ k. IsFullBelow k h n p × (h < k → k ≡ full))
 
-  -- the walk asks four times a level, and ends at an index that answers Equal, or else at none
+  -- the walk asks at most four times a level, and ends at the index `found`, or in a gap if that is `None`
   pub record FindsIn (h : ℕ) (n : Node) (old : Asking F) (found : Option ℕ) (new : Asking F) : Type 0 where
     pub end : Result ℕ ℕ
     pub searches : SearchesWithin g read (flat h n) (row_asks * (h + 1)) sought old end new

@@ -19,7 +19,7 @@ use Rattle.iddqd_order.specs.declared.btree_table.path.TheConstants.{LEVELS}
 abbrev pub occupied_table : OccupiedEntry → MutBor Order
 occupied_table e = e.table
 
--- the index that stands there
+-- the stored index of an occupied entry
 unfoldable pub entry_index : OccupiedEntry → ℕ
 entry_index e = slice_index (order_of e.table.now) (spot_place e.table.now e.spot)
 
@@ -27,7 +27,7 @@ entry_index e = slice_index (order_of e.table.now) (spot_place e.table.now e.spo
 abbrev pub vacant_table : VacantEntry → MutBor Order
 vacant_table e = e.table
 
--- how many indexes stand before it
+-- how many indexes stand before the gap of a vacant entry
 unfoldable pub vacant_place : VacantEntry → ℕ
 vacant_place e = gap_place e.table.now e.gap
 
@@ -36,18 +36,19 @@ abbrev pub entry_table : Entry → MutBor Order
 entry_table (Occupied e) = occupied_table e
 entry_table (Vacant e) = vacant_table e
 
--- what is said of the entry of a stored index
+-- P holds of an entry, if it is occupied
 abbrev pub IfOccupied : Entry → (OccupiedEntry → Type 0) → Type 0
 IfOccupied (Occupied e) P = P e
 IfOccupied (Vacant e) P = Unit {0}
 
--- what is said of a vacant entry
+-- P holds of an entry, if it is vacant
 abbrev pub IfVacant : Entry → (VacantEntry → Type 0) → Type 0
 IfVacant (Occupied e) P = Unit {0}
 IfVacant (Vacant e) P = P e
 
--- an entry among the indexes xs, by answers that are so read: it has a stored index, which steady answers
--- make Equal, or else a place, which is the one where Greater ends, if the answers rise: then none is Equal
+-- An entry among the indexes xs; `read` turns an answer into an `Ordering`. It is occupied by a stored index: if the
+-- answers are steady, the answer there is Equal. Or it is vacant, with a position: if the answers also rise, that is
+-- where Greater ends, and none of them is Equal.
 module _ {F R : Type 0} (g : Mut F (ℕ × Unit {0}) R) (read : R → Ordering) (xs : List ℕ) where
   pub record FindsEntry (old : Asking F) (e : Entry) (new : Asking F) : Type 0 where
     pub asked : SearchAsks g xs None old new
@@ -60,7 +61,7 @@ module _ {F R : Type 0} (g : Mut F (ℕ × Unit {0}) R) (read : R → Ordering) 
     pub miss : (answer : ℕ → Ordering) → IsSteadyRising g xs None read answer old →
         IfVacant e (λ v. All (λ ix. answer ix ≢ Equal) xs)
 
--- the insert of ix at a vacant place is prepared, and nothing is added yet
+-- the insert of ix at the gap of a vacant entry is prepared, and nothing is added yet
 pub record FillsEntry (v : VacantEntry) (ix : ℕ) (p : Prepared) : Type 0 where
   pub table : order_of (table_of p).now ≡ order_of (vacant_table v).now
   pub index : index_of p ≡ ix

@@ -1,4 +1,4 @@
--- What a contract sees of a place in a `MapBTreeTable` that isn't borrowed.
+-- What a contract sees of a gap, which borrows no table.
 use Rattle.std.specs.Prelude.{◌≡◌, ◌≢◌, ◌+◌, ◌≤◌, ℕ, All, Contains, Some, None, Result, Ok, Err, length}
 use Rattle.std.specs.Fn.{Mut}
 use Rattle.std.specs.declared.cmp.Ordering.{Ordering}
@@ -9,23 +9,24 @@ use Rattle.iddqd_order.specs.Tree.{IsTree, ReachesGapIn, FullIn, place_in}
 use Rattle.iddqd_order.specs.declared.btree_table.asking.Asking.{Asking}
 use Rattle.iddqd_order.specs.declared.btree_table.gap.Gap.{Gap}
 
--- it is a place of this table
+-- the gap is one of the table t
 pub record Fits (t : Order) (gap : Gap) : Type 0 where
   pub tree : IsTree t.root t.height
   pub goes : ReachesGapIn t.root t.height gap.path
   pub full : FullIn gap.full t.root t.height gap.path
   pub levels : gap.full ≤ t.height + 1
 
--- how many indexes stand before it
+-- how many indexes stand before the gap
 abbrev pub gap_place : Order → Gap → ℕ
 gap_place t gap = place_in t.root t.height gap.path
 
--- how many blocks an insert takes there, beyond those that the table has
+-- how many blocks an insert at the gap takes beyond the spare ones of the table
 abbrev pub gap_blocks : Order → Gap → ℕ
 gap_blocks t gap = fresh_for t gap.full
 
--- A search by answers that are so read finds a stored index, which steady answers make Equal, or else a place, which is
--- the one where Greater ends, if the answers rise: then none is Equal.
+-- A search in the indexes of t; `read` turns an answer into an `Ordering`. It returns `Err` of a stored index: if the
+-- answers are steady, the answer there is Equal. Or it returns `Ok` of a gap: if the answers also rise, that is where
+-- Greater ends, and none of them is Equal.
 module _ {F R : Type 0} (g : Mut F (ℕ × Unit {0}) R) (read : R → Ordering) (t : Order) where
   pub record FindsStored (old : Asking F) (ix : ℕ) : Type 0 where
     pub stored : Contains (order_of t) ix
@@ -43,7 +44,7 @@ module _ {F R : Type 0} (g : Mut F (ℕ × Unit {0}) R) (read : R → Ordering) 
   FindsGap old (Err ix) new = SearchAsks g (order_of t) None old new × FindsStored old ix
   FindsGap old (Ok gap) new = SearchAsks g (order_of t) None old new × FindsFreePlace old gap
 
-  -- a search for the place of an index that isn't stored, which stands among equal ones by its number
+  -- a search for the gap of an index that isn't stored; if an answer is Equal, the lesser index comes first
   pub record FindsOwnGap (ix : ℕ) (old : Asking F) (gap : Gap) (new : Asking F) : Type 0 where
     pub asked : SearchAsks g (order_of t) (Some ix) old new
     pub fits : Fits t gap

@@ -4,15 +4,15 @@ use Rattle.std.specs.List.Sorted.{IsStrictlySortedBy}
 use Rattle.std.specs.Ordering.{nat_cmp, on, then_cmp}
 use Rattle.std.specs.declared.cmp.Ordering.{Ordering}
 
--- the answers at the indexes of a list compare what is sought with their keys
+-- at each index of the list xs, the answer compares what is sought with the index's key
 abbrev pub ComparesKeys : {K : Type 0} → (K → Ordering) → (ℕ → K) → (ℕ → Ordering) → List ℕ → Type 0
 ComparesKeys compare key answer xs = All (λ j. answer j ≡ compare (key j)) xs
 
 module _ {K : Type 0} (cmp : K → K → Ordering) (key : ℕ → K) where
-  -- by key, and at equal keys by index
+  -- by key, and by index if the keys are equal
   abbrev pub key_then_index : ℕ → ℕ → Ordering
   key_then_index = then_cmp (on key cmp) nat_cmp
 
-  -- in order by key, ties by index
+  -- the list is in order by key, and by index if keys are equal
   abbrev pub IsInKeyOrder : List ℕ → Type 0
   IsInKeyOrder xs = IsStrictlySortedBy key_then_index xs

@@ -1,5 +1,5 @@
--- What a node of the tree represents, and what holds of it. A tree is read with its height: h levels of
--- inner nodes above the leaves.
+-- What a node of the tree represents, and what holds of it. A definition that reads the whole tree takes its height h,
+-- the number of levels above the leaves.
 use Rattle.std.specs.Prelude.{◌≡◌, ℕ, zero, suc, ◌+◌, ◌<◌, ◌≤◌, List, [], ◌∷◌, ◌++◌, All, length, map, sum_by, slice_index, slice_index_or, vec_capacity, Vec, nat_eq, if◌then◌else◌}
 use Rattle.std.specs.List.{insert}
 use Rattle.std.specs.declared.alloc.Global.{Global}
@@ -30,14 +30,14 @@ weave xs [] = xs
 weave [] (k ∷ ks) = k
 weave (x ∷ xs) (k ∷ ks) = k ++ x ∷ weave xs ks
 
--- what stands before the i-th list
+-- the part of the weave that stands before the i-th list
 abbrev pub before : ℕ → List ℕ → List (List ℕ) → List ℕ
 before zero xs ks = []
 before (suc i) [] ks = []
 before (suc i) (x ∷ xs) [] = []
 before (suc i) (x ∷ xs) (k ∷ ks) = k ++ x ∷ before i xs ks
 
--- what stands after the i-th list
+-- the part of the weave that stands after the i-th list
 abbrev pub after : ℕ → List ℕ → List (List ℕ) → List ℕ
 after zero [] ks = []
 after zero (x ∷ xs) [] = x ∷ xs
@@ -77,12 +77,12 @@ pub data Stop : Type 0 where
   AtIndex : Stop
   InGap : Stop
 
--- a place of one of so many indexes, or else of one of their gaps, of which there is one more
+-- i is the place of one of `count` indexes, or of one of their `count + 1` gaps
 abbrev pub IsPlaceIn : Stop → ℕ → ℕ → Type 0
 IsPlaceIn AtIndex i count = i < count
 IsPlaceIn InGap i count = i ≤ count
 
--- a path p has at each level above l the place of the child taken there, and at level l a place in the row
+-- a path p has the place of a child at each level above l, and a place in the row at level l
 unfoldable pub Passes : Stop → ℕ → ℕ → Node → List ℕ → Type 0
 Passes stop l zero n p = (l ≤ 0) × IsPlaceIn stop (slice_index p 0) (length (row n))
 Passes stop l (suc h) n p = (l ≤ suc h) × (l ≡ suc h → IsPlaceIn stop (slice_index p (suc h)) (length (row n)))
@@ -92,35 +92,36 @@ Passes stop l (suc h) n p = (l ≤ suc h) × (l ≡ suc h → IsPlaceIn stop (sl
 pub record Reaches (stop : Stop) (l h : ℕ) (n : Node) (p : List ℕ) : Type 0 where
   pub passes : Passes stop l h n p
 
--- the place in the whole list of the index or gap to which a path goes at level l: in an inner node it stands
--- after the child of its own place
-unfoldable pub spot : ℕ → ℕ → Node → List ℕ → ℕ
-spot l zero n p = slice_index p 0
-spot l (suc h) n p = length (before (slice_index p (suc h)) (row n) (map (λ k. flat h k) (children n)))
+-- How many indexes come before the index or gap to which a path goes at level l. In an inner node, index i comes after
+-- child i.
+unfoldable pub place_at_level : ℕ → ℕ → Node → List ℕ → ℕ
+place_at_level l zero n p = slice_index p 0
+place_at_level l (suc h) n p = length (before (slice_index p (suc h)) (row n) (map (λ k. flat h k) (children n)))
     + (if nat_eq l (suc h) then length (flat h (child n (slice_index p (suc h))))
-    else spot l h (child n (slice_index p (suc h))) p)
+    else place_at_level l h (child n (slice_index p (suc h))) p)
 
 -- a path goes down to level l, and there to an index
 abbrev pub ReachesIndex : ℕ → ℕ → Node → List ℕ → Type 0
 ReachesIndex l h n p = Reaches AtIndex l h n p
 
--- and this index is ix
+-- a path goes down to level l, and there to the index ix
 abbrev pub LeadsToIndex : ℕ → ℕ → Node → List ℕ → ℕ → Type 0
-LeadsToIndex l h n p ix = ReachesIndex l h n p × (slice_index (flat h n) (spot l h n p) ≡ ix)
+LeadsToIndex l h n p ix = ReachesIndex l h n p × (slice_index (flat h n) (place_at_level l h n p) ≡ ix)
 
--- a path goes to a gap, which is one of a leaf; the place of this gap in the whole list
+-- a path goes to a gap of a leaf
 abbrev pub ReachesGap : ℕ → Node → List ℕ → Type 0
 ReachesGap h n p = Reaches InGap 0 h n p
 
+-- how many indexes come before the gap to which a path goes
 abbrev pub place : ℕ → Node → List ℕ → ℕ
-place h n p = spot 0 h n p
+place h n p = place_at_level 0 h n p
 
--- the node at level l is as it has to be where the nodes at levels below k are full, and the one at level k isn't
+-- n, a node at level l, is full if l is below k, and isn't full if l is k
 abbrev pub FullBelow : ℕ → ℕ → Node → Type 0
 FullBelow k l n = (l < k → CAPACITY ≤ length (row n)) × (l ≡ k → length (row n) < CAPACITY)
 
--- the nodes on a path at levels below k are full, and the one at level k isn't; where k is the number
--- of levels, all are full
+-- On a path, the nodes at levels below k are full, and the node at level k isn't. If k is the number of levels, all
+-- nodes are full.
 unfoldable pub IsFullBelow : ℕ → ℕ → Node → List ℕ → Type 0
 IsFullBelow k zero n p = FullBelow k 0 n
 IsFullBelow k (suc h) n p = FullBelow k (suc h) n × IsFullBelow k h (child n (slice_index p (suc h))) p
@@ -129,7 +130,7 @@ IsFullBelow k (suc h) n p = FullBelow k (suc h) n × IsFullBelow k h (child n (s
 abbrev pub IsSpare : Vec Node Global → Type 0
 IsSpare s = (s.items ≡ []) × (CHILDREN ≤ vec_capacity s)
 
--- the index x was put in where the path goes, with so many more inner nodes, and the node is as it has to be
+-- the index x was inserted at the path's gap; the node is still well-formed, and has `more` more inner nodes
 pub record IsPut (h : ℕ) (old new : Node) (p : List ℕ) (x more : ℕ) : Type 0 where
   pub items : flat h new ≡ insert (flat h old) (place h old p) x
   pub formed : IsFormed h new

@@ -24,7 +24,7 @@ table_of p = p.table
 unfoldable pub index_of : Prepared → ℕ
 index_of p = p.ix
 
--- how many indexes will stand before it
+-- how many indexes will stand before the new one
 unfoldable pub place_of : Prepared → ℕ
 place_of p = gap_place p.table.now p.gap
 
@@ -33,11 +33,11 @@ unfoldable pub blocks_of : Prepared → ℕ
 blocks_of p = p.blocks
 
 -- if memory ran out, the table is as it was
-abbrev pub rests_if_refused : {E : Type 0} → MutBor Order → Result Prepared E → Fml
-rests_if_refused t r = RestsIfErr the_row t (λ p. p.table.ghost_name) r (λ n. n ≡ t.now)
+abbrev pub unchanged_if_out_of_memory : {E : Type 0} → MutBor Order → Result Prepared E → Fml
+unchanged_if_out_of_memory t r = RestsIfErr the_row t (λ p. p.table.ghost_name) r (λ n. n ≡ t.now)
 
--- an insert of ix among the indexes xs is prepared, by answers that are so read: nothing is added yet,
--- and if the answers rise ix will stand where Greater ends
+-- An insert of ix among the indexes xs is prepared, and nothing is added yet. If the answers are steady and rise, ix
+-- will stand where Greater ends. `read` turns an answer into an `Ordering`.
 module _ {F R : Type 0} (g : Mut F (ℕ × Unit {0}) R) (read : R → Ordering) (xs : List ℕ) (ix : ℕ) where
   pub record PreparesInsert (old : Asking F) (p : Prepared) : Type 0 where
     pub table : order_of (table_of p).now ≡ xs

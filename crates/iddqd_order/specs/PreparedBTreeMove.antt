@@ -28,8 +28,8 @@ unfoldable pub blocks_of : PreparedMove → ℕ
 blocks_of p = p.blocks
 
 -- if memory ran out, the table is as it was
-abbrev pub rests_if_refused : {E : Type 0} → MutBor Order → Result PreparedMove E → Fml
-rests_if_refused t r = RestsIfErr the_row t (λ p. p.table.ghost_name) r (λ n. n ≡ t.now)
+abbrev pub unchanged_if_out_of_memory : {E : Type 0} → MutBor Order → Result PreparedMove E → Fml
+unchanged_if_out_of_memory t r = RestsIfErr the_row t (λ p. p.table.ghost_name) r (λ n. n ≡ t.now)
 
 -- a move of ix among the indexes xs is prepared, and nothing is moved yet
 pub record PreparesMove (xs : List ℕ) (ix : ℕ) (p : PreparedMove) : Type 0 where
@@ -37,7 +37,8 @@ pub record PreparesMove (xs : List ℕ) (ix : ℕ) (p : PreparedMove) : Type 0 w
   pub index : index_of p ≡ ix
   pub few_blocks : blocks_of p ≤ LEVELS
 
--- ix is put in among the indexes xs, by answers that are so read: where Greater ends, if they rise
+-- ix is inserted among the indexes xs. If the answers are steady and rise, it stands where Greater ends. `read` turns
+-- an answer into an `Ordering`.
 module _ {F R : Type 0} (g : Mut F (ℕ × Unit {0}) R) (read : R → Ordering) (xs : List ℕ) (ix : ℕ) where
   pub record PutsIn (old : Asking F) (new_xs : List ℕ) : Type 0 where
     pub place : ℕ

@@ -13,16 +13,17 @@ use Rattle.iddqd_order.specs.Search.{Askable, SearchAsks, IsSteadyRising, IsPlac
 use Rattle.iddqd_order.specs.declared.btree_table.asking.Asking.{Asking}
 use Rattle.iddqd_order.specs.declared.btree_table.range.Range.{Range}
 
--- the indexes that are still to come
+-- the indexes still to come; `indexes_left` for an `Iter`, `indexes_to_come` for an `IntoIter`
 unfoldable pub indexes_ahead : Range → List ℕ
 indexes_ahead r = r
 
--- where Equal counts as Less, the place of the first index that isn't Greater, and where it counts as Greater,
--- that of the first one that is Less
+-- With Equal read as Less, the position of the first index whose answer isn't Greater. With Equal read as Greater, the
+-- position of the first index whose answer is Less.
 abbrev pub IsBoundAt : Ordering → (ℕ → Ordering) → List ℕ → ℕ → Type 0
 IsBoundAt at_equal answer xs place = IsPlace (λ ix. ordering_then (answer ix) at_equal) xs place
 
--- a walk along the indexes xs from a place on, by answers that are so read: it is the bound, if the answers rise
+-- A walk along the indexes xs from a position to the end. If the answers are steady and rise, the position is the
+-- bound. `read` turns an answer into an `Ordering`.
 module _ {F R : Type 0} (g : Mut F (ℕ × Unit {0}) R) (read : R → Ordering) (at_equal : Ordering) (xs : List ℕ) where
   abbrev pub IsBoundBy : Asking F → ℕ → Type 0
   IsBoundBy old place =
@@ -35,20 +36,21 @@ module _ {F R : Type 0} (g : Mut F (ℕ × Unit {0}) R) (read : R → Ordering) 
     pub ahead : indexes_ahead walk ≡ drop place xs
     pub bound : IsBoundBy old place
 
--- the walk has the indexes of xs from one place on up to another one
+-- the walk has the indexes of xs between two gaps; none if the second comes first
 pub record IsPart (xs : List ℕ) (from to : ℕ) (walk : Range) : Type 0 where
   pub from_within : from ≤ length xs
   pub to_within : to ≤ length xs
   pub ahead : indexes_ahead walk ≡ part from to xs
 
--- a walk between two bounds by one asking: each is said by how an answer is read
+-- a walk between two bounds: both use one asking, and differ in how they read its answer
 module _ {F R : Type 0} (g : Mut F (ℕ × Unit {0}) R) (xs : List ℕ) where
-  -- the place where what has the lower bound begins, and that where what has the upper bound ends
+  -- if the answers are steady and rise, the position of the first index within the lower bound
   abbrev pub Begins : Bound (R → Ordering) → Asking F → ℕ → Type 0
   Begins (Included read) old place = IsBoundBy g read Less xs old place
   Begins (Excluded read) old place = IsBoundBy g read Greater xs old place
   Begins Unbounded old place = place ≡ 0
 
+  -- if the answers are steady and rise, the position of the first index beyond the upper bound
   abbrev pub Ends : Bound (R → Ordering) → Asking F → ℕ → Type 0
   Ends (Included read) old place = IsBoundBy g read Greater xs old place
   Ends (Excluded read) old place = IsBoundBy g read Less xs old place
@@ -63,8 +65,8 @@ module _ {F R : Type 0} (g : Mut F (ℕ × Unit {0}) R) (xs : List ℕ) where
     pub begins : Begins lower old from
     pub ends : Ends upper old to
 
--- a walk from the first index on at which the one asking doesn't answer Greater, up to the first one at which the
--- other answers Less
+-- a walk from the first index at which one asking doesn't answer Greater, up to but not including the first at
+-- which the other asking answers Less
 module _ {F G : Type 0} (f : Mut F (ℕ × Unit {0}) Ordering) (g : Mut G (ℕ × Unit {0}) Ordering) (xs : List ℕ) where
   pub record WalksBetweenBy (old_from : Asking F) (old_to : Asking G) (walk : Range) (new_from : Asking F)
       (new_to : Asking G) : Type 0 where

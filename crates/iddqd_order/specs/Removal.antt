@@ -6,11 +6,11 @@ use Rattle.iddqd_order.specs.Reserve.{Reserved}
 use Rattle.iddqd_order.specs.declared.btree_table.path.TheConstants.{LEVELS}
 use Rattle.iddqd_order.specs.declared.btree_table.row.TheConstants.{CAPACITY, LEAST}
 
--- a node below another one, over h levels
+-- a well-formed node other than the root, with h levels below it
 abbrev pub IsChild : ℕ → Node → Type 0
 IsChild h k = (LEAST ≤ length (row k)) × IsFormed h k
 
--- a node's indexes and its children, which are as they have to be but that the i-th child may have one index too few
+-- a node's indexes and its children: well-formed, except that child i may have one index too few
 pub record MayLackOne (h i : ℕ) (xs : List ℕ) (ks : List Node) : Type 0 where
   pub some : 1 ≤ length xs
   pub within : length xs ≤ CAPACITY
@@ -19,7 +19,7 @@ pub record MayLackOne (h i : ℕ) (xs : List ℕ) (ks : List Node) : Type 0 wher
   pub at : (d : Node) → (LEAST ≤ length (row (slice_index_or ks i d)) + 1) × IsFormed h (slice_index_or ks i d)
   pub others : (j : ℕ) (d : Node) → j < length ks → j ≢ i → IsChild h (slice_index_or ks j d)
 
--- what mending makes of a node's indexes and its children: all are as they have to be, and the order is as before
+-- what mending makes of a node's indexes and its children: they are well-formed, and all indexes are in the same order
 pub record IsMended (h : ℕ) (xs : List ℕ) (ks : List Node) (new_xs : List ℕ) (new_ks : List Node) : Type 0 where
   pub within : length new_xs ≤ CAPACITY
   pub fewer : length xs ≤ length new_xs + 1
@@ -27,7 +27,7 @@ pub record IsMended (h : ℕ) (xs : List ℕ) (ks : List Node) (new_xs : List �
   pub below : All (IsChild h) new_ks
   pub items : weave new_xs (map (λ k. flat h k) new_ks) ≡ weave xs (map (λ k. flat h k) ks)
 
--- how many inner nodes the trees below these nodes have
+-- how many inner nodes there are among these nodes and below them
 abbrev pub inners_of : ℕ → List Node → ℕ
 inners_of h ks = sum_by (λ k. inners h k) ks
 

@@ -5,8 +5,7 @@ use Rattle.std.specs.declared.alloc.Global.{Global}
 use Rattle.iddqd_order.specs.declared.btree_table.node.Node.{Node}
 use Rattle.iddqd_order.specs.Node.{IsSpare}
 
--- how many inner nodes the tree has, and how many blocks are reserved: so many there are at least, in the tree and
--- beside it
+-- the number of inner nodes of the tree, and the least number of blocks in the tree and beside it together
 pub record Reserved : Type 0 where
   pub inners : ℕ
   pub reserved : ℕ
@@ -28,7 +27,7 @@ spare r = r.reserved - r.inners
 abbrev pub most_blocks : ℕ
 most_blocks = 143165577
 
--- the parts of a reserve: so many empty blocks, with places for all that are reserved
+-- the parts of a reserve: a list of the empty blocks beside the tree, with room for all that are reserved
 pub record IsReserve (blocks : Vec (Vec Node Global) Global) (inners reserved : ℕ) : Type 0 where
   pub empty : All IsSpare blocks.items
   pub count : vec_len blocks ≡ reserved - inners

@@ -1,18 +1,18 @@
--- How a table takes blocks ahead, and gives them back.
+-- How a table takes blocks in advance, and gives them back.
 use Rattle.std.specs.Prelude.{◌≡◌, ◌+◌, ◌<◌, ◌≤◌, ℕ, [], min, max, Result, IsOk, IfOk, OnOk, OnErr, length}
 use Rattle.iddqd_order.specs.MapBTreeTable.{Order, order_of, capacity, room, capacity_for, HasSameTree}
 use Rattle.iddqd_order.specs.declared.btree_table.reserve.TheConstants.{FREE_INDEXES}
 
--- A new table is made for so many indexes: its capacity is that of the blocks that they need. Where they need none, it
--- takes no memory, and succeeds.
+-- A new table is made for `indexes` indexes: its capacity is that of the blocks that they need. If they need none, the
+-- call takes no memory and succeeds.
 pub record TakesRoom {E : Type 0} (indexes : ℕ) (result : Result Order E) : Type 0 where
   pub empty : IfOk result (λ t. order_of t ≡ [])
   pub made : IfOk result (λ t. capacity t ≡ capacity_for indexes)
   pub roomy : IfOk result (λ t. indexes ≤ capacity t)
   pub succeeds : indexes ≤ FREE_INDEXES → IsOk result
 
--- Room was made for so many indexes more: the capacity is that of the blocks which all of them need. Or else nothing
--- changed. Where there was room, it succeeds and nothing changed.
+-- Room was made for `additional` more indexes: the capacity is that of the blocks that all indexes will need. On an
+-- error nothing changes. If there was room, the call succeeds and nothing changes.
 pub record Reserves {A E : Type 0} (additional : ℕ) (old : Order) (result : Result A E) (new : Order) : Type 0 where
   pub tree : HasSameTree old new
   pub contents : order_of new ≡ order_of old
@@ -22,7 +22,7 @@ pub record Reserves {A E : Type 0} (additional : ℕ) (old : Order) (result : Re
   pub refused : OnErr result (new ≡ old)
   pub had_room : additional ≤ room old → IsOk result × (new ≡ old)
 
--- The capacity falls to that of the blocks which so many indexes need, or those that there are where these are more.
+-- The capacity shrinks to what `max least len` indexes need, and never grows.
 pub record Shrinks (least : ℕ) (old new : Order) : Type 0 where
   pub tree : HasSameTree old new
   pub contents : order_of new ≡ order_of old

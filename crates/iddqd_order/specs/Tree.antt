@@ -5,7 +5,7 @@ use Rattle.std.specs.Coded.{×_prop, →_prop, le_prop}
 use native.Mathlib.Nat.{ℕ_set}
 use Rattle.iddqd.specs.Compaction.{sentinel}
 use Rattle.iddqd_order.specs.declared.btree_table.node.Node.{Node}
-use Rattle.iddqd_order.specs.Node.{row, child, flat, inners, IsFormed, Stop, AtIndex, InGap, IsPlaceIn, Passes, Reaches, spot, FullBelow, IsFullBelow}
+use Rattle.iddqd_order.specs.Node.{row, child, flat, inners, IsFormed, Stop, AtIndex, InGap, IsPlaceIn, Passes, Reaches, place_at_level, FullBelow, IsFullBelow}
 use Rattle.iddqd_order.specs.declared.btree_table.path.TheConstants.{LEVELS}
 
 -- its indexes, in order
@@ -23,34 +23,35 @@ abbrev pub IsTree : Option Node → ℕ → Type 0
 IsTree None h = h ≡ 0
 IsTree (Some n) h = IsFormed h n × (1 ≤ length (row n)) × (h < LEVELS)
 
--- a path goes down to level l, and there to an index, or else to a gap; where there is nothing, to the only gap
+-- a path goes down to level l, and there to an index, or else to a gap; in an empty tree, to its only gap
 abbrev pub ReachesIn : Stop → ℕ → Option Node → ℕ → List ℕ → Type 0
 ReachesIn stop l None h p = IsPlaceIn stop 0 0
 ReachesIn stop l (Some n) h p = Reaches stop l h n p
 
--- the place of that index or gap
-abbrev pub spot_in : ℕ → Option Node → ℕ → List ℕ → ℕ
-spot_in l None h p = 0
-spot_in l (Some n) h p = spot l h n p
+-- how many indexes come before the index or gap to which a path goes at level l
+abbrev pub place_at_level_in : ℕ → Option Node → ℕ → List ℕ → ℕ
+place_at_level_in l None h p = 0
+place_at_level_in l (Some n) h p = place_at_level l h n p
 
 -- a path goes down to level l, and there to an index
 abbrev pub ReachesIndexIn : ℕ → Option Node → ℕ → List ℕ → Type 0
 ReachesIndexIn l r h p = ReachesIn AtIndex l r h p
 
--- a path goes to a gap; the place of this gap
+-- a path goes to a gap
 abbrev pub ReachesGapIn : Option Node → ℕ → List ℕ → Type 0
 ReachesGapIn r h p = ReachesIn InGap 0 r h p
 
+-- how many indexes come before the gap to which a path goes
 abbrev pub place_in : Option Node → ℕ → List ℕ → ℕ
-place_in r h p = spot_in 0 r h p
+place_in r h p = place_at_level_in 0 r h p
 
--- the nodes on a path at levels below k are full, and the one at level k isn't
+-- on a path, the nodes at levels below k are full, and the node at level k isn't
 abbrev pub FullIn : ℕ → Option Node → ℕ → List ℕ → Type 0
 FullIn k None h p = k ≡ 0
 FullIn k (Some n) h p = IsFullBelow k h n p
 
--- how many blocks an insert takes that goes through so many full nodes: one for each full inner node, which it
--- cuts in two, and where all nodes on the path are full one more for a new root
+-- How many blocks an insert takes if `full` nodes at the lower end of its path are full: one for each full inner node,
+-- which it splits, and one for a new root if all nodes on the path are full.
 abbrev pub blocks_for : ℕ → ℕ → ℕ
 blocks_for height full = if nat_lt height full then full else full - 1
 

@@ -1,4 +1,4 @@
-//! A closure that is called through `ask` alone, and a count of its calls.
+//! A closure that is called only by `ask`, which counts the calls.
 ghost use Rattle.std.specs.Prelude.{◌≡◌, ℕ, ◌+◌};
 ghost use Rattle.std.specs.Borrow.{ftrue};
 
@@ -29,7 +29,7 @@ impl Count {
     }
 }
 
-/// A closure that is asked about indexes, with the number of the asks.
+/// A closure that is asked about indexes, and the number of asks.
 ///
 /// Contracts see the number; it takes no bytes and no time.
 #[derive(Drop)]
@@ -42,7 +42,7 @@ pub struct Asking<F> {
 impl<F> Asking<F> {
     ghost use Rattle.iddqd_order.specs.Asking.{closure_of, ask_count};
 
-    /// Keeps the closure, which was not asked yet.
+    /// Takes a closure, with no ask counted yet.
     pub fn new<R>(closure: F) -> Asking<F>
     where
         F: FnMut(ItemIndex) -> R,

@@ -6,12 +6,12 @@ use crate::btree_table::node::{CHILDREN, Node};
 use std::alloc::{AllocError, Global};
 use std::marker::Model;
 
-/// What holds a number of blocks.
+/// A type whose values hold blocks.
 pub trait HoldsBlocks: Drop {
     ghost count: { Self → ℕ };
 }
 
-/// Empty blocks, each with room for the children of one node. A contract sees their number.
+/// Empty blocks, each with room for the children of one node. A contract sees only their number.
 #[derive(Drop)]
 pub struct Blocks {
     blocks: Vec<Vec<Node>>,
@@ -33,7 +33,6 @@ impl HoldsBlocks for Blocks {
 }
 
 impl Blocks {
-    // No block.
     pub(super) fn none(alloc: Global) -> Blocks
         ensures { result ≡ 0 }
     {
@@ -42,7 +41,7 @@ impl Blocks {
         }
     }
 
-    // So many blocks, and no memory where none is wanted. If memory runs out, it drops those that it took.
+    // Allocates `count` blocks. For 0 it takes no memory. If memory runs out, it drops the blocks allocated so far.
     pub(super) fn new(count: usize, alloc: Global) -> Result<Blocks, AllocError>
         ensures count { IfOk result (λ blocks. blocks ≡ count) }
         ensures none { count ≡ 0 → IsOk result }
@@ -50,7 +49,11 @@ impl Blocks {
         if count == 0 {
             return Ok(Blocks::none(alloc));
         }
-        Blocks::some(count, alloc)
+        // A result that is passed on whole stays in the memory that the call is given, and so do its copies.
+        match Blocks::some(count, alloc) {
+            Ok(blocks) => Ok(blocks),
+            Err(AllocError) => Err(AllocError),
+        }
     }
 
     #[inline(never)]
@@ -65,7 +68,7 @@ impl Blocks {
         Ok(Blocks { blocks })
     }
 
-    // One of them.
+    // Removes one block and returns it.
     pub(super) fn take(&mut self) -> Vec<Node>
         requires { 0 < self.old }
         ensures spare { IsSpare result }

@@ -9,7 +9,7 @@ use crate::btree_table::node::Node;
 use crate::btree_table::reserve::Reserve;
 use std::alloc::Global;
 
-// Drops all nodes. Where nothing is reserved, no block has to be kept, and the tree is dropped as it is.
+// Drops all nodes. If nothing is reserved, no block has to be kept, and the tree is dropped as a whole.
 pub(super) fn clear_in(root: &mut Option<Node>, height: usize, reserve: &mut Reserve, alloc: Global)
     requires tree { IsTree root.old height }
     requires inners { reserve.old.inners ≡ inners_in root.old height }

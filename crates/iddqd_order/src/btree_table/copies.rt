@@ -7,7 +7,7 @@ ghost use Rattle.iddqd_order.specs.Tree.{IsTree};
 use crate::btree_table::node::{CHILDREN, Node};
 use std::alloc::{AllocError, Global};
 
-// Copies a tree, node by node. If memory runs out, it drops all.
+// Copies a tree, node by node. If memory runs out, it drops the nodes that it has copied.
 pub(super) fn copy_of(
     root: &Option<Node>,
     height: usize,
@@ -23,7 +23,7 @@ pub(super) fn copy_of(
 }
 
 impl Node {
-    // The same of a node, and of all below it.
+    // Copies a node and all nodes below it.
     fn copy(&self, height: usize, alloc: Global) -> Result<Node, AllocError>
         requires { IsFormed height self.now }
         ensures { IfOk result (IsCopy height self.now) }

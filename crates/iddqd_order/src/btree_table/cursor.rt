@@ -1,10 +1,10 @@
-//! A gap in a tree, from which a walk goes on towards either end.
+//! A cursor: a gap in a tree, from which a walk goes towards either end.
 //!
-//! Beside the path from the root a cursor keeps the leaf, so that it comes down from the root for a new leaf alone. A
-//! walk ahead keeps the node above the leaf too, and comes down once in some nine leaves: once a leaf, a walk along
-//! 1,000 indexes took twice the time, and one along a million 1.4 times.
+//! A cursor keeps the path from the root, and also the leaf, so it descends from the root only for a new leaf. A walk
+//! towards the back also keeps the node above the leaf, and descends about once in nine leaves. Descending at each
+//! leaf took twice as long for 1,000 indexes, and 1.4 times as long for a million.
 ghost use Rattle.std.specs.Prelude.{◌≡◌, ℕ, ◌<◌, ◌≤◌, length, slice_index, IfSome, IsNone};
-ghost use Rattle.iddqd_order.specs.Cursor.{AreBeside, AtEdge, Compares, Over, Steps, IsGap, Stands, edge_of, gap_of, leaf, low, opposite, to_gap};
+ghost use Rattle.iddqd_order.specs.Cursor.{AreBeside, AtEdge, Compares, Over, Steps, IsGap, Stands, edge_of, gap_of, leaf, leaf_parent, opposite, to_gap};
 ghost use Rattle.iddqd_order.specs.declared.btree_table.node.Node.{Node as NodeOf};
 ghost use Rattle.iddqd_order.specs.Node.{flat, ReachesGap, IsFormed, place};
 ghost use Rattle.iddqd_order.specs.Tree.{IsTree, ReachesGapIn, in_order, place_in};
@@ -15,7 +15,7 @@ use crate::btree_table::row::{CAPACITY, Row};
 use iddqd::item_index::ItemIndex;
 use std::cmp::Ordering;
 
-// An end of the list of all indexes, to which a walk goes.
+// An end of the list of all indexes. A walk goes towards one end.
 #[derive(Clone, Copy)]
 pub(super) enum End {
     Front,
@@ -33,31 +33,31 @@ impl End {
     }
 }
 
-// A leaf and a place in it, with the path from the root to the leaf. The place counts, not the path's own
-// at level 0, so that a step writes one number.
+// A gap in a leaf, with the path from the root to the leaf. `at` is the gap's place in the leaf. The path's entry for
+// level 0 may be out of date, so that a step writes only `at`.
 #[derive(Clone, Copy)]
 pub(super) struct Cursor<'a> {
     pub(super) path: Path,
     pub(super) row: &'a [ItemIndex],
     pub(super) at: usize,
     // The node above the leaf, if it is known.
-    pub(super) low: Option<&'a Node>,
+    pub(super) leaf_parent: Option<&'a Node>,
 }
 
 impl<'a> Cursor<'a> {
-    // The gap at an end of a tree.
+    // A cursor at the first or last gap of a tree.
     pub(super) fn at_end(root: &'a Option<Node>, height: usize, end: End) -> Cursor<'a>
         requires { IsTree root.now height }
         ensures stands { Stands root.now height result }
         ensures gap { gap_of root.now height result ≡ edge_of end (length (in_order root.now height)) }
     {
-        let mut path = Path::new();
+        let mut path = Path::leftmost();
         match root {
             None => Cursor {
                 path,
                 row: &[],
                 at: 0,
-                low: None,
+                leaf_parent: None,
             },
             Some(node) => {
                 let row = node.edge(height, &mut path, end);
@@ -65,13 +65,13 @@ impl<'a> Cursor<'a> {
                     path,
                     row,
                     at: path.get(0),
-                    low: None,
+                    leaf_parent: None,
                 }
             }
         }
     }
 
-    // The gap to which a path goes.
+    // A cursor at the gap to which a path goes.
     pub(super) fn new(root: &'a Option<Node>, height: usize, path: &Path) -> Cursor<'a>
         requires tree { IsTree root.now height }
         requires goes { ReachesGapIn root.now height path.now }
@@ -84,12 +84,12 @@ impl<'a> Cursor<'a> {
                 path: *path,
                 row: node.leaf(height, path),
                 at: path.leaf_place(),
-                low: None,
+                leaf_parent: None,
             },
         }
     }
 
-    // The next index.
+    // Moves over the next index, and returns it.
     pub(super) fn next(&mut self, root: &'a Option<Node>, height: usize) -> Option<ItemIndex>
         requires tree { IsTree root.now height }
         requires stands { Stands root.now height self.old }
@@ -106,7 +106,7 @@ impl<'a> Cursor<'a> {
         }
     }
 
-    // The index before.
+    // Moves back over the index before the gap, and returns it.
     pub(super) fn next_back(&mut self, root: &'a Option<Node>, height: usize) -> Option<ItemIndex>
         requires tree { IsTree root.now height }
         requires stands { Stands root.now height self.old }
@@ -121,7 +121,7 @@ impl<'a> Cursor<'a> {
         self.leave_leaf(root, height, End::Front)
     }
 
-    // The index behind the leaf.
+    // Moves from the end of the leaf over the next index, into the next leaf. Returns that index.
     #[inline(never)]
     fn next_leaf(&mut self, root: &'a Option<Node>, height: usize) -> Option<ItemIndex>
         requires tree { IsTree root.now height }
@@ -131,20 +131,21 @@ impl<'a> Cursor<'a> {
         ensures next { Steps End.Back (in_order root.now height)
             (gap_of root.now height self.old) result (gap_of root.now height self.new) }
     {
-        let known = self.low;
-        if let Some(low) = known {
+        let known = self.leaf_parent;
+        if let Some(leaf_parent) = known {
             let place = self.path.get(1);
-            if place < low.row.len() {
+            if place < leaf_parent.row.len() {
                 self.path.set(1, place + 1);
-                self.row = low.children[place + 1].row.as_slice();
+                self.row = leaf_parent.children[place + 1].row.as_slice();
                 self.at = 0;
-                return Some(low.row.get(place));
+                return Some(leaf_parent.row.get(place));
             }
         }
         self.leave_leaf(root, height, End::Back)
     }
 
-    // The index that stands next to the leaf towards an end, by a walk down from the root.
+    // Moves over the index next to the gap, towards an end, by a walk down from the root. Returns that index. If there
+    // is none, the cursor stays as it is.
     pub(super) fn leave_leaf(
         &mut self,
         root: &'a Option<Node>,
@@ -168,17 +169,17 @@ impl<'a> Cursor<'a> {
         self.row = found.1;
         self.at = path.get(0);
         self.path = path;
-        self.low = None;
+        self.leaf_parent = None;
         match towards {
             End::Front => Some(found.0),
             End::Back => {
-                self.low = node.low(height, &path);
+                self.leaf_parent = node.leaf_parent(height, &path);
                 Some(found.0)
             }
         }
     }
 
-    // The path to the gap.
+    // The path to the gap, with `at` as its entry for level 0.
     pub(super) fn gap(&self) -> Path
         requires { self.now.at ≤ CAPACITY }
         ensures { result ≡ to_gap self.now.path self.now.at }
@@ -188,7 +189,7 @@ impl<'a> Cursor<'a> {
         path
     }
 
-    // How the gap stands to that of another cursor.
+    // Compares the place of the gap with that of another cursor's gap.
     pub(super) fn compare(&self, other: &Cursor<'_>, root: &Option<Node>, height: usize) -> Ordering
         requires tree { IsTree root.now height }
         requires stands { Stands root.now height self.now }
@@ -203,7 +204,7 @@ impl<'a> Cursor<'a> {
 }
 
 impl Path {
-    // How the gap to which the path goes stands to that of another path, from a level down.
+    // Compares the gaps to which two paths go, by their places from `level` down.
     pub(super) fn compare(&self, other: &Path, level: usize) -> Ordering
         requires { level < LEVELS }
         ensures { (n : NodeOf) → IsFormed level n → ReachesGap level n self.now → ReachesGap level n other.now →
@@ -227,7 +228,8 @@ fn edge_place(row: &Row, end: End) -> usize
     }
 }
 
-// The place in a row of the index next to a gap towards an end, and the gap beyond that index.
+// The index next to the gap at `place`, towards an end, in a row of `count` indexes: its place, and that of the gap
+// beyond it.
 fn beside(place: usize, count: usize, towards: End) -> Option<(usize, usize)>
     requires { place ≤ count }
     ensures { AreBeside towards count place result }
@@ -240,7 +242,7 @@ fn beside(place: usize, count: usize, towards: End) -> Option<(usize, usize)>
 }
 
 impl Node {
-    // Makes a path go to the gap at an end of what is below a node, and answers its leaf.
+    // Extends the path to the first or last gap below this node, and returns the leaf of that gap.
     fn edge(&self, level: usize, path: &mut Path, end: End) -> &[ItemIndex]
         requires formed { IsFormed level self.now }
         requires levels { level < LEVELS }
@@ -270,12 +272,12 @@ impl Node {
         self.children[path.get(level)].leaf(level - 1, path)
     }
 
-    // The node above that leaf, if the tree is more than a leaf.
-    fn low(&self, level: usize, path: &Path) -> Option<&Node>
+    // The node above the leaf to which a path goes. None if this node is the leaf.
+    fn leaf_parent(&self, level: usize, path: &Path) -> Option<&Node>
         requires formed { IsFormed level self.now }
         requires levels { level < LEVELS }
         requires goes { ReachesGap level self.now path.now }
-        ensures { IfSome result (λ k. (0 < level) × (k.now ≡ low level self.now path.now)) }
+        ensures { IfSome result (λ k. (0 < level) × (k.now ≡ leaf_parent level self.now path.now)) }
     {
         if level == 0 {
             return None;
@@ -283,11 +285,11 @@ impl Node {
         if level == 1 {
             return Some(self);
         }
-        self.children[path.get(level)].low(level - 1, path)
+        self.children[path.get(level)].leaf_parent(level - 1, path)
     }
 
-    // The index next to the gap to which a path goes, towards an end. The path then goes to the gap beyond that
-    // index, whose leaf is answered too.
+    // Moves the path's gap over one index, towards an end. Returns that index and the leaf of the new gap. If there is
+    // no such index, the path stays as it is.
     pub(super) fn step_over(
         &self,
         level: usize,

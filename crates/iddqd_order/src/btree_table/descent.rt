@@ -1,7 +1,7 @@
 //! Searches of a tree: one walk down from the root, at most four asks a level.
 //!
-//! A tree of h levels has at least `2 * 6^(h-1) - 1` indexes, so four asks a level are within the
-//! bound. A path is written only where it leaves the left edge: before, it is what it began as.
+//! A tree with h levels above its leaves has at least `2 * 6^h - 1` indexes, so four asks a level are
+//! within the bound of `4 + 2 * digits(len)`, and so is one more ask before them.
 ghost use Rattle.std.specs.Prelude.{◌≡◌, ℕ, ◌+◌, ◌*◌, ◌<◌, ◌≤◌, Some, None, IfSome, IsNone, Contains, length, slice_index};
 ghost use Rattle.iddqd_order.specs.Descent.{Descends, FindsIn};
 ghost use Rattle.iddqd_order.specs.Digits.{row_asks};
@@ -14,11 +14,11 @@ use crate::btree_table::node::Node;
 use crate::btree_table::path::{LEVELS, Path};
 use crate::btree_table::reading::Reads;
 use crate::btree_table::row::{CAPACITY, Row};
-use crate::btree_table::search::{Split, search};
+use crate::btree_table::search::search;
 use iddqd::item_index::ItemIndex;
 
 impl Node {
-    // The index at which a search ends, if it ends at one.
+    // Searches from this node down, and returns the index that it hits.
     pub(super) fn find<R, F: FnMut(ItemIndex) -> R, H: Reads<R>>(
         &self,
         height: usize,
@@ -29,11 +29,11 @@ impl Node {
         requires can_search { CanSearch F.FnMut (flat height self.now) None asking.old }
         ensures { FindsIn F.FnMut (H.reading how.now) None height self.now asking.old result asking.new }
     {
-        let tie = None;
+        let sought = None;
         let mut node = self;
         let mut level = height;
         loop {
-            match search_row(&node.row, false, asking, how, &tie) {
+            match search_row(&node.row, asking, how, &sought) {
                 Ok(i) => return Some(node.row.get(i)),
                 Err(i) => {
                     if level == 0 {
@@ -46,40 +46,36 @@ impl Node {
         }
     }
 
-    // Writes where a search goes to a path of first places. It answers the level at which the search
-    // ends, or, where it ends in a leaf, how many nodes at the lower end of the path are full. As long as
-    // the path is the leftmost, rows are split at the left.
+    // Searches from this node down, and records its way in `path`. Returns `Ok` of the level of the index that it hits,
+    // or `Err` of how many nodes at the lower end of the path are full.
     pub(super) fn descend<R, F: FnMut(ItemIndex) -> R, H: Reads<R>>(
         &self,
         height: usize,
         asking: &mut Asking<F>,
         how: &H,
-        tie: &Option<ItemIndex>,
+        sought: &Option<ItemIndex>,
         path: &mut Path,
     ) -> Result<usize, usize>
         requires formed { IsFormed height self.now }
         requires levels { height < LEVELS }
         requires path { length path.old ≡ LEVELS }
-        requires first { (l : ℕ) → l ≤ height → slice_index path.old l ≡ 0 }
-        requires can_search { CanSearch F.FnMut (flat height self.now) tie.now asking.old }
+        requires can_search { CanSearch F.FnMut (flat height self.now) sought.now asking.old }
         ensures path { length path.new ≡ LEVELS }
-        ensures descends { Descends F.FnMut (H.reading how.now) tie.now (row_asks * (height + 1)) (height + 1)
+        ensures descends { Descends F.FnMut (H.reading how.now) sought.now (row_asks * (height + 1)) (height + 1)
             height self.now asking.old path.new result asking.new }
     {
         let mut node = self;
         let mut level = height;
         let mut full = height + 1;
-        let mut is_leftmost = true;
         loop {
             full = full_from(&node.row, level, full);
-            match search_row(&node.row, is_leftmost, asking, how, tie) {
+            match search_row(&node.row, asking, how, sought) {
                 Ok(i) => {
                     path.set(level, i);
                     return Ok(level);
                 }
                 Err(i) => {
-                    is_leftmost = is_leftmost && i == 0;
-                    path.keep_or_set(is_leftmost, level, i);
+                    path.set(level, i);
                     if level == 0 {
                         return Err(full);
                     }
@@ -90,8 +86,7 @@ impl Node {
         }
     }
 
-    // Finds an index wherever it is stored, by a walk that asks nothing: its level, with the path to
-    // it.
+    // Finds an index by a walk over all nodes, which asks nothing. Writes the path to the index, and returns its level.
     pub(super) fn locate(&self, height: usize, ix: ItemIndex, path: &mut Path) -> Option<usize>
         requires formed { IsFormed height self.now }
         requires levels { height < LEVELS }
@@ -118,10 +113,10 @@ impl Node {
     }
 }
 
-// How many nodes at the lower end of a path are full, as far down as the node at the level, whose row this is.
-// Above it so many were.
+// Updates `full` at the node on the path that has this row and level. `full` is the lowest level so far at which the
+// node isn't full, or the number of levels if all nodes so far are full.
 #[inline(always)]
-fn full_from(row: &Row, level: usize, full: usize) -> usize
+pub(super) fn full_from(row: &Row, level: usize, full: usize) -> usize
     requires { level < full }
     ensures above { level ≤ result }
     ensures not_full { length row.now < CAPACITY → result ≡ level }
@@ -131,31 +126,22 @@ fn full_from(row: &Row, level: usize, full: usize) -> usize
     if row.len() < CAPACITY { level } else { full }
 }
 
-// Four asks distinguish so many places, and a row has no more.
-const ROW_PLACES: usize = 15;
-
-// The place in a row of what is sought, or where it would go. At the left edge of the tree it asks as often
-// as may be.
+// Searches a row: the place of what is sought, or of the gap where it would go.
 fn search_row<R, F: FnMut(ItemIndex) -> R, H: Reads<R>>(
     row: &Row,
-    is_leftmost: bool,
     asking: &mut Asking<F>,
     how: &H,
-    tie: &Option<ItemIndex>,
+    sought: &Option<ItemIndex>,
 ) -> Result<usize, usize>
-    requires { CanSearch F.FnMut row.now tie.now asking.old }
-    ensures { SearchesWithin F.FnMut (H.reading how.now) row.now row_asks tie.now asking.old result asking.new }
+    requires { CanSearch F.FnMut row.now sought.now asking.old }
+    ensures { SearchesWithin F.FnMut (H.reading how.now) row.now row_asks sought.now asking.old result asking.new }
 {
-    let len = row.len();
     let items = row.as_slice();
-    if is_leftmost {
-        search(items, ROW_PLACES, Split::Left, asking, how, tie)
-    } else {
-        search(items, len, Split::Middle, asking, how, tie)
-    }
+    let _few = row.len();
+    search(items, asking, how, sought)
 }
 
-// Where the index stands in a row.
+// The place of an index in a row, if it is there.
 fn position(items: &[ItemIndex], ix: ItemIndex) -> Option<usize>
     ensures there { StandsAt items.now ix result }
     ensures missing { IsNone result → Contains items.now ix → ⊥ }

@@ -1,7 +1,7 @@
-//! The place of what is sought by answers alone: an index that stands there, or none.
+//! Where a search by answers alone ends: at a stored index, or at a gap.
 //!
-//! An entry keeps the path of its search, so a removal, or an insert at the place, asks nothing.
-//! Equal answers are a hit, so no order of two indexes is needed to find a vacant place.
+//! An entry keeps the path of its search, so removing its index, or inserting one at its gap, asks nothing.
+//! An Equal answer is a hit, so ties aren't broken by index.
 ghost use Rattle.std.specs.Prelude.{◌≡◌, ◌≢◌, ◌+◌, ◌<◌, ◌≤◌, None, IsOk, IfOk, Contains, length};
 ghost use Rattle.iddqd_order.specs.MapBTreeTable.{order_of, capacity, without, sentinel};
 ghost use Rattle.iddqd_order.specs.Node.{AtIndex, InGap};
@@ -19,40 +19,43 @@ use iddqd::map_hash::Comparable;
 use std::alloc::AllocError;
 use std::cmp::Ordering;
 
-/// Where what is sought stands, or could stand. Dropped, it leaves the table as it was.
+/// Where a search ended: at a stored index, or at a gap. Dropped, it leaves the table as it was.
 #[derive(Drop)]
 pub enum Entry<'a> {
-    /// It stands there.
+    /// The search hit a stored index.
     Occupied(OccupiedEntry<'a>),
-    /// It doesn't.
+    /// The search ended at a gap.
     Vacant(VacantEntry<'a>),
 }
 
-/// An index that stands in a table. Dropped, it leaves the table as it was.
+/// A stored index of a table. Dropped, it leaves the table as it was.
 #[derive(Drop)]
 pub struct OccupiedEntry<'a> {
     table: &'a mut MapBTreeTable,
     spot: Spot,
-    ghost holds: { ReachesIndexIn spot.level table.now.root table.now.height spot.path } by { ReachesIn-prop AtIndex spot.level table.now.root table.now.height spot.path },
+    ghost holds: { ReachesIndexIn spot.level table.now.root table.now.height spot.path } by { ReachesIn-prop AtIndex
+        spot.level table.now.root table.now.height spot.path },
 }
 
-/// A place for an index among those of a table. Dropped, it leaves the table as it was.
+/// A gap of a table, where an index can be inserted. Dropped, it leaves the table as it was.
 #[derive(Drop)]
 pub struct VacantEntry<'a> {
     pub(super) table: &'a mut MapBTreeTable,
     pub(super) gap: Gap,
-    ghost goes: { ReachesGapIn table.now.root table.now.height gap.path } by { ReachesIn-prop InGap 0 table.now.root table.now.height gap.path },
-    ghost full_nodes: { FullIn gap.full table.now.root table.now.height gap.path } by { FullIn-prop gap.full table.now.root table.now.height gap.path },
+    ghost goes: { ReachesGapIn table.now.root table.now.height gap.path } by { ReachesIn-prop InGap 0
+        table.now.root table.now.height gap.path },
+    ghost full_nodes: { FullIn gap.full table.now.root table.now.height gap.path } by { FullIn-prop gap.full
+        table.now.root table.now.height gap.path },
     ghost levels: { gap.full ≤ table.now.height + 1 },
 }
 
 impl MapBTreeTable {
     ghost use Rattle.iddqd_order.specs.Entry.{entry_table, FindsEntry};
 
-    /// The entry of a stored index at which the asking answers Equal, else that of the place where
-    /// what is sought could stand. Less says that it stands before the stored index.
+    /// The entry of a stored index at which the asking answers Equal, or else of the gap where what is sought
+    /// could be inserted. Less means that what is sought stands before the stored index.
     ///
-    /// Under answers that change, it has some stored index or some place. It asks at most
+    /// If answers change, the entry has some stored index or some gap. It asks at most
     /// `4 + 2 * digits(len)` times, and takes no memory.
     pub fn entry_by<F: FnMut(ItemIndex) -> Ordering>(&mut self, asking: &mut Asking<F>) -> Entry<'_>
         requires { CanSearch F.FnMut (order_of self.old) None asking.old }
@@ -63,10 +66,10 @@ impl MapBTreeTable {
         self.make_entry(asking, &AsOrdering)
     }
 
-    /// The entry of a stored index at which the query compares Equal with the key that the asking
-    /// answers, else that of the place where an index with such a key could stand.
+    /// The entry of a stored index whose key compares Equal with the query, or else of the gap where an index with
+    /// such a key could be inserted. The asking answers the keys.
     ///
-    /// Under keys that change, it has some stored index or some place. It asks at most
+    /// If keys change, the entry has some stored index or some gap. It asks at most
     /// `4 + 2 * digits(len)` times, and takes no memory.
     pub fn entry<K: Ord + Drop, Q: Comparable<K>, F: FnMut(ItemIndex) -> K>(
         &mut self,
@@ -81,7 +84,7 @@ impl MapBTreeTable {
         self.make_entry(asking, &ByQuery(query))
     }
 
-    // The entry, by any reading of the answers.
+    // `entry_by` and `entry`, generic over how an answer is read.
     fn make_entry<R, F: FnMut(ItemIndex) -> R, H: Reads<R>>(
         &mut self,
         asking: &mut Asking<F>,
@@ -92,7 +95,7 @@ impl MapBTreeTable {
         ensures table { (entry_table result).now ≡ self.old }
         ensures made { FindsEntry F.FnMut (H.reading how.now) (order_of self.old) asking.old result asking.new }
     {
-        match self.descend(asking, how, &None) {
+        match self.descend(self.is_at_front, asking, how, &None) {
             Ok(spot) => Entry::Occupied(OccupiedEntry { table: self, spot }),
             Err(gap) => Entry::Vacant(VacantEntry { table: self, gap }),
         }
@@ -131,15 +134,15 @@ impl<'a> VacantEntry<'a> {
     ghost use Rattle.iddqd_order.specs.Entry.{vacant_table, FillsEntry};
     ghost use Rattle.iddqd_order.specs.PreparedBTreeInsert as prepared_insert;
 
-    /// Takes the memory of an insert of `ix` at the place. It asks nothing.
+    /// Takes the memory for an insert of `ix` at the gap. It asks nothing.
     ///
-    /// It answers `AllocError` if memory runs out; the contents then stay. Below the capacity it takes no
-    /// memory, and never fails. Where the index doesn't belong at the place, later searches may miss it.
+    /// It returns `AllocError` if memory runs out; the contents then stay. Below the capacity it takes no
+    /// memory, and never fails. If the index doesn't belong at the gap, later searches may miss it.
     #[tactic(auto, unfolding(crate::specs::MapBTreeTable::order_of))]
     pub fn prepare(self, ix: ItemIndex) -> Result<PreparedBTreeInsert<'a>, AllocError>
         requires assigned { ix ≢ sentinel }
         requires absent { Contains (order_of (vacant_table self).now) ix → ⊥ }
-        ensures* unchanged { sem 𝓛 (prepared_insert.rests_if_refused (vacant_table self.entry) result) }
+        ensures* unchanged { sem 𝓛 (prepared_insert.unchanged_if_out_of_memory (vacant_table self.entry) result) }
         ensures same_reference { IfOk result
             (λ p. (prepared_insert.table_of p).ghost_name ≡ (vacant_table self.entry).ghost_name) }
         ensures prepared { IfOk result (FillsEntry self.entry ix) }

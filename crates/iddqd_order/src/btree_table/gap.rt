@@ -1,7 +1,7 @@
-//! A place for an index in a table, which it doesn't borrow: a search finds it, and an insert comes later.
+//! A gap that a search found, for a later insert. It borrows no table.
 //!
-//! It fits the table that it was found in until the tree of that changes. An insert at it asks nothing, and takes no
-//! memory but the blocks that it is given, of which it needs none below the capacity.
+//! A gap is valid only for the table that it was found in, until that table's tree changes. An insert at a gap asks
+//! nothing. It takes no memory but the blocks that it is given, and below the capacity it needs none of them.
 ghost use Rattle.std.specs.Prelude.{◌≡◌, ◌≢◌, ◌*◌, ◌+◌, ◌<◌, ◌≤◌, Some, IsOk, IfOk, Contains, length, insert};
 ghost use Rattle.iddqd_order.specs.Asks.{AsksWithin};
 ghost use Rattle.iddqd_order.specs.Digits.{bound};
@@ -19,7 +19,7 @@ use iddqd::item_index::ItemIndex;
 use std::alloc::AllocError;
 use std::cmp::Ordering;
 
-/// A place for an index among those of a table.
+/// A place before, between or behind the indexes of a table, where an index can be inserted.
 #[derive(Drop)]
 pub struct Gap {
     pub(super) path: Path,
@@ -29,8 +29,8 @@ pub struct Gap {
 
 #[tactic(auto, unfolding(crate::specs::MapBTreeTable::order_of, crate::specs::MapBTreeTable::capacity))]
 impl MapBTreeTable {
-    /// The place where what is sought could stand, or else a stored index at which the asking answers Equal. Less says
-    /// that what is sought stands before the stored index.
+    /// `Ok` of the gap where what is sought could be inserted, or `Err` of a stored index at which the asking answers
+    /// Equal. Less means that what is sought stands before the stored index.
     ///
     /// It asks at most `4 + 2 * digits(len)` times, and takes no memory.
     pub fn find_gap_by<F: FnMut(ItemIndex) -> Ordering>(
@@ -40,13 +40,14 @@ impl MapBTreeTable {
         requires { CanSearch F.FnMut (order_of self.now) None asking.old }
         ensures { FindsGap F.FnMut (λ r. r) self.now asking.old result asking.new }
     {
-        match self.descend(asking, &AsOrdering, &None) {
+        match self.descend(self.is_at_front, asking, &AsOrdering, &None) {
             Ok(spot) => Err(self.index_at(&spot)),
             Err(gap) => Ok(gap),
         }
     }
 
-    /// The place of an index that isn't stored, by answers about the others. Equal ones are ordered by the indexes.
+    /// The gap for an index that isn't stored, by answers about the stored ones. If an answer is Equal, the lesser
+    /// index comes first.
     ///
     /// It asks at most `4 + 2 * digits(len)` times, and takes no memory.
     pub fn find_own_gap_by<F: FnMut(ItemIndex) -> Ordering>(
@@ -58,17 +59,17 @@ impl MapBTreeTable {
         requires can_ask { CanSearch F.FnMut (order_of self.now) (Some ix) asking.old }
         ensures { FindsOwnGap F.FnMut (λ r. r) self.now ix asking.old result asking.new }
     {
-        self.find_gap(ix, asking, &AsOrdering)
+        self.find_own_gap(ix, asking, &AsOrdering)
     }
 
-    /// No block: what an insert below the capacity needs. It takes no memory.
+    /// No block, which is enough for an insert below the capacity. It takes no memory.
     pub fn no_blocks(&self) -> Blocks
         ensures { result ≡ 0 }
     {
         Blocks::none(self.allocator())
     }
 
-    /// The memory of an insert at the place: none below the capacity.
+    /// Allocates the blocks for an insert at the gap: none below the capacity.
     pub fn blocks_at(&self, gap: &Gap) -> Result<Blocks, AllocError>
         ensures blocks { IfOk result (λ blocks. blocks ≡ gap_blocks self.now gap.now) }
         ensures roomy { Fits self.now gap.now → length (order_of self.now) < capacity self.now →
@@ -78,7 +79,7 @@ impl MapBTreeTable {
         self.take_blocks(gap.full)
     }
 
-    /// The memory of a move, or of an insert that comes after a removal, at any place: none up to the capacity.
+    /// Allocates the blocks for a move to any place, or for an insert after a removal: none up to the capacity.
     pub fn blocks_anywhere(&self) -> Result<Blocks, AllocError>
         ensures blocks { IfOk result (λ blocks. blocks ≡ move_blocks self.now) }
         ensures roomy { length (order_of self.now) ≤ capacity self.now → move_blocks self.now ≡ 0 }
@@ -87,7 +88,7 @@ impl MapBTreeTable {
         self.take_move_blocks()
     }
 
-    /// Adds the index at the place. The others keep their order. It asks nothing.
+    /// Inserts the index at the gap. The others keep their order. It asks nothing.
     pub fn insert_in(&mut self, gap: &Gap, ix: ItemIndex, blocks: Blocks)
         requires fits { Fits self.old gap.now }
         requires enough { gap_blocks self.old gap.now ≤ blocks }
@@ -99,8 +100,8 @@ impl MapBTreeTable {
         self.insert_at(gap, ix, blocks);
     }
 
-    /// Removes a stored index and inserts it where its new key belongs. The others keep their order. Equal keys are
-    /// ordered by the indexes.
+    /// Removes a stored index and inserts it where its new key belongs. The others keep their order. If keys are
+    /// equal, the lesser index comes first.
     ///
     /// The asking answers the keys of the others, and isn't asked about the index itself. It is asked at most
     /// `4 + 2 * digits(len)` times for each key. If the old key doesn't lead to the index, a walk that asks nothing

@@ -1,4 +1,4 @@
-//! The walk along a table that is given up.
+//! The iterator that consumes a table.
 //!
 //! It owns the tree, so it has no reference into it: each end has a copy of its leaf.
 ghost use Rattle.std.specs.Prelude.{◌≡◌, length};
@@ -14,7 +14,8 @@ use std::fmt::{self, Debug, Formatter, Write};
 use std::iter::{DoubleEndedIterator, ExactSizeIterator, FusedIterator};
 use std::marker::Model;
 
-// A cursor with a copy of its leaf. The place counts, not the path's own at level 0.
+// A cursor with a copy of its leaf. `at` is the gap's place in the leaf. The path's entry for level 0 may be out of
+// date, so that a step writes only `at`.
 #[derive(Drop)]
 struct OwnedCursor {
     path: Path,
@@ -23,7 +24,7 @@ struct OwnedCursor {
 }
 
 impl OwnedCursor {
-    // The gap at an end of a tree.
+    // A cursor at the first or last gap of a tree.
     fn at_end(root: &Option<Node>, height: usize, end: End) -> OwnedCursor
         requires { IsTree root.now height }
         ensures at { IsAt root.now height result.path result.row result.at }
@@ -38,7 +39,7 @@ impl OwnedCursor {
         }
     }
 
-    // The next index.
+    // Moves over the next index, and returns it.
     fn next(&mut self, root: &Option<Node>, height: usize) -> Option<ItemIndex>
         requires tree { IsTree root.now height }
         requires at { IsAt root.now height self.old.path self.old.row self.old.at }
@@ -55,7 +56,7 @@ impl OwnedCursor {
         self.leave_leaf(root, height, End::Back)
     }
 
-    // The index before.
+    // Moves back over the index before the gap, and returns it.
     fn next_back(&mut self, root: &Option<Node>, height: usize) -> Option<ItemIndex>
         requires tree { IsTree root.now height }
         requires at { IsAt root.now height self.old.path self.old.row self.old.at }
@@ -71,7 +72,7 @@ impl OwnedCursor {
         self.leave_leaf(root, height, End::Front)
     }
 
-    // The index that stands next to the leaf towards an end.
+    // Moves over the index next to the gap, towards an end, by a walk down from the root. Returns that index.
     fn leave_leaf(&mut self, root: &Option<Node>, height: usize, towards: End) -> Option<ItemIndex>
         requires tree { IsTree root.now height }
         requires at { IsAt root.now height self.old.path self.old.row self.old.at }
@@ -84,7 +85,7 @@ impl OwnedCursor {
             path: self.path,
             row: &[],
             at: self.at,
-            low: None,
+            leaf_parent: None,
         };
         let Some(ix) = cursor.leave_leaf(root, height, towards) else {
             return None;
@@ -99,7 +100,7 @@ impl OwnedCursor {
 /// The indexes of a table, in its order, from both ends. Once it has ended it stays ended.
 ///
 /// It takes no memory. A step costs a constant time on the average, and at most as much as a search.
-/// The table's memory is given back with it.
+/// Dropping it gives back the table's memory.
 #[derive(Drop)]
 pub struct IntoIter {
     root: Option<Node>,
@@ -132,7 +133,7 @@ impl IntoIter {
     ghost use Rattle.iddqd_order.specs.IntoIter.{indexes_to_come};
     ghost use Rattle.iddqd_order.specs.Tree.{IsTree, in_order};
 
-    // All indexes of a tree, of which there are `len`.
+    // All indexes of a tree. `len` is their number.
     pub(super) fn new(root: Option<Node>, height: usize, len: usize) -> IntoIter
         requires tree { IsTree root height }
         requires counted { len ≡ length (in_order root height) }

@@ -1,4 +1,4 @@
-//! The walk along a table.
+//! The iterator that borrows a table.
 use crate::btree_table::cursor::{Cursor, End};
 use crate::btree_table::node::Node;
 use iddqd::item_index::ItemIndex;
@@ -38,7 +38,7 @@ impl<'a> Iter<'a> {
     ghost use Rattle.iddqd_order.specs.Tree.{IsTree, in_order};
     ghost use Rattle.iddqd_order.specs.Iter.{indexes_left};
 
-    // All indexes of a tree, of which there are `len`.
+    // All indexes of a tree. `len` is their number.
     pub(super) fn new(root: &'a Option<Node>, height: usize, len: usize) -> Iter<'a>
         requires tree { IsTree root.now height }
         requires counted { len ≡ length (in_order root.now height) }
@@ -110,7 +110,7 @@ impl<'a> ExactSizeIterator for Iter<'a> {
 
 impl<'a> FusedIterator for Iter<'a> {}
 
-// The indexes that are left, printed as a list.
+// The indexes still to come, printed as a list.
 #[derive(Drop)]
 pub(super) struct Rest<'a, 'b>(pub(super) &'b Iter<'a>);
 

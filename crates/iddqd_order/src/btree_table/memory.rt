@@ -1,7 +1,7 @@
-//! Blocks that a table takes ahead, and gives back.
+//! Blocks that a table takes in advance, and gives back.
 //!
-//! A table made for n indexes never needs another block while it has no more, whatever is added and removed
-//! in between. It grows past that by asking for memory, and then has no room until enough is removed.
+//! A table made for n indexes never needs another block while it has at most n, whatever is added and removed.
+//! Past n it grows by asking for memory, and it has no room again until enough indexes are removed.
 ghost use Rattle.std.specs.Prelude.{◌≡◌, ◌<◌, ◌≤◌};
 ghost use Rattle.iddqd_order.specs.MapBTreeTable.{capacity, room};
 ghost use Rattle.iddqd_order.specs.Sizes.{TakesRoom, Reserves, Shrinks};
@@ -12,9 +12,9 @@ use std::alloc::{AllocError, Global};
 
 #[tactic(auto, unfolding(crate::specs::MapBTreeTable::order_of, crate::specs::MapBTreeTable::capacity))]
 impl MapBTreeTable {
-    /// An empty table that holds so many indexes without asking for memory. For up to ten it takes none.
+    /// An empty table that can hold `capacity` indexes without asking for memory. For up to ten it takes none.
     ///
-    /// `AllocError` means that memory ran out, or that there can't be so many indexes.
+    /// `AllocError` means that memory ran out, or that no table can hold that many indexes.
     pub fn with_capacity(alloc: Global, capacity: usize) -> Result<MapBTreeTable, AllocError>
         ensures { TakesRoom capacity result }
     {
@@ -30,25 +30,25 @@ impl MapBTreeTable {
         self.reserve.capacity()
     }
 
-    /// How many more indexes the table can hold without asking for memory: none where it holds more than its
-    /// capacity.
+    /// How many more indexes the table can hold without asking for memory: 0 if it holds more than its capacity.
     pub fn room(&self) -> usize
         ensures { result ≡ room self.now }
     {
         self.capacity().saturating_sub(self.len)
     }
 
-    /// The same as `try_reserve`, under the name that it has where it can't be refused.
+    /// The same as `try_reserve`, named after iddqd's `reserve`, which aborts if memory runs out.
     pub fn reserve(&mut self, additional: usize) -> Result<(), AllocError>
         ensures { Reserves additional self.old result self.new }
     {
         self.try_reserve(additional)
     }
 
-    /// Makes room for `additional` more indexes: the capacity is raised to that of the blocks which all of them need.
+    /// Makes room for `additional` more indexes, by reserving the blocks that all indexes will then need.
+    /// If there is room already, it changes nothing and takes no memory.
     ///
-    /// `AllocError` means that memory ran out, or that there can't be so many indexes; the table then stays as it
-    /// was. It stays so too, and takes no memory, where there is room for so many.
+    /// `AllocError` means that memory ran out, or that no table can hold that many indexes. The table is then as it
+    /// was.
     pub fn try_reserve(&mut self, additional: usize) -> Result<(), AllocError>
         ensures { Reserves additional self.old result self.new }
     {
@@ -69,7 +69,8 @@ impl MapBTreeTable {
         self.shrink_to(0)
     }
 
-    /// Gives back the blocks that so many indexes don't need, or those that there are where these are more.
+    /// Shrinks the capacity to what `max(least, len)` indexes need, and gives back the other blocks. The capacity
+    /// never grows.
     pub fn shrink_to(&mut self, least: usize)
         ensures { Shrinks least self.old self.new }
     {

@@ -1,9 +1,9 @@
-//! A node of the tree, and the insert into one.
+//! A node of the tree, and insertion into it.
 ghost use Rattle.std.specs.Prelude.{◌≡◌, ℕ, ◌+◌, ◌-◌, ◌<◌, ◌≤◌, List, [], ◌∷◌, ◌++◌, length, take, drop, slice_index, vec_len, vec_capacity};
 ghost use Rattle.std.specs.List.{insert};
 ghost use Rattle.iddqd_order.specs.Node.{row, flat, inners, IsFormed, ReachesGap, place, IsFullBelow, IsPut, IsSpare};
 ghost use Rattle.iddqd_order.specs.Reserve.{spare};
-ghost use Rattle.iddqd_order.specs.Row.{IsCut};
+ghost use Rattle.iddqd_order.specs.Row.{IsSplit};
 
 use crate::btree_table::blocks::Blocks;
 use crate::btree_table::path::{LEVELS, Path};
@@ -12,7 +12,7 @@ use crate::btree_table::row::{CAPACITY, LEAST, Row};
 use iddqd::item_index::ItemIndex;
 use std::alloc::Global;
 
-/// The most children of a node. A block has room for so many.
+/// The most children of a node, and the room of a block.
 pub(super) const CHILDREN: usize = CAPACITY + 1;
 
 // A node and all below it. The children lie in one block; a leaf has none.
@@ -22,7 +22,7 @@ pub(super) struct Node {
     pub(super) children: Vec<Node>,
 }
 
-// Moves the nodes from `at` on to an empty block.
+// Moves the node at place `at` and all nodes after it into an empty block.
 fn move_tail(from: &mut Vec<Node>, at: usize, to: &mut Vec<Node>)
     requires within { at ≤ vec_len from.old }
     requires empty { to.old.items ≡ [] }
@@ -39,8 +39,14 @@ fn move_tail(from: &mut Vec<Node>, at: usize, to: &mut Vec<Node>)
     to.reverse();
 }
 
-// Puts one more node after the i-th of twelve, and moves all but the first `low` to an empty block.
-fn cut_children(children: &mut Vec<Node>, low: usize, i: usize, after: Node, upper: &mut Vec<Node>)
+// Inserts a node after the i-th of twelve, and moves all but the first `low` of the thirteen into an empty block.
+fn split_children(
+    children: &mut Vec<Node>,
+    low: usize,
+    i: usize,
+    after: Node,
+    upper: &mut Vec<Node>,
+)
     requires full { vec_len children.old ≡ CHILDREN }
     requires some { 1 ≤ low }
     requires not_all { low ≤ CHILDREN }
@@ -62,7 +68,7 @@ fn cut_children(children: &mut Vec<Node>, low: usize, i: usize, after: Node, upp
     }
 }
 
-// Puts an index and the child after it into an inner node that isn't full.
+// Inserts an index and the child after it into an inner node that isn't full.
 fn put_between(row: &mut Row, children: &mut Vec<Node>, i: usize, ix: ItemIndex, after: Node)
     requires within { i ≤ length row.old }
     requires room { length row.old < CAPACITY }
@@ -76,9 +82,9 @@ fn put_between(row: &mut Row, children: &mut Vec<Node>, i: usize, ix: ItemIndex,
     let _ = children.insert(i + 1, after);
 }
 
-// Puts an index and the child after it into a full inner node, and cuts the node in two: the index
-// in the middle and the upper row are answered, and the upper children lie in the empty block.
-fn cut_inner(
+// Inserts an index and the child after it into a full inner node, and splits the node. Returns the middle index and the
+// upper row. The upper children go into the empty block.
+fn split_inner(
     row: &mut Row,
     children: &mut Vec<Node>,
     i: usize,
@@ -91,19 +97,19 @@ fn cut_inner(
     requires one_more { vec_len children.old ≡ CHILDREN }
     requires has_room { CHILDREN ≤ vec_capacity children.old }
     requires spare { IsSpare upper.old }
-    ensures cut { IsCut row.old i ix row.new result.0 result.1 }
+    ensures split { IsSplit row.old i ix row.new result.0 result.1 }
     ensures parts { children.new.items ++ upper.new.items ≡ insert children.old.items (i + 1) after }
     ensures one_more { vec_len children.new ≡ length row.new + 1 }
     ensures has_room { CHILDREN ≤ vec_capacity children.new }
     ensures other_room { CHILDREN ≤ vec_capacity upper.new }
 {
-    let (middle, upper_row) = row.cut(i, ix);
-    cut_children(children, row.len() + 1, i, after, upper);
+    let (middle, upper_row) = row.split(i, ix);
+    split_children(children, row.len() + 1, i, after, upper);
     (middle, upper_row)
 }
 
 impl Node {
-    // Puts an index where the path goes, in a leaf that isn't full.
+    // Inserts an index at the path's gap, in a leaf that isn't full.
     pub(super) fn put_in_leaf(&mut self, height: usize, path: &Path, ix: ItemIndex)
         requires low { height < LEVELS }
         requires formed { IsFormed height self.old }
@@ -119,10 +125,10 @@ impl Node {
         }
     }
 
-    // Puts an index where the path goes: the nodes below level `full` are full and are cut in two,
-    // and the one at that level takes what they give up. It takes no memory but the blocks, those of the
-    // reserve first.
-    pub(super) fn put_above(
+    // Inserts an index at the path's gap. The nodes below level `full` are full and are split. The node at level `full`
+    // takes the index and the child that come up. It takes no memory but the blocks, and uses those of the reserve
+    // first.
+    pub(super) fn put_through_full(
         &mut self,
         height: usize,
         full: usize,
@@ -146,17 +152,24 @@ impl Node {
     {
         let i = path.get(height);
         if height > full {
-            self.children[i].put_above(height - 1, full, path, ix, reserve, fresh, alloc)
+            self.children[i].put_through_full(height - 1, full, path, ix, reserve, fresh, alloc)
         } else {
-            let (middle, after) = self.children[i].cut(height - 1, path, ix, reserve, fresh, alloc);
+            let (middle, after) = self.children[i].split(
+                height - 1,
+                path,
+                ix,
+                reserve,
+                fresh,
+                alloc,
+            );
             put_between(&mut self.row, &mut self.children, i, middle, after)
         }
     }
 
-    // Puts an index where the path goes, through full nodes alone, and cuts each of them in two: the
-    // index and the node that come after this one are answered. It takes no memory but the blocks, those of
-    // the reserve first.
-    pub(super) fn cut(
+    // Inserts an index at the path's gap. This node and all nodes below it on the path are full, and each is split.
+    // Returns the index and the node that follow this node. It takes no memory but the blocks, and uses those of the
+    // reserve first.
+    pub(super) fn split(
         &mut self,
         height: usize,
         path: &Path,
@@ -182,7 +195,7 @@ impl Node {
     {
         let i = path.get(height);
         if height == 0 {
-            let (middle, row) = self.row.cut(i, ix);
+            let (middle, row) = self.row.split(i, ix);
             return (
                 middle,
                 Node {
@@ -191,9 +204,9 @@ impl Node {
                 },
             );
         }
-        let (middle, after) = self.children[i].cut(height - 1, path, ix, reserve, fresh, alloc);
+        let (middle, after) = self.children[i].split(height - 1, path, ix, reserve, fresh, alloc);
         let mut children = reserve.take(fresh);
-        let (middle, row) = cut_inner(
+        let (middle, row) = split_inner(
             &mut self.row,
             &mut self.children,
             i,

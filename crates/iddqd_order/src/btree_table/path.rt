@@ -7,15 +7,15 @@ use std::marker::Model;
 /// The most levels of a tree.
 pub(super) const LEVELS: usize = 12;
 
-// The level at which a stored index stands, and a path that goes to it there.
+// Where an index is stored: a path to it, and the level of its node.
 #[derive(Clone, Copy)]
 pub(super) struct Spot {
     pub(super) path: Path,
     pub(super) level: usize,
 }
 
-// A place for each level: at level 0 a place in the leaf, and at a level above the leaves the place
-// of the child that is taken there.
+// A place for each level: at level 0 a place in the leaf, and above the leaves the place of the child that the path
+// takes. At a spot's level it is the place of the index.
 #[derive(Clone, Copy)]
 pub(super) struct Path {
     places: [u8; LEVELS],
@@ -30,20 +30,21 @@ impl Model for Path {
 }
 
 impl Path {
-    pub(super) fn new() -> Path
-        ensures { length result ≡ LEVELS }
-    {
-        Path::first()
-    }
-
-    // The path of first places.
-    pub(super) fn first() -> Path
+    // The path along the left edge of a tree: place 0 at each level.
+    pub(super) fn leftmost() -> Path
         ensures length { length result ≡ LEVELS }
         ensures places { (l : ℕ) → slice_index result l ≡ 0 }
     {
         Path {
             places: [0; LEVELS],
         }
+    }
+
+    // Whether both places at the lower end are the first, as they are where the path goes before all indexes. To look
+    // at all twelve takes thirty instructions.
+    pub(super) fn is_near_front(&self) -> bool {
+        let places = &self.places;
+        places[0] == 0 && places[1] == 0
     }
 
     // The place in the leaf.
@@ -72,23 +73,8 @@ impl Path {
         self.places[level] = place as u8;
     }
 
-    // Sets the place at a level, where the path hasn't got it. A path that is read soon after a write
-    // waits for it.
-    pub(super) fn keep_or_set(&mut self, has_it: bool, level: usize, place: usize)
-        requires path { length self.old ≡ LEVELS }
-        requires level { level < LEVELS }
-        requires place { place ≤ CAPACITY }
-        requires has_it { IsTrue has_it → slice_index self.old level ≡ place }
-        ensures place { self.new ≡ slice_set self.old level place }
-        ensures length { length self.new ≡ LEVELS }
-    {
-        if !has_it {
-            self.set(level, place);
-        }
-    }
-
-    // Sets the place at a level, and the first place at each level below.
-    pub(super) fn turn(&mut self, level: usize, place: usize)
+    // Sends the path at `level` into the child at `place`, and below it along the left edge.
+    pub(super) fn set_and_zero_below(&mut self, level: usize, place: usize)
         requires path { length self.old ≡ LEVELS }
         requires level { level < LEVELS }
         requires place { place ≤ CAPACITY }

@@ -1,10 +1,10 @@
-//! An insert whose place is found and whose memory is taken.
+//! A prepared insert: its place is found and its memory is taken.
 //!
-//! It walks down first, since only then it is known how many blocks the insert takes: one for each inner
-//! node that will be cut, and one for a new root. It allocates those that the table has not spare beside its
-//! tree; the spare ones stay there until the insert. If memory runs out, or the insert is dropped, all are
-//! given back. The type of the blocks is a parameter, since a check follows no borrow in a struct that owns
-//! memory by itself.
+//! The prepare searches first, since only the path shows how many blocks the insert takes: one for each inner
+//! node that it splits, and one for a new root. It allocates the blocks that the spare ones beside the
+//! table's tree don't cover; the spare ones stay there until the insert. If memory runs out, or the insert is
+//! dropped, the allocated blocks are given back. `B` is a parameter because the check can't track a borrow in a
+//! struct that itself owns memory.
 ghost use Rattle.std.specs.Prelude.{◌≡◌, ◌≢◌, insert, Contains};
 ghost use Rattle.iddqd_order.specs.MapBTreeTable.{order_of, capacity, fresh_for, sentinel};
 ghost use Rattle.iddqd_order.specs.Node.{InGap};
@@ -23,8 +23,10 @@ pub struct PreparedBTreeInsert<'a, B: HoldsBlocks = Blocks> {
     pub(super) gap: Gap,
     pub(super) ix: ItemIndex,
     pub(super) blocks: B,
-    ghost goes: { ReachesGapIn table.now.root table.now.height gap.path } by { ReachesIn-prop InGap 0 table.now.root table.now.height gap.path },
-    ghost full_nodes: { FullIn gap.full table.now.root table.now.height gap.path } by { FullIn-prop gap.full table.now.root table.now.height gap.path },
+    ghost goes: { ReachesGapIn table.now.root table.now.height gap.path } by { ReachesIn-prop InGap 0
+        table.now.root table.now.height gap.path },
+    ghost full_nodes: { FullIn gap.full table.now.root table.now.height gap.path } by { FullIn-prop gap.full
+        table.now.root table.now.height gap.path },
     ghost as_many: { B.count blocks ≡ fresh_for table.now gap.full },
     ghost absent: { Contains (order_of table.now) ix → ⊥ },
     ghost assigned: { ix ≢ sentinel },

@@ -1,9 +1,9 @@
-//! A move of a stored index whose memory is taken.
+//! A prepared move of a stored index: its memory is taken.
 //!
-//! Both searches come at the commit: in between a caller can change what its closures read, such as the
-//! item at the index. Up to the capacity it takes no block, since one index fewer stands when it is put in
-//! again. Past it the prepare takes as many blocks as any insert into a tree of that height can need, one
-//! for each inner node on a path and one for a new root.
+//! Both searches come at the commit, so before it a caller can change what its closures read, such as the item at
+//! the index. Up to the capacity a move takes no block, since the index is removed before it is inserted again.
+//! Past the capacity the prepare takes as many blocks as any insert into a tree of that height can need: one for
+//! each inner node on a path, and one for a new root.
 ghost use Rattle.std.specs.Prelude.{true, ◌≡◌, ◌≢◌, ◌*◌, ◌<◌, ◌≤◌, Some, IsOk, IfOk, Contains, length};
 ghost use Rattle.iddqd_order.specs.Asks.{AsksWithin};
 ghost use Rattle.iddqd_order.specs.Digits.{bound};
@@ -33,16 +33,16 @@ pub struct PreparedBTreeMove<'a, B: HoldsBlocks = Blocks> {
 #[tactic(auto, unfolding(crate::specs::MapBTreeTable::order_of))]
 impl MapBTreeTable {
     ghost use Rattle.std.specs.Borrow.{sem};
-    ghost use Rattle.iddqd_order.specs.PreparedBTreeMove.{rests_if_refused, PreparesMove, PutsIn};
+    ghost use Rattle.iddqd_order.specs.PreparedBTreeMove.{unchanged_if_out_of_memory, PreparesMove, PutsIn};
     ghost use Rattle.iddqd_order.specs.PreparedBTreeMove as prepared_move;
 
-    /// Takes the memory of a move of a stored index to any place. It asks nothing.
+    /// Takes the memory for a move of a stored index to any place. It asks nothing.
     ///
-    /// It answers `AllocError` if memory runs out; the contents then stay. Up to the capacity it takes no
+    /// It returns `AllocError` if memory runs out; the contents then stay. Up to the capacity it takes no
     /// memory, and never fails.
     pub fn prepare_move(&mut self, ix: ItemIndex) -> Result<PreparedBTreeMove<'_>, AllocError>
         requires { Contains (order_of self.old) ix }
-        ensures* unchanged { sem 𝓛 (rests_if_refused self.entry result) }
+        ensures* unchanged { sem 𝓛 (unchanged_if_out_of_memory self.entry result) }
         ensures same_reference { IfOk result (λ p. (prepared_move.table_of p).ghost_name ≡ self.entry.ghost_name) }
         ensures prepared { IfOk result (PreparesMove (order_of self.old) ix) }
         ensures memory { IfOk result (λ p. capacity (prepared_move.table_of p).now ≡ capacity self.old) }
@@ -61,7 +61,7 @@ impl MapBTreeTable {
         })
     }
 
-    // Removes an index: where the search misses it, by a walk.
+    // Removes an index. If the search misses it, a walk over all nodes finds it.
     pub(super) fn remove_by_search<R, F: FnMut(ItemIndex) -> R, H: Reads<R>>(
         &mut self,
         ix: ItemIndex,
@@ -81,7 +81,7 @@ impl MapBTreeTable {
         }
     }
 
-    // Inserts an index that was removed where a search ends.
+    // Inserts a removed index again, at the gap that a search finds for it.
     pub(super) fn insert_again<R, F: FnMut(ItemIndex) -> R, H: Reads<R>>(
         &mut self,
         ix: ItemIndex,
@@ -97,7 +97,7 @@ impl MapBTreeTable {
         ensures inserted { PutsIn F.FnMut (H.reading how.now) (order_of self.old) ix asking.old (order_of self.new) }
         ensures reserved { self.new.reserved ≡ self.old.reserved }
     {
-        let gap = self.find_gap(ix, asking, how);
+        let gap = self.find_own_gap(ix, asking, how);
         self.insert_at(&gap, ix, blocks);
     }
 }
@@ -106,11 +106,11 @@ impl<'a> PreparedBTreeMove<'a> {
     ghost use Rattle.iddqd_order.specs.PreparedBTreeMove.{table_of, index_of, PutsIn};
 
     /// Removes the index, inserts it where `entering` leads, and returns the table. The others keep
-    /// their order. Equal answers are ordered by the indexes.
+    /// their order. If an answer is Equal, the lesser index comes first.
     ///
-    /// `leaving` leads to the old place, and `entering` to the new one among the others. Neither is asked
-    /// about the index itself, each at most `4 + 2 * digits(len)` times. If `leaving` doesn't lead to the
-    /// index, a walk that asks nothing finds it.
+    /// `leaving` leads to the old place, and `entering` to the new one among the others. Each is asked at most
+    /// `4 + 2 * digits(len)` times, and not about the index itself. If `leaving` doesn't lead to the index, a
+    /// walk that asks nothing finds it.
     #[tactic(auto, unfolding(crate::specs::PreparedBTreeMove::index_of, crate::specs::MapBTreeTable::capacity))]
     pub fn commit_by<F: FnMut(ItemIndex) -> Ordering, G: FnMut(ItemIndex) -> Ordering>(
         self,
@@ -135,7 +135,7 @@ impl<'a> PreparedBTreeMove<'a> {
     }
 
     /// Removes the index, inserts it where its new key belongs, and returns the table. The others keep
-    /// their order. Equal keys are ordered by the indexes.
+    /// their order. If keys are equal, the lesser index comes first.
     ///
     /// The asking answers the keys of the others, and isn't asked about the index itself. It is asked at
     /// most `4 + 2 * digits(len)` times for each key. If the old key doesn't lead to the index, a walk

@@ -1,6 +1,6 @@
-//! A removal whose place is found, or missing.
+//! A removal whose search is done; it may have missed.
 //!
-//! Its contract says what it leaves by a filter of the list, not by a place, so it is the same for a tree
+//! Its contract describes what is left by a filter of the list, not by a place, so it is the same for a tree
 //! and for a sorted list.
 ghost use Rattle.std.specs.Prelude.{◌≡◌, ◌≤◌, IsTrue, false};
 ghost use Rattle.iddqd_order.specs.MapBTreeTable.{order_of, capacity, without, LeadsTo, LeadsTo-prop};
@@ -30,8 +30,7 @@ impl<'a> PreparedBTreeRemove<'a> {
         self.spot.is_some()
     }
 
-    /// Removes the index, if the search found it, and says whether it did. The others keep their
-    /// order.
+    /// Removes the index if the search found it, and returns whether it did. The others keep their order.
     #[tactic(auto, unfolding(crate::specs::PreparedBTreeRemove::is_found, crate::specs::PreparedBTreeRemove::index_of, crate::specs::MapBTreeTable::capacity))]
     pub fn remove(self) -> bool
         ensures found { result ≡ is_found self.entry }

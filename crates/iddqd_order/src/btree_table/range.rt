@@ -1,14 +1,14 @@
-//! The walk from the place of what is sought on, or between the places of two.
+//! An iterator from one gap to the end, or between two gaps.
 //!
-//! A search that never reads an answer as Equal ends between two indexes: where Equal counts as Less,
-//! before the first index that isn't Greater, and where it counts as Greater, before the first that is
-//! Less. So equal keys, of which a find meets any, are all in the walk, or none is.
+//! The search for a bound reads Equal as Less, and then ends before all equal keys; or it reads Equal as Greater,
+//! and then ends behind them. So of equal keys a range has all or none.
 //!
-//! What is left isn't counted, since a tree doesn't count what is below a node: the walk has ended where
-//! its ends stand at one gap.
+//! The length isn't known, since a node doesn't count what is below it. The iterator has ended when both cursors
+//! stand at the same gap.
 //!
-//! A range is said by two places, each the bound where answers rise, so it means something under
-//! any. `range_by` has included bounds alone: a closure makes another one by its answer at Equal.
+//! A contract describes a range by two positions, which exist for any answers; if answers rise, they are
+//! the bounds. `range_by` has inclusive bounds. For an exclusive bound the closure answers Greater for Equal at
+//! the lower bound, and Less for Equal at the upper one.
 ghost use Rattle.std.specs.Prelude.{◌≡◌, ◌≢◌, None, length};
 ghost use Rattle.std.specs.declared.cmp.Ordering.{Ordering};
 ghost use Rattle.std.specs.declared.cmp.Ordering.TheVariants.{Less, Equal, Greater};
@@ -32,8 +32,7 @@ use std::iter::{DoubleEndedIterator, FusedIterator};
 use std::marker::Model;
 use std::ops::Bound;
 
-/// The indexes of a table from one place on up to another one, in its order, from both ends. Once it has
-/// ended it stays ended.
+/// The indexes of a table between two gaps, in its order, from both ends. Once it has ended it stays ended.
 ///
 /// It takes no memory. A step costs a constant time on the average, and at most as much as a search.
 #[derive(Clone, Drop)]
@@ -66,7 +65,7 @@ impl<'a> Range<'a> {
     ghost use Rattle.iddqd_order.specs.Range.{indexes_ahead};
     ghost use Rattle.iddqd_order.specs.Tree.{IsTree, ReachesGapIn, in_order, place_in};
 
-    // The indexes of a tree from one gap on up to another one, and none where that stands before.
+    // The indexes of a tree between two gaps; none if the second comes first.
     fn new(root: &'a Option<Node>, height: usize, front: &Path, back: &Path) -> Range<'a>
         requires tree { IsTree root.now height }
         requires front { ReachesGapIn root.now height front.now }
@@ -86,7 +85,7 @@ impl<'a> Range<'a> {
         }
     }
 
-    // The indexes of a tree from a gap on.
+    // The indexes of a tree behind a gap.
     fn from(root: &'a Option<Node>, height: usize, front: &Path) -> Range<'a>
         requires tree { IsTree root.now height }
         requires goes { ReachesGapIn root.now height front.now }
@@ -100,7 +99,7 @@ impl<'a> Range<'a> {
         }
     }
 
-    // Whether none is left. Most often the places in the leaves differ, which is enough to know.
+    // Whether no index is left. Most often the places in the leaves differ, and the paths need not be compared.
     fn has_ended(&self) -> bool
         ensures { IsTrue result ↔ (indexes_ahead self.now ≡ []) }
     {
@@ -150,10 +149,10 @@ impl<'a> FusedIterator for Range<'a> {}
 
 #[tactic(auto, unfolding(crate::specs::MapBTreeTable::order_of))]
 impl MapBTreeTable {
-    /// The indexes from the first one on at which the asking doesn't answer Greater. Less says that what
-    /// is sought stands before the stored index.
+    /// The first index at which the asking doesn't answer Greater, and all behind it. Less means that what is
+    /// sought stands before the stored index.
     ///
-    /// Under answers that change, they are those from some place on. It asks at most
+    /// If answers change, they are the indexes behind some gap. It asks at most
     /// `4 + 2 * digits(len)` times, and takes no memory.
     pub fn iter_from_by<F: FnMut(ItemIndex) -> Ordering>(&self, asking: &mut Asking<F>) -> Range<'_>
         requires { CanSearch F.FnMut (order_of self.now) None asking.old }
@@ -162,10 +161,10 @@ impl MapBTreeTable {
         self.walk_from(asking, &AsOrdering, Ordering::Less)
     }
 
-    /// The indexes from the first one on at whose key, which the asking answers, the query doesn't
-    /// compare Greater: the lower bound of the query, and all behind it.
+    /// The query's lower bound, which is the first index whose key isn't less than the query, and all behind it.
+    /// The asking answers the keys.
     ///
-    /// Under keys that change, they are those from some place on. It asks at most
+    /// If keys change, they are the indexes behind some gap. It asks at most
     /// `4 + 2 * digits(len)` times, and takes no memory.
     pub fn iter_from<K: Ord + Drop, Q: Comparable<K>, F: FnMut(ItemIndex) -> K>(
         &self,
@@ -178,10 +177,10 @@ impl MapBTreeTable {
         self.walk_from(asking, &ByQuery(query), Ordering::Less)
     }
 
-    /// The indexes from the first one on at which the asking answers Less: it says that what is sought
-    /// stands before the stored index.
+    /// The first index at which the asking answers Less, and all behind it. Less means that what is sought stands
+    /// before the stored index.
     ///
-    /// Under answers that change, they are those from some place on. It asks at most
+    /// If answers change, they are the indexes behind some gap. It asks at most
     /// `4 + 2 * digits(len)` times, and takes no memory.
     pub fn iter_after_by<F: FnMut(ItemIndex) -> Ordering>(
         &self,
@@ -193,10 +192,10 @@ impl MapBTreeTable {
         self.walk_from(asking, &AsOrdering, Ordering::Greater)
     }
 
-    /// The indexes from the first one on at whose key, which the asking answers, the query compares
-    /// Less: the upper bound of the query, and all behind it.
+    /// The query's upper bound, which is the first index whose key is greater than the query, and all behind it.
+    /// The asking answers the keys.
     ///
-    /// Under keys that change, they are those from some place on. It asks at most
+    /// If keys change, they are the indexes behind some gap. It asks at most
     /// `4 + 2 * digits(len)` times, and takes no memory.
     pub fn iter_after<K: Ord + Drop, Q: Comparable<K>, F: FnMut(ItemIndex) -> K>(
         &self,
@@ -209,10 +208,10 @@ impl MapBTreeTable {
         self.walk_from(asking, &ByQuery(query), Ordering::Greater)
     }
 
-    /// The indexes from the first one on at which `from` doesn't answer Greater, up to the first one at
-    /// which `to` answers Less: none where that doesn't stand behind.
+    /// The indexes from the first at which `from` doesn't answer Greater, up to but not including the first at which
+    /// `to` answers Less; none if `to` ends before `from` begins.
     ///
-    /// Under answers that change, they are those between some two places. Each asking is asked at most
+    /// If answers change, they are the indexes between some two gaps. Each asking is asked at most
     /// `4 + 2 * digits(len)` times, and no memory is taken.
     pub fn range_by<F: FnMut(ItemIndex) -> Ordering, G: FnMut(ItemIndex) -> Ordering>(
         &self,
@@ -228,10 +227,10 @@ impl MapBTreeTable {
         self.walk_between(&front, &back)
     }
 
-    /// The indexes whose keys, which the asking answers, are within two bounds: none where the lower one
-    /// stands above the upper one.
+    /// The indexes whose keys are within two bounds; none if the lower bound is above the upper one. The asking
+    /// answers the keys.
     ///
-    /// Under keys that change, they are those between some two places. It asks at most
+    /// If keys change, they are the indexes between some two gaps. It asks at most
     /// `4 + 2 * digits(len)` times for each bound that there is, and takes no memory.
     pub fn range<K: Ord + Drop, Q: Comparable<K>, F: FnMut(ItemIndex) -> K>(
         &self,
@@ -248,7 +247,8 @@ impl MapBTreeTable {
         self.walk_between(&front, &back)
     }
 
-    // The walk, by any reading of the answers, where Equal counts as another one.
+    // `iter_from_by`, `iter_from`, `iter_after_by` and `iter_after`, generic over how an answer is read, with Equal read
+    // as `at_equal`.
     fn walk_from<R, F: FnMut(ItemIndex) -> R, H: Reads<R>>(
         &self,
         asking: &mut Asking<F>,
@@ -264,7 +264,7 @@ impl MapBTreeTable {
         Range::from(root, height, &front)
     }
 
-    // The path to the gap where a lower bound begins.
+    // The path to the gap where a range with this lower bound begins.
     fn find_lower<K: Ord + Drop, Q: Comparable<K>, F: FnMut(ItemIndex) -> K>(
         &self,
         lower: Bound<&Q>,
@@ -283,7 +283,7 @@ impl MapBTreeTable {
         }
     }
 
-    // The path to the gap where an upper bound ends.
+    // The path to the gap where a range with this upper bound ends.
     fn find_upper<K: Ord + Drop, Q: Comparable<K>, F: FnMut(ItemIndex) -> K>(
         &self,
         upper: Bound<&Q>,
@@ -302,7 +302,7 @@ impl MapBTreeTable {
         }
     }
 
-    // The path to the gap where what is sought would stand, where Equal counts as another answer.
+    // The path to the gap where what is sought would go, with Equal read as `at_equal`.
     fn find_bound<R, F: FnMut(ItemIndex) -> R, H: Reads<R>>(
         &self,
         asking: &mut Asking<F>,
@@ -316,14 +316,14 @@ impl MapBTreeTable {
         ensures bound { IsBoundBy F.FnMut (H.reading how.now) at_equal (order_of self.now) asking.old
             (place_in self.now.root self.now.height result) }
     {
-        match self.descend(asking, &Unequal { how, at_equal }, &None) {
+        match self.descend(false, asking, &Unequal { how, at_equal }, &None) {
             // No answer is read as Equal.
             Ok(_) => unreachable!(),
             Err(gap) => gap.path,
         }
     }
 
-    // The path to the gap at an end.
+    // The path to the first or last gap.
     fn end_path(&self, end: End) -> Path
         ensures goes { ReachesGapIn self.now.root self.now.height result }
         ensures gap { place_in self.now.root self.now.height result ≡ edge_of end (length (order_of self.now)) }
@@ -332,7 +332,7 @@ impl MapBTreeTable {
         Cursor::at_end(root, height, end).gap()
     }
 
-    // The indexes from one gap on up to another one, and none where that stands before.
+    // The indexes between two gaps; none if the second comes first.
     fn walk_between(&self, front: &Path, back: &Path) -> Range<'_>
         requires front { ReachesGapIn self.now.root self.now.height front.now }
         requires back { ReachesGapIn self.now.root self.now.height back.now }

@@ -6,7 +6,7 @@ ghost use Rattle.std.specs.Ordering.{ordering_then};
 use iddqd::map_hash::Comparable;
 use std::cmp::Ordering;
 
-// Reads an answer about a stored index: Less where what is sought stands before it.
+// Reads an answer about a stored index as an `Ordering`. Less means that what is sought stands before the index.
 pub(super) trait Reads<R> {
     ghost reading: { Self → R → Ordering };
 
@@ -26,7 +26,7 @@ impl Reads<Ordering> for AsOrdering {
     }
 }
 
-// The answer is a key, which the query is compared with.
+// The answer is a key, and the query is compared with it.
 #[derive(Drop)]
 pub(super) struct ByQuery<'a, Q>(pub(super) &'a Q);
 
@@ -38,7 +38,7 @@ impl<'a, K: Ord + Drop, Q: Comparable<K>> Reads<K> for ByQuery<'a, Q> {
     }
 }
 
-// The answer is a key, which this key is compared with.
+// The answer is a key, and this key is compared with it.
 #[derive(Drop)]
 pub(super) struct ByKey<'a, K>(pub(super) &'a K);
 
@@ -50,7 +50,7 @@ impl<'a, K: Ord + Drop> Reads<K> for ByKey<'a, K> {
     }
 }
 
-// The answer is read so, but Equal counts as another one.
+// Reads as `H` does, but replaces Equal by `at_equal`, which is Less or Greater.
 #[derive(Drop)]
 pub(super) struct Unequal<'a, H> {
     pub(super) how: &'a H,

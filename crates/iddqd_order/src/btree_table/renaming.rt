@@ -22,7 +22,7 @@ pub(super) fn rename_in(root: &mut Option<Node>, height: usize, remap: &IndexRem
 }
 
 impl Node {
-    // The same at a node, and below it.
+    // Gives each index in this node and below it its new name.
     fn rename(&mut self, height: usize, remap: &IndexRemap)
         requires formed { IsFormed height self.old }
         requires can_remap { All (CanRemap remap.now) (flat height self.old) }

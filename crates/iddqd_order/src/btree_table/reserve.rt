@@ -1,9 +1,8 @@
-//! The empty blocks that a table keeps beside its tree, so that it holds what it was made for without asking for
-//! memory.
+//! The empty blocks that a table keeps beside its tree, so that it can hold the indexes that it was made for without
+//! asking for memory.
 //!
-//! With R blocks reserved there are never fewer than R in the tree and beside it: a split takes a block from here
-//! first, and a merge gives one back where fewer than R would be left. Growth takes blocks beyond these, and never
-//! changes R.
+//! With R blocks reserved, there are never fewer than R in the tree and beside it together. A split takes a block from
+//! here first. A merge gives one back if fewer than R would be left. Growth takes further blocks, and never changes R.
 ghost use Rattle.std.specs.Prelude.{◌≡◌, ◌+◌, ◌-◌, ◌<◌, ◌≤◌, [], ◌++◌, All, length, min, max, OnOk, OnErr, vec_len, vec_capacity};
 ghost use Rattle.iddqd_order.specs.MapBTreeTable.{needed_blocks, capacity_of};
 ghost use Rattle.iddqd_order.specs.Node.{IsSpare};
@@ -14,17 +13,17 @@ use crate::btree_table::node::{CHILDREN, Node};
 use std::alloc::{AllocError, Global};
 use std::marker::Model;
 
-// An inner node below the root has six children or more, of five indexes each at least. So each one more comes with
-// thirty indexes more.
+// An inner node below the root has at least six children, and each child has at least five indexes. So each further
+// inner node needs at least thirty more indexes.
 pub(super) const INDEXES_OF_A_BLOCK: usize = 30;
 
-// So many indexes need no inner node: the root alone holds them.
+// Up to ten indexes never need an inner node. Eleven may: a root with one index over two leaves of five.
 pub(super) const FREE_INDEXES: usize = 10;
 
-// There are no more indexes than those below `SENTINEL`.
+// How many indexes there are below `SENTINEL`.
 pub(super) const MOST_INDEXES: usize = 4294967295;
 
-/// How many blocks so many indexes need at most.
+/// How many blocks `indexes` indexes need at most.
 pub(super) fn needed_blocks(indexes: usize) -> usize
     requires { indexes ≤ capacity_of most_blocks }
     ensures value { result ≡ needed_blocks indexes }
@@ -33,7 +32,7 @@ pub(super) fn needed_blocks(indexes: usize) -> usize
     (indexes + (INDEXES_OF_A_BLOCK - FREE_INDEXES - 1)) / INDEXES_OF_A_BLOCK
 }
 
-// Adds so many empty blocks, for which there is room. If memory runs out, it drops those that it took.
+// Adds `count` empty blocks to a list that has room for them. If memory runs out, it drops the blocks added so far.
 fn add_blocks(blocks: &mut Vec<Vec<Node>>, count: usize, alloc: Global) -> Result<(), AllocError>
     requires room { vec_len blocks.old + count ≤ vec_capacity blocks.old }
     requires empty { All IsSpare blocks.old.items }
@@ -62,7 +61,7 @@ pub(super) struct Reserve {
     blocks: Vec<Vec<Node>>,
     // How many inner nodes the tree has.
     inners: usize,
-    // How many blocks there are at least, in the tree and here.
+    // The least number of blocks in the tree and here together.
     reserved: usize,
 }
 
@@ -81,7 +80,7 @@ impl Model for Reserve {
 }
 
 impl Reserve {
-    /// No block and no inner node. It takes no memory.
+    /// The reserve beside an empty tree: no block. It takes no memory.
     pub(super) fn new(alloc: Global) -> Reserve
         ensures { result ≡ record { inners = 0; reserved = 0 } }
     {
@@ -103,7 +102,6 @@ impl Reserve {
         }
     }
 
-    /// How many blocks are reserved.
     pub(super) fn reserved(&self) -> usize
         ensures value { result ≡ self.now.reserved }
         ensures few { result ≤ most_blocks }
@@ -111,14 +109,14 @@ impl Reserve {
         self.reserved
     }
 
-    /// How many empty blocks there are.
+    /// How many empty blocks lie here.
     pub(super) fn spare(&self) -> usize
         ensures { result ≡ spare self.now }
     {
         self.blocks.len()
     }
 
-    /// A block for one more inner node: one of these, or else one of the fresh ones.
+    /// A block for one more inner node: one from here, or else a fresh one.
     pub(super) fn take(&mut self, fresh: &mut Blocks) -> Vec<Node>
         requires some { 0 < spare self.old + fresh.old }
         requires fits { self.old.inners ≤ MOST_INDEXES }
@@ -135,7 +133,7 @@ impl Reserve {
         }
     }
 
-    /// Takes back the block of an inner node that is no more, and drops it where enough are left.
+    /// Takes back the block of a removed inner node, and drops it if enough blocks are left without it.
     pub(super) fn give(&mut self, block: Vec<Node>)
         requires block { IsSpare block }
         requires some { 1 ≤ self.old.inners }
@@ -148,7 +146,7 @@ impl Reserve {
         }
     }
 
-    /// How many indexes so many blocks always suffice for.
+    /// The number of indexes for which the reserved blocks always suffice.
     pub(super) fn capacity(&self) -> usize
         ensures value { result ≡ capacity_of self.now.reserved }
         ensures few { result ≤ capacity_of most_blocks }
@@ -156,8 +154,8 @@ impl Reserve {
         self.reserved * INDEXES_OF_A_BLOCK + FREE_INDEXES
     }
 
-    /// Reserves so many blocks, or as many as are reserved where these are more: it takes those that tree and list
-    /// lack, and places for all. If memory runs out, it gives back all that it took.
+    /// Raises the reservation to `reserved` blocks; never lowers it. It allocates the blocks that are missing, and room
+    /// in the list for all of them. If memory runs out, it drops the blocks allocated so far.
     pub(super) fn raise(&mut self, reserved: usize, alloc: Global) -> Result<(), AllocError>
         requires few { reserved ≤ most_blocks }
         ensures inners { self.new.inners ≡ self.old.inners }
@@ -175,7 +173,8 @@ impl Reserve {
         Ok(())
     }
 
-    /// Reserves no more than so many blocks: it gives back those beyond, and the memory of their places.
+    /// Lowers the reservation to `reserved` blocks; never raises it. It gives back the blocks beyond these, and their
+    /// room in the list.
     pub(super) fn lower(&mut self, reserved: usize)
         ensures inners { self.new.inners ≡ self.old.inners }
         ensures lowered { self.new.reserved ≡ min self.old.reserved reserved }

@@ -1,11 +1,11 @@
 //! The indexes that a closure keeps, gathered in place.
 //!
-//! It asks about an index before anything is put in its place, and then takes the last indexes out, one
-//! by one. Each call here has the closure by reference, so that its clause says in which state it is left:
-//! nothing is asked behind the last index.
+//! The closure is asked about an index before anything is put in its place. Then the last indexes are removed,
+//! one by one. The closure is passed by reference, so that contracts can name its last state: it isn't called
+//! again after the last index.
 //!
-//! To read from a copy of each leaf, and to leave those before the first refusal where they are, took 0.85
-//! of the time where half stay, and a quarter where all do.
+//! Not done: reading from a copy of each leaf, and leaving the indexes before the first dropped one in place,
+//! would take 0.85 of the time if half stay, and 0.25 if all do.
 ghost use Rattle.std.specs.Prelude.{◌≡◌, ℕ, ◌+◌, ◌-◌, ◌<◌, ◌≤◌, length, take, Contains};
 ghost use Rattle.iddqd_order.specs.Asks.{CanAsk};
 ghost use Rattle.iddqd_order.specs.Node.{row, flat, inners, IsFormed};
@@ -19,8 +19,8 @@ use crate::btree_table::reserve::Reserve;
 use crate::btree_table::spot_cursor::SpotCursor;
 use iddqd::item_index::ItemIndex;
 
-// Keeps the indexes at which `f` answers true, in their order, and answers the new height and how
-// many they are. It takes no memory.
+// Keeps the indexes at which `f` answers true, in their order. Returns the new height and how many indexes are
+// kept. It takes no memory.
 pub(super) fn retain_in<F: FnMut(ItemIndex) -> bool>(
     root: &mut Option<Node>,
     height: usize,
@@ -45,8 +45,8 @@ pub(super) fn retain_in<F: FnMut(ItemIndex) -> bool>(
     (cut_off(root, height, len - kept, reserve), kept)
 }
 
-// Moves the indexes at which `f` answers true to the front, in their order, and says how many they
-// are. Each is asked about before any index is put in its place.
+// Moves the indexes at which `f` answers true to the front, in their order, and returns how many they are. `f` is
+// asked about each index before another one is put in its place.
 fn gather<F: FnMut(ItemIndex) -> bool>(
     root: &mut Node,
     height: usize,
@@ -76,7 +76,7 @@ fn gather<F: FnMut(ItemIndex) -> bool>(
     to.place
 }
 
-// Takes out the last indexes, so many, and answers the new height.
+// Removes the last `count` indexes, and returns the new height.
 fn cut_off(root: &mut Option<Node>, height: usize, count: usize, reserve: &mut Reserve) -> usize
     requires tree { IsTree root.old height }
     requires within { count ≤ length (in_order root.old height) }
@@ -94,7 +94,7 @@ fn cut_off(root: &mut Option<Node>, height: usize, count: usize, reserve: &mut R
     new_height
 }
 
-// Takes out the last index, and answers the new height. It takes no memory.
+// Removes the last index, and returns the new height. It takes no memory.
 fn take_last(root: &mut Option<Node>, height: usize, reserve: &mut Reserve) -> usize
     requires tree { IsTree root.old height }
     requires some { 1 ≤ length (in_order root.old height) }

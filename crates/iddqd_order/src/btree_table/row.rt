@@ -1,7 +1,7 @@
-//! At most eleven indexes in a row, in one place of memory.
+//! The row of indexes that a node itself holds.
 ghost use Rattle.std.specs.Prelude.{◌≡◌, ℕ, ◌+◌, ◌<◌, ◌≤◌, List, [], ◌∷◌, ◌++◌, length, take, drop, slice_index, slice_set};
 ghost use Rattle.std.specs.List.{insert, remove};
-ghost use Rattle.iddqd_order.specs.Row.{IsCut};
+ghost use Rattle.iddqd_order.specs.Row.{IsSplit};
 ghost use Rattle.iddqd_order.specs.declared.btree_table.row.TheConstants.{CAPACITY};
 
 use iddqd::item_index::ItemIndex;
@@ -10,10 +10,10 @@ use std::marker::Model;
 /// The most indexes of a row.
 pub(super) const CAPACITY: usize = 11;
 
-// The least indexes of a row, but in the root.
+// The fewest indexes of a row, except in the root.
 pub(super) const LEAST: usize = 5;
 
-// A list of at most eleven indexes.
+// A list of at most eleven indexes, in an array.
 #[derive(Drop)]
 pub(super) struct Row {
     items: [ItemIndex; CAPACITY],
@@ -124,7 +124,7 @@ impl Row {
         ix
     }
 
-    // Moves the indexes from `at` on to a new row.
+    // Moves the index at place `at` and all indexes after it to a new row.
     pub(super) fn split_off(&mut self, at: usize) -> Row
         requires { at ≤ length self.old }
         ensures head { self.new ≡ take at self.old }
@@ -149,12 +149,11 @@ impl Row {
         self.len += other.len;
     }
 
-    // Puts an index into a full row and cuts it in two: the index in the middle and the upper part
-    // are answered.
-    pub(super) fn cut(&mut self, at: usize, ix: ItemIndex) -> (ItemIndex, Row)
+    // Inserts an index into a full row and splits the row. Returns the middle index and the upper row.
+    pub(super) fn split(&mut self, at: usize, ix: ItemIndex) -> (ItemIndex, Row)
         requires full { length self.old ≡ CAPACITY }
         requires in_bounds { at ≤ length self.old }
-        ensures { IsCut self.old at ix self.new result.0 result.1 }
+        ensures { IsSplit self.old at ix self.new result.0 result.1 }
     {
         if at <= LEAST {
             let upper = self.split_off(LEAST);

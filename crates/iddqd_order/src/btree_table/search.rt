@@ -1,10 +1,8 @@
-//! The search of a row by halves, on which all searching calls stand.
+//! The search of a row by halves. All calls that search use it.
 //!
-//! To go along a row from the left was faster for the comparison of two numbers, but asked up to eleven
-//! times. The order of two indexes is looked at only at Equal, by a `match`: `Ordering::then` looked at
-//! each ask. Four asks search fifteen indexes, and a row has at most eleven: at the left edge what is
-//! left over goes to the first place, so an insert before all others asks once or twice a level: without
-//! that, falling inserts take 1.3 to 1.45 times as long, and others as long as before.
+//! Going along a row from the left was faster for keys that are numbers, but asked up to eleven times. Two
+//! indexes are compared only at Equal, by a `match`: `Ordering::then` compared the indexes at each ask. Four
+//! asks search fifteen indexes, and a row has at most eleven.
 ghost use Rattle.std.specs.Prelude.{◌≡◌, ◌≢◌, ℕ, ◌+◌, ◌*◌, ◌<◌, ◌≤◌, List, Contains, Some, None, length};
 ghost use Rattle.std.specs.declared.cmp.Ordering.{Ordering};
 ghost use Rattle.iddqd_order.specs.Asking.{closure_of};
@@ -17,24 +15,23 @@ use crate::btree_table::reading::Reads;
 use iddqd::item_index::ItemIndex;
 use std::cmp::Ordering;
 
-// How what is sought stands to the stored index `at`. It asks once, or not at all where `at` itself
-// is sought.
+// Compares what is sought with the stored index `at`. It asks once, or not at all if `at` itself is sought.
 pub(super) fn compare<R, F: FnMut(ItemIndex) -> R, H: Reads<R>>(
     asking: &mut Asking<F>,
     how: &H,
-    tie: &Option<ItemIndex>,
+    sought: &Option<ItemIndex>,
     at: ItemIndex,
 ) -> Ordering
-    requires { tie.now ≢ Some at → F.pre (closure_of asking.old) at }
+    requires { sought.now ≢ Some at → F.pre (closure_of asking.old) at }
     ensures asks { (xs : List ℕ) → Contains xs at →
-        AsksWithin F.FnMut (Askable xs tie.now) 1 asking.old asking.new }
+        AsksWithin F.FnMut (Askable xs sought.now) 1 asking.old asking.new }
     ensures steady { (xs : List ℕ) (answer : ℕ → Ordering) → Contains xs at →
-        Steady F.FnMut (Askable xs tie.now) (H.reading how.now) answer (closure_of asking.old) →
-        result ≡ with_ties tie.now answer at }
-    ensures itself { result ≡ Ordering.Equal → (ix : ℕ) → tie.now ≡ Some ix → at ≡ ix }
-    ensures unequal { tie.now ≡ None → ((r : R) → H.reading how.now r ≢ Ordering.Equal) → result ≢ Ordering.Equal }
+        Steady F.FnMut (Askable xs sought.now) (H.reading how.now) answer (closure_of asking.old) →
+        result ≡ with_ties sought.now answer at }
+    ensures itself { result ≡ Ordering.Equal → (ix : ℕ) → sought.now ≡ Some ix → at ≡ ix }
+    ensures unequal { sought.now ≡ None → ((r : R) → H.reading how.now r ≢ Ordering.Equal) → result ≢ Ordering.Equal }
 {
-    match *tie {
+    match *sought {
         None => how.read(asking.ask(at)),
         Some(ix) => {
             if at == ix {
@@ -49,50 +46,23 @@ pub(super) fn compare<R, F: FnMut(ItemIndex) -> R, H: Reads<R>>(
     }
 }
 
-// Where a search asks first: in the middle, or as far to the left as the number of its asks allows.
-#[derive(Clone, Copy)]
-pub(super) enum Split {
-    Middle,
-    Left,
-}
-
-// How many of so many indexes stand before the one that is asked about: half of them, or as few as
-// leave no more than `reach` behind it.
-fn count_before(split: Split, count: usize, reach: usize) -> usize
-    requires some { 0 < count }
-    requires few { count ≤ 2 * reach + 1 }
-    ensures within { result < count }
-    ensures in_front { result ≤ reach }
-    ensures behind { count ≤ result + reach + 1 }
-{
-    match split {
-        Split::Middle => count / 2,
-        Split::Left => (count - 1).saturating_sub(reach),
-    }
-}
-
-// The place of what is sought, or where it would go. It asks as often as it takes to distinguish `reach` places.
-// Split at the left, it reaches the first places the sooner, the fewer there are.
+// Searches a row: the place of what is sought, or of the gap where it would go.
 #[inline(always)]
 pub(super) fn search<R, F: FnMut(ItemIndex) -> R, H: Reads<R>>(
     items: &[ItemIndex],
-    reach: usize,
-    split: Split,
     asking: &mut Asking<F>,
     how: &H,
-    tie: &Option<ItemIndex>,
+    sought: &Option<ItemIndex>,
 ) -> Result<usize, usize>
-    requires can_search { CanSearch F.FnMut items.now tie.now asking.old }
-    requires reach { length items.now ≤ reach }
-    ensures { SearchesWithin F.FnMut (H.reading how.now) items.now (digits reach) tie.now asking.old result asking.new }
+    requires { CanSearch F.FnMut items.now sought.now asking.old }
+    ensures { let most = digits (length items.now) in
+        SearchesWithin F.FnMut (H.reading how.now) items.now most sought.now asking.old result asking.new }
 {
     let mut low = 0;
     let mut high = items.len();
-    let mut reach = reach;
     while low < high {
-        reach /= 2;
-        let middle = low + count_before(split, high - low, reach);
-        match compare(asking, how, tie, items[middle]) {
+        let middle = (low + high) / 2;
+        match compare(asking, how, sought, items[middle]) {
             Ordering::Less => high = middle,
             Ordering::Equal => return Ok(middle),
             Ordering::Greater => low = middle + 1,

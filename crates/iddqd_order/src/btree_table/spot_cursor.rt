@@ -1,15 +1,15 @@
-//! A cursor that stands at an index and goes to one after another.
+//! A cursor that stands at an index, and steps from one index to the next.
 //!
 //! It holds no reference, so the tree may change its indexes between two steps.
 ghost use Rattle.std.specs.Prelude.{◌≡◌, ℕ, ◌+◌, ◌<◌, ◌≤◌, length, [], slice_index, slice_set, None};
-ghost use Rattle.iddqd_order.specs.Node.{row, flat, inners, IsFormed, ReachesIndex, spot};
+ghost use Rattle.iddqd_order.specs.Node.{row, flat, inners, IsFormed, ReachesIndex, place_at_level};
 ghost use Rattle.iddqd_order.specs.SpotCursor.{IsSpotCursor, StepsToNext, SamePlaces};
 
 use crate::btree_table::node::Node;
 use crate::btree_table::path::{LEVELS, Path, Spot};
 use iddqd::item_index::ItemIndex;
 
-// Where an index is stored, and its place among all.
+// Where an index is stored, and its place in the whole list.
 #[derive(Clone, Copy)]
 pub(super) struct SpotCursor {
     pub(super) spot: Spot,
@@ -17,7 +17,7 @@ pub(super) struct SpotCursor {
 }
 
 impl SpotCursor {
-    // At the first index.
+    // A cursor at the first index.
     pub(super) fn first() -> SpotCursor
         ensures path { length result.spot.path ≡ LEVELS }
         ensures places { (l : ℕ) → slice_index result.spot.path l ≡ 0 }
@@ -26,14 +26,14 @@ impl SpotCursor {
     {
         SpotCursor {
             spot: Spot {
-                path: Path::first(),
+                path: Path::leftmost(),
                 level: 0,
             },
             place: 0,
         }
     }
 
-    // The index at which the cursor stands. It then goes to the next one.
+    // Returns the index at which the cursor stands, and moves the cursor to the next one.
     pub(super) fn step(&mut self, root: &Node, height: usize) -> ItemIndex
         requires formed { IsFormed height root.now }
         requires levels { height < LEVELS }
@@ -50,7 +50,7 @@ impl SpotCursor {
         ix
     }
 
-    // Puts an index in the place of that at which the cursor stands. It then goes to the next one.
+    // Replaces the index at which the cursor stands, and moves the cursor to the next one.
     pub(super) fn put(&mut self, root: &mut Node, height: usize, ix: ItemIndex)
         requires formed { IsFormed height root.old }
         requires levels { height < LEVELS }
@@ -72,8 +72,8 @@ impl SpotCursor {
 }
 
 impl Node {
-    // The index to which a path goes at a level, and the level of the next one, to which the path is
-    // made to go, if there is one below this node.
+    // Returns the index at a path's spot, and moves the path to the next index. Also returns the level of that next
+    // index, if it is below this node; if not, the path stays as it is.
     pub(super) fn step(
         &self,
         height: usize,
@@ -84,7 +84,7 @@ impl Node {
         requires levels { height < LEVELS }
         requires path { length path.old ≡ LEVELS }
         requires holds { ReachesIndex level height self.now path.old }
-        ensures index { result.0 ≡ slice_index (flat height self.now) (spot level height self.now path.old) }
+        ensures index { result.0 ≡ slice_index (flat height self.now) (place_at_level level height self.now path.old) }
         ensures next { StepsToNext height self.now level path.old result.1 path.new }
         ensures path { length path.new ≡ LEVELS }
         ensures above { (l : ℕ) → height < l → slice_index path.new l ≡ slice_index path.old l }
@@ -103,7 +103,7 @@ impl Node {
         }
         let ix = self.row.get(i);
         if height > 0 {
-            path.turn(height, i + 1);
+            path.set_and_zero_below(height, i + 1);
             return (ix, Some(0));
         }
         if i + 1 < self.row.len() {
@@ -118,7 +118,7 @@ impl Node {
         requires formed { IsFormed height self.now }
         requires levels { height < LEVELS }
         requires holds { ReachesIndex level height self.now path.now }
-        ensures { result ≡ slice_index (flat height self.now) (spot level height self.now path.now) }
+        ensures { result ≡ slice_index (flat height self.now) (place_at_level level height self.now path.now) }
     {
         let i = path.get(height);
         if height > level {
@@ -127,13 +127,13 @@ impl Node {
         self.row.get(i)
     }
 
-    // Puts an index in the place of that to which a path goes at a level.
+    // Replaces the index to which a path goes at a level.
     pub(super) fn put(&mut self, height: usize, path: &Path, level: usize, ix: ItemIndex)
         requires formed { IsFormed height self.old }
         requires levels { height < LEVELS }
         requires holds { ReachesIndex level height self.old path.now }
         ensures items { flat height self.new
-            ≡ slice_set (flat height self.old) (spot level height self.old path.now) ix }
+            ≡ slice_set (flat height self.old) (place_at_level level height self.old path.now) ix }
         ensures formed { IsFormed height self.new }
         ensures same_length { length (row self.new) ≡ length (row self.old) }
         ensures inners { inners height self.new ≡ inners height self.old }

@@ -5,7 +5,7 @@ ghost use Rattle.iddqd.specs.Compaction.{CanRemap, remapped};
 ghost use Rattle.iddqd_order.specs.Descent.{EndsIn};
 ghost use Rattle.iddqd_order.specs.Gap.{FindsOwnGap, gap_place};
 ghost use Rattle.iddqd_order.specs.MapBTreeTable.{order_of, capacity, spare_blocks, fresh_for, move_blocks, without, sentinel, IsIndexList, IsSpot, LeadsTo, spot_place};
-ghost use Rattle.iddqd_order.specs.Tree.{IsTree, ReachesGapIn, place_in, FullIn, ReachesIndexIn, spot_in, blocks_for};
+ghost use Rattle.iddqd_order.specs.Tree.{IsTree, ReachesGapIn, place_in, FullIn, ReachesIndexIn, place_at_level_in, blocks_for};
 ghost use Rattle.iddqd_order.specs.declared.btree_table.reserve.TheConstants.{FREE_INDEXES};
 ghost use Rattle.iddqd_order.specs.Search.{CanSearch, SearchAsks, IsSteadyRising, IsPlace, Finds, with_ties};
 
@@ -40,22 +40,27 @@ use std::marker::Model;
 
 /// A list of distinct indexes, none of them `SENTINEL`.
 ///
-/// A contract sees the list by `order_of`. The closures that order it may answer anything: each
-/// call keeps the list distinct, changes no index but its own, and asks about stored indexes alone,
-/// at most 4 plus twice the number of binary digits of the length. Only the three prepares of an insert,
-/// that of a move, `with_capacity`, the two that reserve, `clone` and `validate` take memory. The capacity
-/// is how many indexes it holds without any: `new` makes it ten, and only the calls that reserve or shrink
-/// change it.
+/// A contract sees the list by `order_of`. The closures that order it may answer anything: each call
+/// keeps the list distinct. `retain`, `clear` and `remap_indexes` may change all indexes; any other call
+/// adds, removes or moves at most one. Each search asks only about stored indexes, at most `4 + 2 * d`
+/// times, where d is the number of binary digits of the length.
+///
+/// These calls may take memory, and no others: `prepare_insert`, `prepare_insert_by`,
+/// `VacantEntry::prepare`, `prepare_move`, `blocks_at`, `blocks_anywhere`, `with_capacity`, `reserve`,
+/// `try_reserve`, `clone` and `validate`. The capacity is how many indexes the table holds without taking
+/// memory. A table from `new` has capacity ten, and only the calls that reserve or shrink change it.
 #[derive(Drop)]
 pub struct MapBTreeTable {
     root: Option<Node>,
-    // The levels above the leaves.
+    // How many levels lie above the leaves.
     height: usize,
     pub(super) len: usize,
     // The empty blocks beside the tree.
     pub(super) reserve: Reserve,
     state: State,
     pub(super) alloc: Global,
+    // Whether the last insert went before all indexes, or near there: the next one tries that first.
+    pub(super) is_at_front: bool,
 }
 
 impl Model for MapBTreeTable {
@@ -79,7 +84,7 @@ impl MapBTreeTable {
     ghost use Rattle.iddqd_order.specs.Asks.{CanAsk};
     ghost use Rattle.iddqd_order.specs.IntoIter.{indexes_to_come};
     ghost use Rattle.iddqd_order.specs.Iter.{indexes_left};
-    ghost use Rattle.iddqd_order.specs.PreparedBTreeInsert.{rests_if_refused, PreparesInsert};
+    ghost use Rattle.iddqd_order.specs.PreparedBTreeInsert.{unchanged_if_out_of_memory, PreparesInsert};
     ghost use Rattle.iddqd_order.specs.PreparedBTreeInsert as prepared_insert;
     ghost use Rattle.iddqd_order.specs.PreparedBTreeRemove.{PreparesRemoval};
     ghost use Rattle.iddqd_order.specs.PreparedBTreeRemove as prepared_remove;
@@ -88,7 +93,7 @@ impl MapBTreeTable {
     ghost use Rattle.std.specs.Hash.BuildHasherDefault.{initial_hasher};
     ghost use Rattle.std.specs.Hash.FoldHasher.{initial};
 
-    /// The empty table. It takes no memory, and holds ten indexes without any.
+    /// An empty table. It takes no memory, and can hold ten indexes without any.
     pub fn new(alloc: Global) -> MapBTreeTable
         ensures empty { order_of result ≡ [] }
         ensures memory { capacity result ≡ FREE_INDEXES }
@@ -100,6 +105,7 @@ impl MapBTreeTable {
             reserve: Reserve::new(alloc),
             state: State::new(),
             alloc,
+            is_at_front: false,
         }
     }
 
@@ -140,7 +146,7 @@ impl MapBTreeTable {
         Iter::new(&self.root, self.height, self.len)
     }
 
-    /// The indexes in the table's order, which give the table up. It takes no memory.
+    /// Consumes the table and returns its indexes in order. It takes no memory.
     pub fn into_iter(self) -> IntoIter
         ensures to_come { indexes_to_come result ≡ order_of self }
         ensures indexes { IsIndexList (order_of self) }
@@ -161,7 +167,7 @@ impl MapBTreeTable {
         self.locate(ix).is_some()
     }
 
-    // Where an index is stored, by a walk that asks nothing.
+    // The spot of an index, by a walk that asks nothing.
     pub(super) fn locate(&self, ix: ItemIndex) -> Option<Spot>
         ensures there { LeadsTo self.now ix result }
         ensures found { IsTrue (is_some result) ↔ Contains (order_of self.now) ix }
@@ -169,15 +175,16 @@ impl MapBTreeTable {
         let Some(root) = &self.root else {
             return None;
         };
-        let mut path = Path::new();
+        let mut path = Path::leftmost();
         let level = root.locate(self.height, ix, &mut path)?;
         Some(Spot { path, level })
     }
 
     /// Keeps exactly the indexes at which `f` answers true, in their order.
     ///
-    /// `f` is asked about each index once, in the table's order. No memory is taken. Each index that
-    /// is kept is moved at most once, and each step costs at most as much as a search.
+    /// `f` is asked about each index once, in the table's order. No memory is taken. Each kept index is
+    /// written once towards the front. Then the rest is removed from the end, each removal at the cost of a
+    /// search.
     pub fn retain<F: FnMut(ItemIndex) -> bool>(&mut self, mut f: F)
         requires { CanAsk F.FnMut (Contains (order_of self.old)) f }
         ensures kept { Retains F.FnMut f (order_of self.old) (order_of self.new) }
@@ -194,7 +201,8 @@ impl MapBTreeTable {
         self.len = len;
     }
 
-    /// The table's own build hasher, which is the default one in every table.
+    /// The table's own build hasher, which is the default one in every table. It orders nothing: `state` and
+    /// `compute_hash` are kept because iddqd's table has them.
     pub fn state(&self) -> &DefaultHashBuilder
         ensures { initial_hasher result.now ≡ initial }
     {
@@ -218,10 +226,10 @@ impl MapBTreeTable {
         self.len = 0;
     }
 
-    /// A stored index at which the asking answers Equal. Less says that what is sought stands
+    /// A stored index at which the asking answers Equal. Less means that what is sought stands
     /// before the stored index.
     ///
-    /// Under answers that change, the hit is some stored index. It asks at most
+    /// If answers change, the hit is some stored index. It asks at most
     /// `4 + 2 * digits(len)` times, and takes no memory.
     pub fn find_by<F: FnMut(ItemIndex) -> Ordering>(
         &self,
@@ -233,9 +241,9 @@ impl MapBTreeTable {
         self.find(asking, &AsOrdering)
     }
 
-    /// A stored index at which the query compares Equal with the key that the asking answers.
+    /// A stored index whose key compares Equal with the query. The asking answers the keys.
     ///
-    /// Under keys that change, the hit is some stored index. It asks at most
+    /// If keys change, the hit is some stored index. It asks at most
     /// `4 + 2 * digits(len)` times, and takes no memory.
     pub fn find_index<K: Ord + Drop, Q: Comparable<K>, F: FnMut(ItemIndex) -> K>(
         &self,
@@ -248,7 +256,7 @@ impl MapBTreeTable {
         self.find(asking, &ByQuery(query))
     }
 
-    // The find, by any reading of the answers.
+    // `find_by` and `find_index`, generic over how an answer is read.
     fn find<R, F: FnMut(ItemIndex) -> R, H: Reads<R>>(
         &self,
         asking: &mut Asking<F>,
@@ -263,10 +271,10 @@ impl MapBTreeTable {
         root.find(self.height, asking, how)
     }
 
-    /// Takes the memory of an insert and finds its place by the answers. Equal ones are ordered by
-    /// the indexes.
+    /// Finds the place of an insert by the answers, and takes the memory for it. If an answer is Equal, the
+    /// lesser index comes first.
     ///
-    /// It asks at most `4 + 2 * digits(len)` times, and answers `AllocError` if memory runs out; the
+    /// It asks at most `4 + 2 * digits(len)` times, and returns `AllocError` if memory runs out; the
     /// contents then stay. Below the capacity it takes no memory, and never fails.
     pub fn prepare_insert_by<F: FnMut(ItemIndex) -> Ordering>(
         &mut self,
@@ -276,7 +284,7 @@ impl MapBTreeTable {
         requires assigned { ix ≢ sentinel }
         requires absent { Contains (order_of self.old) ix → ⊥ }
         requires can_ask { CanSearch F.FnMut (order_of self.old) (Some ix) asking.old }
-        ensures* unchanged { sem 𝓛 (rests_if_refused self.entry result) }
+        ensures* unchanged { sem 𝓛 (unchanged_if_out_of_memory self.entry result) }
         ensures same_reference { IfOk result (λ p. (prepared_insert.table_of p).ghost_name ≡ self.entry.ghost_name) }
         ensures asked { SearchAsks F.FnMut (order_of self.old) (Some ix) asking.old asking.new }
         ensures prepared { IfOk result (PreparesInsert F.FnMut (λ r. r) (order_of self.old) ix asking.old) }
@@ -288,10 +296,10 @@ impl MapBTreeTable {
         self.prepare(ix, asking, &AsOrdering)
     }
 
-    /// Takes the memory of an insert and finds its place by comparing the query with the keys that
-    /// the asking answers. Equal ones are ordered by the indexes.
+    /// Finds the place of an insert by comparing the query with the keys, and takes the memory for it. If they
+    /// are equal, the lesser index comes first. The asking answers the keys.
     ///
-    /// It asks at most `4 + 2 * digits(len)` times, and answers `AllocError` if memory runs out; the
+    /// It asks at most `4 + 2 * digits(len)` times, and returns `AllocError` if memory runs out; the
     /// contents then stay. Below the capacity it takes no memory, and never fails.
     pub fn prepare_insert<K: Ord + Drop, Q: Comparable<K>, F: FnMut(ItemIndex) -> K>(
         &mut self,
@@ -302,7 +310,7 @@ impl MapBTreeTable {
         requires assigned { ix ≢ sentinel }
         requires absent { Contains (order_of self.old) ix → ⊥ }
         requires can_ask { CanSearch F.FnMut (order_of self.old) (Some ix) asking.old }
-        ensures* unchanged { sem 𝓛 (rests_if_refused self.entry result) }
+        ensures* unchanged { sem 𝓛 (unchanged_if_out_of_memory self.entry result) }
         ensures same_reference { IfOk result (λ p. (prepared_insert.table_of p).ghost_name ≡ self.entry.ghost_name) }
         ensures asked { SearchAsks F.FnMut (order_of self.old) (Some ix) asking.old asking.new }
         ensures prepared { IfOk result
@@ -315,7 +323,7 @@ impl MapBTreeTable {
         self.prepare(ix, asking, &ByQuery(query))
     }
 
-    // The insert, by any reading of the answers.
+    // `prepare_insert_by` and `prepare_insert`, generic over how an answer is read.
     fn prepare<R, F: FnMut(ItemIndex) -> R, H: Reads<R>>(
         &mut self,
         ix: ItemIndex,
@@ -325,7 +333,7 @@ impl MapBTreeTable {
         requires assigned { ix ≢ sentinel }
         requires absent { Contains (order_of self.old) ix → ⊥ }
         requires can_ask { CanSearch F.FnMut (order_of self.old) (Some ix) asking.old }
-        ensures* unchanged { sem 𝓛 (rests_if_refused self.entry result) }
+        ensures* unchanged { sem 𝓛 (unchanged_if_out_of_memory self.entry result) }
         ensures same_reference { IfOk result (λ p. (prepared_insert.table_of p).ghost_name ≡ self.entry.ghost_name) }
         ensures asked { SearchAsks F.FnMut (order_of self.old) (Some ix) asking.old asking.new }
         ensures prepared { IfOk result (PreparesInsert F.FnMut (H.reading how.now) (order_of self.old) ix asking.old) }
@@ -334,7 +342,7 @@ impl MapBTreeTable {
         ensures no_blocks { length (order_of self.old) < capacity self.old →
             IfOk result (λ p. prepared_insert.blocks_of p ≡ 0) }
     {
-        let gap = self.find_gap(ix, asking, how);
+        let gap = self.find_own_gap(ix, asking, how);
         let blocks = match self.take_blocks(gap.full) {
             Ok(blocks) => blocks,
             Err(AllocError) => return Err(AllocError),
@@ -347,8 +355,8 @@ impl MapBTreeTable {
         })
     }
 
-    // Where an index goes that is not stored.
-    pub(super) fn find_gap<R, F: FnMut(ItemIndex) -> R, H: Reads<R>>(
+    // The gap for an index that isn't stored.
+    pub(super) fn find_own_gap<R, F: FnMut(ItemIndex) -> R, H: Reads<R>>(
         &self,
         ix: ItemIndex,
         asking: &mut Asking<F>,
@@ -358,33 +366,39 @@ impl MapBTreeTable {
         requires can_ask { CanSearch F.FnMut (order_of self.now) (Some ix) asking.old }
         ensures { FindsOwnGap F.FnMut (H.reading how.now) self.now ix asking.old result asking.new }
     {
-        match self.descend(asking, how, &Some(ix)) {
+        match self.descend(self.is_at_front, asking, how, &Some(ix)) {
             Ok(_) => unreachable!(),
             Err(gap) => gap,
         }
     }
 
-    // The search from the root down: where it meets what is sought, or else where that would go.
+    // Searches from the root down: the spot of what is sought, or else the gap where it would go. With `tries_front`
+    // it may try the gap before all indexes first.
     pub(super) fn descend<R, F: FnMut(ItemIndex) -> R, H: Reads<R>>(
         &self,
+        tries_front: bool,
         asking: &mut Asking<F>,
         how: &H,
-        tie: &Option<ItemIndex>,
+        sought: &Option<ItemIndex>,
     ) -> Result<Spot, Gap>
-        requires { CanSearch F.FnMut (order_of self.now) tie.now asking.old }
-        ensures { EndsIn F.FnMut (H.reading how.now) tie.now self.now asking.old result asking.new }
+        requires { CanSearch F.FnMut (order_of self.now) sought.now asking.old }
+        ensures { EndsIn F.FnMut (H.reading how.now) sought.now self.now asking.old result asking.new }
     {
-        let mut path = Path::first();
+        let mut path = Path::leftmost();
         let Some(root) = &self.root else {
             return Err(Gap { path, full: 0 });
         };
-        match root.descend(self.height, asking, how, tie, &mut path) {
+        if let Some(full) = root.try_front(tries_front, self.height, asking, how, sought, &path) {
+            return Err(Gap { path, full });
+        }
+        match root.descend(self.height, asking, how, sought, &mut path) {
             Ok(level) => Ok(Spot { path, level }),
             Err(full) => Err(Gap { path, full }),
         }
     }
 
-    // The memory of a move: none up to the capacity, and else what any insert into a tree of this height can need.
+    // Allocates the blocks for a move: none up to the capacity, or else what any insert into a tree of this height can
+    // need.
     pub(super) fn take_move_blocks(&self) -> Result<Blocks, AllocError>
         ensures indexes { IsIndexList (order_of self.now) }
         ensures blocks { IfOk result (λ blocks. blocks ≡ move_blocks self.now) }
@@ -400,7 +414,7 @@ impl MapBTreeTable {
         Blocks::new(count, self.alloc)
     }
 
-    // The memory of an insert through so many full nodes, beyond the spare blocks.
+    // Allocates the blocks that an insert through `full` full nodes needs beyond the spare ones.
     pub(super) fn take_blocks(&self, full: usize) -> Result<Blocks, AllocError>
         ensures blocks { IfOk result (λ blocks. blocks ≡ fresh_for self.now full) }
         ensures few { full ≤ self.now.height + 1 → fresh_for self.now full ≤ LEVELS }
@@ -417,8 +431,8 @@ impl MapBTreeTable {
         Blocks::new(count.saturating_sub(self.reserve.spare()), self.alloc)
     }
 
-    /// Searches for a stored index by the answers, to remove it. Equal ones are ordered by the
-    /// indexes, and the index itself is not asked about.
+    /// Searches for a stored index by the answers, to remove it. If an answer is Equal, the lesser index
+    /// comes first. The index itself is not asked about.
     ///
     /// It asks at most `4 + 2 * digits(len)` times, and takes no memory. If the search misses
     /// the index, so does the removal; it misses `SENTINEL` with no ask.
@@ -435,8 +449,8 @@ impl MapBTreeTable {
         self.prepare_removal(ix, asking, &AsOrdering)
     }
 
-    /// Searches for a stored index by comparing the key with those that the asking answers, to
-    /// remove it. Equal ones are ordered by the indexes, and the index itself is not asked about.
+    /// Searches for a stored index by `key`, which is its key, to remove it. If keys are equal, the lesser index
+    /// comes first. The asking answers the keys, and is not asked about the index itself.
     ///
     /// It asks at most `4 + 2 * digits(len)` times, and takes no memory. If the search misses
     /// the index, so does the removal; it misses `SENTINEL` with no ask.
@@ -454,7 +468,7 @@ impl MapBTreeTable {
         self.prepare_removal(ix, asking, &ByKey(key))
     }
 
-    // The removal, by any reading of the answers.
+    // `prepare_remove_by` and `prepare_remove`, generic over how an answer is read.
     fn prepare_removal<R, F: FnMut(ItemIndex) -> R, H: Reads<R>>(
         &mut self,
         ix: ItemIndex,
@@ -475,7 +489,7 @@ impl MapBTreeTable {
         }
     }
 
-    // Where an index is stored, if the search finds it.
+    // The spot of an index, if the search finds it.
     pub(super) fn find_spot<R, F: FnMut(ItemIndex) -> R, H: Reads<R>>(
         &self,
         ix: ItemIndex,
@@ -493,11 +507,11 @@ impl MapBTreeTable {
             IsSteadyRising F.FnMut (order_of self.now) (Some ix) (H.reading how.now) answer asking.old →
             Contains (order_of self.now) ix → IsSome result }
     {
-        // Nothing is stored in an empty table, and `SENTINEL` in none.
+        // An empty table stores no index, and no table stores `SENTINEL`.
         if self.len == 0 || ix == ItemIndex::SENTINEL {
             return None;
         }
-        match self.descend(asking, how, &Some(ix)) {
+        match self.descend(false, asking, how, &Some(ix)) {
             Ok(spot) => Some(spot),
             Err(_) => None,
         }
@@ -523,8 +537,8 @@ impl MapBTreeTable {
         self.remove_found(ix, &spot);
     }
 
-    /// Gives each index its new name in its place, in one walk, or in none where all names stay. It
-    /// asks nothing and takes no memory.
+    /// Gives each index its new name in its place. It asks nothing and takes no memory. If all names stay, it
+    /// does nothing.
     pub fn remap_indexes(&mut self, remap: &IndexRemap)
         requires can_remap { (ix : ℕ) → Contains (order_of self.old) ix → CanRemap remap.now ix }
         requires distinct { (i j : ℕ) → Contains (order_of self.old) i → Contains (order_of self.old) j →
@@ -539,7 +553,7 @@ impl MapBTreeTable {
         rename_in(&mut self.root, self.height, remap);
     }
 
-    // A law for proofs, which changes nothing when it runs: the new names have 32 bits.
+    // A law for proofs: the new names have 32 bits. When it runs, it loops over the names and changes nothing.
     fn names_fit(remap: &IndexRemap)
         ensures { (ix : ℕ) → ix ≤ MOST_INDEXES → CanRemap remap.now ix → remapped remap.now ix ≤ MOST_INDEXES }
     {
@@ -550,7 +564,7 @@ impl MapBTreeTable {
         }
     }
 
-    // The index that stands at a spot.
+    // The index at a spot.
     pub(super) fn index_at(&self, spot: &Spot) -> ItemIndex
         requires { IsSpot self.now spot.now }
         ensures { result ≡ slice_index (order_of self.now) (spot_place self.now spot.now) }
@@ -561,7 +575,7 @@ impl MapBTreeTable {
         root.index_on(self.height, &spot.path, spot.level)
     }
 
-    // The root of the tree, and the levels above its leaves.
+    // The root of the tree, and how many levels lie above its leaves.
     pub(super) fn tree(&self) -> (&Option<Node>, usize)
         ensures root { result.0.now ≡ self.now.root }
         ensures height { result.1 ≡ self.now.height }
@@ -570,7 +584,7 @@ impl MapBTreeTable {
         (&self.root, self.height)
     }
 
-    // Adds `ix` in the gap. It takes the spare blocks first.
+    // Inserts `ix` at the gap. It uses the spare blocks first.
     pub(super) fn insert_at(&mut self, gap: &Gap, ix: ItemIndex, mut fresh: Blocks)
         requires goes { ReachesGapIn self.old.root self.old.height gap.now.path }
         requires full { FullIn gap.now.full self.old.root self.old.height gap.now.path }
@@ -582,6 +596,7 @@ impl MapBTreeTable {
         ensures reserved { self.new.reserved ≡ self.old.reserved }
     {
         let _number = ix.as_u32();
+        self.is_at_front = gap.path.is_near_front();
         let height = self.height;
         let alloc = self.alloc;
         self.height = put_in(
@@ -597,7 +612,7 @@ impl MapBTreeTable {
         self.len += 1;
     }
 
-    // Removes `ix`, if it stands at a spot, and says whether it does.
+    // Removes `ix` if its spot is known, and returns whether it is.
     pub(super) fn remove_found(&mut self, ix: ItemIndex, spot: &Option<Spot>) -> bool
         requires { LeadsTo self.old ix spot.now }
         ensures found { result ≡ is_some spot.now }
@@ -615,7 +630,7 @@ impl MapBTreeTable {
         }
     }
 
-    // Removes `ix`, which stands at the spot.
+    // Removes `ix` from its spot.
     pub(super) fn remove_at(&mut self, ix: ItemIndex, spot: &Spot)
         requires { LeadsTo self.old ix (Some spot.now) }
         ensures removed { order_of self.new ≡ without (order_of self.old) ix }
@@ -646,6 +661,7 @@ impl Clone for MapBTreeTable {
             reserve: self.reserve.for_copy(self.alloc),
             state: self.state,
             alloc: self.alloc,
+            is_at_front: self.is_at_front,
         })
     }
 }

@@ -1,4 +1,4 @@
-//! The insert into a tree: a root, or none.
+//! Insertion into a tree, which may be empty.
 ghost use Rattle.std.specs.Prelude.{◌≡◌, ◌+◌, ◌<◌, ◌≤◌, [], ◌∷◌, length};
 ghost use Rattle.std.specs.List.{insert};
 ghost use Rattle.iddqd_order.specs.Node.{row, children, child_room, flat, inners, IsFormed, ReachesGap, place, IsFullBelow, IsSpare};
@@ -14,8 +14,8 @@ use iddqd::item_index::ItemIndex;
 use std::alloc::Global;
 use std::mem;
 
-// Puts an index where the path goes, through `full` full nodes at its lower end, and answers the new
-// height. It takes no memory but the blocks, those of the reserve first.
+// Inserts an index at the path's gap, and returns the new height. `full` nodes at the lower end of the path are full.
+// It takes no memory but the blocks, and uses those of the reserve first.
 pub(super) fn put_in(
     root: &mut Option<Node>,
     height: usize,
@@ -51,15 +51,15 @@ pub(super) fn put_in(
                 node.put_in_leaf(height, path, ix);
                 height
             } else {
-                put_and_cut(node, height, path, full, ix, reserve, fresh, alloc)
+                put_and_split(node, height, path, full, ix, reserve, fresh, alloc)
             }
         }
     }
 }
 
-// The same where the leaf is full.
+// `put_in`, if the leaf is full.
 #[inline(never)]
-fn put_and_cut(
+fn put_and_split(
     node: &mut Node,
     height: usize,
     path: &Path,
@@ -86,10 +86,10 @@ fn put_and_cut(
     ensures reserved { reserve.new.reserved ≡ reserve.old.reserved }
 {
     if full <= height {
-        node.put_above(height, full, path, ix, reserve, fresh, alloc);
+        node.put_through_full(height, full, path, ix, reserve, fresh, alloc);
         return height;
     }
-    let (middle, upper) = node.cut(height, path, ix, reserve, fresh, alloc);
+    let (middle, upper) = node.split(height, path, ix, reserve, fresh, alloc);
     let children = reserve.take(fresh);
     grow(node, middle, upper, children);
     height + 1

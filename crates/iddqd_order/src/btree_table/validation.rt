@@ -1,4 +1,4 @@
-//! The check of a table's indexes, which the invariant makes distinct, and none of them `SENTINEL`.
+//! The check of a table's indexes. By the invariant they are distinct, and none is `SENTINEL`.
 ghost use Rattle.std.specs.Prelude.{◌≡◌, IfOk};
 ghost use Rattle.iddqd.specs.Validation.{AreAsExpected, Validates};
 ghost use Rattle.iddqd_order.specs.MapBTreeTable.{order_of, IsIndexList};
@@ -11,9 +11,9 @@ use iddqd::item_index::ItemIndex;
 use std::alloc::AllocError;
 
 impl MapBTreeTable {
-    /// Whether there are as many indexes as expected; in `Compact`, whether they are those from 0 on as well.
+    /// Checks that the table has `expected_len` indexes and, in `Compact`, that they are 0, 1, ...
     ///
-    /// It sorts a copy of the indexes, whose memory may be refused.
+    /// It sorts a copy of the indexes, for which memory may run out.
     pub fn validate(
         &self,
         expected_len: usize,
@@ -29,7 +29,7 @@ impl MapBTreeTable {
         }
     }
 
-    // The indexes in their order, in memory of their own.
+    // A copy of the indexes, in their order.
     fn list(&self) -> Result<Vec<ItemIndex>, AllocError>
         ensures all { IfOk result (λ list. list.items ≡ order_of self.now) }
         ensures indexes { IsIndexList (order_of self.now) }

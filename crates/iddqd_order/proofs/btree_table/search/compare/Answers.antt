@@ -13,7 +13,7 @@ returns-in-None-clause-steady g c xs answer h s =
     rw c.in-None.is (c.read.ensures ∙ told)
 
 pub returns-then-eq-clause-asks : goal.returns-then-eq-clause-asks
-returns-then-eq-clause-asks g c xs h = asks_more g.F.FnMut _ (omega arith) (asks_none g.F.FnMut (Askable xs c.args.tie.now) _)
+returns-then-eq-clause-asks g c xs h = asks_more g.F.FnMut _ (omega arith) (asks_none g.F.FnMut (Askable xs c.args.sought.now) _)
 
 -- where an answer isn't Equal, the indexes say nothing
 then-other : (r x : Ordering) → (r ≡ Equal → ⊥) → r ≡ ordering_then r x

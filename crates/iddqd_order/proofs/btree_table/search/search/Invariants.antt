@@ -6,12 +6,11 @@ abbrev pub invariant-loop-low : goal.invariant-loop-low
 invariant-loop-low g l = record {
   ordered : l.low ≤ l.high;
   within : l.high ≤ length l.items;
-  reached : l.high - l.low ≤ l.reach;
-  asked : (k : ℕ) × (k + digits l.reach ≤ digits l.fn.reach)
-      × AsksWithin g.F.FnMut (Askable l.items l.tie) k l.fn.asking l.asking;
+  asked : (k : ℕ) × (k + digits (l.high - l.low) ≤ digits (length l.items))
+      × AsksWithin g.F.FnMut (Askable l.items l.sought) k l.fn.asking l.asking;
   split : (answer : ℕ → Ordering)
-      → IsSteadyRising g.F.FnMut l.items l.tie (g.H.Reads.reading l.how) answer l.fn.asking
-      → AreSplit (with_ties l.tie answer) l.items l.low l.high;
+      → IsSteadyRising g.F.FnMut l.items l.sought (g.H.Reads.reading l.how) answer l.fn.asking
+      → AreSplit (with_ties l.sought answer) l.items l.low l.high;
 }
 
 abbrev pub decreases-loop-low : goal.decreases-loop-low

@@ -1,4 +1,4 @@
-use Rattle.iddqd_order.proofs.Names.{rules, ℕ, suc, ◌-◌, remove, slice_index, arith, ap, ◌∙◌, roll-Node, out-roll-Node, row, children, child_room, flat, spot}
+use Rattle.iddqd_order.proofs.Names.{rules, ℕ, suc, ◌-◌, remove, slice_index, arith, ap, ◌∙◌, roll-Node, out-roll-Node, row, children, child_room, flat, place_at_level}
 use Rattle.iddqd_order.proofs.NodeLemmas.{row-roll, children-roll, room-roll}
 use Rattle.iddqd_order.proofs.RemovalLemmas.{holds-leaf, holds-level, goes-below, ends-inner, child-below, child-before, remade-leaf, TookNow, took-now, took-below, took-here, remade, room-kept}
 use Rattle.iddqd_order.specs.Node.{inners}
@@ -52,7 +52,7 @@ remove-requires-else-height-level t c =
 took :
     (t : ℕ) (c : goal.After-mend-arg-3-1 t)
     → TookNow c.args.height c.get-i.result c.args.self.now c.if-height-level.self
-    (remove (flat c.args.height c.args.self.now) (spot c.args.level c.args.height c.args.self.now c.args.path.now))
+    (remove (flat c.args.height c.args.self.now) (place_at_level c.args.level c.args.height c.args.self.now c.args.path.now))
 took t c =
     elim c.if-height-level.branch [
       | then-height-level w ↦

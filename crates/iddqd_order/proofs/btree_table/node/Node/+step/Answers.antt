@@ -50,8 +50,8 @@ get-ix-requires t c = (ends-here c.if-height-level.false c.get-i.ensures c.requi
 pub overflow_add-i : goal.overflow_add-i
 overflow_add-i t c = omega (arith, (ends-here c.if-height-level.false c.get-i.ensures c.requires.formed c.requires.holds).low)
 
-pub turn-requires-clause-place : goal.turn-requires-clause-place
-turn-requires-clause-place t c = omega (arith, (ends-here c.if-height-level.false c.get-i.ensures c.requires.formed c.requires.holds).low)
+pub set_and_zero_below-requires-clause-place : goal.set_and_zero_below-requires-clause-place
+set_and_zero_below-requires-clause-place t c = omega (arith, (ends-here c.if-height-level.false c.get-i.ensures c.requires.formed c.requires.holds).low)
 
 pub overflow_add-i-2 : goal.overflow_add-i-2
 overflow_add-i-2 t c = omega (arith, (ends-here c.if-height-level.false c.get-i.ensures c.requires.formed c.requires.holds).low)
@@ -62,7 +62,7 @@ returns-then-height-gt0-clause-index t c = c.get-ix.ensures ∙ sym (ends-here c
 pub returns-then-height-gt0-clause-next : goal.returns-then-height-gt0-clause-next
 returns-then-height-gt0-clause-next t c =
     let e = ends-here c.if-height-level.false c.get-i.ensures c.requires.formed c.requires.holds in
-    steps-here c.args.height c.args.level c.get-i.result c.args.self.now c.args.path.now c.turn.new.self (λ z. absurd (omega arith)) e.level c.get-i.ensures c.requires.formed c.requires.holds c.turn.ensures.here c.turn.ensures.below
+    steps-here c.args.height c.args.level c.get-i.result c.args.self.now c.args.path.now c.set_and_zero_below.new.self (λ z. absurd (omega arith)) e.level c.get-i.ensures c.requires.formed c.requires.holds c.set_and_zero_below.ensures.here c.set_and_zero_below.ensures.below
 
 pub returns-then-i-len-2-clause-index : goal.returns-then-i-len-2-clause-index
 returns-then-i-len-2-clause-index t c = c.get-ix.ensures ∙ sym (ends-here c.if-height-level.false c.get-i.ensures c.requires.formed c.requires.holds).spot_is

@@ -1,5 +1,4 @@
 use Rattle.std.proofs.Common.{arith}
-use Rattle.std.proofs.lemmas.Grind.{common_steps}
 use Rattle.iddqd_order.proofs.Names.{◌≡◌, ◌+◌, ◌-◌, ◌*◌, ◌<◌, Ok, Err, length, slice_index, arith, sym, ap, ◌∙◌, subst, rules, Descends, children, child, row_asks}
 use Rattle.iddqd_order.proofs.NodeLemmas.{child-formed, child-within, path-here, path-above}
 use Rattle.iddqd_order.proofs.DescentLemmas.{Counts, Descends-hit, Descends-leaf, Descends-below, can_ask_row, can_ask_below, child_is}
@@ -13,12 +12,11 @@ loop-i-init g c = record {
   can_search = c.requires.can_search;
   above = omega arith;
   rest = λ p end new same d. d;
-  first = λ is. c.requires.first;
 }
 
 pub search_row-requires : goal.search_row-requires
 search_row-requires g c =
-    can_ask_row g.F.FnMut (g.H.Reads.reading c.args.how.now) c.args.tie.now c.loop-i.level c.loop-i.node.now c.loop-i.asking c.loop-i.invariant.formed c.loop-i.invariant.can_search
+    can_ask_row g.F.FnMut (g.H.Reads.reading c.args.how.now) c.args.sought.now c.loop-i.level c.loop-i.node.now c.loop-i.asking c.loop-i.invariant.formed c.loop-i.invariant.can_search
 
 pub returns-in-Ok-clause-descends : goal.returns-in-Ok-clause-descends
 returns-in-Ok-clause-descends g c =
@@ -27,16 +25,16 @@ returns-in-Ok-clause-descends g c =
     let held = c.loop-i.invariant in
     let here : slice_index p l ≡ c.in-Ok.i = path-here c.loop-i.path p l c.in-Ok.i held.path held.levels c.set.ensures.place in
     held.rest p (Ok l) b (λ m lt. path-above c.loop-i.path p l c.in-Ok.i m c.set.ensures.place lt)
-    (Descends-hit g.F.FnMut read c.args.tie.now (row_asks * (l + 1)) c.loop-i.full l n p a b (omega arith) held.formed (rw here c.in-Ok.ensures))
+    (Descends-hit g.F.FnMut read c.args.sought.now (row_asks * (l + 1)) c.loop-i.full l n p a b (omega arith) held.formed (rw here c.in-Ok.ensures))
 
 pub returns-then-level-eq0-clause-descends : goal.returns-then-level-eq0-clause-descends
 returns-then-level-eq0-clause-descends g c =
     let read = g.H.Reads.reading c.args.how.now in
-    let l = c.loop-i.level in let n = c.loop-i.node.now in let p = c.keep_or_set.new.self in let a = c.loop-i.asking in let b = c.search_row.new.asking in
+    let l = c.loop-i.level in let n = c.loop-i.node.now in let p = c.set-in-Err.new.self in let a = c.loop-i.asking in let b = c.search_row.new.asking in
     let held = c.loop-i.invariant in let counted = c.full_from-full.ensures in
-    let here : slice_index p l ≡ c.in-Err.i = path-here c.loop-i.path p l c.in-Err.i held.path held.levels c.keep_or_set.ensures.place in
-    held.rest p (Err c.full_from-full.result) b (λ m lt. path-above c.loop-i.path p l c.in-Err.i m c.keep_or_set.ensures.place lt)
-    (Descends-leaf g.F.FnMut read c.args.tie.now (row_asks * (l + 1)) c.loop-i.full c.full_from-full.result l n p a b (omega arith) c.if-level-eq0.true held.formed (rw here c.in-Err.ensures)
+    let here : slice_index p l ≡ c.in-Err.i = path-here c.loop-i.path p l c.in-Err.i held.path held.levels c.set-in-Err.ensures.place in
+    held.rest p (Err c.full_from-full.result) b (λ m lt. path-above c.loop-i.path p l c.in-Err.i m c.set-in-Err.ensures.place lt)
+    (Descends-leaf g.F.FnMut read c.args.sought.now (row_asks * (l + 1)) c.loop-i.full c.full_from-full.result l n p a b (omega arith) c.if-level-eq0.true held.formed (rw here c.in-Err.ensures)
     (record { above = held.above; not_full = counted.not_full; is_full = counted.is_full }))
 
 pub index-node-requires : goal.index-node-requires
@@ -47,8 +45,8 @@ index-node-requires g c =
 pub loop-i-preserved : goal.loop-i-preserved
 loop-i-preserved g c =
     let read = g.H.Reads.reading c.args.how.now in
-    let tie = c.args.tie.now in let l = c.loop-i.level in let n = c.loop-i.node.now in
-    let i = c.in-Err.i in let k = c.index-node.result.now in let path = c.keep_or_set.new.self in
+    let sought = c.args.sought.now in let l = c.loop-i.level in let n = c.loop-i.node.now in
+    let i = c.in-Err.i in let k = c.index-node.result.now in let path = c.set-in-Err.new.self in
     let a = c.loop-i.asking in let b = c.search_row.new.asking in let full = c.full_from-full.result in
     let ne = c.if-level-eq0.false in let held = c.loop-i.invariant in let s = c.in-Err.ensures in
     let lt : i < length (children n) = child-within l n i ne held.formed s.missed in
@@ -57,16 +55,12 @@ loop-i-preserved g c =
     let counts : Counts n c.loop-i.full l full = record { above = held.above; not_full = c.full_from-full.ensures.not_full; is_full = c.full_from-full.ensures.is_full } in
     record {
       formed = rw same (child-formed l n i ne held.formed lt);
-      first = λ is m le. search rules;
       levels = omega arith;
-      path = c.keep_or_set.ensures.length;
-      can_search = rw same (can_ask_below g.F.FnMut read tie l n i a b ne held.formed s held.can_search);
+      path = c.set-in-Err.ensures.length;
+      can_search = rw same (can_ask_below g.F.FnMut read sought l n i a b ne held.formed s held.can_search);
       above = (let up = c.full_from-full.ensures.above in omega arith);
       rest = λ p end new on d.
-          let here : slice_index p l ≡ i = on l (omega arith) ∙ path-here c.loop-i.path path l i held.path held.levels c.keep_or_set.ensures.place in
-          held.rest p end new (λ m up. on m (omega arith) ∙ path-above c.loop-i.path path l i m c.keep_or_set.ensures.place up)
-          (Descends-below g.F.FnMut read tie (row_asks * (l + 1)) c.loop-i.full full l n p end a b new (omega arith) ne held.formed (rw here s) counts (subst (λ z. Descends g.F.FnMut read tie (row_asks * (l - 1 + 1)) full (l - 1) z b p end new) (same ∙ ap (child n) (sym here)) d));
+          let here : slice_index p l ≡ i = on l (omega arith) ∙ path-here c.loop-i.path path l i held.path held.levels c.set-in-Err.ensures.place in
+          held.rest p end new (λ m up. on m (omega arith) ∙ path-above c.loop-i.path path l i m c.set-in-Err.ensures.place up)
+          (Descends-below g.F.FnMut read sought (row_asks * (l + 1)) c.loop-i.full full l n p end a b new (omega arith) ne held.formed (rw here s) counts (subst (λ z. Descends g.F.FnMut read sought (row_asks * (l - 1 + 1)) full (l - 1) z b p end new) (same ∙ ap (child n) (sym here)) d));
     }
-
-pub keep_or_set-requires-clause-has_it : goal.keep_or_set-requires-clause-has_it
-keep_or_set-requires-clause-has_it g c = grind (arith, common_steps)

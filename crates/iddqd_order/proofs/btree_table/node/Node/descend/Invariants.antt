@@ -1,4 +1,4 @@
-use Rattle.iddqd_order.proofs.Names.{◌≡◌, ◌<◌, ◌≤◌, ℕ, ◌+◌, ◌*◌, IsTrue, Result, length, slice_index, Descends, flat, IsFormed, CanSearch, LEVELS, row_asks}
+use Rattle.iddqd_order.proofs.Names.{◌≡◌, ◌<◌, ℕ, ◌+◌, ◌*◌, Result, length, slice_index, Descends, flat, IsFormed, CanSearch, LEVELS, row_asks}
 use Rattle.iddqd_order.proofs.btree_table.node.Node.descend.Given as goal
 
 abbrev pub invariant-loop-i : goal.invariant-loop-i
@@ -6,15 +6,14 @@ invariant-loop-i g l = record {
   formed : IsFormed l.level l.node;
   levels : l.level < LEVELS;
   path : length l.path ≡ LEVELS;
-  can_search : CanSearch g.F.FnMut (flat l.level l.node) l.tie l.asking;
+  can_search : CanSearch g.F.FnMut (flat l.level l.node) l.sought l.asking;
   above : l.level < l.full;
   rest : (p : _) (end : Result ℕ ℕ) (new : _)
       → ((m : ℕ) → l.level < m → slice_index p m ≡ slice_index l.path m)
-      → Descends g.F.FnMut (g.H.Reads.reading l.how) l.tie (row_asks * (l.level + 1))
+      → Descends g.F.FnMut (g.H.Reads.reading l.how) l.sought (row_asks * (l.level + 1))
       l.full l.level l.node l.asking p end new
-      → Descends g.F.FnMut (g.H.Reads.reading l.how) l.tie (row_asks * (l.fn.height + 1))
+      → Descends g.F.FnMut (g.H.Reads.reading l.how) l.sought (row_asks * (l.fn.height + 1))
       (l.fn.height + 1) l.fn.height l.fn.self l.fn.asking p end new;
-  first : IsTrue l.is_leftmost → (m : ℕ) → m ≤ l.level → slice_index l.path m ≡ 0;
 }
 
 abbrev pub decreases-loop-i : goal.decreases-loop-i

@@ -3,10 +3,10 @@ use Rattle.iddqd_order.proofs.btree_table.table.MapBTreeTable.insert_again.Goals
 
 pub insert_at-requires-clause-enough : goal.insert_at-requires-clause-enough
 insert_at-requires-clause-enough g c =
-    let gap = c.find_gap-gap.ensures in
+    let gap = c.find_own_gap-gap.ensures in
     enough-blocks c.args.self.now _ _ _ gap.fits.tree gap.fits.goes gap.fits.full gap.fits.levels c.requires.enough
 
 pub returns-clause-inserted : goal.returns-clause-inserted
 returns-clause-inserted g c =
-    let gap = c.find_gap-gap.ensures in
+    let gap = c.find_own_gap-gap.ensures in
     record { place = _; within = gap.within; inserted = c.insert_at.ensures.inserted; bound = gap.place }

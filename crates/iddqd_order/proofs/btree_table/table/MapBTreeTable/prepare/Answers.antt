@@ -5,7 +5,7 @@ use Rattle.iddqd_order.proofs.btree_table.table.MapBTreeTable.prepare.Goals as g
 pub returns : goal.returns
 unfolding place_of index_of blocks_of
 returns g c =
-    let gap = c.find_gap-gap.ensures in let taken = c.in-Ok.ensures in (
+    let gap = c.find_own_gap-gap.ensures in let taken = c.in-Ok.ensures in (
       (refl, λ w. refl, tt),
       record {
         unchanged = tt;

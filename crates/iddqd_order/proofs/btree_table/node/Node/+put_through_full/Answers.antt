@@ -3,13 +3,13 @@ use Rattle.iddqd_order.specs.declared.btree_table.node.Node.TheViews.{out-Node, 
 use Rattle.iddqd_order.specs.Node.{row}
 use Rattle.iddqd_order.proofs.NodeLemmas.{goes-inner, full-here, row-roll, children-roll, room-from}
 use Rattle.iddqd_order.proofs.InsertLemmas.{is_taken, taken, put_below, put_here, full_child, all_full}
-use Rattle.iddqd_order.proofs.btree_table.node.Node.+put_above.Goals as goal
+use Rattle.iddqd_order.proofs.btree_table.node.Node.+put_through_full.Goals as goal
 
 pub index_mut-requires : goal.index_mut-requires
 index_mut-requires t c = let more = c.if-height-full.true in let g = goes-inner _ _ _ (λ e. absurd (omega arith)) c.requires.goes in rw c.get-i.ensures (search (rules, g.here))
 
-pub put_above-requires : goal.put_above-requires
-put_above-requires t c =
+pub put_through_full-requires : goal.put_through_full-requires
+put_through_full-requires t c =
     let k = is_taken c.args.height _ _ _ c.index_mut.result.now (λ e. absurd (omega arith)) c.requires.formed c.requires.goes c.get-i.ensures c.index_mut.ensures.value in
     let b = taken _ _ _ _ _ k in let more = c.if-height-full.true in
     (omega arith, (omega arith, (c.requires.some, (omega arith, (b.formed, (b.goes, (full_child _ _ _ _ _ _ k c.requires.full, (c.requires.enough, c.requires.fits))))))))
@@ -20,8 +20,8 @@ index_mut-requires-else-height-full t c =
     let g = goes-inner _ _ _ (λ e. absurd (omega arith)) c.requires.goes in
     rw c.get-i.ensures (search (rules, g.here))
 
-pub cut-middle-requires : goal.cut-middle-requires
-cut-middle-requires t c =
+pub split-middle-requires : goal.split-middle-requires
+split-middle-requires t c =
     let some = c.requires.some in let not_all = c.requires.not_all in let here = c.if-height-full.false in let enough = c.requires.enough in let fits = c.requires.fits in
     let k = is_taken c.args.height _ _ _ c.index_mut-else-height-full.result.now (λ e. absurd (omega arith)) c.requires.formed c.requires.goes c.get-i.ensures c.index_mut-else-height-full.ensures.value in
     let b = taken _ _ _ _ _ k in
@@ -39,7 +39,7 @@ put_between-requires t c =
 pub returns-then-height-full-clause-put : goal.returns-then-height-full-clause-put
 returns-then-height-full-clause-put t c =
     let k = is_taken c.args.height _ _ _ c.index_mut.result.now (λ e. absurd (omega arith)) c.requires.formed c.requires.goes c.get-i.ensures c.index_mut.ensures.value in
-    put_below c.args.height c.args.self.now (roll-Node _) c.args.path.now c.args.ix c.get-i.result c.index_mut.result.now c.put_above.new.self k c.put_above.ensures.put
+    put_below c.args.height c.args.self.now (roll-Node _) c.args.path.now c.args.ix c.get-i.result c.index_mut.result.now c.put_through_full.new.self k c.put_through_full.ensures.put
     (row-roll _) (children-roll _) (room-from _ (taken _ _ _ _ _ k).node.has_room)
 
 pub returns-else-height-full-clause-put : goal.returns-else-height-full-clause-put
@@ -48,5 +48,5 @@ returns-else-height-full-clause-put t c =
     let k = is_taken c.args.height _ _ _ c.index_mut-else-height-full.result.now (λ e. absurd (omega arith)) c.requires.formed c.requires.goes c.get-i.ensures c.index_mut-else-height-full.ensures.value in
     let e = simp out-roll-Node at c.put_between.ensures in
     let level : c.args.full - 1 ≡ c.args.height - 1 = omega arith in
-    rw level (put_here c.args.height c.args.self.now (roll-Node _) c.args.path.now c.args.ix c.get-i.result c.index_mut-else-height-full.result.now c.cut-middle.new.self c.cut-middle.result.0 c.cut-middle.result.1 k
-    (record { items = c.cut-middle.ensures.items; low = c.cut-middle.ensures.low; high = c.cut-middle.ensures.high; inner = c.cut-middle.ensures.inner }) ((full-here _ _ _ _ c.requires.full).1 (omega arith)) (row-roll _ ∙ e.row) (children-roll _ ∙ e.children) (room-from _ e.has_room))
+    rw level (put_here c.args.height c.args.self.now (roll-Node _) c.args.path.now c.args.ix c.get-i.result c.index_mut-else-height-full.result.now c.split-middle.new.self c.split-middle.result.0 c.split-middle.result.1 k
+    (record { items = c.split-middle.ensures.items; low = c.split-middle.ensures.low; high = c.split-middle.ensures.high; inner = c.split-middle.ensures.inner }) ((full-here _ _ _ _ c.requires.full).1 (omega arith)) (row-roll _ ∙ e.row) (children-roll _ ∙ e.children) (room-from _ e.has_room))

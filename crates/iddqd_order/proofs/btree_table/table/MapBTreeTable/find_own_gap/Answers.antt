@@ -1,6 +1,6 @@
 use Rattle.std.proofs.Common.{refl, sym}
 use Rattle.iddqd_order.proofs.IndexListLemmas.{Contains-at}
-use Rattle.iddqd_order.proofs.btree_table.table.MapBTreeTable.find_gap.Goals as goal
+use Rattle.iddqd_order.proofs.btree_table.table.MapBTreeTable.find_own_gap.Goals as goal
 
 pub unreachable-requires : goal.unreachable-requires
 unreachable-requires g c =

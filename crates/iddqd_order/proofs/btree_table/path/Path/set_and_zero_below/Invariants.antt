@@ -1,6 +1,6 @@
 use Rattle.iddqd_order.proofs.Names.{LEVELS}
 use Rattle.std.proofs.Common.{◌≡◌, ℕ, ◌<◌, ◌≤◌, length, slice_index}
-use Rattle.iddqd_order.proofs.btree_table.path.Path.turn.Given as goal
+use Rattle.iddqd_order.proofs.btree_table.path.Path.set_and_zero_below.Given as goal
 
 abbrev pub invariant-loop-l : goal.invariant-loop-l
 invariant-loop-l l = record {

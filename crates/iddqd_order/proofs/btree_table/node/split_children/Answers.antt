@@ -3,7 +3,7 @@ use Rattle.std.proofs.Common.{◌≡◌, ℕ, ◌+◌, ◌-◌, ◌≤◌, List,
 use Rattle.std.specs.List.{insert}
 use Rattle.std.proofs.lemmas.List.{take-append-drop, length-take-le}
 use Rattle.std.proofs.lemmas.List.Edits.{insert-append_left, insert-append_right}
-use Rattle.iddqd_order.proofs.btree_table.node.cut_children.Goals as goal
+use Rattle.iddqd_order.proofs.btree_table.node.split_children.Goals as goal
 
 -- one more goes to the lower part
 early :

@@ -1,56 +1,57 @@
-use Rattle.iddqd_order.proofs.Names.{◌≡◌, ℕ, ◌+◌, ◌-◌, ◌<◌, ◌≤◌, List, length, take, drop, get_or, refl, arith, length-drop, length-take-le, same_lists, insert, remove, IsCut, CAPACITY, LEAST}
+use Rattle.iddqd_order.proofs.Names.{◌≡◌, ℕ, ◌+◌, ◌-◌, ◌<◌, ◌≤◌, List, length, take, drop, get_or, refl, arith, length-drop, length-take-le, same_lists, insert, remove, IsSplit, CAPACITY, LEAST}
 use Rattle.std.proofs.lemmas.List.{places}
-use Rattle.iddqd_order.proofs.btree_table.row.Row.cut.Goals as goal
+use Rattle.iddqd_order.proofs.btree_table.row.Row.split.Goals as goal
 
 -- the index itself is the middle
-cut_about :
+split_about :
     (xs : List ℕ) (i x : ℕ)
     → length xs ≡ CAPACITY
     → LEAST ≤ i
     → i ≤ LEAST + 1
-    → IsCut xs i x (take i xs) x (drop i xs)
-cut_about xs i x n low high =
+    → IsSplit xs i x (take i xs) x (drop i xs)
+split_about xs i x n low high =
     let l = length-take-le i xs (omega arith) in
     record { is = refl; low_length = ((λ le. omega arith), (λ lt. omega arith)); high_length = omega (arith, length-drop i xs) }
 
 -- or goes to the lower part
-cut_low :
+split_low :
     (xs : List ℕ) (i x : ℕ)
     → length xs ≡ CAPACITY
     → i < LEAST
-    → let low = take LEAST xs in IsCut xs i x (insert (remove low (LEAST - 1)) i x) (get_or low (LEAST - 1) 0) (drop LEAST xs)
-cut_low xs i x n p = record {
+    → let low = take LEAST xs in
+    IsSplit xs i x (insert (remove low (LEAST - 1)) i x) (get_or low (LEAST - 1) 0) (drop LEAST xs)
+split_low xs i x n p = record {
   is = same_lists _ _ (grind (arith, places)) (λ k d h. grind (arith, places));
   low_length = ((λ _. grind (arith, places)), (λ q. absurd (omega arith)));
   high_length = grind (arith, places);
 }
 
 -- or to the upper part
-cut_high :
+split_high :
     (xs : List ℕ) (i x : ℕ)
     → length xs ≡ CAPACITY
     → LEAST + 1 < i
     → i ≤ CAPACITY
     → let high = drop (LEAST + 1) xs in
-    IsCut xs i x (take (LEAST + 1) xs) (get_or high 0 0) (insert (remove high 0) (i - (LEAST + 2)) x)
-cut_high xs i x n p q = record {
+    IsSplit xs i x (take (LEAST + 1) xs) (get_or high 0 0) (insert (remove high 0) (i - (LEAST + 2)) x)
+split_high xs i x n p q = record {
   is = same_lists _ _ (grind (arith, places)) (λ k d h. grind (arith, places));
   low_length = ((λ q. absurd (omega arith)), (λ _. grind (arith, places)));
   high_length = grind (arith, places);
 }
 
 pub returns-then-at-eq-LEAST : goal.returns-then-at-eq-LEAST
-returns-then-at-eq-LEAST c = rw (c.if-at-eq-LEAST.true, c.split_off-upper.ensures.head, c.split_off-upper.ensures.tail) (cut_about c.args.self.now LEAST c.args.ix c.requires.full (omega arith) (omega arith))
+returns-then-at-eq-LEAST c = rw (c.if-at-eq-LEAST.true, c.split_off-upper.ensures.head, c.split_off-upper.ensures.tail) (split_about c.args.self.now LEAST c.args.ix c.requires.full (omega arith) (omega arith))
 
 pub returns-then-at : goal.returns-then-at
-returns-then-at c = rw (c.if-at.true, c.split_off-upper-else-at-le-LEAST.ensures.head, c.split_off-upper-else-at-le-LEAST.ensures.tail) (cut_about c.args.self.now (LEAST + 1) c.args.ix c.requires.full (omega arith) (omega arith))
+returns-then-at c = rw (c.if-at.true, c.split_off-upper-else-at-le-LEAST.ensures.head, c.split_off-upper-else-at-le-LEAST.ensures.tail) (split_about c.args.self.now (LEAST + 1) c.args.ix c.requires.full (omega arith) (omega arith))
 
 pub returns-else-at-eq-LEAST : goal.returns-else-at-eq-LEAST
 returns-else-at-eq-LEAST c =
     rw (c.insert.ensures, c.remove-middle.ensures.items, c.remove-middle.ensures.value, c.split_off-upper.ensures.head, c.split_off-upper.ensures.tail)
-    (cut_low c.args.self.now c.args.at c.args.ix c.requires.full (omega (arith, c.if-at-le-LEAST.true, c.if-at-eq-LEAST.false)))
+    (split_low c.args.self.now c.args.at c.args.ix c.requires.full (omega (arith, c.if-at-le-LEAST.true, c.if-at-eq-LEAST.false)))
 
 pub returns-else-at : goal.returns-else-at
 returns-else-at c =
     rw (c.insert-else-at-le-LEAST.ensures, c.remove-middle-else-at-le-LEAST.ensures.items, c.remove-middle-else-at-le-LEAST.ensures.value, c.split_off-upper-else-at-le-LEAST.ensures.head, c.split_off-upper-else-at-le-LEAST.ensures.tail)
-    (cut_high c.args.self.now c.args.at c.args.ix c.requires.full (omega (arith, c.if-at-le-LEAST.false, c.if-at.false)) (omega (arith, c.requires.in_bounds, c.requires.full)))
+    (split_high c.args.self.now c.args.at c.args.ix c.requires.full (omega (arith, c.if-at-le-LEAST.false, c.if-at.false)) (omega (arith, c.requires.in_bounds, c.requires.full)))
