@@ -5,17 +5,17 @@ pub use Rattle.iddqd.specs.Store.{sentinel}
 use Rattle.iddqd.specs.declared.index_remap.IndexRemap.{IndexRemap}
 use Rattle.iddqd.specs.declared.index_remap.IndexRemap.TheVariants.{Identity, Permuted}
 
--- the old index has a new name
+-- the old index has a new one
 abbrev pub CanRemap : IndexRemap → ℕ → Type 0
 CanRemap Identity old = ⊤
 CanRemap (Permuted names) old = (old < length names.items) × (slice_index names.items old ≢ sentinel)
 
--- the new name of an old index that has one
+-- the new index of an old one, if it has one
 abbrev pub remapped : IndexRemap → ℕ → ℕ
 remapped Identity old = old
 remapped (Permuted names) old = slice_index names.items old
 
--- `Identity` of `Identity`, and else the same new names
+-- a clone of `Identity` is `Identity`, and one of `Permuted` has the same new indexes
 abbrev pub IsRemapClone : IndexRemap → IndexRemap → Type 0
 IsRemapClone Identity copy = copy ≡ Identity
 IsRemapClone (Permuted names) copy = ForPermuted copy
@@ -24,7 +24,7 @@ IsRemapClone (Permuted names) copy = ForPermuted copy
     ForPermuted Identity = ⊥
     ForPermuted (Permuted others) = others.items ≡ names.items
 
--- the numbers from 0 on, so many
+-- the first n numbers, from 0 on
 abbrev pub numbers : ℕ → List ℕ
 numbers zero = []
 numbers (suc n) = 0 ∷ map suc (numbers n)
@@ -38,11 +38,11 @@ module _ {T : Type 0} where
   abbrev pub compacted : Store T → Store T
   compacted s = record s { items = filter is_some s.items; free = [] }
 
-  -- the new name of a slot: the rank where it is live, else `SENTINEL`
+  -- the new index of a slot: its rank if it is live, otherwise `SENTINEL`
   abbrev pub new_name : Store T → ℕ → ℕ
   new_name s ix = if is_some (get s ix) then rank s ix else sentinel
 
-  -- The remap of a store: `Identity` where nothing is free, else the new names of all slots.
+  -- The remap of a store: `Identity` if no index is free, otherwise the new indexes of all slots.
   abbrev pub IsRemapOf : Store T → IndexRemap → Type 0
   IsRemapOf s Identity = s.free ≡ []
   IsRemapOf s (Permuted names) = (s.free ≢ []) × (names.items ≡ map (new_name s) (numbers (length s.items)))

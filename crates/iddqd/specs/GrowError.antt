@@ -1,4 +1,4 @@
--- The words of a `GrowError`.
+-- The text of a `GrowError`.
 use Rattle.std.specs.Prelude.{ℕ, List, codes}
 use Rattle.iddqd.specs.declared.item_set.GrowError.{GrowError}
 use Rattle.iddqd.specs.declared.item_set.GrowError.TheVariants.{Full, Memory}

@@ -8,7 +8,7 @@ pub record SizedStore (T : Type 0) : Type 0 where
   pub store : Store T
   pub capacity : ℕ
 
--- a store with its capacity is coded where its items are
+-- a store with its capacity is coded if its items are
 abbrev pub sized_store_code : {T : Type 0} → Coded T → Coded (SizedStore T)
 sized_store_code {T} code =
     code_by
@@ -23,15 +23,15 @@ module _ {T : Type 0} where
   abbrev pub room : SizedStore T → ℕ
   room h = length h.store.free + (min h.capacity h.store.limit - slot_count h.store)
 
-  -- every index but this one gives what it gave
+  -- the item at every index but this one is unchanged
   abbrev pub KeepsOthers : ℕ → Store T → Store T → Type 0
   KeepsOthers ix old new = (other : ℕ) → other ≢ ix → get new other ≡ get old other
 
-  -- the slot count rises only where no slot is vacant, and then by one
+  -- the slot count rises only if no slot is vacant, and then by one
   pub record GrowsIfDense (old new : Store T) : Type 0 where
     pub dense : live_count old ≡ slot_count old → slot_count new ≡ slot_count old + 1
     pub vacant : live_count old < slot_count old → slot_count new ≡ slot_count old
 
-  -- the same with another item at an index, in the same memory
+  -- the set with the item at an index replaced, in the same memory
   abbrev pub with_item : SizedStore T → ℕ → T → SizedStore T
   with_item h ix item = record h { store = rebound h.store ix item }

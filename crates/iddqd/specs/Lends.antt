@@ -1,4 +1,4 @@
--- What an `ItemSet` ends as, where a `&mut` to one of its items is returned.
+-- What an `ItemSet` ends as if a `&mut` to one of its items is returned.
 use Rattle.std.specs.Prelude.{ℕ, Option}
 use Rattle.std.specs.Borrow.{Lends, LendsIf, Fml, RattleType, MutBor}
 use Rattle.iddqd.specs.ItemSet.{SizedStore, with_item}
@@ -9,6 +9,6 @@ module _ (T : RattleType) (s : MutBor (SizedStore T.Denot)) (ix : ℕ) where
   abbrev pub lends_item : MutBor T.Denot → Fml
   lends_item r = Lends (the_row T) T s r (with_item s.now ix)
 
-  -- the same where r is a reference, and at `None` the set stays as it is
+  -- if a reference is returned, `lends_item` holds of it; if `None` is returned, the set stays as it is
   abbrev pub lends_get : Option (MutBor T.Denot) → Fml
   lends_get r = LendsIf (the_row T) T s r (with_item s.now ix) s.now

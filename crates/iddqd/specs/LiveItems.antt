@@ -1,10 +1,10 @@
--- The live items of a store by rising index, as the walks over it give them.
+-- The live items of a store by rising index, as its iterators return them.
 use Rattle.std.specs.Prelude.{◌≡◌, ◌≢◌, ◌+◌, ◌<◌, ◌↔◌, ℕ, List, [], ◌∷◌, Option, Some, None, slice_get, slice_index_or, filter_map}
 use Rattle.std.specs.List.{Contains}
 use Rattle.iddqd.specs.Store.{Store, get}
 
 module _ {T : Type 0} where
-  -- the items of these slots, each with its index, where the first slot has this index
+  -- the items of these slots, each with its index; the first slot has this index
   abbrev pub pairs_from : ℕ → List (Option T) → List (ℕ × T)
   pairs_from ix [] = []
   pairs_from ix (None ∷ rest) = pairs_from (ix + 1) rest
@@ -14,7 +14,7 @@ module _ {T : Type 0} where
   abbrev pub live_pairs : Store T → List (ℕ × T)
   live_pairs s = pairs_from 0 s.items
 
-  -- the items that there are in these slots
+  -- the items of the slots that have one
   abbrev pub items_in : List (Option T) → List T
   items_in slots = filter_map (λ slot. slot) slots
 
@@ -31,6 +31,6 @@ module _ {T : Type 0} where
   abbrev pub item_at : List (Option T) → ℕ → Option T
   item_at slots ix = slice_index_or slots ix None
 
-  -- every index but this one has what it had
+  -- the item at every index but this one is unchanged
   abbrev pub KeepsOtherItems : ℕ → List (Option T) → List (Option T) → Type 0
   KeepsOtherItems ix old new = (other : ℕ) → other ≢ ix → item_at new other ≡ item_at old other

@@ -1,4 +1,4 @@
--- How an index prints that may be lacking.
+-- How an optional index prints.
 use Rattle.std.specs.Prelude.{ℕ, List, Option, Some, None, codes}
 use Rattle.std.specs.Fmt.{decimal}
 

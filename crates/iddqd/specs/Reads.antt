@@ -9,12 +9,12 @@ module _ {T : Type 0} where
   IsNextLive s from (Some ix) =
       (from ≤ ix) × IsSome (get s ix) × ((other : ℕ) → from ≤ other → other < ix → get s other ≡ None)
 
-  -- the index at a place of a list is live, and none before it is the same
+  -- the index at a place of a list is live, and no earlier place has the same one
   abbrev pub IsFirstLive : Store T → List ℕ → ℕ → Type 0
   IsFirstLive s ixs at =
       IsSome (get s (slice_index ixs at)) × ((before : ℕ) → before < at → slice_index ixs before ≢ slice_index ixs at)
 
-  -- for each place of the list, whether its index is live and none before it is the same
+  -- for each place of the list, whether its index is live and no earlier place has the same one
   pub record AreFirstLive (s : Store T) (ixs : List ℕ) (answers : List Bool) : Type 0 where
     pub one_each : length answers ≡ length ixs
     pub at : (place : ℕ) → place < length ixs → IsTrue (slice_index_or answers place false) ↔ IsFirstLive s ixs place

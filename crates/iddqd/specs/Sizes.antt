@@ -1,4 +1,4 @@
--- How a set takes memory ahead, and gives it back.
+-- How a set reserves memory, and gives it back.
 use Rattle.std.specs.Prelude.{◌≡◌, ◌+◌, ◌-◌, ◌*◌, ◌<◌, ◌≤◌, ℕ, min, max, Result, IsOk, OnOk, OnErr}
 use Rattle.iddqd.specs.Store.{Store, slot_count, live_count}
 use Rattle.iddqd.specs.ItemSet.{SizedStore}
@@ -8,17 +8,17 @@ module _ {T : Type 0} where
   abbrev pub insertable : Store T → ℕ
   insertable s = s.limit - live_count s
 
-  -- how many slots memory is taken for where so many are needed: twice the capacity where that is more, but this no
-  -- further than the limit
+  -- the capacity after memory is taken because `needed` slots are needed: twice the old one if that is more, but then
+  -- at most the limit
   abbrev pub grown : ℕ → SizedStore T → ℕ
   grown needed h = max needed (min h.store.limit (2 * h.capacity))
 
-  -- how many slots memory is taken for by an insert: twice the capacity, at least four, and none past the limit
+  -- the capacity after an insert took memory: twice the old one, at least four, and at most the limit
   abbrev pub doubled : SizedStore T → ℕ
   doubled h = min h.store.limit (max 4 (2 * h.capacity))
 
-  -- Memory is there for so many slots past those that there are, and it grew no further than `grown` says, or else
-  -- nothing changed. Where it was there before, it succeeds and nothing changed.
+  -- If the memory held `additional` more slots already, it succeeds and nothing changes. Otherwise it succeeds and the
+  -- capacity is what `grown` says, or it fails and nothing changes.
   pub record ReservesSlots {A E : Type 0} (additional : ℕ)
       (old : SizedStore T) (result : Result A E) (new : SizedStore T) : Type 0 where
     pub contents : new.store ≡ old.store
@@ -30,8 +30,8 @@ module _ {T : Type 0} where
     pub refused : OnErr result (new ≡ old)
     pub fitted : slot_count old.store + additional ≤ old.capacity → IsOk result × (new ≡ old)
 
-  -- The capacity falls to so many slots, or to those that there are where these are more. Else it stays above that, and
-  -- this can't be where no slot is to be kept. The contents stay in either case.
+  -- The capacity falls to `least` slots, or to the slots that there are if these are more. If it fails, the capacity
+  -- stays above that; it can't fail if that is 0. The contents stay in either case.
   pub record Shrinks {A E : Type 0} (least : ℕ)
       (old : SizedStore T) (result : Result A E) (new : SizedStore T) : Type 0 where
     pub contents : new.store ≡ old.store

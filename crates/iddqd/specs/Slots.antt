@@ -1,5 +1,5 @@
--- How an `ItemSet` lays out its slots: the chain of the vacant ones. Of public clauses those of
--- `ItemSlot` and `validate_slots` alone cite it.
+-- How an `ItemSet` lays out its slots: the chain of the vacant ones. Of the public clauses, only those of `ItemSlot`
+-- and `validate_slots` cite it.
 use Rattle.std.specs.Prelude.{◌≡◌, ◌≢◌, ℕ, zero, suc, ◌+◌, ◌≤◌, List, [], ◌∷◌, map, length, Option, Some, None, is_some, count_by, slice_get, nat_eq}
 use Rattle.std.specs.List.{Contains, IsDistinct}
 use Rattle.iddqd.specs.Store.{Store, sentinel}
@@ -7,7 +7,7 @@ use Rattle.iddqd.specs.LiveItems.{pairs_from}
 use Rattle.iddqd.specs.declared.item_set.ItemSlot.{ItemSlot}
 use Rattle.iddqd.specs.declared.item_set.ItemSlot.TheVariants.{Occupied, Vacant}
 
--- the head, where it has a link, and then what the link leads to
+-- the head and then what its link leads to, if it has a link
 abbrev pub linked : Option ℕ → ℕ → (ℕ → List ℕ) → List ℕ
 linked None head rest = []
 linked (Some next) head rest = head ∷ rest next
@@ -24,7 +24,7 @@ module _ {T : Type 0} where
   link_of (Some (Occupied item)) = None
   link_of (Some (Vacant next)) = Some next
 
-  -- the vacant slots that are met from head on, at most so many
+  -- the vacant slots along the links from head on, at most this number
   abbrev pub chain_of : ℕ → List (ItemSlot T) → ℕ → List ℕ
   chain_of zero slots head = []
   chain_of (suc n) slots head = linked (link_of (slice_get slots head)) head (λ next. chain_of n slots next)
@@ -35,7 +35,7 @@ module _ {T : Type 0} where
   IsChain slots head (ix ∷ rest) =
       (next : ℕ) × (ix ≡ head) × (head ≢ sentinel) × (slice_get slots head ≡ Some (Vacant next)) × IsChain slots next rest
 
-  -- some list of so many indexes is the chain from head
+  -- some list with this number of indexes is the chain from head
   abbrev pub HasChain : List (ItemSlot T) → ℕ → ℕ → Type 0
   HasChain slots head len = (list : List ℕ) × IsChain slots head list × (length list ≡ len)
 
@@ -52,13 +52,13 @@ module _ {T : Type 0} where
     pub chained : IsChain slots head chain
     pub complete : (ix next : ℕ) → slice_get slots ix ≡ Some (Vacant next) → Contains chain ix
 
-  -- they are sound, and there are no more slots than a limit that leaves each slot an index
+  -- they are sound, there are at most `limit` slots, and the limit leaves each slot an index
   pub record IsSoundWithin (limit : ℕ) (slots : List (ItemSlot T)) (head len : ℕ) : Type 0 where
     pub sound : IsSound slots head len
     pub small : length slots ≤ limit
     pub named : limit ≤ sentinel
 
-  -- a walk has these slots left, the first of which has this index, and `left` counts their items
+  -- an iterator has these slots left; the index of the first slot is `first`, and `left` counts the items
   pub record IsWalk (slots : List (ItemSlot T)) (first left : ℕ) : Type 0 where
     pub counted : left ≡ length (pairs_from first (map item_of slots))
     pub named : first + length slots ≤ sentinel

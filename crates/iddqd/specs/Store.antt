@@ -11,9 +11,8 @@ sentinel = 4294967295
 abbrev pub slot_limit : ℕ
 slot_limit = sentinel
 
--- A finite map from indexes to items, with the number of slots: the list has the item or nothing of
--- each index below that number. The free indexes, that freed last first. And the limit: the most
--- slots that it can have, which no step changes.
+-- A finite map from indexes to items. `items` has one entry for each slot: its item or nothing. `free` has the free
+-- indexes, the last freed first. `limit` is the most slots that the store can have; no step changes it.
 pub record Store (T : Type 0) : Type 0 where
   pub items : List (Option T)
   pub free : List ℕ
@@ -29,13 +28,13 @@ store_code {T} code =
     (λ p. record { items = p.0; free = p.1.0; limit = p.1.1 })
     (λ _. refl)
 
--- the first of the free indexes, or else the number of slots
+-- the first of the free indexes, or the number of slots if none is free
 abbrev pub first_or : List ℕ → ℕ → ℕ
 first_or [] count = count
 first_or (ix ∷ rest) count = ix
 
 module _ {T : Type 0} where
-  -- the store of a new set that can have so many slots
+  -- the store of a new set with this limit
   abbrev pub empty_within : ℕ → Store T
   empty_within limit = record { items = []; free = []; limit = limit }
 
@@ -43,7 +42,7 @@ module _ {T : Type 0} where
   abbrev pub empty : Store T
   empty = empty_within slot_limit
 
-  -- what is left of a store that forgets all items and all slots
+  -- the store without its items and slots; the limit stays
   abbrev pub cleared : Store T → Store T
   cleared s = record s { items = []; free = [] }
 
@@ -63,8 +62,8 @@ module _ {T : Type 0} where
   abbrev pub IsVacant : Store T → ℕ → Type 0
   IsVacant s ix = (ix < slot_count s) × (get s ix ≡ None)
 
-  -- The free indexes are distinct and exactly the vacant ones. There are no more slots than the limit, and that leaves
-  -- each slot an index.
+  -- The free indexes are distinct and exactly the vacant ones. There are no more slots than the limit, and the limit
+  -- leaves each slot an index.
   pub record IsValid (s : Store T) : Type 0 where
     pub distinct : IsDistinct nat_eq s.free
     pub vacant : (ix : ℕ) → Contains s.free ix ↔ IsVacant s ix
@@ -72,7 +71,7 @@ module _ {T : Type 0} where
     pub small : slot_count s ≤ s.limit
     pub named : s.limit ≤ slot_limit
 
-  -- the index that the next insert binds
+  -- the index that the next insert assigns
   abbrev pub next_index : Store T → ℕ
   next_index s = first_or s.free (slot_count s)
 
@@ -80,7 +79,7 @@ module _ {T : Type 0} where
   abbrev pub IsFull : Store T → Type 0
   IsFull s = (s.free ≡ []) × (slot_count s ≡ s.limit)
 
-  -- the items after an insert at the first free index, or else in a new slot
+  -- the items after an insert at the first free index, or in a new slot if no index is free
   abbrev pub filled : List ℕ → List (Option T) → T → List (Option T)
   filled [] items item = items ++ Some item ∷ []
   filled (ix ∷ rest) items item = slice_set items ix (Some item)
@@ -89,10 +88,10 @@ module _ {T : Type 0} where
   abbrev pub inserted : Store T → T → Store T
   inserted s item = record s { items = filled s.free s.items item; free = drop 1 s.free }
 
-  -- the store after the removal of a live index: it is unbound, and the first of the free
+  -- the store after the removal of a live index, which is then unbound and the first of the free indexes
   abbrev pub removed : Store T → ℕ → Store T
   removed s ix = record s { items = slice_set s.items ix None; free = ix ∷ s.free }
 
-  -- the store with another item at a live index
+  -- the store with the item at a live index replaced
   abbrev pub rebound : Store T → ℕ → T → Store T
   rebound s ix item = record s { items = slice_set s.items ix (Some item) }

@@ -1,8 +1,8 @@
-//! The build hasher that is used where a caller names none.
+//! The default build hasher.
 use std::hash::{BuildHasherDefault, FoldHasher};
 
 /// A build hasher with a fixed seed, made by `default()`: equal keys hash alike in every process.
 ///
-/// It is quick on short keys and doesn't resist keys that are chosen to collide. A caller who takes
-/// keys from strangers hands in a build hasher of his own.
+/// It is quick on short keys and doesn't resist keys that are chosen to collide. A caller whose keys come from
+/// untrusted sources passes a build hasher of their own.
 pub type DefaultHashBuilder = BuildHasherDefault<FoldHasher>;

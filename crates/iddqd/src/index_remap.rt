@@ -1,4 +1,4 @@
-//! What became of the indexes of a set that was compacted.
+//! The new index of each old one, after a set was compacted.
 ghost use Rattle.std.specs.Prelude.{◌≡◌, ◌↔◌, IsTrue};
 ghost use Rattle.iddqd.specs.Compaction.{CanRemap, remapped};
 ghost use Rattle.iddqd.specs.declared.index_remap.IndexRemap.TheVariants.{Identity};
@@ -6,10 +6,10 @@ ghost use Rattle.iddqd.specs.declared.index_remap.IndexRemap.TheVariants.{Identi
 use crate::item_index::ItemIndex;
 use std::alloc::AllocError;
 
-/// The new name of each old index.
+/// The new index of each old one.
 #[derive(Debug, PartialEq, Eq, Drop)]
 pub enum IndexRemap {
-    /// Every index kept its name.
+    /// Every index is unchanged.
     Identity,
     /// The new index of each old slot, or `SENTINEL` for a slot that was vacant.
     Permuted(Vec<ItemIndex>),
@@ -29,14 +29,15 @@ impl Clone for IndexRemap {
 }
 
 impl IndexRemap {
-    /// Whether every index kept its name without a list.
+    /// Whether it is `Identity`: every index is unchanged, so there is no list.
     pub fn is_identity(&self) -> bool
         ensures { IsTrue result ↔ (self.now ≡ Identity) }
     {
         matches!(self, IndexRemap::Identity)
     }
 
-    /// Whether the old index has a new name: it was live when the set was compacted.
+    /// Whether the old index has a new one: in `Permuted`, if it was live when the set was compacted; in `Identity`,
+    /// always.
     pub fn can_remap(&self, old: ItemIndex) -> bool
         ensures { IsTrue result ↔ CanRemap self.now old }
     {
@@ -49,7 +50,7 @@ impl IndexRemap {
         }
     }
 
-    /// The new name of an old index that has one.
+    /// The new index of an old one, if `can_remap` holds of it.
     pub fn remap(&self, old: ItemIndex) -> ItemIndex
         requires { CanRemap self.now old }
         ensures { result ≡ remapped self.now old }

@@ -1,7 +1,7 @@
 //! Checks of raw parts: of the slots and the chain of a store, and of the indexes of a table.
 //!
-//! The parts may be anything: no index has to be in range, and no chain has to end. The first check that fails is told
-//! in words, so a refusal takes memory, and there is another answer where that is refused.
+//! The parts may be anything: no index has to be in range, and no chain has to end. The first check that fails is
+//! reported as a text, which takes memory; if memory runs out, the refusal is `Memory`.
 mod indexes;
 mod slots;
 
@@ -15,25 +15,25 @@ use std::marker::Model;
 /// Whether a store may have vacant slots, and so a table gaps between its indexes.
 #[derive(Clone, Copy, Debug, PartialEq, Eq)]
 pub enum ValidateCompact {
-    /// It may not: the indexes are all from 0 on.
+    /// It may not: the indexes are the numbers from 0 on.
     Compact,
     /// It may.
     NonCompact,
 }
 
-/// Whether keys may have changed unseen, so that look-ups by key may miss.
+/// Whether keys may have changed silently, so that look-ups by key may miss.
 #[derive(Clone, Copy, Debug, PartialEq, Eq)]
 pub enum ValidateChaos {
-    /// They may: each index is sought by a walk.
+    /// They may: each index is searched for by a scan.
     Yes,
-    /// They have not: each index is sought by its keys.
+    /// They have not: each index is looked up by its keys.
     No,
 }
 
 /// What is wrong, in words: the first check that failed.
 #[derive(Debug, Drop)]
 pub enum ValidationError {
-    /// A table, by its name.
+    /// A check of the table with this name failed.
     Table {
         name: &'static str,
         error: TableValidationError,
@@ -45,7 +45,7 @@ pub enum ValidationError {
 impl ValidationError {
     ghost use Rattle.std.specs.Prelude.{◌≡◌};
 
-    /// The error with this text, of no table.
+    /// The error with this text, not about a table.
     pub fn general(text: String) -> ValidationError
         ensures { result ≡ ValidationError.General text }
     {
@@ -114,6 +114,6 @@ impl Error for TableValidationError {}
 pub enum ValidateRefusal<E> {
     /// A check failed.
     Invalid(E),
-    /// Memory was refused: for a sorted copy, or for the words of an error.
+    /// Memory ran out: for a sorted copy, or for the text of an error.
     Memory(AllocError),
 }

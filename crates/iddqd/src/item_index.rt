@@ -1,7 +1,6 @@
 //! Numbers that name the items of an `ItemSet`.
 //!
-//! Clauses say the number of `SENTINEL` as `sentinel`: a constant of a type with a model has no
-//! name in them.
+//! Clauses write `sentinel` for the number of `SENTINEL`: they can't name a constant of a type with a model.
 ghost use Rattle.std.specs.Prelude.{◌≡◌, ◌<◌, SomeIff};
 ghost use Rattle.iddqd.specs.Store.{sentinel};
 
@@ -34,7 +33,7 @@ impl ItemIndex {
     /// The end of the chain of vacant slots. No item has it.
     pub const SENTINEL: ItemIndex = ItemIndex(4294967295);
 
-    /// The index of that number.
+    /// The index with this number.
     pub const fn new(value: u32) -> ItemIndex
         ensures { result ≡ value }
     {
@@ -48,7 +47,7 @@ impl ItemIndex {
         self.0
     }
 
-    /// The index of the slot that follows so many, if it can be assigned.
+    /// The index of the slot that comes after `slots` others, if it can be assigned.
     pub fn of_slot(slots: usize) -> Option<ItemIndex>
         ensures { SomeIff result (slots < sentinel) slots }
     {
@@ -145,7 +144,7 @@ impl fmt::Debug for ItemIndex {
     }
 }
 
-/// An index that may be lacking, printed as a dash where it is.
+/// An optional index, printed as a dash if there is none.
 #[derive(Clone, Copy)]
 pub struct OrDash(pub Option<ItemIndex>);
 

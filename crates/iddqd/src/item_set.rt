@@ -1,19 +1,19 @@
-//! Items in slots under stable indexes, where the index of a removed item is given out again.
+//! Items in slots under stable indexes. The index of a removed item is assigned again.
 //!
-//! A slot is occupied by an item or vacant. The vacant slots are linked into a chain, that freed
-//! last first, so an insert finds its slot without a search and a removal needs no memory: the set
-//! has one block of memory and two numbers beside it.
+//! A slot is occupied by an item or vacant. The vacant slots are linked into a chain, the last freed first, so an
+//! insert finds its slot without a search and a removal needs no memory: the set has one block of memory and two
+//! numbers beside it.
 //!
-//! What a full set refuses comes before memory is asked for, so `Full` is told whatever memory is
-//! there. The limit is a number of the store, so that a clearing, a compaction and a clone keep it by
-//! definition. A handle keeps the index that it found, and derives `Drop`: with a written one its
-//! insert would owe the room again after the write. `with_capacity` takes exactly what was asked, and
-//! `clear` gives none back.
+//! An insert checks the limit before it asks for memory, so a full set reports `Full` even if no memory is left. The
+//! limit is part of the store, so that `clear`, `compact` and a clone keep it by definition. A handle keeps the index
+//! that it found. It derives `Drop`: with a hand-written `Drop`, `insert` would have to prove the handle's invariant,
+//! that there is room, again after it has used the room. `with_capacity` takes exactly what was asked, and `clear`
+//! gives none back.
 //!
-//! A shrink tells a refusal, though std's tells none: it looks at the capacity afterwards, so the block
-//! may shrink in place. `reserve` looks before it asks the vector, which promises no unchanged
-//! capacity. A compaction takes the memory of its list first and lets std's `retain` close the gaps,
-//! which keeps the order and takes none. `Debug` prints no item, so that it asks nothing of their type.
+//! A shrink reports that memory ran out, which std's does not: it looks at the capacity afterwards, so the block may
+//! shrink in place. `reserve` calls the vector only if it has too few slots: if it has enough, the vector doesn't
+//! promise to leave its capacity unchanged. A compaction first allocates its list; then std's `retain` closes the gaps,
+//! which keeps the order and takes no memory. `Debug` prints no item, so it needs no `T: Debug`.
 ghost use Rattle.std.specs.Prelude.{◌≡◌, ℕ, [], ◌+◌, ◌<◌, ◌≤◌, ◌↔◌, length, map, Some, None, IsSome, IsTrue, IsOk, IfOk, OnOk, OnErr, IfNone, OnSome, option_copied, slice_get};
 ghost use Rattle.std.specs.Option.{option_copied_mut};
 ghost use Rattle.std.specs.Borrow.{sem, Lends, RestsIfErr};
@@ -45,15 +45,15 @@ pub use values::Values;
 /// The most slots that any set can have: one for each index but `SENTINEL`.
 const MAX_SLOTS: u32 = 4294967295;
 
-/// How many slots an insert into a set without memory takes memory for.
+/// The number of slots that the first insert into a set without memory allocates.
 const FIRST_SLOTS: usize = 4;
 
-/// A place of the set.
+/// One slot of the set.
 #[derive(Debug, Drop)]
 pub enum ItemSlot<T> {
     /// It has an item.
     Occupied(T),
-    /// It has none, and names the next vacant slot, or `SENTINEL` at the end.
+    /// It has no item, and has the index of the next vacant slot, or `SENTINEL` at the end.
     Vacant { next: ItemIndex },
 }
 
@@ -62,7 +62,7 @@ pub enum ItemSlot<T> {
 pub enum GrowError {
     /// No slot is vacant, and there are as many slots as the set's limit.
     Full,
-    /// Memory was refused.
+    /// Memory ran out.
     Memory,
 }
 
@@ -84,7 +84,7 @@ impl Error for GrowError {}
 
 /// Items under stable indexes.
 ///
-/// An index gives its item until that item is removed. Then it is the next to be given out.
+/// An index names its item until that item is removed. Then it is the next index to be assigned.
 #[derive(Drop)]
 pub struct ItemSet<T> {
     slots: Vec<ItemSlot<T>>,
@@ -201,7 +201,7 @@ impl<T> ItemSet<T> {
         }
     }
 
-    /// Takes the item at an index, if it is live. The index is then the next to be given out.
+    /// Removes the item at an index and returns it, if the index is live. The index is then the next to be assigned.
     ///
     /// An index that isn't live changes nothing. No memory is taken, and none is given back.
     pub fn remove(&mut self, ix: ItemIndex) -> Option<T>
@@ -217,7 +217,7 @@ impl<T> ItemSet<T> {
         Some(self.vacate(ix))
     }
 
-    /// Gives a live index another item, and hands the old one back. It takes no memory.
+    /// Replaces the item at a live index, and returns the old one. It takes no memory.
     pub fn replace(&mut self, ix: ItemIndex, item: T) -> T
         requires { IsSome (get self.old.store ix) }
         ensures value { get self.old.store ix ≡ Some result }
@@ -227,11 +227,11 @@ impl<T> ItemSet<T> {
         mem::replace(self.item_mut(ix), item)
     }
 
-    /// Takes the room for one more item, so that the insert through the handle can't fail.
+    /// Makes room for one more item, so that the insert through the handle can't fail.
     ///
-    /// `Full` comes exactly where the set is full, also where no memory is left. `Memory` comes only
-    /// where memory was needed: then it is taken for twice as many slots, or for four, but for none
-    /// past the limit. A handle that is dropped leaves the items and indexes as they were.
+    /// It returns `Full` if and only if the set is full, even if no memory is left. It needs memory only if there is no
+    /// room, and then allocates twice as many slots, at least four, and at most the limit; if memory runs out, it
+    /// returns `Memory`. A handle that is dropped leaves the items and indexes as they were.
     pub fn assert_can_grow(&mut self) -> Result<GrowHandle<'_, T>, GrowError>
         ensures* refused { sem 𝓛
             (RestsIfErr (the_row T.row) self.entry handle_lender result (λ last. last ≡ self.old)) }
@@ -248,11 +248,11 @@ impl<T> ItemSet<T> {
         Ok(GrowHandle { set: self, ix })
     }
 
-    /// Moves every item down to its rank, so that no slot is vacant, and tells the new names.
+    /// Moves every item down to its rank, so that no slot is vacant, and returns the new indexes.
     ///
-    /// Where no slot is vacant it is `Identity` and takes no memory. Else the memory of the list of
-    /// names is taken before an item moves; where it is refused nothing changes. The set's own
-    /// memory stays as it was. It walks over the slots twice: for the names, and to close up.
+    /// If no slot is vacant, it returns `Identity` and takes no memory. Otherwise it allocates the list of new indexes
+    /// before any item moves; if memory runs out, nothing changes. The set's own memory stays as it was. It goes over
+    /// the slots twice: for the list, and to close the gaps.
     pub fn compact(&mut self) -> Result<IndexRemap, AllocError>
     where
         T: Drop,
@@ -366,7 +366,7 @@ impl<T> ItemSet<T> {
         self.slots[ix.as_u32() as usize].item_mut()
     }
 
-    // Takes the item at a live index.
+    // Removes the item at a live index and returns it.
     fn vacate(&mut self, ix: ItemIndex) -> T
         requires { IsSome (get self.old.store ix) }
         ensures value { get self.old.store ix ≡ Some result }
@@ -386,7 +386,7 @@ impl<T> ItemSet<T> {
         }
     }
 
-    // Takes memory only where there is no room.
+    // Makes room for one more item. It takes memory only if there is no room.
     fn reserve_one(&mut self) -> Result<(), GrowError>
         ensures room { OnOk result (1 ≤ room self.new) }
         ensures contents { OnOk result (self.new.store ≡ self.old.store) }
@@ -461,7 +461,7 @@ impl<T> ItemSet<T> {
         }
     }
 
-    // The new name of each slot, where every item moves down to its rank.
+    // The new index of each slot, if every item moves down to its rank.
     fn new_names(&self) -> Result<Vec<ItemIndex>, AllocError>
         ensures { IfOk result
             (λ names. names.items ≡ map (new_name self.now.store) (numbers (slot_count self.now.store))) }
@@ -480,7 +480,7 @@ impl<T> ItemSet<T> {
         Ok(names)
     }
 
-    // Lets the vacant slots go. The items keep their order, and no memory is taken.
+    // Removes the vacant slots. The items keep their order, and no memory is taken.
     fn close_up(&mut self)
     where
         T: Drop,
@@ -493,11 +493,11 @@ impl<T> ItemSet<T> {
     }
 }
 
-/// The walks over a set, and the set as slots that are emptied. They take no memory.
+/// The iterators over a set, and the set as slots whose items are removed by index. They take no memory.
 impl<T> ItemSet<T> {
     ghost use Rattle.iddqd.specs.LiveItems.{live_pairs, live_items, IsWalkOf};
 
-    /// The live indexes with their items, by rising index. A whole walk costs a step a slot.
+    /// The live indexes with their items, by rising index. A whole iteration costs a step for each slot.
     pub fn iter(&self) -> Iter<'_, T>
         ensures pairs { result ≡ live_pairs self.now.store }
         ensures len { length result ≡ live_count self.now.store }
@@ -510,7 +510,7 @@ impl<T> ItemSet<T> {
         }
     }
 
-    /// The items, by rising index. A whole walk costs a step a slot.
+    /// The items, by rising index. A whole iteration costs a step for each slot.
     pub fn values(&self) -> Values<'_, T>
         ensures items { result ≡ live_items self.now.store }
         ensures len { length result ≡ live_count self.now.store }
@@ -518,7 +518,7 @@ impl<T> ItemSet<T> {
         Values { pairs: self.iter() }
     }
 
-    /// The items by value, by rising index. A whole walk costs a step a slot.
+    /// The items by value, by rising index. A whole iteration costs a step for each slot.
     pub fn into_values(self) -> IntoValues<T>
         ensures items { result ≡ live_items self.store }
         ensures len { length result ≡ live_count self.store }
@@ -529,7 +529,7 @@ impl<T> ItemSet<T> {
         }
     }
 
-    /// The slots, out of which the items are taken by their indexes. It costs the same for each set.
+    /// The slots, whose items are then removed by index. It costs the same for each set.
     pub fn into_consuming(self) -> ConsumingItemSet<T>
         ensures { result ≡ self.store.items }
     {

@@ -1,8 +1,7 @@
 //! A store of items in slots under stable indexes.
 //!
-//! [`item_set::ItemSet`] keeps each item in a slot and names it by an
-//! [`item_index::ItemIndex`]. The index of a removed item is given out again, that freed last
-//! first, so slots stay dense and an index stays valid until its item is removed.
+//! [`item_set::ItemSet`] keeps each item in a slot and names it by an [`item_index::ItemIndex`]. Indexes of removed
+//! items are assigned again, the last freed first, so slots stay dense. An index stays valid until its item is removed.
 #![tactic(auto)]
 
 pub mod hash_builder;

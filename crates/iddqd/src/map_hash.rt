@@ -1,9 +1,9 @@
 //! Hashes of keys, and queries that stand for keys.
 //!
-//! A table of indexes holds no keys. It is searched by a query, which answers how it compares with
-//! the key of an index. A query that is [`Equivalent`] to a key has to hash as that key does; the
-//! trait doesn't state this, so it is a premise of whoever searches a table of hashes. One that is
-//! [`Comparable`] compares as that key does, so an insert by it goes to the key's place.
+//! A table of indexes holds no keys. It is searched by a query, which answers how it compares with the key of an index.
+//! A query that is [`Equivalent`] to a key has to hash as that key does; the trait doesn't state this, so whoever
+//! searches a hash table has it as a premise. One that is [`Comparable`] compares as that key does, so an insert by it
+//! goes to the key's place.
 ghost use Rattle.std.specs.Prelude.{◌≡◌, ◌↔◌, Bool, IsTrue};
 ghost use Rattle.std.specs.declared.cmp.Ordering.{Ordering};
 ghost use Rattle.std.specs.declared.cmp.Ordering.TheVariants.{Less, Equal, Greater};
@@ -15,7 +15,7 @@ use std::marker::Model;
 
 /// A query that may be equivalent to a key.
 pub trait Equivalent<K> {
-    // What `equivalent` answers.
+    // What `equivalent` returns.
     ghost equivalent: { Self → K → Bool };
 
     /// Whether the query stands for the key.
@@ -28,10 +28,10 @@ pub trait Equivalent<K> {
 /// Along keys in order its answers are first `Greater`, then `Equal`, then `Less`. A query that is
 /// equivalent to a key answers as that key does.
 pub trait Comparable<K: Ord>: Equivalent<K> {
-    // What `compare` answers.
+    // What `compare` returns.
     ghost compare: { Self → K → Ordering };
 
-    /// How the query compares with the key: `Less` where it stands before the key.
+    /// How the query compares with the key: `Less` if it comes before the key.
     fn compare(&self, key: &K) -> Ordering
         ensures { result ≡ compare self.now key.now };
 
@@ -51,7 +51,7 @@ pub trait Comparable<K: Ord>: Equivalent<K> {
 
 /// The query that is the key itself: equal, ordered and hashed as the key is.
 ///
-/// It stands for the keys that a lookup lends, so it implements both traits for `&K`.
+/// A look-up compares it with borrowed keys, so it implements both traits for `&K`.
 #[derive(Clone, Copy, Debug, PartialEq, Eq)]
 pub struct Same<'a, K>(pub &'a K);
 
@@ -114,7 +114,7 @@ impl Model for MapHash {
 }
 
 impl MapHash {
-    /// The hash of that number.
+    /// The hash with this number.
     pub fn new(hash: u64) -> MapHash
         ensures { result ≡ hash }
     {

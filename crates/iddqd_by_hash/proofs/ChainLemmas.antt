@@ -13,8 +13,8 @@ use Rattle.std.proofs.lemmas.Map.Steps.{length-le_from_distinct_below}
 use Rattle.iddqd.specs.Store.{sentinel}
 use Rattle.iddqd.proofs.StoreLemmas.{contains_head, contains_tail, contains_cases, contains_none, differs}
 use Rattle.iddqd_hash.proofs.MemberLemmas.{filed_at}
-use Rattle.iddqd_by_hash.specs.Links.{chain, EndsWithin, IsChained, IsLinked, AreUnder, filed_by, next_of, prev_of}
-use Rattle.iddqd_by_hash.specs.LinkedTable.{AreLinked}
+use Rattle.iddqd_by_hash.specs.Links.{chain, EndsWithin, IsChained, AreHeads, AreUnder, filed_by, next_of, prev_of}
+use Rattle.iddqd_by_hash.specs.LinkedTable.{AreHeadsOf}
 use Rattle.iddqd_by_hash.specs.declared.linked_table.links.Link.{Link}
 use Rattle.iddqd_by_hash.proofs.LinksLemmas.{below-filed_by, link_read}
 
@@ -93,7 +93,8 @@ module _ (next : ℕ → ℕ) where
         elim (cases_eq ix sentinel) [
           | inl same ↦ EndsWithin-stop _ ix same
           | inr there ↦
-              subst (λ list. EndsWithin next bound (length list) ix) (sym (chain-go most ix there)) (λ _. ((ends there).0, EndsWithin-length most (next ix) (ends there).1))
+              subst (λ list. EndsWithin next bound (length list) ix) (sym (chain-go most ix there))
+              (λ _. ((ends there).0, EndsWithin-length most (next ix) (ends there).1))
         ]
 
     chain-first : (most ix : ℕ) → EndsWithin next bound most ix → ix ≢ sentinel → Contains (chain next most ix) ix
@@ -119,35 +120,38 @@ module _ (next : ℕ → ℕ) where
               (contains_tail ix (next member) _
               (elim (contains_cases ix member _ listed) [
                 | inl first ↦
-                    subst (λ j. Contains (chain next most (next ix)) (next j)) first (chain-first most (next ix) rest (λ none. goes (ap next (sym first) ∙ none)))
+                    subst (λ j. Contains (chain next most (next ix)) (next j)) first
+                    (chain-first most (next ix) rest (λ none. goes (ap next (sym first) ∙ none)))
                 | inr later ↦ chain-next most (next ix) member rest later goes
               ]))
         ]
 
 module _ (filed : FinMap nat_cmp ℕ) (next prev : ℕ → ℕ) (is : IsChained filed next prev) where
   real : (ix hash : ℕ) → finite.get filed ix ≡ Some hash → ix ≢ sentinel
-  real ix hash here = is.named ix (filed_at _ hash here)
+  real ix hash here = is.not_sentinel ix (filed_at _ hash here)
 
-  -- the members of a chain have the hash of its first, and none has a lower rank
+  -- the members of a chain have the hash of its first, and none has a lower depth
   members :
       (most ix hash member : ℕ)
       → finite.get filed ix ≡ Some hash
       → Contains (chain next most ix) member
-      → (finite.get filed member ≡ Some hash) × (is.rising.rank ix ≤ is.rising.rank member)
+      → (finite.get filed member ≡ Some hash) × (is.acyclic.depth ix ≤ is.acyclic.depth member)
   members zero ix hash member here listed = absurd (contains_none member listed)
   members (suc most) ix hash member here listed =
       let there = real ix hash here in
       let split = subst (λ list. Contains list member) (chain-go next most ix there) listed in
       elim (contains_cases ix member _ split) [
         | inl first ↦
-            subst (λ j. (finite.get filed j ≡ Some hash) × (is.rising.rank ix ≤ is.rising.rank j)) first (here, omega arith)
+            subst (λ j. (finite.get filed j ≡ Some hash) × (is.acyclic.depth ix ≤ is.acyclic.depth j)) first
+            (here, omega arith)
         | inr later ↦
             elim (cases_eq (next ix) sentinel) [
               | inl last ↦
-                  absurd (contains_none member (subst (λ list. Contains list member) (chain-stop next most (next ix) last) later))
+                  absurd (contains_none member (subst (λ list. Contains list member)
+                  (chain-stop next most (next ix) last) later))
               | inr goes ↦
                   let follows = (is.forth ix hash here goes).0 in
-                  let rose = is.rising.rises ix (filed_at _ hash here) goes in
+                  let rose = is.acyclic.rises ix (filed_at _ hash here) goes in
                   let (has, least) = members most (next ix) hash member follows later in
                   (has, omega (arith, rose, least))
             ]
@@ -168,63 +172,69 @@ module _ (filed : FinMap nat_cmp ℕ) (next prev : ℕ → ℕ) (is : IsChained 
             subst (λ list. IsDistinct nat_eq (ix ∷ list)) (sym (chain-stop next most (next ix) last)) (tt, tt)
         | inr goes ↦
             let follows = (is.forth ix hash here goes).0 in
-            let rose = is.rising.rises ix (filed_at _ hash here) goes in
+            let rose = is.acyclic.rises ix (filed_at _ hash here) goes in
             let rest = chain next most (next ix) in
             IsDistinct-cons nat_eq ix rest
             (recursion_from_All (λ y. nat_eq ix y ≡ false) rest (λ k d inside. differs ix (get_or rest k d) (λ same.
             let least = (members most (next ix) hash (get_or rest k d) follows (Contains-get_or rest k d inside)).1 in
-            let never : is.rising.rank ix < is.rising.rank ix = subst (λ j. is.rising.rank ix < is.rising.rank j) (sym same) (omega (arith, rose, least)) in
+            let never : is.acyclic.depth ix < is.acyclic.depth ix =
+            subst (λ j. is.acyclic.depth ix < is.acyclic.depth j) (sym same) (omega (arith, rose, least)) in
             omega (arith, never))))
             (distinct-chain most (next ix) hash follows)
       ])
 
   module _ (bound : ℕ) (below : (ix : ℕ) → IsSome (finite.get filed ix) → ix < bound) where
-    -- the chain ends before the rank rises over the top
-    EndsWithin-rank :
+    -- the chain ends before the depth rises over the top
+    EndsWithin-depth :
         (most ix hash : ℕ)
         → finite.get filed ix ≡ Some hash
-        → is.rising.top ≤ most + is.rising.rank ix
+        → is.acyclic.top ≤ most + is.acyclic.depth ix
         → EndsWithin next bound most ix
-    EndsWithin-rank zero ix hash here enough =
-        let less = is.rising.below ix (filed_at _ hash here) in
+    EndsWithin-depth zero ix hash here enough =
+        let less = is.acyclic.below ix (filed_at _ hash here) in
         absurd (omega (arith, less, enough))
-    EndsWithin-rank (suc most) ix hash here enough = λ there. (
+    EndsWithin-depth (suc most) ix hash here enough = λ there. (
       below ix (filed_at _ hash here),
       elim (cases_eq (next ix) sentinel) [
         | inl last ↦ EndsWithin-stop next bound most (next ix) last
         | inr goes ↦
-            let rose = is.rising.rises ix (filed_at _ hash here) goes in
-            EndsWithin-rank most (next ix) hash (is.forth ix hash here goes).0 (omega (arith, rose, enough))
+            let rose = is.acyclic.rises ix (filed_at _ hash here) goes in
+            EndsWithin-depth most (next ix) hash (is.forth ix hash here goes).0 (omega (arith, rose, enough))
       ],
     )
 
     -- its members are distinct and below the bound, so they are no more than that
     pub EndsWithin-filed : (ix hash : ℕ) → finite.get filed ix ≡ Some hash → EndsWithin next bound bound ix
     EndsWithin-filed ix hash here =
-        let top = is.rising.top in
-        let ends = EndsWithin-rank top ix hash here (omega arith) in
-        let within = length-le_from_distinct_below (chain next top ix) bound (distinct-chain top ix hash here) (λ q member. below q (filed_at _ hash (members top ix hash q here ((is_member-Decides Decides-eqb (chain next top ix) q).0 member)).0)) in
-        EndsWithin-more next bound (length (chain next top ix)) bound ix within (EndsWithin-length next bound top ix ends)
+        let top = is.acyclic.top in
+        let ends = EndsWithin-depth top ix hash here (omega arith) in
+        let within =
+        length-le_from_distinct_below (chain next top ix) bound (distinct-chain top ix hash here)
+        (λ q member. below q (filed_at _ hash (members top ix hash q here
+        ((is_member-Decides Decides-eqb (chain next top ix) q).0 member)).0)) in
+        EndsWithin-more next bound (length (chain next top ix)) bound ix within
+        (EndsWithin-length next bound top ix ends)
 
 -- the chain from the head of a hash
 module _
-    (heads filed : FinMap nat_cmp ℕ) (next prev : ℕ → ℕ) (is : IsLinked heads filed next prev) (bound hash : ℕ)
+    (heads filed : FinMap nat_cmp ℕ) (next prev : ℕ → ℕ) (is : AreHeads heads filed next prev) (bound hash : ℕ)
   where
-    rank_before :
+    depth_before :
         (ix : ℕ)
         → finite.get filed ix ≡ Some hash
         → prev ix ≢ sentinel
-        → is.chained.rising.rank (prev ix) < is.chained.rising.rank ix
-    rank_before ix here goes =
+        → is.chained.acyclic.depth (prev ix) < is.chained.acyclic.depth ix
+    depth_before ix here goes =
         let (before, forth) = is.chained.back ix hash here goes in
         let there = real filed next prev is.chained ix hash here in
-        subst (λ j. is.chained.rising.rank (prev ix) < is.chained.rising.rank j) forth (is.chained.rising.rises (prev ix) (filed_at _ hash before) (λ none. there (sym forth ∙ none)))
+        subst (λ j. is.chained.acyclic.depth (prev ix) < is.chained.acyclic.depth j) forth
+        (is.chained.acyclic.rises (prev ix) (filed_at _ hash before) (λ none. there (sym forth ∙ none)))
 
     -- an index under a hash has a head, and the chain from that comes to it
     head_before :
         (steps ix : ℕ)
         → finite.get filed ix ≡ Some hash
-        → is.chained.rising.rank ix < steps
+        → is.chained.acyclic.depth ix < steps
         → (head : ℕ)
         × (finite.get heads head ≡ Some hash)
         × ((most : ℕ) → EndsWithin next bound most head → Contains (chain next most head) ix)
@@ -232,15 +242,18 @@ module _
     head_before (suc steps) ix here below =
         let there = real filed next prev is.chained ix hash here in
         elim (cases_eq (prev ix) sentinel) [
-          | inl first ↦ (ix, (is.firsts ix hash).1 (here, first), λ most ends. chain-first next bound most ix ends there)
+          | inl first ↦
+              (ix, (is.firsts ix hash).1 (here, first), λ most ends. chain-first next bound most ix ends there)
           | inr goes ↦
               let (before, forth) = is.chained.back ix hash here goes in
-              let less = rank_before ix here goes in
+              let less = depth_before ix here goes in
               let (head, led, listed) = head_before steps (prev ix) before (omega (arith, below, less)) in (
                 head,
                 led,
                 λ most ends.
-                    subst (λ j. Contains (chain next most head) j) forth (chain-next next bound most head (prev ix) ends (listed most ends) (λ none. there (sym forth ∙ none))),
+                    subst (λ j. Contains (chain next most head) j) forth
+                    (chain-next next bound most head (prev ix) ends (listed most ends)
+                    (λ none. there (sym forth ∙ none))),
               )
         ]
 
@@ -255,9 +268,10 @@ module _
           each = λ ix. (
             λ listed. (members filed next prev is.chained most head hash ix here listed).0,
             λ filed_ix.
-                let (first, leads, listed) = head_before (suc (is.chained.rising.rank ix)) ix filed_ix (omega arith) in
+                let (first, leads, listed) = head_before (suc (is.chained.acyclic.depth ix)) ix filed_ix (omega arith) in
                 let one = is.one_head first head hash leads led in
-                subst (λ j. Contains (chain next most j) ix) one (listed most (subst (λ j. EndsWithin next bound most j) (sym one) ends)),
+                subst (λ j. Contains (chain next most j) ix) one
+                (listed most (subst (λ j. EndsWithin next bound most j) (sym one) ends)),
           );
           once = distinct-chain filed next prev is.chained most head hash here;
         }
@@ -274,21 +288,22 @@ module _
           each = λ j. (
             λ listed. absurd (contains_none j listed),
             λ filed_j.
-                let (head, led, listed) = head_before (suc (is.chained.rising.rank j)) j filed_j (omega arith) in
+                let (head, led, listed) = head_before (suc (is.chained.acyclic.depth j)) j filed_j (omega arith) in
                 absurd (none head led),
           );
           once = tt;
         })
 
 -- the walk over a list of links from the head of a hash
-module _ (heads : FinMap nat_cmp ℕ) (links : List Link) (is : AreLinked heads links) where
+module _ (heads : FinMap nat_cmp ℕ) (links : List Link) (is : AreHeadsOf heads links) where
   pub EndsWithin-head :
       (head hash : ℕ)
       → finite.get heads head ≡ Some hash
       → EndsWithin (next_of links) (length links) (length links) head
   EndsWithin-head head hash led =
       let here = ((is.firsts head hash).0 led).0 in
-      EndsWithin-filed (filed_by links) (next_of links) (prev_of links) is.chained (length links) (below-filed_by links) head hash here
+      EndsWithin-filed (filed_by links) (next_of links) (prev_of links) is.chained (length links)
+      (below-filed_by links) head hash here
 
 -- a step of the walk, where the link of its index was read
 module _
@@ -301,9 +316,11 @@ module _
         let below = (EndsWithin-step (next_of links) (length links) (length links) ix ends there).0 in
         ap (λ (l : Link). l.next) (sym (link_read links place ix link same below read) ∙ read)
 
-    pub EndsWithin-read : EndsWithin (next_of links) (length links) (length links) (slice_index_or links place link).next
+    pub EndsWithin-read :
+        EndsWithin (next_of links) (length links) (length links) (slice_index_or links place link).next
     EndsWithin-read =
-        subst (λ j. EndsWithin (next_of links) (length links) (length links) j) next_read (EndsWithin-step (next_of links) (length links) (length links) ix ends there).1
+        subst (λ j. EndsWithin (next_of links) (length links) (length links) j) next_read
+        (EndsWithin-step (next_of links) (length links) (length links) ix ends there).1
 
     pub chain-read :
         chain (next_of links) (length links) ix

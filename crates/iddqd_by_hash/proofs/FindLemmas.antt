@@ -39,7 +39,8 @@ StandsForOne-key hashing key hash lawful is =
 module _ {T : Type 0} where
   pub hit_from_passes : (s : Store T) (test : T → Bool) (ix : ℕ) → IsTrue (passes s test ix) → IsHit s test ix
   hit_from_passes s test ix =
-      elim (get s ix) as (λ o. get s ix ≡ o → IsTrue (elim o [ None ↦ false | Some item ↦ test item ]) → IsHit s test ix) [
+      elim (get s ix) as (λ o. get s ix ≡ o → IsTrue (elim o [ None ↦ false | Some item ↦ test item ])
+      → IsHit s test ix) [
         | Some item ↦ λ is passed. (item, is, passed)
         | None ↦ λ is passed. absurd (cc)
       ] refl

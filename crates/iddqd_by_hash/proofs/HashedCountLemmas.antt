@@ -24,7 +24,8 @@ less_differs : (x y : ℕ) → Holds (is_lt (nat_cmp x y)) → nat_eq x y ≡ fa
 less_differs x y less =
     elim (nat_eq x y) as (λ b. nat_eq x y ≡ b → b ≡ false) [
       | true ↦ λ same.
-          let itself : Holds (is_lt (nat_cmp x x)) = subst (λ z. Holds (is_lt (nat_cmp x z))) (sym (eqb-true x y same)) less in
+          let itself : Holds (is_lt (nat_cmp x x)) =
+          subst (λ z. Holds (is_lt (nat_cmp x z))) (sym (eqb-true x y same)) less in
           absurd (subst (λ r. Holds (is_lt r)) (tied_itself nat_cmp_total x) itself)
       | false ↦ λ _. refl
     ] refl

@@ -83,7 +83,8 @@ module _ {T : Type 0} where
 
       pub Renames-by_rank : (new : FinMap nat_cmp ℕ) → Renames (remapped remap) m new → Renames (rank s) m new
       Renames-by_rank new named =
-          Renames-alike (remapped remap) (rank s) m new (λ ix here. (renames s remap valid is ix ((holds ix).0 here)).1) named
+          Renames-alike (remapped remap) (rank s) m new
+          (λ ix here. (renames s remap valid is ix ((holds ix).0 here)).1) named
 
     pub Holds-compacted : (new : FinMap nat_cmp ℕ) → Renames (rank s) m new → Holds (compacted s) new
     Holds-compacted new named at = (

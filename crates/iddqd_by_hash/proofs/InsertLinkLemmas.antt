@@ -7,7 +7,7 @@ use Rattle.std.proofs.lemmas.Bool.{cases_eq}
 use Rattle.iddqd.specs.Store.{sentinel}
 use Rattle.iddqd.proofs.StoreLemmas.{differs}
 use Rattle.iddqd_hash.proofs.MemberLemmas.{get-insert_at, get-insert_other, filed_hash, filed_at}
-use Rattle.iddqd_by_hash.specs.Links.{IsLinked, LeadsBack, Rises}
+use Rattle.iddqd_by_hash.specs.Links.{AreHeads, LeadsBack, IsAcyclic}
 
 -- two values of one place are the same
 pub one_hash : (o : Option ℕ) (a b : ℕ) → o ≡ Some a → o ≡ Some b → a ≡ b
@@ -40,18 +40,21 @@ LeadsBack-alone filed there back there' back' ix hash absent was none there_stay
           let here : finite.get filed j ≡ Some h = sym (get-insert_other filed ix hash j other) ∙ given in
           let (leads, returns) = was j h here (λ none. goes (there_stays j other ∙ none)) in
           let apart = apart_from_absent filed ix absent (there j) h leads in
-          rw (there_stays j other) (get-insert_other filed ix hash (there j) apart ∙ leads, back_stays (there j) apart ∙ returns)
+          rw (there_stays j other) (
+            get-insert_other filed ix hash (there j) apart ∙ leads,
+            back_stays (there j) apart ∙ returns,
+          )
     ]
 
 module _
-    (heads filed : FinMap nat_cmp ℕ) (next prev nexts prevs : ℕ → ℕ) (is : IsLinked heads filed next prev)
+    (heads filed : FinMap nat_cmp ℕ) (next prev nexts prevs : ℕ → ℕ) (is : AreHeads heads filed next prev)
     (ix hash : ℕ) (absent : finite.get filed ix ≡ None) (named : ix ≢ sentinel)
   where
     named_new : (j : ℕ) → IsSome (finite.get (finite.insert filed ix hash) j) → j ≢ sentinel
     named_new j here =
         elim (cases_eq j ix) [
           | inl same ↦ λ none. named (sym same ∙ none)
-          | inr other ↦ is.chained.named j (subst IsSome (get-insert_other filed ix hash j other) here)
+          | inr other ↦ is.chained.not_sentinel j (subst IsSome (get-insert_other filed ix hash j other) here)
         ]
 
     -- where no index has the hash
@@ -61,12 +64,12 @@ module _
         (first : prevs ix ≡ sentinel)
         (next_stays : (j : ℕ) → j ≢ ix → nexts j ≡ next j) (prev_stays : (j : ℕ) → j ≢ ix → prevs j ≡ prev j)
       where
-        alone_rising : Rises (finite.insert filed ix hash) nexts
+        alone_rising : IsAcyclic (finite.insert filed ix hash) nexts
         alone_rising =
-            let was = is.chained.rising in
+            let was = is.chained.acyclic in
             record {
-              rank = was.rank;
-              top = max was.top (suc (was.rank ix));
+              depth = was.depth;
+              top = max was.top (suc (was.depth ix));
               below = λ j here.
                   elim (cases_eq j ix) [
                     | inl same ↦ rw same (omega (arith))
@@ -89,9 +92,14 @@ module _
             ↔ ((finite.get (finite.insert filed ix hash) j ≡ Some h) × (prevs j ≡ sentinel))
         alone_firsts j h =
             elim (cases_eq j ix) [
-              | inl same ↦ rw (same, get-insert_at heads ix hash, get-insert_at filed ix hash) (λ e. (e, first), λ p. p.0)
+              | inl same ↦
+                  rw (same, get-insert_at heads ix hash, get-insert_at filed ix hash) (λ e. (e, first), λ p. p.0)
               | inr other ↦
-                  rw (get-insert_other heads ix hash j other, get-insert_other filed ix hash j other, prev_stays j other) (is.firsts j h)
+                  rw (
+                    get-insert_other heads ix hash j other,
+                    get-insert_other filed ix hash j other,
+                    prev_stays j other,
+                  ) (is.firsts j h)
             ]
 
         alone_one_head :
@@ -112,7 +120,9 @@ module _
                 → finite.get (finite.insert heads ix hash) l ≡ Some h
                 → ⊥
             not_there k l same other r s =
-                let hashed : h ≡ hash = one_hash _ h hash r (ap (finite.get (finite.insert heads ix hash)) same ∙ get-insert_at heads ix hash) in
+                let hashed : h ≡ hash =
+                one_hash _ h hash r (ap (finite.get (finite.insert heads ix hash)) same
+                ∙ get-insert_at heads ix hash) in
                 alone l (stood l other s ∙ ap Some hashed)
 
             by_cases : ((i ≡ ix) ⊎ (i ≢ ix)) → ((j ≡ ix) ⊎ (j ≢ ix)) → i ≡ j
@@ -121,13 +131,15 @@ module _
             by_cases (inr a) (inl b) = absurd (not_there j i b a q p)
             by_cases (inr a) (inr b) = is.one_head i j h (stood i a p) (stood j b q)
 
-        pub IsLinked-alone : IsLinked (finite.insert heads ix hash) (finite.insert filed ix hash) nexts prevs
-        IsLinked-alone = record {
+        pub AreHeads-alone : AreHeads (finite.insert heads ix hash) (finite.insert filed ix hash) nexts prevs
+        AreHeads-alone = record {
           chained = record {
-            forth = LeadsBack-alone filed next prev nexts prevs ix hash absent is.chained.forth last next_stays prev_stays;
-            back = LeadsBack-alone filed prev next prevs nexts ix hash absent is.chained.back first prev_stays next_stays;
-            rising = alone_rising;
-            named = named_new;
+            forth =
+                LeadsBack-alone filed next prev nexts prevs ix hash absent is.chained.forth last next_stays prev_stays;
+            back =
+                LeadsBack-alone filed prev next prevs nexts ix hash absent is.chained.back first prev_stays next_stays;
+            acyclic = alone_rising;
+            not_sentinel = named_new;
           };
           firsts = alone_firsts;
           one_head = alone_one_head;
@@ -148,11 +160,13 @@ module _
         head_apart = apart_from_absent filed ix absent head hash head_filed
 
         head_named : head ≢ sentinel
-        head_named = is.chained.named head (filed_at _ hash head_filed)
+        head_named = is.chained.not_sentinel head (filed_at _ hash head_filed)
 
         -- the follower, if there is one, stood behind the head
         behind : follower ≢ sentinel → (finite.get filed follower ≡ Some hash) × (prev follower ≡ head)
-        behind there = subst (λ k. (finite.get filed k ≡ Some hash) × (prev k ≡ head)) follows (is.chained.forth head hash head_filed (λ none. there (sym follows ∙ none)))
+        behind there =
+            subst (λ k. (finite.get filed k ≡ Some hash) × (prev k ≡ head)) follows
+            (is.chained.forth head hash head_filed (λ none. there (sym follows ∙ none)))
 
         stood : (j h : ℕ) → j ≢ ix → finite.get (finite.insert filed ix hash) j ≡ Some h → finite.get filed j ≡ Some h
         stood j h other given = sym (get-insert_other filed ix hash j other) ∙ given
@@ -185,8 +199,9 @@ module _
                         let on = next_stays j other apart in
                         let (there, back) = is.chained.forth j h here (λ none. goes (on ∙ none)) in
                         let new = apart_from_absent filed ix absent (next j) h there in
-                        let named_next = is.chained.named (next j) (filed_at _ h there) in
-                        let unlike : next j ≢ follower = λ same. apart (sym back ∙ ap prev same ∙ (behind (λ none. named_next (same ∙ none))).1) in
+                        let named_next = is.chained.not_sentinel (next j) (filed_at _ h there) in
+                        let unlike : next j ≢ follower =
+                        λ same. apart (sym back ∙ ap prev same ∙ (behind (λ none. named_next (same ∙ none))).1) in
                         rw on (stays (next j) h there, prev_stays (next j) named_next new unlike ∙ back)
                   ]
             ]
@@ -201,7 +216,7 @@ module _
               | inl same ↦ rw (same, prev_ix, hash_at j h same given) (stays head hash head_filed, next_head)
               | inr other ↦
                   let here = stood j h other given in
-                  let there = is.chained.named j (filed_at _ h here) in
+                  let there = is.chained.not_sentinel j (filed_at _ h here) in
                   elim (cases_eq j follower) [
                     | inl same ↦
                         let seen : follower ≢ sentinel = λ none. there (same ∙ none) in
@@ -216,59 +231,60 @@ module _
                   ]
             ]
 
-        behind_rank : ℕ → ℕ
-        behind_rank j = if j == ix then 2 * is.chained.rising.rank head + 1 else 2 * is.chained.rising.rank j
+        behind_depth : ℕ → ℕ
+        behind_depth j = if j == ix then 2 * is.chained.acyclic.depth head + 1 else 2 * is.chained.acyclic.depth j
 
-        rank_at : behind_rank ix ≡ 2 * is.chained.rising.rank head + 1
-        unfolding behind_rank
-        rank_at = rw (eq-eqb ix ix refl) refl
+        depth_at : behind_depth ix ≡ 2 * is.chained.acyclic.depth head + 1
+        unfolding behind_depth
+        depth_at = rw (eq-eqb ix ix refl) refl
 
-        rank_other : (j : ℕ) → j ≢ ix → behind_rank j ≡ 2 * is.chained.rising.rank j
-        unfolding behind_rank
-        rank_other j other = rw (differs j ix other) refl
+        depth_other : (j : ℕ) → j ≢ ix → behind_depth j ≡ 2 * is.chained.acyclic.depth j
+        unfolding behind_depth
+        depth_other j other = rw (differs j ix other) refl
 
         behind_rises :
             (j : ℕ)
             → IsSome (finite.get (finite.insert filed ix hash) j)
             → nexts j ≢ sentinel
-            → behind_rank j < behind_rank (nexts j)
+            → behind_depth j < behind_depth (nexts j)
         behind_rises j given goes =
-            let was = is.chained.rising in
+            let was = is.chained.acyclic in
             elim (cases_eq j ix) [
               | inl same ↦
                   let there : follower ≢ sentinel = λ none. goes (ap nexts same ∙ next_ix ∙ none) in
                   let apart = apart_from_absent filed ix absent follower hash (behind there).0 in
                   let less = was.rises head (filed_at _ hash head_filed) (λ none. there (sym follows ∙ none)) in
-                  let rose : was.rank head < was.rank follower = subst (λ k. was.rank head < was.rank k) follows less in
-                  rw (same, next_ix, rank_at, rank_other follower apart) (omega (arith, rose))
+                  let rose : was.depth head < was.depth follower =
+                  subst (λ k. was.depth head < was.depth k) follows less in
+                  rw (same, next_ix, depth_at, depth_other follower apart) (omega (arith, rose))
               | inr other ↦
                   let (h, given_hash) = filed_hash _ given in
                   let here = stood j h other given_hash in
                   elim (cases_eq j head) [
-                    | inl same ↦ rw (same, next_head, rank_at, rank_other head head_apart) (omega (arith))
+                    | inl same ↦ rw (same, next_head, depth_at, depth_other head head_apart) (omega (arith))
                     | inr apart ↦
                         let on = next_stays j other apart in
                         let goes_on : next j ≢ sentinel = λ none. goes (on ∙ none) in
                         let there = (is.chained.forth j h here goes_on).0 in
                         let new = apart_from_absent filed ix absent (next j) h there in
                         let rose = was.rises j (filed_at _ h here) goes_on in
-                        rw (on, rank_other j other, rank_other (next j) new) (omega (arith, rose))
+                        rw (on, depth_other j other, depth_other (next j) new) (omega (arith, rose))
                   ]
             ]
 
         behind_below :
             (j : ℕ)
             → IsSome (finite.get (finite.insert filed ix hash) j)
-            → behind_rank j < 2 * is.chained.rising.top
+            → behind_depth j < 2 * is.chained.acyclic.top
         behind_below j given =
-            let was = is.chained.rising in
+            let was = is.chained.acyclic in
             elim (cases_eq j ix) [
               | inl same ↦
                   let less = was.below head (filed_at _ hash head_filed) in
-                  rw (same, rank_at) (omega (arith, less))
+                  rw (same, depth_at) (omega (arith, less))
               | inr other ↦
                   let less = was.below j (subst IsSome (get-insert_other filed ix hash j other) given) in
-                  rw (rank_other j other) (omega (arith, less))
+                  rw (depth_other j other) (omega (arith, less))
             ]
 
         -- a head comes first and is no follower
@@ -278,9 +294,10 @@ module _
             → (finite.get (finite.insert filed ix hash) j ≡ Some h) × (prevs j ≡ sentinel)
         head_stays j h first =
             let (here, before) = (is.firsts j h).0 first in
-            let there = is.chained.named j (filed_at _ h here) in
+            let there = is.chained.not_sentinel j (filed_at _ h here) in
             let new = apart_from_absent filed ix absent j h here in
-            let unlike : j ≢ follower = λ same. head_named (sym (behind (λ none. there (same ∙ none))).1 ∙ ap prev (sym same) ∙ before) in
+            let unlike : j ≢ follower =
+            λ same. head_named (sym (behind (λ none. there (same ∙ none))).1 ∙ ap prev (sym same) ∙ before) in
             (stays j h here, prev_stays j there new unlike ∙ before)
 
         head_was :
@@ -292,26 +309,27 @@ module _
               | inl same ↦ absurd (head_named (sym prev_ix ∙ ap prevs (sym same) ∙ given.1))
               | inr other ↦
                   let here = stood j h other given.0 in
-                  let there = is.chained.named j (filed_at _ h here) in
+                  let there = is.chained.not_sentinel j (filed_at _ h here) in
                   elim (cases_eq j follower) [
                     | inl same ↦
-                        absurd (named (sym (prev_follower (λ none. there (same ∙ none))) ∙ ap prevs (sym same) ∙ given.1))
+                        absurd (named (sym (prev_follower (λ none. there (same ∙ none))) ∙ ap prevs (sym same)
+                        ∙ given.1))
                     | inr apart ↦ (is.firsts j h).1 (here, sym (prev_stays j there other apart) ∙ given.1)
                   ]
             ]
 
-        pub IsLinked-behind : IsLinked heads (finite.insert filed ix hash) nexts prevs
-        IsLinked-behind = record {
+        pub AreHeads-behind : AreHeads heads (finite.insert filed ix hash) nexts prevs
+        AreHeads-behind = record {
           chained = record {
             forth = behind_forth;
             back = behind_back;
-            rising = record {
-              rank = behind_rank;
-              top = 2 * is.chained.rising.top;
+            acyclic = record {
+              depth = behind_depth;
+              top = 2 * is.chained.acyclic.top;
               below = behind_below;
               rises = behind_rises;
             };
-            named = named_new;
+            not_sentinel = named_new;
           };
           firsts = λ j h. (head_stays j h, head_was j h);
           one_head = is.one_head;

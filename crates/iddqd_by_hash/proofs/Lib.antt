@@ -15,3 +15,4 @@ mod UnlinkLemmas
 mod LinkLemmas
 mod RenamingLemmas
 mod RenamedLenLemmas
+mod RenamedTableLemmas

@@ -12,9 +12,9 @@ use Rattle.iddqd_hash.specs.MapHashTable.{indexes_under}
 use Rattle.iddqd_hash.proofs.FiledLemmas.{filed_from_under, under_from_filed}
 use Rattle.iddqd_hash.proofs.MemberLemmas.{get-insert_at, get-insert_other, filed_at}
 use Rattle.iddqd_by_hash.specs.Links.{filed_by, next_of, prev_of, next_behind, prev_behind}
-use Rattle.iddqd_by_hash.specs.LinkedTable.{AreLinked}
+use Rattle.iddqd_by_hash.specs.LinkedTable.{AreHeadsOf}
 use Rattle.iddqd_by_hash.specs.declared.linked_table.links.Link.{Link}
-use Rattle.iddqd_by_hash.proofs.InsertLinkLemmas.{IsLinked-alone, IsLinked-behind, apart_from_absent}
+use Rattle.iddqd_by_hash.proofs.InsertLinkLemmas.{AreHeads-alone, AreHeads-behind, apart_from_absent}
 use Rattle.iddqd_by_hash.proofs.UnlinkLemmas.{at_place, at_other}
 
 -- what a map has, it has after an insert
@@ -49,7 +49,7 @@ module _ (heads : FinMap nat_cmp ℕ) (hash : ℕ) (under : List ℕ) where
       let here : Contains under ix = Contains-permutation _ _ ix moved (under_from_filed heads hash ix led) in
       contains_none ix (subst (λ xs. Contains xs ix) is here)
 
-module _ (heads : FinMap nat_cmp ℕ) (old : List Link) (is : AreLinked heads old) where
+module _ (heads : FinMap nat_cmp ℕ) (old : List Link) (is : AreHeadsOf heads old) where
   pub head_filed : (head hash : ℕ) → finite.get heads head ≡ Some hash → finite.get (filed_by old) head ≡ Some hash
   head_filed head hash led = ((is.firsts head hash).0 led).0
 
@@ -72,13 +72,16 @@ module _ (heads : FinMap nat_cmp ℕ) (old : List Link) (is : AreLinked heads ol
       (ix hash : ℕ) (absent : finite.get (filed_by old) ix ≡ None) (named : ix ≢ sentinel) (new : List Link)
       (filed_new : filed_by new ≡ finite.insert (filed_by old) ix hash)
     where
-      pub AreLinked-put_alone :
+      pub AreHeadsOf-put_alone :
           ((j : ℕ) → finite.get heads j ≡ Some hash → ⊥)
           → ((j : ℕ) → next_of new j ≡ (if j == ix then sentinel else next_of old j))
           → ((j : ℕ) → prev_of new j ≡ (if j == ix then sentinel else prev_of old j))
-          → AreLinked (finite.insert heads ix hash) new
-      AreLinked-put_alone alone next prev =
-          rw filed_new (IsLinked-alone heads (filed_by old) (next_of old) (prev_of old) (next_of new) (prev_of new) is ix hash absent named alone (next ix ∙ at_place ix sentinel _) (prev ix ∙ at_place ix sentinel _) (λ j other. next j ∙ at_other j ix sentinel _ other) (λ j other. prev j ∙ at_other j ix sentinel _ other))
+          → AreHeadsOf (finite.insert heads ix hash) new
+      AreHeadsOf-put_alone alone next prev =
+          rw filed_new (AreHeads-alone heads (filed_by old) (next_of old) (prev_of old) (next_of new)
+          (prev_of new) is ix hash absent named alone (next ix ∙ at_place ix sentinel _)
+          (prev ix ∙ at_place ix sentinel _) (λ j other. next j ∙ at_other j ix sentinel _ other)
+          (λ j other. prev j ∙ at_other j ix sentinel _ other))
 
       module _
           (head : ℕ) (led : finite.get heads head ≡ Some hash)
@@ -94,6 +97,13 @@ module _ (heads : FinMap nat_cmp ℕ) (old : List Link) (is : AreLinked heads ol
               let follows = (is.chained.forth head hash (head_filed head hash led) there).0 in
               apart_from_absent (filed_by old) ix absent (next_of old head) hash follows (sym same)
 
-          pub AreLinked-put_behind : AreLinked heads new
-          AreLinked-put_behind =
-              rw filed_new (IsLinked-behind heads (filed_by old) (next_of old) (prev_of old) (next_of new) (prev_of new) is ix hash absent named head (next_of old head) led refl (next head ∙ at_place head ix _) (next ix ∙ at_other ix head ix _ apart ∙ at_place ix (next_of old head) _) (prev ix named ∙ at_other ix (next_of old head) ix _ unlike ∙ at_place ix head _) (λ there. prev (next_of old head) there ∙ at_place (next_of old head) ix _) (λ j other away. next j ∙ at_other j head ix _ away ∙ at_other j ix (next_of old head) _ other) (λ j there other away. prev j there ∙ at_other j (next_of old head) ix _ away ∙ at_other j ix head _ other))
+          pub AreHeadsOf-put_behind : AreHeadsOf heads new
+          AreHeadsOf-put_behind =
+              rw filed_new (AreHeads-behind heads (filed_by old) (next_of old) (prev_of old) (next_of new)
+              (prev_of new) is ix hash absent named head (next_of old head) led refl (next head ∙ at_place head ix _)
+              (next ix ∙ at_other ix head ix _ apart ∙ at_place ix (next_of old head) _)
+              (prev ix named ∙ at_other ix (next_of old head) ix _ unlike ∙ at_place ix head _)
+              (λ there. prev (next_of old head) there ∙ at_place (next_of old head) ix _)
+              (λ j other away. next j ∙ at_other j head ix _ away ∙ at_other j ix (next_of old head) _ other)
+              (λ j there other away. prev j there ∙ at_other j (next_of old head) ix _ away
+              ∙ at_other j ix head _ other))

@@ -4,7 +4,7 @@ use Rattle.std.specs.FinMap as finite
 use Rattle.std.proofs.lemmas.List.{take_more}
 use Rattle.iddqd_hash.proofs.MemberLemmas.{filed_at}
 use Rattle.iddqd_hash.specs.MapHashTable.{indexes_of}
-use Rattle.iddqd_by_hash.specs.Links.{vacant, hashed_from, filed_by, prev_of}
+use Rattle.iddqd_by_hash.specs.Links.{absent_link, hashed_from, filed_by, prev_of}
 use Rattle.iddqd_by_hash.specs.declared.linked_table.links.Link.{Link}
 use Rattle.iddqd_by_hash.proofs.LinksLemmas.{before, link_at, entries-filed_by, filed_where, present}
 
@@ -26,7 +26,8 @@ listed_push at [] link ix is =
 listed_push at (first ∷ links) link ix is =
     let rest = listed_push (suc at) links link ix (omega arith) in
     let last = cond (link.prev == ix) [] (ix ∷ []) in
-    elim (first.prev == at) as (λ b. map (λ (e : ℕ × ℕ). e.0) (before b at first (hashed_from (suc at) (links ++ link ∷ [])))
+    elim (first.prev == at) as (λ b. map (λ (e : ℕ × ℕ). e.0)
+    (before b at first (hashed_from (suc at) (links ++ link ∷ [])))
     ≡ map (λ (e : ℕ × ℕ). e.0) (before b at first (hashed_from (suc at) links)) ++ last) [
       | true ↦ rest
       | false ↦ ap (λ (l : List ℕ). at ∷ l) rest
@@ -37,7 +38,7 @@ listed_more :
     → k < length links
     → listed_from 0 (take (k + 1) links) ≡ listed_from 0 (take k links) ++ cond (prev_of links k == k) [] (k ∷ [])
 listed_more links k within =
-    ap (listed_from 0) (take_more links k (vacant k) within)
+    ap (listed_from 0) (take_more links k (absent_link k) within)
     ∙ listed_push 0 (take k links) (link_at links k) k (omega (arith, length-take k links))
 
 pub listed_with :
@@ -63,7 +64,9 @@ listed_without links k within gone =
     back =
         elim (prev_of links k == k) as (λ b. (prev_of links k == k) ≡ b → b ≡ true) [
           | true ↦ λ _. refl
-          | false ↦ λ is. absurd (gone (filed_at _ _ (filed_where links k (λ same. absurd (let never : false ≡ true = sym is ∙ eq-eqb (prev_of links k) k same in cc)))))
+          | false ↦
+              λ is. absurd (gone (filed_at _ _ (filed_where links k
+              (λ same. absurd (let never : false ≡ true = sym is ∙ eq-eqb (prev_of links k) k same in cc)))))
         ] refl
 
 pub listed_all :

@@ -1,4 +1,4 @@
--- Linked tables that have no index, or whose links past all indexes were cut off, and how many heads there are.
+-- LinkedState tables that have no index, or whose links past all indexes were cut off, and how many heads there are.
 use Rattle.std.proofs.Common.{◌≡◌, ◌≤◌, ◌<◌, ◌∙◌, ◌+◌, ◌-◌, inl, inr, cond, is_some, None, length, ℕ, List, [], length-take, min, max, take, Some, IsSome, sym, ap, subst, arith}
 use Rattle.std.specs.Ordering.{nat_cmp}
 use Rattle.std.specs.FinMap as finite
@@ -7,8 +7,8 @@ use Rattle.std.proofs.lemmas.Bool.{cases_eq}
 use Rattle.std.proofs.lemmas.Cmp.{nat_cmp_total}
 use Rattle.iddqd.specs.Store.{sentinel}
 use Rattle.iddqd_hash.proofs.MemberLemmas.{filed_hash, filed_at}
-use Rattle.iddqd_by_hash.specs.LinkedTable.{AreLinked, IsLinkedTable, Linked, kept_linked}
-use Rattle.iddqd_by_hash.specs.Links.{filed_by, next_of, prev_of, IsChained, IsLinked}
+use Rattle.iddqd_by_hash.specs.LinkedTable.{AreHeadsOf, IsLinkedTable, LinkedState, kept_linked}
+use Rattle.iddqd_by_hash.specs.Links.{filed_by, next_of, prev_of, IsChained, AreHeads}
 use Rattle.iddqd_by_hash.specs.declared.linked_table.links.Link.{Link}
 use Rattle.iddqd_by_hash.proofs.LinksLemmas.{link_at-take, filed_by-none, filed_by-take, len-within}
 
@@ -18,18 +18,18 @@ nothing ix here = absurd (let never = rw (finite.get-empty nat_cmp ix) at here i
 nothing_under : {X : Type 0} (ix hash : ℕ) → finite.get (finite.empty {K = ℕ} {X = ℕ} {R = nat_cmp}) ix ≡ Some hash → X
 nothing_under ix hash is = nothing ix (filed_at _ hash is)
 
-IsLinked-none : (next prev : ℕ → ℕ) → IsLinked finite.empty finite.empty next prev
-IsLinked-none next prev = record {
+AreHeads-none : (next prev : ℕ → ℕ) → AreHeads finite.empty finite.empty next prev
+AreHeads-none next prev = record {
   chained = record {
     forth = λ ix hash is. nothing_under ix hash is;
     back = λ ix hash is. nothing_under ix hash is;
-    rising = record {
-      rank = λ ix. 0;
+    acyclic = record {
+      depth = λ ix. 0;
       top = 0;
       below = λ ix here. nothing ix here;
       rises = λ ix here. nothing ix here;
     };
-    named = λ ix here. nothing ix here;
+    not_sentinel = λ ix here. nothing ix here;
   };
   firsts = λ ix hash. (λ is. nothing_under ix hash is, λ both. nothing_under ix hash both.0);
   one_head = λ i j hash is. nothing_under i hash is;
@@ -41,7 +41,7 @@ pub IsLinkedTable-none :
     → links ≡ []
     → IsLinkedTable heads most links 0
 IsLinkedTable-none heads most links no_heads no_links = rw (no_heads, no_links) (record {
-  linked = rw filed_by-none (IsLinked-none (next_of []) (prev_of []));
+  linked = rw filed_by-none (AreHeads-none (next_of []) (prev_of []));
   counted = rw filed_by-none (sym (finite.len-empty nat_cmp ℕ));
   roomy = omega arith;
   small = omega arith;
@@ -63,24 +63,25 @@ IsChained-alike {filed} {next} {prev} next' prev' nexts prevs was = record {
       let same = prevs ix (filed_at _ hash is) in
       let there = was.back ix hash is (λ ends. goes_on (same ∙ ends)) in
       (ap (finite.get filed) same ∙ there.0, ap next' same ∙ nexts (prev ix) (filed_at _ hash there.0) ∙ there.1);
-  rising = record {
-    rank = was.rising.rank;
-    top = was.rising.top;
-    below = was.rising.below;
+  acyclic = record {
+    depth = was.acyclic.depth;
+    top = was.acyclic.top;
+    below = was.acyclic.below;
     rises = λ ix here goes_on.
         let same = nexts ix here in
-        subst (λ n. was.rising.rank ix < was.rising.rank n) (sym same) (was.rising.rises ix here (λ ends. goes_on (same ∙ ends)));
+        subst (λ n. was.acyclic.depth ix < was.acyclic.depth n) (sym same)
+        (was.acyclic.rises ix here (λ ends. goes_on (same ∙ ends)));
   };
-  named = was.named;
+  not_sentinel = was.not_sentinel;
 }
 
-IsLinked-alike :
+AreHeads-alike :
     {heads filed : FinMap nat_cmp ℕ} {next prev : ℕ → ℕ} (next' prev' : ℕ → ℕ)
     → ((ix : ℕ) → IsSome (finite.get filed ix) → next' ix ≡ next ix)
     → ((ix : ℕ) → IsSome (finite.get filed ix) → prev' ix ≡ prev ix)
-    → IsLinked heads filed next prev
-    → IsLinked heads filed next' prev'
-IsLinked-alike next' prev' nexts prevs was = record {
+    → AreHeads heads filed next prev
+    → AreHeads heads filed next' prev'
+AreHeads-alike next' prev' nexts prevs was = record {
   chained = IsChained-alike next' prev' nexts prevs was.chained;
   firsts = λ ix hash. (
     λ is. let there = (was.firsts ix hash).0 is in (there.0, prevs ix (filed_at _ hash there.0) ∙ there.1),
@@ -92,7 +93,7 @@ IsLinked-alike next' prev' nexts prevs was = record {
 -- each head is an index of the table
 pub len-heads :
     {heads filed : FinMap nat_cmp ℕ} {next prev : ℕ → ℕ}
-    → IsLinked heads filed next prev
+    → AreHeads heads filed next prev
     → finite.len heads ≤ finite.len filed
 len-heads {heads} {filed} linked =
     len-within heads filed (λ ix here.
@@ -112,7 +113,7 @@ IsLinkedTable-take {heads} {heads'} {most} {links} {links'} {len} most' n was be
     let filed = filed_by-take n links below in
     rw (same, cut) (record {
       linked =
-          rw filed (IsLinked-alike (next_of (take n links)) (prev_of (take n links))
+          rw filed (AreHeads-alike (next_of (take n links)) (prev_of (take n links))
           (λ ix here. ap (λ (l : Link). l.next) (link_at-take n links ix (below ix here)))
           (λ ix here. ap (λ (l : Link). l.prev) (link_at-take n links ix (below ix here)))
           was.linked);
@@ -121,8 +122,23 @@ IsLinkedTable-take {heads} {heads'} {most} {links} {links'} {len} most' n was be
       small = omega (arith, was.small, length-take n links);
     })
 
+-- the same links, and memory for so many heads
+pub IsLinkedTable-kept :
+    {heads heads' : FinMap nat_cmp ℕ} {most : ℕ} {links links' : List Link} {len : ℕ} (most' : ℕ)
+    → IsLinkedTable heads most links len
+    → heads' ≡ heads
+    → links' ≡ links
+    → len ≤ most'
+    → IsLinkedTable heads' most' links' len
+IsLinkedTable-kept most' was same_heads same_links roomy = rw (same_heads, same_links) (record {
+  linked = was.linked;
+  counted = was.counted;
+  roomy = roomy;
+  small = was.small;
+})
+
 pub same_linked :
-    (t u : Linked)
+    (t u : LinkedState)
     → t.filed ≡ u.filed
     → t.slots ≡ u.slots
     → t.capacity ≡ u.capacity
@@ -153,7 +169,7 @@ none_kept slots count none = omega arith
 pub IsLinkedTable-added :
     {heads heads' : FinMap nat_cmp ℕ} {most most' : ℕ} {links links' : List Link} {len : ℕ}
     → IsLinkedTable heads most links len
-    → AreLinked heads' links'
+    → AreHeadsOf heads' links'
     → (ix hash : ℕ)
     → finite.get (filed_by links) ix ≡ None
     → filed_by links' ≡ finite.insert (filed_by links) ix hash
@@ -163,7 +179,8 @@ pub IsLinkedTable-added :
 IsLinkedTable-added {links = links} was linked ix hash absent filed roomy small = record {
   linked = linked;
   counted =
-      ap (λ n. n + 1) was.counted ∙ sym (ap finite.len filed ∙ finite.len-insert nat_cmp_total (filed_by links) ix hash ∙ ap (λ o. cond (is_some o) (finite.len (filed_by links)) (finite.len (filed_by links) + 1)) absent);
+      ap (λ n. n + 1) was.counted ∙ sym (ap finite.len filed ∙ finite.len-insert nat_cmp_total (filed_by links) ix hash
+      ∙ ap (λ o. cond (is_some o) (finite.len (filed_by links)) (finite.len (filed_by links) + 1)) absent);
   roomy = roomy;
   small = small;
 }
@@ -172,7 +189,8 @@ IsLinkedTable-added {links = links} was linked ix hash absent filed roomy small 
 len-positive : (m : FinMap nat_cmp ℕ) (ix : ℕ) → IsSome (finite.get m ix) → 1 ≤ finite.len m
 len-positive m ix here =
     elim (cases_eq (finite.len m) 0) [
-      | inl none ↦ nothing ix (subst (λ (n : FinMap nat_cmp ℕ). IsSome (finite.get n ix)) (finite.empty_of_len m none) here)
+      | inl none ↦
+          nothing ix (subst (λ (n : FinMap nat_cmp ℕ). IsSome (finite.get n ix)) (finite.empty_of_len m none) here)
       | inr some ↦ omega (arith, some)
     ]
 
@@ -183,14 +201,15 @@ pub len-less :
     → finite.len (finite.remove m ix) + 1 ≡ finite.len m
 len-less m ix here =
     let (hash, is) = filed_hash _ here in
-    let removed = finite.len-remove nat_cmp_total m ix ∙ ap (λ o. cond (is_some o) (finite.len m - 1) (finite.len m)) is in
+    let removed =
+    finite.len-remove nat_cmp_total m ix ∙ ap (λ o. cond (is_some o) (finite.len m - 1) (finite.len m)) is in
     let some = len-positive m ix here in
     omega (arith, removed, some)
 
 pub IsLinkedTable-fewer :
     {heads heads' : FinMap nat_cmp ℕ} {most most' : ℕ} {links links' : List Link} {len : ℕ}
     → IsLinkedTable heads most links len
-    → AreLinked heads' links'
+    → AreHeadsOf heads' links'
     → (ix : ℕ)
     → IsSome (finite.get (filed_by links) ix)
     → filed_by links' ≡ finite.remove (filed_by links) ix

@@ -1,5 +1,5 @@
 -- What a list of links says of the hash of each index, and what it says after a step.
-use Rattle.std.proofs.Common.{◌≡◌, ◌≢◌, ◌<◌, ◌≤◌, ◌+◌, ◌==◌, ◌∙◌, inl, inr, ◌&&◌, nat_eq, ℕ, zero, suc, Bool, true, false, cond, List, [], ◌∷◌, ◌++◌, length, min, take, map, Option, Some, None, IsSome, if◌then◌else◌, slice_index_or, slice_set, refl, sym, ap, subst, arith, T as Holds, eq-eqb, ne_eqb, get_or-set_same, get_or-set_other, get_or-take, length-append, length-take, ◌-◌}
+use Rattle.std.proofs.Common.{◌≡◌, ◌≢◌, ◌<◌, ◌≤◌, ◌+◌, ◌==◌, ◌∙◌, inl, inr, ◌&&◌, nat_eq, ℕ, zero, suc, Bool, true, false, cond, List, [], ◌∷◌, ◌++◌, length, take, map, Option, Some, None, IsSome, if◌then◌else◌, slice_index_or, slice_set, refl, sym, ap, subst, arith, T as Holds, eq-eqb, ne_eqb, get_or-set_same, get_or-set_other, get_or-take, length-append, length-take, ◌-◌}
 use Rattle.std.specs.Ordering.{nat_cmp, eq_by_cmp, is_lt}
 use Rattle.std.specs.declared.cmp.Ordering.TheVariants.{Less}
 use Rattle.std.specs.Cmp.{nat_cmp_is, nat_eq_equiv, unsigned_tied}
@@ -14,12 +14,12 @@ use Rattle.std.proofs.lemmas.Map.Steps.{length-le_from_keys}
 use Rattle.std.proofs.lemmas.List.{length-map, get_or_default, get_or_past, get_or_append_left, get_or-append_right}
 use Rattle.iddqd_hash.proofs.MemberLemmas.{get-insert_at, get-insert_other, get-remove_at, get-remove_other}
 use Rattle.iddqd_by_hash.proofs.HashedCountLemmas.{sorted_apart}
-use Rattle.iddqd_by_hash.specs.Links.{vacant, hashed_from, filed_by, next_of, prev_of}
+use Rattle.iddqd_by_hash.specs.Links.{absent_link, hashed_from, filed_by, next_of, prev_of}
 use Rattle.iddqd_by_hash.specs.declared.linked_table.links.Link.{Link}
 
 -- the link of a slot, also past the end
 abbrev pub link_at : List Link → ℕ → Link
-link_at links ix = slice_index_or links ix (vacant ix)
+link_at links ix = slice_index_or links ix (absent_link ix)
 
 -- the hash that a link gives its index, if that is in the table
 abbrev pub hash_in : Link → ℕ → Option ℕ
@@ -45,7 +45,9 @@ below_hashed x at (link ∷ links) less =
     let rest = below_hashed x (suc at) links (omega arith) in
     elim (link.prev == at) as (λ b. Holds (below_all nat_cmp x (before b at link (hashed_from (suc at) links)))) [
       | true ↦ rest
-      | false ↦ subst (λ r. Holds (is_lt r && below_all nat_cmp x (hashed_from (suc at) links))) (nat_cmp_is x at Less less) rest
+      | false ↦
+          subst (λ r. Holds (is_lt r && below_all nat_cmp x (hashed_from (suc at) links)))
+          (nat_cmp_is x at Less less) rest
     ]
 
 both : (a b : Bool) → Holds a → Holds b → Holds (a && b)
@@ -70,25 +72,30 @@ not_before q at (link ∷ links) less =
     let rest = not_before q (suc at) links (omega arith) in
     elim (link.prev == at) as (λ b. find nat_cmp q (before b at link (hashed_from (suc at) links)) ≡ None) [
       | true ↦ rest
-      | false ↦ ap (λ b. cond b (Some link.hash) (find nat_cmp q (hashed_from (suc at) links))) (untied q at (omega arith)) ∙ rest
+      | false ↦
+          ap (λ b. cond b (Some link.hash) (find nat_cmp q (hashed_from (suc at) links))) (untied q at (omega arith))
+          ∙ rest
     ]
 
 find-hashed :
     (q at k : ℕ) (links : List Link)
     → q ≡ at + k
-    → find nat_cmp q (hashed_from at links) ≡ hash_in (slice_index_or links k (vacant q)) q
+    → find nat_cmp q (hashed_from at links) ≡ hash_in (slice_index_or links k (absent_link q)) q
 find-hashed q at k [] is = sym (ap (λ b. cond b None (Some 0)) (eq-eqb q q refl))
 find-hashed q at zero (link ∷ links) is =
     let same : q ≡ at = omega arith in
-    elim (link.prev == at) as (λ b. find nat_cmp q (before b at link (hashed_from (suc at) links)) ≡ cond b None (Some link.hash)) [
+    elim (link.prev == at) as (λ b. find nat_cmp q (before b at link (hashed_from (suc at) links))
+    ≡ cond b None (Some link.hash)) [
       | true ↦ not_before q (suc at) links (omega arith)
       | false ↦ ap (λ b. cond b (Some link.hash) (find nat_cmp q (hashed_from (suc at) links))) (tied q at same)
     ]
     ∙ ap (λ i. hash_in link i) (sym same)
 find-hashed q at (suc k) (link ∷ links) is =
-    elim (link.prev == at) as (λ b. find nat_cmp q (before b at link (hashed_from (suc at) links)) ≡ find nat_cmp q (hashed_from (suc at) links)) [
+    elim (link.prev == at) as (λ b. find nat_cmp q (before b at link (hashed_from (suc at) links))
+    ≡ find nat_cmp q (hashed_from (suc at) links)) [
       | true ↦ refl
-      | false ↦ ap (λ b. cond b (Some link.hash) (find nat_cmp q (hashed_from (suc at) links))) (untied q at (omega arith))
+      | false ↦
+          ap (λ b. cond b (Some link.hash) (find nat_cmp q (hashed_from (suc at) links))) (untied q at (omega arith))
     ]
     ∙ find-hashed q (suc at) k links (omega arith)
 
@@ -96,7 +103,8 @@ find-hashed q at (suc k) (link ∷ links) is =
 pub get-filed_by : (links : List Link) (ix : ℕ) → finite.get (filed_by links) ix ≡ hash_in (link_at links ix) ix
 unfolding filed_by
 get-filed_by links ix =
-    finite.get-from_sorted nat_cmp (hashed_from 0 links) ix (sorted-hashed 0 links) ∙ find-hashed ix 0 ix links (omega arith)
+    finite.get-from_sorted nat_cmp (hashed_from 0 links) ix (sorted-hashed 0 links)
+    ∙ find-hashed ix 0 ix links (omega arith)
 
 pub entries-filed_by : (links : List Link) → finite.entries (filed_by links) ≡ hashed_from 0 links
 unfolding filed_by
@@ -108,7 +116,8 @@ pub filed_by-is :
     → ((ix : ℕ) → hash_in (link_at links ix) ix ≡ finite.get m ix)
     → filed_by links ≡ m
 filed_by-is links m same =
-    finite.same_map nat_cmp_total finite.nat_cmp-IsAntisymmetric (filed_by links) m (λ ix. get-filed_by links ix ∙ same ix)
+    finite.same_map nat_cmp_total finite.nat_cmp-IsAntisymmetric (filed_by links) m
+    (λ ix. get-filed_by links ix ∙ same ix)
 
 -- an index whose link leads elsewhere is in the table, with the hash of its link, and no other is
 pub filed_where :
@@ -141,7 +150,8 @@ pub below-filed_by :
 below-filed_by links ix here =
     elim (cases_lt ix (length links)) [
       | inl within ↦ within
-      | inr past ↦ absurd (present links ix here (ap (λ (link : Link). link.prev) (get_or_past links ix (vacant ix) past)))
+      | inr past ↦
+          absurd (present links ix here (ap (λ (link : Link). link.prev) (get_or_past links ix (absent_link ix) past)))
     ]
 
 -- what is read at a place of the list is the link of that index
@@ -153,8 +163,8 @@ pub link_read :
     → link ≡ link_at links ix
 link_read links place ix link same within is =
     is
-    ∙ get_or_default links place link (vacant ix) (omega arith)
-    ∙ ap (λ i. slice_index_or links i (vacant ix)) same
+    ∙ get_or_default links place link (absent_link ix) (omega arith)
+    ∙ ap (λ i. slice_index_or links i (absent_link ix)) same
 
 -- Links of which one was written: it is this one, and the others are as they were.
 pub record IsPut (old : List Link) (ix : ℕ) (link : Link) (new : List Link) : Type 0 where
@@ -168,8 +178,8 @@ pub IsPut-set :
     → IsPut links ix link (slice_set links place link)
 IsPut-set links place ix link same within =
     subst (λ i. IsPut links ix link (slice_set links i link)) (sym same) (record {
-      at = get_or-set_same links ix link (vacant ix) within;
-      others = λ j other. get_or-set_other links ix j link (vacant j) other;
+      at = get_or-set_same links ix link (absent_link ix) within;
+      others = λ j other. get_or-set_other links ix j link (absent_link j) other;
     })
 
 pub IsPut-push :
@@ -180,17 +190,17 @@ IsPut-push links ix link last = record {
   at = pushed_at (length links) refl ix last;
   others = λ j other.
       elim (cases_lt j (length links)) [
-        | inl within ↦ get_or_append_left links (link ∷ []) (vacant j) j within
+        | inl within ↦ get_or_append_left links (link ∷ []) (absent_link j) j within
         | inr past ↦
-            get_or_past (links ++ link ∷ []) j (vacant j) (omega (arith, length-append links (link ∷ [])))
-            ∙ sym (get_or_past links j (vacant j) past)
+            get_or_past (links ++ link ∷ []) j (absent_link j) (omega (arith, length-append links (link ∷ [])))
+            ∙ sym (get_or_past links j (absent_link j) past)
       ];
 }
   where
     pushed_at : (n : ℕ) → length links ≡ n → (i : ℕ) → i ≡ n → link_at (links ++ link ∷ []) i ≡ link
     pushed_at n size i same =
-        get_or-append_right links (link ∷ []) n i (vacant i) size (omega arith)
-        ∙ ap (λ k. slice_index_or (link ∷ []) k (vacant i)) (let none : i - n ≡ 0 = omega arith in none)
+        get_or-append_right links (link ∷ []) n i (absent_link i) size (omega arith)
+        ∙ ap (λ k. slice_index_or (link ∷ []) k (absent_link i)) (let none : i - n ≡ 0 = omega arith in none)
 
 module _ {old : List Link} {ix : ℕ} {link : Link} {new : List Link} (put : IsPut old ix link new) where
   -- what the links have of each index, by a part of it
@@ -220,7 +230,8 @@ module _ {old : List Link} {ix : ℕ} {link : Link} {new : List Link} (put : IsP
       → filed_by new ≡ m
   filed_from m at others =
       filed_by-is new m (λ j. elim (cases_eq j ix) [
-        | inl same ↦ subst (λ i. hash_in (link_at new i) i ≡ finite.get m i) (sym same) (ap (λ l. hash_in l ix) put.at ∙ at)
+        | inl same ↦
+            subst (λ i. hash_in (link_at new i) i ≡ finite.get m i) (sym same) (ap (λ l. hash_in l ix) put.at ∙ at)
         | inr other ↦ ap (λ l. hash_in l j) (put.others j other) ∙ sym (get-filed_by old j) ∙ others j other
       ])
 
@@ -228,7 +239,8 @@ module _ {old : List Link} {ix : ℕ} {link : Link} {new : List Link} (put : IsP
   pub filed-put : link.prev ≢ ix → filed_by new ≡ finite.insert (filed_by old) ix link.hash
   filed-put elsewhere =
       filed_from (finite.insert (filed_by old) ix link.hash)
-      (ap (λ b. cond b None (Some link.hash)) (ne_eqb link.prev ix elsewhere) ∙ sym (get-insert_at (filed_by old) ix link.hash))
+      (ap (λ b. cond b None (Some link.hash)) (ne_eqb link.prev ix elsewhere)
+      ∙ sym (get-insert_at (filed_by old) ix link.hash))
       (λ j other. sym (get-insert_other (filed_by old) ix link.hash j other))
 
   -- it leads back to its index: that isn't in the table
@@ -250,7 +262,8 @@ module _ {old : List Link} {ix : ℕ} {link : Link} {new : List Link} (put : IsP
       → filed_by new ≡ filed_by old
   filed-kept_hash here elsewhere same =
       filed_from (filed_by old)
-      (ap (λ b. cond b None (Some link.hash)) (ne_eqb link.prev ix elsewhere) ∙ ap Some same ∙ sym (hash_of_link old ix here))
+      (ap (λ b. cond b None (Some link.hash)) (ne_eqb link.prev ix elsewhere) ∙ ap Some same
+      ∙ sym (hash_of_link old ix here))
       (λ j other. refl)
 
 -- where only the next index was named anew, the previous ones stay, and the other way round
@@ -266,14 +279,16 @@ same_part part links ix j =
 
 -- no links: no index is in the table
 pub filed_by-none : filed_by [] ≡ finite.empty
-filed_by-none = filed_by-is [] finite.empty (λ ix. ap (λ b. cond b None (Some 0)) (eq-eqb ix ix refl) ∙ sym (finite.get-empty nat_cmp ix))
+filed_by-none =
+    filed_by-is [] finite.empty (λ ix. ap (λ b. cond b None (Some 0)) (eq-eqb ix ix refl)
+    ∙ sym (finite.get-empty nat_cmp ix))
 
 -- the first links have the indexes below their number, so all of them where each is
 pub link_at-take :
     (n : ℕ) (links : List Link) (ix : ℕ)
     → ix < n
     → link_at (take n links) ix ≡ link_at links ix
-link_at-take n links ix below = get_or-take n links ix (vacant ix) below
+link_at-take n links ix below = get_or-take n links ix (absent_link ix) below
 
 pub filed_by-take :
     (n : ℕ) (links : List Link)
@@ -283,7 +298,7 @@ filed_by-take n links below =
     filed_by-is (take n links) (filed_by links) (λ ix. elim (cases_lt ix n) [
       | inl within ↦ ap (λ l. hash_in l ix) (link_at-take n links ix within) ∙ sym (get-filed_by links ix)
       | inr past ↦
-          ap (λ l. hash_in l ix) (get_or_past (take n links) ix (vacant ix) (omega (arith, length-take n links)))
+          ap (λ l. hash_in l ix) (get_or_past (take n links) ix (absent_link ix) (omega (arith, length-take n links)))
           ∙ ap (λ b. cond b None (Some 0)) (eq-eqb ix ix refl)
           ∙ sym (none_past ix past)
     ])
@@ -307,15 +322,6 @@ length-hashed at (link ∷ links) =
 pub length-filed_by : (links : List Link) → finite.len (filed_by links) ≤ length links
 length-filed_by links =
     rw (finite.len-entries (filed_by links), entries-filed_by links) (length-hashed 0 links)
-
--- where the indexes are below a number, they are no more than the links below it
-pub len-taken :
-    (n : ℕ) (links : List Link)
-    → ((ix : ℕ) → IsSome (finite.get (filed_by links) ix) → ix < n)
-    → finite.len (filed_by links) ≤ min n (length links)
-len-taken n links below =
-    let within = length-filed_by (take n links) in
-    rw (← filed_by-take n links below, ← length-take n links) within
 
 -- the two tests of an index are one
 one_test : (q : ℕ) → eq_by_cmp nat_cmp q ≡ nat_eq q

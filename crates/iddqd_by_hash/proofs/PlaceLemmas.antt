@@ -10,7 +10,7 @@ use Rattle.iddqd.proofs.CompactionLemmas.{live-compacted}
 use Rattle.iddqd_hash.specs.MapHashTable.{Renames}
 use Rattle.iddqd_hash.proofs.MemberLemmas.{get-insert_at, get-insert_other, get-remove_other}
 use Rattle.iddqd_keys.specs.Scan.{HasNoHit, passes_by}
-use Rattle.iddqd_keys.specs.KeyIndex.{ChangesAt}
+use Rattle.iddqd_keys.specs.AnyTable.{ChangesAt}
 use Rattle.iddqd_by_hash.specs.Hashed.{Hashing, IsLawful, Finds, IsInPlace, IsInSync, Keeps}
 use Rattle.iddqd_keys.proofs.ScanLemmas.{live_before, live_cases, rebound_cases, passes_unless, AreApart-bare, AreApart-removed, AreApart-inserted, AreApart-compacted, AreApart-rebound}
 use Rattle.iddqd_by_hash.proofs.FindLemmas.{AnswersScan-found, StandsForOne-key}
@@ -45,7 +45,12 @@ module _ {T K : Type 0} (key_of : T → K) (hashing : Hashing K) where
         → Keeps key_of hashing s m (removed s ix) (finite.remove m ix)
     Keeps-removed ix item live = record {
       placed = IsInPlace-removed ix item live;
-      exact = λ o. record { placed = IsInPlace-removed ix item live o.placed; apart = AreApart-removed _ s ix item live o.apart };
+      in_sync =
+          λ o. record {
+            placed = IsInPlace-removed ix item live o.placed;
+            apart = AreApart-removed _ s ix item live
+                o.apart;
+          };
     }
 
     pub IsInPlace-inserted :
@@ -81,7 +86,7 @@ module _ {T K : Type 0} (key_of : T → K) (hashing : Hashing K) where
         → Keeps key_of hashing s m (inserted s item) (finite.insert m (next_index s) (hash_at item))
     Keeps-inserted item valid lawful missed = record {
       placed = IsInPlace-inserted item valid;
-      exact = λ o.
+      in_sync = λ o.
           let one = StandsForOne-key hashing (key_of item) _ lawful refl in
           IsInSync-inserted item valid lawful (AnswersScan-found key_of s m _ _ hashing None one o missed) o;
     }
@@ -98,7 +103,7 @@ module _ {T K : Type 0} (key_of : T → K) (hashing : Hashing K) where
     pub Keeps-compacted : (new : FinMap nat_cmp ℕ) → Renames (rank s) m new → Keeps key_of hashing s m (compacted s) new
     Keeps-compacted new named = record {
       placed = IsInPlace-compacted new named;
-      exact = λ o. record { placed = IsInPlace-compacted new named o.placed; apart = AreApart-compacted _ s o.apart };
+      in_sync = λ o. record { placed = IsInPlace-compacted new named o.placed; apart = AreApart-compacted _ s o.apart };
     }
 
     -- a live index that is given an item with the same key
@@ -109,7 +114,8 @@ module _ {T K : Type 0} (key_of : T → K) (hashing : Hashing K) where
           → IsInPlace key_of hashing (rebound s ix item) m
       IsInPlace-rebound kept placed j y is =
           elim (rebound_cases s ix item was live j y is) [
-            | inl a ↦ rw (a.0, ← a.1) (placed ix was live ∙ ap Some (sym (lawful.equal_hash (key_of item) (key_of was) kept)))
+            | inl a ↦
+                rw (a.0, ← a.1) (placed ix was live ∙ ap Some (sym (lawful.equal_hash (key_of item) (key_of was) kept)))
             | inr b ↦ placed j y b.1
           ]
 
@@ -121,9 +127,11 @@ module _ {T K : Type 0} (key_of : T → K) (hashing : Hashing K) where
           let kept = passes_unless s (has_key_of item) ix was live same in
           record {
             placed = IsInPlace-rebound kept;
-            exact = λ o. record {
+            in_sync = λ o. record {
               placed = IsInPlace-rebound kept o.placed;
-              apart = AreApart-rebound s ix item was live _ (λ x y. e.symm (key_of x) (key_of y)) (λ x y z. e.trans (key_of x) (key_of y) (key_of z)) kept o.apart;
+              apart =
+                  AreApart-rebound s ix item was live _ (λ x y. e.symm (key_of x) (key_of y))
+                  (λ x y z. e.trans (key_of x) (key_of y) (key_of z)) kept o.apart;
             };
           }
 
@@ -133,4 +141,4 @@ module _ {T K : Type 0} (key_of : T → K) (hashing : Hashing K) where
   pub Keeps-cleared : (s : Store T) (m : FinMap nat_cmp ℕ) → Keeps key_of hashing s m (cleared s) finite.empty
   Keeps-cleared s m =
       let o = IsInSync-bare (cleared s) finite.empty refl in
-      record { placed = λ _. o.placed; exact = λ _. o }
+      record { placed = λ _. o.placed; in_sync = λ _. o }

@@ -7,7 +7,7 @@ use Rattle.std.proofs.lemmas.Bool.{cases_eq}
 use Rattle.iddqd.specs.Store.{sentinel}
 use Rattle.iddqd.proofs.StoreLemmas.{differs}
 use Rattle.iddqd_hash.proofs.MemberLemmas.{get-insert_at, get-insert_other, get-remove_at, get-remove_other, filed_hash, filed_at}
-use Rattle.iddqd_by_hash.specs.Links.{IsChained, IsLinked, LeadsBack, heads_after}
+use Rattle.iddqd_by_hash.specs.Links.{IsChained, AreHeads, LeadsBack, heads_after}
 use Rattle.iddqd_by_hash.proofs.InsertLinkLemmas.{one_hash}
 
 -- an index that is filed after a removal is another one
@@ -16,7 +16,8 @@ pub apart_from_removed :
     → finite.get (finite.remove m ix) j ≡ Some hash
     → j ≢ ix
 apart_from_removed m ix j hash here same =
-    let never : None ≡ Some hash = sym (get-remove_at m ix) ∙ subst (λ k. finite.get (finite.remove m ix) k ≡ Some hash) same here in
+    let never : None ≡ Some hash =
+    sym (get-remove_at m ix) ∙ subst (λ k. finite.get (finite.remove m ix) k ≡ Some hash) same here in
     cc
 
 -- no index follows itself
@@ -27,8 +28,9 @@ pub next_other :
     → IsSome (finite.get filed ix)
     → next ix ≢ ix
 next_other filed next prev is ix here same =
-    let rose = is.rising.rises ix here (λ none. is.named ix here (sym same ∙ none)) in
-    let never : is.rising.rank ix < is.rising.rank ix = subst (λ k. is.rising.rank ix < is.rising.rank k) same rose in
+    let rose = is.acyclic.rises ix here (λ none. is.not_sentinel ix here (sym same ∙ none)) in
+    let never : is.acyclic.depth ix < is.acyclic.depth ix =
+    subst (λ k. is.acyclic.depth ix < is.acyclic.depth k) same rose in
     omega (arith, never)
 
 -- an index is removed, and those to which it led, in both directions, lead to one another
@@ -54,7 +56,8 @@ module _
               let seen : back ix ≢ sentinel = λ none. named_j (same ∙ none) in
               let on = ap there' same ∙ leads_on seen in
               let follows : there ix ≢ sentinel = λ none. goes (on ∙ none) in
-              let hashed : h ≡ hash = one_hash _ h hash was (ap (finite.get filed) same ∙ (returns ix hash here seen).0) in
+              let hashed : h ≡ hash =
+              one_hash _ h hash was (ap (finite.get filed) same ∙ (returns ix hash here seen).0) in
               let stays = get-remove_other filed ix (there ix) (apart follows) ∙ (forth ix hash here follows).0 in
               rw (on, hashed) (stays, leads_back follows ∙ sym same)
           | inr away ↦
@@ -62,12 +65,16 @@ module _
               let (follower, comes) = forth j h was (λ none. goes (on ∙ none)) in
               let named_on = named (there j) (filed_at _ h follower) in
               let new : there j ≢ ix = λ same. away (sym comes ∙ ap back same) in
-              let unlike : there j ≢ there ix = λ same. other (sym comes ∙ ap back same ∙ (forth ix hash here (λ none. named_on (same ∙ none))).1) in
-              rw on (get-remove_other filed ix (there j) new ∙ follower, back_stays (there j) named_on new unlike ∙ comes)
+              let unlike : there j ≢ there ix =
+              λ same. other (sym comes ∙ ap back same ∙ (forth ix hash here (λ none. named_on (same ∙ none))).1) in
+              rw on (
+                get-remove_other filed ix (there j) new ∙ follower,
+                back_stays (there j) named_on new unlike ∙ comes,
+              )
         ]
 
 module _
-    (heads filed : FinMap nat_cmp ℕ) (next prev nexts prevs : ℕ → ℕ) (is : IsLinked heads filed next prev)
+    (heads filed : FinMap nat_cmp ℕ) (next prev nexts prevs : ℕ → ℕ) (is : AreHeads heads filed next prev)
     (ix hash : ℕ) (here : finite.get filed ix ≡ Some hash)
     (next_prev : prev ix ≢ sentinel → nexts (prev ix) ≡ next ix)
     (prev_next : next ix ≢ sentinel → prevs (next ix) ≡ prev ix)
@@ -87,7 +94,7 @@ module _
     stood j h given = sym (get-remove_other filed ix j (apart_from_removed filed ix j h given)) ∙ given
 
     named_at : (j h : ℕ) → finite.get filed j ≡ Some h → j ≢ sentinel
-    named_at j h there = is.chained.named j (filed_at _ h there)
+    named_at j h there = is.chained.not_sentinel j (filed_at _ h there)
 
     -- neither neighbour is the index itself
     next_apart : next ix ≢ ix
@@ -103,9 +110,9 @@ module _
         (j : ℕ)
         → IsSome (finite.get (finite.remove filed ix) j)
         → nexts j ≢ sentinel
-        → is.chained.rising.rank j < is.chained.rising.rank (nexts j)
+        → is.chained.acyclic.depth j < is.chained.acyclic.depth (nexts j)
     removed_rises j given goes =
-        let was = is.chained.rising in
+        let was = is.chained.acyclic in
         let (h, hashed) = filed_hash _ given in
         let there = stood j h hashed in
         let other = apart_from_removed filed ix j h hashed in
@@ -115,8 +122,10 @@ module _
               let on = ap nexts same ∙ next_prev seen in
               let follows : next ix ≢ sentinel = λ none. goes (on ∙ none) in
               let (leader, forth) = before seen in
-              let low = was.rises (prev ix) (filed_at _ hash leader) (λ none. named_at ix hash here (sym forth ∙ none)) in
-              let low_ix : was.rank (prev ix) < was.rank ix = subst (λ k. was.rank (prev ix) < was.rank k) forth low in
+              let low =
+              was.rises (prev ix) (filed_at _ hash leader) (λ none. named_at ix hash here (sym forth ∙ none)) in
+              let low_ix : was.depth (prev ix) < was.depth ix =
+              subst (λ k. was.depth (prev ix) < was.depth k) forth low in
               let high = was.rises ix (filed_at _ hash here) follows in
               rw (on, same) (omega (arith, low_ix, high))
           | inr apart ↦
@@ -126,17 +135,21 @@ module _
 
     removed_chained : IsChained (finite.remove filed ix) nexts prevs
     removed_chained = record {
-      forth = LeadsBack-removed filed next prev nexts prevs ix hash here is.chained.named is.chained.forth is.chained.back (λ _. next_apart) next_prev prev_next next_stays prev_stays;
-      back = LeadsBack-removed filed prev next prevs nexts ix hash here is.chained.named is.chained.back is.chained.forth prev_apart prev_next next_prev prev_stays next_stays;
-      rising = record {
-        rank = is.chained.rising.rank;
-        top = is.chained.rising.top;
+      forth =
+          LeadsBack-removed filed next prev nexts prevs ix hash here is.chained.not_sentinel is.chained.forth is.chained.back
+          (λ _. next_apart) next_prev prev_next next_stays prev_stays;
+      back =
+          LeadsBack-removed filed prev next prevs nexts ix hash here is.chained.not_sentinel is.chained.back is.chained.forth
+          prev_apart prev_next next_prev prev_stays next_stays;
+      acyclic = record {
+        depth = is.chained.acyclic.depth;
+        top = is.chained.acyclic.top;
         below = λ j given.
             let (h, hashed) = filed_hash _ given in
-            is.chained.rising.below j (filed_at _ h (stood j h hashed));
+            is.chained.acyclic.below j (filed_at _ h (stood j h hashed));
         rises = removed_rises;
       };
-      named = λ j given.
+      not_sentinel = λ j given.
           let (h, hashed) = filed_hash _ given in
           named_at j h (stood j h hashed);
     }
@@ -161,12 +174,13 @@ module _
     first_stays j h other leads =
         let (there, first) = (is.firsts j h).0 leads in
         let named_j = named_at j h there in
-        let apart : j ≢ next ix = λ same. named_at ix hash here (sym (after (λ none. named_j (same ∙ none))).1 ∙ ap prev (sym same) ∙ first) in
+        let apart : j ≢ next ix =
+        λ same. named_at ix hash here (sym (after (λ none. named_j (same ∙ none))).1 ∙ ap prev (sym same) ∙ first) in
         (stays j h other there, prev_stays j named_j other apart ∙ first)
 
     -- an index that another one comes before is no head
-    pub IsLinked-removed : prev ix ≢ sentinel → IsLinked heads (finite.remove filed ix) nexts prevs
-    IsLinked-removed seen = record {
+    pub AreHeads-removed : prev ix ≢ sentinel → AreHeads heads (finite.remove filed ix) nexts prevs
+    AreHeads-removed seen = record {
       chained = removed_chained;
       firsts = λ j h. (
         λ leads.
@@ -174,7 +188,8 @@ module _
             first_stays j h (λ same. seen (ap prev (sym same) ∙ first)) leads,
         λ given.
             let there = named_at j h (stood j h given.0) in
-            let apart : j ≢ next ix = λ same. seen (sym (prev_next (λ none. there (same ∙ none))) ∙ ap prevs (sym same) ∙ given.1) in
+            let apart : j ≢ next ix =
+            λ same. seen (sym (prev_next (λ none. there (same ∙ none))) ∙ ap prevs (sym same) ∙ given.1) in
             first_was j h apart given.0 given.1,
       );
       one_head = is.one_head;
@@ -197,14 +212,15 @@ module _
       unlike_head j h given same =
           apart_from_removed heads ix j h given (is.one_head j ix hash (was_left j h given ∙ ap Some same) head)
 
-      IsLinked-lone : next ix ≡ sentinel → IsLinked (finite.remove heads ix) (finite.remove filed ix) nexts prevs
-      IsLinked-lone last = record {
+      AreHeads-lone : next ix ≡ sentinel → AreHeads (finite.remove heads ix) (finite.remove filed ix) nexts prevs
+      AreHeads-lone last = record {
         chained = removed_chained;
         firsts = λ j h. (
           λ given. first_stays j h (apart_from_removed heads ix j h given) (was_left j h given),
           λ given.
               let there = named_at j h (stood j h given.0) in
-              left j h (apart_from_removed filed ix j h given.0) (first_was j h (λ same. there (same ∙ last)) given.0 given.1),
+              left j h (apart_from_removed filed ix j h given.0)
+              (first_was j h (λ same. there (same ∙ last)) given.0 given.1),
         );
         one_head = λ i j h p q. is.one_head i j h (was_left i h p) (was_left j h q);
       }
@@ -223,7 +239,8 @@ module _
         replaced_firsts j h =
             elim (cases_eq j (next ix)) [
               | inl same ↦
-                  rw (same, get-insert_at (finite.remove heads ix) (next ix) hash, follower_filed) (λ e. (e, follower_first), λ p. p.0)
+                  rw (same, get-insert_at (finite.remove heads ix) (next ix) hash, follower_filed)
+                  (λ e. (e, follower_first), λ p. p.0)
               | inr other ↦
                   rw (get-insert_other (finite.remove heads ix) (next ix) hash j other) (
                     λ given. first_stays j h (apart_from_removed heads ix j h given) (was_left j h given),
@@ -251,7 +268,8 @@ module _
                 → finite.get (finite.insert (finite.remove heads ix) (next ix) hash) k ≡ Some h
                 → h ≡ hash
             at_it k same r =
-                one_hash _ h hash r (ap (finite.get (finite.insert (finite.remove heads ix) (next ix) hash)) same ∙ get-insert_at (finite.remove heads ix) (next ix) hash)
+                one_hash _ h hash r (ap (finite.get (finite.insert (finite.remove heads ix) (next ix) hash)) same
+                ∙ get-insert_at (finite.remove heads ix) (next ix) hash)
 
             by_cases : ((i ≡ next ix) ⊎ (i ≢ next ix)) → ((j ≡ next ix) ⊎ (j ≢ next ix)) → i ≡ j
             by_cases (inl a) (inl b) = a ∙ sym b
@@ -259,13 +277,13 @@ module _
             by_cases (inr a) (inl b) = absurd (unlike_head i h (others i a p) (at_it j b q))
             by_cases (inr a) (inr b) = is.one_head i j h (was_left i h (others i a p)) (was_left j h (others j b q))
 
-        IsLinked-replaced :
-            IsLinked (finite.insert (finite.remove heads ix) (next ix) hash) (finite.remove filed ix) nexts prevs
-        IsLinked-replaced = record { chained = removed_chained; firsts = replaced_firsts; one_head = replaced_one }
+        AreHeads-replaced :
+            AreHeads (finite.insert (finite.remove heads ix) (next ix) hash) (finite.remove filed ix) nexts prevs
+        AreHeads-replaced = record { chained = removed_chained; firsts = replaced_firsts; one_head = replaced_one }
 
-      pub IsLinked-head_removed : IsLinked (heads_after heads ix hash (next ix)) (finite.remove filed ix) nexts prevs
-      IsLinked-head_removed =
+      pub AreHeads-head_removed : AreHeads (heads_after heads ix hash (next ix)) (finite.remove filed ix) nexts prevs
+      AreHeads-head_removed =
           elim (cases_eq (next ix) sentinel) [
-            | inl last ↦ rw (eq-eqb (next ix) sentinel last) (IsLinked-lone last)
-            | inr follows ↦ rw (differs (next ix) sentinel follows) (IsLinked-replaced follows)
+            | inl last ↦ rw (eq-eqb (next ix) sentinel last) (AreHeads-lone last)
+            | inr follows ↦ rw (differs (next ix) sentinel follows) (AreHeads-replaced follows)
           ]

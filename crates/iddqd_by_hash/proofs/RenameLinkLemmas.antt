@@ -8,7 +8,7 @@ use Rattle.iddqd.specs.Store.{sentinel}
 use Rattle.iddqd.proofs.StoreLemmas.{differs}
 use Rattle.iddqd_hash.specs.MapHashTable.{Renames}
 use Rattle.iddqd_hash.proofs.MemberLemmas.{filed_hash, filed_at}
-use Rattle.iddqd_by_hash.specs.Links.{IsChained, IsLinked, LeadsBack, AreNeighbours, renamed}
+use Rattle.iddqd_by_hash.specs.Links.{IsChained, AreHeads, LeadsBack, AreNeighbours, renamed}
 
 -- no neighbour keeps being none, and another one gets its new name
 pub renamed_none : (name : ℕ → ℕ) (ix : ℕ) → ix ≡ sentinel → renamed name ix ≡ sentinel
@@ -20,7 +20,7 @@ renamed_some name ix there = rw (differs ix sentinel there) refl
 -- a head is an index of the table
 pub head_is_filed :
     {heads filed : FinMap nat_cmp ℕ} {next prev : ℕ → ℕ}
-    → IsLinked heads filed next prev
+    → AreHeads heads filed next prev
     → (ix : ℕ)
     → IsSome (finite.get heads ix)
     → IsSome (finite.get filed ix)
@@ -42,13 +42,14 @@ AreNeighbours-chained filed next prev is = record {
       filed_at _ hash (is.back ix hash hashed goes).0;
   others = λ ix here same.
       let (hash, hashed) = filed_hash _ here in
-      let named = is.named ix here in
+      let named = is.not_sentinel ix here in
       let loops = (is.back ix hash hashed (λ none. named (sym same ∙ none))).1 in
       let goes : next ix ≡ ix = ap next (sym same) ∙ loops in
-      let rose = is.rising.rises ix here (λ none. named (sym goes ∙ none)) in
-      let never : is.rising.rank ix < is.rising.rank ix = subst (λ k. is.rising.rank ix < is.rising.rank k) goes rose in
+      let rose = is.acyclic.rises ix here (λ none. named (sym goes ∙ none)) in
+      let never : is.acyclic.depth ix < is.acyclic.depth ix =
+      subst (λ k. is.acyclic.depth ix < is.acyclic.depth k) goes rose in
       omega (arith, never);
-  named = is.named;
+  not_sentinel = is.not_sentinel;
 }
 
 -- a neighbour that has a new name was one
@@ -76,7 +77,7 @@ LeadsBack-named name filed filed_new there back there' back' named real was ther
 
 module _
     (name : ℕ → ℕ) (heads filed heads_new filed_new : FinMap nat_cmp ℕ) (next prev nexts prevs : ℕ → ℕ)
-    (is : IsLinked heads filed next prev)
+    (is : AreHeads heads filed next prev)
     (heads_named : Renames name heads heads_new)
     (filed_named : Renames name filed filed_new)
     (next_named : (ix : ℕ) → IsSome (finite.get filed ix) → nexts (name ix) ≡ renamed name (next ix))
@@ -84,46 +85,51 @@ module _
     (one_name : (i j : ℕ) → IsSome (finite.get filed i) → IsSome (finite.get filed j) → name i ≡ name j → i ≡ j)
     (real : (ix : ℕ) → IsSome (finite.get filed ix) → name ix ≢ sentinel)
   where
-    -- the rank that an index had under its old name
-    rank_by : (at : ℕ) (o : Option ℕ) → finite.get filed_new at ≡ o → ℕ
-    rank_by at None _ = 0
-    rank_by at (Some h) given = is.chained.rising.rank (filed_named.no_other at h given).0
+    -- the depth that an index had under its old name
+    depth_by : (at : ℕ) (o : Option ℕ) → finite.get filed_new at ≡ o → ℕ
+    depth_by at None _ = 0
+    depth_by at (Some h) given = is.chained.acyclic.depth (filed_named.no_other at h given).0
 
-    rank_new : ℕ → ℕ
-    rank_new at = rank_by at (finite.get filed_new at) refl
+    depth_new : ℕ → ℕ
+    depth_new at = depth_by at (finite.get filed_new at) refl
 
-    rank_by-name :
+    depth_by-name :
         (ix h : ℕ)
         → finite.get filed ix ≡ Some h
         → (o : Option ℕ) (given : finite.get filed_new (name ix) ≡ o)
-        → rank_by (name ix) o given ≡ is.chained.rising.rank ix
-    unfolding rank_by
-    rank_by-name ix h here None given = absurd (let never : None ≡ Some h = sym given ∙ filed_named.each ix h here in cc)
-    rank_by-name ix h here (Some other) given =
+        → depth_by (name ix) o given ≡ is.chained.acyclic.depth ix
+    unfolding depth_by
+    depth_by-name ix h here None given =
+        absurd (let never : None ≡ Some h = sym given ∙ filed_named.each ix h here in cc)
+    depth_by-name ix h here (Some other) given =
         let (old, same, stood) = filed_named.no_other (name ix) other given in
-        ap is.chained.rising.rank (one_name old ix (filed_at _ other stood) (filed_at _ h here) same)
+        ap is.chained.acyclic.depth (one_name old ix (filed_at _ other stood) (filed_at _ h here) same)
 
-    rank_new-name : (ix h : ℕ) → finite.get filed ix ≡ Some h → rank_new (name ix) ≡ is.chained.rising.rank ix
-    unfolding rank_new
-    rank_new-name ix h here = rank_by-name ix h here (finite.get filed_new (name ix)) refl
+    depth_new-name : (ix h : ℕ) → finite.get filed ix ≡ Some h → depth_new (name ix) ≡ is.chained.acyclic.depth ix
+    unfolding depth_new
+    depth_new-name ix h here = depth_by-name ix h here (finite.get filed_new (name ix)) refl
 
-    named_below : (at : ℕ) → IsSome (finite.get filed_new at) → rank_new at < is.chained.rising.top
+    named_below : (at : ℕ) → IsSome (finite.get filed_new at) → depth_new at < is.chained.acyclic.top
     named_below at given =
         let (h, hashed) = filed_hash _ given in
         let (ix, same, here) = filed_named.no_other at h hashed in
-        rw (sym same, rank_new-name ix h here) (is.chained.rising.below ix (filed_at _ h here))
+        rw (sym same, depth_new-name ix h here) (is.chained.acyclic.below ix (filed_at _ h here))
 
-    named_rises : (at : ℕ) → IsSome (finite.get filed_new at) → nexts at ≢ sentinel → rank_new at < rank_new (nexts at)
+    named_rises :
+        (at : ℕ)
+        → IsSome (finite.get filed_new at)
+        → nexts at ≢ sentinel
+        → depth_new at < depth_new (nexts at)
     named_rises at given goes =
         let (h, hashed) = filed_hash _ given in
         let (ix, same, here) = filed_named.no_other at h hashed in
         let on : nexts at ≡ renamed name (next ix) = ap nexts (sym same) ∙ next_named ix (filed_at _ h here) in
         let follows = was_neighbour name (next ix) (λ none. goes (on ∙ none)) in
         let there = (is.chained.forth ix h here follows).0 in
-        let low : rank_new at ≡ is.chained.rising.rank ix = ap rank_new (sym same) ∙ rank_new-name ix h here in
-        let high : rank_new (nexts at) ≡ is.chained.rising.rank (next ix) =
-        ap rank_new (on ∙ renamed_some name (next ix) follows) ∙ rank_new-name (next ix) h there in
-        rw (low, high) (is.chained.rising.rises ix (filed_at _ h here) follows)
+        let low : depth_new at ≡ is.chained.acyclic.depth ix = ap depth_new (sym same) ∙ depth_new-name ix h here in
+        let high : depth_new (nexts at) ≡ is.chained.acyclic.depth (next ix) =
+        ap depth_new (on ∙ renamed_some name (next ix) follows) ∙ depth_new-name (next ix) h there in
+        rw (low, high) (is.chained.acyclic.rises ix (filed_at _ h here) follows)
 
     named_firsts :
         (at h : ℕ)
@@ -152,18 +158,22 @@ module _
                   absurd (real (prev ix) (filed_at _ h there) (sym (renamed_some name (prev ix) leads) ∙ on))
             ]
 
-    pub IsLinked-renamed : IsLinked heads_new filed_new nexts prevs
-    IsLinked-renamed = record {
+    pub AreHeads-renamed : AreHeads heads_new filed_new nexts prevs
+    AreHeads-renamed = record {
       chained = record {
-        forth = LeadsBack-named name filed filed_new next prev nexts prevs filed_named is.chained.named is.chained.forth next_named prev_named;
-        back = LeadsBack-named name filed filed_new prev next prevs nexts filed_named is.chained.named is.chained.back prev_named next_named;
-        rising = record {
-          rank = rank_new;
-          top = is.chained.rising.top;
+        forth =
+            LeadsBack-named name filed filed_new next prev nexts prevs filed_named is.chained.not_sentinel is.chained.forth
+            next_named prev_named;
+        back =
+            LeadsBack-named name filed filed_new prev next prevs nexts filed_named is.chained.not_sentinel is.chained.back
+            prev_named next_named;
+        acyclic = record {
+          depth = depth_new;
+          top = is.chained.acyclic.top;
           below = named_below;
           rises = named_rises;
         };
-        named = λ at given.
+        not_sentinel = λ at given.
             let (h, hashed) = filed_hash _ given in
             let (ix, same, here) = filed_named.no_other at h hashed in
             subst (λ k. k ≢ sentinel) same (real ix (filed_at _ h here));

@@ -31,7 +31,8 @@ pub length_within :
     → ((x : ℕ) → Contains xs x → Contains ys x)
     → length xs ≤ length ys
 length_within xs ys apart within =
-    length-le_from_is_member nat_eq_equiv xs ys apart (λ x member. (is_member-Decides Decides-eqb ys x).1 (within x ((is_member-Decides Decides-eqb xs x).0 member)))
+    length-le_from_is_member nat_eq_equiv xs ys apart
+    (λ x member. (is_member-Decides Decides-eqb ys x).1 (within x ((is_member-Decides Decides-eqb xs x).0 member)))
 
 module _ (name : ℕ → ℕ) where
   names_apart :
@@ -53,8 +54,10 @@ module _ (name : ℕ → ℕ) where
   names_distinct [] one apart = apart
   names_distinct (x ∷ xs) one apart =
       IsDistinct-cons nat_eq (name x) (map name xs)
-      (names_apart x xs (λ y here. one x y (contains_head x xs) (contains_tail x y xs here)) (IsDistinct-head nat_eq x xs apart))
-      (names_distinct xs (λ i j here there. one i j (contains_tail x i xs here) (contains_tail x j xs there)) (IsDistinct-tail nat_eq x xs apart))
+      (names_apart x xs (λ y here. one x y (contains_head x xs) (contains_tail x y xs here))
+      (IsDistinct-head nat_eq x xs apart))
+      (names_distinct xs (λ i j here there. one i j (contains_tail x i xs here) (contains_tail x j xs there))
+      (IsDistinct-tail nat_eq x xs apart))
 
   pub len-renamed :
       (old new : FinMap nat_cmp ℕ)
@@ -67,19 +70,31 @@ module _ (name : ℕ → ℕ) where
       let old_apart = sorted_apart (finite.entries old) (finite.entries_sorted old) in
       let new_apart = sorted_apart (finite.entries new) (finite.entries_sorted new) in
       let names_apart =
-      names_distinct was (λ i j here there. one i j ((listed_filed old i).0 here) ((listed_filed old j).0 there)) old_apart in
+      names_distinct was (λ i j here there. one i j ((listed_filed old i).0 here) ((listed_filed old j).0 there))
+      old_apart in
       let fewer = length_within is (map name was) new_apart new_named in
       let more = length_within (map name was) is names_apart named_new in
-      omega (arith, fewer, more, length-map was name, finite.len-entries old, finite.len-entries new, length-map (finite.entries old) (λ (e : ℕ × ℕ). e.0), length-map (finite.entries new) (λ (e : ℕ × ℕ). e.0))
+      omega (
+        arith,
+        fewer,
+        more,
+        length-map was name,
+        finite.len-entries old,
+        finite.len-entries new,
+        length-map (finite.entries old) (λ (e : ℕ × ℕ). e.0),
+        length-map (finite.entries new) (λ (e : ℕ × ℕ). e.0),
+      )
     where
       new_named : (at : ℕ) → Contains (indexes_of new) at → Contains (map name (indexes_of old)) at
       new_named at here =
           let (hash, filed) = filed_hash _ ((listed_filed new at).0 here) in
           let (ix, same, stood) = named.no_other at hash filed in
-          subst (Contains (map name (indexes_of old))) same (Contains-map name (indexes_of old) ix ((listed_filed old ix).1 (filed_at _ hash stood)))
+          subst (Contains (map name (indexes_of old))) same
+          (Contains-map name (indexes_of old) ix ((listed_filed old ix).1 (filed_at _ hash stood)))
 
       named_new : (at : ℕ) → Contains (map name (indexes_of old)) at → Contains (indexes_of new) at
       named_new at here =
           let (ix, there, same) = Contains-from_map name (indexes_of old) at here in
           let (hash, filed) = filed_hash _ ((listed_filed old ix).0 there) in
-          (listed_filed new at).1 (subst (λ k. IsSome (finite.get new k)) same (filed_at _ hash (named.each ix hash filed)))
+          (listed_filed new at).1 (subst (λ k. IsSome (finite.get new k)) same
+          (filed_at _ hash (named.each ix hash filed)))

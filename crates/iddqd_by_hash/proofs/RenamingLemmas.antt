@@ -56,7 +56,8 @@ module _
       filed = record {
         each = λ ix hash here. was.done ix hash (within ix (filed_at _ hash here)) here;
         no_other = λ at hash here.
-            let (ix, below, named, stood) = was.no_other at hash (omega (arith, whole_now, below-filed_by now at (filed_at _ hash here))) here in
+            let (ix, below, named, stood) =
+            was.no_other at hash (omega (arith, whole_now, below-filed_by now at (filed_at _ hash here))) here in
             (ix, named, stood);
       };
       nexts = λ ix here. was.done_next ix (within ix here) here;
@@ -77,7 +78,8 @@ module _
       done_next = λ ix below here. was.done_next ix (less ix below here) here;
       done_prev = λ ix below here. was.done_prev ix (less ix below here) here;
       no_other = λ at hash below here.
-          let apart : at ≢ place = λ same. none (subst (λ k. IsSome (finite.get (filed_by now) k)) same (filed_at _ hash here)) in
+          let apart : at ≢ place =
+          λ same. none (subst (λ k. IsSome (finite.get (filed_by now) k)) same (filed_at _ hash here)) in
           let (ix, low, named, stood) = was.no_other at hash (omega (arith, below, apart)) here in
           (ix, omega (arith, low), named, stood);
       rest = λ j from. was.rest j (omega (arith, from));
@@ -87,7 +89,9 @@ module _
       where
         less : (ix : ℕ) → ix < place + 1 → IsSome (finite.get (filed_by old) ix) → ix < place
         less ix below here =
-            let apart : ix ≢ place = λ same. none (subst (λ k. IsSome (finite.get (filed_by now) k)) same (rw (was.rest ix (omega (arith, same))) here)) in
+            let apart : ix ≢ place =
+            λ same. none (subst (λ k. IsSome (finite.get (filed_by now) k)) same
+            (rw (was.rest ix (omega (arith, same))) here)) in
             omega (arith, below, apart)
 
     -- a place whose index is taken out, and put back under its new name
@@ -117,7 +121,8 @@ module _
 
         pub name_free : finite.get (filed_by taken) (name place) ≡ None
         name_free =
-            elim (finite.get (filed_by taken) (name place)) as (λ o. finite.get (filed_by taken) (name place) ≡ o → o ≡ None) [
+            elim (finite.get (filed_by taken) (name place)) as (λ o. finite.get (filed_by taken) (name place) ≡ o
+            → o ≡ None) [
               | Some h ↦ λ is. absurd (never h is)
               | None ↦ λ _. refl
             ] refl
@@ -132,7 +137,8 @@ module _
                       cc
                   | inr other ↦
                       let left : finite.get (filed_by now) (name place) ≡ Some h =
-                      sym (get-remove_other (filed_by now) place (name place) other) ∙ sym (ap (λ m. finite.get m (name place)) taken_filed) ∙ is in
+                      sym (get-remove_other (filed_by now) place (name place) other)
+                      ∙ sym (ap (λ m. finite.get m (name place)) taken_filed) ∙ is in
                       let (ix, below, named, there) = was.no_other (name place) h (omega (arith, low, other)) left in
                       apart ix below (filed_at _ h there) named
                 ]
@@ -147,7 +153,8 @@ module _
           where
             get_other : (j : ℕ) → j ≢ name place → j ≢ place → finite.get (filed_by new) j ≡ finite.get (filed_by now) j
             get_other j other away =
-                ap (λ m. finite.get m j) new_filed ∙ get-insert_other (filed_by taken) (name place) hash j other ∙ ap (λ m. finite.get m j) taken_filed ∙ get-remove_other (filed_by now) place j away
+                ap (λ m. finite.get m j) new_filed ∙ get-insert_other (filed_by taken) (name place) hash j other
+                ∙ ap (λ m. finite.get m j) taken_filed ∙ get-remove_other (filed_by now) place j away
 
             get_named : finite.get (filed_by new) (name place) ≡ Some hash
             get_named = ap (λ m. finite.get m (name place)) new_filed ∙ get-insert_at (filed_by taken) (name place) hash
@@ -160,18 +167,21 @@ module _
 
             next_named : next_of new (name place) ≡ renamed name (next_of old place)
             next_named =
-                new_next (name place) ∙ at_place (name place) next _ ∙ next_is ∙ ap (renamed name) (was.rest_next place (omega arith) (filed_at _ hash stood))
+                new_next (name place) ∙ at_place (name place) next _ ∙ next_is
+                ∙ ap (renamed name) (was.rest_next place (omega arith) (filed_at _ hash stood))
 
             prev_named : prev_of new (name place) ≡ renamed name (prev_of old place)
             prev_named =
-                new_prev (name place) ∙ at_place (name place) prev _ ∙ prev_is ∙ ap (renamed name) (was.rest_prev place (omega arith) (filed_at _ hash stood))
+                new_prev (name place) ∙ at_place (name place) prev _ ∙ prev_is
+                ∙ ap (renamed name) (was.rest_prev place (omega arith) (filed_at _ hash stood))
 
             pub Renaming-on : Renaming name old new (place + 1)
             Renaming-on = record {
               done = λ ix h below there.
                   elim (cases_eq ix place) [
                     | inl same ↦
-                        let hashed : hash ≡ h = one_hash _ hash h stood (ap (finite.get (filed_by old)) (sym same) ∙ there) in
+                        let hashed : hash ≡ h =
+                        one_hash _ hash h stood (ap (finite.get (filed_by old)) (sym same) ∙ there) in
                         ap (λ k. finite.get (filed_by new) (name k)) same ∙ get_named ∙ ap Some hashed
                     | inr other ↦
                         let less : ix < place = omega (arith, below, other) in
@@ -180,22 +190,32 @@ module _
                   ];
               done_next = λ ix below is.
                   elim (cases_eq ix place) [
-                    | inl same ↦ ap (λ k. next_of new (name k)) same ∙ next_named ∙ ap (λ k. renamed name (next_of old k)) (sym same)
+                    | inl same ↦
+                        ap (λ k. next_of new (name k)) same ∙ next_named
+                        ∙ ap (λ k. renamed name (next_of old k)) (sym same)
                     | inr other ↦
                         let less : ix < place = omega (arith, below, other) in
                         next_away (name ix) (apart ix less is) (name_below ix less is) ∙ was.done_next ix less is
                   ];
               done_prev = λ ix below is.
                   elim (cases_eq ix place) [
-                    | inl same ↦ ap (λ k. prev_of new (name k)) same ∙ prev_named ∙ ap (λ k. renamed name (prev_of old k)) (sym same)
+                    | inl same ↦
+                        ap (λ k. prev_of new (name k)) same ∙ prev_named
+                        ∙ ap (λ k. renamed name (prev_of old k)) (sym same)
                     | inr other ↦
                         let less : ix < place = omega (arith, below, other) in
                         prev_away (name ix) (apart ix less is) (name_below ix less is) ∙ was.done_prev ix less is
                   ];
               no_other = λ at h below there. others at h below there (cases_eq at (name place));
-              rest = λ j from. get_other j (λ same. absurd (omega (arith, from, low, same))) (λ same. absurd (omega (arith, from, same))) ∙ was.rest j (omega (arith, from));
-              rest_next = λ j from is. next_away j (λ same. absurd (omega (arith, from, low, same))) (λ same. absurd (omega (arith, from, same))) ∙ was.rest_next j (omega (arith, from)) is;
-              rest_prev = λ j from is. prev_away j (λ same. absurd (omega (arith, from, low, same))) (λ same. absurd (omega (arith, from, same))) ∙ was.rest_prev j (omega (arith, from)) is;
+              rest =
+                  λ j from. get_other j (λ same. absurd (omega (arith, from, low, same)))
+                  (λ same. absurd (omega (arith, from, same))) ∙ was.rest j (omega (arith, from));
+              rest_next =
+                  λ j from is. next_away j (λ same. absurd (omega (arith, from, low, same)))
+                  (λ same. absurd (omega (arith, from, same))) ∙ was.rest_next j (omega (arith, from)) is;
+              rest_prev =
+                  λ j from is. prev_away j (λ same. absurd (omega (arith, from, low, same)))
+                  (λ same. absurd (omega (arith, from, same))) ∙ was.rest_prev j (omega (arith, from)) is;
             }
               where
                 others :
@@ -205,13 +225,20 @@ module _
                     → ((at ≡ name place) ⊎ (at ≢ name place))
                     → (ix : ℕ) × (ix < place + 1) × (name ix ≡ at) × (finite.get (filed_by old) ix ≡ Some h)
                 others at h below there (inl same) =
-                    let hashed : hash ≡ h = one_hash _ hash h get_named (ap (finite.get (filed_by new)) (sym same) ∙ there) in
+                    let hashed : hash ≡ h =
+                    one_hash _ hash h get_named (ap (finite.get (filed_by new)) (sym same) ∙ there) in
                     (place, omega arith, sym same, stood ∙ ap Some hashed)
                 others at h below there (inr other) =
                     let left : finite.get (finite.remove (filed_by now) place) at ≡ Some h =
-                    sym (ap (λ m. finite.get m at) new_filed ∙ get-insert_other (filed_by taken) (name place) hash at other ∙ ap (λ m. finite.get m at) taken_filed) ∙ there in
-                    let away : at ≢ place = λ same. absurd (let never : None ≡ Some h = sym (get-remove_at (filed_by now) place) ∙ ap (finite.get (finite.remove (filed_by now) place)) (sym same) ∙ left in cc) in
-                    let (ix, less, named, is) = was.no_other at h (omega (arith, below, away)) (sym (get-remove_other (filed_by now) place at away) ∙ left) in
+                    sym (ap (λ m. finite.get m at) new_filed
+                    ∙ get-insert_other (filed_by taken) (name place) hash at other
+                    ∙ ap (λ m. finite.get m at) taken_filed) ∙ there in
+                    let away : at ≢ place =
+                    λ same. absurd (let never : None ≡ Some h = sym (get-remove_at (filed_by now) place)
+                    ∙ ap (finite.get (finite.remove (filed_by now) place)) (sym same) ∙ left in cc) in
+                    let (ix, less, named, is) =
+                    was.no_other at h (omega (arith, below, away))
+                    (sym (get-remove_other (filed_by now) place at away) ∙ left) in
                     (ix, omega (arith, less), named, is)
 
         -- the new name isn't that of a neighbour

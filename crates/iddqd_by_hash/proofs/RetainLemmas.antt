@@ -23,7 +23,7 @@ use Rattle.iddqd_hash.proofs.FiledLemmas.{filed_from_under, under_from_filed}
 use Rattle.iddqd_hash.proofs.RetainLemmas.{Contains-values, Keeps-tested}
 use Rattle.iddqd_keys.specs.Scan.{IsLive}
 use Rattle.iddqd_keys.specs.Removals.{removed_all}
-use Rattle.iddqd_by_hash.specs.Retain.{MayAsk, kept_of, refused_of, RetainsTo}
+use Rattle.iddqd_by_hash.specs.Retain.{MayAsk, kept_of, removed_of, RetainsTo}
 
 module _ {T : Type 0} where
   -- the walk over one slot more
@@ -54,17 +54,22 @@ module _ {T : Type 0} where
   kept-push :
       (asks : List ((ℕ × T) × Bool)) (a : (ℕ × T) × Bool)
       → kept_of (asks ++ a ∷ []) ≡ kept_of asks ++ kept_of (a ∷ [])
-  kept-push asks a = ap (map (λ (a : (ℕ × T) × Bool). a.0)) (filter-append (λ (a : (ℕ × T) × Bool). a.1) asks (a ∷ [])) ∙ map-append (λ (a : (ℕ × T) × Bool). a.0) _ _
+  kept-push asks a =
+      ap (map (λ (a : (ℕ × T) × Bool). a.0)) (filter-append (λ (a : (ℕ × T) × Bool). a.1) asks (a ∷ []))
+      ∙ map-append (λ (a : (ℕ × T) × Bool). a.0) _ _
 
   refused-push :
       (asks : List ((ℕ × T) × Bool)) (a : (ℕ × T) × Bool)
-      → refused_of (asks ++ a ∷ []) ≡ refused_of asks ++ refused_of (a ∷ [])
-  refused-push asks a = ap (map (λ (a : (ℕ × T) × Bool). a.0.0)) (filter-append (λ (a : (ℕ × T) × Bool). not a.1) asks (a ∷ [])) ∙ map-append (λ (a : (ℕ × T) × Bool). a.0.0) _ _
+      → removed_of (asks ++ a ∷ []) ≡ removed_of asks ++ removed_of (a ∷ [])
+  refused-push asks a =
+      ap (map (λ (a : (ℕ × T) × Bool). a.0.0)) (filter-append (λ (a : (ℕ × T) × Bool). not a.1) asks (a ∷ []))
+      ∙ map-append (λ (a : (ℕ × T) × Bool). a.0.0) _ _
 
   -- a live item is one of the items
   pub Contains-live : (s : Store T) (ix : ℕ) (item : T) → get s ix ≡ Some item → Contains (live_items s) item
   Contains-live s ix item live =
-      subst (λ l. Contains l item) (items_of_pairs 0 s.items) (Contains-values (live_pairs s) (ix, item) (((IsWalkOf-live_pairs s).live ix item).1 live))
+      subst (λ l. Contains l item) (items_of_pairs 0 s.items)
+      (Contains-values (live_pairs s) (ix, item) (((IsWalkOf-live_pairs s).live ix item).1 live))
 
   -- no more are kept than were asked about
   kept_fewer : (asks : List ((ℕ × T) × Bool)) → length (kept_of asks) ≤ length asks
@@ -133,7 +138,7 @@ module _ {F T : Type 0} (takes : F → T → Type 0) (ask : F → T → Bool →
     pub each_once : map (λ a. a.0) asks ≡ pairs_from 0 (take p old.items)
     pub were_asked : FoldsTo (λ p a q. ask p a.0.1 a.1 q) f asks state
     pub kept : pairs_from 0 (take p now.items) ≡ kept_of asks
-    pub left : now ≡ removed_all old (refused_of asks)
+    pub left : now ≡ removed_all old (removed_of asks)
     pub rest : (ix : ℕ) → p ≤ ix → get now ix ≡ get old ix
     pub counted : length now.items ≡ length old.items
     pub can : CanAsk takes ask state (live_items old)
@@ -197,15 +202,19 @@ module _ {F T : Type 0} (takes : F → T → Type 0) (ask : F → T → Bool →
             ∙ sym (pairs_more old.items p (Some item) within was_live)
 
         can-more : (b : Bool) (next : F) → ask state item b next → CanAsk takes ask next (live_items old)
-        can-more b next asked = CanAsk-asked takes ask state (live_items old) item b next w.can (Contains-live old p item was_live) asked
+        can-more b next asked =
+            CanAsk-asked takes ask state (live_items old) item b next w.can (Contains-live old p item was_live) asked
 
         -- it was answered true
         pub Retaining-kept : (next : F) → ask state item true next → Retaining f old now (p + 1) next
         Retaining-kept next asked = record {
           asks = w.asks ++ ((p, item), true) ∷ [];
           each_once = each-more true;
-          were_asked = FoldsTo-push (λ p a q. ask p a.0.1 a.1 q) f w.asks state ((p, item), true) next w.were_asked asked;
-          kept = pairs_more now.items p (Some item) (let counted = w.counted in omega arith) live ∙ ap (λ l. l ++ (p, item) ∷ []) w.kept ∙ sym (kept-push w.asks ((p, item), true));
+          were_asked =
+              FoldsTo-push (λ p a q. ask p a.0.1 a.1 q) f w.asks state ((p, item), true) next w.were_asked asked;
+          kept =
+              pairs_more now.items p (Some item) (let counted = w.counted in omega arith) live
+              ∙ ap (λ l. l ++ (p, item) ∷ []) w.kept ∙ sym (kept-push w.asks ((p, item), true));
           left = w.left ∙ ap (removed_all old) (sym (refused-push w.asks ((p, item), true) ∙ append-nil _));
           rest = λ ix from. w.rest ix (omega arith);
           counted = w.counted;
@@ -226,14 +235,17 @@ module _ {F T : Type 0} (takes : F → T → Type 0) (ask : F → T → Bool →
             (record {
               asks = w.asks ++ ((p, item), false) ∷ [];
               each_once = each-more false;
-              were_asked = FoldsTo-push (λ p a q. ask p a.0.1 a.1 q) f w.asks state ((p, item), false) next w.were_asked asked;
+              were_asked =
+                  FoldsTo-push (λ p a q. ask p a.0.1 a.1 q) f w.asks state ((p, item), false) next w.were_asked asked;
               kept =
                   pairs_vacant (set now.items p None) p (omega arith) (get_or-set_same now.items p None None within_now)
-                  ∙ ap (pairs_from 0) (take-set now.items p None) ∙ w.kept ∙ sym (kept-push w.asks ((p, item), false) ∙ append-nil _);
+                  ∙ ap (pairs_from 0) (take-set now.items p None) ∙ w.kept
+                  ∙ sym (kept-push w.asks ((p, item), false) ∙ append-nil _);
               left =
-                  ap (λ s. removed s p) w.left ∙ sym (removed_all-push old (refused_of w.asks) p)
+                  ap (λ s. removed s p) w.left ∙ sym (removed_all-push old (removed_of w.asks) p)
                   ∙ ap (removed_all old) (sym (refused-push w.asks ((p, item), false)));
-              rest = λ ix from. get_or-set_other now.items p ix None None (λ same. omega arith) ∙ w.rest ix (omega arith);
+              rest =
+                  λ ix from. get_or-set_other now.items p ix None None (λ same. omega arith) ∙ w.rest ix (omega arith);
               counted = long ∙ counted;
               can = can-more false next asked;
             })
@@ -263,8 +275,11 @@ module _ {T : Type 0} where
         let pairs = map (λ (a : (ℕ × T) × Bool). a.0) asks in
         let within : here.0 < length pairs = omega (arith, length-map asks (λ (a : (ℕ × T) × Bool). a.0), here.1) in
         let read : b.0 ≡ get_or pairs here.0 b.0 =
-        sym (get_or-map (λ (a : (ℕ × T) × Bool). a.0) asks here.0 b b.0 here.1 ∙ ap (λ (a : (ℕ × T) × Bool). a.0) here.2) in
-        let less = rising 0 (suc here.0) a.0 b.0 (omega arith) refl (slice_get_read pairs (length pairs) here.0 b.0 refl within read) in
+        sym (get_or-map (λ (a : (ℕ × T) × Bool). a.0) asks here.0 b b.0 here.1
+        ∙ ap (λ (a : (ℕ × T) × Bool). a.0) here.2) in
+        let less =
+        rising 0 (suc here.0) a.0 b.0 (omega arith) refl
+        (slice_get_read pairs (length pairs) here.0 b.0 refl within read) in
         omega (arith, less, same),
     apart_by_rising asks (λ i j x y less at_i at_j. rising (suc i) (suc j) x y (omega arith) at_i at_j),
   )
@@ -273,7 +288,7 @@ module _ {T : Type 0} where
       (s : Store T) (asks : List ((ℕ × T) × Bool))
       → ((b : (ℕ × T) × Bool) → Contains asks b → IsLive s b.0.0)
       → AreApart asks
-      → AreLiveInTurn s (refused_of asks)
+      → AreLiveInTurn s (removed_of asks)
   live_in_turn s [] live apart = tt
   live_in_turn s ((pair, true) ∷ asks) live apart =
       live_in_turn s asks (λ b here. live b (contains_tail (pair, true) b asks here)) apart.1
@@ -289,7 +304,7 @@ module _ {T : Type 0} where
   pub AreLiveInTurn-refused :
       {F : Type 0} (ask : F → T → Bool → F → Type 0) (f : F) (old now : Store T) (last : F)
       (r : RetainsTo ask f old now last)
-      → AreLiveInTurn old (refused_of r.asks)
+      → AreLiveInTurn old (removed_of r.asks)
   AreLiveInTurn-refused ask f old now last r =
       let walk = IsWalkOf-live_pairs old in
       live_in_turn old r.asks
@@ -359,7 +374,8 @@ from_passed :
     → Contains xs x × (t x ≡ true)
 from_passed t [] x here = absurd (contains_none x here)
 from_passed t (y ∷ xs) x here =
-    elim (t y) as (λ b. t y ≡ b → Contains (cond b (y ∷ filter t xs) (filter t xs)) x → Contains (y ∷ xs) x × (t x ≡ true)) [
+    elim (t y) as (λ b. t y ≡ b → Contains (cond b (y ∷ filter t xs) (filter t xs)) x
+    → Contains (y ∷ xs) x × (t x ≡ true)) [
       | true ↦ λ yes here.
           elim (contains_cases y x (filter t xs) here) [
             | inl same ↦ (subst (Contains (y ∷ xs)) same (contains_head y xs), ap t (sym same) ∙ yes)
@@ -384,7 +400,8 @@ module _ (m : FinMap nat_cmp ℕ) (hash ix : ℕ) where
   filed_pair : finite.get m ix ≡ Some hash → Contains (pairs_of m) (hash, ix)
   filed_pair is =
       let under_hash : (e : ℕ × ℕ) → Bool = λ e. e.1 == hash in
-      let (e, passed, at) = from_mapped (λ (e : ℕ × ℕ). e.0) (filter under_hash (finite.entries m)) ix (under_from_filed m hash ix is) in
+      let (e, passed, at) =
+      from_mapped (λ (e : ℕ × ℕ). e.0) (filter under_hash (finite.entries m)) ix (under_from_filed m hash ix is) in
       let both = from_passed under_hash (finite.entries m) e passed in
       let same : e ≡ (ix, hash) = λ i. (at i, eqb-true e.1 hash both.1 i) in
       contains_mapped turned (finite.entries m) (ix, hash) (subst (Contains (finite.entries m)) same both.0)

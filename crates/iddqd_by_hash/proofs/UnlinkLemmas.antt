@@ -8,10 +8,10 @@ use Rattle.iddqd.specs.Store.{sentinel}
 use Rattle.iddqd.proofs.StoreLemmas.{differs}
 use Rattle.iddqd_hash.proofs.MemberLemmas.{get-remove_at, get-remove_other, filed_at}
 use Rattle.iddqd_by_hash.specs.Links.{filed_by, next_of, prev_of, heads_after}
-use Rattle.iddqd_by_hash.specs.LinkedTable.{AreLinked}
+use Rattle.iddqd_by_hash.specs.LinkedTable.{AreHeadsOf}
 use Rattle.iddqd_by_hash.specs.declared.linked_table.links.Link.{Link}
 use Rattle.iddqd_by_hash.proofs.LinksLemmas.{below-filed_by}
-use Rattle.iddqd_by_hash.proofs.RemoveLinkLemmas.{next_other, IsLinked-removed, IsLinked-head_removed}
+use Rattle.iddqd_by_hash.proofs.RemoveLinkLemmas.{next_other, AreHeads-removed, AreHeads-head_removed}
 
 -- a value that is given at one place, and elsewhere stays
 pub at_place : (ix value other : ℕ) → (if ix == ix then value else other) ≡ value
@@ -32,11 +32,11 @@ none_left m ix j none =
     ]
 
 module _
-    (heads : FinMap nat_cmp ℕ) (old : List Link) (is : AreLinked heads old) (ix hash : ℕ)
+    (heads : FinMap nat_cmp ℕ) (old : List Link) (is : AreHeadsOf heads old) (ix hash : ℕ)
     (here : finite.get (filed_by old) ix ≡ Some hash)
   where
     real : ix ≢ sentinel
-    real = is.chained.named ix (filed_at _ hash here)
+    real = is.chained.not_sentinel ix (filed_at _ hash here)
 
     pub prev_within : (prev : ℕ) → prev ≡ prev_of old ix → prev ≢ sentinel → prev < length old
     prev_within prev was there =
@@ -62,7 +62,7 @@ module _
         elim (finite.get heads (next_of old ix)) as (λ o. finite.get heads (next_of old ix) ≡ o → o ≡ None) [
           | Some h ↦ λ led.
               let (there, first) = (is.firsts (next_of old ix) h).0 led in
-              let named = is.chained.named (next_of old ix) (filed_at _ h there) in
+              let named = is.chained.not_sentinel (next_of old ix) (filed_at _ h there) in
               let back = (is.chained.forth ix hash here named).1 in
               absurd (real (sym back ∙ first))
           | None ↦ λ _. refl
@@ -82,7 +82,8 @@ module _
       where
         next_prev : prev_of old ix ≢ sentinel → next_of new (prev_of old ix) ≡ next_of old ix
         next_prev there =
-            new_next (prev_of old ix) ∙ led_next (prev_of old ix) there ∙ rw prev_was (at_place (prev_of old ix) next _) ∙ next_was
+            new_next (prev_of old ix) ∙ led_next (prev_of old ix) there ∙ rw prev_was (at_place (prev_of old ix) next _)
+            ∙ next_was
 
         prev_next : next_of old ix ≢ sentinel → prev_of new (next_of old ix) ≡ prev_of old ix
         prev_next there =
@@ -90,16 +91,21 @@ module _
 
         next_stays : (j : ℕ) → j ≢ sentinel → j ≢ ix → j ≢ prev_of old ix → next_of new j ≡ next_of old j
         next_stays j there other apart =
-            new_next j ∙ led_next j there ∙ at_other j prev next _ (λ same. apart (same ∙ prev_was)) ∙ taken_next j other
+            new_next j ∙ led_next j there ∙ at_other j prev next _ (λ same. apart (same ∙ prev_was))
+            ∙ taken_next j other
 
         prev_stays : (j : ℕ) → j ≢ sentinel → j ≢ ix → j ≢ next_of old ix → prev_of new j ≡ prev_of old j
         prev_stays j there other apart =
-            new_prev j there ∙ at_other j next prev _ (λ same. apart (same ∙ next_was)) ∙ led_prev j ∙ taken_prev j other
+            new_prev j there ∙ at_other j next prev _ (λ same. apart (same ∙ next_was)) ∙ led_prev j
+            ∙ taken_prev j other
 
-        pub AreLinked-taken : prev ≢ sentinel → AreLinked heads new
-        AreLinked-taken led =
-            rw filed_new (IsLinked-removed heads (filed_by old) (next_of old) (prev_of old) (next_of new) (prev_of new) is ix hash here next_prev prev_next next_stays prev_stays (λ none. led (prev_was ∙ none)))
+        pub AreHeadsOf-taken : prev ≢ sentinel → AreHeadsOf heads new
+        AreHeadsOf-taken led =
+            rw filed_new (AreHeads-removed heads (filed_by old) (next_of old) (prev_of old) (next_of new)
+            (prev_of new) is ix hash here next_prev prev_next next_stays prev_stays (λ none. led (prev_was ∙ none)))
 
-        pub AreLinked-head_taken : prev ≡ sentinel → AreLinked (heads_after heads ix hash next) new
-        AreLinked-head_taken first =
-            rw (filed_new, next_was) (IsLinked-head_removed heads (filed_by old) (next_of old) (prev_of old) (next_of new) (prev_of new) is ix hash here next_prev prev_next next_stays prev_stays (sym prev_was ∙ first))
+        pub AreHeadsOf-head_taken : prev ≡ sentinel → AreHeadsOf (heads_after heads ix hash next) new
+        AreHeadsOf-head_taken first =
+            rw (filed_new, next_was) (AreHeads-head_removed heads (filed_by old) (next_of old) (prev_of old)
+            (next_of new) (prev_of new) is ix hash here next_prev prev_next next_stays prev_stays
+            (sym prev_was ∙ first))

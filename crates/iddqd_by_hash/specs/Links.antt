@@ -1,4 +1,5 @@
--- The links of indexes that share hashes: of each, its hash and its neighbours.
+-- The links of the indexes of a table. A link has the hash of its index, and the next and the previous index under that
+-- hash: its neighbours.
 use Rattle.std.specs.Prelude.{◌≡◌, ◌≢◌, ◌==◌, ◌↔◌, ◌<◌, ℕ, zero, suc, List, [], ◌∷◌, Some, if◌then◌else◌, slice_index_or, IsSome, nat_eq}
 use Rattle.std.specs.List.{Contains, IsDistinct}
 use Rattle.std.specs.Ordering.{nat_cmp}
@@ -8,11 +9,11 @@ use Rattle.iddqd.specs.Store.{sentinel}
 use Rattle.iddqd_hash.specs.MapHashTable.{Renames}
 use Rattle.iddqd_by_hash.specs.declared.linked_table.links.Link.{Link}
 
--- The link of a slot whose index isn't in the table leads back to the slot itself.
-abbrev pub vacant : ℕ → Link
-vacant ix = record { hash = 0; next = sentinel; prev = ix }
+-- The link of a slot whose index isn't in the table has that index itself as the previous one.
+abbrev pub absent_link : ℕ → Link
+absent_link ix = record { hash = 0; next = sentinel; prev = ix }
 
--- the indexes from one on that are in the table, each with its hash
+-- the indexes that are in the table, each with its hash; `links` are the links from index `at` on
 abbrev pub hashed_from : ℕ → List Link → List (ℕ × ℕ)
 hashed_from at [] = []
 hashed_from at (l ∷ links) =
@@ -23,55 +24,57 @@ hashed_from at (l ∷ links) =
 unfoldable pub filed_by : List Link → FinMap nat_cmp ℕ
 filed_by links = finite.from_sorted (hashed_from 0 links)
 
--- the index that follows one under its hash, or `SENTINEL`
+-- of an index in the table the next one under its hash, or `SENTINEL`; if the array has no link of it, `SENTINEL`
 abbrev pub next_of : List Link → ℕ → ℕ
-next_of links ix = (slice_index_or links ix (vacant ix)).next
+next_of links ix = (slice_index_or links ix (absent_link ix)).next
 
--- the index before one under its hash, or `SENTINEL`
+-- of an index in the table the previous one under its hash, or `SENTINEL`; of any other index itself
 abbrev pub prev_of : List Link → ℕ → ℕ
-prev_of links ix = (slice_index_or links ix (vacant ix)).prev
+prev_of links ix = (slice_index_or links ix (absent_link ix)).prev
 
--- The indexes that come one after the other, from this one on, up to so many.
+-- the indexes from `ix` on along `next`, at most `most` of them
 abbrev pub chain : (ℕ → ℕ) → ℕ → ℕ → List ℕ
 chain next zero ix = []
 chain next (suc most) ix = if ix == sentinel then [] else ix ∷ chain next most (next ix)
 
--- The chain from an index ends after at most so many, and each of them is below a bound.
+-- the chain from `ix` ends after at most `most` indexes, and each of them is below `bound`
 abbrev pub EndsWithin : (ℕ → ℕ) → ℕ → ℕ → ℕ → Type 0
 EndsWithin next bound zero ix = ix ≡ sentinel
 EndsWithin next bound (suc most) ix = ix ≢ sentinel → (ix < bound) × EndsWithin next bound most (next ix)
 
--- A number for each index that rises from each to the next, so that no chain comes back to where it was.
-pub record Rises (filed : FinMap nat_cmp ℕ) (next : ℕ → ℕ) : Type 0 where
-  pub rank : ℕ → ℕ
+-- Each index has a depth, which grows from each to the next, so no chain is a cycle.
+pub record IsAcyclic (filed : FinMap nat_cmp ℕ) (next : ℕ → ℕ) : Type 0 where
+  pub depth : ℕ → ℕ
   pub top : ℕ
-  pub below : (ix : ℕ) → IsSome (finite.get filed ix) → rank ix < top
-  pub rises : (ix : ℕ) → IsSome (finite.get filed ix) → next ix ≢ sentinel → rank ix < rank (next ix)
+  pub below : (ix : ℕ) → IsSome (finite.get filed ix) → depth ix < top
+  pub rises : (ix : ℕ) → IsSome (finite.get filed ix) → next ix ≢ sentinel → depth ix < depth (next ix)
 
--- an index to which another one leads is under the same hash, and leads back to it
+-- if an index leads to another one, that one has the same hash and leads back
 abbrev pub LeadsBack : FinMap nat_cmp ℕ → (ℕ → ℕ) → (ℕ → ℕ) → Type 0
 LeadsBack filed there back =
     (ix hash : ℕ) → finite.get filed ix ≡ Some hash → there ix ≢ sentinel
     → (finite.get filed (there ix) ≡ Some hash) × (back (there ix) ≡ ix)
 
--- The indexes are linked in chains, each under one hash, and no chain comes back to where it was.
+-- The indexes are linked in chains, each under one hash, and no chain is a cycle.
 pub record IsChained (filed : FinMap nat_cmp ℕ) (next prev : ℕ → ℕ) : Type 0 where
   pub forth : LeadsBack filed next prev
   pub back : LeadsBack filed prev next
-  pub rising : Rises filed next
-  pub named : (ix : ℕ) → IsSome (finite.get filed ix) → ix ≢ sentinel
+  pub acyclic : IsAcyclic filed next
+  pub not_sentinel : (ix : ℕ) → IsSome (finite.get filed ix) → ix ≢ sentinel
 
--- The heads are the indexes that none comes before, and no two have one hash. So those under a hash are one chain.
-pub record IsLinked (heads filed : FinMap nat_cmp ℕ) (next prev : ℕ → ℕ) : Type 0 where
+-- The heads are the indexes that have no previous one, and no two have the same hash. So all indexes with a hash are
+-- one chain.
+pub record AreHeads (heads filed : FinMap nat_cmp ℕ) (next prev : ℕ → ℕ) : Type 0 where
   pub chained : IsChained filed next prev
   pub firsts :
       (ix hash : ℕ) → finite.get heads ix ≡ Some hash ↔ ((finite.get filed ix ≡ Some hash) × (prev ix ≡ sentinel))
   pub one_head : (i j hash : ℕ) → finite.get heads i ≡ Some hash → finite.get heads j ≡ Some hash → i ≡ j
 
--- the next and the previous indexes after one was linked behind a head, before the index that followed it
+-- `next` after `ix` was linked between `head` and `follower`
 abbrev pub next_behind : ℕ → ℕ → ℕ → (ℕ → ℕ) → ℕ → ℕ
 next_behind head ix follower next j = if j == head then ix else if j == ix then follower else next j
 
+-- `prev` after `ix` was linked between `head` and `follower`
 abbrev pub prev_behind : ℕ → ℕ → ℕ → (ℕ → ℕ) → ℕ → ℕ
 prev_behind head ix follower prev j = if j == follower then ix else if j == ix then head else prev j
 
@@ -81,18 +84,19 @@ heads_after heads head hash follower =
     if follower == sentinel then finite.remove heads head
     else finite.insert (finite.remove heads head) follower hash
 
--- the neighbours of each index are in the table, and it isn't its own
+-- The neighbours of each index in the table are in the table, or `SENTINEL`. No index in the table is `SENTINEL`, or
+-- its own previous one.
 pub record AreNeighbours (filed : FinMap nat_cmp ℕ) (next prev : ℕ → ℕ) : Type 0 where
   pub nexts : (ix : ℕ) → IsSome (finite.get filed ix) → next ix ≢ sentinel → IsSome (finite.get filed (next ix))
   pub prevs : (ix : ℕ) → IsSome (finite.get filed ix) → prev ix ≢ sentinel → IsSome (finite.get filed (prev ix))
   pub others : (ix : ℕ) → IsSome (finite.get filed ix) → prev ix ≢ ix
-  pub named : (ix : ℕ) → IsSome (finite.get filed ix) → ix ≢ sentinel
+  pub not_sentinel : (ix : ℕ) → IsSome (finite.get filed ix) → ix ≢ sentinel
 
--- the new name of a neighbour: where there is none, none
+-- the new name of a neighbour; `SENTINEL`, which stands for none, stays
 abbrev pub renamed : (ℕ → ℕ) → ℕ → ℕ
 renamed name ix = if ix == sentinel then sentinel else name ix
 
--- each index was given its new name, under its hash and beside the new names of its neighbours, and there is no other
+-- Each index was given its new name, with its hash and the new names of its neighbours, and `new` has no other index.
 pub record RenamesLinks (name : ℕ → ℕ) (old new : List Link) : Type 0 where
   pub filed : Renames name (filed_by old) (filed_by new)
   pub nexts :
@@ -100,7 +104,7 @@ pub record RenamesLinks (name : ℕ → ℕ) (old new : List Link) : Type 0 wher
   pub prevs :
       (ix : ℕ) → IsSome (finite.get (filed_by old) ix) → prev_of new (name ix) ≡ renamed name (prev_of old ix)
 
--- these are exactly the indexes under a hash, each once, in any order
+-- the list has exactly the indexes under the hash, each once, in any order
 pub record AreUnder (filed : FinMap nat_cmp ℕ) (hash : ℕ) (indexes : List ℕ) : Type 0 where
   pub each : (ix : ℕ) → Contains indexes ix ↔ (finite.get filed ix ≡ Some hash)
   pub once : IsDistinct nat_eq indexes

@@ -1,4 +1,5 @@
--- What `retain` of a collection asks of a closure, and which items it leaves in the store.
+-- How `retain` of a map calls its closure, and which items it leaves in the store. Maps and driver use it; no call of
+-- this crate does.
 use Rattle.std.specs.Prelude.{◌≡◌, ℕ, Bool, not, List, map, filter}
 use Rattle.std.specs.List.{FoldsTo}
 use Rattle.iddqd.specs.Store.{Store}
@@ -7,30 +8,30 @@ use Rattle.iddqd_hash.specs.Asks.{CanAsk}
 use Rattle.iddqd_keys.specs.Removals.{removed_all}
 
 module _ {T : Type 0} where
-  -- of asks, each of an index with its item, and its answer: those that were answered true
+  -- `asks` are calls of the closure: an index with its item, and the answer. The pairs for which it answered true.
   abbrev pub kept_of : List ((ℕ × T) × Bool) → List (ℕ × T)
   kept_of asks = map (λ a. a.0) (filter (λ a. a.1) asks)
 
-  -- and the indexes of those that were answered false
-  abbrev pub refused_of : List ((ℕ × T) × Bool) → List ℕ
-  refused_of asks = map (λ a. a.0.0) (filter (λ a. not a.1) asks)
+  -- the indexes for which it answered false
+  abbrev pub removed_of : List ((ℕ × T) × Bool) → List ℕ
+  removed_of asks = map (λ a. a.0.0) (filter (λ a. not a.1) asks)
 
--- `takes p x` says that x may be asked in the state p, and `ask p x b q` that it may be answered b and leave the
--- state q
+-- `takes p x`: in the state p the closure may be called on x; `ask p x b q`: called so, it may answer b and be in the
+-- state q afterwards
 module _ {F T : Type 0} (takes : F → T → Type 0) (ask : F → T → Bool → F → Type 0) where
-  -- Each of the items may be asked, and again after any such asks: it is as strong as `CanAsk`, since the premise that
-  -- it grants, that this holds where everything may be asked in every state, is a lemma (`CanAsk-everywhere`). Said so,
-  -- a search shows it of a closure that requires nothing, and its caller needs no proof.
+  -- The closure may be called on each of the items, in every state that such calls lead to. This says the same as
+  -- `CanAsk`, as an implication whose premise always holds (`CanAsk-everywhere`). In this form the proof search finds
+  -- it by itself for a closure without `requires`, so a caller needs no proof file.
   abbrev pub MayAsk : F → List T → Type 0
   MayAsk f items = (((p : F) (x : T) → takes p x) → CanAsk takes ask f items) → CanAsk takes ask f items
 
 -- `ask p x b q` says that x, asked in the state p, may be answered b and leave the state q
 module _ {F T : Type 0} (ask : F → T → Bool → F → Type 0) where
-  -- f was asked about each item once, by rising index, each time in the state that the ask before left, and is then
-  -- left in the last state. The items are left that were answered true, under their indexes; the others were removed.
+  -- f was called on each item once, by rising index, each time in the state that the call before left, and is then in
+  -- the last state. The items for which it answered true stay under their indexes; the others were removed.
   pub record RetainsTo (f : F) (old new : Store T) (last : F) : Type 0 where
     pub asks : List ((ℕ × T) × Bool)
     pub each_once : map (λ a. a.0) asks ≡ live_pairs old
     pub were_asked : FoldsTo (λ p a q. ask p a.0.1 a.1 q) f asks last
     pub kept : live_pairs new ≡ kept_of asks
-    pub left : new ≡ removed_all old (refused_of asks)
+    pub left : new ≡ removed_all old (removed_of asks)

@@ -1,6 +1,6 @@
-//! The items whose keys a query is equivalent to: a walk over their indexes, where several items may have one key.
+//! Iterates over the indexes of the items whose keys match a query, where several items may have one key.
 //!
-//! A linked table has the indexes under each hash as one chain. So the walk reads no index under another hash.
+//! A linked table has the indexes under each hash as one chain. So the iterator reads no index under another hash.
 ghost use Rattle.std.specs.Prelude.{◌≡◌, ℕ, Contains, IfSome, IsSome, length};
 ghost use Rattle.std.specs.Iterator.{YieldsFirst, item_count, at_most, UpTo};
 ghost use Rattle.std.specs.Iterator.SizeHint.{IsWithinCount};
@@ -17,10 +17,10 @@ use std::fmt;
 use std::iter::FusedIterator;
 use std::marker::{Model, PhantomData};
 
-/// The indexes under a hash whose items have keys that a query is equivalent to, each once, in no order that a caller
-/// can rely on. Once it has ended it stays ended.
+/// An iterator over the indexes that are filed under a hash and whose items' keys match a query: each once, in no order
+/// that a caller can rely on. It is fused.
 ///
-/// It takes no memory, and reads the keys of indexes under that hash alone, of each once.
+/// It takes no memory, and reads only keys of indexes under that hash, each once.
 #[derive(Drop)]
 pub struct Group<'a, T, E: KeyOf<T>, Q: Equivalent<E::Key>> {
     indexes: LinkedIndexes<'a>,
@@ -41,9 +41,9 @@ impl<'a, T, E: KeyOf<T>, Q: Equivalent<E::Key>> Model for Group<'a, T, E, Q> {
     ghost invariant = { λ it. (ix : ℕ) → Contains it.indexes ix → IsLive it.items.now.store ix };
 }
 
-/// The indexes under a hash whose items have keys that the query is equivalent to, each once.
+/// The indexes that are filed under `hash` and whose items' keys match the query, each once.
 ///
-/// It reads no key. The walk reads the keys of indexes under that hash alone, of each once.
+/// It reads no key. The iterator reads only keys of indexes under that hash, each once.
 pub fn group_of<'a, T, E, Q>(
     table: &'a LinkedTable,
     items: &'a ItemSet<T>,
@@ -93,7 +93,7 @@ impl<'a, T, E: KeyOf<T>, Q: Equivalent<E::Key>> fmt::Debug for Group<'a, T, E, Q
     }
 }
 
-// The first of some indexes whose item's key the query is equivalent to. It leaves those behind it.
+// Advances `indexes` past the first one whose item has a key that the query is equivalent to, and returns that index.
 fn next_hit<T, E, Q>(
     indexes: &mut LinkedIndexes<'_>,
     items: &ItemSet<T>,

@@ -1,7 +1,7 @@
-//! What a table does where a live index is given an item that may have another key.
+//! What a table does when the item at a live index is replaced, maybe by one with another key.
 //!
 //! The removal of the old entry leaves the room that the insert of the new one takes, so a move takes no memory
-//! and can't fail. A collection plans the move in each of its tables before it moves in any.
+//! and can't fail. A map plans the move in each of its tables before it moves in any.
 ghost use Rattle.std.specs.Prelude.{◌≡◌, IsSome};
 ghost use Rattle.std.specs.FinMap as finite;
 ghost use Rattle.iddqd_hash.specs.{filed};
@@ -13,18 +13,18 @@ use iddqd::item_index::ItemIndex;
 use iddqd::map_hash::MapHash;
 use iddqd_hash::hash_table::MapHashTable;
 
-/// What has to become of a live index that is given another item.
+/// How the entry of a live index must change if its item is replaced.
 #[derive(Clone, Copy)]
 pub enum Move {
-    /// The key stays, and so does the index.
+    /// The key stays, and so the table stays as it is.
     Stays,
-    /// It is filed under this hash, that of the new key.
+    /// The index goes under this hash, that of the new key.
     To(MapHash),
 }
 
-/// Files a live index as it was planned. It takes no memory.
+/// Changes the entry of a live index as it was planned. It takes no memory.
 ///
-/// `from` is the hash that it is filed under; under another one the table is walked.
+/// `from` should be the hash that the index is stored under. If it isn't, the table is scanned.
 pub fn commit_move(table: &mut MapHashTable, from: MapHash, plan: &Move, ix: ItemIndex)
     requires filed { IsSome (finite.get (filed table.old) ix) }
     ensures moved { filed table.new ≡ moved (filed table.old) ix plan.now }
@@ -32,7 +32,7 @@ pub fn commit_move(table: &mut MapHashTable, from: MapHash, plan: &Move, ix: Ite
     ensures untouched { IfStays plan.now (table.new ≡ table.old) }
 {
     if let Move::To(to) = plan {
-        hashed::take_index(table, from, ix);
+        hashed::remove_index(table, from, ix);
         table.insert_prehashed_unchecked(*to, ix);
     }
 }

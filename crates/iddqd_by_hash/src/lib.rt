@@ -1,7 +1,8 @@
-//! What a hash table of a store's indexes means for one key of the store's items.
+//! Look-ups and removals by one key of a store's items, in a hash table of the store's indexes; how an entry follows
+//! when an item is replaced; groups of items with one key, and the table for them, [`linked_table::LinkedTable`].
 //!
-//! Its calls are functions over the table and the store, and a type names the key. So a collection has both as plain
-//! fields; what a wrapper's field lends couldn't be handed on.
+//! Each call is handed the table, and the store if it reads keys; then a type parameter `E: KeyOf<T>` names the key. So
+//! a map can have table and store as plain fields.
 #![tactic(auto)]
 
 mod borrowed_key_query;

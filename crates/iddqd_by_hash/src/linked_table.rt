@@ -1,23 +1,25 @@
-//! A table of indexes under hashes, of which many may share one.
+//! A table of indexes under hashes. Many indexes may share a hash.
 //!
-//! A hash table has one index of each hash, its head. The others under that hash are linked behind it, by a list with a
-//! link for each slot. So an insert and a removal cost the same however many indexes share the hash, and a walk over
-//! them reads no other. In a hash table alone each of them would step over all that share it.
+//! The hash table `heads` has one index of each hash, the head. The others with that hash are linked behind it, by an
+//! array whose element i is the link of index i. So an insert and a removal cost the same however many indexes share
+//! the hash, and a walk over them reads no other. If all these indexes stood in the hash table itself, an insert or a
+//! removal might step over every index with that hash.
 //!
 //! An index keeps its hash in its link, so a removal computes none.
 //!
 //! Invariants:
 //!
-//! 1. an index that follows another one comes back to it, and both have one hash;
-//! 2. the heads are exactly the indexes that none comes before, each under its hash;
-//! 3. no two heads have one hash, so the indexes under a hash are one chain;
-//! 4. no chain comes back to where it was.
+//! 1. b is the next index of a if and only if a is the previous index of b; they then have the same hash;
+//! 2. the heads are exactly the indexes that have no previous index, each under its hash;
+//! 3. no two heads have the same hash, so the indexes under a hash are one chain;
+//! 4. no chain is a cycle;
+//! 5. `len` counts the indexes, `heads` has the capacity for `len` entries, and the array has at most `u32::MAX` links.
 ghost use Rattle.std.specs.Prelude.{◌≡◌, ◌≢◌, ◌≤◌, ◌<◌, ◌+◌, ℕ, max, Some, None, IsSome, vec_len, vec_capacity};
 ghost use Rattle.std.specs.FinMap as finite;
 ghost use Rattle.iddqd.specs.Store.{sentinel};
 ghost use Rattle.iddqd_hash.specs.{filed};
 ghost use Rattle.iddqd_hash.specs.HashTable.{capacity, memory, room};
-ghost use Rattle.iddqd_by_hash.specs.LinkedTable.{AreLinked, KeepsLinks};
+ghost use Rattle.iddqd_by_hash.specs.LinkedTable.{AreHeadsOf, KeepsMemory};
 ghost use Rattle.iddqd_by_hash.specs.Links.{filed_by, next_of, prev_of, next_behind, prev_behind};
 
 mod copies;
@@ -32,19 +34,19 @@ use iddqd::item_index::ItemIndex;
 use iddqd::map_hash::MapHash;
 use iddqd_hash::hash_table::MapHashTable;
 pub use indexes::LinkedIndexes;
-use links::{Link, follow, place_of, put, set_next};
+use links::{Link, place_of, put, set_next, set_prev_if_any};
 use std::alloc::Global;
 use std::marker::Model;
 
 /// Indexes under hashes, each index once. Many may share a hash.
 ///
-/// A contract sees it as a finite map from an index to its hash, as the number of slots that have a link, and as its
-/// memory.
+/// A contract sees four things: the hash of each index, the length of the array of links, the capacity, and how many
+/// cells and links the memory holds.
 #[derive(Drop)]
 pub struct LinkedTable {
     // The first index of each hash.
     heads: MapHashTable,
-    // The link of each slot, from the first on, up to the greatest index that there was.
+    // Element i is the link of index i, which need not be in the table. Only `clear` and `remap_indexes` shorten it.
     links: Vec<Link>,
     // How many indexes there are.
     len: usize,
@@ -55,9 +57,9 @@ impl Model for LinkedTable {
     ghost use Rattle.iddqd_hash.specs.{filed};
     ghost use Rattle.iddqd_hash.specs.HashTable.{capacity, memory};
     ghost use Rattle.iddqd_by_hash.specs.Links.{filed_by};
-    ghost use Rattle.iddqd_by_hash.specs.LinkedTable.{Linked, linked_code, IsLinkedTable};
+    ghost use Rattle.iddqd_by_hash.specs.LinkedTable.{LinkedState, linked_code, IsLinkedTable};
 
-    ghost Value = { Linked };
+    ghost Value = { LinkedState };
 
     ghost coded = { linked_code };
 
@@ -100,13 +102,16 @@ impl LinkedTable {
     }
 
     /// Adds an index under a hash. It takes no memory, and costs the same however many indexes share the hash.
+    ///
+    /// The caller passes an index that has a link in the array already, or `len`: then the table has exactly the
+    /// indexes below it, and the array grows by one link.
     pub fn insert(&mut self, hash: MapHash, ix: ItemIndex)
         requires room { finite.len self.old.filed < self.old.capacity }
         requires in_turn { self.old.slots ≤ ix → ix ≡ finite.len self.old.filed }
-        requires named { ix ≢ sentinel }
+        requires not_sentinel { ix ≢ sentinel }
         requires new { finite.get self.old.filed ix ≡ None }
         ensures added { self.new.filed ≡ finite.insert self.old.filed ix hash }
-        ensures memory { KeepsLinks self.old self.new }
+        ensures memory { KeepsMemory self.old self.new }
         ensures slots { self.new.slots ≡ max self.old.slots (ix + 1) }
     {
         prove!(self.heads.capacity() - self.heads.room() == self.heads.len());
@@ -124,15 +129,15 @@ impl LinkedTable {
     }
 }
 
-// Links an index under a hash: behind its head, or as its head where there is none.
+// Links an index under a hash: behind the head, or as the head if there is none.
 fn link(heads: &mut MapHashTable, links: &mut Vec<Link>, hash: MapHash, ix: ItemIndex)
-    requires linked { AreLinked (filed heads.old) links.old.items }
+    requires linked { AreHeadsOf (filed heads.old) links.old.items }
     requires room { 1 ≤ room heads.old }
     requires in_turn { ix ≤ vec_len links.old }
     requires roomy { ix < vec_capacity links.old }
-    requires named { ix ≢ sentinel }
+    requires not_sentinel { ix ≢ sentinel }
     requires new { finite.get (filed_by links.old.items) ix ≡ None }
-    ensures linked { AreLinked (filed heads.new) links.new.items }
+    ensures linked { AreHeadsOf (filed heads.new) links.new.items }
     ensures filed { filed_by links.new.items ≡ finite.insert (filed_by links.old.items) ix hash }
     ensures heads_capacity { capacity heads.new ≡ capacity heads.old }
     ensures heads_memory { memory heads.new ≡ memory heads.old }
@@ -177,5 +182,5 @@ fn insert_behind(links: &mut Vec<Link>, head: ItemIndex, hash: MapHash, ix: Item
     };
     put(links, ix, link);
     set_next(links, head, ix);
-    follow(links, next, ix);
+    set_prev_if_any(links, next, ix);
 }

@@ -26,7 +26,7 @@ use Rattle.iddqd_order.specs.declared.btree_table.entry.VacantEntry.{VacantEntry
 use Rattle.iddqd_order.proofs.KeyOrderLemmas.{key_then_index-total, IsStrictlySortedBy-insert, IsInKeyOrder-renamed}
 use Rattle.iddqd_order.proofs.MemberLemmas.{contains-from_without}
 use Rattle.iddqd_keys.specs.Scan.{IsLive, passes_by}
-use Rattle.iddqd_keys.specs.KeyIndex.{ChangesAt}
+use Rattle.iddqd_keys.specs.AnyTable.{ChangesAt}
 use Rattle.iddqd_by_order.specs.Ordered.{Holds, AddsInPlace, IsInPlace, IsInSync, IsVacantAt, Keeps, LooksUp, compared, key_at}
 use Rattle.iddqd_keys.proofs.KeyWalkLemmas.{IsInPlace-tied, IsInPlace-alike}
 use Rattle.iddqd_keys.proofs.ScanLemmas.{passes_unless, AreApart-bare, AreApart-removed, AreApart-inserted, AreApart-compacted, AreApart-rebound}
@@ -53,7 +53,7 @@ module _ {T K : Type 0} (key_of : T → K) (compare : K → K → Ordering) wher
   pub Keeps-cleared : (s : Store T) (order : List ℕ) → Keeps key_of compare s order (cleared s) []
   Keeps-cleared s order =
       let o = IsInSync-nil (cleared s) refl in
-      record { placed = λ _. o.placed; exact = λ _. o }
+      record { placed = λ _. o.placed; in_sync = λ _. o }
 
   -- where nothing is live
   pub IsInSync-bare :
@@ -88,7 +88,7 @@ module _ {T K : Type 0} (key_of : T → K) (compare : K → K → Ordering) (tot
         → Keeps key_of compare s order (removed s ix) (without order ix)
     Keeps-removed ix item live = record {
       placed = IsInPlace-removed ix;
-      exact = λ o. record { placed = IsInPlace-removed ix o.placed; apart = AreApart-removed _ s ix item live o.apart };
+      in_sync = λ o. record { placed = IsInPlace-removed ix o.placed; apart = AreApart-removed _ s ix item live o.apart };
     }
 
     -- an item whose key a look-up missed
@@ -100,7 +100,7 @@ module _ {T K : Type 0} (key_of : T → K) (compare : K → K → Ordering) (tot
         → Keeps key_of compare s order (inserted s item) new
     Keeps-inserted item new valid missed adds = record {
       placed = adds.placed;
-      exact = λ o. record {
+      in_sync = λ o. record {
         placed = adds.placed o.placed;
         apart = AreApart-inserted _ s item valid (λ x y. (eq_by_cmp_equiv total).symm (key_of x) (key_of y)) (missed.as_scan o) o.apart;
       };
@@ -121,7 +121,7 @@ module _ {T K : Type 0} (key_of : T → K) (compare : K → K → Ordering) (tot
     pub Keeps-compacted : Holds s order → Keeps key_of compare s order (compacted s) (map (rank s) order)
     Keeps-compacted holds = record {
       placed = IsInPlace-compacted holds;
-      exact = λ o. record { placed = IsInPlace-compacted holds o.placed; apart = AreApart-compacted _ s o.apart };
+      in_sync = λ o. record { placed = IsInPlace-compacted holds o.placed; apart = AreApart-compacted _ s o.apart };
     }
 
     -- a live index that is given an item with the same key
@@ -144,7 +144,7 @@ module _ {T K : Type 0} (key_of : T → K) (compare : K → K → Ordering) (tot
           let kept = passes_unless s (equal item) ix was live same in
           record {
             placed = IsInPlace-rebound kept;
-            exact = λ o. record {
+            in_sync = λ o. record {
               placed = IsInPlace-rebound kept o.placed;
               apart = AreApart-rebound s ix item was live _ (λ x y. e.symm (key_of x) (key_of y)) (λ x y z p q. e.congr (key_of x) (key_of y) (key_of z) p ∙ q) kept o.apart;
             };

@@ -14,21 +14,21 @@ use Rattle.iddqd_order.specs.declared.btree_table.entry.Entry.TheVariants.{Occup
 pub use Rattle.iddqd_keys.specs.KeyWalk.{key_at, IsInPlace}
 pub use Rattle.iddqd_keys.specs.OrderedQuery.{is_equal}
 use Rattle.iddqd_keys.specs.Scan.{IsLive, IsHit, HasNoHit, passes_by}
-use Rattle.iddqd_keys.specs.KeyIndex.{HasExactly, IsInSyncOver, KeepsOver, LooksUpOver}
+use Rattle.iddqd_keys.specs.AnyTable.{HasExactly, IsInSyncIf, KeepsIf, LooksUpIf}
 
--- what the removal of the index that a look-up found leaves of the list
+-- the list after the index that a look-up found is removed; unchanged if it found none
 abbrev pub Takes : List ℕ → Option ℕ → List ℕ → Type 0
 Takes old (Some ix) new = new ≡ without old ix
 Takes old None new = new ≡ old
 
--- the index was put among the others, at some place
+-- the index was inserted among the others, at some place
 pub record Adds (old : List ℕ) (ix : ℕ) (new : List ℕ) : Type 0 where
   pub place : ℕ
   pub within : place ≤ length old
   pub added : new ≡ insert old place ix
 
 module _ {K : Type 0} (comparing : K → Ordering) where
-  -- how it compares with the key at an index; it counts as Greater where the index isn't live
+  -- how the query compares with the key at an index; at an index that isn't live it counts as Greater
   abbrev pub compared : Option K → Ordering
   compared None = Greater
   compared (Some key) = comparing key
@@ -47,24 +47,24 @@ module _ {T K : Type 0} (key_of : T → K) where
   module _ (compare : K → K → Ordering) where
     -- the list is in place, and no two items share a key
     abbrev pub IsInSync : Store T → List ℕ → Type 0
-    IsInSync s order = IsInSyncOver key_of (eq_by_cmp compare) (IsInPlace key_of compare s order) s
+    IsInSync s order = IsInSyncIf key_of (eq_by_cmp compare) (IsInPlace key_of compare s order) s
 
-    -- what a call keeps that changes no key of a live index
+    -- what a call that changes no key of a live index preserves
     abbrev pub Keeps : Store T → List ℕ → Store T → List ℕ → Type 0
     Keeps old old_order new new_order =
-        KeepsOver key_of (eq_by_cmp compare)
+        KeepsIf key_of (eq_by_cmp compare)
         (IsInPlace key_of compare old old_order) old (IsInPlace key_of compare new new_order) new
 
-    -- what a look-up by a query may answer in any state: an index that hits; and, where the list is in place, none
-    -- exactly where there is none
+    -- what a look-up by a query may return in any state: an index that hits, or none; if the list is in place, none
+    -- only if no index hits
     abbrev pub Finds : Store T → List ℕ → (K → Ordering) → Option ℕ → Type 0
     Finds s order comparing None = IsInPlace key_of compare s order → HasNoHit s (passes_by key_of (is_equal comparing))
     Finds s order comparing (Some ix) = IsHit s (passes_by key_of (is_equal comparing)) ix
 
-    -- what a look-up by a query answers: what it may in any state; and where the table is in sync, what a scan answers
+    -- what a look-up by a query returns: what `Finds` allows; and if the table is in sync, what a scan returns
     abbrev pub LooksUp : Store T → List ℕ → (K → Ordering) → Option ℕ → Type 0
     LooksUp s order comparing result =
-        LooksUpOver (Finds s order comparing result) (IsInSync s order) s (passes_by key_of (is_equal comparing)) result
+        LooksUpIf (Finds s order comparing result) (IsInSync s order) s (passes_by key_of (is_equal comparing)) result
 
     -- the index is live, and no live index has an item with a lesser key
     abbrev pub HasLeastKey : Store T → ℕ → Type 0
@@ -78,8 +78,8 @@ module _ {T K : Type 0} (key_of : T → K) where
         (item : T) × (get s ix ≡ Some item)
         × ((j : ℕ) (other : T) → get s j ≡ Some other → compare (key_of other) (key_of item) ≢ Greater)
 
-    -- A look-up by a query missed, and this is where the list has room for an index whose key the query stands for:
-    -- where the list is in place, behind all that the query is greater than.
+    -- A look-up by a query missed, and this is the place for an index whose key the query stands for: if the list is in
+    -- place, it is behind all keys that the query is greater than.
     pub record IsVacantAt (s : Store T) (order : List ℕ) (comparing : K → Ordering) (place : ℕ) : Type 0 where
       pub missed : LooksUp s order comparing None
       pub within : place ≤ length order
@@ -87,12 +87,13 @@ module _ {T K : Type 0} (key_of : T → K) where
           IsInPlace key_of compare s order
           → IsPlace (λ ix. compared comparing (key_at key_of s ix)) order place
 
-    -- what an entry by a query is: that of the index which a look-up found, or else of the place for such an index
+    -- an entry by a query is that of the index that a look-up found, or, if it found none, that of the place for such
+    -- an index
     abbrev pub IsEntryOf : Store T → List ℕ → (K → Ordering) → Entry → Type 0
     IsEntryOf s order comparing (Occupied entry) = LooksUp s order comparing (Some (entry_index entry))
     IsEntryOf s order comparing (Vacant entry) = IsVacantAt s order comparing (vacant_place entry)
 
-    -- the next index was put into the list for an item: at some place, and in place where the list was in place
+    -- the next index was inserted into the list for an item at some place; a list that was in place is in place again
     pub record AddsInPlace (s : Store T) (item : T) (old new : List ℕ) : Type 0 where
       pub adds : Adds old (next_index s) new
       pub placed : IsInPlace key_of compare s old → IsInPlace key_of compare (inserted s item) new

@@ -1,4 +1,4 @@
--- What a walk between two bounds of a key gives, and the items at its indexes.
+-- What an iteration between two bounds of a key returns, and the items at its indexes.
 use Rattle.std.specs.Prelude.{◌≡◌, ◌≢◌, ◌↔◌, ◌++◌, ℕ, Bool, List, Option, Some, None, filter_map, nat_eq}
 use Rattle.std.specs.List.{Contains, IsDistinct}
 use Rattle.std.specs.Option.{option_map, option_cmp}
@@ -15,7 +15,7 @@ pub record IsRunOf (whole run : List ℕ) : Type 0 where
   pub after : List ℕ
   pub joined : whole ≡ before ++ (run ++ after)
 
--- What an iteration between two bounds gives of a table's list: a run of it, of live indexes, each once; and if the
+-- What an iteration between two bounds returns of a table's list: a run of it, of live indexes, each once; and if the
 -- list is sorted by the keys, exactly the live indexes whose items' keys are within, in the order of the keys.
 pub record WalksWithin
     {T K : Type 0} (key_of : T → K) (compare : K → K → Ordering) (within : K → Bool) (s : Store T) (order : List ℕ)

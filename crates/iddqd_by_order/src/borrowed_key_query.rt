@@ -8,7 +8,7 @@ use iddqd::map_hash::{Comparable, Equivalent};
 use iddqd_keys::order_query::OrdQuery;
 use std::cmp::Ordering;
 
-// An ordered query that compares with keys behind a reference, as the table is given them.
+// An ordered query that compares with keys behind a reference, as the table receives them.
 #[derive(Clone, Copy)]
 pub(crate) struct BorrowedKeyQuery<Q>(pub(crate) Q);
 

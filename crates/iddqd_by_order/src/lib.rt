@@ -1,6 +1,6 @@
 //! What an ordered table of a store's indexes means for one key of the store's items.
 //!
-//! Its calls are functions over the table and the store, as those of `iddqd_by_hash`.
+//! Its calls are functions over the table and the store, as the calls of `iddqd_by_hash` are.
 #![tactic(auto)]
 
 mod borrowed_key_query;

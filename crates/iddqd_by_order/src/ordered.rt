@@ -1,8 +1,8 @@
 //! A table of indexes beside a store, in the order of a key, ties by index.
 //!
-//! Keys may change behind the table's back. Then the list may be out of order: a search may miss, but it never
-//! hits an index whose item's key doesn't compare Equal now. A walk between two bounds gives a run of the list,
-//! and `take_index` still removes an index.
+//! Keys may change silently. Then the list may be out of order: a search may miss, but it never hits an index whose
+//! item's key doesn't compare Equal now. An iteration between two bounds returns a run of the list, and `remove_index`
+//! still removes an index.
 //!
 //! An insert goes through `entry`, which finds its place, or the index that has the key, by one search. The entry
 //! borrows the table and not the store, so the store may change before the index is inserted.
@@ -26,7 +26,7 @@ use iddqd_order::btree_table::{Asking, Entry, MapBTreeTable, Range};
 use std::cmp::Ordering;
 use std::ops::Bound;
 
-/// The index whose item has a key that the query compares Equal with.
+/// The index of an item whose key the query compares Equal with.
 ///
 /// It compares the query with at most 4 + 2d keys, where the length has d binary digits.
 pub fn find<T, E, Q>(table: &MapBTreeTable, items: &ItemSet<T>, query: &Q) -> Option<ItemIndex>
@@ -46,8 +46,7 @@ where
     table.find_by(&mut asking)
 }
 
-/// The entry of the index whose item has a key that the query compares Equal with, or else of the
-/// place for such an index.
+/// The entry of the index that `find` would return, or, if it would return none, of the place for such an index.
 ///
 /// It compares the query with as many keys as `find` does, and takes no memory.
 pub fn entry<'t, T, E, Q>(table: &'t mut MapBTreeTable, items: &ItemSet<T>, query: &Q) -> Entry<'t>
@@ -86,9 +85,9 @@ where
     }
 }
 
-/// Removes a live index from the table, whatever its key is now: by a search for the key, or else by a
-/// walk. It takes no memory.
-pub fn take_index<T, E>(table: &mut MapBTreeTable, items: &ItemSet<T>, ix: ItemIndex)
+/// Removes a live index from the table, whatever its key is now: by a search for the key, or by a scan if the search
+/// misses. It takes no memory.
+pub fn remove_index<T, E>(table: &mut MapBTreeTable, items: &ItemSet<T>, ix: ItemIndex)
 where
     E: KeyOf<T>,
     E::Key: Ord,
@@ -111,9 +110,8 @@ where
     }
 }
 
-/// The indexes whose items have keys between two bounds, in the order of the keys: none where the
-/// lower bound stands above the upper one. Where the list isn't sorted they are those between some
-/// two places of it.
+/// The indexes whose items have keys between two bounds, in the order of the keys: none if the lower bound is above the
+/// upper one. If the list isn't sorted, they are a run of it.
 ///
 /// It compares each query with at most 4 + 2d keys, where the length has d binary digits, and takes
 /// no memory.

@@ -1,4 +1,4 @@
-//! A walk over the indexes between two bounds of a key, with their items.
+//! An iterator over the indexes between two bounds of a key, with their items.
 //!
 //! It goes along the table, and reads each item from the store. It is generic over the item alone, so
 //! each collection with an ordered table re-exports it, whether or not its keys may change silently.
@@ -41,7 +41,7 @@ impl<'a, T> Model for Range<'a, T> {
 }
 
 impl<'a, T> Range<'a, T> {
-    /// The live indexes that a walk over a table gives, each with its item.
+    /// The live indexes that an iterator over a table returns, each with its item.
     pub fn new(indexes: btree_table::Range<'a>, items: &'a ItemSet<T>) -> Range<'a, T>
         requires { AreLive items.now.store (indexes_ahead indexes) }
         ensures { result ≡ pairs_at items.now.store (indexes_ahead indexes.entry) }

@@ -95,8 +95,8 @@ module _ {T S K1 K2 : Type 0} (keys : Keys T K1 K2 S) where
     pub Keeps-same : (new : State T S) → new ≡ s → Keeps keys s new
     Keeps-same new same = subst (Keeps keys s) (sym same) (record {
       paired = (paired, paired);
-      first_keys = record { placed = λ p. p; exact = λ o. o };
-      second_keys = record { placed = λ p. p; exact = λ o. o };
+      first_keys = record { placed = λ p. p; in_sync = λ o. o };
+      second_keys = record { placed = λ p. p; in_sync = λ o. o };
     })
 
     pub Keeps-cleared : Keeps keys s (cleared_state s)

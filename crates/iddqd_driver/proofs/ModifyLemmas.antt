@@ -6,7 +6,7 @@ use Rattle.std.specs.Fn.{Once}
 use Rattle.std.specs.Ordering.{is_eq}
 use Rattle.iddqd.specs.Store.{Store, get, rebound}
 use Rattle.iddqd_keys.specs.Scan.{IsHit}
-use Rattle.iddqd_keys.specs.KeyIndex.{ChangesAt}
+use Rattle.iddqd_keys.specs.AnyTable.{ChangesAt}
 use Rattle.iddqd_keys.specs.KeyKeeping.{pair_keys}
 use Rattle.iddqd_driver.specs.Keys.{Keys, equal_second}
 use Rattle.iddqd_driver.specs.Modify.{ModifiesAt, ModifiesFound}

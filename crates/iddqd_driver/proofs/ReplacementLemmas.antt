@@ -35,7 +35,7 @@ use Rattle.iddqd_by_order.proofs.OrderedHoldsLemmas as order_holds
 use Rattle.iddqd_by_order.proofs.OrderedPlaceLemmas as order_place
 use Rattle.iddqd_keys.proofs.KeyWalkLemmas.{IsInPlace-alike}
 use Rattle.iddqd_keys.proofs.ScanLemmas.{rebound_cases, live_rebound}
-use Rattle.iddqd_keys.specs.KeyIndex.{ChangesAt}
+use Rattle.iddqd_keys.specs.AnyTable.{ChangesAt}
 use Rattle.iddqd_driver.specs.Keys.{Keys, first_hashing}
 use Rattle.iddqd_driver.specs.State.{State, IsPaired}
 use Rattle.iddqd_driver.specs.KeyIndexes.{hash_in, first_key_index, second_key_index, LooksUp, Keeps}
@@ -150,7 +150,7 @@ module _ {T : Type 0} (s : Store T) (ix : ℕ) (item was : T) (live : get s ix �
             → hashed.Keeps key_of hashing s m after there
         Keeps-refiled lawful alone = record {
           placed = IsInPlace-refiled;
-          exact = λ o. record {
+          in_sync = λ o. record {
             placed = IsInPlace-refiled o.placed;
             apart = AreApart-alone _ (λ x y. lawful.equivalence.symm (key_of x) (key_of y)) (alone o) o.apart;
           };
@@ -330,7 +330,7 @@ module _
         → ordered.Keeps keys.second keys.compare_second s.store s.order new_store order
     second_keeps None own looked moves = record {
       placed = moves.placed;
-      exact = λ o. record {
+      in_sync = λ o. record {
         placed = moves.placed o.placed;
         apart = AreApart-alone s.store ix item was live _ (λ x y. (eq_by_cmp_equiv lawful.second).symm (keys.second x) (keys.second y))
             (no_other-scan s.store (passes_by keys.second (eq_by_cmp keys.compare_second (keys.second item))) ix None own (looked.as_scan o)) o.apart;

@@ -13,7 +13,7 @@ use Rattle.iddqd_hash.proofs.MemberLemmas.{get-remove_other}
 use Rattle.iddqd_order.specs.MapBTreeTable.{without}
 use Rattle.iddqd_keys.specs.Scan.{IsLive}
 use Rattle.iddqd_keys.specs.Removals.{removed_all}
-use Rattle.iddqd_by_hash.specs.Retain.{RetainsTo, refused_of}
+use Rattle.iddqd_by_hash.specs.Retain.{RetainsTo, removed_of}
 use Rattle.iddqd_by_hash.proofs.RetainLemmas.{AreLiveInTurn, AreLiveInTurn-refused, removed_all-limit, was_there}
 use Rattle.iddqd_driver.specs.Keys.{Keys}
 use Rattle.iddqd_driver.specs.State.{State, unbound, IsPaired}
@@ -128,7 +128,7 @@ module _ {T S : Type 0} where
       → new.order ≡ filter (λ j. is_some (get new.store j)) old.order
       → Retains ask f old new
   Retains-from_parts ask f old new last paired r hasher filed order =
-      let ixs = refused_of r.asks in
+      let ixs = removed_of r.asks in
       let in_turn = AreLiveInTurn-refused ask f old.store new.store last r in
       let filed_is = filed_left old ixs paired in_turn new.filed (rw r.left at filed) in
       let order_is = rw r.left at order ∙ order_left old ixs paired in_turn in
@@ -148,11 +148,11 @@ module _ {T S K1 K2 : Type 0} (keys : Keys T K1 K2 S) where
     paired = (first.paired.0, second.paired.1);
     first_keys = record {
       placed = λ p. second.first_keys.placed (first.first_keys.placed p);
-      exact = λ o. second.first_keys.exact (first.first_keys.exact o);
+      in_sync = λ o. second.first_keys.in_sync (first.first_keys.in_sync o);
     };
     second_keys = record {
       placed = λ p. second.second_keys.placed (first.second_keys.placed p);
-      exact = λ o. second.second_keys.exact (first.second_keys.exact o);
+      in_sync = λ o. second.second_keys.in_sync (first.second_keys.in_sync o);
     };
   }
 
@@ -173,19 +173,19 @@ module _ {T S K1 K2 : Type 0} (keys : Keys T K1 K2 S) where
       → Keeps keys old new
   Keeps-retained ask f old new lawful paired did =
       subst (Keeps keys old) (sym did.state)
-      (Keeps-unbound_all lawful old (refused_of did.retained.asks) paired
+      (Keeps-unbound_all lawful old (removed_of did.retained.asks) paired
       (AreLiveInTurn-refused ask f old.store new.store did.last did.retained))
 
 module _ {F T S : Type 0} (ask : F → T → Bool → F → Type 0) (f : F) (old new : State T S) where
   pub IsPaired-retained : IsPaired old → Retains ask f old new → IsPaired new
   IsPaired-retained paired did =
       subst IsPaired (sym did.state)
-      (IsPaired-unbound_all old (refused_of did.retained.asks) paired
+      (IsPaired-unbound_all old (removed_of did.retained.asks) paired
       (AreLiveInTurn-refused ask f old.store new.store did.last did.retained))
 
   pub limit-retained : Retains ask f old new → new.store.limit ≡ old.store.limit
   limit-retained did =
-      ap (λ (s : Store T). s.limit) did.retained.left ∙ removed_all-limit old.store (refused_of did.retained.asks)
+      ap (λ (s : Store T). s.limit) did.retained.left ∙ removed_all-limit old.store (removed_of did.retained.asks)
 
 -- the capacity in the same memory under the same limit, and the room that so many removed items leave
 module _

@@ -1,4 +1,4 @@
--- How a run goes on by one step, and what holds at its quiet moments.
+-- For callers: how a run goes on by one step, and what holds at its quiet moments.
 use Rattle.std.proofs.Common.{◌≡◌, ◌∙◌, ◌<◌, ◌≤◌, ℕ, List, [], ◌∷◌, ◌++◌, Some, None, Ok, Err, inl, inr, refl, ap, subst, arith}
 use Rattle.std.specs.List.{All}
 use Rattle.std.proofs.lemmas.List.Elements.{All-cons, All-nil, All-head, All-tail}
@@ -78,19 +78,19 @@ module _ {T S K1 K2 : Type 0} (keys : Keys T K1 K2 S) where
             (λ old new command reply step o. (
               (step.first_keys.as_scan o.first, step.second_keys.as_scan o.second),
               λ none. record {
-                first = (step.first_keys.keeps (λ change. none (inl change))).exact o.first;
-                second = (step.second_keys.keeps (λ change. none (inr change))).exact o.second;
+                first = (step.first_keys.keeps (λ change. none (inl change))).in_sync o.first;
+                second = (step.second_keys.keeps (λ change. none (inr change))).in_sync o.second;
               },
             ))
             chain paired;
         quiet_first_keys = exact_from_start (ChangesKey first) (IsInSync first) (AsScan first) (FirstKeysInOrder-bare keys)
             (λ old new command reply step o.
-            (step.first_keys.as_scan o, λ none. (step.first_keys.keeps none).exact o))
+            (step.first_keys.as_scan o, λ none. (step.first_keys.keeps none).in_sync o))
             chain paired;
         quiet_second_keys =
             exact_from_start (ChangesKey second) (IsInSync second) (AsScan second) (SecondKeysInOrder-bare keys)
             (λ old new command reply step o.
-            (step.second_keys.as_scan o, λ none. (step.second_keys.keeps none).exact o))
+            (step.second_keys.as_scan o, λ none. (step.second_keys.keeps none).in_sync o))
             chain paired;
       }
 

@@ -5,7 +5,7 @@ use Rattle.std.specs.List.{Contains}
 use Rattle.std.specs.Option.{option_map}
 use Rattle.iddqd.specs.Store.{Store}
 use Rattle.iddqd_keys.specs.Scan.{AnswersScan, passes_by}
-use Rattle.iddqd_keys.specs.KeyIndex.{HasExactly, IsInSyncOver, KeepsOver, LooksUpOver, ChangesAt}
+use Rattle.iddqd_keys.specs.AnyTable.{HasExactly, IsInSyncIf, KeepsIf, LooksUpIf, ChangesAt}
 use Rattle.iddqd_by_hash.specs.Hashed as hashed
 use Rattle.iddqd_by_order.specs.Ordered as ordered
 use Rattle.iddqd_driver.specs.Keys.{Keys, first_hashing, equal_second}
@@ -17,18 +17,18 @@ use Rattle.iddqd_driver.specs.declared.command.Reply.TheVariants.{Inserted, Refu
 use Rattle.iddqd_driver.specs.declared.keyed_items.InsertRefusal.{InsertRefusal}
 use Rattle.iddqd_driver.specs.declared.keyed_items.InsertRefusal.TheVariants.{Duplicate}
 
--- what is reported of the keys of a key index: nothing, what a look-up of a key answered, or all indexes
+-- what is reported of the keys of a key index: nothing, what a look-up of a key returned, or all indexes
 pub data Report (K : Type 0) : Type 0 where
   Reports_nothing : Report K
   Reports_found : K → Option ℕ → Report K
   Reports_all : List ℕ → Report K
 
--- what an insert reports of its look-ups: of a duplicate both answers, else that both answered none
+-- what an insert reports of its look-ups: for a duplicate what both returned, otherwise that both returned none
 abbrev pub finds_reported : {T : Type 0} → Result ℕ (InsertRefusal T) → Option ℕ × Option ℕ
 finds_reported (Err (Duplicate back first second)) = (first, second)
 finds_reported result = (None, None)
 
--- A key index: which key of an item it goes by, when two are equal, what a look-up of a key may answer in any state,
+-- A key index: which key of an item it goes by, when two are equal, what a look-up of a key may return in any state,
 -- when its table is in place, what a list of all indexes is, and what a command with its reply reports of keys.
 pub record KeyIndex (T S K1 K2 K : Type 0) : Type 1 where
   pub key_of : T → K
@@ -45,35 +45,35 @@ module _ {T S K1 K2 K : Type 0} (key_index : KeyIndex T S K1 K2 K) where
 
   -- the table is in place, and no two live items share a key
   abbrev pub IsInSync : State T S → Type 0
-  IsInSync s = IsInSyncOver key_index.key_of key_index.equal (key_index.IsInPlace s) s.store
+  IsInSync s = IsInSyncIf key_index.key_of key_index.equal (key_index.IsInPlace s) s.store
 
-  -- what a call keeps that changes no key of a live index
+  -- what a call that changes no key of a live index preserves
   abbrev pub KeepsKeyIndex : State T S → State T S → Type 0
   KeepsKeyIndex old new =
-      KeepsOver key_index.key_of key_index.equal
+      KeepsIf key_index.key_of key_index.equal
       (key_index.IsInPlace old) old.store
       (key_index.IsInPlace new) new.store
 
-  -- a look-up of a key: what it may answer, and that this is a scan's answer where the key index is in sync
+  -- a look-up of a key: what it may return, and that it returns what a scan would if the key index is in sync
   abbrev pub LooksUp : State T S → K → Option ℕ → Type 0
-  LooksUp s key result = LooksUpOver (key_index.Finds s key result) (IsInSync s) s.store (has key) result
+  LooksUp s key result = LooksUpIf (key_index.Finds s key result) (IsInSync s) s.store (has key) result
 
   -- the index is live, and its item has another key than this item
   abbrev pub ChangesKeyAt : State T S → ℕ → T → Type 0
   ChangesKeyAt s ix item = ChangesAt key_index.key_of key_index.equal s.store ix item
 
-  -- the command gives a live index an item with another key
+  -- the command replaces the item at a live index by one with another key
   abbrev pub ChangesKey : State T S → Command T K1 K2 → Type 0
   ChangesKey old (Overwrite ix item) = ChangesKeyAt old ix item
   ChangesKey old command = ⊥
 
-  -- what is reported is what a scan of the live items answers
+  -- what is reported is what a scan of the live items returns
   abbrev pub ReportsScan : Store T → Report K → Type 0
   ReportsScan s Reports_nothing = ⊤
   ReportsScan s (Reports_found key result) = AnswersScan s (has key) result
   ReportsScan s (Reports_all indexes) = key_index.Lists s indexes
 
-  -- what a command with its reply reports of keys is that
+  -- what a command with its reply reports of keys is what a scan of the live items returns
   abbrev pub AsScan : Store T → Command T K1 K2 → Reply T → Type 0
   AsScan s command reply = ReportsScan s (key_index.report command reply)
 
@@ -99,8 +99,8 @@ module _ {T S K1 K2 : Type 0} (keys : Keys T K1 K2 S) where
   report_second Walk (Walked indexes) = Reports_all indexes.items
   report_second command reply = Reports_nothing
 
-  -- A look-up answers an index that is filed under the key's hash and whose item has the key, none exactly where there
-  -- is none. In place, each live index is filed under the hash of its item's key.
+  -- A look-up returns an index that is filed under the key's hash and whose item has the key; `None` if and only if
+  -- there is none. In place, each live index is filed under the hash of its item's key.
   abbrev pub first_key_index : KeyIndex T S K1 K2 K1
   first_key_index =
       record {
@@ -113,8 +113,8 @@ module _ {T S K1 K2 : Type 0} (keys : Keys T K1 K2 S) where
         report = report_first;
       }
 
-  -- A look-up answers an index whose item has the key; where the key index is in place, none exactly where there is
-  -- none. In place, the order is sorted by key, ties by index.
+  -- A look-up returns an index whose item has the key, or none; if the key index is in place, none only if no item has
+  -- the key. In place, the order is sorted by key, ties by index.
   abbrev pub second_key_index : KeyIndex T S K1 K2 K2
   second_key_index =
       record {
@@ -135,18 +135,18 @@ module _ {T S K1 K2 : Type 0} (keys : Keys T K1 K2 S) where
   abbrev pub SecondKeysInOrder : State T S → Type 0
   SecondKeysInOrder = IsInSync second_key_index
 
-  -- both tables are as the keys of the live items want them, and no two items share a key
+  -- both tables are in place for the keys of the live items, and no two items share a key
   pub record InOrder (s : State T S) : Type 0 where
     pub first : FirstKeysInOrder s
     pub second : SecondKeysInOrder s
 
-  -- what a call keeps that changes no key of a live index
+  -- what a call that changes no key of a live index preserves
   pub record Keeps (old new : State T S) : Type 0 where
     pub paired : IsPaired old × IsPaired new
     pub first_keys : KeepsKeyIndex first_key_index old new
     pub second_keys : KeepsKeyIndex second_key_index old new
 
-  -- what a call keeps that gives an index this item: the key index of each key that the index keeps
+  -- what a call that replaces the item at an index by this one preserves: the key index of each key that stays
   pub record KeepsUnlessChanged (old : State T S) (ix : ℕ) (item : T) (new : State T S) : Type 0 where
     pub paired : IsPaired old × IsPaired new
     pub first_keys : (ChangesKeyAt first_key_index old ix item → ⊥) → KeepsKeyIndex first_key_index old new

@@ -41,7 +41,7 @@ memory_code =
     (λ p. record { slots = p.0; hashed = p.1.0; cells = p.1.1.0; ordered = p.1.1.1 })
     (λ _. refl)
 
--- a sized state is coded where its items and its hasher are
+-- a sized state is coded if its items and its hasher are
 abbrev pub sized_state_code : {T S : Type 0} → Coded T → Coded S → Coded (SizedState T S)
 sized_state_code {T} {S} item hasher =
     code_by
@@ -51,7 +51,7 @@ sized_state_code {T} {S} item hasher =
     (λ p. record { state = p.0; memory = p.1 })
     (λ _. refl)
 
--- what a collection has that holds nothing and has asked for no memory
+-- the memory of a collection that has allocated nothing
 abbrev pub no_memory : Memory
 no_memory = record { slots = 0; hashed = 0; cells = 0; ordered = 10 }
 
@@ -72,7 +72,7 @@ memory_of items table order =
       ordered = ordered_capacity order;
     }
 
--- the command asks for an item to be taken
+-- the command is an insert
 abbrev pub IsInsert : {T K1 K2 : Type 0} → Command T K1 K2 → Type 0
 IsInsert (Insert item) = ⊤
 IsInsert command = ⊥
@@ -82,13 +82,14 @@ abbrev pub IsOutOfMemory : {T : Type 0} → InsertRefusal T → Type 0
 IsOutOfMemory (OutOfMemory item) = ⊤
 IsOutOfMemory refusal = ⊥
 
--- so was the item of a command
+-- the item of a command was refused since memory ran out
 abbrev pub RefusesMemory : {T : Type 0} → Reply T → Type 0
 RefusesMemory (Refused refusal) = IsOutOfMemory refusal
 RefusesMemory reply = ⊥
 
--- What an insert leaves of the memory: no part can hold less than before, and the ordered table as much; nothing is
--- taken where the item is refused for another reason than memory; and with room none is taken, and none refused.
+-- What an insert leaves of the memory: no part can hold less than before, and the ordered table exactly as much;
+-- nothing is taken if the item is refused for another reason than memory; if there is room, no memory is taken and the
+-- item isn't refused for memory.
 pub record InsertsInMemory
     {T : Type 0} (has_room : Type 0) (old : Memory) (result : Result ℕ (InsertRefusal T)) (new : Memory)
     : Type 0 where
@@ -98,19 +99,19 @@ pub record InsertsInMemory
   pub had_room : has_room → new ≡ old
   pub not_refused : has_room → IfErr result (λ refusal. IsOutOfMemory refusal → ⊥)
 
--- What an insert beside so many items takes at most, whatever it answers: slots for twice as many, at least for four,
--- and none past the limit; and no more cells than one more index needs.
+-- The most that an insert beside `items` items allocates, whether it is refused or not: slots for twice as many, at
+-- least four, and at most the limit; and no more cells than one more index needs.
 pub record TakesForOne (limit items : ℕ) (old new : Memory) : Type 0 where
   pub slots : new.slots ≤ max old.slots (min limit (max 4 (2 * items)))
   pub cells : new.cells ≤ max old.cells (most_cells (items + 1))
 
--- each part has room for one more item: of the tables their capacity is more than they hold
+-- each part has room for one more item: for a table, its capacity is more than it holds
 pub record HasRoomInParts {T : Type 0} (items : SizedStore T) (table : Table ℕ) (order : Order) : Type 0 where
   pub slots : 1 ≤ set_room items
   pub hashed : finite.len (filed table) < hashed_capacity table
   pub ordered : length (order_of order) < ordered_capacity order
 
--- memory that is made for so many items: no part has more than these need
+-- the memory is made for `items` items: each part can hold these, and has no more than these need
 pub record IsMadeFor (items : ℕ) (memory : Memory) : Type 0 where
   pub slots : memory.slots ≡ items
   pub hashed : items ≤ memory.hashed
@@ -123,7 +124,7 @@ module _ {T S : Type 0} where
   sized_of hasher items table order =
       record { state = state_of hasher items.store table order; memory = memory_of items table order }
 
-  -- how many items there can be without asking for memory: as many as each part can hold
+  -- how many items there can be without asking for memory: the least of what each part and the limit allow
   abbrev pub capacity : SizedState T S → ℕ
   capacity k = min (min k.memory.slots k.state.store.limit) (min k.memory.hashed k.memory.ordered)
 
@@ -131,13 +132,13 @@ module _ {T S : Type 0} where
   abbrev pub room : SizedState T S → ℕ
   room k = capacity k - live_count k.state.store
 
-  -- how many more items a reserve of so many is for: no more than the limit leaves
+  -- how many more items a reserve of `additional` makes room for: no more than the limit leaves
   abbrev pub reservable : ℕ → SizedState T S → ℕ
   reservable additional k = min additional (insertable k.state.store)
 
-  -- What a reserve leaves: the contents; no part can hold less than before; at Ok there is room for so many more items,
-  -- or for as many as the limit leaves; where there was, nothing changes. The tables have no more than so many need,
-  -- and the store no more slots than that, or twice as many as it had.
+  -- What a reserve leaves: the contents; no part can hold less than before; at Ok there is room for `additional` more
+  -- items, or for as many as the limit leaves; if there was room before, nothing changes. The tables grow to no more
+  -- than these items need, and the store to no more slots than that, or than twice as many as it had.
   pub record ReservesInMemory {E : Type 0}
       (additional : ℕ) (old : SizedState T S) (result : Result (Unit {0}) E) (new : SizedState T S) : Type 0 where
     pub contents : new.state ≡ old.state
@@ -154,8 +155,9 @@ module _ {T S : Type 0} where
         new.memory.ordered
         ≤ max old.memory.ordered (capacity_for (live_count old.state.store + reservable additional old))
 
-  -- What a shrink to so many items leaves: the contents, and the capacity for as many, or for those that there are. At
-  -- Ok no part has more than that needs; of the store each slot stays, the vacant ones too.
+  -- What a shrink to `least` items leaves: the contents, and a capacity for that many, or for the items that there are
+  -- if these are more. At Ok no part has more than these need, except that the store keeps every slot, also the vacant
+  -- ones.
   pub record ShrinksInMemory {E : Type 0}
       (least : ℕ) (old : SizedState T S) (result : Result (Unit {0}) E) (new : SizedState T S) : Type 0 where
     pub contents : new.state ≡ old.state
@@ -166,8 +168,8 @@ module _ {T S : Type 0} where
         new.memory.ordered ≡ min old.memory.ordered (capacity_for (max least (live_count old.state.store)))
     pub never_more : (new.memory.slots ≤ old.memory.slots) × (new.memory.cells ≤ old.memory.cells)
 
-  -- One step and its memory: no part can hold less than before; with room for an item none is taken, and no item is
-  -- refused for lack of it; no command but an insert takes any, and an insert no more than one more item needs.
+  -- One step and its memory: no part can hold less than before; if there is room for an item, no memory is taken and no
+  -- item is refused for memory; only an insert takes memory, and no more than one more item needs.
   pub record StepsInMemory
       {K1 K2 : Type 0} (old : SizedState T S) (command : Command T K1 K2) (reply : Reply T) (new : SizedState T S)
       : Type 0 where
@@ -177,15 +179,15 @@ module _ {T S : Type 0} where
     pub others : (IsInsert command → ⊥) → new.memory ≡ old.memory
     pub few : TakesForOne old.state.store.limit (live_count old.state.store) old.memory new.memory
 
-  -- at each moment with fewer items than so many, no item is refused for lack of memory
+  -- at each moment with fewer items than `held`, no item is refused for lack of memory
   abbrev pub IsServedBelow : ℕ → State T S → List (Reply T) → List (State T S) → Type 0
   IsServedBelow held moment (reply ∷ replies) (next ∷ moments) =
       (live_count moment.store < held → RefusesMemory reply → ⊥) × IsServedBelow held next replies moments
   IsServedBelow held moment replies moments = ⊤
 
 -- A run and its memory: no part can hold less than at the start; at each moment with fewer items than could be held at
--- the start, no item is refused for lack of memory; and where there never are more than so many items, no more is taken
--- than an insert beside these may take.
+-- the start, no item is refused for lack of memory; and if there never are more than `most` items, no more is taken
+-- than an insert beside that many may take.
 pub record RunsInMemory
     {T S K1 K2 : Type 0} (keys : Keys T K1 K2 S) (old : SizedState T S) (commands : List (Command T K1 K2))
     (replies : List (Reply T)) (new : SizedState T S) : Type 0 where

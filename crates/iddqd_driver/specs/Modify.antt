@@ -1,4 +1,4 @@
--- What a call that modifies an item may answer, and what it leaves.
+-- What a call that modifies an item may return, and what it leaves.
 use Rattle.std.specs.Prelude.{◌≡◌, ℕ, Option, Some, None}
 use Rattle.std.specs.Borrow.{MutBor}
 use Rattle.std.specs.Fn.{Once}
@@ -7,14 +7,14 @@ use Rattle.iddqd_keys.specs.KeyKeeping.{ModifiesItem}
 use Rattle.iddqd_driver.specs.State.{State}
 
 module _ {F T R S : Type 0} (g : Once F (MutBor T × Unit {0}) (R × (MutBor T × Unit {0}))) (f : F) where
-  -- What a modification at an index may answer and leave: the item of a live index was modified, and neither table was
-  -- touched; none, and nothing changes, exactly where the index isn't live.
+  -- What a modification at an index may return and leave. The item at a live index was modified, and neither table
+  -- changed. If and only if the index isn't live, it returns `None`, and nothing changes.
   abbrev pub ModifiesAt : State T S → ℕ → Option R → State T S → Type 0
   ModifiesAt old ix (Some result) new =
       ModifiesItem g f old.store ix result new.store × (new ≡ record old { store = new.store })
   ModifiesAt old ix None new = (get old.store ix ≡ None) × (new ≡ old)
 
-  -- what a modification by a key may answer and leave: `finds` says what the look-up of the key may answer; the item at
+  -- what a modification by a key may return and leave: `finds` says what the look-up of the key may return; the item at
   -- a hit was modified
   abbrev pub ModifiesFound : (Option ℕ → Type 0) → State T S → Option R → State T S → Type 0
   ModifiesFound finds old (Some result) new = (ix : ℕ) × finds (Some ix) × ModifiesAt old ix (Some result) new

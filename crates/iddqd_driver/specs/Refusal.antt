@@ -6,14 +6,14 @@ use Rattle.iddqd_driver.specs.declared.keyed_items.InsertRefusal.TheVariants.{Du
 use Rattle.iddqd_driver.specs.declared.keyed_items.replaces.ReplaceRefusal.{ReplaceRefusal}
 use Rattle.iddqd_driver.specs.declared.keyed_items.replaces.ReplaceRefusal.TheVariants.{Missing, Duplicate as Taken, Memory as Refused}
 
--- why an item was not taken, in words
+-- why an item was not inserted, in words
 abbrev pub refusal_text : {T : Type 0} → InsertRefusal T → List ℕ
 refusal_text (Duplicate item first second) =
     codes "duplicate " ++ index_or_dash first ++ codes " " ++ index_or_dash second
 refusal_text (Full item) = codes "full"
 refusal_text (Memory item) = codes "no memory"
 
--- why an item didn't become another one, in words
+-- why an item was not replaced, in words
 abbrev pub replace_refusal_text : {T : Type 0} → ReplaceRefusal T → List ℕ
 replace_refusal_text (Missing item) = codes "missing"
 replace_refusal_text (Taken item first second) =

@@ -1,4 +1,4 @@
--- What a replacement that updates both tables may answer and leave.
+-- What a replacement that updates both tables may return and leave.
 use Rattle.std.specs.Prelude.{◌≡◌, ◌≢◌, ◌⊎◌, ⊤, ℕ, List, Option, Some, None, IsSome, Result, Err, IfOk, IfErr, OnErr}
 use Rattle.std.specs.FinMap as finite
 use Rattle.std.specs.declared.cmp.Ordering.{Ordering}
@@ -14,24 +14,24 @@ use Rattle.iddqd_driver.specs.KeyIndexes.{hash_in, first_key_index, second_key_i
 use Rattle.iddqd_driver.specs.declared.keyed_items.replaces.ReplaceRefusal.{ReplaceRefusal}
 use Rattle.iddqd_driver.specs.declared.keyed_items.replaces.ReplaceRefusal.TheVariants.{Missing, Duplicate, Memory}
 
--- what is reported of the look-ups of the keys: of a duplicate the other indexes that they hit, else none
+-- what is reported of the look-ups of the keys: for a duplicate the other indexes that they hit, otherwise none
 abbrev pub others_reported : {T : Type 0} → Result T (ReplaceRefusal T) → Option ℕ × Option ℕ
 others_reported (Err (Duplicate back first second)) = (first, second)
 others_reported result = (None, None)
 
--- an item didn't become another one since memory ran out
+-- an item was not replaced since memory ran out
 abbrev pub IsReplaceOutOfMemory : {T : Type 0} → ReplaceRefusal T → Type 0
 IsReplaceOutOfMemory (Memory back) = ⊤
 IsReplaceOutOfMemory refusal = ⊥
 
--- What is reported of a look-up of a key that an index is to have: another index that it hit, or none, if it missed
--- or hit this one. `finds` says what the look-up may answer.
+-- What is reported of the look-up of a new key for an index: another index that it hit, or none if it missed or hit
+-- this one. `finds` says what the look-up may return.
 abbrev pub ReportsOtherIndex : (Option ℕ → Type 0) → ℕ → Option ℕ → Type 0
 ReportsOtherIndex finds ix (Some at) = finds (Some at) × (at ≢ ix)
 ReportsOtherIndex finds ix None = finds None ⊎ finds (Some ix)
 
 module _ {T S K1 K2 : Type 0} (keys : Keys T K1 K2 S) where
-  -- the index has this item, is filed under the hash of its first key, and this is the order then
+  -- the index has this item and is filed under the hash of its first key, and `order` is the order afterwards
   abbrev pub rebound_state : State T S → ℕ → T → List ℕ → State T S
   rebound_state s ix item order =
       record s {
@@ -40,18 +40,18 @@ module _ {T S K1 K2 : Type 0} (keys : Keys T K1 K2 S) where
         order = order;
       }
 
-  -- The item at the index became another one: it is filed under the hash of the new first key, the other indexes keep
+  -- The item at the index was replaced: the index is filed under the hash of the new first key, the other indexes keep
   -- their order, and nothing else changed.
   pub record Becomes (old : State T S) (ix : ℕ) (item was : T) (new : State T S) : Type 0 where
     pub live : get old.store ix ≡ Some was
     pub others : without new.order ix ≡ without old.order ix
     pub state : new ≡ rebound_state old ix item new.order
 
-  -- the look-up of the item's second key missed, so that an index which is to have it has to move in the ordered table
+  -- the look-up of the item's second key missed, so an index that gets this item has to move in the ordered table
   abbrev pub HasNewSecondKey : State T S → T → Type 0
   HasNewSecondKey old item = (second_key_index keys).Finds old (keys.second item) None
 
-  -- The item comes back: the index isn't live, or another one has one of the keys, or the index has to move in the
+  -- The item comes back: the index isn't live, or another index has one of the keys, or the index has to move in the
   -- ordered table and memory ran out.
   abbrev pub RefusesReplacing : State T S → ℕ → T → ReplaceRefusal T → Type 0
   RefusesReplacing old ix item (Missing back) = (back ≡ item) × (get old.store ix ≡ None)
@@ -59,8 +59,8 @@ module _ {T S K1 K2 : Type 0} (keys : Keys T K1 K2 S) where
       (back ≡ item) × IsLive old.store ix × (IsSome first ⊎ IsSome second)
   RefusesReplacing old ix item (Memory back) = (back ≡ item) × IsLive old.store ix × HasNewSecondKey old item
 
-  -- What a replacement may answer and leave: of a live index, what is reported of other ones is what the look-ups of
-  -- the keys may answer; the item stands there, or it comes back and nothing changes.
+  -- What a replacement may return and leave. If the index is live, what is reported of other indexes is what the
+  -- look-ups of the keys may return. The item is at the index, or it comes back and nothing changes.
   pub record Replaces (old : State T S) (ix : ℕ) (item : T) (result : Result T (ReplaceRefusal T)) (new : State T S)
       : Type 0 where
     pub first :
@@ -73,22 +73,22 @@ module _ {T S K1 K2 : Type 0} (keys : Keys T K1 K2 S) where
     pub refused : IfErr result (RefusesReplacing old ix item)
     pub unchanged : OnErr result (new ≡ old)
 
--- ---- what becomes of each table
+-- ---- how each table changes
 
--- what becomes of an index in the hash table, by what the look-up of its new first key answered: it stays, or is filed
+-- the move of an index in the hash table: it stays if the look-up of its new first key hit, and otherwise is filed
 -- under that key's hash
 abbrev pub planned : ℕ → Option ℕ → Move
 planned hash (Some at) = Stays
 planned hash None = To hash
 
 module _ {T K : Type 0} (key_of : T → K) (compare : K → K → Ordering) where
-  -- a live index was removed from the list and inserted again for its new item: at some place, and if the list was
-  -- sorted by the keys, where it is sorted again
+  -- a live index was removed from the list and inserted again for its new item, at some place; if the list was sorted
+  -- by the keys, it is sorted again
   pub record MovesInPlace (s : Store T) (ix : ℕ) (item : T) (old new : List ℕ) : Type 0 where
     pub adds : Adds (without old ix) ix new
     pub placed : IsInPlace key_of compare s old → IsInPlace key_of compare (rebound s ix item) new
 
-  -- what becomes of it in the ordered table, by what the look-up of its new second key answered: it stays, or moves
+  -- how an index moves in the ordered table: it stays if the look-up of its new second key hit, and otherwise moves
   abbrev pub Reorders : Store T → ℕ → T → Option ℕ → List ℕ → List ℕ → Type 0
   Reorders s ix item (Some at) old new = new ≡ old
   Reorders s ix item None old new = MovesInPlace s ix item old new

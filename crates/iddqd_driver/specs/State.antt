@@ -10,7 +10,7 @@ use Rattle.iddqd.specs.Compaction.{compacted, rank}
 use Rattle.iddqd_hash.specs.HashTable.{Table}
 use Rattle.iddqd_hash.specs.MapHashTable.{filed, Renames}
 use Rattle.iddqd_order.specs.MapBTreeTable.{Order, order_of, without}
-use Rattle.iddqd_keys.specs.KeyIndex.{HasExactly}
+use Rattle.iddqd_keys.specs.AnyTable.{HasExactly}
 use Rattle.iddqd_by_hash.specs.Hashed.{Holds}
 
 -- The hash under which each index is filed, and the indexes in the ordered table's order, beside the store. No step
@@ -21,7 +21,7 @@ pub record State (T S : Type 0) : Type 0 where
   pub filed : FinMap nat_cmp ℕ
   pub order : List ℕ
 
--- a state is coded where its items and its hasher are
+-- a state is coded if its items and its hasher are
 abbrev pub state_code : {T S : Type 0} → Coded T → Coded S → Coded (State T S)
 state_code {T} {S} item hasher =
     code_by
@@ -32,20 +32,20 @@ state_code {T} {S} item hasher =
     (λ _. refl)
 
 module _ {T S : Type 0} where
-  -- no item and no slot, and nothing in either table; and there can be so many slots
+  -- no item, no slot and nothing in either table, with this limit of slots
   abbrev pub empty_state_within : ℕ → S → State T S
   empty_state_within limit hasher =
       record { hasher = hasher; store = empty_within limit; filed = finite.empty; order = [] }
 
-  -- the same where no limit is given
+  -- the empty state for which no limit is given
   abbrev pub empty_state : S → State T S
   empty_state hasher = empty_state_within slot_limit hasher
 
-  -- what forgetting all items and all slots leaves
+  -- the state after all items and all slots were forgotten
   abbrev pub cleared_state : State T S → State T S
   cleared_state old = record old { store = cleared old.store; filed = finite.empty; order = [] }
 
-  -- what the removal of a live index leaves: the store and both tables lose it, and nothing else changes
+  -- the state after the removal of a live index from the store and both tables
   abbrev pub unbound : State T S → ℕ → State T S
   unbound s ix =
       record s { store = removed s.store ix; filed = finite.remove s.filed ix; order = without s.order ix }
@@ -67,8 +67,8 @@ module _ {T S : Type 0} where
   abbrev pub IsEmpty : State T S → Type 0
   IsEmpty s = live_count s.store ≡ 0
 
-  -- what a compaction leaves: each live index became its rank, in the store, among those that are filed, which this is
-  -- then, and in the order
+  -- the state after a compaction: each live index became its rank in the store and in the order, and `filed` has the
+  -- filed indexes
   abbrev pub compacted_state : State T S → FinMap nat_cmp ℕ → State T S
   compacted_state s filed =
       record s { store = compacted s.store; filed = filed; order = map (rank s.store) s.order }

@@ -12,7 +12,7 @@ use Rattle.iddqd.specs.declared.internal.ValidationError.TheVariants.{Table}
 use Rattle.iddqd.specs.Store.{Store}
 use Rattle.iddqd_keys.specs.Scan.{IsLive}
 
--- what a table was answered, reported with its name
+-- the result of a table's check, with the table's name in an error
 abbrev pub with_table_name :
     Bor (List ℕ)
     → Result (Unit {0}) (ValidateRefusal (List ℕ))

@@ -1,6 +1,6 @@
-//! What can be asked of keyed items, and what is answered.
+//! Commands to keyed items, and the replies to them.
 //!
-//! `Command` doesn't print or compare, since its keys are types of the item's. `Reply` does.
+//! `Command` has no `Debug` and no equality, since the types of its keys belong to the item's trait. `Reply` has both.
 use crate::keyed_item::KeyedItem;
 use crate::keyed_items::InsertRefusal;
 use iddqd::index_remap::IndexRemap;
@@ -21,7 +21,7 @@ pub enum Command<T: KeyedItem> {
     Remove1(T::Key1),
     /// Remove the item with this second key.
     Remove2(T::Key2),
-    /// Give a live index another item, whatever the keys of both. Neither table is updated.
+    /// Replace the item at a live index, whatever the keys of both items. Neither table is updated.
     Overwrite(ItemIndex, T),
     /// Move every item down to its rank, so that no slot is vacant.
     Compact,
@@ -31,7 +31,7 @@ pub enum Command<T: KeyedItem> {
     Walk,
 }
 
-/// The answer to a command.
+/// The reply to a command.
 #[derive(Debug, PartialEq, Eq, Drop)]
 pub enum Reply<T> {
     /// To `Insert`: the index of the item.
@@ -42,14 +42,14 @@ pub enum Reply<T> {
     Found(Option<ItemIndex>),
     /// To a removal: the item that was removed, and its index.
     Removed(Option<(ItemIndex, T)>),
-    /// To `Overwrite`: the item that the index had, or else the given one.
+    /// To `Overwrite`: the item that was replaced, or the given one if the index isn't live.
     Overwritten(Result<T, T>),
-    /// To `Compact`: the new name of each old index.
+    /// To `Compact`: the new index of each old one.
     Compacted(IndexRemap),
     /// To `Clear`.
     Cleared,
     /// To `Walk`: all indexes.
     Walked(Vec<ItemIndex>),
-    /// To `Compact` or `Walk`: memory for the answer ran out.
+    /// To `Compact` or `Walk`: memory for the reply ran out.
     NoMemory,
 }

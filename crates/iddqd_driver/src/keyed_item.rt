@@ -1,7 +1,7 @@
 //! The two keys that an item contains.
 //!
-//! A type without values names each key, so that a table can say which key it goes by. Users implement
-//! [`KeyedItem`] alone.
+//! A type without values names each key, so that a table can say which key it goes by. Users implement only
+//! [`KeyedItem`].
 ghost use Rattle.std.specs.Prelude.{◌≡◌};
 
 use iddqd_keys::key_of::KeyOf;

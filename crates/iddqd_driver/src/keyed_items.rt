@@ -1,15 +1,14 @@
 //! Items with two unique keys: a store, a hash table for the first keys, an ordered one for the second.
 //!
-//! The items stand in the store alone, and so do their keys: both tables hold indexes, and read the
-//! key of an index from the store where they need it. So one item is stored once, and an index stays
-//! good until its item is removed, or all items are moved down or forgotten, by `compact` and by
-//! `clear`. Every index of an item stands in both tables once, and no other does, whatever becomes of
-//! the keys: an insert takes all memory before it writes anything, and a removal that frees a slot takes
-//! its index out of both tables.
+//! Only the store has the items, and so the keys: both tables hold indexes, and read the key of an index from the store
+//! when they need it. So one item is stored once. An index stays valid until its item is removed, or until `compact`
+//! moves all items down or `clear` forgets them. Every live index is in both tables once, and no other index is, even
+//! if keys change silently: an insert takes all memory before it writes anything, and a removal that frees a slot
+//! removes its index from both tables.
 //!
-//! A removal searches both tables, by the keys that the item has now, and walks only where that misses.
-//! An insert searches the ordered table once, which finds a duplicate, or else the place. Each call that
-//! obeys a command has a clause that both states are paired, though the type says so too: `step` and `run`
+//! A removal searches both tables, by the keys that the item has now, and scans a table only if the search misses. An
+//! insert searches the ordered table once, which finds a duplicate or the place of the new index. Each call that obeys
+//! a command has a clause that the states before and after it are paired, though the type says so too: `step` and `run`
 //! are proved from the calls' clauses alone.
 ghost use Rattle.std.specs.Prelude.{◌≡◌, ◌↔◌, ◌≤◌, ◌+◌, ◌*◌, min, max, [], None, IsTrue, IsSome, OnSome, IsOk, IfOk, OnOk, IfErr, OnErr, option_copied};
 ghost use Rattle.std.specs.FinMap as finite;
@@ -48,7 +47,7 @@ use iddqd_by_hash::hashed;
 use iddqd_by_order::ordered;
 pub use iddqd_by_order::ordered_walk::Range;
 use iddqd_hash::hash_table::MapHashTable;
-use iddqd_keys::key_of::ByKey;
+use iddqd_keys::key_of::KeyQuery;
 use iddqd_order::btree_table::{Entry, MapBTreeTable};
 pub use replaces::ReplaceRefusal;
 use std::alloc::{AllocError, Global};
@@ -60,14 +59,14 @@ pub use walks::ValuesByKey2;
 
 /// Items that contain two keys each.
 ///
-/// An insert refuses an item one of whose keys a look-up finds. While no key is changed silently, by
-/// `overwrite`, that is each item one of whose keys is there.
+/// An insert refuses an item if a look-up finds one of its keys. Until `overwrite` changes a key silently, look-ups
+/// find every key that is there.
 #[derive(Drop)]
 pub struct KeyedItems<T: KeyedItem, S: BuildHasher = DefaultHashBuilder> {
     items: ItemSet<T>,
     // Each live index, under the hash that its item's first key had when it was inserted.
     filed: MapHashTable,
-    // Each live index: by second key, ties by index, where no second key was changed silently.
+    // Each live index: by second key, ties by index, if no second key was changed silently.
     order: MapBTreeTable,
     state: S,
     alloc: Global,
@@ -86,10 +85,10 @@ impl<T: KeyedItem, S: BuildHasher> Model for KeyedItems<T, S> {
     ghost invariant = { λ k. IsPaired (state_of k.state k.items.store k.filed k.order) };
 }
 
-/// Why an item was not taken. The item comes back.
+/// Why an item was not inserted. The item comes back.
 #[derive(Debug, PartialEq, Eq, Drop)]
 pub enum InsertRefusal<T> {
-    /// One of its keys was found: what the look-ups of its first and its second key answered.
+    /// One of its keys was found: what the look-ups of its first and its second key returned.
     Duplicate {
         item: T,
         first: Option<ItemIndex>,
@@ -97,7 +96,7 @@ pub enum InsertRefusal<T> {
     },
     /// Neither of its keys was found, and there are as many items as the limit allows.
     Full(T),
-    /// Neither of its keys was found, it is not full, and memory ran out.
+    /// Neither of its keys was found, the store is not full, and memory ran out.
     Memory(T),
 }
 
@@ -142,7 +141,7 @@ impl<T: KeyedItem, S: BuildHasher> Keyed for KeyedItems<T, S> {
 }
 
 impl<T: KeyedItem, S: BuildHasher> KeyedItems<T, S> {
-    /// No items, and slots for as many as there are indexes but `SENTINEL`. It takes no memory.
+    /// Empty. It may grow to `u32::MAX` items, one for each index but `SENTINEL`. It takes no memory.
     pub fn new(alloc: Global, state: S) -> KeyedItems<T, S>
         ensures state { result.state ≡ empty_state state }
         ensures memory { result.memory ≡ no_memory }
@@ -150,7 +149,7 @@ impl<T: KeyedItem, S: BuildHasher> KeyedItems<T, S> {
         KeyedItems::with_limit(alloc, state, u32::MAX)
     }
 
-    /// No items, and never more slots than the limit. It takes no memory.
+    /// Empty, and never with more slots than the limit. It takes no memory.
     ///
     /// No command changes the limit: `clear` and `compact` keep it.
     pub fn with_limit(alloc: Global, state: S, limit: u32) -> KeyedItems<T, S>
@@ -190,8 +189,7 @@ impl<T: KeyedItem, S: BuildHasher> KeyedItems<T, S> {
         self.items.get(ix)
     }
 
-    /// The index of the item with this first key. It compares the key with those of the same hash
-    /// alone.
+    /// The index of the item with this first key. Only keys of the same hash are compared with it.
     pub fn find1(&self, key: &T::Key1) -> Option<ItemIndex>
         ensures paired { IsPaired self.now.state }
         ensures found { LooksUp (first_key_index ⟦<Self as Keyed>⟧.keys) self.now.state key.now result }
@@ -206,7 +204,7 @@ impl<T: KeyedItem, S: BuildHasher> KeyedItems<T, S> {
         ensures paired { IsPaired self.now.state }
         ensures found { LooksUp (second_key_index ⟦<Self as Keyed>⟧.keys) self.now.state key.now result }
     {
-        ordered::find::<T, Second, ByKey<T::Key2>>(&self.order, &self.items, &ByKey(key))
+        ordered::find::<T, Second, KeyQuery<T::Key2>>(&self.order, &self.items, &KeyQuery(key))
     }
 
     /// Inserts an item, if neither of its keys is found.
@@ -238,7 +236,7 @@ impl<T: KeyedItem, S: BuildHasher> KeyedItems<T, S> {
     {
         let item = self.items.get(ix)?;
         let hash = hashed::hash_of::<T, First, S>(&self.state, item);
-        hashed::take_index(&mut self.filed, hash, ix);
+        hashed::remove_index(&mut self.filed, hash, ix);
         Some(remove_item(&mut self.order, &mut self.items, ix))
     }
 
@@ -262,8 +260,7 @@ impl<T: KeyedItem, S: BuildHasher> KeyedItems<T, S> {
         self.remove2_by(key)
     }
 
-    /// Gives a live index another item, and returns the one that it had. If the index isn't live, it
-    /// returns the given item.
+    /// Replaces the item at a live index, and returns the old one. If the index isn't live, it returns the given item.
     ///
     /// Neither table is updated, whatever the keys of both items: the index stays filed under the hash
     /// that it has and in its place in the order. Look-ups may then miss the new keys, but never hit a
@@ -279,11 +276,11 @@ impl<T: KeyedItem, S: BuildHasher> KeyedItems<T, S> {
         Ok(self.items.replace(ix, item))
     }
 
-    /// Moves every item down to its rank, so that no slot is vacant, and returns the new names.
+    /// Moves every item down to its rank, so that no slot is vacant, and returns the new indexes.
     ///
-    /// Both tables keep their order and hashes, and no key is hashed or compared. If no slot is vacant,
-    /// it returns `Identity` and takes no memory. Otherwise it takes memory for one index a slot, before
-    /// an item moves; if memory runs out, nothing changes.
+    /// Both tables keep their order and hashes, and no key is hashed or compared. If no slot is vacant, it returns
+    /// `Identity` and takes no memory. Otherwise it allocates a list of one index for each slot before any item moves;
+    /// if memory runs out, nothing changes.
     pub fn compact(&mut self) -> Result<IndexRemap, AllocError>
         ensures compacts { IfOk result
             (λ remap. IsRemapOf self.old.state.store remap × Compacts self.old.state self.new.state) }
@@ -345,8 +342,8 @@ impl<T: KeyedItem, S: BuildHasher> KeyedItems<T, S> {
 
     /// Obeys commands in turn, one reply each.
     ///
-    /// The memory for all replies is taken first. If it runs out, or no vector can hold so many, nothing
-    /// is done and the commands come back; with no command that never happens.
+    /// The memory for all replies is taken first. If it runs out, or no vector can hold that many replies, nothing is
+    /// done and the commands come back; without commands that can't happen.
     pub fn run(&mut self, commands: Vec<Command<T>>) -> Result<Vec<Reply<T>>, Vec<Command<T>>>
         ensures run { let keys = ⟦<Self as Keyed>⟧.keys in
             IfOk result (λ replies. Run keys self.old.state commands.items replies.items self.new.state) }
@@ -374,10 +371,10 @@ impl<T: KeyedItem, S: BuildHasher> KeyedItems<T, S> {
         ensures found { LooksUp (first_key_index ⟦<Self as Keyed>⟧.keys) self.now.state key.now result.1 }
     {
         let hash = self.filed.compute_hash(&self.state, key);
-        let query = ByKey(key);
+        let query = KeyQuery(key);
         (
             hash,
-            hashed::find::<T, First, ByKey<T::Key1>>(&self.filed, &self.items, hash, &query),
+            hashed::find::<T, First, KeyQuery<T::Key1>>(&self.filed, &self.items, hash, &query),
         )
     }
 }
@@ -392,7 +389,7 @@ fn remove_item<T: KeyedItem>(order: &mut MapBTreeTable, items: &mut ItemSet<T>, 
     ensures slots { items.new.capacity ≡ items.old.capacity }
     ensures ordered { ordered_capacity order.new ≡ ordered_capacity order.old }
 {
-    ordered::take_index::<T, Second>(order, items, ix);
+    ordered::remove_index::<T, Second>(order, items, ix);
     take_item(items, ix)
 }
 
@@ -409,9 +406,9 @@ fn take_item<T>(items: &mut ItemSet<T>, ix: ItemIndex) -> T
     }
 }
 
-// Stores an item, whose first key's look-up is done, if neither of its keys is found, and inserts its
-// index into both tables; or returns it. One search of the ordered table finds a duplicate, or else the
-// place. All memory is taken before anything is written.
+// Stores an item if neither of its keys is found, and inserts its index into both tables; otherwise returns it. Its
+// first key was looked up before. One search of the ordered table finds a duplicate or the place. All memory is taken
+// before anything is written.
 fn insert_item<T: KeyedItem>(
     items: &mut ItemSet<T>,
     table: &mut MapHashTable,
@@ -444,8 +441,8 @@ fn insert_item<T: KeyedItem>(
         ≤ max items.old.capacity (min items.old.store.limit (max 4 (2 * live_count items.old.store))) }
     ensures few_cells { cells table.new ≤ max (cells table.old) (most_cells (finite.len (filed table.old) + 1)) }
 {
-    let query = ByKey(item.key2());
-    let vacant = match ordered::entry::<T, Second, ByKey<T::Key2>>(order, items, &query) {
+    let query = KeyQuery(item.key2());
+    let vacant = match ordered::entry::<T, Second, KeyQuery<T::Key2>>(order, items, &query) {
         Entry::Vacant(vacant) => vacant,
         Entry::Occupied(entry) => {
             let second = Some(entry.get());

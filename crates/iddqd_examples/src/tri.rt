@@ -3,7 +3,7 @@ use crate::driver::hashers::Constant;
 use crate::driver::script::{assert_answer, halves, ix, printed, words};
 use iddqd::hash_builder::DefaultHashBuilder;
 use iddqd::item_index::ItemIndex;
-use iddqd_keys::key_of::ByKey;
+use iddqd_keys::key_of::KeyQuery;
 use iddqd_tri::tri_item::TriItem;
 use iddqd_tri::tri_items::TriItems;
 use iddqd_tri::tri_refusal::TriRefusal;
@@ -183,7 +183,7 @@ fn an_item_without_a_conflict_leaves_the_others_found(rt: HostRuntime) -> Result
 
 // Where a number is as each key, found by a query.
 fn find_by<S: BuildHasher>(items: &TriItems<Trio, S>, number: u32) -> [Option<ItemIndex>; 3] {
-    let query = ByKey(&number);
+    let query = KeyQuery(&number);
     [
         items.find1_by(&query),
         items.find2_by(&query),

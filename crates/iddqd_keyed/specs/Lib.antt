@@ -3,7 +3,7 @@ pub use Rattle.iddqd.specs.Store
 pub use Rattle.iddqd.specs.Compaction
 pub use Rattle.iddqd_order.specs.Iter
 pub use Rattle.iddqd_keys.specs.Scan
-pub use Rattle.iddqd_keys.specs.KeyIndex
+pub use Rattle.iddqd_keys.specs.AnyTable
 pub use Rattle.iddqd_by_hash.specs.Hashed
 pub use Rattle.iddqd_driver.specs.Keys
 pub use Rattle.iddqd_driver.specs.State
@@ -45,7 +45,7 @@ pub use Rattle.iddqd_driver.specs.Queries.{LooksUpBy, GivesFound}
 pub use Rattle.iddqd_driver.specs.Walks.{items_at, RangesWithin}
 pub use Rattle.iddqd_driver.specs.Replacement.{ReportsOtherIndex, Becomes, Replaces}
 pub use Rattle.iddqd_driver.specs.Modify.{ModifiesAt, ModifiesFound}
-pub use Rattle.iddqd_by_hash.specs.Retain.{MayAsk, RetainsTo, kept_of, refused_of}
+pub use Rattle.iddqd_by_hash.specs.Retain.{MayAsk, RetainsTo, kept_of, removed_of}
 pub use Rattle.iddqd_driver.specs.Retain.{unbound_all, Retains}
 pub use Rattle.iddqd_driver.specs.Memory.{SizedState, no_memory, capacity, room, reservable, IsNoLower, IsMadeFor}
 pub use Rattle.iddqd_driver.specs.Memory.{IsOutOfMemory, InsertsInMemory, TakesForOne, ReservesInMemory, ShrinksInMemory}

@@ -1,4 +1,4 @@
--- A list that has exactly the live indexes, each once, has as many of them as there are items.
+-- For callers: a list that has exactly the live indexes, each once, has as many of them as there are items.
 use Rattle.std.proofs.Common.{◌≡◌, ◌∙◌, ◌↔◌, ◌+◌, ◌<◌, ℕ, nat_eq, false, List, [], ◌∷◌, map, length, Option, Some, None, refl, subst, inl, inr, arith}
 use Rattle.std.specs.Cmp.{nat_eq_equiv}
 use Rattle.std.specs.List.{AllByRecursion, Contains, IsDistinct}

@@ -1,4 +1,4 @@
--- Live indexes that are removed from a store one after the other.
+-- For callers: live indexes that are removed from a store one after the other.
 use Rattle.std.proofs.Common.{◌≡◌, ◌≢◌, ℕ, List, [], ◌∷◌, Some, arith}
 use Rattle.std.specs.List.{Contains}
 use Rattle.iddqd.specs.Store.{Store, IsValid, get, removed}

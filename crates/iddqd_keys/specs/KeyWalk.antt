@@ -1,4 +1,4 @@
--- Live indexes in the order of a key of their items, and where keys are equal by index.
+-- Live indexes sorted by a key of their items; of equal keys, by index.
 use Rattle.std.specs.Prelude.{◌≡◌, ◌≢◌, ◌↔◌, ℕ, Bool, List, Option, Some, None, filter_map}
 use Rattle.std.specs.List.{Contains}
 use Rattle.std.specs.List.Sorted.{IsStrictlySortedBy}
@@ -14,11 +14,11 @@ module _ {T : Type 0} where
   abbrev pub pair_at : Store T → ℕ → Option (ℕ × T)
   pair_at s ix = option_map (λ item. (ix, item)) (get s ix)
 
-  -- those of these indexes that have an item, each with its item, in their order
+  -- the live ones among these indexes with their items, in the order of the list
   abbrev pub pairs_at : Store T → List ℕ → List (ℕ × T)
   pairs_at s indexes = filter_map (pair_at s) indexes
 
-  -- the items at these indexes, in their order
+  -- the items at these indexes, in the order of the list
   abbrev pub items_at : Store T → List ℕ → List T
   items_at s indexes = filter_map (get s) indexes
 
@@ -32,27 +32,27 @@ module _ {T K : Type 0} (key_of : T → K) where
     abbrev pub by_key_then_index : Store T → ℕ → ℕ → Ordering
     by_key_then_index s = then_cmp (on (key_at s) (option_cmp compare)) nat_cmp
 
-    -- the list is sorted by the keys as they are now, ties by index
+    -- the list is sorted by the keys as they are now; of equal keys, by index
     abbrev pub IsInPlace : Store T → List ℕ → Type 0
     IsInPlace s order = IsStrictlySortedBy (by_key_then_index s) order
 
-    -- the one live index comes before the other
+    -- i comes before j in this order; a vacant index comes first
     abbrev pub ComesBefore : Store T → ℕ → ℕ → Type 0
     ComesBefore s i j = by_key_then_index s i j ≡ Less
 
-    -- The index whose item passes that comes before all others whose items do, or none where none passes.
+    -- The first hit in this order; `None` if there is no hit.
     abbrev pub IsFirstHit : Store T → (T → Bool) → Option ℕ → Type 0
     IsFirstHit s test None = HasNoHit s test
     IsFirstHit s test (Some ix) = IsHit s test ix × ((j : ℕ) → IsHit s test j → j ≢ ix → ComesBefore s ix j)
 
-    -- The first index behind this one whose item passes, or none where none is behind it.
+    -- The first hit after this index; `None` if no hit comes after it in this order.
     abbrev pub IsNextHit : Store T → (T → Bool) → ℕ → Option ℕ → Type 0
     IsNextHit s test after None = (j : ℕ) → IsHit s test j → ComesBefore s after j → ⊥
     IsNextHit s test after (Some ix) =
         IsHit s test ix × ComesBefore s after ix
         × ((j : ℕ) → IsHit s test j → ComesBefore s after j → j ≢ ix → ComesBefore s ix j)
 
--- these are exactly the live indexes whose items' keys pass, sorted by key
+-- these are exactly the live indexes whose items' keys pass, sorted by key and then by index
 pub record SortsWithin
     {T K : Type 0} (key_of : T → K) (compare : K → K → Ordering) (within : K → Bool) (s : Store T) (indexes : List ℕ)
     : Type 0 where

@@ -1,5 +1,5 @@
 pub mod Scan
-pub mod KeyIndex
+pub mod AnyTable
 pub mod KeyKeeping
 pub mod OrderedQuery
 pub mod KeyWalk

@@ -8,7 +8,7 @@ abbrev pub IsIncreasing : List ℕ → Type 0
 IsIncreasing [] = Unit {0}
 IsIncreasing (x ∷ rest) = ((y : ℕ) → Contains rest y → x < y) × IsIncreasing rest
 
--- a list of this length: what the given list has, and then none
+-- a list of exactly this length: the members of the given list, as far as they fit, and then `None`
 abbrev pub padded : {T : Type 0} → ℕ → List (Option T) → List (Option T)
 padded zero items = []
 padded (suc n) [] = None ∷ padded n []

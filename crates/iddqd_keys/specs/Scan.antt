@@ -15,7 +15,8 @@ module _ {T : Type 0} where
   abbrev pub HasNoHit : Store T → (T → Bool) → Type 0
   HasNoHit s test = (ix : ℕ) → IsHit s test ix → ⊥
 
-  -- the answer of a scan: the one index that hits, or none where there is none
+  -- The answer of a scan if at most one index is a hit: that index, or `None` if there is none. With two hits no answer
+  -- is allowed.
   abbrev pub AnswersScan : Store T → (T → Bool) → Option ℕ → Type 0
   AnswersScan s test None = HasNoHit s test
   AnswersScan s test (Some ix) = (j : ℕ) → IsHit s test j ↔ (j ≡ ix)

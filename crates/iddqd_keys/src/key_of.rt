@@ -1,4 +1,4 @@
-//! The key of an item by which a table files its index.
+//! Which of an item's keys a table goes by, and the query that is a key itself.
 ghost use Rattle.std.specs.Prelude.{◌≡◌};
 ghost use Rattle.iddqd_keys.specs.Scan.{IsLive, IsKeyAt};
 
@@ -8,25 +8,26 @@ use iddqd::map_hash::{Comparable, Equivalent};
 use std::cmp::Ordering;
 use std::hash::{Hash, Hasher};
 
-/// A key of an item, named by a type that has no values.
+/// Names one key of the items. Implement it for an enum without variants, as `enum Serial {}`.
 pub trait KeyOf<T> {
-    /// The key.
+    /// The type of the key.
     type Key: Drop;
 
     ghost key_of: { T → Self.Key };
 
-    /// The key of the item.
+    /// Borrows the key from the item.
     fn key(item: &T) -> &Self::Key
         ensures { result.now ≡ key_of item.now };
 }
 
-/// The query that is a key itself.
+/// A query that is a key itself, for tables beside a store.
 ///
-/// It is [`Equivalent`] to keys, not to references to keys, so that no lifetime stands in a bound on it.
+/// `iddqd::map_hash::Same` matches borrowed keys: it implements `Equivalent<&'b K>`. A generic caller would have to
+/// name `'b` in its bounds, and the prover finds no proof then.
 #[derive(Clone, Copy, Debug, PartialEq, Eq)]
-pub struct ByKey<'a, K>(pub &'a K);
+pub struct KeyQuery<'a, K>(pub &'a K);
 
-impl<'a, K: Hash> Hash for ByKey<'a, K> {
+impl<'a, K: Hash> Hash for KeyQuery<'a, K> {
     ghost hash_input = { λ q. K.hash_input q.0.now };
 
     ghost respects_eq = { λ x y equal. K.respects_eq x.0.now y.0.now equal };
@@ -36,7 +37,7 @@ impl<'a, K: Hash> Hash for ByKey<'a, K> {
     }
 }
 
-impl<'a, K: Eq> Equivalent<K> for ByKey<'a, K> {
+impl<'a, K: Eq> Equivalent<K> for KeyQuery<'a, K> {
     ghost equivalent = { λ q k. K.eq q.0.now k };
 
     fn equivalent(&self, key: &K) -> bool {
@@ -44,7 +45,7 @@ impl<'a, K: Eq> Equivalent<K> for ByKey<'a, K> {
     }
 }
 
-impl<'a, K: Ord> Comparable<K> for ByKey<'a, K> {
+impl<'a, K: Ord> Comparable<K> for KeyQuery<'a, K> {
     ghost use Rattle.iddqd.specs.MapHashLaws.{equal_in, greater_before_in};
     ghost use Rattle.std.proofs.lemmas.Cmp.{alike_right};
 

@@ -1,9 +1,10 @@
 //! Keys of a store's items, and queries for them.
 //!
-//! A type names a key ([`key_of::KeyOf`]), and a query stands for keys by their hash ([`query::HashQuery`]) or by their
-//! order ([`order_query::OrdQuery`]). The definitions say what a look-up finds as a scan of all items would.
+//! A type names a key ([`key_of::KeyOf`]), and a query stands for keys by their hash ([`hash_query::HashQuery`]) or by
+//! their order ([`order_query::OrdQuery`]). The definitions say what a look-up in a table in sync answers:
+//! what a scan of all items would.
 #![tactic(auto)]
 
+pub mod hash_query;
 pub mod key_of;
 pub mod order_query;
-pub mod query;

@@ -1,8 +1,8 @@
 //! Queries by which a key is looked up in the order of the keys.
 //!
-//! An ordered table finds what a query stands for only if its answers fit the order: along the keys they are
-//! first Greater, then Equal, then Less. And a query may be Equal only at keys that are equal to each other.
-//! Both are laws of the trait, and so a look-up by any query answers as a scan would.
+//! An ordered table finds what a query stands for only if the query's answers fit the order: along the keys they are
+//! first Greater, then Equal, then Less. And all keys at which it answers Equal have to be equal to each other.
+//! Both are laws of the trait, and so a look-up by any query in a table in sync answers as a scan would.
 ghost use Rattle.std.specs.Prelude.{◌≡◌};
 ghost use Rattle.std.specs.Cmp.{Equal-is};
 ghost use Rattle.std.specs.Cmp.Lexicographic.{slice_cmp, lists_total, nat_list_cmp_total};
@@ -15,19 +15,18 @@ use iddqd::map_hash::{Comparable, Equivalent};
 use std::alloc::Allocator;
 use std::cmp::Ordering;
 
-/// What a key is looked up by: a `&K` at any keys, a `&str` at keys that are a `String`, a `&[T]` at those
-/// that are a `Vec<T>`.
+/// What a key is looked up by in an ordered table: a `&K` for keys `K`, also a `&str` for `String`, and a `&[T]` for
+/// `Vec<T>`.
 ///
-/// Implement it for a small `Copy` type of your own to look up by what determines a key.
+/// Implement it for a small `Copy` type of your own to look up by borrowed parts that together determine a key.
 pub trait OrdQuery<K: Ord>: Copy {
-    // What `compare` answers.
     ghost compare: { Self → K → Ordering };
 
-    /// How the query compares with the key: `Less` where it stands before the key.
+    /// How the query compares with the key: `Less` if its place is before the key.
     fn compare(&self, key: &K) -> Ordering
         ensures { result ≡ compare self.now key.now };
 
-    // Its answers fit the order of the keys, and it is Equal at equal keys alone.
+    // Its answers fit the order of the keys, and all keys at which it answers Equal are equal to each other.
     ghost lawful: { (q : Self) → IsQuery K.cmp (compare q) };
 }
 
@@ -63,11 +62,11 @@ impl<T: Ord, A: Allocator> OrdQuery<Vec<T, A>> for &[T] {
     }
 }
 
-/// A query in the form in which an ordered table is searched.
+/// An [`OrdQuery`] as a [`Comparable`], by which an ordered table is searched.
 #[derive(Clone, Copy)]
-pub struct Ranked<Q>(pub Q);
+pub struct AsComparable<Q>(pub Q);
 
-impl<K: Ord, Q: OrdQuery<K>> Equivalent<K> for Ranked<Q> {
+impl<K: Ord, Q: OrdQuery<K>> Equivalent<K> for AsComparable<Q> {
     ghost equivalent = { λ q k. is_eq (Q.compare q.0 k) };
 
     fn equivalent(&self, key: &K) -> bool {
@@ -75,7 +74,7 @@ impl<K: Ord, Q: OrdQuery<K>> Equivalent<K> for Ranked<Q> {
     }
 }
 
-impl<K: Ord, Q: OrdQuery<K>> Comparable<K> for Ranked<Q> {
+impl<K: Ord, Q: OrdQuery<K>> Comparable<K> for AsComparable<Q> {
     ghost compare = { λ q k. Q.compare q.0 k };
 
     ghost equal_where_equivalent = { λ q k. Equal-is (Q.compare q.0 k) };

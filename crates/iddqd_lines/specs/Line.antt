@@ -36,27 +36,27 @@ max_line = 128
 abbrev pub is_line_feed : ℕ → Bool
 is_line_feed b = b == line_feed
 
--- whether a byte parts two words
+-- whether a byte separates two words
 abbrev pub is_space : ℕ → Bool
 is_space b = b == space
 
--- the parts but for the last, where that is empty
+-- the parts without the last one if that is empty
 abbrev pub without_empty_last : List (List ℕ) → List (List ℕ)
 without_empty_last [] = []
 without_empty_last ([] ∷ []) = []
 without_empty_last (part ∷ parts) = part ∷ without_empty_last parts
 
--- the parts but for the last
+-- the parts without the last one
 abbrev pub without_last : List (List ℕ) → List (List ℕ)
 without_last [] = []
 without_last (part ∷ []) = []
 without_last (part ∷ parts) = part ∷ without_last parts
 
--- the lines of an input: each ends at a line feed, and what follows the last counts where it isn't empty
+-- the lines of an input: each ends at a line feed, and what follows the last line feed is a line if it isn't empty
 abbrev pub lines_of : List ℕ → List (List ℕ)
 lines_of bytes = without_empty_last (slice_split is_line_feed bytes)
 
--- those that end at a line feed
+-- the lines that end at a line feed
 abbrev pub whole_lines_of : List ℕ → List (List ℕ)
 whole_lines_of bytes = without_last (slice_split is_line_feed bytes)
 
@@ -82,7 +82,7 @@ numbers_of (word ∷ words) =
 abbrev pub record_of : ℕ → ℕ → ℕ → Record
 record_of first second value = record { first = first; second = second; value = value }
 
--- what stands beside this verb
+-- the entry for this verb
 abbrev pub named : {A : Type 0} → List ℕ → List (List ℕ × A) → Option A
 named verb [] = None
 named verb ((name, a) ∷ rest) = if bytes_eq verb name then Some a else named verb rest
@@ -95,7 +95,7 @@ lone_commands =
     ∷ (codes "clear", Clear)
     ∷ []
 
--- of a verb and a number
+-- the commands of a verb and a number
 abbrev pub number_commands : ℕ → List (List ℕ × Command Record ℕ ℕ)
 number_commands n =
     (codes "get1", Find1 n)
@@ -105,11 +105,11 @@ number_commands n =
     ∷ (codes "remove2", Remove2 n)
     ∷ []
 
--- of a verb and the three numbers of a record
+-- the commands of a verb and the three numbers of a record
 abbrev pub record_commands : Record → List (List ℕ × Command Record ℕ ℕ)
 record_commands r = (codes "insert", Insert r) ∷ []
 
--- of a verb, an index and a record
+-- the commands of a verb, an index and a record
 abbrev pub index_commands : ℕ → Record → List (List ℕ × Command Record ℕ ℕ)
 index_commands ix r = (codes "overwrite", Overwrite ix r) ∷ []
 
@@ -131,7 +131,7 @@ abbrev pub command_of : List ℕ → Option (Command Record ℕ ℕ)
 command_of line =
     if nat_le (length line) max_line then command_of_words (slice_split is_space line) else None
 
--- the request that a line is: a check where it is this one word, else to obey the command that it is
+-- the request that a line is: a check if it is this one word, otherwise to obey the command that it is
 abbrev pub request_of : List ℕ → Option (Request (Command Record ℕ ℕ))
 request_of line = if bytes_eq line (codes "validate") then Some Validate else option_map Run (command_of line)
 
@@ -169,11 +169,11 @@ abbrev pub walk_text : List ℕ → List ℕ
 walk_text [] = codes "empty"
 walk_text (ix ∷ rest) = join_by decimal (codes " ") (ix ∷ rest)
 
--- a new name, or a dash for a slot that was vacant
+-- a new index, or a dash for a slot that was vacant
 abbrev pub name_or_dash : ℕ → List ℕ
 name_or_dash name = if name == sentinel then codes "-" else decimal name
 
--- what became of the indexes, in words
+-- the new indexes, in words
 abbrev pub remap_text : IndexRemap → List ℕ
 remap_text Identity = codes "identity"
 remap_text (Permuted names) = codes "permuted" ++ flat_map (λ name. codes " " ++ name_or_dash name) names.items

@@ -35,7 +35,7 @@ record_keys hash =
       hash_first = hash;
     }
 
--- how a check may be answered where so many slots are vacant, as none should be
+-- which replies a check may have if this number of slots is vacant
 abbrev pub IsCheckText : ℕ → List ℕ → Type 0
 IsCheckText vacant out =
     ((vacant ≡ 0) × (out ≡ codes "ok"))
@@ -77,8 +77,8 @@ module _ {S : Type 0} (hash : S → ℕ → ℕ) where
     pub broken : 0 < length rest
 
   -- Which lines have a whole reply, and which part of the reply to the next line is written, from the state that those
-  -- lines leave. At the end of the input all lines; at a failed read those that ended in the bytes that were read; at a
-  -- failed write some first ones, and a proper prefix of the next reply.
+  -- lines leave. At the end of the input: all lines. At a failed read: the lines that ended in the bytes that were
+  -- read. At a failed write: some first lines, and a proper prefix of the next reply.
   abbrev pub EndsAt
       : Result (Unit {0}) ServeFault → List ℕ → Option (List ℕ) → List (List ℕ) → State Record S → List ℕ → Type 0
   EndsAt (Ok u) input left lines state part = (lines ≡ lines_of input) × (part ≡ [])
@@ -110,8 +110,8 @@ pub record ServesUntil (end : Result (Unit {0}) ServeFault) (input : List ℕ) (
   pub written : Appends before after (bytes ++ part)
   pub ends : EndsAt default_hash_u32 end input left lines last part
 
--- What that means at the end of the input: the bytes that were written since `before` are the replies to all lines of
--- the input, from the empty state on.
+-- What `ServesUntil` means at the end of the input: the bytes that were written since `before` are the replies to all
+-- lines of the input, from the empty state on.
 pub record ServesAll (input : List ℕ) (before after : Option (List ℕ)) : Type 0 where
   pub hasher : BuildHasherDefault FoldHasher
   pub is_default : IsDefaultHasher hasher
@@ -124,8 +124,8 @@ pub record ServesAll (input : List ℕ) (before after : Option (List ℕ)) : Typ
 abbrev pub most_reads : ℕ
 most_reads = 18446744073709551615
 
--- At the end of the input neither the source nor the sink has failed. At a fault only the one that it names has; a
--- source of as many bytes as there are reads at most, or more, need not have failed.
+-- At the end of the input neither the source nor the sink has failed. At a fault only the one that it names has failed;
+-- at `Read`, a source of `most_reads` bytes or more need not have failed.
 abbrev pub FailsAt : Result (Unit {0}) ServeFault → Option (List ℕ) → Bool → Bool → Type 0
 FailsAt (Ok u) left reading writing = (reading ≡ false) × (writing ≡ false)
 FailsAt (Err Read) left reading writing =

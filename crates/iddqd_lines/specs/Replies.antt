@@ -23,11 +23,11 @@ module _ {O E : Type 0} (g : sink.Ghosts O) where
 abbrev pub spaced : ℕ → List ℕ
 spaced ix = space ∷ decimal ix
 
--- a new name, or a dash, with a space before it
+-- a new index, or a dash, with a space before it
 abbrev pub spaced_name : ℕ → List ℕ
 spaced_name name = space ∷ name_or_dash name
 
--- a text of so many bytes at most was appended to the bytes that waited
+-- a text of at most `most` bytes was appended to the bytes that waited
 pub record Puts (most : ℕ) (waited text waits : List ℕ) : Type 0 where
   pub appends : waits ≡ waited ++ text
   pub grows : length waits ≤ length waited + most

@@ -49,8 +49,8 @@ module _ {S O : Type 0} (hash : S → ℕ → ℕ) (g : sink.Ghosts O) (old : Mo
     pub serves : Serves hash old.items lines out new.items
     pub sends : Sends g old.output old.waits out result new.output new.waits
 
-  -- these bytes end the line that had begun and others, which are answered, and what they begin is kept if no write
-  -- failed
+  -- The line that had begun and these bytes are some ended lines and the beginning of another. The ended lines are
+  -- answered, and the beginning is kept if no write failed.
   pub record Feeds
       (partial bytes : List ℕ) (result : Result (Unit {0}) (Unit {0})) (new : Moment S O) (kept : Option (List ℕ))
       : Type 0 where

@@ -4,7 +4,7 @@ ghost use Rattle.std.specs.Fmt.{decimal};
 
 use std::marker::Model;
 
-/// The most digits that 32 bits have.
+/// The most decimal digits of a number of 32 bits.
 pub(crate) const MAX_DIGITS: usize = 10;
 
 /// The decimal digits of a number, as ASCII.

@@ -12,7 +12,7 @@ use iddqd_driver::command::Command;
 /// What ends a line.
 pub(crate) const LINE_FEED: u8 = b'\n';
 
-/// What stands between two words.
+/// What separates two words.
 pub(crate) const SPACE: u8 = b' ';
 
 /// The most bytes of a line that is a request.
@@ -154,7 +154,7 @@ fn record(first: u32, second: u32, value: u32) -> Record
     }
 }
 
-// The first word, and what stands behind the space after it.
+// The first word, and what follows the space after it.
 fn split_word(words: &[u8]) -> (&[u8], Option<&[u8]>)
     ensures { slice_split is_space words.now ≡ result.0.now ∷ words_in result.1 }
 {

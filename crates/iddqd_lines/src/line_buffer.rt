@@ -8,7 +8,7 @@ use std::marker::Model;
 
 /// The beginning of a line that goes on in the next block: at most its first `MAX_LINE` bytes, and whether it has more.
 ///
-/// A longer line is no request, so its other bytes are forgotten. A contract sees the line so far, or none once it is
+/// A longer line is no request, so its other bytes are forgotten. A contract sees the line so far, or `None` once it is
 /// longer than `MAX_LINE`.
 #[derive(Drop)]
 pub(crate) struct LineBuffer {
@@ -47,7 +47,7 @@ impl LineBuffer {
         self.len == 0
     }
 
-    /// The line so far, or none once it is longer than `MAX_LINE`.
+    /// The line so far, or `None` once it is longer than `MAX_LINE`.
     pub(crate) fn whole(&self) -> Option<&[u8]>
         ensures { MatchOption result (self.now ≡ None) (λ line. self.now ≡ Some line.now) }
     {

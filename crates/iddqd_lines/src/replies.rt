@@ -26,7 +26,7 @@ const BLOCK: usize = 8192;
 /// index of a list, with the line feed.
 pub(crate) const MAX_REPLY: usize = 64;
 
-// The same without the line feed.
+// `MAX_REPLY` without the line feed.
 const MAX_TEXT: usize = MAX_REPLY - 1;
 
 /// The replies that wait to be written.
@@ -90,8 +90,8 @@ impl Replies {
         self.flush(output)
     }
 
-    /// Appends the reply's line, over the items as the command left them; `named` is the index that an
-    /// overwrite named. It writes what waits where there is no room, within a long list too.
+    /// Appends the reply's line, over the items as the command left them; `named` is the index that an overwrite named.
+    /// If there is no room, it first writes what waits, also within a long list.
     pub(crate) fn put_reply<S: BuildHasher, O: Sink>(
         &mut self,
         items: &KeyedItems<Record, S>,
@@ -153,7 +153,7 @@ impl Replies {
         }
     }
 
-    // The new names of the indexes.
+    // The new indexes.
     fn put_remap<O: Sink>(&mut self, remap: &IndexRemap, output: &mut O) -> Result<(), ()>
         requires { length self.old + MAX_REPLY ≤ BLOCK }
         ensures room { OnOk result (length self.new < BLOCK) }
@@ -171,7 +171,7 @@ impl Replies {
         }
     }
 
-    // The new names, with a space before each. It makes room before each, and behind the last.
+    // The new indexes, with a space before each. It makes room before each, and behind the last.
     fn put_names<O: Sink>(&mut self, names: &[ItemIndex], output: &mut O) -> Result<(), ()>
         ensures room { OnOk result (length self.new + MAX_REPLY ≤ BLOCK) }
         ensures sends { Sends O.Sink output.old self.old (flat_map spaced_name names.now) result output.new self.new }
@@ -195,8 +195,8 @@ impl Replies {
         self.make_room(output)
     }
 
-    /// Appends a line of this text, which is shorter than a reply may be. It writes what waits where there
-    /// is no room.
+    /// Appends a line of this text, which is shorter than a reply may be. If there is no room, it first writes what
+    /// waits.
     pub(crate) fn put_line<O: Sink>(&mut self, text: &[u8], output: &mut O) -> Result<(), ()>
         requires { length text.now < MAX_REPLY }
         ensures { Sends O.Sink output.old self.old (text.now ++ line_feed ∷ []) result output.new self.new }
@@ -304,7 +304,7 @@ impl Replies {
         self.put_number(ix.as_u32());
     }
 
-    // A new name, or a dash for a slot that was vacant, with a space before it.
+    // A new index, or a dash for a slot that was vacant, with a space before it.
     fn put_name(&mut self, name: ItemIndex)
         requires { length self.old + MAX_REPLY ≤ BLOCK }
         ensures { Puts MAX_TEXT self.old (spaced_name name) self.new }

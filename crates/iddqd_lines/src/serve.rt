@@ -1,12 +1,11 @@
 //! The program: lines in, replies out.
 //!
-//! The input is read and the replies are written in blocks of fixed size, so the loop takes no memory
-//! of its own. A line that ends in the block that it began in is read where it stands. Of one that goes
-//! on in the next block the first 128 bytes are kept, as many as a request may have, and whether there
-//! were more.
+//! The input is read and the replies are written in blocks of fixed size, so the loop takes no memory of its own. A
+//! line that ends in the block in which it began is read in place. If a line goes on in the next block, its first 128
+//! bytes are kept, the most that a request may have, and whether it has more.
 //!
-//! Replies are written where the block has no room for one more, before each read, and at the end: so a
-//! person who types sees each answer at once, and a pipe gets large writes.
+//! Replies are written when the block has no room for one more, before each read, and at the end: so a person who types
+//! sees each answer at once, and a pipe gets large writes.
 ghost use Rattle.std.specs.Prelude.{◌≡◌, ◌∷◌, ◌++◌, [], List, ℕ, ◌<◌, length, Some, OnOk, IfSome, false};
 ghost use Rattle.std.specs.Option.{option_and_then};
 ghost use Rattle.iddqd_driver.specs.State.{empty_state};
@@ -74,12 +73,12 @@ impl fmt::Display for ServeFault {
 /// - `clear` forgets all records: `cleared`.
 /// - `walk` lists the indexes in the order of the second keys: `1 0 2`, `empty` or `no memory`.
 /// - `compact` moves the records, in the order of their indexes, to the indexes from 0 on, and lists the new
-///   name of each old one: `identity`, `permuted 0 - 1` with a dash where there was none, or `no memory`.
+///   index of each old one: `identity`, `permuted 0 - 1` with a dash for a vacant slot, or `no memory`.
 /// - `validate` checks that the indexes of the records are those from 0 on, and in both tables: `ok`, `ItemSet is not
 ///   compact: 1 vacant slots`, or `no memory`. It goes over both tables once for each record.
 ///
-/// Every other line is answered `bad line`. All replies are out before it reads on. It ends at the first
-/// read or write that fails, and, as at a failed read, after 18446744073709551615 reads without an end.
+/// Every other line is answered `bad line`. All replies are written before the next read. It ends at the first read or
+/// write that fails, and, as at a failed read, after 18446744073709551615 reads without an end.
 pub fn serve<I: Source, O: Sink>(
     alloc: Global,
     input: &mut I,

@@ -13,7 +13,7 @@ pub trait Sink {
 
     ghost has_failed: { Self → Bool };
 
-    /// Appends a prefix of the bytes, of at least one byte where there is one, and returns its length.
+    /// Appends a prefix of the bytes, of at least one byte if there is one, and returns its length.
     ///
     /// An error appends none, and the sink has failed from then on.
     fn write(&mut self, bytes: &[u8]) -> Result<usize, ()>

@@ -13,9 +13,9 @@ pub trait Source {
 
     ghost has_failed: { Self → Bool };
 
-    /// Takes bytes off the front, and returns how many. No byte into a buffer that isn't empty is the end.
+    /// Removes bytes from the front, and returns how many. 0 bytes for a buffer that isn't empty mean the end.
     ///
-    /// An error takes none, and the source has failed from then on.
+    /// An error removes none, and the source has failed from then on.
     fn read(&mut self, buf: &mut [u8]) -> Result<usize, ()>
         ensures bound { ReadsAtMost result buf.new }
         ensures bytes { ReadConsumes (left self.old) (left self.new) result buf.new }
@@ -26,7 +26,7 @@ pub trait Source {
         ensures { result ≡ has_failed self.now };
 }
 
-/// A source over any reader. An interruption is an error, as any other.
+/// A source over any reader. An interruption is an error like any other.
 #[derive(Drop)]
 pub struct ReadSource<R> {
     reader: R,

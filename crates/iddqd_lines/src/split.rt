@@ -2,14 +2,14 @@
 ghost use Rattle.std.specs.Prelude.{◌≡◌, ◌==◌, MatchOption, position};
 ghost use Rattle.iddqd_lines.specs.Split.{HasNo, IsSplitAt};
 
-// Where the byte stands first.
+// The first position of the byte.
 fn find_byte(bytes: &[u8], byte: u8) -> Option<usize>
     ensures { result ≡ position (λ b. b == byte) bytes.now }
 {
     bytes.iter().position(|b| *b == byte)
 }
 
-/// What stands before the first such byte, and what stands after it.
+/// The bytes before the first such byte, and those after it.
 pub(crate) fn split_at_first(bytes: &[u8], byte: u8) -> Option<(&[u8], &[u8])>
     ensures { MatchOption result (HasNo byte bytes.now) (λ parts. IsSplitAt byte bytes.now parts.0.now parts.1.now) }
 {

@@ -7,7 +7,7 @@ use Rattle.std.specs.FinMap as finite
 use Rattle.std.specs.FinMap.{FinMap}
 use Rattle.iddqd.specs.Store.{Store, IsValid, empty_within, get, live_count, slot_count, first_or, filled, next_index, inserted, removed, rebound}
 use Rattle.iddqd.specs.Compaction.{compacted, rank}
-use Rattle.iddqd.proofs.CompactionLemmas.{slot_count-compacted}
+use Rattle.iddqd.proofs.CompactionLemmas.{slot_count-compacted, live_count-compacted}
 use Rattle.iddqd.proofs.LiveLemmas.{live_at}
 use Rattle.iddqd.proofs.StoreLemmas.{contains_head}
 use Rattle.iddqd_hash.specs.MapHashTable.{Renames}
@@ -18,7 +18,7 @@ use Rattle.iddqd_by_hash.specs.HashedGroup.{IsGroupOf}
 use Rattle.iddqd_by_hash.specs.HashedMove.{moved}
 use Rattle.iddqd_by_hash.specs.declared.hashed_move.Move.{Move}
 use Rattle.iddqd_by_hash.specs.declared.hashed_move.Move.TheVariants.{Stays, To}
-use Rattle.iddqd_by_hash.specs.LinkedTable.{Linked, KeepsLinks}
+use Rattle.iddqd_by_hash.specs.LinkedTable.{LinkedState}
 use Rattle.iddqd_by_hash.proofs.HashedCountLemmas.{len-held}
 use Rattle.iddqd_by_hash.proofs.HoldsLemmas.{Holds-empty, Holds-removed, Holds-inserted, Holds-compacted}
 use Rattle.iddqd_by_hash.proofs.PlaceLemmas.{IsInSync-empty, IsInPlace-inserted, Keeps-removed, Keeps-compacted}
@@ -45,16 +45,20 @@ module _ {T : Type 0} where
 
   -- an insert adds no slot but that of the next index
   slots_filled :
-      (items : List (Option T)) (free : List ℕ) (item : T)
-      → length (filled free items item) ≤ max (length items) (first_or free (length items) + 1)
-  slots_filled items [] item = (let long = length_push items (Some item) in omega (arith, long))
-  slots_filled items (ix ∷ rest) item = (let long = length-set items ix (Some item) in omega (arith, long))
+      (items : List (Option T)) (free : List ℕ) (limit : ℕ) (item : T)
+      → IsValid (record { items = items; free = free; limit = limit })
+      → length (filled free items item) ≡ max (length items) (first_or free (length items) + 1)
+  slots_filled items [] limit item valid = (let long = length_push items (Some item) in omega (arith, long))
+  slots_filled items (ix ∷ rest) limit item valid =
+      let long = length-set items ix (Some item) in
+      let inside = ((valid.vacant ix).0 (contains_head ix rest)).0 in
+      omega (arith, long, inside)
 
   -- where there is memory for one index more than there are items, the table has room for one
   pub room_beside :
-      {A E : Type 0} (r : Result A E) (s : Store T) (x y : Linked)
+      {A E : Type 0} (r : Result A E) (s : Store T) (x y : LinkedState)
       → Holds s x.filed
-      → HasSameIndexes s x y
+      → HasSameIndexes x y
       → OnOk r (live_count s + 1 ≤ y.capacity)
       → OnOk r (finite.len y.filed < y.capacity)
   room_beside (Ok done) s x y held same roomy =
@@ -113,7 +117,8 @@ module _ {T K : Type 0} (key_of : T → K) (hashing : Hashing K) where
         holds_at : (j : ℕ) → (j ≡ ix) ⊎ (j ≡ ix → ⊥) → IsSome (finite.get there j) ↔ IsLive (rebound s ix item) j
         holds_at j (inl same) =
             let here : finite.get there j ≡ Some hash = rw same (get-insert_at (finite.remove m ix) ix hash) in
-            let stays : IsLive (rebound s ix item) j = rw (live_rebound s ix item was live j) (live_at s j was (rw same live)) in
+            let stays : IsLive (rebound s ix item) j =
+            rw (live_rebound s ix item was live j) (live_at s j was (rw same live)) in
             (λ _. stays, λ _. rw here refl)
         holds_at j (inr other) = rw (filed_there j other, live_rebound s ix item was live j) (o.held j)
 
@@ -138,17 +143,18 @@ module _ {T K : Type 0} (key_of : T → K) (hashing : Hashing K) where
           Files-rebound_same key_of hashing s m lawful o ix item was live (rw one at alike)
       Files-rebound lawful (To hash) planned = Files-moved hash planned.1
 
-  -- the same of a table whose links reach over all slots
+  -- the same of a table that has a link for each slot and for no other
   pub FilesWithin-empty :
-      (limit : ℕ) (x : Linked)
+      (limit : ℕ) (x : LinkedState)
       → x.filed ≡ finite.empty
+      → x.slots ≡ 0
       → FilesWithin key_of hashing (empty_within limit) x
-  FilesWithin-empty limit x none = record {
+  FilesWithin-empty limit x none no_slots = record {
     files = subst (Files key_of hashing (empty_within limit)) (sym none) (Files-empty limit);
-    linked = omega arith;
+    linked = no_slots;
   }
 
-  module _ (s : Store T) (x : Linked) (o : FilesWithin key_of hashing s x) where
+  module _ (s : Store T) (x : LinkedState) (o : FilesWithin key_of hashing s x) where
     -- a new index is below the number of slots that have a link, or is the number of indexes
     pub next_in_turn : IsValid s → x.slots ≤ next_index s → next_index s ≡ finite.len x.filed
     next_in_turn valid past =
@@ -156,21 +162,17 @@ module _ {T K : Type 0} (key_of : T → K) (hashing : Hashing K) where
         let beyond : slot_count s ≤ next_index s = omega (arith, within, past) in
         next_counted s.items s.free s.limit valid beyond ∙ sym (len-held s x.filed o.files.held)
 
-    module _ (y : Linked) where
+    module _ (y : LinkedState) where
       pub FilesWithin-removed :
           (ix : ℕ) (item : T)
           → get s ix ≡ Some item
           → y.filed ≡ finite.remove x.filed ix
-          → KeepsLinks x y
+          → y.slots ≡ x.slots
           → FilesWithin key_of hashing (removed s ix) y
-      FilesWithin-removed ix item live same kept = record {
+      FilesWithin-removed ix item live same stay = record {
         files =
             subst (Files key_of hashing (removed s ix)) (sym same) (Files-removed s x.filed o.files ix item live);
-        linked =
-            (let long = length-set s.items ix None in
-            let stays = kept.slots_stay in
-            let within = o.linked in
-            omega (arith, long, stays, within));
+        linked = stay ∙ o.linked ∙ sym (length-set s.items ix None);
       }
 
       pub FilesWithin-inserted :
@@ -182,23 +184,26 @@ module _ {T K : Type 0} (key_of : T → K) (hashing : Hashing K) where
       FilesWithin-inserted item valid same more = record {
         files =
             subst (Files key_of hashing (inserted s item)) (sym same) (Files-inserted s x.filed o.files item valid);
-        linked = (let long = slots_filled s.items s.free item in let within = o.linked in omega (arith, long, more, within));
+        linked =
+            (let long = slots_filled s.items s.free s.limit item valid in
+            let linked = o.linked in
+            omega (arith, long, more, linked));
       }
 
       pub FilesWithin-compacted :
-          IsValid s
-          → Renames (rank s) x.filed y.filed
-          → KeepsLinks x y
+          Renames (rank s) x.filed y.filed
+          → y.slots ≡ finite.len y.filed
           → FilesWithin key_of hashing (compacted s) y
-      FilesWithin-compacted valid named kept = record {
-        files = Files-compacted s x.filed o.files y.filed named;
-        linked =
-            (let long = slot_count-compacted s in
-            let counted = valid.counted in
-            let stays = kept.slots_stay in
-            let within = o.linked in
-            omega (arith, long, counted, stays, within));
-      }
+      FilesWithin-compacted named dense =
+          let files = Files-compacted s x.filed o.files y.filed named in
+          record {
+            files = files;
+            linked =
+                dense
+                ∙ len-held (compacted s) y.filed files.held
+                ∙ live_count-compacted s
+                ∙ sym (slot_count-compacted s);
+          }
 
       pub FilesWithin-rebound :
           (ix : ℕ) (item was : T)
@@ -207,17 +212,13 @@ module _ {T K : Type 0} (key_of : T → K) (hashing : Hashing K) where
           → (plan : Move)
           → IsMoveFor key_of hashing s ix item plan
           → y.filed ≡ moved x.filed ix plan
-          → KeepsLinks x y
+          → y.slots ≡ x.slots
           → FilesWithin key_of hashing (rebound s ix item) y
-      FilesWithin-rebound ix item was live lawful plan planned same kept = record {
+      FilesWithin-rebound ix item was live lawful plan planned same stay = record {
         files =
             subst (Files key_of hashing (rebound s ix item)) (sym same)
             (Files-rebound s x.filed o.files ix item was live lawful plan planned);
-        linked =
-            (let long = length-set s.items ix (Some item) in
-            let stays = kept.slots_stay in
-            let within = o.linked in
-            omega (arith, long, stays, within));
+        linked = stay ∙ o.linked ∙ sym (length-set s.items ix (Some item));
       }
 
   -- the plan of a move, where no item conflicts
@@ -225,7 +226,8 @@ module _ {T K : Type 0} (key_of : T → K) (hashing : Hashing K) where
       (s : Store T) (ix : ℕ) (item : T) (plan : Move)
       → IsMoveFor key_of hashing s ix item plan
       → {C : Type 0} (taken : C → Type 0)
-      → PlansMove (never_alike item) (shares key_of hashing.equal item) (IsMoveFor key_of hashing s ix item) moves taken s
+      → PlansMove (never_alike item) (shares key_of hashing.equal item)
+      (IsMoveFor key_of hashing s ix item) moves taken s
       ix (Ok plan)
   PlansMove-free s ix item plan planned taken =
       (planned, λ j hit. absurd (never_hit s item j hit), moves_unlike plan planned)

@@ -1,4 +1,4 @@
--- What a look-up found: the one item that passes a test, or none.
+-- For callers: what a look-up found: the one item that passes a test, or none.
 use Rattle.std.proofs.Common.{◌≡◌, ◌∙◌, ◌↔◌, ℕ, Bool, false, Option, Some, None, is_some, refl}
 use Rattle.std.specs.Borrow.{Bor, MutBor}
 use Rattle.std.specs.Fn.{Once}

@@ -80,7 +80,7 @@ module _
       no_other (To hash) planned j hit = absurd (planned.0 j hit)
       no_other Stays (y, is, same) j (x, there, like) =
           let e = lawful.equivalence in
-          o.exact.apart j ix x y there is (e.trans (key_of x) (key_of item) (key_of y) (e.symm (key_of x) (key_of item) ∙ like) same)
+          o.in_sync.apart j ix x y there is (e.trans (key_of x) (key_of item) (key_of y) (e.symm (key_of x) (key_of item) ∙ like) same)
 
       -- the index moves exactly where the key doesn't stay
       moves_unlike :

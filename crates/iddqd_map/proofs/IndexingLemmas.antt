@@ -37,11 +37,11 @@ StandsForOne-query equal hash_input b h state input test same_hash same_key = re
 
 module _ {T K : Type 0} (key_of : T → K) (hashing : Hashing K) where
   pub Indexes-empty : (limit : ℕ) → Indexes key_of hashing (empty_within limit) finite.empty
-  Indexes-empty limit = record { held = Holds-empty T limit; exact = IsInSync-empty key_of hashing limit }
+  Indexes-empty limit = record { held = Holds-empty T limit; in_sync = IsInSync-empty key_of hashing limit }
 
   module _ (s : Store T) (m : FinMap nat_cmp ℕ) (o : Indexes key_of hashing s m) where
     pub Indexes-cleared : Indexes key_of hashing (cleared s) finite.empty
-    Indexes-cleared = record { held = Holds-cleared s; exact = (Keeps-cleared key_of hashing s m).exact o.exact }
+    Indexes-cleared = record { held = Holds-cleared s; in_sync = (Keeps-cleared key_of hashing s m).in_sync o.in_sync }
 
     pub Indexes-removed :
         (ix : ℕ) (item : T)
@@ -49,7 +49,7 @@ module _ {T K : Type 0} (key_of : T → K) (hashing : Hashing K) where
         → Indexes key_of hashing (removed s ix) (finite.remove m ix)
     Indexes-removed ix item live = record {
       held = Holds-removed s m o.held ix item live;
-      exact = (Keeps-removed key_of hashing s m ix item live).exact o.exact;
+      in_sync = (Keeps-removed key_of hashing s m ix item live).in_sync o.in_sync;
     }
 
     pub Indexes-inserted :
@@ -60,13 +60,13 @@ module _ {T K : Type 0} (key_of : T → K) (hashing : Hashing K) where
         → Indexes key_of hashing (inserted s item) (finite.insert m (next_index s) (hashing.hash_of (key_of item)))
     Indexes-inserted item valid lawful none = record {
       held = Holds-inserted s m o.held item (hashing.hash_of (key_of item)) valid;
-      exact = IsInSync-inserted key_of hashing s m item valid lawful none o.exact;
+      in_sync = IsInSync-inserted key_of hashing s m item valid lawful none o.in_sync;
     }
 
     pub Indexes-compacted : (new : FinMap nat_cmp ℕ) → Renames (rank s) m new → Indexes key_of hashing (compacted s) new
     Indexes-compacted new named = record {
       held = Holds-compacted s m o.held new named;
-      exact = (Keeps-compacted key_of hashing s m new named).exact o.exact;
+      in_sync = (Keeps-compacted key_of hashing s m new named).in_sync o.in_sync;
     }
 
     -- a live index is given another item, as it was planned
@@ -77,7 +77,7 @@ module _ {T K : Type 0} (key_of : T → K) (hashing : Hashing K) where
           let none : IsHit s (λ was. not (hashing.equal (key_of item) (key_of was))) ix → ⊥ = λ other. (let one : Some there ≡ Some other.0 = sym is ∙ other.1 in let differs = other.2 in cc) in
           record {
             held = Holds-rebound s m o.held ix item was live;
-            exact = (Keeps-rebound key_of hashing s m ix item was live lawful none).exact o.exact;
+            in_sync = (Keeps-rebound key_of hashing s m ix item was live lawful none).in_sync o.in_sync;
           }
 
       module _ (hash : ℕ) (plan : Plans key_of hashing s ix item (To hash)) where
@@ -91,14 +91,14 @@ module _ {T K : Type 0} (key_of : T → K) (hashing : Hashing K) where
               ]
               | inr a ↦ elim (rebound_cases s ix item was live j y q) [
                 | inl b ↦ absurd (plan.0 i (x, a.1, symm (key_of item) (key_of x) ∙ subst (λ z. hashing.equal (key_of x) (key_of z) ≡ true) (sym b.1) same))
-                | inr b ↦ o.exact.apart i j x y a.1 b.1 same
+                | inr b ↦ o.in_sync.apart i j x y a.1 b.1 same
               ]
             ]
 
         went : Indexes key_of hashing (rebound s ix item) (moved m ix (To hash))
         went =
-            let files = Files-moved key_of hashing s m (record { held = o.held; placed = o.exact.placed }) ix item was live hash plan.1 in
-            record { held = files.held; exact = record { placed = files.placed; apart = apart_at } }
+            let files = Files-moved key_of hashing s m (record { held = o.held; placed = o.in_sync.placed }) ix item was live hash plan.1 in
+            record { held = files.held; in_sync = record { placed = files.placed; apart = apart_at } }
 
       pub Indexes-rebound :
           (plan : Move)

@@ -21,7 +21,7 @@ use Rattle.iddqd_keys.proofs.KeyWalkLemmas.{between_equal, pairs_at-alike, pairs
 use Rattle.iddqd_keys.proofs.NextLemmas.{SortsFrom, SortsFrom-more, SortsFrom-removed, SortsFrom-none, SortsWithin-from, before_still, both, from_later, next_hits, next_still, not_before_itself}
 use Rattle.iddqd_keys.proofs.ScanLemmas.{live_before}
 use Rattle.iddqd_map.specs.RangeRetain.{KeepsMisses, RetainsWithin}
-use Rattle.iddqd_map.specs.Retain.{refused_of}
+use Rattle.iddqd_map.specs.Retain.{removed_of}
 use Rattle.iddqd_keys.specs.Removals.{removed_all}
 use Rattle.iddqd_map.proofs.RangeLemmas.{live_count-removed}
 
@@ -149,9 +149,9 @@ module _
         pub asks : List ((ℕ × T) × Bool)
         pub each_once : map (λ a. a.0) asks ≡ pairs_at s indexes
         pub were_asked : FoldsTo (λ p a q. ask p a.0.1 a.1 q) f asks last
-        pub gone : (ix : ℕ) → Contains (refused_of asks) ix → get new ix ≡ None
-        pub others : (ix : ℕ) → (Contains (refused_of asks) ix → ⊥) → get new ix ≡ get s ix
-        pub left : new ≡ removed_all s (refused_of asks)
+        pub gone : (ix : ℕ) → Contains (removed_of asks) ix → get new ix ≡ None
+        pub others : (ix : ℕ) → (Contains (removed_of asks) ix → ⊥) → get new ix ≡ get s ix
+        pub left : new ≡ removed_all s (removed_of asks)
 
       -- nothing is left to ask about
       pub RetainsFrom-none : (f : F) (s : Store T) → RetainsFrom f s None s f
@@ -214,23 +214,23 @@ module _
               not_before_itself key_of compare total s ix (subst (λ k. by_key_then_index key_of compare s ix k ≡ Less) same (from_later key_of compare total s hits ix next j is ((sorts.each j).0 there).1)) in
               let still : pairs_at (removed s ix) r.indexes ≡ pairs_at s r.indexes =
               pairs_at-alike s (removed s ix) r.indexes (λ j there. get-removed_other s ix j (apart j there)) in
-              let own : get new ix ≡ None = elim (is_member nat_eq (refused_of r.asks) ix) as (λ b. Decides b (Contains (refused_of r.asks) ix) → get new ix ≡ None) [
+              let own : get new ix ≡ None = elim (is_member nat_eq (removed_of r.asks) ix) as (λ b. Decides b (Contains (removed_of r.asks) ix) → get new ix ≡ None) [
                 | true ↦ λ d. r.gone ix (d.0 refl)
                 | false ↦ λ d. r.others ix (not_from_Decides false d refl) ∙ get-removed_at s ix item live
-              ] (is_member-Decides Decides-eqb (refused_of r.asks) ix) in
+              ] (is_member-Decides Decides-eqb (removed_of r.asks) ix) in
               record {
                 indexes = ix ∷ r.indexes;
                 sorted = SortsFrom-more key_of compare total s hits ix next is r.indexes (item, live, passes) sorts;
                 asks = ((ix, item), false) ∷ r.asks;
                 each_once = ap (λ l. (ix, item) ∷ l) (r.each_once ∙ still) ∙ sym (pairs_at-first s (ix ∷ r.indexes) r.indexes ix item refl live);
                 were_asked = (after, asked, r.were_asked);
-                gone = λ j here. elim (contains_cases ix j (refused_of r.asks) here) [
+                gone = λ j here. elim (contains_cases ix j (removed_of r.asks) here) [
                   | inl same ↦ subst (λ k. get new k ≡ None) same own
                   | inr there ↦ r.gone j there
                 ];
                 others = λ j other.
-                    let apart_j : j ≢ ix = λ same. other (rw same (contains_head ix (refused_of r.asks))) in
-                    r.others j (λ there. other (contains_tail ix j (refused_of r.asks) there)) ∙ get-removed_other s ix j apart_j;
+                    let apart_j : j ≢ ix = λ same. other (rw same (contains_head ix (removed_of r.asks))) in
+                    r.others j (λ there. other (contains_tail ix j (removed_of r.asks) there)) ∙ get-removed_other s ix j apart_j;
                 left = r.left;
               }
 

@@ -1,10 +1,10 @@
--- For maps: what `retain` leaves of a map's memory and room, beside what it leaves of the items.
+-- For callers: what `retain` leaves of a map's memory and room, beside what it leaves of the items.
 use Rattle.std.proofs.Common.{◌≡◌, ◌∙◌, ◌≤◌, Bool, ap, arith}
 use Rattle.iddqd.specs.Store.{Store}
 pub use Rattle.iddqd_by_hash.proofs.RetainLemmas.{Contains-live, RetainsTo-fewer, MayAsk-can, Retaining, Retaining-none, Retaining-all, Retaining-vacant, takes-next, Retaining-kept, Retaining-removed}
 use Rattle.iddqd_by_hash.proofs.RetainLemmas.{removed_all-limit}
 use Rattle.iddqd_map.specs.Map.{MapState, MapMemory, room}
-use Rattle.iddqd_map.specs.Retain.{refused_of, RetainsTo}
+use Rattle.iddqd_map.specs.Retain.{removed_of, RetainsTo}
 
 pub same_memory :
     {a b : MapMemory}
@@ -30,7 +30,7 @@ module _ {F T : Type 0} (ask : F → T → Bool → F → Type 0) where
       → now.memory ≡ old.memory
       → room old ≤ room now
   RetainsTo-room f old now last w memory =
-      let limit = ap (λ (s : Store T). s.limit) w.left ∙ removed_all-limit old.store (refused_of w.asks) in
+      let limit = ap (λ (s : Store T). s.limit) w.left ∙ removed_all-limit old.store (removed_of w.asks) in
       omega (
         arith,
         RetainsTo-fewer ask f old.store now.store last w,

@@ -1,21 +1,20 @@
 -- An index by the hash of a key that several items may have.
-use Rattle.std.specs.Prelude.{◌≡◌, ◌≤◌, ℕ}
+use Rattle.std.specs.Prelude.{◌≡◌, ℕ}
 use Rattle.std.specs.Ordering.{nat_cmp}
 use Rattle.std.specs.FinMap.{FinMap}
 use Rattle.iddqd.specs.Store.{Store, slot_count}
 use Rattle.iddqd_keys.specs.Scan.{IsHit}
-use Rattle.iddqd_keys.specs.KeyIndex.{ChangesAt}
+use Rattle.iddqd_keys.specs.AnyTable.{ChangesAt}
 use Rattle.iddqd_by_hash.specs.Hashed.{Hashing, Holds, IsInPlace}
 use Rattle.iddqd_by_hash.specs.declared.hashed_move.Move.{Move}
 use Rattle.iddqd_by_hash.specs.declared.hashed_move.Move.TheVariants.{Stays, To}
-use Rattle.iddqd_by_hash.specs.LinkedTable.{Linked}
+use Rattle.iddqd_by_hash.specs.LinkedTable.{LinkedState}
 use Rattle.iddqd_map.specs.Indexing.{shares_key}
 
--- Over a store the tables have the same indexes under the same hashes. If each slot has a link in the one, it has one in
--- the other.
-pub record HasSameIndexes {T : Type 0} (s : Store T) (old new : Linked) : Type 0 where
+-- the tables have the same indexes under the same hashes, and as many slots have a link
+pub record HasSameIndexes (old new : LinkedState) : Type 0 where
   pub filed : new.filed ≡ old.filed
-  pub linked : slot_count s ≤ old.slots → slot_count s ≤ new.slots
+  pub slots : new.slots ≡ old.slots
 
 module _ {T K : Type 0} (key_of : T → K) (hashing : Hashing K) where
   -- the map has exactly the live indexes, each under the hash of its item's key as it is now
@@ -23,10 +22,10 @@ module _ {T K : Type 0} (key_of : T → K) (hashing : Hashing K) where
     pub held : Holds s m
     pub placed : IsInPlace key_of hashing s m
 
-  -- the table has exactly the live indexes, under these hashes, and each slot has a link
-  pub record FilesWithin (s : Store T) (t : Linked) : Type 0 where
+  -- the table has exactly the live indexes, under these hashes, and a link for each slot of the store and for no other
+  pub record FilesWithin (s : Store T) (t : LinkedState) : Type 0 where
     pub files : Files s t.filed
-    pub linked : slot_count s ≤ t.slots
+    pub linked : t.slots ≡ slot_count s
 
   -- a live index stays exactly where its item's key does, and else is filed under the hash of the new key
   abbrev pub IsMoveFor : Store T → ℕ → T → Move → Type 0

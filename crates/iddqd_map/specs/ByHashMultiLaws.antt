@@ -1,5 +1,5 @@
 -- The laws of an index by the hash of a key that several items may have: what keeps it so that it indexes a store.
-use Rattle.std.specs.Prelude.{◌≡◌, ◌≤◌, ℕ, Bool, true, List, Some, IsTrue}
+use Rattle.std.specs.Prelude.{◌≡◌, ℕ, Bool, true, List, Some, IsTrue}
 use Rattle.std.proofs.Common.{◌∙◌, ap, sym, subst}
 use Rattle.std.proofs.lemmas.List.{length-set}
 use Rattle.std.specs.Cmp.{IsEquivalence, partial_equiv_from_equiv}
@@ -9,12 +9,12 @@ use Rattle.std.specs.Ordering.{nat_cmp}
 use Rattle.std.specs.FinMap.{FinMap}
 use Rattle.iddqd.specs.Store.{Store, get, rebound}
 use Rattle.iddqd.proofs.LiveLemmas.{item_at, live_at}
-use Rattle.iddqd_keys.specs.KeyIndex.{ChangesAt}
+use Rattle.iddqd_keys.specs.AnyTable.{ChangesAt}
 use Rattle.iddqd_by_hash.specs.Hashed.{Hashing, hashing_of, IsLawful}
 use Rattle.iddqd_by_hash.proofs.FindLemmas.{IsLawful-from_bounds}
 use Rattle.iddqd_by_hash.proofs.HoldsLemmas.{Holds-rebound}
 use Rattle.iddqd_by_hash.proofs.PlaceLemmas.{Keeps-rebound}
-use Rattle.iddqd_by_hash.specs.LinkedTable.{Linked}
+use Rattle.iddqd_by_hash.specs.LinkedTable.{LinkedState}
 use Rattle.iddqd_map.specs.ByHashMulti.{Files, FilesWithin, HasSameIndexes}
 use Rattle.iddqd_map.specs.KeyIndex.{HaveSameKeys}
 use Rattle.iddqd_map.specs.Map.{shares}
@@ -22,13 +22,13 @@ use Rattle.iddqd_map.specs.Map.{shares}
 module _ {T K : Type 0} (key_of : T → K) (hashing : Hashing K) (s : Store T) where
   -- a table of the same indexes
   pub FilesWithin-kept :
-      (x y : Linked)
-      → HasSameIndexes s x y
+      (x y : LinkedState)
+      → HasSameIndexes x y
       → FilesWithin key_of hashing s x
       → FilesWithin key_of hashing s y
   FilesWithin-kept x y same is = record {
     files = subst (Files key_of hashing s) (sym same.filed) is.files;
-    linked = same.linked is.linked;
+    linked = same.slots ∙ is.linked;
   }
 
   module _ (m : FinMap nat_cmp ℕ) (lawful : IsLawful hashing) (o : Files key_of hashing s m) where
@@ -69,7 +69,7 @@ module _ {T K S H : Type 0}
     (key_of : T → K) (equal : K → K → Bool) (hash_input : K → List (List ℕ)) (b : builder.Ghosts S H)
     (h : hasher.Ghosts H) (laws : IsEquivalence equal)
     (respects : (x y : K) → IsTrue (equal x y) → hash_input x ≡ hash_input y)
-    (state : S) (s : Store T) (x : Linked) (is : FilesWithin key_of (hashing_of equal hash_input b h state) s x)
+    (state : S) (s : Store T) (x : LinkedState) (is : FilesWithin key_of (hashing_of equal hash_input b h state) s x)
   where
     lawful : IsLawful (hashing_of equal hash_input b h state)
     lawful = IsLawful-from_bounds equal hash_input b h state (partial_equiv_from_equiv laws) respects
@@ -86,7 +86,7 @@ module _ {T K S H : Type 0}
           files =
               Files-rebound_same key_of (hashing_of equal hash_input b h state) s x.filed lawful is.files ix item was
               live alike;
-          linked = subst (λ n. n ≤ x.slots) (sym (length-set s.items ix (Some item))) is.linked;
+          linked = is.linked ∙ sym (length-set s.items ix (Some item));
         }
 
     pub FilesWithin-keys_shared :
@@ -95,5 +95,5 @@ module _ {T K S H : Type 0}
         → FilesWithin key_of (hashing_of equal hash_input b h state) t x
     FilesWithin-keys_shared t have = record {
       files = Files-same key_of (hashing_of equal hash_input b h state) s x.filed lawful is.files t have;
-      linked = subst (λ n. n ≤ x.slots) (sym have.as_many) is.linked;
+      linked = is.linked ∙ sym have.as_many;
     }

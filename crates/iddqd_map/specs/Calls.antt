@@ -1,4 +1,4 @@
--- What the calls of a map that change items may answer, and what they leave.
+-- What the calls of a map that change items may return, and what they leave.
 use Rattle.std.specs.Prelude.{◌≡◌, ◌⊎◌, ◌↔◌, ◌<◌, ◌≤◌, ℕ, Bool, true, not, List, [], length, map, Option, Some, None, Result, Ok, Err}
 use Rattle.std.specs.Borrow.{Bor}
 use Rattle.std.specs.Fn.{Once}
@@ -21,7 +21,7 @@ use Rattle.iddqd_map.specs.declared.refusal.ReplaceRefusal.TheVariants.{Missing,
 abbrev pub MayChange : {F T R : Type 0} → Once F (Bor T × Unit {0}) R → F → Store T → (T → Bool) → Type 0
 MayChange {F} {T} g f s test = (item : Bor T) → FindsItem s test (Some item.now) → g.pre f (item, tt)
 
--- the contents are compacted, and no memory of the map was taken or given back
+-- the contents are compacted, and the counts of the map's memory stay
 pub record Compacts {T : Type 0} (old new : MapState T) : Type 0 where
   pub store : new.store ≡ compacted old.store
   pub memory : new.memory ≡ old.memory
@@ -43,7 +43,7 @@ module _ {T : Type 0} (alike : T → T → Bool) (most : ℕ → ℕ) where
     pub full : IsFull old.store
     pub unchanged : new ≡ old
 
-  -- A refusal for memory: the item comes back, it shares no key, there is place for it, and there was no room. The
+  -- A refusal for memory: the item comes back, it shares no key, the limit isn't reached, and there was no room. The
   -- contents stay.
   pub record RefusesMemory (old : MapState T) (item back : T) (new : MapState T) : Type 0 where
     pub given_back : back ≡ item
@@ -55,7 +55,7 @@ module _ {T : Type 0} (alike : T → T → Bool) (most : ℕ → ℕ) where
 
   -- `conflicts s item at` says that `at` reports the items that share a key with this one
   module _ {C : Type 0} (conflicts : Store T → T → C → Type 0) where
-    -- what an insert may answer and leave
+    -- what an insert may return and leave
     abbrev pub Inserts : MapState T → T → Result ℕ (InsertRefusal T C) → MapState T → Type 0
     Inserts old item (Ok ix) new = InsertsAt old item ix new
     Inserts old item (Err (Duplicate back at)) new = (back ≡ item) × conflicts old.store item at × (new ≡ old)
@@ -67,8 +67,8 @@ module _ {T : Type 0} (alike : T → T → Bool) (most : ℕ → ℕ) where
     pub each : (ix : ℕ) → Contains indexes ix ↔ IsHit s (alike item) ix
     pub rising : IsIncreasing indexes
 
-  -- The items that share a key were removed by rising index, and come back in this order from the first place on. The
-  -- new item is stored at the index that is the next one then. Where one was removed, no memory was taken.
+  -- The items that share a key were removed by rising index, and come back in this order from the first place on. Then
+  -- the new item was stored at the next index. If one was removed, the counts of the memory stay.
   pub record OverwritesAt
       (places : ℕ) (old : MapState T) (item : T) (ix : ℕ) (given_back : List (Option T)) (new : MapState T)
       : Type 0 where
@@ -82,17 +82,17 @@ module _ {T : Type 0} (alike : T → T → Bool) (most : ℕ → ℕ) where
     pub memory : MakesRoom most old new.memory
     pub same_memory : (HasNoHit old.store (alike item) → ⊥) → new.memory ≡ old.memory
 
-  -- `may_lack` says that an index that is entered where another was removed may need memory, past the capacity
-  module _ (may_lack : Bool) where
-    -- A refusal for memory where items would be overwritten, before any was removed.
+  -- `may_need_memory` says that an insert after a removal may need memory, if there are more items than the capacity
+  module _ (may_need_memory : Bool) where
+    -- A refusal for memory by an insert that would overwrite items, before any was removed.
     pub record RefusesToOverwrite (old : MapState T) (item back : T) (new : MapState T) : Type 0 where
       pub given_back : back ≡ item
       pub conflict : (ix : ℕ) × IsHit old.store (alike item) ix
-      pub lacks : may_lack ≡ true
+      pub lacks : may_need_memory ≡ true
       pub past : old.memory.capacity < live_count old.store
       pub unchanged : new ≡ old
 
-    -- what an insert that overwrites may answer and leave: so many items may come back
+    -- what an insert that overwrites may return and leave, with this number of places for the items that come back
     abbrev pub Overwrites :
         ℕ → MapState T → T → Result (ℕ × List (Option T)) (OverwriteRefusal T) → MapState T → Type 0
     Overwrites places old item (Ok (ix, given_back)) new = OverwritesAt places old item ix given_back new
@@ -100,58 +100,59 @@ module _ {T : Type 0} (alike : T → T → Bool) (most : ℕ → ℕ) where
     Overwrites places old item (Err (NoMemory back)) new =
         RefusesMemory old item back new ⊎ RefusesToOverwrite old item back new
 
-    -- the same of one that puts what was removed into places that had nothing, and leaves them so where it is refused
+    -- the same for an insert that puts the removed items into an array of empty places; after a refusal these are still
+    -- empty
     abbrev pub OverwritesInto :
         ℕ → MapState T → T → Result ℕ (OverwriteRefusal T) → List (Option T) → MapState T → Type 0
     OverwritesInto places old item (Ok ix) given_back new = Overwrites places old item (Ok (ix, given_back)) new
     OverwritesInto places old item (Err refusal) given_back new =
         Overwrites places old item (Err refusal) new × (given_back ≡ padded places [])
 
--- `same x y` says that the items share all keys, and `may_lack` the same as above
-module _ {T : Type 0} (alike same : T → T → Bool) (may_lack : Bool) where
-  -- The item at the index is another one now, which shares no key with any other. No memory was taken or given back.
+-- `same x y` says that the items share all keys, and `may_need_memory` the same as above
+module _ {T : Type 0} (alike same : T → T → Bool) (may_need_memory : Bool) where
+  -- The item at the index was replaced by one that shares no key with any other. The counts of the memory stay.
   pub record Becomes (old : MapState T) (ix : ℕ) (item was : T) (new : MapState T) : Type 0 where
     pub live : get old.store ix ≡ Some was
     pub no_other : HasNoOther old.store (alike item) ix
     pub left : new.store ≡ rebound old.store ix item
     pub memory : new.memory ≡ old.memory
 
-  -- a key of the item at the index was to become another one, no other item has a key of the new one, and there were
-  -- more items than the tables can hold without more memory
+  -- The replacement would change a key of the item at the index, no other item has a key of the new one, and there are
+  -- more items than the tables can hold without more memory.
   pub record LacksRoom (old : MapState T) (ix : ℕ) (item : T) : Type 0 where
     pub changed : IsHit old.store (λ was. not (same item was)) ix
     pub no_other : HasNoOther old.store (alike item) ix
-    pub lacks : may_lack ≡ true
+    pub lacks : may_need_memory ≡ true
     pub past : old.memory.capacity < live_count old.store
 
   -- `taken s ix item at` says that `at` reports the items, other than the one at the index, that have keys of this item
   module _ {C : Type 0} (taken : Store T → ℕ → T → C → Type 0) where
-    -- what may become of the item at a live index that is to become another one
+    -- what a replacement of the item at a live index may return and leave
     abbrev pub ReplacesAt : MapState T → ℕ → T → Result T (ReplaceRefusal T C) → MapState T → Type 0
     ReplacesAt old ix item (Ok was) new = Becomes old ix item was new
     ReplacesAt old ix item (Err (Missing back)) new = ⊥
     ReplacesAt old ix item (Err (Taken back at)) new = (back ≡ item) × taken old.store ix item at × (new ≡ old)
     ReplacesAt old ix item (Err (Refused back)) new = (back ≡ item) × LacksRoom old ix item × (new ≡ old)
 
-    -- what a replacement at an index may answer and leave: missing exactly where no item is there
+    -- what a replacement at an index may return and leave: `Missing` if and only if no item is there
     abbrev pub ReplacesIfLive : MapState T → ℕ → T → Result T (ReplaceRefusal T C) → MapState T → Type 0
     ReplacesIfLive old ix item (Err (Missing back)) new = (back ≡ item) × (get old.store ix ≡ None) × (new ≡ old)
     ReplacesIfLive old ix item result new = IsLive old.store ix × ReplacesAt old ix item result new
 
-    -- what a replacement of the item that passes the test may answer and leave
+    -- what a replacement of the item that passes the test may return and leave
     abbrev pub Replaces : MapState T → (T → Bool) → T → Result T (ReplaceRefusal T C) → MapState T → Type 0
     Replaces old test item (Err (Missing back)) new = (back ≡ item) × HasNoHit old.store test × (new ≡ old)
     Replaces old test item result new =
         (ix : ℕ) × AnswersScan old.store test (Some ix) × ReplacesAt old ix item result new
 
-    -- the same where `gives was item` says that the item may be made of the one that passes
+    -- the same for a new item that is made of the one that passes: `gives was item` says that it may be
     abbrev pub ChangesBy :
         (T → T → Type 0) → MapState T → (T → Bool) → Result T (ReplaceRefusal T C) → MapState T → Type 0
     ChangesBy gives old test result new =
         (ix : ℕ) × AnswersScan old.store test (Some ix)
         × ((was item : T) × (get old.store ix ≡ Some was) × gives was item × ReplacesAt old ix item result new)
 
-    -- what a change of the item that passes the test may answer and leave
+    -- what a change of the item that passes the test may return and leave
     abbrev pub Changes :
         (T → T → Type 0) → MapState T → (T → Bool) → Result (Option T) (ReplaceRefusal T C) → MapState T → Type 0
     Changes gives old test (Ok None) new = HasNoHit old.store test × (new ≡ old)

@@ -6,7 +6,7 @@ use Rattle.iddqd.specs.LiveItems.{live_items}
 
 -- `same x y` says that two items have equal keys, and are equal
 module _ {T : Type 0} (same : T → T → Bool) where
-  -- for each of the first there is one of the second that is the same
+  -- each item of the first list has one in the second that is the same
   abbrev pub each_among : List T → List T → Bool
   each_among xs ys = list_all (λ x. list_any (same x) ys) xs
 

@@ -1,4 +1,4 @@
--- Equality of maps by their items is lawful where that of keys and that of items are.
+-- Equality of maps by their items is lawful if the equality of keys and the equality of items are.
 use Rattle.std.specs.Prelude.{◌≡◌, Bool, true, false, ◌&&◌, ◌||◌, List, [], ◌∷◌, ◌++◌}
 use Rattle.std.proofs.Common.{◌∙◌, refl, sym, ap, subst, append_assoc, true≢false}
 use Rattle.std.specs.Cmp.{IsPartialEquivalence, IsEquivalence, equiv, partial_equiv_from_equiv, first_so, second_so}
@@ -22,14 +22,14 @@ pub or_true : (a : Bool) → (a || true) ≡ true
 or_true true = refl
 or_true false = refl
 
--- what one of two tests is true of, the first or else the second
+-- if one of two tests is true, the first is, or the first is false and the second is true
 module _ {G : Type 0} where
   pub or_cases : (a b : Bool) → (a || b) ≡ true → (a ≡ true → G) → (a ≡ false → b ≡ true → G) → G
   or_cases true b h first second = first refl
   or_cases false b h first second = second refl h
 
 module _ {T : Type 0} (same : T → T → Bool) where
-  -- where `same` is transitive
+  -- if `same` is transitive
   module _ (trans : (x y z : T) → same x y ≡ true → same y z ≡ true → same x z ≡ true) where
     any_as :
         (x y : T) (zs : List T)
@@ -62,7 +62,7 @@ module _ {T : Type 0} (same : T → T → Bool) where
         (any_through x ys zs (first_so (list_any (same x) ys) (each_among same xs ys) first) second)
         (each_among-trans xs ys zs (second_so (list_any (same x) ys) (each_among same xs ys) first) second)
 
-  -- where it is reflexive
+  -- if `same` is reflexive
   module _ (reflexive : (x : T) → same x x ≡ true) where
     any_at : (front back : List T) (x : T) → list_any (same x) (front ++ x ∷ back) ≡ true
     any_at [] back x = ap (λ b. b || list_any (same x) back) (reflexive x)
@@ -118,7 +118,7 @@ module _ {T : Type 0} (alike equal : T → T → Bool) where
       let laws = IsPartialEquivalence-same_items (eq_of_both alike equal) (same_laws a b) in
       record { symm = λ m n. laws.symm m.store n.store; trans = λ l m n. laws.trans l.store m.store n.store }
 
-  -- where that of items is reflexive
+  -- if the equality of items is reflexive
   pub map_equivalence :
       IsEquivalence alike
       → IsEquivalence equal

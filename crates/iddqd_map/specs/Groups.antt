@@ -7,7 +7,7 @@ use Rattle.iddqd_keys.specs.Scan.{IsHit, HasNoHit}
 use Rattle.iddqd_keys.specs.Removals.{removed_all}
 
 module _ {T : Type 0} where
-  -- a live index whose item passes: none exactly where no item does
+  -- a live index whose item passes; `None` if and only if no item does
   abbrev pub FindsSome : Store T → (T → Bool) → Option ℕ → Type 0
   FindsSome s test (Some ix) = IsHit s test ix
   FindsSome s test None = HasNoHit s test
@@ -17,14 +17,14 @@ module _ {T : Type 0} where
     pub each : (ix : ℕ) → Contains indexes ix ↔ IsHit s test ix
     pub once : IsDistinct nat_eq indexes
 
-  -- so many items pass
+  -- `count` items pass
   abbrev pub CountsHits : Store T → (T → Bool) → ℕ → Type 0
   CountsHits s test count = (indexes : List ℕ) × AreHits s test indexes × (count ≡ length indexes)
 
--- `give p x q` says that a call of f in the state p, which is handed x, may leave the state q
+-- `give p x q` says that a call of f with x in the state p may leave the state q
 module _ {F T : Type 0} (test : T → Bool) (give : F → T → F → Type 0) where
-  -- The items that pass were removed, and each was handed to f once, in any order, each time in the state that the call
-  -- before left.
+  -- The items that pass were removed, and f was called with each once, in any order, each time in the state that the
+  -- call before left.
   pub record RemovesEach (f : F) (old new : Store T) (last : F) : Type 0 where
     pub indexes : List ℕ
     pub hits : AreHits old test indexes

@@ -30,7 +30,7 @@ shares_laws key_of equal laws = record {
   congr = λ x y z. laws.congr (key_of x) (key_of y) (key_of z);
 }
 
--- of one index that was reported the items that are alike are those at it
+-- if one index is reported, it is the only one whose item is alike
 pub reported_one :
     {T : Type 0} (s : Store T) (test : T → Bool) (at : ℕ)
     → AnswersScan s test (Some at)
@@ -38,7 +38,7 @@ pub reported_one :
     → (ix ≡ at) ↔ IsHit s test ix
 reported_one s test at scan ix = ((scan ix).1, (scan ix).0)
 
--- and it is one
+-- at most one index is reported
 pub few_one : (at : ℕ) → (l : List ℕ) × (length l ≤ 1) × ((ix : ℕ) → ix ≡ at → Contains l ix)
 few_one at = (at ∷ [], omega arith, λ ix is. subst (Contains (at ∷ [])) (sym is) (contains_head at []))
 
@@ -59,7 +59,7 @@ module _ {T K : Type 0} (key_of : T → K) (hashing : Hashing K) (s : Store T) (
       λ other. (let one : Some was ≡ Some other.0 = sym live ∙ other.1 in let differs = other.2 in cc) in
       record {
         held = Holds-rebound s m o.held ix item was live;
-        exact = (Keeps-rebound key_of hashing s m ix item was live lawful none).exact o.exact;
+        in_sync = (Keeps-rebound key_of hashing s m ix item was live lawful none).in_sync o.in_sync;
       }
 
   -- items at the same indexes that share their keys
@@ -71,10 +71,10 @@ module _ {T K : Type 0} (key_of : T → K) (hashing : Hashing K) (s : Store T) (
       → Indexes key_of hashing t m
   Indexes-same lawful o t have =
       let e = lawful.equivalence in
-      let files = Files-same key_of hashing s m lawful (record { held = o.held; placed = o.exact.placed }) t have in
+      let files = Files-same key_of hashing s m lawful (record { held = o.held; placed = o.in_sync.placed }) t have in
       record {
         held = files.held;
-        exact = record {
+        in_sync = record {
           placed = files.placed;
           apart = λ i j x y p q same.
               let (a, at_i, left) = have.slots i x p in
@@ -82,7 +82,7 @@ module _ {T K : Type 0} (key_of : T → K) (hashing : Hashing K) (s : Store T) (
               let one : hashing.equal (key_of a) (key_of y) ≡ true =
               e.trans (key_of a) (key_of x) (key_of y) left same in
               let other : hashing.equal (key_of y) (key_of b) ≡ true = e.symm (key_of y) (key_of b) ∙ right in
-              o.exact.apart i j a b at_i at_j (e.trans (key_of a) (key_of y) (key_of b) one other);
+              o.in_sync.apart i j a b at_i at_j (e.trans (key_of a) (key_of y) (key_of b) one other);
         };
       }
 
@@ -95,7 +95,7 @@ module _ {T K : Type 0} (key_of : T → K) (hashing : Hashing K) (s : Store T) w
       → Indexes key_of hashing s n
   Indexes-kept m n same is = subst (Indexes key_of hashing s) (sym same) is
 
--- the same of a key whose type has the bounds of a map's
+-- these laws for a key whose type has the bounds of a map's key
 module _ {T K S H : Type 0}
     (key_of : T → K) (equal : K → K → Bool) (hash_input : K → List (List ℕ)) (b : builder.Ghosts S H)
     (h : hasher.Ghosts H) (laws : IsEquivalence equal)

@@ -1,4 +1,4 @@
--- A table of indexes under hashes by which each look-up of a store's items answers as a scan of them does.
+-- A table of indexes under hashes whose look-ups return what a scan of the store's items would.
 use Rattle.std.specs.Prelude.{◌≡◌, ◌≢◌, ℕ, Bool, Some, Result, Ok, Err}
 use Rattle.std.specs.Ordering.{nat_cmp}
 use Rattle.std.specs.FinMap.{FinMap}
@@ -13,14 +13,14 @@ module _ {T K : Type 0} (key_of : T → K) (hashing : Hashing K) where
   abbrev pub shares_key : T → T → Bool
   shares_key item = passes_by key_of (hashing.equal (key_of item))
 
-  -- The map has exactly the live indexes, each under the hash of its item's key as it is now, and no two items share
+  -- The table has exactly the live indexes, each under the hash of its item's key as it is now, and no two items share
   -- a key.
   pub record Indexes (s : Store T) (m : FinMap nat_cmp ℕ) : Type 0 where
     pub held : Holds s m
-    pub exact : IsInSync key_of hashing s m
+    pub in_sync : IsInSync key_of hashing s m
 
-  -- What has to become of a live index that is given this item: it stays where the key stays, and else, where no item
-  -- has the key, it is filed under the key's hash.
+  -- How a live index must move if its item is replaced by this one: it stays if the key stays; otherwise no item has
+  -- the key, and it goes under the key's hash.
   abbrev pub Plans : Store T → ℕ → T → Move → Type 0
   Plans s ix item Stays = IsHit s (shares_key item) ix
   Plans s ix item (To hash) = HasNoHit s (shares_key item) × (hash ≡ hashing.hash_of (key_of item))

@@ -6,7 +6,8 @@ use Rattle.iddqd.specs.declared.index_remap.IndexRemap.{IndexRemap}
 use Rattle.iddqd_keys.specs.Scan.{HasNoHit}
 use Rattle.iddqd_map.specs.Several.{HasNoOther}
 
--- `old state s` says that what there was indexes the store under the state, and `new state s` that what there is now does
+-- `old state s`: before the call the key index indexes the store under this state of the hasher; `new state s`: after
+-- it
 module _ {S T : Type 0} where
   -- it indexes each store that has no item
   abbrev pub IndexesNone : (S → Store T → Type 0) → Type 0
@@ -16,11 +17,12 @@ module _ {S T : Type 0} where
   abbrev pub IsNextOf : (S → Store T → Type 0) → ℕ → Type 0
   IsNextOf old ix = (state : S) × ((s : Store T) × old state s × IsValid s × (ix ≡ next_index s))
 
-  -- there is an item for which it was planned so
+  -- there is an item for which this was planned
   abbrev pub IsPlannedForOne : (S → Store T → T → Type 0) → Type 0
   IsPlannedForOne planned = (state : S) × ((s : Store T) × ((item : T) × planned state s item))
 
-  -- Where it was planned so for an item that is alike to none, the item is indexed too that is stored at the index.
+  -- If the plan was made for an item that shares no key with those stored, the store with that item inserted is
+  -- indexed.
   abbrev pub IndexesOneMore :
       (T → T → Bool) → (S → T → Type 0) → (S → Store T → T → Type 0) → (S → Store T → Type 0) → ℕ
       → (S → Store T → Type 0) → Type 0
@@ -28,7 +30,7 @@ module _ {S T : Type 0} where
       (state : S) (s : Store T) (item : T) → old state s → IsValid s → (IsFull s → ⊥) → ix ≡ next_index s
       → HasNoHit s (alike item) → known state item → planned state s item → new state (inserted s item)
 
-  -- there is a store that it indexes, whose new names these are
+  -- there is a store that it indexes, and the remap is that of the store
   abbrev pub IsRemapOfSome : (S → Store T → Type 0) → IndexRemap → Type 0
   IsRemapOfSome old remap = (state : S) × ((s : Store T) × old state s × IsValid s × IsRemapOf s remap)
 
@@ -37,11 +39,11 @@ module _ {S T : Type 0} where
   IndexesCompacted old remap new =
       (state : S) (s : Store T) → old state s → IsValid s → IsRemapOf s remap → new state (compacted s)
 
-  -- it indexes each store that what there was indexed
+  -- it indexes each store that was indexed before
   abbrev pub IndexesAllOf : (S → Store T → Type 0) → (S → Store T → Type 0) → Type 0
   IndexesAllOf old new = (state : S) (s : Store T) → old state s → new state s
 
-  -- the index that was found, if one was, was taken out
+  -- the index that was found, if one was, was removed
   abbrev pub TakesFound : (S → Store T → Type 0) → S → Store T → Option ℕ → Type 0
   TakesFound new state s (Some ix) = new state (removed s ix)
   TakesFound new state s None = new state s
@@ -52,14 +54,14 @@ module _ {S T : Type 0} where
     pub indexed : indexes state s
 
 module _ {T : Type 0} where
-  -- where an item goes that is alike to none, or those that it is alike to
+  -- `Ok`: the position for an item that shares no key with another; `Err`: the items with which it shares a key
   abbrev pub FindsSpot :
       {P C : Type 0} → (T → Bool) → (P → Type 0) → (C → Type 0) → Store T → Result P C → Type 0
   FindsSpot alike is_spot conflicts s (Ok spot) = HasNoHit s alike × is_spot spot
   FindsSpot alike is_spot conflicts s (Err at) = conflicts at
 
-  -- What becomes of a live index that is given an item: it is entered anew unless all keys stay. Or other items that
-  -- this one is alike to.
+  -- `Ok`: how a live index must move if its item is replaced, which it must unless all keys stay; `Err`: the other
+  -- items that share a key with the new one.
   abbrev pub PlansMove :
       {P C : Type 0} → (T → Bool) → (T → Bool) → (P → Type 0) → (P → Bool) → (C → Type 0) → Store T → ℕ
       → Result P C → Type 0
@@ -67,17 +69,18 @@ module _ {T : Type 0} where
       is_move plan × HasNoOther s alike ix × ((was : T) → get s ix ≡ Some was → moves plan ≡ not (same was))
   PlansMove alike same is_move moves taken s ix (Err at) = taken at
 
-  -- the stores have the same live indexes among as many slots, and their items at each share all keys
+  -- the stores have equally many slots and the same live indexes, and their items at each index share all keys
   pub record HaveSameKeys (same : T → T → Bool) (s t : Store T) : Type 0 where
     pub slots : (ix : ℕ) (y : T) → get t ix ≡ Some y → (x : T) × (get s ix ≡ Some x) × (same x y ≡ true)
     pub items : (ix : ℕ) (x : T) → get s ix ≡ Some x → (y : T) × (get t ix ≡ Some y) × (same x y ≡ true)
     pub as_many : slot_count t ≡ slot_count s
 
--- the first index that was reported past one, or the first of all where there is none such: none where there is no more
+-- the index is greater than `before`, or `before` is `None`
 abbrev pub IsPast : Option ℕ → ℕ → Type 0
 IsPast None ix = Unit {0}
 IsPast (Some before) ix = before < ix
 
+-- the least reported index past `before`; `None` if there is none
 abbrev pub IsNextReported : (ℕ → Type 0) → Option ℕ → Option ℕ → Type 0
 IsNextReported reported before None = (ix : ℕ) → reported ix → IsPast before ix → ⊥
 IsNextReported reported before (Some next) =

@@ -29,7 +29,7 @@ IsOfPair at = IsOfTwo (first_of at) (second_of at)
 abbrev pub IsOfThree : Option ℕ → Option ℕ → Option ℕ → ℕ → Type 0
 IsOfThree a b c = IsEither (IsReportedBy IsIt a) (IsReportedBy IsOfPair (both_of b c))
 
--- at most two are reported of two keys, and three of three
+-- for two keys at most two indexes are reported, for three at most three
 pub few_two :
     (a b : Option ℕ)
     → (l : List ℕ) × (length l ≤ 2) × ((ix : ℕ) → IsOfTwo a b ix → Contains l ix)
@@ -55,7 +55,7 @@ module _ {T : Type 0} (s : Store T) (item : T) where
   some_key key at is = (at, refl)
 
   module _ (first second : T → T → Bool) where
-    -- of two keys exactly the items are reported that share one
+    -- for two keys, exactly the items that share one of them are reported
     pub reported_two :
         (a b : Option ℕ)
         → ReportBoth first second (IsReported first) (IsReported second) s item a b
@@ -77,7 +77,7 @@ module _ {T : Type 0} (s : Store T) (item : T) where
         reported
 
   module _ (first second third : T → T → Bool) where
-    -- the same of three
+    -- for three keys, exactly the items that share one of them are reported
     pub reported_three :
         (at : TriClash)
         → AreReported first second third s item at

@@ -18,7 +18,7 @@ pub record MapState (T : Type 0) : Type 0 where
   pub store : Store T
   pub memory : MapMemory
 
--- a state is coded where its items are
+-- a state is coded if its items are
 abbrev pub map_code : {T : Type 0} → Coded T → Coded (MapState T)
 map_code {T} item =
     code_by
@@ -28,7 +28,7 @@ map_code {T} item =
     (λ p. record { store = p.0; memory = record { slots = p.1.0; capacity = p.1.1.0; cells = p.1.1.1 } })
     (λ _. refl)
 
--- what a map has whose tables can hold so many indexes, in so many cells
+-- the state of a map with this store, this capacity of the tables, and this number of cells
 abbrev pub map_with : {T : Type 0} → SizedStore T → ℕ → ℕ → MapState T
 map_with items capacity cells =
     record { store = items.store; memory = record { slots = items.capacity; capacity = capacity; cells = cells } }
@@ -38,7 +38,7 @@ abbrev pub shares : {T K : Type 0} → (T → K) → (K → K → Bool) → T �
 shares key_of equal x y = equal (key_of x) (key_of y)
 
 module _ {T : Type 0} where
-  -- no item, no slot and no memory; there can be so many slots
+  -- no item, no slot and no memory, with this limit of slots
   abbrev pub empty_map : ℕ → MapState T
   empty_map limit = record { store = empty_within limit; memory = record { slots = 0; capacity = 0; cells = 0 } }
 
@@ -50,7 +50,7 @@ module _ {T : Type 0} where
   abbrev pub room : MapState T → ℕ
   room m = capacity m - live_count m.store
 
-  -- so many more, or as many as there can be
+  -- `additional`, or as many as the limit allows if these are fewer
   abbrev pub insertable : MapState T → ℕ → ℕ
   insertable m additional = min additional (m.store.limit - live_count m.store)
 
@@ -59,24 +59,26 @@ module _ {T : Type 0} where
     pub live : get s ix ≡ Some item
     pub only : AnswersScan s test (Some ix)
 
-  -- what a look-up gives: the one item that passes the test, none exactly where none does
+  -- what a look-up returns: the one item that passes the test; `None` if and only if no item passes
   abbrev pub FindsItem : Store T → (T → Bool) → Option T → Type 0
   FindsItem s test (Some item) = (ix : ℕ) × IsOnly s test ix item
   FindsItem s test None = HasNoHit s test
 
-  -- the one item that passes the test was taken out, and no memory taken or given back
+  -- the one item that passes the test was removed, and the counts of the memory stay
   pub record RemovesHit (old : MapState T) (test : T → Bool) (item : T) (new : MapState T) : Type 0 where
     pub ix : ℕ
     pub hit : IsOnly old.store test ix item
     pub left : new.store ≡ removed old.store ix
     pub memory : new.memory ≡ old.memory
 
-  -- what a removal may answer and leave: none, and nothing changes, exactly where no item passes the test
+  -- What a removal may return and leave. It returns `None` if and only if no item passes the test, and then nothing
+  -- changes.
   abbrev pub Removes : MapState T → (T → Bool) → Option T → MapState T → Type 0
   Removes old test (Some item) new = RemovesHit old test item new
   Removes old test None new = HasNoHit old.store test × (new ≡ old)
 
-  -- what a removal at an index may answer and leave: none, and nothing changes, exactly where no item is there
+  -- What a removal at an index may return and leave. It returns `None` if and only if no item is there, and then
+  -- nothing changes.
   abbrev pub RemovesAt : MapState T → ℕ → Option T → MapState T → Type 0
   RemovesAt old ix (Some item) new =
       (get old.store ix ≡ Some item) × (new.store ≡ removed old.store ix) × (new.memory ≡ old.memory)

@@ -1,11 +1,12 @@
--- What the calls of a map that take memory ahead, or give it back, may do with it.
+-- What the calls of a map that reserve memory or give it back may do with it.
 use Rattle.std.specs.Prelude.{◌≡◌, ◌+◌, ◌*◌, ◌<◌, ◌≤◌, ◌⊎◌, ℕ, min, max, Result, IsOk, OnOk, OnErr}
 use Rattle.iddqd.specs.Store.{slot_count, live_count}
 use Rattle.iddqd_map.specs.Map.{MapState, MapMemory, insertable, room}
 
 module _ {T : Type 0} (most : ℕ → ℕ) where
-  -- What is taken so that there is room for one more item: nothing where there was room. Else at most twice as many
-  -- slots, at least four, and never past the limit; and of the tables what so many indexes need. None is given back.
+  -- What is taken so that there is room for one more item: nothing if there was room. Otherwise the slots grow to at
+  -- most four or twice as many, whichever is more, and never past the limit, and the tables take at most what one index
+  -- more needs. Nothing is given back.
   pub record MakesRoom (old : MapState T) (new : MapMemory) : Type 0 where
     pub had_room : 1 ≤ room old → new ≡ old.memory
     pub slots_stay : old.memory.slots ≤ new.slots
@@ -13,8 +14,9 @@ module _ {T : Type 0} (most : ℕ → ℕ) where
     pub few_slots : new.slots ≤ max old.memory.slots (min old.store.limit (max 4 (2 * old.memory.slots)))
     pub few_cells : new.cells ≤ old.memory.cells + most (live_count old.store + 1)
 
-  -- Memory is there for so many more items, or for as many as there can be, and no more was taken than these need.
-  -- Where there was room, nothing changes. A refusal gives back nothing that there was, and the items stay.
+  -- There is room for `additional` more items, or for as many as the limit allows. The memory is at most what these
+  -- need, or twice the slots that there were. If there was room, nothing changes. A refusal gives nothing back, and the
+  -- items stay.
   pub record ReservesItems {A E : Type 0} (additional : ℕ) (old : MapState T) (result : Result A E) (new : MapState T)
       : Type 0 where
     pub store : new.store ≡ old.store
@@ -26,8 +28,8 @@ module _ {T : Type 0} (most : ℕ → ℕ) where
         (min old.store.limit (max (live_count old.store + additional) (2 * old.memory.slots)))
     pub few_cells : new.memory.cells ≤ old.memory.cells + most (live_count old.store + insertable old additional)
 
--- What is given back of what so many items don't need, beside the slots and the items that there are: the tables keep at
--- most `kept` of them. A refusal means that there is more than is needed, and never comes where nothing is needed. The
+-- The memory beyond what `least` items need, or the slots and items that there are, is given back: the tables keep at
+-- most `kept` of these. A refusal means that there is more than is needed, and never comes if nothing is needed. The
 -- items stay.
 module _ {T : Type 0} (kept : ℕ → ℕ → ℕ) where
   pub record ShrinksItems {A E : Type 0} (least : ℕ) (old : MapState T) (result : Result A E) (new : MapState T)

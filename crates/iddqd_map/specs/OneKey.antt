@@ -1,4 +1,4 @@
--- What calls report and do where items have one key.
+-- What calls report and do if items have one key.
 use Rattle.std.specs.Prelude.{◌≡◌, ◌≢◌, ℕ, Bool, Option, Some, None, Result, Ok, Err}
 use Rattle.iddqd.specs.Store.{Store, rebound}
 use Rattle.iddqd_keys.specs.Scan.{AnswersScan}
@@ -8,8 +8,8 @@ use Rattle.iddqd_map.specs.declared.refusal.OverwriteRefusal.{OverwriteRefusal}
 use Rattle.iddqd_map.specs.declared.refusal.OverwriteRefusal.TheVariants.{Full, Memory}
 
 module _ {T : Type 0} (alike : T → T → Bool) (most : ℕ → ℕ) where
-  -- The item stands in the place of the one that had its key, which comes back, and no memory was taken; or else it was
-  -- inserted.
+  -- If an item had the key, the new one replaced it, it comes back, and no memory was taken. Otherwise the new one was
+  -- inserted or refused.
   abbrev pub OverwritesOne : MapState T → T → Result (ℕ × Option T) (OverwriteRefusal T) → MapState T → Type 0
   OverwritesOne old item (Ok (ix, Some was)) new =
       IsOnly old.store (alike item) ix was × (new.store ≡ rebound old.store ix item) × (new.memory ≡ old.memory)
@@ -17,10 +17,10 @@ module _ {T : Type 0} (alike : T → T → Bool) (most : ℕ → ℕ) where
   OverwritesOne old item (Err (Full back)) new = RefusesFull alike most old item back new
   OverwritesOne old item (Err (Memory back)) new = RefusesMemory alike most old item back new
 
--- the item that is reported has the key of this one, and no other has
+-- the item at the reported index has the key of this one, and no other has
 abbrev pub IsReported : {T : Type 0} → (T → T → Bool) → Store T → T → ℕ → Type 0
 IsReported alike s item at = AnswersScan s (alike item) (Some at)
 
--- another item than the one at the index, which is reported, has the key of this one
+-- the item at the reported index, which isn't `ix`, has the key of this one
 abbrev pub IsTaken : {T : Type 0} → (T → T → Bool) → Store T → ℕ → T → ℕ → Type 0
 IsTaken alike s ix item at = (at ≢ ix) × AnswersScan s (alike item) (Some at)

@@ -4,7 +4,7 @@ use Rattle.std.specs.List.{Contains}
 use Rattle.iddqd.specs.Store.{Store, get}
 use Rattle.iddqd_keys.specs.Removals.{IsIncreasing, padded, removed_all}
 
--- the items at the indexes that were reported, so many at most, were removed by rising index, and are in the places
+-- the items at the indexes that were reported, at most `places`, were removed by rising index, and are in the places
 pub record TakesAll
     {T : Type 0} (reported : ℕ → Type 0) (places : ℕ) (old : Store T) (back : List (Option T)) (new : Store T)
     : Type 0 where

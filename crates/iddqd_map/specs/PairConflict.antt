@@ -31,7 +31,7 @@ module _ {T : Type 0} where
   Reports alike conflicts s item None = HasNoHit s (alike item)
   Reports alike conflicts s item (Some at) = conflicts s item at
 
-  -- what both report: of at least one
+  -- what the two key indexes report, at least one of them an item
   pub record ReportBoth
       {C D : Type 0} (alike1 alike2 : T → T → Bool) (conflicts1 : Store T → T → C → Type 0)
       (conflicts2 : Store T → T → D → Type 0) (s : Store T) (item : T) (one : Option C) (other : Option D)
@@ -40,7 +40,7 @@ module _ {T : Type 0} where
     pub second : Reports alike2 conflicts2 s item other
     pub some : IsSome one ⊎ IsSome other
 
-  -- the same of items other than the one at the index
+  -- the same, of items other than the one at the index
   abbrev pub ReportsOther :
       {C : Type 0} → (T → T → Bool) → (Store T → ℕ → T → C → Type 0) → Store T → ℕ → T → Option C → Type 0
   ReportsOther alike taken s ix item None = HasNoOther s (alike item) ix

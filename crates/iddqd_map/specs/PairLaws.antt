@@ -35,7 +35,7 @@ true_both : (a b : Bool) → a ≡ true → b ≡ true → (a && b) ≡ true
 true_both true b one other = other
 true_both false b one other = absurd (cc)
 
--- one of two moves exactly where not both keys stay
+-- one of two moves if and only if not both keys stay
 pub moves_either : (m n a b : Bool) → m ≡ not a → n ≡ not b → (m || n) ≡ not (a && b)
 moves_either m n true b one two = rw (one, two) refl
 moves_either m n false b one two = rw one refl
@@ -104,7 +104,7 @@ module _ {T : Type 0} (first second : T → T → Bool) where
     as_many = same.as_many;
   }
 
-  -- and where sharing all of one's keys is sharing one of them, so it is of both
+  -- if sharing all keys of the first key index means sharing one of them, the same holds of the pair
   pub alike_both :
       (alike : T → T → Bool)
       → ((x y : T) → first x y ≡ true → alike x y ≡ true)
@@ -114,7 +114,7 @@ module _ {T : Type 0} (first second : T → T → Bool) where
   alike_both alike so other x y both =
       left_true (alike x y) (other x y) (so x y (both_true (first x y) (second x y) both).0)
 
--- no more is listed by both together than by each
+-- the indexes that either reports fit in one list, whose length is at most the sum of both numbers
 pub few_both :
     (one other : ℕ → Type 0) (m n : ℕ)
     → ((l : List ℕ) × (length l ≤ m) × ((ix : ℕ) → one ix → Contains l ix))
@@ -148,7 +148,7 @@ module _ {C : Type 0} (reports : C → ℕ → Type 0) where
   few_by_one n law None = ([], omega arith, λ ix reported. absurd reported)
   few_by_one n law (Some at) = law at
 
--- exactly the items are reported by either that share a key of either
+-- an index is reported by either if and only if its item shares a key of either
 pub reported_both :
     {T : Type 0} (first second : T → T → Bool) (s : Store T) (item : T) (one other : ℕ → Type 0) (ix : ℕ)
     → one ix ↔ IsHit s (first item) ix
@@ -221,7 +221,7 @@ IsNextReported-lesser reported reported_too before (Some x) (Some y) a b =
           )
     ]
 
--- who shares all keys of both is who shares all keys of the first, where it shares those of the second too
+-- an item shares all keys if and only if it shares those of the first key index and those of the second
 module _ {T : Type 0} (first second : T → T → Bool) (s : Store T) (item : T) where
   pub HasNoHit-both : HasNoHit s (first item) → HasNoHit s (both_keys first second item)
   HasNoHit-both none ix (x, is, same) = none ix (x, is, (both_true (first item x) (second item x) same).0)

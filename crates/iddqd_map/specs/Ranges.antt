@@ -15,22 +15,22 @@ module _ {T : Type 0} where
     pub gone : (ix : ℕ) → IsHit old test ix → get new ix ≡ None
     pub others : (ix : ℕ) → (IsHit old test ix → ⊥) → get new ix ≡ get old ix
 
--- what a closure takes that is handed an item, and what such a call leaves, as asks without an answer
+-- the closure may be called with the item; and what such a call leaves of the closure
 abbrev pub TakesItem : {F T : Type 0} → Mut F (T × Unit {0}) (Unit {0}) → F → T → Type 0
 TakesItem g f x = Takes g f (x, tt)
 
 abbrev pub GivesItem : {F T : Type 0} → Mut F (T × Unit {0}) (Unit {0}) → F → T → F → Type 0
 GivesItem g f x f' = Called g f (x, tt) tt f'
 
--- each of the items may be handed to f, and again after any such calls
+-- f may be called with each of the items, in every state that such calls lead to
 abbrev pub MayGive : {F T : Type 0} → Mut F (T × Unit {0}) (Unit {0}) → F → List T → Type 0
 MayGive g f items = MayAsk (TakesItem g) (λ p x (b : Bool) q. GivesItem g p x q) f items
 
--- `give p x q` says that a call of f in the state p, which is handed x, may leave the state q
+-- `give p x q` says that a call of f with x in the state p may leave the state q
 module _ {F T K : Type 0} (key_of : T → K) (compare : K → K → Ordering) (within : K → Bool)
     (give : F → T → F → Type 0) where
-  -- The items whose keys are within were removed, and each was handed to f, by key and then by index, each time in the
-  -- state that the call before left.
+  -- The items whose keys are within were removed, and f was called with each, by key and then by index, each time in
+  -- the state that the call before left.
   pub record RemovesAlong (f : F) (old new : Store T) (last : F) : Type 0 where
     pub indexes : List ℕ
     pub sorted : SortsWithin key_of compare within old indexes

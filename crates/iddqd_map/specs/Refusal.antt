@@ -1,4 +1,4 @@
--- The words of the refusals, and the items that they hand back.
+-- The words of the refusals, and the items that they return.
 use Rattle.std.specs.Prelude.{ℕ, List, ◌++◌, Option, Some, None, codes}
 use Rattle.iddqd.specs.declared.item_set.GrowError.{GrowError}
 use Rattle.iddqd.specs.declared.item_set.GrowError.TheVariants.{Full as NoPlace, Memory as NoRoom}
@@ -9,17 +9,17 @@ use Rattle.iddqd_map.specs.declared.refusal.OverwriteRefusal.TheVariants.{Full a
 use Rattle.iddqd_map.specs.declared.refusal.ReplaceRefusal.{ReplaceRefusal}
 use Rattle.iddqd_map.specs.declared.refusal.ReplaceRefusal.TheVariants.{Missing, Duplicate as Taken, Memory as Refused}
 
--- the refusal of an item for which there is no place
+-- the refusal of an item for which the store can't grow
 abbrev pub refusal_of : {T C : Type 0} → GrowError → T → InsertRefusal T C
 refusal_of NoPlace item = Full item
 refusal_of NoRoom item = Memory item
 
--- what a duplicate prints, where this is what its place prints
+-- the text of a duplicate, given the text of its conflict
 abbrev pub duplicate_text : Option (List ℕ) → Option (List ℕ)
 duplicate_text (Some place) = Some (codes "duplicate " ++ place)
 duplicate_text None = None
 
--- the words of each, where a place prints so
+-- the text of each, given the text of a conflict
 abbrev pub insert_refusal_text : {T C : Type 0} → (C → Option (List ℕ)) → InsertRefusal T C → Option (List ℕ)
 insert_refusal_text place_text (Duplicate item at) = duplicate_text (place_text at)
 insert_refusal_text place_text (Full item) = Some (codes "full")
@@ -34,7 +34,7 @@ replace_refusal_text place_text (Missing item) = Some (codes "missing")
 replace_refusal_text place_text (Taken item at) = duplicate_text (place_text at)
 replace_refusal_text place_text (Refused item) = Some (codes "no memory")
 
--- the item that each hands back
+-- the item that each returns
 abbrev pub insert_refusal_item : {T C : Type 0} → InsertRefusal T C → T
 insert_refusal_item (Duplicate item at) = item
 insert_refusal_item (Full item) = item

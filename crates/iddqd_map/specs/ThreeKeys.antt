@@ -22,18 +22,18 @@ module _ {T : Type 0} (first second third : T → T → Bool) where
   abbrev pub all_keys : T → T → Bool
   all_keys = both_keys first (both_keys second third)
 
-  -- where the items are that have the second or the third key of this one
+  -- the indexes of the items that have the second or the third key of this one
   abbrev pub AreReportedLast : Store T → T → PairConflict ℕ ℕ → Type 0
   AreReportedLast s item at =
       ReportBoth second third (IsReported second) (IsReported third) s item (first_of at) (second_of at)
 
-  -- for each key where the item is that has that of this item, and there is one that has one
+  -- for each key the index of the item that has this item's key, if one has; at least one item has one
   abbrev pub AreReported : Store T → T → TriClash → Type 0
   AreReported s item at =
       ReportBoth first (either_key second third) (IsReported first) AreReportedLast s item at.key1
       (both_of at.key2 at.key3)
 
-  -- the same of items other than the one at the index
+  -- the same for the items other than the one at the index
   abbrev pub AreTakenLast : Store T → ℕ → T → PairConflict ℕ ℕ → Type 0
   AreTakenLast s ix item at =
       ReportBothOther second third (IsTaken second) (IsTaken third) s ix item (first_of at) (second_of at)

@@ -7,10 +7,10 @@ use Rattle.iddqd_map.specs.declared.bi_hash_map.clash.BiClash.{BiClash}
 
 -- `first x y` says that the items share their first key, `second x y` that they share their second
 module _ {T : Type 0} (first second : T → T → Bool) where
-  -- for each key where the item is that has that of this item, and there is one that has one
+  -- for each key the index of the item that has this item's key, if one has; at least one item has one
   abbrev pub AreReported : Store T → T → BiClash → Type 0
   AreReported s item at = ReportBoth first second (IsReported first) (IsReported second) s item at.key1 at.key2
 
-  -- the same of items other than the one at the index
+  -- the same for the items other than the one at the index
   abbrev pub AreTaken : Store T → ℕ → T → BiClash → Type 0
   AreTaken s ix item at = ReportBothOther first second (IsTaken first) (IsTaken second) s ix item at.key1 at.key2

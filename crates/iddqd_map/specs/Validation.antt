@@ -5,7 +5,7 @@ use Rattle.iddqd.specs.declared.internal.ValidateRefusal.TheVariants.{Invalid, M
 use Rattle.iddqd.specs.declared.internal.ValidationError.{ValidationError}
 use Rattle.iddqd.specs.declared.internal.ValidationError.TheVariants.{Table, General}
 
--- a refusal is the error of the table with this name, or else there was no memory
+-- a refusal is the error of the table with this name, or memory ran out
 abbrev pub NamesTable : List ℕ → ValidateRefusal ValidationError → Type 0
 NamesTable name (Invalid (Table reported error)) = reported.now ≡ name
 NamesTable name (Invalid (General text)) = ⊥

@@ -24,18 +24,19 @@ pub use clash::BiClash;
 pub use clones::BiHashClone;
 use iddqd::hash_builder::DefaultHashBuilder;
 use iddqd::item_index::ItemIndex;
-use iddqd_keys::query::HashQuery;
+use iddqd_keys::hash_query::HashQuery;
 pub use index::BiIndex;
 pub use item::{BiHashItem, First, Second};
 use std::hash::BuildHasher;
 
-/// Items under stable indexes, no two of which share a key.
+/// Items under stable indexes. No two items share a key.
 pub type BiHashMap<T, S = DefaultHashBuilder> = Map<T, BiIndex<T>, S>;
 
 impl<T: BiHashItem, S: BuildHasher> Map<T, BiIndex<T>, S> {
     /// The index of the item that has the first key for which the query stands.
     ///
-    /// The query is a `&T::Key1`, or what else stands for such a key. It is compared with keys of the same hash alone.
+    /// The query is a `&T::Key1`, or another query that stands for such a key. Only keys of the same hash are compared
+    /// with it.
     pub fn find1<Q: HashQuery<T::Key1>>(&self, query: Q) -> Option<ItemIndex>
         ensures { AnswersScan self.now.store (passes_by T.first_key (Q.stands_for query)) result }
     {
@@ -56,7 +57,7 @@ impl<T: BiHashItem, S: BuildHasher> Map<T, BiIndex<T>, S> {
         self.get_by::<First, Q>(query)
     }
 
-    /// Takes the item that has the first key out of the map. It takes no memory.
+    /// Removes the item that has the first key, and returns it. It takes no memory.
     pub fn remove1<Q: HashQuery<T::Key1>>(&mut self, query: Q) -> Option<T>
         ensures removes { Removes self.old (passes_by T.first_key (Q.stands_for query)) result self.new }
         ensures gone { HasNoHit self.new.store (passes_by T.first_key (Q.stands_for query)) }
@@ -65,10 +66,10 @@ impl<T: BiHashItem, S: BuildHasher> Map<T, BiIndex<T>, S> {
         self.remove_by::<First, Q>(query)
     }
 
-    /// Puts an item in the place of the one that has the first key, which is handed back.
+    /// Replaces the item that has the first key, and returns the old one.
     ///
-    /// The item may have other keys. It keeps the index. Where other items have a key of it, it comes back, and nothing
-    /// changes. It takes no memory, and touches no table whose key stays.
+    /// The new item may have other keys. It gets the same index. If other items have a key of it, it comes back, and
+    /// nothing changes. It takes no memory, and touches no table whose key stays.
     pub fn replace1<Q: HashQuery<T::Key1>>(
         &mut self,
         query: Q,
@@ -82,10 +83,10 @@ impl<T: BiHashItem, S: BuildHasher> Map<T, BiIndex<T>, S> {
         self.replace_by::<First, Q>(query, item)
     }
 
-    /// Puts what the closure makes of the item that has the first key in its place, and hands that item back; or
-    /// answers none, where no item has it.
+    /// Replaces the item that has the first key by what the closure makes of it, and returns the old item; `None` if no
+    /// item has the key.
     ///
-    /// The closure is called at most once, and not at all where no item has the key. Else as `replace1`.
+    /// The closure is called at most once, and not at all if no item has the key. Otherwise it behaves as `replace1`.
     pub fn change1<Q: HashQuery<T::Key1>, F: FnOnce(&T) -> T>(
         &mut self,
         query: Q,
@@ -101,8 +102,8 @@ impl<T: BiHashItem, S: BuildHasher> Map<T, BiIndex<T>, S> {
         self.change_by::<First, Q, F>(query, f)
     }
 
-    /// Calls the closure with a `&mut` to the item that has the first key, as `modify_at`; or returns none, and doesn't
-    /// call it, where no item has the key. It is one look-up.
+    /// Calls the closure with a `&mut` to the item that has the first key, as `modify_at` does; if no item has the key,
+    /// it returns `None` and doesn't call the closure. It is one look-up.
     pub fn modify1<Q: HashQuery<T::Key1>, R, F: FnOnce(&mut T) -> R>(
         &mut self,
         query: Q,
@@ -117,7 +118,7 @@ impl<T: BiHashItem, S: BuildHasher> Map<T, BiIndex<T>, S> {
         self.modify_by::<First, Q, R, F>(query, f)
     }
 
-    /// The index of the item that has the second key for which the query stands, as `find1`.
+    /// The index of the item that has the second key for which the query stands, found as `find1` finds it.
     pub fn find2<Q: HashQuery<T::Key2>>(&self, query: Q) -> Option<ItemIndex>
         ensures { AnswersScan self.now.store (passes_by T.second_key (Q.stands_for query)) result }
     {
@@ -138,7 +139,7 @@ impl<T: BiHashItem, S: BuildHasher> Map<T, BiIndex<T>, S> {
         self.get_by::<Second, Q>(query)
     }
 
-    /// Takes the item that has the second key out of the map. It takes no memory.
+    /// Removes the item that has the second key, and returns it. It takes no memory.
     pub fn remove2<Q: HashQuery<T::Key2>>(&mut self, query: Q) -> Option<T>
         ensures removes { Removes self.old (passes_by T.second_key (Q.stands_for query)) result self.new }
         ensures gone { HasNoHit self.new.store (passes_by T.second_key (Q.stands_for query)) }
@@ -147,7 +148,7 @@ impl<T: BiHashItem, S: BuildHasher> Map<T, BiIndex<T>, S> {
         self.remove_by::<Second, Q>(query)
     }
 
-    /// Puts an item in the place of the one that has the second key, as `replace1`.
+    /// Replaces the item that has the second key, as `replace1` does.
     pub fn replace2<Q: HashQuery<T::Key2>>(
         &mut self,
         query: Q,
@@ -161,7 +162,7 @@ impl<T: BiHashItem, S: BuildHasher> Map<T, BiIndex<T>, S> {
         self.replace_by::<Second, Q>(query, item)
     }
 
-    /// Puts what the closure makes of the item that has the second key in its place, as `change1`.
+    /// Replaces the item that has the second key by what the closure makes of it, as `change1` does.
     pub fn change2<Q: HashQuery<T::Key2>, F: FnOnce(&T) -> T>(
         &mut self,
         query: Q,
@@ -177,7 +178,7 @@ impl<T: BiHashItem, S: BuildHasher> Map<T, BiIndex<T>, S> {
         self.change_by::<Second, Q, F>(query, f)
     }
 
-    /// Calls the closure with a `&mut` to the item that has the second key, as `modify1`.
+    /// Calls the closure with a `&mut` to the item that has the second key, as `modify1` does.
     pub fn modify2<Q: HashQuery<T::Key2>, R, F: FnOnce(&mut T) -> R>(
         &mut self,
         query: Q,
@@ -192,11 +193,11 @@ impl<T: BiHashItem, S: BuildHasher> Map<T, BiIndex<T>, S> {
         self.modify_by::<Second, Q, R, F>(query, f)
     }
 
-    /// Takes an item, and removes those that share a key with it, at most two, which it hands back by rising index from
-    /// the first place on.
+    /// Inserts an item, and removes the items that share a key with it, at most two. It returns these by rising index,
+    /// in the first places of the array.
     ///
     /// If it removes an item, it takes no memory and isn't refused. If it removes none, it inserts as `insert_unique`
-    /// does, and may be refused as there. Each key is hashed once.
+    /// does, and may be refused for the same reasons. Each key is hashed once.
     pub fn insert_overwrite(
         &mut self,
         item: T,

@@ -1,14 +1,13 @@
-//! A key index by one key, which no two items share: each index stands in a hash table, under the hash of its item's
-//! key.
+//! A key index by one key, which no two items share: each index is in a hash table, under the hash of its item's key.
 //!
 //! Invariants, of a table that indexes a store under the state of a hasher:
 //!
 //! 1. it has exactly the live indexes;
-//! 2. each of them stands under the hash that its item's key has under this state;
+//! 2. each of them is under the hash that its item's key has under this state;
 //! 3. no two items have equal keys.
 //!
-//! By these a look-up, which hashes once, answers as a scan of all items does. Keys are not copied: the table has
-//! hashes and indexes alone.
+//! So a look-up, which hashes once, returns what a scan of all items would. Keys are not copied: the table has only
+//! hashes and indexes.
 ghost use Rattle.std.specs.Prelude.{◌≡◌};
 ghost use Rattle.iddqd_hash.specs.{filed};
 ghost use Rattle.iddqd_keys.specs.Scan.{AnswersScan, passes_by};
@@ -19,7 +18,8 @@ use crate::hashed_plan::plan_move;
 use crate::hashed_query::{find_item, find_under, take_by};
 use crate::hashed_steps;
 use crate::key_index::{
-    AsksAt, Checks, FindsSame, HashedAt, Here, Inserts, KeyIndex, Moves, Removes, Sizes, TakesAt,
+    Checks, FindsSame, FindsWithHashAt, HashedAt, Here, Inserts, KeyIndex, Moves, Removes, Sizes,
+    TakesAt,
 };
 use iddqd::index_remap::IndexRemap;
 use iddqd::internal::{ValidateCompact, ValidateRefusal, ValidationError};
@@ -29,17 +29,17 @@ use iddqd::map_hash::MapHash;
 use iddqd_by_hash::hashed::{hash_of, query_hash};
 use iddqd_by_hash::hashed_move::Move;
 use iddqd_hash::hash_table::MapHashTable;
+use iddqd_keys::hash_query::HashQuery;
 use iddqd_keys::key_of::KeyOf;
-use iddqd_keys::query::HashQuery;
 use std::alloc::{AllocError, Global};
 use std::hash::{BuildHasher, Hash};
 use std::marker::PhantomData;
 
 /// A hash table by the key that `E` names. No two items have equal keys.
 ///
-/// A look-up hashes the query once, and compares it with keys of the same hash alone. Only `with_capacity`, `reserve`,
-/// `make_room`, `shrink_to`, `copied` and `validate`, which sorts a copy of the indexes, take memory, and only they can run
-/// out of it.
+/// A look-up hashes the query once, and compares it only with keys of the same hash. Only `with_capacity`, `reserve`,
+/// `make_room`, `shrink_to`, `copied` and `validate`, which sorts a copy of the indexes, take memory, and only they can
+/// run out of it.
 #[derive(Drop)]
 pub struct ByHash<E, K> {
     // Each live index, under the hash of its item's key.
@@ -64,7 +64,7 @@ where
 
     type Conflict = ItemIndex;
 
-    type Asked = Option<MapHash>;
+    type KnownHashes = Option<MapHash>;
 
     ghost Keys = { K };
 
@@ -85,11 +85,11 @@ where
 
     ghost kept = { λ slots count. most_cells count };
 
-    ghost may_lack = { false };
+    ghost may_need_memory = { false };
 
-    ghost same = { λ s x y. filed y.table ≡ filed x.table };
+    ghost same = { λ x y. filed y.table ≡ filed x.table };
 
-    ghost key_count = { 1 };
+    ghost unique_keys = { 1 };
 
     ghost conflicts = { λ s item at. AnswersScan s (shares E.key_of K.eq item) (Some at) };
 
@@ -99,12 +99,12 @@ where
 
     ghost kept_none = { refl };
 
-    ghost same_as_itself = { λ s x. refl };
+    ghost same_as_itself = { λ x. refl };
 
     ghost same_indexes = { λ x y state s same is. Indexes-kept E.key_of (hashing_of K.eq K.hash_input S.BuildHasher
         S.Hasher.Hasher state) s (filed x.table) (filed y.table) same is };
 
-    ghost apart = { λ x state s is. is.exact.apart };
+    ghost apart = { λ x state s is. is.in_sync.apart };
 
     ghost modified = { λ x state s ix was item is. Indexes-key_kept E.key_of K.eq K.hash_input S.BuildHasher
         S.Hasher.Hasher K.Eq.laws K.respects_eq state s (filed x.table) is ix was item };
@@ -120,7 +120,7 @@ where
 
     ghost few_reported = { few_one };
 
-    fn unasked() -> Option<MapHash> {
+    fn no_hashes() -> Option<MapHash> {
         None
     }
 }
@@ -381,13 +381,13 @@ where
     }
 }
 
-impl<T, S, E, K> AsksAt<Here, T, S> for ByHash<E, K>
+impl<T, S, E, K> FindsWithHashAt<Here, T, S> for ByHash<E, K>
 where
     E: KeyOf<T, Key = K>,
     K: Eq + Hash + Drop,
     S: BuildHasher,
 {
-    fn ask<Q: HashQuery<K>>(
+    fn find_with_hash<Q: HashQuery<K>>(
         &self,
         items: &ItemSet<T>,
         state: &S,

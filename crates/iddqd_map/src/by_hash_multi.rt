@@ -1,19 +1,20 @@
 //! A key index by a key that several items may have: each index is filed under the hash of its item's key.
 //!
-//! It refuses no item for its key, so an insert compares no keys. A removal computes no hash, since the table keeps that
-//! of each index.
+//! It refuses no item for its key, so an insert compares no keys. A removal computes no hash, since the table keeps
+//! that of each index.
 //!
 //! Invariants, of a table that indexes a store under the state of a hasher:
 //!
 //! 1. it has exactly the live indexes;
 //! 2. each of them is filed under the hash that its item's key has under this state;
-//! 3. each slot of the store has a link, so the index of a vacant slot is inserted without memory for it.
+//! 3. it has a link for each slot of the store, and no other. So the index of a vacant slot is inserted without memory
+//!    for a link, and what a shrink leaves is bounded by the store's slots.
 //!
-//! So a look-up, which hashes once, finds an item with the key if and only if there is one. Keys are not copied: the table
-//! has hashes and indexes alone.
+//! So a look-up, which hashes once, finds an item with the key if and only if there is one. Keys are not copied: the
+//! table has hashes and indexes alone.
 //!
-//! One index of each hash stands in a hash table, and the others under that hash are linked behind it. So an insert and a
-//! removal cost the same however many items have the key, and the links take 16 bytes for each slot.
+//! One index of each hash stands in a hash table, and the others under that hash are linked behind it. So an insert and
+//! a removal cost the same however many items have the key, and the links take 16 bytes for each slot.
 ghost use Rattle.std.specs.Prelude.{◌≡◌, ◌↔◌, false};
 ghost use Rattle.iddqd_by_hash.specs.Hashed.{hashing_of};
 ghost use Rattle.iddqd_map.specs.Groups.{AreHits, CountsHits};
@@ -34,8 +35,8 @@ use iddqd_by_hash::hashed::hash_of;
 pub use iddqd_by_hash::hashed_group::Group;
 use iddqd_by_hash::hashed_move::Move;
 use iddqd_by_hash::linked_table::LinkedTable;
+use iddqd_keys::hash_query::{AsEquivalent, HashQuery};
 use iddqd_keys::key_of::KeyOf;
-use iddqd_keys::query::{Asked, HashQuery};
 use std::alloc::{AllocError, Global};
 use std::hash::{BuildHasher, Hash};
 use std::marker::PhantomData;
@@ -43,11 +44,11 @@ use std::marker::PhantomData;
 /// A table of hashes by the key that `E` names, which several items may have.
 ///
 /// A look-up hashes the query once, and compares it with keys of the same hash alone. Only `with_capacity`, `reserve`,
-/// `make_room`, `shrink_to`, `copied` and `validate`, which sorts a copy of the indexes, take memory, and only they can run
-/// out of it. An insert and a removal cost the same however many indexes stand under the same hash.
+/// `make_room`, `shrink_to`, `copied` and `validate`, which sorts a copy of the indexes, take memory, and only they can
+/// run out of it. An insert and a removal cost the same however many indexes stand under the same hash.
 #[derive(Drop)]
 pub struct ByHashMulti<E, K> {
-    // Each live index, under the hash of its item's key. Each slot has a link.
+    // Each live index, under the hash of its item's key. The slots that have a link are those of the store.
     table: LinkedTable,
     of: PhantomData<E>,
     by: PhantomData<K>,
@@ -63,7 +64,7 @@ impl<E, K> ByHashMulti<E, K> {
         items: &'a ItemSet<T>,
         state: &S,
         query: Q,
-    ) -> Group<'a, T, E, Asked<Q>>
+    ) -> Group<'a, T, E, AsEquivalent<Q>>
     where
         E: KeyOf<T, Key = K>,
         K: Eq + Hash + Drop,
@@ -121,7 +122,7 @@ where
 
     type Conflict = NoConflict;
 
-    type Asked = ();
+    type KnownHashes = ();
 
     ghost Keys = { K };
 
@@ -142,11 +143,11 @@ where
 
     ghost kept = { kept_linked };
 
-    ghost may_lack = { false };
+    ghost may_need_memory = { false };
 
-    ghost same = { λ s x y. HasSameIndexes s x.table y.table };
+    ghost same = { λ x y. HasSameIndexes x.table y.table };
 
-    ghost key_count = { 0 };
+    ghost unique_keys = { 0 };
 
     ghost conflicts = { λ s item at. ⊥ };
 
@@ -156,7 +157,7 @@ where
 
     ghost kept_none = { refl };
 
-    ghost same_as_itself = { λ s x. record { filed = refl; linked = λ within. within } };
+    ghost same_as_itself = { λ x. record { filed = refl; slots = refl } };
 
     ghost same_indexes = { λ x y state s same is. FilesWithin-kept E.key_of (hashing_of K.eq K.hash_input S.BuildHasher
         S.Hasher.Hasher state) s x.table y.table same is };
@@ -177,7 +178,7 @@ where
 
     ghost few_reported = { λ at. none_named };
 
-    fn unasked() {}
+    fn no_hashes() {}
 }
 
 impl<T, S, E, K> Sizes<T, S> for ByHashMulti<E, K>

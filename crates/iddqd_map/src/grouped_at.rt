@@ -7,7 +7,7 @@ use crate::pair::Pair;
 use crate::pair_conflict::ReportsPair;
 use iddqd::item_index::ItemIndex;
 use iddqd::item_set::ItemSet;
-use iddqd_keys::query::HashQuery;
+use iddqd_keys::hash_query::HashQuery;
 use std::hash::Hash;
 
 /// A key index with a key by its hash at the place `P`, which several items may have.

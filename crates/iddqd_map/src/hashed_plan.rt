@@ -1,5 +1,5 @@
-//! What has to become of a live index that is given an item that may have another key: by one look-up of
-//! the new key, and none where the key stays.
+//! Plans the move of a live index whose item is to be replaced by one that may have another key: by one look-up of the
+//! new key, or by none if the key stays.
 ghost use Rattle.iddqd_hash.specs.{filed};
 ghost use Rattle.iddqd_keys.specs.Scan.{IsLive};
 ghost use Rattle.iddqd_by_hash.specs.Hashed.{hashing_of};
@@ -11,14 +11,13 @@ use iddqd::item_set::ItemSet;
 use iddqd_by_hash::hashed::{self, hash_of};
 use iddqd_by_hash::hashed_move::Move;
 use iddqd_hash::hash_table::MapHashTable;
-use iddqd_keys::key_of::{ByKey, KeyOf, key_at};
+use iddqd_keys::key_of::{KeyOf, KeyQuery, key_at};
 use std::hash::{BuildHasher, Hash};
 
-/// What has to become of a live index that is given this item; or the index of another item that has
-/// its key.
+/// Plans the move of a live index whose item is to be replaced by this one. If another item has the new key, it returns
+/// that item's index.
 ///
-/// It compares the item's key with the one that stands there. Only where they differ is it hashed,
-/// once, and looked up, once.
+/// It compares the new key with the old one. Only if they differ, it hashes the new key and looks it up, once.
 pub fn plan_move<T, E, S>(
     table: &MapHashTable,
     items: &ItemSet<T>,
@@ -39,7 +38,12 @@ where
     match move_of::<T, E, S>(items, state, ix, item) {
         Move::Stays => Ok(Move::Stays),
         Move::To(hash) => {
-            match hashed::find::<T, E, ByKey<E::Key>>(table, items, hash, &ByKey(E::key(item))) {
+            match hashed::find::<T, E, KeyQuery<E::Key>>(
+                table,
+                items,
+                hash,
+                &KeyQuery(E::key(item)),
+            ) {
                 Some(at) => Err(at),
                 None => Ok(Move::To(hash)),
             }
@@ -47,9 +51,9 @@ where
     }
 }
 
-/// What becomes of a live index that is given this item, where other items may have its key.
+/// Plans the move of a live index whose item is to be replaced by this one. Other items may have the new key.
 ///
-/// It compares the item's key with the one that stands there. Only where they differ is it hashed, once.
+/// It compares the new key with the old one. Only if they differ, it hashes the new key, once.
 pub fn move_of<T, E, S>(items: &ItemSet<T>, state: &S, ix: ItemIndex, item: &T) -> Move
 where
     E: KeyOf<T>,

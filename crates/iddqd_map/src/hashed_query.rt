@@ -1,7 +1,7 @@
 //! Look-ups in a table of hashes that indexes a store, by any query.
 //!
-//! Where each live index is filed under the hash of its item's key as it is now, and no two items share a key, a
-//! look-up answers as a scan does. Where several items may share a key, it finds one of them.
+//! If each live index is filed under the hash of its item's key as it is now, and no two items share a key, a look-up
+//! returns what a scan would. If several items share a key, it finds one of them.
 ghost use Rattle.std.specs.Prelude.{◌≡◌};
 ghost use Rattle.iddqd.specs.{hash_one};
 ghost use Rattle.iddqd_hash.specs.{filed};
@@ -20,13 +20,14 @@ use iddqd_by_hash::hashed::{self, query_hash};
 use iddqd_by_hash::hashed_group::{Group, group_of};
 use iddqd_by_hash::linked_table::LinkedTable;
 use iddqd_hash::hash_table::MapHashTable;
+use iddqd_keys::hash_query::{AsEquivalent, HashQuery};
 use iddqd_keys::key_of::KeyOf;
-use iddqd_keys::query::{Asked, HashQuery};
 use std::hash::{BuildHasher, Hash};
 
 /// The index of the item that has the key for which the query stands, whose hash was computed before.
 ///
-/// Look-ups and inserts share it. Called, a look-up took half as many instructions again, so it is inlined.
+/// Look-ups and inserts share it. It is inlined: a look-up that called it took one and a half times as many
+/// instructions.
 #[inline(always)]
 pub fn find_under<T, E, S, Q>(
     table: &MapHashTable,
@@ -45,10 +46,10 @@ where
         Indexes E.key_of hashing items.now.store (filed table.now) }
     ensures { AnswersScan items.now.store (passes_by E.key_of (Q.stands_for query)) result }
 {
-    hashed::find::<T, E, Asked<Q>>(table, items, hash, &Asked(query))
+    hashed::find::<T, E, AsEquivalent<Q>>(table, items, hash, &AsEquivalent(query))
 }
 
-/// Finds as `find_under` does, and takes the index out of the table, by one search. It takes no memory.
+/// Finds as `find_under` does, and removes the index from the table, by one search. It takes no memory.
 pub fn take_by<T, E, S, Q>(
     table: &mut MapHashTable,
     items: &ItemSet<T>,
@@ -67,7 +68,7 @@ where
     ensures memory { KeepsMemory table.old table.new }
 {
     let hash = query_hash(state, query);
-    hashed::take::<T, E, Asked<Q>>(table, items, hash, &Asked(query))
+    hashed::take::<T, E, AsEquivalent<Q>>(table, items, hash, &AsEquivalent(query))
 }
 
 /// The index of the item that has this key of an item, whose hash was computed before.
@@ -91,7 +92,7 @@ where
     find_under::<T, E, S, &E::Key>(table, items, state, hash, E::key(item))
 }
 
-/// The index of some item that has the key for which the query stands, where several items may have it.
+/// The index of some item that has the key for which the query stands. Several items may have it.
 pub fn find_any<T, E, S, Q>(
     table: &LinkedTable,
     items: &ItemSet<T>,
@@ -113,13 +114,13 @@ where
 
 /// The indexes whose items have the key for which the query stands, each once, in no order that a caller can rely on.
 ///
-/// It compares the query with keys of the same hash alone, with none twice, and takes no memory.
+/// It compares the query only with keys of the same hash, with none twice, and takes no memory.
 pub fn group_by<'t, T, E, S, Q>(
     table: &'t LinkedTable,
     items: &'t ItemSet<T>,
     state: &S,
     query: Q,
-) -> Group<'t, T, E, Asked<Q>>
+) -> Group<'t, T, E, AsEquivalent<Q>>
 where
     E: KeyOf<T>,
     E::Key: Eq + Hash,
@@ -130,7 +131,7 @@ where
     ensures { AreHits items.now.store (passes_by E.key_of (Q.stands_for query)) result }
 {
     let hash = query_hash(state, query);
-    group_of::<T, E, Asked<Q>>(table, items, hash, Asked(query))
+    group_of::<T, E, AsEquivalent<Q>>(table, items, hash, AsEquivalent(query))
 }
 
 /// How many items have the key for which the query stands. It goes over all of them.

@@ -1,7 +1,7 @@
 //! The steps of a key index by the hash of a key that no two items share.
 //!
-//! Each works on a hash table that has exactly the live indexes. An index stands under the hash of its item's key, so
-//! that hash is computed where the index leaves the table, unless a look-up has computed it before.
+//! Each works on a hash table that has exactly the live indexes. An index is under the hash of its item's key, so a
+//! removal computes that hash, unless a look-up has computed it before.
 ghost use Rattle.std.specs.Prelude.{◌≡◌, ◌+◌, ◌<◌, ◌≤◌, min, max, length, IsOk, IsSome, IfErr, OnOk, OnErr};
 ghost use Rattle.std.specs.FinMap as finite;
 ghost use Rattle.iddqd.specs.{live_count, IsValid, Allows, Validates};
@@ -22,7 +22,7 @@ use iddqd::internal::{ValidateCompact, ValidateRefusal, ValidationError};
 use iddqd::item_index::ItemIndex;
 use iddqd::item_set::ItemSet;
 use iddqd::map_hash::MapHash;
-use iddqd_by_hash::hashed::{hash_of, take_index};
+use iddqd_by_hash::hashed::{hash_of, remove_index};
 use iddqd_by_hash::hashed_move::{self, Move};
 use iddqd_hash::hash_table::MapHashTable;
 use iddqd_keys::key_of::KeyOf;
@@ -38,7 +38,7 @@ pub fn new(alloc: Global) -> MapHashTable
     MapHashTable::new(alloc)
 }
 
-/// Makes room for this many indexes more than there are items. Where there is room it takes no memory.
+/// Makes room for `additional` more indexes than there are items. If there is room, it takes no memory.
 pub fn reserve<T>(
     table: &mut MapHashTable,
     items: &ItemSet<T>,
@@ -57,7 +57,7 @@ pub fn reserve<T>(
 
 /// Gives back the memory that neither the stored indexes nor `least` indexes need.
 ///
-/// The memory may have to move to a smaller block, which may be refused.
+/// The contents may have to move to a smaller block, for which memory may run out.
 pub fn shrink_to<T>(
     table: &mut MapHashTable,
     items: &ItemSet<T>,
@@ -74,7 +74,7 @@ pub fn shrink_to<T>(
     table.shrink_to(least)
 }
 
-/// Makes room for an insert. Where there is room it takes no memory.
+/// Makes room for an insert. If there is room, it takes no memory.
 pub fn make_room<T>(table: &mut MapHashTable, items: &ItemSet<T>) -> Result<(), AllocError>
     requires { Holds items.now.store (filed table.old) }
     ensures contents { filed table.new ≡ filed table.old }
@@ -86,7 +86,7 @@ pub fn make_room<T>(table: &mut MapHashTable, items: &ItemSet<T>) -> Result<(), 
     table.try_reserve(1)
 }
 
-/// Takes a live index out, under the hash of its item's key. It takes no memory.
+/// Removes a live index, which is under the hash of its item's key. It takes no memory.
 pub fn take_out<T, E, S>(table: &mut MapHashTable, items: &ItemSet<T>, state: &S, ix: ItemIndex)
 where
     E: KeyOf<T>,
@@ -99,11 +99,11 @@ where
     ensures room { room table.new ≡ room table.old + 1 }
 {
     let hash = hash_of::<T, E, S>(state, &items[ix]);
-    take_index(table, hash, ix);
+    remove_index(table, hash, ix);
 }
 
-/// Files a live index as it was planned. The hash that it stands under is computed where it has to
-/// move and isn't known. It takes no memory.
+/// Files a live index as planned. If it has to move, the hash that it is under is computed unless it is known. It takes
+/// no memory.
 pub fn commit_move<T, E, S>(
     table: &mut MapHashTable,
     items: &ItemSet<T>,
@@ -131,7 +131,7 @@ where
     }
 }
 
-/// Gives each index its new name. It takes no memory.
+/// Replaces each index by its new one. It takes no memory.
 pub fn remap<T>(table: &mut MapHashTable, remap: &IndexRemap)
     requires { (s : Store T) × Holds s (filed table.old) × IsValid s × IsRemapOf s remap.now }
     ensures renamed { (s : Store T) → Holds s (filed table.old) → IsValid s → IsRemapOf s remap.now →
@@ -141,8 +141,8 @@ pub fn remap<T>(table: &mut MapHashTable, remap: &IndexRemap)
     table.remap_indexes(remap);
 }
 
-/// Checks the table against the store. The table is sound, so it fails only where memory for a sorted copy of the
-/// indexes runs out.
+/// Checks the table against the store. The table is sound, so it fails only if memory for a sorted copy of the indexes
+/// runs out.
 pub fn validate<T>(
     table: &MapHashTable,
     items: &ItemSet<T>,
@@ -156,8 +156,8 @@ pub fn validate<T>(
     validate_table("keys", table, items.len(), compactness)
 }
 
-/// Whether a table has as many indexes as there are items; in `Compact`, whether they are those from 0 on. An error has
-/// the table's name.
+/// Whether a table has as many indexes as there are items; in `Compact`, whether they are the numbers from 0 on. An
+/// error has the table's name.
 pub fn validate_table(
     name: &'static str,
     table: &MapHashTable,

@@ -22,20 +22,21 @@ use crate::refusal::{InsertRefusal, OverwriteRefusal, ReplaceRefusal};
 pub use clones::IdHashClone;
 use iddqd::hash_builder::DefaultHashBuilder;
 use iddqd::item_index::ItemIndex;
-use iddqd_keys::query::HashQuery;
+use iddqd_keys::hash_query::HashQuery;
 pub use item::{IdHashItem, ItsKey};
 use std::hash::BuildHasher;
 
 /// A table by the key.
 pub type IdIndex<T> = ByHash<ItsKey, <T as IdHashItem>::Key>;
 
-/// Items under stable indexes, no two of which have the same key.
+/// Items under stable indexes, which all have different keys.
 pub type IdHashMap<T, S = DefaultHashBuilder> = Map<T, IdIndex<T>, S>;
 
 impl<T: IdHashItem, S: BuildHasher> Map<T, IdIndex<T>, S> {
     /// The index of the item that has the key for which the query stands.
     ///
-    /// The query is a `&T::Key`, or what else stands for such a key. It is compared with keys of the same hash alone.
+    /// The query is a `&T::Key`, or another query that stands for such a key. Only keys of the same hash are compared
+    /// with it.
     pub fn find<Q: HashQuery<T::Key>>(&self, query: Q) -> Option<ItemIndex>
         ensures { AnswersScan self.now.store (passes_by T.key_of (Q.stands_for query)) result }
     {
@@ -56,7 +57,7 @@ impl<T: IdHashItem, S: BuildHasher> Map<T, IdIndex<T>, S> {
         self.get_by::<Here, Q>(query)
     }
 
-    /// Takes the item that has the key out of the map. It takes no memory.
+    /// Removes the item that has the key, and returns it. It takes no memory.
     pub fn remove<Q: HashQuery<T::Key>>(&mut self, query: Q) -> Option<T>
         ensures removes { Removes self.old (passes_by T.key_of (Q.stands_for query)) result self.new }
         ensures gone { HasNoHit self.new.store (passes_by T.key_of (Q.stands_for query)) }
@@ -65,10 +66,10 @@ impl<T: IdHashItem, S: BuildHasher> Map<T, IdIndex<T>, S> {
         self.remove_by::<Here, Q>(query)
     }
 
-    /// Puts an item in the place of the one that has the key, which is handed back.
+    /// Replaces the item that has the key, and returns the old one.
     ///
-    /// The item may have another key. It keeps the index. Where another item has its key, it comes back, and nothing
-    /// changes. It takes no memory, and touches no table whose key stays.
+    /// The new item may have another key. It gets the same index. If another item has its key, it comes back, and
+    /// nothing changes. It takes no memory, and touches no table whose key stays.
     pub fn replace<Q: HashQuery<T::Key>>(
         &mut self,
         query: Q,
@@ -82,10 +83,10 @@ impl<T: IdHashItem, S: BuildHasher> Map<T, IdIndex<T>, S> {
         self.replace_by::<Here, Q>(query, item)
     }
 
-    /// Puts what the closure makes of the item that has the key in its place, and hands that item back; or answers
-    /// none, where no item has it.
+    /// Replaces the item that has the key by what the closure makes of it, and returns the old item; `None` if no item
+    /// has the key.
     ///
-    /// The closure is called at most once, and not at all where no item has the key. Else as `replace`.
+    /// The closure is called at most once, and not at all if no item has the key. Otherwise it behaves as `replace`.
     pub fn change<Q: HashQuery<T::Key>, F: FnOnce(&T) -> T>(
         &mut self,
         query: Q,
@@ -100,8 +101,8 @@ impl<T: IdHashItem, S: BuildHasher> Map<T, IdIndex<T>, S> {
         self.change_by::<Here, Q, F>(query, f)
     }
 
-    /// Calls the closure with a `&mut` to the item that has the key, as `modify_at`; or returns none, and doesn't call
-    /// it, where no item has the key. It is one look-up.
+    /// Calls the closure with a `&mut` to the item that has the key, as `modify_at` does; if no item has the key, it
+    /// returns `None` and doesn't call the closure. It is one look-up.
     pub fn modify<Q: HashQuery<T::Key>, R, F: FnOnce(&mut T) -> R>(
         &mut self,
         query: Q,
@@ -115,10 +116,11 @@ impl<T: IdHashItem, S: BuildHasher> Map<T, IdIndex<T>, S> {
         self.modify_by::<Here, Q, R, F>(query, f)
     }
 
-    /// Takes an item, in the place of the one that has its key, which is handed back with the index.
+    /// Inserts an item in place of the one that has its key, if one has. Returns the index, and the item that was
+    /// removed.
     ///
     /// If an item has its key, it takes no memory and isn't refused. If none has, it inserts as `insert_unique` does,
-    /// and may be refused as there.
+    /// and may be refused for the same reasons.
     pub fn insert_overwrite(
         &mut self,
         item: T,
@@ -133,7 +135,7 @@ impl<T: IdHashItem, S: BuildHasher> Map<T, IdIndex<T>, S> {
         }
     }
 
-    // Puts an item in the place of the one at an index that has its key.
+    // Replaces the item at an index by one that has the same key.
     fn stand_in(&mut self, at: ItemIndex, item: T) -> Option<T>
         requires only { AnswersScan self.old.store (shares T.key_of T.Key.eq item) (Some at) }
         ensures { (was : T) × (result ≡ Some was)

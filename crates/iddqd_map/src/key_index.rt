@@ -1,11 +1,11 @@
 //! What the items of a store are found by: a table by one key, or several tables.
 //!
-//! A key index has each live index of a store, and by each of its keys no two items are alike. A leaf has one table by
-//! one key; a pair has two key indexes. A map is a store with a key index, so each call of a map is said once, however
-//! many keys its items have. A hasher's state belongs to the map, since several tables may share one.
+//! A key index has each live index of a store, and no two items share a unique key. A leaf has one table by one key; a
+//! pair has two key indexes. A map is a store with a key index, so each call of a map is written once, however many
+//! keys its items have. A hasher's state belongs to the map, since several tables may share one.
 //!
 //! A call that takes memory does so before anything is written: `look_up`, `plan`, `make_room`, then `insert`;
-//! `plan_move`, `ready_move`, then `commit_move`. The plans in between are plain data: they lend nothing, and own no
+//! `plan_move`, `ready_move`, then `commit_move`. The plans in between are plain data: they borrow nothing, and own no
 //! memory.
 ghost use Rattle.std.specs.Prelude.{◌≡◌, ◌≢◌, ◌≤◌, ◌+◌, ◌<◌, true, false, min, max, length, IsOk, IfOk, OnOk, OnErr};
 ghost use Rattle.iddqd.specs.{next_index, removed, rebound, sentinel, live_count, slot_count, IsValid, Allows, Validates};
@@ -19,8 +19,8 @@ use iddqd::index_remap::IndexRemap;
 use iddqd::internal::{ValidateCompact, ValidateRefusal, ValidationError};
 use iddqd::item_index::ItemIndex;
 use iddqd::item_set::ItemSet;
+use iddqd_keys::hash_query::HashQuery;
 use iddqd_keys::order_query::OrdQuery;
-use iddqd_keys::query::HashQuery;
 use std::alloc::{AllocError, Global};
 use std::hash::Hash;
 use std::marker::PhantomData;
@@ -28,9 +28,10 @@ use std::ops::Bound;
 
 /// A table of a store's indexes by one key, or several tables by several keys.
 ///
-/// A contract sees its memory as two numbers: `capacity`, how many indexes it can hold without more, and `cells`, how
-/// much its hash tables hold and its ordered tables have reserved. An insert below the capacity takes no memory. Only
-/// `with_capacity`, `reserve`, `shrink_to` and an insert past the capacity change either number.
+/// A contract sees its memory as two numbers: `capacity`, how many indexes it can hold without more memory, and
+/// `cells`: the cells and links of its hash tables, and the indexes for which its ordered tables have reserved memory.
+/// Below the capacity `make_room` takes no memory. Only `with_capacity`, `reserve`, `shrink_to` and `make_room` change
+/// either number.
 pub trait KeyIndex<T, S>: Sized + Drop {
     ghost use Rattle.std.specs.Prelude.{ℕ, Bool, List, Some, ◌↔◌};
     ghost use Rattle.std.specs.List.{Contains};
@@ -42,7 +43,7 @@ pub trait KeyIndex<T, S>: Sized + Drop {
     /// The items that an item is alike to: at least one.
     type Conflict: Copy;
     /// Those hashes of a stored item's keys that a look-up has computed already.
-    type Asked: Copy;
+    type KnownHashes: Copy;
 
     // The keys of an item.
     ghost Keys: { Type 0 };
@@ -63,45 +64,45 @@ pub trait KeyIndex<T, S>: Sized + Drop {
 
     ghost cells: { Self → ℕ };
 
-    // The most cells that it takes for so many indexes.
+    // The most cells that it takes for a number of indexes.
     ghost most: { ℕ → ℕ };
 
-    // The most cells that a shrink leaves, over so many slots, for so many indexes.
+    // The most cells that a shrink leaves, for a number of slots and a number of indexes.
     ghost kept: { ℕ → ℕ → ℕ };
 
-    // An insert that follows a removal may need memory, if there are more indexes than the capacity.
-    ghost may_lack: { Bool };
+    // An insert after a removal may need memory, if there are more indexes than the capacity.
+    ghost may_need_memory: { Bool };
 
-    // Over a store the two have the same indexes at the same keys; their memory may differ.
-    ghost same: { Store T → Self → Self → Type 0 };
+    // The two have the same indexes at the same keys; their memory may differ.
+    ghost same: { Self → Self → Type 0 };
 
     // How many items an item can be alike to: no more than there are keys.
-    ghost key_count: { ℕ };
+    ghost unique_keys: { ℕ };
 
     ghost conflicts: { Store T → T → Self.Conflict → Type 0 };
 
-    // The same of items other than the one at the index.
+    // The conflict reports the items, other than the one at the index, that this item is alike to.
     ghost taken: { Store T → ℕ → T → Self.Conflict → Type 0 };
 
-    // The index is one of these.
+    // The conflict reports this index.
     ghost reports: { Self.Conflict → ℕ → Type 0 };
 
     /// Nothing that a look-up computed.
-    fn unasked() -> Self::Asked;
+    fn no_hashes() -> Self::KnownHashes;
 
-    // Where there are no slots and no indexes, a shrink leaves nothing.
+    // If there are no slots and no indexes, a shrink leaves nothing.
     ghost kept_none: { kept 0 0 ≡ 0 };
 
-    // `same` is reflexive, and of key indexes that are the same over a store both index it or none does.
-    ghost same_as_itself: { (s : Store T) (x : Self) → same s x x };
+    // `same` is reflexive. Of two key indexes that are the same, the second indexes each store that the first does.
+    ghost same_as_itself: { (x : Self) → same x x };
 
-    ghost same_indexes: { (x y : Self) (state : S) (s : Store T) → same s x y → indexes x state s
-        → indexes y state s };
+    ghost same_indexes: { (x y : Self) (state : S) (s : Store T) → same x y → indexes x state s → indexes y state s };
 
     // No two items are alike.
     ghost apart: { (x : Self) (state : S) (s : Store T) → indexes x state s → AreApart alike s };
 
-    // It still indexes the store if an item was modified and kept its keys, and a copy of it whose items kept theirs.
+    // A key index still indexes its store after an item was modified and kept its keys, and it indexes any store whose
+    // items have the same keys.
     ghost modified: { (x : Self) (state : S) (s : Store T) (ix : ℕ) (was item : T) → indexes x state s
         → get s ix ≡ Some was → keys item ≡ keys was → indexes x state (rebound s ix item) };
 
@@ -119,30 +120,30 @@ pub trait KeyIndex<T, S>: Sized + Drop {
     ghost reported_some: { (s : Store T) (item : T) (at : Self.Conflict) → conflicts s item at
         → (ix : ℕ) × reports at ix };
 
-    ghost few_reported: { (at : Self.Conflict) → (l : List ℕ) × (length l ≤ key_count)
+    ghost few_reported: { (at : Self.Conflict) → (l : List ℕ) × (length l ≤ unique_keys)
         × ((ix : ℕ) → reports at ix → Contains l ix) };
 }
 
-/// A key index whose memory can be taken ahead and given back.
+/// A key index whose memory can be reserved and given back.
 pub trait Sizes<T, S>: KeyIndex<T, S> {
     /// How many indexes it can hold without more memory.
     fn capacity(&self) -> usize
         ensures { result ≡ Self.capacity self.now };
 
-    /// One over a store without items. It takes no memory.
+    /// A key index of a store without items. It takes no memory.
     fn new(alloc: Global) -> Self
         ensures none { IndexesNone (Self.indexes result) }
         ensures capacity { Self.capacity result ≡ 0 }
         ensures cells { Self.cells result ≡ 0 };
 
-    /// One over a store without items, that can hold so many indexes. With 0 it takes no memory.
+    /// A key index of a store without items that can hold `wanted` indexes. With 0 it takes no memory.
     fn with_capacity(alloc: Global, wanted: usize) -> Result<Self, AllocError>
         ensures none { IfOk result (λ x. IndexesNone (Self.indexes x)) }
         ensures capacity { IfOk result (λ x. wanted ≤ Self.capacity x) }
         ensures few { IfOk result (λ x. Self.cells x ≤ Self.most wanted) }
         ensures succeeds { wanted ≡ 0 → IsOk result };
 
-    /// Makes room for so many more indexes. Where there is room it takes no memory.
+    /// Makes room for `additional` more indexes. If there is room it takes no memory.
     fn reserve(
         &mut self,
         items: &ItemSet<T>,
@@ -150,19 +151,20 @@ pub trait Sizes<T, S>: KeyIndex<T, S> {
         additional: usize,
     ) -> Result<(), AllocError>
         requires indexed { Self.indexes self.old state.now items.now.store }
-        ensures contents { Self.same items.now.store self.old self.new }
+        ensures contents { Self.same self.old self.new }
         ensures reserved { OnOk result (live_count items.now.store + additional ≤ Self.capacity self.new) }
         ensures had_room { live_count items.now.store + additional ≤ Self.capacity self.old
             → IsOk result × (self.new ≡ self.old) }
         ensures capacity_stays { Self.capacity self.old ≤ Self.capacity self.new }
         ensures few { Self.cells self.new ≤ Self.cells self.old + Self.most (live_count items.now.store + additional) };
 
-    /// Gives back what so many indexes don't need, beside the slots and the indexes that there are.
+    /// Gives back the memory beyond what `least` indexes need, or the slots and indexes that there are if these are
+    /// more.
     ///
-    /// The memory may have to move to a smaller block, which may be refused.
+    /// The contents may have to move to a smaller block, for which memory may run out.
     fn shrink_to(&mut self, items: &ItemSet<T>, state: &S, least: usize) -> Result<(), AllocError>
         requires indexed { Self.indexes self.old state.now items.now.store }
-        ensures contents { Self.same items.now.store self.old self.new }
+        ensures contents { Self.same self.old self.new }
         ensures never_more { Self.cells self.new ≤ Self.cells self.old }
         ensures capacity_stays { min (Self.capacity self.old) (max least (live_count items.now.store))
             ≤ Self.capacity self.new }
@@ -173,20 +175,21 @@ pub trait Sizes<T, S>: KeyIndex<T, S> {
             → IsOk result };
 }
 
-/// A key index that takes another item.
+/// A key index into which an item's index can be inserted.
 ///
-/// `look_up` finds where it may go, or the items that it shares a key with; `plan` says where under its index;
-/// `make_room` takes the memory; then `insert` can't fail. Where those that share a key are to give way, `ready_after`
-/// takes the memory, if any is needed; they give way; then `spot`, `plan` and `insert` can't fail.
+/// To insert: `look_up` finds the position for the item, or the items that share a key with it; `plan` adds what
+/// depends on its index; `make_room` takes the memory; then `insert` can't fail. To overwrite: `ready_after` takes the
+/// memory, if any is needed; `give_way` removes the index of each item that shares a key; then `spot`, `plan` and
+/// `insert` can't fail.
 pub trait Inserts<T, S>: KeyIndex<T, S> {
     ghost use Rattle.std.specs.Prelude.{ℕ};
     ghost use Rattle.iddqd.specs.Store.{Store};
 
-    /// What is computed of an item's keys alone, once: their hashes.
+    /// What is computed from an item's keys, once: their hashes.
     type Known: Copy;
-    /// Where an item may go that is alike to none, whatever its index will be.
+    /// The position for an item that is alike to none, before its index is known.
     type Spot: Drop;
-    /// Where an item goes under its index.
+    /// The position for an item under its index.
     type Plan: Drop;
 
     ghost is_known: { S → T → Self.Known → Type 0 };
@@ -200,11 +203,11 @@ pub trait Inserts<T, S>: KeyIndex<T, S> {
     // It is ready for an insert that comes after a removal.
     ghost is_ready_after: { Self → Type 0 };
 
-    /// What is computed of an item's keys alone.
+    /// Computes it from an item's keys.
     fn known(state: &S, item: &T) -> Self::Known
         ensures { is_known state.now item.now result };
 
-    /// Where an item may go, or the items that it is alike to. It takes no memory.
+    /// Finds the position for an item, or the items that it is alike to. It takes no memory.
     fn look_up(
         &self,
         items: &ItemSet<T>,
@@ -217,7 +220,7 @@ pub trait Inserts<T, S>: KeyIndex<T, S> {
         ensures { FindsSpot (Self.alike item.now) (is_spot self.now state.now items.now.store item.now)
             (Self.conflicts items.now.store item.now) items.now.store result };
 
-    /// Where an item goes under the next index.
+    /// The position for an item under the next index.
     fn plan(
         &self,
         items: &ItemSet<T>,
@@ -232,7 +235,7 @@ pub trait Inserts<T, S>: KeyIndex<T, S> {
         requires next { ix ≡ next_index items.now.store }
         ensures { is_planned self.now state.now items.now.store item.now result };
 
-    /// Makes the room for a planned insert. Where there is room it takes no memory.
+    /// Makes room for a planned insert. If there is room, it takes no memory.
     fn make_room(
         &mut self,
         items: &ItemSet<T>,
@@ -240,13 +243,13 @@ pub trait Inserts<T, S>: KeyIndex<T, S> {
         plan: &Self::Plan,
     ) -> Result<(), AllocError>
         requires indexed { Self.indexes self.old state.now items.now.store }
-        ensures contents { Self.same items.now.store self.old self.new }
+        ensures contents { Self.same self.old self.new }
         ensures ready { OnOk result (has_room_for self.new plan.now) }
         ensures had_room { live_count items.now.store < Self.capacity self.old → IsOk result × (self.new ≡ self.old) }
         ensures capacity_stays { Self.capacity self.old ≤ Self.capacity self.new }
         ensures few { Self.cells self.new ≤ Self.cells self.old + Self.most (live_count items.now.store + 1) };
 
-    /// Inserts an index as it was planned. It takes no memory.
+    /// Inserts an index as planned. It takes no memory.
     fn insert(&mut self, known: Self::Known, plan: &Self::Plan, ix: ItemIndex)
         requires room { has_room_for self.old plan.now }
         requires next { IsNextOf (Self.indexes self.old) ix }
@@ -258,11 +261,11 @@ pub trait Inserts<T, S>: KeyIndex<T, S> {
         ensures capacity { Self.capacity self.new ≡ Self.capacity self.old }
         ensures cells { Self.cells self.new ≡ Self.cells self.old };
 
-    /// The least index that was reported and is greater than `before`; the least of all if `before` is none.
+    /// The least reported index that is greater than `before`; the least of all if `before` is `None`.
     fn next_reported(conflict: &Self::Conflict, before: Option<ItemIndex>) -> Option<ItemIndex>
         ensures { IsNextReported (Self.reports conflict.now) before result };
 
-    /// Where an item may go that is alike to none.
+    /// The position for an item that is alike to none.
     fn spot(&self, items: &ItemSet<T>, state: &S, known: Self::Known, item: &T) -> Self::Spot
         requires hashed { is_known state.now item.now known }
         requires indexed { Self.indexes self.now state.now items.now.store }
@@ -272,14 +275,14 @@ pub trait Inserts<T, S>: KeyIndex<T, S> {
     /// Makes ready for an insert that comes after a removal. Below the capacity it takes no memory.
     fn ready_after(&mut self, items: &ItemSet<T>, state: &S) -> Result<(), AllocError>
         requires indexed { Self.indexes self.old state.now items.now.store }
-        ensures contents { Self.same items.now.store self.old self.new }
+        ensures contents { Self.same self.old self.new }
         ensures ready { OnOk result (is_ready_after self.new) }
-        ensures may_lack { OnErr result (Self.may_lack ≡ true) }
+        ensures may_need_memory { OnErr result (Self.may_need_memory ≡ true) }
         ensures past { OnErr result (Self.capacity self.old < live_count items.now.store) }
         ensures capacity { Self.capacity self.new ≡ Self.capacity self.old }
         ensures cells { Self.cells self.new ≡ Self.cells self.old };
 
-    /// Takes a live index out, as `remove`, so that there is room for the insert that follows.
+    /// Removes a live index, as `remove` does, so that there is room for the insert that follows.
     fn give_way(&mut self, items: &ItemSet<T>, state: &S, ix: ItemIndex)
         requires live { IsLive items.now.store ix }
         requires indexed { Self.indexes self.old state.now items.now.store }
@@ -289,13 +292,13 @@ pub trait Inserts<T, S>: KeyIndex<T, S> {
         ensures ready { is_ready_after self.old → is_ready_after self.new }
         ensures roomy { (plan : Self.Plan) → is_ready_after self.old → has_room_for self.new plan };
 
-    ghost same_plans: { (x y : Self) (state : S) (s : Store T) (item : T) (plan : Self.Plan) → Self.same s x y
+    ghost same_plans: { (x y : Self) (state : S) (s : Store T) (item : T) (plan : Self.Plan) → Self.same x y
         → is_planned x state s item plan → is_planned y state s item plan };
 }
 
-/// A key index that removes an index or all of them, or renames them. None of these takes memory.
+/// A key index that removes an index or all of them, or replaces them by new ones. None of these takes memory.
 pub trait Removes<T, S>: KeyIndex<T, S> {
-    /// Takes a live index out. It takes no memory.
+    /// Removes a live index. It takes no memory.
     fn remove(&mut self, items: &ItemSet<T>, state: &S, ix: ItemIndex)
         requires live { IsLive items.now.store ix }
         requires indexed { Self.indexes self.old state.now items.now.store }
@@ -309,7 +312,7 @@ pub trait Removes<T, S>: KeyIndex<T, S> {
         ensures capacity { Self.capacity self.new ≡ Self.capacity self.old }
         ensures cells { Self.cells self.new ≡ Self.cells self.old };
 
-    /// Gives each index its new name. It takes no memory.
+    /// Replaces each index by its new one. It takes no memory.
     fn remap(&mut self, remap: &IndexRemap)
         requires names { IsRemapOfSome (Self.indexes self.old) remap.now }
         ensures indexed { IndexesCompacted (Self.indexes self.old) remap.now (Self.indexes self.new) }
@@ -317,15 +320,15 @@ pub trait Removes<T, S>: KeyIndex<T, S> {
         ensures cells { Self.cells self.new ≡ Self.cells self.old };
 }
 
-/// A key index that gives a live index another item.
+/// A key index that moves a live index when its item is replaced.
 ///
-/// `plan_move` finds what becomes of it, or the other items that share a key; `ready_move` takes the memory, if any is
-/// needed; then `commit_move` can't fail.
+/// `plan_move` finds how the index must move, or the other items that share a key; `ready_move` takes the memory, if
+/// any is needed; then `commit_move` can't fail.
 pub trait Moves<T, S>: KeyIndex<T, S> {
     ghost use Rattle.std.specs.Prelude.{ℕ, Bool};
     ghost use Rattle.iddqd.specs.Store.{Store};
 
-    /// What becomes of a live index that is given another item.
+    /// How a live index must move if its item is replaced.
     type Move: Drop;
 
     ghost is_move: { S → Store T → ℕ → T → Self.Move → Type 0 };
@@ -335,7 +338,7 @@ pub trait Moves<T, S>: KeyIndex<T, S> {
 
     ghost is_ready: { Self → Self.Move → Type 0 };
 
-    /// What becomes of a live index that is given this item, or the other items that it is alike to.
+    /// How a live index must move if its item is replaced by this one; or the other items that share a key with it.
     fn plan_move(
         &self,
         items: &ItemSet<T>,
@@ -349,7 +352,7 @@ pub trait Moves<T, S>: KeyIndex<T, S> {
             (is_move state.now items.now.store ix item.now)
             moves (Self.taken items.now.store ix item.now) items.now.store ix result };
 
-    /// Makes ready for a move. Up to the capacity it takes no memory, nor where all keys stay.
+    /// Makes ready for a move. Up to the capacity it takes no memory, nor if all keys stay.
     fn ready_move(
         &mut self,
         items: &ItemSet<T>,
@@ -357,20 +360,20 @@ pub trait Moves<T, S>: KeyIndex<T, S> {
         plan: &Self::Move,
     ) -> Result<(), AllocError>
         requires indexed { Self.indexes self.old state.now items.now.store }
-        ensures contents { Self.same items.now.store self.old self.new }
+        ensures contents { Self.same self.old self.new }
         ensures ready { OnOk result (is_ready self.new plan.now) }
         ensures moves { OnErr result (moves plan.now ≡ true) }
-        ensures may_lack { OnErr result (Self.may_lack ≡ true) }
+        ensures may_need_memory { OnErr result (Self.may_need_memory ≡ true) }
         ensures past { OnErr result (Self.capacity self.old < live_count items.now.store) }
         ensures capacity { Self.capacity self.new ≡ Self.capacity self.old }
         ensures cells { Self.cells self.new ≡ Self.cells self.old };
 
-    /// Enters a live index as it was planned, while the store has its old item. It takes no memory.
+    /// Moves a live index as planned, while the store still has its old item. It takes no memory.
     fn commit_move(
         &mut self,
         items: &ItemSet<T>,
         state: &S,
-        asked: Self::Asked,
+        asked: Self::KnownHashes,
         plan: &Self::Move,
         ix: ItemIndex,
         item: &T,
@@ -386,7 +389,7 @@ pub trait Moves<T, S>: KeyIndex<T, S> {
 
 /// A key index that can be copied and checked.
 pub trait Checks<T, S>: KeyIndex<T, S> {
-    /// One that indexes the same, and has no more memory.
+    /// A copy that indexes the same stores, with at most as many cells.
     fn copied(&self) -> Result<Self, AllocError>
         ensures contents { IfOk result (λ copy. IndexesAllOf (Self.indexes self.now) (Self.indexes copy)) }
         ensures few { IfOk result (λ copy. Self.cells copy ≤ Self.cells self.now) };
@@ -395,10 +398,8 @@ pub trait Checks<T, S>: KeyIndex<T, S> {
     fn is_same(item: &T, other: &T) -> bool
         ensures { result ≡ Self.same_keys item.now other.now };
 
-    /// Whether the tables are sound over the store, as they are in every map, where the slots are as the mode wants
-    /// them.
-    ///
-    /// It sorts a copy of the indexes, whose memory may be refused.
+    /// Checks the tables. They are sound by the conditions, so this fails only if memory for a sorted copy of the
+    /// indexes runs out.
     fn validate(
         &self,
         items: &ItemSet<T>,
@@ -411,7 +412,7 @@ pub trait Checks<T, S>: KeyIndex<T, S> {
         ensures { Validates (Allows compactness (length items.now.store.free)) result };
 }
 
-/// A key index that finds the one item that shares all keys with another: at least one of its keys is unique.
+/// A key index that finds the one item that shares all keys with another: its first key is unique.
 pub trait FindsSame<T, S>: KeyIndex<T, S> {
     ghost use Rattle.std.specs.Prelude.{true};
 
@@ -424,15 +425,15 @@ pub trait FindsSame<T, S>: KeyIndex<T, S> {
     ghost same_are_alike: { (x y : T) → Self.same_keys x y ≡ true → Self.alike x y ≡ true };
 }
 
-/// Where a key index has a key by its hash: `Here` in a leaf, else to the left or the right in a pair.
+/// The place of the key of a key index that has one key.
 pub enum Here {}
 
-/// Where the first index of a pair has the key.
+/// The place `P` in the first key index of a pair.
 pub struct Left<P> {
     of: PhantomData<P>,
 }
 
-/// Where the second index of a pair has the key.
+/// The place `P` in the second key index of a pair.
 pub struct Right<P> {
     of: PhantomData<P>,
 }
@@ -459,7 +460,7 @@ pub trait HashedAt<P, T, S>: KeyIndex<T, S> {
 
 /// A key index that finds an item by the key at the place `P`, and removes its index in the same search.
 pub trait TakesAt<P, T, S>: HashedAt<P, T, S> {
-    /// Finds as `find` does, and takes the index out, by one search by that key. It takes no memory.
+    /// Finds as `find` does, and removes the index, by one search by that key. It takes no memory.
     fn take<Q: HashQuery<Self::Key>>(
         &mut self,
         items: &ItemSet<T>,
@@ -480,7 +481,7 @@ pub trait TakesQuery<Q, T, S>: KeyIndex<T, S> {
     // The query stands for the key of the item.
     ghost stands_for: { Q → T → Bool };
 
-    /// Finds the item that has the key, and takes its index out, by one search. It takes no memory.
+    /// Finds the item that has the key, and removes its index, by one search. It takes no memory.
     fn take_query(&mut self, items: &ItemSet<T>, state: &S, query: Q) -> Option<ItemIndex>
         requires indexed { Self.KeyIndex.indexes self.old state.now items.now.store }
         ensures found { AnswersScan items.now.store (stands_for query) result }
@@ -490,19 +491,19 @@ pub trait TakesQuery<Q, T, S>: KeyIndex<T, S> {
 }
 
 /// A key index whose look-up passes its hash on to the replacement of the item that it finds.
-pub trait AsksAt<P, T, S>: HashedAt<P, T, S> {
+pub trait FindsWithHashAt<P, T, S>: HashedAt<P, T, S> {
     /// Finds as `find` does, and keeps what was computed for that.
-    fn ask<Q: HashQuery<Self::Key>>(
+    fn find_with_hash<Q: HashQuery<Self::Key>>(
         &self,
         items: &ItemSet<T>,
         state: &S,
         query: Q,
-    ) -> (Option<ItemIndex>, Self::Asked)
+    ) -> (Option<ItemIndex>, Self::KnownHashes)
         requires indexed { Self.KeyIndex.indexes self.now state.now items.now.store }
         ensures { AnswersScan items.now.store (passes_by Self.HashedAt.key_at (Q.stands_for query)) result.0 };
 }
 
-/// A key index with a key by its order at the place `P`, which several items may have.
+/// A key index with a key by its order at the place `P`, unique or not.
 pub trait OrderedAt<P, T, S>: KeyIndex<T, S> {
     /// The key.
     type Key: Ord;

@@ -1,4 +1,4 @@
-//! Maps said once: a store of items, and what they are found by.
+//! Maps written once: a store of items, and what they are found by.
 //!
 //! [`map::Map`] is a store with a [`key_index::KeyIndex`]: a [`by_hash::ByHash`] has one key by its hash, a
 //! [`by_hash_multi::ByHashMulti`] one that several items may have, and a [`pair::Pair`] puts two key indexes together.

@@ -12,7 +12,7 @@ ghost use Rattle.iddqd_hash.specs.MapHashTable.{indexes_of, Renames};
 ghost use Rattle.iddqd_keys.specs.Scan.{IsLive};
 ghost use Rattle.iddqd_by_hash.specs.Hashed.{Holds};
 ghost use Rattle.iddqd_by_hash.specs.HashedMove.{moved};
-ghost use Rattle.iddqd_by_hash.specs.LinkedTable.{KeepsLinks, most_linked, kept_linked};
+ghost use Rattle.iddqd_by_hash.specs.LinkedTable.{KeepsMemory, most_linked, kept_linked};
 ghost use Rattle.iddqd_map.specs.ByHashMulti.{HasSameIndexes};
 ghost use Rattle.iddqd_map.specs.Validation.{NamesTable};
 
@@ -31,7 +31,7 @@ pub fn reserve<T>(
     additional: usize,
 ) -> Result<(), AllocError>
     requires { Holds items.now.store table.old.filed }
-    ensures contents { HasSameIndexes items.now.store table.old table.new }
+    ensures contents { HasSameIndexes table.old table.new }
     ensures reserved { OnOk result (live_count items.now.store + additional ≤ table.new.capacity) }
     ensures had_room { live_count items.now.store + additional ≤ table.old.capacity
         → IsOk result × (table.new ≡ table.old) }
@@ -49,8 +49,9 @@ pub fn shrink_to<T>(
     items: &ItemSet<T>,
     least: usize,
 ) -> Result<(), AllocError>
-    requires { Holds items.now.store table.old.filed }
-    ensures contents { HasSameIndexes items.now.store table.old table.new }
+    requires held { Holds items.now.store table.old.filed }
+    requires linked { table.old.slots ≡ slot_count items.now.store }
+    ensures contents { HasSameIndexes table.old table.new }
     ensures never_more { table.new.memory ≤ table.old.memory }
     ensures capacity_stays { min table.old.capacity (max least (live_count items.now.store)) ≤ table.new.capacity }
     ensures shrunk { OnOk result (table.new.memory
@@ -59,15 +60,16 @@ pub fn shrink_to<T>(
     ensures succeeds { kept_linked (max least (slot_count items.now.store)) (max least (live_count items.now.store)) ≡ 0
         → IsOk result }
 {
-    table.shrink_to(items.slot_count(), least)
+    table.shrink_to(least)
 }
 
-/// Gives each index its new name. It takes no memory.
+/// Gives each index its new name, and leaves a slot for each. It takes no memory.
 pub fn remap<T>(table: &mut LinkedTable, remap: &IndexRemap)
     requires { (s : Store T) × Holds s table.old.filed × IsValid s × IsRemapOf s remap.now }
     ensures renamed { (s : Store T) → Holds s table.old.filed → IsValid s → IsRemapOf s remap.now →
         Renames (rank s) table.old.filed table.new.filed }
-    ensures memory { KeepsLinks table.old table.new }
+    ensures memory { KeepsMemory table.old table.new }
+    ensures slots { table.new.slots ≡ finite.len table.new.filed }
 {
     table.remap_indexes(remap);
 }
@@ -77,7 +79,8 @@ pub fn commit_move<T>(table: &mut LinkedTable, items: &ItemSet<T>, plan: &Move, 
     requires live { IsLive items.now.store ix }
     requires filed { IsSome (finite.get table.old.filed ix) }
     ensures moved { table.new.filed ≡ moved table.old.filed ix plan.now }
-    ensures memory { KeepsLinks table.old table.new }
+    ensures memory { KeepsMemory table.old table.new }
+    ensures slots { table.new.slots ≡ table.old.slots }
 {
     if let Move::To(hash) = plan {
         // A live index is below the number of slots, so it isn't `SENTINEL`.

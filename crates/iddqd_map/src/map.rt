@@ -1,7 +1,7 @@
 //! A map: a store of items, and a key index by which no two of them are alike.
 //!
 //! Each call is written and proved once, whatever keys the items have. `IdHashMap`, `BiHashMap` and `TriHashMap` are
-//! type names for `Map` with a key index of theirs, and have functions of their own only where a call names a key. An
+//! type names for `Map` with key indexes of their own; they add calls that name a key, and `insert_overwrite`. An
 //! insert computes each hash once and looks each key up once. All conflicts are known, and all memory is taken, before
 //! anything is written.
 //!
@@ -38,7 +38,7 @@ use iddqd::item_set::ItemSet;
 use std::alloc::Global;
 use std::marker::Model;
 
-/// Items under stable indexes, no two of which are alike by their keys.
+/// Items under stable indexes. No two items share a unique key.
 ///
 /// A contract sees it as the store of its items, and its memory beside that.
 #[derive(Drop)]
@@ -73,15 +73,15 @@ pub struct Parts<'a, T, X, S> {
 }
 
 impl<T, X: Sizes<T, DefaultHashBuilder>> Map<T, X, DefaultHashBuilder> {
-    /// No items, slots for as many as there are indexes but `SENTINEL`, and the default hasher, whose seed is fixed. It
-    /// takes no memory.
+    /// An empty map with the default hasher, whose seed is fixed. It may grow to `u32::MAX` items, one for each index
+    /// but `SENTINEL`. It takes no memory.
     pub fn new(alloc: Global) -> Map<T, X, DefaultHashBuilder>
         ensures { result ≡ empty_map u32.MAX }
     {
         Map::with_hasher(alloc, DefaultHashBuilder::default())
     }
 
-    /// No items, never more slots than the limit, and the default hasher. It takes no memory.
+    /// An empty map with the default hasher, which never has more slots than the limit. It takes no memory.
     ///
     /// No call changes the limit.
     pub fn with_limit(alloc: Global, limit: u32) -> Map<T, X, DefaultHashBuilder>
@@ -92,14 +92,14 @@ impl<T, X: Sizes<T, DefaultHashBuilder>> Map<T, X, DefaultHashBuilder> {
 }
 
 impl<T, X: Sizes<T, S>, S> Map<T, X, S> {
-    /// No items, and slots for as many as there are indexes but `SENTINEL`. It takes no memory.
+    /// An empty map that may grow to `u32::MAX` items, one for each index but `SENTINEL`. It takes no memory.
     pub fn with_hasher(alloc: Global, state: S) -> Map<T, X, S>
         ensures { result ≡ empty_map u32.MAX }
     {
         Map::with_limit_and_hasher(alloc, u32::MAX, state)
     }
 
-    /// No items, and never more slots than the limit. It takes no memory.
+    /// An empty map that never has more slots than the limit. It takes no memory.
     ///
     /// No call changes the limit.
     pub fn with_limit_and_hasher(alloc: Global, limit: u32, state: S) -> Map<T, X, S>
@@ -138,7 +138,7 @@ impl<T, X: KeyIndex<T, S>, S> Map<T, X, S> {
         self.items.get(ix)
     }
 
-    /// The parts, for look-ups by what a key index has of its own.
+    /// Borrows the parts, for look-ups that only this key index has.
     pub fn parts(&self) -> Parts<'_, T, X, S>
         ensures items { result.items.now.store ≡ self.now.store }
         ensures indexed { X.indexes result.indexes.now result.state.now result.items.now.store }

@@ -1,24 +1,25 @@
-//! A pair of key indexes over a store's items: each call makes the same call on both.
+//! A pair of key indexes over a store's items. A call that changes items goes to both; a look-up goes to the one that
+//! has the key.
 //!
-//! Two items share a key if they share one of either index, and share all keys if they share all of both. Pairs nest,
-//! so items can have any number of keys.
+//! Two items share a key if they share a key of the first or of the second key index, and share all keys if they share
+//! all of both. Pairs nest, so items can have any number of keys.
 //!
-//! Invariant: each of the two indexes the same store under the same state.
+//! Invariant: both key indexes index the same store, under the same state of the hasher.
 ghost use Rattle.std.specs.Prelude.{◌≡◌, Some};
 ghost use Rattle.iddqd_map.specs.KeyIndex.{IsNextReported};
 ghost use Rattle.iddqd_map.specs.PairConflict.{IsReportedBy, first_of, second_of, lesser_of};
 
 use crate::key_index::{
-    AsksAt, Checks, FindsSame, HashedAt, Inserts, KeyIndex, Left, Moves, OrderedAt, Removes, Right,
-    Sizes, TakesAt,
+    Checks, FindsSame, FindsWithHashAt, HashedAt, Inserts, KeyIndex, Left, Moves, OrderedAt,
+    Removes, Right, Sizes, TakesAt,
 };
 use crate::pair_conflict::{PairConflict, ReportsPair};
 use iddqd::index_remap::IndexRemap;
 use iddqd::internal::{ValidateCompact, ValidateRefusal, ValidationError};
 use iddqd::item_index::ItemIndex;
 use iddqd::item_set::ItemSet;
+use iddqd_keys::hash_query::HashQuery;
 use iddqd_keys::order_query::OrdQuery;
-use iddqd_keys::query::HashQuery;
 use std::alloc::{AllocError, Global};
 use std::marker::PhantomData;
 use std::ops::Bound;
@@ -48,7 +49,7 @@ where
 
     type Conflict = C;
 
-    type Asked = (A::Asked, B::Asked);
+    type KnownHashes = (A::KnownHashes, B::KnownHashes);
 
     ghost Keys = { A.Keys × B.Keys };
 
@@ -68,11 +69,11 @@ where
 
     ghost kept = { λ slots count. A.kept slots count + B.kept slots count };
 
-    ghost may_lack = { A.may_lack || B.may_lack };
+    ghost may_need_memory = { A.may_need_memory || B.may_need_memory };
 
-    ghost same = { λ s x y. A.same s x.first y.first × B.same s x.second y.second };
+    ghost same = { λ x y. A.same x.first y.first × B.same x.second y.second };
 
-    ghost key_count = { A.key_count + B.key_count };
+    ghost unique_keys = { A.unique_keys + B.unique_keys };
 
     ghost conflicts = { λ s item at. ReportBoth A.alike B.alike A.conflicts B.conflicts s item (C.first at)
         (C.second at) };
@@ -84,7 +85,7 @@ where
 
     ghost kept_none = { sum_none A.kept_none B.kept_none };
 
-    ghost same_as_itself = { λ s x. (A.same_as_itself s x.first, B.same_as_itself s x.second) };
+    ghost same_as_itself = { λ x. (A.same_as_itself x.first, B.same_as_itself x.second) };
 
     ghost same_indexes = { λ x y state s same is. (
       A.same_indexes x.first y.first state s same.0 is.0,
@@ -117,12 +118,12 @@ where
         (A.reported_some s item) (B.reported_some s item) (C.first at) (C.second at) conflicts };
 
     ghost few_reported = { λ at. few_both (IsReportedBy A.reports (C.first at)) (IsReportedBy B.reports (C.second at))
-        A.key_count
-        B.key_count (few_by_one A.reports A.key_count A.few_reported (C.first at))
-        (few_by_one B.reports B.key_count B.few_reported (C.second at)) };
+        A.unique_keys
+        B.unique_keys (few_by_one A.reports A.unique_keys A.few_reported (C.first at))
+        (few_by_one B.reports B.unique_keys B.few_reported (C.second at)) };
 
-    fn unasked() -> (A::Asked, B::Asked) {
-        (A::unasked(), B::unasked())
+    fn no_hashes() -> (A::KnownHashes, B::KnownHashes) {
+        (A::no_hashes(), B::no_hashes())
     }
 }
 
@@ -349,7 +350,7 @@ where
         &mut self,
         items: &ItemSet<T>,
         state: &S,
-        asked: (A::Asked, B::Asked),
+        asked: (A::KnownHashes, B::KnownHashes),
         plan: &(A::Move, B::Move),
         ix: ItemIndex,
         item: &T,
@@ -390,7 +391,7 @@ where
     }
 }
 
-// The first index finds the only item that can share all keys.
+// The first key index finds the only item that can share all keys.
 impl<T, S, A, B, C> FindsSame<T, S> for Pair<A, B, C>
 where
     A: FindsSame<T, S>,
@@ -411,7 +412,7 @@ where
     }
 }
 
-// What the first reported, and the second where it reported anything.
+// What the first reported, and what the second reported if it did.
 fn first_with<A, B>(one: A, other: Option<B>) -> PairConflict<A, B>
     ensures first { first_of result ≡ Some one }
     ensures second { second_of result ≡ other }
@@ -422,7 +423,7 @@ fn first_with<A, B>(one: A, other: Option<B>) -> PairConflict<A, B>
     }
 }
 
-// The next index past one that one of the two reported, if it reported any.
+// The next reported index past `before`; `None` if this key index reported nothing.
 fn next_of<T, S, X: Inserts<T, S>>(
     conflict: Option<X::Conflict>,
     before: &Option<ItemIndex>,
@@ -484,20 +485,20 @@ where
     }
 }
 
-impl<P, T, S, A, B, C> AsksAt<Left<P>, T, S> for Pair<A, B, C>
+impl<P, T, S, A, B, C> FindsWithHashAt<Left<P>, T, S> for Pair<A, B, C>
 where
-    A: AsksAt<P, T, S>,
+    A: FindsWithHashAt<P, T, S>,
     B: KeyIndex<T, S>,
     C: ReportsPair<A::Conflict, B::Conflict>,
 {
-    fn ask<Q: HashQuery<A::Key>>(
+    fn find_with_hash<Q: HashQuery<A::Key>>(
         &self,
         items: &ItemSet<T>,
         state: &S,
         query: Q,
-    ) -> (Option<ItemIndex>, (A::Asked, B::Asked)) {
-        let (found, asked) = self.first.ask(items, state, query);
-        (found, (asked, B::unasked()))
+    ) -> (Option<ItemIndex>, (A::KnownHashes, B::KnownHashes)) {
+        let (found, asked) = self.first.find_with_hash(items, state, query);
+        (found, (asked, B::no_hashes()))
     }
 }
 
@@ -539,20 +540,20 @@ where
     }
 }
 
-impl<P, T, S, A, B, C> AsksAt<Right<P>, T, S> for Pair<A, B, C>
+impl<P, T, S, A, B, C> FindsWithHashAt<Right<P>, T, S> for Pair<A, B, C>
 where
     A: KeyIndex<T, S>,
-    B: AsksAt<P, T, S>,
+    B: FindsWithHashAt<P, T, S>,
     C: ReportsPair<A::Conflict, B::Conflict>,
 {
-    fn ask<Q: HashQuery<B::Key>>(
+    fn find_with_hash<Q: HashQuery<B::Key>>(
         &self,
         items: &ItemSet<T>,
         state: &S,
         query: Q,
-    ) -> (Option<ItemIndex>, (A::Asked, B::Asked)) {
-        let (found, asked) = self.second.ask(items, state, query);
-        (found, (A::unasked(), asked))
+    ) -> (Option<ItemIndex>, (A::KnownHashes, B::KnownHashes)) {
+        let (found, asked) = self.second.find_with_hash(items, state, query);
+        (found, (A::no_hashes(), asked))
     }
 }
 

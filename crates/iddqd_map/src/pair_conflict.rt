@@ -5,11 +5,11 @@ ghost use Rattle.iddqd_map.specs.PairConflict.{first_of, second_of};
 /// The conflicts that the two key indexes of a pair reported.
 #[derive(Clone, Copy, Debug, PartialEq, Eq, Drop)]
 pub enum PairConflict<A, B> {
-    /// The first alone.
+    /// Only those of the first.
     First(A),
-    /// The second alone.
+    /// Only those of the second.
     Second(B),
-    /// Both.
+    /// Those of both.
     Both(A, B),
 }
 

@@ -1,4 +1,4 @@
-//! Why a map doesn't take an item. Each refusal hands the item back, and the items of the map stay.
+//! Why a map refuses an item. Each refusal returns the item, and the items of the map stay.
 ghost use Rattle.std.specs.Prelude.{◌≡◌};
 ghost use Rattle.iddqd_map.specs.Refusal.{insert_refusal_item, overwrite_refusal_item, replace_refusal_item};
 
@@ -8,31 +8,31 @@ use std::fmt;
 /// Why an item was not inserted. The item comes back.
 #[derive(Debug, PartialEq, Eq, Drop)]
 pub enum InsertRefusal<T, C> {
-    /// There are items that have its keys: where they are.
+    /// Stored items have some of its keys; `at` has their indexes.
     Duplicate { item: T, at: C },
-    /// None has its keys, and there are as many items as the limit allows.
+    /// No stored item has one of its keys, and there are as many items as the limit allows.
     Full(T),
-    /// None has its keys, there is place for it, and memory was refused.
+    /// No stored item has one of its keys, the limit isn't reached, and memory ran out.
     Memory(T),
 }
 
-/// Why an item was not taken by an insert that overwrites. The item comes back.
+/// Why an insert that overwrites refused an item. The item comes back.
 #[derive(Debug, PartialEq, Eq, Drop)]
 pub enum OverwriteRefusal<T> {
-    /// None has its keys, and there are as many items as the limit allows.
+    /// No stored item has one of its keys, and there are as many items as the limit allows.
     Full(T),
-    /// There is place for it, and memory was refused.
+    /// Memory ran out. The limit isn't reached, or a stored item has one of its keys.
     Memory(T),
 }
 
-/// Why an item didn't become another one. The other one comes back.
+/// Why an item was not replaced. The new one comes back.
 #[derive(Debug, PartialEq, Eq, Drop)]
 pub enum ReplaceRefusal<T, C> {
-    /// There is no such item.
+    /// There is no item to replace.
     Missing(T),
-    /// Other items have keys of the new one: where they are.
+    /// Other items have some keys of the new one; `at` has their indexes.
     Duplicate { item: T, at: C },
-    /// No other item has a key of the new one, and memory was refused.
+    /// No other item has a key of the new one, and memory ran out.
     Memory(T),
 }
 
@@ -50,7 +50,7 @@ impl<T, C: Drop> InsertRefusal<T, C> {
 }
 
 impl<T> OverwriteRefusal<T> {
-    /// The item that was not taken.
+    /// The item that was refused.
     pub fn into_item(self) -> T
         ensures { result ≡ overwrite_refusal_item self }
     {
@@ -62,7 +62,7 @@ impl<T> OverwriteRefusal<T> {
 }
 
 impl<T, C: Drop> ReplaceRefusal<T, C> {
-    /// The item that no other one became.
+    /// The item that was to replace another one.
     pub fn into_item(self) -> T
         ensures { result ≡ replace_refusal_item self }
     {

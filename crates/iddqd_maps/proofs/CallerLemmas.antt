@@ -15,7 +15,7 @@ use Rattle.iddqd_map.specs.Map.{MapState, FindsItem, IsOnly, Removes}
 use Rattle.iddqd_map.specs.Modify.{Modifies}
 use Rattle.iddqd_map.specs.RangeRetain.{KeepsMisses}
 use Rattle.iddqd_keys.specs.Removals.{removed_all}
-use Rattle.iddqd_map.specs.Retain.{Retains, refused_of}
+use Rattle.iddqd_map.specs.Retain.{Retains, removed_of}
 use Rattle.iddqd_map.specs.declared.refusal.ReplaceRefusal.{ReplaceRefusal}
 use Rattle.iddqd_ord_map.specs.Retain.{RetainsAlong}
 
@@ -133,11 +133,11 @@ fewer_all s (ix ∷ rest) =
 module _ {F T : Type 0} (ask : F → T → Bool → F → Type 0) (f : F) (old new : MapState T) where
   -- `retain` leaves no more items than there were
   pub retains_fewer : Retains ask f old new → live_count new.store ≤ live_count old.store
-  retains_fewer retains = subst (λ s. live_count s ≤ live_count old.store) (sym retains.retained.left) (fewer_all old.store (refused_of retains.retained.asks))
+  retains_fewer retains = subst (λ s. live_count s ≤ live_count old.store) (sym retains.retained.left) (fewer_all old.store (removed_of retains.retained.asks))
 
   -- nor does that of a map in order
   pub retains_along_fewer :
       (is_walk : Store T → List (ℕ × T) → Type 0)
       → RetainsAlong is_walk ask f old new
       → live_count new.store ≤ live_count old.store
-  retains_along_fewer is_walk retains = subst (λ s. live_count s ≤ live_count old.store) (sym retains.retained.left) (fewer_all old.store (refused_of retains.retained.asks))
+  retains_along_fewer is_walk retains = subst (λ s. live_count s ≤ live_count old.store) (sym retains.retained.left) (fewer_all old.store (removed_of retains.retained.asks))

@@ -8,7 +8,7 @@ use Rattle.iddqd.proofs.StoreLemmas.{contains_head, contains_tail, contains_case
 use Rattle.iddqd_keys.specs.KeyWalk.{pairs_at}
 use Rattle.iddqd_map.specs.Map.{MapState}
 use Rattle.iddqd_map.specs.RangeRetain.{RetainsWithin}
-use Rattle.iddqd_map.specs.Retain.{kept_of, refused_of, Retains, RetainsTo}
+use Rattle.iddqd_map.specs.Retain.{kept_of, removed_of, Retains, RetainsTo}
 use Rattle.iddqd_ord_map.specs.Retain.{RetainsAlong}
 pub use Rattle.iddqd_hash.proofs.AskLemmas.{CanAsk-by}
 
@@ -98,7 +98,7 @@ module _
         (f : F) (asks : List ((ℕ × T) × Bool)) (last : F) (ix : ℕ)
         → I f
         → FoldsTo (λ p a q. ask p a.0.1 a.1 q) f asks last
-        → Contains (refused_of asks) ix
+        → Contains (removed_of asks) ix
         → (x : T) × Contains (map (λ a. a.0) asks) (ix, x) × (test x ≡ false)
     refused_fails f [] last ix i asked here = absurd (contains_none ix here)
     refused_fails f (((at, y), true) ∷ asks) last ix i asked here =
@@ -107,7 +107,7 @@ module _
         (x, contains_tail (at, y) (ix, x) (map (λ a. a.0) asks) there, fails)
     refused_fails f (((at, y), false) ∷ asks) last ix i asked here =
         let one = says f y false asked.0 i asked.1 in
-        elim (contains_cases at ix (refused_of asks) here) [
+        elim (contains_cases at ix (removed_of asks) here) [
           | inl same ↦ (
             y,
             subst (λ k. Contains ((at, y) ∷ map (λ a. a.0) asks) (k, y)) same (contains_head (at, y) (map (λ a. a.0) asks)),
@@ -125,7 +125,7 @@ module _
         → FoldsTo (λ p a q. ask p a.0.1 a.1 q) f asks last
         → Contains (map (λ a. a.0) asks) (ix, x)
         → test x ≡ false
-        → Contains (refused_of asks) ix
+        → Contains (removed_of asks) ix
     fails_refused f [] last ix x i asked here fails = absurd (contains_none (ix, x) here)
     fails_refused f (((at, y), true) ∷ asks) last ix x i asked here fails =
         let one = says f y true asked.0 i asked.1 in
@@ -141,8 +141,8 @@ module _
         elim (contains_cases (at, y) (ix, x) (map (λ a. a.0) asks) here) [
           | inl same ↦
               let place : at ≡ ix = ap (λ p. p.0) same in
-              subst (λ k. Contains (at ∷ refused_of asks) k) place (contains_head at (refused_of asks))
-          | inr behind ↦ contains_tail at ix (refused_of asks) (fails_refused asked.0 asks last ix x one.1 asked.2 behind fails)
+              subst (λ k. Contains (at ∷ removed_of asks) k) place (contains_head at (removed_of asks))
+          | inr behind ↦ contains_tail at ix (removed_of asks) (fails_refused asked.0 asks last ix x one.1 asked.2 behind fails)
         ]
 
     -- of a range or a group: items that pass stay under their indexes, and those within that fail are gone

@@ -19,7 +19,7 @@ pub use iddqd::{
     item_set as item_set,
 };
 pub use iddqd_by_hash::hashed_group as hashed_group;
-pub use iddqd_keys::{key_of as key_of, order_query as order_query, query as query};
+pub use iddqd_keys::{hash_query as hash_query, key_of as key_of, order_query as order_query};
 pub use iddqd_map::{
     bi_hash_map as bi_hash_map, by_hash as by_hash, by_hash_multi as by_hash_multi,
     grouped_at as grouped_at, id_hash_map as id_hash_map, key_index as key_index, map as map,

@@ -12,7 +12,7 @@ use Rattle.iddqd_order.specs.declared.btree_table.gap.Gap.{Gap}
 use Rattle.iddqd_by_order.specs.Ordered.{Takes}
 use Rattle.iddqd_keys.specs.OrderedQuery.{IsQuery-key}
 use Rattle.iddqd_keys.specs.Scan.{AnswersScan}
-use Rattle.iddqd_keys.specs.KeyIndex.{IsApart}
+use Rattle.iddqd_keys.specs.AnyTable.{HasDistinctKeys}
 use Rattle.iddqd_by_order.proofs.OrderedFindLemmas.{answer, LooksUp-stored, IsVacantAt-placed}
 use Rattle.iddqd_map.specs.KeyIndex.{PlansMove, TakesFound}
 use Rattle.iddqd_map.specs.Map.{shares}
@@ -24,7 +24,7 @@ use Rattle.iddqd_ord_map.specs.OrderedIndexing.{Sorts, PlansOrConflicts}
 use Rattle.iddqd_ord_map.specs.declared.ordered_move.Move.{Move}
 use Rattle.iddqd_ord_map.specs.declared.ordered_move.Move.TheVariants.{Stays, Moves}
 use Rattle.iddqd_ord_map.proofs.OrderedIndexingLemmas.{Sorts-removed}
-use Rattle.iddqd_ord_map.proofs.OrderedMoveLemmas.{IsApart-moved}
+use Rattle.iddqd_ord_map.proofs.OrderedMoveLemmas.{HasDistinctKeys-moved}
 
 module _ {T K : Type 0} (key_of : T → K) (compare : K → K → Ordering) (total : IsTotalOrder compare) (s : Store T)
     (order : List ℕ) (o : Sorts key_of compare s order) (ix : ℕ) (item : T) where
@@ -36,7 +36,7 @@ module _ {T K : Type 0} (key_of : T → K) (compare : K → K → Ordering) (tot
   no_other Moves planned j hit = absurd (planned j hit)
   no_other Stays (y, is, same) j (x, there, like) =
       let e = eq_by_cmp_equiv total in
-      o.exact.apart j ix x y there is (sym (e.congr (key_of item) (key_of x) (key_of y) like) ∙ same)
+      o.in_sync.apart j ix x y there is (sym (e.congr (key_of item) (key_of x) (key_of y) like) ∙ same)
 
   moves_unlike :
       (plan : Move)
@@ -68,10 +68,10 @@ module _ {T K : Type 0} (key_of : T → K) (compare : K → K → Ordering) (tot
     (steady : IsSteady g (order_of t) None read (answer key_of compare s (order_of t) (compare (key_of item))) old) where
   pub LooksPlaceUp-found : (r : Result Gap ℕ) → FindsGap g read t old r new → LooksPlaceUp key_of compare s t item r
   LooksPlaceUp-found (Err ix) (asked, found) =
-      (LooksUp-stored key_of compare s (order_of t) (compare (key_of item)) o.held g read old new total (IsQuery-key compare total (key_of item)) steady ix found.stored found.hit).as_scan o.exact
+      (LooksUp-stored key_of compare s (order_of t) (compare (key_of item)) o.held g read old new total (IsQuery-key compare total (key_of item)) steady ix found.stored found.hit).as_scan o.in_sync
   LooksPlaceUp-found (Ok gap) (asked, found) =
       let vacant = IsVacantAt-placed key_of compare s (order_of t) (compare (key_of item)) o.held g read old new total (IsQuery-key compare total (key_of item)) steady (gap_place t gap) found.within found.place found.miss in
-      (vacant.missed.as_scan o.exact, record { fits = found.fits; vacant = vacant })
+      (vacant.missed.as_scan o.in_sync, record { fits = found.fits; vacant = vacant })
 
 -- what a removal leaves
 module _ {T K : Type 0} (key_of : T → K) (compare : K → K → Ordering) (total : IsTotalOrder compare) (s : Store T)
@@ -96,15 +96,15 @@ module _ {T K : Type 0} (key_of : T → K) (compare : K → K → Ordering) wher
   stays_by_key s ix item Stays planned = planned
   stays_by_key s ix item Moves planned = tt
 
-  pub IsApart-planned :
+  pub HasDistinctKeys-planned :
       (total : IsTotalOrder compare) (s : Store T) (order : List ℕ)
       → Sorts key_of compare s order
       → (ix : ℕ) (item was : T)
       → get s ix ≡ Some was
       → (plan : Move)
       → PlansOrConflicts key_of compare s ix item (Ok plan)
-      → IsApart key_of (eq_by_cmp compare) (rebound s ix item)
-  IsApart-planned total s order o ix item was live Stays planned =
-      (Sorts-kept key_of compare total s order o ix item was live planned).exact.apart
-  IsApart-planned total s order o ix item was live Moves planned =
-      IsApart-moved key_of compare total s order (Sorts-scan key_of compare s order o) ix item was live o.exact.apart planned
+      → HasDistinctKeys key_of (eq_by_cmp compare) (rebound s ix item)
+  HasDistinctKeys-planned total s order o ix item was live Stays planned =
+      (Sorts-kept key_of compare total s order o ix item was live planned).in_sync.apart
+  HasDistinctKeys-planned total s order o ix item was live Moves planned =
+      HasDistinctKeys-moved key_of compare total s order (Sorts-scan key_of compare s order o) ix item was live o.in_sync.apart planned

@@ -9,12 +9,12 @@ use Rattle.iddqd_map.specs.declared.refusal.ReplaceRefusal.TheVariants.{Missing,
 use Rattle.iddqd_ord_map.specs.OrdMap.{IsTakenAt}
 
 module _ {T : Type 0} where
-  module _ (alike : T → T → Bool) (may_lack : Bool) (old new : MapState T) (ix : ℕ) (item was : T)
+  module _ (alike : T → T → Bool) (may_need_memory : Bool) (old new : MapState T) (ix : ℕ) (item was : T)
       (live : get old.store ix ≡ Some was) where
     pub ReplacesAt-live :
         (r : Result T (ReplaceRefusal T ℕ))
-        → ReplacesIfLive alike alike may_lack (IsTakenAt alike) old ix item r new
-        → ReplacesAt alike alike may_lack (IsTakenAt alike) old ix item r new
+        → ReplacesIfLive alike alike may_need_memory (IsTakenAt alike) old ix item r new
+        → ReplacesAt alike alike may_need_memory (IsTakenAt alike) old ix item r new
     ReplacesAt-live (Ok left) is = is.1
     ReplacesAt-live (Err (Missing back)) (same, none, unchanged) = absurd (cc (none, live))
     ReplacesAt-live (Err (Taken back at)) is = is.1
@@ -23,8 +23,8 @@ module _ {T : Type 0} where
     pub Replaces-at :
         (test : T → Bool) (r : Result T (ReplaceRefusal T ℕ))
         → AnswersScan old.store test (Some ix)
-        → ReplacesIfLive alike alike may_lack (IsTakenAt alike) old ix item r new
-        → Replaces alike alike may_lack (IsTakenAt alike) old test item r new
+        → ReplacesIfLive alike alike may_need_memory (IsTakenAt alike) old ix item r new
+        → Replaces alike alike may_need_memory (IsTakenAt alike) old test item r new
     Replaces-at test (Ok left) scan is = (ix, scan, is.1)
     Replaces-at test (Err (Missing back)) scan (same, none, unchanged) = absurd (cc (none, live))
     Replaces-at test (Err (Taken back at)) scan is = (ix, scan, is.1)

@@ -23,7 +23,7 @@ use Rattle.iddqd_order.proofs.KeyOrderLemmas.{key_then_index-total, with_ties-ke
 use Rattle.iddqd_order.proofs.MemberLemmas.{contains-inserted_at, contains-inserted_other, contains-inserted_cases, contains-without, contains-from_without}
 use Rattle.iddqd_keys.specs.Scan.{IsLive, IsHit, HasNoHit, AreApart}
 use Rattle.iddqd_by_order.specs.Ordered.{IsInPlace, IsSortedScan, compared, key_at}
-use Rattle.iddqd_keys.specs.KeyIndex.{IsApart}
+use Rattle.iddqd_keys.specs.AnyTable.{HasDistinctKeys}
 use Rattle.iddqd_ord_map.specs.ByOrderMulti.{item_answer}
 use Rattle.iddqd_ord_map.specs.OrderedIndexing.{has_key}
 use Rattle.iddqd_by_order.proofs.OrderedHoldsLemmas.{Holds-inserted}
@@ -171,11 +171,11 @@ module _
         IsSortedScan-moved put.place left (put.bound (item_answer key_of compare s item) (record { steady = steady; rising = IsRising-new })) (is ∙ put.inserted)
 
     -- where no item had the new key, still no two items share one
-    pub IsApart-moved :
-        IsApart key_of (eq_by_cmp compare) s
+    pub HasDistinctKeys-moved :
+        HasDistinctKeys key_of (eq_by_cmp compare) s
         → HasNoHit s (has_key key_of compare (key_of item))
-        → IsApart key_of (eq_by_cmp compare) there
-    IsApart-moved apart none i j x y p q same =
+        → HasDistinctKeys key_of (eq_by_cmp compare) there
+    HasDistinctKeys-moved apart none i j x y p q same =
         let symm = (eq_by_cmp_equiv total).symm in
         elim (rebound_cases s ix item was live i x p) [
           | inl a ↦ elim (rebound_cases s ix item was live j y q) [

@@ -22,7 +22,7 @@ use Rattle.iddqd_by_order.specs.Ordered.{AreLive, Holds}
 use Rattle.iddqd_ord_map.specs.OrderedIndexing.{Sorts}
 use Rattle.iddqd_keys.proofs.KeyWalkLemmas.{IsInPlace-alike}
 use Rattle.iddqd_keys.specs.Removals.{removed_all}
-use Rattle.iddqd_map.specs.Retain.{kept_of, refused_of}
+use Rattle.iddqd_map.specs.Retain.{kept_of, removed_of}
 use Rattle.iddqd_map.proofs.RetainLemmas.{Contains-live}
 use Rattle.iddqd_ord_map.specs.KeyOrder.{IsKeyWalk}
 use Rattle.iddqd_ord_map.specs.Pairs.{pair_at, pairs_at}
@@ -68,7 +68,7 @@ module _ {T : Type 0} where
   kept-push : (asks : List ((ℕ × T) × Bool)) (a : (ℕ × T) × Bool) → kept_of (asks ++ a ∷ []) ≡ kept_of asks ++ kept_of (a ∷ [])
   kept-push asks a = ap (map (λ (a : (ℕ × T) × Bool). a.0)) (filter-append (λ (a : (ℕ × T) × Bool). a.1) asks (a ∷ [])) ∙ map-append (λ (a : (ℕ × T) × Bool). a.0) _ _
 
-  refused-push : (asks : List ((ℕ × T) × Bool)) (a : (ℕ × T) × Bool) → refused_of (asks ++ a ∷ []) ≡ refused_of asks ++ refused_of (a ∷ [])
+  refused-push : (asks : List ((ℕ × T) × Bool)) (a : (ℕ × T) × Bool) → removed_of (asks ++ a ∷ []) ≡ removed_of asks ++ removed_of (a ∷ [])
   refused-push asks a = ap (map (λ (a : (ℕ × T) × Bool). a.0.0)) (filter-append (λ (a : (ℕ × T) × Bool). not a.1) asks (a ∷ [])) ∙ map-append (λ (a : (ℕ × T) × Bool). a.0.0) _ _
 
   -- what there is after a removal was there before
@@ -123,7 +123,7 @@ module _ {F T : Type 0} (takes : F → T → Type 0) (ask : F → T → Bool →
     pub each_once : map (λ a. a.0) asks ≡ pairs_at old done
     pub were_asked : FoldsTo (λ p a q. ask p a.0.1 a.1 q) f asks state
     pub kept : kept_of asks ≡ pairs_at now done
-    pub left : now ≡ removed_all old (refused_of asks)
+    pub left : now ≡ removed_all old (removed_of asks)
     pub rest : (j : ℕ) → Contains to_come j → get now j ≡ get old j
     pub live : AreLive old to_come
     pub valid : IsValid now
@@ -241,7 +241,7 @@ module _ {F T : Type 0} (takes : F → T → Type 0) (ask : F → T → Bool →
         were_asked = FoldsTo-push (λ p a q. ask p a.0.1 a.1 q) f w.asks state ((ix, item), false) next w.were_asked asked;
         kept = kept-push w.asks ((ix, item), false) ∙ append-nil _ ∙ w.kept ∙ sym left-removed;
         left =
-            ap (λ s. removed s ix) w.left ∙ sym (removed_all-push old (refused_of w.asks) ix)
+            ap (λ s. removed s ix) w.left ∙ sym (removed_all-push old (removed_of w.asks) ix)
             ∙ ap (removed_all old) (sym (refused-push w.asks ((ix, item), false)));
         rest = λ j there. get-removed_other now ix j (is_next j there) ∙ w.rest j (contains_tail ix j to_come there);
         live = λ j there. w.live j (contains_tail ix j to_come there);
@@ -279,9 +279,9 @@ module _ {T K : Type 0} (key_of : T → K) (compare : K → K → Ordering) (tot
       );
       once = IsDistinct-filter has_item order o.held.once;
     };
-    exact = record {
-      placed = IsInPlace-alike key_of compare total old new left_over same_there (IsStrictlySortedBy-filter _ has_item order o.exact.placed);
-      apart = λ i j x y p q same. o.exact.apart i j x y (were i x p) (were j y q) same;
+    in_sync = record {
+      placed = IsInPlace-alike key_of compare total old new left_over same_there (IsStrictlySortedBy-filter _ has_item order o.in_sync.placed);
+      apart = λ i j x y p q same. o.in_sync.apart i j x y (were i x p) (were j y q) same;
     };
   }
 
@@ -289,12 +289,12 @@ module _ {T K : Type 0} (key_of : T → K) (compare : K → K → Ordering) (tot
   pub IsKeyWalk-left : (pairs : List (ℕ × T)) → pairs ≡ pairs_at new order → IsKeyWalk key_of compare new pairs
   IsKeyWalk-left pairs is =
       subst (IsKeyWalk key_of compare new) (pairs_at-live new order ∙ sym is)
-      (IsWalkWithin-sorted key_of compare new (λ _. true) left_over (SortsWithin-all key_of compare new left_over Sorts-left) Sorts-left.exact.apart)
+      (IsWalkWithin-sorted key_of compare new (λ _. true) left_over (SortsWithin-all key_of compare new left_over Sorts-left) Sorts-left.in_sync.apart)
 
 -- asks along a table that sorts the items were asked in the order of the keys
 module _ {F T K : Type 0} (key_of : T → K) (compare : K → K → Ordering) (total : IsTotalOrder compare) (ask : F → T → Bool → F → Type 0) (f last : F) (old new : Store T) (order left : List ℕ) (o : Sorts key_of compare old order) (r : RetainsAlongTo (λ s pairs. pairs ≡ pairs_at s order) ask f old new last) where
   were : (j : ℕ) (item : T) → get new j ≡ Some item → get old j ≡ Some item
-  were j item is = was_there old (refused_of r.asks) j item (subst (λ s. get s j ≡ Some item) r.left is)
+  were j item is = was_there old (removed_of r.asks) j item (subst (λ s. get s j ≡ Some item) r.left is)
 
   pub Sorts-retained : left ≡ filter (λ ix. is_some (get new ix)) order → Sorts key_of compare new left
   Sorts-retained is = subst (Sorts key_of compare new) (sym is) (Sorts-left key_of compare total old new order o were)
@@ -304,7 +304,7 @@ module _ {F T K : Type 0} (key_of : T → K) (compare : K → K → Ordering) (t
     asks = r.asks;
     each_once =
         subst (IsKeyWalk key_of compare old) (sym r.each_once)
-        (IsWalkWithin-sorted key_of compare old (λ _. true) order (SortsWithin-all key_of compare old order o) o.exact.apart);
+        (IsWalkWithin-sorted key_of compare old (λ _. true) order (SortsWithin-all key_of compare old order o) o.in_sync.apart);
     were_asked = r.were_asked;
     kept = IsKeyWalk-left key_of compare total old new order o were (kept_of r.asks) r.kept;
     left = r.left;

@@ -14,7 +14,7 @@ use Rattle.iddqd.proofs.LiveLemmas.{item_at, live_at}
 use Rattle.iddqd.proofs.StoreLemmas.{contains_head, contains_tail, contains_cases, contains_none}
 use Rattle.iddqd_order.specs.KeyOrder.{key_then_index}
 use Rattle.iddqd_keys.specs.Scan.{IsLive}
-use Rattle.iddqd_keys.specs.KeyIndex.{IsApart}
+use Rattle.iddqd_keys.specs.AnyTable.{HasDistinctKeys}
 use Rattle.iddqd_by_order.specs.Ordered.{AreLive, key_at}
 use Rattle.iddqd_by_order.specs.OrderedWalk.{SortsWithin}
 use Rattle.iddqd_ord_map.specs.OrderedIndexing.{Sorts}
@@ -145,14 +145,14 @@ module _ {T K : Type 0} (key_of : T → K) (compare : K → K → Ordering) (s :
       λ here. let (item, is) = item_at s ix ((o.held.each ix).0 here) in (item, is, refl),
       λ (item, is, passes). (o.held.each ix).1 (live_at s ix item is),
     );
-    placed = o.exact.placed;
+    placed = o.in_sync.placed;
   }
 
   module _ (within : K → _) (xs : List ℕ) (o : SortsWithin key_of compare within s xs) where
     pub AreLive-within : AreLive s xs
     AreLive-within ix here = let (item, is, passes) = (o.each ix).0 here in live_at s ix item is
 
-    module _ (apart : IsApart key_of (eq_by_cmp compare) s) where
+    module _ (apart : HasDistinctKeys key_of (eq_by_cmp compare) s) where
       rises : (i j : ℕ) (a b : ℕ × T) → i < j → slice_get (pairs_at s xs) i ≡ Some a → slice_get (pairs_at s xs) j ≡ Some b → compare (key_of a.1) (key_of b.1) ≡ Less
       rises i j a b before at_i at_j =
           let p = place_of_pair s xs AreLive-within i a at_i in

@@ -10,7 +10,7 @@ use Rattle.iddqd_order.specs.declared.btree_table.gap.Gap.{Gap}
 use Rattle.iddqd_order.proofs.GapLemmas.{order-same, place-same, Fits-same}
 use Rattle.iddqd_by_order.specs.Ordered.{IsSortedScan}
 use Rattle.iddqd_keys.specs.Scan.{AnswersScan, AreApart, IsHit}
-use Rattle.iddqd_keys.specs.KeyIndex.{IsApart}
+use Rattle.iddqd_keys.specs.AnyTable.{HasDistinctKeys}
 use Rattle.iddqd_by_order.proofs.OrderedHoldsLemmas.{Holds-rebound}
 use Rattle.iddqd_by_order.proofs.OrderedPlaceLemmas.{Keeps-rebound}
 use Rattle.iddqd_map.specs.KeyIndex.{HaveSameKeys}
@@ -19,7 +19,7 @@ use Rattle.iddqd_ord_map.specs.ByOrder.{IsGapFor}
 use Rattle.iddqd_ord_map.specs.OrderedIndexing.{Sorts, has_key}
 use Rattle.iddqd_ord_map.specs.SortedScanLaws.{shares_equivalence, unchanged, has_its_key, IsSortedScan-alike}
 
--- what one index conflicts with is the one that it reports
+-- the index that a scan returns is the only one that hits
 pub reported_one :
     {T : Type 0} (s : Store T) (test : T → Bool) (at : ℕ)
     → AnswersScan s test (Some at)
@@ -27,7 +27,7 @@ pub reported_one :
     → (ix ≡ at) ↔ IsHit s test ix
 reported_one s test at scan ix = ((scan ix).1, (scan ix).0)
 
--- and that is one
+-- at most one index is reported
 pub one_reported : (at : ℕ) → (l : List ℕ) × (length l ≤ 1) × ((ix : ℕ) → ix ≡ at → Contains l ix)
 one_reported at = (at ∷ [], le_refl 1, λ ix is. subst (Contains (at ∷ [])) (sym is) (contains_head at []))
 
@@ -49,22 +49,22 @@ module _ {T K : Type 0} (key_of : T → K) (compare : K → K → Ordering) wher
     vacant = rw (order-same t u same, place-same t u gap same) is.vacant;
   }
 
-  -- a table that sorts the items is one whose list is sorted, where no two items share a key
+  -- a table sorts the items if and only if its list is sorted and no two items share a key
   pub Sorts-scan : (s : Store T) (order : List ℕ) → Sorts key_of compare s order → IsSortedScan key_of compare s order
-  Sorts-scan s order is = record { holds = is.held; placed = is.exact.placed }
+  Sorts-scan s order is = record { holds = is.held; placed = is.in_sync.placed }
 
   pub Sorts-apart :
       (s : Store T) (order : List ℕ)
       → IsSortedScan key_of compare s order
-      → IsApart key_of (eq_by_cmp compare) s
+      → HasDistinctKeys key_of (eq_by_cmp compare) s
       → Sorts key_of compare s order
-  Sorts-apart s order is apart = record { held = is.holds; exact = record { placed = is.placed; apart = apart } }
+  Sorts-apart s order is apart = record { held = is.holds; in_sync = record { placed = is.placed; apart = apart } }
 
   module _ (total : IsTotalOrder compare) where
     abbrev alike : T → T → Bool
     alike = shares key_of (eq_by_cmp compare)
 
-    -- a live index that is given an item with the same key
+    -- the item at a live index is replaced by one with the same key
     pub Sorts-kept :
         (s : Store T) (order : List ℕ)
         → Sorts key_of compare s order
@@ -74,12 +74,12 @@ module _ {T K : Type 0} (key_of : T → K) (compare : K → K → Ordering) wher
         → Sorts key_of compare (rebound s ix item) order
     Sorts-kept s order o ix item was live hit = record {
       held = Holds-rebound s order o.held ix item was live;
-      exact =
+      in_sync =
           (Keeps-rebound key_of compare total s order ix item was live
-          (unchanged key_of compare total s ix item hit)).exact o.exact;
+          (unchanged key_of compare total s ix item hit)).in_sync o.in_sync;
     }
 
-    -- an item that was modified, and has its key still
+    -- an item was modified and has the same key
     pub Sorts-modified :
         (s : Store T) (order : List ℕ)
         → Sorts key_of compare s order
@@ -104,4 +104,4 @@ module _ {T K : Type 0} (key_of : T → K) (compare : K → K → Ordering) wher
       pub Sorts-alike : (order : List ℕ) → Sorts key_of compare s order → Sorts key_of compare t order
       Sorts-alike order is =
           Sorts-apart t order (IsSortedScan-alike key_of compare total s t same order (Sorts-scan s order is))
-          (apart_both is.exact.apart)
+          (apart_both is.in_sync.apart)

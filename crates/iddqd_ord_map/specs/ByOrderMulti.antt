@@ -15,7 +15,7 @@ use Rattle.iddqd_ord_map.specs.declared.ordered_move.Move.{Move}
 use Rattle.iddqd_ord_map.specs.declared.ordered_move.Move.TheVariants.{Stays, Moves}
 
 module _ {T : Type 0} where
-  -- the least of the live indexes whose items pass, or the greatest: none where none passes
+  -- the least of the live indexes whose items pass, or the greatest; `None` if no item passes
   abbrev pub IsLeastHit : Store T → (T → Bool) → Option ℕ → Type 0
   IsLeastHit s test (Some ix) = IsHit s test ix × ((j : ℕ) → IsHit s test j → ix ≤ j)
   IsLeastHit s test None = HasNoHit s test
@@ -25,7 +25,7 @@ module _ {T : Type 0} where
   IsGreatestHit s test None = HasNoHit s test
 
 module _ {T K : Type 0} (key_of : T → K) (compare : K → K → Ordering) where
-  -- there are so many live indexes whose items' keys are within
+  -- `count` is the number of live indexes whose items' keys are within
   abbrev pub Counts : (K → Bool) → Store T → ℕ → Type 0
   Counts within s count = (indexes : List ℕ) × SortsWithin key_of compare within s indexes × (count ≡ length indexes)
 
@@ -33,13 +33,13 @@ module _ {T K : Type 0} (key_of : T → K) (compare : K → K → Ordering) wher
   abbrev pub item_answer : Store T → T → ℕ → Ordering
   item_answer s item ix = compared (compare (key_of item)) (key_at key_of s ix)
 
-  -- the place is one of the table, where its list has room for the next index under the item's key, ties by index
+  -- the gap is one of the table's, and the place in the list for the next index under the item's key, ties by index
   pub record IsOwnGapFor (s : Store T) (t : Order) (item : T) (gap : Gap) : Type 0 where
     pub fits : Fits t gap
     pub within : gap_place t gap ≤ length (order_of t)
     pub is_place : IsPlace (with_ties (Some (next_index s)) (item_answer s item)) (order_of t) (gap_place t gap)
 
-  -- a live index stays exactly where its item's key does
+  -- a live index stays if and only if its item's key does
   abbrev pub IsMoveFor : Store T → ℕ → T → Move → Type 0
   IsMoveFor s ix item Stays = IsHit s (has_key key_of compare (key_of item)) ix
   IsMoveFor s ix item Moves = IsHit s (λ was. not (has_key key_of compare (key_of item) was)) ix

@@ -6,12 +6,12 @@ use Rattle.iddqd.specs.Store.{Store}
 use Rattle.iddqd.specs.LiveItems.{live_items}
 
 module _ {X : Type 0} (stands_before : X → X → Bool) where
-  -- with x before the first one that it stands before
+  -- the list with x inserted before the first element that x stands before
   abbrev pub put_in_order : X → List X → List X
   put_in_order x [] = x ∷ []
   put_in_order x (y ∷ ys) = if stands_before x y then x ∷ y ∷ ys else y ∷ put_in_order x ys
 
-  -- all in order
+  -- the list, sorted
   abbrev pub in_order : List X → List X
   in_order [] = []
   in_order (x ∷ xs) = put_in_order x (in_order xs)

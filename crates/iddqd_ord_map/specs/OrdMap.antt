@@ -1,4 +1,4 @@
--- What the calls of a map with one key in order answer, where it is one item that shares the key.
+-- What the calls of a map with one ordered key return, given that at most one item has a key.
 use Rattle.std.specs.Prelude.{◌≡◌, ◌≢◌, ℕ, Bool, Option, Some, None, Result, Ok, Err}
 use Rattle.iddqd.specs.Store.{Store, rebound}
 use Rattle.iddqd_map.specs.Calls.{InsertsAt, RefusesFull, RefusesMemory}
@@ -12,12 +12,12 @@ module _ {T : Type 0} (alike : T → T → Bool) where
   abbrev pub ConflictsAt : Store T → T → ℕ → Type 0
   ConflictsAt s item at = AnswersScan s (alike item) (Some at)
 
-  -- the same, and it is another index than this one
+  -- the one item that shares the key with this one is at index `at`, which is not `ix`
   abbrev pub IsTakenAt : Store T → ℕ → T → ℕ → Type 0
   IsTakenAt s ix item at = (at ≢ ix) × AnswersScan s (alike item) (Some at)
 
-  -- What an insert that overwrites may answer and leave: the item is in the place of the one that had its key, which
-  -- comes back; or else it is inserted.
+  -- What an insert that overwrites may return and leave. If an item had the key, the new item replaces it and it is
+  -- returned. Otherwise the new item is inserted or refused.
   abbrev pub OverwritesOne :
       (ℕ → ℕ) → MapState T → T → Result (ℕ × Option T) (OverwriteRefusal T) → MapState T → Type 0
   OverwritesOne most old item (Ok (ix, Some was)) new =

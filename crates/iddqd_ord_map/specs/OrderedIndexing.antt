@@ -1,4 +1,4 @@
--- A table of indexes in an order by which each look-up of a store's items answers as a scan of them does.
+-- A table of indexes sorted so that each look-up returns what a scan of the store's items would.
 use Rattle.std.specs.Prelude.{◌≢◌, ℕ, Bool, List, Some, Result, Ok, Err}
 use Rattle.std.specs.Ordering.{eq_by_cmp}
 use Rattle.std.specs.declared.cmp.Ordering.{Ordering}
@@ -17,10 +17,10 @@ module _ {T K : Type 0} (key_of : T → K) (compare : K → K → Ordering) wher
   -- items share a key.
   pub record Sorts (s : Store T) (order : List ℕ) : Type 0 where
     pub held : Holds s order
-    pub exact : IsInSync key_of compare s order
+    pub in_sync : IsInSync key_of compare s order
 
-  -- What has to become of a live index that is given this item: it stays where the key stays, and else, where no item
-  -- has the key, it moves; or the index of another item that has the key.
+  -- The planned move of a live index whose item is to be replaced by this one: it stays if the key stays, and moves if
+  -- no item has the new key. Otherwise the index of the other item that has the new key.
   abbrev pub PlansOrConflicts : Store T → ℕ → T → Result Move ℕ → Type 0
   PlansOrConflicts s ix item (Ok Stays) = IsHit s (has_key (key_of item)) ix
   PlansOrConflicts s ix item (Ok Moves) = HasNoHit s (has_key (key_of item))

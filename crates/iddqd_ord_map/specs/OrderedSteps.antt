@@ -11,12 +11,12 @@ use Rattle.iddqd_ord_map.specs.OrderedIndexing.{has_key}
 use Rattle.iddqd_ord_map.specs.declared.ordered_move.Move.{Move}
 use Rattle.iddqd_ord_map.specs.declared.ordered_move.Move.TheVariants.{Stays, Moves}
 
--- How many indexes the blocks that a table reserved hold by themselves: beside the ten that any table holds, so it is
--- zero where nothing is reserved. It counts the reserved memory, too.
+-- How many indexes the reserved blocks of a table hold: its capacity without the ten indexes that any table holds, so
+-- it is zero if nothing is reserved. It is also the measure of the reserved memory.
 abbrev pub reserved_for : Order → ℕ
 reserved_for t = capacity t - 10
 
--- the same of the blocks that so many indexes need
+-- how many indexes the blocks hold that this number of indexes needs
 abbrev pub most_cells : ℕ → ℕ
 most_cells indexes = 30 * needed_blocks (indexes + 10)
 
@@ -25,12 +25,12 @@ abbrev pub waiting : Option ℕ → ℕ
 waiting None = 0
 waiting (Some blocks) = blocks
 
--- whether an index is entered anew
+-- whether the index moves
 abbrev pub moves : Move → Bool
 moves Stays = false
 moves Moves = true
 
--- as many blocks wait as an insert at the place needs, if it is one of the table
+-- as many blocks wait as an insert at the gap needs, if the gap is one of the table's
 abbrev pub HasBlocksAt : Order → Option ℕ → Gap → Type 0
 HasBlocksAt t blocks gap = Fits t gap → gap_blocks t gap ≤ waiting blocks
 

@@ -11,7 +11,7 @@ use Rattle.iddqd_order.specs.MapBTreeTable.{Order, HasSameTree, order_of}
 use Rattle.iddqd_order.proofs.GapLemmas.{order-same}
 use Rattle.iddqd_by_order.specs.Ordered.{Holds, IsSortedScan, key_at}
 use Rattle.iddqd_keys.specs.Scan.{IsHit, IsLive}
-use Rattle.iddqd_keys.specs.KeyIndex.{ChangesAt}
+use Rattle.iddqd_keys.specs.AnyTable.{ChangesAt}
 use Rattle.iddqd_by_order.proofs.OrderedHoldsLemmas.{Holds-rebound}
 use Rattle.iddqd_by_order.proofs.OrderedPlaceLemmas.{Keeps-rebound}
 use Rattle.iddqd_keys.proofs.KeyWalkLemmas.{IsInPlace-tied}
@@ -52,7 +52,7 @@ module _ {T K : Type 0} (key_of : T → K) (compare : K → K → Ordering) wher
         let differs = other.2 in
         cc
 
-    -- a live index that is given an item with the same key
+    -- the item at a live index is replaced by one with the same key
     pub IsSortedScan-kept :
         (s : Store T) (order : List ℕ)
         → IsSortedScan key_of compare s order

@@ -26,7 +26,7 @@ use iddqd::item_index::ItemIndex;
 use iddqd::item_set::ItemSet;
 use iddqd_by_order::ordered;
 use iddqd_by_order::ordered_next::next_between;
-use iddqd_keys::key_of::{ByKey, KeyOf, key_at};
+use iddqd_keys::key_of::{KeyOf, KeyQuery, key_at};
 use iddqd_keys::order_query::OrdQuery;
 use iddqd_map::key_index::{
     Checks, FindsSame, Here, Inserts, KeyIndex, Moves, OrderedAt, Removes, Sizes, TakesQuery,
@@ -42,7 +42,7 @@ use std::ops::Bound;
 #[derive(Drop)]
 pub struct ByOrder<E> {
     pub(crate) table: MapBTreeTable,
-    // The memory of the next insert, where that needs any.
+    // The memory of the next insert, if it needs any.
     blocks: Option<Blocks>,
     of: PhantomData<E>,
 }
@@ -95,7 +95,7 @@ impl<E> ByOrder<E> {
         iter_by::<T, E>(&self.table, items)
     }
 
-    /// The indexes whose items have keys between two bounds, in the order of the keys, from both ends: none where the
+    /// The indexes whose items have keys between two bounds, in the order of the keys, from both ends: none if the
     /// lower bound is above the upper one.
     ///
     /// It compares each query with at most 4 + 2d keys, where the number of items has d binary digits, and takes no
@@ -153,7 +153,7 @@ where
 
     type Conflict = ItemIndex;
 
-    type Asked = ();
+    type KnownHashes = ();
 
     ghost Keys = { E.Key };
 
@@ -173,11 +173,11 @@ where
 
     ghost kept = { λ slots count. most_cells count };
 
-    ghost may_lack = { true };
+    ghost may_need_memory = { true };
 
-    ghost same = { λ s x y. HasSameTree x.table y.table };
+    ghost same = { λ x y. HasSameTree x.table y.table };
 
-    ghost key_count = { 1 };
+    ghost unique_keys = { 1 };
 
     ghost conflicts = { λ s item at. AnswersScan s (shares E.key_of (eq_by_cmp E.Key.cmp) item) (Some at) };
 
@@ -187,11 +187,11 @@ where
 
     ghost kept_none = { refl };
 
-    ghost same_as_itself = { λ s x. record { root = refl; height = refl } };
+    ghost same_as_itself = { λ x. record { root = refl; height = refl } };
 
     ghost same_indexes = { λ x y state s same is. Sorts-same_tree E.key_of E.Key.cmp s x.table y.table same is };
 
-    ghost apart = { λ x state s is. is.exact.apart };
+    ghost apart = { λ x state s is. is.in_sync.apart };
 
     ghost modified = { λ x state s ix was item is live same.
         Sorts-modified E.key_of E.Key.cmp E.Key.total s (order_of x.table) is ix item was live same };
@@ -207,7 +207,7 @@ where
 
     ghost few_reported = { λ at. one_reported at };
 
-    fn unasked() {}
+    fn no_hashes() {}
 }
 
 impl<T, S, E> Sizes<T, S> for ByOrder<E>
@@ -430,7 +430,7 @@ where
     ghost same_are_alike = { λ x y same. same };
 
     fn find_same(&self, items: &ItemSet<T>, state: &S, item: &T) -> Option<ItemIndex> {
-        ordered::find::<T, E, ByKey<E::Key>>(&self.table, items, &ByKey(E::key(item)))
+        ordered::find::<T, E, KeyQuery<E::Key>>(&self.table, items, &KeyQuery(E::key(item)))
     }
 }
 

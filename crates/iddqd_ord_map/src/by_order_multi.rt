@@ -6,7 +6,7 @@
 //!
 //! Invariants, given the store's items:
 //! 1. The list has exactly the live indexes, each once.
-//! 2. It is sorted by the keys of their items, and where these are equal by index.
+//! 2. It is sorted by the keys of their items, and by index if these are equal.
 ghost use Rattle.std.specs.Prelude.{◌≡◌, ◌↔◌, false};
 ghost use Rattle.std.specs.Range.Bound.{bound_map};
 ghost use Rattle.iddqd.specs.{next_index, IsValid};
@@ -44,7 +44,7 @@ use std::ops::Bound;
 #[derive(Drop)]
 pub struct ByOrderMulti<E> {
     table: MapBTreeTable,
-    // The memory of the next insert, where that needs any.
+    // The memory of the next insert, if it needs any.
     blocks: Option<Blocks>,
     of: PhantomData<E>,
 }
@@ -65,7 +65,7 @@ impl<E> ByOrderMulti<E> {
         group_by::<T, E, Q>(&self.table, items, query)
     }
 
-    /// The indexes whose items have keys between two bounds, by key and then by index, from both ends: none where the
+    /// The indexes whose items have keys between two bounds, by key and then by index, from both ends: none if the
     /// lower bound is above the upper one.
     ///
     /// It compares each query with at most 4 + 2d keys, where the number of items has d binary digits, and takes no
@@ -208,7 +208,7 @@ where
 
     type Conflict = NoConflict;
 
-    type Asked = ();
+    type KnownHashes = ();
 
     ghost Keys = { E.Key };
 
@@ -228,11 +228,11 @@ where
 
     ghost kept = { λ slots count. most_cells count };
 
-    ghost may_lack = { true };
+    ghost may_need_memory = { true };
 
-    ghost same = { λ s x y. HasSameTree x.table y.table };
+    ghost same = { λ x y. HasSameTree x.table y.table };
 
-    ghost key_count = { 0 };
+    ghost unique_keys = { 0 };
 
     ghost conflicts = { λ s item at. ⊥ };
 
@@ -242,7 +242,7 @@ where
 
     ghost kept_none = { refl };
 
-    ghost same_as_itself = { λ s x. record { root = refl; height = refl } };
+    ghost same_as_itself = { λ x. record { root = refl; height = refl } };
 
     ghost same_indexes = { λ x y state s same is.
         IsSortedScan-same_tree E.key_of E.Key.cmp s x.table y.table same is };
@@ -263,7 +263,7 @@ where
 
     ghost few_reported = { λ at. none_named };
 
-    fn unasked() {}
+    fn no_hashes() {}
 }
 
 impl<T, S, E> Sizes<T, S> for ByOrderMulti<E>

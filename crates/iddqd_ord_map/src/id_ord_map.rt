@@ -72,7 +72,7 @@ impl<T: IdOrdItem> KeyOf<T> for ItsKey {
     }
 }
 
-/// Items under stable indexes, no two of which have the same key.
+/// Items under stable indexes, which all have different keys.
 ///
 /// A contract sees it as the store of its items, and its memory beside that.
 #[derive(Drop)]
@@ -93,14 +93,14 @@ impl<T: IdOrdItem> Model for IdOrdMap<T> {
 }
 
 impl<T: IdOrdItem> IdOrdMap<T> {
-    /// No items, and slots for as many as there are indexes but `SENTINEL`. It takes no memory.
+    /// Empty. It may grow to `u32::MAX` items, one for each index but `SENTINEL`. It takes no memory.
     pub fn new(alloc: Global) -> IdOrdMap<T>
         ensures { result ≡ empty_map u32.MAX }
     {
         IdOrdMap::with_limit(alloc, u32::MAX)
     }
 
-    /// No items, and never more slots than the limit. It takes no memory.
+    /// Empty, and never with more slots than the limit. It takes no memory.
     ///
     /// No call changes the limit.
     pub fn with_limit(alloc: Global, limit: u32) -> IdOrdMap<T>
@@ -111,7 +111,7 @@ impl<T: IdOrdItem> IdOrdMap<T> {
         }
     }
 
-    /// No items, and memory for so many. With 0 it takes none.
+    /// Empty, with memory for `wanted` items. With 0 it takes none.
     pub fn with_capacity(alloc: Global, wanted: usize) -> Result<IdOrdMap<T>, AllocError>
         ensures contents { IfOk result (λ m. m.store ≡ empty) }
         ensures room { IfOk result (λ m. min wanted slot_limit ≤ room m) }
@@ -152,8 +152,8 @@ impl<T: IdOrdItem> IdOrdMap<T> {
 
     /// The index of the item that has the key for which the query stands.
     ///
-    /// The query is a `&T::Key`, or what else stands for such a key. It is compared with at most 4 + 2d keys, where the
-    /// number of items has d binary digits.
+    /// The query is a `&T::Key`, or another query that stands for such a key. It is compared with at most 4 + 2d keys,
+    /// where the number of items has d binary digits.
     pub fn find<Q: OrdQuery<T::Key>>(&self, query: Q) -> Option<ItemIndex>
         ensures { AnswersScan self.now.store (passes_by T.key_of (is_equal (Q.compare query))) result }
     {
@@ -182,10 +182,10 @@ impl<T: IdOrdItem> IdOrdMap<T> {
         self.map.get_at(ix)
     }
 
-    /// Takes an item whose key none has, and returns its index.
+    /// Inserts an item whose key no stored item has, and returns its index.
     ///
-    /// A duplicate is reported even where the map is full or no memory is left, and a full map even where no memory is
-    /// left. A refusal hands the item back, and the contents stay. The table is searched once.
+    /// If there are several reasons for a refusal, the first of these is reported: duplicate, full, out of memory. A
+    /// refusal returns the item, and the contents stay. The table is searched once.
     pub fn insert_unique(&mut self, item: T) -> Result<ItemIndex, InsertRefusal<T, ItemIndex>>
         ensures { let alike = shares T.key_of (eq_by_cmp T.Key.cmp) in
             Inserts alike most_cells (ConflictsAt alike) self.old item result self.new }
@@ -193,10 +193,11 @@ impl<T: IdOrdItem> IdOrdMap<T> {
         self.map.insert_unique(item)
     }
 
-    /// Takes an item, in the place of the one that has its key, which is handed back with the index.
+    /// Inserts an item in place of the one that has its key, if one has. Returns the index, and the item that was
+    /// removed.
     ///
     /// If an item has its key, it takes no memory and isn't refused. If none has, it inserts as `insert_unique` does,
-    /// and may be refused as there.
+    /// and may be refused for the same reasons.
     pub fn insert_overwrite(
         &mut self,
         item: T,
@@ -214,22 +215,22 @@ impl<T: IdOrdItem> IdOrdMap<T> {
         }
     }
 
-    /// Takes the item that has the key out of the map. The table is searched once. It takes no memory.
+    /// Removes the item that has the key, and returns it. The table is searched once. It takes no memory.
     pub fn remove<Q: OrdQuery<T::Key>>(&mut self, query: Q) -> Option<T>
         ensures { Removes self.old (passes_by T.key_of (is_equal (Q.compare query))) result self.new }
     {
         self.map.remove_query(query)
     }
 
-    /// Takes the item at an index out of the map, if there is one. It takes no memory.
+    /// Removes the item at an index, if there is one, and returns it. It takes no memory.
     pub fn remove_at(&mut self, ix: ItemIndex) -> Option<T>
         ensures { RemovesAt self.old ix result self.new }
     {
         self.map.remove_at(ix)
     }
 
-    /// How many items the reserved memory has room for: 0 where none was reserved, whatever the map holds. No call
-    /// lowers it but those that shrink.
+    /// How many items the reserved memory has room for: 0 if none was reserved, whatever the map holds. Only calls that
+    /// shrink lower it.
     pub fn capacity(&self) -> usize
         ensures { result ≡ capacity self.now }
     {
@@ -243,23 +244,24 @@ impl<T: IdOrdItem> IdOrdMap<T> {
         self.map.room()
     }
 
-    /// Takes memory, so that as many inserts need none, or as many as there can be.
+    /// Makes room for `additional` more inserts, or for as many as the limit allows.
     ///
-    /// Where there is room already it takes none. Where it is refused the items stay, and no memory is given back.
+    /// If there is room already it takes no memory. If memory runs out the items stay, and what was taken is kept.
     pub fn reserve(&mut self, additional: usize) -> Result<(), AllocError>
         ensures { ReservesItems most_cells additional self.old result self.new }
     {
         self.map.reserve(additional)
     }
 
-    /// Gives back the memory that the slots and the table don't need. Where smaller memory is refused the items stay.
+    /// Gives back the memory that the slots and the table don't need. If a smaller block can't be allocated, the items
+    /// stay.
     pub fn shrink_to_fit(&mut self) -> Result<(), AllocError>
         ensures { ShrinksItems (λ slots count. most_cells count) 0 self.old result self.new }
     {
         self.map.shrink_to_fit()
     }
 
-    /// Gives back the memory that so many items don't need, beside the slots and the items that there are.
+    /// Gives back the memory beyond what `least` items need, or the slots and items that there are if these are more.
     pub fn shrink_to(&mut self, least: usize) -> Result<(), AllocError>
         ensures { ShrinksItems (λ slots count. most_cells count) least self.old result self.new }
     {
@@ -275,10 +277,10 @@ impl<T: IdOrdItem> IdOrdMap<T> {
         self.map.clear()
     }
 
-    /// Moves every item down to its rank, so that no slot is vacant, and returns the new names.
+    /// Moves every item down to its rank, so that no slot is vacant, and returns the new indexes.
     ///
-    /// No key is compared. Where no slot is vacant it is `Identity` and takes no memory. Else it takes that of one index
-    /// a slot before an item moves; where that is refused nothing changes.
+    /// No key is compared. If no slot is vacant it returns `Identity` and takes no memory. Otherwise it allocates a
+    /// list of one index for each slot before any item moves; if memory runs out, nothing changes.
     pub fn compact(&mut self) -> Result<IndexRemap, AllocError>
         ensures remap { IfOk result (IsRemapOf self.old.store) }
         ensures compacted { OnOk result (Compacts self.old self.new) }

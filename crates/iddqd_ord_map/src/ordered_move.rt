@@ -1,7 +1,7 @@
-//! What a table in order does where a live index is given an item that may have another key.
+//! How an ordered table changes when the item at a live index is replaced by one that may have another key.
 //!
-//! It is planned first: by one look-up of the new key, and none where the key stays. Then the index is moved, while its
-//! old item is still in the store, with memory that was taken before.
+//! The move is planned first: by one look-up of the new key, or by none if the key stays. Then the index is moved with
+//! memory that was taken before, while its old item is still in the store.
 ghost use Rattle.std.specs.Prelude.{◌≡◌, ◌≤◌};
 ghost use Rattle.iddqd.specs.{rebound};
 ghost use Rattle.iddqd_order.specs.MapBTreeTable.{order_of, capacity, move_blocks};
@@ -12,10 +12,10 @@ ghost use Rattle.iddqd_ord_map.specs.OrderedIndexing.{PlansOrConflicts, Sorts};
 use iddqd::item_index::ItemIndex;
 use iddqd::item_set::ItemSet;
 use iddqd_by_order::ordered;
-use iddqd_keys::key_of::{ByKey, KeyOf, key_at};
+use iddqd_keys::key_of::{KeyOf, KeyQuery, key_at};
 use iddqd_order::btree_table::{Asking, Blocks, MapBTreeTable};
 
-/// What has to become of a live index that is given another item.
+/// Whether a live index moves in an ordered table when its item is replaced.
 #[derive(Clone, Copy)]
 pub enum Move {
     /// The key stays, and so does the index.
@@ -24,11 +24,10 @@ pub enum Move {
     Moves,
 }
 
-/// What has to become of a live index that is given this item; or the index of another item that has
-/// its key.
+/// Plans the move of a live index whose item is to be replaced by this one. If another item has the new key, it returns
+/// that item's index.
 ///
-/// It compares the item's key with the one that stands there. Only where they differ is it looked up,
-/// once.
+/// It compares the new key with the old one. Only if they differ, it looks the new key up, once.
 pub fn plan_move<T, E>(
     table: &MapBTreeTable,
     items: &ItemSet<T>,
@@ -46,7 +45,7 @@ where
     if key.cmp(key_at::<T, E>(items, ix)).is_eq() {
         return Ok(Move::Stays);
     }
-    match ordered::find::<T, E, ByKey<E::Key>>(table, items, &ByKey(key)) {
+    match ordered::find::<T, E, KeyQuery<E::Key>>(table, items, &KeyQuery(key)) {
         Some(at) => Err(at),
         None => Ok(Move::Moves),
     }

@@ -1,7 +1,7 @@
 //! Look-ups in a table that has a store's indexes in the order of a key, by any query.
 //!
-//! Where the table is sorted by the keys as they are now, and no two items share a key, a look-up
-//! answers as a scan. A range needs no such premise: items with equal keys are in it by index.
+//! If the table is sorted by the keys as they are now, and no two items share a key, a look-up returns what a scan
+//! would. A range allows equal keys: items with equal keys are in it by index.
 ghost use Rattle.std.specs.Prelude.{◌≡◌};
 ghost use Rattle.std.specs.Range.Bound.{bound_map};
 ghost use Rattle.iddqd_order.specs.{capacity, indexes_ahead, indexes_left, order_of};
@@ -17,7 +17,7 @@ use iddqd::item_index::ItemIndex;
 use iddqd::item_set::ItemSet;
 use iddqd_by_order::ordered;
 use iddqd_keys::key_of::KeyOf;
-use iddqd_keys::order_query::{OrdQuery, Ranked};
+use iddqd_keys::order_query::{AsComparable, OrdQuery};
 use iddqd_order::btree_table::{Iter, MapBTreeTable, Range};
 use std::ops::Bound;
 
@@ -32,10 +32,10 @@ where
     requires { Sorts E.key_of E.Key.cmp items.now.store (order_of table.now) }
     ensures { AnswersScan items.now.store (passes_by E.key_of (is_equal (Q.compare query))) result }
 {
-    ordered::find::<T, E, Ranked<Q>>(table, items, &Ranked(query))
+    ordered::find::<T, E, AsComparable<Q>>(table, items, &AsComparable(query))
 }
 
-/// Finds as `find_by` does, and takes the index out of the table, by one search. It takes no memory.
+/// Finds as `find_by` does, and removes the index from the table, by one search. It takes no memory.
 pub fn take_by<T, E, Q>(
     table: &mut MapBTreeTable,
     items: &ItemSet<T>,
@@ -50,11 +50,11 @@ where
     ensures taken { Takes (order_of table.old) result (order_of table.new) }
     ensures memory { capacity table.new ≡ capacity table.old }
 {
-    ordered::take::<T, E, Ranked<Q>>(table, items, &Ranked(query))
+    ordered::take::<T, E, AsComparable<Q>>(table, items, &AsComparable(query))
 }
 
-/// The indexes whose items have keys between two bounds, in the order of the keys: none where the
-/// lower bound stands above the upper one.
+/// The indexes whose items have keys between two bounds, in the order of the keys: none if the lower bound is above the
+/// upper one.
 ///
 /// It compares each query with at most 4 + 2d keys, where the length has d binary digits, and takes
 /// no memory.
@@ -122,7 +122,7 @@ where
     range_by::<T, E, Q>(table, items, Bound::Included(query), Bound::Included(query))
 }
 
-/// How many items have the key for which the query stands. It is one step more for each of them than `group_by`.
+/// How many items have the key for which the query stands. It costs one step for each of them more than `group_by`.
 pub fn count_by<T, E, Q>(table: &MapBTreeTable, items: &ItemSet<T>, query: Q) -> usize
 where
     E: KeyOf<T>,

@@ -19,12 +19,12 @@ use iddqd::index_remap::IndexRemap;
 use iddqd::internal::{ValidateCompact, ValidateRefusal, ValidationError};
 use iddqd::item_index::ItemIndex;
 use iddqd::item_set::ItemSet;
-use iddqd_by_order::ordered::take_index;
+use iddqd_by_order::ordered::remove_index;
 use iddqd_keys::key_of::KeyOf;
 use iddqd_order::btree_table::{Blocks, Gap, MapBTreeTable};
 use std::alloc::{AllocError, Global};
 
-// A table holds so many indexes without reserved memory.
+// The number of indexes that a table holds without reserved memory.
 const FREE_INDEXES: usize = 10;
 
 /// How many indexes the reserved blocks hold.
@@ -34,7 +34,7 @@ pub fn capacity(table: &MapBTreeTable) -> usize
     table.capacity().saturating_sub(FREE_INDEXES)
 }
 
-/// An empty table whose reserved blocks hold so many indexes. With 0 it takes no memory.
+/// An empty table whose reserved blocks hold `wanted` indexes. With 0 it takes no memory.
 pub fn with_capacity(alloc: Global, wanted: usize) -> Result<MapBTreeTable, AllocError>
     ensures empty { IfOk result (λ t. order_of t ≡ []) }
     ensures capacity { IfOk result (λ t. wanted ≤ reserved_for t) }
@@ -47,7 +47,7 @@ pub fn with_capacity(alloc: Global, wanted: usize) -> Result<MapBTreeTable, Allo
     MapBTreeTable::with_capacity(alloc, wanted + FREE_INDEXES)
 }
 
-/// Makes room for so many more indexes than there are items. Where there is room it takes no memory.
+/// Makes room for `additional` more indexes than there are items. If there is room it takes no memory.
 pub fn reserve<T>(
     table: &mut MapBTreeTable,
     items: &ItemSet<T>,
@@ -62,7 +62,7 @@ pub fn reserve<T>(
     ensures few { reserved_for table.new
         ≤ reserved_for table.old + most_cells (live_count items.now.store + additional) }
 {
-    // The capacity has 64 bits, so there is no room for so many.
+    // The capacity has 64 bits, so there is no room for that many.
     let _capacity = table.capacity();
     if additional > usize::MAX - FREE_INDEXES {
         return Err(AllocError);
@@ -70,7 +70,7 @@ pub fn reserve<T>(
     table.try_reserve(additional + FREE_INDEXES)
 }
 
-/// Gives back the blocks that so many indexes don't need, beside those that there are.
+/// Gives back the blocks beyond what `least` indexes need, or those that there are if these are more.
 pub fn shrink_to<T>(table: &mut MapBTreeTable, items: &ItemSet<T>, least: usize)
     requires { Holds items.now.store (order_of table.old) }
     ensures contents { HasSameTree table.old table.new }
@@ -85,7 +85,7 @@ pub fn shrink_to<T>(table: &mut MapBTreeTable, items: &ItemSet<T>, least: usize)
     }
 }
 
-/// Takes the blocks of an insert at a place. Where there is room it takes no memory.
+/// Takes the blocks of an insert at a place. If there is room it takes no memory.
 pub fn make_room<T>(
     table: &MapBTreeTable,
     blocks: &mut Option<Blocks>,
@@ -118,7 +118,7 @@ pub fn ready_anywhere<T>(
     Ok(())
 }
 
-/// Takes the blocks of a planned move. Up to the capacity it takes no memory, nor where the key stays.
+/// Takes the blocks of a planned move. Up to the capacity it takes no memory, nor if the key stays.
 pub fn ready_move<T>(
     table: &MapBTreeTable,
     blocks: &mut Option<Blocks>,
@@ -159,7 +159,7 @@ pub fn insert(table: &mut MapBTreeTable, blocks: &mut Option<Blocks>, gap: &Gap,
     table.insert_in(gap, ix, blocks);
 }
 
-/// Takes a live index out. An insert needs no more blocks after it than a move did before. It takes no memory.
+/// Removes a live index. An insert after it needs at most as many blocks as a move before it. It takes no memory.
 pub fn take_out<T, E>(table: &mut MapBTreeTable, items: &ItemSet<T>, ix: ItemIndex)
 where
     E: KeyOf<T>,
@@ -171,10 +171,11 @@ where
     ensures no_more { move_blocks table.new ≤ move_blocks table.old }
     ensures enough { (gap : PlaceInTable) → Fits table.new gap → gap_blocks table.new gap ≤ move_blocks table.old }
 {
-    take_index::<T, E>(table, items, ix);
+    remove_index::<T, E>(table, items, ix);
 }
 
-/// Gives a live index the place of an item's key, as it was planned, with the blocks that wait. It takes no memory.
+/// Carries out the planned move of a live index to the place of the item's key, with the blocks that wait. It takes no
+/// memory.
 pub fn commit_move<T, E>(
     table: &mut MapBTreeTable,
     blocks: &mut Option<Blocks>,
@@ -202,7 +203,7 @@ where
     }
 }
 
-/// Gives each index its new name. It takes no memory.
+/// Replaces each index by its new one. It takes no memory.
 pub fn remap<T>(table: &mut MapBTreeTable, remap: &IndexRemap)
     requires { (s : Store T) × Holds s (order_of table.old) × IsValid s × IsRemapOf s remap.now }
     ensures renamed { (s : Store T) → Holds s (order_of table.old) → IsValid s → IsRemapOf s remap.now →
@@ -212,9 +213,9 @@ pub fn remap<T>(table: &mut MapBTreeTable, remap: &IndexRemap)
     table.remap_indexes(remap);
 }
 
-/// Whether the table is sound over the store, where the slots are as the mode wants them.
+/// Checks the table. It is sound by the conditions, so this fails only if memory runs out.
 ///
-/// It sorts a copy of the indexes, whose memory may be refused.
+/// It sorts a copy of the indexes, for which memory may run out.
 pub fn validate<T>(
     table: &MapBTreeTable,
     items: &ItemSet<T>,

@@ -106,9 +106,9 @@ module _ {T K1 K2 K3 S : Type 0} (keys : TriKeys T K1 K2 K3 S) where
   IsTriState-unbound s ix item live o = record {
     valid = IsValid-removed s.store ix item o.valid live;
     held = HoldLive-removed s.store s.maps ix item live o.held;
-    first = (Keeps-removed _ (hashing_in keys.first s.hasher) s.store s.maps.first ix item live).exact o.first;
-    second = (Keeps-removed _ (hashing_in keys.second s.hasher) s.store s.maps.second ix item live).exact o.second;
-    third = (Keeps-removed _ (hashing_in keys.third s.hasher) s.store s.maps.third ix item live).exact o.third;
+    first = (Keeps-removed _ (hashing_in keys.first s.hasher) s.store s.maps.first ix item live).in_sync o.first;
+    second = (Keeps-removed _ (hashing_in keys.second s.hasher) s.store s.maps.second ix item live).in_sync o.second;
+    third = (Keeps-removed _ (hashing_in keys.third s.hasher) s.store s.maps.third ix item live).in_sync o.third;
   }
 
   pub IsTriState-unbound_all :

@@ -1,4 +1,4 @@
--- What each call of items with three unique keys may answer, and what state it leaves.
+-- What each call of items with three unique keys may return, and what state it leaves.
 use Rattle.std.specs.Prelude.{◌≡◌, ℕ, suc, zero, Bool, List, [], ◌∷◌, map, Option, Some, None, Result, Ok, Err}
 use Rattle.iddqd.specs.Store.{Store, get, next_index, IsFull}
 use Rattle.iddqd_keys.specs.Removals.{padded}
@@ -9,23 +9,23 @@ use Rattle.iddqd_tri.specs.TriState.{TriState, unbound, unbound_all, inserted_st
 use Rattle.iddqd_tri.specs.declared.tri_refusal.TriRefusal.{TriRefusal}
 use Rattle.iddqd_tri.specs.declared.tri_refusal.TriRefusal.TheVariants.{Full, Memory}
 
--- The item comes back: the store is full, or else memory ran out.
+-- The item comes back: the store is full, or it isn't full and memory ran out.
 abbrev pub HasNoPlace : {T : Type 0} → Store T → T → TriRefusal T → Type 0
 HasNoPlace s item (Full back) = (back ≡ item) × IsFull s
 HasNoPlace s item (Memory back) = (back ≡ item) × (IsFull s → ⊥)
 
 module _ {T S : Type 0} where
-  -- what a removal may answer and leave: the item of a live index, and none exactly where it isn't live
+  -- what a removal may return and leave: the item of a live index; `None` if and only if the index isn't live
   abbrev pub RemovesItem : TriState T S → ℕ → Option T → TriState T S → Type 0
   RemovesItem old ix (Some item) new = (get old.store ix ≡ Some item) × (new ≡ unbound old ix)
   RemovesItem old ix None new = (get old.store ix ≡ None) × (new ≡ old)
 
-  -- what a look-up of a key answers: the one live index whose item has it, none exactly where there is none
+  -- what a look-up of a key returns: the one live index whose item has it; `None` if and only if there is none
   abbrev pub FindsKey : {K : Type 0} → ItemKey T K S → TriState T S → K → Option ℕ → Type 0
   FindsKey key s k result = AnswersScan s.store (passes_by key.key_of (key.equal k)) result
 
-  -- What a look-up of a key answers by a query that tests keys so under a hash: an index whose item's key passes; and,
-  -- where the query stands for one key, the one such index, none exactly where there is none.
+  -- What a look-up by a query with this hash and this test of keys returns: an index whose item's key passes, or none.
+  -- If the query stands for one key, it returns the one such index; `None` if and only if there is none.
   pub record FindsOne {K : Type 0} (key : ItemKey T K S) (s : TriState T S) (hash : ℕ) (test : K → Bool)
       (result : Option ℕ) : Type 0 where
     pub hit : (ix : ℕ) → result ≡ Some ix → IsHit s.store (passes_by key.key_of test) ix
@@ -33,8 +33,8 @@ module _ {T S : Type 0} where
         StandsForOne (hashing_in key s.hasher) hash test → AnswersScan s.store (passes_by key.key_of test) result
 
 module _ {T K1 K2 K3 S : Type 0} (keys : TriKeys T K1 K2 K3 S) where
-  -- The items that share a key were removed by rising index, and come back in this order from the first place on. The
-  -- new item is stored under the index that is the next one then.
+  -- The items that share a key were removed by rising index, and come back in this order from the first place on. Then
+  -- the new item was stored at the next index.
   pub record OverwritesAt
       (old : TriState T S) (item : T) (ix : ℕ) (given_back : List (Option T)) (new : TriState T S) : Type 0 where
     pub clashes : List ℕ
@@ -44,15 +44,15 @@ module _ {T K1 K2 K3 S : Type 0} (keys : TriKeys T K1 K2 K3 S) where
     pub index : ix ≡ next_index (unbound_all old clashes).store
     pub state : new ≡ inserted_state keys (unbound_all old clashes) item
 
-  -- An insert that was refused returns the item and changes nothing: it is full where nothing clashes and the store is
-  -- full, and otherwise memory ran out.
+  -- An insert that was refused returns the item and changes nothing. It reports `Full` if nothing clashes and the store
+  -- is full; otherwise memory ran out.
   abbrev pub RefusesItem : TriState T S → T → TriRefusal T → TriState T S → Type 0
   RefusesItem old item (Full back) new =
       (back ≡ item) × HasNoClash keys old.store item × IsFull old.store × (new ≡ old)
   RefusesItem old item (Memory back) new =
       (back ≡ item) × (HasNoClash keys old.store item → IsFull old.store → ⊥) × (new ≡ old)
 
-  -- what an insert that overwrites may answer and leave
+  -- what an insert that overwrites may return and leave
   abbrev pub Overwriting :
       TriState T S → T → Result (ℕ × List (Option T)) (TriRefusal T) → TriState T S → Type 0
   Overwriting old item (Ok (ix, given_back)) new = OverwritesAt old item ix given_back new

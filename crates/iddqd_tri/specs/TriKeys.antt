@@ -12,7 +12,7 @@ pub record Three (A : Type 0) : Type 0 where
   pub second : A
   pub third : A
 
--- a key of an item: which it is, when two are equal, and the hash of one under a state of the hasher
+-- a key of an item: how it is read from the item, when two are equal, and the hash of one under a state of the hasher
 pub record ItemKey (T K S : Type 0) : Type 0 where
   pub key_of : T → K
   pub equal : K → K → Bool

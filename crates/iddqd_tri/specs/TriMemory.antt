@@ -39,7 +39,7 @@ tri_memory_code =
     (λ p. record { slots = p.0; tables = record { first = p.1.0; second = p.1.1.0; third = p.1.1.1 } })
     (λ _. refl)
 
--- a state with its memory is coded where its items and its hasher are
+-- a state with its memory is coded if its items and its hasher are
 abbrev pub sized_tri_code : {T S : Type 0} → Coded T → Coded S → Coded (SizedTri T S)
 sized_tri_code {T} {S} item hasher =
     code_by
@@ -59,22 +59,22 @@ no_memory =
     let none : TableMemory = record { capacity = 0; cells = 0 } in
     record { slots = 0; tables = record { first = none; second = none; third = none } }
 
--- What one table takes so that it can hold so many indexes: nothing where it can already. It gives none back, and takes
--- no more than so many need.
+-- What one table allocates so that it can hold `wanted` indexes: nothing if it can already. It gives no memory back,
+-- and takes no more than these indexes need.
 pub record TableGrows (wanted : ℕ) (old new : TableMemory) : Type 0 where
   pub had_room : wanted ≤ old.capacity → new ≡ old
   pub capacity_stays : old.capacity ≤ new.capacity
   pub cells_stay : old.cells ≤ new.cells
   pub few : new.cells ≤ max old.cells (most_cells wanted)
 
--- What the store takes so that it can have so many slots: nothing where it can already. It gives none back, and takes
--- at most twice what there was or what is wanted, at least four, and never past the limit.
+-- What the store allocates so that it can have `wanted` slots: nothing if it can already. It gives no memory back. It
+-- grows to at most the largest of `wanted`, twice the old number and four, and never past the limit.
 pub record SlotsGrow (limit wanted old new : ℕ) : Type 0 where
   pub had_room : wanted ≤ old → new ≡ old
   pub slots_stay : old ≤ new
   pub few : new ≤ max old (min limit (max 4 (max wanted (2 * old))))
 
--- what a call takes at most so that there is room for so many items, whether it is refused or not
+-- the most that a call allocates so that there can be `wanted` items, whether it is refused or not
 pub record Grows (limit wanted : ℕ) (old new : TriMemory) : Type 0 where
   pub slots : SlotsGrow limit wanted old.slots new.slots
   pub first : TableGrows wanted old.tables.first new.tables.first
@@ -86,16 +86,16 @@ abbrev pub SomeTableHasMore : ℕ → Three TableMemory → Type 0
 SomeTableHasMore wanted tables =
     (wanted < tables.first.cells) ⊎ ((wanted < tables.second.cells) ⊎ (wanted < tables.third.cells))
 
--- What one table gives back of what so many indexes don't need. Whatever is refused, it can still hold these, as far as
--- it could.
+-- What one table gives back beyond what `wanted` indexes need. Even if memory runs out, it can still hold these, or as
+-- many of them as before.
 pub record TableShrinks {A E : Type 0} (wanted : ℕ) (old : TableMemory) (result : Result A E) (new : TableMemory)
     : Type 0 where
   pub never_more : new.cells ≤ old.cells
   pub capacity_stays : min old.capacity wanted ≤ new.capacity
   pub shrunk : OnOk result (new.cells ≤ most_cells wanted)
 
--- What is given back of what so many items don't need, and no slot is lost that there is. A refusal means that some
--- part has more than is needed, and never comes where nothing is needed.
+-- What is given back beyond what `slots` slots and `wanted` indexes need. A refusal means that some part still has
+-- more; if no slot is needed, there is no refusal.
 pub record Shrinks {A E : Type 0} (slots wanted : ℕ) (old : TriMemory) (result : Result A E) (new : TriMemory)
     : Type 0 where
   pub never_more : new.slots ≤ old.slots
@@ -116,12 +116,12 @@ module _ {T S : Type 0} where
   abbrev pub room : SizedTri T S → ℕ
   room t = capacity t - live_count t.state.store
 
-  -- how many items there are with so many more, or as many as there can be
+  -- how many items there are after `additional` more inserts, or as many as there can be
   abbrev pub reaching : TriState T S → ℕ → ℕ
   reaching s additional = live_count s.store + min additional (s.store.limit - live_count s.store)
 
-  -- Memory is there for so many more, or for as many as there can be, and no more was taken than these need. Where it
-  -- was there before nothing changed. A refusal gives back no part's memory and leaves the items.
+  -- There is memory for `additional` more items, or for as many as there can be, and no more was taken than these need.
+  -- If it was there before, nothing changed. A refusal leaves the items, and no part has less memory than before.
   pub record ReservesItems
       {A E : Type 0} (additional : ℕ) (old : SizedTri T S) (result : Result A E) (new : SizedTri T S)
       : Type 0 where
@@ -131,7 +131,7 @@ module _ {T S : Type 0} where
     pub had_room : reaching old.state additional ≤ capacity old → IsOk result × (new ≡ old)
 
 module _ {T K1 K2 K3 S : Type 0} (keys : TriKeys T K1 K2 K3 S) where
-  -- an item needs memory where it takes no other's place and there is no room
+  -- an item needs memory if it shares no key with another one and there is no room
   pub record NeedsMemory (t : SizedTri T S) (item : T) : Type 0 where
     pub no_clash : HasNoClash keys t.state.store item
     pub no_room : room t ≡ 0

@@ -24,7 +24,7 @@ pub record TriState (T S : Type 0) : Type 0 where
 abbrev map_code : Coded (FinMap nat_cmp ℕ)
 map_code = finite.code coded_ℕ coded_ℕ
 
--- a state is coded where its items and its hasher are
+-- a state is coded if its items and its hasher are
 abbrev pub tri_state_code : {T S : Type 0} → Coded T → Coded S → Coded (TriState T S)
 tri_state_code {T} {S} item hasher =
     code_by
@@ -72,7 +72,7 @@ pub record HoldLive {T : Type 0} (s : Store T) (maps : Maps) : Type 0 where
   pub third : Holds s maps.third
 
 module _ {T S : Type 0} where
-  -- no item and no slot, and nothing in any table; and there can be so many slots
+  -- no item, no slot and nothing in any table, with this limit of slots
   abbrev pub empty_tri_state : ℕ → S → TriState T S
   empty_tri_state limit hasher = record { hasher = hasher; store = empty_within limit; maps = no_maps }
 
@@ -94,8 +94,8 @@ module _ {T K1 K2 K3 S : Type 0} (keys : TriKeys T K1 K2 K3 S) where
         maps = maps_with s.maps (next_index s.store) (hashes_in keys s.hasher item);
       }
 
-  -- Each table has exactly the live indexes, under the hash of that key of the item as it is now, and no two live items
-  -- share that key. The free indexes are distinct and exactly the vacant ones.
+  -- Each table has exactly the live indexes, under the hash of the item's key as it is now, and no two live items share
+  -- that key. The free indexes are distinct and exactly the vacant ones.
   pub record IsTriState (s : TriState T S) : Type 0 where
     pub valid : IsValid s.store
     pub held : HoldLive s.store s.maps

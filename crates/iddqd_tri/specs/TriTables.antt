@@ -40,26 +40,26 @@ abbrev pub sized_tri_of : {T S : Type 0} → S → SizedStore T → TriTables �
 sized_tri_of hasher items tables =
     record { state = tri_state_of hasher items.store tables; memory = memory_of items tables }
 
--- so many inserts into each of the tables need no memory
+-- n inserts into each of the tables need no memory
 pub record HaveRoom (n : ℕ) (t : TriTables) : Type 0 where
   pub first : n ≤ room t.first
   pub second : n ≤ room t.second
   pub third : n ≤ room t.third
 
--- each of the maps has so many indexes
+-- each of the maps has n indexes
 pub record HaveLen (n : ℕ) (maps : Maps) : Type 0 where
   pub first : finite.len maps.first ≡ n
   pub second : finite.len maps.second ≡ n
   pub third : finite.len maps.third ≡ n
 
--- each table took at most what it needs for so many more
+-- each table took at most what it needs for `additional` more indexes
 pub record TablesGrow (additional : ℕ) (old new : TriTables) : Type 0 where
   pub first : TableGrows (finite.len (filed old.first) + additional) (table_memory old.first) (table_memory new.first)
   pub second :
       TableGrows (finite.len (filed old.second) + additional) (table_memory old.second) (table_memory new.second)
   pub third : TableGrows (finite.len (filed old.third) + additional) (table_memory old.third) (table_memory new.third)
 
--- each table gave back what it doesn't need for so many
+-- each table gave back what it doesn't need for `least` indexes, or for its own if these are more
 pub record TablesShrink
     {A E : Type 0} (least : ℕ) (old : TriTables) (result : Result A E) (new : TriTables)
     : Type 0 where
@@ -71,11 +71,11 @@ pub record TablesShrink
   pub third :
       TableShrinks (max least (finite.len (filed old.third))) (table_memory old.third) result (table_memory new.third)
 
--- the table has more cells than so many need, or than its own indexes where these are more
+-- the table has more cells than `least`, and more cells than indexes
 abbrev pub HasMore : ℕ → Table ℕ → Type 0
 HasMore least t = max least (finite.len (filed t)) < memory t
 
--- some table has
+-- some table has more than that
 abbrev pub SomeHasMore : ℕ → TriTables → Type 0
 SomeHasMore least t = HasMore least t.first ⊎ (HasMore least t.second ⊎ HasMore least t.third)
 

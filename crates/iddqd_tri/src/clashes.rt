@@ -1,13 +1,12 @@
-//! The indexes that clash with an item, from what the look-ups of its three keys answered.
+//! The indexes that clash with an item, from what the look-ups of its three keys returned.
 //!
-//! Three indexes are put in order by three comparisons of two, and the second of two that are the same
-//! is forgotten.
+//! Three comparisons of two put the indexes in order, and of two equal ones one is dropped.
 ghost use Rattle.std.specs.Prelude.{◌≡◌, ◌↔◌, ℕ, None, IsTrue};
 ghost use Rattle.iddqd_tri.specs.Clashes.{IsBefore, AreInOrder, IsOneOf, IsOneOfTwo, clashing};
 
 use iddqd::item_index::ItemIndex;
 
-/// At most three indexes, by rising index, and then none.
+/// At most three indexes, in rising order; the options after them are `None`.
 #[derive(Clone, Copy)]
 pub(crate) struct Clashes {
     pub(crate) first: Option<ItemIndex>,
@@ -44,7 +43,7 @@ impl Clashes {
     }
 }
 
-// The lesser before the greater, the one that is there before none, and of two that are the same one.
+// The lesser index before the greater, an index before `None`, and of two equal ones only one.
 fn in_order(
     one: Option<ItemIndex>,
     other: Option<ItemIndex>,

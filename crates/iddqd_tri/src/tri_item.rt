@@ -1,7 +1,7 @@
 //! The three keys that an item contains.
 //!
-//! Each key is named by a type without values, so that what a table means for one key of an item is
-//! said once, of any key: users implement [`TriItem`] alone.
+//! Each key is named by a type without values, so that the contract of a table is written once, for any key. Users
+//! implement only [`TriItem`].
 ghost use Rattle.std.specs.Prelude.{◌≡◌};
 
 use iddqd_keys::key_of::KeyOf;

@@ -1,12 +1,12 @@
 //! Items with three unique keys: a store and three tables of its indexes under hashes.
 //!
-//! The items stand in the store alone, and the tables read keys from it. No call changes a key of a
-//! stored item, so each table has each live index under the hash of its key now, and a look-up
-//! answers as a scan would. Each call that makes or changes a collection says in clauses of its own
-//! that this holds, though the type keeps it, so that a caller's proof needs the calls' clauses alone.
+//! Only the store has the items, and the tables read keys from it. No call changes a key of a stored item, so each
+//! table has each live index under the hash of its key now, and a look-up returns what a scan would. Each call that
+//! makes or changes a collection says in clauses of its own that this holds, though the type keeps it, so that a
+//! caller's proof needs only the calls' clauses.
 //!
-//! An item that shares keys with others takes their place, and this needs no memory: each of the others leaves a
-//! slot and a place in each table. Where no other shares a key, all memory is taken before anything is written.
+//! An item that shares keys with others replaces them, which needs no memory: each of the others leaves a slot and a
+//! place in each table. If no other shares a key, all memory is taken before anything is written.
 //!
 //! A clause sees the state and beside it the memory, so a call that leaves the memory as it was says so in one
 //! equation.
@@ -32,12 +32,12 @@ use iddqd::item_set::ItemSet;
 use iddqd::map_hash::{Equivalent, MapHash};
 use iddqd_by_hash::hashed;
 use iddqd_hash::hash_table::MapHashTable;
-use iddqd_keys::key_of::{ByKey, KeyOf};
+use iddqd_keys::key_of::{KeyOf, KeyQuery};
 use std::alloc::{AllocError, Global};
 use std::hash::{BuildHasher, Hash};
 use std::marker::Model;
 
-/// Items that contain three keys each, no two of which share one.
+/// Items that contain three keys each. No two items share a key.
 #[derive(Drop)]
 pub struct TriItems<T: TriItem, S: BuildHasher> {
     items: ItemSet<T>,
@@ -88,7 +88,7 @@ impl<T: TriItem, S: BuildHasher> TriKeyed for TriItems<T, S> {
 }
 
 impl<T: TriItem, S: BuildHasher> TriItems<T, S> {
-    /// No items, and slots for as many as there are indexes but `SENTINEL`. It takes no memory.
+    /// Empty. It may grow to `u32::MAX` items, one for each index but `SENTINEL`. It takes no memory.
     pub fn new(alloc: Global, state: S) -> TriItems<T, S>
         ensures empty { result.state ≡ empty_tri_state u32.MAX state }
         ensures memory { result.memory ≡ no_memory }
@@ -97,7 +97,7 @@ impl<T: TriItem, S: BuildHasher> TriItems<T, S> {
         TriItems::with_limit(alloc, state, u32::MAX)
     }
 
-    /// No items, and never more slots than the limit. It takes no memory.
+    /// Empty, and never with more slots than the limit. It takes no memory.
     pub fn with_limit(alloc: Global, state: S, limit: u32) -> TriItems<T, S>
         ensures empty { result.state ≡ empty_tri_state limit state }
         ensures memory { result.memory ≡ no_memory }
@@ -134,25 +134,25 @@ impl<T: TriItem, S: BuildHasher> TriItems<T, S> {
         self.items.get(ix)
     }
 
-    /// The index of the item that has this first key. It compares it with keys of the same hash alone.
+    /// The index of the item that has this first key. Only keys of the same hash are compared with it.
     pub fn find1(&self, key: &T::Key1) -> Option<ItemIndex>
         ensures { FindsKey ⟦<Self as TriKeyed>⟧.keys.first self.now.state key.now result }
     {
-        self.find1_by(&ByKey(key))
+        self.find1_by(&KeyQuery(key))
     }
 
     /// The index of the item that has this second key.
     pub fn find2(&self, key: &T::Key2) -> Option<ItemIndex>
         ensures { FindsKey ⟦<Self as TriKeyed>⟧.keys.second self.now.state key.now result }
     {
-        self.find2_by(&ByKey(key))
+        self.find2_by(&KeyQuery(key))
     }
 
     /// The index of the item that has this third key.
     pub fn find3(&self, key: &T::Key3) -> Option<ItemIndex>
         ensures { FindsKey ⟦<Self as TriKeyed>⟧.keys.third self.now.state key.now result }
     {
-        self.find3_by(&ByKey(key))
+        self.find3_by(&KeyQuery(key))
     }
 
     /// The index of the item whose first key the query is equivalent to. The query has to hash as that key does.
@@ -189,12 +189,12 @@ impl<T: TriItem, S: BuildHasher> TriItems<T, S> {
         remove_item(&mut self.items, &mut self.tables, &self.state, ix)
     }
 
-    /// Inserts an item, and removes those that share a key with it, at most three, which it returns by
-    /// rising index from the first place on.
+    /// Inserts an item, and removes the items that share a key with it, at most three. It returns these by rising
+    /// index, in the first places of the array.
     ///
-    /// If it removes one, it takes no memory and refuses nothing. If it removes none, the store may be full, or
-    /// memory may run out where there is no room. A refusal returns the item, leaves the others, and gives back no
-    /// memory that was there. The item's keys are hashed once each, and so are those of the removed ones.
+    /// If it removes one, it takes no memory and doesn't refuse the item. If it removes none, the store may be full, or
+    /// there is no room and memory runs out. A refusal returns the item, leaves the others, and gives back no memory
+    /// that was there. The item's keys are hashed once each, and so are those of the removed ones.
     pub fn insert_overwrite(
         &mut self,
         item: T,
@@ -203,7 +203,7 @@ impl<T: TriItem, S: BuildHasher> TriItems<T, S> {
         ensures state_before { IsTriState ⟦<Self as TriKeyed>⟧.keys self.old.state }
         ensures state_after { IsTriState ⟦<Self as TriKeyed>⟧.keys self.new.state }
 
-        // Memory is taken only where no item gives way and there is no room, and no more than one item needs.
+        // Memory is taken only if no item is removed and there is no room, and no more than one item needs.
         ensures over_others { (ix : ℕ) → ClashesAt ⟦<Self as TriKeyed>⟧.keys self.old.state.store item ix
             → self.new.memory ≡ self.old.memory }
         ensures in_room { 1 ≤ room self.old → self.new.memory ≡ self.old.memory }
@@ -230,9 +230,9 @@ impl<T: TriItem, S: BuildHasher> TriItems<T, S> {
     }
 }
 
-/// Memory that is taken ahead, and given back.
+/// Reserving memory, and giving it back.
 impl<T: TriItem, S: BuildHasher> TriItems<T, S> {
-    /// No items, and memory for so many, or for as many as there are indexes but `SENTINEL`. With 0 it takes none.
+    /// Empty, with memory for `capacity` items, but at most for `u32::MAX`. With 0 it takes none.
     ///
     /// An `AllocError` means that memory ran out.
     pub fn with_capacity(
@@ -268,10 +268,10 @@ impl<T: TriItem, S: BuildHasher> TriItems<T, S> {
         self.capacity().saturating_sub(self.len())
     }
 
-    /// Takes memory, so that as many inserts need none, or as many as there can be.
+    /// Makes room for `additional` more inserts, or for as many as the limit allows.
     ///
-    /// Where there is room already it takes none. A refusal leaves the items, and gives back no memory that was there;
-    /// what the parts before had taken stays theirs.
+    /// If there is room already, it takes no memory. If memory runs out, the items stay, and no part has less memory
+    /// than before; parts that have grown stay so.
     pub fn reserve(&mut self, additional: usize) -> Result<(), AllocError>
         ensures memory { ReservesItems additional self.old result self.new }
     {
@@ -281,7 +281,7 @@ impl<T: TriItem, S: BuildHasher> TriItems<T, S> {
         self.tables.reserve(more)
     }
 
-    /// The same as `reserve`, under the name that it has where `reserve` can't be refused.
+    /// The same as `reserve`, under the name that it has in libraries whose `reserve` can't fail.
     pub fn try_reserve(&mut self, additional: usize) -> Result<(), AllocError>
         ensures memory { ReservesItems additional self.old result self.new }
     {
@@ -299,7 +299,7 @@ impl<T: TriItem, S: BuildHasher> TriItems<T, S> {
         self.shrink_to(0)
     }
 
-    /// Gives back the memory that so many items don't need, or those that there are where these are more.
+    /// Gives back the memory beyond what `least` items need, or the items that there are if these are more.
     ///
     /// If a part can't get smaller memory, the items stay, and the other parts still give theirs back.
     pub fn shrink_to(&mut self, least: usize) -> Result<(), AllocError>
@@ -362,5 +362,5 @@ where
     requires { AreLive items.now.store (filed table.now) }
     ensures { LooksUp E.key_of items.now.store (filed table.now) hash (E.Key.eq (E.key_of item.now)) result }
 {
-    hashed::find::<T, E, ByKey<E::Key>>(table, items, hash, &ByKey(E::key(item)))
+    hashed::find::<T, E, KeyQuery<E::Key>>(table, items, hash, &KeyQuery(E::key(item)))
 }

@@ -1,13 +1,13 @@
-//! Why an item with three keys is not taken.
+//! Why an item with three keys was not inserted.
 use std::error::Error;
 use std::fmt;
 
-/// Why an item was not taken. The item comes back.
+/// Why an item was not inserted. The item comes back.
 #[derive(Debug, PartialEq, Eq, Drop)]
 pub enum TriRefusal<T> {
     /// None of its keys was found, and there are as many items as the limit allows.
     Full(T),
-    /// The store is not full, or another item makes place, and memory ran out.
+    /// None of its keys was found, the store is not full, and memory ran out.
     Memory(T),
 }
 

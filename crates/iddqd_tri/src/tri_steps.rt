@@ -1,8 +1,8 @@
 //! The steps that the store and the three tables of items with three keys take together.
 //!
-//! A step borrows the store and the tables apart, since its contract says how much room each of them has left. Without
-//! a clash the store's handle is held while the tables take memory. With one the first removal makes the room in the
-//! store and in each table, so no memory is taken and nothing can be refused.
+//! A step borrows the store and the tables apart, since its contract says how much room each of them has left. If
+//! nothing clashes, the store's handle is held while the tables take memory. If an item clashes, its removal makes room
+//! in the store and in each table, so no memory is taken and nothing can be refused.
 ghost use Rattle.std.specs.Prelude.{◌≡◌, ◌≤◌, ◌+◌, ℕ, [], ◌∷◌, map, Some, None, IsSome, IsOk, IfOk, OnOk, IfErr, OnErr, OnSome, IfSome, IfNone};
 ghost use Rattle.std.specs.Option.{option_and_then};
 ghost use Rattle.iddqd.specs.{get, room, live_count, next_index, inserted, removed, IsFull, IsValid};
@@ -48,7 +48,7 @@ pub(crate) fn remove_item<T: TriItem, S: BuildHasher>(
     items.remove(ix)
 }
 
-// Removes the item at an index that clashes from the store and the tables, if there is one.
+// Removes the item at a clashing index, if there is one, from the store and the tables.
 fn remove_clash<T: TriItem, S: BuildHasher>(
     items: &mut ItemSet<T>,
     tables: &mut TriTables,
@@ -96,7 +96,7 @@ fn remove_clashes<T: TriItem, S: BuildHasher>(
     (first, second, third)
 }
 
-// Stores an item where there is room for it.
+// Stores an item. There is room for it, so it can't be refused.
 fn store_in_room<T>(items: &mut ItemSet<T>, item: T) -> ItemIndex
     requires { 1 ≤ room items.old }
     ensures index { result ≡ next_index items.old.store }
@@ -108,7 +108,7 @@ fn store_in_room<T>(items: &mut ItemSet<T>, item: T) -> ItemIndex
     }
 }
 
-/// Takes memory for so many slots, unless there are as many.
+/// Makes room for `wanted` slots, unless there are as many.
 pub(crate) fn reserve_slots<T>(items: &mut ItemSet<T>, wanted: usize) -> Result<(), AllocError>
     requires { wanted ≤ items.old.store.limit }
     ensures contents { items.new.store ≡ items.old.store }

@@ -30,7 +30,7 @@ pub(crate) struct TriHashes {
 }
 
 impl TriHashes {
-    /// Those of an item under a hasher's state.
+    /// The hashes of an item's keys under a hasher's state.
     pub(crate) fn of<T: TriItem, S: BuildHasher>(state: &S, item: &T) -> TriHashes
         ensures { let keys = tri_keys_of T.TriItem T.Key1.eq T.Key1.hash_input T.Key2.eq T.Key2.hash_input
             T.Key3.eq T.Key3.hash_input S.BuildHasher S.Hasher.Hasher in
@@ -65,7 +65,7 @@ impl TriTables {
         self.first.capacity().min(later)
     }
 
-    /// Makes room for so many more indexes in each table, from the first to the third.
+    /// Makes room for `additional` more indexes in each table, from the first to the third.
     pub(crate) fn reserve(&mut self, additional: usize) -> Result<(), AllocError>
         ensures contents { maps_of self.new ≡ maps_of self.old }
         ensures memory { TablesGrow additional self.old self.new }
@@ -77,8 +77,8 @@ impl TriTables {
         self.third.try_reserve(additional)
     }
 
-    /// Gives back the memory that so many indexes don't need, or those that there are. If one table can't get
-    /// smaller memory, the others still give back theirs.
+    /// Gives back the memory beyond what `least` indexes need, or those that there are if these are more. If one table
+    /// can't get smaller memory, the others still give back theirs.
     pub(crate) fn shrink_to(&mut self, least: usize) -> Result<(), AllocError>
         ensures contents { maps_of self.new ≡ maps_of self.old }
         ensures memory { TablesShrink least self.old result self.new }
@@ -105,16 +105,15 @@ impl TriTables {
         self.third.insert_prehashed_unchecked(hashes.third, ix);
     }
 
-    /// Removes an index from each table, by a look-up under its hash, or else by a walk. It takes no
-    /// memory.
+    /// Removes an index from each table, by a look-up under its hash, or by a scan if that misses. It takes no memory.
     pub(crate) fn remove(&mut self, hashes: TriHashes, ix: ItemIndex)
         requires { AreFiled (maps_of self.old) ix }
         ensures taken { maps_of self.new ≡ maps_without (maps_of self.old) ix }
         ensures memory { tables_memory self.new ≡ tables_memory self.old }
         ensures room { HaveRoom 1 self.new }
     {
-        hashed::take_index(&mut self.first, hashes.first, ix);
-        hashed::take_index(&mut self.second, hashes.second, ix);
-        hashed::take_index(&mut self.third, hashes.third, ix);
+        hashed::remove_index(&mut self.first, hashes.first, ix);
+        hashed::remove_index(&mut self.second, hashes.second, ix);
+        hashed::remove_index(&mut self.third, hashes.third, ix);
     }
 }

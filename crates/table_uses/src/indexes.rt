@@ -30,7 +30,7 @@ pub fn file_all<S: BuildHasher>(
     Ok(table)
 }
 
-/// An index whose key is the number: one under its hash, and none exactly where none has it.
+/// An index under the number's hash whose key is the number; `None` if and only if there is none.
 pub fn find_number<S: BuildHasher>(
     table: &MapHashTable,
     state: &S,
@@ -51,7 +51,7 @@ pub fn find_number<S: BuildHasher>(
     )
 }
 
-/// Removes the index where it is filed under the hash.
+/// Removes the index if it is filed under the hash.
 pub fn remove_filed(table: &mut MapHashTable, hash: u64, ix: ItemIndex) -> bool
     ensures removed { OnTrue result ((finite.get (filed table.old) ix ≡ Some hash)
         × (filed table.new ≡ finite.remove (filed table.old) ix)) }

@@ -16,7 +16,8 @@ use iddqd_order::btree_table::{Asking, Entry, MapBTreeTable};
 use std::alloc::AllocError;
 use std::cmp::Ordering;
 
-/// The index of a number, in a table that is in order by the numbers at its indexes: none exactly where none has it.
+/// The index of a number, in a table that is in order by the numbers at its indexes; `None` if and only if none of them
+/// has it.
 pub fn find_number(table: &MapBTreeTable, numbers: &[u32], sought: u32) -> Option<ItemIndex>
     requires live { All (λ ix. ix < length numbers.now) (order_of table.now) }
     requires in_order { IsInKeyOrder nat_cmp (slice_index numbers.now) (order_of table.now) }
@@ -33,7 +34,7 @@ pub fn find_number(table: &MapBTreeTable, numbers: &[u32], sought: u32) -> Optio
     table.find_index(&Same(&sought), &mut asking)
 }
 
-/// Adds an index where the answers lead. If they rise, it is put there in order, equal ones by their indexes.
+/// Adds an index at the place to which the answers lead. If they rise, that is its place in order, ties by index.
 pub fn add_by<F: FnMut(ItemIndex) -> Ordering>(
     table: &mut MapBTreeTable,
     ix: ItemIndex,
@@ -53,7 +54,7 @@ pub fn add_by<F: FnMut(ItemIndex) -> Ordering>(
     Ok(())
 }
 
-/// Adds an index where there is room for it, which can't be refused.
+/// Adds an index. There is room for it, so memory can't run out.
 pub fn add_in_room<F: FnMut(ItemIndex) -> Ordering>(
     table: &mut MapBTreeTable,
     ix: ItemIndex,
@@ -74,7 +75,7 @@ pub fn add_in_room<F: FnMut(ItemIndex) -> Ordering>(
     }
 }
 
-/// Adds an index where the answers lead, if they meet none, and tells whether it did.
+/// Adds an index at the place to which the answers lead, unless one of them is Equal, and returns whether it did.
 pub fn add_if_new<F: FnMut(ItemIndex) -> Ordering>(
     table: &mut MapBTreeTable,
     ix: ItemIndex,
@@ -129,7 +130,7 @@ pub fn add_to_both<F: FnMut(ItemIndex) -> Ordering, G: FnMut(ItemIndex) -> Order
     Ok(())
 }
 
-/// Moves a stored index from where `leaving` leads to where `entering` does.
+/// Moves a stored index from the place to which `leaving` leads to the place to which `entering` leads.
 pub fn move_by<F: FnMut(ItemIndex) -> Ordering, G: FnMut(ItemIndex) -> Ordering>(
     table: &mut MapBTreeTable,
     ix: ItemIndex,
@@ -147,7 +148,7 @@ pub fn move_by<F: FnMut(ItemIndex) -> Ordering, G: FnMut(ItemIndex) -> Ordering>
     Ok(())
 }
 
-/// Removes the index, and tells whether the answers led to it: if they rise, they do so wherever it is stored.
+/// Removes the index, and returns whether the answers led to it: if they rise, they lead to it if it is stored.
 pub fn take_by<F: FnMut(ItemIndex) -> Ordering>(
     table: &mut MapBTreeTable,
     ix: ItemIndex,
@@ -164,7 +165,7 @@ pub fn take_by<F: FnMut(ItemIndex) -> Ordering>(
     table.prepare_remove_by(ix, asking).remove()
 }
 
-/// Names that rise with their indexes leave a table in order, where each name has its index's key.
+/// If the new indexes rise with the old ones and have their keys, the table stays in order.
 pub fn rename_in_order(table: &mut MapBTreeTable, remap: &IndexRemap)
     requires named { (ix : ℕ) → Contains (order_of table.old) ix → CanRemap remap.now ix }
     requires rising { (i j : ℕ) → Contains (order_of table.old) i → Contains (order_of table.old) j →
@@ -176,7 +177,7 @@ pub fn rename_in_order(table: &mut MapBTreeTable, remap: &IndexRemap)
     table.remap_indexes(remap);
 }
 
-/// The first index that stands behind what is sought, if the answers rise: none exactly where none does.
+/// The first index behind what is sought, if the answers rise; `None` if and only if there is none.
 pub fn first_after<F: FnMut(ItemIndex) -> Ordering>(
     table: &MapBTreeTable,
     asking: &mut Asking<F>,

@@ -8,7 +8,7 @@ use iddqd::item_index::ItemIndex;
 use iddqd::item_set::{GrowError, ItemSet};
 use std::alloc::{AllocError, Global};
 
-/// A copy of numbers, which is the same store.
+/// The copy of a set of numbers has the same store.
 pub fn copy_of(set: &ItemSet<u32>) -> Result<ItemSet<u32>, AllocError>
     ensures { IfOk result (λ copy. copy.store ≡ set.now.store) }
 {
@@ -26,7 +26,7 @@ pub fn one_item(alloc: Global) -> Result<ItemSet<u32>, GrowError>
     Ok(set)
 }
 
-/// A full set answers `Full`, whatever memory is there, and stays as it is.
+/// A full set returns `Full` even if no memory is left, and stays as it is.
 pub fn expect_full(set: &mut ItemSet<u32>)
     requires { IsFull set.old.store }
     ensures { set.new ≡ set.old }
@@ -38,7 +38,7 @@ pub fn expect_full(set: &mut ItemSet<u32>)
     }
 }
 
-/// So does its copy, and the set itself where memory was taken past the limit.
+/// A copy of a full set also returns `Full`, and so does the set after memory was taken past the limit.
 pub fn expect_both_full(set: &mut ItemSet<u32>) -> Result<(), AllocError>
     requires { IsFull set.old.store }
     ensures { OnOk result (IsFull set.new.store) }
@@ -49,7 +49,7 @@ pub fn expect_both_full(set: &mut ItemSet<u32>) -> Result<(), AllocError>
     Ok(())
 }
 
-/// Inserts an item where there is room: neither refusal can come.
+/// Inserts an item. There is room, so it can't be refused.
 pub fn insert_in_room(set: &mut ItemSet<u32>, item: u32) -> ItemIndex
     requires { 1 ≤ room set.old }
     ensures index { result ≡ next_index set.old.store }

@@ -9,7 +9,7 @@ use iddqd_hash::open_table::{Entry as OpenEntry, OpenHashTable};
 use std::alloc::AllocError;
 use std::cell::Cell;
 
-/// Whether a look-up for the value hits: exactly where it stands under the hash.
+/// Whether a look-up for the value hits: if and only if the value is under the hash.
 pub fn has<T: Eq>(table: &HashTable<T>, hash: u64, value: &T) -> bool
     ensures { result ≡ list_any (λ x. T.eq x value.now) (under hash (entries table.now)) }
 {
@@ -50,7 +50,7 @@ pub fn copy_open(table: &OpenHashTable<u32>) -> Result<OpenHashTable<u32>, Alloc
     Ok(copy)
 }
 
-/// Adds a value that isn't there under its hash, and tells whether it did.
+/// Adds a value unless it is there under its hash, and returns whether it did.
 pub fn enter_linear(table: &mut HashTable<u32>, hash: u64, value: u32) -> Result<bool, AllocError>
     ensures new { IfOk result (λ is_new. is_new ≡ not (list_any (λ x. x == value) (under hash (entries table.old)))) }
     ensures entered { IfOk result (λ is_new.

@@ -11,8 +11,8 @@ use super::{TableValidationError, ValidateCompact, ValidateRefusal};
 use crate::item_index::ItemIndex;
 use std::alloc::{AllocError, Global};
 
-/// Whether a hash table may have these indexes, in any order: as many as expected, and in `Compact` those from 0 on,
-/// else distinct ones.
+/// Whether a hash table may have these indexes, in any order: as many as expected and distinct, and in `Compact` the
+/// numbers from 0 on.
 ///
 /// It sorts a copy.
 pub fn validate_hash_indexes(
@@ -31,7 +31,7 @@ pub fn validate_hash_indexes(
     }
 }
 
-/// The same of an ordered table, none of whose indexes may be `SENTINEL`.
+/// Checks an ordered table's indexes as `validate_hash_indexes` does, and that none is `SENTINEL`.
 ///
 /// It sorts a copy.
 pub fn validate_ordered_indexes(
@@ -130,7 +130,7 @@ fn first_misplaced(indexes: &[ItemIndex]) -> Option<(usize, ItemIndex)>
     None
 }
 
-// Whether no index stands twice in a sorted list.
+// Whether no index is twice in a sorted list.
 fn check_distinct(
     alloc: Global,
     sorted: Vec<ItemIndex>,
@@ -163,7 +163,7 @@ fn check_assigned(
     Ok(())
 }
 
-// The error with this text, or else its want of memory.
+// The error with this text, or `Memory` if memory for the text ran out.
 fn refusal(text: Result<String, AllocError>) -> ValidateRefusal<TableValidationError> {
     match text {
         Ok(text) => ValidateRefusal::Invalid(TableValidationError::new(text)),

@@ -1,8 +1,8 @@
 //! The check of a store's slots.
 //!
-//! The walk along the chain marks nothing, since it takes no memory: it counts. A chain that comes
-//! back to a slot passes more vacant slots than there are, and one that ends has none twice. A
-//! chain has indexes alone, so slots with a vacant one at `SENTINEL`'s number are never sound.
+//! The check follows the chain and counts its slots. It marks none, so it takes no memory: a chain with a cycle passes
+//! more vacant slots than there are, and a chain that ends has no slot twice. `SENTINEL` ends a chain, so slots with a
+//! vacant one at `SENTINEL`'s number are never sound.
 ghost use Rattle.std.specs.Prelude.{◌≡◌, ◌≢◌, ◌+◌, ◌-◌, ◌↔◌, ℕ, List, Ok, Err, Some, length, map, is_some, count_by, slice_get, IsOk, IfErr, MatchResult};
 ghost use Rattle.iddqd.specs.declared.item_set.ItemSlot.TheVariants.{Vacant};
 ghost use Rattle.iddqd.specs.Slots.{item_of, HasChain, IsSound};
@@ -16,7 +16,7 @@ use std::alloc::{AllocError, Global};
 /// Whether the chain of vacant slots from `free_head` has each of them once, and `len` counts the occupied ones. In
 /// `Compact` no slot may be vacant.
 ///
-/// It costs two steps a slot at most. Sound parts are answered Ok also where every request for memory is refused.
+/// It costs at most two steps for each slot. For sound parts it returns `Ok` even if no memory is left.
 pub fn validate_slots<T>(
     alloc: Global,
     slots: &[ItemSlot<T>],
@@ -26,7 +26,7 @@ pub fn validate_slots<T>(
 ) -> Result<(), ValidateRefusal<ValidationError>>
     ensures sound { IsOk result ↔ IsSoundIn compactness slots.now free_head len }
 
-    // Where nothing but the mode is missed, the error says so.
+    // If the slots are sound but not compact, the error says so.
     ensures not_compact { IsSound slots.now free_head len →
         IfErr result (Tells (not_compact_text (length slots.now - len))) }
 {
@@ -35,7 +35,7 @@ pub fn validate_slots<T>(
     check_compact(alloc, vacant, compactness)
 }
 
-// How many slots are vacant, where as many as `len` are occupied.
+// The number of vacant slots, if `len` slots are occupied.
 fn count_vacant<T>(
     alloc: Global,
     slots: &[ItemSlot<T>],
@@ -76,7 +76,7 @@ fn walk_chain<T>(
     'walking: while at != ItemIndex::SENTINEL {
         let next = link_at(alloc, slots, at)?;
         if walked == vacant {
-            // In 128 bits, since there may be as many slots as a `usize` can say.
+            // In 128 bits, since `vacant + 1` may exceed a `usize`.
             let walked = vacant as u128 + 1;
             return Err(refusal(format!(in alloc;
                 "ItemSet free chain cycles or overshoots: walked {walked} vacant slots, expected {vacant}"
@@ -93,7 +93,7 @@ fn walk_chain<T>(
     Ok(())
 }
 
-// The link of a slot of the chain, which is to be vacant.
+// The link of a slot of the chain, or an error if the slot isn't vacant.
 fn link_at<T>(
     alloc: Global,
     slots: &[ItemSlot<T>],
@@ -112,7 +112,7 @@ fn link_at<T>(
     }
 }
 
-// Whether the mode allows so many vacant slots.
+// Whether the mode allows this number of vacant slots.
 fn check_compact(
     alloc: Global,
     vacant: usize,
@@ -130,7 +130,7 @@ fn check_compact(
     Err(refusal(format!(in alloc; "ItemSet is not compact: {vacant} vacant slots")))
 }
 
-// The error with this text, or else its want of memory.
+// The error with this text, or `Memory` if memory for the text ran out.
 fn refusal(text: Result<String, AllocError>) -> ValidateRefusal<ValidationError>
     ensures { MatchResult text
         (λ told. result ≡ ValidateRefusal.Invalid (ValidationError.General told))

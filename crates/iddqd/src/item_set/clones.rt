@@ -20,8 +20,7 @@ impl<T: Clone> Clone for ItemSlot<T> {
     }
 }
 
-/// The copy's memory is for exactly the slots that there are. Where memory is refused, the clones made so far are
-/// dropped.
+/// The copy's memory is for exactly the slots that there are. If memory runs out, the clones made so far are dropped.
 impl<T: Clone> Clone for ItemSet<T> {
     ghost use Rattle.iddqd.specs.Clones.{IsStoreClone};
 
@@ -40,7 +39,7 @@ impl<T: Clone> Clone for ItemSet<T> {
     }
 }
 
-// A clone of each slot, in memory for exactly so many.
+// A clone of each slot, in memory for exactly that many slots.
 fn cloned_slots<T: Clone>(
     alloc: Global,
     slots: &[ItemSlot<T>],

@@ -1,4 +1,4 @@
-//! A set whose items are taken out by their indexes.
+//! A set whose items are removed by their indexes.
 ghost use Rattle.std.specs.Prelude.{◌≡◌, None};
 ghost use Rattle.iddqd.specs.LiveItems.{item_at, KeepsOtherItems};
 
@@ -7,7 +7,7 @@ use crate::item_set::ItemSlot;
 use std::marker::Model;
 use std::{fmt, mem};
 
-/// The slots of a set whose items are taken out. Nothing can be put in, so no index is given out again.
+/// The slots of a set whose items are removed. Nothing can be inserted, so no index is assigned again.
 #[derive(Drop)]
 pub struct ConsumingItemSet<T> {
     pub(super) slots: Vec<ItemSlot<T>>,
@@ -23,7 +23,7 @@ impl<T> Model for ConsumingItemSet<T> {
 }
 
 impl<T> ConsumingItemSet<T> {
-    /// Takes the item at an index, if it is there. It is there once.
+    /// Removes the item at an index and returns it, if it is there. A second call with the index returns `None`.
     ///
     /// It costs the same at each index, and takes no memory.
     pub fn take(&mut self, ix: ItemIndex) -> Option<T>

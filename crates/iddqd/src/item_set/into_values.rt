@@ -1,4 +1,4 @@
-//! The walk that hands over the items of a set.
+//! The iterator over the items of a set by value.
 ghost use Rattle.std.specs.Prelude.{◌≡◌, Some, IfSome, length};
 ghost use Rattle.std.specs.Iterator.{YieldsFirst, YieldsLast, item_count, at_most, UpTo};
 ghost use Rattle.std.specs.Iterator.SizeHint.{IsWithinCount};
@@ -10,7 +10,7 @@ use std::{fmt, vec};
 
 /// The items of a set by value, by rising index. Once it has ended it stays ended.
 ///
-/// A whole walk costs a step a slot, and takes no memory.
+/// A whole iteration costs a step for each slot, and takes no memory.
 #[derive(Drop)]
 pub struct IntoValues<T> {
     pub(super) slots: vec::IntoIter<ItemSlot<T>>,

@@ -1,4 +1,4 @@
-//! The walk over the live indexes of a set and their items.
+//! The iterator over the live indexes of a set and their items.
 ghost use Rattle.std.specs.Prelude.{◌≡◌, ⊤, Some, IfSome, length};
 ghost use Rattle.std.specs.Iterator.{YieldsFirstBy, YieldsLastBy, item_count, at_most, UpTo};
 ghost use Rattle.std.specs.Iterator.SizeHint.{IsWithinCount};
@@ -12,8 +12,8 @@ use std::marker::Model;
 
 /// The live indexes of a set with their items, by rising index. Once it has ended it stays ended.
 ///
-/// A step passes over the vacant slots before the next item, so a whole walk costs a step a slot. It
-/// takes no memory.
+/// A step passes over the vacant slots before the next item, so a whole iteration costs a step for each slot. It takes
+/// no memory.
 #[derive(Drop)]
 pub struct Iter<'a, T> {
     pub(super) slots: &'a [ItemSlot<T>],

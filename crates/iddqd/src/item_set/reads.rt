@@ -45,7 +45,7 @@ impl<T> ItemSlot<T> {
 impl<T> ItemSet<T> {
     /// The least live index not below `from`.
     ///
-    /// It walks over the slots from there on to the one that it gives, and reads no item.
+    /// It goes over the slots from there on to the one that it returns, and reads no item.
     pub fn next_occupied(&self, from: ItemIndex) -> Option<ItemIndex>
         ensures { IsNextLive self.now.store from result }
     {

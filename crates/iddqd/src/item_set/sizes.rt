@@ -1,4 +1,4 @@
-//! How many slots a set's memory holds, and how it is taken ahead and given back.
+//! How many slots a set's memory holds, and how memory is reserved and given back.
 ghost use Rattle.std.specs.Prelude.{◌≡◌, ◌<◌, ◌≤◌, ◌==◌, min, IsOk, IfOk, OnOk, OnErr};
 ghost use Rattle.iddqd.specs.Store.{slot_limit, empty, slot_count, live_count};
 ghost use Rattle.iddqd.specs.ItemSet.{room};
@@ -9,7 +9,7 @@ use crate::item_index::ItemIndex;
 use std::alloc::{AllocError, Global};
 
 impl<T> ItemSet<T> {
-    /// An empty set whose memory holds exactly so many slots. With 0 it takes no memory.
+    /// An empty set whose memory holds exactly `capacity` slots. With 0 it takes no memory.
     pub fn with_capacity(alloc: Global, capacity: usize) -> Result<ItemSet<T>, AllocError>
         ensures contents { IfOk result (λ set. set.store ≡ empty) }
         ensures capacity { IfOk result (λ set. set.capacity ≡ capacity) }
@@ -46,12 +46,11 @@ impl<T> ItemSet<T> {
         self.slots.capacity()
     }
 
-    /// Takes memory for so many slots past those that there are, so that as many inserts need none.
+    /// Makes room for `additional` more slots, so that the next `additional` inserts need no memory.
     ///
-    /// It is the capacity that inserts use, so removals, `clear` and `compact` between them lose nothing. Where it is
-    /// refused, or where no vector can hold so many, nothing changes. Memory may be taken past the limit of the set,
-    /// where it is no room. It is taken for twice as many slots as before where that is more, but then for none past
-    /// the limit.
+    /// Inserts use this capacity, and removals, `clear` and `compact` don't reduce it. If memory runs out, or no vector
+    /// can hold that many slots, nothing changes. It may allocate slots past the limit of the set, which give no room
+    /// for inserts. It allocates twice the old capacity if that is more than needed, but then at most the limit.
     pub fn reserve(&mut self, additional: usize) -> Result<(), AllocError>
         ensures memory { ReservesSlots additional self.old result self.new }
         ensures room { OnOk result (min additional (insertable self.new.store) ≤ room self.new) }
@@ -64,7 +63,7 @@ impl<T> ItemSet<T> {
         self.grow(needed)
     }
 
-    /// The same as `reserve`, under the name that it has where `reserve` can't be refused.
+    /// The same as `reserve`, under the name that it has in libraries whose `reserve` can't fail.
     pub fn try_reserve(&mut self, additional: usize) -> Result<(), AllocError>
         ensures memory { ReservesSlots additional self.old result self.new }
         ensures room { OnOk result (min additional (insertable self.new.store) ≤ room self.new) }
@@ -72,18 +71,18 @@ impl<T> ItemSet<T> {
         self.reserve(additional)
     }
 
-    /// Gives back the memory past the slots that there are. Vacant slots stay.
+    /// Gives back the memory beyond the slots that there are. Vacant slots stay.
     ///
-    /// The items move to a smaller block; where that is refused they stay where they are.
+    /// The items move to a smaller block; if memory for it runs out, they stay where they are.
     pub fn shrink_capacity_to_fit(&mut self) -> Result<(), AllocError>
         ensures { Shrinks 0 self.old result self.new }
     {
         self.shrink_capacity_to(0)
     }
 
-    /// Gives back the memory past so many slots, or past those that there are where these are more.
+    /// Gives back the memory beyond `least` slots, or beyond the slots that there are if these are more.
     ///
-    /// The items move to a smaller block; where that is refused they stay where they are.
+    /// The items move to a smaller block; if memory for it runs out, they stay where they are.
     pub fn shrink_capacity_to(&mut self, least: usize) -> Result<(), AllocError>
         ensures { Shrinks least self.old result self.new }
     {
@@ -95,8 +94,7 @@ impl<T> ItemSet<T> {
         Ok(())
     }
 
-    // Takes memory for so many slots, or for twice as many as it holds where these are more. The doubling stops at the
-    // limit.
+    // Allocates `needed` slots, or twice the capacity if that is more. The doubling stops at the limit.
     pub(super) fn grow(&mut self, needed: usize) -> Result<(), AllocError>
         requires { self.old.capacity < needed }
         ensures contents { self.new.store ≡ self.old.store }

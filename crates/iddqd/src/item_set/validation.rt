@@ -8,7 +8,7 @@ use crate::internal::{ValidateCompact, ValidateRefusal, ValidationError, validat
 impl<T> ItemSet<T> {
     /// Whether the slots are sound, as they are in every set; in `Compact`, whether none is vacant.
     ///
-    /// It costs at most two steps a slot. Memory is taken for the words of a refusal alone.
+    /// It costs at most two steps for each slot. It takes memory only for the text of a refusal.
     pub fn validate(
         &self,
         compactness: ValidateCompact,

@@ -1,4 +1,4 @@
-//! The walk over the items of a set.
+//! The iterator over the items of a set.
 ghost use Rattle.std.specs.Prelude.{◌≡◌, ⊤, Some, IfSome, length};
 ghost use Rattle.std.specs.Iterator.{YieldsFirstRef, YieldsLastRef, item_count, at_most, UpTo};
 ghost use Rattle.std.specs.Iterator.SizeHint.{IsWithinCount};
@@ -11,7 +11,7 @@ use std::marker::Model;
 
 /// The items of a set, by rising index. Once it has ended it stays ended.
 ///
-/// A whole walk costs a step a slot, and takes no memory.
+/// A whole iteration costs a step for each slot, and takes no memory.
 #[derive(Drop)]
 pub struct Values<'a, T> {
     pub(super) pairs: Iter<'a, T>,

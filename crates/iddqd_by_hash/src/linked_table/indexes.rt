@@ -1,4 +1,4 @@
-//! The indexes of a linked table under one hash: the walk over them.
+//! Iterates over the indexes of a linked table that have one hash.
 ghost use Rattle.std.specs.Prelude.{◌≡◌, IfSome, IsSome, length};
 ghost use Rattle.std.specs.Iterator.{YieldsFirst, item_count, at_most, UpTo};
 ghost use Rattle.std.specs.Iterator.SizeHint.{IsWithinCount};
@@ -12,7 +12,7 @@ use std::fmt;
 use std::iter::FusedIterator;
 use std::marker::Model;
 
-/// The indexes under a hash, each once, in no order that a caller can rely on. Once it has ended it stays ended.
+/// An iterator over the indexes under a hash: each once, in no order that a caller can rely on. It is fused.
 ///
 /// It takes no memory.
 #[derive(Drop)]

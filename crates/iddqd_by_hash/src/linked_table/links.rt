@@ -1,6 +1,8 @@
-//! Links between the indexes that share a hash: of each slot the hash of its index and the index's neighbours.
+//! Links between the indexes that share a hash: for each slot the hash of its index, and the next and the previous
+//! index.
 //!
-//! A slot whose index isn't in the table leads back to itself, so a link takes sixteen bytes and no mark beside them.
+//! If a slot's index isn't in the table, the link has that index itself as the previous one. So no flag is needed, and
+//! a link has 16 bytes.
 ghost use Rattle.std.specs.Prelude.{◌≡◌, ◌≢◌, ◌↔◌, ◌≤◌, ◌<◌, ◌+◌, ◌==◌, ℕ, max, if◌then◌else◌, vec_len, vec_capacity, length, Some, None, IsSome, IsTrue};
 ghost use Rattle.std.specs.FinMap as finite;
 ghost use Rattle.iddqd.specs.Store.{sentinel};
@@ -8,7 +10,7 @@ ghost use Rattle.iddqd_by_hash.specs.Links.{filed_by, next_of, prev_of};
 
 use iddqd::item_index::ItemIndex;
 
-/// The hash of an index, and its neighbours under it: `SENTINEL` where there is none.
+/// The hash of an index, and the next and the previous index under that hash: `SENTINEL` if there is none.
 #[derive(Clone, Copy)]
 pub struct Link {
     pub hash: u64,
@@ -16,22 +18,22 @@ pub struct Link {
     pub prev: ItemIndex,
 }
 
-/// The place of an index in a list of links.
+/// The place of an index in an array of links.
 pub fn place_of(ix: ItemIndex) -> usize
     ensures { result ≡ ix }
 {
     ix.as_u32() as usize
 }
 
-/// Whether an index of the list is in the table.
-pub fn has_link(links: &[Link], ix: ItemIndex) -> bool
+/// Whether the index of a link is in the table.
+pub fn is_present(links: &[Link], ix: ItemIndex) -> bool
     requires { ix < length links.now }
     ensures { IsTrue result ↔ IsSome (finite.get (filed_by links.now) ix) }
 {
     links[place_of(ix)].prev != ix
 }
 
-/// Gives an index that isn't in the table a link. It takes no memory.
+/// Writes the link of an index that isn't in the table, which is in it afterwards. It takes no memory.
 pub fn put(links: &mut Vec<Link>, ix: ItemIndex, link: Link)
     requires in_turn { ix ≤ vec_len links.old }
     requires roomy { ix < vec_capacity links.old }
@@ -51,7 +53,7 @@ pub fn put(links: &mut Vec<Link>, ix: ItemIndex, link: Link)
     }
 }
 
-/// Names the index that follows one.
+/// Sets the next index of an index.
 pub fn set_next(links: &mut Vec<Link>, ix: ItemIndex, next: ItemIndex)
     requires { ix < vec_len links.old }
     ensures filed { filed_by links.new.items ≡ filed_by links.old.items }
@@ -63,7 +65,7 @@ pub fn set_next(links: &mut Vec<Link>, ix: ItemIndex, next: ItemIndex)
     links[place_of(ix)].next = next;
 }
 
-/// Names the index before one that is in the table.
+/// Sets the previous index of an index that is in the table.
 pub fn set_prev(links: &mut Vec<Link>, ix: ItemIndex, prev: ItemIndex)
     requires present { IsSome (finite.get (filed_by links.old.items) ix) }
     requires other { prev ≢ ix }
@@ -76,8 +78,8 @@ pub fn set_prev(links: &mut Vec<Link>, ix: ItemIndex, prev: ItemIndex)
     links[place_of(ix)].prev = prev;
 }
 
-/// Names the index that follows another one, if there is that one.
-pub fn lead(links: &mut Vec<Link>, ix: ItemIndex, next: ItemIndex)
+/// Sets the next index of `ix`, unless `ix` is `SENTINEL`.
+pub fn set_next_if_any(links: &mut Vec<Link>, ix: ItemIndex, next: ItemIndex)
     requires { ix ≢ sentinel → ix < vec_len links.old }
     ensures filed { filed_by links.new.items ≡ filed_by links.old.items }
     ensures next { (j : ℕ) → j ≢ sentinel
@@ -91,8 +93,8 @@ pub fn lead(links: &mut Vec<Link>, ix: ItemIndex, next: ItemIndex)
     }
 }
 
-/// Names the index before another one, if there is that one.
-pub fn follow(links: &mut Vec<Link>, ix: ItemIndex, prev: ItemIndex)
+/// Sets the previous index of `ix`, unless `ix` is `SENTINEL`.
+pub fn set_prev_if_any(links: &mut Vec<Link>, ix: ItemIndex, prev: ItemIndex)
     requires present { ix ≢ sentinel → IsSome (finite.get (filed_by links.old.items) ix) }
     requires other { ix ≢ sentinel → prev ≢ ix }
     ensures filed { filed_by links.new.items ≡ filed_by links.old.items }
@@ -107,7 +109,7 @@ pub fn follow(links: &mut Vec<Link>, ix: ItemIndex, prev: ItemIndex)
     }
 }
 
-/// Takes the link of an index out, and returns it.
+/// Returns the link of an index, and writes one in its place that marks the index as absent.
 pub fn take(links: &mut Vec<Link>, ix: ItemIndex) -> Link
     requires { IsSome (finite.get (filed_by links.old.items) ix) }
     ensures hash { finite.get (filed_by links.old.items) ix ≡ Some result.hash }

@@ -1,14 +1,14 @@
-//! Indexes leave a linked table. That takes no memory.
+//! Removals from a linked table. They take no memory.
 ghost use Rattle.std.specs.Prelude.{◌≡◌, ◌<◌, ◌≤◌, ◌+◌, IsSome, Some, None, vec_len, vec_capacity};
 ghost use Rattle.std.specs.FinMap as finite;
 ghost use Rattle.iddqd_hash.specs.{filed};
 ghost use Rattle.iddqd_hash.specs.HashTable.{capacity, memory};
-ghost use Rattle.iddqd_by_hash.specs.LinkedTable.{AreLinked, KeepsLinks};
+ghost use Rattle.iddqd_by_hash.specs.LinkedTable.{AreHeadsOf, KeepsMemory};
 ghost use Rattle.iddqd_by_hash.specs.Links.{filed_by, heads_after};
 
 use super::LinkedTable;
-use super::links::{Link, follow, lead, take};
-use crate::hashed::take_index;
+use super::links::{Link, set_next_if_any, set_prev_if_any, take};
+use crate::hashed::remove_index;
 use iddqd::item_index::ItemIndex;
 use iddqd::map_hash::MapHash;
 use iddqd_hash::hash_table::MapHashTable;
@@ -18,7 +18,8 @@ impl LinkedTable {
     pub fn remove(&mut self, ix: ItemIndex)
         requires { IsSome (finite.get self.old.filed ix) }
         ensures removed { self.new.filed ≡ finite.remove self.old.filed ix }
-        ensures memory { KeepsLinks self.old self.new }
+        ensures memory { KeepsMemory self.old self.new }
+        ensures slots { self.new.slots ≡ self.old.slots }
         ensures one_less { finite.len self.new.filed + 1 ≡ finite.len self.old.filed }
         ensures inside { ix < self.new.slots }
         ensures holds_all { finite.len self.old.filed ≤ self.old.capacity }
@@ -30,9 +31,9 @@ impl LinkedTable {
 
 // Takes an index out of the chain that it is in.
 fn unlink(heads: &mut MapHashTable, links: &mut Vec<Link>, ix: ItemIndex)
-    requires linked { AreLinked (filed heads.old) links.old.items }
+    requires linked { AreHeadsOf (filed heads.old) links.old.items }
     requires present { IsSome (finite.get (filed_by links.old.items) ix) }
-    ensures linked { AreLinked (filed heads.new) links.new.items }
+    ensures linked { AreHeadsOf (filed heads.new) links.new.items }
     ensures filed { filed_by links.new.items ≡ finite.remove (filed_by links.old.items) ix }
     ensures heads_capacity { capacity heads.new ≡ capacity heads.old }
     ensures heads_memory { memory heads.new ≡ memory heads.old }
@@ -40,14 +41,14 @@ fn unlink(heads: &mut MapHashTable, links: &mut Vec<Link>, ix: ItemIndex)
     ensures capacity { vec_capacity links.new ≡ vec_capacity links.old }
 {
     let link = take(links, ix);
-    lead(links, link.prev, link.next);
-    follow(links, link.next, link.prev);
+    set_next_if_any(links, link.prev, link.next);
+    set_prev_if_any(links, link.next, link.prev);
     if link.prev == ItemIndex::SENTINEL {
         replace_head(heads, MapHash::new(link.hash), ix, link.next);
     }
 }
 
-// Puts the index that follows a head in its place, or nothing where none does.
+// Replaces a head by the index that follows it, or removes it if none follows.
 fn replace_head(heads: &mut MapHashTable, hash: MapHash, head: ItemIndex, next: ItemIndex)
     requires head { finite.get (filed heads.old) head ≡ Some hash }
     requires new { finite.get (filed heads.old) next ≡ None }
@@ -55,7 +56,7 @@ fn replace_head(heads: &mut MapHashTable, hash: MapHash, head: ItemIndex, next: 
     ensures capacity { capacity heads.new ≡ capacity heads.old }
     ensures memory { memory heads.new ≡ memory heads.old }
 {
-    take_index(heads, hash, head);
+    remove_index(heads, hash, head);
     if next != ItemIndex::SENTINEL {
         heads.insert_prehashed_unchecked(hash, next);
     }

@@ -1,5 +1,5 @@
 //! Memory that a linked table takes ahead, and gives back.
-ghost use Rattle.std.specs.Prelude.{◌≡◌, ◌+◌, ◌≤◌, ◌<◌, ℕ, min, max, IsOk, IfOk, OnOk, OnErr, IsSome};
+ghost use Rattle.std.specs.Prelude.{◌≡◌, ◌+◌, ◌≤◌, ◌<◌, min, max, IsOk, IfOk, OnOk, OnErr};
 ghost use Rattle.std.specs.FinMap as finite;
 ghost use Rattle.iddqd_by_hash.specs.LinkedTable.{most_linked, kept_linked};
 
@@ -8,7 +8,7 @@ use iddqd_hash::hash_table::MapHashTable;
 use std::alloc::{AllocError, Global};
 
 impl LinkedTable {
-    /// An empty table that can hold so many indexes. With 0 it takes no memory.
+    /// An empty table that can hold `wanted` indexes. With 0 it takes no memory.
     pub fn with_capacity(alloc: Global, wanted: usize) -> Result<LinkedTable, AllocError>
         ensures empty { IfOk result (λ t. t.filed ≡ finite.empty) }
         ensures slots { IfOk result (λ t. t.slots ≡ 0) }
@@ -23,10 +23,10 @@ impl LinkedTable {
         })
     }
 
-    /// Makes room for so many indexes more. Where there is room it takes no memory.
+    /// Makes room for `additional` more indexes. If there is room it takes no memory.
     ///
-    /// For links it takes memory for twice as many as it had, where that is more. Where memory is refused, or no vector
-    /// can hold so many, the indexes stay.
+    /// If the array of links grows, its capacity at least doubles. On an `AllocError` the indexes stay; the capacity
+    /// may have grown.
     pub fn try_reserve(&mut self, additional: usize) -> Result<(), AllocError>
         ensures contents { self.new.filed ≡ self.old.filed }
         ensures slots { self.new.slots ≡ self.old.slots }
@@ -49,24 +49,25 @@ impl LinkedTable {
         Ok(())
     }
 
-    /// Gives back the memory that neither so many slots, nor the indexes or so many of them need.
+    /// Keeps memory for at most `max(slots, least)` links, where `slots` is the length of the array, and for the cells
+    /// that `max(len, least)` heads need.
     ///
-    /// The memory may have to move to a smaller block, which may be refused.
-    pub fn shrink_to(&mut self, slots: usize, least: usize) -> Result<(), AllocError>
-        requires { (ix : ℕ) → IsSome (finite.get self.old.filed ix) → ix < slots }
+    /// Shrinking may reallocate, which can fail: then the indexes stay.
+    pub fn shrink_to(&mut self, least: usize) -> Result<(), AllocError>
         ensures contents { self.new.filed ≡ self.old.filed }
-        ensures slots { self.new.slots ≡ min slots self.old.slots }
+        ensures slots { self.new.slots ≡ self.old.slots }
         ensures never_more { self.new.memory ≤ self.old.memory }
         ensures capacity_stays { min self.old.capacity (max least (finite.len self.old.filed)) ≤ self.new.capacity }
         ensures shrunk { OnOk result (self.new.memory
-            ≤ kept_linked (max least slots) (max least (finite.len self.old.filed))) }
+            ≤ kept_linked (max least self.old.slots) (max least (finite.len self.old.filed))) }
         ensures refused { OnErr result (max least (finite.len self.old.filed) < self.new.memory) }
-        ensures succeeds { kept_linked (max least slots) (max least (finite.len self.old.filed)) ≡ 0 → IsOk result }
+        ensures succeeds { kept_linked (max least self.old.slots) (max least (finite.len self.old.filed)) ≡ 0
+            → IsOk result }
     {
-        self.links.truncate(slots);
         let wanted = least.max(self.links.len());
         self.links.shrink_to(wanted);
         self.heads.shrink_to(least.max(self.len))?;
+        // `Vec::shrink_to` reports no failure, so the capacity tells whether it shrank.
         if wanted < self.links.capacity() {
             return Err(AllocError);
         }

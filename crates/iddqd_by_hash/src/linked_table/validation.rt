@@ -6,7 +6,7 @@ ghost use Rattle.iddqd_hash.specs.MapHashTable.{indexes_of};
 ghost use Rattle.iddqd_by_hash.specs.Links.{filed_by};
 
 use super::LinkedTable;
-use super::links::{Link, has_link};
+use super::links::{Link, is_present};
 use iddqd::internal::{
     TableValidationError, ValidateCompact, ValidateRefusal, validate_hash_indexes,
 };
@@ -14,9 +14,9 @@ use iddqd::item_index::ItemIndex;
 use std::alloc::{AllocError, Global};
 
 impl LinkedTable {
-    /// Whether there are as many indexes as expected; in `Compact`, whether they are those from 0 on as well.
+    /// Checks that the table has `expected_len` indexes and, in `Compact`, that they are 0, 1, and so on.
     ///
-    /// It sorts a copy of the indexes, whose memory may be refused.
+    /// It sorts a copy of the indexes, for which memory may run out.
     pub fn validate(
         &self,
         expected_len: usize,
@@ -41,7 +41,7 @@ fn listed(alloc: Global, links: &[Link], len: usize) -> Result<Vec<ItemIndex>, A
     let mut list = Vec::with_capacity(alloc, len)?;
     'listing: for place in 0..links.len() {
         let ix = ItemIndex::new(place as u32);
-        if has_link(links, ix) {
+        if is_present(links, ix) {
             list.push(ix)?;
         }
     }

@@ -14,7 +14,8 @@ use iddqd::hash_builder::DefaultHashBuilder;
 use std::alloc::{AllocError, Global};
 
 impl<T: KeyedItem> KeyedItems<T, DefaultHashBuilder> {
-    /// No items, slots for as many as there are indexes but `SENTINEL`, and the default hasher. It takes no memory.
+    /// Empty, with the default hasher. It may grow to `u32::MAX` items, one for each index but `SENTINEL`. It takes no
+    /// memory.
     pub fn with_default_hasher(alloc: Global) -> KeyedItems<T, DefaultHashBuilder>
         ensures hasher { IsDefaultHasher result.state.hasher }
         ensures state { result.state ≡ empty_state result.state.hasher }
@@ -23,7 +24,7 @@ impl<T: KeyedItem> KeyedItems<T, DefaultHashBuilder> {
         KeyedItems::new(alloc, DefaultHashBuilder::default())
     }
 
-    /// No items, never more slots than the limit, and the default hasher. It takes no memory.
+    /// Empty, with the default hasher, and never with more slots than the limit. It takes no memory.
     pub fn with_limit_and_default_hasher(
         alloc: Global,
         limit: u32,
@@ -35,8 +36,8 @@ impl<T: KeyedItem> KeyedItems<T, DefaultHashBuilder> {
         KeyedItems::with_limit(alloc, DefaultHashBuilder::default(), limit)
     }
 
-    /// No items, memory for so many, or for as many as there are indexes but `SENTINEL` where that is fewer, and the
-    /// default hasher. With 0 it takes no memory.
+    /// Empty, with the default hasher, and memory for that many items, but at most for `u32::MAX`. With 0 it takes no
+    /// memory.
     pub fn with_capacity_and_default_hasher(
         alloc: Global,
         items: usize,

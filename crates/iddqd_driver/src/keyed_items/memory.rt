@@ -1,4 +1,4 @@
-//! Memory that is taken ahead and given back.
+//! Reserving memory, and giving it back.
 //!
 //! The capacity is how many items there can be without asking for memory: the least of what the store and both tables
 //! can hold. A removal leaves the room that it makes, so below the capacity no insert runs out of memory, whatever was
@@ -17,8 +17,7 @@ use std::alloc::{AllocError, Global};
 use std::hash::BuildHasher;
 
 impl<T: KeyedItem, S: BuildHasher> KeyedItems<T, S> {
-    /// No items, and memory for so many, or for as many as there are indexes but `SENTINEL` where that is fewer. With 0
-    /// it takes no memory.
+    /// Empty, with memory for that many items, but at most for `u32::MAX`. With 0 it takes no memory.
     pub fn with_capacity(
         alloc: Global,
         state: S,
@@ -44,7 +43,8 @@ impl<T: KeyedItem, S: BuildHasher> KeyedItems<T, S> {
 
     /// How many items there can be without asking for memory: the least of what each part can hold.
     ///
-    /// There may be more: an insert without room raises the capacity of the store and of the hash table alone.
+    /// There may be more items than that: an insert without room raises the capacity of the store and of the hash table
+    /// only.
     pub fn capacity(&self) -> usize
         ensures { result ≡ capacity self.now }
     {
@@ -59,10 +59,10 @@ impl<T: KeyedItem, S: BuildHasher> KeyedItems<T, S> {
         self.capacity().saturating_sub(self.len())
     }
 
-    /// Takes memory so that `additional` inserts need none, or as many as the limit leaves.
+    /// Makes room for `additional` more inserts, or for as many as the limit allows.
     ///
-    /// Where there is that room already, nothing changes. `AllocError` means that memory ran out, or that no vector
-    /// can hold so many; the items stay, and no part can hold less than before.
+    /// If there is that room already, nothing changes. `AllocError` means that memory ran out, or that no vector can
+    /// hold that many; the items stay, and no part can hold less than before.
     pub fn reserve(&mut self, additional: usize) -> Result<(), AllocError>
         ensures { ReservesInMemory additional self.old result self.new }
     {
@@ -76,7 +76,7 @@ impl<T: KeyedItem, S: BuildHasher> KeyedItems<T, S> {
         self.order.try_reserve(wanted)
     }
 
-    /// The same as `reserve`, under the name that it has where `reserve` can't be refused.
+    /// The same as `reserve`, under the name that it has in libraries whose `reserve` can't fail.
     pub fn try_reserve(&mut self, additional: usize) -> Result<(), AllocError>
         ensures { ReservesInMemory additional self.old result self.new }
     {
@@ -92,8 +92,8 @@ impl<T: KeyedItem, S: BuildHasher> KeyedItems<T, S> {
         self.shrink_to(0)
     }
 
-    /// Gives back the memory that so many items don't need, or those that there are where these are more. Vacant slots
-    /// stay, and so does their memory.
+    /// Gives back the memory beyond what `least` items need, or the items that there are if these are more. Vacant
+    /// slots stay, and so does their memory.
     ///
     /// `AllocError` means that the store or the hash table could not get smaller memory; the items stay.
     pub fn shrink_to(&mut self, least: usize) -> Result<(), AllocError>
@@ -105,7 +105,7 @@ impl<T: KeyedItem, S: BuildHasher> KeyedItems<T, S> {
     }
 }
 
-// Takes memory for so many slots, unless there are as many.
+// Makes room for `wanted` slots, unless there are as many.
 fn reserve_slots<T>(items: &mut ItemSet<T>, wanted: usize) -> Result<(), AllocError>
     requires { wanted ≤ items.old.store.limit }
     ensures store { items.new.store ≡ items.old.store }

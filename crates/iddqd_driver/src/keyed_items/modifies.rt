@@ -1,4 +1,4 @@
-//! An item is modified in its place, and keeps both keys.
+//! An item is modified in place, and keeps both keys.
 ghost use Rattle.std.specs.Borrow.{MutBor};
 ghost use Rattle.std.specs.Prelude.{◌≡◌, Some};
 ghost use Rattle.iddqd.specs.{get};
@@ -13,8 +13,8 @@ use iddqd::item_index::ItemIndex;
 use std::hash::BuildHasher;
 
 impl<T: KeyedItem, S: BuildHasher> KeyedItems<T, S> {
-    /// Calls the closure with a `&mut` to the item at an index, and returns what the closure returns; or returns none,
-    /// and doesn't call it, where the index isn't live.
+    /// Calls the closure with a `&mut` to the item at an index, and returns what the closure returns; if the index
+    /// isn't live, it returns `None` and doesn't call the closure.
     ///
     /// The caller proves that the closure leaves the item both keys. So both tables stay as they are, in place or not:
     /// the call hashes and compares no key, and takes no memory. To change a key, use `replace`.
@@ -28,8 +28,8 @@ impl<T: KeyedItem, S: BuildHasher> KeyedItems<T, S> {
         self.modify_live(ix, f)
     }
 
-    /// Calls the closure with a `&mut` to the item with this first key, found as `find1` finds its index; or returns
-    /// none, and doesn't call it, where the look-up misses. Else as `modify_at`.
+    /// Calls the closure with a `&mut` to the item with this first key, found as `find1` finds its index; if the
+    /// look-up misses, it returns `None` and doesn't call the closure. Otherwise it behaves as `modify_at`.
     pub fn modify1<R, F: FnOnce(&mut T) -> R>(&mut self, key: &T::Key1, f: F) -> Option<R>
         requires { let keys = pair_keys T.first_key T.second_key in
             let finds = LooksUp (first_key_index ⟦<Self as Keyed>⟧.keys) self.old.state key.now in
@@ -42,8 +42,8 @@ impl<T: KeyedItem, S: BuildHasher> KeyedItems<T, S> {
         self.modify_live(self.find1(key)?, f)
     }
 
-    /// Calls the closure with a `&mut` to the item with this second key, found as `find2` finds its index; or returns
-    /// none, and doesn't call it, where the look-up misses. Else as `modify_at`.
+    /// Calls the closure with a `&mut` to the item with this second key, found as `find2` finds its index; if the
+    /// look-up misses, it returns `None` and doesn't call the closure. Otherwise it behaves as `modify_at`.
     pub fn modify2<R, F: FnOnce(&mut T) -> R>(&mut self, key: &T::Key2, f: F) -> Option<R>
         requires { let keys = pair_keys T.first_key T.second_key in
             let finds = LooksUp (second_key_index ⟦<Self as Keyed>⟧.keys) self.old.state key.now in

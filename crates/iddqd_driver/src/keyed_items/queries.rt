@@ -1,7 +1,7 @@
-//! Look-ups that give the item, and look-ups and removals by a query of another form than the key.
+//! Look-ups that return the item, and look-ups and removals by a query of another form than the key.
 //!
 //! A query stands for a key: a `&str` for a `String`, say, so that no key is copied for a look-up. In every state a
-//! look-up by it answers as one by each key for which it stands.
+//! look-up by it returns what a look-up by each key for which it stands may return.
 ghost use Rattle.std.specs.Prelude.{◌≡◌, option_copied};
 ghost use Rattle.iddqd_by_order.specs.Ordered.{is_equal};
 ghost use Rattle.iddqd_driver.specs.KeyIndexes.{first_key_index, second_key_index, Keeps, LooksUp};
@@ -14,8 +14,8 @@ use iddqd::item_index::ItemIndex;
 use iddqd_by_hash::hashed;
 use iddqd_by_hash::hashed::query_hash;
 use iddqd_by_order::ordered;
-use iddqd_keys::order_query::{OrdQuery, Ranked};
-use iddqd_keys::query::{Asked, HashQuery};
+use iddqd_keys::hash_query::{AsEquivalent, HashQuery};
+use iddqd_keys::order_query::{AsComparable, OrdQuery};
 use std::hash::BuildHasher;
 
 impl<T: KeyedItem, S: BuildHasher> KeyedItems<T, S> {
@@ -35,13 +35,13 @@ impl<T: KeyedItem, S: BuildHasher> KeyedItems<T, S> {
         self.items.get(self.find2(key)?)
     }
 
-    /// The index of the item with the first key for which the query stands. It compares the query with the keys of the
-    /// same hash alone.
+    /// The index of the item with the first key for which the query stands. Only keys of the same hash are compared
+    /// with the query.
     pub fn find1_by<Q: HashQuery<T::Key1>>(&self, query: Q) -> Option<ItemIndex>
         ensures { LooksUpBy (first_key_index ⟦<Self as Keyed>⟧.keys) self.now.state (Q.stands_for query) result }
     {
-        let hash = query_hash(&self.state, query);
-        hashed::find::<T, First, Asked<Q>>(&self.filed, &self.items, hash, &Asked(query))
+        let (hash, query) = (query_hash(&self.state, query), AsEquivalent(query));
+        hashed::find::<T, First, AsEquivalent<Q>>(&self.filed, &self.items, hash, &query)
     }
 
     /// The index of the item with the second key for which the query stands. It makes as many comparisons as `find2`.
@@ -50,7 +50,7 @@ impl<T: KeyedItem, S: BuildHasher> KeyedItems<T, S> {
         ensures { LooksUpBy (second_key_index ⟦<Self as Keyed>⟧.keys) self.now.state
             (is_equal (Q.compare query)) result }
     {
-        ordered::find::<T, Second, Ranked<Q>>(&self.order, &self.items, &Ranked(query))
+        ordered::find::<T, Second, AsComparable<Q>>(&self.order, &self.items, &AsComparable(query))
     }
 
     /// The item with the first key for which the query stands, found as `find1_by` finds its index.
@@ -79,8 +79,8 @@ impl<T: KeyedItem, S: BuildHasher> KeyedItems<T, S> {
         ensures memory { self.new.memory ≡ self.old.memory }
     {
         let hash = query_hash(&self.state, query);
-        let (filed, query) = (&mut self.filed, Asked(query));
-        let ix = hashed::take::<T, First, Asked<Q>>(filed, &self.items, hash, &query)?;
+        let (filed, query) = (&mut self.filed, AsEquivalent(query));
+        let ix = hashed::take::<T, First, AsEquivalent<Q>>(filed, &self.items, hash, &query)?;
         Some((ix, remove_item(&mut self.order, &mut self.items, ix)))
     }
 
@@ -93,11 +93,11 @@ impl<T: KeyedItem, S: BuildHasher> KeyedItems<T, S> {
         ensures keeps { Keeps ⟦<Self as Keyed>⟧.keys self.old.state self.new.state }
         ensures memory { self.new.memory ≡ self.old.memory }
     {
-        let (order, query) = (&mut self.order, Ranked(query));
-        let ix = ordered::take::<T, Second, Ranked<Q>>(order, &self.items, &query)?;
+        let (order, query) = (&mut self.order, AsComparable(query));
+        let ix = ordered::take::<T, Second, AsComparable<Q>>(order, &self.items, &query)?;
         let item = take_item(&mut self.items, ix);
         let hash = hashed::hash_of::<T, First, S>(&self.state, &item);
-        hashed::take_index(&mut self.filed, hash, ix);
+        hashed::remove_index(&mut self.filed, hash, ix);
         Some((ix, item))
     }
 }

@@ -1,4 +1,4 @@
-//! An item becomes another one, which may have other keys, and both tables are updated.
+//! An item is replaced by one that may have other keys, and both tables are updated.
 //!
 //! Each new key is looked up once. If that hits the index itself, its table stays as it is. If it misses, the index is
 //! removed from the table, wherever it stands there, and inserted where the new key belongs. So the call works after
@@ -31,7 +31,7 @@ use std::error::Error;
 use std::fmt;
 use std::hash::BuildHasher;
 
-/// Why an item didn't become another one. The other one comes back.
+/// Why an item was not replaced. The new one comes back.
 #[derive(Debug, PartialEq, Eq, Drop)]
 pub enum ReplaceRefusal<T> {
     /// The index isn't live.
@@ -66,7 +66,7 @@ impl<T> fmt::Display for ReplaceRefusal<T> {
 impl<T: fmt::Debug + Drop> Error for ReplaceRefusal<T> {}
 
 impl<T: KeyedItem, S: BuildHasher> KeyedItems<T, S> {
-    /// Puts an item in the place of the one at a live index, which it returns, and updates both tables.
+    /// Replaces the item at a live index, updates both tables, and returns the old item.
     ///
     /// The index stays, and each table that was in order is in order afterwards. The item may have other keys, but none
     /// that another item has. A refusal returns it and changes nothing.
@@ -107,7 +107,7 @@ impl<T: KeyedItem, S: BuildHasher> KeyedItems<T, S> {
     }
 }
 
-// Where the keys of an item were found that an index is to have: at that index, or not at all.
+// What the look-ups of a new item's keys returned: the index whose item it replaces, or none.
 #[derive(Clone, Copy)]
 struct Found {
     // The hash of the first key.
@@ -116,7 +116,7 @@ struct Found {
     at2: Option<ItemIndex>,
 }
 
-// What a look-up hit, where that is another index.
+// The index that a look-up hit, if it isn't `ix`.
 fn other_than(ix: ItemIndex, found: &Option<ItemIndex>) -> Option<ItemIndex>
     ensures { ReportsOtherIndex (λ answer. found.now ≡ answer) ix result }
 {
@@ -126,8 +126,8 @@ fn other_than(ix: ItemIndex, found: &Option<ItemIndex>) -> Option<ItemIndex>
     }
 }
 
-// Puts an item in the place of the one at a live index, and updates both tables: in a table where the look-up of the
-// item's key hit the index it stays, else it moves. All memory is taken before anything is written.
+// Replaces the item at a live index, and updates both tables: the index stays in a table if the look-up of the new key
+// hit it, and moves otherwise. All memory is taken before anything is written.
 fn rebind<T: KeyedItem, S: BuildHasher>(
     items: &mut ItemSet<T>,
     table: &mut MapHashTable,
@@ -160,7 +160,7 @@ fn rebind<T: KeyedItem, S: BuildHasher>(
     Ok(items.replace(ix, item))
 }
 
-// What has to become of an index in the hash table, by what the look-up of its new key answered.
+// Plans the move of an index in the hash table: it stays if the look-up of its new key hit it.
 fn plan_of(hash: MapHash, found: Option<ItemIndex>) -> Move
     ensures { result ≡ planned hash found }
 {
@@ -170,7 +170,7 @@ fn plan_of(hash: MapHash, found: Option<ItemIndex>) -> Move
     }
 }
 
-// Files a live index as it was planned, whatever it is filed under. It takes no memory.
+// Files a live index as planned, whatever it is filed under. It takes no memory.
 fn refile<T: KeyedItem, S: BuildHasher>(
     table: &mut MapHashTable,
     items: &ItemSet<T>,
@@ -189,8 +189,8 @@ fn refile<T: KeyedItem, S: BuildHasher>(
     }
 }
 
-// Leaves a live index in its place, where the look-up of its new second key hit it, or else moves it to where that key
-// leads. If memory runs out, nothing changes.
+// Leaves a live index in its place if the look-up of its new second key hit it, and otherwise moves it to the place of
+// that key. If memory runs out, nothing changes.
 fn reorder<T: KeyedItem>(
     order: &mut MapBTreeTable,
     items: &ItemSet<T>,

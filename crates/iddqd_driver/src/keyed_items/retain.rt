@@ -2,7 +2,7 @@
 //!
 //! First a pass over the store removes each item at which the closure answers false. Then one pass over each table
 //! removes the indexes that have no item. So an index leaves both tables whatever its item's keys were, no key is
-//! hashed or compared, and the cost is a few steps a slot.
+//! hashed or compared, and the cost is a few steps for each slot.
 ghost use Rattle.std.specs.Prelude.{◌≡◌, ◌≤◌, ◌+◌, ℕ, None, filter, is_some, cond};
 ghost use Rattle.std.specs.FinMap as finite;
 ghost use Rattle.std.specs.Fn.{TakesAt, CalledAt};
@@ -29,7 +29,8 @@ impl<T: KeyedItem, S: BuildHasher> KeyedItems<T, S> {
     /// Keeps exactly the items at which the closure answers true, under their indexes, and returns how many it removed.
     ///
     /// The closure is called once at each item, by rising index. The items at which it answers false are removed,
-    /// whatever their keys are now. No memory is taken, no key is hashed or compared, and it costs a few steps a slot.
+    /// whatever their keys are now. No memory is taken, no key is hashed or compared, and it costs a few steps for each
+    /// slot.
     pub fn retain<F: FnMut(&T) -> bool>(&mut self, mut f: F) -> usize
         requires { MayAsk (TakesAt F.FnMut) (CalledAt F.FnMut) f (live_items self.old.state.store) }
         ensures retained { Retains (CalledAt F.FnMut) f self.old.state self.new.state }
@@ -47,8 +48,8 @@ impl<T: KeyedItem, S: BuildHasher> KeyedItems<T, S> {
     }
 }
 
-// Removes the items at which the closure answers false from the store. The closure is left as its last answer leaves
-// it.
+// Removes the items at which the closure answers false from the store. The closure stays in the state that its last
+// call leaves.
 fn remove_refused<T: Drop, F: FnMut(&T) -> bool>(items: &mut ItemSet<T>, f: &mut F)
     requires { CanAsk (TakesAt F.FnMut) (CalledAt F.FnMut) f.old (live_items items.old.store) }
     ensures retained { RetainsTo (CalledAt F.FnMut) f.old items.old.store items.new.store f.new }

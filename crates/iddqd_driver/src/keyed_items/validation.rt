@@ -1,6 +1,6 @@
-//! The check of store and tables, and that each item is found.
+//! The check that store and tables are sound, and that each item is found.
 //!
-//! Every value keeps store and tables sound and paired. So a check by walks fails for two reasons only: memory ran out,
+//! Every value keeps store and tables sound and paired. So a check by scans fails for two reasons only: memory ran out,
 //! or the mode was `Compact` and a slot is vacant. Each part is checked all the same, for those who change this crate.
 ghost use Rattle.std.specs.Prelude.{◌≡◌, length, IsOk, IfErr, MatchResult};
 ghost use Rattle.iddqd.specs.Validation.{Allows, IsMemory, Tells, Validates, not_compact_text};
@@ -24,12 +24,12 @@ use std::hash::BuildHasher;
 impl<T: KeyedItem, S: BuildHasher> KeyedItems<T, S> {
     /// Whether store and tables are sound in the mode, and each item is found.
     ///
-    /// With `ValidateChaos::Yes` each index is sought by a walk over both tables, which always finds it. With `No` it
-    /// is sought by the keys that its item has now, which may miss where a key was changed by `overwrite`. The first
-    /// check that fails is reported: of the store, of each table, of each item by rising index.
+    /// With `ValidateChaos::Yes` each index is searched for by a scan of both tables, which always finds it. With `No`
+    /// it is looked up by the keys that its item has now, which may miss if `overwrite` changed a key. The first check
+    /// that fails is reported: of the store, of each table, of each item by rising index.
     ///
-    /// Memory is taken for sorted copies of the indexes and for the words of a refusal. With `Yes` the cost grows as
-    /// the square of the number of items, with `No` as sorting does.
+    /// Memory is taken for sorted copies of the indexes and for the text of a refusal. With `Yes` the cost grows as the
+    /// square of the number of items, with `No` as sorting does.
     pub fn validate(
         &self,
         compactness: ValidateCompact,
@@ -37,19 +37,19 @@ impl<T: KeyedItem, S: BuildHasher> KeyedItems<T, S> {
     ) -> Result<(), ValidateRefusal<ValidationError>>
         ensures paired { IsPaired self.now.state }
 
-        // In every state it is Ok only where the mode allows the vacant slots, and says so where it doesn't.
+        // In every state it is Ok only if the mode allows the vacant slots; if the mode doesn't, the error says so.
         ensures allowed { IsOk result → Allows compactness (length self.now.state.store.free) }
         ensures not_compact { (Allows compactness (length self.now.state.store.free) → ⊥)
             → IfErr result (Tells (not_compact_text (length self.now.state.store.free))) }
 
-        // By walks, and where the keys are in order, it is Ok if and only if the mode allows the vacant slots, unless
+        // By scans, and also if the keys are in order, it is Ok if and only if the mode allows the vacant slots, unless
         // memory runs out.
         ensures by_walks { chaos ≡ ValidateChaos.Yes
             → Validates (Allows compactness (length self.now.state.store.free)) result }
         ensures in_order { InOrder ⟦<Self as Keyed>⟧.keys self.now.state
             → Validates (Allows compactness (length self.now.state.store.free)) result }
 
-        // By keys it is Ok only where each index is filed under the hash of its first key.
+        // By keys it is Ok only if each index is filed under the hash of its first key.
         ensures by_keys { chaos ≡ ValidateChaos.No → IsOk result
             → (first_key_index ⟦<Self as Keyed>⟧.keys).IsInPlace self.now.state }
     {
@@ -86,7 +86,7 @@ impl<T: KeyedItem, S: BuildHasher> KeyedItems<T, S> {
     }
 }
 
-// Whether both tables have each live index, by walks over them.
+// Whether both tables have each live index, by scans of them.
 fn check_stored<T>(
     alloc: Global,
     items: &ItemSet<T>,
@@ -110,7 +110,7 @@ fn check_stored<T>(
     Ok(())
 }
 
-// What a table was answered, reported with its name.
+// The result of a table's check, with the table's name in an error.
 fn of_table(
     name: &'static str,
     answer: Result<(), ValidateRefusal<TableValidationError>>,
@@ -126,7 +126,7 @@ fn of_table(
     }
 }
 
-// The error with this text, or else that memory ran out.
+// The error with this text, or `Memory` if memory for the text ran out.
 fn refusal(text: Result<String, AllocError>) -> ValidateRefusal<ValidationError>
     ensures { MatchResult text
         (λ text. result ≡ ValidateRefusal.Invalid (ValidationError.General text))

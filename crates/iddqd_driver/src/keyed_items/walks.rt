@@ -1,4 +1,4 @@
-//! Walks over the items, by rising index and in the order of their second keys. No walk takes memory.
+//! Iterators over the items, by rising index and in the order of their second keys. They take no memory.
 ghost use Rattle.std.specs.Prelude.{◌≡◌, ⊤, [], Some, IfSome, IsOk, IfOk, length};
 ghost use Rattle.std.specs.Iterator.{YieldsFirstRef, YieldsLastRef, item_count, at_most, UpTo};
 ghost use Rattle.std.specs.Iterator.SizeHint.{IsWithinCount};
@@ -35,8 +35,7 @@ impl<T: KeyedItem, S: BuildHasher> KeyedItems<T, S> {
         self.items.iter()
     }
 
-    /// The indexes in the order of the ordered table: by second key, where none was changed silently.
-    /// It takes no memory.
+    /// The indexes in the order of the ordered table: by second key, if none was changed silently. It takes no memory.
     pub fn walk(&self) -> btree_table::Iter<'_>
         ensures order { indexes_left result ≡ self.now.state.order }
         ensures paired { IsPaired self.now.state }
@@ -46,7 +45,7 @@ impl<T: KeyedItem, S: BuildHasher> KeyedItems<T, S> {
         self.order.iter()
     }
 
-    /// The items in the order of the ordered table: by second key, where none was changed silently.
+    /// The items in the order of the ordered table: by second key, if none was changed silently.
     pub fn values_by_key2(&self) -> ValuesByKey2<'_, T>
         ensures items { result ≡ items_at self.now.state.store self.now.state.order }
         ensures len { length result ≡ live_count self.now.state.store }
@@ -59,12 +58,11 @@ impl<T: KeyedItem, S: BuildHasher> KeyedItems<T, S> {
         }
     }
 
-    /// The live indexes with their items whose second keys are between two bounds, in the order of the
-    /// second keys, from both ends: none where the lower bound stands above the upper one.
+    /// The live indexes with their items whose second keys are between two bounds, in the order of the second keys,
+    /// from both ends: none if the lower bound is above the upper one.
     ///
-    /// Where a second key was changed silently, they are those between some two places of the ordered
-    /// table. Each query is compared with at most 4 + 2d second keys, where the number of items has d
-    /// binary digits. It takes no memory.
+    /// If a second key was changed silently, they are a run of the ordered table. Each query is compared with at most 4
+    /// + 2d second keys, where the number of items has d binary digits. It takes no memory.
     #[tactic(auto, using(crate::proofs::KeepsLemmas::order_held))]
     pub fn range_by_key2<Q: OrdQuery<T::Key2>>(
         &self,

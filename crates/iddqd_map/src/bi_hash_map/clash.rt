@@ -6,14 +6,14 @@ use crate::pair_conflict::{PairConflict, ReportsPair};
 use iddqd::item_index::{ItemIndex, OrDash};
 use std::fmt;
 
-/// For each key of an item the index of the other item that has it, if one has.
+/// For each key of an item, the index of the other item that has it, if one has.
 ///
 /// It prints as `0 -`.
 #[derive(Clone, Copy, Debug, PartialEq, Eq)]
 pub struct BiClash {
-    /// Where the first key is.
+    /// The index of the item that has the first key.
     pub key1: Option<ItemIndex>,
-    /// Where the second key is.
+    /// The index of the item that has the second key.
     pub key2: Option<ItemIndex>,
 }
 

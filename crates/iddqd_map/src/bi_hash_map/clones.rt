@@ -5,7 +5,7 @@ use crate::map::Map;
 use std::alloc::AllocError;
 use std::hash::BuildHasher;
 
-/// Items that keep their keys where they are cloned, so that a map of them can be cloned as it stands.
+/// Items whose clones have the same keys, so that a map of them can be cloned without a look-up.
 ///
 /// No method is to be written. For a derived `Clone` `ghost same_key1 = { Prim.search rules };` shows it.
 pub trait BiHashClone: BiHashItem + Clone {
@@ -18,8 +18,8 @@ pub trait BiHashClone: BiHashItem + Clone {
         → IsTrue (Self.Key2.eq (Self.second_key x) (Self.second_key y)) };
 }
 
-/// Each item is cloned once, under its index, and no key is hashed or compared. Where memory is refused the clones made
-/// so far are dropped.
+/// Each item is cloned once, under its index, and no key is hashed or compared. If memory runs out, the clones made so
+/// far are dropped.
 impl<T: BiHashClone, S: BuildHasher + Copy> Clone for Map<T, BiIndex<T>, S> {
     ghost use Rattle.iddqd.specs.Clones.{IsStoreClone};
 

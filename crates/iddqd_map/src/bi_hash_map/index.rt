@@ -6,8 +6,8 @@ use super::clash::BiClash;
 use super::item::{BiHashItem, First, Second};
 use crate::by_hash::ByHash;
 use crate::key_index::{
-    AsksAt, Checks, FindsSame, HashedAt, Here, Inserts, KeyIndex, Left, Moves, Removes, Right,
-    Sizes, TakesAt,
+    Checks, FindsSame, FindsWithHashAt, HashedAt, Here, Inserts, KeyIndex, Left, Moves, Removes,
+    Right, Sizes, TakesAt,
 };
 use crate::pair::Pair;
 use iddqd::index_remap::IndexRemap;
@@ -16,7 +16,7 @@ use iddqd::item_index::ItemIndex;
 use iddqd::item_set::ItemSet;
 use iddqd::map_hash::MapHash;
 use iddqd_by_hash::hashed_move::Move;
-use iddqd_keys::query::HashQuery;
+use iddqd_keys::hash_query::HashQuery;
 use std::alloc::{AllocError, Global};
 use std::hash::BuildHasher;
 
@@ -49,7 +49,7 @@ impl<T: BiHashItem, S: BuildHasher> KeyIndex<T, S> for BiIndex<T> {
 
     type Conflict = BiClash;
 
-    type Asked = (Option<MapHash>, Option<MapHash>);
+    type KnownHashes = (Option<MapHash>, Option<MapHash>);
 
     ghost Keys = { T.Key1 × T.Key2 };
 
@@ -69,11 +69,11 @@ impl<T: BiHashItem, S: BuildHasher> KeyIndex<T, S> for BiIndex<T> {
 
     ghost kept = { λ slots count. most_cells count + most_cells count };
 
-    ghost may_lack = { false };
+    ghost may_need_memory = { false };
 
-    ghost same = { λ s x y. ⟦<Tables<T> as KeyIndex<T, S>>⟧.same s x.tables y.tables };
+    ghost same = { λ x y. ⟦<Tables<T> as KeyIndex<T, S>>⟧.same x.tables y.tables };
 
-    ghost key_count = { 2 };
+    ghost unique_keys = { 2 };
 
     ghost conflicts = { AreReported (shares T.first_key T.Key1.eq) (shares T.second_key T.Key2.eq) };
 
@@ -81,13 +81,13 @@ impl<T: BiHashItem, S: BuildHasher> KeyIndex<T, S> for BiIndex<T> {
 
     ghost reports = { λ at. IsOfTwo at.key1 at.key2 };
 
-    fn unasked() -> (Option<MapHash>, Option<MapHash>) {
-        <Tables<T> as KeyIndex<T, S>>::unasked()
+    fn no_hashes() -> (Option<MapHash>, Option<MapHash>) {
+        <Tables<T> as KeyIndex<T, S>>::no_hashes()
     }
 
     ghost kept_none = { refl };
 
-    ghost same_as_itself = { λ s x. (refl, refl) };
+    ghost same_as_itself = { λ x. (refl, refl) };
 
     ghost same_indexes = { λ x y state s same is. (
       Indexes-kept T.first_key (hashing_of T.Key1.eq T.Key1.hash_input S.BuildHasher S.Hasher.Hasher state) s
@@ -97,7 +97,7 @@ impl<T: BiHashItem, S: BuildHasher> KeyIndex<T, S> for BiIndex<T> {
     ) };
 
     ghost apart = { λ x state s is. AreApart-either (shares T.first_key T.Key1.eq) (shares T.second_key T.Key2.eq) s
-        is.0.exact.apart is.1.exact.apart };
+        is.0.in_sync.apart is.1.in_sync.apart };
 
     ghost modified = { λ x state s ix was item is live same. (
       Indexes-key_kept T.first_key T.Key1.eq T.Key1.hash_input S.BuildHasher S.Hasher.Hasher T.Key1.Eq.laws
@@ -346,14 +346,19 @@ impl<T: BiHashItem, S: BuildHasher> TakesAt<First, T, S> for BiIndex<T> {
     }
 }
 
-impl<T: BiHashItem, S: BuildHasher> AsksAt<First, T, S> for BiIndex<T> {
-    fn ask<Q: HashQuery<T::Key1>>(
+impl<T: BiHashItem, S: BuildHasher> FindsWithHashAt<First, T, S> for BiIndex<T> {
+    fn find_with_hash<Q: HashQuery<T::Key1>>(
         &self,
         items: &ItemSet<T>,
         state: &S,
         query: Q,
     ) -> (Option<ItemIndex>, (Option<MapHash>, Option<MapHash>)) {
-        <Tables<T> as AsksAt<Left<Here>, T, S>>::ask(&self.tables, items, state, query)
+        <Tables<T> as FindsWithHashAt<Left<Here>, T, S>>::find_with_hash(
+            &self.tables,
+            items,
+            state,
+            query,
+        )
     }
 }
 
@@ -383,13 +388,18 @@ impl<T: BiHashItem, S: BuildHasher> TakesAt<Second, T, S> for BiIndex<T> {
     }
 }
 
-impl<T: BiHashItem, S: BuildHasher> AsksAt<Second, T, S> for BiIndex<T> {
-    fn ask<Q: HashQuery<T::Key2>>(
+impl<T: BiHashItem, S: BuildHasher> FindsWithHashAt<Second, T, S> for BiIndex<T> {
+    fn find_with_hash<Q: HashQuery<T::Key2>>(
         &self,
         items: &ItemSet<T>,
         state: &S,
         query: Q,
     ) -> (Option<ItemIndex>, (Option<MapHash>, Option<MapHash>)) {
-        <Tables<T> as AsksAt<Right<Here>, T, S>>::ask(&self.tables, items, state, query)
+        <Tables<T> as FindsWithHashAt<Right<Here>, T, S>>::find_with_hash(
+            &self.tables,
+            items,
+            state,
+            query,
+        )
     }
 }

@@ -1,7 +1,7 @@
 //! The two keys of an item, and the types that name them.
 //!
-//! Each key is named by a type without values, so that what a table means for one key of an item is
-//! said once, of any key: users implement [`BiHashItem`] alone.
+//! Each key is named by a type without values, so that the contract of a table is written once, for any key. Users
+//! implement only [`BiHashItem`].
 ghost use Rattle.std.specs.Prelude.{◌≡◌};
 
 use iddqd_keys::key_of::KeyOf;

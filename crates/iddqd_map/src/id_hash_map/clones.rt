@@ -5,7 +5,7 @@ use crate::map::Map;
 use std::alloc::AllocError;
 use std::hash::BuildHasher;
 
-/// Items that keep their key where they are cloned, so that a map of them can be cloned as it stands.
+/// Items whose clones have the same key, so that a map of them can be cloned without a look-up.
 ///
 /// No method is to be written. For a derived `Clone` `ghost same_key = { Prim.search rules };` shows it.
 pub trait IdHashClone: IdHashItem + Clone {
@@ -14,8 +14,8 @@ pub trait IdHashClone: IdHashItem + Clone {
     ghost same_key: { (x y : Self) → Self.is_clone x y → IsTrue (Self.Key.eq (Self.key_of x) (Self.key_of y)) };
 }
 
-/// Each item is cloned once, under its index, and no key is hashed or compared. Where memory is refused the clones made
-/// so far are dropped.
+/// Each item is cloned once, under its index, and no key is hashed or compared. If memory runs out, the clones made so
+/// far are dropped.
 impl<T: IdHashClone, S: BuildHasher + Copy> Clone for Map<T, IdIndex<T>, S> {
     ghost use Rattle.iddqd.specs.Clones.{IsStoreClone};
 

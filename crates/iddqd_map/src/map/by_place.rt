@@ -12,15 +12,16 @@ ghost use Rattle.iddqd_map.specs.Modify.{Modifies};
 use super::Map;
 use super::changes::change_found;
 use super::replaces::replace_found;
-use crate::key_index::{AsksAt, HashedAt, KeyIndex, Moves, TakesAt, TakesQuery};
+use crate::key_index::{FindsWithHashAt, HashedAt, KeyIndex, Moves, TakesAt, TakesQuery};
 use crate::refusal::ReplaceRefusal;
 use iddqd::item_index::ItemIndex;
-use iddqd_keys::query::HashQuery;
+use iddqd_keys::hash_query::HashQuery;
 
 impl<T, X: KeyIndex<T, S>, S> Map<T, X, S> {
     /// The index of the item that has the key for which the query stands.
     ///
-    /// The query is a `&K`, or what else stands for such a key. It is compared with keys of the same hash alone.
+    /// The query is a `&K`, or another query that stands for such a key. Only keys of the same hash are compared with
+    /// it.
     pub fn find_by<P, Q>(&self, query: Q) -> Option<ItemIndex>
     where
         X: HashedAt<P, T, S>,
@@ -50,7 +51,7 @@ impl<T, X: KeyIndex<T, S>, S> Map<T, X, S> {
         self.items.get(self.find_by::<P, Q>(query)?)
     }
 
-    /// Takes the item that has the key out of the map. It takes no memory.
+    /// Removes the item that has the key, and returns it. It takes no memory.
     pub fn remove_by<P, Q>(&mut self, query: Q) -> Option<T>
     where
         X: TakesAt<P, T, S>,
@@ -63,7 +64,7 @@ impl<T, X: KeyIndex<T, S>, S> Map<T, X, S> {
         self.items.remove(ix)
     }
 
-    /// Takes the item that has the key for which the query stands out of the map, by one search. It takes no memory.
+    /// Removes the item whose key the query stands for, by one search, and returns it. It takes no memory.
     ///
     /// Only a map whose key index is a single `ByOrder` has this call.
     pub fn remove_query<Q>(&mut self, query: Q) -> Option<T>
@@ -77,7 +78,7 @@ impl<T, X: KeyIndex<T, S>, S> Map<T, X, S> {
         self.items.remove(ix)
     }
 
-    /// Puts an item in the place of the one that has the key, which is handed back; else as `replace_at`.
+    /// Replaces the item that has the key, and returns it. Otherwise it behaves as `replace_at`.
     ///
     /// The hash that the look-up computed isn't computed again.
     pub fn replace_by<P, Q>(
@@ -86,13 +87,13 @@ impl<T, X: KeyIndex<T, S>, S> Map<T, X, S> {
         item: T,
     ) -> Result<T, ReplaceRefusal<T, X::Conflict>>
     where
-        X: AsksAt<P, T, S> + Moves<T, S>,
+        X: FindsWithHashAt<P, T, S> + Moves<T, S>,
         Q: HashQuery<X::Key>,
-        ensures replaces { Replaces X.alike X.same_keys X.may_lack X.taken self.old
+        ensures replaces { Replaces X.alike X.same_keys X.may_need_memory X.taken self.old
             (passes_by X.key_at (Q.stands_for query)) item result self.new }
         ensures room { room self.old ≤ room self.new }
     {
-        let (found, asked) = self.indexes.ask(&self.items, &self.state, query);
+        let (found, asked) = self.indexes.find_with_hash(&self.items, &self.state, query);
         replace_found(
             &mut self.items,
             &mut self.indexes,
@@ -103,24 +104,24 @@ impl<T, X: KeyIndex<T, S>, S> Map<T, X, S> {
         )
     }
 
-    /// Puts what the closure makes of the item that has the key in its place, and hands that item back; or answers
-    /// none, where no item has it.
+    /// Replaces the item that has the key by what the closure makes of it, and returns the old item; `None` if no item
+    /// has the key.
     ///
-    /// The closure is called at most once, and not at all where no item has the key. Else as `replace_by`.
+    /// The closure is called at most once, and not at all if no item has the key. Otherwise it behaves as `replace_by`.
     pub fn change_by<P, Q, F: FnOnce(&T) -> T>(
         &mut self,
         query: Q,
         f: F,
     ) -> Result<Option<T>, ReplaceRefusal<T, X::Conflict>>
     where
-        X: AsksAt<P, T, S> + Moves<T, S>,
+        X: FindsWithHashAt<P, T, S> + Moves<T, S>,
         Q: HashQuery<X::Key>,
         requires { MayChange F.FnOnce f self.old.store (passes_by X.key_at (Q.stands_for query)) }
-        ensures changes { Changes X.alike X.same_keys X.may_lack X.taken (FnOnceReturnsAt F.FnOnce f) self.old
+        ensures changes { Changes X.alike X.same_keys X.may_need_memory X.taken (FnOnceReturnsAt F.FnOnce f) self.old
             (passes_by X.key_at (Q.stands_for query)) result self.new }
         ensures room { room self.old ≤ room self.new }
     {
-        let (found, asked) = self.indexes.ask(&self.items, &self.state, query);
+        let (found, asked) = self.indexes.find_with_hash(&self.items, &self.state, query);
         change_found(
             &mut self.items,
             &mut self.indexes,
@@ -131,8 +132,8 @@ impl<T, X: KeyIndex<T, S>, S> Map<T, X, S> {
         )
     }
 
-    /// Calls the closure with a `&mut` to the item that has the key, as `modify_at`; or returns none, and doesn't call
-    /// it, where no item has the key. It is one look-up.
+    /// Calls the closure with a `&mut` to the item that has the key, as `modify_at` does; if no item has the key, it
+    /// returns `None` and doesn't call the closure. It is one look-up.
     pub fn modify_by<P, Q, R, F: FnOnce(&mut T) -> R>(&mut self, query: Q, f: F) -> Option<R>
     where
         X: HashedAt<P, T, S>,

@@ -1,4 +1,4 @@
-//! What a closure makes of an item takes its place.
+//! Replaces an item by what a closure makes of it.
 ghost use Rattle.std.specs.Prelude.{◌≡◌, ◌≤◌, Bool, Some, IfSome};
 ghost use Rattle.std.specs.Borrow.{Bor};
 ghost use Rattle.std.specs.Fn.{FnOnceReturnsAt};
@@ -14,12 +14,13 @@ use crate::refusal::ReplaceRefusal;
 use iddqd::item_index::ItemIndex;
 use iddqd::item_set::ItemSet;
 
-// Puts what the closure makes of the item that a look-up found in its place; or answers none, and doesn't call it.
+// Replaces the item that a look-up found by what the closure makes of it. If none was found, it returns `None`, and
+// doesn't call the closure.
 pub(super) fn change_found<T, X: Moves<T, S>, S, F: FnOnce(&T) -> T>(
     items: &mut ItemSet<T>,
     indexes: &mut X,
     state: &S,
-    asked: X::Asked,
+    asked: X::KnownHashes,
     found: Option<ItemIndex>,
     f: F,
 ) -> Result<Option<T>, ReplaceRefusal<T, X::Conflict>>
@@ -28,7 +29,7 @@ pub(super) fn change_found<T, X: Moves<T, S>, S, F: FnOnce(&T) -> T>(
     requires map { IsIndexed (X.indexes indexes.old) state.now items.old.store }
     ensures map { IsIndexed (X.indexes indexes.new) state.now items.new.store }
     ensures changes { (test : T → Bool) → AnswersScan items.old.store test found
-        → Changes X.alike X.same_keys X.may_lack X.taken (FnOnceReturnsAt F.FnOnce f)
+        → Changes X.alike X.same_keys X.may_need_memory X.taken (FnOnceReturnsAt F.FnOnce f)
         (map_with items.old (X.capacity indexes.old) (X.cells indexes.old)) test result
         (map_with items.new (X.capacity indexes.new) (X.cells indexes.new)) }
     ensures room { room (map_with items.old (X.capacity indexes.old) (X.cells indexes.old))

@@ -8,9 +8,9 @@ use crate::key_index::Checks;
 use iddqd::internal::{ValidateCompact, ValidateRefusal, ValidationError};
 
 impl<T, X: Checks<T, S>, S> Map<T, X, S> {
-    /// Whether store and tables are sound, as they are in every map; in `Compact`, whether no slot is vacant.
+    /// Checks that store and tables are sound, as they are in every map; with `Compact`, also that no slot is vacant.
     ///
-    /// It sorts a copy of the indexes, whose memory may be refused.
+    /// It sorts a copy of the indexes, for which memory may run out.
     pub fn validate(
         &self,
         compactness: ValidateCompact,

@@ -1,7 +1,7 @@
 //! Copies of a map.
 //!
-//! Whether items keep their keys where they are cloned, only their type knows: so each kind of map has a `Clone` of its
-//! own, which calls this.
+//! Only the items' type says whether a clone has the same keys. So each map with a name of its own has its own `Clone`,
+//! which calls this; another `Map` is copied by `copied`.
 ghost use Rattle.std.specs.Prelude.{◌≤◌, true, ◌≡◌, IfOk};
 ghost use Rattle.iddqd.specs.{slot_count};
 ghost use Rattle.iddqd.specs.Clones.{IsStoreClone};
@@ -11,7 +11,7 @@ use crate::key_index::Checks;
 use std::alloc::AllocError;
 
 impl<T: Clone, X: Checks<T, S>, S: Copy> Map<T, X, S> {
-    /// A copy: each item is cloned once, under its index, and no key is hashed or compared. Where memory is refused the
+    /// A copy: each item is cloned once, under its index, and no key is hashed or compared. If memory runs out, the
     /// clones made so far are dropped.
     pub fn copied(&self) -> Result<Map<T, X, S>, AllocError>
         requires { (x y : T) → T.is_clone x y → X.same_keys x y ≡ true }

@@ -20,7 +20,7 @@ impl<T: PartialEq, X: FindsSame<T, S>, S> Map<T, X, S> {
 }
 
 /// Two maps are equal if they have equally many items, and each item of one equals the one with the same keys in the
-/// other. It looks up each item of one map once, by its first key alone, and compares the other keys.
+/// other. It looks up each item of one map at most once, only by its first key, and compares the other keys.
 impl<T: PartialEq, X: FindsSame<T, S>, S> PartialEq for Map<T, X, S> {
     ghost use Rattle.iddqd_map.specs.Equality.{has_same_items};
     ghost use Rattle.iddqd_map.specs.EqualityLaws.{map_laws};

@@ -1,8 +1,7 @@
-//! Calls on a group: the items that share a hashed key which several items may have. One finds some item of the group, one
-//! removes them all.
+//! Calls on a group: the items with one hashed key that several items may have.
 //!
-//! A removal finds each item by a look-up of that key, and takes it out of each key index by one removal. No memory is
-//! taken.
+//! A call that removes them finds each item by a look-up of that key, and removes it once from each key index. No
+//! memory is taken.
 ghost use Rattle.std.specs.Prelude.{◌≡◌, ◌≤◌, ◌+◌, ◌↔◌, Bool, false};
 ghost use Rattle.iddqd.specs.{live_count};
 ghost use Rattle.iddqd.specs.LiveItems.{live_items};
@@ -19,12 +18,13 @@ use crate::grouped_at::GroupedAt;
 use crate::key_index::{KeyIndex, Removes};
 use iddqd::item_index::ItemIndex;
 use iddqd::item_set::ItemSet;
-use iddqd_keys::query::HashQuery;
+use iddqd_keys::hash_query::HashQuery;
 
 impl<T, X: KeyIndex<T, S>, S> Map<T, X, S> {
-    /// The index of some item that has the key for which the query stands: none exactly where no item has it.
+    /// The index of some item that has the key for which the query stands; `None` if and only if no item has it.
     ///
-    /// The query is a `&K`, or what else stands for such a key. It is compared with keys of the same hash alone.
+    /// The query is a `&K`, or another query that stands for such a key. Only keys of the same hash are compared with
+    /// it.
     pub fn find_any_by<P, Q>(&self, query: Q) -> Option<ItemIndex>
     where
         X: GroupedAt<P, T, S>,
@@ -44,9 +44,9 @@ impl<T, X: KeyIndex<T, S>, S> Map<T, X, S> {
         self.find_any_by::<P, Q>(query).is_some()
     }
 
-    /// Removes the items that have the key for which the query stands, and returns how many they were.
+    /// Removes the items that have the key for which the query stands, and returns how many there were.
     ///
-    /// The closure is handed each of them once, in no particular order. No memory is taken. It costs, for each item, a
+    /// The closure receives each of them once, in no particular order. No memory is taken. It costs, for each item, a
     /// look-up of that key, and a removal from each key index.
     pub fn remove_hashed_group_by<P, Q, F: FnMut(T)>(&mut self, query: Q, mut f: F) -> usize
     where
@@ -72,7 +72,8 @@ impl<T, X: KeyIndex<T, S>, S> Map<T, X, S> {
     }
 }
 
-// Removes the items that have the key, and hands each to the closure, which is left as its last call leaves it.
+// Removes the items that have the key, and passes each to the closure. The closure stays in the state that its last
+// call leaves.
 fn remove_each<P, T, S, X, Q, F: FnMut(T)>(
     items: &mut ItemSet<T>,
     indexes: &mut X,

@@ -1,4 +1,4 @@
-//! Items come into a map. All memory is taken before anything is written.
+//! Inserts. All memory is taken before anything is written.
 ghost use Rattle.std.specs.Prelude.{◌≡◌, ◌+◌, ◌≤◌, IfOk, OnOk, OnErr};
 ghost use Rattle.iddqd.specs.{inserted, next_index};
 ghost use Rattle.iddqd_map.specs.Map.{map_with, room};
@@ -15,10 +15,10 @@ use iddqd::item_set::ItemSet;
 use std::alloc::AllocError;
 
 impl<T, X: Inserts<T, S>, S> Map<T, X, S> {
-    /// Takes an item that shares no key with another, and returns its index.
+    /// Inserts an item that shares no unique key with another, and returns its index.
     ///
-    /// Conflicts are reported even where the map is full or no memory is left, and a full map even where no memory is
-    /// left. A refusal hands the item back, and the contents stay. Each key is hashed once and looked up once.
+    /// If there are several reasons for a refusal, the first of these is reported: duplicate, full, out of memory. A
+    /// refusal returns the item, and the contents stay. Each key is hashed once and looked up once.
     pub fn insert_unique(&mut self, item: T) -> Result<ItemIndex, InsertRefusal<T, X::Conflict>>
         ensures inserts { Inserts X.alike X.most X.conflicts self.old item result self.new }
         ensures index { IfOk result (λ ix. ix ≡ next_index self.old.store) }
@@ -31,7 +31,7 @@ impl<T, X: Inserts<T, S>, S> Map<T, X, S> {
     }
 }
 
-/// Stores an item that shares no key with another, and enters its index.
+/// Stores an item that shares no key with another, and inserts its index.
 pub(super) fn insert<T, X: Inserts<T, S>, S>(
     items: &mut ItemSet<T>,
     indexes: &mut X,

@@ -1,4 +1,4 @@
-//! Memory that a map takes ahead and gives back, and its slots closed up.
+//! Reserving memory, giving it back, and compaction.
 ghost use Rattle.std.specs.Prelude.{◌≡◌, ◌≤◌, ◌-◌, ◌*◌, [], length, min, max, IsOk, IfOk, OnOk, OnErr};
 ghost use Rattle.iddqd.specs.{slot_limit, empty, cleared, live_count, IsRemapOf};
 ghost use Rattle.iddqd_map.specs.Map.{capacity, room};
@@ -13,7 +13,7 @@ use iddqd::item_set::ItemSet;
 use std::alloc::{AllocError, Global};
 
 impl<T, X: Sizes<T, DefaultHashBuilder>> Map<T, X, DefaultHashBuilder> {
-    /// No items, memory for so many, and the default hasher. With 0 it takes no memory.
+    /// Empty, with the default hasher, and memory for `wanted` items. With 0 it takes no memory.
     pub fn with_capacity(
         alloc: Global,
         wanted: usize,
@@ -31,7 +31,7 @@ impl<T, X: Sizes<T, DefaultHashBuilder>> Map<T, X, DefaultHashBuilder> {
 }
 
 impl<T, X: Sizes<T, S>, S> Map<T, X, S> {
-    /// No items, and memory for so many. With 0 it takes none.
+    /// Empty, with memory for `wanted` items. With 0 it takes none.
     pub fn with_capacity_and_hasher(
         alloc: Global,
         wanted: usize,
@@ -53,8 +53,8 @@ impl<T, X: Sizes<T, S>, S> Map<T, X, S> {
         })
     }
 
-    /// How many items the memory has room for. Of a key in order only reserved memory counts, so with such a key it may
-    /// be less than `len`. No call lowers it but those that shrink.
+    /// How many items the memory has room for. For an ordered key only reserved memory counts, so with such a key it
+    /// may be less than `len`. Only calls that shrink lower it.
     pub fn capacity(&self) -> usize
         ensures { result ≡ capacity self.now }
     {
@@ -69,9 +69,9 @@ impl<T, X: Sizes<T, S>, S> Map<T, X, S> {
         self.capacity().saturating_sub(self.len())
     }
 
-    /// Takes memory, so that as many inserts need none, or as many as there can be.
+    /// Makes room for `additional` more inserts, or for as many as the limit allows.
     ///
-    /// Where there is room already it takes none. Where it is refused the items stay, and no memory is given back.
+    /// If there is room already it takes no memory. If memory runs out the items stay, and what was taken is kept.
     pub fn reserve(&mut self, additional: usize) -> Result<(), AllocError>
         ensures { ReservesItems X.most additional self.old result self.new }
     {
@@ -84,7 +84,8 @@ impl<T, X: Sizes<T, S>, S> Map<T, X, S> {
         self.indexes.reserve(&self.items, &self.state, more)
     }
 
-    /// Gives back the memory that the slots and the tables don't need. Where smaller memory is refused the items stay.
+    /// Gives back the memory that the slots and the tables don't need. If a smaller block can't be allocated, the items
+    /// stay.
     pub fn shrink_to_fit(&mut self) -> Result<(), AllocError>
         ensures shrinks { ShrinksItems X.kept 0 self.old result self.new }
         ensures fits { OnOk result (room self.new ≤ length self.old.store.free) }
@@ -92,7 +93,7 @@ impl<T, X: Sizes<T, S>, S> Map<T, X, S> {
         self.shrink_to(0)
     }
 
-    /// Gives back the memory that so many items don't need, beside the slots and the items that there are.
+    /// Gives back the memory beyond what `least` items need, or the slots and items that there are if these are more.
     pub fn shrink_to(&mut self, least: usize) -> Result<(), AllocError>
         ensures shrinks { ShrinksItems X.kept least self.old result self.new }
         ensures fits { OnOk result
@@ -117,10 +118,10 @@ impl<T, X: Removes<T, S>, S> Map<T, X, S> {
         self.indexes.clear();
     }
 
-    /// Moves every item down to its rank, so that no slot is vacant, and returns the new names.
+    /// Moves every item down to its rank, so that no slot is vacant, and returns the new indexes.
     ///
-    /// No key is hashed or compared. Where no slot is vacant it is `Identity` and takes no memory. Else it takes that
-    /// of one index a slot before an item moves; where that is refused nothing changes.
+    /// No key is hashed or compared. If no slot is vacant it returns `Identity` and takes no memory. Otherwise it
+    /// allocates a list of one index for each slot before any item moves; if memory runs out, nothing changes.
     pub fn compact(&mut self) -> Result<IndexRemap, AllocError>
     where
         T: Drop,
@@ -136,7 +137,7 @@ impl<T, X: Removes<T, S>, S> Map<T, X, S> {
     }
 }
 
-// Takes memory for so many slots, where there aren't as many.
+// Makes room for `wanted` slots, unless there are as many.
 fn reserve_slots<T>(items: &mut ItemSet<T>, wanted: usize) -> Result<(), AllocError>
     requires { wanted ≤ items.old.store.limit }
     ensures contents { items.new.store ≡ items.old.store }

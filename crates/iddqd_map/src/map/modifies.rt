@@ -1,4 +1,4 @@
-//! An item is modified in its place, and keeps its keys.
+//! Modifies an item in place. Its keys stay.
 ghost use Rattle.std.specs.Prelude.{◌≡◌, ◌≤◌, Some};
 ghost use Rattle.std.specs.Borrow.{MutBor};
 ghost use Rattle.iddqd.specs.{get};
@@ -11,8 +11,8 @@ use crate::key_index::KeyIndex;
 use iddqd::item_index::ItemIndex;
 
 impl<T, X: KeyIndex<T, S>, S> Map<T, X, S> {
-    /// Calls the closure with a `&mut` to the item at an index, and returns what the closure returns; or returns none,
-    /// and doesn't call it, where the index has no item.
+    /// Calls the closure with a `&mut` to the item at an index, and returns what the closure returns; if the index has
+    /// no item, it returns `None` and doesn't call the closure.
     ///
     /// The caller proves that the closure leaves the item its keys. So the tables stay as they are: the call hashes no
     /// key and takes no memory. To change a key, use `replace_at` and its like.
@@ -24,8 +24,7 @@ impl<T, X: KeyIndex<T, S>, S> Map<T, X, S> {
         self.modify_live(ix, f)
     }
 
-    /// The same as `modify_at`, but requires in two clauses what that requires in one: each clause is a goal of its own
-    /// at a call, and both together are much cheaper to check than the one.
+    /// Does what `modify_at` does. Its condition is split into two clauses, which makes a call much cheaper to check.
     pub fn modify_live<R, F: FnOnce(&mut T) -> R>(&mut self, ix: ItemIndex, f: F) -> Option<R>
         requires callable { (item : MutBor T) → get self.old.store ix ≡ Some item.now → F.FnOnce.pre f (item, tt) }
         requires keeps { KeepsKey F.FnOnce f X.keys (λ item. get self.old.store ix ≡ Some item) }

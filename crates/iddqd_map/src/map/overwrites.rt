@@ -1,4 +1,4 @@
-//! Items come into a map in the place of those that share a key with them.
+//! Inserts that first remove the items that share a key with the new one.
 //!
 //! The memory of each table is asked for before an item is removed. The store needs none then, since the removal of an
 //! item leaves a slot.
@@ -21,19 +21,20 @@ use iddqd::item_set::ItemSet;
 use std::alloc::AllocError;
 
 impl<T, X: Inserts<T, S>, S> Map<T, X, S> {
-    /// Inserts an item, and moves those that share a key with it into `places`, by rising index from the first one on.
+    /// Inserts an item, and returns its index. Stored items that share a key with it are first moved into `places`, by
+    /// rising index.
     ///
-    /// If none does, it inserts as `insert_unique` does, and may be refused as there. If some do, it is refused only if
-    /// a table in order holds more than its capacity and gets no memory for one more index, before anything is removed.
-    /// A refusal hands the item back, and the contents stay. Each key of the item is hashed once.
+    /// If there are none, it is refused as `insert_unique` is. If there are any, it is refused only if memory runs out
+    /// for an ordered table that has more indexes than its capacity, before anything is removed. A refusal returns the
+    /// item, and the contents stay. Each key of the item is hashed once.
     pub fn overwrite_into(
         &mut self,
         item: T,
         places: &mut [Option<T>],
     ) -> Result<ItemIndex, OverwriteRefusal<T>>
-        requires enough { X.key_count ≤ length places.old }
+        requires enough { X.unique_keys ≤ length places.old }
         requires vacant { places.old ≡ padded (length places.old) [] }
-        ensures { OverwritesInto X.alike X.most X.may_lack (length places.old) self.old item result places.new
+        ensures { OverwritesInto X.alike X.most X.may_need_memory (length places.old) self.old item result places.new
             self.new }
     {
         let known = X::known(&self.state, &item);
@@ -56,8 +57,8 @@ impl<T, X: Inserts<T, S>, S> Map<T, X, S> {
     }
 }
 
-// Removes the items that share a key with this one, stores it and enters its index; or hands it back where memory is
-// refused, before anything is removed.
+// Removes the items that share a key with this one, stores it and inserts its index. If memory runs out, it returns the
+// item before anything is removed.
 fn overwrite<T, X: Inserts<T, S>, S>(
     items: &mut ItemSet<T>,
     indexes: &mut X,
@@ -70,10 +71,10 @@ fn overwrite<T, X: Inserts<T, S>, S>(
     requires map { IsIndexed (X.indexes indexes.old) state.now items.old.store }
     requires hashed { X.is_known state.now item known }
     requires reported { X.conflicts items.old.store item at.now }
-    requires enough { X.key_count ≤ length places.old }
+    requires enough { X.unique_keys ≤ length places.old }
     requires vacant { places.old ≡ padded (length places.old) [] }
     ensures map { IsIndexed (X.indexes indexes.new) state.now items.new.store }
-    ensures overwrites { OverwritesInto X.alike X.most X.may_lack (length places.old)
+    ensures overwrites { OverwritesInto X.alike X.most X.may_need_memory (length places.old)
         (map_with items.old (X.capacity indexes.old) (X.cells indexes.old)) item result places.new
         (map_with items.new (X.capacity indexes.new) (X.cells indexes.new)) }
 {
@@ -96,7 +97,7 @@ fn remove_reported<T, X: Inserts<T, S>, S>(
     requires ready { X.is_ready_after indexes.old }
     requires live { (ix : ℕ) → X.reports at.now ix → IsLive items.old.store ix }
     requires some { (ix : ℕ) × X.reports at.now ix }
-    requires enough { X.key_count ≤ length places.old }
+    requires enough { X.unique_keys ≤ length places.old }
     requires vacant { places.old ≡ padded (length places.old) [] }
     ensures map { IsIndexed (X.indexes indexes.new) state.now items.new.store }
     ensures taken { TakesAll (X.reports at.now) (length places.old) items.old.store places.new items.new.store }
@@ -116,7 +117,7 @@ fn remove_reported<T, X: Inserts<T, S>, S>(
     }
 }
 
-// Takes the item at a live index out of the store, and its index out of the key index, so that there is room for the
+// Removes the item at a live index from the store, and its index from the key index, so that there is room for the
 // insert that follows. It takes no memory.
 fn make_way<T, X: Inserts<T, S>, S>(
     items: &mut ItemSet<T>,
@@ -139,7 +140,7 @@ fn make_way<T, X: Inserts<T, S>, S>(
     items.remove(ix)
 }
 
-// Stores an item that shares no key with another where there is room for it, and enters its index.
+// Stores an item that shares no key with another, and inserts its index. There is room for it.
 fn enter_in_room<T, X: Inserts<T, S>, S>(
     items: &mut ItemSet<T>,
     indexes: &mut X,

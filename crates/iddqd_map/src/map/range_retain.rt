@@ -1,4 +1,4 @@
-//! Calls that keep, of the items within bounds of a key, those that a closure accepts.
+//! Calls that ask a closure about each item within bounds of a key, and remove those that it rejects.
 //!
 //! The closure sees each item in place, by key and then by index. The next index is looked up before a rejected item is
 //! removed, so no list of indexes is kept and no memory is taken.
@@ -64,7 +64,8 @@ impl<T, X: KeyIndex<T, S>, S> Map<T, X, S> {
     }
 
     /// Keeps, of the items that have the key for which the query stands, those at which the closure answers true, and
-    /// returns how many it removed; else as `retain_range_by`. The closure is called at each of them, by index.
+    /// returns how many it removed. The closure is called at each of them, by index. Otherwise it behaves as
+    /// `retain_range_by`.
     pub fn retain_group_by<P, Q, F: FnMut(&T) -> bool>(&mut self, query: Q, f: F) -> usize
     where
         T: Drop,
@@ -83,8 +84,8 @@ impl<T, X: KeyIndex<T, S>, S> Map<T, X, S> {
     }
 }
 
-// Keeps, of the items whose keys are within the bounds, those at which the closure answers true. The closure is left as
-// its last call leaves it.
+// Keeps, of the items whose keys are within the bounds, those at which the closure answers true. The closure stays in
+// the state that its last call leaves.
 fn retain_within<P, T: Drop, S, X, Q, F: FnMut(&T) -> bool>(
     items: &mut ItemSet<T>,
     indexes: &mut X,
@@ -116,7 +117,7 @@ where
     }
 }
 
-// Asks about the item at a live index, removes it where the answer is false, and returns the answer.
+// Calls the closure at the item at a live index, removes the item if the closure answers false, and returns the answer.
 fn retain_at<T: Drop, S, X: Removes<T, S>, F: FnMut(&T) -> bool>(
     items: &mut ItemSet<T>,
     indexes: &mut X,

@@ -1,6 +1,6 @@
-//! The items whose keys by an order are within bounds, at a place of the key index: they leave the map.
+//! Calls that remove the items whose keys are within bounds of an ordered key.
 //!
-//! Each item is found by one search of that order, and taken out of each key index by one removal. No memory is taken.
+//! Each item is found by one search of that order, and removed once from each key index. No memory is taken.
 ghost use Rattle.std.specs.Prelude.{◌≡◌, ◌≤◌, ◌+◌, Bool};
 ghost use Rattle.std.specs.Range.Bound.{bound_map};
 ghost use Rattle.iddqd.specs.{live_count};
@@ -21,9 +21,9 @@ use iddqd_keys::order_query::OrdQuery;
 use std::ops::Bound;
 
 impl<T, X: KeyIndex<T, S>, S> Map<T, X, S> {
-    /// Removes the items whose keys at the place are within the bounds, and returns how many they were.
+    /// Removes the items whose keys at the place are within the bounds, and returns how many there were.
     ///
-    /// The closure is handed each of them, by key and then by index. No memory is taken. It costs, for each item, a
+    /// The closure receives each of them, by key and then by index. No memory is taken. It costs, for each item, a
     /// search by that key, and a removal from each key index.
     pub fn remove_range_by<P, Q, F: FnMut(T)>(
         &mut self,
@@ -56,8 +56,8 @@ impl<T, X: KeyIndex<T, S>, S> Map<T, X, S> {
         before - self.items.len()
     }
 
-    /// Removes the items that have the key for which the query stands, and returns how many they were; else as
-    /// `remove_range_by`. The closure is handed each of them, by index.
+    /// Removes the items that have the key for which the query stands, and returns how many there were. The closure
+    /// receives each of them, by index. Otherwise it behaves as `remove_range_by`.
     pub fn remove_group_by<P, Q, F: FnMut(T)>(&mut self, query: Q, f: F) -> usize
     where
         X: OrderedAt<P, T, S> + Removes<T, S>,
@@ -75,8 +75,8 @@ impl<T, X: KeyIndex<T, S>, S> Map<T, X, S> {
     }
 }
 
-// Removes the items whose keys are within the bounds, and hands each to the closure, which is left as its last call
-// leaves it.
+// Removes the items whose keys are within the bounds, and passes each to the closure. The closure stays in the state
+// that its last call leaves.
 fn remove_within<P, T, S, X, Q, F: FnMut(T)>(
     items: &mut ItemSet<T>,
     indexes: &mut X,

@@ -1,4 +1,4 @@
-//! Items leave a map. That takes no memory.
+//! Removals by index. They take no memory.
 ghost use Rattle.std.specs.Prelude.{◌≡◌, ◌≤◌, None};
 ghost use Rattle.iddqd.specs.{get};
 ghost use Rattle.iddqd_map.specs.Map.{RemovesAt, room};
@@ -9,7 +9,7 @@ use crate::key_index::Removes;
 use iddqd::item_index::ItemIndex;
 
 impl<T, X: Removes<T, S>, S> Map<T, X, S> {
-    /// Takes the item at an index out of the map, if there is one. It takes no memory.
+    /// Removes the item at an index, if there is one, and returns it. It takes no memory.
     pub fn remove_at(&mut self, ix: ItemIndex) -> Option<T>
         ensures removes { RemovesAt self.old ix result self.new }
         ensures value { result ≡ get self.old.store ix }

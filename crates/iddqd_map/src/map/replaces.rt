@@ -1,4 +1,4 @@
-//! An item becomes another one, which may have other keys.
+//! Replaces a stored item by another one, which may have other keys.
 ghost use Rattle.std.specs.Prelude.{◌≤◌, Bool, IfSome};
 ghost use Rattle.iddqd_keys.specs.Scan.{IsLive, AnswersScan};
 ghost use Rattle.iddqd_map.specs.Map.{map_with, room};
@@ -13,17 +13,16 @@ use iddqd::item_set::ItemSet;
 use std::alloc::AllocError;
 
 impl<T, X: Moves<T, S>, S> Map<T, X, S> {
-    /// Puts an item in the place of the one at an index, which is handed back; `Missing` if the index has no item.
+    /// Replaces the item at an index, and returns the old one; `Missing` if the index has no item.
     ///
-    /// The item may have other keys. It keeps the index. Where other items have a key of it, or memory is refused, it
-    /// comes back, and nothing changes. A table whose key stays isn't touched. A key that goes by its hash needs no
-    /// memory.
+    /// The new item may have other keys. It gets the same index. If other items have a key of it, or memory runs out,
+    /// it comes back, and nothing changes. A table whose key stays isn't touched. A hashed key needs no memory.
     pub fn replace_at(
         &mut self,
         ix: ItemIndex,
         item: T,
     ) -> Result<T, ReplaceRefusal<T, X::Conflict>>
-        ensures replaces { ReplacesIfLive X.alike X.same_keys X.may_lack X.taken self.old ix item result self.new }
+        ensures replaces { ReplacesIfLive X.alike X.same_keys X.may_need_memory X.taken self.old ix item result self.new }
         ensures room { room self.old ≤ room self.new }
     {
         if self.items.get(ix).is_none() {
@@ -33,26 +32,26 @@ impl<T, X: Moves<T, S>, S> Map<T, X, S> {
             &mut self.items,
             &mut self.indexes,
             &self.state,
-            X::unasked(),
+            X::no_hashes(),
             ix,
             item,
         )
     }
 }
 
-// Puts an item in the place of the one at a live index. All memory is taken before anything is written.
+// Replaces the item at a live index. All memory is taken before anything is written.
 pub(super) fn replace<T, X: Moves<T, S>, S>(
     items: &mut ItemSet<T>,
     indexes: &mut X,
     state: &S,
-    asked: X::Asked,
+    asked: X::KnownHashes,
     ix: ItemIndex,
     item: T,
 ) -> Result<T, ReplaceRefusal<T, X::Conflict>>
     requires live { IsLive items.old.store ix }
     requires map { IsIndexed (X.indexes indexes.old) state.now items.old.store }
     ensures map { IsIndexed (X.indexes indexes.new) state.now items.new.store }
-    ensures replaces { ReplacesAt X.alike X.same_keys X.may_lack X.taken
+    ensures replaces { ReplacesAt X.alike X.same_keys X.may_need_memory X.taken
         (map_with items.old (X.capacity indexes.old) (X.cells indexes.old)) ix item result
         (map_with items.new (X.capacity indexes.new) (X.cells indexes.new)) }
     ensures room { room (map_with items.old (X.capacity indexes.old) (X.cells indexes.old))
@@ -69,12 +68,12 @@ pub(super) fn replace<T, X: Moves<T, S>, S>(
     Ok(items.replace(ix, item))
 }
 
-// Puts an item in the place of the one that a look-up found.
+// Replaces the item that a look-up found.
 pub(super) fn replace_found<T, X: Moves<T, S>, S>(
     items: &mut ItemSet<T>,
     indexes: &mut X,
     state: &S,
-    asked: X::Asked,
+    asked: X::KnownHashes,
     found: Option<ItemIndex>,
     item: T,
 ) -> Result<T, ReplaceRefusal<T, X::Conflict>>
@@ -82,7 +81,7 @@ pub(super) fn replace_found<T, X: Moves<T, S>, S>(
     requires map { IsIndexed (X.indexes indexes.old) state.now items.old.store }
     ensures map { IsIndexed (X.indexes indexes.new) state.now items.new.store }
     ensures replaces { (test : T → Bool) → AnswersScan items.old.store test found
-        → Replaces X.alike X.same_keys X.may_lack X.taken
+        → Replaces X.alike X.same_keys X.may_need_memory X.taken
         (map_with items.old (X.capacity indexes.old) (X.cells indexes.old)) test item result
         (map_with items.new (X.capacity indexes.new) (X.cells indexes.new)) }
     ensures room { room (map_with items.old (X.capacity indexes.old) (X.cells indexes.old))

@@ -18,7 +18,8 @@ impl<T, X: Removes<T, S>, S> Map<T, X, S> {
     /// Keeps exactly the items at which the closure answers true, under their indexes, and returns how many it removed.
     ///
     /// The closure is called once at each item, by rising index. The items at which it answers false are removed, by
-    /// rising index. No memory is taken. It costs a step a slot, and looks up the keys of the removed items alone.
+    /// rising index. No memory is taken. It costs a step for each slot, and a look-up by each key for each removed
+    /// item.
     pub fn retain<F: FnMut(&T) -> bool>(&mut self, mut f: F) -> usize
     where
         T: Drop,
@@ -33,8 +34,8 @@ impl<T, X: Removes<T, S>, S> Map<T, X, S> {
     }
 }
 
-// Keeps the items at which the closure answers true. The closure is left as its last call leaves it. An item at which
-// it answers false is removed at once, so no memory is taken.
+// Keeps the items at which the closure answers true. The closure stays in the state that its last call leaves. An item
+// at which it answers false is removed at once, so no memory is taken.
 fn retain_in<T: Drop, S, X: Removes<T, S>, F: FnMut(&T) -> bool>(
     items: &mut ItemSet<T>,
     indexes: &mut X,

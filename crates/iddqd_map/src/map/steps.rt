@@ -9,7 +9,7 @@ use iddqd::item_index::ItemIndex;
 use iddqd::item_set::ItemSet;
 use std::mem;
 
-/// Takes the item at a live index out of the store, and its index out of the key index. It takes no memory.
+/// Removes the item at a live index from the store, and its index from the key index. It takes no memory.
 pub(super) fn take_out<T, X: Removes<T, S>, S>(
     items: &mut ItemSet<T>,
     indexes: &mut X,
@@ -29,7 +29,7 @@ pub(super) fn take_out<T, X: Removes<T, S>, S>(
     items.remove(ix)
 }
 
-/// The index that an item gets that is stored next, where there is room for it.
+/// The index that the next item gets. There is room for one.
 pub(super) fn next_in_room<T>(items: &mut ItemSet<T>) -> ItemIndex
     requires { 1 ≤ room items.old }
     ensures index { result ≡ next_index items.old.store }
@@ -42,7 +42,7 @@ pub(super) fn next_in_room<T>(items: &mut ItemSet<T>) -> ItemIndex
     }
 }
 
-/// Stores an item where there is room for it.
+/// Stores an item. There is room for it.
 pub(super) fn store_in_room<T>(items: &mut ItemSet<T>, item: T) -> ItemIndex
     requires { 1 ≤ room items.old }
     ensures index { result ≡ next_index items.old.store }
@@ -54,7 +54,7 @@ pub(super) fn store_in_room<T>(items: &mut ItemSet<T>, item: T) -> ItemIndex
     }
 }
 
-/// Puts what was taken out, if anything was, into a place that has nothing.
+/// Puts the item that was removed, if one was, into a place that is empty.
 pub(super) fn put_into<T>(places: &mut [Option<T>], at: usize, taken: Option<T>)
     requires within { at < length places.old }
     requires vacant { slice_get places.old at ≡ Some None }

@@ -22,7 +22,7 @@ impl<T, X: KeyIndex<T, S>, S> Map<T, X, S> {
         (items, indexes, state)
     }
 
-    /// A map of such parts, which fit: the key index has exactly the items, where their keys belong.
+    /// Makes a map of parts that fit: the key index has exactly the live indexes, each where its item's keys belong.
     pub fn from_parts(items: ItemSet<T>, indexes: X, state: S) -> Map<T, X, S>
         requires valid { IsValid items.store }
         requires indexed { X.indexes indexes state items.store }

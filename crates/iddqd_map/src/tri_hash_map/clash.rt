@@ -7,16 +7,16 @@ use crate::pair_conflict::{PairConflict, ReportsPair};
 use iddqd::item_index::{ItemIndex, OrDash};
 use std::fmt;
 
-/// For each key of an item the index of the other item that has it, if one has.
+/// For each key of an item, the index of the other item that has it, if one has.
 ///
 /// It prints as `0 - 1`.
 #[derive(Clone, Copy, Debug, PartialEq, Eq)]
 pub struct TriClash {
-    /// Where the first key is.
+    /// The index of the item that has the first key.
     pub key1: Option<ItemIndex>,
-    /// Where the second key is.
+    /// The index of the item that has the second key.
     pub key2: Option<ItemIndex>,
-    /// Where the third key is.
+    /// The index of the item that has the third key.
     pub key3: Option<ItemIndex>,
 }
 

@@ -6,8 +6,8 @@ use super::clash::TriClash;
 use super::item::{First, Second, Third, TriHashItem};
 use crate::by_hash::ByHash;
 use crate::key_index::{
-    AsksAt, Checks, FindsSame, HashedAt, Here, Inserts, KeyIndex, Left, Moves, Removes, Right,
-    Sizes, TakesAt,
+    Checks, FindsSame, FindsWithHashAt, HashedAt, Here, Inserts, KeyIndex, Left, Moves, Removes,
+    Right, Sizes, TakesAt,
 };
 use crate::pair::Pair;
 use iddqd::index_remap::IndexRemap;
@@ -16,7 +16,7 @@ use iddqd::item_index::ItemIndex;
 use iddqd::item_set::ItemSet;
 use iddqd::map_hash::MapHash;
 use iddqd_by_hash::hashed_move::Move;
-use iddqd_keys::query::HashQuery;
+use iddqd_keys::hash_query::HashQuery;
 use std::alloc::{AllocError, Global};
 use std::hash::BuildHasher;
 
@@ -49,7 +49,7 @@ impl<T: TriHashItem, S: BuildHasher> KeyIndex<T, S> for TriIndex<T> {
 
     type Conflict = TriClash;
 
-    type Asked = (Option<MapHash>, (Option<MapHash>, Option<MapHash>));
+    type KnownHashes = (Option<MapHash>, (Option<MapHash>, Option<MapHash>));
 
     ghost Keys = { T.Key1 × (T.Key2 × T.Key3) };
 
@@ -71,11 +71,11 @@ impl<T: TriHashItem, S: BuildHasher> KeyIndex<T, S> for TriIndex<T> {
 
     ghost kept = { λ slots count. most_cells count + (most_cells count + most_cells count) };
 
-    ghost may_lack = { false };
+    ghost may_need_memory = { false };
 
-    ghost same = { λ s x y. ⟦<Tables<T> as KeyIndex<T, S>>⟧.same s x.tables y.tables };
+    ghost same = { λ x y. ⟦<Tables<T> as KeyIndex<T, S>>⟧.same x.tables y.tables };
 
-    ghost key_count = { 3 };
+    ghost unique_keys = { 3 };
 
     ghost conflicts = { AreReported (shares T.first_key T.Key1.eq) (shares T.second_key T.Key2.eq)
         (shares T.third_key T.Key3.eq) };
@@ -85,13 +85,13 @@ impl<T: TriHashItem, S: BuildHasher> KeyIndex<T, S> for TriIndex<T> {
 
     ghost reports = { λ at. IsOfThree at.key1 at.key2 at.key3 };
 
-    fn unasked() -> (Option<MapHash>, (Option<MapHash>, Option<MapHash>)) {
-        <Tables<T> as KeyIndex<T, S>>::unasked()
+    fn no_hashes() -> (Option<MapHash>, (Option<MapHash>, Option<MapHash>)) {
+        <Tables<T> as KeyIndex<T, S>>::no_hashes()
     }
 
     ghost kept_none = { refl };
 
-    ghost same_as_itself = { λ s x. (refl, (refl, refl)) };
+    ghost same_as_itself = { λ x. (refl, (refl, refl)) };
 
     ghost same_indexes = { λ x y state s same is. (
       Indexes-kept T.first_key (hashing_of T.Key1.eq T.Key1.hash_input S.BuildHasher S.Hasher.Hasher state) s
@@ -106,8 +106,8 @@ impl<T: TriHashItem, S: BuildHasher> KeyIndex<T, S> for TriIndex<T> {
 
     ghost apart = { λ x state s is. let second = shares T.second_key T.Key2.eq in
         let third = shares T.third_key T.Key3.eq in
-        AreApart-either (shares T.first_key T.Key1.eq) (either_key second third) s is.0.exact.apart
-        (AreApart-either second third s is.1.0.exact.apart is.1.1.exact.apart) };
+        AreApart-either (shares T.first_key T.Key1.eq) (either_key second third) s is.0.in_sync.apart
+        (AreApart-either second third s is.1.0.in_sync.apart is.1.1.in_sync.apart) };
 
     ghost modified = { λ x state s ix was item is live same. (
       Indexes-key_kept T.first_key T.Key1.eq T.Key1.hash_input S.BuildHasher S.Hasher.Hasher T.Key1.Eq.laws
@@ -383,8 +383,8 @@ impl<T: TriHashItem, S: BuildHasher> TakesAt<First, T, S> for TriIndex<T> {
     }
 }
 
-impl<T: TriHashItem, S: BuildHasher> AsksAt<First, T, S> for TriIndex<T> {
-    fn ask<Q: HashQuery<T::Key1>>(
+impl<T: TriHashItem, S: BuildHasher> FindsWithHashAt<First, T, S> for TriIndex<T> {
+    fn find_with_hash<Q: HashQuery<T::Key1>>(
         &self,
         items: &ItemSet<T>,
         state: &S,
@@ -393,7 +393,12 @@ impl<T: TriHashItem, S: BuildHasher> AsksAt<First, T, S> for TriIndex<T> {
         Option<ItemIndex>,
         (Option<MapHash>, (Option<MapHash>, Option<MapHash>)),
     ) {
-        <Tables<T> as AsksAt<Left<Here>, T, S>>::ask(&self.tables, items, state, query)
+        <Tables<T> as FindsWithHashAt<Left<Here>, T, S>>::find_with_hash(
+            &self.tables,
+            items,
+            state,
+            query,
+        )
     }
 }
 
@@ -423,8 +428,8 @@ impl<T: TriHashItem, S: BuildHasher> TakesAt<Second, T, S> for TriIndex<T> {
     }
 }
 
-impl<T: TriHashItem, S: BuildHasher> AsksAt<Second, T, S> for TriIndex<T> {
-    fn ask<Q: HashQuery<T::Key2>>(
+impl<T: TriHashItem, S: BuildHasher> FindsWithHashAt<Second, T, S> for TriIndex<T> {
+    fn find_with_hash<Q: HashQuery<T::Key2>>(
         &self,
         items: &ItemSet<T>,
         state: &S,
@@ -433,7 +438,12 @@ impl<T: TriHashItem, S: BuildHasher> AsksAt<Second, T, S> for TriIndex<T> {
         Option<ItemIndex>,
         (Option<MapHash>, (Option<MapHash>, Option<MapHash>)),
     ) {
-        <Tables<T> as AsksAt<Right<Left<Here>>, T, S>>::ask(&self.tables, items, state, query)
+        <Tables<T> as FindsWithHashAt<Right<Left<Here>>, T, S>>::find_with_hash(
+            &self.tables,
+            items,
+            state,
+            query,
+        )
     }
 }
 
@@ -468,8 +478,8 @@ impl<T: TriHashItem, S: BuildHasher> TakesAt<Third, T, S> for TriIndex<T> {
     }
 }
 
-impl<T: TriHashItem, S: BuildHasher> AsksAt<Third, T, S> for TriIndex<T> {
-    fn ask<Q: HashQuery<T::Key3>>(
+impl<T: TriHashItem, S: BuildHasher> FindsWithHashAt<Third, T, S> for TriIndex<T> {
+    fn find_with_hash<Q: HashQuery<T::Key3>>(
         &self,
         items: &ItemSet<T>,
         state: &S,
@@ -478,6 +488,11 @@ impl<T: TriHashItem, S: BuildHasher> AsksAt<Third, T, S> for TriIndex<T> {
         Option<ItemIndex>,
         (Option<MapHash>, (Option<MapHash>, Option<MapHash>)),
     ) {
-        <Tables<T> as AsksAt<Right<Right<Here>>, T, S>>::ask(&self.tables, items, state, query)
+        <Tables<T> as FindsWithHashAt<Right<Right<Here>>, T, S>>::find_with_hash(
+            &self.tables,
+            items,
+            state,
+            query,
+        )
     }
 }

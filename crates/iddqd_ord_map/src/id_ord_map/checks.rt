@@ -9,7 +9,7 @@ use iddqd::internal::{ValidateCompact, ValidateRefusal, ValidationError};
 impl<T: IdOrdItem> IdOrdMap<T> {
     /// Whether store and table are sound, as they are in every map; in `Compact`, whether no slot is vacant.
     ///
-    /// It sorts a copy of the indexes, whose memory may be refused.
+    /// It sorts a copy of the indexes, for which memory may run out.
     pub fn validate(
         &self,
         compactness: ValidateCompact,

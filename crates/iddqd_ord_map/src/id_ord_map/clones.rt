@@ -2,7 +2,7 @@
 use super::{IdOrdItem, IdOrdMap};
 use std::alloc::AllocError;
 
-/// Items that keep their key where they are cloned, so that a map of them can be cloned as it stands.
+/// Items whose clones have the same key, so that a map of them can be cloned without a look-up.
 ///
 /// No method is to be written. For a derived `Clone` `ghost same_key = { Prim.search rules };` shows it, or at a key
 /// that is text `same_text` of `KeyLemmas` of `iddqd_maps`.

@@ -28,7 +28,7 @@ impl<T: IdOrdItem + Eq> Eq for IdOrdMap<T> {
     ghost laws = { on_equiv (λ m. items_in_order T.IdOrdItem.key_of T.Key.cmp m.store) (lists_equiv T.Eq.laws) };
 }
 
-// Whether two walks have as many items left, each equal to that of the other.
+// Whether two iterators have equally many items left, each equal to the other's item at the same place.
 fn are_equal<T: PartialEq>(left: &mut Values<'_, T>, right: &mut Values<'_, T>) -> bool
     ensures { result ≡ pointwise T.eq left.old right.old }
 {

@@ -1,4 +1,4 @@
-//! The walk that hands over the items of a map.
+//! The iterator over the items of a map by value.
 ghost use Rattle.std.specs.Prelude.{◌≡◌, Some, IfSome, IsSome, length};
 ghost use Rattle.std.specs.Iterator.{YieldsFirst, YieldsLast, item_count, at_most, UpTo};
 ghost use Rattle.std.specs.Iterator.SizeHint.{IsWithinCount};
@@ -15,7 +15,7 @@ use std::marker::Model;
 /// The items of a map by value, in the order of the keys, from both ends. Once it has ended it stays
 /// ended.
 ///
-/// A step costs a constant time on the average, and a walk takes no memory.
+/// A step costs a constant time on the average, and the iteration takes no memory.
 #[derive(Drop)]
 pub struct IntoValues<T> {
     pub(super) indexes: btree_table::IntoIter,
@@ -81,7 +81,7 @@ impl<T> fmt::Debug for IntoValues<T> {
     }
 }
 
-// Takes the item at an index, where there is one.
+// Removes the item at an index that has one, and returns it.
 fn take_at<T>(items: &mut ConsumingItemSet<T>, ix: ItemIndex) -> T
     requires { IsSome (live.item_at items.old ix) }
     ensures item { live.item_at items.old ix ≡ Some result }

@@ -1,4 +1,4 @@
-//! The walk over all indexes of a map with their items.
+//! The iterator over all indexes of a map with their items.
 //!
 //! It goes along the table, and reads each item from the store.
 ghost use Rattle.std.specs.Prelude.{◌≡◌, ⊤, Some, IfSome, length};

@@ -1,4 +1,4 @@
-//! An item is modified in its place, and keeps its key.
+//! An item is modified in place, and keeps its key.
 ghost use Rattle.std.specs.Prelude.{◌≡◌, Some};
 ghost use Rattle.iddqd.specs.{get};
 ghost use Rattle.iddqd_map.specs.Map.{FindsItem};
@@ -12,8 +12,8 @@ use iddqd::item_index::ItemIndex;
 use iddqd_keys::order_query::OrdQuery;
 
 impl<T: IdOrdItem> IdOrdMap<T> {
-    /// Calls the closure with a `&mut` to the item that has the key, and returns what the closure returns; or returns
-    /// none, and doesn't call it, where no item has the key.
+    /// Calls the closure with a `&mut` to the item that has the key, and returns what the closure returns; if no item
+    /// has the key, it returns `None` and doesn't call the closure.
     ///
     /// The caller proves that the closure leaves the item its key. So the table stays as it is: the call is one look-up
     /// and takes no memory. To change a key, use `replace` or `change`.
@@ -30,8 +30,8 @@ impl<T: IdOrdItem> IdOrdMap<T> {
         self.map.modify_live(ix, f)
     }
 
-    /// Calls the closure with a `&mut` to the item at an index, as `modify`; or returns none, and doesn't call it,
-    /// where the index has no item. No key is compared.
+    /// Calls the closure with a `&mut` to the item at an index, as `modify` does; if there is no item at the index, it
+    /// returns `None` and doesn't call the closure. No key is compared.
     pub fn modify_at<R, F: FnOnce(&mut T) -> R>(&mut self, ix: ItemIndex, f: F) -> Option<R>
         requires { KeepsKey F.FnOnce f T.key_of (λ item. get self.old.store ix ≡ Some item) }
         ensures { ModifiesAt F.FnOnce f self.old ix result self.new }

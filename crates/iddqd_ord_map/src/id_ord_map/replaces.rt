@@ -1,4 +1,4 @@
-//! An item becomes another one, which may have another key.
+//! An item is replaced by one that may have another key.
 ghost use Rattle.std.specs.Fn.{FnOnceReturnsAt};
 ghost use Rattle.std.specs.Ordering.{eq_by_cmp};
 ghost use Rattle.std.specs.Borrow.{Bor};
@@ -17,11 +17,11 @@ use iddqd_keys::order_query::OrdQuery;
 use iddqd_map::refusal::ReplaceRefusal;
 
 impl<T: IdOrdItem> IdOrdMap<T> {
-    /// Puts an item in the place of the one that has the key, which is handed back.
+    /// Replaces the item that has the key, and returns the old one.
     ///
-    /// The item may have another key. It keeps the index. Where its key is that of another item, or memory is refused,
-    /// it comes back, and the map stays as it was. Where the key stays the table isn't touched. Up to the capacity no
-    /// memory is needed.
+    /// The new item may have another key. It gets the same index. If another item has its key, or memory runs out, it
+    /// comes back, and the map stays as it was. If the key stays the table isn't touched. Up to the capacity no memory
+    /// is needed.
     pub fn replace<Q: OrdQuery<T::Key>>(
         &mut self,
         query: Q,
@@ -37,9 +37,9 @@ impl<T: IdOrdItem> IdOrdMap<T> {
         self.map.replace_at(ix, item)
     }
 
-    /// Puts an item in the place of the one at an index, which is handed back.
+    /// Replaces the item at an index, and returns the old one.
     ///
-    /// Where there is none the item is missing; else as `replace`.
+    /// If there is none it refuses with `Missing`. Otherwise it behaves as `replace`.
     pub fn replace_at(&mut self, ix: ItemIndex, item: T) -> Result<T, ReplaceRefusal<T, ItemIndex>>
         ensures { let alike = shares T.key_of (eq_by_cmp T.Key.cmp) in
             ReplacesIfLive alike alike true (IsTakenAt alike) self.old ix item result self.new }
@@ -47,10 +47,10 @@ impl<T: IdOrdItem> IdOrdMap<T> {
         self.map.replace_at(ix, item)
     }
 
-    /// Puts what the closure makes of the item that has the key in its place, and hands that item back; or answers
-    /// none, where no item has it.
+    /// Replaces the item that has the key by what the closure makes of it, and returns the old item; `None` if no item
+    /// has the key.
     ///
-    /// The closure is called at most once, and not at all where no item has the key. Else as `replace`.
+    /// The closure is called at most once, and not at all if no item has the key. Otherwise it behaves as `replace`.
     pub fn change<Q: OrdQuery<T::Key>, F: FnOnce(&T) -> T>(
         &mut self,
         query: Q,

@@ -1,8 +1,8 @@
 //! The items that a closure keeps.
 //!
 //! The closure is called in the order of the table, which stays as it is until the last call. An item at which it
-//! answers false leaves the store at once. Then one pass over the table removes the indexes that have no item. So no
-//! key is compared, and each pass costs a step an item.
+//! answers false is removed from the store at once. Then one pass over the table removes the indexes that have no item.
+//! So no key is compared, and each pass costs a step for each item.
 ghost use Rattle.std.specs.Prelude.{◌≡◌, ◌≤◌, ◌+◌, filter, is_some};
 ghost use Rattle.std.specs.Fn.{TakesAt, CalledAt};
 ghost use Rattle.iddqd.specs.{get, live_count, IsValid};
@@ -27,7 +27,7 @@ impl<T: IdOrdItem> IdOrdMap<T> {
     /// Keeps exactly the items at which the closure answers true, under their indexes, and returns how many it removed.
     ///
     /// The closure is called once at each item, in the order of the keys. The items at which it answers false are
-    /// removed, in this order. No memory is taken, no key is compared, and it costs a few steps an item.
+    /// removed, in this order. No memory is taken, no key is compared, and it costs a few steps for each item.
     pub fn retain<F: FnMut(&T) -> bool>(&mut self, mut f: F) -> usize
         requires { MayAsk (TakesAt F.FnMut) (CalledAt F.FnMut) f (live_items self.old.store) }
         ensures retained { RetainsAlong (IsKeyWalk T.key_of T.Key.cmp) (CalledAt F.FnMut) f self.old self.new }
@@ -44,7 +44,7 @@ impl<T: IdOrdItem> IdOrdMap<T> {
     }
 }
 
-// Keeps the items at which the closure answers true, which is left as its last answer leaves it.
+// Keeps the items at which the closure answers true. The closure stays in the state that its last call leaves.
 fn retain_in<T: IdOrdItem, F: FnMut(&T) -> bool>(
     items: &mut ItemSet<T>,
     table: &mut MapBTreeTable,
@@ -65,7 +65,7 @@ fn retain_in<T: IdOrdItem, F: FnMut(&T) -> bool>(
     forget_removed(items, table);
 }
 
-// Removes the items at which the closure answers false. The table has their indexes still.
+// Removes the items at which the closure answers false. Their indexes stay in the table.
 fn remove_refused<T: Drop, F: FnMut(&T) -> bool>(
     items: &mut ItemSet<T>,
     table: &MapBTreeTable,
@@ -86,7 +86,7 @@ fn remove_refused<T: Drop, F: FnMut(&T) -> bool>(
     }
 }
 
-// Takes the indexes that have no item out of the table. It takes no memory.
+// Removes the indexes that have no item from the table. It takes no memory.
 fn forget_removed<T>(items: &ItemSet<T>, table: &mut MapBTreeTable)
     ensures forgot { order_of table.new ≡ filter (λ ix. is_some (get items.now.store ix)) (order_of table.old) }
     ensures memory { capacity table.new ≡ capacity table.old }

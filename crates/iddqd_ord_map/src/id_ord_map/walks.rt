@@ -1,4 +1,4 @@
-//! Walks over a map in the order of the keys, and its ends. They take no memory.
+//! Iterators over a map in the order of the keys, and the items at its ends. They take no memory.
 ghost use Rattle.std.specs.Prelude.{◌≡◌, length, option_copied};
 ghost use Rattle.std.specs.Range.Bound.{bound_map};
 ghost use Rattle.std.specs.declared.cmp.Ordering.TheVariants.{Less, Greater};
@@ -47,8 +47,8 @@ impl<T: IdOrdItem> IdOrdMap<T> {
         }
     }
 
-    /// The live indexes with their items whose keys are between two bounds, in the order of the keys,
-    /// from both ends: none where the lower bound stands above the upper one.
+    /// The live indexes with their items whose keys are between two bounds, in the order of the keys, from both ends:
+    /// none if the lower bound is above the upper one.
     ///
     /// Each query is compared with at most 4 + 2d keys, where the number of items has d binary digits.
     pub fn range<Q: OrdQuery<T::Key>>(&self, lower: Bound<Q>, upper: Bound<Q>) -> Range<'_, T>
@@ -91,7 +91,7 @@ impl<T: IdOrdItem> IdOrdMap<T> {
         table.last()
     }
 
-    /// Takes the item with the least key out of the map.
+    /// Removes the item with the least key, and returns it.
     pub fn pop_first(&mut self) -> Option<T>
         ensures { PopsEnd T.key_of T.Key.cmp Less self.old result self.new }
     {
@@ -99,7 +99,7 @@ impl<T: IdOrdItem> IdOrdMap<T> {
         self.map.remove_at(ix)
     }
 
-    /// Takes the item with the greatest key out of the map.
+    /// Removes the item with the greatest key, and returns it.
     pub fn pop_last(&mut self) -> Option<T>
         ensures { PopsEnd T.key_of T.Key.cmp Greater self.old result self.new }
     {

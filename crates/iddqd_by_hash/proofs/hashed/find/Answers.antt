@@ -18,6 +18,7 @@ returns g c =
     let result = c.find_index_prehashed.result in
     LooksUp-found key_of s (filed c.args.table.now) c.args.hash test result
     (Finds-from_where s (filed c.args.table.now) c.args.hash passing result
-    (FindsWhere-by_key (filed c.args.table.now) c.args.hash _ _ _ _ (passes s passing) result c.find_index_prehashed.ensures (λ ix key is gives.
+    (FindsWhere-by_key (filed c.args.table.now) c.args.hash _ _ _ _
+    (passes s passing) result c.find_index_prehashed.ensures (λ ix key is gives.
     let read : IsKeyAt key_of s ix key.now = search (rules, gives) in
     rw (passes, read.1) (ap test read.2))))

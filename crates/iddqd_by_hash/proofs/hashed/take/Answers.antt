@@ -14,7 +14,8 @@ pub find_entry_by_hash-found-requires : goal.find_entry_by_hash-found-requires
 find_entry_by_hash-found-requires g c =
     CanAsk-by _ _ (λ s. (s.0.now ≡ c.args.query.now) × (s.1.now ≡ c.args.items.now)) _
     (λ s x here i.
-    let live : IsLive s.1.now.store x = rw i.1 (under_all_filed _ _ (IsLive c.args.items.now.store) c.requires x here) in
+    let live : IsLive s.1.now.store x =
+    rw i.1 (under_all_filed _ _ (IsLive c.args.items.now.store) c.requires x here) in
     search rules)
     (λ s x r t here i called. search rules) _ (refl, refl)
 
@@ -25,10 +26,12 @@ returns-in-Ok-clause-found g c =
     let store = c.args.items.now.store in
     let passing = passes_by key_of test in
     let found = c.in-Ok.ensures.found in
-    let same : Some c.get-ix.result ≡ Some found.value = sym c.get-ix.ensures ∙ entry_index-value _ ∙ ap value_of found.is_pair in
+    let same : Some c.get-ix.result ≡ Some found.value =
+    sym c.get-ix.ensures ∙ entry_index-value _ ∙ ap value_of found.is_pair in
     let back : found.value ≡ c.get-ix.result = sym (ap (λ o. unwrap_or o found.value) same) in
     let hit = Finds-from_where store (filed c.args.table.now) c.hash.result passing (Some found.value)
-    (FindsWhere-looked_up (filed c.args.table.now) c.hash.result _ (λ s. (s.0.now ≡ c.args.query.now) × (s.1.now ≡ c.args.items.now)) (passes store passing)
+    (FindsWhere-looked_up (filed c.args.table.now) c.hash.result _
+    (λ s. (s.0.now ≡ c.args.query.now) × (s.1.now ≡ c.args.items.now)) (passes store passing)
     (λ s x b t is i called.
     let said : AsksAt key_of s.1.now.store (g.Q.Equivalent.equivalent s.0.now) x b = search (rules, called) in
     let kept : (t.0.now ≡ c.args.query.now) × (t.1.now ≡ c.args.items.now) = search (rules, called) in
@@ -42,7 +45,8 @@ returns-in-Ok-clause-found g c =
 pub returns-in-Ok-clause-taken : goal.returns-in-Ok-clause-taken
 returns-in-Ok-clause-taken g c =
     let out = c.remove.ensures.removed in
-    let same : Some c.get-ix.result ≡ Some out.ix = sym c.get-ix.ensures ∙ entry_index-value _ ∙ ap value_of out.is_pair in
+    let same : Some c.get-ix.result ≡ Some out.ix =
+    sym c.get-ix.ensures ∙ entry_index-value _ ∙ ap value_of out.is_pair in
     let removed : out.ix ≡ c.get-ix.result = cc in
     let gone = rw (removed, c.in-Ok.ensures.table) at out.others_stay in
     search (rules, gone)
@@ -54,7 +58,8 @@ returns-in-Err-clause-found g c =
     let store = c.args.items.now.store in
     let passing = passes_by key_of test in
     let miss = Finds-from_where store (filed c.args.table.now) c.hash.result passing None
-    (FindsWhere-looked_up (filed c.args.table.now) c.hash.result _ (λ s. (s.0.now ≡ c.args.query.now) × (s.1.now ≡ c.args.items.now)) (passes store passing)
+    (FindsWhere-looked_up (filed c.args.table.now) c.hash.result _
+    (λ s. (s.0.now ≡ c.args.query.now) × (s.1.now ≡ c.args.items.now)) (passes store passing)
     (λ s x b t is i called.
     let said : AsksAt key_of s.1.now.store (g.Q.Equivalent.equivalent s.0.now) x b = search (rules, called) in
     let kept : (t.0.now ≡ c.args.query.now) × (t.1.now ≡ c.args.items.now) = search (rules, called) in

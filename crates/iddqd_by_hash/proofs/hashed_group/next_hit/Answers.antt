@@ -14,7 +14,10 @@ passing-preserved g c =
     let s = c.args.items.now.store in
     let test = g.Q.Equivalent.equivalent c.args.query.now in
     let passing = passes_by g.E.KeyOf.key_of test in
-    let refused : passes s passing c.in-Some.ix ≡ false = rw (passes, c.key_at.ensures.1) (ap test (sym c.key_at.ensures.2) ∙ sym c.equivalent.ensures ∙ c.if-equivalent.false) in (
+    let refused : passes s passing c.in-Some.ix ≡ false =
+    rw (passes, c.key_at.ensures.1) (ap test (sym c.key_at.ensures.2) ∙ sym c.equivalent.ensures
+    ∙ c.if-equivalent.false) in (
       λ ix here. c.passing.invariant.0 ix (rw c.in-Some.ensures.steps (contains_tail _ ix _ here)),
-      c.passing.invariant.1 ∙ ap (hits_among s passing) c.in-Some.ensures.steps ∙ filter-refused (passes s passing) c.in-Some.ix _ refused,
+      c.passing.invariant.1 ∙ ap (hits_among s passing) c.in-Some.ensures.steps
+          ∙ filter-refused (passes s passing) c.in-Some.ix _ refused,
     )

@@ -5,11 +5,11 @@ use Rattle.iddqd_by_hash.proofs.hashed_move.commit_move.Goals as goal
 
 pub insert_prehashed_unchecked-requires-clause-new : goal.insert_prehashed_unchecked-requires-clause-new
 insert_prehashed_unchecked-requires-clause-new c =
-    rw c.take_index.ensures.taken (get-remove_at (filed c.args.table.now) c.args.ix)
+    rw c.remove_index.ensures.taken (get-remove_at (filed c.args.table.now) c.args.ix)
 
 pub returns-in-To-clause-memory : goal.returns-in-To-clause-memory
 returns-in-To-clause-memory c =
-    let out = c.take_index.ensures in
+    let out = c.remove_index.ensures in
     let put = c.insert_prehashed_unchecked.ensures.memory in
     record {
       room_stays = omega (arith, out.room, put.one_less);

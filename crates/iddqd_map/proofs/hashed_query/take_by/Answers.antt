@@ -8,4 +8,4 @@ returns-clause-found g c =
     let hashing : Hashing _ = hashing_of g.E.Key.PartialEq.eq g.E.Key.Hash.hash_input g.S.BuildHasher g.S.Hasher.Hasher state in
     let query = c.args.query in
     let one = StandsForOne-query g.E.Key.PartialEq.eq g.E.Key.Hash.hash_input g.S.BuildHasher g.S.Hasher.Hasher state (g.Q.Hash.hash_input query) (g.Q.HashQuery.stands_for query) (g.met.Q.HashQuery.same_hash query) (g.met.Q.HashQuery.same_key query) in
-    c.take.ensures.found.as_scan hashing (rw c.query_hash-hash.ensures one) c.requires.exact
+    c.take.ensures.found.as_scan hashing (rw c.query_hash-hash.ensures one) c.requires.in_sync

@@ -3,16 +3,11 @@ use Rattle.iddqd_by_hash.specs.LinkedTable.{most_linked}
 use Rattle.iddqd_by_hash.proofs.HashedCountLemmas.{len-held}
 use Rattle.iddqd_map.proofs.linked_steps.reserve.Goals as goal
 
-pub returns-clause-contents : goal.returns-clause-contents
-returns-clause-contents g c = record {
-  filed = c.try_reserve.ensures.contents;
-  linked = λ within. omega (arith, within, c.try_reserve.ensures.slots);
-}
-
 pub returns-clause-reserved : goal.returns-clause-reserved
 returns-clause-reserved g c =
     let counted = len-held c.args.items.now.store c.args.table.now.filed c.requires in
-    subst (λ n. OnOk c.try_reserve.result (n + c.args.additional ≤ c.try_reserve.new.self.capacity)) counted c.try_reserve.ensures.reserved
+    subst (λ n. OnOk c.try_reserve.result (n + c.args.additional ≤ c.try_reserve.new.self.capacity)) counted
+    c.try_reserve.ensures.reserved
 
 pub returns-clause-had_room : goal.returns-clause-had_room
 returns-clause-had_room g c = λ roomy.
@@ -22,4 +17,5 @@ returns-clause-had_room g c = λ roomy.
 pub returns-clause-few : goal.returns-clause-few
 returns-clause-few g c =
     let counted = len-held c.args.items.now.store c.args.table.now.filed c.requires in
-    subst (λ n. c.try_reserve.new.self.memory ≤ c.args.table.now.memory + most_linked (n + c.args.additional)) counted c.try_reserve.ensures.few
+    subst (λ n. c.try_reserve.new.self.memory ≤ c.args.table.now.memory + most_linked (n + c.args.additional)) counted
+    c.try_reserve.ensures.few

@@ -1,38 +1,31 @@
 use Rattle.std.proofs.Common.{◌≡◌, ◌≤◌, ◌<◌, max, min, IsOk, OnOk, OnErr, arith, subst}
 use Rattle.iddqd.specs.Store.{slot_count}
-use Rattle.iddqd.proofs.StoreLemmas.{live_within}
 use Rattle.iddqd_by_hash.specs.LinkedTable.{kept_linked}
 use Rattle.iddqd_by_hash.proofs.HashedCountLemmas.{len-held}
 use Rattle.iddqd_map.proofs.linked_steps.shrink_to.Goals as goal
 
-pub shrink_to-requires : goal.shrink_to-requires
-shrink_to-requires g c = λ ix filed.
-    rw c.slot_count.ensures.value (live_within c.args.items.now.store.items ix ((c.requires ix).0 filed))
-
-pub returns-clause-contents : goal.returns-clause-contents
-returns-clause-contents g c = record {
-  filed = c.shrink_to.ensures.contents;
-  linked = λ within. omega (arith, within, c.shrink_to.ensures.slots, c.slot_count.ensures.value);
-}
-
 pub returns-clause-capacity_stays : goal.returns-clause-capacity_stays
 returns-clause-capacity_stays g c =
-    let counted = len-held c.args.items.now.store c.args.table.now.filed c.requires in
-    subst (λ n. min c.args.table.now.capacity (max c.args.least n) ≤ c.shrink_to.new.self.capacity) counted c.shrink_to.ensures.capacity_stays
+    let counted = len-held c.args.items.now.store c.args.table.now.filed c.requires.held in
+    subst (λ n. min c.args.table.now.capacity (max c.args.least n) ≤ c.shrink_to.new.self.capacity) counted
+    c.shrink_to.ensures.capacity_stays
 
 pub returns-clause-shrunk : goal.returns-clause-shrunk
 returns-clause-shrunk g c =
-    let counted = len-held c.args.items.now.store c.args.table.now.filed c.requires in
-    subst (λ n. OnOk c.shrink_to.result (c.shrink_to.new.self.memory ≤ kept_linked (max c.args.least (slot_count c.args.items.now.store)) (max c.args.least n))) counted
-    (rw c.slot_count.ensures.value at c.shrink_to.ensures.shrunk)
+    let counted = len-held c.args.items.now.store c.args.table.now.filed c.requires.held in
+    subst (λ n. OnOk c.shrink_to.result (c.shrink_to.new.self.memory ≤ kept_linked
+    (max c.args.least (slot_count c.args.items.now.store)) (max c.args.least n))) counted
+    (rw c.requires.linked at c.shrink_to.ensures.shrunk)
 
 pub returns-clause-refused : goal.returns-clause-refused
 returns-clause-refused g c =
-    let counted = len-held c.args.items.now.store c.args.table.now.filed c.requires in
-    subst (λ n. OnErr c.shrink_to.result (max c.args.least n < c.shrink_to.new.self.memory)) counted c.shrink_to.ensures.refused
+    let counted = len-held c.args.items.now.store c.args.table.now.filed c.requires.held in
+    subst (λ n. OnErr c.shrink_to.result (max c.args.least n < c.shrink_to.new.self.memory)) counted
+    c.shrink_to.ensures.refused
 
 pub returns-clause-succeeds : goal.returns-clause-succeeds
 returns-clause-succeeds g c =
-    let counted = len-held c.args.items.now.store c.args.table.now.filed c.requires in
-    subst (λ n. kept_linked (max c.args.least (slot_count c.args.items.now.store)) (max c.args.least n) ≡ 0 → IsOk c.shrink_to.result) counted
-    (rw c.slot_count.ensures.value at c.shrink_to.ensures.succeeds)
+    let counted = len-held c.args.items.now.store c.args.table.now.filed c.requires.held in
+    subst (λ n. kept_linked (max c.args.least (slot_count c.args.items.now.store)) (max c.args.least n) ≡ 0
+    → IsOk c.shrink_to.result) counted
+    (rw c.requires.linked at c.shrink_to.ensures.succeeds)

@@ -4,4 +4,12 @@ use Rattle.iddqd_by_hash.proofs.linked_table.LinkedTable.capacity.Goals as goal
 
 pub returns-clause-holds_all : goal.returns-clause-holds_all
 returns-clause-holds_all c =
-    rw (← c.self.view_is) (omega (arith, c.self.invariant.counted, c.self.invariant.roomy, length-filed_by c.self.inside.links.items, c.capacity.ensures.value, c.capacity-2.ensures, c.min.ensures))
+    rw (← c.self.view_is) (omega (
+      arith,
+      c.self.invariant.counted,
+      c.self.invariant.roomy,
+      length-filed_by c.self.inside.links.items,
+      c.capacity.ensures.value,
+      c.capacity-2.ensures,
+      c.min.ensures,
+    ))

@@ -13,7 +13,8 @@ invariant_of-result c =
     elim c.match-next.branch [
       | in-Some w ↦
           let led = head_under heads c.args.hash _ w.in-Some.head _ c.indexes_under.ensures w.in-Some.ensures.steps in
-          rw (c.as_slice.ensures.value, w.result-is) (EndsWithin-head heads links c.self.invariant.linked w.in-Some.head c.args.hash led)
+          rw (c.as_slice.ensures.value, w.result-is)
+          (EndsWithin-head heads links c.self.invariant.linked w.in-Some.head c.args.hash led)
       | in-None w ↦ EndsWithin-stop _ _ _ _ w.result-is
     ]
 
@@ -27,9 +28,12 @@ returns c =
       | in-Some w ↦
           let led = head_under heads hash _ w.in-Some.head _ c.indexes_under.ensures w.in-Some.ensures.steps in
           rw (← c.self.view_is, c.as_slice.ensures.value, w.result-is)
-          (AreUnder-chain heads (filed_by links) (next_of links) (prev_of links) linked (length links) hash w.in-Some.head (length links) led (EndsWithin-head heads links linked w.in-Some.head hash led))
+          (AreUnder-chain heads (filed_by links) (next_of links) (prev_of links) linked
+          (length links) hash w.in-Some.head (length links) led
+          (EndsWithin-head heads links linked w.in-Some.head hash led))
       | in-None w ↦
           let none = none_under heads hash _ c.indexes_under.ensures w.in-None.ensures.steps.0 in
           rw (← c.self.view_is, c.as_slice.ensures.value)
-          (AreUnder-none heads (filed_by links) (next_of links) (prev_of links) linked (length links) hash (length links) _ none w.result-is)
+          (AreUnder-none heads (filed_by links) (next_of links) (prev_of links) linked (length links) hash
+          (length links) _ none w.result-is)
     ]

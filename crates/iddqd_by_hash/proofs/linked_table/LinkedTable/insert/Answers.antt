@@ -21,4 +21,4 @@ invariant_of-self c =
     let new = rw (← c.self.view_is) at c.requires.new in
     IsLinkedTable-added c.self.invariant c.link.ensures.linked c.args.ix c.args.hash new c.link.ensures.filed
     (omega (arith, roomy, c.self.invariant.counted, c.link.ensures.heads_capacity))
-    (omega (arith, c.link.ensures.len, c.self.invariant.small, c.requires.named))
+    (omega (arith, c.link.ensures.len, c.self.invariant.small, c.requires.not_sentinel))

@@ -1,12 +1,7 @@
-use Rattle.std.proofs.Common.{◌≢◌, ◌∙◌, ℕ, IsSome, sym, arith}
-use Rattle.std.specs.FinMap as finite
+use Rattle.std.proofs.Common.{arith}
 use Rattle.iddqd.specs.Compaction.{remapped}
-use Rattle.iddqd.specs.Store.{sentinel}
-use Rattle.iddqd_hash.specs.{filed}
-use Rattle.iddqd_by_hash.specs.Links.{filed_by, next_of, prev_of}
-use Rattle.iddqd_by_hash.proofs.LinksLemmas.{below-filed_by}
-use Rattle.iddqd_by_hash.proofs.RenamedLenLemmas.{len-renamed}
-use Rattle.iddqd_by_hash.proofs.RenameLinkLemmas.{IsLinked-renamed, head_is_filed}
+use Rattle.iddqd_by_hash.proofs.RenameLinkLemmas.{head_is_filed}
+use Rattle.iddqd_by_hash.proofs.RenamedTableLemmas.{IsLinkedTable-cut, Renames-cut, length-cut}
 use Rattle.iddqd_by_hash.proofs.linked_table.LinkedTable.remap_indexes.Goals as goal
 
 pub remap_indexes-requires-clause-can_remap : goal.remap_indexes-requires-clause-can_remap
@@ -21,18 +16,24 @@ remap_indexes-requires-clause-distinct c = λ i j p q same.
 
 pub invariant_of-self : goal.invariant_of-self
 invariant_of-self c =
-    let old = c.self.inside.links.items in
-    let new = c.rename_links.new.links.items in
-    let name = remapped c.args.remap.now in
     let one = rw (← c.self.view_is) at c.requires.distinct in
-    let falling = rw (← c.self.view_is) at c.requires.falling in
-    let named = c.rename_links.ensures.renamed in
-    let small = c.self.invariant.small in
-    let real : (ix : ℕ) → IsSome (finite.get (filed_by old) ix) → name ix ≢ sentinel = λ ix here none.
-    absurd (omega (arith, small, falling ix here, none, below-filed_by old ix here)) in
-    record {
-      linked = IsLinked-renamed name (filed c.self.inside.heads) (filed_by old) (filed c.remap_indexes.new.self) (filed_by new) (next_of old) (prev_of old) (next_of new) (prev_of new) c.self.invariant.linked c.remap_indexes.ensures.renamed named.filed named.nexts named.prevs one real;
-      counted = c.self.invariant.counted ∙ sym (len-renamed name (filed_by old) (filed_by new) named.filed one);
-      roomy = omega (arith, c.self.invariant.roomy, c.remap_indexes.ensures.memory.same_capacity);
-      small = omega (arith, small, c.rename_links.ensures.len);
-    }
+    let dense = rw (← c.self.view_is) at c.requires.dense in
+    IsLinkedTable-cut (remapped c.args.remap.now) _ _ _ _ _ _ _ c.self.invariant c.remap_indexes.ensures.renamed
+    c.rename_links.ensures.renamed one dense (omega (arith, c.rename_links.ensures.len)) c.truncate.ensures.items _
+    (omega (arith, c.self.invariant.roomy, c.remap_indexes.ensures.memory.same_capacity))
+
+pub returns-clause-renamed : goal.returns-clause-renamed
+returns-clause-renamed c = rw (← c.self.view_is) (
+    let one = rw (← c.self.view_is) at c.requires.distinct in
+    let dense = rw (← c.self.view_is) at c.requires.dense in
+    Renames-cut (remapped c.args.remap.now) _ _ _ _ _ _ _ c.self.invariant c.remap_indexes.ensures.renamed
+    c.rename_links.ensures.renamed one dense (omega (arith, c.rename_links.ensures.len)) c.truncate.ensures.items)
+
+pub returns-clause-slots : goal.returns-clause-slots
+returns-clause-slots c =
+    let one = rw (← c.self.view_is) at c.requires.distinct in
+    let dense = rw (← c.self.view_is) at c.requires.dense in
+    let whole =
+    length-cut (remapped c.args.remap.now) _ _ _ _ _ _ _ c.self.invariant c.remap_indexes.ensures.renamed
+    c.rename_links.ensures.renamed one dense (omega (arith, c.rename_links.ensures.len)) c.truncate.ensures.items in
+    omega (arith, whole)

@@ -3,7 +3,7 @@ use Rattle.std.specs.FinMap as finite
 use Rattle.std.proofs.lemmas.List.Sorted.{IsPermutation-refl}
 use Rattle.iddqd.proofs.SoundIndexLemmas.{Validates-listed}
 use Rattle.iddqd_hash.specs.MapHashTable.{indexes_of}
-use Rattle.iddqd_by_hash.specs.LinkedTable.{Linked}
+use Rattle.iddqd_by_hash.specs.LinkedTable.{LinkedState}
 use Rattle.iddqd_by_hash.specs.Links.{filed_by}
 use Rattle.iddqd_by_hash.specs.declared.linked_table.links.Link.{Link}
 use Rattle.iddqd_by_hash.proofs.HashedCountLemmas.{sorted_apart}
@@ -16,7 +16,7 @@ returns-in-Ok c =
     c.deref-in-Ok.ensures.value
     ∙ c.in-Ok.ensures
     ∙ ap (λ (links : List Link). indexes_of (filed_by links)) c.deref.ensures.value
-    ∙ ap (λ (t : Linked). indexes_of t.filed) c.self.view_is in
+    ∙ ap (λ (t : LinkedState). indexes_of t.filed) c.self.view_is in
     let apart = sorted_apart (finite.entries filed) (finite.entries_sorted filed) in
     Validates-listed c.args.compactness c.args.expected_len (indexes_of filed) apart c.validate_hash_indexes.result _
     (IsPermutation-refl (indexes_of filed))

@@ -12,4 +12,5 @@ returns-then-place-len-clause-filed c =
 pub returns-else-place-len-clause-filed : goal.returns-else-place-len-clause-filed
 returns-else-place-len-clause-filed c =
     let links = c.args.links.now.items in
-    filed-put (IsPut-set links c.place_of-place.result c.args.ix c.args.link c.place_of-place.ensures (omega arith)) c.requires.present
+    filed-put (IsPut-set links c.place_of-place.result c.args.ix c.args.link c.place_of-place.ensures (omega arith))
+    c.requires.present

@@ -14,7 +14,8 @@ returns-clause-filed c =
     let was = c.index_mut.result.now in
     let within = below-filed_by links ix c.requires.present in
     let read = link_read links place ix was c.place_of.ensures within c.index_mut.ensures.value in
-    filed-kept_hash (IsPut-set links place ix _ c.place_of.ensures within) c.requires.present c.requires.other (ap (λ l. l.hash) read)
+    filed-kept_hash (IsPut-set links place ix _ c.place_of.ensures within) c.requires.present c.requires.other
+    (ap (λ l. l.hash) read)
 
 pub returns-clause-prev : goal.returns-clause-prev
 returns-clause-prev c =

@@ -23,14 +23,14 @@ returns-in_err-ix-clause-removes g c =
 pub invariant_of-self-2 : goal.invariant_of-self-2
 invariant_of-self-2 g c =
     let out = c.take_item-item.ensures in
-    rw (out.removed, c.take_index.ensures.taken, c.in_ok-ix.ensures.taken)
+    rw (out.removed, c.remove_index.ensures.taken, c.in_ok-ix.ensures.taken)
     (IsPaired-unbound _ c.self.invariant c.in_ok-ix.ix _ out.item)
 
 pub returns-clause-removes : goal.returns-clause-removes
 returns-clause-removes g c =
     let out = c.take_item-item.ensures in
     let comparing = g.Q.OrdQuery.compare c.args.query in
-    rw (← c.self.view_is, out.removed, c.take_index.ensures.taken, c.in_ok-ix.ensures.taken) (
+    rw (← c.self.view_is, out.removed, c.remove_index.ensures.taken, c.in_ok-ix.ensures.taken) (
       LooksUpBy-ordered
           (keys_of g.T.KeyedItem g.T.Key1.PartialEq.eq g.T.Key1.Hash.hash_input g.T.Key2.Ord.cmp g.S.BuildHasher
           g.S.Hasher.Hasher) _ comparing
@@ -42,7 +42,7 @@ returns-clause-removes g c =
 pub returns-clause-keeps : goal.returns-clause-keeps
 returns-clause-keeps g c =
     let out = c.take_item-item.ensures in
-    rw (← c.self.view_is, out.removed, c.take_index.ensures.taken, c.in_ok-ix.ensures.taken)
+    rw (← c.self.view_is, out.removed, c.remove_index.ensures.taken, c.in_ok-ix.ensures.taken)
     (Keeps-unbound _ _ c.self.invariant
     (AreLawful-from_bounds {item = g.T.KeyedItem} g.S.BuildHasher g.S.Hasher.Hasher g.met.T.Key1.PartialEq.laws
     g.met.T.Key1.Hash.respects_eq g.met.T.Key2.Ord.total) c.in_ok-ix.ix _ out.item)
@@ -52,5 +52,5 @@ invariant_of-self g c = grind (arith, common_steps)
 
 pub returns-clause-memory : goal.returns-clause-memory
 returns-clause-memory g c =
-    let hashed = c.take_index.ensures.memory in
+    let hashed = c.remove_index.ensures.memory in
     rw (← c.self.view_is, c.take_item-item.ensures.slots, hashed.same_capacity, hashed.same_memory, c.in_ok-ix.ensures.memory)

@@ -10,7 +10,8 @@ pub returns-clause-indexed : goal.returns-clause-indexed
 returns-clause-indexed g c =
     let s = c.args.items.now.store in
     let (item, live) = item_at s c.args.ix c.requires.live in
-    FilesWithin-removed _ _ s c.args.self.now.table c.requires.indexed c.remove.new.self c.args.ix item live c.remove.ensures.removed c.remove.ensures.memory
+    FilesWithin-removed _ _ s c.args.self.now.table c.requires.indexed c.remove.new.self c.args.ix item live
+    c.remove.ensures.removed c.remove.ensures.slots
 
 pub returns-clause-roomy : goal.returns-clause-roomy
 returns-clause-roomy g c = λ plan ready.

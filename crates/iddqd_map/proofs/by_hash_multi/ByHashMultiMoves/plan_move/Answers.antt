@@ -5,5 +5,7 @@ use Rattle.iddqd_map.proofs.by_hash_multi.ByHashMultiMoves.plan_move.Goals as go
 
 pub returns : goal.returns
 returns g c =
-    let hashing : Hashing _ = hashing_of g.K.PartialEq.eq g.K.Hash.hash_input g.S.BuildHasher g.S.Hasher.Hasher c.args.state.now in
-    PlansMove-free g.E.KeyOf.key_of hashing c.args.items.now.store c.args.ix c.args.item.now c.move_of.result c.move_of.ensures {C = NoConflict} (λ at. ⊥)
+    let hashing : Hashing _ =
+    hashing_of g.K.PartialEq.eq g.K.Hash.hash_input g.S.BuildHasher g.S.Hasher.Hasher c.args.state.now in
+    PlansMove-free g.E.KeyOf.key_of hashing c.args.items.now.store c.args.ix c.args.item.now c.move_of.result
+    c.move_of.ensures {C = NoConflict} (λ at. ⊥)

@@ -8,5 +8,5 @@ remap-requires g c =
 
 pub returns-clause-indexed : goal.returns-clause-indexed
 returns-clause-indexed g c = λ state s is valid named.
-    FilesWithin-compacted _ _ s c.args.self.now.table is c.remap.new.table valid
-    (c.remap.ensures.renamed s is.files.held valid named) c.remap.ensures.memory
+    FilesWithin-compacted _ _ s c.args.self.now.table is c.remap.new.table
+    (c.remap.ensures.renamed s is.files.held valid named) c.remap.ensures.slots

@@ -6,7 +6,7 @@ use Rattle.iddqd_map.proofs.map.inserts.insert.Goals as goal
 pub insert-requires-clause-next : goal.insert-requires-clause-next
 insert-requires-clause-next g c =
     let s = c.args.items.now.store in
-    let same : g.X.KeyIndex.same s c.args.indexes.now c.make_room.new.self = search rules in
+    let same : g.X.KeyIndex.same c.args.indexes.now c.make_room.new.self = search rules in
     let indexed = g.met.X.KeyIndex.same_indexes c.args.indexes.now c.make_room.new.self c.args.state.now s same c.requires.map.indexed in (
       c.args.state.now,
       (s, indexed, c.requires.map.valid, c.next_index-ix.ensures.index ∙ ap next_index c.in-Ok-assert_can_grow.ensures.contents),
@@ -16,7 +16,7 @@ pub insert-requires-clause-planned : goal.insert-requires-clause-planned
 insert-requires-clause-planned g c =
     let s = c.args.items.now.store in
     let here : g.X.Inserts.is_planned c.args.indexes.now c.args.state.now s c.args.item c.plan-plan.result = search rules in
-    let same : g.X.KeyIndex.same s c.args.indexes.now c.make_room.new.self = search rules in
+    let same : g.X.KeyIndex.same c.args.indexes.now c.make_room.new.self = search rules in
     let planned = g.met.X.Inserts.same_plans c.args.indexes.now c.make_room.new.self c.args.state.now s c.args.item c.plan-plan.result same here in
     (c.args.state.now, (s, (c.args.item, planned)))
 
@@ -28,7 +28,7 @@ returns-clause-map g c =
     let mid = c.make_room.new.self in
     let free : IsFull s → ⊥ = λ is. (let r = c.in-Ok-assert_can_grow.ensures.full.1 is in cc) in
     let here : g.X.Inserts.is_planned old state s c.args.item c.plan-plan.result = search rules in
-    let same : g.X.KeyIndex.same s old mid = search rules in
+    let same : g.X.KeyIndex.same old mid = search rules in
     let indexed = g.met.X.KeyIndex.same_indexes old mid state s same c.requires.map.indexed in
     let planned = g.met.X.Inserts.same_plans old mid state s c.args.item c.plan-plan.result same here in
     IsIndexed-inserted _ state s _ c.args.item (search rules) c.requires.map.valid free

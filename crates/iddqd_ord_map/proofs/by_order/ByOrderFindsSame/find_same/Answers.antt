@@ -5,4 +5,4 @@ use Rattle.iddqd_ord_map.proofs.by_order.ByOrderFindsSame.find_same.Goals as goa
 
 pub returns : goal.returns
 returns g c =
-    subst (λ k. AnswersScan c.args.items.now.store (has_key g.E.KeyOf.key_of g.E.Key.Ord.cmp k) c.find.result) c.key.ensures (c.find.ensures.as_scan c.requires.indexed.exact)
+    subst (λ k. AnswersScan c.args.items.now.store (has_key g.E.KeyOf.key_of g.E.Key.Ord.cmp k) c.find.result) c.key.ensures (c.find.ensures.as_scan c.requires.indexed.in_sync)

@@ -1,7 +1,7 @@
 use Rattle.iddqd.proofs.LiveLemmas.{item_at}
 use Rattle.iddqd_order.specs.MapBTreeTable.{order_of}
 use Rattle.iddqd_ord_map.specs.ByOrderLaws.{Sorts-scan, Sorts-apart}
-use Rattle.iddqd_ord_map.proofs.ByOrderLemmas.{stays_by_key, IsApart-planned}
+use Rattle.iddqd_ord_map.proofs.ByOrderLemmas.{stays_by_key, HasDistinctKeys-planned}
 use Rattle.iddqd_ord_map.proofs.by_order.ByOrderMoves.commit_move.Goals as goal
 
 pub commit_move-requires-clause-sorted : goal.commit_move-requires-clause-sorted
@@ -16,4 +16,4 @@ returns-clause-indexed g c =
     let s = c.args.items.now.store in
     let (was, live) = item_at s c.args.ix c.requires.live in
     Sorts-apart _ _ _ _ c.commit_move.ensures.moved
-    (IsApart-planned g.E.KeyOf.key_of g.E.Key.Ord.cmp g.met.E.Key.Ord.total s (order_of c.args.self.now.table) c.requires.indexed c.args.ix c.args.item.now was live c.args.plan.now c.requires.planned)
+    (HasDistinctKeys-planned g.E.KeyOf.key_of g.E.Key.Ord.cmp g.met.E.Key.Ord.total s (order_of c.args.self.now.table) c.requires.indexed c.args.ix c.args.item.now was live c.args.plan.now c.requires.planned)

@@ -21,7 +21,7 @@ returns-clause-items g c =
     let order = order_of c.into_parts-items.result.1.table in
     let o = c.into_parts-items.ensures.indexed in
     rw (← (c.into_parts-items.ensures.map ∙ c.self.view_is), c.into_consuming.ensures, c.into_iter.ensures.to_come)
-    (pairs_at s order, IsWalkWithin-sorted key_of compare s (λ _. true) order (SortsWithin-all key_of compare s order o) o.exact.apart, sym (items_of_pairs s order))
+    (pairs_at s order, IsWalkWithin-sorted key_of compare s (λ _. true) order (SortsWithin-all key_of compare s order o) o.in_sync.apart, sym (items_of_pairs s order))
 
 pub returns-clause-len : goal.returns-clause-len
 returns-clause-len g c =

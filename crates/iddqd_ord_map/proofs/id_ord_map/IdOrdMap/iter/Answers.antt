@@ -25,7 +25,7 @@ returns-clause-walk g c =
     let s = c.parts.result.0.now.store in
     let xs = indexes_left c.iter.result in
     subst (λ t. IsWalkWithin key_of compare (λ _. true) t (pairs_at s xs)) c.parts.ensures.items
-    (IsWalkWithin-sorted key_of compare s (λ _. true) xs (all_listed g c) c.parts.ensures.sorted.exact.apart)
+    (IsWalkWithin-sorted key_of compare s (λ _. true) xs (all_listed g c) c.parts.ensures.sorted.in_sync.apart)
 
 pub returns-clause-len : goal.returns-clause-len
 returns-clause-len g c =

@@ -26,4 +26,4 @@ returns g c =
     let ix = c.in_ok-last.field-0 in
     subst (λ s. FindsEnd key_of compare Greater s (option_copied c.get.result)) c.parts.ensures.items
     (FindsEnd-found key_of compare Greater s ix (option_copied c.get.result)
-    (IsEnd-at key_of compare Greater s ix (HasGreatestKey-last s order o.held key_of compare g.met.T.Key.Ord.total o.exact.placed ix (sym c.in_ok-last.ensures))) c.get.ensures)
+    (IsEnd-at key_of compare Greater s ix (HasGreatestKey-last s order o.held key_of compare g.met.T.Key.Ord.total o.in_sync.placed ix (sym c.in_ok-last.ensures))) c.get.ensures)

@@ -19,6 +19,6 @@ returns g c =
     let s = c.parts.result.0.now.store in
     let within = is_between (bound_map g.Q.OrdQuery.compare c.args.lower) (bound_map g.Q.OrdQuery.compare c.args.upper) in
     let xs = indexes_ahead c.range_by.result in
-    let walk = IsWalkWithin-sorted key_of compare s within xs c.range_by.ensures c.parts.ensures.sorted.exact.apart in
+    let walk = IsWalkWithin-sorted key_of compare s within xs c.range_by.ensures c.parts.ensures.sorted.in_sync.apart in
     let seen = subst (λ t. IsWalkWithin key_of compare within t (pairs_at s xs)) c.parts.ensures.items walk in
     subst (IsWalkWithin key_of compare within c.args.self.now.store) (sym c.new.ensures) seen

@@ -1,7 +1,7 @@
 //! Queries by which a key is looked up under its hash.
 //!
-//! A table files each key under its hash, so a query must hash like every key that it stands for. That is
-//! a law of the trait, and so a look-up by any query answers as a scan would.
+//! A table in sync has each index under the hash of its item's key, so a query must hash like every key that it stands
+//! for. That is a law of the trait, and so a look-up by any query in a table in sync answers as a scan would.
 ghost use Rattle.std.specs.Prelude.{◌≡◌, Bool, IsTrue};
 ghost use Rattle.std.proofs.Common.{ap};
 ghost use Rattle.std.specs.Cmp.Lexicographic.{bytes_decides, lists_equiv, nat_list_eq_equiv, pointwise};
@@ -14,12 +14,11 @@ use iddqd::map_hash::Equivalent;
 use std::alloc::Allocator;
 use std::hash::Hash;
 
-/// What a key is looked up by: a `&K` at any keys, a `&str` at keys that are a `String`, a `&[T]` at those
-/// that are a `Vec<T>`.
+/// What a key is looked up by in a hash table: a `&K` for keys `K`, also a `&str` for `String`, and a `&[T]` for
+/// `Vec<T>`.
 ///
-/// Implement it for a small `Copy` type of your own to look up by parts of a key.
+/// Implement it for a small `Copy` type of your own to look up by borrowed parts that together determine a key.
 pub trait HashQuery<K: Eq + Hash>: Copy + Hash {
-    // What `stands_for` answers.
     ghost stands_for: { Self → K → Bool };
 
     /// Whether the query stands for the key.
@@ -70,11 +69,11 @@ impl<T: Eq + Hash, A: Allocator> HashQuery<Vec<T, A>> for &[T] {
     }
 }
 
-/// A query in the form in which a hash table is searched.
+/// A [`HashQuery`] as an [`Equivalent`], by which a hash table is searched.
 #[derive(Clone, Copy)]
-pub struct Asked<Q>(pub Q);
+pub struct AsEquivalent<Q>(pub Q);
 
-impl<K: Eq + Hash, Q: HashQuery<K>> Equivalent<K> for Asked<Q> {
+impl<K: Eq + Hash, Q: HashQuery<K>> Equivalent<K> for AsEquivalent<Q> {
     ghost equivalent = { λ q k. Q.stands_for q.0 k };
 
     fn equivalent(&self, key: &K) -> bool {

@@ -2,7 +2,7 @@ use Rattle.std.proofs.Common.{◌≡◌, rules, refl}
 use Rattle.iddqd_order.specs.Asking.{closure_of}
 use Rattle.iddqd_order.proofs.AskLemmas.{CanAsk-by}
 use Rattle.iddqd_keys.specs.Scan.{IsLive}
-use Rattle.iddqd_by_order.proofs.ordered.take_index.Goals as goal
+use Rattle.iddqd_by_order.proofs.ordered.remove_index.Goals as goal
 
 pub prepare_remove-requires : goal.prepare_remove-requires
 prepare_remove-requires g c =
