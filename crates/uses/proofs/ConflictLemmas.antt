@@ -1,13 +1,10 @@
 -- An item that a pair of key indexes reports shares a key with the refused one.
-use Rattle.std.proofs.Common.{◌≡◌, ◌≢◌, ◌||◌, inl, inr, ℕ, Bool, true, false, Option, Some, None, refl}
+use Rattle.std.proofs.Common.{◌≡◌, ◌||◌, inl, inr, ℕ, Bool, true, false, Option, Some, None, refl}
 use Rattle.iddqd_maps.specs.Store.{Store}
 use Rattle.iddqd_maps.specs.Scan.{IsHit, HasNoHit}
 use Rattle.iddqd_maps.specs.PairConflict.{ReportBoth, ReportBothOther}
 use Rattle.iddqd_maps.specs.Several.{either_key}
-
--- an index other than this one hits
-abbrev pub HitsOther : {T : Type 0} → Store T → (T → Bool) → ℕ → Type 0
-HitsOther s test ix = (j : ℕ) × (j ≢ ix) × IsHit s test j
+use Rattle.uses.specs.Exchanges.{HitsOther}
 
 or_true : (a : Bool) → (a || true) ≡ true
 or_true true = refl

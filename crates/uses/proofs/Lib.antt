@@ -4,3 +4,4 @@ pub mod DropLemmas
 pub mod ConflictLemmas
 pub mod LedgerLemmas
 pub mod DiaryLemmas
+pub mod ExchangeLemmas

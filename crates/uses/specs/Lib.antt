@@ -7,3 +7,8 @@ pub mod Drops
 pub mod Ledger
 pub mod Sessions
 pub mod Diary
+pub mod Exchanges
+pub mod Lockers
+pub mod Seats
+pub mod Scores
+pub mod Stock

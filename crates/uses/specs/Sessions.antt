@@ -1,16 +1,16 @@
--- What becomes of a session that is to end later.
-use Rattle.std.specs.Prelude.{◌≡◌, ◌==◌, ℕ, Bool}
-use Rattle.iddqd_maps.specs.Map.{MapState, IsOnly}
-use Rattle.iddqd_maps.specs.Store.{rebound}
+-- Sessions by their keys.
+use Rattle.std.specs.Prelude.{◌==◌, ◌||◌, ℕ, Bool}
+use Rattle.std.specs.Ordering.{nat_cmp, eq_by_cmp}
 use Rattle.uses.specs.declared.sessions.Session.{Session}
 
 -- the session has this id
 abbrev pub has_id : ℕ → Session → Bool
 has_id id session = id == session.id
 
--- the one session with this id ends then, and all else stays
-pub record Extends (id ends : ℕ) (old : MapState Session) (was : Session) (new : MapState Session) : Type 0 where
-  pub ix : ℕ
-  pub found : IsOnly old.store (has_id id) ix was
-  pub left : new.store ≡ rebound old.store ix (record was { ends = ends })
-  pub memory : new.memory ≡ old.memory
+-- the sessions share a key
+abbrev pub share_key : Session → Session → Bool
+share_key x y = (x.id == y.id || x.token == y.token) || eq_by_cmp nat_cmp x.ends y.ends
+
+-- the session, but it ends then
+abbrev pub ending : ℕ → Session → Session
+ending ends session = record session { ends = ends }

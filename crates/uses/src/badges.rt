@@ -1,4 +1,11 @@
 //! Two unique keys, each found by its hash.
+ghost use Rattle.std.specs.Prelude.{◌≡◌, ℕ, MatchOption};
+ghost use Rattle.std.specs.Str.{bytes_eq};
+ghost use Rattle.std.specs.String.{string_bytes};
+ghost use Rattle.iddqd_maps.specs.Map.{IsOnly};
+ghost use Rattle.iddqd_maps.specs.Scan.{HasNoHit};
+ghost use Rattle.uses.specs.declared.badges.Badge.{Badge};
+
 use iddqd_maps::bi_hash_map::{BiClash, BiHashItem, BiHashMap};
 use iddqd_maps::refusal::{InsertRefusal, ReplaceRefusal};
 use std::alloc::{AllocError, Global};
@@ -53,8 +60,12 @@ fn taken(at: &BiClash) -> &'static str {
     }
 }
 
-/// The number of the badge that somebody holds.
-pub fn number(badges: &BiHashMap<Badge>, holder: &str) -> Option<u32> {
+/// The number of the badge that somebody holds; none exactly where the person holds none.
+pub fn number(badges: &BiHashMap<Badge>, holder: &str) -> Option<u32>
+    ensures { let held = λ (badge : Badge). bytes_eq holder.now (string_bytes badge.holder) in
+        MatchOption result (HasNoHit badges.now.store held)
+        (λ number. (ix : ℕ) × (badge : Badge) × IsOnly badges.now.store held ix badge × (badge.number ≡ number)) }
+{
     match badges.get2(holder) {
         Some(badge) => Some(badge.number),
         None => None,

@@ -1,13 +1,16 @@
 //! A board of scores: the calls of a map in order that `scores` and `words` don't make, and what each promises.
-ghost use Rattle.std.specs.Prelude.{◌≡◌, ◌≤◌, ◌↔◌, ℕ, false, true, length, min, Some, None, IfOk, IfSome, OnOk, OnErr};
+ghost use Rattle.std.specs.Prelude.{◌≡◌, ◌≤◌, ◌↔◌, ℕ, false, true, length, min, Some, None, IfOk, IfErr, MatchOption, OnOk, OnErr};
 ghost use Rattle.std.specs.Ordering.{nat_cmp, eq_by_cmp};
 ghost use Rattle.std.specs.declared.cmp.Ordering.TheVariants.{Less, Greater};
 ghost use Rattle.iddqd_maps.specs.Compaction.{compacted};
-ghost use Rattle.iddqd_maps.specs.KeyOrder.{AreInKeyOrder, FindsEnd, IsKeyWalk};
-ghost use Rattle.iddqd_maps.specs.Map.{FindsItem, capacity, empty_map, room};
+ghost use Rattle.iddqd_maps.specs.KeyOrder.{AreInKeyOrder, FindsEnd, IsKeyWalk, PopsEnd};
+ghost use Rattle.iddqd_maps.specs.Map.{FindsItem, IsOnly, Removes, RemovesAt, capacity, empty_map, room};
+ghost use Rattle.iddqd_maps.specs.OrdMap.{IsTakenAt};
 ghost use Rattle.iddqd_maps.specs.Scan.{AnswersScan, HasNoHit};
 ghost use Rattle.iddqd_maps.specs.Sizes.{insertable};
-ghost use Rattle.iddqd_maps.specs.Store.{cleared, get, rebound, slot_count, slot_limit};
+ghost use Rattle.iddqd_maps.specs.Store.{cleared, get, inserted, next_index, rebound, slot_count, slot_limit};
+ghost use Rattle.uses.specs.Exchanges.{Exchanges, IsWhyNot, IsWhyNotAt, IsWhyNotChanged, IsWhyNotTakenOver};
+ghost use Rattle.uses.specs.Scores.{has_hour, same_hour};
 ghost use Rattle.uses.specs.declared.scores.Score.{Score};
 
 use crate::scores::Score;
@@ -37,7 +40,8 @@ pub fn with_room(alloc: Global, scores: usize) -> Result<Board, AllocError>
 
 /// Makes room for so many more scores, and tells how many can come without memory.
 pub fn make_room(board: &mut Board, more: usize) -> Result<usize, AllocError>
-    ensures { IfOk result (λ count. min more (insertable board.old.store) ≤ count) }
+    ensures room { IfOk result (λ count. min more (insertable board.old.store) ≤ count) }
+    ensures unchanged { board.new.store ≡ board.old.store }
 {
     board.reserve(more)?;
     Ok(board.room())
@@ -138,49 +142,69 @@ pub fn set(
     board: &mut Board,
     score: Score,
 ) -> Result<(ItemIndex, Option<Score>), OverwriteRefusal<Score>>
-    ensures { OnErr result (board.new.store ≡ board.old.store) }
+    ensures set { IfOk result (λ set. MatchOption set.1
+        (HasNoHit board.old.store (same_hour score) × (set.0 ≡ next_index board.old.store)
+        × (board.new.store ≡ inserted board.old.store score))
+        (λ was. IsOnly board.old.store (same_hour score) set.0 was
+        × (board.new.store ≡ rebound board.old.store set.0 score))) }
+    ensures refused { IfErr result (IsWhyNotTakenOver same_hour score board.old) }
+    ensures unchanged { OnErr result (board.new.store ≡ board.old.store) }
 {
     board.insert_overwrite(score)
 }
 
-/// Gives the score of an hour so many points, if there is one.
+/// Gives the score of an hour so many points; none exactly where there is none.
 pub fn mark(board: &mut Board, hour: u32, points: u32) -> Option<()>
-    ensures { IfSome result (λ _. (ix : ℕ) × (was : Score) × (get board.old.store ix ≡ Some was)
+    ensures { MatchOption result (HasNoHit board.old.store (has_hour hour) × (board.new ≡ board.old))
+        (λ _. (ix : ℕ) × (was : Score) × IsOnly board.old.store (has_hour hour) ix was
         × (board.new.store ≡ rebound board.old.store ix (record was { points = points }))) }
 {
     board.modify(&hour, |score| score.points = points)
 }
 
-/// Gives the score at an index so many points, if there is one.
+/// The same of the score at an index.
 pub fn mark_at(board: &mut Board, ix: ItemIndex, points: u32) -> Option<()>
-    ensures { IfSome result (λ _. (was : Score) × (get board.old.store ix ≡ Some was)
+    ensures { MatchOption result ((get board.old.store ix ≡ None) × (board.new ≡ board.old))
+        (λ _. (was : Score) × (get board.old.store ix ≡ Some was)
         × (board.new.store ≡ rebound board.old.store ix (record was { points = points }))) }
 {
     board.modify_at(ix, |score| score.points = points)
 }
 
-/// Puts a score in the place of that of an hour, which is handed back.
+/// Puts a score in the place of that of an hour, which is handed back. It is refused where there is none, or another
+/// one is of its hour, or memory ran out, which comes only past the capacity.
 pub fn exchange(board: &mut Board, hour: u32, score: Score) -> Replaced
-    ensures { OnErr result (board.new.store ≡ board.old.store) }
+    ensures exchanged { IfOk result (λ was. Exchanges same_hour (has_hour hour) score board.old was board.new) }
+    ensures refused { IfErr result (IsWhyNot (IsTakenAt same_hour) true (has_hour hour) score board.old) }
+    ensures unchanged { OnErr result (board.new ≡ board.old) }
 {
     board.replace(&hour, score)
 }
 
-/// Puts a score in the place of that at an index, which is handed back.
+/// Puts a score in the place of that at an index, in the same way.
 pub fn exchange_at(board: &mut Board, ix: ItemIndex, score: Score) -> Replaced
-    ensures { IfOk result (λ was. get board.old.store ix ≡ Some was) }
+    ensures was { IfOk result (λ was. get board.old.store ix ≡ Some was) }
+    ensures exchanged { OnOk result (board.new.store ≡ rebound board.old.store ix score) }
+    ensures refused { IfErr result (IsWhyNotAt (IsTakenAt same_hour) true ix score board.old) }
+    ensures unchanged { OnErr result (board.new ≡ board.old) }
 {
     board.replace_at(ix, score)
 }
 
-/// Moves the score of an hour to another one, and hands back what it was; none exactly where there is no such score.
+/// Moves the score of an hour to another one, and hands back what it was; none exactly where there is no such score. It
+/// is refused where another one is of that hour, or memory ran out, which comes only past the capacity.
 pub fn move_to(
     board: &mut Board,
     hour: u32,
     other: u32,
 ) -> Result<Option<Score>, ReplaceRefusal<Score, ItemIndex>>
-    ensures was { IfOk result (FindsItem board.old.store (λ score. eq_by_cmp nat_cmp hour score.hour)) }
-    ensures refused { OnErr result (board.new.store ≡ board.old.store) }
+    ensures moved { IfOk result (λ found. MatchOption found
+        (HasNoHit board.old.store (has_hour hour) × (board.new ≡ board.old))
+        (λ was. Exchanges same_hour (has_hour hour) (record was { hour = other }) board.old was board.new)) }
+    ensures refused { IfErr result
+        (IsWhyNotChanged (IsTakenAt same_hour) true
+        (has_hour hour) (λ score. record score { hour = other }) board.old) }
+    ensures unchanged { OnErr result (board.new ≡ board.old) }
 {
     board.change(
         &hour,
@@ -191,30 +215,30 @@ pub fn move_to(
     )
 }
 
-/// Takes the score of an hour.
+/// Takes the score of an hour. All others stay.
 pub fn take(board: &mut Board, hour: u32) -> Option<Score>
-    ensures { FindsItem board.old.store (λ score. eq_by_cmp nat_cmp hour score.hour) result }
+    ensures { Removes board.old (λ score. eq_by_cmp nat_cmp hour score.hour) result board.new }
 {
     board.remove(&hour)
 }
 
-/// Takes the score at an index.
+/// Takes the score at an index. All others stay.
 pub fn take_at(board: &mut Board, ix: ItemIndex) -> Option<Score>
-    ensures { result ≡ get board.old.store ix }
+    ensures { RemovesAt board.old ix result board.new }
 {
     board.remove_at(ix)
 }
 
-/// Takes the score of the first hour.
+/// Takes the score of the first hour. All others stay.
 pub fn take_first(board: &mut Board) -> Option<Score>
-    ensures { FindsEnd (λ score. score.hour) nat_cmp Less board.old.store result }
+    ensures { PopsEnd (λ score. score.hour) nat_cmp Less board.old result board.new }
 {
     board.pop_first()
 }
 
-/// Takes the score of the last hour.
+/// Takes the score of the last hour. All others stay.
 pub fn take_last(board: &mut Board) -> Option<Score>
-    ensures { FindsEnd (λ score. score.hour) nat_cmp Greater board.old.store result }
+    ensures { PopsEnd (λ score. score.hour) nat_cmp Greater board.old result board.new }
 {
     board.pop_last()
 }

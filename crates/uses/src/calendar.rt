@@ -49,7 +49,8 @@ type Appointments = KeyedItems<Appointment, DefaultHashBuilder>;
 pub struct Calendar {
     pub booked: Appointments,
     ghost by_number: { IsInSync (first_key_index ⟦<Appointments as Keyed>⟧.keys) booked.state },
-    ghost by_start: { IsInSync (second_key_index ⟦<Appointments as Keyed>⟧.keys) booked.state } by { Prim.hlevel props },
+    ghost by_start: { IsInSync
+        (second_key_index ⟦<Appointments as Keyed>⟧.keys) booked.state } by { Prim.hlevel props },
 }
 
 /// Why an appointment wasn't booked.

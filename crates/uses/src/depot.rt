@@ -1,11 +1,14 @@
 //! A depot of parts: the calls of a map with one key that `users` and `stock` don't make, and what each promises.
-ghost use Rattle.std.specs.Prelude.{◌≡◌, ◌≤◌, ◌==◌, ◌↔◌, ℕ, false, true, min, Some, IfOk, OnOk, OnErr, IfSome};
+ghost use Rattle.std.specs.Prelude.{◌≡◌, ◌≤◌, ◌==◌, ◌↔◌, false, true, min, Some, None, IfOk, IfErr, MatchOption, OnOk, OnErr};
 ghost use Rattle.iddqd_maps.specs.Compaction.{compacted};
 ghost use Rattle.iddqd_maps.specs.LiveItems.{live_items, live_pairs};
-ghost use Rattle.iddqd_maps.specs.Map.{empty_map, room};
+ghost use Rattle.iddqd_maps.specs.Map.{IsOnly, RemovesAt, empty_map, room};
+ghost use Rattle.iddqd_maps.specs.OneKey.{IsTaken};
 ghost use Rattle.iddqd_maps.specs.Scan.{HasNoHit};
 ghost use Rattle.iddqd_maps.specs.Sizes.{insertable};
-ghost use Rattle.iddqd_maps.specs.Store.{cleared, get, rebound, slot_limit};
+ghost use Rattle.iddqd_maps.specs.Store.{cleared, get, inserted, next_index, rebound, slot_limit};
+ghost use Rattle.uses.specs.Exchanges.{IsWhyNotAt, IsWhyNotTakenOver};
+ghost use Rattle.uses.specs.Stock.{same_kind};
 ghost use Rattle.uses.specs.declared.stock.Part.{Part};
 
 use crate::hashers::Base31;
@@ -45,7 +48,8 @@ pub fn hashed_within(alloc: Global, limit: u32, hasher: Base31) -> IdHashMap<Par
 
 /// Makes room for so many more kinds, and tells how many can come without memory.
 pub fn make_room(depot: &mut Depot, more: usize) -> Result<usize, AllocError>
-    ensures { IfOk result (λ count. min more (insertable depot.old.store) ≤ count) }
+    ensures room { IfOk result (λ count. min more (insertable depot.old.store) ≤ count) }
+    ensures unchanged { depot.new.store ≡ depot.old.store }
 {
     depot.reserve(more)?;
     Ok(depot.room())
@@ -89,33 +93,44 @@ pub fn set(
     depot: &mut Depot,
     part: Part,
 ) -> Result<(ItemIndex, Option<Part>), OverwriteRefusal<Part>>
-    ensures { OnErr result (depot.new.store ≡ depot.old.store) }
+    ensures set { IfOk result (λ set. MatchOption set.1
+        (HasNoHit depot.old.store (same_kind part) × (set.0 ≡ next_index depot.old.store)
+        × (depot.new.store ≡ inserted depot.old.store part))
+        (λ was. IsOnly depot.old.store (same_kind part) set.0 was
+        × (depot.new.store ≡ rebound depot.old.store set.0 part))) }
+    ensures refused { IfErr result (IsWhyNotTakenOver same_kind part depot.old) }
+    ensures unchanged { OnErr result (depot.new.store ≡ depot.old.store) }
 {
     depot.insert_overwrite(part)
 }
 
-/// Sets how many parts there are at an index, if there are any.
+/// Sets how many parts there are at an index; none exactly where there are none.
 pub fn count_at(depot: &mut Depot, ix: ItemIndex, count: u32) -> Option<()>
-    ensures { IfSome result (λ _. (was : Part) × (get depot.old.store ix ≡ Some was)
+    ensures { MatchOption result ((get depot.old.store ix ≡ None) × (depot.new ≡ depot.old))
+        (λ _. (was : Part) × (get depot.old.store ix ≡ Some was)
         × (depot.new.store ≡ rebound depot.old.store ix (record was { count = count }))) }
 {
     depot.modify_at(ix, |part| part.count = count)
 }
 
-/// Puts another part in the place of that at an index, which is handed back.
+/// Puts another part in the place of that at an index, which is handed back. It is refused exactly where there is none,
+/// or another part is of its kind.
 pub fn exchange_at(
     depot: &mut Depot,
     ix: ItemIndex,
     part: Part,
 ) -> Result<Part, ReplaceRefusal<Part, ItemIndex>>
-    ensures { IfOk result (λ was. get depot.old.store ix ≡ Some was) }
+    ensures was { IfOk result (λ was. get depot.old.store ix ≡ Some was) }
+    ensures exchanged { OnOk result (depot.new.store ≡ rebound depot.old.store ix part) }
+    ensures refused { IfErr result (IsWhyNotAt (IsTaken same_kind) false ix part depot.old) }
+    ensures unchanged { OnErr result (depot.new ≡ depot.old) }
 {
     depot.replace_at(ix, part)
 }
 
-/// Takes the part at an index, if there is one.
+/// Takes the part at an index, if there is one. All others stay.
 pub fn take_at(depot: &mut Depot, ix: ItemIndex) -> Option<Part>
-    ensures { result ≡ get depot.old.store ix }
+    ensures { RemovesAt depot.old ix result depot.new }
 {
     depot.remove_at(ix)
 }

@@ -2,11 +2,12 @@
 //!
 //! A type without values names each key, and pairs of key indexes put the four together. The place of a key in them is
 //! the type that a look-up names.
-ghost use Rattle.std.specs.Prelude.{◌≡◌, ◌==◌, ℕ, false, ◌↔◌, option_copied, IfOk, IfErr, OnOk, OnErr, MatchOption};
+ghost use Rattle.std.specs.Prelude.{◌≡◌, ◌==◌, false, ◌↔◌, option_copied, IfOk, IfErr, OnOk, OnErr, MatchOption};
 ghost use Rattle.iddqd_maps.specs.Map.{FindsItem, Removes};
 ghost use Rattle.iddqd_maps.specs.Scan.{AnswersScan, HasNoHit};
-ghost use Rattle.iddqd_maps.specs.Store.{inserted};
-ghost use Rattle.uses.specs.Devices.{has_address, has_serial, is_named, share_key, Exchanges, IsWhyNot, SetsPorts, TakesOver};
+ghost use Rattle.iddqd_maps.specs.Store.{inserted, next_index};
+ghost use Rattle.uses.specs.Devices.{has_address, has_serial, is_named, share_key, SetsPorts};
+ghost use Rattle.uses.specs.Exchanges.{Exchanges, IsKeyTaken, IsWhyNot, IsWhyNotAdded, IsWhyNotTakenOver, TakesOver};
 ghost use Rattle.uses.specs.declared.devices.Device.{Device};
 
 use iddqd_maps::by_hash::ByHash;
@@ -107,9 +108,11 @@ pub fn add(
     devices: &mut Devices,
     device: Device,
 ) -> Result<ItemIndex, InsertRefusal<Device, TakenKeys>>
+    ensures index { IfOk result (λ ix. ix ≡ next_index devices.old.store) }
     ensures unlike { IfOk result (λ _. HasNoHit devices.old.store (share_key device)) }
     ensures stored { OnOk result (devices.new.store ≡ inserted devices.old.store device) }
-    ensures refused { OnErr result (devices.new.store ≡ devices.old.store) }
+    ensures refused { IfErr result (IsWhyNotAdded share_key device devices.old) }
+    ensures unchanged { OnErr result (devices.new.store ≡ devices.old.store) }
 {
     devices.insert_unique(device)
 }
@@ -165,20 +168,25 @@ pub fn exchange(
     serial: u64,
     device: Device,
 ) -> Result<Device, ReplaceRefusal<Device, TakenKeys>>
-    ensures exchanged { IfOk result (λ was. Exchanges (has_serial serial) device devices.old was devices.new) }
-    ensures refused { IfErr result (IsWhyNot devices.old (has_serial serial) device) }
+    ensures exchanged { IfOk result
+        (λ was. Exchanges share_key (has_serial serial) device devices.old was devices.new) }
+    ensures refused { IfErr result
+        (IsWhyNot (IsKeyTaken share_key) false (has_serial serial) device devices.old) }
     ensures unchanged { OnErr result (devices.new ≡ devices.old) }
 {
     devices.replace_by::<BySerial, _>(&serial, device)
 }
 
-/// Adds a device, and hands back those that share a key with it, up to four.
+/// Adds a device, and hands back those that share a key with it, up to four. If one does, it takes no memory. It is
+/// refused only where none does, and there are as many devices as the limit allows or there is no memory.
 pub fn take_over(
     devices: &mut Devices,
     device: Device,
 ) -> Result<(ItemIndex, [Option<Device>; 4]), OverwriteRefusal<Device>>
-    ensures taken { IfOk result (λ taken. TakesOver device devices.old taken.0 taken.1 devices.new) }
-    ensures refused { OnErr result (devices.new.store ≡ devices.old.store) }
+    ensures taken { IfOk result
+        (λ taken. TakesOver share_key 4 device devices.old taken.0 taken.1 devices.new) }
+    ensures refused { IfErr result (IsWhyNotTakenOver share_key device devices.old) }
+    ensures unchanged { OnErr result (devices.new.store ≡ devices.old.store) }
 {
     let mut places = [None, None, None, None];
     let ix = devices.overwrite_into(device, &mut places)?;

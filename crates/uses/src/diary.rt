@@ -1,9 +1,10 @@
 //! A diary of appointments: the calls of keyed items that `calendar` and `guests` don't make, and what each promises.
 ghost use Rattle.std.specs.Prelude.{◌≡◌, ◌↔◌, ◌≤◌, ◌+◌, ℕ, IsTrue, Some, None, IfSome, IfOk, OnOk, MatchOption, filter, min, nat_le};
+ghost use Rattle.std.specs.Bool.{OnTrue, OnFalse};
 ghost use Rattle.std.specs.Ordering.{nat_cmp, eq_by_cmp};
 ghost use Rattle.iddqd_maps.specs.LiveItems.{live_pairs};
-ghost use Rattle.iddqd_keyed.specs.Scan.{IsHit};
-ghost use Rattle.iddqd_keyed.specs.Store.{get, live_count, rebound};
+ghost use Rattle.iddqd_keyed.specs.Scan.{AnswersScan, IsHit};
+ghost use Rattle.iddqd_keyed.specs.Store.{get, inserted, live_count, rebound};
 ghost use Rattle.iddqd_keyed.specs.{capacity, empty_state, empty_state_within, no_memory, room, reservable};
 ghost use Rattle.iddqd_keyed.specs.{IsInSync, first_key_index, second_key_index};
 ghost use Rattle.uses.specs.Calendar.{IsBooked, HasNone};
@@ -40,9 +41,12 @@ pub fn pages(diary: &Diary) -> Iter<'_, Appointment>
     diary.iter()
 }
 
-/// The index of an appointment that starts then.
+/// The index of an appointment that starts then. While the table of starts is in order, it is the one, and none exactly
+/// where no appointment does.
 pub fn page(diary: &Diary, start: u32) -> Option<ItemIndex>
-    ensures { IfSome result (IsHit diary.now.state.store (λ a. eq_by_cmp nat_cmp start a.start)) }
+    ensures found { IfSome result (IsHit diary.now.state.store (λ a. eq_by_cmp nat_cmp start a.start)) }
+    ensures in_order { IsInSync (second_key_index ⟦<Diary as Keyed>⟧.keys) diary.now.state →
+        AnswersScan diary.now.state.store (λ a. eq_by_cmp nat_cmp start a.start) result }
 {
     diary.find2_by(&start)
 }
@@ -69,12 +73,13 @@ pub fn cancel(diary: &mut Diary, start: u32) -> Option<(ItemIndex, Appointment)>
 }
 
 /// Lets the appointment with this number take so long, if it is found. While the table of numbers is in order, it is
-/// none only where no appointment has the number.
+/// none only where no appointment has the number. It takes no memory.
 pub fn extend(diary: &mut Diary, number: u32, minutes: u32) -> Option<()>
     ensures extended { MatchOption result (diary.new.state ≡ diary.old.state)
         (λ _. Extends (λ a. a.number ≡ number) minutes diary.old.state diary.new.state) }
     ensures missed { IsInSync (first_key_index ⟦<Diary as Keyed>⟧.keys) diary.old.state →
         result ≡ None → HasNone diary.old.state.store (λ a. a.number ≡ number) }
+    ensures memory { diary.new.memory ≡ diary.old.memory }
 {
     diary.modify1(&number, |appointment| appointment.minutes = minutes)
 }
@@ -85,15 +90,18 @@ pub fn extend_starting(diary: &mut Diary, start: u32, minutes: u32) -> Option<()
         (λ _. Extends (λ a. a.start ≡ start) minutes diary.old.state diary.new.state) }
     ensures missed { IsInSync (second_key_index ⟦<Diary as Keyed>⟧.keys) diary.old.state →
         result ≡ None → HasNone diary.old.state.store (λ a. a.start ≡ start) }
+    ensures memory { diary.new.memory ≡ diary.old.memory }
 {
     diary.modify2(&start, |appointment| appointment.minutes = minutes)
 }
 
 /// The same of the one at an index; none exactly where there is none.
 pub fn extend_at(diary: &mut Diary, ix: ItemIndex, minutes: u32) -> Option<()>
-    ensures { MatchOption result ((get diary.old.state.store ix ≡ None) × (diary.new.state ≡ diary.old.state))
+    ensures extended { MatchOption result
+        ((get diary.old.state.store ix ≡ None) × (diary.new.state ≡ diary.old.state))
         (λ _. (was : Appointment) × (get diary.old.state.store ix ≡ Some was)
         × (diary.new.state.store ≡ rebound diary.old.state.store ix (record was { minutes = minutes }))) }
+    ensures memory { diary.new.memory ≡ diary.old.memory }
 {
     diary.modify_at(ix, |appointment| appointment.minutes = minutes)
 }
@@ -159,7 +167,9 @@ pub fn left(diary: &Diary) -> usize
 /// Whether an appointment was booked, where there is room: it takes no memory, and is refused none.
 pub fn book(diary: &mut Diary, appointment: Appointment) -> bool
     requires { 1 ≤ room diary.old }
-    ensures { diary.new.memory ≡ diary.old.memory }
+    ensures booked { OnTrue result (diary.new.state.store ≡ inserted diary.old.state.store appointment) }
+    ensures unchanged { OnFalse result (diary.new.state ≡ diary.old.state) }
+    ensures memory { diary.new.memory ≡ diary.old.memory }
 {
     match diary.insert(appointment) {
         Ok(_) => true,
@@ -170,14 +180,16 @@ pub fn book(diary: &mut Diary, appointment: Appointment) -> bool
 
 /// Makes room for so many more appointments.
 pub fn widen(diary: &mut Diary, more: usize) -> Result<(), AllocError>
-    ensures { OnOk result (reservable more diary.old ≤ room diary.new) }
+    ensures room { OnOk result (reservable more diary.old ≤ room diary.new) }
+    ensures unchanged { diary.new.state ≡ diary.old.state }
 {
     diary.reserve(more)
 }
 
 /// The same, as another call says it.
 pub fn try_widen(diary: &mut Diary, more: usize) -> Result<(), AllocError>
-    ensures { diary.new.state ≡ diary.old.state }
+    ensures room { OnOk result (reservable more diary.old ≤ room diary.new) }
+    ensures unchanged { diary.new.state ≡ diary.old.state }
 {
     diary.try_reserve(more)
 }
@@ -191,7 +203,8 @@ pub fn trim(diary: &mut Diary) -> Result<(), AllocError>
 
 /// The same, but keeps what it can hold up to so many.
 pub fn trim_to(diary: &mut Diary, least: usize) -> Result<(), AllocError>
-    ensures { min (capacity diary.old) least ≤ capacity diary.new }
+    ensures capacity { min (capacity diary.old) least ≤ capacity diary.new }
+    ensures unchanged { diary.new.state ≡ diary.old.state }
 {
     diary.shrink_to(least)
 }

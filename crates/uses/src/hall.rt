@@ -1,11 +1,14 @@
 //! A hall of seats: the calls of a map with three keys that `seats` and `leases` don't make, and what each promises.
-ghost use Rattle.std.specs.Prelude.{◌≡◌, ◌≤◌, ◌==◌, ◌↔◌, ℕ, false, true, length, min, Some, IfOk, IfSome, OnOk, OnErr};
+ghost use Rattle.std.specs.Prelude.{◌≡◌, ◌≤◌, ◌==◌, ◌↔◌, ℕ, false, true, length, min, filter, Some, None, MatchOption, IfOk, IfErr, OnOk, OnErr};
 ghost use Rattle.iddqd_maps.specs.Compaction.{compacted};
 ghost use Rattle.iddqd_maps.specs.LiveItems.{live_items, live_pairs};
-ghost use Rattle.iddqd_maps.specs.Map.{FindsItem, empty_map, room};
+ghost use Rattle.iddqd_maps.specs.Map.{FindsItem, IsOnly, Removes, RemovesAt, empty_map, room};
 ghost use Rattle.iddqd_maps.specs.Scan.{AnswersScan, HasNoHit};
 ghost use Rattle.iddqd_maps.specs.Sizes.{insertable};
 ghost use Rattle.iddqd_maps.specs.Store.{cleared, get, live_count, rebound, slot_limit};
+ghost use Rattle.iddqd_maps.specs.ThreeKeys.{AreTaken};
+ghost use Rattle.uses.specs.Exchanges.{Exchanges, IsWhyNot, IsWhyNotAt};
+ghost use Rattle.uses.specs.Seats.{has_guest, has_place, has_ticket, same_guest, same_place, same_ticket, share_key};
 ghost use Rattle.uses.specs.declared.seats.Seat.{Seat};
 
 use crate::hashers::Base31;
@@ -60,7 +63,8 @@ pub fn hashed_with_room(alloc: Global, count: usize, hasher: Base31) -> Result<H
 
 /// Makes room for so many more seats, and tells how many can come without memory.
 pub fn make_room(hall: &mut Hall, more: usize) -> Result<usize, AllocError>
-    ensures { IfOk result (λ count. min more (insertable hall.old.store) ≤ count) }
+    ensures room { IfOk result (λ count. min more (insertable hall.old.store) ≤ count) }
+    ensures unchanged { hall.new.store ≡ hall.old.store }
 {
     hall.reserve(more)?;
     Ok(hall.room())
@@ -94,7 +98,8 @@ pub fn check(hall: &Hall) -> Result<(), ValidateRefusal<ValidationError>>
 
 /// Keeps the seats that are paid, and tells how many they are.
 pub fn keep_paid(hall: &mut Hall) -> usize
-    ensures { result ≡ live_count hall.new.store }
+    ensures stay { live_pairs hall.new.store ≡ filter (λ pair. pair.1.is_paid) (live_pairs hall.old.store) }
+    ensures count { result ≡ live_count hall.new.store }
 {
     hall.retain(|seat| seat.is_paid);
     hall.len()
@@ -161,9 +166,10 @@ pub fn into_all(hall: Hall) -> IntoValues<Seat>
     hall.into_values()
 }
 
-/// Notes that the seat at a place is paid, if there is one.
+/// Notes that the seat at a place is paid; none exactly where there is none.
 pub fn pay(hall: &mut Hall, place: u32) -> Option<()>
-    ensures { IfSome result (λ _. (ix : ℕ) × (was : Seat) × (get hall.old.store ix ≡ Some was)
+    ensures { MatchOption result (HasNoHit hall.old.store (has_place place) × (hall.new ≡ hall.old))
+        (λ _. (ix : ℕ) × (was : Seat) × IsOnly hall.old.store (has_place place) ix was
         × (hall.new.store ≡ rebound hall.old.store ix (record was { is_paid = true }))) }
 {
     hall.modify1(&place, |seat| seat.is_paid = true)
@@ -171,7 +177,8 @@ pub fn pay(hall: &mut Hall, place: u32) -> Option<()>
 
 /// The same of the seat of a guest.
 pub fn pay_for(hall: &mut Hall, guest: u32) -> Option<()>
-    ensures { IfSome result (λ _. (ix : ℕ) × (was : Seat) × (get hall.old.store ix ≡ Some was)
+    ensures { MatchOption result (HasNoHit hall.old.store (has_guest guest) × (hall.new ≡ hall.old))
+        (λ _. (ix : ℕ) × (was : Seat) × IsOnly hall.old.store (has_guest guest) ix was
         × (hall.new.store ≡ rebound hall.old.store ix (record was { is_paid = true }))) }
 {
     hall.modify2(&guest, |seat| seat.is_paid = true)
@@ -179,7 +186,8 @@ pub fn pay_for(hall: &mut Hall, guest: u32) -> Option<()>
 
 /// The same of the seat of a ticket.
 pub fn pay_ticket(hall: &mut Hall, ticket: u32) -> Option<()>
-    ensures { IfSome result (λ _. (ix : ℕ) × (was : Seat) × (get hall.old.store ix ≡ Some was)
+    ensures { MatchOption result (HasNoHit hall.old.store (has_ticket ticket) × (hall.new ≡ hall.old))
+        (λ _. (ix : ℕ) × (was : Seat) × IsOnly hall.old.store (has_ticket ticket) ix was
         × (hall.new.store ≡ rebound hall.old.store ix (record was { is_paid = true }))) }
 {
     hall.modify3(&ticket, |seat| seat.is_paid = true)
@@ -187,64 +195,79 @@ pub fn pay_ticket(hall: &mut Hall, ticket: u32) -> Option<()>
 
 /// The same of the seat at an index.
 pub fn pay_at(hall: &mut Hall, ix: ItemIndex) -> Option<()>
-    ensures { IfSome result (λ _. (was : Seat) × (get hall.old.store ix ≡ Some was)
+    ensures { MatchOption result ((get hall.old.store ix ≡ None) × (hall.new ≡ hall.old))
+        (λ _. (was : Seat) × (get hall.old.store ix ≡ Some was)
         × (hall.new.store ≡ rebound hall.old.store ix (record was { is_paid = true }))) }
 {
     hall.modify_at(ix, |seat| seat.is_paid = true)
 }
 
-/// Puts a seat in the place of that at a place, which is handed back.
+/// Puts a seat in the place of that at a place, which is handed back. It is refused exactly where there is none, or
+/// another seat has its place, its guest or its ticket.
 pub fn exchange(hall: &mut Hall, place: u32, seat: Seat) -> Replaced
-    ensures { OnErr result (hall.new.store ≡ hall.old.store) }
+    ensures exchanged { IfOk result (λ was. Exchanges share_key (has_place place) seat hall.old was hall.new) }
+    ensures refused { IfErr result
+        (IsWhyNot (AreTaken same_place same_guest same_ticket) false (has_place place) seat hall.old) }
+    ensures unchanged { OnErr result (hall.new ≡ hall.old) }
 {
     hall.replace1(&place, seat)
 }
 
-/// Puts a seat in the place of that of a guest, which is handed back.
+/// Puts a seat in the place of that of a guest, in the same way.
 pub fn exchange_of(hall: &mut Hall, guest: u32, seat: Seat) -> Replaced
-    ensures { OnErr result (hall.new.store ≡ hall.old.store) }
+    ensures exchanged { IfOk result (λ was. Exchanges share_key (has_guest guest) seat hall.old was hall.new) }
+    ensures refused { IfErr result
+        (IsWhyNot (AreTaken same_place same_guest same_ticket) false (has_guest guest) seat hall.old) }
+    ensures unchanged { OnErr result (hall.new ≡ hall.old) }
 {
     hall.replace2(&guest, seat)
 }
 
-/// Puts a seat in the place of that of a ticket, which is handed back.
+/// Puts a seat in the place of that of a ticket, in the same way.
 pub fn exchange_ticket(hall: &mut Hall, ticket: u32, seat: Seat) -> Replaced
-    ensures { OnErr result (hall.new.store ≡ hall.old.store) }
+    ensures exchanged { IfOk result (λ was. Exchanges share_key (has_ticket ticket) seat hall.old was hall.new) }
+    ensures refused { IfErr result
+        (IsWhyNot (AreTaken same_place same_guest same_ticket) false (has_ticket ticket) seat hall.old) }
+    ensures unchanged { OnErr result (hall.new ≡ hall.old) }
 {
     hall.replace3(&ticket, seat)
 }
 
-/// Puts a seat in the place of that at an index, which is handed back.
+/// Puts a seat in the place of that at an index, in the same way.
 pub fn exchange_at(hall: &mut Hall, ix: ItemIndex, seat: Seat) -> Replaced
-    ensures { IfOk result (λ was. get hall.old.store ix ≡ Some was) }
+    ensures was { IfOk result (λ was. get hall.old.store ix ≡ Some was) }
+    ensures exchanged { OnOk result (hall.new.store ≡ rebound hall.old.store ix seat) }
+    ensures refused { IfErr result
+        (IsWhyNotAt (AreTaken same_place same_guest same_ticket) false ix seat hall.old) }
+    ensures unchanged { OnErr result (hall.new ≡ hall.old) }
 {
     hall.replace_at(ix, seat)
 }
 
-/// Takes the seat at a place out.
+/// Takes the seat at a place out. All others stay.
 pub fn take(hall: &mut Hall, place: u32) -> Option<Seat>
-    ensures { FindsItem hall.old.store (λ seat. place == seat.place) result }
+    ensures { Removes hall.old (λ seat. place == seat.place) result hall.new }
 {
     hall.remove1(&place)
 }
 
-/// Takes the seat of a guest out.
+/// Takes the seat of a guest out. All others stay.
 pub fn take_of(hall: &mut Hall, guest: u32) -> Option<Seat>
-    ensures { FindsItem hall.old.store (λ seat. guest == seat.guest) result }
+    ensures { Removes hall.old (λ seat. guest == seat.guest) result hall.new }
 {
     hall.remove2(&guest)
 }
 
-/// Takes the seat of a ticket out.
+/// Takes the seat of a ticket out. All others stay.
 pub fn take_ticket(hall: &mut Hall, ticket: u32) -> Option<Seat>
-    ensures { FindsItem hall.old.store (λ seat. ticket == seat.ticket) result }
+    ensures { Removes hall.old (λ seat. ticket == seat.ticket) result hall.new }
 {
     hall.remove3(&ticket)
 }
 
-/// Takes the seat at an index out.
+/// Takes the seat at an index out. All others stay.
 pub fn take_at(hall: &mut Hall, ix: ItemIndex) -> Option<Seat>
-    ensures { result ≡ get hall.old.store ix }
+    ensures { RemovesAt hall.old ix result hall.new }
 {
     hall.remove_at(ix)
 }

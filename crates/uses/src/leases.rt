@@ -1,4 +1,11 @@
 //! Three unique keys: a new item displaces each that shares one of its keys, so up to three.
+ghost use Rattle.std.specs.Prelude.{◌≡◌, ℕ, MatchOption};
+ghost use Rattle.std.specs.Str.{bytes_eq};
+ghost use Rattle.std.specs.String.{string_bytes};
+ghost use Rattle.iddqd_maps.specs.Map.{IsOnly};
+ghost use Rattle.iddqd_maps.specs.Scan.{HasNoHit};
+ghost use Rattle.uses.specs.declared.leases.Lease.{Lease};
+
 use iddqd_maps::refusal::OverwriteRefusal;
 use iddqd_maps::tri_hash_map::{TriHashItem, TriHashMap};
 use std::alloc::{AllocError, Global};
@@ -51,8 +58,12 @@ fn count_of(leases: &[Option<Lease>; 3]) -> usize {
     leases.iter().filter(|lease| lease.is_some()).count()
 }
 
-/// The device that has the lease of this name.
-pub fn device(leases: &TriHashMap<Lease>, name: &str) -> Option<u64> {
+/// The device that has the lease of this name; none exactly where there is no such lease.
+pub fn device(leases: &TriHashMap<Lease>, name: &str) -> Option<u64>
+    ensures { let named = λ (lease : Lease). bytes_eq name.now (string_bytes lease.name) in
+        MatchOption result (HasNoHit leases.now.store named)
+        (λ device. (ix : ℕ) × (lease : Lease) × IsOnly leases.now.store named ix lease × (lease.device ≡ device)) }
+{
     match leases.get3(name) {
         Some(lease) => Some(lease.device),
         None => None,

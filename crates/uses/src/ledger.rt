@@ -16,6 +16,7 @@ use iddqd_maps::btree_table::Range;
 use iddqd_maps::by_hash::ByHash;
 use iddqd_maps::by_hash_multi::{ByHashMulti, Group};
 use iddqd_maps::by_order_multi::ByOrderMulti;
+use iddqd_maps::hash_query::AsEquivalent;
 use iddqd_maps::item_index::ItemIndex;
 use iddqd_maps::key_index::{Here, Left, Right};
 use iddqd_maps::key_of::KeyOf;
@@ -23,7 +24,6 @@ use iddqd_maps::map::{Map, Parts};
 use iddqd_maps::no_conflict::NoConflict;
 use iddqd_maps::pair::Pair;
 use iddqd_maps::pair_conflict::PairConflict;
-use iddqd_maps::query::Asked;
 use iddqd_maps::refusal::InsertRefusal;
 use std::alloc::{AllocError, Global};
 use std::ops::Bound;
@@ -116,7 +116,7 @@ pub fn with_number(ledger: &Ledger, number: u64) -> Option<Order>
 pub fn orders_of<'a>(
     ledger: &'a Ledger,
     customer: &'a u32,
-) -> Group<'a, Order, Customer, Asked<&'a u32>>
+) -> Group<'a, Order, Customer, AsEquivalent<&'a u32>>
     ensures { AreHits ledger.now.store (λ order. customer.now == order.customer) result }
 {
     let Parts {

@@ -1,11 +1,14 @@
 //! Lockers and their holders: the calls of a map with two keys that `badges` doesn't make, and what each promises.
-ghost use Rattle.std.specs.Prelude.{◌≡◌, ◌≤◌, ◌==◌, ◌↔◌, ℕ, false, true, length, min, Some, IfOk, IfSome, OnOk, OnErr};
+ghost use Rattle.std.specs.Prelude.{◌≡◌, ◌≤◌, ◌==◌, ◌↔◌, ℕ, false, true, length, min, not, filter, Some, None, MatchOption, IfOk, IfErr, OnOk, OnErr};
 ghost use Rattle.iddqd_maps.specs.Compaction.{compacted};
 ghost use Rattle.iddqd_maps.specs.LiveItems.{live_items, live_pairs};
-ghost use Rattle.iddqd_maps.specs.Map.{FindsItem, empty_map, room};
+ghost use Rattle.iddqd_maps.specs.Map.{FindsItem, IsOnly, Removes, RemovesAt, empty_map, room};
 ghost use Rattle.iddqd_maps.specs.Scan.{AnswersScan, HasNoHit};
 ghost use Rattle.iddqd_maps.specs.Sizes.{insertable};
 ghost use Rattle.iddqd_maps.specs.Store.{cleared, get, live_count, rebound, slot_limit};
+ghost use Rattle.iddqd_maps.specs.TwoKeys.{AreTaken};
+ghost use Rattle.uses.specs.Exchanges.{Exchanges, IsWhyNot, IsWhyNotAt, IsWhyNotTakenOver, TakesOver};
+ghost use Rattle.uses.specs.Lockers.{has_holder, has_number, same_holder, same_number, share_key};
 ghost use Rattle.uses.specs.declared.lockers.Locker.{Locker};
 
 use crate::hashers::Base31;
@@ -85,7 +88,8 @@ pub fn hashed_with_room(alloc: Global, count: usize, hasher: Base31) -> Result<H
 
 /// Makes room for so many more lockers, and tells how many can come without memory.
 pub fn make_room(lockers: &mut Lockers, more: usize) -> Result<usize, AllocError>
-    ensures { IfOk result (λ count. min more (insertable lockers.old.store) ≤ count) }
+    ensures room { IfOk result (λ count. min more (insertable lockers.old.store) ≤ count) }
+    ensures unchanged { lockers.new.store ≡ lockers.old.store }
 {
     lockers.reserve(more)?;
     Ok(lockers.room())
@@ -119,7 +123,9 @@ pub fn check(lockers: &Lockers) -> Result<(), ValidateRefusal<ValidationError>>
 
 /// Keeps the lockers that were opened, and tells how many they are.
 pub fn keep_opened(lockers: &mut Lockers) -> usize
-    ensures { result ≡ live_count lockers.new.store }
+    ensures stay { live_pairs lockers.new.store
+        ≡ filter (λ pair. not (pair.1.opened == 0)) (live_pairs lockers.old.store) }
+    ensures count { result ≡ live_count lockers.new.store }
 {
     lockers.retain(|locker| locker.opened != 0);
     lockers.len()
@@ -182,19 +188,24 @@ pub fn into_all(lockers: Lockers) -> IntoValues<Locker>
     lockers.into_values()
 }
 
-/// Hands a locker out, and takes those back that have its number or its holder.
+/// Hands a locker out, and takes those back that have its number or its holder. If one has, it takes no memory. It is
+/// refused only where none has, and there are as many lockers as the limit allows or there is no memory.
 pub fn hand_over(
     lockers: &mut Lockers,
     locker: Locker,
 ) -> Result<(ItemIndex, [Option<Locker>; 2]), OverwriteRefusal<Locker>>
-    ensures { OnErr result (lockers.new.store ≡ lockers.old.store) }
+    ensures handed { IfOk result
+        (λ handed. TakesOver share_key 2 locker lockers.old handed.0 handed.1 lockers.new) }
+    ensures refused { IfErr result (IsWhyNotTakenOver share_key locker lockers.old) }
+    ensures unchanged { OnErr result (lockers.new.store ≡ lockers.old.store) }
 {
     lockers.insert_overwrite(locker)
 }
 
-/// Notes when the locker of this number was opened, if there is one.
+/// Notes when the locker of this number was opened; none exactly where there is none.
 pub fn open(lockers: &mut Lockers, number: u32, time: u32) -> Option<()>
-    ensures { IfSome result (λ _. (ix : ℕ) × (was : Locker) × (get lockers.old.store ix ≡ Some was)
+    ensures { MatchOption result (HasNoHit lockers.old.store (has_number number) × (lockers.new ≡ lockers.old))
+        (λ _. (ix : ℕ) × (was : Locker) × IsOnly lockers.old.store (has_number number) ix was
         × (lockers.new.store ≡ rebound lockers.old.store ix (record was { opened = time }))) }
 {
     lockers.modify1(&number, |locker| locker.opened = time)
@@ -202,7 +213,8 @@ pub fn open(lockers: &mut Lockers, number: u32, time: u32) -> Option<()>
 
 /// The same of the locker that somebody has.
 pub fn open_by(lockers: &mut Lockers, holder: u32, time: u32) -> Option<()>
-    ensures { IfSome result (λ _. (ix : ℕ) × (was : Locker) × (get lockers.old.store ix ≡ Some was)
+    ensures { MatchOption result (HasNoHit lockers.old.store (has_holder holder) × (lockers.new ≡ lockers.old))
+        (λ _. (ix : ℕ) × (was : Locker) × IsOnly lockers.old.store (has_holder holder) ix was
         × (lockers.new.store ≡ rebound lockers.old.store ix (record was { opened = time }))) }
 {
     lockers.modify2(&holder, |locker| locker.opened = time)
@@ -210,50 +222,64 @@ pub fn open_by(lockers: &mut Lockers, holder: u32, time: u32) -> Option<()>
 
 /// The same of the locker at an index.
 pub fn open_at(lockers: &mut Lockers, ix: ItemIndex, time: u32) -> Option<()>
-    ensures { IfSome result (λ _. (was : Locker) × (get lockers.old.store ix ≡ Some was)
+    ensures { MatchOption result ((get lockers.old.store ix ≡ None) × (lockers.new ≡ lockers.old))
+        (λ _. (was : Locker) × (get lockers.old.store ix ≡ Some was)
         × (lockers.new.store ≡ rebound lockers.old.store ix (record was { opened = time }))) }
 {
     lockers.modify_at(ix, |locker| locker.opened = time)
 }
 
-/// Puts a locker in the place of that of a number, which is handed back.
+/// Puts a locker in the place of that of a number, which is handed back. It is refused exactly where there is none, or
+/// another locker has its number or its holder.
 pub fn exchange(lockers: &mut Lockers, number: u32, locker: Locker) -> Replaced
-    ensures { OnErr result (lockers.new.store ≡ lockers.old.store) }
+    ensures exchanged { IfOk result
+        (λ was. Exchanges share_key (has_number number) locker lockers.old was lockers.new) }
+    ensures refused { IfErr result
+        (IsWhyNot (AreTaken same_number same_holder) false (has_number number) locker lockers.old) }
+    ensures unchanged { OnErr result (lockers.new ≡ lockers.old) }
 {
     lockers.replace1(&number, locker)
 }
 
-/// Puts a locker in the place of that of a holder, which is handed back.
+/// Puts a locker in the place of that of a holder, in the same way.
 pub fn exchange_of(lockers: &mut Lockers, holder: u32, locker: Locker) -> Replaced
-    ensures { OnErr result (lockers.new.store ≡ lockers.old.store) }
+    ensures exchanged { IfOk result
+        (λ was. Exchanges share_key (has_holder holder) locker lockers.old was lockers.new) }
+    ensures refused { IfErr result
+        (IsWhyNot (AreTaken same_number same_holder) false (has_holder holder) locker lockers.old) }
+    ensures unchanged { OnErr result (lockers.new ≡ lockers.old) }
 {
     lockers.replace2(&holder, locker)
 }
 
-/// Puts a locker in the place of that at an index, which is handed back.
+/// Puts a locker in the place of that at an index, in the same way.
 pub fn exchange_at(lockers: &mut Lockers, ix: ItemIndex, locker: Locker) -> Replaced
-    ensures { IfOk result (λ was. get lockers.old.store ix ≡ Some was) }
+    ensures was { IfOk result (λ was. get lockers.old.store ix ≡ Some was) }
+    ensures exchanged { OnOk result (lockers.new.store ≡ rebound lockers.old.store ix locker) }
+    ensures refused { IfErr result
+        (IsWhyNotAt (AreTaken same_number same_holder) false ix locker lockers.old) }
+    ensures unchanged { OnErr result (lockers.new ≡ lockers.old) }
 {
     lockers.replace_at(ix, locker)
 }
 
-/// Takes the locker of this number out.
+/// Takes the locker of this number out. All others stay.
 pub fn take(lockers: &mut Lockers, number: u32) -> Option<Locker>
-    ensures { FindsItem lockers.old.store (λ locker. number == locker.number) result }
+    ensures { Removes lockers.old (λ locker. number == locker.number) result lockers.new }
 {
     lockers.remove1(&number)
 }
 
-/// Takes the locker of a holder out.
+/// Takes the locker of a holder out. All others stay.
 pub fn take_of(lockers: &mut Lockers, holder: u32) -> Option<Locker>
-    ensures { FindsItem lockers.old.store (λ locker. holder == locker.holder) result }
+    ensures { Removes lockers.old (λ locker. holder == locker.holder) result lockers.new }
 {
     lockers.remove2(&holder)
 }
 
-/// Takes the locker at an index out.
+/// Takes the locker at an index out. All others stay.
 pub fn take_at(lockers: &mut Lockers, ix: ItemIndex) -> Option<Locker>
-    ensures { result ≡ get lockers.old.store ix }
+    ensures { RemovesAt lockers.old ix result lockers.new }
 {
     lockers.remove_at(ix)
 }

@@ -1,6 +1,9 @@
 //! Three unique keys of plain numbers: an item that is found by one of them gets another one, and keeps its index.
-ghost use Rattle.std.specs.Prelude.{◌≡◌, ◌==◌, IfOk, OnErr};
-ghost use Rattle.iddqd_maps.specs.Map.{FindsItem};
+ghost use Rattle.std.specs.Prelude.{◌≡◌, false, IfOk, IfErr, MatchOption, OnErr};
+ghost use Rattle.iddqd_maps.specs.Scan.{HasNoHit};
+ghost use Rattle.iddqd_maps.specs.ThreeKeys.{AreTaken};
+ghost use Rattle.uses.specs.Exchanges.{Exchanges, IsWhyNotChanged};
+ghost use Rattle.uses.specs.Seats.{has_guest, has_place, has_ticket, same_guest, same_place, same_ticket, share_key};
 
 use iddqd_maps::refusal::ReplaceRefusal;
 use iddqd_maps::tri_hash_map::{TriClash, TriHashItem, TriHashMap};
@@ -43,39 +46,56 @@ impl TriHashItem for Seat {
 
 type Refusal = ReplaceRefusal<Seat, TriClash>;
 
-/// Gives the seat at a place to another guest, and tells what it was; none exactly where there is no such seat.
+/// Gives the seat at a place to another guest, and tells what it was; none exactly where there is no such seat. It is
+/// refused exactly where the guest has another seat.
 pub fn give_to(
     seats: &mut TriHashMap<Seat>,
     place: u32,
     guest: u32,
 ) -> Result<Option<Seat>, Refusal>
-    ensures was { IfOk result (FindsItem seats.old.store (λ seat. place == seat.place)) }
-    ensures refused { OnErr result (seats.new.store ≡ seats.old.store) }
+    ensures given { IfOk result (λ found. MatchOption found
+        (HasNoHit seats.old.store (has_place place) × (seats.new ≡ seats.old))
+        (λ was. Exchanges share_key (has_place place) (record was { guest = guest }) seats.old was seats.new)) }
+    ensures refused { IfErr result
+        (IsWhyNotChanged (AreTaken same_place same_guest same_ticket) false
+        (has_place place) (λ seat. record seat { guest = guest }) seats.old) }
+    ensures unchanged { OnErr result (seats.new ≡ seats.old) }
 {
     seats.change1(&place, |seat| Seat { guest, ..*seat })
 }
 
-/// Gives a guest another ticket, and tells what the seat was; none exactly where the guest has no seat.
+/// Gives a guest another ticket, and tells what the seat was; none exactly where the guest has no seat. It is refused
+/// exactly where another seat has the ticket.
 pub fn reissue(
     seats: &mut TriHashMap<Seat>,
     guest: u32,
     ticket: u32,
 ) -> Result<Option<Seat>, Refusal>
-    ensures was { IfOk result (FindsItem seats.old.store (λ seat. guest == seat.guest)) }
-    ensures refused { OnErr result (seats.new.store ≡ seats.old.store) }
+    ensures reissued { IfOk result (λ found. MatchOption found
+        (HasNoHit seats.old.store (has_guest guest) × (seats.new ≡ seats.old))
+        (λ was. Exchanges share_key (has_guest guest) (record was { ticket = ticket }) seats.old was seats.new)) }
+    ensures refused { IfErr result
+        (IsWhyNotChanged (AreTaken same_place same_guest same_ticket) false
+        (has_guest guest) (λ seat. record seat { ticket = ticket }) seats.old) }
+    ensures unchanged { OnErr result (seats.new ≡ seats.old) }
 {
     seats.change2(&guest, |seat| Seat { ticket, ..*seat })
 }
 
 /// Moves the holder of a ticket to another place, and tells what the seat was; none exactly where there is no such
-/// ticket.
+/// ticket. It is refused exactly where another seat has the place.
 pub fn move_to(
     seats: &mut TriHashMap<Seat>,
     ticket: u32,
     place: u32,
 ) -> Result<Option<Seat>, Refusal>
-    ensures was { IfOk result (FindsItem seats.old.store (λ seat. ticket == seat.ticket)) }
-    ensures refused { OnErr result (seats.new.store ≡ seats.old.store) }
+    ensures moved { IfOk result (λ found. MatchOption found
+        (HasNoHit seats.old.store (has_ticket ticket) × (seats.new ≡ seats.old))
+        (λ was. Exchanges share_key (has_ticket ticket) (record was { place = place }) seats.old was seats.new)) }
+    ensures refused { IfErr result
+        (IsWhyNotChanged (AreTaken same_place same_guest same_ticket) false
+        (has_ticket ticket) (λ seat. record seat { place = place }) seats.old) }
+    ensures unchanged { OnErr result (seats.new ≡ seats.old) }
 {
     seats.change3(&ticket, |seat| Seat { place, ..*seat })
 }

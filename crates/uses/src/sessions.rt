@@ -1,10 +1,11 @@
 //! A mix of hashes and an order: sessions by their ids and tokens, and in the order in which they end.
-ghost use Rattle.std.specs.Prelude.{◌≡◌, ◌==◌, ◌≤◌, ◌+◌, ℕ, Some, MatchOption, IfOk, OnOk, OnErr, filter, nat_lt};
+ghost use Rattle.std.specs.Prelude.{◌≡◌, ◌==◌, ◌≤◌, ◌+◌, ℕ, true, Some, MatchOption, IfOk, IfErr, OnOk, OnErr, filter, nat_lt};
 ghost use Rattle.iddqd_maps.specs.LiveItems.{live_pairs};
 ghost use Rattle.iddqd_maps.specs.Map.{FindsItem, Removes};
-ghost use Rattle.iddqd_maps.specs.Scan.{HasNoHit, IsHit};
-ghost use Rattle.iddqd_maps.specs.Store.{get, inserted, live_count};
-ghost use Rattle.uses.specs.Sessions.{has_id, Extends};
+ghost use Rattle.iddqd_maps.specs.Scan.{HasNoHit};
+ghost use Rattle.iddqd_maps.specs.Store.{get, inserted, live_count, next_index};
+ghost use Rattle.uses.specs.Exchanges.{Exchanges, IsKeyTaken, IsWhyNotAdded, IsWhyNotChanged};
+ghost use Rattle.uses.specs.Sessions.{ending, has_id, share_key};
 ghost use Rattle.uses.specs.declared.sessions.Session.{Session};
 
 use iddqd_maps::by_hash::ByHash;
@@ -83,8 +84,11 @@ pub fn open(
     sessions: &mut Sessions,
     session: Session,
 ) -> Result<ItemIndex, InsertRefusal<Session, Taken>>
+    ensures index { IfOk result (λ ix. ix ≡ next_index sessions.old.store) }
+    ensures unlike { IfOk result (λ _. HasNoHit sessions.old.store (share_key session)) }
     ensures stored { OnOk result (sessions.new.store ≡ inserted sessions.old.store session) }
-    ensures refused { OnErr result (sessions.new.store ≡ sessions.old.store) }
+    ensures refused { IfErr result (IsWhyNotAdded share_key session sessions.old) }
+    ensures unchanged { OnErr result (sessions.new.store ≡ sessions.old.store) }
 {
     sessions.insert_unique(session)
 }
@@ -104,7 +108,7 @@ pub fn with_token(sessions: &Sessions, token: u64) -> Option<Session>
 }
 
 /// Lets the session with this id end at another tick, and returns what it was; none exactly where there is no such
-/// session. It is refused where another session ends at that tick, or memory ran out.
+/// session. It is refused where another session has the tick, or memory ran out, which comes only past the capacity.
 pub fn extend(
     sessions: &mut Sessions,
     id: u64,
@@ -112,8 +116,9 @@ pub fn extend(
 ) -> Result<Option<Session>, ReplaceRefusal<Session, Taken>>
     ensures extended { IfOk result (λ found. MatchOption found
         (HasNoHit sessions.old.store (has_id id) × (sessions.new ≡ sessions.old))
-        (λ was. Extends id ends sessions.old was sessions.new)) }
-    ensures refused { OnErr result ((ix : ℕ) × IsHit sessions.old.store (has_id id) ix) }
+        (λ was. Exchanges share_key (has_id id) (ending ends was) sessions.old was sessions.new)) }
+    ensures refused { IfErr result
+        (IsWhyNotChanged (IsKeyTaken share_key) true (has_id id) (ending ends) sessions.old) }
     ensures unchanged { OnErr result (sessions.new ≡ sessions.old) }
 {
     sessions.change_by::<ById, _, _>(&id, |session| Session { ends, ..*session })
@@ -135,8 +140,9 @@ fn first_to_end(sessions: &Sessions) -> Option<ItemIndex>
 
 /// The session that ends next; none exactly where there is no session.
 pub fn next_to_end(sessions: &Sessions) -> Option<Session>
-    ensures { MatchOption result (live_count sessions.now.store ≡ 0) (λ session.
-        (j : ℕ) (other : Session) → get sessions.now.store j ≡ Some other → session.ends ≤ other.ends) }
+    ensures { MatchOption result (live_count sessions.now.store ≡ 0) (λ session. (ix : ℕ)
+        × (get sessions.now.store ix ≡ Some session)
+        × ((j : ℕ) (other : Session) → get sessions.now.store j ≡ Some other → session.ends ≤ other.ends)) }
 {
     sessions.get_at(first_to_end(sessions)?).copied()
 }

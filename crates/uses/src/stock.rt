@@ -1,6 +1,8 @@
 //! Refusals, by what they mean to a caller: a duplicate is merged, and where room was taken ahead memory isn't refused.
-ghost use Rattle.std.specs.Prelude.{◌≡◌, ◌≤◌, length, IfSome, OnOk, OnErr};
-ghost use Rattle.iddqd_maps.specs.Map.{room};
+ghost use Rattle.std.specs.Prelude.{◌≡◌, ◌≤◌, ◌==◌, length, IfOk, IfErr, IfSome, OnOk, OnErr};
+ghost use Rattle.iddqd_maps.specs.Map.{FindsItem, room};
+ghost use Rattle.iddqd_maps.specs.Store.{inserted, next_index};
+ghost use Rattle.uses.specs.Stock.{IsWhyRefused};
 
 use iddqd_maps::id_hash_map::{IdHashItem, IdHashMap};
 use iddqd_maps::item_index::ItemIndex;
@@ -37,7 +39,10 @@ pub enum Refused {
 /// Adds a part. The caller has reserved room, so the contract proves that running out of memory is impossible here.
 pub fn add(stock: &mut IdHashMap<Part>, part: Part) -> Result<ItemIndex, Refused>
     requires { 1 ≤ room stock.old }
-    ensures { OnErr result (stock.new.store ≡ stock.old.store) }
+    ensures index { IfOk result (λ ix. ix ≡ next_index stock.old.store) }
+    ensures stored { OnOk result (stock.new.store ≡ inserted stock.old.store part) }
+    ensures refused { IfErr result (IsWhyRefused part stock.old.store) }
+    ensures unchanged { OnErr result (stock.new.store ≡ stock.old.store) }
 {
     match stock.insert_unique(part) {
         Ok(ix) => Ok(ix),
@@ -66,9 +71,10 @@ pub fn merge(stock: &mut IdHashMap<Part>, part: Part) -> Result<(), Part> {
     }
 }
 
-/// The part of a kind, which has that kind.
+/// The part of a kind, which has that kind; none exactly where there is none.
 pub fn part_of_kind(stock: &IdHashMap<Part>, kind: u32) -> Option<Part>
-    ensures { IfSome result (λ part. part.kind ≡ kind) }
+    ensures found { FindsItem stock.now.store (λ part. kind == part.kind) result }
+    ensures kind { IfSome result (λ part. part.kind ≡ kind) }
 {
     stock.get(&kind).copied()
 }

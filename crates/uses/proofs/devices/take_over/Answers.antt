@@ -10,4 +10,5 @@ returns-clause-taken c =
       given_back = out.items;
       index = out.index;
       left = out.stored;
+      memory = λ at hit. out.same_memory (λ none. none at hit);
     }

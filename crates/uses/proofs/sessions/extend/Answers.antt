@@ -1,10 +1,13 @@
-use Rattle.std.proofs.Common.{rules, ◌≡◌, ◌∙◌, ℕ, Some, None, MatchOption, refl, sym, ap, subst}
-use Rattle.std.specs.Prelude.{Ok, Err, IfOk, OnErr}
-use Rattle.iddqd_maps.specs.Scan.{HasNoHit, IsHit}
+use Rattle.std.proofs.Common.{rules, ◌≡◌, ◌∙◌, true, Some, None, MatchOption, refl, sym, ap, subst}
+use Rattle.std.specs.Prelude.{Ok, Err, IfOk, IfErr, OnErr}
+use Rattle.iddqd_maps.specs.Scan.{HasNoHit}
+use Rattle.iddqd_maps.specs.Several.{HasNoOther}
 use Rattle.iddqd_maps.specs.Store.{rebound}
 use Rattle.iddqd_maps.specs.declared.refusal.ReplaceRefusal.TheVariants.{Missing, Duplicate, Memory}
-use Rattle.uses.specs.Sessions.{has_id, Extends}
+use Rattle.uses.specs.Exchanges.{Exchanges, HitsOther, IsKeyTaken, IsWhyNotChanged}
+use Rattle.uses.specs.Sessions.{ending, has_id, share_key}
 use Rattle.uses.specs.declared.sessions.Session.{Session}
+use Rattle.uses.proofs.ConflictLemmas.{reported_other}
 use Rattle.uses.proofs.sessions.extend.Goals as goal
 
 pub returns-clause-extended : goal.returns-clause-extended
@@ -13,7 +16,7 @@ returns-clause-extended c =
     let new = c.change_by.new.self in
     elim c.change_by.result as (λ r. c.change_by.result ≡ r → IfOk r (λ found. MatchOption found
     (HasNoHit old.store (has_id c.args.id) × (new ≡ old))
-    (λ was. Extends c.args.id c.args.ends old was new))) [
+    (λ was. Exchanges share_key (has_id c.args.id) (ending c.args.ends was) old was new))) [
       | Ok None ↦ λ is. rw is at c.change_by.ensures.changes
       | Ok (Some was) ↦ λ is.
           let (ix, only, (one, item, live, gave, becomes)) = rw is at c.change_by.ensures.changes in
@@ -22,10 +25,12 @@ returns-clause-extended c =
           let (session, returned, shows) = gave in
           let made : item ≡ record session.now { ends = c.args.ends } = search rules in
           let ends : item ≡ record one { ends = c.args.ends } = subst (λ (x : Session). item ≡ record x { ends = c.args.ends }) shows made in
+          let is_ending : item ≡ ending c.args.ends was = rw same at ends in
           record {
             ix = ix;
             found = record { live = becomes.live; only = only };
-            left = becomes.left ∙ ap (rebound old.store ix) (rw same at ends);
+            unlike = subst (λ (x : Session). HasNoOther old.store (share_key x) ix) is_ending becomes.no_other;
+            left = becomes.left ∙ ap (rebound old.store ix) is_ending;
             memory = becomes.memory;
           }
       | Err refusal ↦ λ is. tt
@@ -34,11 +39,27 @@ returns-clause-extended c =
 pub returns-clause-refused : goal.returns-clause-refused
 returns-clause-refused c =
     let old = c.args.sessions.now in
-    elim c.change_by.result as (λ r. c.change_by.result ≡ r → OnErr r ((ix : ℕ) × IsHit old.store (has_id c.args.id) ix)) [
+    elim c.change_by.result as (λ r. c.change_by.result ≡ r
+    → IfErr r (IsWhyNotChanged (IsKeyTaken share_key) true (has_id c.args.id) (ending c.args.ends) old)) [
       | Ok found ↦ λ is. tt
-      | Err refusal ↦ λ is.
-          let (ix, only, rest) = rw is at c.change_by.ensures.changes in
-          (ix, (only ix).1 refl)
+      | Err (Missing back) ↦ λ is.
+          let (ix, only, (one, item, live, gave, never)) = rw is at c.change_by.ensures.changes in absurd never
+      | Err (Duplicate back at) ↦ λ is.
+          let (ix, only, (one, item, live, (session, returned, shows), (given, taken, same))) = rw is at c.change_by.ensures.changes in
+          let made : item ≡ record session.now { ends = c.args.ends } = search rules in
+          let ends : item ≡ ending c.args.ends one = subst (λ (x : Session). item ≡ ending c.args.ends x) shows made in
+          let (j, apart, hit) = reported_other _ _ _ _ _ _ _
+          (λ pair reports. reported_other _ _ _ _ _ _ _
+          (λ at here. (at, here.0, (here.1 at).1 refl)) (λ at here. (at, here.0, (here.1 at).1 refl)) _ _ reports)
+          (λ at here. (at, here.0, (here.1 at).1 refl))
+          _ _ taken in
+          let other = subst (λ (x : Session). HitsOther old.store (share_key x) ix) ends (j, apart, hit) in
+          (ix, one, record { live = live; only = only }, (given ∙ ends, other))
+      | Err (Memory back) ↦ λ is.
+          let (ix, only, (one, item, live, (session, returned, shows), (given, lacks, same))) = rw is at c.change_by.ensures.changes in
+          let made : item ≡ record session.now { ends = c.args.ends } = search rules in
+          let ends : item ≡ ending c.args.ends one = subst (λ (x : Session). item ≡ ending c.args.ends x) shows made in
+          (ix, one, record { live = live; only = only }, (given ∙ ends, lacks.lacks, lacks.past))
     ] refl
 
 pub returns-clause-unchanged : goal.returns-clause-unchanged

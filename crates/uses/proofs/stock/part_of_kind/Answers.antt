@@ -14,5 +14,5 @@ of_kind :
 of_kind s kind None finds = tt
 of_kind s kind (Some part) finds = sym (eqb-true _ _ (found_passes s (λ p. nat_eq kind p.kind) part finds))
 
-pub returns : goal.returns
-returns c = rw c.copied.ensures (of_kind c.args.stock.now.store c.args.kind _ c.get.ensures)
+pub returns-clause-kind : goal.returns-clause-kind
+returns-clause-kind c = rw c.copied.ensures (of_kind c.args.stock.now.store c.args.kind _ c.get.ensures)

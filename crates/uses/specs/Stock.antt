@@ -1,0 +1,16 @@
+-- Parts by their kinds, and why a stock refuses one.
+use Rattle.std.specs.Prelude.{◌==◌, Bool}
+use Rattle.iddqd_maps.specs.Scan.{IsHit}
+use Rattle.iddqd_maps.specs.Store.{IsFull, Store}
+use Rattle.uses.specs.declared.stock.Part.{Part}
+use Rattle.uses.specs.declared.stock.Refused.{Refused}
+use Rattle.uses.specs.declared.stock.Refused.TheVariants.{Full, There}
+
+-- the parts are of one kind
+abbrev pub same_kind : Part → Part → Bool
+same_kind x y = x.kind == y.kind
+
+-- the part of this kind is at the index that is reported, or there are as many kinds as the limit allows
+abbrev pub IsWhyRefused : Part → Store Part → Refused → Type 0
+IsWhyRefused part s (There at) = IsHit s (same_kind part) at
+IsWhyRefused part s Full = IsFull s
