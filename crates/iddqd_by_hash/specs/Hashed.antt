@@ -28,12 +28,12 @@ module _ {K : Type 0} (hashing : Hashing K) where
     pub equivalence : IsPartialEquivalence hashing.equal
     pub equal_hash : (a b : K) → hashing.equal a b ≡ true → hashing.hash_of a ≡ hashing.hash_of b
 
-  -- A query that tests keys so under a hash stands for one key: the keys that pass have the hash, and are equal.
+  -- A query with this hash and this test stands for one key: the keys that pass have the hash, and are equal.
   pub record StandsForOne (hash : ℕ) (test : K → Bool) : Type 0 where
     pub hashed : (key : K) → test key ≡ true → hashing.hash_of key ≡ hash
     pub one_key : (a b : K) → test a ≡ true → test b ≡ true → hashing.equal a b ≡ true
 
--- a query that tests keys so was asked of the key at a live index, and answered so
+-- the answer is that of the test, of the key at a live index
 pub record AsksAt {T K : Type 0} (key_of : T → K) (s : Store T) (test : K → Bool) (ix : ℕ) (answer : Bool)
     : Type 0 where
   pub item : T
@@ -59,7 +59,7 @@ module _ {T : Type 0} where
     pub hit : IsHit s test ix
     pub filed : finite.get hashes ix ≡ Some hash
 
-  -- what a look-up under a hash may answer in any state: an index that hits, and none exactly where there is none
+  -- what a look-up under a hash may answer in any state: an index that hits, and `None` if and only if there is none
   abbrev pub Finds : Store T → FinMap nat_cmp ℕ → ℕ → (T → Bool) → Option ℕ → Type 0
   Finds s hashes hash test None = (ix : ℕ) → IsHitUnder s hashes hash test ix → ⊥
   Finds s hashes hash test (Some ix) = IsHitUnder s hashes hash test ix
@@ -75,7 +75,7 @@ module _ {T K : Type 0} (key_of : T → K) where
     abbrev pub IsInSync : Store T → FinMap nat_cmp ℕ → Type 0
     IsInSync s hashes = IsInSyncOver key_of hashing.equal (IsInPlace s hashes) s
 
-    -- what a call keeps that changes no key of a live index
+    -- what a call preserves if it changes no key of a live index
     abbrev pub Keeps : Store T → FinMap nat_cmp ℕ → Store T → FinMap nat_cmp ℕ → Type 0
     Keeps old old_hashes new new_hashes =
         KeepsOver key_of hashing.equal (IsInPlace old old_hashes) old (IsInPlace new new_hashes) new

@@ -27,7 +27,7 @@ linked_code =
     (λ p. record { filed = p.0; slots = p.1.0; capacity = p.1.1.0; memory = p.1.1.1 })
     (λ _. refl)
 
--- the most that a table takes for so many indexes: cells for a head each, and a link each, or twice as many as before
+-- the most that a table takes for so many indexes: cells for as many heads, and two links each, since growth doubles
 abbrev pub most_linked : ℕ → ℕ
 most_linked count = most_cells count + 2 * count
 

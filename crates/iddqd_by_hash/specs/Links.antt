@@ -41,7 +41,7 @@ abbrev pub EndsWithin : (ℕ → ℕ) → ℕ → ℕ → ℕ → Type 0
 EndsWithin next bound zero ix = ix ≡ sentinel
 EndsWithin next bound (suc most) ix = ix ≢ sentinel → (ix < bound) × EndsWithin next bound most (next ix)
 
--- A number for each index that rises from each to the next, so that no chain comes back to where it was.
+-- A number for each index that rises from each to the next, so no chain is a cycle.
 pub record Rises (filed : FinMap nat_cmp ℕ) (next : ℕ → ℕ) : Type 0 where
   pub rank : ℕ → ℕ
   pub top : ℕ
@@ -54,7 +54,7 @@ LeadsBack filed there back =
     (ix hash : ℕ) → finite.get filed ix ≡ Some hash → there ix ≢ sentinel
     → (finite.get filed (there ix) ≡ Some hash) × (back (there ix) ≡ ix)
 
--- The indexes are linked in chains, each under one hash, and no chain comes back to where it was.
+-- The indexes are linked in chains, each under one hash, and no chain is a cycle.
 pub record IsChained (filed : FinMap nat_cmp ℕ) (next prev : ℕ → ℕ) : Type 0 where
   pub forth : LeadsBack filed next prev
   pub back : LeadsBack filed prev next
@@ -81,7 +81,7 @@ heads_after heads head hash follower =
     if follower == sentinel then finite.remove heads head
     else finite.insert (finite.remove heads head) follower hash
 
--- the neighbours of each index are in the table, and it isn't its own
+-- The neighbours of each index are in the table. No index comes before itself, and none is `SENTINEL`.
 pub record AreNeighbours (filed : FinMap nat_cmp ℕ) (next prev : ℕ → ℕ) : Type 0 where
   pub nexts : (ix : ℕ) → IsSome (finite.get filed ix) → next ix ≢ sentinel → IsSome (finite.get filed (next ix))
   pub prevs : (ix : ℕ) → IsSome (finite.get filed ix) → prev ix ≢ sentinel → IsSome (finite.get filed (prev ix))

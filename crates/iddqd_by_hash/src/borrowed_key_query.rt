@@ -1,7 +1,7 @@
-//! A query as what a hash table is asked by.
+//! Queries for borrowed keys.
 use iddqd::map_hash::Equivalent;
 
-/// A query as what a hash table is asked by, for keys that are borrowed.
+/// Makes a query for `K` a query for `&K`: a look-up hands the table borrowed keys.
 #[derive(Clone, Copy)]
 pub struct BorrowedKeyQuery<'a, Q>(pub &'a Q);
 

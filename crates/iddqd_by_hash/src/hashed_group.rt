@@ -20,7 +20,7 @@ use std::marker::{Model, PhantomData};
 /// The indexes under a hash whose items have keys that a query is equivalent to, each once, in no order that a caller
 /// can rely on. Once it has ended it stays ended.
 ///
-/// It takes no memory, and reads the keys of indexes under that hash alone, of each once.
+/// It takes no memory, and reads only keys of indexes under that hash, each once.
 #[derive(Drop)]
 pub struct Group<'a, T, E: KeyOf<T>, Q: Equivalent<E::Key>> {
     indexes: LinkedIndexes<'a>,
@@ -43,7 +43,7 @@ impl<'a, T, E: KeyOf<T>, Q: Equivalent<E::Key>> Model for Group<'a, T, E, Q> {
 
 /// The indexes under a hash whose items have keys that the query is equivalent to, each once.
 ///
-/// It reads no key. The walk reads the keys of indexes under that hash alone, of each once.
+/// It reads no key. The iterator reads only keys of indexes under that hash, each once.
 pub fn group_of<'a, T, E, Q>(
     table: &'a LinkedTable,
     items: &'a ItemSet<T>,
@@ -93,7 +93,7 @@ impl<'a, T, E: KeyOf<T>, Q: Equivalent<E::Key>> fmt::Debug for Group<'a, T, E, Q
     }
 }
 
-// The first of some indexes whose item's key the query is equivalent to. It leaves those behind it.
+// The first of some indexes whose item's key the query is equivalent to. `indexes` is left with those after it.
 fn next_hit<T, E, Q>(
     indexes: &mut LinkedIndexes<'_>,
     items: &ItemSet<T>,

@@ -1,7 +1,7 @@
 //! What a table does where a live index is given an item that may have another key.
 //!
 //! The removal of the old entry leaves the room that the insert of the new one takes, so a move takes no memory
-//! and can't fail. A collection plans the move in each of its tables before it moves in any.
+//! and can't fail. A map plans the move in each of its tables before it moves in any.
 ghost use Rattle.std.specs.Prelude.{◌≡◌, IsSome};
 ghost use Rattle.std.specs.FinMap as finite;
 ghost use Rattle.iddqd_hash.specs.{filed};
@@ -24,7 +24,7 @@ pub enum Move {
 
 /// Files a live index as it was planned. It takes no memory.
 ///
-/// `from` is the hash that it is filed under; under another one the table is walked.
+/// `from` should be the hash that the index is stored under. If it isn't, the table is scanned.
 pub fn commit_move(table: &mut MapHashTable, from: MapHash, plan: &Move, ix: ItemIndex)
     requires filed { IsSome (finite.get (filed table.old) ix) }
     ensures moved { filed table.new ≡ moved (filed table.old) ix plan.now }

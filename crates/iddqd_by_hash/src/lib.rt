@@ -1,7 +1,7 @@
 //! What a hash table of a store's indexes means for one key of the store's items.
 //!
-//! Its calls are functions over the table and the store, and a type names the key. So a collection has both as plain
-//! fields; what a wrapper's field lends couldn't be handed on.
+//! The calls are free functions over a table and a store, and a type parameter `E: KeyOf<T>` names the key. So a map can
+//! have both as plain fields. A struct around the two couldn't return borrows of its fields.
 #![tactic(auto)]
 
 mod borrowed_key_query;

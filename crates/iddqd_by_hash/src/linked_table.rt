@@ -8,10 +8,10 @@
 //!
 //! Invariants:
 //!
-//! 1. an index that follows another one comes back to it, and both have one hash;
+//! 1. if b is the next of a, then a is the previous of b, and both have one hash;
 //! 2. the heads are exactly the indexes that none comes before, each under its hash;
 //! 3. no two heads have one hash, so the indexes under a hash are one chain;
-//! 4. no chain comes back to where it was.
+//! 4. no chain is a cycle.
 ghost use Rattle.std.specs.Prelude.{◌≡◌, ◌≢◌, ◌≤◌, ◌<◌, ◌+◌, ℕ, max, Some, None, IsSome, vec_len, vec_capacity};
 ghost use Rattle.std.specs.FinMap as finite;
 ghost use Rattle.iddqd.specs.Store.{sentinel};
@@ -44,7 +44,7 @@ use std::marker::Model;
 pub struct LinkedTable {
     // The first index of each hash.
     heads: MapHashTable,
-    // The link of each slot, from the first on, up to the greatest index that there was.
+    // The link of each slot. It grows up to the greatest index; only `clear` and `shrink_to` shorten it.
     links: Vec<Link>,
     // How many indexes there are.
     len: usize,

@@ -92,7 +92,7 @@ pub trait KeyIndex<T, S>: Sized + Drop {
     // Where there are no slots and no indexes, a shrink leaves nothing.
     ghost kept_none: { kept 0 0 ≡ 0 };
 
-    // `same` is reflexive, and of key indexes that are the same over a store both index it or none does.
+    // `same` is reflexive. Of two key indexes that are the same over a store, the second indexes it if the first does.
     ghost same_as_itself: { (s : Store T) (x : Self) → same s x x };
 
     ghost same_indexes: { (x y : Self) (state : S) (s : Store T) → same s x y → indexes x state s

@@ -1,6 +1,7 @@
 //! Links between the indexes that share a hash: of each slot the hash of its index and the index's neighbours.
 //!
-//! A slot whose index isn't in the table leads back to itself, so a link takes sixteen bytes and no mark beside them.
+//! If a slot's index isn't in the table, its previous index is the slot itself, so no flag is needed: a link has sixteen
+//! bytes.
 ghost use Rattle.std.specs.Prelude.{◌≡◌, ◌≢◌, ◌↔◌, ◌≤◌, ◌<◌, ◌+◌, ◌==◌, ℕ, max, if◌then◌else◌, vec_len, vec_capacity, length, Some, None, IsSome, IsTrue};
 ghost use Rattle.std.specs.FinMap as finite;
 ghost use Rattle.iddqd.specs.Store.{sentinel};
@@ -51,7 +52,7 @@ pub fn put(links: &mut Vec<Link>, ix: ItemIndex, link: Link)
     }
 }
 
-/// Names the index that follows one.
+/// Sets the next index of an index.
 pub fn set_next(links: &mut Vec<Link>, ix: ItemIndex, next: ItemIndex)
     requires { ix < vec_len links.old }
     ensures filed { filed_by links.new.items ≡ filed_by links.old.items }
@@ -63,7 +64,7 @@ pub fn set_next(links: &mut Vec<Link>, ix: ItemIndex, next: ItemIndex)
     links[place_of(ix)].next = next;
 }
 
-/// Names the index before one that is in the table.
+/// Sets the previous index of an index that is in the table.
 pub fn set_prev(links: &mut Vec<Link>, ix: ItemIndex, prev: ItemIndex)
     requires present { IsSome (finite.get (filed_by links.old.items) ix) }
     requires other { prev ≢ ix }
@@ -76,7 +77,7 @@ pub fn set_prev(links: &mut Vec<Link>, ix: ItemIndex, prev: ItemIndex)
     links[place_of(ix)].prev = prev;
 }
 
-/// Names the index that follows another one, if there is that one.
+/// Sets the next index of `ix`, unless `ix` is `SENTINEL`.
 pub fn lead(links: &mut Vec<Link>, ix: ItemIndex, next: ItemIndex)
     requires { ix ≢ sentinel → ix < vec_len links.old }
     ensures filed { filed_by links.new.items ≡ filed_by links.old.items }
@@ -91,7 +92,7 @@ pub fn lead(links: &mut Vec<Link>, ix: ItemIndex, next: ItemIndex)
     }
 }
 
-/// Names the index before another one, if there is that one.
+/// Sets the previous index of `ix`, unless `ix` is `SENTINEL`.
 pub fn follow(links: &mut Vec<Link>, ix: ItemIndex, prev: ItemIndex)
     requires present { ix ≢ sentinel → IsSome (finite.get (filed_by links.old.items) ix) }
     requires other { ix ≢ sentinel → prev ≢ ix }

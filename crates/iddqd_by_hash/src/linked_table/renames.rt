@@ -13,8 +13,8 @@ use iddqd::index_remap::IndexRemap;
 use iddqd::item_index::ItemIndex;
 
 impl LinkedTable {
-    /// Gives each index its new name, under the hash that it has. It takes no memory, and costs a step a slot; nothing
-    /// where every index keeps its name.
+    /// Gives each index its new name, under the hash that it has. It takes no memory, and one step for each slot, or none
+    /// if the remap is the identity.
     pub fn remap_indexes(&mut self, remap: &IndexRemap)
         requires can_remap { (ix : ℕ) → IsSome (finite.get self.old.filed ix) → CanRemap remap.now ix }
         requires distinct { (i j : ℕ) → IsSome (finite.get self.old.filed i) → IsSome (finite.get self.old.filed j)

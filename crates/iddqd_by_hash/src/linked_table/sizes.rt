@@ -25,8 +25,7 @@ impl LinkedTable {
 
     /// Makes room for so many indexes more. Where there is room it takes no memory.
     ///
-    /// For links it takes memory for twice as many as it had, where that is more. Where memory is refused, or no vector
-    /// can hold so many, the indexes stay.
+    /// The links grow at least twofold. On an `AllocError` the indexes stay; the capacity may have grown.
     pub fn try_reserve(&mut self, additional: usize) -> Result<(), AllocError>
         ensures contents { self.new.filed ≡ self.old.filed }
         ensures slots { self.new.slots ≡ self.old.slots }
@@ -49,9 +48,9 @@ impl LinkedTable {
         Ok(())
     }
 
-    /// Gives back the memory that neither so many slots, nor the indexes or so many of them need.
+    /// Keeps memory for at most `max(slots, least)` links, and for the cells that `max(len, least)` heads need.
     ///
-    /// The memory may have to move to a smaller block, which may be refused.
+    /// Shrinking may reallocate, which can fail.
     pub fn shrink_to(&mut self, slots: usize, least: usize) -> Result<(), AllocError>
         requires { (ix : ℕ) → IsSome (finite.get self.old.filed ix) → ix < slots }
         ensures contents { self.new.filed ≡ self.old.filed }
