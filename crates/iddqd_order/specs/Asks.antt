@@ -17,7 +17,8 @@ module _ {F R : Type 0} (g : Mut F (ℕ × Unit {0}) R) (P : ℕ → Type 0) whe
   pub record CanAsk (f : F) : Type 0 where
     pub at : (n : ℕ) (f' : F) → After n f f' → (ix : ℕ) → P ix → g.pre f' (ix, tt)
 
-  -- as they are read, the answers are one function of the index, in every state that the closure's own asks leave
+  -- the answers, as `read` turns them into `Ordering`s, are one function of the index, in every state that the
+  -- closure's own asks leave
   pub record Steady (read : R → Ordering) (answer : ℕ → Ordering) (f : F) : Type 0 where
     pub at : (n : ℕ) (f' : F) → After n f f' → (ix : ℕ) → P ix →
         (r : R) (f'' : F) → Called g f' (ix, tt) r f'' → read r ≡ answer ix

@@ -45,7 +45,7 @@ unfoldable pub leaf : ℕ → Node → List ℕ → List ℕ
 leaf zero n p = row n
 leaf (suc h) n p = leaf h (child n (slice_index p (suc h))) p
 
--- the node right above it
+-- the parent of that leaf, or n itself if n is the leaf
 unfoldable pub low : ℕ → Node → List ℕ → Node
 low zero n p = n
 low (suc zero) n p = n
@@ -63,11 +63,12 @@ pub record Over (towards : End) (h : ℕ) (n : Node) (p : List ℕ) (ix : ℕ) (
   pub steps : Steps towards (flat h n) (place h n p) (Some ix) (place h n q)
   pub leaf_is : xs ≡ leaf h n q
 
--- the same in a tree, or in none
+-- the leaf to which a path goes in a tree, and no index where there is no tree
 abbrev pub leaf_in : Option Node → ℕ → List ℕ → List ℕ
 leaf_in None h p = []
 leaf_in (Some n) h p = leaf h n p
 
+-- if there is a node, it is the parent of that leaf
 abbrev pub IsLow : Option Node → ℕ → List ℕ → Option (Bor Node) → Type 0
 IsLow t h p None = ⊤
 IsLow None h p (Some k) = ⊥

@@ -36,17 +36,19 @@ abbrev pub index_at : List ℕ → Result ℕ ℕ → Option ℕ
 index_at xs (Ok i) = Some (slice_index xs i)
 index_at xs (Err i) = None
 
--- a walk down n, a tree with h levels above the leaves, or down that of a table t, by answers that are so read
+-- a walk down n, a tree with h levels above the leaves, or down that of a table t; `read` turns an answer into an
+-- `Ordering`
 module _ {F R : Type 0} (g : Mut F (ℕ × Unit {0}) R) (read : R → Ordering) (sought : Option ℕ) where
-  -- the walk asks at most `limit` times, writes the path p and ends at a level, or else in a leaf, with
-  -- the number of full nodes at the lower end: more than h levels stand for `full`
+  -- the walk asks at most `limit` times and writes the path p. It ends at an index, with its level; or else in a
+  -- gap of a leaf, with the number of full nodes at the lower end of the path: if all h + 1 nodes on the path are
+  -- full, the number is `full`
   pub record Descends (limit full h : ℕ) (n : Node) (old : Asking F) (p : List ℕ) (end : Result ℕ ℕ) (new : Asking F)
       : Type 0 where
     pub searches : SearchesWithin g read (flat h n) limit sought old (end_at end (spot (level_of end) h n p)) new
     pub reaches : Reaches (stop_of end) (level_of end) h n p
     pub lower_end : IfErr end (λ k. IsFullBelow k h n p × (h < k → k ≡ full))
 
-  -- the walk asks four times a level, and ends at an index that answers Equal, or else at none
+  -- the walk asks at most four times a level, and ends at the index `found`, or else at none
   pub record FindsIn (h : ℕ) (n : Node) (old : Asking F) (found : Option ℕ) (new : Asking F) : Type 0 where
     pub end : Result ℕ ℕ
     pub searches : SearchesWithin g read (flat h n) (row_asks * (h + 1)) sought old end new

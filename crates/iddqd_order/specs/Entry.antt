@@ -19,7 +19,7 @@ use Rattle.iddqd_order.specs.declared.btree_table.path.TheConstants.{LEVELS}
 abbrev pub occupied_table : OccupiedEntry → MutBor Order
 occupied_table e = e.table
 
--- the index that stands there
+-- the stored index of an occupied entry
 unfoldable pub entry_index : OccupiedEntry → ℕ
 entry_index e = slice_index (order_of e.table.now) (spot_place e.table.now e.spot)
 
@@ -46,8 +46,9 @@ abbrev pub IfVacant : Entry → (VacantEntry → Type 0) → Type 0
 IfVacant (Occupied e) P = Unit {0}
 IfVacant (Vacant e) P = P e
 
--- an entry among the indexes xs, by answers that are so read: it has a stored index, which steady answers
--- make Equal, or else a place, which is the one where Greater ends, if the answers rise: then none is Equal
+-- An entry among the indexes xs; `read` turns an answer into an `Ordering`. It is occupied by a stored index: if the
+-- answers are steady, the answer there is Equal. Or it is vacant, with a position: if the answers also rise, that is
+-- where Greater ends, and none of them is Equal.
 module _ {F R : Type 0} (g : Mut F (ℕ × Unit {0}) R) (read : R → Ordering) (xs : List ℕ) where
   pub record FindsEntry (old : Asking F) (e : Entry) (new : Asking F) : Type 0 where
     pub asked : SearchAsks g xs None old new

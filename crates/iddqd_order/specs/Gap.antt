@@ -1,4 +1,4 @@
--- What a contract sees of a place in a `MapBTreeTable` that isn't borrowed.
+-- What a contract sees of a gap, which borrows no table.
 use Rattle.std.specs.Prelude.{◌≡◌, ◌≢◌, ◌+◌, ◌≤◌, ℕ, All, Contains, Some, None, Result, Ok, Err, length}
 use Rattle.std.specs.Fn.{Mut}
 use Rattle.std.specs.declared.cmp.Ordering.{Ordering}
@@ -24,8 +24,9 @@ gap_place t gap = place_in t.root t.height gap.path
 abbrev pub gap_blocks : Order → Gap → ℕ
 gap_blocks t gap = fresh_for t gap.full
 
--- A search by answers that are so read finds a stored index, which steady answers make Equal, or else a place, which is
--- the one where Greater ends, if the answers rise: then none is Equal.
+-- A search in the indexes of t; `read` turns an answer into an `Ordering`. It returns `Err` of a stored index: if the
+-- answers are steady, the answer there is Equal. Or it returns `Ok` of a gap: if the answers also rise, that is where
+-- Greater ends, and none of them is Equal.
 module _ {F R : Type 0} (g : Mut F (ℕ × Unit {0}) R) (read : R → Ordering) (t : Order) where
   pub record FindsStored (old : Asking F) (ix : ℕ) : Type 0 where
     pub stored : Contains (order_of t) ix

@@ -11,7 +11,8 @@ use Rattle.iddqd_order.specs.Tree.{in_order, inners_in, blocks_for, ReachesIndex
 pub use Rattle.iddqd.specs.Compaction.{sentinel}
 use Rattle.iddqd_order.specs.declared.btree_table.reserve.TheConstants.{INDEXES_OF_A_BLOCK, FREE_INDEXES}
 
--- the tree, its root and the levels above its leaves, and how many blocks are reserved for its inner nodes
+-- what a contract sees of a table: its tree, as the root and the levels above its leaves, and how many blocks are
+-- reserved for its inner nodes. The order of its indexes is `order_of`
 pub record Order : Type 0 where
   pub root : Option Node
   pub height : ℕ
@@ -46,7 +47,7 @@ capacity t = capacity_of t.reserved
 abbrev pub room : Order → ℕ
 room t = capacity t - length (order_of t)
 
--- distinct indexes, each of which can be assigned
+-- distinct indexes, none of which is `SENTINEL`
 pub record IsIndexList (xs : List ℕ) : Type 0 where
   pub distinct : IsDistinct nat_eq xs
   pub assigned : All (λ ix. ix ≢ sentinel) xs
@@ -71,10 +72,11 @@ fresh_for t full = blocks_for t.height full - spare_blocks t
 abbrev pub move_blocks : Order → ℕ
 move_blocks t = if nat_lt (capacity t) (length (order_of t)) then t.height + 1 else 0
 
--- a stored index stands at the spot, at this place of the list
+-- a stored index stands at the spot
 abbrev pub IsSpot : Order → Spot → Type 0
 IsSpot t spot = ReachesIndexIn spot.level t.root t.height spot.path
 
+-- how many indexes stand before that index
 abbrev pub spot_place : Order → Spot → ℕ
 spot_place t spot = spot_in spot.level t.root t.height spot.path
 

@@ -108,14 +108,15 @@ ReachesIndex l h n p = Reaches AtIndex l h n p
 abbrev pub LeadsToIndex : ℕ → ℕ → Node → List ℕ → ℕ → Type 0
 LeadsToIndex l h n p ix = ReachesIndex l h n p × (slice_index (flat h n) (spot l h n p) ≡ ix)
 
--- a path goes to a gap, which is one of a leaf; the place of this gap in the whole list
+-- a path goes to a gap, which is one of a leaf
 abbrev pub ReachesGap : ℕ → Node → List ℕ → Type 0
 ReachesGap h n p = Reaches InGap 0 h n p
 
+-- the place of this gap in the whole list
 abbrev pub place : ℕ → Node → List ℕ → ℕ
 place h n p = spot 0 h n p
 
--- the node at level l is as it has to be where the nodes at levels below k are full, and the one at level k isn't
+-- what holds of n, a node at level l: a node at a level below k is full; the node at level k isn't
 abbrev pub FullBelow : ℕ → ℕ → Node → Type 0
 FullBelow k l n = (l < k → CAPACITY ≤ length (row n)) × (l ≡ k → length (row n) < CAPACITY)
 

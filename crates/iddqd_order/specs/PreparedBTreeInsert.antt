@@ -36,8 +36,8 @@ blocks_of p = p.blocks
 abbrev pub rests_if_refused : {E : Type 0} → MutBor Order → Result Prepared E → Fml
 rests_if_refused t r = RestsIfErr the_row t (λ p. p.table.ghost_name) r (λ n. n ≡ t.now)
 
--- an insert of ix among the indexes xs is prepared, by answers that are so read: nothing is added yet,
--- and if the answers rise ix will stand where Greater ends
+-- an insert of ix among the indexes xs is prepared; `read` turns an answer into an `Ordering`. Nothing is added yet.
+-- If the answers are steady and rise, ix will stand where Greater ends
 module _ {F R : Type 0} (g : Mut F (ℕ × Unit {0}) R) (read : R → Ordering) (xs : List ℕ) (ix : ℕ) where
   pub record PreparesInsert (old : Asking F) (p : Prepared) : Type 0 where
     pub table : order_of (table_of p).now ≡ xs

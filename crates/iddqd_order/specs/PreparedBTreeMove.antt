@@ -37,7 +37,8 @@ pub record PreparesMove (xs : List ℕ) (ix : ℕ) (p : PreparedMove) : Type 0 w
   pub index : index_of p ≡ ix
   pub few_blocks : blocks_of p ≤ LEVELS
 
--- ix is put in among the indexes xs, by answers that are so read: where Greater ends, if they rise
+-- ix is inserted among the indexes xs: where Greater ends, if the answers are steady and rise; `read` turns an answer
+-- into an `Ordering`
 module _ {F R : Type 0} (g : Mut F (ℕ × Unit {0}) R) (read : R → Ordering) (xs : List ℕ) (ix : ℕ) where
   pub record PutsIn (old : Asking F) (new_xs : List ℕ) : Type 0 where
     pub place : ℕ

@@ -20,8 +20,8 @@ index_of p = p.ix
 unfoldable pub is_found : PreparedBTreeRemove → Bool
 is_found p = is_some p.spot
 
--- a removal of ix from the indexes xs is prepared, by answers that are so read: it is found only where
--- it is stored, and then if the answers rise; `SENTINEL` is missing with no ask
+-- a removal of ix from the indexes xs is prepared; `read` turns an answer into an `Ordering`. If ix is found, it is
+-- stored. If it is stored and the answers are steady and rise, it is found. `SENTINEL` is missed with no ask
 module _ {F R : Type 0} (g : Mut F (ℕ × Unit {0}) R) (read : R → Ordering) (xs : List ℕ) (ix : ℕ) where
   pub record PreparesRemoval (old : Asking F) (p : PreparedBTreeRemove) (new : Asking F) : Type 0 where
     pub index : index_of p ≡ ix

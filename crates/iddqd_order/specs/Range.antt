@@ -17,12 +17,13 @@ use Rattle.iddqd_order.specs.declared.btree_table.range.Range.{Range}
 unfoldable pub indexes_ahead : Range → List ℕ
 indexes_ahead r = r
 
--- where Equal counts as Less, the place of the first index that isn't Greater, and where it counts as Greater,
--- that of the first one that is Less
+-- if Equal counts as Less, the position of the first index that isn't Greater; if it counts as Greater, that of the
+-- first one that is Less
 abbrev pub IsBoundAt : Ordering → (ℕ → Ordering) → List ℕ → ℕ → Type 0
 IsBoundAt at_equal answer xs place = IsPlace (λ ix. ordering_then (answer ix) at_equal) xs place
 
--- a walk along the indexes xs from a place on, by answers that are so read: it is the bound, if the answers rise
+-- a walk along the indexes xs from a position on, which is the bound if the answers are steady and rise; `read` turns
+-- an answer into an `Ordering`
 module _ {F R : Type 0} (g : Mut F (ℕ × Unit {0}) R) (read : R → Ordering) (at_equal : Ordering) (xs : List ℕ) where
   abbrev pub IsBoundBy : Asking F → ℕ → Type 0
   IsBoundBy old place =
@@ -41,14 +42,15 @@ pub record IsPart (xs : List ℕ) (from to : ℕ) (walk : Range) : Type 0 where
   pub to_within : to ≤ length xs
   pub ahead : indexes_ahead walk ≡ part from to xs
 
--- a walk between two bounds by one asking: each is said by how an answer is read
+-- a walk between two bounds: both use one asking, and differ in how they read its answer
 module _ {F R : Type 0} (g : Mut F (ℕ × Unit {0}) R) (xs : List ℕ) where
-  -- the place where what has the lower bound begins, and that where what has the upper bound ends
+  -- if the answers are steady and rise, the position of the first index within the lower bound
   abbrev pub Begins : Bound (R → Ordering) → Asking F → ℕ → Type 0
   Begins (Included read) old place = IsBoundBy g read Less xs old place
   Begins (Excluded read) old place = IsBoundBy g read Greater xs old place
   Begins Unbounded old place = place ≡ 0
 
+  -- if the answers are steady and rise, the position of the first index beyond the upper bound
   abbrev pub Ends : Bound (R → Ordering) → Asking F → ℕ → Type 0
   Ends (Included read) old place = IsBoundBy g read Greater xs old place
   Ends (Excluded read) old place = IsBoundBy g read Less xs old place

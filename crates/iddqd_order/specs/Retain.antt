@@ -13,7 +13,7 @@ module _ {F : Type 0} (g : Mut F (ℕ × Unit {0}) Bool) where
     pub were_asked : FoldsTo (λ p a q. Called g p (a.0, tt) a.1 q) f asks last
     pub kept : new ≡ map (λ a. a.0) (filter (λ a. a.1) asks)
 
-  -- the same, where f isn't handed back
+  -- the same, for some last state of f
   pub record Retains (f : F) (old new : List ℕ) : Type 0 where
     pub last : F
     pub kept : RetainsTo f old new last

@@ -39,11 +39,11 @@ module _ {F R : Type 0} (g : Mut F (ℕ × Unit {0}) R) (xs : List ℕ) (sought 
   abbrev pub CanSearch : Asking F → Type 0
   CanSearch a = CanAsk g (Askable xs sought) (closure_of a)
 
-  -- the search asks at most 4 and twice the digits of the length, and counts each ask
+  -- the search asks at most 4 plus twice the number of binary digits of the length, and counts each ask
   abbrev pub SearchAsks : Asking F → Asking F → Type 0
   SearchAsks old new = AsksWithin g (Askable xs sought) (bound (length xs)) old new
 
-  -- as they are read, the answers are one function of the index
+  -- the answers, as `read` turns them into `Ordering`s, are one function of the index
   abbrev pub IsSteady : (R → Ordering) → (ℕ → Ordering) → Asking F → Type 0
   IsSteady read answer a = Steady g (Askable xs sought) read answer (closure_of a)
 
@@ -52,11 +52,11 @@ module _ {F R : Type 0} (g : Mut F (ℕ × Unit {0}) R) (xs : List ℕ) (sought 
     pub steady : IsSteady read answer a
     pub rising : IsRising (with_ties sought answer) xs
 
--- calls that search in the indexes xs and so read the answers
+-- calls that search in the indexes xs; `read` turns an answer into an `Ordering`
 module _ {F R : Type 0} (g : Mut F (ℕ × Unit {0}) R) (read : R → Ordering) (xs : List ℕ) where
-  -- the search asks at most `limit` times, and ends at the place of what is sought, which steady answers
-  -- make Equal, or else at the place where it would go, if the answers rise; by answers that are never read
-  -- as Equal it ends at none
+  -- The search asks at most `limit` times. It returns `Ok` of a position: if the answers are steady, the answer there
+  -- is Equal. Or it returns `Err` of a position: if the answers also rise, that is where Greater ends. If `sought`
+  -- is `None` and `read` never gives Equal, it returns `Err`.
   pub record SearchesWithin (limit : ℕ) (sought : Option ℕ) (old : Asking F) (end : Result ℕ ℕ) (new : Asking F)
       : Type 0 where
     pub asked : AsksWithin g (Askable xs sought) limit old new
@@ -73,7 +73,8 @@ module _ {F R : Type 0} (g : Mut F (ℕ × Unit {0}) R) (read : R → Ordering) 
   abbrev pub Searches : Option ℕ → Asking F → Result ℕ ℕ → Asking F → Type 0
   Searches sought old end new = SearchesWithin (bound (length xs)) sought old end new
 
-  -- the find hits a stored index, which steady answers make Equal, or else misses: none is Equal, if the answers rise
+  -- The find returns a stored index: if the answers are steady, the answer there is Equal. Or it returns `None`: if the
+  -- answers also rise, none of them is Equal.
   pub record Finds (old : Asking F) (found : Option ℕ) (new : Asking F) : Type 0 where
     pub asked : SearchAsks g xs None old new
     pub stored : IfSome found (Contains xs)

@@ -11,8 +11,8 @@ pub record TakesRoom {E : Type 0} (indexes : ℕ) (result : Result Order E) : Ty
   pub roomy : IfOk result (λ t. indexes ≤ capacity t)
   pub succeeds : indexes ≤ FREE_INDEXES → IsOk result
 
--- Room was made for so many indexes more: the capacity is that of the blocks which all of them need. Or else nothing
--- changed. Where there was room, it succeeds and nothing changed.
+-- Room was made for so many indexes more: the capacity is that of the blocks which all of them need. On an error
+-- nothing changes. If there was room, the call succeeds and nothing changes.
 pub record Reserves {A E : Type 0} (additional : ℕ) (old : Order) (result : Result A E) (new : Order) : Type 0 where
   pub tree : HasSameTree old new
   pub contents : order_of new ≡ order_of old
@@ -22,7 +22,7 @@ pub record Reserves {A E : Type 0} (additional : ℕ) (old : Order) (result : Re
   pub refused : OnErr result (new ≡ old)
   pub had_room : additional ≤ room old → IsOk result × (new ≡ old)
 
--- The capacity falls to that of the blocks which so many indexes need, or those that there are where these are more.
+-- The capacity shrinks to what `max least len` indexes need, and never grows.
 pub record Shrinks (least : ℕ) (old new : Order) : Type 0 where
   pub tree : HasSameTree old new
   pub contents : order_of new ≡ order_of old

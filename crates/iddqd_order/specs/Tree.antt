@@ -37,10 +37,11 @@ spot_in l (Some n) h p = spot l h n p
 abbrev pub ReachesIndexIn : ℕ → Option Node → ℕ → List ℕ → Type 0
 ReachesIndexIn l r h p = ReachesIn AtIndex l r h p
 
--- a path goes to a gap; the place of this gap
+-- a path goes to a gap
 abbrev pub ReachesGapIn : Option Node → ℕ → List ℕ → Type 0
 ReachesGapIn r h p = ReachesIn InGap 0 r h p
 
+-- the place of this gap
 abbrev pub place_in : Option Node → ℕ → List ℕ → ℕ
 place_in r h p = spot_in 0 r h p
 

@@ -1,8 +1,8 @@
 //! A gap in a tree, from which a walk goes on towards either end.
 //!
-//! Beside the path from the root a cursor keeps the leaf, so that it comes down from the root for a new leaf alone. A
-//! walk ahead keeps the node above the leaf too, and comes down once in some nine leaves: once a leaf, a walk along
-//! 1,000 indexes took twice the time, and one along a million 1.4 times.
+//! Beside the path from the root a cursor keeps the leaf, so that it descends from the root only for a new leaf. A
+//! walk ahead keeps the node above the leaf too, and descends about once in nine leaves. Descending at each leaf
+//! doubled the time for 1,000 indexes, and took 1.4 times as long for a million.
 ghost use Rattle.std.specs.Prelude.{◌≡◌, ℕ, ◌<◌, ◌≤◌, length, slice_index, IfSome, IsNone};
 ghost use Rattle.iddqd_order.specs.Cursor.{AreBeside, AtEdge, Compares, Over, Steps, IsGap, Stands, edge_of, gap_of, leaf, low, opposite, to_gap};
 ghost use Rattle.iddqd_order.specs.declared.btree_table.node.Node.{Node as NodeOf};

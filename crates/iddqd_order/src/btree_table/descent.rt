@@ -1,7 +1,8 @@
 //! Searches of a tree: one walk down from the root, at most four asks a level.
 //!
-//! A tree of h levels has at least `2 * 6^(h-1) - 1` indexes, so four asks a level are within the
-//! bound. A path is written only where it leaves the left edge: before, it is what it began as.
+//! A tree with h levels above its leaves has at least `2 * 6^h - 1` indexes, so four asks a level are
+//! within the bound. The path starts as all zeros, so it is written only once it leaves the left edge, or
+//! where the search meets what is sought.
 ghost use Rattle.std.specs.Prelude.{◌≡◌, ℕ, ◌+◌, ◌*◌, ◌<◌, ◌≤◌, Some, None, IfSome, IsNone, Contains, length, slice_index};
 ghost use Rattle.iddqd_order.specs.Descent.{Descends, FindsIn};
 ghost use Rattle.iddqd_order.specs.Digits.{row_asks};
@@ -118,8 +119,8 @@ impl Node {
     }
 }
 
-// How many nodes at the lower end of a path are full, as far down as the node at the level, whose row this is.
-// Above it so many were.
+// Updates `full` for the node at `level`, whose row this is: it is the lowest level, so far, at which the node on
+// the path isn't full, or the number of levels if all of them are full.
 #[inline(always)]
 fn full_from(row: &Row, level: usize, full: usize) -> usize
     requires { level < full }
@@ -134,8 +135,8 @@ fn full_from(row: &Row, level: usize, full: usize) -> usize
 // Four asks distinguish so many places, and a row has no more.
 const ROW_PLACES: usize = 15;
 
-// The place in a row of what is sought, or where it would go. At the left edge of the tree it asks as often
-// as may be.
+// The place in a row of what is sought, or where it would go. At the left edge of the tree it asks to the
+// left first, which four asks allow.
 fn search_row<R, F: FnMut(ItemIndex) -> R, H: Reads<R>>(
     row: &Row,
     is_leftmost: bool,

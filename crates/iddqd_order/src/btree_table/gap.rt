@@ -1,7 +1,7 @@
-//! A place for an index in a table, which it doesn't borrow: a search finds it, and an insert comes later.
+//! A gap, which borrows no table: a place for an index that a search finds, for a later insert.
 //!
-//! It fits the table that it was found in until the tree of that changes. An insert at it asks nothing, and takes no
-//! memory but the blocks that it is given, of which it needs none below the capacity.
+//! A gap is valid only for the table that it was found in, until that table's tree changes. An insert at it asks
+//! nothing, and takes no memory but the blocks that it is given, of which it needs none below the capacity.
 ghost use Rattle.std.specs.Prelude.{◌≡◌, ◌≢◌, ◌*◌, ◌+◌, ◌<◌, ◌≤◌, Some, IsOk, IfOk, Contains, length, insert};
 ghost use Rattle.iddqd_order.specs.Asks.{AsksWithin};
 ghost use Rattle.iddqd_order.specs.Digits.{bound};

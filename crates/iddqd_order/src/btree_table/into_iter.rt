@@ -1,4 +1,4 @@
-//! The walk along a table that is given up.
+//! The iterator that consumes a table.
 //!
 //! It owns the tree, so it has no reference into it: each end has a copy of its leaf.
 ghost use Rattle.std.specs.Prelude.{◌≡◌, length};

@@ -38,7 +38,7 @@ impl MapBTreeTable {
         self.capacity().saturating_sub(self.len)
     }
 
-    /// The same as `try_reserve`, under the name that it has where it can't be refused.
+    /// The same as `try_reserve`, named after iddqd's `reserve`, which aborts if memory runs out.
     pub fn reserve(&mut self, additional: usize) -> Result<(), AllocError>
         ensures { Reserves additional self.old result self.new }
     {
@@ -69,7 +69,8 @@ impl MapBTreeTable {
         self.shrink_to(0)
     }
 
-    /// Gives back the blocks that so many indexes don't need, or those that there are where these are more.
+    /// Shrinks the capacity to what `max(least, len)` indexes need, and gives back the other blocks. The capacity
+    /// never grows.
     pub fn shrink_to(&mut self, least: usize)
         ensures { Shrinks least self.old self.new }
     {

@@ -72,8 +72,8 @@ impl Path {
         self.places[level] = place as u8;
     }
 
-    // Sets the place at a level, where the path hasn't got it. A path that is read soon after a write
-    // waits for it.
+    // Sets the place at a level. Skips the write if the value is there already: a read right after a write
+    // stalls.
     pub(super) fn keep_or_set(&mut self, has_it: bool, level: usize, place: usize)
         requires path { length self.old ≡ LEVELS }
         requires level { level < LEVELS }

@@ -1,10 +1,10 @@
 //! An insert whose place is found and whose memory is taken.
 //!
 //! It walks down first, since only then it is known how many blocks the insert takes: one for each inner
-//! node that will be cut, and one for a new root. It allocates those that the table has not spare beside its
-//! tree; the spare ones stay there until the insert. If memory runs out, or the insert is dropped, all are
-//! given back. The type of the blocks is a parameter, since a check follows no borrow in a struct that owns
-//! memory by itself.
+//! node that will be cut, and one for a new root. It allocates the blocks that the spare ones beside the
+//! table's tree don't cover; the spare ones stay there until the insert. If memory runs out, or the insert is
+//! dropped, the allocated ones are given back. `B` is a parameter because the check can't track a borrow in a
+//! struct that itself owns memory.
 ghost use Rattle.std.specs.Prelude.{◌≡◌, ◌≢◌, insert, Contains};
 ghost use Rattle.iddqd_order.specs.MapBTreeTable.{order_of, capacity, fresh_for, sentinel};
 ghost use Rattle.iddqd_order.specs.Node.{InGap};

@@ -1,7 +1,7 @@
 //! A move of a stored index whose memory is taken.
 //!
 //! Both searches come at the commit: in between a caller can change what its closures read, such as the
-//! item at the index. Up to the capacity it takes no block, since one index fewer stands when it is put in
+//! item at the index. Up to the capacity it takes no block, since the index is removed before it is inserted
 //! again. Past it the prepare takes as many blocks as any insert into a tree of that height can need, one
 //! for each inner node on a path and one for a new root.
 ghost use Rattle.std.specs.Prelude.{true, ◌≡◌, ◌≢◌, ◌*◌, ◌<◌, ◌≤◌, Some, IsOk, IfOk, Contains, length};

@@ -1,4 +1,4 @@
-//! A removal whose place is found, or missing.
+//! A removal whose search is done; it may have missed.
 //!
 //! Its contract says what it leaves by a filter of the list, not by a place, so it is the same for a tree
 //! and for a sorted list.

@@ -7,8 +7,9 @@
 //! What is left isn't counted, since a tree doesn't count what is below a node: the walk has ended where
 //! its ends stand at one gap.
 //!
-//! A range is said by two places, each the bound where answers rise, so it means something under
-//! any. `range_by` has included bounds alone: a closure makes another one by its answer at Equal.
+//! A contract describes a range by two positions, which exist for any answers; if answers rise, they are
+//! the bounds. `range_by` has inclusive bounds. For an exclusive one the closure doesn't answer Equal, but
+//! Greater at the lower bound and Less at the upper one.
 ghost use Rattle.std.specs.Prelude.{◌≡◌, ◌≢◌, None, length};
 ghost use Rattle.std.specs.declared.cmp.Ordering.{Ordering};
 ghost use Rattle.std.specs.declared.cmp.Ordering.TheVariants.{Less, Equal, Greater};

@@ -50,7 +50,7 @@ impl<'a, K: Ord + Drop> Reads<K> for ByKey<'a, K> {
     }
 }
 
-// The answer is read so, but Equal counts as another one.
+// Reads as `H` does, but replaces Equal by `at_equal`, which is Less or Greater.
 #[derive(Drop)]
 pub(super) struct Unequal<'a, H> {
     pub(super) how: &'a H,

@@ -1,6 +1,8 @@
 //! Removal from a node, which takes no memory.
 //!
-//! It repairs nodes on its return: a child left with four indexes takes one from a neighbour, or is merged with it. A walk before it, for a leaf that keeps five, saved a hundredth of a random removal.
+//! It repairs nodes on its return: a child left with four indexes takes one from a neighbour, or is merged
+//! with it. A separate descent for leaves that stay large enough saved 1 % of a random removal, so there is
+//! none.
 //!
 //! Where two inner nodes become one, the block of the second goes to the reserve.
 ghost use Rattle.std.specs.Prelude.{◌≡◌, ◌↔◌, ℕ, ◌+◌, ◌<◌, ◌≤◌, [], ◌∷◌, ◌++◌, length, slice_index_or, option_to_list, vec_capacity, IsSome, min};

@@ -18,7 +18,7 @@ use std::marker::Model;
 // thirty indexes more.
 pub(super) const INDEXES_OF_A_BLOCK: usize = 30;
 
-// So many indexes need no inner node: the root alone holds them.
+// Up to ten indexes never need an inner node. Eleven may: a root with one index over two leaves of five.
 pub(super) const FREE_INDEXES: usize = 10;
 
 // There are no more indexes than those below `SENTINEL`.

@@ -2,10 +2,10 @@
 //!
 //! It asks about an index before anything is put in its place, and then takes the last indexes out, one
 //! by one. Each call here has the closure by reference, so that its clause says in which state it is left:
-//! nothing is asked behind the last index.
+//! the closure isn't called after the last index.
 //!
-//! To read from a copy of each leaf, and to leave those before the first refusal where they are, took 0.85
-//! of the time where half stay, and a quarter where all do.
+//! Reading from a copy of each leaf, and not moving indexes before the first one that is dropped, cut the
+//! time to 0.85 if half stay, to 0.25 if all do.
 ghost use Rattle.std.specs.Prelude.{◌≡◌, ℕ, ◌+◌, ◌-◌, ◌<◌, ◌≤◌, length, take, Contains};
 ghost use Rattle.iddqd_order.specs.Asks.{CanAsk};
 ghost use Rattle.iddqd_order.specs.Node.{row, flat, inners, IsFormed};

@@ -1,10 +1,10 @@
 //! The search of a row by halves, on which all searching calls stand.
 //!
-//! To go along a row from the left was faster for the comparison of two numbers, but asked up to eleven
-//! times. The order of two indexes is looked at only at Equal, by a `match`: `Ordering::then` looked at
-//! each ask. Four asks search fifteen indexes, and a row has at most eleven: at the left edge what is
-//! left over goes to the first place, so an insert before all others asks once or twice a level: without
-//! that, falling inserts take 1.3 to 1.45 times as long, and others as long as before.
+//! To go along a row from the left was faster if the comparison is of two numbers, but asked up to eleven
+//! times. Two indexes are compared only at Equal, by a `match`: `Ordering::then` compared the indexes at
+//! each ask. Four asks search fifteen indexes, and a row has at most eleven. At the left edge the spare asks
+//! shorten the search for the first places, so an insert before all others asks once or twice a level.
+//! Without that, inserts in falling order take 1.3 to 1.45 times as long, and others as long as with it.
 ghost use Rattle.std.specs.Prelude.{◌≡◌, ◌≢◌, ℕ, ◌+◌, ◌*◌, ◌<◌, ◌≤◌, List, Contains, Some, None, length};
 ghost use Rattle.std.specs.declared.cmp.Ordering.{Ordering};
 ghost use Rattle.iddqd_order.specs.Asking.{closure_of};
@@ -71,8 +71,8 @@ fn count_before(split: Split, count: usize, reach: usize) -> usize
     }
 }
 
-// The place of what is sought, or where it would go. It asks as often as it takes to distinguish `reach` places.
-// Split at the left, it reaches the first places the sooner, the fewer there are.
+// The place of what is sought, or where it would go. It asks at most `digits(reach)` times.
+// With `Split::Left` the spare asks shorten the search for the first places.
 #[inline(always)]
 pub(super) fn search<R, F: FnMut(ItemIndex) -> R, H: Reads<R>>(
     items: &[ItemIndex],

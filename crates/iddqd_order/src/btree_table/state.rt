@@ -1,4 +1,6 @@
 //! The table's own hasher.
+//!
+//! It orders nothing: `state` and `compute_hash` are kept because iddqd's table has them.
 ghost use Rattle.std.specs.Prelude.{◌≡◌};
 ghost use Rattle.std.specs.Hash.BuildHasherDefault.{initial_hasher};
 ghost use Rattle.std.specs.Hash.FoldHasher.{initial};

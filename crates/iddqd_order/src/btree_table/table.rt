@@ -40,12 +40,15 @@ use std::marker::Model;
 
 /// A list of distinct indexes, none of them `SENTINEL`.
 ///
-/// A contract sees the list by `order_of`. The closures that order it may answer anything: each
-/// call keeps the list distinct, changes no index but its own, and asks about stored indexes alone,
-/// at most 4 plus twice the number of binary digits of the length. Only the three prepares of an insert,
-/// that of a move, `with_capacity`, the two that reserve, `clone` and `validate` take memory. The capacity
-/// is how many indexes it holds without any: `new` makes it ten, and only the calls that reserve or shrink
-/// change it.
+/// A contract sees the list by `order_of`. The closures that order it may answer anything: each call
+/// keeps the list distinct. `retain`, `clear` and `remap_indexes` may change every index; any other call
+/// changes at most one. Each search asks only about stored indexes, at most `4 + 2 * d` times, where d is
+/// the number of binary digits of the length.
+///
+/// These calls may take memory, and no others: `prepare_insert`, `prepare_insert_by`,
+/// `VacantEntry::prepare`, `prepare_move`, `blocks_at`, `blocks_anywhere`, `with_capacity`, `reserve`,
+/// `try_reserve`, `clone` and `validate`. The capacity is how many indexes the table holds without taking
+/// memory. A table from `new` has capacity ten, and only the calls that reserve or shrink change it.
 #[derive(Drop)]
 pub struct MapBTreeTable {
     root: Option<Node>,
@@ -140,7 +143,7 @@ impl MapBTreeTable {
         Iter::new(&self.root, self.height, self.len)
     }
 
-    /// The indexes in the table's order, which give the table up. It takes no memory.
+    /// Consumes the table and returns its indexes in order. It takes no memory.
     pub fn into_iter(self) -> IntoIter
         ensures to_come { indexes_to_come result ≡ order_of self }
         ensures indexes { IsIndexList (order_of self) }
@@ -194,7 +197,8 @@ impl MapBTreeTable {
         self.len = len;
     }
 
-    /// The table's own build hasher, which is the default one in every table.
+    /// The table's own build hasher, which is the default one in every table. It orders nothing: `state` and
+    /// `compute_hash` are kept because iddqd's table has them.
     pub fn state(&self) -> &DefaultHashBuilder
         ensures { initial_hasher result.now ≡ initial }
     {

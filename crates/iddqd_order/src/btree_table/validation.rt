@@ -11,9 +11,9 @@ use iddqd::item_index::ItemIndex;
 use std::alloc::AllocError;
 
 impl MapBTreeTable {
-    /// Whether there are as many indexes as expected; in `Compact`, whether they are those from 0 on as well.
+    /// Checks that the table has `expected_len` indexes and, in `Compact`, that they are 0, 1, ...
     ///
-    /// It sorts a copy of the indexes, whose memory may be refused.
+    /// It sorts a copy of the indexes, for which memory may run out.
     pub fn validate(
         &self,
         expected_len: usize,
