@@ -33,8 +33,8 @@ unfoldable pub blocks_of : Prepared → ℕ
 blocks_of p = p.blocks
 
 -- if memory ran out, the table is as it was
-abbrev pub rests_if_refused : {E : Type 0} → MutBor Order → Result Prepared E → Fml
-rests_if_refused t r = RestsIfErr the_row t (λ p. p.table.ghost_name) r (λ n. n ≡ t.now)
+abbrev pub unchanged_if_out_of_memory : {E : Type 0} → MutBor Order → Result Prepared E → Fml
+unchanged_if_out_of_memory t r = RestsIfErr the_row t (λ p. p.table.ghost_name) r (λ n. n ≡ t.now)
 
 -- an insert of ix among the indexes xs is prepared; `read` turns an answer into an `Ordering`. Nothing is added yet.
 -- If the answers are steady and rise, ix will stand where Greater ends

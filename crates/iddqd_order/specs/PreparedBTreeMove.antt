@@ -28,8 +28,8 @@ unfoldable pub blocks_of : PreparedMove → ℕ
 blocks_of p = p.blocks
 
 -- if memory ran out, the table is as it was
-abbrev pub rests_if_refused : {E : Type 0} → MutBor Order → Result PreparedMove E → Fml
-rests_if_refused t r = RestsIfErr the_row t (λ p. p.table.ghost_name) r (λ n. n ≡ t.now)
+abbrev pub unchanged_if_out_of_memory : {E : Type 0} → MutBor Order → Result PreparedMove E → Fml
+unchanged_if_out_of_memory t r = RestsIfErr the_row t (λ p. p.table.ghost_name) r (λ n. n ≡ t.now)
 
 -- a move of ix among the indexes xs is prepared, and nothing is moved yet
 pub record PreparesMove (xs : List ℕ) (ix : ℕ) (p : PreparedMove) : Type 0 where

@@ -139,7 +139,7 @@ impl<'a> VacantEntry<'a> {
     pub fn prepare(self, ix: ItemIndex) -> Result<PreparedBTreeInsert<'a>, AllocError>
         requires assigned { ix ≢ sentinel }
         requires absent { Contains (order_of (vacant_table self).now) ix → ⊥ }
-        ensures* unchanged { sem 𝓛 (prepared_insert.rests_if_refused (vacant_table self.entry) result) }
+        ensures* unchanged { sem 𝓛 (prepared_insert.unchanged_if_out_of_memory (vacant_table self.entry) result) }
         ensures same_reference { IfOk result
             (λ p. (prepared_insert.table_of p).ghost_name ≡ (vacant_table self.entry).ghost_name) }
         ensures prepared { IfOk result (FillsEntry self.entry ix) }

@@ -33,7 +33,7 @@ pub struct PreparedBTreeMove<'a, B: HoldsBlocks = Blocks> {
 #[tactic(auto, unfolding(crate::specs::MapBTreeTable::order_of))]
 impl MapBTreeTable {
     ghost use Rattle.std.specs.Borrow.{sem};
-    ghost use Rattle.iddqd_order.specs.PreparedBTreeMove.{rests_if_refused, PreparesMove, PutsIn};
+    ghost use Rattle.iddqd_order.specs.PreparedBTreeMove.{unchanged_if_out_of_memory, PreparesMove, PutsIn};
     ghost use Rattle.iddqd_order.specs.PreparedBTreeMove as prepared_move;
 
     /// Takes the memory of a move of a stored index to any place. It asks nothing.
@@ -42,7 +42,7 @@ impl MapBTreeTable {
     /// memory, and never fails.
     pub fn prepare_move(&mut self, ix: ItemIndex) -> Result<PreparedBTreeMove<'_>, AllocError>
         requires { Contains (order_of self.old) ix }
-        ensures* unchanged { sem 𝓛 (rests_if_refused self.entry result) }
+        ensures* unchanged { sem 𝓛 (unchanged_if_out_of_memory self.entry result) }
         ensures same_reference { IfOk result (λ p. (prepared_move.table_of p).ghost_name ≡ self.entry.ghost_name) }
         ensures prepared { IfOk result (PreparesMove (order_of self.old) ix) }
         ensures memory { IfOk result (λ p. capacity (prepared_move.table_of p).now ≡ capacity self.old) }

@@ -82,7 +82,7 @@ impl MapBTreeTable {
     ghost use Rattle.iddqd_order.specs.Asks.{CanAsk};
     ghost use Rattle.iddqd_order.specs.IntoIter.{indexes_to_come};
     ghost use Rattle.iddqd_order.specs.Iter.{indexes_left};
-    ghost use Rattle.iddqd_order.specs.PreparedBTreeInsert.{rests_if_refused, PreparesInsert};
+    ghost use Rattle.iddqd_order.specs.PreparedBTreeInsert.{unchanged_if_out_of_memory, PreparesInsert};
     ghost use Rattle.iddqd_order.specs.PreparedBTreeInsert as prepared_insert;
     ghost use Rattle.iddqd_order.specs.PreparedBTreeRemove.{PreparesRemoval};
     ghost use Rattle.iddqd_order.specs.PreparedBTreeRemove as prepared_remove;
@@ -280,7 +280,7 @@ impl MapBTreeTable {
         requires assigned { ix ≢ sentinel }
         requires absent { Contains (order_of self.old) ix → ⊥ }
         requires can_ask { CanSearch F.FnMut (order_of self.old) (Some ix) asking.old }
-        ensures* unchanged { sem 𝓛 (rests_if_refused self.entry result) }
+        ensures* unchanged { sem 𝓛 (unchanged_if_out_of_memory self.entry result) }
         ensures same_reference { IfOk result (λ p. (prepared_insert.table_of p).ghost_name ≡ self.entry.ghost_name) }
         ensures asked { SearchAsks F.FnMut (order_of self.old) (Some ix) asking.old asking.new }
         ensures prepared { IfOk result (PreparesInsert F.FnMut (λ r. r) (order_of self.old) ix asking.old) }
@@ -306,7 +306,7 @@ impl MapBTreeTable {
         requires assigned { ix ≢ sentinel }
         requires absent { Contains (order_of self.old) ix → ⊥ }
         requires can_ask { CanSearch F.FnMut (order_of self.old) (Some ix) asking.old }
-        ensures* unchanged { sem 𝓛 (rests_if_refused self.entry result) }
+        ensures* unchanged { sem 𝓛 (unchanged_if_out_of_memory self.entry result) }
         ensures same_reference { IfOk result (λ p. (prepared_insert.table_of p).ghost_name ≡ self.entry.ghost_name) }
         ensures asked { SearchAsks F.FnMut (order_of self.old) (Some ix) asking.old asking.new }
         ensures prepared { IfOk result
@@ -329,7 +329,7 @@ impl MapBTreeTable {
         requires assigned { ix ≢ sentinel }
         requires absent { Contains (order_of self.old) ix → ⊥ }
         requires can_ask { CanSearch F.FnMut (order_of self.old) (Some ix) asking.old }
-        ensures* unchanged { sem 𝓛 (rests_if_refused self.entry result) }
+        ensures* unchanged { sem 𝓛 (unchanged_if_out_of_memory self.entry result) }
         ensures same_reference { IfOk result (λ p. (prepared_insert.table_of p).ghost_name ≡ self.entry.ghost_name) }
         ensures asked { SearchAsks F.FnMut (order_of self.old) (Some ix) asking.old asking.new }
         ensures prepared { IfOk result (PreparesInsert F.FnMut (H.reading how.now) (order_of self.old) ix asking.old) }
