@@ -1,5 +1,5 @@
 -- A gap of a tree and the gaps beside it, one level at a time, and what a walk has left between two gaps.
-use Rattle.iddqd_order.proofs.Names.{◌≡◌, ◌≢◌, ◌∙◌, ℕ, zero, suc, ◌+◌, ◌-◌, ◌<◌, ◌≤◌, List, [], ◌∷◌, ◌++◌, End, Front, Back, opposite, Option, Some, None, IfSome, length, take, drop, get_or, length-set, set-get_or, slice_index, slice_set, refl, sym, ap, subst, arith, sub-one, append-nil, drop_all, length-append, length-drop, length-map, length-take-le, slice_get-get_or, cases_lt, inl, inr, Compares, Ordering, Less, Equal, Greater, Node, row, children, child, before, flat, IsFormed, ReachesGap, place, in_order, IsTree, place_in, AreBeside, AtEdge, Over, IsAt, IsBehind, IsGap, IsLow, Steps, between, edge_of, leaf, low, to_gap, CAPACITY, LEVELS, InGap}
+use Rattle.iddqd_order.proofs.Names.{◌≡◌, ◌≢◌, ◌∙◌, ℕ, zero, suc, ◌+◌, ◌-◌, ◌<◌, ◌≤◌, List, [], ◌∷◌, ◌++◌, End, Front, Back, opposite, Option, Some, None, IfSome, length, take, drop, get_or, length-set, set-get_or, slice_index, slice_set, refl, sym, ap, subst, arith, sub-one, append-nil, drop_all, length-append, length-drop, length-map, length-take-le, slice_get-get_or, cases_lt, inl, inr, Compares, Ordering, Less, Equal, Greater, Node, row, children, child, before, flat, IsFormed, ReachesGap, place, in_order, IsTree, place_in, AreBeside, AtEdge, Over, IsAt, IsBehind, IsGap, IsLeafParent, Steps, between, edge_of, leaf, leaf_parent, to_gap, CAPACITY, LEVELS, InGap}
 use Rattle.std.proofs.Common.{get_or-drop}
 use Rattle.std.proofs.Math.Seq.{drop-cons, take-suc}
 use Rattle.std.proofs.lemmas.Option.{slice_get_past}
@@ -61,22 +61,24 @@ leaf-zero zero n p e = refl
 leaf-zero (suc h) n p e = absurd (omega arith)
 
 -- the node above a leaf
-pub low-one : (h : ℕ) (n : Node) (p : List ℕ) → h ≡ 1 → low h n p ≡ n
-unfolding low
-low-one zero n p e = absurd (omega arith)
-low-one (suc zero) n p e = refl
-low-one (suc (suc h)) n p e = absurd (omega arith)
+pub leaf_parent-one : (h : ℕ) (n : Node) (p : List ℕ) → h ≡ 1 → leaf_parent h n p ≡ n
+unfolding leaf_parent
+leaf_parent-one zero n p e = absurd (omega arith)
+leaf_parent-one (suc zero) n p e = refl
+leaf_parent-one (suc (suc h)) n p e = absurd (omega arith)
 
-low-at : (h i : ℕ) (n : Node) (p : List ℕ) → 2 ≤ h → slice_index p h ≡ i → low h n p ≡ low (h - 1) (child n i) p
-unfolding low
-low-at zero i n p ge e = absurd (omega arith)
-low-at (suc zero) i n p ge e = absurd (omega arith)
-low-at (suc (suc h)) i n p ge e = rw (← e, sub-one)
+leaf_parent-at : (h i : ℕ) (n : Node) (p : List ℕ) → 2 ≤ h → slice_index p h ≡ i
+    → leaf_parent h n p ≡ leaf_parent (h - 1) (child n i) p
+unfolding leaf_parent
+leaf_parent-at zero i n p ge e = absurd (omega arith)
+leaf_parent-at (suc zero) i n p ge e = absurd (omega arith)
+leaf_parent-at (suc (suc h)) i n p ge e = rw (← e, sub-one)
 
-pub low-above : (h i : ℕ) (n : Node) (p : List ℕ) (k : Option (Bor Node)) → 2 ≤ h → slice_index p h ≡ i
-    → IfSome k (λ k. (0 < h - 1) × (k.now ≡ low (h - 1) (child n i) p)) → IfSome k (λ k. (0 < h) × (k.now ≡ low h n p))
-low-above h i n p None ge e is = tt
-low-above h i n p (Some k) ge e is = (omega arith, is.1 ∙ sym (low-at h i n p ge e))
+pub leaf_parent-above : (h i : ℕ) (n : Node) (p : List ℕ) (k : Option (Bor Node)) → 2 ≤ h → slice_index p h ≡ i
+    → IfSome k (λ k. (0 < h - 1) × (k.now ≡ leaf_parent (h - 1) (child n i) p))
+    → IfSome k (λ k. (0 < h) × (k.now ≡ leaf_parent h n p))
+leaf_parent-above h i n p None ge e is = tt
+leaf_parent-above h i n p (Some k) ge e is = (omega arith, is.1 ∙ sym (leaf_parent-at h i n p ge e))
 
 pub edge-within : (end : End) (count i : ℕ) → i ≡ edge_of end count → i ≤ count
 edge-within Back count i e = omega arith
@@ -459,30 +461,30 @@ pub IsAt-few :
 IsAt-few None h p row at t a = let none = ap length a.leaf in omega arith
 IsAt-few (Some n) h p row at t a = let few = leaf-few h n (to_gap p at) t.0 a.gap.goes in let len = ap length a.leaf in omega arith
 
-pub IsLow-from :
+pub IsLeafParent-from :
     (t : Option Node) (h : ℕ) (n : Node) (p : List ℕ) (k : Option (Bor Node))
     → t ≡ Some n
-    → IfSome k (λ k. (0 < h) × (k.now ≡ low h n p))
-    → IsLow t h p k
-IsLow-from t h n p None e l = tt
-IsLow-from None h n p (Some k) e l = absurd (cc)
-IsLow-from (Some m) h n p (Some k) e l = (l.0, l.1 ∙ (let same : n ≡ m = cc in ap (λ n. low h n p) same))
+    → IfSome k (λ k. (0 < h) × (k.now ≡ leaf_parent h n p))
+    → IsLeafParent t h p k
+IsLeafParent-from t h n p None e l = tt
+IsLeafParent-from None h n p (Some k) e l = absurd (cc)
+IsLeafParent-from (Some m) h n p (Some k) e l = (l.0, l.1 ∙ (let same : n ≡ m = cc in ap (λ n. leaf_parent h n p) same))
 
 -- from the end of a leaf over the next index of the node above it
-low-same :
+leaf_parent-same :
     (h : ℕ) (n : Node) (p q : List ℕ)
     → ((m : ℕ) → 1 < m → slice_index q m ≡ slice_index p m)
-    → low h n q ≡ low h n p
-unfolding low
-low-same zero n p q same = refl
-low-same (suc zero) n p q same = refl
-low-same (suc (suc h)) n p q same = rw (same (suc (suc h)) (omega arith)) (low-same (suc h) _ p q same)
+    → leaf_parent h n q ≡ leaf_parent h n p
+unfolding leaf_parent
+leaf_parent-same zero n p q same = refl
+leaf_parent-same (suc zero) n p q same = refl
+leaf_parent-same (suc (suc h)) n p q same = rw (same (suc (suc h)) (omega arith)) (leaf_parent-same (suc h) _ p q same)
 
-record LowStep (h : ℕ) (n k : Node) (p q : List ℕ) : Type 0 where
+record LeafParentStep (h : ℕ) (n k : Node) (p q : List ℕ) : Type 0 where
   inside : slice_index p 1 + 1 < length (children k)
   over : Over Back h n p (slice_index (row k) (slice_index p 1)) (row (child k (slice_index p 1 + 1))) q
 
-low-step :
+leaf_parent-step :
     (h : ℕ) (n : Node) (p q : List ℕ)
     → 0 < h
     → IsFormed h n
@@ -491,11 +493,11 @@ low-step :
     → slice_index q 0 ≡ 0
     → slice_index q 1 ≡ slice_index p 1 + 1
     → ((m : ℕ) → 1 < m → slice_index q m ≡ slice_index p m)
-    → slice_index p 1 < length (row (low h n p))
-    → LowStep h n (low h n p) p q
-unfolding low
-low-step zero n p q some f g end first next same lt = absurd (omega arith)
-low-step (suc zero) n p q some f g end first next same lt =
+    → slice_index p 1 < length (row (leaf_parent h n p))
+    → LeafParentStep h n (leaf_parent h n p) p q
+unfolding leaf_parent
+leaf_parent-step zero n p q some f g end first next same lt = absurd (omega arith)
+leaf_parent-step (suc zero) n p q some f g end first next same lt =
     let ne : suc zero ≢ 0 = λ e. cc in
     let i : ℕ = slice_index p 1 in
     let at = goes-inner 1 n p ne g in
@@ -508,35 +510,35 @@ low-step (suc zero) n p q some f g end first next same lt =
           (record { here = at.here; is = refl; formed = child-formed 1 n i ne f at.here; goes = at.on }) refl (lt, refl, refl)
           (place-leaf 0 k p refl ∙ whole ∙ ap length (sym (flat-leaf 0 k refl))) inside refl next (at_edge-leaf Front 0 0 (child n (i + 1)) _ q refl first refl refl);
     }
-low-step (suc (suc h)) n p q some f g end first next same lt =
+leaf_parent-step (suc (suc h)) n p q some f g end first next same lt =
     let ne : suc (suc h) ≢ 0 = λ e. cc in
     let i : ℕ = slice_index p (suc (suc h)) in
     let k : Node = child n i in
     let at = goes-inner (suc (suc h)) n p ne g in
     let b : Below (suc (suc h)) i n k p = record { here = at.here; is = refl; formed = child-formed (suc (suc h)) n i ne f at.here; goes = at.on } in
     let is : leaf (suc (suc h)) n p ≡ leaf (suc h) k p = rw sub-one at (leaf-at (suc (suc h)) i n p ne refl) in
-    let ih = low-step (suc h) k p q (omega arith) (rw sub-one at b.formed) (rw sub-one at b.goes) (rw is at end) first next same lt in
+    let ih = leaf_parent-step (suc h) k p q (omega arith) (rw sub-one at b.formed) (rw sub-one at b.goes) (rw is at end) first next same lt in
     record { inside = ih.inside; over = over-below Back (suc (suc h)) i _ n k p _ q ne f b refl (same (suc (suc h)) (omega arith)) (rw sub-one ih.over) }
 
-pub record NextLow (t : Option Node) (h : ℕ) (k : Node) (p : List ℕ) (at : ℕ) (q : List ℕ) : Type 0 where
+pub record NextLeafParent (t : Option Node) (h : ℕ) (k : Node) (p : List ℕ) (at : ℕ) (q : List ℕ) : Type 0 where
   pub inside : slice_index p 1 + 1 < length (children k)
   pub at_is : IsAt t h q (row (child k (slice_index p 1 + 1))) 0
-  pub low_is : (b : Bor Node) → b.now ≡ k → IsLow t h q (Some b)
+  pub leaf_parent_is : (b : Bor Node) → b.now ≡ k → IsLeafParent t h q (Some b)
   pub steps :
       Steps Back (in_order t h) (place_in t h (to_gap p at)) (Some (slice_index (row k) (slice_index p 1)))
       (place_in t h (to_gap q 0))
 
-pub next-low :
+pub next-leaf_parent :
     (t : Option Node) (h : ℕ) (b : Bor Node) (p row_is : List ℕ) (at : ℕ) (q : List ℕ)
     → IsTree t h
     → IsAt t h p row_is at
     → length row_is ≤ at
-    → IsLow t h p (Some b)
+    → IsLeafParent t h p (Some b)
     → slice_index p 1 < length (row b.now)
     → q ≡ slice_set p 1 (slice_index p 1 + 1)
-    → NextLow t h b.now p at q
-next-low None h b p row_is at q tree a end l lt eq = absurd l
-next-low (Some n) h b p row_is at q tree a end l lt eq =
+    → NextLeafParent t h b.now p at q
+next-leaf_parent None h b p row_is at q tree a end l lt eq = absurd l
+next-leaf_parent (Some n) h b p row_is at q tree a end l lt eq =
     let whole = a.gap.whole in
     let len : length q ≡ LEVELS = ap length eq ∙ length-set p 1 _ ∙ whole in
     let r : List ℕ = to_gap p at in
@@ -546,15 +548,15 @@ next-low (Some n) h b p row_is at q tree a end l lt eq =
     let kept : (m : ℕ) → 0 < m → slice_index s m ≡ slice_index q m = λ m lt. path-above q s 0 0 m refl lt in
     let over : (m : ℕ) → 1 < m → slice_index q m ≡ slice_index p m = λ m lt. path-above p q 1 _ m eq lt in
     let next : slice_index s 1 ≡ slice_index r 1 + 1 = kept 1 (omega arith) ∙ path-here p q 1 _ whole (omega arith) eq ∙ ap (λ z. z + 1) (sym (same 1 (omega arith))) in
-    let is : b.now ≡ low h n r = l.1 ∙ sym (low-same h n p r (λ m lt. same m (omega arith))) in
+    let is : b.now ≡ leaf_parent h n r = l.1 ∙ sym (leaf_parent-same h n p r (λ m lt. same m (omega arith))) in
     let end_is : length (leaf h n r) ≤ slice_index r 0 = rw (was, ← a.leaf) end in
-    let step : LowStep h n b.now r s = rw is (low-step h n r s l.0 tree.0 a.gap.goes end_is (path-here q s 0 0 len (omega arith) refl) next
+    let step : LeafParentStep h n b.now r s = rw is (leaf_parent-step h n r s l.0 tree.0 a.gap.goes end_is (path-here q s 0 0 len (omega arith) refl) next
     (λ m lt. kept m (omega arith) ∙ over m lt ∙ sym (same m (omega arith))) (rw (← is, same 1 (omega arith)) lt)) in
     let there : slice_index r 1 ≡ slice_index p 1 = same 1 (omega arith) in
     record {
       inside = rw there at step.inside;
       at_is = record { gap = record { whole = len; goes = step.over.goes }; leaf = rw there at step.over.leaf_is; within = omega arith };
-      low_is = λ c e. (l.0, e ∙ l.1 ∙ sym (low-same h n p q over));
+      leaf_parent_is = λ c e. (l.0, e ∙ l.1 ∙ sym (leaf_parent-same h n p q over));
       steps = rw there at step.over.steps;
     }
 

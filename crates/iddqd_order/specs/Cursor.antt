@@ -46,10 +46,10 @@ leaf zero n p = row n
 leaf (suc h) n p = leaf h (child n (slice_index p (suc h))) p
 
 -- the parent of that leaf, or n itself if n is the leaf
-unfoldable pub low : ℕ → Node → List ℕ → Node
-low zero n p = n
-low (suc zero) n p = n
-low (suc (suc h)) n p = low (suc h) (child n (slice_index p (suc (suc h)))) p
+unfoldable pub leaf_parent : ℕ → Node → List ℕ → Node
+leaf_parent zero n p = n
+leaf_parent (suc zero) n p = n
+leaf_parent (suc (suc h)) n p = leaf_parent (suc h) (child n (slice_index p (suc (suc h)))) p
 
 -- the path p goes to the gap at an end of n, in the leaf xs
 pub record AtEdge (end : End) (h : ℕ) (n : Node) (xs p : List ℕ) : Type 0 where
@@ -69,10 +69,10 @@ leaf_in None h p = []
 leaf_in (Some n) h p = leaf h n p
 
 -- if there is a node, it is the parent of that leaf
-abbrev pub IsLow : Option Node → ℕ → List ℕ → Option (Bor Node) → Type 0
-IsLow t h p None = ⊤
-IsLow None h p (Some k) = ⊥
-IsLow (Some n) h p (Some k) = (0 < h) × (k.now ≡ low h n p)
+abbrev pub IsLeafParent : Option Node → ℕ → List ℕ → Option (Bor Node) → Type 0
+IsLeafParent t h p None = ⊤
+IsLeafParent None h p (Some k) = ⊥
+IsLeafParent (Some n) h p (Some k) = (0 < h) × (k.now ≡ leaf_parent h n p)
 
 -- the path to the gap at a place of a leaf, to which a path goes
 abbrev pub to_gap : List ℕ → ℕ → List ℕ
@@ -92,7 +92,7 @@ pub record IsAt (t : Option Node) (h : ℕ) (path row : List ℕ) (at : ℕ) : T
 -- the same of a cursor
 pub record Stands (t : Option Node) (h : ℕ) (c : Cursor) : Type 0 where
   pub at : IsAt t h c.path c.row.now c.at
-  pub low : IsLow t h c.path c.low
+  pub leaf_parent : IsLeafParent t h c.path c.leaf_parent
 
 -- the number of its gap
 abbrev pub gap_of : Option Node → ℕ → Cursor → ℕ

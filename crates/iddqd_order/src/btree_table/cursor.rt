@@ -4,7 +4,7 @@
 //! walk ahead keeps the node above the leaf too, and descends about once in nine leaves. Descending at each leaf
 //! doubled the time for 1,000 indexes, and took 1.4 times as long for a million.
 ghost use Rattle.std.specs.Prelude.{◌≡◌, ℕ, ◌<◌, ◌≤◌, length, slice_index, IfSome, IsNone};
-ghost use Rattle.iddqd_order.specs.Cursor.{AreBeside, AtEdge, Compares, Over, Steps, IsGap, Stands, edge_of, gap_of, leaf, low, opposite, to_gap};
+ghost use Rattle.iddqd_order.specs.Cursor.{AreBeside, AtEdge, Compares, Over, Steps, IsGap, Stands, edge_of, gap_of, leaf, leaf_parent, opposite, to_gap};
 ghost use Rattle.iddqd_order.specs.declared.btree_table.node.Node.{Node as NodeOf};
 ghost use Rattle.iddqd_order.specs.Node.{flat, ReachesGap, IsFormed, place};
 ghost use Rattle.iddqd_order.specs.Tree.{IsTree, ReachesGapIn, in_order, place_in};
@@ -41,7 +41,7 @@ pub(super) struct Cursor<'a> {
     pub(super) row: &'a [ItemIndex],
     pub(super) at: usize,
     // The node above the leaf, if it is known.
-    pub(super) low: Option<&'a Node>,
+    pub(super) leaf_parent: Option<&'a Node>,
 }
 
 impl<'a> Cursor<'a> {
@@ -57,7 +57,7 @@ impl<'a> Cursor<'a> {
                 path,
                 row: &[],
                 at: 0,
-                low: None,
+                leaf_parent: None,
             },
             Some(node) => {
                 let row = node.edge(height, &mut path, end);
@@ -65,7 +65,7 @@ impl<'a> Cursor<'a> {
                     path,
                     row,
                     at: path.get(0),
-                    low: None,
+                    leaf_parent: None,
                 }
             }
         }
@@ -84,7 +84,7 @@ impl<'a> Cursor<'a> {
                 path: *path,
                 row: node.leaf(height, path),
                 at: path.leaf_place(),
-                low: None,
+                leaf_parent: None,
             },
         }
     }
@@ -131,14 +131,14 @@ impl<'a> Cursor<'a> {
         ensures next { Steps End.Back (in_order root.now height)
             (gap_of root.now height self.old) result (gap_of root.now height self.new) }
     {
-        let known = self.low;
-        if let Some(low) = known {
+        let known = self.leaf_parent;
+        if let Some(leaf_parent) = known {
             let place = self.path.get(1);
-            if place < low.row.len() {
+            if place < leaf_parent.row.len() {
                 self.path.set(1, place + 1);
-                self.row = low.children[place + 1].row.as_slice();
+                self.row = leaf_parent.children[place + 1].row.as_slice();
                 self.at = 0;
-                return Some(low.row.get(place));
+                return Some(leaf_parent.row.get(place));
             }
         }
         self.leave_leaf(root, height, End::Back)
@@ -168,11 +168,11 @@ impl<'a> Cursor<'a> {
         self.row = found.1;
         self.at = path.get(0);
         self.path = path;
-        self.low = None;
+        self.leaf_parent = None;
         match towards {
             End::Front => Some(found.0),
             End::Back => {
-                self.low = node.low(height, &path);
+                self.leaf_parent = node.leaf_parent(height, &path);
                 Some(found.0)
             }
         }
@@ -271,11 +271,11 @@ impl Node {
     }
 
     // The node above that leaf, if the tree is more than a leaf.
-    fn low(&self, level: usize, path: &Path) -> Option<&Node>
+    fn leaf_parent(&self, level: usize, path: &Path) -> Option<&Node>
         requires formed { IsFormed level self.now }
         requires levels { level < LEVELS }
         requires goes { ReachesGap level self.now path.now }
-        ensures { IfSome result (λ k. (0 < level) × (k.now ≡ low level self.now path.now)) }
+        ensures { IfSome result (λ k. (0 < level) × (k.now ≡ leaf_parent level self.now path.now)) }
     {
         if level == 0 {
             return None;
@@ -283,7 +283,7 @@ impl Node {
         if level == 1 {
             return Some(self);
         }
-        self.children[path.get(level)].low(level - 1, path)
+        self.children[path.get(level)].leaf_parent(level - 1, path)
     }
 
     // The index next to the gap to which a path goes, towards an end. The path then goes to the gap beyond that

@@ -84,7 +84,7 @@ impl OwnedCursor {
             path: self.path,
             row: &[],
             at: self.at,
-            low: None,
+            leaf_parent: None,
         };
         let Some(ix) = cursor.leave_leaf(root, height, towards) else {
             return None;
