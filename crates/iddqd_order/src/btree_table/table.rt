@@ -41,9 +41,9 @@ use std::marker::Model;
 /// A list of distinct indexes, none of them `SENTINEL`.
 ///
 /// A contract sees the list by `order_of`. The closures that order it may answer anything: each call
-/// keeps the list distinct. `retain`, `clear` and `remap_indexes` may change every index; any other call
-/// changes at most one. Each search asks only about stored indexes, at most `4 + 2 * d` times, where d is
-/// the number of binary digits of the length.
+/// keeps the list distinct. `retain`, `clear` and `remap_indexes` may change all indexes; any other call
+/// adds, removes or moves at most one. Each search asks only about stored indexes, at most `4 + 2 * d`
+/// times, where d is the number of binary digits of the length.
 ///
 /// These calls may take memory, and no others: `prepare_insert`, `prepare_insert_by`,
 /// `VacantEntry::prepare`, `prepare_move`, `blocks_at`, `blocks_anywhere`, `with_capacity`, `reserve`,
