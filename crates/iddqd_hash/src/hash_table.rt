@@ -164,6 +164,7 @@ impl MapHashTable {
     ///
     /// `lookup` is called on indexes under that hash alone, on none twice, and no more after an
     /// equivalent key. It misses only after each of them was asked.
+    #[inline(always)]
     pub fn find_index_prehashed<Q: Equivalent<K>, K: Drop, F: Fn(ItemIndex) -> K>(
         &self,
         hash: MapHash,

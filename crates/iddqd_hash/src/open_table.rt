@@ -194,6 +194,7 @@ impl<T> OpenHashTable<T> {
     ///
     /// `eq` is asked of values under `hash` alone, of none twice, and no more after it answered
     /// `true`. It misses only after each of them was asked.
+    #[inline(always)]
     pub fn find<F: FnMut(&T) -> bool>(&self, hash: u64, eq: F) -> Option<&T>
         requires { CanAsk (TakesAt F.FnMut) (CalledAt F.FnMut) eq (under hash (entries self.now)) }
         ensures { LooksUp (CalledAt F.FnMut) eq (under hash (entries self.now)) (option_copied result) }
@@ -296,6 +297,7 @@ impl<T> OpenHashTable<T> {
     }
 
     // The cell and the value of the pair that a look-up hits.
+    #[inline(always)]
     fn seek<F: FnMut(&T) -> bool>(&self, hash: u64, eq: F) -> Option<(usize, &T)>
         requires { CanAsk (TakesAt F.FnMut) (CalledAt F.FnMut) eq (under hash (entries self.now)) }
         ensures place { FindsPlace (CalledAt F.FnMut) eq hash (under hash (entries self.now)) (pair_at self.now)
