@@ -1,13 +1,13 @@
 -- A clone of the pairs, in a list and in cells.
 use Rattle.std.proofs.Common.{◌≡◌, ◌∙◌, ◌+◌, ◌-◌, ◌<◌, ◌≤◌, ℕ, zero, suc, inl, inr, true, false, ltb, ltb-true, ltb-false, List, [], ◌∷◌, Option, Some, None, IsSome, length, drop, set, replicate, slice_index, refl, sym, ap, subst, arith}
-use Rattle.std.proofs.lemmas.Bool.{cases_eq}
-use Rattle.std.proofs.lemmas.List.{length-replicate, length-set, get_or-drop, get_or-set_same, get_or-set_other}
+use Rattle.std.proofs.lemmas.Bool.{cases_eq, le-ltb}
+use Rattle.std.proofs.lemmas.List.{length-set, get_or-drop, get_or-set_same, get_or-set_other}
 use Rattle.std.specs.List.{AllZip}
 use Rattle.std.specs.Option.{option_map}
 use Rattle.std.proofs.lemmas.List.Sorted.{IsPermutation-refl}
 use Rattle.iddqd_hash.specs.Clones.{IsSlotClone}
 use Rattle.iddqd_hash.specs.HashTable.{Rewrites}
-use Rattle.iddqd_hash.specs.OpenTable.{hashes_of, slot_at, pairs, IsProbed, NoneFull}
+use Rattle.iddqd_hash.specs.OpenTable.{has_pair, hashes_of, slot_at, pairs, Suits, IsProbed, NoneFull}
 use Rattle.iddqd_hash.proofs.OpenSlotLemmas.{free_slot}
 
 module _ {T : Type 0} (is_clone : T → T → Type 0) where
@@ -85,74 +85,80 @@ module _ {T : Type 0} (is_clone : T → T → Type 0) where
   by_place (slot ∷ slots) (copy ∷ copies) same each =
       (each 0 (omega arith), by_place slots copies (omega arith) (λ k below. each (suc k) (omega arith)))
 
-  -- the slots before a place were cloned, and the others of the copy are still empty
-  pub record Cloning (slots copies : List (Option (ℕ × T))) (at : ℕ) : Type 0 where
+  -- The slots before a place were cloned, and no pair stands in the others of the copy. They are bare: what stands in
+  -- cells beside the tags of empty ones. Those tags are to be the copied ones, by which the slots are read.
+  pub record Cloning (slots copies bare : List (Option (ℕ × T))) (at : ℕ) : Type 0 where
     pub same_length : length copies ≡ length slots
     pub cloned : (k : ℕ) → k < at → IsSlotClone is_clone (slot_at slots k) (slot_at copies k)
-    pub empty : (k : ℕ) → at ≤ k → slot_at copies k ≡ None
+    pub empty : (k : ℕ) → at ≤ k → slot_at bare k ≡ None
 
   pub Cloning-start :
-      (slots copies : List (Option (ℕ × T))) (at n : ℕ)
+      (slots copies bare : List (Option (ℕ × T))) (at n : ℕ)
       → at ≡ 0
-      → n ≡ length slots
-      → copies ≡ replicate n None
-      → Cloning slots copies at
-  Cloning-start slots copies at n none count is =
+      → length copies ≡ length slots
+      → bare ≡ replicate n None
+      → Cloning slots copies bare at
+  Cloning-start slots copies bare at n none same is =
       record {
-        same_length = ap length is ∙ length-replicate n None ∙ count;
+        same_length = same;
         cloned = λ k below. absurd (omega arith);
         empty = λ k _. ap (λ xs. slot_at xs k) is ∙ none_everywhere n k;
       }
 
-  module _ (slots copies : List (Option (ℕ × T))) (at : ℕ) (state : Cloning slots copies at) where
-    -- no cell between is full
-    pub Cloning-gaps :
-        (tags : List ℕ) (to : ℕ)
-        → IsProbed tags slots
-        → at ≤ to
-        → to < length tags
-        → NoneFull tags at (to - at)
-        → Cloning slots copies to
-    Cloning-gaps tags to probed onward inside gaps =
-        record {
-          same_length = state.same_length;
-          cloned = λ k below.
-              elim (ltb k at) as (λ b. ltb k at ≡ b → IsSlotClone is_clone (slot_at slots k) (slot_at copies k)) [
-                | true ↦ λ is. state.cloned k (ltb-true _ _ is)
-                | false ↦ λ is.
-                    let past : at ≤ k = ltb-false _ _ is in
-                    let none = free_slot (slice_index tags k) (slot_at slots k) (probed.suited k (omega arith)) (gaps k past (omega arith)) in
-                    subst (λ slot. IsSlotClone is_clone slot (slot_at copies k)) (sym none) (state.empty k past)
-              ] refl;
-          empty = λ k past. state.empty k (omega arith);
-        }
+  module _
+      (slots copies bare : List (Option (ℕ × T))) (at : ℕ) (state : Cloning slots copies bare at) (tags : List ℕ)
+      (probed : IsProbed tags slots) (same : (k : ℕ) → has_pair (slice_index tags k) ≡ false → slot_at copies k ≡ slot_at bare k)
+    where
+      -- where no pair stands, the copy has none
+      none_there : (k : ℕ) → k < length tags → at ≤ k → slot_at slots k ≡ None → IsSlotClone is_clone (slot_at slots k) (slot_at copies k)
+      none_there k inside past none =
+          let suits : Suits {T = T} (slice_index tags k) None = subst (λ o. Suits (slice_index tags k) o) none (probed.suited k inside) in
+          let told : has_pair (slice_index tags k) ≡ false = le-ltb 1 (slice_index tags k) suits in
+          subst (λ slot. IsSlotClone is_clone slot (slot_at copies k)) (sym none) (same k told ∙ state.empty k past)
 
-    pub Cloning-put :
-        (copy : Option (ℕ × T))
-        → at < length slots
-        → IsSlotClone is_clone (slot_at slots at) copy
-        → Cloning slots (set copies at copy) (at + 1)
-    Cloning-put copy inside is =
-        record {
-          same_length = length-set copies at copy ∙ state.same_length;
-          cloned = λ k below.
-              elim (cases_eq k at) [
-                | inl same ↦
-                    rw same (subst (λ slot. IsSlotClone is_clone (slot_at slots at) slot) (sym (get_or-set_same copies at copy None (omega (arith, state.same_length)))) is)
-                | inr other ↦
-                    subst (λ slot. IsSlotClone is_clone (slot_at slots k) slot) (sym (get_or-set_other copies at k copy None other)) (state.cloned k (omega arith))
-              ];
-          empty = λ k past. get_or-set_other copies at k copy None (λ same. absurd (omega arith)) ∙ state.empty k (omega arith);
-        }
+      -- no cell between is full
+      pub Cloning-gaps : (to : ℕ) → at ≤ to → to < length tags → NoneFull tags at (to - at) → Cloning slots copies bare to
+      Cloning-gaps to onward inside gaps =
+          record {
+            same_length = state.same_length;
+            cloned = λ k below.
+                elim (ltb k at) as (λ b. ltb k at ≡ b → IsSlotClone is_clone (slot_at slots k) (slot_at copies k)) [
+                  | true ↦ λ is. state.cloned k (ltb-true _ _ is)
+                  | false ↦ λ is.
+                      let past : at ≤ k = ltb-false _ _ is in
+                      none_there k (omega arith) past (free_slot (slice_index tags k) (slot_at slots k) (probed.suited k (omega arith)) (gaps k past (omega arith)))
+                ] refl;
+            empty = λ k past. state.empty k (omega arith);
+          }
 
-    pub Cloning-end : length (pairs (drop at slots)) ≡ 0 → AllZip (IsSlotClone is_clone) slots copies
-    Cloning-end none =
-        by_place slots copies state.same_length (λ k below.
-        elim (ltb k at) as (λ b. ltb k at ≡ b → IsSlotClone is_clone (slot_at slots k) (slot_at copies k)) [
-          | true ↦ λ is. state.cloned k (ltb-true _ _ is)
-          | false ↦ λ is.
-              let past : at ≤ k = ltb-false _ _ is in
-              let there : k ≡ at + (k - at) = omega arith in
-              let slot : slot_at slots k ≡ None = ap (slot_at slots) there ∙ sym (get_or-drop at slots (k - at) None) ∙ no_pair (drop at slots) none (k - at) in
-              subst (λ slot. IsSlotClone is_clone slot (slot_at copies k)) (sym slot) (state.empty k past)
-        ] refl)
+      pub Cloning-end : length (pairs (drop at slots)) ≡ 0 → AllZip (IsSlotClone is_clone) slots copies
+      Cloning-end none =
+          by_place slots copies state.same_length (λ k below.
+          elim (ltb k at) as (λ b. ltb k at ≡ b → IsSlotClone is_clone (slot_at slots k) (slot_at copies k)) [
+            | true ↦ λ is. state.cloned k (ltb-true _ _ is)
+            | false ↦ λ is.
+                let past : at ≤ k = ltb-false _ _ is in
+                let there : k ≡ at + (k - at) = omega arith in
+                none_there k (omega (arith, probed.same_length)) past
+                (ap (slot_at slots) there ∙ sym (get_or-drop at slots (k - at) None) ∙ no_pair (drop at slots) none (k - at))
+          ] refl)
+
+  pub Cloning-put :
+      (slots copies bare : List (Option (ℕ × T))) (at : ℕ)
+      → Cloning slots copies bare at
+      → (copy other : Option (ℕ × T))
+      → at < length slots
+      → IsSlotClone is_clone (slot_at slots at) copy
+      → Cloning slots (set copies at copy) (set bare at other) (at + 1)
+  Cloning-put slots copies bare at state copy other inside is =
+      record {
+        same_length = length-set copies at copy ∙ state.same_length;
+        cloned = λ k below.
+            elim (cases_eq k at) [
+              | inl same ↦
+                  rw same (subst (λ slot. IsSlotClone is_clone (slot_at slots at) slot) (sym (get_or-set_same copies at copy None (omega (arith, state.same_length)))) is)
+              | inr apart ↦
+                  subst (λ slot. IsSlotClone is_clone (slot_at slots k) slot) (sym (get_or-set_other copies at k copy None apart)) (state.cloned k (omega arith))
+            ];
+        empty = λ k past. get_or-set_other bare at k other None (λ same. absurd (omega arith)) ∙ state.empty k (omega arith);
+      }

@@ -11,6 +11,7 @@ mod LowestBitLemmas
 mod MapHashTableLemmas
 mod OpenAddLemmas
 mod OpenAheadLemmas
+mod OpenCellLemmas
 mod OpenLaneLemmas
 mod OpenLookupLemmas
 mod OpenMoveLemmas

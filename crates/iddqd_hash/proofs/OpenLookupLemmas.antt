@@ -1,15 +1,14 @@
 -- How a look-up goes by what isn't under its hash, reads a cell beside its tag, and asks of each value under the hash.
 use Rattle.std.proofs.Common.{◌≡◌, ◌≢◌, ◌∙◌, ℕ, Bool, ◌+◌, ◌%◌, ◌<◌, List, ◌++◌, Option, Some, None, true, false, length, take, drop, get_or, slice_index, refl, sym, ap, subst, arith, add-zero}
 use Rattle.std.proofs.Math.Nat.{mod-eq_of_lt, mod-lt}
-use Rattle.std.specs.Option.{option_map}
 use Rattle.std.specs.List.Sorted.{IsPermutation}
-use Rattle.std.proofs.lemmas.List.{append-nil, take-append-drop, get_or-map, length-map}
+use Rattle.std.proofs.lemmas.List.{append-nil, take-append-drop}
 use Rattle.std.proofs.lemmas.Fn.{FoldsTo-push}
 use borrow.Author.Count.{below_more}
 use Rattle.iddqd_hash.specs.Asks.{AllRefused, HitsPair, Misses}
 use Rattle.iddqd_hash.specs.HashTable.{under}
-use Rattle.iddqd_hash.specs.declared.open_table.cells.Cell.{Cell}
-use Rattle.iddqd_hash.specs.OpenTable.{tag_of, slot_at, slots_of, pair_in, pairs, Suits, HasEmpty, IsReached, IsProbed, PassesBy, FindsNext}
+use Rattle.std.proofs.lemmas.Option.{same_Some}
+use Rattle.iddqd_hash.specs.OpenTable.{tag_of, slot_at, pairs, Suits, HasEmpty, IsReached, IsProbed, PassesBy, FindsNext}
 use Rattle.iddqd_hash.specs.OpenWalkUnder.{from_home}
 use Rattle.iddqd_hash.proofs.OpenWalkLemmas.{onward, steps_within, IsReached-next, IsReached-on}
 use Rattle.iddqd_hash.proofs.OpenRoundLemmas.{met, met-append, met_same, met_more, met_at, met_home, met-skipped, met-ended, inside, read_here, used, others_on}
@@ -51,61 +50,20 @@ pub FindsNext-none :
 FindsNext-none tags slots hash from None none finds = finds
 FindsNext-none tags slots hash from (Some place) none finds = absurd (none place refl)
 
-some_value :
-    {T : Type 0} (tag hash : ℕ) (o : Option T)
-    → Suits tag (option_map {U = ℕ × T} (λ value. (hash, value)) o)
-    → 1 < tag
-    → (value : T) × (option_map {U = ℕ × T} (λ value. (hash, value)) o ≡ Some (hash, value))
-some_value tag hash None suits full = absurd (omega arith)
-some_value tag hash (Some value) suits full = (value, refl)
-
-same_hash :
-    {T : Type 0} (stored hash : ℕ) (o : Option T) (value : T)
-    → option_map {U = ℕ × T} (λ value. (stored, value)) o ≡ Some (hash, value)
-    → stored ≡ hash
-same_hash stored hash None value is = absurd (cc)
-same_hash {T} stored hash (Some held) value is = let pair : (ℕ × T) = (stored, held) in let same : pair ≡ (hash, value) = cc in ap (λ (p : ℕ × T). p.0) same
-
--- a cell that is read beside its tag
+-- a pair that is read at a place
 module _
-    {T : Type 0} (tags : List ℕ) (cells : List (Cell T)) (at : ℕ) (cell : Cell T) (inside : at < length tags)
-    (read : cell ≡ get_or cells at cell) (probed : IsProbed tags (slots_of cells))
+    {T : Type 0} (slots : List (Option (ℕ × T))) (at stored : ℕ) (held : T) (read : slot_at slots at ≡ Some (stored, held))
   where
-    pub slot_read : slot_at (slots_of cells) at ≡ pair_in cell
-    slot_read =
-        let same : length (slots_of cells) ≡ length tags = probed.same_length in
-        get_or-map pair_in cells at cell None (omega (arith, length-map cells (pair_in {T = T}))) ∙ ap pair_in (sym read)
+    -- under the hash that is looked for
+    pub full_read : (hash : ℕ) → stored ≡ hash → (value : T) × (slot_at slots at ≡ Some (hash, value))
+    full_read hash same = (held, read ∙ ap (λ n. Some (n, held)) same)
 
-    suits_read : Suits (slice_index tags at) (pair_in cell)
-    suits_read = subst (λ o. Suits (slice_index tags at) o) slot_read (probed.suited at inside)
-
-    -- a full cell has a value, under its hash
-    pub full_read :
-        (hash : ℕ)
-        → 1 < slice_index tags at
-        → (get_or cells at cell).hash ≡ hash
-        → (value : T) × (slot_at (slots_of cells) at ≡ Some (hash, value))
-    full_read hash full same =
-        let here = some_value (slice_index tags at) cell.hash cell.value suits_read full in
-        let stored : cell.hash ≡ hash = ap (λ (c : Cell T). c.hash) read ∙ same in
-        (here.0, slot_read ∙ here.1 ∙ ap (λ n. Some (n, here.0)) stored)
-
-    hash_is : (hash : ℕ) (value : T) → slot_at (slots_of cells) at ≡ Some (hash, value) → cell.hash ≡ hash
-    hash_is hash value is = same_hash cell.hash hash cell.value value (sym slot_read ∙ is)
-
-    pub hash_read :
-        (hash : ℕ) (value : T)
-        → slot_at (slots_of cells) at ≡ Some (hash, value)
-        → (get_or cells at cell).hash ≡ hash
-    hash_read hash value is = ap (λ (c : Cell T). c.hash) (sym read) ∙ hash_is hash value is
+    pub hash_read : (hash : ℕ) (value : T) → slot_at slots at ≡ Some (hash, value) → stored ≡ hash
+    hash_read hash value is = ap (λ (p : ℕ × T). p.0) (same_Some _ _ (sym read ∙ is))
 
     -- the value that is read where a look-up hits
-    pub value_read :
-        (hash : ℕ) (found value : T)
-        → slot_at (slots_of cells) at ≡ Some (hash, found)
-        → pair_in cell ≡ Some (cell.hash, value)
-        → slot_at (slots_of cells) at ≡ Some (hash, value)
-    value_read hash found value is says = slot_read ∙ says ∙ ap (λ n. Some (n, value)) (hash_is hash found is)
+    pub value_read : (hash : ℕ) (found : T) → slot_at slots at ≡ Some (hash, found) → slot_at slots at ≡ Some (hash, held)
+    value_read hash found is = read ∙ ap (λ n. Some (n, held)) (hash_read hash found is)
 
 -- where a pair stands is its tag
 pub tag_read :

@@ -1,11 +1,11 @@
 -- The steps by which a table with open addressing is rebuilt in the cells that it has.
-use Rattle.std.proofs.Common.{ne_eqb, inl, inr, ◌≡◌, ◌≢◌, ◌∙◌, ℕ, suc, ◌+◌, ◌<◌, ◌≤◌, List, [], ◌∷◌, Option, Some, None, IsSome, length, set, cond, slice_index, count_by, refl, sym, ap, subst, arith}
-use Rattle.std.proofs.lemmas.Bool.{cases_eq}
-use Rattle.std.proofs.lemmas.List.{length-set, set-set, get_or-set_same, get_or-set_other}
+use Rattle.std.proofs.Common.{ne_eqb, true, false, ltb, ltb-true, ltb-false, inl, inr, ◌≡◌, ◌≢◌, ◌∙◌, ℕ, suc, ◌+◌, ◌<◌, ◌≤◌, List, [], ◌∷◌, Option, Some, None, IsSome, length, set, cond, slice_index, count_by, refl, sym, ap, subst, arith}
+use Rattle.std.proofs.lemmas.Bool.{cases_eq, lt-ltb, le-ltb}
+use Rattle.std.proofs.lemmas.List.{length-set, set-set, get_or-set_same, get_or-set_other, get_or_past}
 use Rattle.std.proofs.lemmas.List.Sums.{sum_by-set}
 use Rattle.std.proofs.lemmas.List.Sorted.{IsPermutation-trans, IsPermutation-cons, IsPermutation-middle, length_permutation}
 use Rattle.std.specs.List.Sorted.{IsPermutation}
-use Rattle.iddqd_hash.specs.OpenTable.{tag_of, limit_of, is_used, slot_at, pairs, Suits, HasEmpty, IsProbed}
+use Rattle.iddqd_hash.specs.OpenTable.{tag_of, has_pair, limit_of, is_used, slot_at, pairs, Suits, HasEmpty, IsProbed}
 use Rattle.iddqd_hash.specs.OpenRebuild.{pending, is_pending, IsPastFull, NoMorePending, SuitsOrPending, IsPartlyPlaced}
 use Rattle.iddqd_hash.proofs.OpenPastFullLemmas.{IsReached-past_full, IsPastFull-kept}
 use Rattle.iddqd_hash.proofs.OpenSlotLemmas.{pairs-put, pairs-taken, some_inside, used_count, used_one, used-cons}
@@ -119,6 +119,31 @@ module _ {T : Type 0} where
           → SuitsOrPending (slice_index now place) slot
       by_slot place None suits = others place (omega arith)
       by_slot place (Some pair) suits = inl (full place (omega arith))
+
+  -- the tags at the start of a rebuild say of each cell whether it has a pair, as they did before
+  pub reset_told :
+      (tags now : List ℕ) (slots : List (Option (ℕ × T)))
+      → IsProbed tags slots
+      → ((k : ℕ) → 128 ≤ slice_index tags k → slice_index now k ≡ pending)
+      → ((k : ℕ) → slice_index tags k < 128 → slice_index now k ≡ 0)
+      → (k : ℕ)
+      → has_pair (slice_index now k) ≡ has_pair (slice_index tags k)
+  reset_told tags now slots probed full others k =
+      elim (ltb (slice_index tags k) 128) as (λ b. ltb (slice_index tags k) 128 ≡ b → has_pair (slice_index now k) ≡ has_pair (slice_index tags k)) [
+        | true ↦ λ is. let small = ltb-true _ _ is in ap has_pair (others k small) ∙ sym (le-ltb 1 (slice_index tags k) (free small))
+        | false ↦ λ is. let high = ltb-false _ _ is in ap has_pair (full k high) ∙ sym (lt-ltb 1 (slice_index tags k) (omega arith))
+      ] refl
+    where
+      by_slot : (tag : ℕ) (slot : Option (ℕ × T)) → Suits tag slot → tag < 128 → tag ≤ 1
+      by_slot tag None suits small = suits
+      by_slot tag (Some pair) suits small = absurd (omega arith)
+
+      free : slice_index tags k < 128 → slice_index tags k ≤ 1
+      free small =
+          elim (ltb k (length tags)) as (λ b. ltb k (length tags) ≡ b → slice_index tags k ≤ 1) [
+            | true ↦ λ is. by_slot (slice_index tags k) (slot_at slots k) (probed.suited k (ltb-true _ _ is)) small
+            | false ↦ λ is. omega (arith, get_or_past tags k 0 (ltb-false _ _ is))
+          ] refl
 
   pub IsProbed-rebuilt :
       (tags : List ℕ) (slots : List (Option (ℕ × T))) (at : ℕ)

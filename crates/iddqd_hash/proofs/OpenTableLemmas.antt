@@ -2,16 +2,15 @@
 use lib.Dec.{eqb}
 use mir.Val.{bool_byte}
 use Rattle.std.proofs.Common.{not, inl, inr, ◌⊎◌, Bool, true, false, cond, ◌≡◌, ◌∙◌, ℕ, zero, suc, ◌+◌, ◌-◌, ◌^◌, ◌<◌, ◌≤◌, List, [], ◌∷◌, Option, Some, None, IfSome, Result, Ok, Err, OnOk, OnErr, length, max, replicate, set, get_or, slice_get, slice_index, count_by, refl, sym, ap, subst, arith}
-use Rattle.std.proofs.lemmas.List.{length-set, length-map, length-replicate, nil_from_length, get_or_default, get_or-map}
+use Rattle.std.proofs.lemmas.List.{length-set, length-replicate, nil_from_length, get_or_default}
 use Rattle.std.proofs.lemmas.List.Sorted.{IsPermutation-refl, length_permutation}
 use Rattle.std.specs.List.Sorted.{IsPermutation}
 use Rattle.std.proofs.lemmas.Nat.{pow_pos}
-use Rattle.std.specs.Option.{option_flatten, option_map}
+use Rattle.std.specs.Option.{option_flatten}
 use Rattle.iddqd_hash.specs.Asks.{FindsPlace, HitsPair, Misses}
 use Rattle.iddqd_hash.specs.HashTable.{Table, entries, pair_at, under, room, capacity, memory, HasNoMemory, KeepsMemory, UsesRoom}
 use Rattle.iddqd_hash.specs.Sizes.{most_cells, Reserves}
-use Rattle.iddqd_hash.specs.declared.open_table.cells.Cell.{Cell}
-use Rattle.iddqd_hash.specs.OpenTable.{tag_of, limit_of, usable_of, is_used, slot_at, slots_of, hashes_of, pair_in, pairs, Suits, HasEmpty, IsPowerOfTwo, IsReached, IsProbed, IsSound, opened}
+use Rattle.iddqd_hash.specs.OpenTable.{tag_of, limit_of, usable_of, is_used, slot_at, hashes_of, pairs, Suits, HasEmpty, IsPowerOfTwo, IsReached, IsProbed, IsSound, opened}
 use Rattle.iddqd_hash.proofs.OpenSlotLemmas.{IsProbed-put, IsProbed-taken, IsProbed-empty, length-put, length-taken, used-set, used_one, used_count, used-cons, unused, pairs-empty, free_slot, IsProbed-rewritten, length-rewritten}
 
 module _ {T : Type 0} (slots : List (Option (ℕ × T))) where
@@ -75,11 +74,11 @@ pub KeepsMemory-cleared :
     → room new ≡ capacity old
 KeepsMemory-cleared old new kept none = omega (arith, kept.same_capacity, ap length none)
 
-pub HasNoMemory-opened : {T : Type 0} (cells : List (Cell T)) → cells ≡ [] → HasNoMemory (opened (slots_of cells))
-HasNoMemory-opened cells none =
+pub HasNoMemory-opened : {T : Type 0} (slots : List (Option (ℕ × T))) → slots ≡ [] → HasNoMemory (opened slots)
+HasNoMemory-opened slots none =
     record {
-      no_room = room-opened (slots_of cells) ∙ ap (λ xs. usable_of (length (slots_of xs)) - length (pairs (slots_of xs))) none;
-      no_cell = memory-opened (slots_of cells) ∙ ap (λ xs. length (slots_of xs)) none;
+      no_room = room-opened slots ∙ ap (λ xs. usable_of (length xs) - length (pairs xs)) none;
+      no_cell = memory-opened slots ∙ ap length none;
     }
 
 -- a place that is found in slots
@@ -105,9 +104,6 @@ pub Misses-nothing :
     → length slots ≡ 0
     → Misses ask f (under hash (pairs slots))
 Misses-nothing {T} ask f hash slots none = rw (nil_from_length slots none) (record { asked = []; each_once = IsPermutation-refl []; last = f; were_refused = refl })
-
-pub cells_long : {T : Type 0} (cells : List (Cell T)) → length (slots_of cells) ≡ length cells
-cells_long {T} cells = length-map cells (pair_in {T = T})
 
 either_counts : (b : Bool) → bool_byte b + cond (not b) 1 0 ≡ 1
 either_counts true = refl
@@ -180,11 +176,11 @@ module _
 
 module _ {T : Type 0} where
   pub IsSound-none :
-      (tags : List ℕ) (cells : List (Cell T))
+      (tags : List ℕ) (slots : List (Option (ℕ × T)))
       → tags ≡ []
-      → cells ≡ []
-      → IsSound tags (slots_of cells) 0 0
-  IsSound-none tags cells no_tag no_cell = rw (no_tag, no_cell) nothing
+      → slots ≡ []
+      → IsSound tags slots 0 0
+  IsSound-none tags slots no_tag no_slot = rw (no_tag, no_slot) nothing
     where
       nothing : IsSound {T = T} [] [] 0 0
       nothing =
@@ -341,22 +337,6 @@ module _ {T : Type 0} where
 
 pub pow_some : (k : ℕ) → 0 < 2 ^ k
 pow_some k = pow_pos k
-
--- what stands in a cell whose value is read
-pub slot_of_value :
-    {T : Type 0} (cells : List (Cell T)) (at : ℕ) (d : Cell T) (o : Option T)
-    → at < length cells
-    → (get_or cells at d).value ≡ o
-    → slot_at (slots_of cells) at ≡ option_map {U = ℕ × T} (λ v. ((get_or cells at d).hash, v)) o
-slot_of_value {T} cells at d o inside is =
-    get_or-map pair_in cells at d None inside ∙ ap (λ o. option_map {U = ℕ × T} (λ v. ((get_or cells at d).hash, v)) o) is
-
-pub same_value :
-    {T : Type 0} (cells : List (Cell T)) (at : ℕ) (d e : Cell T) (o : Option T)
-    → at < length cells
-    → (get_or cells at d).value ≡ o
-    → (get_or cells at e).value ≡ o
-same_value {T} cells at d e o inside is = ap (λ (c : Cell T). c.value) (get_or_default cells at e d inside) ∙ is
 
 -- a table whose pairs were placed anew, since there was less room than was asked for
 pub Reserves-placed :

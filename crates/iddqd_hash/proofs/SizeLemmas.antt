@@ -1,11 +1,9 @@
 -- Memory that is taken ahead and given back, of both tables.
 use Rattle.std.proofs.Common.{arith, ◌≡◌, ◌∙◌, ◌+◌, ◌-◌, ◌*◌, ◌^◌, ◌<◌, ◌≤◌, ◌/◌, inr, ℕ, zero, suc, List, [], ◌∷◌, ◌++◌, Option, Some, None, length, replicate, min, max, Result, Ok, Err, IsOk, OnOk, OnErr, refl, sym, ap, subst}
-use Rattle.std.proofs.lemmas.List.{length-replicate, length-append, map_push, nil_from_length}
+use Rattle.std.proofs.lemmas.List.{length-replicate, length-append, nil_from_length}
 use Rattle.std.proofs.lemmas.Nat.{pow-add, pow_pos}
-use Rattle.std.specs.Option.{option_map}
-use Rattle.iddqd_hash.specs.declared.open_table.cells.Cell.{Cell}
 use Rattle.iddqd_hash.specs.HashTable.{Table, room, memory, listed}
-use Rattle.iddqd_hash.specs.OpenTable.{usable_of, opened, pair_in, pairs, slots_of, IsPowerOfTwo, IsSound}
+use Rattle.iddqd_hash.specs.OpenTable.{usable_of, opened, pairs, IsPowerOfTwo, IsSound}
 use Rattle.iddqd_hash.specs.Sizes.{most_cells, TakesRoom, Shrinks}
 use Rattle.iddqd_hash.proofs.CellLemmas.{room-listed, memory-listed, HasNoMemory-listed}
 use Rattle.iddqd_hash.proofs.OpenSlotLemmas.{IsProbed-empty, pairs-empty, pairs-push, unused}
@@ -139,20 +137,20 @@ few_halved count needed (suc k, is) some tried =
     let short : usable_of (count / 2) < needed = tried (omega arith) in
     omega arith
 
--- cells with no pair, of which the last is let go
+-- slots with no pair, of which the last is dropped
 module _
-    {T : Type 0} (cells rest : List (Cell T)) (cell : Cell T) (split : cells ≡ rest ++ cell ∷ [])
-    (none : pairs (slots_of cells) ≡ [])
+    {T : Type 0} (slots rest : List (Option (ℕ × T))) (slot : Option (ℕ × T)) (split : slots ≡ rest ++ slot ∷ [])
+    (none : pairs slots ≡ [])
   where
-    parts : length (pairs (slots_of rest)) + length (pairs (pair_in cell ∷ [])) ≡ 0
+    parts : length (pairs rest) + length (pairs (slot ∷ [])) ≡ 0
     parts =
-        sym (length-append (pairs (slots_of rest)) (pairs (pair_in cell ∷ [])))
-        ∙ ap length (sym (pairs-push (slots_of rest) (pair_in cell)) ∙ ap pairs (sym (map_push pair_in rest cell)) ∙ ap (λ xs. pairs (slots_of xs)) (sym split) ∙ none)
+        sym (length-append (pairs rest) (pairs (slot ∷ [])))
+        ∙ ap length (sym (pairs-push rest slot) ∙ ap pairs (sym split) ∙ none)
 
-    pub none_in_rest : pairs (slots_of rest) ≡ []
-    none_in_rest = nil_from_length (pairs (slots_of rest)) (omega (arith, parts))
+    pub none_in_rest : pairs rest ≡ []
+    none_in_rest = nil_from_length (pairs rest) (omega (arith, parts))
 
-    pub none_in_last : (value : T) → cell.value ≡ Some value → ⊥
-    none_in_last value is =
-        let one : length (pairs (pair_in cell ∷ [])) ≡ 1 = ap (λ o. length (pairs (option_map {U = ℕ × T} (λ v. (cell.hash, v)) o ∷ []))) is in
+    pub none_in_last : (pair : ℕ × T) → slot ≡ Some pair → ⊥
+    none_in_last pair is =
+        let one : length (pairs (slot ∷ [])) ≡ 1 = ap (λ o. length (pairs (o ∷ []))) is in
         absurd (omega (arith, parts, one))

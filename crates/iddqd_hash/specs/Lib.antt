@@ -1,4 +1,5 @@
 pub mod Asks
+pub mod CellKinds
 pub mod Clones
 pub mod Entries
 pub mod HashTable

@@ -2,9 +2,9 @@
 use Rattle.std.specs.Prelude.{◌≡◌, ◌+◌, ◌%◌, ◌<◌, ◌≤◌, ◌⊎◌, ◌==◌, ℕ, Bool, List, Option, Some, None, length, slice_index}
 use Rattle.iddqd_hash.specs.OpenTable.{tag_of, slot_at}
 
--- the tag of a cell whose pair isn't placed yet; no cell is marked during a rebuild
+-- the tag of a cell whose pair isn't placed yet
 abbrev pub pending : ℕ
-pending = 1
+pending = 2
 
 -- whether a cell with this tag has a pair that isn't placed yet
 abbrev pub is_pending : ℕ → Bool

@@ -1,12 +1,11 @@
 -- What the cells of a table with open addressing keep, so that a walk finds each pair.
-use Rattle.std.specs.Prelude.{◌≡◌, ◌≢◌, ◌==◌, map, ◌+◌, ◌-◌, ◌*◌, ◌/◌, ◌%◌, ◌^◌, ◌<◌, ◌≤◌, ◌⊎◌, ℕ, Bool, false, not, List, Option, Some, None, length, count_by, slice_index, slice_index_or}
+use Rattle.std.specs.Prelude.{◌≡◌, ◌≢◌, ◌==◌, map, ◌+◌, ◌-◌, ◌*◌, ◌/◌, ◌%◌, ◌^◌, ◌<◌, ◌≤◌, ◌⊎◌, ℕ, Bool, false, ltb, not, List, [], ◌∷◌, Option, Some, None, length, count_by, slice_index, slice_index_or}
 use mathlib.Core.Bool.{◌||◌}
 use Rattle.std.specs.List.{filter_map}
 use Rattle.std.specs.Option.{option_map}
 use Rattle.std.specs.Vec.{vec_capacity, vec_len}
 use Rattle.std.specs.Global.{Vec}
 use Rattle.iddqd_hash.specs.HashTable.{Table}
-use Rattle.iddqd_hash.specs.declared.open_table.cells.Cell.{Cell}
 
 -- the tag of a full cell: the top seven bits of its hash, from 128 on
 abbrev pub tag_of : ℕ → ℕ
@@ -73,15 +72,19 @@ pub record IsFree (tags : List ℕ) (place : ℕ) : Type 0 where
   pub within : place < length tags
   pub free : slice_index tags place < 128
 
+-- whether the cell with this tag has a pair: it is full, or pending during a rebuild
+abbrev pub has_pair : ℕ → Bool
+has_pair tag = ltb 1 tag
+
+-- where `slot` gives the pair in a cell, by whether its tag says that it has one
+module _ {C T : Type 0} (slot : Bool → C → Option (ℕ × T)) where
+  -- the slots of a table: what stands in each cell, by its tag
+  abbrev pub slots_of : List ℕ → List C → List (Option (ℕ × T))
+  slots_of tags [] = []
+  slots_of [] (cell ∷ cells) = slot false cell ∷ slots_of [] cells
+  slots_of (tag ∷ tags) (cell ∷ cells) = slot (has_pair tag) cell ∷ slots_of tags cells
+
 module _ {T : Type 0} where
-  -- the pair in a cell
-  abbrev pub pair_in : Cell T → Option (ℕ × T)
-  pair_in cell = option_map (λ value. (cell.hash, value)) cell.value
-
-  -- the slots of a table: what stands in each cell
-  abbrev pub slots_of : List (Cell T) → List (Option (ℕ × T))
-  slots_of cells = map pair_in cells
-
   -- the slot at a place, none past the last
   abbrev pub slot_at : List (Option (ℕ × T)) → ℕ → Option (ℕ × T)
   slot_at slots place = slice_index_or slots place None
@@ -128,13 +131,14 @@ module _ {T : Type 0} where
     pub marked : used ≡ count_by is_used tags
     pub limited : used ≤ limit_of (length tags)
 
-  -- What a table with open addressing keeps of its vectors. Both are exact, so that a contract that counts the cells
-  -- sees all of the memory.
-  pub record IsSoundTable (tags : Vec ℕ) (cells : Vec (Cell T)) (len used : ℕ) : Type 0 where
-    pub sound : IsSound tags.items (slots_of cells.items) len used
-    pub exact_tags : IsExact tags
-    pub exact_cells : IsExact cells
-
   -- what a contract sees of slots: marks make no difference
   unfoldable pub opened : List (Option (ℕ × T)) → Table T
   opened slots = record { cells = slots; spare = usable_of (length slots) - length (pairs slots); memory = length slots }
+
+-- What a table with open addressing keeps of its vectors. Both are exact, so that a contract that counts the cells
+-- sees all of the memory.
+pub record IsSoundTable {C T : Type 0} (slot : Bool → C → Option (ℕ × T)) (tags : Vec ℕ) (cells : Vec C) (len used : ℕ)
+    : Type 0 where
+  pub sound : IsSound tags.items (slots_of slot tags.items cells.items) len used
+  pub exact_tags : IsExact tags
+  pub exact_cells : IsExact cells

@@ -27,7 +27,7 @@ mod indexes_under;
 mod sizes;
 mod validation;
 
-use crate::open_table::OpenHashTable;
+use crate::open_table::{IndexCell, OpenHashTable};
 use crate::table_entry::PairCells;
 pub use entry::{Entry, VacantEntry};
 use iddqd::index_remap::IndexRemap;
@@ -54,7 +54,7 @@ pub struct HashedIndex {
 /// no memory, and as the number of cells that its memory holds.
 #[derive(Debug, Drop)]
 pub struct MapHashTable {
-    table: OpenHashTable<ItemIndex>,
+    table: OpenHashTable<ItemIndex, IndexCell>,
 }
 
 impl Model for MapHashTable {
@@ -91,7 +91,7 @@ impl MapHashTable {
         ensures memory { HasNoMemory result }
     {
         MapHashTable {
-            table: OpenHashTable::new(alloc),
+            table: OpenHashTable::of_cells(alloc),
         }
     }
 

@@ -38,17 +38,17 @@ ghost use Rattle.iddqd_hash.specs.Sizes.{Reserves};
 ghost use Rattle.iddqd_hash.specs.OpenTable.{usable_of, IsPowerOfTwo};
 
 use crate::open_table::cells::{
-    Cell, clear_cells, clear_tags, find_cell, move_cells, put, retain_cells, rewrite_cells, take,
-    value_in,
+    clear_cells, clear_tags, find_cell, move_cells, pair_at, put, retain_cells, rewrite_cells, take,
 };
 use crate::open_table::memory::{empty_cells, empty_tags};
 use crate::open_table::rebuild::rebuild_at_limit;
-use crate::open_table::tags::{count_for, free_place, usable_of};
+use crate::open_table::tags::{MARK, count_for, free_place, usable_of};
 use crate::table_entry::{self, PairCells};
 use std::alloc::{AllocError, Global};
-use std::marker::Model;
+use std::marker::{Model, PhantomData};
 use std::{fmt, mem};
 
+mod cell_kinds;
 mod cells;
 mod copies;
 mod entry;
@@ -61,6 +61,7 @@ mod rebuild;
 mod sizes;
 mod tags;
 
+pub use cell_kinds::{Cell, IndexCell, OptionCell};
 pub use entry::{Entry, VacantEntry};
 pub use iter::TableIter;
 pub use iter_hash::IterHash;
@@ -70,16 +71,17 @@ pub use iter_hash::IterHash;
 /// A contract sees it as a bag of pairs of a hash and a value, as the number of inserts that need
 /// no memory, and as the number of cells that its memory holds.
 #[derive(Drop)]
-pub struct OpenHashTable<T> {
+pub struct OpenHashTable<T, C: Cell<T> = OptionCell<T>> {
     tags: Vec<u8>,
     // How many cells are full or marked. It stands apart from `len`: side by side the two are read as one, and such
     // a read waits for a write of one of them.
     used: usize,
-    cells: Vec<Cell<T>>,
+    cells: Vec<C>,
     len: usize,
+    value_type: PhantomData<T>,
 }
 
-impl<T> Model for OpenHashTable<T> {
+impl<T, C: Cell<T>> Model for OpenHashTable<T, C> {
     ghost use Rattle.iddqd_hash.specs.HashTable.{Table, table_code};
     ghost use Rattle.iddqd_hash.specs.OpenTable.{opened, slots_of, IsSoundTable};
 
@@ -87,15 +89,18 @@ impl<T> Model for OpenHashTable<T> {
 
     ghost coded = { table_code T.code };
 
-    ghost view = { λ s. opened (slots_of s.cells.items) };
+    ghost view = { λ s. opened (slots_of C.slot s.tags.items s.cells.items) };
 
-    ghost invariant = { λ s. IsSoundTable s.tags s.cells s.len s.used };
+    ghost invariant = { λ s. IsSoundTable C.slot s.tags s.cells s.len s.used };
 }
 
 /// A pair that stands in a table.
-pub type OccupiedEntry<'a, T> = table_entry::OccupiedEntry<'a, OpenHashTable<T>>;
+pub type OccupiedEntry<'a, T, C = OptionCell<T>> = table_entry::OccupiedEntry<
+    'a,
+    OpenHashTable<T, C>,
+>;
 
-impl<T> PairCells for OpenHashTable<T> {
+impl<T, C: Cell<T>> PairCells for OpenHashTable<T, C> {
     type Value = T;
 
     ghost seen = { λ t. t };
@@ -105,13 +110,18 @@ impl<T> PairCells for OpenHashTable<T> {
     }
 
     fn pair_at(&self, place: usize) -> (u64, &T) {
-        let cell = &self.cells[place];
-        (cell.hash, value_in(cell))
+        pair_at(self.tags.as_slice(), self.cells.as_slice(), place)
     }
 
     fn take_at(&mut self, place: usize) -> T {
         self.len -= 1;
-        take(self.tags.as_mut_slice(), self.cells.as_mut_slice(), place)
+        take(
+            self.tags.as_mut_slice(),
+            self.cells.as_mut_slice(),
+            place,
+            MARK,
+        )
+        .1
     }
 
     #[inline(always)]
@@ -138,12 +148,22 @@ impl<T> PairCells for OpenHashTable<T> {
 }
 
 impl<T> OpenHashTable<T> {
+    /// An empty table, which takes no memory.
+    pub fn new(alloc: Global) -> Self
+        ensures empty { entries result ≡ [] }
+        ensures memory { HasNoMemory result }
+    {
+        OpenHashTable::of_cells(alloc)
+    }
+}
+
+impl<T, C: Cell<T>> OpenHashTable<T, C> {
     ghost use Rattle.std.specs.Borrow.{RestsIfErr, sem};
     ghost use Rattle.iddqd_hash.specs.contracts.open_table.OpenHashTable.{the_row};
     ghost use Rattle.iddqd_hash.specs.TableEntry.{entry_table, entry_pair, entry_lender};
 
-    /// An empty table, which takes no memory.
-    pub fn new(alloc: Global) -> Self
+    /// The same as `new`, of any cells.
+    pub fn of_cells(alloc: Global) -> Self
         ensures empty { entries result ≡ [] }
         ensures memory { HasNoMemory result }
     {
@@ -152,6 +172,7 @@ impl<T> OpenHashTable<T> {
             cells: Vec::new(alloc),
             len: 0,
             used: 0,
+            value_type: PhantomData,
         }
     }
 
@@ -209,7 +230,7 @@ impl<T> OpenHashTable<T> {
         &mut self,
         hash: u64,
         eq: F,
-    ) -> Result<OccupiedEntry<'_, T>, ()>
+    ) -> Result<OccupiedEntry<'_, T, C>, ()>
         requires { CanAsk (TakesAt F.FnMut) (CalledAt F.FnMut) eq (under hash (entries self.old)) }
 
         // A hit is a pair under the hash, and the asks that led to it.
@@ -220,7 +241,7 @@ impl<T> OpenHashTable<T> {
         // The table is as it was, and an entry borrows it.
         ensures table { IfOk result (λ e. entry_table e ≡ self.old) }
         ensures same_reference { IfOk result (λ e. entry_lender e ≡ self.entry.ghost_name) }
-        ensures* unchanged { sem 𝓛 (RestsIfErr (the_row T.row) self.entry entry_lender result (λ t. t ≡ self.old)) }
+        ensures* unchanged { sem 𝓛 (RestsIfErr (the_row T.row C.row C.Cell) self.entry entry_lender result (λ t. t ≡ self.old)) }
     {
         match self.place_of(hash, eq) {
             Some(place) => Ok(OccupiedEntry { table: self, place }),
@@ -232,7 +253,7 @@ impl<T> OpenHashTable<T> {
     ///
     /// Where no more cells may be full or marked, it first costs a walk over all cells, which leaves no mark.
     #[inline(always)]
-    pub fn insert_unique(&mut self, hash: u64, value: T) -> OccupiedEntry<'_, T>
+    pub fn insert_unique(&mut self, hash: u64, value: T) -> OccupiedEntry<'_, T, C>
         requires { 1 ≤ room self.old }
         ensures pair { entry_pair result ≡ Some (hash, value) }
         ensures added { IsPermutation ((hash, value) ∷ entries self.old) (entries (entry_table result)) }
@@ -276,7 +297,7 @@ impl<T> OpenHashTable<T> {
         if self.len == 0 {
             return;
         }
-        rewrite_cells(self.cells.as_mut_slice(), f);
+        rewrite_cells(self.tags.as_slice(), self.cells.as_mut_slice(), f);
     }
 
     /// Removes every pair, and keeps the memory. Without a pair or a mark it looks at no cell.
@@ -335,7 +356,12 @@ impl<T> OpenHashTable<T> {
         let alloc = *self.cells.allocator();
         let mut tags = empty_tags(alloc, count)?;
         let mut cells = empty_cells(alloc, count)?;
-        move_cells(&mut self.cells, tags.as_mut_slice(), cells.as_mut_slice());
+        move_cells(
+            self.tags.as_slice(),
+            &mut self.cells,
+            tags.as_mut_slice(),
+            cells.as_mut_slice(),
+        );
         self.tags = tags;
         mem::replace(&mut self.cells, cells).destroy_empty();
         self.used = self.len;
@@ -348,7 +374,7 @@ impl<T> OpenHashTable<T> {
     }
 }
 
-impl<T> fmt::Debug for OpenHashTable<T> {
+impl<T, C: Cell<T>> fmt::Debug for OpenHashTable<T, C> {
     fn fmt<W: fmt::Write>(&self, f: &mut fmt::Formatter<W>) -> fmt::Result {
         let len = self.len;
         let cells = self.cells.len();

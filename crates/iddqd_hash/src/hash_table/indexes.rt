@@ -9,7 +9,7 @@ ghost use Rattle.iddqd_hash.specs.HashTable.{KeepsMemory};
 ghost use Rattle.iddqd_hash.specs.MapHashTable.{filed, indexes_of, pairs_of};
 
 use super::MapHashTable;
-use crate::open_table::TableIter;
+use crate::open_table::{IndexCell, TableIter};
 use iddqd::item_index::ItemIndex;
 use std::fmt;
 use std::iter::FusedIterator;
@@ -20,7 +20,7 @@ use std::marker::Model;
 /// It takes no memory.
 #[derive(Drop)]
 pub struct Indexes<'a> {
-    values: TableIter<'a, ItemIndex>,
+    values: TableIter<'a, ItemIndex, IndexCell>,
 }
 
 impl<'a> Model for Indexes<'a> {

@@ -6,7 +6,7 @@ ghost use Rattle.std.specs.List.Sorted.{IsPermutation};
 ghost use Rattle.iddqd_hash.specs.MapHashTable.{filed, indexes_under};
 
 use super::MapHashTable;
-use crate::open_table::IterHash;
+use crate::open_table::{IndexCell, IterHash};
 use iddqd::item_index::ItemIndex;
 use iddqd::map_hash::MapHash;
 use std::fmt;
@@ -18,7 +18,7 @@ use std::marker::Model;
 /// It takes no memory.
 #[derive(Drop)]
 pub struct IndexesUnder<'a> {
-    values: IterHash<'a, ItemIndex>,
+    values: IterHash<'a, ItemIndex, IndexCell>,
 }
 
 impl<'a> Model for IndexesUnder<'a> {

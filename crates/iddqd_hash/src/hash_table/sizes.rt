@@ -16,7 +16,7 @@ impl MapHashTable {
         ensures memory { TakesRoom capacity result }
     {
         Ok(MapHashTable {
-            table: OpenHashTable::with_capacity(alloc, capacity)?,
+            table: OpenHashTable::of_cells_with_capacity(alloc, capacity)?,
         })
     }
 

@@ -7,36 +7,18 @@ ghost use Rattle.iddqd_hash.specs.OpenWalk.{IsInSixteens};
 ghost use Rattle.iddqd_hash.specs.HashTable.{entries, memory, Rewrites};
 
 use super::OpenHashTable;
-use super::cells::Cell;
+use super::cell_kinds::Cell;
+use super::cells::pair_at;
 use super::memory::{copied_exactly, empty_cells};
 use super::places::FullPlaces;
 use std::alloc::{AllocError, Global};
+use std::marker::PhantomData;
 
-impl<T: Clone> Clone for Cell<T> {
-    ghost use Rattle.iddqd_hash.specs.OpenTable.{pair_in};
-    ghost use Rattle.iddqd_hash.specs.Clones.{IsSlotClone};
-
-    ghost is_clone = { λ cell copy. IsSlotClone T.is_clone (pair_in cell) (pair_in copy) };
-
-    fn clone(&self) -> Result<Cell<T>, AllocError> {
-        match &self.value {
-            Some(value) => Ok(Cell {
-                hash: self.hash,
-                value: Some(value.clone()?),
-            }),
-            None => Ok(Cell {
-                hash: 0,
-                value: None,
-            }),
-        }
-    }
-}
-
-impl<T: Copy> OpenHashTable<T> {
+impl<T, C: Cell<T> + Copy> OpenHashTable<T, C> {
     /// A table with the same value: its memory, copied as it is, with no look at a cell.
     ///
     /// An `AllocError` means that memory was refused.
-    pub(crate) fn copied(&self) -> Result<OpenHashTable<T>, AllocError>
+    pub(crate) fn copied(&self) -> Result<OpenHashTable<T, C>, AllocError>
         ensures { IfOk result (λ copy. copy ≡ self.now) }
     {
         let alloc = *self.tags.allocator();
@@ -47,19 +29,20 @@ impl<T: Copy> OpenHashTable<T> {
             cells,
             len: self.len,
             used: self.used,
+            value_type: PhantomData,
         })
     }
 }
 
 /// A copy has no more cells than the table. Each pair keeps its place, so no hash is looked at. Where memory is
 /// refused, the clones made so far are dropped.
-impl<T: Clone> Clone for OpenHashTable<T> {
+impl<T: Clone, C: Cell<T> + Drop> Clone for OpenHashTable<T, C> {
     ghost use Rattle.iddqd_hash.specs.HashTable.{entries, Rewrites};
 
     // A clone of each value under the hash of that value, and no other.
     ghost is_clone = { λ t copy. Rewrites T.is_clone (entries t) (entries copy) };
 
-    fn clone(&self) -> Result<OpenHashTable<T>, AllocError>
+    fn clone(&self) -> Result<OpenHashTable<T, C>, AllocError>
         ensures cases { MatchResult result (λ copy. Rewrites T.is_clone (entries self.now) (entries copy)) (λ _. ¬ ⊥) }
         ensures memory { IfOk result (λ copy. memory copy ≤ memory self.now) }
     {
@@ -69,33 +52,36 @@ impl<T: Clone> Clone for OpenHashTable<T> {
             cells: cloned_cells(alloc, self.tags.as_slice(), self.cells.as_slice(), self.len)?,
             len: self.len,
             used: self.used,
+            value_type: PhantomData,
         })
     }
 }
 
 // A clone of each value in the place of that value, in memory for so many cells and no more. Going from one full cell
 // to the next guesses fewer branches wrong than a test of each cell.
-fn cloned_cells<T: Clone>(
+fn cloned_cells<T: Clone, C: Cell<T> + Drop>(
     alloc: Global,
     tags: &[u8],
-    cells: &[Cell<T>],
+    cells: &[C],
     len: usize,
-) -> Result<Vec<Cell<T>>, AllocError>
+) -> Result<Vec<C>, AllocError>
     requires sixteens { IsInSixteens (length tags.now) }
-    requires probed { IsProbed tags.now (slots_of cells.now) }
-    requires len { len ≡ length (pairs (slots_of cells.now)) }
+    requires probed { IsProbed tags.now (slots_of C.slot tags.now cells.now) }
+    requires len { len ≡ length (pairs (slots_of C.slot tags.now cells.now)) }
     ensures clones { IfOk result (λ copies.
-        AllZip (IsSlotClone T.is_clone) (slots_of cells.now) (slots_of copies.items)) }
+        AllZip (IsSlotClone T.is_clone) (slots_of C.slot tags.now cells.now) (slots_of C.slot tags.now copies.items)) }
     ensures len { IfOk result (λ copies. vec_len copies ≡ length cells.now) }
     ensures exact { IfOk result IsExact }
 {
-    let mut copies = empty_cells(alloc, cells.len())?;
+    let mut copies: Vec<C> = empty_cells(alloc, cells.len())?;
     let mut places = FullPlaces::new();
     let mut left = len;
     'cloning: while left > 0 {
         let here = places.next(tags);
         left -= 1;
-        copies[here] = cells[here].clone()?;
+        let pair = pair_at(tags, cells, here);
+        let copy = pair.1.clone()?;
+        copies[here].fill(pair.0, copy);
     }
     Ok(copies)
 }

@@ -6,17 +6,18 @@ ghost use Rattle.iddqd_hash.specs.Asks.{CanAsk, HitsPair, Misses};
 ghost use Rattle.iddqd_hash.specs.Entries.{IsVacancy};
 ghost use Rattle.iddqd_hash.specs.HashTable.{entries, room, under};
 
+use super::cell_kinds::{Cell, OptionCell};
 use super::{OccupiedEntry, OpenHashTable};
 use crate::table_entry::{self, PairCells};
 use std::alloc::AllocError;
 
 /// Where a value that was looked up stands, or could stand.
-pub type Entry<'a, T> = table_entry::Entry<'a, OpenHashTable<T>>;
+pub type Entry<'a, T, C = OptionCell<T>> = table_entry::Entry<'a, OpenHashTable<T, C>>;
 
 /// Room for one pair under a hash. An entry that is let go leaves the pairs as they were.
-pub type VacantEntry<'a, T> = table_entry::VacantEntry<'a, OpenHashTable<T>>;
+pub type VacantEntry<'a, T, C = OptionCell<T>> = table_entry::VacantEntry<'a, OpenHashTable<T, C>>;
 
-impl<T> OpenHashTable<T> {
+impl<T, C: Cell<T>> OpenHashTable<T, C> {
     ghost use Rattle.std.specs.Borrow.{RestsIfErr, sem};
     ghost use Rattle.iddqd_hash.specs.contracts.open_table.OpenHashTable.{the_row};
     ghost use Rattle.iddqd_hash.specs.TableEntry.{entry_table, entry_pair, vacant_table, vacant_hash, lender_of, IfOccupied, IfVacant, UnlessOccupied};
@@ -29,7 +30,7 @@ impl<T> OpenHashTable<T> {
         &mut self,
         hash: u64,
         eq: F,
-    ) -> Result<Entry<'_, T>, AllocError>
+    ) -> Result<Entry<'_, T, C>, AllocError>
         requires { CanAsk (TakesAt F.FnMut) (CalledAt F.FnMut) eq (under hash (entries self.old)) }
 
         // A hit is a pair under the hash, in the table as it was, and the asks that led to it.
@@ -45,7 +46,7 @@ impl<T> OpenHashTable<T> {
 
         // An entry borrows the table, and without one it is as it was.
         ensures same_reference { IfOk result (λ e. lender_of e ≡ self.entry.ghost_name) }
-        ensures* unchanged { sem 𝓛 (RestsIfErr (the_row T.row) self.entry lender_of result (λ t. t ≡ self.old)) }
+        ensures* unchanged { sem 𝓛 (RestsIfErr (the_row T.row C.row C.Cell) self.entry lender_of result (λ t. t ≡ self.old)) }
     {
         if let Some(place) = self.place_of(hash, eq) {
             return Ok(Entry::Occupied(OccupiedEntry { table: self, place }));

@@ -6,25 +6,27 @@ ghost use Rattle.std.specs.List.Sorted.{IsPermutation};
 ghost use Rattle.iddqd_hash.specs.HashTable.{entries, values};
 
 use super::OpenHashTable;
-use super::cells::{Cell, value_in};
+use super::cell_kinds::{Cell, OptionCell};
+use super::cells::pair_at;
 use super::places::FullPlaces;
 use std::fmt;
 use std::iter::FusedIterator;
-use std::marker::Model;
+use std::marker::{Model, PhantomData};
 
 /// The values of a table, each once, in no order that a caller can rely on. Once it has ended it stays ended.
 ///
 /// It takes no memory.
 #[derive(Drop)]
-pub struct TableIter<'a, T> {
+pub struct TableIter<'a, T, C: Cell<T> = OptionCell<T>> {
     tags: &'a [u8],
-    cells: &'a [Cell<T>],
+    cells: &'a [C],
     places: FullPlaces,
     // How many values are still to come.
     left: usize,
+    value_type: PhantomData<&'a T>,
 }
 
-impl<'a, T> Model for TableIter<'a, T> {
+impl<'a, T, C: Cell<T>> Model for TableIter<'a, T, C> {
     ghost use Rattle.std.specs.Prelude.{List, drop};
     ghost use Rattle.iddqd_hash.specs.HashTable.{values};
     ghost use Rattle.iddqd_hash.specs.OpenTable.{pairs, slots_of};
@@ -32,15 +34,15 @@ impl<'a, T> Model for TableIter<'a, T> {
 
     ghost Value = { List T };
 
-    ghost view = { λ it. values (pairs (drop it.places.at (slots_of it.cells.now))) };
+    ghost view = { λ it. values (pairs (drop it.places.at (slots_of C.slot it.tags.now it.cells.now))) };
 
-    ghost invariant = { λ it. IsWalk it.tags.now (slots_of it.cells.now)
+    ghost invariant = { λ it. IsWalk it.tags.now (slots_of C.slot it.tags.now it.cells.now)
         it.places.at it.places.end it.places.mask it.left };
 }
 
-impl<T> OpenHashTable<T> {
+impl<T, C: Cell<T>> OpenHashTable<T, C> {
     /// The values, each once. A whole walk looks at the tags of sixteen cells at a time.
-    pub fn iter(&self) -> TableIter<'_, T>
+    pub fn iter(&self) -> TableIter<'_, T, C>
         ensures { IsPermutation (values (entries self.now)) result }
     {
         TableIter {
@@ -48,11 +50,12 @@ impl<T> OpenHashTable<T> {
             cells: self.cells.as_slice(),
             places: FullPlaces::new(),
             left: self.len,
+            value_type: PhantomData,
         }
     }
 }
 
-impl<'a, T> Iterator for TableIter<'a, T> {
+impl<'a, T, C: Cell<T>> Iterator for TableIter<'a, T, C> {
     type Item = &'a T;
 
     ghost next_gives = { YieldsFirstRef (λ rest. rest) };
@@ -65,7 +68,7 @@ impl<'a, T> Iterator for TableIter<'a, T> {
         }
         let here = self.places.next(self.tags);
         self.left -= 1;
-        Some(value_in(&self.cells[here]))
+        Some(pair_at(self.tags, self.cells, here).1)
     }
 
     fn size_hint(&self) -> (usize, Option<usize>)
@@ -78,15 +81,15 @@ impl<'a, T> Iterator for TableIter<'a, T> {
     }
 }
 
-impl<'a, T> ExactSizeIterator for TableIter<'a, T> {
+impl<'a, T, C: Cell<T>> ExactSizeIterator for TableIter<'a, T, C> {
     fn len(&self) -> usize {
         self.left
     }
 }
 
-impl<'a, T> FusedIterator for TableIter<'a, T> {}
+impl<'a, T, C: Cell<T>> FusedIterator for TableIter<'a, T, C> {}
 
-impl<'a, T> fmt::Debug for TableIter<'a, T> {
+impl<'a, T, C: Cell<T>> fmt::Debug for TableIter<'a, T, C> {
     fn fmt<W: fmt::Write>(&self, f: &mut fmt::Formatter<W>) -> fmt::Result {
         f.debug_struct("TableIter")
             .field("remaining", &self.left)

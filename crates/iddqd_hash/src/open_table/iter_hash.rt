@@ -6,41 +6,43 @@ ghost use Rattle.std.specs.List.Sorted.{IsPermutation};
 ghost use Rattle.iddqd_hash.specs.HashTable.{entries, under};
 
 use super::OpenHashTable;
-use super::cells::{Cell, near_match, value_in};
+use super::cell_kinds::{Cell, OptionCell};
+use super::cells::{near_match, pair_at};
 use super::tags::{home_of, next};
 use std::fmt;
 use std::iter::FusedIterator;
-use std::marker::Model;
+use std::marker::{Model, PhantomData};
 
 /// The values under a hash, each once, in no order that a caller can rely on. Once it has ended it stays ended.
 ///
 /// It takes no memory.
 #[derive(Drop)]
-pub struct IterHash<'a, T> {
+pub struct IterHash<'a, T, C: Cell<T> = OptionCell<T>> {
     tags: &'a [u8],
-    cells: &'a [Cell<T>],
+    cells: &'a [C],
     hash: u64,
     // Where the walk goes on, unless it has ended.
     from: Option<usize>,
     // How many pairs the table has.
     len: usize,
+    value_type: PhantomData<&'a T>,
 }
 
-impl<'a, T> Model for IterHash<'a, T> {
+impl<'a, T, C: Cell<T>> Model for IterHash<'a, T, C> {
     ghost use Rattle.std.specs.Prelude.{List};
     ghost use Rattle.iddqd_hash.specs.OpenTable.{slots_of};
     ghost use Rattle.iddqd_hash.specs.OpenWalkUnder.{rest_under, IsWalkUnder};
 
     ghost Value = { List T };
 
-    ghost view = { λ it. rest_under it.hash (slots_of it.cells.now) it.from };
+    ghost view = { λ it. rest_under it.hash (slots_of C.slot it.tags.now it.cells.now) it.from };
 
-    ghost invariant = { λ it. IsWalkUnder it.tags.now (slots_of it.cells.now) it.hash it.from it.len };
+    ghost invariant = { λ it. IsWalkUnder it.tags.now (slots_of C.slot it.tags.now it.cells.now) it.hash it.from it.len };
 }
 
-impl<T> OpenHashTable<T> {
+impl<T, C: Cell<T>> OpenHashTable<T, C> {
     /// The values under a hash, each once. A whole walk reads what a look-up reads that misses.
-    pub fn iter_hash(&self, hash: u64) -> IterHash<'_, T>
+    pub fn iter_hash(&self, hash: u64) -> IterHash<'_, T, C>
         ensures { IsPermutation (under hash (entries self.now)) result }
     {
         let count = self.tags.len();
@@ -54,11 +56,12 @@ impl<T> OpenHashTable<T> {
                 Some(home_of(hash, count))
             },
             len: self.len,
+            value_type: PhantomData,
         }
     }
 }
 
-impl<'a, T> Iterator for IterHash<'a, T> {
+impl<'a, T, C: Cell<T>> Iterator for IterHash<'a, T, C> {
     type Item = &'a T;
 
     ghost next_gives = { YieldsFirstRef (λ rest. rest) };
@@ -70,7 +73,7 @@ impl<'a, T> Iterator for IterHash<'a, T> {
         match near_match(self.tags, self.cells, from, self.hash) {
             Some(place) => {
                 self.from = Some(next(place, self.tags.len()));
-                Some(value_in(&self.cells[place]))
+                Some(pair_at(self.tags, self.cells, place).1)
             }
             None => {
                 self.from = None;
@@ -89,9 +92,9 @@ impl<'a, T> Iterator for IterHash<'a, T> {
     }
 }
 
-impl<'a, T> FusedIterator for IterHash<'a, T> {}
+impl<'a, T, C: Cell<T>> FusedIterator for IterHash<'a, T, C> {}
 
-impl<'a, T> fmt::Debug for IterHash<'a, T> {
+impl<'a, T, C: Cell<T>> fmt::Debug for IterHash<'a, T, C> {
     fn fmt<W: fmt::Write>(&self, f: &mut fmt::Formatter<W>) -> fmt::Result {
         f.debug_struct("IterHash")
             .field("hash", &self.hash)

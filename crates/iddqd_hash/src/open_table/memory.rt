@@ -5,7 +5,7 @@
 ghost use Rattle.std.specs.Prelude.{◌≡◌, None, IfOk, replicate, vec_len};
 ghost use Rattle.iddqd_hash.specs.OpenTable.{slots_of, IsExact};
 
-use super::cells::Cell;
+use super::cell_kinds::Cell;
 use std::alloc::{AllocError, Global};
 
 /// The tags of so many empty cells.
@@ -20,17 +20,14 @@ pub fn empty_tags(alloc: Global, count: usize) -> Result<Vec<u8>, AllocError>
 }
 
 /// So many empty cells.
-pub fn empty_cells<T>(alloc: Global, count: usize) -> Result<Vec<Cell<T>>, AllocError>
-    ensures cells { IfOk result (λ cells. slots_of cells.items ≡ replicate count None) }
+pub fn empty_cells<T, C: Cell<T>>(alloc: Global, count: usize) -> Result<Vec<C>, AllocError>
+    ensures cells { IfOk result (λ cells. slots_of C.slot (replicate count 0) cells.items ≡ replicate count None) }
     ensures len { IfOk result (λ cells. vec_len cells ≡ count) }
     ensures exact { IfOk result IsExact }
 {
     let mut cells = Vec::with_capacity(alloc, count)?;
     'empty: for _ in 0..count {
-        cells.push_reserved(Cell {
-            hash: 0,
-            value: None,
-        });
+        cells.push_reserved(C::empty());
     }
     Ok(cells)
 }

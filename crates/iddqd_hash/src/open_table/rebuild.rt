@@ -12,24 +12,29 @@ ghost use Rattle.std.specs.List.Sorted.{IsPermutation};
 ghost use Rattle.iddqd_hash.specs.OpenTable.{tag_of, limit_of, is_used, slots_of, slot_at, pairs, IsPowerOfTwo, IsProbed};
 ghost use Rattle.iddqd_hash.specs.OpenRebuild.{pending, IsPartlyPlaced, NoMorePending};
 
-use crate::open_table::cells::{Cell, put};
+use crate::open_table::cell_kinds::Cell;
+use crate::open_table::cells::{put, take};
 use crate::open_table::tags::{free_place, limit_of, tag_of};
-use std::mem;
 
-// The tag of a cell whose pair isn't placed yet. It is that of a mark, since no cell is marked during a rebuild.
-const PENDING: u8 = 1;
+// The tag of a cell whose pair isn't placed yet.
+const PENDING: u8 = 2;
 
 /// Rebuilds a table where no more cells may be full or marked. Returns how many are then.
 ///
 /// So a pair that is added next finds an empty cell that it may fill, or a mark.
-pub fn rebuild_at_limit<T>(tags: &mut [u8], cells: &mut [Cell<T>], used: usize, len: usize) -> usize
+pub fn rebuild_at_limit<T, C: Cell<T>>(
+    tags: &mut [u8],
+    cells: &mut [C],
+    used: usize,
+    len: usize,
+) -> usize
     requires power { IsPowerOfTwo (length tags.old) }
-    requires probed { IsProbed tags.old (slots_of cells.old) }
+    requires probed { IsProbed tags.old (slots_of C.slot tags.old cells.old) }
     requires used { used ≡ count_by is_used tags.old }
-    requires len { len ≡ length (pairs (slots_of cells.old)) }
+    requires len { len ≡ length (pairs (slots_of C.slot tags.old cells.old)) }
     requires fits { len < limit_of (length tags.old) }
-    ensures moved { IsPermutation (pairs (slots_of cells.old)) (pairs (slots_of cells.new)) }
-    ensures probed { IsProbed tags.new (slots_of cells.new) }
+    ensures moved { IsPermutation (pairs (slots_of C.slot tags.old cells.old)) (pairs (slots_of C.slot tags.new cells.new)) }
+    ensures probed { IsProbed tags.new (slots_of C.slot tags.new cells.new) }
     ensures used { result ≡ count_by is_used tags.new }
     ensures limited { result < limit_of (length tags.old) }
 {
@@ -44,13 +49,13 @@ pub fn rebuild_at_limit<T>(tags: &mut [u8], cells: &mut [Cell<T>], used: usize, 
 // of each pair.
 #[cold]
 #[inline(never)]
-fn rebuild<T>(tags: &mut [u8], cells: &mut [Cell<T>])
+fn rebuild<T, C: Cell<T>>(tags: &mut [u8], cells: &mut [C])
     requires power { IsPowerOfTwo (length tags.old) }
-    requires probed { IsProbed tags.old (slots_of cells.old) }
-    requires fits { length (pairs (slots_of cells.old)) ≤ limit_of (length tags.old) }
-    ensures moved { IsPermutation (pairs (slots_of cells.old)) (pairs (slots_of cells.new)) }
-    ensures probed { IsProbed tags.new (slots_of cells.new) }
-    ensures unmarked { count_by is_used tags.new ≡ length (pairs (slots_of cells.new)) }
+    requires probed { IsProbed tags.old (slots_of C.slot tags.old cells.old) }
+    requires fits { length (pairs (slots_of C.slot tags.old cells.old)) ≤ limit_of (length tags.old) }
+    ensures moved { IsPermutation (pairs (slots_of C.slot tags.old cells.old)) (pairs (slots_of C.slot tags.new cells.new)) }
+    ensures probed { IsProbed tags.new (slots_of C.slot tags.new cells.new) }
+    ensures unmarked { count_by is_used tags.new ≡ length (pairs (slots_of C.slot tags.new cells.new)) }
 {
     reset_tags(tags);
     for at in 0..tags.len() {
@@ -80,18 +85,18 @@ fn reset_tag(tag: u8) -> u8
 }
 
 // Places the pair of a pending cell, and then each pair whose cell the one before took.
-fn place_pending<T>(tags: &mut [u8], cells: &mut [Cell<T>], at: usize)
+fn place_pending<T, C: Cell<T>>(tags: &mut [u8], cells: &mut [C], at: usize)
     requires power { IsPowerOfTwo (length tags.old) }
-    requires partly_placed { IsPartlyPlaced tags.old (slots_of cells.old) }
-    requires fits { length (pairs (slots_of cells.old)) ≤ limit_of (length tags.old) }
+    requires partly_placed { IsPartlyPlaced tags.old (slots_of C.slot tags.old cells.old) }
+    requires fits { length (pairs (slots_of C.slot tags.old cells.old)) ≤ limit_of (length tags.old) }
     requires inside { at < length tags.old }
     requires pending { slice_index tags.old at ≡ pending }
-    ensures moved { IsPermutation (pairs (slots_of cells.old)) (pairs (slots_of cells.new)) }
-    ensures partly_placed { IsPartlyPlaced tags.new (slots_of cells.new) }
+    ensures moved { IsPermutation (pairs (slots_of C.slot tags.old cells.old)) (pairs (slots_of C.slot tags.new cells.new)) }
+    ensures partly_placed { IsPartlyPlaced tags.new (slots_of C.slot tags.new cells.new) }
     ensures not_pending { slice_index tags.new at ≢ pending }
     ensures no_more { NoMorePending tags.old tags.new }
 {
-    let (mut hash, mut value) = take_unmarked(tags, cells, at);
+    let (mut hash, mut value) = take(tags, cells, at, 0);
     let mut place = free_place(tags, hash);
     'placing: while tags[place] == PENDING {
         (hash, value) = replace_pair(tags, cells, place, hash, value);
@@ -100,43 +105,22 @@ fn place_pending<T>(tags: &mut [u8], cells: &mut [Cell<T>], at: usize)
     put(tags, cells, place, hash, value);
 }
 
-// Takes a pair out of its cell, which is empty then.
-fn take_unmarked<T>(tags: &mut [u8], cells: &mut [Cell<T>], place: usize) -> (u64, T)
-    requires inside { place < length tags.old }
-    requires same_length { length cells.old ≡ length tags.old }
-    requires full { IsSome (slot_at (slots_of cells.old) place) }
-    ensures pair { slot_at (slots_of cells.old) place ≡ Some result }
-    ensures tags { tags.new ≡ slice_set tags.old place 0 }
-    ensures slots { slots_of cells.new ≡ slice_set (slots_of cells.old) place None }
-{
-    tags[place] = 0;
-    let cell = &mut cells[place];
-    match cell.value.take() {
-        Some(value) => (cell.hash, value),
-        None => unreachable!(),
-    }
-}
-
 // Puts a pair into a cell, and takes out the one that stood there.
-fn replace_pair<T>(
+fn replace_pair<T, C: Cell<T>>(
     tags: &mut [u8],
-    cells: &mut [Cell<T>],
+    cells: &mut [C],
     place: usize,
     hash: u64,
     value: T,
 ) -> (u64, T)
     requires inside { place < length tags.old }
     requires same_length { length cells.old ≡ length tags.old }
-    requires full { IsSome (slot_at (slots_of cells.old) place) }
-    ensures pair { slot_at (slots_of cells.old) place ≡ Some result }
+    requires full { IsSome (slot_at (slots_of C.slot tags.old cells.old) place) }
+    ensures pair { slot_at (slots_of C.slot tags.old cells.old) place ≡ Some result }
     ensures tags { tags.new ≡ slice_set tags.old place (tag_of hash) }
-    ensures slots { slots_of cells.new ≡ slice_set (slots_of cells.old) place (Some (hash, value)) }
+    ensures slots { slots_of C.slot tags.new cells.new
+        ≡ slice_set (slots_of C.slot tags.old cells.old) place (Some (hash, value)) }
 {
     tags[place] = tag_of(hash);
-    let cell = &mut cells[place];
-    let hash = mem::replace(&mut cell.hash, hash);
-    match cell.value.replace(value) {
-        Some(value) => (hash, value),
-        None => unreachable!(),
-    }
+    cells[place].replace(hash, value)
 }

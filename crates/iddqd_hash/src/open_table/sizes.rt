@@ -7,10 +7,11 @@ ghost use Rattle.iddqd_hash.specs.OpenTableSizes.{FewerCells};
 ghost use Rattle.iddqd_hash.specs.Sizes.{Reserves, most_cells, TakesRoom, Shrinks};
 
 use super::OpenHashTable;
-use super::cells::Cell;
+use super::cell_kinds::Cell;
 use super::memory::{empty_cells, empty_tags};
-use super::tags::{count_for, usable_of};
+use super::tags::{count_for, has_pair, usable_of};
 use std::alloc::{AllocError, Global};
+use std::marker::PhantomData;
 use std::mem;
 
 impl<T> OpenHashTable<T> {
@@ -19,8 +20,21 @@ impl<T> OpenHashTable<T> {
         ensures empty { IfOk result (λ t. entries t ≡ []) }
         ensures memory { TakesRoom capacity result }
     {
+        OpenHashTable::of_cells_with_capacity(alloc, capacity)
+    }
+}
+
+impl<T, C: Cell<T>> OpenHashTable<T, C> {
+    /// The same as `with_capacity`, of any cells.
+    pub fn of_cells_with_capacity(
+        alloc: Global,
+        capacity: usize,
+    ) -> Result<OpenHashTable<T, C>, AllocError>
+        ensures empty { IfOk result (λ t. entries t ≡ []) }
+        ensures memory { TakesRoom capacity result }
+    {
         if capacity == 0 {
-            return Ok(OpenHashTable::new(alloc));
+            return Ok(OpenHashTable::of_cells(alloc));
         }
         let count = count_for(capacity).ok_or(AllocError)?;
         let tags = empty_tags(alloc, count)?;
@@ -30,6 +44,7 @@ impl<T> OpenHashTable<T> {
             cells,
             len: 0,
             used: 0,
+            value_type: PhantomData,
         })
     }
 
@@ -76,7 +91,7 @@ impl<T> OpenHashTable<T> {
         requires { entries self ≡ [] }
     {
         let mut cells = self.cells;
-        let_go(&mut cells);
+        let_go(self.tags.as_slice(), &mut cells);
         cells.destroy_empty();
     }
 
@@ -87,21 +102,21 @@ impl<T> OpenHashTable<T> {
         ensures memory { HasNoMemory self.new }
     {
         let alloc = *self.cells.allocator();
+        let_go(self.tags.as_slice(), &mut self.cells);
         self.tags = Vec::new(alloc);
-        let_go(&mut self.cells);
         mem::replace(&mut self.cells, Vec::new(alloc)).destroy_empty();
         self.used = 0;
     }
 }
 
 // Lets go of cells with no pair.
-fn let_go<T>(cells: &mut Vec<Cell<T>>)
-    requires { pairs (slots_of cells.old.items) ≡ [] }
+fn let_go<T, C: Cell<T>>(tags: &[u8], cells: &mut Vec<C>)
+    requires same_length { vec_len cells.old ≡ length tags.now }
+    requires empty { pairs (slots_of C.slot tags.now cells.old.items) ≡ [] }
     ensures { vec_len cells.new ≡ 0 }
 {
     'letting_go: while let Some(cell) = cells.pop() {
-        let Cell { hash: _, value } = cell;
-        match value {
+        match cell.into_pair(has_pair(tags[cells.len()])) {
             None => {}
             Some(_) => unreachable!(),
         }

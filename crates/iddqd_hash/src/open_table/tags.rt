@@ -4,7 +4,7 @@
 //! full, and the tag has the top seven bits of the hash. A walk goes from the home of a hash by steps of
 //! one, the first place after the last, up to an empty cell.
 ghost use Rattle.std.specs.Prelude.{◌≡◌, ◌+◌, ◌<◌, ◌≤◌, ◌%◌, true, length, slice_index, IfSome};
-ghost use Rattle.iddqd_hash.specs.OpenTable.{tag_of, limit_of, usable_of, is_stop, IsPowerOfTwo, HasEmpty, Skips, IsFree};
+ghost use Rattle.iddqd_hash.specs.OpenTable.{tag_of, has_pair, limit_of, usable_of, is_stop, IsPowerOfTwo, HasEmpty, Skips, IsFree};
 ghost use Rattle.iddqd_hash.specs.OpenRebuild.{IsPastFull};
 ghost use Rattle.iddqd_hash.specs.Sizes.{most_cells};
 
@@ -14,11 +14,22 @@ use crate::open_table::lanes::{first_stop, run_of_full, run_of_others};
 // far off, and the processor fetches that of the home before it has the tag.
 pub const LARGE: usize = 65536;
 
+/// The tag of a cell from which a pair was removed.
+pub const MARK: u8 = 1;
+
 /// The tag of a full cell.
 pub fn tag_of(hash: u64) -> u8
     ensures { result ≡ tag_of hash }
 {
     (hash >> 57) as u8 + 128
+}
+
+/// Whether the cell with this tag has a pair: it is full, or pending during a rebuild.
+#[inline(always)]
+pub fn has_pair(tag: u8) -> bool
+    ensures { result ≡ has_pair tag }
+{
+    tag > MARK
 }
 
 /// The place where a walk begins.

@@ -5,8 +5,8 @@ use Rattle.iddqd_hash.proofs.hash_table.MapHashTable.new.Goals as goal
 
 pub invariant_of-result : goal.invariant_of-result
 unfolding IsDistinct
-invariant_of-result c = rw c.new.ensures.empty tt
+invariant_of-result c = rw c.of_cells.ensures.empty tt
 
 pub returns-clause-empty : goal.returns-clause-empty
 unfolding filed
-returns-clause-empty c = ap filed_from c.new.ensures.empty
+returns-clause-empty c = ap filed_from c.of_cells.ensures.empty

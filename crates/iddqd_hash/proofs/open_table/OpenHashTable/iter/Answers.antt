@@ -9,4 +9,4 @@ invariant_of-result g c =
     (IsWalk-start _ _ _ _ _ _ _ c.self.invariant.sound c.new.ensures.at c.new.ensures.end c.new.ensures.mask)
 
 pub returns : goal.returns
-returns g c = rw (← c.self.view_is, entries-opened, c.as_slice-2.ensures.value, c.new.ensures.at) (IsPermutation-refl _)
+returns g c = rw (← c.self.view_is, entries-opened, c.as_slice.ensures.value, c.as_slice-2.ensures.value, c.new.ensures.at) (IsPermutation-refl _)

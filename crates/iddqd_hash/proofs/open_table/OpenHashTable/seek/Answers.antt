@@ -17,7 +17,7 @@ pub find_cell-requires-clause-probed : goal.find_cell-requires-clause-probed
 find_cell-requires-clause-probed g c = rw (c.as_slice.ensures.value, c.as_slice-2.ensures.value) c.self.invariant.sound.probed
 
 pub find_cell-requires-clause-callable : goal.find_cell-requires-clause-callable
-find_cell-requires-clause-callable g c = rw c.as_slice-2.ensures.value (rw (← c.self.view_is, entries-opened) at c.requires)
+find_cell-requires-clause-callable g c = rw (c.as_slice.ensures.value, c.as_slice-2.ensures.value) (rw (← c.self.view_is, entries-opened) at c.requires)
 
 pub returns-then-count-eq0-clause-place : goal.returns-then-count-eq0-clause-place
 returns-then-count-eq0-clause-place g c =
@@ -26,8 +26,8 @@ returns-then-count-eq0-clause-place g c =
 
 pub returns-clause-place : goal.returns-clause-place
 returns-clause-place g c =
-    rw (← c.self.view_is, entries-opened, ← c.as_slice-2.ensures.value) (FindsPlace-opened (CalledAt g.F.FnMut) _ _ _ _ _ c.find_cell.ensures.place)
+    rw (← c.self.view_is, entries-opened, ← c.as_slice.ensures.value, ← c.as_slice-2.ensures.value) (FindsPlace-opened (CalledAt g.F.FnMut) _ _ _ _ _ c.find_cell.ensures.place)
 
 pub returns-clause-value : goal.returns-clause-value
 returns-clause-value g c =
-    rw (← c.self.view_is, ← c.as_slice-2.ensures.value) (IfSome-opened (λ value. value.now) _ _ c.find_cell.result c.find_cell.ensures.value)
+    rw (← c.self.view_is, ← c.as_slice.ensures.value, ← c.as_slice-2.ensures.value) (IfSome-opened (λ value. value.now) _ _ c.find_cell.result c.find_cell.ensures.value)

@@ -1,25 +1,26 @@
-use Rattle.std.proofs.Common.{◌∙◌, IsSome, subst, arith}
+use Rattle.std.proofs.Common.{◌<◌, IsSome, length, arith}
 use Rattle.iddqd_hash.specs.OpenTable.{slots_of, slot_at}
-use Rattle.iddqd_hash.proofs.OpenTableLemmas.{pair_at-opened, cells_long}
-use Rattle.iddqd_hash.proofs.OpenSlotLemmas.{some_inside}
-use Rattle.iddqd_hash.proofs.OpenLookupLemmas.{slot_read}
+use Rattle.iddqd_hash.proofs.OpenTableLemmas.{pair_at-opened}
+use Rattle.iddqd_hash.proofs.OpenSlotLemmas.{some_inside, some_is}
+use Rattle.iddqd_hash.proofs.OpenLookupLemmas.{tag_read}
 use Rattle.iddqd_hash.proofs.open_table.OpenHashTablePairCells.pair_at.Goals as goal
 
-pub index-cell-requires : goal.index-cell-requires
-index-cell-requires g c =
-    let some : IsSome (slot_at (slots_of c.self.inside.cells.items) c.args.place) = rw (← c.self.view_is, pair_at-opened) at c.requires in
-    omega (arith, some_inside (slots_of c.self.inside.cells.items) c.args.place some, cells_long c.self.inside.cells.items)
+pub pair_at-requires-clause-inside : goal.pair_at-requires-clause-inside
+pair_at-requires-clause-inside g c =
+    let slots = slots_of g.C.Cell.slot c.self.inside.tags.items c.self.inside.cells.items in
+    let some : IsSome (slot_at slots c.args.place) = rw (← c.self.view_is, pair_at-opened) at c.requires in
+    rw c.as_slice.ensures.value (omega (arith, some_inside slots c.args.place some, c.self.invariant.sound.probed.same_length))
 
-pub value_in-requires : goal.value_in-requires
-value_in-requires g c =
-    let some : IsSome (slot_at (slots_of c.self.inside.cells.items) c.args.place) = rw (← c.self.view_is, pair_at-opened) at c.requires in
-    let inside = some_inside (slots_of c.self.inside.cells.items) c.args.place some in
-    let read = slot_read _ c.self.inside.cells.items c.args.place c.index-cell.result.now (omega (arith, c.self.invariant.sound.probed.same_length)) c.index-cell.ensures c.self.invariant.sound.probed in
-    subst (λ o. IsSome o) read some
+pub pair_at-requires-clause-probed : goal.pair_at-requires-clause-probed
+pair_at-requires-clause-probed g c = rw (c.as_slice.ensures.value, c.as_slice-2.ensures.value) c.self.invariant.sound.probed
+
+pub pair_at-requires-clause-full : goal.pair_at-requires-clause-full
+pair_at-requires-clause-full g c =
+    let slots = slots_of g.C.Cell.slot c.self.inside.tags.items c.self.inside.cells.items in
+    let some : IsSome (slot_at slots c.args.place) = rw (← c.self.view_is, pair_at-opened) at c.requires in
+    let pair = some_is _ some in
+    let inside : c.args.place < length c.self.inside.tags.items = omega (arith, some_inside slots c.args.place some, c.self.invariant.sound.probed.same_length) in
+    rw c.as_slice.ensures.value (omega (arith, tag_read _ slots _ pair.0.0 pair.0.1 inside c.self.invariant.sound.probed pair.1))
 
 pub returns : goal.returns
-returns g c =
-    let some : IsSome (slot_at (slots_of c.self.inside.cells.items) c.args.place) = rw (← c.self.view_is, pair_at-opened) at c.requires in
-    let inside = some_inside (slots_of c.self.inside.cells.items) c.args.place some in
-    let read = slot_read _ c.self.inside.cells.items c.args.place c.index-cell.result.now (omega (arith, c.self.invariant.sound.probed.same_length)) c.index-cell.ensures c.self.invariant.sound.probed in
-    rw (← c.self.view_is, pair_at-opened) (read ∙ c.value_in.ensures)
+returns g c = rw (← c.self.view_is, pair_at-opened, ← c.as_slice.ensures.value, ← c.as_slice-2.ensures.value) c.pair_at.ensures

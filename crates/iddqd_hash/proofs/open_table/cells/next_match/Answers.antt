@@ -1,22 +1,19 @@
-use Rattle.iddqd_hash.proofs.OpenTableLemmas.{cells_long}
 use Rattle.std.proofs.Common.{◌≢◌, ◌∙◌, ◌+◌, ◌%◌, ◌<◌, ◌≤◌, Some, length, slice_index, sym, arith}
 use Rattle.iddqd_hash.specs.OpenTable.{slots_of, slot_at, Skips}
 use Rattle.iddqd_hash.proofs.OpenWalkLemmas.{places_left, places_left-next, places_left-on, IsReached-next}
 use Rattle.iddqd_hash.proofs.OpenSkipLemmas.{IsReached-skips, PassesBy-skips}
 use Rattle.iddqd_hash.proofs.OpenLookupLemmas.{PassesBy-start, PassesBy-next, PassesBy-inside, full_read, hash_read, tag_read}
 use Rattle.iddqd_hash.proofs.open_table.cells.next_match.Goals as goal
-use Rattle.iddqd_hash.proofs.open_table.cells.next_match.Goals.{else-tags-at-via-then-tags-at+else-cells-at, else-tags-at-via-else-tags-at}
+use Rattle.iddqd_hash.proofs.open_table.cells.next_match.Goals.{else-tags-at-via-then-tags-at+else-pair_at-hash, else-tags-at-via-else-tags-at}
 
 pub loop-at-init : goal.loop-at-init
 loop-at-init g c =
     let skipped = rw c.tag_of-tag.ensures at c.past_others-at.ensures in
     PassesBy-skips _ _ _ _ _ _ c.requires.probed (omega arith) (PassesBy-start _ _ _ _ c.requires.inside) skipped
 
-pub returns-then-cells-at : goal.returns-then-cells-at
-returns-then-cells-at g c =
-    let inside : c.loop-at.at < length c.args.tags.now = PassesBy-inside _ _ _ _ _ (omega arith) c.loop-at.invariant in
-    let full : 1 < slice_index c.args.tags.now c.loop-at.at = omega arith in
-    (c.loop-at.invariant, full_read c.args.tags.now c.args.cells.now c.loop-at.at _ inside c.index-cells-at.is c.requires.probed _ full c.if-cells-at.true)
+pub returns-then-pair_at-hash : goal.returns-then-pair_at-hash
+returns-then-pair_at-hash g c =
+    (c.loop-at.invariant, full_read (slots_of g.C.Cell.slot c.args.tags.now c.args.cells.now) c.loop-at.at _ _ c.pair_at.ensures _ c.if-pair_at-hash.true)
 
 pub loop-at-smaller : goal.loop-at-smaller
 loop-at-smaller g c =
@@ -34,12 +31,12 @@ pub loop-at-preserved : goal.loop-at-preserved
 loop-at-preserved g c =
     let inside : c.loop-at.at < length c.args.tags.now = PassesBy-inside _ _ _ _ _ (omega arith) c.loop-at.invariant in
     let used : 0 < slice_index c.args.tags.now c.loop-at.at = omega arith in
-    let other : (value : g.row.T.Denot) → slot_at (slots_of c.args.cells.now) c.loop-at.at ≢ Some (c.args.hash, value) = λ value is.
+    let other : (value : g.row.T.Denot) → slot_at (slots_of g.C.Cell.slot c.args.tags.now c.args.cells.now) c.loop-at.at ≢ Some (c.args.hash, value) = λ value is.
     elim c.else-tags-at.branch [
-      | else-tags-at-via-then-tags-at+else-cells-at w ↦
-          w.if-cells-at.false (hash_read c.args.tags.now c.args.cells.now c.loop-at.at _ inside w.index-cells-at.is c.requires.probed c.args.hash value is)
+      | else-tags-at-via-then-tags-at+else-pair_at-hash w ↦
+          w.if-pair_at-hash.false (hash_read (slots_of g.C.Cell.slot c.args.tags.now c.args.cells.now) c.loop-at.at _ _ w.pair_at.ensures c.args.hash value is)
       | else-tags-at-via-else-tags-at w ↦
-          w.if-tags-at.false (tag_read c.args.tags.now (slots_of c.args.cells.now) c.loop-at.at c.args.hash value inside c.requires.probed is ∙ sym c.tag_of-tag.ensures)
+          w.if-tags-at.false (tag_read c.args.tags.now (slots_of g.C.Cell.slot c.args.tags.now c.args.cells.now) c.loop-at.at c.args.hash value inside c.requires.probed is ∙ sym c.tag_of-tag.ensures)
     ] in
     let skipped = rw (c.tag_of-tag.ensures, c.next.ensures) at c.past_others-at-in-loop-at.ensures in
     PassesBy-skips _ _ _ _ _ _ c.requires.probed (omega arith) (PassesBy-next _ _ _ _ _ c.loop-at.invariant used other) skipped
@@ -47,11 +44,5 @@ loop-at-preserved g c =
 pub returns : goal.returns
 returns g c = (c.loop-at.at, c.loop-at.invariant, c.loop-at-test.false)
 
-pub bounds-cells-at-then-tags-at : goal.bounds-cells-at-then-tags-at
-bounds-cells-at-then-tags-at g c = omega (arith, c.requires.probed.same_length, cells_long c.args.cells.now)
-
-pub bounds-cells-at : goal.bounds-cells-at
-bounds-cells-at g c = omega (arith, c.requires.probed.same_length, cells_long c.args.cells.now)
-
-pub offset_bounds-cells-at : goal.offset_bounds-cells-at
-offset_bounds-cells-at g c = omega (arith, c.requires.probed.same_length, cells_long c.args.cells.now)
+pub bounds-tags-at : goal.bounds-tags-at
+bounds-tags-at g c = PassesBy-inside _ _ _ _ _ (omega arith) c.loop-at.invariant

@@ -1,16 +1,13 @@
-use Rattle.std.proofs.Common.{◌∙◌, set, ap, arith}
+use Rattle.std.proofs.Common.{arith}
 use Rattle.std.proofs.lemmas.Grind.{common_steps}
-use Rattle.std.proofs.lemmas.List.{map-set}
-use Rattle.std.specs.Option.{option_map}
-use Rattle.iddqd_hash.specs.OpenTable.{slots_of, pair_in}
+use Rattle.iddqd_hash.proofs.OpenCellLemmas.{none_there, slots-put}
 use Rattle.iddqd_hash.proofs.open_table.cells.put.Goals as goal
 
+pub fill-requires : goal.fill-requires
+fill-requires g c = none_there g.C.Cell.slot g.C.Cell.told c.args.tags.now c.args.cells.now c.args.place _ (omega arith) c.requires.free
+
 pub returns-clause-slots : goal.returns-clause-slots
-returns-clause-slots g c =
-    map-set pair_in _ _ _ ∙ ap (λ o. set (slots_of c.args.cells.now) c.args.place (option_map (λ value. (c.args.hash, value)) o)) c.fill.ensures
+returns-clause-slots g c = slots-put g.C.Cell.slot _ _ _ _ _ _ c.requires.inside (omega (arith, c.tag_of.ensures)) c.fill.ensures
 
 pub offset_bounds-cells-place : goal.offset_bounds-cells-place
 offset_bounds-cells-place g c = grind (arith, common_steps)
-
-pub fill-requires : goal.fill-requires
-fill-requires g c = grind (arith, common_steps)

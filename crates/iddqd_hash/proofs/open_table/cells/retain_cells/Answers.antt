@@ -1,13 +1,11 @@
-use Rattle.std.proofs.Common.{◌≡◌, ◌∙◌, ◌<◌, IsSome, true, false, length, slice_index, refl, sym, ap, subst, arith}
-use Rattle.std.proofs.lemmas.Grind.{common_steps}
+use Rattle.std.proofs.Common.{◌≡◌, ◌∙◌, ◌<◌, true, false, length, slice_index, refl, sym, ap, subst, arith}
 use Rattle.std.specs.Fn.{TakesAt, CalledAt}
-use Rattle.iddqd_hash.specs.OpenTable.{slots_of, slot_at, pair_in}
+use Rattle.iddqd_hash.specs.OpenTable.{slots_of, slot_at}
 use Rattle.iddqd_hash.specs.OpenWalk.{IsInSixteens}
 use Rattle.iddqd_hash.proofs.AskLemmas.{CanAsk-takes, CanAsk-asked}
 use Rattle.iddqd_hash.proofs.OpenAheadLemmas.{IsAhead-none, IsAhead-set, SomeFull-pairs, pairs-full}
-use Rattle.iddqd_hash.proofs.OpenLookupLemmas.{slot_read}
 use Rattle.iddqd_hash.proofs.OpenSlotLemmas.{full_slot, length_pairs, length-taken, used-set, used_one, used_count, IsProbed-taken}
-use Rattle.iddqd_hash.proofs.OpenTableLemmas.{cells_long}
+use Rattle.iddqd_hash.proofs.OpenCellLemmas.{cells_long}
 use Rattle.iddqd_hash.proofs.OpenRetainLemmas.{Keeping-start, Keeping-gaps, Keeping-keep, Keeping-drop, Contains-asked, Keeps-at_end, drop-taken}
 use Rattle.iddqd_hash.proofs.open_table.cells.retain_cells.Goals as goal
 
@@ -29,50 +27,43 @@ next-here-requires-clause-sixteens g c =
 
 pub next-here-requires-clause-some : goal.next-here-requires-clause-some
 next-here-requires-clause-some g c =
-    SomeFull-pairs c.asking.tags (slots_of c.asking.cells) c.asking.invariant.2 (length c.asking.tags) c.asking.places.at (omega arith) (omega (arith, c.asking.invariant.6, c.asking-test.true))
-
-pub value_in-requires : goal.value_in-requires
-value_in-requires g c =
-    let probed = c.asking.invariant.2 in
-    let inside = c.next-here.ensures.inside in
-    let some = full_slot _ (slot_at (slots_of c.asking.cells) c.next-here.result) (probed.suited c.next-here.result inside) c.next-here.ensures.full in
-    subst (λ o. IsSome o) (slot_read c.asking.tags c.asking.cells c.next-here.result _ inside c.index-cells-here.is probed ∙ ap pair_in c.index-cells-here.is) some
+    SomeFull-pairs c.asking.tags (slots_of g.C.Cell.slot c.asking.tags c.asking.cells) c.asking.invariant.2 (length c.asking.tags) c.asking.places.at (omega arith) (omega (arith, c.asking.invariant.6, c.asking-test.true))
 
 pub f-requires : goal.f-requires
 f-requires g c =
     let at = c.asking.invariant in
     let inside = c.next-here.ensures.inside in
-    let within : c.next-here.result < length (slots_of c.args.cells.now) = omega (arith, inside, at.2.same_length, at.1.same_length) in
-    let found = slot_read c.asking.tags c.asking.cells c.next-here.result _ inside c.index-cells-here.is at.2 ∙ ap pair_in c.index-cells-here.is ∙ c.value_in.ensures in
+    let within : c.next-here.result < length (slots_of g.C.Cell.slot c.args.tags.now c.args.cells.now) = omega (arith, inside, at.2.same_length, at.1.same_length) in
+    let found = c.pair_at.ensures in
     let skipped = Keeping-gaps (CalledAt g.F.FnMut) _ _ _ _ _ _ c.asking.tags at.2 c.next-here.ensures.onward inside c.next-here.ensures.gaps at.1 in
     CanAsk-takes (TakesAt g.F.FnMut) (CalledAt g.F.FnMut) _ _ _ at.0 (Contains-asked (CalledAt g.F.FnMut) _ _ _ _ _ within skipped _ found) _ refl
 
 pub take-requires-clause-same_length : goal.take-requires-clause-same_length
-take-requires-clause-same_length g c = sym (cells_long c.asking.cells) ∙ c.asking.invariant.2.same_length
+take-requires-clause-same_length g c = sym (cells_long g.C.Cell.slot c.asking.tags c.asking.cells) ∙ c.asking.invariant.2.same_length
 
 pub take-requires-clause-full : goal.take-requires-clause-full
 take-requires-clause-full g c =
-    full_slot _ (slot_at (slots_of c.asking.cells) c.next-here.result) (c.asking.invariant.2.suited c.next-here.result c.next-here.ensures.inside) c.next-here.ensures.full
+    full_slot _ (slot_at (slots_of g.C.Cell.slot c.asking.tags c.asking.cells) c.next-here.result) (c.asking.invariant.2.suited c.next-here.result c.next-here.ensures.inside) c.next-here.ensures.full
 
 pub overflow_add-removed : goal.overflow_add-removed
 overflow_add-removed g c =
     let at = c.asking.invariant in
     let inside = c.next-here.ensures.inside in
-    let found = slot_read c.asking.tags c.asking.cells c.next-here.result _ inside c.index-cells-here.is at.2 ∙ ap pair_in c.index-cells-here.is ∙ c.value_in.ensures in
-    let within : c.next-here.result < length (slots_of c.asking.cells) = omega (arith, inside, at.2.same_length) in
-    let fewer = length-taken (slots_of c.asking.cells) c.next-here.result _ within found in
-    omega (arith, fewer, at.4, length_pairs (slots_of c.args.cells.now), c.requires.probed.same_length)
+    let found = c.pair_at.ensures in
+    let within : c.next-here.result < length (slots_of g.C.Cell.slot c.asking.tags c.asking.cells) = omega (arith, inside, at.2.same_length) in
+    let fewer = length-taken (slots_of g.C.Cell.slot c.asking.tags c.asking.cells) c.next-here.result _ within found in
+    omega (arith, fewer, at.4, length_pairs (slots_of g.C.Cell.slot c.args.tags.now c.args.cells.now), c.requires.probed.same_length)
 
 pub asking-preserved-then-f : goal.asking-preserved-then-f
 asking-preserved-then-f g c =
     let at = c.asking.invariant in
     let inside = c.next-here.ensures.inside in
     let skipped = Keeping-gaps (CalledAt g.F.FnMut) _ _ _ _ _ _ c.asking.tags at.2 c.next-here.ensures.onward inside c.next-here.ensures.gaps at.1 in
-    let within : c.next-here.result < length (slots_of c.args.cells.now) = omega (arith, inside, at.2.same_length, at.1.same_length) in
-    let found = slot_read c.asking.tags c.asking.cells c.next-here.result _ inside c.index-cells-here.is at.2 ∙ ap pair_in c.index-cells-here.is ∙ c.value_in.ensures in
-    let called : CalledAt g.F.FnMut c.asking.f c.value_in.result.now true c.f.new.self =
+    let within : c.next-here.result < length (slots_of g.C.Cell.slot c.args.tags.now c.args.cells.now) = omega (arith, inside, at.2.same_length, at.1.same_length) in
+    let found = c.pair_at.ensures in
+    let called : CalledAt g.F.FnMut c.asking.f c.pair_at.result.1.now true c.f.new.self =
     record { shown = _; shows = refl; called = rw c.if-f.true at c.f.ensures } in
-    let fewer = ap length (pairs-full c.asking.tags (slots_of c.asking.cells) at.2 _ c.next-here.result _ c.next-here.ensures.onward inside c.next-here.ensures.gaps found) in (
+    let fewer = ap length (pairs-full c.asking.tags (slots_of g.C.Cell.slot c.asking.tags c.asking.cells) at.2 _ c.next-here.result _ c.next-here.ensures.onward inside c.next-here.ensures.gaps found) in (
       CanAsk-asked (TakesAt g.F.FnMut) (CalledAt g.F.FnMut) _ _ _ true _ at.0 (Contains-asked (CalledAt g.F.FnMut) _ _ _ _ _ within skipped _ found) called,
       rw c.next-here.ensures.behind (Keeping-keep (CalledAt g.F.FnMut) _ _ _ _ _ within skipped _ found _ called),
       at.2,
@@ -90,19 +81,19 @@ asking-preserved g c =
     let inside = c.next-here.ensures.inside in
     let behind = c.next-here.ensures.behind in
     let skipped = Keeping-gaps (CalledAt g.F.FnMut) _ _ _ _ _ _ tags at.2 c.next-here.ensures.onward inside c.next-here.ensures.gaps at.1 in
-    let within : here < length (slots_of c.args.cells.now) = omega (arith, inside, at.2.same_length, at.1.same_length) in
-    let found = slot_read tags c.asking.cells here _ inside c.index-cells-here.is at.2 ∙ ap pair_in c.index-cells-here.is ∙ c.value_in.ensures in
-    let called : CalledAt g.F.FnMut c.asking.f c.value_in.result.now false c.f.new.self =
+    let within : here < length (slots_of g.C.Cell.slot c.args.tags.now c.args.cells.now) = omega (arith, inside, at.2.same_length, at.1.same_length) in
+    let found = c.pair_at.ensures in
+    let called : CalledAt g.F.FnMut c.asking.f c.pair_at.result.1.now false c.f.new.self =
     record { shown = _; shows = refl; called = rw c.if-f.false at c.f.ensures } in
-    let fewer = length-taken (slots_of c.asking.cells) here _ (omega (arith, at.2.same_length)) found in
+    let fewer = length-taken (slots_of g.C.Cell.slot c.asking.tags c.asking.cells) here _ (omega (arith, at.2.same_length)) found in
     let counts = used-set tags here 1 inside in
     let was : used_count (slice_index tags here) ≡ 1 = used_one (slice_index tags here) (omega (arith, c.next-here.ensures.full)) in
     let now : used_count 1 ≡ 1 = used_one 1 (omega arith) in
-    let next = ap length (pairs-full tags (slots_of c.asking.cells) at.2 _ here _ c.next-here.ensures.onward inside c.next-here.ensures.gaps found) in
-    let later = ap length (drop-taken (slots_of c.asking.cells) here) in (
+    let next = ap length (pairs-full tags (slots_of g.C.Cell.slot c.asking.tags c.asking.cells) at.2 _ here _ c.next-here.ensures.onward inside c.next-here.ensures.gaps found) in
+    let later = ap length (drop-taken (slots_of g.C.Cell.slot c.asking.tags c.asking.cells) here) in (
       CanAsk-asked (TakesAt g.F.FnMut) (CalledAt g.F.FnMut) _ _ _ false _ at.0 (Contains-asked (CalledAt g.F.FnMut) _ _ _ _ _ within skipped _ found) called,
       rw (behind, c.take.ensures.slots) (Keeping-drop (CalledAt g.F.FnMut) _ _ _ _ _ within skipped _ found _ called),
-      rw (c.take.ensures.tags, c.take.ensures.slots) (IsProbed-taken tags _ at.2 here inside),
+      rw (c.take.ensures.slots, c.take.ensures.tags) (IsProbed-taken tags _ at.2 here inside),
       rw c.take.ensures.tags (omega (arith, counts, was, now, at.3)),
       rw c.take.ensures.slots (omega (arith, fewer, at.4)),
       rw c.take.ensures.tags (IsAhead-set tags _ _ _ here 1 (omega (arith, behind)) c.next-here.ensures.ahead),
@@ -121,9 +112,3 @@ returns-clause-marked g c = c.asking.invariant.3
 
 pub returns-clause-counted : goal.returns-clause-counted
 returns-clause-counted g c = c.asking.invariant.4
-
-pub bounds-cells-here : goal.bounds-cells-here
-bounds-cells-here g c = omega (arith, c.next-here.ensures.inside, c.asking.invariant.2.same_length, cells_long c.asking.cells)
-
-pub offset_bounds-cells-here : goal.offset_bounds-cells-here
-offset_bounds-cells-here g c = grind (arith, common_steps)

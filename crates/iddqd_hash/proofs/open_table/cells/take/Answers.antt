@@ -1,19 +1,18 @@
-use Rattle.std.proofs.Common.{◌∙◌, set, get_or, ap, arith}
+use Rattle.std.proofs.Common.{◌∙◌, IsSome, subst, arith}
 use Rattle.std.proofs.lemmas.Grind.{common_steps}
-use Rattle.std.proofs.lemmas.List.{map-set}
-use Rattle.std.specs.Option.{option_map}
-use Rattle.iddqd_hash.specs.OpenTable.{slots_of, pair_in}
+use Rattle.iddqd_hash.proofs.OpenCellLemmas.{some_there, slots-taken}
 use Rattle.iddqd_hash.proofs.open_table.cells.take.Goals as goal
 
+pub take-requires : goal.take-requires
+take-requires g c =
+    subst (λ o. IsSome o) (some_there g.C.Cell.slot g.C.Cell.told c.args.tags.now c.args.cells.now c.args.place _ (omega arith) c.requires.full) c.requires.full
+
+pub returns-clause-pair : goal.returns-clause-pair
+returns-clause-pair g c =
+    some_there g.C.Cell.slot g.C.Cell.told c.args.tags.now c.args.cells.now c.args.place _ (omega arith) c.requires.full ∙ c.take.ensures.pair
+
 pub returns-clause-slots : goal.returns-clause-slots
-returns-clause-slots g c =
-    map-set pair_in _ _ _ ∙ ap (λ o. set (slots_of c.args.cells.now) c.args.place (option_map (λ value. ((get_or c.args.cells.now c.args.place c.index-cells-place.result).hash, value)) o)) c.take.ensures.after
-
-pub returns-clause-value : goal.returns-clause-value
-returns-clause-value g c = grind (arith, common_steps)
-
-pub unreachable-requires : goal.unreachable-requires
-unreachable-requires g c = grind (arith, common_steps)
+returns-clause-slots g c = slots-taken g.C.Cell.slot _ _ _ _ _ c.requires.inside c.requires.tag c.take.ensures.empty
 
 pub offset_bounds-cells-place : goal.offset_bounds-cells-place
 offset_bounds-cells-place g c = grind (arith, common_steps)

@@ -1,18 +1,20 @@
-use Rattle.std.proofs.Common.{◌≡◌, ◌∙◌, ◌+◌, ◌<◌, length, sym, ap, subst, arith}
-use Rattle.std.proofs.lemmas.List.{map-set}
+use Rattle.std.proofs.Common.{false, ◌∙◌, ◌<◌, [], Some, length, refl, sym, ap, arith}
 use Rattle.iddqd_hash.specs.Clones.{IsSlotClone}
-use Rattle.iddqd_hash.specs.OpenTable.{slots_of, slot_at, pair_in}
-use Rattle.iddqd_hash.proofs.CopyLemmas.{Cloning, some_pair, Cloning-start, Cloning-gaps, Cloning-put, Cloning-end}
+use Rattle.iddqd_hash.specs.OpenTable.{slots_of, slot_at}
+use Rattle.iddqd_hash.proofs.CopyLemmas.{Cloning-start, Cloning-gaps, Cloning-put, Cloning-end}
 use Rattle.iddqd_hash.proofs.OpenAheadLemmas.{IsAhead-none, SomeFull-pairs, pairs-full}
-use Rattle.iddqd_hash.proofs.OpenLookupLemmas.{slot_read}
-use Rattle.iddqd_hash.proofs.OpenSlotLemmas.{full_slot}
-use Rattle.iddqd_hash.proofs.OpenTableLemmas.{cells_long}
+use Rattle.iddqd_hash.proofs.OpenCellLemmas.{cells_long, slot_there, slots-cell, slots-replaced, slots_bare, bare_empty}
 use Rattle.iddqd_hash.proofs.open_table.copies.cloned_cells.Goals as goal
 
 pub cloning-init : goal.cloning-init
 cloning-init g c =
+    let slot = g.C.Cell.slot in
+    let n = length c.args.cells.now in
+    let copies = c.in_ok-copies.copies.items in
     record {
-      cloning = Cloning-start g.T.Clone.is_clone _ _ _ (length c.args.cells.now) c.new-places.ensures.at (sym (cells_long c.args.cells.now)) c.in_ok-copies.ensures.cells;
+      cloning = Cloning-start g.T.Clone.is_clone _ _ _ _ n c.new-places.ensures.at
+          (omega (arith, cells_long slot c.args.tags.now c.args.cells.now, cells_long slot c.args.tags.now copies, c.in_ok-copies.ensures.len))
+          (bare_empty slot n copies ∙ c.in_ok-copies.ensures.cells);
       len = c.in_ok-copies.ensures.len;
       exact = c.in_ok-copies.ensures.exact ∙ c.in_ok-copies.ensures.len;
       ahead = IsAhead-none _ _ _ _ c.new-places.ensures.at c.new-places.ensures.end c.new-places.ensures.mask;
@@ -21,42 +23,38 @@ cloning-init g c =
 
 pub next-here-requires-clause-some : goal.next-here-requires-clause-some
 next-here-requires-clause-some g c =
-    SomeFull-pairs c.args.tags.now (slots_of c.args.cells.now) c.requires.probed (length c.args.tags.now) c.cloning.places.at (omega arith) (omega (arith, c.cloning.invariant.counted, c.cloning-test.true))
+    SomeFull-pairs c.args.tags.now (slots_of g.C.Cell.slot c.args.tags.now c.args.cells.now) c.requires.probed (length c.args.tags.now) c.cloning.places.at (omega arith) (omega (arith, c.cloning.invariant.counted, c.cloning-test.true))
 
-pub cloning-preserved-in_ok-copies-2 : goal.cloning-preserved-in_ok-copies-2
-cloning-preserved-in_ok-copies-2 g c =
-    let probed = c.requires.probed in
-    let inside = c.next-here.ensures.inside in
-    let slots = slots_of c.args.cells.now in
-    let within : c.next-here.result < length slots = omega (arith, inside, probed.same_length) in
-    let read : slot_at slots c.next-here.result ≡ pair_in c.index-cells-here.result = slot_read c.args.tags.now c.args.cells.now c.next-here.result _ inside c.index-cells-here.is probed in
-    let clone = subst (λ slot. IsSlotClone g.T.Clone.is_clone slot (pair_in c.in_ok-copies-2.field-0)) (sym read) c.in_ok-copies-2.ensures.cases in
-    let skipped = Cloning-gaps g.T.Clone.is_clone _ _ _ c.cloning.invariant.cloning c.args.tags.now c.next-here.result probed c.next-here.ensures.onward inside c.next-here.ensures.gaps in
-    let pair = some_pair g.T.Clone.is_clone _ (full_slot _ (slot_at slots c.next-here.result) (probed.suited c.next-here.result inside) c.next-here.ensures.full) in
-    let fewer = ap length (pairs-full c.args.tags.now slots probed _ c.next-here.result _ c.next-here.ensures.onward inside c.next-here.ensures.gaps pair.1) in
-    let here = Cloning-put g.T.Clone.is_clone _ _ _ skipped (pair_in c.in_ok-copies-2.field-0) within clone in
-    record {
-      cloning = rw c.next-here.ensures.behind (subst (λ copies. Cloning g.T.Clone.is_clone slots copies (c.next-here.result + 1)) (sym (map-set pair_in _ _ _)) here);
-      len = c.cloning.invariant.len;
-      exact = c.cloning.invariant.exact;
-      ahead = c.next-here.ensures.ahead;
-      counted = rw c.next-here.ensures.behind (omega (arith, fewer, c.cloning.invariant.counted));
-    }
+pub index_mut-requires : goal.index_mut-requires
+index_mut-requires g c =
+    omega (arith, c.cloning.invariant.len, c.next-here.ensures.inside, c.requires.probed.same_length, cells_long g.C.Cell.slot c.args.tags.now c.args.cells.now)
+
+pub fill-requires : goal.fill-requires
+fill-requires g c =
+    let slot = g.C.Cell.slot in
+    let copies = c.cloning.copies.items in
+    let inside : c.next-here.result < length copies =
+    omega (arith, c.cloning.invariant.len, c.next-here.ensures.inside, c.requires.probed.same_length, cells_long slot c.args.tags.now c.args.cells.now) in
+    let skipped = Cloning-gaps g.T.Clone.is_clone _ _ _ _ c.cloning.invariant.cloning c.args.tags.now c.requires.probed (slots_bare slot c.args.tags.now copies) c.next-here.result c.next-here.ensures.onward c.next-here.ensures.inside c.next-here.ensures.gaps in
+    ap (slot false) c.index_mut.ensures.value ∙ sym (slot_there slot [] copies c.next-here.result c.index_mut.result.now inside) ∙ skipped.empty c.next-here.result (omega arith)
 
 pub cloning-preserved : goal.cloning-preserved
 cloning-preserved g c =
+    let slot = g.C.Cell.slot in
+    let tags = c.args.tags.now in
+    let slots = slots_of slot tags c.args.cells.now in
+    let copies = c.cloning.copies.items in
     let probed = c.requires.probed in
+    let here = c.next-here.result in
     let inside = c.next-here.ensures.inside in
-    let slots = slots_of c.args.cells.now in
-    let within : c.next-here.result < length slots = omega (arith, inside, probed.same_length) in
-    let read : slot_at slots c.next-here.result ≡ pair_in c.index-cells-here.result = slot_read c.args.tags.now c.args.cells.now c.next-here.result _ inside c.index-cells-here.is probed in
-    let clone = subst (λ slot. IsSlotClone g.T.Clone.is_clone slot (pair_in c.in_ok-copies-2.field-0)) (sym read) c.in_ok-copies-2.ensures.cases in
-    let skipped = Cloning-gaps g.T.Clone.is_clone _ _ _ c.cloning.invariant.cloning c.args.tags.now c.next-here.result probed c.next-here.ensures.onward inside c.next-here.ensures.gaps in
-    let pair = some_pair g.T.Clone.is_clone _ (full_slot _ (slot_at slots c.next-here.result) (probed.suited c.next-here.result inside) c.next-here.ensures.full) in
-    let fewer = ap length (pairs-full c.args.tags.now slots probed _ c.next-here.result _ c.next-here.ensures.onward inside c.next-here.ensures.gaps pair.1) in
-    let here = Cloning-put g.T.Clone.is_clone _ _ _ skipped (pair_in c.in_ok-copies-2.field-0) within clone in
+    let within : here < length slots = omega (arith, inside, probed.same_length) in
+    let skipped = Cloning-gaps g.T.Clone.is_clone _ _ _ _ c.cloning.invariant.cloning tags probed (slots_bare slot tags copies) here c.next-here.ensures.onward inside c.next-here.ensures.gaps in
+    let clone : IsSlotClone g.T.Clone.is_clone (slot_at slots here) (Some (c.pair_at-pair.result.0, c.in_ok-copy.copy)) =
+    rw c.pair_at-pair.ensures (c.in_ok-copy.copy, refl, c.in_ok-copy.ensures.cases) in
+    let fewer = ap length (pairs-full tags slots probed _ here _ c.next-here.ensures.onward inside c.next-here.ensures.gaps c.pair_at-pair.ensures) in
+    let put = Cloning-put g.T.Clone.is_clone _ _ _ _ skipped _ (slot false c.fill.new.self) within clone in
     record {
-      cloning = rw c.next-here.ensures.behind (subst (λ copies. Cloning g.T.Clone.is_clone slots copies (c.next-here.result + 1)) (sym (map-set pair_in _ _ _)) here);
+      cloning = rw (c.next-here.ensures.behind, slots-replaced slot tags copies here _ _ (omega (arith, c.next-here.ensures.full)) c.fill.ensures, slots-cell slot [] copies here c.fill.new.self) put;
       len = c.cloning.invariant.len;
       exact = c.cloning.invariant.exact;
       ahead = c.next-here.ensures.ahead;
@@ -65,4 +63,5 @@ cloning-preserved g c =
 
 pub returns-clause-clones : goal.returns-clause-clones
 returns-clause-clones g c =
-    Cloning-end g.T.Clone.is_clone _ _ _ c.cloning.invariant.cloning (omega (arith, c.cloning.invariant.counted, c.cloning-test.false))
+    Cloning-end g.T.Clone.is_clone _ _ _ _ c.cloning.invariant.cloning c.args.tags.now c.requires.probed (slots_bare g.C.Cell.slot c.args.tags.now c.cloning.copies.items)
+    (omega (arith, c.cloning.invariant.counted, c.cloning-test.false))

@@ -4,6 +4,6 @@ use Rattle.iddqd_hash.proofs.open_table.memory.empty_cells.Given as goal
 
 abbrev pub invariant-empty : goal.invariant-empty
 invariant-empty g l =
-    (slots_of l.cells.items ≡ replicate l.counter None)
+    (slots_of g.C.Cell.slot (replicate l.count 0) l.cells.items ≡ replicate l.counter None)
     × (vec_len l.cells ≡ l.counter)
     × (vec_capacity l.cells ≡ l.count)

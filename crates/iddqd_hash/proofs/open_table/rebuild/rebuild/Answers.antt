@@ -1,9 +1,20 @@
 use Rattle.std.proofs.Common.{◌≢◌, slice_index, arith}
 use borrow.Author.Count.{below_more}
-use Rattle.std.proofs.lemmas.List.Sorted.{IsPermutation-trans, length_permutation}
+use Rattle.std.proofs.lemmas.List.Sorted.{IsPermutation-refl, IsPermutation-trans, length_permutation}
 use Rattle.iddqd_hash.specs.OpenRebuild.{pending}
-use Rattle.iddqd_hash.proofs.OpenRebuildLemmas.{IsPartlyPlaced-counted, IsProbed-rebuilt}
+use Rattle.iddqd_hash.proofs.OpenCellLemmas.{slots-tags}
+use Rattle.iddqd_hash.proofs.OpenRebuildLemmas.{IsPartlyPlaced-start, IsPartlyPlaced-counted, IsProbed-rebuilt, reset_told}
 use Rattle.iddqd_hash.proofs.open_table.rebuild.rebuild.Goals as goal
+
+pub loop-at-init : goal.loop-at-init
+loop-at-init g c =
+    let told = reset_told _ c.reset_tags.new.tags _ c.requires.probed c.reset_tags.ensures.full c.reset_tags.ensures.others in
+    let same = slots-tags g.C.Cell.slot c.args.tags.now c.reset_tags.new.tags c.args.cells.now told in
+    record {
+      partly_placed = rw same (IsPartlyPlaced-start _ _ _ c.requires.probed c.reset_tags.auto.tags c.reset_tags.ensures.full c.reset_tags.ensures.others);
+      moved = rw same (IsPermutation-refl _);
+      not_pending = λ k below. absurd (omega arith);
+    }
 
 pub place_pending-requires-clause-fits : goal.place_pending-requires-clause-fits
 place_pending-requires-clause-fits g c = omega (arith, length_permutation _ _ c.loop-at.invariant.moved, c.requires.fits)

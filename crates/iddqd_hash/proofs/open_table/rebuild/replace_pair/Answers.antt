@@ -1,11 +1,18 @@
-use Rattle.std.proofs.Common.{◌∙◌, set, ap}
-use Rattle.std.proofs.lemmas.List.{map-set}
-use Rattle.std.specs.Option.{option_map}
-use Rattle.iddqd_hash.specs.OpenTable.{slots_of, pair_in}
+use Rattle.std.proofs.Common.{◌∙◌, IsSome, subst, arith}
+use Rattle.std.proofs.lemmas.Grind.{common_steps}
+use Rattle.iddqd_hash.proofs.OpenCellLemmas.{some_there, slots-put}
 use Rattle.iddqd_hash.proofs.open_table.rebuild.replace_pair.Goals as goal
 
+pub replace-requires : goal.replace-requires
+replace-requires g c =
+    subst (λ o. IsSome o) (some_there g.C.Cell.slot g.C.Cell.told c.args.tags.now c.args.cells.now c.args.place _ (omega arith) c.requires.full) c.requires.full
+
+pub returns-clause-pair : goal.returns-clause-pair
+returns-clause-pair g c =
+    some_there g.C.Cell.slot g.C.Cell.told c.args.tags.now c.args.cells.now c.args.place _ (omega arith) c.requires.full ∙ c.replace.ensures.before
+
 pub returns-clause-slots : goal.returns-clause-slots
-returns-clause-slots g c =
-    map-set pair_in _ _ _
-    ∙ ap (λ n. set (slots_of c.args.cells.now) c.args.place (option_map (λ value. (n, value)) c.replace.new.self)) c.replace-hash.ensures.after
-    ∙ ap (λ o. set (slots_of c.args.cells.now) c.args.place (option_map (λ value. (c.args.hash, value)) o)) c.replace.ensures.after
+returns-clause-slots g c = slots-put g.C.Cell.slot _ _ _ _ _ _ c.requires.inside (omega (arith, c.tag_of.ensures)) c.replace.ensures.after
+
+pub offset_bounds-cells-place : goal.offset_bounds-cells-place
+offset_bounds-cells-place g c = grind (arith, common_steps)

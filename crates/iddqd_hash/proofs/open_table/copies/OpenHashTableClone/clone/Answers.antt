@@ -1,7 +1,7 @@
 use Rattle.std.proofs.Common.{◌∙◌, arith}
-use Rattle.std.proofs.lemmas.List.{length-map}
 use Rattle.iddqd_hash.specs.HashTable.{memory}
-use Rattle.iddqd_hash.specs.OpenTable.{opened, pair_in}
+use Rattle.iddqd_hash.specs.OpenTable.{opened}
+use Rattle.iddqd_hash.proofs.OpenCellLemmas.{cells_long}
 use Rattle.iddqd_hash.proofs.OpenAheadLemmas.{IsInSixteens-count}
 use Rattle.iddqd_hash.proofs.CopyLemmas.{hashes_of_clones, Rewrites-slots}
 use Rattle.iddqd_hash.proofs.OpenTableLemmas.{entries-opened, IsSound-rewritten}
@@ -15,16 +15,16 @@ pub invariant_of-result : goal.invariant_of-result
 invariant_of-result g c =
     record {
       sound = rw (c.in_ok-copied_exactly.ensures.items ∙ c.as_slice.ensures.value)
-          (IsSound-rewritten _ _ _ _ _ c.self.invariant.sound (hashes_of_clones g.T.Clone.is_clone _ _ (rw c.as_slice-3.ensures.value at c.in_ok-cloned_cells.ensures.clones)));
+          (IsSound-rewritten _ _ _ _ _ c.self.invariant.sound (hashes_of_clones g.T.Clone.is_clone _ _ (rw (c.as_slice-2.ensures.value, c.as_slice-3.ensures.value) at c.in_ok-cloned_cells.ensures.clones)));
       exact_tags = c.in_ok-copied_exactly.ensures.exact;
       exact_cells = c.in_ok-cloned_cells.ensures.exact;
     }
 
 pub returns-clause-cases : goal.returns-clause-cases
 returns-clause-cases g c =
-    rw (← c.self.view_is, entries-opened, entries-opened) (Rewrites-slots g.T.Clone.is_clone _ _ (rw c.as_slice-3.ensures.value at c.in_ok-cloned_cells.ensures.clones))
+    rw (← c.self.view_is, entries-opened, entries-opened, c.in_ok-copied_exactly.ensures.items ∙ c.as_slice.ensures.value) (Rewrites-slots g.T.Clone.is_clone _ _ (rw (c.as_slice-2.ensures.value, c.as_slice-3.ensures.value) at c.in_ok-cloned_cells.ensures.clones))
 
 pub returns-clause-memory : goal.returns-clause-memory
 unfolding memory opened
 returns-clause-memory g c =
-    rw (← c.self.view_is) (omega (arith, c.in_ok-cloned_cells.ensures.len, c.as_slice-3.ensures.len, length-map c.self.inside.cells.items pair_in, length-map c.in_ok-cloned_cells.field-0.items pair_in))
+    rw (← c.self.view_is) (omega (arith, c.in_ok-cloned_cells.ensures.len, c.as_slice-3.ensures.len, cells_long g.C.Cell.slot c.self.inside.tags.items c.self.inside.cells.items, cells_long g.C.Cell.slot c.in_ok-copied_exactly.field-0.items c.in_ok-cloned_cells.field-0.items))

@@ -1,10 +1,8 @@
-use Rattle.std.proofs.Common.{◌≡◌, ◌∙◌, ◌∷◌, ◌<◌, Some, length, refl, sym, ap, subst, arith, rules}
-use Rattle.std.proofs.lemmas.Grind.{common_steps}
+use Rattle.std.proofs.Common.{◌≡◌, ◌∙◌, ◌∷◌, Some, length, refl, sym, ap, subst, arith, rules}
 use Rattle.std.proofs.lemmas.Option.{same_Some}
-use Rattle.iddqd_hash.specs.OpenTable.{slots_of, pair_in}
+use Rattle.iddqd_hash.specs.OpenTable.{slots_of}
 use Rattle.iddqd_hash.specs.OpenWalkUnder.{rest_under, GoesOn}
-use Rattle.iddqd_hash.proofs.OpenTableLemmas.{cells_long}
-use Rattle.iddqd_hash.proofs.OpenLookupLemmas.{slot_read, hash_read}
+use Rattle.iddqd_hash.proofs.OpenLookupLemmas.{tag_read, value_read}
 use Rattle.iddqd_hash.proofs.OpenWalkUnderLemmas.{GoesOn-inside, place_inside, rest-found, rest-none, GoesOn-next}
 use Rattle.iddqd_hash.proofs.open_table.iter_hash.IterHashIterator.next.Goals as goal
 
@@ -20,24 +18,24 @@ near_match-requires-clause-inside g c = GoesOn-inside _ _ _ (c.self.invariant.go
 pub next-requires-clause-power : goal.next-requires-clause-power
 next-requires-clause-power g c = (c.self.invariant.goes_on _ c.in_ok-from.was).power
 
+pub pair_at-requires-clause-inside : goal.pair_at-requires-clause-inside
+pair_at-requires-clause-inside g c =
+    place_inside _ _ _ c.self.invariant.probed _ _ (c.self.invariant.goes_on _ c.in_ok-from.was) c.in-Some.ensures.0
+
+pub pair_at-requires-clause-full : goal.pair_at-requires-clause-full
+pair_at-requires-clause-full g c =
+    let inside = place_inside _ _ _ c.self.invariant.probed _ _ (c.self.invariant.goes_on _ c.in_ok-from.was) c.in-Some.ensures.0 in
+    omega (arith, tag_read _ _ _ _ _ inside c.self.invariant.probed c.in-Some.ensures.1.1)
+
 steps_here :
-    (g : _) (c : goal.After-value_in g)
-    → rest_under c.self.inside.hash (slots_of c.self.inside.cells.now) c.self.inside.from ≡ c.value_in.result.now ∷
-    rest_under c.self.inside.hash (slots_of c.self.inside.cells.now) (Some c.next.result)
+    (g : _) (c : goal.After-pair_at g)
+    → rest_under c.self.inside.hash (slots_of g.C.Cell.slot c.self.inside.tags.now c.self.inside.cells.now) c.self.inside.from ≡ c.pair_at.result.1.now ∷
+    rest_under c.self.inside.hash (slots_of g.C.Cell.slot c.self.inside.tags.now c.self.inside.cells.now) (Some c.next.result)
 steps_here g c =
     let on = c.self.invariant.goes_on _ c.in_ok-from.was in
-    let probed = c.self.invariant.probed in
-    let tags = c.self.inside.tags.now in
-    let cells = c.self.inside.cells.now in
-    let inside = place_inside _ _ _ probed _ _ on c.in-Some.ensures.0 in
-    let stored = hash_read tags cells c.in-Some.place _ inside c.index-self-place.is probed c.self.inside.hash _ c.in-Some.ensures.1.1 in
-    let found = slot_read tags cells c.in-Some.place _ inside c.index-self-place.is probed ∙ ap pair_in c.index-self-place.is ∙ c.value_in.ensures ∙ ap (λ n. Some (n, c.value_in.result.now)) stored in
-    rw (c.in_ok-from.was, c.next.ensures) (rest-found _ _ _ probed _ _ on c.in-Some.ensures.0 _ found)
-
-pub offset_bounds-self-inside-place : goal.offset_bounds-self-inside-place
-offset_bounds-self-inside-place g c =
-    let inside : c.in-Some.place < length c.self.inside.cells.now = omega (arith, place_inside _ _ _ c.self.invariant.probed _ _ (c.self.invariant.goes_on _ c.in_ok-from.was) c.in-Some.ensures.0, c.self.invariant.probed.same_length, cells_long c.self.inside.cells.now) in
-    grind (arith, common_steps)
+    let slots = slots_of g.C.Cell.slot c.self.inside.tags.now c.self.inside.cells.now in
+    let found = value_read slots c.in-Some.place _ _ c.pair_at.ensures c.self.inside.hash _ c.in-Some.ensures.1.1 in
+    rw (c.in_ok-from.was, c.next.ensures) (rest-found _ _ _ c.self.invariant.probed _ _ on c.in-Some.ensures.0 _ found)
 
 pub invariant_of-self : goal.invariant_of-self
 invariant_of-self g c =
