@@ -10,7 +10,7 @@
 //!
 //! An insert hashes its key once: it looks up under the hash that it files the index under.
 //! `remove_by_index` is a `retain` over all, in the place of a walk of its own. A clone copies cells as
-//! memory, since an index is `Copy`.
+//! memory, since an [`IndexCell`] is `Copy`.
 ghost use Rattle.std.specs.Prelude.{◌≡◌, ◌+◌, ◌≤◌, ℕ, max, Contains, Some, None, IsTrue, IsSome, IfOk, OnErr};
 ghost use Rattle.std.specs.FinMap as finite;
 ghost use Rattle.iddqd.specs.Compaction.{CanRemap, remapped};

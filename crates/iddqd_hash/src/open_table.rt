@@ -7,6 +7,9 @@
 //! pairs whose hashes share the low bits costs n * n / 2 steps. The contracts are those of
 //! [`HashTable`](crate::hash_table_reference::HashTable).
 //!
+//! The cell is a type parameter. [`OptionCell`], for any value, has an option beside the hash. [`IndexCell`], for
+//! indexes, has none: its tag alone tells whether it is full, and what an emptied one keeps is never read.
+//!
 //! At most thirteen of sixteen cells have a pair, and at most seven of eight are full or marked. Where an
 //! insert finds so many in use, the pairs are first placed anew in the same cells, and no mark is left:
 //! so the capacity doesn't depend on what was removed. One cell of sixteen is then free to be filled,
@@ -20,7 +23,7 @@
 //! the home's tag alone, since then the processor fetches the home's cell before it has the tag: with sixteen a hit
 //! took 1.5 times as long.
 //!
-//! An insert writes its cell unread, since safe code would load the cell to drop what stood there: the
+//! An insert writes its cell unread, since safe code would load an [`OptionCell`] to drop what stood there: the
 //! one `unsafe` line. `grow`, `rebuild` and `later_match` stand apart, so that what runs mostly is short
 //! enough for the caller's loop, and an insert is inlined there: called, it took an eighth more
 //! instructions. A walk keeps the full ones of its sixteen places as bits. A clone leaves each pair
@@ -37,6 +40,7 @@ ghost use Rattle.iddqd_hash.specs.HashTable.{entries, room, capacity, memory, pa
 ghost use Rattle.iddqd_hash.specs.Sizes.{Reserves};
 ghost use Rattle.iddqd_hash.specs.OpenTable.{usable_of, IsPowerOfTwo};
 
+use crate::open_table::cell_kinds::Cell;
 use crate::open_table::cells::{
     clear_cells, clear_tags, find_cell, move_cells, pair_at, put, retain_cells, rewrite_cells, take,
 };
@@ -61,7 +65,7 @@ mod rebuild;
 mod sizes;
 mod tags;
 
-pub use cell_kinds::{Cell, IndexCell, OptionCell};
+pub use cell_kinds::{IndexCell, OptionCell};
 pub use entry::{Entry, VacantEntry};
 pub use iter::TableIter;
 pub use iter_hash::IterHash;
