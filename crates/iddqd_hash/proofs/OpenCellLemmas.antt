@@ -24,7 +24,8 @@ module _ {C T : Type 0} (slot : Bool → C → Option (ℕ × T)) where
   pub slots-set :
       (tags : List ℕ) (cells : List C) (at tag : ℕ) (cell : C)
       → at < length tags
-      → slots_of slot (set tags at tag) (set cells at cell) ≡ set (slots_of slot tags cells) at (slot (has_pair tag) cell)
+      → slots_of slot (set tags at tag) (set cells at cell) ≡
+      set (slots_of slot tags cells) at (slot (has_pair tag) cell)
   slots-set [] cells at tag cell inside = absurd (omega arith)
   slots-set (one ∷ tags) [] zero tag cell inside = refl
   slots-set (one ∷ tags) [] (suc at) tag cell inside = refl
@@ -35,7 +36,8 @@ module _ {C T : Type 0} (slot : Bool → C → Option (ℕ × T)) where
   -- a cell that is written beside the tag that it had
   pub slots-cell :
       (tags : List ℕ) (cells : List C) (at : ℕ) (cell : C)
-      → slots_of slot tags (set cells at cell) ≡ set (slots_of slot tags cells) at (slot (has_pair (slice_index tags at)) cell)
+      → slots_of slot tags (set cells at cell) ≡
+      set (slots_of slot tags cells) at (slot (has_pair (slice_index tags at)) cell)
   slots-cell tags [] zero cell = refl
   slots-cell tags [] (suc at) cell = refl
   slots-cell [] (first ∷ cells) zero cell = refl
@@ -46,7 +48,8 @@ module _ {C T : Type 0} (slot : Bool → C → Option (ℕ × T)) where
   -- one cell more
   pub slots-push :
       (tags : List ℕ) (cells : List C) (cell : C)
-      → slots_of slot tags (cells ++ cell ∷ []) ≡ slots_of slot tags cells ++ slot (has_pair (slice_index tags (length cells))) cell ∷ []
+      → slots_of slot tags (cells ++ cell ∷ []) ≡
+      slots_of slot tags cells ++ slot (has_pair (slice_index tags (length cells))) cell ∷ []
   slots-push [] [] cell = refl
   slots-push (one ∷ tags) [] cell = refl
   slots-push [] (first ∷ cells) cell = ap (λ xs. slot false first ∷ xs) (slots-push [] cells cell)
@@ -78,8 +81,8 @@ module _ {C T : Type 0} (slot : Bool → C → Option (ℕ × T)) where
   full_there tags cells at d inside full =
       slot_there tags cells at d inside ∙ ap (λ b. slot b (get_or cells at d)) (lt-ltb 1 (slice_index tags at) full)
 
-  -- What a cell is known to keep with any tag: where a pair stands, it stands by the tag of a full cell too, and where none
-  -- does, none does by the tag of a cell that isn't full.
+  -- A pair that stands in a cell with its tag stands there with that of a full cell too. If none stands there with its tag,
+  -- none does with that of a cell that isn't full.
   module _ (told : (cell : C) → (slot false cell ≡ None) ⊎ (slot false cell ≡ slot true cell)) where
     told_some : (tag : Bool) (cell : C) → IsSome (slot tag cell) → slot tag cell ≡ slot true cell
     told_some true cell some = refl
@@ -94,7 +97,9 @@ module _ {C T : Type 0} (slot : Bool → C → Option (ℕ × T)) where
     told_none true cell none = elim (told cell) [ inl empty ↦ empty | inr same ↦ same ∙ none ]
 
     module _ (tags : List ℕ) (cells : List C) (at : ℕ) (d : C) (inside : at < length cells) where
-      pub some_there : IsSome (slot_at (slots_of slot tags cells) at) → slot_at (slots_of slot tags cells) at ≡ slot true (get_or cells at d)
+      pub some_there :
+          IsSome (slot_at (slots_of slot tags cells) at)
+          → slot_at (slots_of slot tags cells) at ≡ slot true (get_or cells at d)
       some_there some =
           let read = slot_there tags cells at d inside in
           read ∙ told_some (has_pair (slice_index tags at)) (get_or cells at d) (subst (λ o. IsSome o) read some)

@@ -52,7 +52,8 @@ FindsNext-none tags slots hash from (Some place) none finds = absurd (none place
 
 -- a pair that is read at a place
 module _
-    {T : Type 0} (slots : List (Option (ℕ × T))) (at stored : ℕ) (held : T) (read : slot_at slots at ≡ Some (stored, held))
+    {T : Type 0} (slots : List (Option (ℕ × T))) (at stored : ℕ) (held : T)
+    (read : slot_at slots at ≡ Some (stored, held))
   where
     -- under the hash that is looked for
     pub full_read : (hash : ℕ) → stored ≡ hash → (value : T) × (slot_at slots at ≡ Some (hash, value))
@@ -62,7 +63,10 @@ module _
     hash_read hash value is = ap (λ (p : ℕ × T). p.0) (same_Some _ _ (sym read ∙ is))
 
     -- the value that is read where a look-up hits
-    pub value_read : (hash : ℕ) (found : T) → slot_at slots at ≡ Some (hash, found) → slot_at slots at ≡ Some (hash, held)
+    pub value_read :
+        (hash : ℕ) (found : T)
+        → slot_at slots at ≡ Some (hash, found)
+        → slot_at slots at ≡ Some (hash, held)
     value_read hash found is = read ∙ ap (λ n. Some (n, held)) (hash_read hash found is)
 
 -- where a pair stands is its tag

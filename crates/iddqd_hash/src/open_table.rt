@@ -245,7 +245,8 @@ impl<T, C: Cell<T>> OpenHashTable<T, C> {
         // The table is as it was, and an entry borrows it.
         ensures table { IfOk result (λ e. entry_table e ≡ self.old) }
         ensures same_reference { IfOk result (λ e. entry_lender e ≡ self.entry.ghost_name) }
-        ensures* unchanged { sem 𝓛 (RestsIfErr (the_row T.row C.row C.Cell) self.entry entry_lender result (λ t. t ≡ self.old)) }
+        ensures* unchanged { sem 𝓛
+            (RestsIfErr (the_row T.row C.row C.Cell) self.entry entry_lender result (λ t. t ≡ self.old)) }
     {
         match self.place_of(hash, eq) {
             Some(place) => Ok(OccupiedEntry { table: self, place }),

@@ -1,7 +1,7 @@
 //! What a cell of a table with open addressing is: a type parameter of the table.
 //!
-//! [`OptionCell`] is for any value. [`IndexCell`] is for indexes, and has 12 bytes where an option would make it 16: its
-//! tag alone tells whether it is full, and what an emptied one keeps is never read.
+//! [`OptionCell`] is for any value. [`IndexCell`] is for indexes, and has 12 bytes where an option would make it 16:
+//! its tag alone tells whether it is full, and what an emptied one keeps is never read.
 ghost use Rattle.std.specs.Prelude.{◌≡◌, ◌⊎◌, ◌+◌, ◌*◌, ◌/◌, ◌%◌, ◌^◌, ℕ, Bool, true, false, Option, None, Some, IsSome};
 
 use iddqd::item_index::ItemIndex;

@@ -98,10 +98,12 @@ pub fn find_cell<'a, T, C: Cell<T>, F: FnMut(&T) -> bool>(
     requires power { IsPowerOfTwo (length tags.now) }
     requires ends { HasEmpty tags.now }
     requires probed { IsProbed tags.now (slots_of C.slot tags.now cells.now) }
-    requires callable { CanAsk (TakesAt F.FnMut) (CalledAt F.FnMut) eq (under hash (pairs (slots_of C.slot tags.now cells.now))) }
+    requires callable { CanAsk (TakesAt F.FnMut) (CalledAt F.FnMut) eq
+        (under hash (pairs (slots_of C.slot tags.now cells.now))) }
     ensures place { FindsPlace (CalledAt F.FnMut) eq hash (under hash (pairs (slots_of C.slot tags.now cells.now)))
         (slot_at (slots_of C.slot tags.now cells.now)) (option_map (λ found. found.0) result) }
-    ensures value { IfSome result (λ found. slot_at (slots_of C.slot tags.now cells.now) found.0 ≡ Some (hash, found.1.now)) }
+    ensures value { IfSome result
+        (λ found. slot_at (slots_of C.slot tags.now cells.now) found.0 ≡ Some (hash, found.1.now)) }
 {
     let mut found = near_match(tags, cells, home_of(hash, tags.len()), hash);
     while let Some(place) = found {
@@ -178,11 +180,14 @@ pub fn retain_cells<T: Drop, C: Cell<T>, F: FnMut(&T) -> bool>(
     requires sixteens { IsInSixteens (length tags.old) }
     requires probed { IsProbed tags.old (slots_of C.slot tags.old cells.old) }
     requires len { len ≡ length (pairs (slots_of C.slot tags.old cells.old)) }
-    requires callable { CanAsk (TakesAt F.FnMut) (CalledAt F.FnMut) f.old (values (pairs (slots_of C.slot tags.old cells.old))) }
-    ensures kept { KeepsTo (CalledAt F.FnMut) f.old (pairs (slots_of C.slot tags.old cells.old)) (pairs (slots_of C.slot tags.new cells.new)) f.new }
+    requires callable { CanAsk (TakesAt F.FnMut) (CalledAt F.FnMut) f.old
+        (values (pairs (slots_of C.slot tags.old cells.old))) }
+    ensures kept { KeepsTo (CalledAt F.FnMut) f.old (pairs (slots_of C.slot tags.old cells.old))
+        (pairs (slots_of C.slot tags.new cells.new)) f.new }
     ensures probed { IsProbed tags.new (slots_of C.slot tags.new cells.new) }
     ensures marked { count_by is_used tags.new ≡ count_by is_used tags.old }
-    ensures counted { result + length (pairs (slots_of C.slot tags.new cells.new)) ≡ length (pairs (slots_of C.slot tags.old cells.old)) }
+    ensures counted { result + length (pairs (slots_of C.slot tags.new cells.new))
+        ≡ length (pairs (slots_of C.slot tags.old cells.old)) }
 {
     let mut places = FullPlaces::new();
     let mut left = len;

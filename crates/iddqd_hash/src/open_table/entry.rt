@@ -46,7 +46,8 @@ impl<T, C: Cell<T>> OpenHashTable<T, C> {
 
         // An entry borrows the table, and without one it is as it was.
         ensures same_reference { IfOk result (λ e. lender_of e ≡ self.entry.ghost_name) }
-        ensures* unchanged { sem 𝓛 (RestsIfErr (the_row T.row C.row C.Cell) self.entry lender_of result (λ t. t ≡ self.old)) }
+        ensures* unchanged { sem 𝓛
+            (RestsIfErr (the_row T.row C.row C.Cell) self.entry lender_of result (λ t. t ≡ self.old)) }
     {
         if let Some(place) = self.place_of(hash, eq) {
             return Ok(Entry::Occupied(OccupiedEntry { table: self, place }));

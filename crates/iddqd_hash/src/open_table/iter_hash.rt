@@ -37,7 +37,8 @@ impl<'a, T, C: Cell<T>> Model for IterHash<'a, T, C> {
 
     ghost view = { λ it. rest_under it.hash (slots_of C.slot it.tags.now it.cells.now) it.from };
 
-    ghost invariant = { λ it. IsWalkUnder it.tags.now (slots_of C.slot it.tags.now it.cells.now) it.hash it.from it.len };
+    ghost invariant = { λ it. IsWalkUnder it.tags.now (slots_of C.slot it.tags.now it.cells.now)
+        it.hash it.from it.len };
 }
 
 impl<T, C: Cell<T>> OpenHashTable<T, C> {

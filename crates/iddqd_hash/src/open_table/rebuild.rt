@@ -33,7 +33,8 @@ pub fn rebuild_at_limit<T, C: Cell<T>>(
     requires used { used ≡ count_by is_used tags.old }
     requires len { len ≡ length (pairs (slots_of C.slot tags.old cells.old)) }
     requires fits { len < limit_of (length tags.old) }
-    ensures moved { IsPermutation (pairs (slots_of C.slot tags.old cells.old)) (pairs (slots_of C.slot tags.new cells.new)) }
+    ensures moved { IsPermutation (pairs (slots_of C.slot tags.old cells.old))
+        (pairs (slots_of C.slot tags.new cells.new)) }
     ensures probed { IsProbed tags.new (slots_of C.slot tags.new cells.new) }
     ensures used { result ≡ count_by is_used tags.new }
     ensures limited { result < limit_of (length tags.old) }
@@ -53,7 +54,8 @@ fn rebuild<T, C: Cell<T>>(tags: &mut [u8], cells: &mut [C])
     requires power { IsPowerOfTwo (length tags.old) }
     requires probed { IsProbed tags.old (slots_of C.slot tags.old cells.old) }
     requires fits { length (pairs (slots_of C.slot tags.old cells.old)) ≤ limit_of (length tags.old) }
-    ensures moved { IsPermutation (pairs (slots_of C.slot tags.old cells.old)) (pairs (slots_of C.slot tags.new cells.new)) }
+    ensures moved { IsPermutation (pairs (slots_of C.slot tags.old cells.old))
+        (pairs (slots_of C.slot tags.new cells.new)) }
     ensures probed { IsProbed tags.new (slots_of C.slot tags.new cells.new) }
     ensures unmarked { count_by is_used tags.new ≡ length (pairs (slots_of C.slot tags.new cells.new)) }
 {
@@ -91,7 +93,8 @@ fn place_pending<T, C: Cell<T>>(tags: &mut [u8], cells: &mut [C], at: usize)
     requires fits { length (pairs (slots_of C.slot tags.old cells.old)) ≤ limit_of (length tags.old) }
     requires inside { at < length tags.old }
     requires pending { slice_index tags.old at ≡ pending }
-    ensures moved { IsPermutation (pairs (slots_of C.slot tags.old cells.old)) (pairs (slots_of C.slot tags.new cells.new)) }
+    ensures moved { IsPermutation (pairs (slots_of C.slot tags.old cells.old))
+        (pairs (slots_of C.slot tags.new cells.new)) }
     ensures partly_placed { IsPartlyPlaced tags.new (slots_of C.slot tags.new cells.new) }
     ensures not_pending { slice_index tags.new at ≢ pending }
     ensures no_more { NoMorePending tags.old tags.new }

@@ -1,8 +1,8 @@
 //! The tags of a table with open addressing, a byte for each cell, and walks over them.
 //!
 //! A tag is 0 where its cell is empty and 1 where a pair was removed from it. From 128 on the cell is
-//! full, and the tag has the top seven bits of the hash. During a rebuild 2 stands for a pair that isn't placed yet. A walk goes from the home of a hash by steps of
-//! one, the first place after the last, up to an empty cell.
+//! full, and the tag has the top seven bits of the hash. During a rebuild the tag of a pair that isn't placed yet is 2.
+//! A walk goes from the home of a hash by steps of one, the first place after the last, up to an empty cell.
 ghost use Rattle.std.specs.Prelude.{◌≡◌, ◌+◌, ◌<◌, ◌≤◌, ◌%◌, true, length, slice_index, IfSome};
 ghost use Rattle.iddqd_hash.specs.OpenTable.{tag_of, has_pair, limit_of, usable_of, is_stop, IsPowerOfTwo, HasEmpty, Skips, IsFree};
 ghost use Rattle.iddqd_hash.specs.OpenRebuild.{IsPastFull};
